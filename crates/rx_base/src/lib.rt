@@ -1,0 +1,12 @@
+//! What every layer speaks of: integers, names, sets of resources, and the counter of evaluated bodies.
+#![tactic(auto)]
+
+mod cut;
+mod int;
+mod name;
+mod steps;
+
+pub use cut::Cut;
+pub use int::Int;
+pub use name::Name;
+pub use steps::Steps;

@@ -1,0 +1,40 @@
+// A name of a program.
+ghost use Rattle.std.specs.Prelude.{◌≡◌, IfOk};
+
+use std::alloc::{AllocError, Global};
+use std::marker::Model;
+
+/// A name of a program: of a component, a host, a hook or a variable. Contracts see it as its bytes.
+#[derive(Drop, Debug)]
+pub struct Name {
+    text: String,
+}
+
+impl Model for Name {
+    ghost use Rattle.std.specs.Prelude.{ℕ, List, string_bytes};
+
+    ghost Value = { List ℕ };
+
+    ghost view = { λ n. string_bytes n.text };
+}
+
+impl Name {
+    /// The name with this text.
+    ///
+    /// # Errors
+    ///
+    /// Want of memory alone.
+    pub fn new(alloc: Global, text: &str) -> Result<Name, AllocError>
+        ensures { IfOk result (λ n. n ≡ text.now) }
+    {
+        let text = String::from_str(alloc, text)?;
+        Ok(Name { text })
+    }
+
+    /// Its text.
+    pub fn text(&self) -> &str
+        ensures { result.now ≡ self.now }
+    {
+        self.text.as_str()
+    }
+}
