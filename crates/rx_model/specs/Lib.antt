@@ -1,0 +1,10 @@
+pub mod Syntax
+pub mod SlotView
+pub mod SlotFalls
+pub mod SlotCode
+pub mod Names
+pub mod Mentions
+pub mod Small
+pub mod Input
+pub mod Words
+pub mod Lines
