@@ -8,3 +8,11 @@ pub mod Small
 pub mod Input
 pub mod Words
 pub mod Lines
+pub mod Elements
+pub mod Trees
+pub mod Journal
+pub mod Body
+pub mod Fresh
+pub mod Report
+pub mod State
+pub mod Machine
