@@ -1,5 +1,5 @@
 -- Which programs of the small grammar are accepted.
-use Rattle.std.specs.Prelude.{ℕ, Bool, true, false, not, ◌&&◌, ◌==◌, List, length, filter_map, Option, Some, None, option_map, unwrap_or, bytes_eq, if◌then◌else◌}
+use Rattle.std.specs.Prelude.{Bool, true, false, not, ◌&&◌, ◌==◌, List, length, filter_map, Option, Some, None, option_map, unwrap_or, bytes_eq, if◌then◌else◌}
 use Rattle.std.specs.List.{list_all}
 use Rattle.rx_base.specs.Values.{Name}
 use Rattle.rx_model.specs.Syntax.{Component, Program}

@@ -1,5 +1,5 @@
 -- The state of the machine between two steps, and what can be read of it.
-use Rattle.std.specs.Prelude.{ℕ, Bool, false, ◌&&◌, List, [], ◌∷◌, ℤ, Option, Some, None, filter, map, option_map, option_and_then, unwrap_or, nat_eq, bytes_eq, slice_get, position, if◌then◌else◌}
+use Rattle.std.specs.Prelude.{ℕ, Bool, ◌&&◌, List, [], ◌∷◌, ℤ, Option, Some, None, filter, map, option_map, option_and_then, unwrap_or, nat_eq, bytes_eq, slice_get, position}
 use Rattle.std.specs.Option.{option_eq}
 use Rattle.std.specs.List.{zip, enumerate_from}
 use Rattle.rx_base.specs.Values.{Name}

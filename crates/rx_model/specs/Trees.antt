@@ -1,7 +1,6 @@
 -- The trees that are rendered and committed.
-use Rattle.std.specs.Prelude.{ℕ, suc, max, ◌+◌, List, [], ◌∷◌, ◌++◌, ℤ, Option, Some, None, length, if◌then◌else◌}
+use Rattle.std.specs.Prelude.{ℕ, suc, max, ◌+◌, List, [], ◌∷◌, ◌++◌, ℤ, Option, Some, None, if◌then◌else◌}
 use Rattle.rx_model.specs.Elements.{Element, kind_of, same_kind}
-use Rattle.rx_model.specs.Elements as elements
 
 -- what the tree keeps of a component's instance: its number, from its first commit on, its component and the initial values of its hooks
 pub record Instance : Type 0 where

@@ -16,7 +16,6 @@ pub struct Component {
 
 impl Model for Component {
     ghost use Rattle.rx_model.specs.Syntax as syntax;
-
     ghost use Rattle.std.specs.Coded.{codes};
     ghost use Rattle.rx_model.specs.contracts.slot.Slot as slot;
 
@@ -35,7 +34,6 @@ pub struct Program {
 
 impl Model for Program {
     ghost use Rattle.rx_model.specs.Syntax as syntax;
-
     ghost use Rattle.std.specs.Coded.{codes};
     ghost use Rattle.rx_model.specs.contracts.slot.Slot as slot;
 
