@@ -1,6 +1,6 @@
 // A law of the tokens of a text.
 
-ghost use Rattle.std.specs.Prelude.{◌≡◌, ℕ, List};
+ghost use Rattle.std.specs.Prelude.{◌≡◌, ◌<◌, ◌^◌, ℕ, List};
 ghost use Rattle.rx_lex.specs.Tokens.{AreTokensBelow};
 ghost use Rattle.rx_lex.specs.declared.token.Token.{Token};
 

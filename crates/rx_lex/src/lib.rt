@@ -3,7 +3,7 @@
 
 mod error;
 mod gaps;
-mod laws;
+pub mod laws;
 mod lexer;
 mod signs;
 mod strings;
@@ -14,6 +14,5 @@ mod words;
 mod tests;
 
 pub use error::LexError;
-pub use laws::tokens_are_one_list;
 pub use lexer::lex;
 pub use token::{Keyword, Kind, Sign, Token};

@@ -2,7 +2,7 @@ use Rattle.std.proofs.Common.{◌≡◌, true, false, Some, lit<, sym, ap, ◌�
 use Rattle.std.specs.List.{list_all}
 use Rattle.std.proofs.lemmas.Str.Pattern.{strip_prefix_char, split_parts}
 use Rattle.rx_lex.specs.Tokens.{is_inside}
-use Rattle.rx_lex.proofs.Strings.{no_open_string, no_closed_string, string_front, no_string_inside}
+use Rattle.rx_lex.proofs.Quotes.{no_open_string, no_closed_string, string_front, no_string_inside}
 use Rattle.rx_lex.proofs.strings.split_string.Goals as goal
 
 pub returns-in_default-clause-none : goal.returns-in_default-clause-none
