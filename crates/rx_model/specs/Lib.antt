@@ -16,3 +16,5 @@ pub mod Fresh
 pub mod Report
 pub mod State
 pub mod Machine
+pub mod Grammar
+pub mod Accepted
