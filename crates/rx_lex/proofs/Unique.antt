@@ -1,5 +1,5 @@
 -- No text begins with two different pieces.
-use Rattle.std.proofs.Common.{◌≡◌, ◌≢◌, ℕ, ◌<◌, ◌≤◌, ◌^◌, ◌==◌, Bool, true, false, cond, Option, Some, List, [], ◌∷◌, ◌++◌, length, drop, get_or, codes, refl, sym, ap, ◌∙◌, subst, append_assoc, arith, length-append, length-drop, eqb-true, ⊎_elim, ◌⊎◌, inl, inr}
+use Rattle.std.proofs.Common.{◌≡◌, ◌≢◌, ℕ, ◌<◌, ◌≤◌, ◌^◌, Bool, true, false, cond, Option, Some, List, [], ◌∷◌, ◌++◌, length, drop, get_or, codes, refl, sym, ap, ◌∙◌, subst, append_assoc, arith, length-append, length-drop, ⊎_elim, ◌⊎◌, inl, inr}
 use Rattle.std.proofs.lemmas.List.{drop-append-le}
 use Rattle.std.proofs.Math.Seq.{drop-append_seam}
 use Rattle.std.proofs.str.Laws.{order}
@@ -16,10 +16,9 @@ use Rattle.std.proofs.lemmas.Str.Parse.{digit_at}
 use Rattle.rx_lex.specs.declared.token.Keyword.{Keyword}
 use Rattle.rx_lex.specs.declared.token.Keyword.TheVariants as keyword
 use Rattle.rx_lex.specs.declared.token.Sign.{Sign}
-use Rattle.rx_lex.specs.declared.token.Sign.TheVariants as sign
 use Rattle.rx_lex.specs.declared.token.Kind.{Kind}
 use Rattle.rx_lex.specs.declared.token.Kind.TheVariants.{Upper, Lower, Number, Text, Word, Mark, End}
-use Rattle.rx_lex.specs.Tokens.{is_word_byte, is_blank, is_in_line, is_inside, IsRun, IsRunEnd, keyword_text, sign_text, spelling, NotAtFront, SignEnds, IsWordKind, Gap, Blank, LineComment, BlockComment, IsClosedFirst, Piece, Between, Meant, StandsFirst, CoversTo, IsUncovered, piece_text, AreTokensBelow, tokens_from}
+use Rattle.rx_lex.specs.Tokens.{is_word_byte, is_in_line, is_inside, IsRun, IsRunEnd, keyword_text, sign_text, spelling, SignEnds, IsWordKind, Blank, LineComment, BlockComment, IsClosedFirst, Piece, Between, Meant, StandsFirst, CoversTo, IsUncovered, piece_text, AreTokensBelow, tokens_from}
 use Rattle.rx_lex.specs.declared.token.Token.{Token}
 use Rattle.rx_lex.proofs.Classes.{sign_by, sign_back, class_of, class_is, gap_class, token_class}
 use Rattle.rx_lex.proofs.Runs.{run_unique}
