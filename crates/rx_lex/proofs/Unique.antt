@@ -1,5 +1,5 @@
 -- No text begins with two different pieces.
-use Rattle.std.proofs.Common.{◌≡◌, ◌≢◌, ℕ, ◌<◌, ◌≤◌, ◌^◌, ◌==◌, Bool, true, false, cond, Option, Some, List, [], ◌∷◌, ◌++◌, length, drop, get_or, codes, refl, sym, ap, ◌∙◌, subst, append_assoc, arith, length-append, length-drop, eqb-true, ⊎_elim, ◌⊎◌, inl, inr}
+use Rattle.std.proofs.Common.{◌≡◌, ◌≢◌, ℕ, ◌<◌, ◌≤◌, ◌^◌, Bool, true, false, cond, Option, Some, List, [], ◌∷◌, ◌++◌, length, drop, get_or, codes, refl, sym, ap, ◌∙◌, subst, append_assoc, arith, length-append, length-drop, ⊎_elim, ◌⊎◌, inl, inr}
 use Rattle.std.proofs.lemmas.List.{drop-append-le}
 use Rattle.std.proofs.Math.Seq.{drop-append_seam}
 use Rattle.std.proofs.str.Laws.{order}
@@ -16,11 +16,11 @@ use Rattle.std.proofs.lemmas.Str.Parse.{digit_at}
 use Rattle.rx_lex.specs.declared.token.Keyword.{Keyword}
 use Rattle.rx_lex.specs.declared.token.Keyword.TheVariants as keyword
 use Rattle.rx_lex.specs.declared.token.Sign.{Sign}
-use Rattle.rx_lex.specs.declared.token.Sign.TheVariants as sign
 use Rattle.rx_lex.specs.declared.token.Kind.{Kind}
 use Rattle.rx_lex.specs.declared.token.Kind.TheVariants.{Upper, Lower, Number, Text, Word, Mark, End}
-use Rattle.rx_lex.specs.Tokens.{is_word_byte, is_blank, is_in_line, is_inside, IsRun, IsRunEnd, keyword_text, sign_text, spelling, NotAtFront, SignEnds, IsWordKind, Gap, Blank, LineComment, BlockComment, IsClosedFirst, Piece, Between, Meant, StandsFirst, CoversTo, IsUncovered, piece_text, AreTokensBelow, tokens_from}
+use Rattle.rx_lex.specs.Tokens.{is_word_byte, is_in_line, is_inside, IsRun, IsRunEnd, keyword_text, sign_text, spelling, SignEnds, IsWordKind, Blank, LineComment, BlockComment, IsClosedFirst, Piece, Between, Meant, StandsFirst, CoversTo, IsUncovered, piece_text, AreTokensBelow, IsFirstUncoveredBelow, tokens_from}
 use Rattle.rx_lex.specs.declared.token.Token.{Token}
+use Rattle.rx_lex.proofs.Classes.{sign_by, sign_back, class_of, class_is, gap_class, token_class}
 use Rattle.rx_lex.proofs.Runs.{run_unique}
 use Rattle.rx_lex.proofs.Fronts.{word_run}
 
@@ -97,51 +97,7 @@ word_unique small k (Text m) e hk hl = absurd hl
 word_unique small k (Mark m) e hk hl = absurd hl
 word_unique small k End e hk hl = absurd hl
 
--- the sign that a text begins with
-abbrev next_two : ℕ → List ℕ → Bool
-next_two b [] = false
-next_two b (c ∷ cs) = c == b
-
-abbrev next_both : ℕ → List ℕ → Bool
-next_both b [] = false
-next_both b (c ∷ []) = false
-next_both b (c ∷ d ∷ cs) = cond (c == b) (d == b) false
-
-sign_by : List ℕ → Sign
-sign_by [] = sign.Colon
-sign_by (b ∷ bs) =
-    cond (b == 40) sign.OpenParen (cond (b == 41) sign.CloseParen (cond (b == 123) sign.OpenBrace (cond (b == 125) sign.CloseBrace (cond (b == 91) sign.OpenBracket (cond (b == 93) sign.CloseBracket
-    (cond (b == 60) (cond (next_two 61 bs) sign.LessEqual sign.Less) (cond (b == 62) (cond (next_two 61 bs) sign.GreaterEqual sign.Greater)
-    (cond (b == 44) sign.Comma (cond (b == 59) sign.Semicolon (cond (b == 61) (cond (next_both 61 bs) sign.Same sign.Equals) (cond (b == 33) (cond (next_both 61 bs) sign.NotSame sign.Not)
-    (cond (b == 38) sign.And (cond (b == 124) sign.Or (cond (b == 43) sign.Plus (cond (b == 45) sign.Minus (cond (b == 42) sign.Star (cond (b == 47) sign.Slash (cond (b == 63) sign.Question (cond (b == 46) sign.Dot (cond (b == 37) sign.Percent sign.Colon))))))))))))))))))))
-
-not_next : (b : ℕ) (bs : List ℕ) → NotAtFront (b ∷ []) bs → next_two b bs ≡ false
-not_next b [] h = refl
-not_next b (c ∷ cs) h = by_test (c == b) refl
-  where
-    by_test : (r : Bool) → (c == b) ≡ r → (c == b) ≡ false
-    by_test false e = e
-    by_test true e = absurd (h cs (ap (λ x. x ∷ cs) (eqb-true c b e)))
-
-not_both : (b : ℕ) (bs : List ℕ) → NotAtFront (b ∷ b ∷ []) bs → next_both b bs ≡ false
-not_both b [] h = refl
-not_both b (c ∷ []) h = refl
-not_both b (c ∷ d ∷ cs) h = by_test (c == b) refl (d == b) refl
-  where
-    by_test : (r : Bool) → (c == b) ≡ r → (s : Bool) → (d == b) ≡ s → cond (c == b) (d == b) false ≡ false
-    by_test false e s f = ap (λ x. cond x (d == b) false) e
-    by_test true e false f = ap (λ x. cond x (d == b) false) e ∙ f
-    by_test true e true f = absurd (h cs (λ i. eqb-true c b e i ∷ (eqb-true d b f i ∷ cs)))
-
-sign_back : (s : Sign) (rest : List ℕ) → SignEnds s rest → sign_by (sign_text s ++ rest) ≡ s
-unfolding sign_by
-sign_back sign.Less rest h = ap (λ r. cond r sign.LessEqual sign.Less) (not_next 61 rest h)
-sign_back sign.Greater rest h = ap (λ r. cond r sign.GreaterEqual sign.Greater) (not_next 61 rest h)
-sign_back sign.Equals rest h = ap (λ r. cond r sign.Same sign.Equals) (not_both 61 rest h)
-sign_back sign.Not rest h = ap (λ r. cond r sign.NotSame sign.Not) (not_both 61 rest h)
-sign_back _ rest h = refl
-
-append_left : (xs a b : List ℕ) → xs ++ a ≡ xs ++ b → a ≡ b
+pub append_left : (xs a b : List ℕ) → xs ++ a ≡ xs ++ b → a ≡ b
 append_left [] a b e = e
 append_left (x ∷ xs) a b e = let tails : xs ++ a ≡ xs ++ b = cc in append_left xs a b tails
 
@@ -149,63 +105,6 @@ sign_unique : (s t : Sign) (a b : List ℕ) → SignEnds s a → SignEnds t b �
 sign_unique s t a b hs ht e =
     let same = sym (sign_back s a hs) ∙ ap sign_by e ∙ sign_back t b ht in
     (same, append_left (sign_text s) a b (e ∙ ap (λ x. sign_text x ++ b) (sym same)))
-
--- pieces by their first bytes
-abbrev class_of : Piece → ℕ
-class_of (Between (Blank b)) = 0
-class_of (Between (LineComment body)) = 1
-class_of (Between (BlockComment body)) = 2
-class_of (Meant (Text s)) = 3
-class_of (Meant (Mark s)) = 4
-class_of (Meant k) = 5
-
-after_slash : List ℕ → ℕ
-after_slash [] = 4
-after_slash (c ∷ cs) = cond (c == 47) 1 (cond (c == 42) 2 4)
-
-front_class : List ℕ → ℕ
-front_class [] = 6
-front_class (b ∷ bs) = cond (is_blank b) 0 (cond (is_word_byte b) 5 (cond (b == 34) 3 (cond (b == 47) (after_slash bs) 4)))
-
-slash_alone : (rest : List ℕ) → NotAtFront (codes "/") rest → NotAtFront (codes "*") rest → after_slash rest ≡ 4
-unfolding after_slash
-slash_alone [] h g = refl
-slash_alone (c ∷ cs) h g = ap (λ r. cond r 1 (cond (c == 42) 2 4)) (not_next 47 (c ∷ cs) h) ∙ ap (λ r. cond r 2 4) (not_next 42 (c ∷ cs) g)
-
-sign_class : (s : Sign) (rest : List ℕ) → SignEnds s rest → front_class (sign_text s ++ rest) ≡ 4
-unfolding front_class
-sign_class sign.Slash rest h = slash_alone rest h.0 h.1
-sign_class _ rest h = refl
-
-word_no_blank : (b : ℕ) → is_word_byte b ≡ true → is_blank b ≡ false
-word_no_blank b h = grind (arith, nat_tests)
-
-word_class : (w rest : List ℕ) → IsRun is_word_byte w → 0 < length w → front_class (w ++ rest) ≡ 5
-unfolding front_class
-word_class [] rest run some = absurd (omega arith)
-word_class (b ∷ w) rest run some =
-    ap (λ r. cond r 0 (cond (is_word_byte b) 5 (cond (b == 34) 3 (cond (b == 47) (after_slash (w ++ rest)) 4)))) (word_no_blank b run.0)
-    ∙ ap (λ r. cond r 5 (cond (b == 34) 3 (cond (b == 47) (after_slash (w ++ rest)) 4))) run.0
-
-blank_class : (b : ℕ) (rest : List ℕ) → is_blank b ≡ true → front_class (b ∷ rest) ≡ 0
-unfolding front_class
-blank_class b rest h = ap (λ r. cond r 0 (cond (is_word_byte b) 5 (cond (b == 34) 3 (cond (b == 47) (after_slash rest) 4)))) h
-
-comment_classes : (a b : List ℕ) → (front_class (47 ∷ 47 ∷ a) ≡ 1) × (front_class (47 ∷ 42 ∷ a) ≡ 2) × (front_class (34 ∷ b) ≡ 3)
-unfolding front_class after_slash
-comment_classes a b = (refl, refl, refl)
-
-class_is : {greatest : ℕ} → greatest < 2 ^ 64 → (p : Piece) (text rest : List ℕ) → StandsFirst greatest p text rest → front_class text ≡ class_of p
-class_is small (Between (Blank b)) text rest h = ap front_class h.written ∙ blank_class b rest h.whole
-class_is small (Between (LineComment body)) text rest h = ap front_class h.written ∙ (comment_classes (body ++ rest) []).0
-class_is small (Between (BlockComment body)) text rest h = ap front_class h.written ∙ (comment_classes ((body ++ codes "*/") ++ rest) []).1
-class_is small (Meant (Text s)) text rest h = ap front_class h.written ∙ (comment_classes [] ((s ++ (34 ∷ [])) ++ rest)).2
-class_is small (Meant (Mark s)) text rest h = ap front_class h.written ∙ sign_class s rest h.whole
-class_is small (Meant (Upper n)) text rest h = let r = word_run small (Upper n) h.whole.0 in ap front_class h.written ∙ word_class n rest r.0 r.1
-class_is small (Meant (Lower n)) text rest h = let r = word_run small (Lower n) h.whole.0 in ap front_class h.written ∙ word_class n rest r.0 r.1
-class_is small (Meant (Number n)) text rest h = let r = word_run small (Number n) h.whole.0 in ap front_class h.written ∙ word_class (decimal n) rest r.0 r.1
-class_is small (Meant (Word k)) text rest h = let r = word_run small (Word k) h.whole.0 in ap front_class h.written ∙ word_class (keyword_text k) rest r.0 r.1
-class_is small (Meant End) text rest h = absurd h.whole.0
 
 -- two words at the front are one
 words_unique : {greatest : ℕ} → greatest < 2 ^ 64 → (k l : Kind) (text a b : List ℕ) → text ≡ spelling k ++ a → text ≡ spelling l ++ b → IsWordKind greatest k → IsWordKind greatest l → IsRunEnd is_word_byte a → IsRunEnd is_word_byte b → (Meant k ≡ Meant l) × (a ≡ b)
@@ -241,7 +140,7 @@ not_earlier x y a b hy e lt =
     hy (length x) lt f.0 f.1
 
 -- two closings of a comment are one
-closed_unique : (x y a b : List ℕ) → IsClosedFirst x → IsClosedFirst y → (x ++ codes "*/") ++ a ≡ (y ++ codes "*/") ++ b → (x ≡ y) × (a ≡ b)
+pub closed_unique : (x y a b : List ℕ) → IsClosedFirst x → IsClosedFirst y → (x ++ codes "*/") ++ a ≡ (y ++ codes "*/") ++ b → (x ≡ y) × (a ≡ b)
 closed_unique x y a b hx hy e = ⊎_elim
     (λ lt. absurd (not_earlier x y a b hy e lt))
     (λ le. ⊎_elim
@@ -255,25 +154,11 @@ closed_unique x y a b hx hy e = ⊎_elim
 no_quote_end : (a : List ℕ) → IsRunEnd is_no_quote (34 ∷ a)
 no_quote_end a = refl
 
-strings_unique : (s t a b text : List ℕ) → text ≡ (34 ∷ (s ++ 34 ∷ [])) ++ a → text ≡ (34 ∷ (t ++ 34 ∷ [])) ++ b → IsRun is_inside s → IsRun is_inside t → (s ≡ t) × (a ≡ b)
+pub strings_unique : (s t a b text : List ℕ) → text ≡ (34 ∷ (s ++ 34 ∷ [])) ++ a → text ≡ (34 ∷ (t ++ 34 ∷ [])) ++ b → IsRun is_inside s → IsRun is_inside t → (s ≡ t) × (a ≡ b)
 strings_unique s t a b text e f hs ht =
     let tails = append_left (34 ∷ []) ((s ++ 34 ∷ []) ++ a) ((t ++ 34 ∷ []) ++ b) (sym e ∙ f) in
     let both = run_unique is_no_quote s t (34 ∷ a) (34 ∷ b) (inside_no_quote s hs) refl (inside_no_quote t ht) refl (sym (append_assoc s (34 ∷ []) a) ∙ tails ∙ append_assoc t (34 ∷ []) b) in
     (both.0, append_left (34 ∷ []) a b both.1)
-
-gap_class : (g : Gap) → class_of (Between g) < 3
-gap_class (Blank b) = omega arith
-gap_class (LineComment b) = omega arith
-gap_class (BlockComment b) = omega arith
-
-token_class : (k : Kind) → 3 ≤ class_of (Meant k)
-token_class (Text s) = omega arith
-token_class (Mark s) = omega arith
-token_class (Upper s) = omega arith
-token_class (Lower s) = omega arith
-token_class (Number s) = omega arith
-token_class (Word s) = omega arith
-token_class End = omega arith
 
 -- no text begins with two different pieces
 pub unique : {greatest : ℕ} → greatest < 2 ^ 64 → (p q : Piece) (text a b : List ℕ) → StandsFirst greatest p text a → StandsFirst greatest q text b → class_of p ≡ class_of q → (p ≡ q) × (a ≡ b)
@@ -319,17 +204,24 @@ unique small p q text a b h g e = absurd (omega arith)
 pub piece_unique : {greatest : ℕ} → greatest < 2 ^ 64 → (p q : Piece) (text a b : List ℕ) → StandsFirst greatest p text a → StandsFirst greatest q text b → (p ≡ q) × (a ≡ b)
 piece_unique small p q text a b h g = unique small p q text a b h g (sym (class_is small p text a h) ∙ class_is small q text b g)
 
--- the pieces that cover a text are these alone
-pub covers_unique : {greatest : ℕ} → greatest < 2 ^ 64 → (ps qs : List Piece) (text rest : List ℕ) → CoversTo greatest ps text rest → CoversTo greatest qs text [] → (rest ≡ [] ⊎ IsUncovered greatest rest) → (rest ≡ []) × (ps ≡ qs)
-covers_unique small [] [] text rest h g end = (sym h ∙ g, refl)
-covers_unique {greatest = greatest} small [] (q ∷ qs) text rest h g end = absurd (⊎_elim
-    (λ e. let gone = sym (h ∙ e) ∙ g.1.written in omega (arith, ap length gone, length-append (piece_text q) g.0, piece_nonempty small q g.0 g.1.whole))
-    (λ u. u q g.0 (subst (λ l. StandsFirst greatest q l g.0) h g.1))
-    end)
-covers_unique small (p ∷ ps) [] text rest h g end = absurd (omega (arith, ap length (sym g ∙ h.1.written), length-append (piece_text p) h.0, piece_nonempty small p h.0 h.1.whole))
-covers_unique {greatest = greatest} small (p ∷ ps) (q ∷ qs) text rest h g end =
+-- the text ends here, or no piece stands
+abbrev IsEnd : ℕ → List ℕ → Type 0
+IsEnd greatest rest = (rest ≡ []) ⊎ IsUncovered greatest rest
+
+no_more : {greatest : ℕ} → greatest < 2 ^ 64 → (p : Piece) (text rest after : List ℕ) → text ≡ rest → IsEnd greatest rest → StandsFirst greatest p text after → ⊥
+no_more {greatest = greatest} small p text rest after same end stands = ⊎_elim
+    (λ e. let gone = sym (same ∙ e) ∙ stands.written in omega (arith, ap length gone, length-append (piece_text p) after, piece_nonempty small p after stands.whole))
+    (λ u. u p after (subst (λ l. StandsFirst greatest p l after) same stands))
+    end
+
+-- the pieces that cover a text as far as pieces go are these alone
+pub covers_unique : {greatest : ℕ} → greatest < 2 ^ 64 → (ps qs : List Piece) (text rest other : List ℕ) → CoversTo greatest ps text rest → CoversTo greatest qs text other → IsEnd greatest rest → IsEnd greatest other → (rest ≡ other) × (ps ≡ qs)
+covers_unique small [] [] text rest other h g end last = (sym h ∙ g, refl)
+covers_unique small [] (q ∷ qs) text rest other h g end last = absurd (no_more small q text rest g.0 h end g.1)
+covers_unique small (p ∷ ps) [] text rest other h g end last = absurd (no_more small p text other h.0 g last h.1)
+covers_unique {greatest = greatest} small (p ∷ ps) (q ∷ qs) text rest other h g end last =
     let both = piece_unique small p q text h.0 g.0 h.1 g.1 in
-    let others = covers_unique small ps qs h.0 rest h.2 (subst (λ l. CoversTo greatest qs l []) (sym both.1) g.2) end in
+    let others = covers_unique small ps qs h.0 rest other h.2 (subst (λ l. CoversTo greatest qs l other) (sym both.1) g.2) end last in
     (others.0, (λ i. both.0 i ∷ others.1 i))
 
 nil_of_length : (rest : List ℕ) → length rest ≡ 0 → rest ≡ []
@@ -339,15 +231,23 @@ nil_of_length (b ∷ bs) e = absurd (omega arith)
 -- what covers the text so far covers it as any other list of tokens does
 pub only_tokens : {greatest : ℕ} → greatest < 2 ^ 64 → {text : List ℕ} {ts : List Token} (rest : List ℕ) → Covered greatest text ts rest → length rest ≡ 0 → (us : List Token) → AreTokensBelow greatest us text → ts ≡ us
 only_tokens small {text = text} rest c e us other =
-    let w = covers_unique small c.pieces other.0 text rest c.cover other.1 (inl (nil_of_length rest e)) in
+    let w = covers_unique small c.pieces other.0 text rest [] c.cover other.1 (inl (nil_of_length rest e)) (inl refl) in
     c.meant ∙ ap (tokens_from 0) w.1 ∙ sym other.2
 
 pub none_covers : {greatest : ℕ} → greatest < 2 ^ 64 → {text : List ℕ} {ts : List Token} (rest : List ℕ) → Covered greatest text ts rest → rest ≢ [] → IsUncovered greatest rest → (us : List Token) → AreTokensBelow greatest us text → ⊥
 none_covers small {text = text} rest c some none us other =
-    some (covers_unique small c.pieces other.0 text rest c.cover other.1 (inr none)).0
+    some (covers_unique small c.pieces other.0 text rest [] c.cover other.1 (inr none) (inl refl)).0
 
 -- no two lists of tokens cover one text
 pub tokens_unique : {greatest : ℕ} → greatest < 2 ^ 64 → (text : List ℕ) (ts us : List Token) → AreTokensBelow greatest ts text → AreTokensBelow greatest us text → ts ≡ us
 tokens_unique small text ts us h g =
-    let w = covers_unique small h.0 g.0 text [] h.1 g.1 (inl refl) in
+    let w = covers_unique small h.0 g.0 text [] [] h.1 g.1 (inl refl) (inl refl) in
     h.2 ∙ ap (tokens_from 0) w.1 ∙ sym g.2
+
+pub place_unique : {greatest : ℕ} → greatest < 2 ^ 64 → (at other : ℕ) (text : List ℕ) → IsFirstUncoveredBelow greatest at text → IsFirstUncoveredBelow greatest other text → at ≡ other
+place_unique small at other text h g =
+    let w = covers_unique small h.0 g.0 text h.1 g.1 h.2 g.2 (inr h.5) (inr g.5) in
+    omega (arith, h.3, g.3, ap length w.0)
+
+pub place_or_tokens : {greatest : ℕ} → greatest < 2 ^ 64 → (at : ℕ) (text : List ℕ) (ts : List Token) → IsFirstUncoveredBelow greatest at text → AreTokensBelow greatest ts text → ⊥
+place_or_tokens small at text ts h g = h.4 (covers_unique small h.0 g.0 text h.1 [] h.2 g.1 (inr h.5) (inl refl)).0
