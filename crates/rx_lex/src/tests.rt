@@ -1,0 +1,1 @@
+// Lexing from outside.
