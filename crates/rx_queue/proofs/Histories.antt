@@ -423,8 +423,8 @@ pending-open xs i x within here is =
     let q : Lane → Entry → Bool = λ l e. is_open e && same_lane e.update.lane l in
     lanes_agree (λ l. has (pending_of (take i xs)) l || has (one x.update.lane) l) (is_pending (take (i + 1) xs))
     (λ l. ap (λ b. b || has (one x.update.lane) l) (has-lanes_where (is_pending (take i xs)) l)
-        ∙ ap (λ b. is_pending (take i xs) l || b) (has-lanes_where (same_lane x.update.lane) l ∙ sym (ap (λ b. b && same_lane x.update.lane l) is) ∙ ap (q l) here)
-        ∙ sym (list_any_more (q l) xs i x within))
+    ∙ ap (λ b. is_pending (take i xs) l || b) (has-lanes_where (same_lane x.update.lane) l ∙ sym (ap (λ b. b && same_lane x.update.lane l) is) ∙ ap (q l) here)
+    ∙ sym (list_any_more (q l) xs i x within))
 
 -- and one that is done or owed adds none
 pub pending-closed : (xs : List Entry) (i : ℕ) (x : Entry) → i < length xs → x ≡ get_or xs i x → is_open x ≡ false
@@ -433,8 +433,8 @@ pending-closed xs i x within here is =
     let q : Lane → Entry → Bool = λ l e. is_open e && same_lane e.update.lane l in
     lanes_agree (is_pending (take i xs)) (is_pending (take (i + 1) xs))
     (λ l. sym (list_any_more (q l) xs i x within
-        ∙ ap (λ b. is_pending (take i xs) l || b) (sym (ap (q l) here) ∙ ap (λ b. b && same_lane x.update.lane l) is)
-        ∙ or_false (is_pending (take i xs) l)))
+    ∙ ap (λ b. is_pending (take i xs) l || b) (sym (ap (q l) here) ∙ ap (λ b. b && same_lane x.update.lane l) is)
+    ∙ or_false (is_pending (take i xs) l)))
 
 -- a part at the front, and then the rest
 pub state_from-cut : (answers : Answers) (p : Entry → Bool) (state : ℤ) (n : ℕ) (xs : List Entry)

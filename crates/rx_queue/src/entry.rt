@@ -27,8 +27,7 @@ impl Entry {
     pub fn is_included(&self, lanes: Lanes, cut: Cut) -> bool
         ensures { result ≡ is_included lanes cut self.now }
     {
-        self.update.number < cut.updates
-            && (!self.is_open() || lanes.has(self.update.lane))
+        self.update.number < cut.updates && (!self.is_open() || lanes.has(self.update.lane))
     }
 
     /// True where the update is neither done nor owed.
@@ -64,9 +63,8 @@ impl Entry {
         ensures { result ≡ noted lanes cut self }
     {
         Entry {
-            update: self.update,
-            standing: self.standing,
             included: self.is_included(lanes, cut),
+            ..self
         }
     }
 
@@ -76,9 +74,8 @@ impl Entry {
     {
         if self.included {
             Entry {
-                update: self.update,
                 standing: Standing::Done,
-                included: self.included,
+                ..self
             }
         } else {
             self
@@ -89,14 +86,10 @@ impl Entry {
     pub fn owed_after(self, lanes: Lanes, cut: Cut) -> Entry
         ensures { result ≡ owed_after lanes cut self }
     {
-        if self.update.number < cut.updates
-            && !self.is_done()
-            && lanes.has(self.update.lane)
-        {
+        if self.update.number < cut.updates && !self.is_done() && lanes.has(self.update.lane) {
             Entry {
-                update: self.update,
                 standing: Standing::Owed,
-                included: self.included,
+                ..self
             }
         } else {
             self

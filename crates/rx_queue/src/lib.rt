@@ -4,6 +4,8 @@
 mod entry;
 mod fold;
 mod queue;
+#[cfg(test)]
+mod tests;
 mod update;
 
 pub use entry::{Entry, Standing};

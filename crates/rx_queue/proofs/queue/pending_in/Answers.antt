@@ -11,7 +11,7 @@ pending-preserved c =
     let i = c.pending.entry-index in
     let x = c.entry-item.result in
     elim c.if-is_open.branch [
-      then-is_open w ↦ w.lanes-is ∙ w.union-lanes.ensures
+      | then-is_open w ↦ w.lanes-is ∙ w.union-lanes.ensures
           ∙ ap (λ (a : Lanes). union a w.one.result) c.pending.invariant ∙ ap (λ (b : Lanes). union (pending_of (take i xs)) b) w.one.ensures
           ∙ pending-open xs i x c.pending-test.true c.entry-item.is (sym c.is_open.ensures ∙ w.if-is_open.true)
       | else-is_open w ↦ w.lanes-is ∙ c.pending.invariant ∙ pending-closed xs i x c.pending-test.true c.entry-item.is (sym c.is_open.ensures ∙ w.if-is_open.false)
