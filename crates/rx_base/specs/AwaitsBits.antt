@@ -1,5 +1,5 @@
 -- A set of resources as a number, each resource a bit.
-use Rattle.std.specs.Prelude.{ℕ, nat_eq, ◌^◌, List, [], ◌∷◌, bit_or}
+use Rattle.std.specs.Prelude.{ℕ, nat_eq, ◌^◌, [], ◌∷◌, bit_or}
 use Rattle.std.specs.Int.{bit_at}
 use Rattle.rx_base.specs.Awaits.{Awaits, awaits_where}
 

@@ -12,3 +12,6 @@ pub use cut::Cut;
 pub use int::Int;
 pub use name::Name;
 pub use steps::Steps;
+
+#[cfg(test)]
+mod tests;
