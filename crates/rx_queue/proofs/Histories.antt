@@ -1,5 +1,5 @@
 -- Folds over a whole history and over its base queue.
-use Rattle.std.proofs.Common.{Vec, ◌≡◌, ◌<◌, ◌+◌, ℕ, Bool, true, false, cond, not, ◌&&◌, ◌||◌, nat_lt, if◌then◌else◌, List, [], ◌∷◌, ◌++◌, map, take, drop, length, get_or, take-append-drop, fold, filter, suc, refl, sym, ap, ◌∙◌, arith, subst, ℤ}
+use Rattle.std.proofs.Common.{Vec, ◌≡◌, ◌<◌, ◌+◌, ℕ, Bool, true, false, cond, not, ◌&&◌, ◌||◌, nat_lt, if◌then◌else◌, List, [], ◌∷◌, ◌++◌, map, take, drop, length, get_or, take-append-drop, fold, filter, suc, refl, sym, ap, ◌∙◌, arith, ℤ}
 use Rattle.std.specs.List.{list_any, prefix_len, AllByRecursion}
 use Rattle.std.specs.Vec.{with_items}
 use Rattle.std.proofs.lemmas.List.{length-map, with_items_is}
@@ -7,7 +7,7 @@ use Rattle.std.proofs.lemmas.List.Folds.{list_any_more}
 use Rattle.std.proofs.lemmas.Bool.Decides.{nat_tests}
 use Rattle.rx_base.specs.declared.cut.Cut.{Cut}
 use Rattle.rx_lane.specs.declared.lane.Lane.{Lane}
-use Rattle.rx_lane.specs.Lanes.{Lanes, has, same_lane, lanes_where, one, union}
+use Rattle.rx_lane.specs.Lanes.{Lanes, has, same_lane, one, union}
 use Rattle.rx_lane.specs.SetLaws.{lanes_agree, has-lanes_where}
 use Rattle.rx_queue.specs.declared.update.Update.{Update}
 use Rattle.rx_queue.specs.declared.entry.Standing.{Standing}

@@ -1,5 +1,5 @@
-use Rattle.std.proofs.Common.{◌≡◌, sym, ap, ◌∙◌, take}
-use Rattle.rx_lane.specs.Lanes.{Lanes, one, union}
+use Rattle.std.proofs.Common.{sym, ap, ◌∙◌, take}
+use Rattle.rx_lane.specs.Lanes.{Lanes, union}
 use Rattle.rx_queue.specs.History.{pending_of}
 use Rattle.rx_queue.proofs.Histories.{pending-closed, pending-open}
 use Rattle.rx_queue.proofs.queue.pending_in.Goals.{else-is_open, then-is_open}
