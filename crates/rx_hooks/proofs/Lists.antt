@@ -1,6 +1,6 @@
 -- Facts on one hook, carried to a list of hooks.
-use Rattle.std.proofs.Common.{◌≡◌, ℕ, zero, suc, ◌+◌, ◌<◌, ◌≤◌, ◌∙◌, Bool, true, false, ◌||◌, if◌then◌else◌, add-one, Option, Some, None, List, [], ◌∷◌, ◌++◌, length, take, map, get_or, slice_get, refl, sym, ap, arith, subst, ℤ}
-use Rattle.std.specs.List.{list_any, AllByRecursion, AllZip}
+use Rattle.std.proofs.Common.{◌≡◌, ℕ, zero, suc, ◌+◌, ◌<◌, ◌∙◌, Bool, true, false, ◌||◌, if◌then◌else◌, add-one, Some, List, [], ◌∷◌, ◌++◌, length, take, map, get_or, slice_get, refl, sym, ap, arith, subst}
+use Rattle.std.specs.List.{list_any, AllZip}
 use Rattle.std.proofs.Math.ListN.{set}
 use Rattle.std.proofs.lemmas.List.Folds.{list_any-append}
 use Rattle.rx_base.specs.declared.cut.Cut.{Cut}

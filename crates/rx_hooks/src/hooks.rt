@@ -95,7 +95,8 @@ impl Hooks {
     ///
     /// Want of memory alone.
     pub fn mount(alloc: Global, initials: &[Int]) -> Result<Hooks, AllocError>
-        ensures { IfOk result (λ hooks. (answers : Answers) → HooksStandFor answers hooks (map mounted initials.now)) }
+        ensures stands { IfOk result (λ hooks. (answers : Answers) → HooksStandFor answers hooks (map mounted initials.now)) }
+        ensures count { IfOk result (λ hooks. length hooks ≡ length initials.now) }
     {
         let mut hooks = Vec::with_capacity(alloc, initials.len())?;
         'mounting: for initial in initials {
@@ -120,6 +121,7 @@ impl Hooks {
         requires { hook < length self.old }
         ensures ok { OnOk result ((answers : Answers) (histories : List HookHistory) → HooksStandFor answers self.old histories
             → HooksStandFor answers self.new (changed_at hook (sent update) histories)) }
+        ensures count { length self.new ≡ length self.old }
         ensures err { OnErr result (self.new ≡ self.old) }
     {
         let hook = &mut self.hooks[hook as usize];
@@ -143,6 +145,7 @@ impl Hooks {
             → HooksStandFor (F.answers fold.now) self.new (map (rendered lanes cut) histories)) }
         ensures values { IfOk result (λ values. (histories : List HookHistory) → HooksStandFor (F.answers fold.now) self.old histories → AllAboveDone cut histories
             → values ≡ states_of (F.answers fold.now) lanes cut histories) }
+        ensures count { length self.new ≡ length self.old }
         ensures err { OnErr result (self.new ≡ self.old) }
     {
         let mut values = Vec::with_capacity(alloc, self.hooks.len())?;
@@ -153,7 +156,8 @@ impl Hooks {
 
     /// Commits what was rendered last.
     pub fn commit(&mut self)
-        ensures { (answers : Answers) (histories : List HookHistory) → HooksStandFor answers self.old histories → HooksStandFor answers self.new (map committed_hook histories) }
+        ensures stands { (answers : Answers) (histories : List HookHistory) → HooksStandFor answers self.old histories → HooksStandFor answers self.new (map committed_hook histories) }
+        ensures count { length self.new ≡ length self.old }
     {
         commit_all(&mut self.hooks);
     }
@@ -161,8 +165,9 @@ impl Hooks {
     /// Marks the updates before the cut that are not done and have one of these lanes as owed, at a commit that keeps the
     /// component's content hidden.
     pub fn mark_owed(&mut self, lanes: Lanes, cut: Cut)
-        ensures { (answers : Answers) (histories : List HookHistory) → HooksStandFor answers self.old histories
+        ensures stands { (answers : Answers) (histories : List HookHistory) → HooksStandFor answers self.old histories
             → HooksStandFor answers self.new (map (owed_hook lanes cut) histories) }
+        ensures count { length self.new ≡ length self.old }
     {
         owe_all(&mut self.hooks, lanes, cut);
     }
@@ -207,11 +212,12 @@ impl Hooks {
     }
 
     /// Links the lane of a transition dispatch with those transition lanes of the hook that are still pending, and gives
-    /// all of them.
+    /// all of them: React renders the transitions of one queue together.
     pub fn transition(&mut self, hook: u32, lane: Lane, pending: Lanes) -> Lanes
         requires { hook < length self.old }
         ensures stands { (answers : Answers) (histories : List HookHistory) → HooksStandFor answers self.old histories
             → HooksStandFor answers self.new (changed_at hook (relinked lane pending) histories) }
+        ensures count { length self.new ≡ length self.old }
         ensures linked { (answers : Answers) (histories : List HookHistory) (history : HookHistory) → HooksStandFor answers self.old histories
             → slice_get histories hook ≡ Some history → result ≡ links_with lane pending history.linked }
     {

@@ -1,4 +1,6 @@
 // What hooks answer over a render, a commit and transitions.
+ghost use Rattle.std.specs.Prelude.{◌≡◌, length, IfOk};
+
 use super::*;
 use rx_base::{Cut, Int};
 use rx_lane::{Lane, Lanes};
@@ -25,6 +27,11 @@ fn mounted(alloc: Global) -> Result<Hooks, AllocError>
     Hooks::mount(alloc, &[Int::of(5), Int::of(6)])
 }
 
+fn update(number: u64, value: i64, lane: Lane) -> Update {
+    let op = Op::Set(Int::of(value));
+    Update { number, op, lane }
+}
+
 const CUT: Cut = Cut {
     updates: 2,
     resolutions: 0,
@@ -33,10 +40,8 @@ const CUT: Cut = Cut {
 #[test]
 fn each_hook_has_a_state_of_its_own(rt: HostRuntime) -> Result<(), Fail> {
     let mut hooks = mounted(rt.alloc())?;
-    for (number, lane) in [(0, Lane::Sync), (1, Lane::T1)] {
-        let op = Op::Set(Int::of(7));
-        hooks.push(1, Update { number, op, lane })?;
-    }
+    hooks.push(1, update(0, 7, Lane::Sync))?;
+    hooks.push(1, update(1, 8, Lane::T1))?;
     let sync = Lanes::one(Lane::Sync);
     assert_eq!(rt; hooks.work(sync, CUT), Work::New);
     let values = hooks.render_values(rt.alloc(), &Latest, sync, CUT)?;

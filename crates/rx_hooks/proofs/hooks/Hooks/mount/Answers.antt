@@ -1,8 +1,9 @@
-use Rattle.std.proofs.Common.{◌≡◌, ◌+◌, ◌++◌, ◌∷◌, [], ◌∙◌, List, ap, map, refl, subst, sym, take, ℤ}
-use Rattle.std.proofs.lemmas.List.{map-append, take_more}
+use Rattle.std.proofs.Common.{◌≡◌, ◌+◌, ◌++◌, ◌∷◌, [], ◌∙◌, List, ap, length, map, refl, subst, sym, take, ℤ}
+use Rattle.std.proofs.lemmas.List.{length-map, map-append, take_all, take_more}
 use Rattle.rx_hooks.specs.declared.hook.Hook.{Hook}
+use Rattle.rx_queue.specs.History.{Answers}
 use Rattle.rx_hooks.specs.Hooks.{HookHistory, HookStandsFor, HooksStandFor, mounted}
-use Rattle.rx_hooks.proofs.Lists.{stand-push}
+use Rattle.rx_hooks.proofs.Lists.{stand-length, stand-push}
 use Rattle.rx_hooks.proofs.hooks.Hooks.mount.Goals as goal
 
 pub mounting-preserved : goal.mounting-preserved
@@ -22,3 +23,11 @@ mounting-preserved c answers =
     subst (λ (l : List Hook). HooksStandFor answers l (map mounted (take (i + 1) initials))) (sym c.in_ok-push.ensures.items)
     (subst (λ (l : List HookHistory). HooksStandFor answers (c.mounting.hooks.items ++ hook ∷ []) l) more
     (stand-push answers c.mounting.hooks.items (map mounted (take i initials)) hook (mounted x) (c.mounting.invariant answers) one))
+
+pub returns-clause-count : goal.returns-clause-count
+returns-clause-count c =
+    let initials = c.args.initials.now in
+    let i = c.mounting.initial-index in
+    let answers : Answers = λ f state x. state in
+    sym (stand-length answers c.mounting.hooks.items (map mounted (take i initials)) (c.mounting.invariant answers))
+    ∙ length-map (take i initials) mounted ∙ ap (λ (l : List ℤ). length l) (take_all i initials c.mounting-test.false)

@@ -1,5 +1,5 @@
 use Rattle.std.proofs.Common.{◌≡◌, ◌<◌, ◌∙◌, ap, length, subst, sym}
-use Rattle.rx_lane.specs.Lanes.{Lanes, intersection, one, union}
+use Rattle.rx_lane.specs.Lanes.{Lanes, intersection, union}
 use Rattle.rx_hooks.specs.declared.hook.Hook.{Hook}
 use Rattle.rx_hooks.specs.Hooks.{HookStandsFor, links_with, relinked}
 use Rattle.rx_hooks.proofs.Lists.{stand-at, stand-changed_at}
