@@ -1,5 +1,5 @@
 -- A set of lanes as a number, each lane a bit.
-use Rattle.std.specs.Prelude.{ℕ, nat_eq, ◌^◌, List, [], ◌∷◌, bit_or}
+use Rattle.std.specs.Prelude.{ℕ, nat_eq, ◌^◌, [], ◌∷◌, bit_or}
 use Rattle.std.specs.Int.{bit_at}
 use Rattle.rx_lane.specs.Lanes.{Lanes, lanes_where, priority}
 

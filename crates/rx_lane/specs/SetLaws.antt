@@ -1,15 +1,15 @@
 -- Membership in sets of lanes, and when two sets are equal.
-use Rattle.std.specs.Prelude.{Bool, true, false, cond, ◌&&◌, ◌≡◌, ℕ, ◌<◌, List, [], ◌∷◌, Option, Some, None, filter, nat_eq, refl, slice_index_or}
-use Rattle.std.proofs.Common.{sym, ◌∙◌, ap, arith, subst}
+use Rattle.std.specs.Prelude.{Bool, true, false, not, ◌&&◌, ◌≡◌, ℕ, zero, suc, ◌<◌, length, List, [], ◌∷◌, Some, filter, nat_eq, refl, slice_index_or}
+use Rattle.std.proofs.Common.{sym, ◌∙◌, ap, arith}
 use Rattle.std.specs.List.{list_all, list_any, find}
 use Rattle.std.proofs.lemmas.Bool.Decides.{nat_tests}
 use Rattle.rx_lane.specs.declared.lane.Lane.{Lane}
 use Rattle.rx_lane.specs.declared.lane.Lane.TheVariants.{Sync, Input, Default, T1, T2, T3, T4, T5, T6, T7, T8, T9, T10, T11, T12, T13, T14, T15, T16, Retry}
-use Rattle.rx_lane.specs.Lanes.{Lanes, priority, same_lane, all_lanes, has, lanes_where, highest, meets, within, is_empty}
+use Rattle.rx_lane.specs.Lanes.{Lanes, priority, same_lane, all_lanes, has, lanes_where, highest, meets, within, minus, intersection, is_empty}
 
 -- the lane with this priority
 abbrev pub lane_at : ℕ → Lane
-lane_at n = slice_index_or all_lanes n Retry
+lane_at n = slice_index_or all_lanes n Sync
 
 pub lane_at-priority : (l : Lane) → lane_at (priority l) ≡ l
 lane_at-priority Sync = refl
@@ -95,3 +95,82 @@ has-lanes_where p l = has-filter p all_lanes l ∙ ap (λ b. p l && b) (has-all_
     and_true : (b : Bool) → (b && true) ≡ b
     and_true true = refl
     and_true false = refl
+
+list_any-filter : (q p : Lane → Bool) (ls : List Lane) → list_any q (filter p ls) ≡ list_any (λ l. p l && q l) ls
+list_any-filter q p [] = refl
+list_any-filter q p (l ∷ ls) = go (p l) refl (list_any-filter q p ls)
+  where
+    go : (b : Bool) → p l ≡ b → list_any q (filter p ls) ≡ list_any (λ m. p m && q m) ls → list_any q (filter p (l ∷ ls)) ≡ list_any (λ m. p m && q m) (l ∷ ls)
+    go true e rest = rw (e, rest) refl
+    go false e rest = rw (e, rest) refl
+
+list_all-filter : (q p : Lane → Bool) (ls : List Lane) → list_all q (filter p ls) ≡ not (list_any (λ l. p l && not (q l)) ls)
+list_all-filter q p [] = refl
+list_all-filter q p (l ∷ ls) = go (p l) refl (q l) refl (list_all-filter q p ls)
+  where
+    go : (b : Bool) → p l ≡ b → (c : Bool) → q l ≡ c → list_all q (filter p ls) ≡ not (list_any (λ m. p m && not (q m)) ls) → list_all q (filter p (l ∷ ls)) ≡ not (list_any (λ m. p m && not (q m)) (l ∷ ls))
+    go true e true f rest = rw (e, f, rest) refl
+    go true e false f rest = rw (e, f) refl
+    go false e c f rest = rw (e, rest) refl
+
+is_empty-filter : (p : Lane → Bool) (ls : List Lane) → is_empty (filter p ls) ≡ not (list_any p ls)
+is_empty-filter p [] = refl
+is_empty-filter p (l ∷ ls) = go (p l) refl (is_empty-filter p ls)
+  where
+    go : (b : Bool) → p l ≡ b → is_empty (filter p ls) ≡ not (list_any p ls) → is_empty (filter p (l ∷ ls)) ≡ not (list_any p (l ∷ ls))
+    go true e rest = rw e refl
+    go false e rest = rw (e, rest) refl
+
+highest-filter : (p : Lane → Bool) (ls : List Lane) → highest (filter p ls) ≡ find p ls
+highest-filter p [] = refl
+highest-filter p (l ∷ ls) = go (p l) refl (highest-filter p ls)
+  where
+    go : (b : Bool) → p l ≡ b → highest (filter p ls) ≡ find p ls → highest (filter p (l ∷ ls)) ≡ find p (l ∷ ls)
+    go true e rest = rw e refl
+    go false e rest = rw (e, rest) refl
+
+list_any-agree : (p q : Lane → Bool) (ls : List Lane) → ((l : Lane) → p l ≡ q l) → list_any p ls ≡ list_any q ls
+list_any-agree p q [] h = refl
+list_any-agree p q (l ∷ ls) h = let here = h l in let rest = list_any-agree p q ls h in rw (here, rest) refl
+
+find-agree : (p q : Lane → Bool) (ls : List Lane) → ((l : Lane) → p l ≡ q l) → find p ls ≡ find q ls
+find-agree p q [] h = refl
+find-agree p q (l ∷ ls) h = let here = h l in let rest = find-agree p q ls h in rw (here, rest) refl
+
+-- the highest lane of a set is the first of all lanes that is in it
+pub highest-lanes_where : (p : Lane → Bool) → highest (lanes_where p) ≡ find (has (lanes_where p)) all_lanes
+unfolding lanes_where
+highest-lanes_where p = highest-filter p all_lanes ∙ sym (find-agree (has (lanes_where p)) p all_lanes (has-lanes_where p))
+
+-- two sets meet where what both have isn't empty
+pub meets-lanes_where : (p : Lane → Bool) (b : Lanes) → meets (lanes_where p) b ≡ not (is_empty (intersection (lanes_where p) b))
+unfolding lanes_where
+meets-lanes_where p b =
+    list_any-filter (has b) p all_lanes
+    ∙ list_any-agree _ (λ l. has (lanes_where p) l && has b l) all_lanes (λ l. ap (λ x. x && has b l) (sym (has-lanes_where p l)))
+    ∙ sym (ap not (is_empty-filter (λ l. has (lanes_where p) l && has b l) all_lanes) ∙ not-not _)
+  where
+    not-not : (b : Bool) → not (not b) ≡ b
+    not-not true = refl
+    not-not false = refl
+
+-- a set is within another where nothing is left of it without the other
+pub within-lanes_where : (p : Lane → Bool) (b : Lanes) → within (lanes_where p) b ≡ is_empty (minus (lanes_where p) b)
+unfolding lanes_where
+within-lanes_where p b =
+    list_all-filter (has b) p all_lanes
+    ∙ ap not (list_any-agree _ (λ l. has (lanes_where p) l && not (has b l)) all_lanes (λ l. ap (λ x. x && not (has b l)) (sym (has-lanes_where p l))))
+    ∙ sym (is_empty-filter (λ l. has (lanes_where p) l && not (has b l)) all_lanes)
+
+pub list_all-agree : (p q : Lane → Bool) (ls : List Lane) → ((l : Lane) → p l ≡ q l) → list_all p ls ≡ list_all q ls
+list_all-agree p q [] h = refl
+list_all-agree p q (l ∷ ls) h = let here = h l in let rest = list_all-agree p q ls h in rw (here, rest) refl
+
+-- the first lane of a list that passes a test
+pub find-first : (p : Lane → Bool) (ls : List Lane) (i : ℕ) → i < length ls → p (slice_index_or ls i Sync) ≡ true → ((k : ℕ) → k < i → p (slice_index_or ls k Sync) ≡ false) → find p ls ≡ Some (slice_index_or ls i Sync)
+find-first p [] i lt here before = absurd (omega arith)
+find-first p (l ∷ ls) zero lt here before = rw here refl
+find-first p (l ∷ ls) (suc i) lt here before =
+    let first : p l ≡ false = before 0 (omega arith) in
+    let rest : find p ls ≡ Some (slice_index_or ls i Sync) = find-first p ls i (omega arith) here (λ k h. before (suc k) (omega arith)) in
+    rw first rest

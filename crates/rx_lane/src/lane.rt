@@ -30,6 +30,30 @@ pub enum Lane {
 }
 
 impl Lane {
+    /// Every lane, by falling priority.
+    pub const ALL: [Lane; 20] = [
+        Lane::Sync,
+        Lane::Input,
+        Lane::Default,
+        Lane::T1,
+        Lane::T2,
+        Lane::T3,
+        Lane::T4,
+        Lane::T5,
+        Lane::T6,
+        Lane::T7,
+        Lane::T8,
+        Lane::T9,
+        Lane::T10,
+        Lane::T11,
+        Lane::T12,
+        Lane::T13,
+        Lane::T14,
+        Lane::T15,
+        Lane::T16,
+        Lane::Retry,
+    ];
+
     /// How many lanes are higher: 0 for `Sync`, 19 for `Retry`.
     pub fn priority(self) -> u32
         ensures { result ≡ priority self }

@@ -6,3 +6,6 @@ mod lanes;
 
 pub use lane::Lane;
 pub use lanes::Lanes;
+
+#[cfg(test)]
+mod tests;
