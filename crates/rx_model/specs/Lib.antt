@@ -16,5 +16,6 @@ pub mod Fresh
 pub mod Report
 pub mod State
 pub mod Machine
+pub mod Kept
 pub mod Grammar
 pub mod Accepted
