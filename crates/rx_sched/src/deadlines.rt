@@ -14,11 +14,13 @@ pub struct Deadlines {
 }
 
 impl Model for Deadlines {
-    ghost use Rattle.std.specs.Prelude.{List, Option, ℕ};
+    ghost use Rattle.std.specs.Prelude.{◌≡◌, List, Option, length, ℕ};
 
     ghost Value = { List (Option ℕ) };
 
     ghost view = { λ d. d.moments };
+
+    ghost invariant = { λ d. length d.moments ≡ 20 };
 }
 
 /// How long a lane may wait (React's expiration times).
@@ -57,33 +59,25 @@ impl Deadlines {
     }
 
     /// Lanes get the deadlines of lanes that become pending now.
-    #[tactic(auto, unfolding(crate::specs::Deadlines::timed))]
     pub fn begin(&mut self, lanes: Lanes, now: u64)
         ensures { self.new ≡ timed self.old lanes (deadline_from now) }
     {
-        let moments = self.moments;
-        self.moments = Lane::ALL.map(|lane| {
+        for lane in Lane::ALL {
             if lanes.has(lane) {
-                deadline_from(now, lane)
-            } else {
-                moments[lane.priority() as usize]
+                self.moments[lane.priority() as usize] = deadline_from(now, lane);
             }
-        });
+        }
     }
 
     /// Lanes have no deadline from now on.
-    #[tactic(auto, unfolding(crate::specs::Deadlines::timed))]
     pub fn end(&mut self, lanes: Lanes)
         ensures { self.new ≡ timed self.old lanes (λ l. None) }
     {
-        let moments = self.moments;
-        self.moments = Lane::ALL.map(|lane| {
+        for lane in Lane::ALL {
             if lanes.has(lane) {
-                None
-            } else {
-                moments[lane.priority() as usize]
+                self.moments[lane.priority() as usize] = None;
             }
-        });
+        }
     }
 
     /// True where now has reached a lane's deadline.
@@ -96,13 +90,20 @@ impl Deadlines {
         }
     }
 
+    /// True where a lane has no deadline.
+    fn is_missing(&self, lane: Lane) -> bool
+        ensures { result ≡ is_none (deadline_of self.now lane) }
+    {
+        self.of(lane).is_none()
+    }
+
     /// The lanes without a deadline.
     pub fn missing(&self) -> Lanes
         ensures { result ≡ lanes_where (λ l. is_none (deadline_of self.now l)) }
     {
         let mut found = Lanes::none();
         for lane in Lane::ALL {
-            if self.of(lane).is_none() {
+            if self.is_missing(lane) {
                 found = found.union(Lanes::one(lane));
             }
         }

@@ -14,12 +14,14 @@ pub struct Links {
 }
 
 impl Model for Links {
-    ghost use Rattle.std.specs.Prelude.{List};
+    ghost use Rattle.std.specs.Prelude.{◌≡◌, List, length};
     ghost use Rattle.rx_lane.specs.declared.lane.Lane.{Lane};
 
     ghost Value = { List (List Lane) };
 
     ghost view = { λ a. a.sets };
+
+    ghost invariant = { λ a. length a.sets ≡ 20 };
 }
 
 impl Links {
@@ -40,34 +42,29 @@ impl Links {
     }
 
     /// Links every two lanes of a set.
-    #[tactic(auto, unfolding(crate::specs::Links::linked_by))]
     pub fn join(&mut self, lanes: Lanes)
         ensures { self.new ≡ linked_by self.old lanes }
     {
-        let sets = self.sets;
-        self.sets = Lane::ALL.map(|lane| {
-            let before = sets[lane.priority() as usize];
+        for lane in Lane::ALL {
             if lanes.has(lane) {
-                before.union(lanes)
-            } else {
-                before
+                let place = lane.priority() as usize;
+                self.sets[place] = self.sets[place].union(lanes);
             }
-        });
+        }
     }
 
     /// Drops the links with lanes that aren't pending.
-    #[tactic(auto, unfolding(crate::specs::Links::links_among))]
     pub fn keep(&mut self, pending: Lanes)
         ensures { self.new ≡ links_among self.old pending }
     {
-        let sets = self.sets;
-        self.sets = Lane::ALL.map(|lane| {
+        for lane in Lane::ALL {
+            let place = lane.priority() as usize;
             if pending.has(lane) {
-                sets[lane.priority() as usize].intersection(pending)
+                self.sets[place] = self.sets[place].intersection(pending);
             } else {
-                Lanes::none()
+                self.sets[place] = Lanes::none();
             }
-        });
+        }
     }
 
     /// The lanes that are linked with some of a set.
@@ -95,7 +92,7 @@ impl Links {
         ensures { result ≡ reached self.now pending lanes }
     {
         let mut found = lanes;
-        for _ in 0..20 {
+        for _round in 0..20u32 {
             found = self.one_link_on(pending, found);
         }
         found

@@ -1,5 +1,6 @@
 // What is pending, suspended and linked, and what is rendered next.
 ghost use Rattle.std.specs.Prelude.{◌≡◌, IsTrue};
+ghost use Rattle.std.specs.List.{list_any};
 ghost use Rattle.rx_lane.specs.Lanes.{is_transition};
 ghost use Rattle.rx_sched.specs.Schedule.{StartsAllLinked, after_commit, after_deferral, after_resolution, after_update, become_pending, claimed, first_lanes, goes_on, is_sliced, keep_pending, keeps_on, lanes_to_start, leave_pending, linked, next, next_claim, opening_schedule, wake};
 
@@ -231,10 +232,17 @@ fn keeps_on(lane: Lane, lanes: Lanes) -> bool
     match lanes.highest() {
         None => false,
         Some(rendered) => {
-            let waits = matches!(lane, Lane::Default) && !lanes.transitions().is_none();
-            !lane.is_higher(rendered) || waits
+            let is_default = lane.priority() == Lane::Default.priority();
+            !lane.is_higher(rendered) || (is_default && has_transition(lanes))
         }
     }
+}
+
+/// True where a set has a transition lane.
+fn has_transition(lanes: Lanes) -> bool
+    ensures { result ≡ list_any is_transition lanes }
+{
+    !lanes.transitions().is_none()
 }
 
 /// The transition lane that is claimed after another.
