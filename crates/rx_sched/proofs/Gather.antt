@@ -91,7 +91,7 @@ pub gather-same : (p : Lane → Bool) (part : Lane → Lanes) (ls : List Lane) (
     → gather p part (take i ls) ≡ gather p part (take (i + 1) ls)
 gather-same p part ls i lt e = lanes_agree _ _ (λ l.
     sym (one_more p part ls i l lt ∙ ap (λ b. has (gather p part (take i ls)) l || (b && has (part (slice_index_or ls i Sync)) l)) e
-      ∙ or-false _ ∙ has-lanes_where (λ k. list_any (λ m. p m && has (part m) k) (take i ls)) l))
+    ∙ or-false _ ∙ has-lanes_where (λ k. list_any (λ m. p m && has (part m) k) (take i ls)) l))
   where
     or-false : (b : Bool) → (b || false) ≡ b
     or-false true = refl
@@ -111,7 +111,7 @@ gather-one p = lanes_agree _ _ (λ l. bool_ext _ _ (left l) (right l))
     right : (l : Lane) → p l ≡ true → list_any (λ m. p m && has (one m) l) all_lanes ≡ true
     right l e =
         list_any-intro (λ m. p m && has (one m) l) all_lanes l (has-all_lanes l)
-          (both-true (p l) (has (one l) l) e (has-lanes_where (same_lane l) l ∙ same_lane-refl l))
+        (both-true (p l) (has (one l) l) e (has-lanes_where (same_lane l) l ∙ same_lane-refl l))
 
 -- the next lane passes, and its part is added
 pub add_part : (p : Lane → Bool) (part : Lane → Lanes) (i : ℕ) (found item new : Lanes) → i < 20 → p (lane_at i) ≡ true → found ≡ gather p part (take i all_lanes) → item ≡ part (lane_at i) → new ≡ union found item

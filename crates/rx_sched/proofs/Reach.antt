@@ -21,8 +21,8 @@ pub round_of_sets : (links : Links) (pending lanes : Lanes) → union lanes (int
 unfolding one_link_on
 round_of_sets links pending lanes = lanes_agree _ _ (λ l.
     ap (λ b. has lanes l || b)
-      (has-lanes_where (λ m. has pending m && has (lanes_where (is_linked links lanes)) m) l
-      ∙ ap (λ b. has pending l && b) (has-lanes_where (is_linked links lanes) l)))
+    (has-lanes_where (λ m. has pending m && has (lanes_where (is_linked links lanes)) m) l
+    ∙ ap (λ b. has pending l && b) (has-lanes_where (is_linked links lanes) l)))
 
 -- one round of those that are left
 pub next_round : (i : ℕ) (links : Links) (pending lanes : Lanes) → i < 20 → links_on (20 - (i + 1)) links pending (one_link_on links pending lanes) ≡ links_on (20 - i) links pending lanes
@@ -121,7 +121,7 @@ same_or_more p q (m ∷ ls) h = go (p m) refl (q m) refl (same_or_more p q ls h)
     cons here rest l false e k = rest l k
 
     go : (b : Bool) → p m ≡ b → (c : Bool) → q m ≡ c → ((l : Lane) → has ls l ≡ true → q l ≡ p l) ⊎ (length (filter p ls) < length (filter q ls)) → length (filter p ls) ≤ length (filter q ls)
-      → ((l : Lane) → has (m ∷ ls) l ≡ true → q l ≡ p l) ⊎ (length (filter p (m ∷ ls)) < length (filter q (m ∷ ls)))
+        → ((l : Lane) → has (m ∷ ls) l ≡ true → q l ≡ p l) ⊎ (length (filter p (m ∷ ls)) < length (filter q (m ∷ ls)))
     go true e true f (inl same) le = inl (λ l k. cons (f ∙ sym e) same l (same_lane l m) refl k)
     go true e true f (inr less) le = inr (rw (e, f) (omega arith))
     go true e false f rest le = let w : q m ≡ true = h m e in absurd (cc)
@@ -151,8 +151,8 @@ closed_or_many zero links pending lanes = inr (omega arith)
 closed_or_many (suc n) links pending lanes = go (closed_or_more links pending lanes) (closed_or_many n links pending (one_link_on links pending lanes))
   where
     go : Closed links pending lanes ⊎ (size lanes < size (one_link_on links pending lanes))
-      → Closed links pending (links_on n links pending (one_link_on links pending lanes)) ⊎ (n + size (one_link_on links pending lanes) ≤ size (links_on n links pending (one_link_on links pending lanes)))
-      → Closed links pending (links_on n links pending (one_link_on links pending lanes)) ⊎ (suc n + size lanes ≤ size (links_on n links pending (one_link_on links pending lanes)))
+        → Closed links pending (links_on n links pending (one_link_on links pending lanes)) ⊎ (n + size (one_link_on links pending lanes) ≤ size (links_on n links pending (one_link_on links pending lanes)))
+        → Closed links pending (links_on n links pending (one_link_on links pending lanes)) ⊎ (suc n + size lanes ≤ size (links_on n links pending (one_link_on links pending lanes)))
     go (inl closed) rest = inl (closed_on n links pending (one_link_on links pending lanes) (closed_round links pending lanes closed))
     go (inr less) (inl closed) = inl closed
     go (inr less) (inr many) = inr (omega arith)
@@ -184,7 +184,7 @@ complete links pending lanes _ (within l h) = keeps 20 links pending lanes l h
 complete links pending lanes _ (along m l r e p) =
     let there : has (reached links pending lanes) m ≡ true = complete links pending lanes m r in
     let linked : is_linked links (reached links pending lanes) l ≡ true =
-      list_any-intro (λ k. has (reached links pending lanes) k && has (links_of links k) l) all_lanes m (has-all_lanes m) (both-true _ _ there e) in
+    list_any-intro (λ k. has (reached links pending lanes) k && has (links_of links k) l) all_lanes m (has-all_lanes m) (both-true _ _ there e) in
     sym (closed_reached links pending lanes l) ∙ has-one_link_on links pending (reached links pending lanes) l ∙ or-right _ _ (both-true _ _ p linked)
 
 -- following 20 links gives all lanes that are reached, and no others

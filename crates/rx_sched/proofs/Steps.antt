@@ -18,7 +18,7 @@ use Rattle.rx_sched.proofs.Reach.{all_reached}
 -- two schedules with the same parts
 pub same_parts : (pending : Lanes) (d e : Deadlines) (u v : Lanes) (w x : Awaits) (links : Links) (next : Lane) → d ≡ e → u ≡ v → w ≡ x
     → let s : Schedule = record { pending = pending; deadlines = d; suspended = u; waiting = w; links = links; next_transition = next } in
-      let t : Schedule = record { pending = pending; deadlines = e; suspended = v; waiting = x; links = links; next_transition = next } in s ≡ t
+    let t : Schedule = record { pending = pending; deadlines = e; suspended = v; waiting = x; links = links; next_transition = next } in s ≡ t
 same_parts pending d e u v w x links next hd hu hw = cc
 
 -- the lanes of a set that pass a test
@@ -62,9 +62,9 @@ pub within_slow_lanes : (p : Lane → Bool) (lanes u t o r s : Lanes) → u ≡ 
     → within lanes s ≡ list_all (λ l. (is_transition l || same_lane l Retry) && p l) lanes
 within_slow_lanes p lanes u t o r s hu ht ho hr hs =
     ap (within lanes)
-      (hs
-      ∙ ap (λ x. union x r) (ht ∙ ap transitions hu)
-      ∙ ap (union (transitions (lanes_where p))) (hr ∙ ap (λ x. intersection x o) hu ∙ ap (intersection (lanes_where p)) ho))
+    (hs
+    ∙ ap (λ x. union x r) (ht ∙ ap transitions hu)
+    ∙ ap (union (transitions (lanes_where p))) (hr ∙ ap (λ x. intersection x o) hu ∙ ap (intersection (lanes_where p)) ho))
     ∙ list_all-agree _ _ lanes (slow_lanes p)
 
 start_of : (a b : Lanes) → choice.Start a ≡ choice.Start b → a ≡ b

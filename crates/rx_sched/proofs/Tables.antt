@@ -25,7 +25,7 @@ written f d old s i j v h lt e w =
     record {
       long = length-set s j v ∙ h.long;
       done = here;
-      left = λ k le. get_or-set_other s j k v d (omega arith) ∙ h.left k (omega arith)
+      left = λ k le. get_or-set_other s j k v d (omega arith) ∙ h.left k (omega arith);
     }
   where
     at : slice_index_or (slice_set s j v) j d ≡ f j
@@ -40,7 +40,7 @@ stays f d old s i h e =
     record {
       long = h.long;
       done = below_more (λ k. slice_index_or s k d ≡ f k) i h.done (h.left i (omega arith) ∙ e);
-      left = λ k le. h.left k (omega arith)
+      left = λ k le. h.left k (omega arith);
     }
 
 -- all entries are written

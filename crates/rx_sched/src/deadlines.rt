@@ -3,9 +3,8 @@ ghost use Rattle.std.specs.Prelude.{◌≡◌, ◌&&◌, not, None, is_none};
 ghost use Rattle.rx_lane.specs.Lanes.{has, lanes_where};
 ghost use Rattle.rx_sched.specs.Deadlines.{deadline_from, deadline_of, is_expired, no_deadlines, patience, timed};
 
-use std::marker::Model;
-
 use rx_lane::{Lane, Lanes};
+use std::marker::Model;
 
 /// Of each lane the moment at which it expires, if it has one.
 #[derive(Drop, Debug)]

@@ -3,9 +3,8 @@ ghost use Rattle.std.specs.Prelude.{◌≡◌};
 ghost use Rattle.rx_lane.specs.Lanes.{lanes_where};
 ghost use Rattle.rx_sched.specs.Links.{is_linked, linked_by, links_among, links_of, no_links, one_link_on, reached};
 
-use std::marker::Model;
-
 use rx_lane::{Lane, Lanes};
+use std::marker::Model;
 
 /// Of each lane the lanes that are rendered together with it (React's entangled lanes).
 #[derive(Drop, Debug)]

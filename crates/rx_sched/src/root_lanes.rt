@@ -4,14 +4,12 @@ ghost use Rattle.std.specs.List.{list_any};
 ghost use Rattle.rx_lane.specs.Lanes.{is_transition};
 ghost use Rattle.rx_sched.specs.Schedule.{StartsAllLinked, after_commit, after_deferral, after_resolution, after_update, become_pending, claimed, first_lanes, goes_on, is_sliced, keep_pending, keeps_on, lanes_to_start, leave_pending, linked, next, next_claim, opening_schedule, wake};
 
-use std::marker::Model;
-
-use rx_base::Awaits;
-use rx_lane::{Lane, Lanes};
-
 use crate::choice::Choice;
 use crate::deadlines::Deadlines;
 use crate::links::Links;
+use rx_base::Awaits;
+use rx_lane::{Lane, Lanes};
+use std::marker::Model;
 
 /// The lanes of a root: which are pending, which are suspended and what they wait for, which are rendered together,
 /// and when each expires (React's root lanes).
@@ -75,7 +73,8 @@ impl RootLanes {
         ensures { self.new ≡ wake now self.old }
     {
         let woken = self.suspended.intersection(self.pending);
-        self.deadlines.begin(woken.intersection(self.deadlines.missing()), now);
+        self.deadlines
+            .begin(woken.intersection(self.deadlines.missing()), now);
         self.suspended = Lanes::none();
         self.waiting = Awaits::none();
     }
@@ -121,7 +120,8 @@ impl RootLanes {
     pub fn deferred(&mut self, lanes: Lanes, waits: &Awaits, now: u64)
         ensures { self.new ≡ after_deferral self.old lanes waits.now now }
     {
-        self.deadlines.end(lanes.intersection(self.deadlines.unexpired(now)));
+        self.deadlines
+            .end(lanes.intersection(self.deadlines.unexpired(now)));
         self.suspended = self.suspended.union(lanes);
         self.waiting = self.waiting.union(*waits);
     }
@@ -268,3 +268,6 @@ fn next_claim(lane: Lane) -> Lane
         _ => Lane::T1,
     }
 }
+
+#[cfg(test)]
+mod tests;

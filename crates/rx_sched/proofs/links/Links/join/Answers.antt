@@ -14,7 +14,7 @@ loop-lane-preserved c =
           let here : has c.args.lanes (lane_at c.loop-lane.lane-index) ≡ true = cc in
           let entry = next_entry _ no_lanes w.index-self-place.result _ _ c.loop-lane.lane-index _ c.loop-lane.invariant (omega arith) w.priority-place.ensures in
           write _ no_lanes _ _ _ c.loop-lane.lane-index _ _ c.loop-lane.invariant (omega arith) w.priority-place.ensures
-            (if_true _ _ _ _ here (w.union.ensures ∙ ap (λ s. union s c.args.lanes) entry)) (ap (λ r. r.sets) w.self-inside-is)
+          (if_true _ _ _ _ here (w.union.ensures ∙ ap (λ s. union s c.args.lanes) entry)) (ap (λ r. r.sets) w.self-inside-is)
       | else-has w ↦
           let here : has c.args.lanes (lane_at c.loop-lane.lane-index) ≡ false = cc in
           skip _ no_lanes _ _ _ c.loop-lane.lane-index c.loop-lane.invariant (omega arith) (if_false _ _ _ _ here refl) (ap (λ r. r.sets) w.self-inside-is)

@@ -14,11 +14,11 @@ loop-lane-preserved c =
           let here : has c.args.pending (lane_at c.loop-lane.lane-index) ≡ true = cc in
           let entry = next_entry _ no_lanes w.index-self-place.result _ _ c.loop-lane.lane-index _ c.loop-lane.invariant (omega arith) c.priority-place.ensures in
           write _ no_lanes _ _ _ c.loop-lane.lane-index _ _ c.loop-lane.invariant (omega arith) c.priority-place.ensures
-            (if_true _ _ _ _ here (w.intersection.ensures ∙ ap (λ s. intersection s c.args.pending) entry)) (ap (λ r. r.sets) w.self-inside-is)
+          (if_true _ _ _ _ here (w.intersection.ensures ∙ ap (λ s. intersection s c.args.pending) entry)) (ap (λ r. r.sets) w.self-inside-is)
       | else-has w ↦
           let here : has c.args.pending (lane_at c.loop-lane.lane-index) ≡ false = cc in
           write _ no_lanes _ _ _ c.loop-lane.lane-index _ _ c.loop-lane.invariant (omega arith) c.priority-place.ensures
-            (if_false _ _ _ _ here w.none.ensures) (ap (λ r. r.sets) w.self-inside-is)
+          (if_false _ _ _ _ here w.none.ensures) (ap (λ r. r.sets) w.self-inside-is)
     ]
 
 pub returns : goal.returns

@@ -8,11 +8,11 @@ use Rattle.rx_sched.proofs.root_lanes.RootLanes.deferred.Goals as goal
 pub returns : goal.returns
 returns c =
     same_parts _ _ _ _ _ _ _ _ _
-      (c.end.ensures
-      ∙ ap (λ s. timed c.self.inside.deadlines s (λ l. None))
-        (c.intersection.ensures
-        ∙ ap (intersection c.args.lanes) c.unexpired.ensures
-        ∙ intersection-lanes_where c.args.lanes (λ l. not (is_expired c.self.inside.deadlines c.args.now l))))
-      c.union-self-inside.ensures
-      c.union-self-inside-2.ensures
+    (c.end.ensures
+    ∙ ap (λ s. timed c.self.inside.deadlines s (λ l. None))
+    (c.intersection.ensures
+    ∙ ap (intersection c.args.lanes) c.unexpired.ensures
+    ∙ intersection-lanes_where c.args.lanes (λ l. not (is_expired c.self.inside.deadlines c.args.now l))))
+    c.union-self-inside.ensures
+    c.union-self-inside-2.ensures
     ∙ ap (λ s. after_deferral s c.args.lanes c.args.waits.now c.args.now) c.self.view_is
