@@ -1,12 +1,12 @@
 -- A set that is gathered lane by lane.
-use Rattle.std.specs.Prelude.{Bool, true, false, ◌≡◌, ◌&&◌, ◌||◌, ℕ, ◌+◌, ◌<◌, List, [], ◌∷◌, length, take, slice_index_or, nat_eq, refl}
+use Rattle.std.specs.Prelude.{Bool, true, false, ◌≡◌, ◌&&◌, ◌||◌, ℕ, ◌+◌, ◌<◌, List, [], ◌∷◌, length, take, slice_index_or, refl}
 use Rattle.std.specs.List.{list_any}
-use Rattle.std.proofs.Common.{sym, ◌∙◌, ap, arith, subst}
+use Rattle.std.proofs.Common.{sym, ◌∙◌, ap, arith}
 use Rattle.std.proofs.lemmas.List.Folds.{list_any_more}
 use Rattle.std.proofs.lemmas.Bool.Decides.{nat_tests}
 use Rattle.rx_lane.specs.declared.lane.Lane.{Lane}
 use Rattle.rx_lane.specs.declared.lane.Lane.TheVariants.{Sync}
-use Rattle.rx_lane.specs.Lanes.{Lanes, priority, same_lane, all_lanes, has, lanes_where, no_lanes, one, union}
+use Rattle.rx_lane.specs.Lanes.{Lanes, same_lane, all_lanes, has, lanes_where, no_lanes, one, union}
 use Rattle.rx_lane.specs.SetLaws.{lane_at, has-lanes_where, lanes_agree, has-all_lanes, same_lane-true}
 
 pub bool_ext : (a b : Bool) → (a ≡ true → b ≡ true) → (b ≡ true → a ≡ true) → a ≡ b

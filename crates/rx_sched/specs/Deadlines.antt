@@ -1,5 +1,5 @@
 -- When a lane expires.
-use Rattle.std.specs.Prelude.{ℕ, ◌+◌, ◌-◌, ◌^◌, min, Bool, false, List, Option, Some, None, nat_le, map, slice_index_or, replicate, if◌then◌else◌}
+use Rattle.std.specs.Prelude.{ℕ, ◌+◌, ◌-◌, ◌^◌, min, Bool, false, List, Option, Some, None, nat_le, map, slice_index_or, if◌then◌else◌}
 use Rattle.rx_lane.specs.declared.lane.Lane.{Lane}
 use Rattle.rx_lane.specs.declared.lane.Lane.TheVariants.{Input, Retry}
 use Rattle.rx_lane.specs.Lanes.{Lanes, priority, same_lane, has, all_lanes}

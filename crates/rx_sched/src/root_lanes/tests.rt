@@ -36,20 +36,25 @@ fn next_starts_what_is_linked_and_free(rt: HostRuntime) {
 
 #[test]
 fn next_keeps_or_interrupts(rt: HostRuntime) {
-    let first = Some(Lanes::one(Lane::T1));
-    let beside_default = next_of(&[Lane::T1, Lane::Default], &[], &[], first);
+    let first = Lanes::one(Lane::T1);
+    let beside_default = next_of(&[Lane::T1, Lane::Default], &[], &[], Some(first));
     assert_eq!(rt; beside_default, Choice::Keep);
-    let beside_input = next_of(&[Lane::T1, Lane::Input, Lane::Default], &[], &[], first);
+    let beside_input = next_of(
+        &[Lane::T1, Lane::Input, Lane::Default],
+        &[],
+        &[],
+        Some(first),
+    );
     assert_eq!(rt;
         beside_input,
         Choice::Start(set(&[Lane::Input, Lane::Default]))
     );
-    let beside_sync = next_of(&[Lane::T1, Lane::Sync], &[], &[], first);
+    let beside_sync = next_of(&[Lane::T1, Lane::Sync], &[], &[], Some(first));
     assert_eq!(rt; beside_sync, Choice::Start(Lanes::one(Lane::Sync)));
-    let beside_second = next_of(&[Lane::T1, Lane::T2], &[], &[], first);
+    let beside_second = next_of(&[Lane::T1, Lane::T2], &[], &[], Some(first));
     assert_eq!(rt; beside_second, Choice::Keep);
-    let retry = Some(Lanes::one(Lane::Retry));
-    let over_retry = next_of(&[Lane::T1, Lane::Retry], &[], &[], retry);
+    let retry = Lanes::one(Lane::Retry);
+    let over_retry = next_of(&[Lane::T1, Lane::Retry], &[], &[], Some(retry));
     assert_eq!(rt; over_retry, Choice::Start(Lanes::one(Lane::T1)));
 }
 

@@ -1,7 +1,7 @@
 use Rattle.std.specs.Prelude.{None, if◌then◌else◌}
 use Rattle.rx_lane.specs.Lanes.{has}
 use Rattle.rx_lane.specs.SetLaws.{lane_at}
-use Rattle.rx_sched.specs.Deadlines.{deadline_of, deadline_from}
+use Rattle.rx_sched.specs.Deadlines.{deadline_of}
 use Rattle.rx_sched.proofs.Tables.{Fills}
 use Rattle.rx_sched.proofs.deadlines.Deadlines.end.Given as goal
 

@@ -1,6 +1,6 @@
-use Rattle.std.specs.Prelude.{◌≡◌, is_none, not, take}
+use Rattle.std.specs.Prelude.{◌≡◌, is_none, take}
 use Rattle.rx_lane.specs.Lanes.{all_lanes, one}
-use Rattle.rx_sched.specs.Deadlines.{deadline_of, is_expired}
+use Rattle.rx_sched.specs.Deadlines.{deadline_of}
 use Rattle.rx_sched.proofs.Gather.{gather}
 use Rattle.rx_sched.proofs.deadlines.Deadlines.missing.Given as goal
 

@@ -1,8 +1,7 @@
-use Rattle.std.proofs.Common.{◌≡◌, ◌∙◌, ap, sym, arith, Bool, true, false, not, is_none}
-use Rattle.rx_lane.specs.Lanes.{one, has}
+use Rattle.std.proofs.Common.{◌≡◌, ◌∙◌, arith, true, false, not}
+use Rattle.rx_lane.specs.Lanes.{one}
 use Rattle.rx_lane.specs.SetLaws.{lane_at}
-use Rattle.rx_sched.specs.Deadlines.{deadline_of, is_expired}
-use Rattle.rx_sched.specs.Links.{links_of}
+use Rattle.rx_sched.specs.Deadlines.{is_expired}
 use Rattle.rx_sched.proofs.Gather.{add_part, add_none, gathered, gather-one}
 use Rattle.rx_sched.proofs.deadlines.Deadlines.unexpired.Goals as goal
 use Rattle.rx_sched.proofs.deadlines.Deadlines.unexpired.Goals.{then-not-is_expired, else-not-is_expired}

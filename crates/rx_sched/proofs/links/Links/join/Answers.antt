@@ -1,8 +1,7 @@
-use Rattle.std.proofs.Common.{◌≡◌, ◌∙◌, ap, sym, arith, refl, true, false, None, if◌then◌else◌}
-use Rattle.rx_lane.specs.Lanes.{has, union, intersection, no_lanes}
+use Rattle.std.proofs.Common.{◌≡◌, ◌∙◌, ap, arith, refl, true, false, if◌then◌else◌}
+use Rattle.rx_lane.specs.Lanes.{has, union, no_lanes}
 use Rattle.rx_lane.specs.SetLaws.{lane_at}
-use Rattle.rx_sched.specs.Deadlines.{deadline_of, deadline_from, timed}
-use Rattle.rx_sched.specs.Links.{links_of, linked_by, links_among}
+use Rattle.rx_sched.specs.Links.{links_of, linked_by}
 use Rattle.rx_sched.proofs.Tables.{write, skip, next_entry, whole, if_true, if_false}
 use Rattle.rx_sched.proofs.links.Links.join.Goals as goal
 use Rattle.rx_sched.proofs.links.Links.join.Goals.{then-has, else-has}

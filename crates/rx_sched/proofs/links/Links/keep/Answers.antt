@@ -1,9 +1,8 @@
-use Rattle.std.proofs.Common.{◌≡◌, ◌∙◌, ap, sym, arith, refl, true, false, None, if◌then◌else◌}
-use Rattle.rx_lane.specs.Lanes.{has, union, intersection, no_lanes}
+use Rattle.std.proofs.Common.{◌≡◌, ◌∙◌, ap, arith, true, false, if◌then◌else◌}
+use Rattle.rx_lane.specs.Lanes.{has, intersection, no_lanes}
 use Rattle.rx_lane.specs.SetLaws.{lane_at}
-use Rattle.rx_sched.specs.Deadlines.{deadline_of, deadline_from, timed}
-use Rattle.rx_sched.specs.Links.{links_of, linked_by, links_among}
-use Rattle.rx_sched.proofs.Tables.{write, skip, next_entry, whole, if_true, if_false}
+use Rattle.rx_sched.specs.Links.{links_of, links_among}
+use Rattle.rx_sched.proofs.Tables.{write, next_entry, whole, if_true, if_false}
 use Rattle.rx_sched.proofs.links.Links.keep.Goals as goal
 use Rattle.rx_sched.proofs.links.Links.keep.Goals.{then-has, else-has}
 

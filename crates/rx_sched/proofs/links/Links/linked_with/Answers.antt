@@ -1,9 +1,8 @@
-use Rattle.std.proofs.Common.{◌≡◌, ◌∙◌, ap, sym, arith, Bool, true, false, not, is_none}
-use Rattle.rx_lane.specs.Lanes.{one, has}
+use Rattle.std.proofs.Common.{◌≡◌, ◌∙◌, arith, true, false}
+use Rattle.rx_lane.specs.Lanes.{has}
 use Rattle.rx_lane.specs.SetLaws.{lane_at}
-use Rattle.rx_sched.specs.Deadlines.{deadline_of, is_expired}
 use Rattle.rx_sched.specs.Links.{links_of}
-use Rattle.rx_sched.proofs.Gather.{add_part, add_none, gathered, gather-one}
+use Rattle.rx_sched.proofs.Gather.{add_part, add_none, gathered}
 use Rattle.rx_sched.proofs.links.Links.linked_with.Goals as goal
 use Rattle.rx_sched.proofs.links.Links.linked_with.Goals.{then-has, else-has}
 
