@@ -4,7 +4,7 @@ use Rattle.rx_model.specs.Trees as trees
 use Rattle.rx_model.specs.Fresh as fresh
 use Rattle.rx_model.specs.Body as body
 use Rattle.rx_model.specs.Syntax.{Component}
-use Rattle.rx_eval.specs.declared.render.Sight.{Sight}
+use Rattle.rx_eval.specs.declared.rendering.Sight.{Sight}
 
 -- what the sight of the code stands for
 abbrev pub sight_seen : Sight → fresh.Sight

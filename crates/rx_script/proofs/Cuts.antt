@@ -95,10 +95,12 @@ pub behind-line : (input rest piece after : List ℕ) → IsBehind input rest �
     → IsBehind input after
 behind-line input rest piece after b cut is =
     let seam : (xs ys : List ℕ) → xs ++ (piece ++ 10 ∷ ys) ≡ (xs ++ (piece ++ 10 ∷ [])) ++ ys =
-        λ xs ys. sym (append_assoc xs (piece ++ 10 ∷ []) ys ∙ ap (λ l. xs ++ l) (append_assoc piece (10 ∷ []) ys)) in
-    (b.0 ++ (piece ++ 10 ∷ []), b.1 ∙ ap (λ l. b.0 ++ l) cut.whole ∙ seam b.0 after,
+    λ xs ys. sym (append_assoc xs (piece ++ 10 ∷ []) ys ∙ ap (λ l. xs ++ l) (append_assoc piece (10 ∷ []) ys)) in (
+      b.0 ++ (piece ++ 10 ∷ []),
+      b.1 ∙ ap (λ l. b.0 ++ l) cut.whole ∙ seam b.0 after,
       b.2 ∙ ap (behind b.0) (input-line rest piece after cut is)
-      ∙ ap (λ (l : List ℕ). record { program = l; script = (input_of after).script }) (seam b.0 (input_of after).program))
+          ∙ ap (λ (l : List ℕ). record { program = l; script = (input_of after).script }) (seam b.0 (input_of after).program),
+    )
 
 pub mark-program : (input rest piece after : List ℕ) → IsBehind input rest → IsCut rest piece after → is_mark (strip_carriage_return piece) ≡ true
     → take (length input - length rest) input ≡ (input_of input).program

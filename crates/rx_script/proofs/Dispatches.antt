@@ -102,6 +102,7 @@ form-none ws one is = by_five (dec ws) where
   by_five (inl five) =
       sym (ap kept_step (form-five ws five ∙ by_words-false _ (get_or ws 2 []) (get_or ws 3 []) (get_or ws 4 []) (not_five _ ws 5 is five)))
   by_five (inr other) = sym (ap kept_step (form-other ws one other))
+
   dec : (us : List Text) → (length us ≡ 5) ⊎ (length us ≢ 5)
   dec us = grind arith
 
@@ -135,9 +136,9 @@ pub line-formed : (p : Program) (l : Text) (s : Step) → is_comment l ≡ false
 line-formed p l s comment some is =
     let both = kept_step-some (form_of (words_of l)) s is in
     rw comment (meant-words p (words_of l) some ∙ rw (both.0, both.1) (and_true (has_targets p s))) where
-  and_true : (a : Bool) → cond (a && true) (good s) bad ≡ cond a (good s) bad
-  and_true true = refl
-  and_true false = refl
+      and_true : (a : Bool) → cond (a && true) (good s) bad ≡ cond a (good s) bad
+      and_true true = refl
+      and_true false = refl
 
 -- there are as many words as slices of the line
 pub some_words : (slices : List (Bor Text)) (ws : List Text) → map (λ w. w.now) slices ≡ ws → 0 < length slices → 0 < length ws

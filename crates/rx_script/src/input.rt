@@ -53,7 +53,11 @@ pub fn split_input(input: &[u8]) -> (&[u8], &[u8])
         let start = input.len() - rest.len();
         let (line, after) = first_piece(rest);
         let Some(after) = after else {
-            return if is_mark(line) { (&input[..start], &[]) } else { (input, &[]) };
+            return if is_mark(line) {
+                (&input[..start], &[])
+            } else {
+                (input, &[])
+            };
         };
         if is_mark(without_return(line)) {
             return (&input[..start], after);

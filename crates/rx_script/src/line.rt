@@ -69,12 +69,7 @@ fn dispatch(
         return Ok(None);
     };
     match integer(value) {
-        Some(value) => Ok(Some(Step::Dispatch(Dispatch::Set(
-            LaneWord::Sync,
-            path,
-            hook,
-            value,
-        )))),
+        Some(value) => Ok(Some(Step::Dispatch(Dispatch::Set(LaneWord::Sync, path, hook, value)))),
         None => Ok(None),
     }
 }
@@ -112,7 +107,11 @@ fn component_of<'a>(program: &'a Program, name: &Name) -> Option<&'a Component>
 }
 
 /// The component that the rest of a path ends at, if each of its names is one of a component.
-fn target_behind<'a>(program: &'a Program, root: &'a Component, parts: &[(Name, u64)]) -> Option<&'a Component>
+fn target_behind<'a>(
+    program: &'a Program,
+    root: &'a Component,
+    parts: &[(Name, u64)],
+) -> Option<&'a Component>
     ensures { same_target result (target_from program.now root.now parts.now) }
 {
     let mut component = root;
@@ -188,7 +187,11 @@ fn is_comment(line: &[u8]) -> bool
 }
 
 /// The step that a line is, if it is one: a line without words and a comment are none.
-pub(crate) fn read_line(alloc: Global, program: &Program, line: &[u8]) -> Result<Option<Step>, LineError>
+pub(crate) fn read_line(
+    alloc: Global,
+    program: &Program,
+    line: &[u8],
+) -> Result<Option<Step>, LineError>
     ensures { MatchResult result (λ s. line_of program.now line.now ≡ good_if s) (λ e. e ≡ LineError.Bad → line_of program.now line.now ≡ bad) }
 {
     if is_comment(line) {

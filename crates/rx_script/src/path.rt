@@ -65,7 +65,11 @@ fn read_part(alloc: Global, word: &[u8]) -> Result<Option<(Name, u64)>, AllocErr
 }
 
 /// The parts of a path behind its first name.
-fn push_parts(alloc: Global, mut parts: Vec<(Name, u64)>, pieces: &[&[u8]]) -> Result<Option<Vec<(Name, u64)>>, AllocError>
+fn push_parts(
+    alloc: Global,
+    mut parts: Vec<(Name, u64)>,
+    pieces: &[&[u8]],
+) -> Result<Option<Vec<(Name, u64)>>, AllocError>
     ensures { IfOk result (λ ps. option_map (λ v. v.items) ps ≡ option_map (λ more. parts.items ++ more) (kept_parts (map (λ p. p.now) pieces.now))) }
 {
     'parts: for piece in pieces {

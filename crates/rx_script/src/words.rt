@@ -62,7 +62,10 @@ pub(crate) fn natural(word: &[u8]) -> Option<u64>
     }
     let mut value: u64 = 0;
     for d in word {
-        value = value.saturating_mul(10).saturating_add(u64::from(*d - b'0')).min(MOST);
+        value = value
+            .saturating_mul(10)
+            .saturating_add(u64::from(*d - b'0'))
+            .min(MOST);
     }
     Some(value)
 }
