@@ -1,6 +1,13 @@
 //! The top call: from the words and the bytes that come in to the bytes that go out.
 #![tactic(auto)]
 
+mod answer;
+mod call;
+mod run;
 mod status;
 
+pub use call::top;
 pub use status::Status;
+
+#[cfg(test)]
+mod tests;

@@ -1,0 +1,97 @@
+// The top call.
+ghost use Rattle.std.specs.Prelude.{◌≡◌, ◌⊎◌, ◌≤◌, ◌<◌, List, ℕ, length, false, true, IfSome};
+ghost use Rattle.std.specs.Io.KnownBytes.{Appends, Keeps};
+ghost use Rattle.rx_io.specs.Causes.{Rose};
+ghost use Rattle.rx_top.specs.declared.status.Status.{Status};
+ghost use Rattle.rx_top.specs.Outcome.{texts, is_valid, limit, usage_line, too_long_line, IsDue, IsOutput, IsBegun, Gives, Reads, ReadsAll, Writes, WritesPart, WritesSome};
+
+use crate::answer::run_input;
+use crate::status::Status;
+use rx_base::Steps;
+use rx_io::{ReadError, Sink, Source, read_all, write_all};
+use std::alloc::Global;
+use std::sync::ledger::Ledger;
+
+const LIMIT: usize = 1_048_576;
+
+fn is_run(words: &[&str]) -> bool
+    ensures { result ≡ is_valid (texts words.now) }
+{
+    match words {
+        [word] => *word == "run",
+        _ => false,
+    }
+}
+
+/// Does all that the program does: takes the words behind the program's name, reads the source, writes to the sink,
+/// and says how it ended.
+///
+/// The words are valid where they are `run` alone. The source is read to its end, or until more than 1,048,576 bytes
+/// were taken. It holds a small program, a line `---`, and a script; the report of a run of the script is written.
+pub fn top<S: Source, K: Sink, L: Ledger>(
+    alloc: Global,
+    words: &[&str],
+    src: &mut S,
+    out: &mut K,
+    steps: &mut Steps<L>,
+) -> Status
+    // 0: all was read, and what was written is the report of a run of the fresh machine: of the program in it, on the
+    // steps of the script in it. The steps rose by the bodies that this run evaluates.
+    ensures done { result ≡ Status.Done → (is_valid (texts words.now) ≡ true)
+        × ReadsAll (S.left src.old) (S.left src.new) (λ input. (length input ≤ limit)
+        × Writes (K.written out.old) (K.written out.new) steps.old steps.new (IsOutput input Status.Done)) }
+
+    // 2: the words aren't valid, and nothing was read.
+    ensures usage { result ≡ Status.Usage → (is_valid (texts words.now) ≡ false)
+        × Keeps (S.left src.old) (S.left src.new) × Appends (K.written out.old) (K.written out.new) usage_line }
+
+    // 3: the source failed, and nothing was written.
+    ensures read_fault { result ≡ Status.ReadFault → Rose (S.faults src.old) (S.faults src.new) × Keeps (K.written out.old) (K.written out.new) }
+
+    // 4: the sink failed, and what was written begins the output.
+    ensures write_fault { result ≡ Status.WriteFault → Rose (K.faults out.old) (K.faults out.new)
+        × WritesPart (K.written out.old) (K.written out.new) (IsBegun (texts words.now) (S.left src.old) (S.left src.new)) }
+
+    // 5: more was taken than may be.
+    ensures too_long { result ≡ Status.TooLong → (is_valid (texts words.now) ≡ true)
+        × Reads (S.left src.old) (S.left src.new) (λ input. limit < length input) × Appends (K.written out.old) (K.written out.new) too_long_line }
+
+    // 6 and 7: all was read, and it is refused.
+    ensures program_refused { result ≡ Status.ProgramRefused → (is_valid (texts words.now) ≡ true)
+        × ReadsAll (S.left src.old) (S.left src.new) (λ input. (length input ≤ limit)
+        × Writes (K.written out.old) (K.written out.new) steps.old steps.new (IsOutput input Status.ProgramRefused)) }
+    ensures script_refused { result ≡ Status.ScriptRefused → (is_valid (texts words.now) ≡ true)
+        × ReadsAll (S.left src.old) (S.left src.new) (λ input. (length input ≤ limit)
+        × Writes (K.written out.old) (K.written out.new) steps.old steps.new (IsOutput input Status.ScriptRefused)) }
+
+    // 8: what was written begins the output.
+    ensures memory { result ≡ Status.OutOfMemory → WritesSome (K.written out.old) (K.written out.new)
+        (IsBegun (texts words.now) (S.left src.old) (S.left src.new)) }
+
+    // The status is the one that is due for the words and the input, or 3, 4 or 8.
+    ensures exact { IfSome (S.left src.old) (λ input. (due : Status) → IsDue (texts words.now) input due → Gives due result) }
+
+    // With no new fault, what is accepted is done, or memory was wanting.
+    ensures complete { IfSome (S.left src.old) (λ input. IsDue (texts words.now) input Status.Done
+        → ¬ (Rose (S.faults src.old) (S.faults src.new)) → ¬ (Rose (K.faults out.old) (K.faults out.new))
+        → (result ≡ Status.Done) ⊎ (result ≡ Status.OutOfMemory)) }
+{
+    if !is_run(words) {
+        return match write_all(
+            out,
+            b"usage: fiber_run run [--counts] [--ops] | check | gen N\n",
+        ) {
+            Ok(()) => Status::Usage,
+            Err(_) => Status::WriteFault,
+        };
+    }
+    match read_all(alloc, src, LIMIT) {
+        Ok(input) => run_input(alloc, &input, out, steps),
+        Err(ReadError::Failed) => Status::ReadFault,
+        Err(ReadError::OutOfMemory) => Status::OutOfMemory,
+        Err(ReadError::TooLong) => match write_all(out, b"input over 1048576 bytes\n") {
+            Ok(()) => Status::TooLong,
+            Err(_) => Status::WriteFault,
+        },
+    }
+}
