@@ -1,4 +1,4 @@
--- How the logic stores the plain data of a program.
+-- How the logic stores an expression.
 use Rattle.std.specs.Prelude.{◌≡◌, ℕ, List, refl}
 use Rattle.std.specs.Coded.{Coded, code_by, coded_ℕ, coded_list}
 use base.Stored.{Gv, gnil, gnum, gcons}
@@ -9,22 +9,22 @@ use Rattle.rx_ast.specs.declared.expr.Operator.{Operator}
 use Rattle.rx_ast.specs.declared.expr.Operator.TheVariants as operator
 use Rattle.rx_ast.specs.Syntax.{Expr, number, variable, grouped, prefixed, chain, chosen, called, Links, no_links, link, Exprs, no_exprs, expr}
 
-abbrev head : Gv → Gv
+abbrev pub head : Gv → Gv
 head gnil = gnil
 head (gnum n) = gnil
 head (gcons a b) = a
 
-abbrev tail : Gv → Gv
+abbrev pub tail : Gv → Gv
 tail gnil = gnil
 tail (gnum n) = gnil
 tail (gcons a b) = b
 
-abbrev value : Gv → ℕ
+abbrev pub value : Gv → ℕ
 value gnil = 0
 value (gnum n) = n
 value (gcons a b) = 0
 
-abbrev text : Coded (List ℕ)
+abbrev pub text : Coded (List ℕ)
 text = coded_list coded_ℕ
 
 abbrev prefix_number : Prefix → ℕ
