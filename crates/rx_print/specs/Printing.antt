@@ -98,13 +98,13 @@ abbrev pub provider_name : Name → List Kind
 provider_name x = Upper x ∷ Mark sign.Dot ∷ Word word.Provider ∷ []
 
 -- the end of an element with these children and this name
-abbrev pub content_tokens : Ending → (children name : List Kind) → List Kind
+abbrev pub content_tokens : Ending → (inner name : List Kind) → List Kind
 content_tokens at_once ks name = Mark sign.Slash ∷ Mark sign.Greater ∷ []
 content_tokens by_tag ks name = Mark sign.Greater ∷ (ks ++ (Mark sign.Less ∷ Mark sign.Slash ∷ (name ++ Mark sign.Greater ∷ [])))
 
 -- an element of this name, with what it is given and with its children
-abbrev pub element_tokens : (name given : List Kind) → Ending → (children : List Kind) → List Kind
-element_tokens name ks w children = Mark sign.Less ∷ (name ++ (ks ++ content_tokens w children name))
+abbrev pub element_tokens : (name attributes : List Kind) → Ending → (inner : List Kind) → List Kind
+element_tokens name ks w inner = Mark sign.Less ∷ (name ++ (ks ++ content_tokens w inner name))
 
 -- the tokens of a slot
 abbrev mutual

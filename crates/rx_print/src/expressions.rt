@@ -42,6 +42,7 @@ fn operator_sign_of(operator: Operator) -> Sign
 
 impl Printer {
     /// Writes an expression.
+    #[cycle(expr)]
     pub fn expr(&mut self, expr: &Expr) -> Result<(), AllocError>
         ensures { OnOk result (self.new ≡ self.old ++ expr_tokens expr.now) }
     {
@@ -78,6 +79,7 @@ impl Printer {
     }
 
     /// Writes the operands of a chain behind its first, each with the operator before it.
+    #[cycle(expr)]
     fn links(&mut self, links: &[Link]) -> Result<(), AllocError>
         ensures { OnOk result (self.new ≡ self.old ++ links_tokens (links_of links.now)) }
     {
@@ -89,13 +91,16 @@ impl Printer {
     }
 
     /// Writes expressions with a comma between each two.
+    #[cycle(expr)]
     pub fn exprs(&mut self, exprs: &[Expr]) -> Result<(), AllocError>
         ensures { OnOk result (self.new ≡ self.old ++ exprs_tokens (exprs_of exprs.now)) }
     {
-        for (index, expr) in exprs.iter().enumerate() {
-            if index > 0 {
-                self.sign(Sign::Comma)?;
-            }
+        let [first, others @ ..] = exprs else {
+            return Ok(());
+        };
+        self.expr(first)?;
+        for expr in others {
+            self.sign(Sign::Comma)?;
             self.expr(expr)?;
         }
         Ok(())
