@@ -1,5 +1,5 @@
 -- A program as the tree of its text: plain data without pointers, of which the parser, the checks and the evaluation speak. It keeps all that a program's tokens show.
-use Rattle.std.specs.Prelude.{ℕ, Bool, List, [], ◌∷◌}
+use Rattle.std.specs.Prelude.{ℕ, Bool, List, [], ◌∷◌, Option, Some, None, filter_map}
 use Rattle.rx_base.specs.Values.{Text, Name}
 use Rattle.rx_ast.specs.declared.expr.Prefix.{Prefix}
 use Rattle.rx_ast.specs.declared.expr.Operator.{Operator}
@@ -57,6 +57,19 @@ pub data KeyPlace : Type 0 where
   key_first : Expr → KeyPlace
   key_last : Expr → KeyPlace
 
+-- the key that a place holds
+abbrev pub key_in : KeyPlace → Option Expr
+key_in unkeyed = None
+key_in (key_first e) = Some e
+key_in (key_last e) = Some e
+
+-- the key among attributes, the first where there are more
+abbrev pub key_of : List Attribute → Option Expr
+key_of [] = None
+key_of (key e ∷ attrs) = Some e
+key_of (computed x e ∷ attrs) = key_of attrs
+key_of (literal x t ∷ attrs) = key_of attrs
+
 -- how an element ends: at once, by `/>`, or by a tag of its own behind its children
 pub data Ending : Type 0 where
   at_once : Ending
@@ -107,6 +120,28 @@ slots (slot s ss) = s ∷ slots ss
 abbrev pub slots_of : List Slot → Slots
 slots_of [] = no_slots
 slots_of (s ∷ ss) = slot s (slots_of ss)
+
+-- the children of an element, and of no other slot
+abbrev pub inner_slots : Slot → Slots
+inner_slots (host x attrs w ss) = ss
+inner_slots (comp x attrs w ss) = ss
+inner_slots (boundary k s w ss) = ss
+inner_slots (provider x k e w ss) = ss
+inner_slots s = no_slots
+
+-- the attributes of an element of the host or of a component, and of no other slot
+abbrev pub attributes : Slot → List Attribute
+attributes (host x attrs w ss) = attrs
+attributes (comp x attrs w ss) = attrs
+attributes s = []
+
+-- the key of an element, and of no other slot
+abbrev pub slot_key : Slot → Option Expr
+slot_key (host x attrs w ss) = key_of attrs
+slot_key (comp x attrs w ss) = key_of attrs
+slot_key (boundary k s w ss) = key_in k
+slot_key (provider x k e w ss) = key_in k
+slot_key s = None
 
 -- What a component returns: a slot, or a fragment's children, the fragment alone or in parentheses.
 pub data Body : Type 0 where
@@ -175,3 +210,39 @@ pub data Declaration : Type 0 where
 -- a program, as its declarations in order
 pub record Program : Type 0 where
   pub declarations : List Declaration
+
+-- the name that a declaration declares
+abbrev pub declared_name : Declaration → Name
+declared_name (of_context c) = c.name
+declared_name (of_function f) = f.name
+declared_name (of_component c) = c.name
+
+-- the context that a declaration is
+abbrev pub as_context : Declaration → Option Context
+as_context (of_context c) = Some c
+as_context (of_function f) = None
+as_context (of_component c) = None
+
+-- the function that a declaration is
+abbrev pub as_function : Declaration → Option Function
+as_function (of_context c) = None
+as_function (of_function f) = Some f
+as_function (of_component c) = None
+
+-- the component that a declaration is
+abbrev pub as_component : Declaration → Option Component
+as_component (of_context c) = None
+as_component (of_function f) = None
+as_component (of_component c) = Some c
+
+-- the contexts, in the order of the text
+abbrev pub contexts : Program → List Context
+contexts p = filter_map as_context p.declarations
+
+-- the functions, in the order of the text
+abbrev pub functions : Program → List Function
+functions p = filter_map as_function p.declarations
+
+-- the components, in the order of the text
+abbrev pub components : Program → List Component
+components p = filter_map as_component p.declarations

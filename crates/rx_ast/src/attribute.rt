@@ -1,6 +1,6 @@
 // What an element is given.
-ghost use Rattle.std.specs.Prelude.{◌≡◌};
-ghost use Rattle.rx_ast.specs.Syntax.{key, computed, literal};
+ghost use Rattle.std.specs.Prelude.{◌≡◌, MatchOption, Some, None};
+ghost use Rattle.rx_ast.specs.Syntax.{key, computed, literal, key_in, key_of};
 
 use crate::expr::Expr;
 use rx_base::Name;
@@ -72,6 +72,32 @@ impl Attribute {
     {
         Attribute {
             kind: AttributeKind::Literal(name, text),
+        }
+    }
+}
+
+/// The key among attributes, the first where there are more.
+pub fn key_among(attributes: &[Attribute]) -> Option<&Expr>
+    ensures { MatchOption result (key_of attributes.now ≡ None) (λ e. key_of attributes.now ≡ Some e.now) }
+{
+    for attribute in attributes {
+        if let AttributeKind::Key(value) = &attribute.kind {
+            return Some(value);
+        }
+    }
+    None
+}
+
+impl KeyPlace {
+    ghost use Rattle.rx_ast.specs.SlotView.{key_place_of};
+
+    /// The key that it holds.
+    pub fn value(&self) -> Option<&Expr>
+        ensures { MatchOption result (key_in (key_place_of self.now) ≡ None) (λ e. key_in (key_place_of self.now) ≡ Some e.now) }
+    {
+        match self {
+            KeyPlace::Unkeyed => None,
+            KeyPlace::First(value) | KeyPlace::Last(value) => Some(value),
         }
     }
 }

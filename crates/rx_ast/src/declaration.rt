@@ -1,6 +1,6 @@
 // What a program declares.
 ghost use Rattle.std.specs.Prelude.{◌≡◌};
-ghost use Rattle.rx_ast.specs.Syntax.{of_context, of_function, of_component, integer, given_children};
+ghost use Rattle.rx_ast.specs.Syntax.{of_context, of_function, of_component, integer, given_children, declared_name};
 
 use crate::body::Body;
 use crate::expr::Expr;
@@ -337,6 +337,17 @@ impl Declaration {
     {
         Declaration {
             kind: DeclarationKind::Component(component),
+        }
+    }
+
+    /// The name that it declares.
+    pub fn name(&self) -> &Name
+        ensures { result.now ≡ declared_name self.now }
+    {
+        match &self.kind {
+            DeclarationKind::Context(context) => context.name(),
+            DeclarationKind::Function(function) => function.name(),
+            DeclarationKind::Component(component) => component.name(),
         }
     }
 }

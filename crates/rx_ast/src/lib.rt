@@ -9,7 +9,10 @@ mod program;
 mod slot;
 mod statement;
 
-pub use attribute::{Attribute, AttributeKind, KeyPlace};
+#[cfg(test)]
+mod tests;
+
+pub use attribute::{Attribute, AttributeKind, KeyPlace, key_among};
 pub use body::{Body, BodyKind, Fragment};
 pub use declaration::{Component, Context, Declaration, DeclarationKind, Function, Line, Parameter, ParameterKind};
 pub use expr::{Expr, ExprKind, Link, Operator, Prefix};

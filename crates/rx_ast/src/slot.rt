@@ -1,9 +1,9 @@
 // What stands in a place of a body.
-ghost use Rattle.std.specs.Prelude.{◌≡◌, IfOk};
-ghost use Rattle.rx_ast.specs.Syntax.{null, words, number_of, children as given_children, repeated, choice, enclosed, parentheses, braces, at_once, by_tag, no_slots, slots_of};
-ghost use Rattle.rx_ast.specs.SlotView.{tagged};
+ghost use Rattle.std.specs.Prelude.{◌≡◌, IfOk, MatchOption, Some, None};
+ghost use Rattle.rx_ast.specs.Syntax.{null, words, number_of, children as given_children, repeated, choice, enclosed, parentheses, braces, at_once, by_tag, no_slots, slots_of, slots, inner_slots, attributes, slot_key, key_in, key_of};
+ghost use Rattle.rx_ast.specs.SlotView.{tagged, key_place_of};
 
-use crate::attribute::{Attribute, KeyPlace};
+use crate::attribute::{Attribute, KeyPlace, key_among};
 use crate::expr::Expr;
 use rx_base::Name;
 use std::alloc::{AllocError, Global};
@@ -269,6 +269,36 @@ impl Element {
         Element {
             tag,
             content: Content::Children(children),
+        }
+    }
+
+    /// Its children in order.
+    pub fn children(&self) -> &[Child]
+        ensures { result.now ≡ slots (inner_slots self.now) }
+    {
+        match &self.content {
+            Content::AtOnce => &[],
+            Content::Children(children) => children,
+        }
+    }
+
+    /// Its attributes in order, with `key`; none for a boundary or a provider.
+    pub fn attributes(&self) -> &[Attribute]
+        ensures { result.now ≡ attributes self.now }
+    {
+        match &self.tag {
+            Tag::Host(_, attributes) | Tag::Component(_, attributes) => attributes,
+            Tag::Suspense(_, _) | Tag::Provider(_, _, _) => &[],
+        }
+    }
+
+    /// Its key (react.dev, Rendering Lists); the first where it has more.
+    pub fn key(&self) -> Option<&Expr>
+        ensures { MatchOption result (slot_key self.now ≡ None) (λ e. slot_key self.now ≡ Some e.now) }
+    {
+        match &self.tag {
+            Tag::Host(_, attributes) | Tag::Component(_, attributes) => key_among(attributes),
+            Tag::Suspense(key, _) | Tag::Provider(_, key, _) => key.value(),
         }
     }
 }

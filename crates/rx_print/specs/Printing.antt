@@ -87,13 +87,23 @@ attribute_tokens (key e) = key_tokens e
 attribute_tokens (computed x e) = given (Lower x) (expr_tokens e)
 attribute_tokens (literal x t) = Lower x ∷ Mark sign.Equals ∷ Text t ∷ []
 
+-- a key that stands before what else is given
+abbrev pub key_before : KeyPlace → List Kind
+key_before unkeyed = []
+key_before (key_first e) = key_tokens e
+key_before (key_last e) = []
+
+-- a key that stands behind what else is given
+abbrev pub key_behind : KeyPlace → List Kind
+key_behind unkeyed = []
+key_behind (key_first e) = []
+key_behind (key_last e) = key_tokens e
+
 -- what a boundary or a provider is given, with its key in its place
 abbrev pub keyed : KeyPlace → List Kind → List Kind
-keyed unkeyed ks = ks
-keyed (key_first e) ks = key_tokens e ++ ks
-keyed (key_last e) ks = ks ++ key_tokens e
+keyed k ks = key_before k ++ (ks ++ key_behind k)
 
--- The name of a provider's tag.
+-- the name of a provider, as it stands in its tags
 abbrev pub provider_name : Name → List Kind
 provider_name x = Upper x ∷ Mark sign.Dot ∷ Word word.Provider ∷ []
 

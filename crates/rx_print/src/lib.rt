@@ -3,3 +3,4 @@
 
 mod expressions;
 mod printer;
+mod slots;

@@ -78,6 +78,14 @@ impl Printer {
         self.token(Kind::Upper(name))
     }
 
+    /// Writes a name of the language that is no reserved word.
+    pub fn name(&mut self, name: &str) -> Result<(), AllocError>
+        ensures { OnOk result (self.new ≡ self.old ++ Kind.Lower name.now ∷ []) }
+    {
+        let name = Name::new(self.alloc, name)?;
+        self.token(Kind::Lower(name))
+    }
+
     /// Writes a text.
     pub fn text(&mut self, text: &Name) -> Result<(), AllocError>
         ensures { OnOk result (self.new ≡ self.old ++ Kind.Text text.now ∷ []) }
