@@ -96,7 +96,7 @@ mutual
       λ i. chain (stored_one d e (ap (λ g. head (tail g)) p) i) (stored_links_one ks ls (ap (λ g. tail (tail g)) p) i)
   stored_one (chosen a b c) (chosen d e f) p =
       λ i. chosen (stored_one a d (ap (λ g. head (tail g)) p) i) (stored_one b e (ap (λ g. head (tail (tail g))) p) i)
-          (stored_one c f (ap (λ g. tail (tail (tail g))) p) i)
+      (stored_one c f (ap (λ g. tail (tail (tail g))) p) i)
   stored_one (called f es) (called h fs) p =
       λ i. called (text.inj f h (ap (λ g. head (tail g)) p) i) (stored_exprs_one es fs (ap (λ g. tail (tail g)) p) i)
   stored_one _ _ p = cc
@@ -105,7 +105,7 @@ mutual
   stored_links_one no_links no_links p = refl
   stored_links_one (link o d ks) (link q e ls) p =
       λ i. link (operator_one o q (ap (λ g. value (head g)) p) i) (stored_one d e (ap (λ g. head (tail g)) p) i)
-          (stored_links_one ks ls (ap (λ g. tail (tail g)) p) i)
+      (stored_links_one ks ls (ap (λ g. tail (tail g)) p) i)
   stored_links_one _ _ p = cc
 
   pub stored_exprs_one : (x y : Exprs) → stored_exprs x ≡ stored_exprs y → x ≡ y

@@ -50,7 +50,7 @@ stored_statement_one (state x s d) (state y t e) p =
     λ i. state (text.inj x y (ap first p) i) (text.inj s t (ap second p) i) (expr_code.inj d e (ap (λ g. tail (tail (tail g))) p) i)
 stored_statement_one (reducer x s f d) (reducer y t g e) p =
     λ i. reducer (text.inj x y (ap first p) i) (text.inj s t (ap second p) i) (text.inj f g (ap third p) i)
-        (expr_code.inj d e (ap (λ g. tail (tail (tail (tail g)))) p) i)
+    (expr_code.inj d e (ap (λ g. tail (tail (tail (tail g)))) p) i)
 stored_statement_one (context x c) (context y d) p =
     λ i. context (text.inj x y (ap first p) i) (text.inj c d (ap (λ g. tail (tail g)) p) i)
 stored_statement_one (use_resource x r) (use_resource y s) p =
@@ -59,7 +59,7 @@ stored_statement_one (constant x d) (constant y e) p =
     λ i. constant (text.inj x y (ap first p) i) (expr_code.inj d e (ap (λ g. tail (tail g)) p) i)
 stored_statement_one (effect l t es) (effect m u fs) p =
     λ i. effect (coded_bool.inj l m (ap first p) i) (text.inj t u (ap second p) i)
-        (exprs_code.inj es fs (ap (λ g. tail (tail (tail g))) p) i)
+    (exprs_code.inj es fs (ap (λ g. tail (tail (tail g))) p) i)
 stored_statement_one _ _ p = cc
 
 abbrev pub statement_code : Coded Statement
@@ -68,7 +68,7 @@ statement_code = record { code = stored_statement; inj = stored_statement_one }
 abbrev pub context_code : Coded Context
 context_code =
     code_by (Name × (Bool × ℕ)) (coded× text (coded× coded_bool coded_ℕ)) (λ c. (c.name, (c.negative, c.number)))
-        (λ p. record { name = p.0; negative = p.1.0; number = p.1.1 }) (λ _. refl)
+    (λ p. record { name = p.0; negative = p.1.0; number = p.1.1 }) (λ _. refl)
 
 abbrev pub line_code : Coded Line
 line_code =
@@ -77,8 +77,8 @@ line_code =
 abbrev pub function_code : Coded Function
 function_code =
     code_by (Name × (List Name × (List Line × Expr))) (coded× text (coded× (coded_list text) (coded× (coded_list line_code) expr_code)))
-        (λ f. (f.name, (f.parameters, (f.lines, f.answer))))
-        (λ p. record { name = p.0; parameters = p.1.0; lines = p.1.1.0; answer = p.1.1.1 }) (λ _. refl)
+    (λ f. (f.name, (f.parameters, (f.lines, f.answer))))
+    (λ p. record { name = p.0; parameters = p.1.0; lines = p.1.1.0; answer = p.1.1.1 }) (λ _. refl)
 
 abbrev pub stored_parameter : Parameter → Gv
 stored_parameter (integer x) = gcons (gnum 0) (text.code x)
@@ -95,9 +95,9 @@ parameter_code = record { code = stored_parameter; inj = stored_parameter_one }
 abbrev pub component_code : Coded Component
 component_code =
     code_by (Name × (Bool × (List Parameter × (List Statement × Body))))
-        (coded× text (coded× coded_bool (coded× (coded_list parameter_code) (coded× (coded_list statement_code) body_code))))
-        (λ c. (c.name, (c.braces, (c.parameters, (c.statements, c.body)))))
-        (λ p. record { name = p.0; braces = p.1.0; parameters = p.1.1.0; statements = p.1.1.1.0; body = p.1.1.1.1 }) (λ _. refl)
+    (coded× text (coded× coded_bool (coded× (coded_list parameter_code) (coded× (coded_list statement_code) body_code))))
+    (λ c. (c.name, (c.braces, (c.parameters, (c.statements, c.body)))))
+    (λ p. record { name = p.0; braces = p.1.0; parameters = p.1.1.0; statements = p.1.1.1.0; body = p.1.1.1.1 }) (λ _. refl)
 
 abbrev pub stored_declaration : Declaration → Gv
 stored_declaration (of_context c) = gcons (gnum 0) (context_code.code c)

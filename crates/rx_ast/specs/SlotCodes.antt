@@ -95,26 +95,26 @@ mutual
   stored_slot_one children children p = refl
   stored_slot_one (repeated x d m s) (repeated y e n t) p =
       λ i. repeated (text.inj x y (ap first p) i) (expr_code.inj d e (ap second p) i) (value (third (p i)))
-          (stored_slot_one s t (ap (λ g. tail (tail (tail (tail g)))) p) i)
+      (stored_slot_one s t (ap (λ g. tail (tail (tail (tail g)))) p) i)
   stored_slot_one (choice d s t) (choice e u v) p =
       λ i. choice (expr_code.inj d e (ap first p) i) (stored_slot_one s u (ap second p) i)
-          (stored_slot_one t v (ap (λ g. tail (tail (tail g))) p) i)
+      (stored_slot_one t v (ap (λ g. tail (tail (tail g))) p) i)
   stored_slot_one (host x a v ss) (host y b w ts) p =
       λ i. host (text.inj x y (ap first p) i) (attributes_code.inj a b (ap second p) i)
-          (ending_one v w (ap (λ g. value (third g)) p) i)
-          (stored_slots_one ss ts (ap (λ g. tail (tail (tail (tail g)))) p) i)
+      (ending_one v w (ap (λ g. value (third g)) p) i)
+      (stored_slots_one ss ts (ap (λ g. tail (tail (tail (tail g)))) p) i)
   stored_slot_one (comp x a v ss) (comp y b w ts) p =
       λ i. comp (text.inj x y (ap first p) i) (attributes_code.inj a b (ap second p) i)
-          (ending_one v w (ap (λ g. value (third g)) p) i)
-          (stored_slots_one ss ts (ap (λ g. tail (tail (tail (tail g)))) p) i)
+      (ending_one v w (ap (λ g. value (third g)) p) i)
+      (stored_slots_one ss ts (ap (λ g. tail (tail (tail (tail g)))) p) i)
   stored_slot_one (boundary j s v ss) (boundary k t w ts) p =
       λ i. boundary (stored_key_one j k (ap first p) i) (stored_slot_one s t (ap second p) i)
-          (ending_one v w (ap (λ g. value (third g)) p) i)
-          (stored_slots_one ss ts (ap (λ g. tail (tail (tail (tail g)))) p) i)
+      (ending_one v w (ap (λ g. value (third g)) p) i)
+      (stored_slots_one ss ts (ap (λ g. tail (tail (tail (tail g)))) p) i)
   stored_slot_one (provider x j d v ss) (provider y k e w ts) p =
       λ i. provider (text.inj x y (ap first p) i) (stored_key_one j k (ap second p) i) (expr_code.inj d e (ap third p) i)
-          (ending_one v w (ap (λ g. value (head (tail (tail (tail (tail g)))))) p) i)
-          (stored_slots_one ss ts (ap (λ g. tail (tail (tail (tail (tail g))))) p) i)
+      (ending_one v w (ap (λ g. value (head (tail (tail (tail (tail g)))))) p) i)
+      (stored_slots_one ss ts (ap (λ g. tail (tail (tail (tail (tail g))))) p) i)
   stored_slot_one (enclosed b s) (enclosed c t) p =
       λ i. enclosed (brackets_one b c (ap (λ g. value (first g)) p) i) (stored_slot_one s t (ap (λ g. tail (tail g)) p) i)
   stored_slot_one _ _ p = cc

@@ -19,9 +19,9 @@ pub enum AttributeKind {
     /// `key={value}`, by which React tells siblings apart (react.dev, Rendering Lists).
     Key(Expr),
     /// `name={value}`
-    Computed(Name, Expr),
+    Computed { name: Name, value: Expr },
     /// `name="text"`
-    Literal(Name, Name),
+    Literal { name: Name, text: Name },
 }
 
 /// The key of a boundary or a provider, and where it stands.
@@ -62,7 +62,7 @@ impl Attribute {
         ensures { result ≡ computed name value }
     {
         Attribute {
-            kind: AttributeKind::Computed(name, value),
+            kind: AttributeKind::Computed { name, value },
         }
     }
 
@@ -71,7 +71,7 @@ impl Attribute {
         ensures { result ≡ literal name text }
     {
         Attribute {
-            kind: AttributeKind::Literal(name, text),
+            kind: AttributeKind::Literal { name, text },
         }
     }
 }

@@ -236,7 +236,13 @@ impl Model for Component {
 
 impl Component {
     /// `function name({ parameters }) { statements return body; }`, where `braces` says whether the braces stand there.
-    pub fn new(name: Name, braces: bool, parameters: Vec<Parameter>, statements: Vec<Statement>, body: Body) -> Component
+    pub fn new(
+        name: Name,
+        braces: bool,
+        parameters: Vec<Parameter>,
+        statements: Vec<Statement>,
+        body: Body,
+    ) -> Component
         ensures { result ≡ record { name = name; braces = braces; parameters = parameters.items; statements = statements.items; body = body } }
     {
         Component {

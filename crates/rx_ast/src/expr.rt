@@ -59,13 +59,26 @@ pub enum ExprKind {
     Variable(Name),
     /// An expression in parentheses.
     Group(Box<Expr>),
-    Prefixed(Prefix, Box<Expr>),
+    Prefixed {
+        operator: Prefix,
+        operand: Box<Expr>,
+    },
     /// Operators of one line of the grammar. The value is taken from the left.
-    Chain(Box<Expr>, Vec<Link>),
+    Chain {
+        first: Box<Expr>,
+        links: Vec<Link>,
+    },
     /// `test ? first : second`
-    Choice(Box<Expr>, Box<Expr>, Box<Expr>),
+    Choice {
+        test: Box<Expr>,
+        first: Box<Expr>,
+        second: Box<Expr>,
+    },
     /// A call of a function.
-    Call(Name, Vec<Expr>),
+    Call {
+        function: Name,
+        arguments: Vec<Expr>,
+    },
 }
 
 impl Model for Expr {
@@ -132,7 +145,7 @@ impl Expr {
     {
         let operand = Box::new(alloc, operand)?;
         Ok(Expr {
-            kind: ExprKind::Prefixed(operator, operand),
+            kind: ExprKind::Prefixed { operator, operand },
         })
     }
 
@@ -146,7 +159,7 @@ impl Expr {
     {
         let first = Box::new(alloc, first)?;
         Ok(Expr {
-            kind: ExprKind::Chain(first, links),
+            kind: ExprKind::Chain { first, links },
         })
     }
 
@@ -162,7 +175,11 @@ impl Expr {
         let first = Box::new(alloc, first)?;
         let second = Box::new(alloc, second)?;
         Ok(Expr {
-            kind: ExprKind::Choice(test, first, second),
+            kind: ExprKind::Choice {
+                test,
+                first,
+                second,
+            },
         })
     }
 
@@ -171,7 +188,10 @@ impl Expr {
         ensures { result ≡ called function (exprs_of arguments.items) }
     {
         Expr {
-            kind: ExprKind::Call(function, arguments),
+            kind: ExprKind::Call {
+                function,
+                arguments,
+            },
         }
     }
 }

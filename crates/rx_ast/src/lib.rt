@@ -8,13 +8,14 @@ mod expr;
 mod program;
 mod slot;
 mod statement;
-
 #[cfg(test)]
 mod tests;
 
 pub use attribute::{Attribute, AttributeKind, KeyPlace, key_among};
 pub use body::{Body, BodyKind, Fragment};
-pub use declaration::{Component, Context, Declaration, DeclarationKind, Function, Line, Parameter, ParameterKind};
+pub use declaration::{
+    Component, Context, Declaration, DeclarationKind, Function, Line, Parameter, ParameterKind,
+};
 pub use expr::{Expr, ExprKind, Link, Operator, Prefix};
 pub use program::Program;
 pub use slot::{Child, ChildKind, Content, Element, For, Slot, SlotKind, Tag};

@@ -31,7 +31,11 @@ pub enum SlotKind {
     Children,
     For(Box<For>),
     /// `test ? first : second`
-    Choice(Expr, Box<Slot>, Box<Slot>),
+    Choice {
+        test: Expr,
+        first: Box<Slot>,
+        second: Box<Slot>,
+    },
     Element(Element),
     /// An element in parentheses.
     Enclosed(Element),
@@ -61,13 +65,26 @@ pub struct Element {
 #[derive(Drop)]
 pub enum Tag {
     /// An element of the host.
-    Host(Name, Vec<Attribute>),
+    Host {
+        name: Name,
+        attributes: Vec<Attribute>,
+    },
     /// An element of a component.
-    Component(Name, Vec<Attribute>),
+    Component {
+        name: Name,
+        attributes: Vec<Attribute>,
+    },
     /// A boundary with its fallback (react.dev, Suspense).
-    Suspense(KeyPlace, Box<Slot>),
+    Suspense {
+        key: KeyPlace,
+        fallback: Box<Slot>,
+    },
     /// A provider of a context, with the value that it provides (react.dev, createContext).
-    Provider(Name, KeyPlace, Expr),
+    Provider {
+        context: Name,
+        key: KeyPlace,
+        value: Expr,
+    },
 }
 
 /// What stands in an element, and so how it ends.
@@ -202,7 +219,13 @@ impl Slot {
     /// # Errors
     ///
     /// Want of memory alone.
-    pub fn repeated(alloc: Global, index: Name, bound: Expr, limit: u64, item: Slot) -> Result<Slot, AllocError>
+    pub fn repeated(
+        alloc: Global,
+        index: Name,
+        bound: Expr,
+        limit: u64,
+        item: Slot,
+    ) -> Result<Slot, AllocError>
         ensures { IfOk result (λ s. s ≡ repeated index bound limit item) }
     {
         let repetition = For {
@@ -228,7 +251,11 @@ impl Slot {
         let first = Box::new(alloc, first)?;
         let second = Box::new(alloc, second)?;
         Ok(Slot {
-            kind: SlotKind::Choice(test, first, second),
+            kind: SlotKind::Choice {
+                test,
+                first,
+                second,
+            },
         })
     }
 
@@ -287,8 +314,8 @@ impl Element {
         ensures { result.now ≡ attributes self.now }
     {
         match &self.tag {
-            Tag::Host(_, attributes) | Tag::Component(_, attributes) => attributes,
-            Tag::Suspense(_, _) | Tag::Provider(_, _, _) => &[],
+            Tag::Host { attributes, .. } | Tag::Component { attributes, .. } => attributes,
+            Tag::Suspense { .. } | Tag::Provider { .. } => &[],
         }
     }
 
@@ -297,8 +324,10 @@ impl Element {
         ensures { MatchOption result (slot_key self.now ≡ None) (λ e. slot_key self.now ≡ Some e.now) }
     {
         match &self.tag {
-            Tag::Host(_, attributes) | Tag::Component(_, attributes) => key_among(attributes),
-            Tag::Suspense(key, _) | Tag::Provider(_, key, _) => key.value(),
+            Tag::Host { attributes, .. } | Tag::Component { attributes, .. } => key_among(
+                attributes,
+            ),
+            Tag::Suspense { key, .. } | Tag::Provider { key, .. } => key.value(),
         }
     }
 }

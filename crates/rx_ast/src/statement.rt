@@ -17,17 +17,39 @@ pub struct Statement {
 #[derive(Drop)]
 pub enum StatementKind {
     /// `const [name, setter] = useState(initial);` (react.dev, useState)
-    State(Name, Name, Expr),
+    State {
+        name: Name,
+        setter: Name,
+        initial: Expr,
+    },
     /// `const [name, setter] = useReducer(function, initial);` (react.dev, useReducer)
-    Reducer(Name, Name, Name, Expr),
-    /// `const name = useContext(context);` (react.dev, useContext)
-    Context(Name, Name),
+    Reducer {
+        name: Name,
+        setter: Name,
+        function: Name,
+        initial: Expr,
+    },
+    /// `const name = useContext(source);` (react.dev, useContext)
+    Context {
+        name: Name,
+        source: Name,
+    },
     /// `const name = use("resource");` (react.dev, use)
-    Resource(Name, Name),
+    Resource {
+        name: Name,
+        resource: Name,
+    },
     /// `const name = value;`
-    Constant(Name, Expr),
-    /// `useEffect("label", [dependencies]);`, or where the first part is true `useLayoutEffect`.
-    Effect(bool, Name, Vec<Expr>),
+    Constant {
+        name: Name,
+        value: Expr,
+    },
+    /// `useEffect("label", [dependencies]);`, or with `layout` `useLayoutEffect` (react.dev, useEffect).
+    Effect {
+        layout: bool,
+        label: Name,
+        dependencies: Vec<Expr>,
+    },
 }
 
 impl Model for Statement {
@@ -49,7 +71,11 @@ impl Statement {
         ensures { result ≡ state name setter initial }
     {
         Statement {
-            kind: StatementKind::State(name, setter, initial),
+            kind: StatementKind::State {
+                name,
+                setter,
+                initial,
+            },
         }
     }
 
@@ -58,7 +84,12 @@ impl Statement {
         ensures { result ≡ reducer name setter function initial }
     {
         Statement {
-            kind: StatementKind::Reducer(name, setter, function, initial),
+            kind: StatementKind::Reducer {
+                name,
+                setter,
+                function,
+                initial,
+            },
         }
     }
 
@@ -67,7 +98,7 @@ impl Statement {
         ensures { result ≡ context name source }
     {
         Statement {
-            kind: StatementKind::Context(name, source),
+            kind: StatementKind::Context { name, source },
         }
     }
 
@@ -76,7 +107,7 @@ impl Statement {
         ensures { result ≡ use_resource name resource }
     {
         Statement {
-            kind: StatementKind::Resource(name, resource),
+            kind: StatementKind::Resource { name, resource },
         }
     }
 
@@ -85,7 +116,7 @@ impl Statement {
         ensures { result ≡ constant name value }
     {
         Statement {
-            kind: StatementKind::Constant(name, value),
+            kind: StatementKind::Constant { name, value },
         }
     }
 
@@ -94,7 +125,11 @@ impl Statement {
         ensures { result ≡ effect layout label dependencies.items }
     {
         Statement {
-            kind: StatementKind::Effect(layout, label, dependencies),
+            kind: StatementKind::Effect {
+                layout,
+                label,
+                dependencies,
+            },
         }
     }
 }

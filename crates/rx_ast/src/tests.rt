@@ -1,48 +1,59 @@
 // That the calls which take memory answer a tree.
 
-use crate::expr::{Expr, ExprKind, Link, Operator, Prefix};
-use crate::slot::{Slot, SlotKind};
+use crate::expr::{Expr, Prefix};
+use crate::slot::Slot;
 use rx_base::Name;
-use std::test::Fail;
+use std::alloc::{AllocError, Global};
 
-/// `-(1) + 2 ? 3 : 4`
-fn expression(rt: &HostRuntime) -> Result<Expr, Fail> {
-    let alloc = rt.alloc();
-    let group = Expr::group(alloc, Expr::number(1))?;
-    let negative = Expr::prefixed(alloc, Prefix::Negative, group)?;
-    let link = Link {
-        operator: Operator::Add,
-        operand: Expr::number(2),
-    };
-    let sum = Expr::chain(alloc, negative, Vec::from_array(alloc, [link])?)?;
-    let choice = Expr::choice(alloc, sum, Expr::number(3), Expr::number(4))?;
-    Ok(choice)
+/// Whether there is an expression.
+fn is_expr(made: Result<Expr, AllocError>) -> bool {
+    made.is_ok()
 }
 
-#[test]
-fn an_expression_is_made(rt: HostRuntime) -> Result<(), Fail> {
-    let choice = expression(&rt)?;
-    let found = match &choice.kind {
-        ExprKind::Choice(test, _, _) => match &test.kind {
-            ExprKind::Chain(_, links) => links.len(),
-            _ => 0,
-        },
-        _ => 0,
-    };
-    assert_eq!(rt; found, 1);
-    Ok(())
+/// Whether there is a slot.
+fn is_slot(made: Result<Slot, AllocError>) -> bool {
+    made.is_ok()
 }
 
-#[test]
-fn a_slot_is_made(rt: HostRuntime) -> Result<(), Fail> {
-    let alloc = rt.alloc();
-    let choice = Slot::choice(alloc, expression(&rt)?, Slot::null(), Slot::children())?;
+/// `for (i < 2, 64) null`
+fn repeated(alloc: Global) -> Result<Slot, AllocError> {
     let index = Name::new(alloc, "i")?;
-    let repeated = Slot::repeated(alloc, index, Expr::number(2), 64, choice)?;
-    let limit = match &repeated.kind {
-        SlotKind::For(repetition) => repetition.limit,
-        _ => 0,
-    };
-    assert_eq!(rt; limit, 64);
-    Ok(())
+    Slot::repeated(alloc, index, Expr::number(2), 64, Slot::null())
+}
+
+#[test]
+fn a_group_is_made(rt: HostRuntime) {
+    assert!(rt; is_expr(Expr::group(rt.alloc(), Expr::number(1))));
+}
+
+#[test]
+fn a_negation_is_made(rt: HostRuntime) {
+    assert!(rt; is_expr(Expr::prefixed(rt.alloc(), Prefix::Not, Expr::number(1))));
+}
+
+#[test]
+fn a_chain_is_made(rt: HostRuntime) {
+    assert!(rt; is_expr(Expr::chain(rt.alloc(), Expr::number(1), Vec::new(rt.alloc()))));
+}
+
+#[test]
+fn a_choice_of_expressions_is_made(rt: HostRuntime) {
+    assert!(rt;
+        is_expr(Expr::choice(
+            rt.alloc(),
+            Expr::number(1),
+            Expr::number(2),
+            Expr::number(3)
+        ))
+    );
+}
+
+#[test]
+fn a_choice_of_slots_is_made(rt: HostRuntime) {
+    assert!(rt; is_slot(Slot::choice(rt.alloc(), Expr::number(1), Slot::null(), Slot::children())));
+}
+
+#[test]
+fn a_repetition_is_made(rt: HostRuntime) {
+    assert!(rt; is_slot(repeated(rt.alloc())));
 }

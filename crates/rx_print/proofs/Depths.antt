@@ -1,7 +1,7 @@
 -- Each item of a list is no deeper than the list.
 use Rattle.std.proofs.Common.{◌≡◌, ℕ, zero, suc, ◌+◌, ◌<◌, ◌≤◌, List, [], ◌∷◌, length, get_or, take, drop, arith}
-use Rattle.rx_ast.specs.Syntax.{Expr, exprs_of}
-use Rattle.rx_ast.specs.Depth.{expr_depth, exprs_depth, links_depth}
+use Rattle.rx_ast.specs.Syntax.{Expr, exprs_of, Slot, slots_of}
+use Rattle.rx_ast.specs.Depth.{expr_depth, exprs_depth, links_depth, slot_depth, slots_depth}
 use Rattle.rx_ast.specs.ExprView.{links_of}
 use Rattle.rx_ast.specs.declared.expr.Link.{Link}
 
@@ -24,3 +24,8 @@ exprs_depth-take (suc k) (e ∷ es) = omega (arith, exprs_depth-take k es)
 pub exprs_depth-take-drop : (k : ℕ) (es : List Expr) → exprs_depth (exprs_of (take k (drop 1 es))) ≤ exprs_depth (exprs_of es)
 exprs_depth-take-drop k [] = exprs_depth-take k []
 exprs_depth-take-drop k (e ∷ es) = omega (arith, exprs_depth-take k es)
+
+pub slot_depth-get_or : (ss : List Slot) (i : ℕ) (d : Slot) → i < length ss → slot_depth (get_or ss i d) ≤ slots_depth (slots_of ss)
+slot_depth-get_or [] i d h = omega (arith, h)
+slot_depth-get_or (s ∷ ss) zero d h = omega arith
+slot_depth-get_or (s ∷ ss) (suc i) d h = let below : i < length ss = omega (arith, h) in omega (arith, slot_depth-get_or ss i d below)

@@ -54,22 +54,29 @@ impl Printer {
                 self.expr(inner)?;
                 self.sign(Sign::CloseParen)
             }
-            ExprKind::Prefixed(operator, operand) => {
+            ExprKind::Prefixed { operator, operand } => {
                 self.sign(prefix_sign_of(*operator))?;
                 self.expr(operand)
             }
-            ExprKind::Chain(first, links) => {
+            ExprKind::Chain { first, links } => {
                 self.expr(first)?;
                 self.links(links)
             }
-            ExprKind::Choice(test, first, second) => {
+            ExprKind::Choice {
+                test,
+                first,
+                second,
+            } => {
                 self.expr(test)?;
                 self.sign(Sign::Question)?;
                 self.expr(first)?;
                 self.sign(Sign::Colon)?;
                 self.expr(second)
             }
-            ExprKind::Call(function, arguments) => {
+            ExprKind::Call {
+                function,
+                arguments,
+            } => {
                 self.lower(function)?;
                 self.sign(Sign::OpenParen)?;
                 self.exprs(arguments)?;

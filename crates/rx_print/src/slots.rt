@@ -37,14 +37,14 @@ impl Printer {
     {
         match &attribute.kind {
             AttributeKind::Key(value) => self.key(value),
-            AttributeKind::Computed(name, value) => {
+            AttributeKind::Computed { name, value } => {
                 self.lower(name)?;
                 self.sign(Sign::Equals)?;
                 self.sign(Sign::OpenBrace)?;
                 self.expr(value)?;
                 self.sign(Sign::CloseBrace)
             }
-            AttributeKind::Literal(name, text) => {
+            AttributeKind::Literal { name, text } => {
                 self.lower(name)?;
                 self.sign(Sign::Equals)?;
                 self.text(text)
@@ -87,15 +87,25 @@ impl Printer {
         ensures { OnOk result (self.new ≡ self.old ++ name_tokens tag.now) }
     {
         match tag {
-            Tag::Host(name, _) => self.lower(name),
-            Tag::Component(name, _) => self.upper(name),
-            Tag::Suspense(_, _) => self.word(Keyword::Suspense),
-            Tag::Provider(context, _, _) => {
+            Tag::Host { name, .. } => self.lower(name),
+            Tag::Component { name, .. } => self.upper(name),
+            Tag::Suspense { .. } => self.word(Keyword::Suspense),
+            Tag::Provider { context, .. } => {
                 self.upper(context)?;
                 self.sign(Sign::Dot)?;
                 self.word(Keyword::Provider)
             }
         }
+    }
+
+    /// Writes a closing tag.
+    fn closing_tag(&mut self, tag: &Tag) -> Result<(), AllocError>
+        ensures { OnOk result (self.new ≡ self.old ++ Kind.Mark Sign.Less ∷ Kind.Mark Sign.Slash ∷ (name_tokens tag.now ++ Kind.Mark Sign.Greater ∷ [])) }
+    {
+        self.sign(Sign::Less)?;
+        self.sign(Sign::Slash)?;
+        self.tag_name(tag)?;
+        self.sign(Sign::Greater)
     }
 
     /// Writes what stands behind the name in an opening tag.
@@ -104,8 +114,8 @@ impl Printer {
         ensures { OnOk result (self.new ≡ self.old ++ given_tokens tag.now) }
     {
         match tag {
-            Tag::Host(_, attributes) | Tag::Component(_, attributes) => self.attributes(attributes),
-            Tag::Suspense(key, fallback) => {
+            Tag::Host { attributes, .. } | Tag::Component { attributes, .. } => self.attributes(attributes),
+            Tag::Suspense { key, fallback } => {
                 self.key_before(key)?;
                 self.name("fallback")?;
                 self.sign(Sign::Equals)?;
@@ -114,7 +124,7 @@ impl Printer {
                 self.sign(Sign::CloseBrace)?;
                 self.key_behind(key)
             }
-            Tag::Provider(_, key, value) => {
+            Tag::Provider { key, value, .. } => {
                 self.key_before(key)?;
                 self.name("value")?;
                 self.sign(Sign::Equals)?;
@@ -142,10 +152,7 @@ impl Printer {
             Content::Children(children) => {
                 self.sign(Sign::Greater)?;
                 self.children(children)?;
-                self.sign(Sign::Less)?;
-                self.sign(Sign::Slash)?;
-                self.tag_name(&element.tag)?;
-                self.sign(Sign::Greater)
+                self.closing_tag(&element.tag)
             }
         }
     }
@@ -164,7 +171,11 @@ impl Printer {
                 self.for_head(&repetition.index, &repetition.bound, repetition.limit)?;
                 self.slot(&repetition.item)
             }
-            SlotKind::Choice(test, first, second) => {
+            SlotKind::Choice {
+                test,
+                first,
+                second,
+            } => {
                 self.expr(test)?;
                 self.sign(Sign::Question)?;
                 self.slot(first)?;
