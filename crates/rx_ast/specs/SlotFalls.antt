@@ -3,7 +3,7 @@ use Rattle.std.specs.Prelude.{◌+◌, ◌*◌, ◌≤◌, max, List, [], ◌∷
 use Rattle.std.proofs.Common.{arith}
 use denote.Param.Weighed.{most}
 use Rattle.rx_ast.specs.Syntax.{Slot, Slots, Ending, slots_of}
-use Rattle.rx_ast.specs.Depth.{slot_depth, slots_depth, slot_size, element_size}
+use Rattle.rx_ast.specs.Depth.{slots_depth, slot_size, element_size}
 use Rattle.rx_ast.specs.SlotView.{slot_of, element_of, child_of, tagged, ending_of, children_of}
 use Rattle.rx_ast.specs.declared.slot.SlotKind.{SlotKind}
 use Rattle.rx_ast.specs.declared.slot.SlotKind.TheVariants as kind

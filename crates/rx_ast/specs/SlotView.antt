@@ -1,5 +1,4 @@
 -- A slot, an element and a child of the code as plain data.
-use Rattle.std.specs.Prelude.{List}
 use Rattle.rx_ast.specs.Syntax as syntax
 use Rattle.rx_ast.specs.Syntax.{Slot, Slots, no_slots, slots_of, Ending, at_once, by_tag, parentheses, braces, enclosed}
 use Rattle.rx_ast.specs.declared.attribute.AttributeKind.{AttributeKind}

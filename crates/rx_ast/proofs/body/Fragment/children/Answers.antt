@@ -1,4 +1,4 @@
-use Rattle.std.proofs.Common.{◌≡◌, sym, ap, ◌∙◌}
+use Rattle.std.proofs.Common.{sym, ap, ◌∙◌}
 use Rattle.rx_ast.specs.Syntax.{slots}
 use Rattle.rx_ast.proofs.Lists.{slots-slots_of}
 use Rattle.rx_ast.proofs.body.Fragment.children.Goals as goal

@@ -1,4 +1,4 @@
-use Rattle.std.proofs.Common.{◌≡◌, sym, ap, ◌∙◌}
+use Rattle.std.proofs.Common.{sym, ap, ◌∙◌}
 use Rattle.rx_ast.specs.Syntax.{slots, inner_slots}
 use Rattle.rx_ast.specs.SlotView.{element_of}
 use Rattle.rx_ast.proofs.Lists.{slots-slots_of, inner_slots-tagged}
