@@ -1,11 +1,11 @@
 // How declarations are written.
 ghost use Rattle.std.specs.Prelude.{◌≡◌, List, [], ◌∷◌, ◌++◌, OnOk, map};
 ghost use Rattle.std.specs.List.{flat_map};
-ghost use Rattle.rx_ast.specs.Syntax.{slots_of, of_context, of_function, of_component};
-ghost use Rattle.rx_print.specs.Printing.{parameter_token, more_separated, separated, parameters_tokens, default_tokens, line_tokens, fragment_tokens, body_tokens, declaration_tokens};
+ghost use Rattle.rx_ast.specs.Syntax.{of_context, of_function, of_component};
+ghost use Rattle.rx_print.specs.Printing.{expr_tokens, slots_tokens, parameter_token, separated, parameters_tokens, default_tokens, line_tokens, fragment_tokens, body_tokens, declaration_tokens};
 
 use crate::printer::Printer;
-use rx_ast::{Body, BodyKind, Component, Context, Declaration, DeclarationKind, Fragment, Function, Line, Parameter, ParameterKind};
+use rx_ast::{Body, BodyKind, Component, Context, Declaration, DeclarationKind, Expr, Fragment, Function, Line, Parameter, ParameterKind};
 use rx_base::Name;
 use rx_lex::{Keyword, Kind, Sign};
 use std::alloc::AllocError;
@@ -17,10 +17,17 @@ impl Printer {
     {
         self.sign(Sign::Less)?;
         self.sign(Sign::Greater)?;
-        self.children(fragment.children())?;
+        self.inner(fragment)?;
         self.sign(Sign::Less)?;
         self.sign(Sign::Slash)?;
         self.sign(Sign::Greater)
+    }
+
+    /// Writes the children of a fragment.
+    fn inner(&mut self, fragment: &Fragment) -> Result<(), AllocError>
+        ensures { OnOk result (self.new ≡ self.old ++ slots_tokens fragment.now) }
+    {
+        self.children(fragment.children())
     }
 
     /// Writes what a component returns.
@@ -133,30 +140,22 @@ impl Printer {
     fn function(&mut self, function: &Function) -> Result<(), AllocError>
         ensures { OnOk result (self.new ≡ self.old ++ declaration_tokens (of_function function.now)) }
     {
-        self.word(Keyword::Function)?;
-        self.lower(function.name())?;
-        self.sign(Sign::OpenParen)?;
+        self.function_start(function.name())?;
         self.names(function.parameters())?;
         self.opened_body()?;
         self.lines(function.lines())?;
-        self.word(Keyword::Return)?;
-        self.expr(function.answer())?;
-        self.closed_body()
+        self.answer(function.answer())
     }
 
     /// Writes the declaration of a component.
     fn component(&mut self, component: &Component) -> Result<(), AllocError>
         ensures { OnOk result (self.new ≡ self.old ++ declaration_tokens (of_component component.now)) }
     {
-        self.word(Keyword::Function)?;
-        self.upper(component.name())?;
-        self.sign(Sign::OpenParen)?;
+        self.component_start(component.name())?;
         self.braced_parameters(component)?;
         self.opened_body()?;
         self.statements(component.statements())?;
-        self.word(Keyword::Return)?;
-        self.body(component.body())?;
-        self.closed_body()
+        self.returned(component.body())
     }
 
     /// Writes `)` and `{`.
@@ -167,10 +166,46 @@ impl Printer {
         self.sign(Sign::OpenBrace)
     }
 
-    /// Writes `;` and `}`.
-    fn closed_body(&mut self) -> Result<(), AllocError>
-        ensures { OnOk result (self.new ≡ self.old ++ Kind.Mark Sign.Semicolon ∷ Kind.Mark Sign.CloseBrace ∷ []) }
+    /// Writes `function name(`, the name of a function.
+    fn function_start(&mut self, name: &Name) -> Result<(), AllocError>
+        ensures { OnOk result (self.new ≡ self.old ++ Kind.Word Keyword.Function ∷ Kind.Lower name.now ∷ Kind.Mark Sign.OpenParen ∷ []) }
     {
+        self.word(Keyword::Function)?;
+        self.lower(name)?;
+        self.sign(Sign::OpenParen)
+    }
+
+    /// Writes `function name(`, the name of a component.
+    fn component_start(&mut self, name: &Name) -> Result<(), AllocError>
+        ensures { OnOk result (self.new ≡ self.old ++ Kind.Word Keyword.Function ∷ Kind.Upper name.now ∷ Kind.Mark Sign.OpenParen ∷ []) }
+    {
+        self.word(Keyword::Function)?;
+        self.upper(name)?;
+        self.sign(Sign::OpenParen)
+    }
+
+    /// Writes what a function returns, and its end.
+    fn answer(&mut self, answer: &Expr) -> Result<(), AllocError>
+        ensures {
+            OnOk result
+                (self.new ≡ self.old ++ Kind.Word Keyword.Return ∷ (expr_tokens answer.now ++ Kind.Mark Sign.Semicolon ∷ Kind.Mark Sign.CloseBrace ∷ []))
+        }
+    {
+        self.word(Keyword::Return)?;
+        self.expr(answer)?;
+        self.sign(Sign::Semicolon)?;
+        self.sign(Sign::CloseBrace)
+    }
+
+    /// Writes what a component returns, and its end.
+    fn returned(&mut self, body: &Body) -> Result<(), AllocError>
+        ensures {
+            OnOk result
+                (self.new ≡ self.old ++ Kind.Word Keyword.Return ∷ (body_tokens body.now ++ Kind.Mark Sign.Semicolon ∷ Kind.Mark Sign.CloseBrace ∷ []))
+        }
+    {
+        self.word(Keyword::Return)?;
+        self.body(body)?;
         self.sign(Sign::Semicolon)?;
         self.sign(Sign::CloseBrace)
     }
