@@ -178,7 +178,7 @@ statement_tokens (constant x e) = binding (Lower x) (expr_tokens e)
 statement_tokens (effect l t es) =
     Word (effect_word l)
     ∷ (in_parentheses (Text t ∷ Mark sign.Comma ∷ Mark sign.OpenBracket ∷ (exprs_tokens (exprs_of es) ++ Mark sign.CloseBracket ∷ []))
-       ++ Mark sign.Semicolon ∷ [])
+    ++ Mark sign.Semicolon ∷ [])
 
 -- the tokens of a line of a function
 abbrev pub line_tokens : Line → List Kind

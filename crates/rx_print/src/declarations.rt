@@ -5,7 +5,10 @@ ghost use Rattle.rx_ast.specs.Syntax.{of_context, of_function, of_component};
 ghost use Rattle.rx_print.specs.Printing.{expr_tokens, slots_tokens, parameter_token, separated, parameters_tokens, default_tokens, line_tokens, fragment_tokens, body_tokens, declaration_tokens};
 
 use crate::printer::Printer;
-use rx_ast::{Body, BodyKind, Component, Context, Declaration, DeclarationKind, Expr, Fragment, Function, Line, Parameter, ParameterKind};
+use rx_ast::{
+    Body, BodyKind, Component, Context, Declaration, DeclarationKind, Expr, Fragment, Function,
+    Line, Parameter, ParameterKind,
+};
 use rx_base::Name;
 use rx_lex::{Keyword, Kind, Sign};
 use std::alloc::AllocError;
@@ -186,10 +189,8 @@ impl Printer {
 
     /// Writes what a function returns, and its end.
     fn answer(&mut self, answer: &Expr) -> Result<(), AllocError>
-        ensures {
-            OnOk result
-                (self.new ≡ self.old ++ Kind.Word Keyword.Return ∷ (expr_tokens answer.now ++ Kind.Mark Sign.Semicolon ∷ Kind.Mark Sign.CloseBrace ∷ []))
-        }
+        ensures { OnOk result
+            (self.new ≡ self.old ++ Kind.Word Keyword.Return ∷ (expr_tokens answer.now ++ Kind.Mark Sign.Semicolon ∷ Kind.Mark Sign.CloseBrace ∷ [])) }
     {
         self.word(Keyword::Return)?;
         self.expr(answer)?;
@@ -199,10 +200,8 @@ impl Printer {
 
     /// Writes what a component returns, and its end.
     fn returned(&mut self, body: &Body) -> Result<(), AllocError>
-        ensures {
-            OnOk result
-                (self.new ≡ self.old ++ Kind.Word Keyword.Return ∷ (body_tokens body.now ++ Kind.Mark Sign.Semicolon ∷ Kind.Mark Sign.CloseBrace ∷ []))
-        }
+        ensures { OnOk result
+            (self.new ≡ self.old ++ Kind.Word Keyword.Return ∷ (body_tokens body.now ++ Kind.Mark Sign.Semicolon ∷ Kind.Mark Sign.CloseBrace ∷ [])) }
     {
         self.word(Keyword::Return)?;
         self.body(body)?;

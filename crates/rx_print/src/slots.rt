@@ -7,7 +7,10 @@ ghost use Rattle.rx_print.specs.Printing.{expr_tokens, given as given_under, key
 ghost use Rattle.rx_print.specs.Tags.{name_tokens, given_tokens};
 
 use crate::printer::Printer;
-use rx_ast::{Attribute, AttributeKind, Child, ChildKind, Content, Element, Expr, KeyPlace, Slot, SlotKind, Tag};
+use rx_ast::{
+    Attribute, AttributeKind, Child, ChildKind, Content, Element, Expr, KeyPlace, Slot, SlotKind,
+    Tag,
+};
 use rx_base::Name;
 use rx_lex::{Keyword, Kind, Sign};
 use std::alloc::AllocError;
@@ -114,7 +117,9 @@ impl Printer {
         ensures { OnOk result (self.new ≡ self.old ++ given_tokens tag.now) }
     {
         match tag {
-            Tag::Host { attributes, .. } | Tag::Component { attributes, .. } => self.attributes(attributes),
+            Tag::Host { attributes, .. } | Tag::Component { attributes, .. } => self.attributes(
+                attributes,
+            ),
             Tag::Suspense { key, fallback } => {
                 self.key_before(key)?;
                 self.name("fallback")?;
@@ -219,11 +224,9 @@ impl Printer {
 
     /// Writes `for (index < bound, limit)`.
     fn for_head(&mut self, index: &Name, bound: &Expr, limit: u64) -> Result<(), AllocError>
-        ensures {
-            OnOk result
-                (self.new ≡ self.old ++ Kind.Word Keyword.For ∷ Kind.Mark Sign.OpenParen ∷ Kind.Lower index.now ∷ Kind.Mark Sign.Less
-                 ∷ (expr_tokens bound.now ++ Kind.Mark Sign.Comma ∷ Kind.Number limit ∷ Kind.Mark Sign.CloseParen ∷ []))
-        }
+        ensures { OnOk result
+            (self.new ≡ self.old ++ Kind.Word Keyword.For ∷ Kind.Mark Sign.OpenParen ∷ Kind.Lower index.now ∷ Kind.Mark Sign.Less
+            ∷ (expr_tokens bound.now ++ Kind.Mark Sign.Comma ∷ Kind.Number limit ∷ Kind.Mark Sign.CloseParen ∷ [])) }
     {
         self.word(Keyword::For)?;
         self.sign(Sign::OpenParen)?;

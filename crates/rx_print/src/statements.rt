@@ -13,11 +13,9 @@ use std::alloc::AllocError;
 impl Printer {
     /// Writes `const [name, setter] =`.
     fn pair(&mut self, name: &Name, setter: &Name) -> Result<(), AllocError>
-        ensures {
-            OnOk result
-                (self.new ≡ self.old ++ Kind.Word Keyword.Const ∷ Kind.Mark Sign.OpenBracket ∷ Kind.Lower name.now ∷ Kind.Mark Sign.Comma
-                 ∷ Kind.Lower setter.now ∷ Kind.Mark Sign.CloseBracket ∷ Kind.Mark Sign.Equals ∷ [])
-        }
+        ensures { OnOk result
+            (self.new ≡ self.old ++ Kind.Word Keyword.Const ∷ Kind.Mark Sign.OpenBracket ∷ Kind.Lower name.now ∷ Kind.Mark Sign.Comma
+            ∷ Kind.Lower setter.now ∷ Kind.Mark Sign.CloseBracket ∷ Kind.Mark Sign.Equals ∷ []) }
     {
         self.word(Keyword::Const)?;
         self.sign(Sign::OpenBracket)?;
@@ -56,10 +54,19 @@ impl Printer {
     }
 
     /// Writes the statement of an effect.
-    fn effect(&mut self, layout: bool, label: &Name, dependencies: &[Expr]) -> Result<(), AllocError>
+    fn effect(
+        &mut self,
+        layout: bool,
+        label: &Name,
+        dependencies: &[Expr],
+    ) -> Result<(), AllocError>
         ensures { OnOk result (self.new ≡ self.old ++ statement_tokens (effect_with layout label.now dependencies.now)) }
     {
-        let word = if layout { Keyword::UseLayoutEffect } else { Keyword::UseEffect };
+        let word = if layout {
+            Keyword::UseLayoutEffect
+        } else {
+            Keyword::UseEffect
+        };
         self.opened(word)?;
         self.text(label)?;
         self.sign(Sign::Comma)?;

@@ -7,5 +7,5 @@ use Rattle.rx_print.proofs.printer.Printer.+slot.Goals as goal
 pub children-child-requires : goal.children-child-requires
 children-child-requires t c =
     let below : slot_depth c.child-item.result ≤ slots_depth (slots_of c.args.children.now) =
-        rw c.child-item.is (slot_depth-get_or c.args.children.now c.loop-child.child-index c.child-item.result c.loop-child-test.true)
+    rw c.child-item.is (slot_depth-get_or c.args.children.now c.loop-child.child-index c.child-item.result c.loop-child-test.true)
     in (omega (arith, c.decreases, below), tt)
