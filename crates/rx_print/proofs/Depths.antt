@@ -1,5 +1,5 @@
 -- Each item of a list is no deeper than the list.
-use Rattle.std.proofs.Common.{◌≡◌, ℕ, zero, suc, ◌+◌, ◌<◌, ◌≤◌, List, [], ◌∷◌, length, get_or, take, drop, arith}
+use Rattle.std.proofs.Common.{ℕ, zero, suc, ◌<◌, ◌≤◌, List, [], ◌∷◌, length, get_or, take, drop, arith}
 use Rattle.rx_ast.specs.Syntax.{Expr, exprs_of, Slot, slots_of}
 use Rattle.rx_ast.specs.Depth.{expr_depth, exprs_depth, links_depth, slot_depth, slots_depth}
 use Rattle.rx_ast.specs.ExprView.{links_of}

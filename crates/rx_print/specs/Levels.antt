@@ -1,15 +1,15 @@
 -- Which trees the grammar has: each part stands on its line of the grammar, and no place lies deeper than the greatest level.
-use Rattle.std.specs.Prelude.{◌≡◌, ◌≢◌, ℕ, suc, ◌+◌, ◌-◌, ◌<◌, ◌≤◌, Bool, true, false, List, [], ◌∷◌, ◌++◌}
+use Rattle.std.specs.Prelude.{◌≡◌, ◌≢◌, ℕ, suc, ◌-◌, ◌<◌, Bool, true, false, List, [], ◌∷◌, ◌++◌}
 use Rattle.rx_lex.specs.Tokens.{IsRun, is_word_byte}
 use Rattle.rx_lex.specs.declared.token.Kind.{Kind}
 use Rattle.rx_lex.specs.declared.token.Kind.TheVariants.{End}
 use Rattle.rx_ast.specs.declared.expr.Operator.{Operator}
 use Rattle.rx_ast.specs.declared.expr.Operator.TheVariants as operator
 use Rattle.rx_ast.specs.Syntax.{Expr, number, variable, grouped, prefixed, chain, chosen, called, Links, no_links, link, Exprs, no_exprs, expr, exprs_of}
-use Rattle.rx_ast.specs.Syntax.{Attribute, key, computed, literal, KeyPlace, unkeyed, key_first, key_last, Ending, at_once, by_tag, Brackets, parentheses, braces}
+use Rattle.rx_ast.specs.Syntax.{Attribute, key, computed, literal, KeyPlace, unkeyed, key_first, key_last, Ending, at_once, by_tag, parentheses, braces}
 use Rattle.rx_ast.specs.Syntax.{Slot, null, words, number_of, children, repeated, choice, host, comp, boundary, provider, enclosed, Slots, no_slots, slot}
 use Rattle.rx_ast.specs.Syntax.{Body, single, fragment, enclosed_fragment, Statement, state, reducer, context, use_resource, constant, effect}
-use Rattle.rx_ast.specs.Syntax.{Context, Line, Function, Parameter, Component, Declaration, of_context, of_function, of_component, Program}
+use Rattle.rx_ast.specs.Syntax.{Line, Parameter, Declaration, of_context, of_function, of_component, Program}
 use Rattle.rx_print.specs.Printing.{program_tokens}
 
 -- how many levels may be open at one place

@@ -13,10 +13,10 @@ use Rattle.rx_ast.specs.declared.expr.Prefix.TheVariants as prefix
 use Rattle.rx_ast.specs.declared.expr.Operator.{Operator}
 use Rattle.rx_ast.specs.declared.expr.Operator.TheVariants as operator
 use Rattle.rx_ast.specs.Syntax.{Expr, number, variable, grouped, prefixed, chain, chosen, called, Links, no_links, link, Exprs, no_exprs, expr, exprs_of}
-use Rattle.rx_ast.specs.Syntax.{Attribute, key, computed, literal, KeyPlace, unkeyed, key_first, key_last, Ending, at_once, by_tag, Brackets, parentheses, braces}
+use Rattle.rx_ast.specs.Syntax.{Attribute, key, computed, literal, KeyPlace, unkeyed, key_first, key_last, Ending, at_once, by_tag, parentheses, braces}
 use Rattle.rx_ast.specs.Syntax.{Slot, null, words, number_of, children, repeated, choice, host, comp, boundary, provider, enclosed, Slots, no_slots, slot}
 use Rattle.rx_ast.specs.Syntax.{Body, single, fragment, enclosed_fragment, Statement, state, reducer, context, use_resource, constant, effect}
-use Rattle.rx_ast.specs.Syntax.{Context, Line, Function, Parameter, integer, given_children, Component, Declaration, of_context, of_function, of_component, Program}
+use Rattle.rx_ast.specs.Syntax.{Line, Parameter, integer, given_children, Declaration, of_context, of_function, of_component, Program}
 
 -- the sign of an operator before an operand
 abbrev pub prefix_sign : Prefix → Sign

@@ -1,4 +1,4 @@
-use Rattle.std.proofs.Common.{◌≡◌, List, [], ◌∷◌, ℕ, ◌+◌, ◌-◌, ◌*◌, ◌<◌, ◌≤◌, length, take, drop, arith}
+use Rattle.std.proofs.Common.{◌-◌, ◌≤◌, length, take, drop, arith}
 use Rattle.rx_ast.specs.Syntax.{exprs_of}
 use Rattle.rx_ast.specs.Depth.{expr_depth, links_depth, exprs_depth}
 use Rattle.rx_ast.specs.ExprView.{links_of}

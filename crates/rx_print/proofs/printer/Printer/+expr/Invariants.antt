@@ -1,8 +1,8 @@
-use Rattle.std.proofs.Common.{◌≡◌, List, [], ◌∷◌, ◌++◌, OnOk, ℕ, ◌+◌, ◌-◌, ◌*◌, ◌<◌, ◌≤◌, length, drop}
+use Rattle.std.proofs.Common.{◌≡◌, ◌++◌, ◌+◌, ◌*◌, drop}
 use Rattle.rx_ast.specs.Syntax.{exprs_of}
 use Rattle.rx_ast.specs.Depth.{expr_depth, links_depth, exprs_depth}
 use Rattle.rx_ast.specs.ExprView.{links_of}
-use Rattle.rx_print.specs.Printing.{prefix_sign, operator_sign, expr_tokens, links_tokens, exprs_tokens, more_exprs_tokens}
+use Rattle.rx_print.specs.Printing.{links_tokens, exprs_tokens, more_exprs_tokens}
 use Rattle.rx_print.proofs.printer.Printer.+expr.Given as goal
 
 abbrev pub decreases-expr : goal.decreases-expr
