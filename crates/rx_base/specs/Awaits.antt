@@ -1,5 +1,5 @@
 -- What a place of a tree waits for: a set of resources, as their numbers in rising order.
-use Rattle.std.specs.Prelude.{ℕ, Bool, ◌||◌, List, [], filter, nat_eq}
+use Rattle.std.specs.Prelude.{ℕ, Bool, true, false, ◌||◌, List, [], ◌∷◌, filter, nat_eq}
 use Rattle.std.specs.List.{list_any, range_with_len}
 
 -- resources that are waited for
@@ -29,3 +29,8 @@ one r = awaits_where (nat_eq r)
 -- a wait for all that two waits are for
 abbrev pub union : Awaits → Awaits → Awaits
 union a b = awaits_where (λ r. has a r || has b r)
+
+-- nothing is waited for
+abbrev pub is_nothing : Awaits → Bool
+is_nothing [] = true
+is_nothing (r ∷ rs) = false

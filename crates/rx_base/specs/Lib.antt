@@ -1,2 +1,4 @@
 pub mod Values
 pub mod Awaits
+pub mod AwaitsBits
+pub mod AwaitsLaws

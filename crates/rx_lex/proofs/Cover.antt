@@ -1,5 +1,5 @@
 -- Pieces that cover a text, one after another.
-use Rattle.std.proofs.Common.{◌≡◌, ◌≢◌, ℕ, ◌+◌, ◌-◌, ◌<◌, ◌≤◌, ◌^◌, Option, Some, None, Result, Ok, Err, IfOk, List, [], ◌∷◌, ◌++◌, length, refl, sym, ap, ◌∙◌, subst, arith, length-append, append_assoc, append-nil}
+use Rattle.std.proofs.Common.{◌≡◌, ◌≢◌, ℕ, ◌+◌, ◌-◌, ◌<◌, ◌≤◌, ◌^◌, Option, Result, Ok, Err, IfOk, List, [], ◌∷◌, ◌++◌, length, refl, sym, ap, ◌∙◌, subst, arith, length-append, append_assoc, append-nil}
 use Rattle.std.specs.List.{All}
 use Rattle.std.proofs.lemmas.List.Elements.{All-nil, All-cons}
 use Rattle.rx_lex.specs.declared.token.Kind.{Kind}
@@ -60,7 +60,7 @@ module _ {greatest : ℕ} {text : List ℕ} {ts : List Token} {rest : List ℕ} 
     pieces = c.pieces ++ p ∷ [];
     cover = covers_more greatest c.pieces text rest p after c.cover stands;
     meant = ap (λ l. l ++ token_at (length text - length rest) k) c.meant
-      ∙ sym (tokens_more c.pieces 0 p ∙ ap (λ n. tokens_from 0 c.pieces ++ token_at n (kind_of p)) place_is ∙ ap (λ x. tokens_from 0 c.pieces ++ token_at (length text - length rest) x) is);
+        ∙ sym (tokens_more c.pieces 0 p ∙ ap (λ n. tokens_from 0 c.pieces ++ token_at n (kind_of p)) place_is ∙ ap (λ x. tokens_from 0 c.pieces ++ token_at (length text - length rest) x) is);
   }
 
   pub uncovered : rest ≢ [] → IsUncovered greatest rest → IsFirstUncoveredBelow greatest (length text - length rest) text

@@ -1,5 +1,5 @@
 -- No text begins with two different pieces.
-use Rattle.std.proofs.Common.{◌≡◌, ◌≢◌, ℕ, ◌<◌, ◌≤◌, ◌^◌, ◌==◌, Bool, true, false, cond, Option, Some, List, [], ◌∷◌, ◌++◌, length, drop, get_or, codes, refl, sym, ap, ◌∙◌, subst, append_assoc, arith, length-append, length-drop, eqb-true, ⊎_elim, ◌⊎◌, inl, inr}
+use Rattle.std.proofs.Common.{◌≡◌, ◌≢◌, ℕ, ◌<◌, ◌≤◌, ◌^◌, Bool, true, false, cond, Option, Some, List, [], ◌∷◌, ◌++◌, length, drop, get_or, codes, refl, sym, ap, ◌∙◌, subst, append_assoc, arith, length-append, length-drop, ⊎_elim, ◌⊎◌, inl, inr}
 use Rattle.std.proofs.lemmas.List.{drop-append-le}
 use Rattle.std.proofs.Math.Seq.{drop-append_seam}
 use Rattle.std.proofs.str.Laws.{order}
@@ -16,10 +16,9 @@ use Rattle.std.proofs.lemmas.Str.Parse.{digit_at}
 use Rattle.rx_lex.specs.declared.token.Keyword.{Keyword}
 use Rattle.rx_lex.specs.declared.token.Keyword.TheVariants as keyword
 use Rattle.rx_lex.specs.declared.token.Sign.{Sign}
-use Rattle.rx_lex.specs.declared.token.Sign.TheVariants as sign
 use Rattle.rx_lex.specs.declared.token.Kind.{Kind}
 use Rattle.rx_lex.specs.declared.token.Kind.TheVariants.{Upper, Lower, Number, Text, Word, Mark, End}
-use Rattle.rx_lex.specs.Tokens.{is_word_byte, is_blank, is_in_line, is_inside, IsRun, IsRunEnd, keyword_text, sign_text, spelling, NotAtFront, SignEnds, IsWordKind, Gap, Blank, LineComment, BlockComment, IsClosedFirst, Piece, Between, Meant, StandsFirst, CoversTo, IsUncovered, piece_text, AreTokensBelow, tokens_from}
+use Rattle.rx_lex.specs.Tokens.{is_word_byte, is_in_line, is_inside, IsRun, IsRunEnd, keyword_text, sign_text, spelling, SignEnds, IsWordKind, Blank, LineComment, BlockComment, IsClosedFirst, Piece, Between, Meant, StandsFirst, CoversTo, IsUncovered, piece_text, AreTokensBelow, IsFirstUncoveredBelow, tokens_from}
 use Rattle.rx_lex.specs.declared.token.Token.{Token}
 use Rattle.rx_lex.proofs.Classes.{sign_by, sign_back, class_of, class_is, gap_class, token_class}
 use Rattle.rx_lex.proofs.Runs.{run_unique}
@@ -205,17 +204,24 @@ unique small p q text a b h g e = absurd (omega arith)
 pub piece_unique : {greatest : ℕ} → greatest < 2 ^ 64 → (p q : Piece) (text a b : List ℕ) → StandsFirst greatest p text a → StandsFirst greatest q text b → (p ≡ q) × (a ≡ b)
 piece_unique small p q text a b h g = unique small p q text a b h g (sym (class_is small p text a h) ∙ class_is small q text b g)
 
--- the pieces that cover a text are these alone
-pub covers_unique : {greatest : ℕ} → greatest < 2 ^ 64 → (ps qs : List Piece) (text rest : List ℕ) → CoversTo greatest ps text rest → CoversTo greatest qs text [] → (rest ≡ [] ⊎ IsUncovered greatest rest) → (rest ≡ []) × (ps ≡ qs)
-covers_unique small [] [] text rest h g end = (sym h ∙ g, refl)
-covers_unique {greatest = greatest} small [] (q ∷ qs) text rest h g end = absurd (⊎_elim
-    (λ e. let gone = sym (h ∙ e) ∙ g.1.written in omega (arith, ap length gone, length-append (piece_text q) g.0, piece_nonempty small q g.0 g.1.whole))
-    (λ u. u q g.0 (subst (λ l. StandsFirst greatest q l g.0) h g.1))
-    end)
-covers_unique small (p ∷ ps) [] text rest h g end = absurd (omega (arith, ap length (sym g ∙ h.1.written), length-append (piece_text p) h.0, piece_nonempty small p h.0 h.1.whole))
-covers_unique {greatest = greatest} small (p ∷ ps) (q ∷ qs) text rest h g end =
+-- the text ends here, or no piece stands
+abbrev IsEnd : ℕ → List ℕ → Type 0
+IsEnd greatest rest = (rest ≡ []) ⊎ IsUncovered greatest rest
+
+no_more : {greatest : ℕ} → greatest < 2 ^ 64 → (p : Piece) (text rest after : List ℕ) → text ≡ rest → IsEnd greatest rest → StandsFirst greatest p text after → ⊥
+no_more {greatest = greatest} small p text rest after same end stands = ⊎_elim
+    (λ e. let gone = sym (same ∙ e) ∙ stands.written in omega (arith, ap length gone, length-append (piece_text p) after, piece_nonempty small p after stands.whole))
+    (λ u. u p after (subst (λ l. StandsFirst greatest p l after) same stands))
+    end
+
+-- the pieces that cover a text as far as pieces go are these alone
+pub covers_unique : {greatest : ℕ} → greatest < 2 ^ 64 → (ps qs : List Piece) (text rest other : List ℕ) → CoversTo greatest ps text rest → CoversTo greatest qs text other → IsEnd greatest rest → IsEnd greatest other → (rest ≡ other) × (ps ≡ qs)
+covers_unique small [] [] text rest other h g end last = (sym h ∙ g, refl)
+covers_unique small [] (q ∷ qs) text rest other h g end last = absurd (no_more small q text rest g.0 h end g.1)
+covers_unique small (p ∷ ps) [] text rest other h g end last = absurd (no_more small p text other h.0 g last h.1)
+covers_unique {greatest = greatest} small (p ∷ ps) (q ∷ qs) text rest other h g end last =
     let both = piece_unique small p q text h.0 g.0 h.1 g.1 in
-    let others = covers_unique small ps qs h.0 rest h.2 (subst (λ l. CoversTo greatest qs l []) (sym both.1) g.2) end in
+    let others = covers_unique small ps qs h.0 rest other h.2 (subst (λ l. CoversTo greatest qs l other) (sym both.1) g.2) end last in
     (others.0, (λ i. both.0 i ∷ others.1 i))
 
 nil_of_length : (rest : List ℕ) → length rest ≡ 0 → rest ≡ []
@@ -225,15 +231,23 @@ nil_of_length (b ∷ bs) e = absurd (omega arith)
 -- what covers the text so far covers it as any other list of tokens does
 pub only_tokens : {greatest : ℕ} → greatest < 2 ^ 64 → {text : List ℕ} {ts : List Token} (rest : List ℕ) → Covered greatest text ts rest → length rest ≡ 0 → (us : List Token) → AreTokensBelow greatest us text → ts ≡ us
 only_tokens small {text = text} rest c e us other =
-    let w = covers_unique small c.pieces other.0 text rest c.cover other.1 (inl (nil_of_length rest e)) in
+    let w = covers_unique small c.pieces other.0 text rest [] c.cover other.1 (inl (nil_of_length rest e)) (inl refl) in
     c.meant ∙ ap (tokens_from 0) w.1 ∙ sym other.2
 
 pub none_covers : {greatest : ℕ} → greatest < 2 ^ 64 → {text : List ℕ} {ts : List Token} (rest : List ℕ) → Covered greatest text ts rest → rest ≢ [] → IsUncovered greatest rest → (us : List Token) → AreTokensBelow greatest us text → ⊥
 none_covers small {text = text} rest c some none us other =
-    some (covers_unique small c.pieces other.0 text rest c.cover other.1 (inr none)).0
+    some (covers_unique small c.pieces other.0 text rest [] c.cover other.1 (inr none) (inl refl)).0
 
 -- no two lists of tokens cover one text
 pub tokens_unique : {greatest : ℕ} → greatest < 2 ^ 64 → (text : List ℕ) (ts us : List Token) → AreTokensBelow greatest ts text → AreTokensBelow greatest us text → ts ≡ us
 tokens_unique small text ts us h g =
-    let w = covers_unique small h.0 g.0 text [] h.1 g.1 (inl refl) in
+    let w = covers_unique small h.0 g.0 text [] [] h.1 g.1 (inl refl) (inl refl) in
     h.2 ∙ ap (tokens_from 0) w.1 ∙ sym g.2
+
+pub place_unique : {greatest : ℕ} → greatest < 2 ^ 64 → (at other : ℕ) (text : List ℕ) → IsFirstUncoveredBelow greatest at text → IsFirstUncoveredBelow greatest other text → at ≡ other
+place_unique small at other text h g =
+    let w = covers_unique small h.0 g.0 text h.1 g.1 h.2 g.2 (inr h.5) (inr g.5) in
+    omega (arith, h.3, g.3, ap length w.0)
+
+pub place_or_tokens : {greatest : ℕ} → greatest < 2 ^ 64 → (at : ℕ) (text : List ℕ) (ts : List Token) → IsFirstUncoveredBelow greatest at text → AreTokensBelow greatest ts text → ⊥
+place_or_tokens small at text ts h g = h.4 (covers_unique small h.0 g.0 text h.1 [] h.2 g.1 (inr h.5) (inl refl)).0

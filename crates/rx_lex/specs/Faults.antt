@@ -2,7 +2,7 @@
 use Rattle.std.specs.Prelude.{ℕ, List}
 use Rattle.rx_lex.specs.declared.error.LexError.{LexError}
 use Rattle.rx_lex.specs.declared.error.LexError.TheVariants.{Lex, OutOfMemory}
-use Rattle.rx_lex.specs.Tokens.{IsFirstUncovered, IsFirstUncoveredBelow, greatest_number}
+use Rattle.rx_lex.specs.Tokens.{IsFirstUncoveredBelow, greatest_number}
 
 -- a refusal names the first place that no token covers; want of memory says nothing of the text
 abbrev pub IsFaultBelow : ℕ → LexError → List ℕ → Type 0

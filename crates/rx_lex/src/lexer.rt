@@ -12,7 +12,7 @@ use crate::gaps::after_gap;
 use crate::signs::split_sign;
 use crate::strings::split_string;
 use crate::token::{Kind, Token};
-use crate::words::{split_word, word_kind, Fault};
+use crate::words::{Fault, split_word, word_kind};
 use rx_base::Name;
 use std::alloc::Global;
 

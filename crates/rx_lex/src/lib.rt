@@ -7,11 +7,10 @@ pub mod laws;
 mod lexer;
 mod signs;
 mod strings;
-mod token;
-mod words;
-
 #[cfg(test)]
 mod tests;
+mod token;
+mod words;
 
 pub use error::LexError;
 pub use lexer::lex;

@@ -39,15 +39,30 @@ fn listed(rt: &HostRuntime, text: &str) -> Result<String, Fail> {
 fn the_longest_sign_is_taken(rt: HostRuntime) -> Result<(), Fail> {
     for (text, want) in [
         ("", " 0:End"),
-        ("(){}", " 0:OpenParen 1:CloseParen 2:OpenBrace 3:CloseBrace 4:End"),
-        ("[],;", " 0:OpenBracket 1:CloseBracket 2:Comma 3:Semicolon 4:End"),
+        (
+            "(){}",
+            " 0:OpenParen 1:CloseParen 2:OpenBrace 3:CloseBrace 4:End",
+        ),
+        (
+            "[],;",
+            " 0:OpenBracket 1:CloseBracket 2:Comma 3:Semicolon 4:End",
+        ),
         (":?.%", " 0:Colon 1:Question 2:Dot 3:Percent 4:End"),
         ("+-*/", " 0:Plus 1:Minus 2:Star 3:Slash 4:End"),
         ("<<=<", " 0:Less 1:LessEqual 3:Less 4:End"),
         (">>=>", " 0:Greater 1:GreaterEqual 3:Greater 4:End"),
-        ("<== >==", " 0:LessEqual 2:Equals 4:GreaterEqual 6:Equals 7:End"),
-        ("= == === ====", " 0:Equals 2:Equals 3:Equals 5:Same 9:Same 12:Equals 13:End"),
-        ("! != !== !===", " 0:Not 2:Not 3:Equals 5:NotSame 9:NotSame 12:Equals 13:End"),
+        (
+            "<== >==",
+            " 0:LessEqual 2:Equals 4:GreaterEqual 6:Equals 7:End",
+        ),
+        (
+            "= == === ====",
+            " 0:Equals 2:Equals 3:Equals 5:Same 9:Same 12:Equals 13:End",
+        ),
+        (
+            "! != !== !===",
+            " 0:Not 2:Not 3:Equals 5:NotSame 9:NotSame 12:Equals 13:End",
+        ),
         ("!!==", " 0:Not 1:NotSame 4:End"),
         ("&&||", " 0:And 2:Or 4:End"),
         ("a & b", " none at 2"),
@@ -101,15 +116,42 @@ fn words_are_whole(rt: HostRuntime) -> Result<(), Fail> {
         ("1 01", " none at 2"),
         ("00", " none at 0"),
         ("1a", " none at 0"),
-        ("a1 A$_ _ $b", " 0:Lower-a1 3:Upper-A$_ 7:Lower-_ 9:Lower-$b 11:End"),
-        ("const function return null", " 0:Const 6:Function 15:Return 22:Null 26:End"),
-        ("for children key createContext", " 0:For 4:Children 13:Key 17:CreateContext 30:End"),
-        ("useState useReducer useContext", " 0:UseState 9:UseReducer 20:UseContext 30:End"),
-        ("useEffect useLayoutEffect use", " 0:UseEffect 10:UseLayoutEffect 26:Use 29:End"),
-        ("useTransition memo throwIf", " 0:UseTransition 14:Memo 19:ThrowIf 26:End"),
-        ("Suspense Provider Catch", " 0:Suspense 9:Provider 18:Catch 23:End"),
-        ("constant used Suspenses", " 0:Lower-constant 9:Lower-used 14:Upper-Suspenses 23:End"),
-        ("Const suspense C.Provider", " 0:Upper-Const 6:Lower-suspense 15:Upper-C 16:Dot 17:Provider 25:End"),
+        (
+            "a1 A$_ _ $b",
+            " 0:Lower-a1 3:Upper-A$_ 7:Lower-_ 9:Lower-$b 11:End",
+        ),
+        (
+            "const function return null",
+            " 0:Const 6:Function 15:Return 22:Null 26:End",
+        ),
+        (
+            "for children key createContext",
+            " 0:For 4:Children 13:Key 17:CreateContext 30:End",
+        ),
+        (
+            "useState useReducer useContext",
+            " 0:UseState 9:UseReducer 20:UseContext 30:End",
+        ),
+        (
+            "useEffect useLayoutEffect use",
+            " 0:UseEffect 10:UseLayoutEffect 26:Use 29:End",
+        ),
+        (
+            "useTransition memo throwIf",
+            " 0:UseTransition 14:Memo 19:ThrowIf 26:End",
+        ),
+        (
+            "Suspense Provider Catch",
+            " 0:Suspense 9:Provider 18:Catch 23:End",
+        ),
+        (
+            "constant used Suspenses",
+            " 0:Lower-constant 9:Lower-used 14:Upper-Suspenses 23:End",
+        ),
+        (
+            "Const suspense C.Provider",
+            " 0:Upper-Const 6:Lower-suspense 15:Upper-C 16:Dot 17:Provider 25:End",
+        ),
     ] {
         let line = listed(&rt, text)?;
         assert_eq!(rt; line.as_str(), want, "for {text}");

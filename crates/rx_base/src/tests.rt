@@ -1,0 +1,49 @@
+// The base types, by example.
+ghost use Rattle.std.specs.Prelude.{◌≡◌};
+
+use super::*;
+use std::marker::Brand;
+use std::sync::ledger::{Blank, Ledger};
+use std::test::Fail;
+
+#[test]
+fn integers_wrap_at_32_bits(rt: HostRuntime) {
+    for (value, want) in [
+        (-1, -1),
+        (2147483648, -2147483648),
+        (-2147483649, 2147483647),
+    ] {
+        assert_eq!(rt; Int::of(value).value(), want, "of {value}");
+    }
+}
+
+#[test]
+fn a_name_has_its_text(rt: HostRuntime) -> Result<(), Fail> {
+    let name = Name::new(rt.alloc(), "App")?;
+    assert_eq!(rt; name.text(), "App");
+    Ok(())
+}
+
+#[test]
+fn awaits_join(rt: HostRuntime) {
+    let both = Awaits::one(3).union(Awaits::one(63));
+    assert_eq!(rt; both.has(3) && both.has(63), true);
+    assert_eq!(rt; both.has(4) || both.has(67), false);
+    assert_eq!(rt; both.is_none(), false);
+    assert_eq!(rt; Awaits::none().is_none(), true);
+}
+
+fn count_two<L: Ledger>(blank: Blank)
+    requires name { blank.name ≡ L.name }
+    requires parts { blank.parts ≡ L.parts }
+    requires one { blank.parts ≡ 1 }
+{
+    let mut steps: Steps<L> = Steps::new(blank);
+    steps.tick();
+    steps.tick();
+}
+
+#[test]
+fn steps_count_for_a_ledger() {
+    count_two::<Brand>(Blank::new(1));
+}

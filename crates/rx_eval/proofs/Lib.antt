@@ -1,0 +1,4 @@
+pub mod JournalLaws
+pub mod TreeLaws
+pub mod BodyLaws
+pub mod RenderLaws

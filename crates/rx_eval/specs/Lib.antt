@@ -1,0 +1,9 @@
+pub mod Updates
+pub mod ElementCode
+pub mod ElementView
+pub mod ElementFalls
+pub mod NodeView
+pub mod NodeCode
+pub mod NodeFalls
+pub mod BodyView
+pub mod RenderView

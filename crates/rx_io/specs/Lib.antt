@@ -1,0 +1,4 @@
+pub mod Causes
+pub mod Mem
+pub mod Standard
+pub mod Whole

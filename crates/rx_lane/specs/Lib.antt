@@ -1,0 +1,4 @@
+pub mod Lanes
+pub mod SetLaws
+pub mod LaneBits
+pub mod BitLaws

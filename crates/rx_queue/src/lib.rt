@@ -1,0 +1,14 @@
+//! The updates of one hook: which a render includes, and the state that they give.
+#![tactic(auto)]
+
+mod entry;
+mod fold;
+mod queue;
+#[cfg(test)]
+mod tests;
+mod update;
+
+pub use entry::{Entry, Standing};
+pub use fold::Fold;
+pub use queue::{Processed, Queue, Work};
+pub use update::{Op, Update};

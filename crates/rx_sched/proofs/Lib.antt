@@ -1,0 +1,4 @@
+pub mod Tables
+pub mod Gather
+pub mod Reach
+pub mod Steps

@@ -1,0 +1,10 @@
+//! The scheduler: which lanes are pending, and what is rendered next.
+#![tactic(auto)]
+
+mod choice;
+mod deadlines;
+mod links;
+mod root_lanes;
+
+pub use choice::Choice;
+pub use root_lanes::RootLanes;
