@@ -1,0 +1,10 @@
+pub mod Syntax
+pub mod Codes
+pub mod SlotCodes
+pub mod ProgramCodes
+pub mod Depth
+pub mod ExprView
+pub mod ExprFalls
+pub mod SlotView
+pub mod SlotFalls
+pub mod ProgramView
