@@ -192,6 +192,21 @@ fn each_row_has_its_status_and_output(rt: HostRuntime) -> Result<(), Fail> {
 }
 
 #[test]
+fn a_byte_of_no_character_is_refused(rt: HostRuntime) -> Result<(), Fail> {
+    let alloc = rt.alloc();
+    for input in [
+        b"\xff".as_slice(),
+        b"function App() { return <p/>; } // \xff",
+    ] {
+        let mut src = MemSource::new(alloc, input, &[])?;
+        let found = answer::<Brand>(alloc, &["run"], &mut src, &[], Blank::new(1))?;
+        assert_eq!(rt; found.0, 6);
+        assert_eq!(rt; found.1.as_slice(), b"program refused 19\n".as_slice());
+    }
+    Ok(())
+}
+
+#[test]
 fn an_input_that_is_too_long_is_refused(rt: HostRuntime) -> Result<(), Fail> {
     let alloc = rt.alloc();
     for (count, status, output) in [
