@@ -5,18 +5,18 @@ use Rattle.std.specs.Io.KnownBytes.{Appends, Consumes, IsAtEnd}
 use Rattle.std.proofs.KnownBytes.{Appends-trans}
 use Rattle.rx_base.specs.Values.{Text}
 use Rattle.rx_io.specs.Whole.{AppendsPrefix}
-use Rattle.rx_model.specs.declared.script.Step.{Step}
-use Rattle.rx_model.specs.Syntax.{Component, Program}
-use Rattle.rx_model.specs.Mentions.{mentions}
-use Rattle.rx_model.specs.State.{State, opening, end_line}
-use Rattle.rx_model.specs.Report.{Line, line_bytes, report_bytes}
-use Rattle.rx_model.specs.Machine.{RunTo, Run, Reports}
+use Rattle.small_model.specs.declared.script.Step.{Step}
+use Rattle.small_model.specs.Syntax.{Component, Program}
+use Rattle.small_model.specs.Mentions.{mentions}
+use Rattle.small_model.specs.State.{State, opening, end_line}
+use Rattle.small_model.specs.Report.{Line, line_bytes, report_bytes}
+use Rattle.small_model.specs.Machine.{RunTo, Run, Reports}
 use Rattle.rx_lane.specs.Lanes.{lanes_where}
-use Rattle.rx_model.specs.Kept.{IsKept}
-use Rattle.rx_model.specs.Input.{input_of}
-use Rattle.rx_model.specs.Lines.{steps_of}
-use Rattle.rx_model.specs.Accepted.{IsSmallProgram}
-use Rattle.rx_model.specs.Small.{is_small}
+use Rattle.small_model.specs.Kept.{IsKept}
+use Rattle.small_model.specs.Input.{input_of}
+use Rattle.small_model.specs.Lines.{steps_of}
+use Rattle.small_model.specs.Accepted.{IsSmallProgram}
+use Rattle.small_model.specs.Small.{is_small}
 use Rattle.rx_top.specs.declared.status.Status.{Status}
 use Rattle.rx_top.specs.declared.status.Status.TheVariants.{Done, Usage, ReadFault, WriteFault, TooLong, ProgramRefused, ScriptRefused, OutOfMemory}
 use Rattle.rx_top.specs.Outcome.{IsAccepted, IsRefused, RefusesScript, IsDueFor, IsOutput, IsSomeOutput, IsBegun, IsDue, IsAnswer, Gives, is_valid, limit, Writes, WritesPart, WritesSome, BeginsRun, WritesRun, script_line, program_line}

@@ -4,13 +4,13 @@ use Rattle.std.specs.declared.option.Option.{Option}
 use Rattle.std.specs.Io.KnownBytes.{Appends}
 use Rattle.std.proofs.KnownBytes.{Appends-nil, Appends-trans}
 use Rattle.rx_io.specs.Whole.{AppendsPrefix}
-use Rattle.rx_model.specs.declared.script.Step.{Step}
-use Rattle.rx_model.specs.Syntax.{Program}
-use Rattle.rx_model.specs.State.{State}
-use Rattle.rx_model.specs.Kept.{IsKept}
+use Rattle.small_model.specs.declared.script.Step.{Step}
+use Rattle.small_model.specs.Syntax.{Program}
+use Rattle.small_model.specs.State.{State}
+use Rattle.small_model.specs.Kept.{IsKept}
 use Rattle.std.proofs.lemmas.Grind.{flat_map-append}
-use Rattle.rx_model.specs.Report.{Line, line_bytes, report_bytes}
-use Rattle.rx_model.specs.Machine.{RunTo, StepTo, Does, silent}
+use Rattle.small_model.specs.Report.{Line, line_bytes, report_bytes}
+use Rattle.small_model.specs.Machine.{RunTo, StepTo, Does, silent}
 use Rattle.rx_top.specs.Outcome.{BeginsRun, WritesRun}
 
 -- the bytes of lines, one after another

@@ -3,14 +3,14 @@ use Rattle.std.specs.Prelude.{ℕ, map, ◌≡◌, ◌+◌, ◌<◌, ◌≤◌, 
 use Rattle.std.specs.Borrow.{Bor}
 use Rattle.std.specs.Io.KnownBytes.{Appends, Keeps, Consumes, IsAtEnd}
 use Rattle.rx_base.specs.Values.{Text}
-use Rattle.rx_model.specs.declared.script.Step.{Step}
-use Rattle.rx_model.specs.Syntax.{Program}
-use Rattle.rx_model.specs.Accepted.{IsSmallProgram}
-use Rattle.rx_model.specs.Lines.{steps_of}
-use Rattle.rx_model.specs.Input.{input_of}
-use Rattle.rx_model.specs.State.{State}
-use Rattle.rx_model.specs.Report.{Line, report_bytes}
-use Rattle.rx_model.specs.Machine.{RunTo, Reports}
+use Rattle.small_model.specs.declared.script.Step.{Step}
+use Rattle.small_model.specs.Syntax.{Program}
+use Rattle.small_model.specs.Accepted.{IsSmallProgram}
+use Rattle.small_model.specs.Lines.{steps_of}
+use Rattle.small_model.specs.Input.{input_of}
+use Rattle.small_model.specs.State.{State}
+use Rattle.small_model.specs.Report.{Line, report_bytes}
+use Rattle.small_model.specs.Machine.{RunTo, Reports}
 use Rattle.rx_top.specs.declared.status.Status.{Status}
 use Rattle.rx_top.specs.declared.status.Status.TheVariants.{Done, Usage, ReadFault, WriteFault, TooLong, ProgramRefused, ScriptRefused, OutOfMemory}
 

@@ -3,7 +3,7 @@ ghost use Rattle.std.specs.Prelude.{◌≡◌, ◌+◌, ◌*◌, ◌<◌, ◌≤
 ghost use Rattle.std.specs.Io.KnownBytes.{Appends, Keeps};
 ghost use Rattle.rx_io.specs.Causes.{Rose};
 ghost use Rattle.rx_io.specs.Whole.{AppendsPrefix};
-ghost use Rattle.rx_model.specs.Machine.{Reports};
+ghost use Rattle.small_model.specs.Machine.{Reports};
 ghost use Rattle.rx_top.specs.declared.status.Status.{Status};
 ghost use Rattle.rx_top.specs.Outcome.{program_line, script_line, IsDueFor, IsOutput, IsSomeOutput, Gives, IsAnswer, Writes, WritesPart, WritesSome};
 
@@ -12,10 +12,10 @@ use crate::status::Status;
 use itoa::Buffer;
 use rx_base::Steps;
 use rx_io::{Sink, write_all};
-use rx_model::{Program, Step};
-use rx_parse::{ProgramError, read_program};
-use rx_root::Root;
-use rx_script::{ScriptError, read_script, split_input};
+use small_model::{Program, Step};
+use small_parse::{ProgramError, read_program};
+use small_root::Root;
+use small_script::{ScriptError, read_script, split_input};
 use std::alloc::{AllocError, Global};
 use std::sync::ledger::Ledger;
 

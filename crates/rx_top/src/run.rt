@@ -1,13 +1,13 @@
 // Running the steps of a script, each step's lines written at once.
 ghost use Rattle.std.specs.Prelude.{◌≡◌, ◌+◌, ◌*◌, ◌<◌, ◌≤◌, ◌^◌, length, OnOk, OnErr, IsErrOf};
 ghost use Rattle.rx_io.specs.Causes.{Rose};
-ghost use Rattle.rx_model.specs.Kept.{IsKept};
+ghost use Rattle.small_model.specs.Kept.{IsKept};
 ghost use Rattle.rx_top.specs.Outcome.{BeginsRun, WritesRun};
 
 use rx_base::Steps;
 use rx_io::{Failed, Sink, write_all};
-use rx_model::{Step, goes_on};
-use rx_root::Root;
+use small_model::{Step, goes_on};
+use small_root::Root;
 use std::alloc::{AllocError, Global};
 use std::sync::ledger::Ledger;
 

@@ -1,7 +1,7 @@
 use Rattle.std.proofs.Common.{rules, ◌≡◌, ◌<◌, Err, Ok, inr, length}
-use Rattle.rx_model.specs.Lines.{steps_of}
-use Rattle.rx_model.specs.Input.{input_of}
-use Rattle.rx_model.specs.Syntax.{Program}
+use Rattle.small_model.specs.Lines.{steps_of}
+use Rattle.small_model.specs.Input.{input_of}
+use Rattle.small_model.specs.Syntax.{Program}
 use Rattle.rx_top.specs.declared.status.Status.TheVariants.{Done, ProgramRefused, ScriptRefused}
 use Rattle.rx_top.specs.Outcome.{IsRefused, IsAccepted, RefusesScript}
 use Rattle.rx_top.proofs.Reports.{IsOnly, answer-is, due-done, due-program, due-script, output-done, output-part, refused-done, refused-part, bad-done, bad-part, some_components}

@@ -1,0 +1,10 @@
+use Rattle.std.proofs.Common.{◌≡◌, drop}
+use Rattle.small_model.specs.Journal.{hook, is_included}
+use Rattle.small_eval.proofs.JournalLaws.{folded, is_of}
+use Rattle.small_eval.proofs.journal.Journal.state.Given as goal
+
+-- the updates that are left give the same on top of the value so far as all on top of the initial value
+abbrev pub invariant-loop-update : goal.invariant-loop-update
+invariant-loop-update l =
+    folded (is_included l.lanes) (is_of (hook l.instance l.hook)) l.value (drop l.update-index l.update-items)
+    ≡ folded (is_included l.lanes) (is_of (hook l.instance l.hook)) l.fn.initial l.update-items
