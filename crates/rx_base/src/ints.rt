@@ -1,10 +1,10 @@
 // A list of integers.
 ghost use Rattle.std.specs.Prelude.{◌≡◌};
 
-use rx_base::Int;
+use crate::int::Int;
 use std::marker::Model;
 
-/// A list of integers: the values of a component's hooks. Contracts see it as that list.
+/// A list of integers: the values of a component's hooks, or of an effect's dependencies. Contracts see it as that list.
 #[derive(Drop, Debug)]
 pub struct Ints {
     values: Vec<Int>,
