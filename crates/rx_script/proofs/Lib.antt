@@ -1,4 +1,5 @@
 pub mod Cuts
+pub mod Distinct
 pub mod Forms
 pub mod Paths
 pub mod Scripts

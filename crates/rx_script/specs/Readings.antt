@@ -1,9 +1,10 @@
 -- What the reader of lines holds of the numbers in them.
-use Rattle.std.specs.Prelude.{◌≡◌, ℕ, Bool, true, false, unwrap_or, option_map, if◌then◌else◌, ◌&&◌, nat_le, ◌^◌, ◌-◌, min, ℤ, pos, negsuc, List, [], ◌∷◌, map, Option, Some, None, option_and_then, Result, Err}
+use Rattle.std.specs.Prelude.{◌≡◌, ℕ, Bool, true, false, unwrap_or, option_map, is_some, if◌then◌else◌, ◌&&◌, nat_le, ◌^◌, ◌-◌, min, ℤ, pos, negsuc, List, [], ◌∷◌, map, Option, Some, None, option_and_then, Result, Err}
 use Rattle.std.specs.Int.{w32}
 use Rattle.std.specs.Borrow.{Bor}
 use Rattle.rx_base.specs.Values.{wrap, Name, Text}
 use Rattle.rx_ast.specs.Syntax.{Component, Program}
+use Rattle.rx_check.specs.Names.{StateHook}
 use Rattle.rx_script.specs.declared.step.Dispatch.{Dispatch}
 use Rattle.rx_script.specs.declared.step.Dispatch.TheVariants.{Set, Call, Send}
 use Rattle.rx_script.specs.declared.step.Step.{Step}
@@ -171,3 +172,12 @@ same_target (Some c) wanted = wanted ≡ Some c.now
 abbrev pub ends_at_hook : Program → Path → Name → Bool → Bool
 ends_at_hook p path name reducer =
     unwrap_or (option_map (λ c. if reducer then is_reducer_hook c name else is_state_hook c name) (target_of p path)) false
+
+-- the name of a hook, and whether it is one of a reducer
+abbrev pub shown : StateHook → Name × Bool
+shown h = (h.name, is_some h.reducer)
+
+-- the name and the kind are those of the hook that is looked for, or there is none
+abbrev pub same_hook : Option (Bor Name × Bool) → Option StateHook → Type 0
+same_hook None wanted = wanted ≡ None
+same_hook (Some h) wanted = option_map shown wanted ≡ Some (h.0.now, h.1)

@@ -87,10 +87,11 @@ pub fn read_script(alloc: Global, program: &Program, text: &[u8]) -> Result<Vec<
     let mut number: u64 = 1;
     'lines: while !rest.is_empty() {
         let (line, after) = first_line(rest);
-        match read_line(alloc, program, line) {
-            Ok(found) => push_found(&mut steps, found)?,
+        let found = match read_line(alloc, program, line) {
+            Ok(found) => found,
             Err(error) => return Err(error_at(number, error)),
-        }
+        };
+        push_found(&mut steps, found)?;
         rest = after;
         number += 1;
     }

@@ -1,11 +1,11 @@
 // What the steps of a script name.
 ghost use Rattle.std.specs.Prelude.{◌≡◌, option_map, is_some};
-ghost use Rattle.rx_check.specs.Names.{component_named, function_named, has_name, resources, resources_of};
+ghost use Rattle.rx_check.specs.Names.{component_named, function_named, has_name, hook_in, resources, resources_of};
 ghost use Rattle.rx_script.specs.Lines.{has_targets as are_targets_there, hook_named, is_updater as is_one_of_two, target_from, target_of};
-ghost use Rattle.rx_script.specs.Readings.{ends_at_hook, same_target};
+ghost use Rattle.rx_script.specs.Readings.{ends_at_hook, same_hook, same_target};
 
 use crate::step::{Dispatch, Path, Step};
-use rx_ast::{Component, DeclarationKind, Program, StatementKind};
+use rx_ast::{Component, DeclarationKind, Program, Statement, StatementKind};
 use rx_base::Name;
 
 /// The component with this name.
@@ -36,23 +36,26 @@ fn is_updater(program: &Program, name: &Name) -> bool
     false
 }
 
+/// The name of a statement's hook that keeps a state, and whether it is one of a reducer.
+fn hook_of(statement: &Statement) -> Option<(&Name, bool)>
+    ensures { same_hook result (hook_in statement.now) }
+{
+    match &statement.kind {
+        StatementKind::State { name, .. } => Some((name, false)),
+        StatementKind::Reducer { name, .. } => Some((name, true)),
+        _ => None,
+    }
+}
+
 /// Of the hook with this name, whether it is one of a reducer.
 fn is_reducer(component: &Component, name: &Name) -> Option<bool>
     ensures { result ≡ option_map (λ h. is_some h.reducer) (hook_named component.now name.now) }
 {
     for statement in component.statements() {
-        match &statement.kind {
-            StatementKind::State { name: hook, .. } => {
-                if hook.text() == name.text() {
-                    return Some(false);
-                }
+        if let Some((hook, reducer)) = hook_of(statement) {
+            if hook.text() == name.text() {
+                return Some(reducer);
             }
-            StatementKind::Reducer { name: hook, .. } => {
-                if hook.text() == name.text() {
-                    return Some(true);
-                }
-            }
-            _ => {}
         }
     }
     None
@@ -110,7 +113,7 @@ fn reads(component: &Component, name: &Name) -> bool
 {
     for statement in component.statements() {
         if let StatementKind::Resource { resource, .. } = &statement.kind {
-            if resource.text() == name.text() {
+            if name.text() == resource.text() {
                 return true;
             }
         }

@@ -2,7 +2,7 @@ use Rattle.std.proofs.Common.{arith, rules, ◌≡◌, ◌+◌, ◌∙◌, List,
 use Rattle.rx_script.specs.declared.step.Step.{Step}
 use Rattle.rx_script.specs.Words.{lines_of}
 use Rattle.rx_script.specs.Lines.{line_of, steps_from}
-use Rattle.rx_script.specs.Readings.{good_if}
+use Rattle.rx_script.specs.Readings.{IsFault, good_if}
 use Rattle.rx_script.proofs.Scripts.{steps-start, next-found, prepend, refused-at}
 use Rattle.rx_script.proofs.script.read_script.Goals as goal
 
@@ -14,4 +14,12 @@ lines-init c = record {
 }
 
 pub lines-preserved : goal.lines-preserved
-lines-preserved c = ?
+lines-preserved c =
+    let is : line_of c.args.program.now c.first_line.result.0.now ≡ good_if c.in-Ok.found = search rules in
+    record {
+      so_far = c.lines.invariant.so_far
+          ∙ next-found c.args.program.now c.lines.number c.lines.rest.now c.first_line.result.0.now c.first_line.result.1.now c.lines.steps.items c.in-Ok.found c.first_line.ensures.lines is
+          ∙ ap (λ (l : List Step). prepend l (steps_from c.args.program.now (c.lines.number + 1) (lines_of c.first_line.result.1.now))) (sym c.in_ok-push_found.ensures.ok);
+      few = omega (arith, c.lines.invariant.few, c.first_line.ensures.shorter);
+      steps_few = omega (arith, c.lines.invariant.steps_few, c.first_line.ensures.shorter, c.in_ok-push_found.ensures.few);
+    }
