@@ -1,0 +1,4 @@
+pub mod Accepting
+pub mod Among
+pub mod Limited
+pub mod Distinct
