@@ -1,5 +1,4 @@
 pub mod Cuts
-pub mod Distinct
 pub mod Forms
 pub mod Paths
 pub mod Scripts

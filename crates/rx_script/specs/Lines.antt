@@ -1,9 +1,14 @@
 -- Which lines of a script are steps of a program, and why a line is bad.
-use Rattle.std.specs.Prelude.{ℕ, ◌+◌, ◌^◌, Bool, true, false, ◌&&◌, ◌==◌, nat_le, nat_lt, List, [], ◌∷◌, ℤ, pos, negsuc, Option, Some, None, is_some, is_none, Result, Ok, Err, codes, bytes_eq, find, length, option_map, option_and_then, unwrap_or, if◌then◌else◌}
+use Rattle.std.specs.Prelude.{ℕ, ◌+◌, ◌^◌, Bool, true, false, ◌&&◌, ◌==◌, nat_le, nat_lt, List, [], ◌∷◌, ℤ, pos, negsuc, Option, Some, None, is_some, Result, Ok, Err, codes, bytes_eq, position, option_map, option_and_then, if◌then◌else◌}
 use Rattle.std.specs.List.{list_all, slice_split}
+use Rattle.std.specs.Option.{option_map_or}
 use Rattle.rx_base.specs.Values.{Text, Name}
-use Rattle.rx_ast.specs.Syntax.{Component, Function, Program}
-use Rattle.rx_check.specs.Names.{StateHook, component_named, function_named, has_name, hooks_of, resources, root_name}
+use Rattle.rx_ast.specs.Syntax.{Program}
+use Rattle.rx_check.specs.Names.{component_names, resources, root_name}
+use Rattle.rx_check.specs.Checks.{function_names}
+use Rattle.rx_check.specs.Tables.{hook_named, parameter_count}
+use Rattle.rx_check.specs.declared.hook.HookKind.{HookKind}
+use Rattle.rx_check.specs.declared.hook.HookKind.TheVariants as kind
 use Rattle.rx_script.specs.declared.step.LaneWord.{LaneWord}
 use Rattle.rx_script.specs.declared.step.LaneWord.TheVariants.{Sync, Input, Default, Transition}
 use Rattle.rx_script.specs.declared.step.Dispatch.{Dispatch}
@@ -105,47 +110,43 @@ form_of (w ∷ a ∷ b ∷ c ∷ d ∷ e ∷ f ∷ more) = None
 
 -- Targets
 
--- the component that a path ends at, if each of its names is one of a component
-abbrev pub target_from : Program → Component → Path → Option Component
+-- the component that a path ends at, by its number, if each of its names is one of a component
+abbrev pub target_from : Program → ℕ → Path → Option ℕ
 target_from p c [] = Some c
-target_from p c ((name, k) ∷ path) = option_and_then (λ d. target_from p d path) (component_named p name)
+target_from p c ((name, k) ∷ path) = option_and_then (λ d. target_from p d path) (position (bytes_eq name) (component_names p))
 
 -- the component that a path ends at; it begins with the root
-abbrev pub target_of : Program → Path → Option Component
+abbrev pub target_of : Program → Path → Option ℕ
 target_of p [] = None
 target_of p ((name, k) ∷ path) =
-    if bytes_eq name root_name then option_and_then (λ c. target_from p c path) (component_named p name) else None
+    if bytes_eq name root_name then option_and_then (λ c. target_from p c path) (position (bytes_eq name) (component_names p)) else None
 
--- the hook of a component with this name
-abbrev pub hook_named : Component → Name → Option StateHook
-hook_named c name = find (λ h. bytes_eq h.name name) (hooks_of c)
+-- the hook of this name in the component that a path ends at
+abbrev pub hook_at : Program → Path → Name → Option HookKind
+hook_at p path name = option_and_then (λ c. hook_named p c name) (target_of p path)
 
--- the name is one of a hook of useState
-abbrev pub is_state_hook : Component → Name → Bool
-is_state_hook c name = unwrap_or (option_map (λ h. is_none h.reducer) (hook_named c name)) false
+-- there is a hook, and it is one of useState
+abbrev pub is_state : Option HookKind → Bool
+is_state None = false
+is_state (Some (kind.State n)) = true
+is_state (Some (kind.Reducer n f)) = false
 
--- the name is one of a hook of useReducer
-abbrev pub is_reducer_hook : Component → Name → Bool
-is_reducer_hook c name = unwrap_or (option_map (λ h. is_some h.reducer) (hook_named c name)) false
-
--- a function of a state and an argument
-abbrev pub takes_two : Function → Bool
-takes_two f = length f.parameters == 2
+-- there is a hook, and it is one of useReducer
+abbrev pub is_reducer : Option HookKind → Bool
+is_reducer None = false
+is_reducer (Some (kind.State n)) = false
+is_reducer (Some (kind.Reducer n f)) = true
 
 -- the name is one of a function of a state and an argument
 abbrev pub is_updater : Program → Name → Bool
-is_updater p f = unwrap_or (option_map takes_two (function_named p f)) false
-
--- the hook of a dispatch is one of this component, and its function is there
-abbrev pub suits : Program → Dispatch → Component → Bool
-suits p (Set lane path name x) c = is_state_hook c name
-suits p (Call lane path name f x) c = is_state_hook c name && is_updater p f
-suits p (Send lane path name x) c = is_reducer_hook c name
+is_updater p name = option_map_or (λ f. parameter_count p f == 2) (position (bytes_eq name) (function_names p)) false
 
 -- all that a step names is there
 abbrev pub has_targets : Program → Step → Bool
-has_targets p (step.Dispatch d) = unwrap_or (option_map (suits p d) (target_of p (path_in d))) false
-has_targets p (step.Resolve name x) = has_name (resources p) name
+has_targets p (step.Dispatch (Set lane path name x)) = is_state (hook_at p path name)
+has_targets p (step.Dispatch (Call lane path name f x)) = is_state (hook_at p path name) && is_updater p f
+has_targets p (step.Dispatch (Send lane path name x)) = is_reducer (hook_at p path name)
+has_targets p (step.Resolve name x) = is_some (position (bytes_eq name) (resources p))
 has_targets p (step.Tick n) = true
 has_targets p (step.Work n) = true
 has_targets p step.Flush = true

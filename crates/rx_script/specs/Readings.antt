@@ -1,10 +1,7 @@
 -- What the reader of lines holds of the numbers in them.
-use Rattle.std.specs.Prelude.{◌≡◌, ℕ, Bool, true, false, unwrap_or, option_map, is_some, if◌then◌else◌, ◌&&◌, nat_le, ◌^◌, ◌-◌, min, ℤ, pos, negsuc, List, [], ◌∷◌, map, Option, Some, None, option_and_then, Result, Err}
+use Rattle.std.specs.Prelude.{◌≡◌, ℕ, Bool, true, option_map, ◌&&◌, nat_le, ◌^◌, ◌-◌, min, ℤ, pos, negsuc, List, [], ◌∷◌, map, Option, Some, None, option_and_then, Result, Err}
 use Rattle.std.specs.Int.{w32}
-use Rattle.std.specs.Borrow.{Bor}
 use Rattle.rx_base.specs.Values.{wrap, Name, Text}
-use Rattle.rx_ast.specs.Syntax.{Component, Program}
-use Rattle.rx_check.specs.Names.{StateHook}
 use Rattle.rx_script.specs.declared.step.Dispatch.{Dispatch}
 use Rattle.rx_script.specs.declared.step.Dispatch.TheVariants.{Set, Call, Send}
 use Rattle.rx_script.specs.declared.step.Step.{Step}
@@ -18,7 +15,7 @@ use Rattle.rx_script.specs.declared.line.LineError.{LineError}
 use Rattle.rx_script.specs.declared.line.LineError.TheVariants as line
 use Rattle.rx_script.specs.Steps.{Path, path_of}
 use Rattle.rx_script.specs.Words.{lower_of, natural_of, opposite}
-use Rattle.rx_script.specs.Lines.{◌◂◌, lane_of, path_of as written_path, is_reducer_hook, is_state_hook, target_of, operand, fits_width, path_in_bounds, step_limit, Fault, bad_line, unknown_target, out_of_range, Line, silent, good, bad, BadStep}
+use Rattle.rx_script.specs.Lines.{◌◂◌, lane_of, path_of as written_path, operand, fits_width, path_in_bounds, step_limit, Fault, bad_line, unknown_target, out_of_range, Line, silent, good, bad, BadStep}
 
 -- numbers that are read are held here, above every bound of a script
 abbrev pub held_at : ℕ
@@ -162,22 +159,3 @@ IsErrorAt n line.BadLine e = e ≡ BadLine n
 IsErrorAt n line.UnknownTarget e = e ≡ UnknownTarget n
 IsErrorAt n line.OutOfRange e = e ≡ OutOfRange n
 IsErrorAt n line.OutOfMemory e = e ≡ OutOfMemory
-
--- a component is the one that is looked for, or there is none
-abbrev pub same_target : Option (Bor Component) → Option Component → Type 0
-same_target None wanted = wanted ≡ None
-same_target (Some c) wanted = wanted ≡ Some c.now
-
--- the last component of a path has a hook with this name, one of a reducer or not
-abbrev pub ends_at_hook : Program → Path → Name → Bool → Bool
-ends_at_hook p path name reducer =
-    unwrap_or (option_map (λ c. if reducer then is_reducer_hook c name else is_state_hook c name) (target_of p path)) false
-
--- the name of a hook, and whether it is one of a reducer
-abbrev pub shown : StateHook → Name × Bool
-shown h = (h.name, is_some h.reducer)
-
--- the name and the kind are those of the hook that is looked for, or there is none
-abbrev pub same_hook : Option (Bor Name × Bool) → Option StateHook → Type 0
-same_hook None wanted = wanted ≡ None
-same_hook (Some h) wanted = option_map shown wanted ≡ Some (h.0.now, h.1)

@@ -7,7 +7,7 @@ use crate::form::{is_in_bounds, read_form};
 use crate::step::Step;
 use crate::targets::has_targets;
 use crate::words::words;
-use rx_ast::Program;
+use rx_check::Checked;
 use std::alloc::{AllocError, Global};
 
 /// Why a line is no step.
@@ -42,10 +42,10 @@ fn is_comment(line: &[u8]) -> bool
 /// The step that a line is, if it is one: a line without words and a comment are none.
 pub(crate) fn read_line(
     alloc: Global,
-    program: &Program,
+    checked: &Checked,
     line: &[u8],
 ) -> Result<Option<Step>, LineError>
-    ensures { MatchResult result (λ s. line_of program.now line.now ≡ good_if s) (λ e. IsFault e (line_of program.now line.now)) }
+    ensures { MatchResult result (λ s. line_of checked.now line.now ≡ good_if s) (λ e. IsFault e (line_of checked.now line.now)) }
 {
     if is_comment(line) {
         return Ok(None);
@@ -57,7 +57,7 @@ pub(crate) fn read_line(
     let Some(form) = read_form(alloc, &words)? else {
         return Err(LineError::BadLine);
     };
-    if !has_targets(program, &form.step) {
+    if !has_targets(checked, &form.step) {
         return Err(LineError::UnknownTarget);
     }
     if !is_in_bounds(&form) {

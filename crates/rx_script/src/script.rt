@@ -7,7 +7,7 @@ ghost use Rattle.rx_script.specs.Readings.{IsErrorAt, Refuses, found_steps};
 use crate::input::{first_piece, without_return};
 use crate::line::{LineError, read_line};
 use crate::step::Step;
-use rx_ast::Program;
+use rx_check::Checked;
 use std::alloc::{AllocFailed, Global};
 
 /// Why a script has no steps: the first line that is bad, counted from 1.
@@ -77,9 +77,9 @@ fn error_at(line: u64, error: LineError) -> ScriptError
 ///
 /// Exactly where some other line is no step of the program, the first such line, counted from 1, and why it is none:
 /// `BadLine` before `UnknownTarget` before `OutOfRange`; and want of memory.
-pub fn read_script(alloc: Global, program: &Program, text: &[u8]) -> Result<Vec<Step>, ScriptError>
+pub fn read_script(alloc: Global, checked: &Checked, text: &[u8]) -> Result<Vec<Step>, ScriptError>
     requires { length text.now < 2 ^ 32 }
-    ensures read { MatchResult result (λ steps. steps_of program.now text.now ≡ Ok steps.items) (λ e. Refuses e (steps_of program.now text.now)) }
+    ensures read { MatchResult result (λ steps. steps_of checked.now text.now ≡ Ok steps.items) (λ e. Refuses e (steps_of checked.now text.now)) }
     ensures few { IfOk result (λ steps. length steps.items < 2 ^ 32) }
 {
     let mut steps = Vec::new(alloc);
@@ -87,7 +87,7 @@ pub fn read_script(alloc: Global, program: &Program, text: &[u8]) -> Result<Vec<
     let mut number: u64 = 1;
     'lines: while !rest.is_empty() {
         let (line, after) = first_line(rest);
-        let found = match read_line(alloc, program, line) {
+        let found = match read_line(alloc, checked, line) {
             Ok(found) => found,
             Err(error) => return Err(error_at(number, error)),
         };

@@ -3,4 +3,4 @@ use Rattle.rx_script.specs.Lines.{target_from}
 use Rattle.rx_script.proofs.targets.target_behind.Given as goal
 
 abbrev pub invariant-parts : goal.invariant-parts
-invariant-parts l = target_from l.program l.root l.parts ≡ target_from l.program l.component (drop l.part-index l.parts)
+invariant-parts l = target_from l.checked l.root l.parts ≡ target_from l.checked l.component (drop l.part-index l.parts)
