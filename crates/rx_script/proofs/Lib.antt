@@ -1,4 +1,6 @@
+pub mod Bounds
 pub mod Cuts
+pub mod Formed
 pub mod Forms
 pub mod Paths
 pub mod Scripts

@@ -1,6 +1,6 @@
 // What a line of a script is.
-ghost use Rattle.std.specs.Prelude.{◌≡◌, MatchResult};
-ghost use Rattle.rx_script.specs.Lines.{is_comment as is_comment_line, line_of};
+ghost use Rattle.std.specs.Prelude.{◌≡◌, map, MatchResult};
+ghost use Rattle.rx_script.specs.Lines.{is_comment as is_comment_line, line_of, meant};
 ghost use Rattle.rx_script.specs.Readings.{IsFault, good_if};
 
 use crate::form::{is_in_bounds, read_form};
@@ -39,6 +39,29 @@ fn is_comment(line: &[u8]) -> bool
     }
 }
 
+/// The step that the words of a line are, if it has words.
+fn read_words(
+    alloc: Global,
+    checked: &Checked,
+    words: &[&[u8]],
+) -> Result<Option<Step>, LineError>
+    ensures { MatchResult result (λ s. meant checked.now (map (λ w. w.now) words.now) ≡ good_if s) (λ e. IsFault e (meant checked.now (map (λ w. w.now) words.now))) }
+{
+    if words.is_empty() {
+        return Ok(None);
+    }
+    let Some(form) = read_form(alloc, words)? else {
+        return Err(LineError::BadLine);
+    };
+    if !has_targets(checked, &form.step) {
+        return Err(LineError::UnknownTarget);
+    }
+    if !is_in_bounds(&form) {
+        return Err(LineError::OutOfRange);
+    }
+    Ok(Some(form.step))
+}
+
 /// The step that a line is, if it is one: a line without words and a comment are none.
 pub(crate) fn read_line(
     alloc: Global,
@@ -51,17 +74,5 @@ pub(crate) fn read_line(
         return Ok(None);
     }
     let words = words(alloc, line)?;
-    if words.is_empty() {
-        return Ok(None);
-    }
-    let Some(form) = read_form(alloc, &words)? else {
-        return Err(LineError::BadLine);
-    };
-    if !has_targets(checked, &form.step) {
-        return Err(LineError::UnknownTarget);
-    }
-    if !is_in_bounds(&form) {
-        return Err(LineError::OutOfRange);
-    }
-    Ok(Some(form.step))
+    read_words(alloc, checked, &words)
 }
