@@ -1,13 +1,12 @@
 -- Numbers that are held are in bounds where the numbers are, and are the numbers there.
-use Rattle.std.proofs.Common.{◌≡◌, ◌∙◌, sym, ap, ℕ, zero, suc, ◌<◌, ◌≤◌, ◌^◌, ◌-◌, ◌+◌, min, ℤ, pos, negsuc, Bool, true, false, ◌&&◌, nat_lt, nat_le, List, [], ◌∷◌, map, refl, arith, rules, tests}
+use Rattle.std.proofs.Common.{◌≡◌, ℕ, ◌<◌, ◌≤◌, ◌^◌, ◌-◌, min, ℤ, pos, negsuc, Bool, true, false, ◌&&◌, nat_le, [], ◌∷◌, refl, arith, rules}
 use Rattle.std.specs.Int.{w32}
-use Rattle.std.specs.List.{list_all}
 use Rattle.std.proofs.lemmas.Bool.Decides.{nat_tests}
 use Rattle.std.proofs.lemmas.Int.{ints}
-use Rattle.rx_base.specs.Values.{wrap, Name}
+use Rattle.rx_base.specs.Values.{wrap}
 use Rattle.rx_script.specs.Steps.{Path}
 use Rattle.rx_script.specs.Lines.{fits_width, path_in_bounds, instance_limit, step_limit}
-use Rattle.rx_script.specs.Readings.{held, held_at, held_integer, held_value, held_part, held_path}
+use Rattle.rx_script.specs.Readings.{held, held_at, held_integer, held_value, held_path}
 
 pub fits-held : (x : ℤ) → fits_width (held_integer x) ≡ fits_width x
 fits-held (pos n) = grind (arith, nat_tests)

@@ -1,5 +1,5 @@
 -- What is read of the words of a line is the reading of its form.
-use Rattle.std.proofs.Common.{◌≡◌, ◌∙◌, sym, ap, ℕ, ◌≤◌, ◌<◌, ℤ, Bool, true, false, cond, List, [], ◌∷◌, length, map, get_or, Option, Some, None, option_map, refl, arith, bytes_eq, codes}
+use Rattle.std.proofs.Common.{◌≡◌, ◌∙◌, sym, ap, ◌≤◌, ◌<◌, ℤ, Bool, true, false, cond, List, [], ◌∷◌, length, map, get_or, Option, Some, None, option_map, refl, arith, bytes_eq, codes}
 use Rattle.std.specs.Borrow.{Bor}
 use Rattle.rx_base.specs.Values.{Name, Text}
 use Rattle.rx_script.specs.declared.step.LaneWord.{LaneWord}

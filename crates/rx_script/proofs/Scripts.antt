@@ -11,7 +11,7 @@ use Rattle.rx_script.specs.declared.line.LineError.{LineError}
 use Rattle.rx_script.specs.declared.line.LineError.TheVariants as line_error
 use Rattle.rx_script.specs.Input.{is_line_end}
 use Rattle.rx_script.specs.Words.{lines_of, whole_lines}
-use Rattle.rx_script.specs.Lines.{BadStep, Fault, line_of, with_line, steps_from, steps_of, silent, bad, good, bad_line, unknown_target, out_of_range}
+use Rattle.rx_script.specs.Lines.{BadStep, Fault, line_of, with_line, steps_from, steps_of, bad, good, bad_line, unknown_target, out_of_range}
 use Rattle.rx_script.specs.Pieces.{IsCut}
 use Rattle.rx_script.specs.Readings.{IsErrorAt, IsFault, Refuses, good_if, found_steps}
 

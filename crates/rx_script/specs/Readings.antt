@@ -15,7 +15,7 @@ use Rattle.rx_script.specs.declared.line.LineError.{LineError}
 use Rattle.rx_script.specs.declared.line.LineError.TheVariants as line
 use Rattle.rx_script.specs.Steps.{Path, path_of}
 use Rattle.rx_script.specs.Words.{lower_of, natural_of, opposite}
-use Rattle.rx_script.specs.Lines.{◌◂◌, lane_of, path_of as written_path, operand, fits_width, path_in_bounds, step_limit, Fault, bad_line, unknown_target, out_of_range, Line, silent, good, bad, BadStep}
+use Rattle.rx_script.specs.Lines.{◌◂◌, lane_of, path_of as written_path, operand, fits_width, path_in_bounds, step_limit, bad_line, unknown_target, out_of_range, Line, silent, good, bad, BadStep}
 
 -- numbers that are read are held here, above every bound of a script
 abbrev pub held_at : ℕ

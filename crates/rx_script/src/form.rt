@@ -161,9 +161,7 @@ fn call_dispatch(word: &[u8], place: Place, function: Name, value: Int) -> Optio
     ensures { option_map Step.Dispatch result ≡ call_at_place (call_form word.now) place function value }
 {
     if word == b"call".as_slice() {
-        Some(Dispatch::Call(
-            place.lane, place.path, place.hook, function, value,
-        ))
+        Some(Dispatch::Call(place.lane, place.path, place.hook, function, value))
     } else {
         None
     }

@@ -40,11 +40,7 @@ fn is_comment(line: &[u8]) -> bool
 }
 
 /// The step that the words of a line are, if it has words.
-fn read_words(
-    alloc: Global,
-    checked: &Checked,
-    words: &[&[u8]],
-) -> Result<Option<Step>, LineError>
+fn read_words(alloc: Global, checked: &Checked, words: &[&[u8]]) -> Result<Option<Step>, LineError>
     ensures { MatchResult result (λ s. meant checked.now (map (λ w. w.now) words.now) ≡ good_if s) (λ e. IsFault e (meant checked.now (map (λ w. w.now) words.now))) }
 {
     if words.is_empty() {

@@ -1,4 +1,3 @@
-use Rattle.std.proofs.Common.{arith, rules}
 use Rattle.rx_script.proofs.Forms.{four-words, five-words, six-words, more-words}
 use Rattle.rx_script.proofs.form.read_form.Goals as goal
 

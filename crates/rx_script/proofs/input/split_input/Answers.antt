@@ -1,4 +1,4 @@
-use Rattle.std.proofs.Common.{arith, rules, length-append, length, ◌≤◌, ◌+◌, ap, ◌≡◌, ◌∷◌}
+use Rattle.std.proofs.Common.{arith, rules, length-append, length, ap, ◌∷◌}
 use Rattle.rx_script.proofs.Cuts.{behind-line, mark-program, mark-script, last_mark-program, last_mark-script, last-program, last-script}
 use Rattle.rx_script.specs.Pieces.{IsCut, IsLast}
 use Rattle.rx_script.proofs.input.split_input.Goals as goal

@@ -1,8 +1,8 @@
-use Rattle.std.proofs.Common.{rules, ◌≡◌, ◌<◌, true, false, length, Some, None, Option, option_map}
+use Rattle.std.proofs.Common.{rules, ◌≡◌, ◌<◌, true, false, length, Some, Option, option_map}
 use Rattle.rx_script.specs.declared.form.Form.{Form}
 use Rattle.rx_script.specs.Lines.{form_of, has_targets}
 use Rattle.rx_script.specs.Readings.{reading, form_in_bounds}
-use Rattle.rx_script.proofs.Formed.{some-length, texts, words-no_form, words-no_target, words-out, words-step}
+use Rattle.rx_script.proofs.Formed.{some-length, texts, words-no_target, words-out, words-step}
 use Rattle.rx_script.proofs.line.read_words.Goals as goal
 
 pub returns-then-not-has_targets : goal.returns-then-not-has_targets

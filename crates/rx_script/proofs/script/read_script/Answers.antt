@@ -2,8 +2,8 @@ use Rattle.std.proofs.Common.{arith, rules, ◌≡◌, ◌+◌, ◌∙◌, List,
 use Rattle.rx_script.specs.declared.step.Step.{Step}
 use Rattle.rx_script.specs.Words.{lines_of}
 use Rattle.rx_script.specs.Lines.{line_of, steps_from}
-use Rattle.rx_script.specs.Readings.{IsFault, good_if}
-use Rattle.rx_script.proofs.Scripts.{steps-start, next-found, prepend, refused-at}
+use Rattle.rx_script.specs.Readings.{good_if}
+use Rattle.rx_script.proofs.Scripts.{steps-start, next-found, prepend}
 use Rattle.rx_script.proofs.script.read_script.Goals as goal
 
 pub lines-init : goal.lines-init
