@@ -1,5 +1,6 @@
 -- Each item of a list is no deeper than the list.
-use Rattle.std.proofs.Common.{◌≡◌, ℕ, zero, suc, ◌<◌, ◌≤◌, true, List, [], ◌∷◌, length, get_or, arith, refl, ap}
+use Rattle.std.proofs.Common.{◌≡◌, ℕ, zero, suc, ◌<◌, ◌≤◌, true, List, [], ◌∷◌, length, get_or, drop, ◌-◌, arith, refl, ap}
+use Rattle.std.proofs.Math.Seq.{drop-cons}
 use Rattle.rx_ast.specs.Syntax.{Expr, exprs, exprs_of, Slot, Slots, no_slots, slot, slots, slots_of}
 use Rattle.rx_ast.specs.Depth.{expr_depth, exprs_depth, links_depth, slot_depth, slots_depth}
 use Rattle.rx_check.specs.Mentions.{is_filled}
@@ -35,3 +36,13 @@ filled-true (s ∷ ss) h = refl
 pub slots_of-slots : (ss : Slots) → slots_of (slots ss) ≡ ss
 slots_of-slots no_slots = refl
 slots_of-slots (slot s ss) = ap (λ l. slot s l) (slots_of-slots ss)
+
+-- what is left of a list from one place before
+pub drop-before : {X : Type 0} (xs : List X) (i : ℕ) (d : X) → 0 < i → i ≤ length xs → drop (i - 1) xs ≡ get_or xs (i - 1) d ∷ drop i xs
+drop-before [] i d h k = absurd (omega (arith, h, k))
+drop-before (x ∷ xs) zero d h k = absurd (omega (arith, h))
+drop-before (x ∷ xs) (suc i) d h k = let e : suc i - 1 ≡ i = omega arith in rw e (go i (omega (arith, k)))
+  where
+    go : (j : ℕ) → j ≤ length xs → drop j (x ∷ xs) ≡ get_or (x ∷ xs) j d ∷ drop j xs
+    go zero l = refl
+    go (suc j) l = drop-cons xs j d (omega (arith, l))

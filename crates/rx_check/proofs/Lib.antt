@@ -3,3 +3,11 @@ pub mod Among
 pub mod Limited
 pub mod Distinct
 pub mod Depths
+pub mod Rounds
+pub mod Along
+pub mod Held
+pub mod Figured
+pub mod Alone
+pub mod Apart
+pub mod Bounded
+pub mod Same
