@@ -25,9 +25,6 @@ left ms ns h x i = h x (IsIn-left _ ms ns i)
 right : (ms ns : List Mention) → NoRepeat (ms ++ ns) → NoRepeat ns
 right ms ns h x i = h x (IsIn-right _ ms ns i)
 
-behind : (m : Mention) (ms : List Mention) → NoRepeat (m ∷ ms) → NoRepeat ms
-behind m ms h x i = h x (inr i)
-
 or-true : (a b : Bool) → (a || b) ≡ true → (a ≡ true) ⊎ (b ≡ true)
 or-true true b h = inl refl
 or-true false b h = inr h
@@ -72,12 +69,16 @@ key-again s (syntax.enclosed b t) h = key-again s t h
 -- one place more of a child list
 place-counts : (s : Scope) (second : Bool) (t : Slot) (n : ℕ) → NoRepeat (slot_mentions s second t) → cond (second || carries_key t) 1 0 + n ≤ 1
     → cond second 1 0 + (cond (carries_key t) 1 0 + n) ≤ 1
-place-counts s false t n h k = k
+place-counts s false t n h k = omega (arith, k)
 place-counts s true t n h k = go (carries_key t) refl
   where
     go : (b : Bool) → carries_key t ≡ b → 1 + (cond b 1 0 + n) ≤ 1
     go true e = absurd (h key_name (key-again s t e))
     go false e = omega (arith, k)
+
+-- no place before
+unzero : {A : Type 0} (n : ℕ) → (0 + n ≤ 1) × A → (n ≤ 1) × A
+unzero n r = (omega (arith, r.0), r.1)
 
 mutual
   slot-apart : (s : Scope) (second : Bool) (t : Slot) → NoRepeat (slot_mentions s second t) → SlotKeysApart t
@@ -86,20 +87,20 @@ mutual
   slot-apart s second (syntax.number_of e) h = tt
   slot-apart s second syntax.children h = tt
   slot-apart s second (syntax.repeated i e n t) h =
-      slot-apart (bound s i) false t (behind _ _ (right (expr_mentions s.values e) _ (behind _ _ h)))
+      slot-apart (bound s i) false t (λ x j. h x (inr (IsIn-right _ (expr_mentions s.values e) _ (inr j))))
   slot-apart s second (syntax.choice c a b) h =
       let r = right (expr_mentions s.values c) _ h in
       (slot-apart s second a (left _ (slot_mentions s second b) r), slot-apart s second b (right (slot_mentions s second a) _ r))
   slot-apart s second (syntax.host n attrs w ss) h =
-      let r = slots-apart s false ss (right (attributes_mentions s.values (taken_first second) attrs) _ (behind _ _ (behind _ _ h))) in (omega (arith, r.0), r.1)
+      unzero (keyed_places ss) (slots-apart s false ss (λ x i. h x (inr (inr (IsIn-right _ (attributes_mentions s.values (taken_first second) attrs) _ i)))))
   slot-apart s second (syntax.comp n attrs w ss) h =
-      let r = slots-apart s false ss (right (attributes_mentions s.values (taken_first second) attrs) _ (behind _ _ (behind _ _ h))) in (omega (arith, r.0), r.1)
+      unzero (keyed_places ss) (slots-apart s false ss (λ x i. h x (inr (inr (IsIn-right _ (attributes_mentions s.values (taken_first second) attrs) _ i)))))
   slot-apart s second (syntax.boundary k f w ss) h =
       let first = left (first_key_mentions s.values second k ++ (slot_mentions s false f ++ last_key_mentions s.values second k)) (slots_mentions s false ss) h in
-      let r = slots-apart s false ss (right (first_key_mentions s.values second k ++ (slot_mentions s false f ++ last_key_mentions s.values second k)) (slots_mentions s false ss) h) in
-      (slot-apart s false f (left _ (last_key_mentions s.values second k) (right (first_key_mentions s.values second k) _ first)), omega (arith, r.0), r.1)
+      let r = unzero (keyed_places ss) (slots-apart s false ss (right (first_key_mentions s.values second k ++ (slot_mentions s false f ++ last_key_mentions s.values second k)) (slots_mentions s false ss) h)) in
+      (slot-apart s false f (left _ (last_key_mentions s.values second k) (right (first_key_mentions s.values second k) _ first)), r.0, r.1)
   slot-apart s second (syntax.provider n k e w ss) h =
-      let r = slots-apart s false ss (right (first_key_mentions s.values second k ++ (expr_mentions s.values e ++ last_key_mentions s.values second k)) (slots_mentions s false ss) (behind _ _ h)) in (omega (arith, r.0), r.1)
+      unzero (keyed_places ss) (slots-apart s false ss (λ x i. h x (inr (IsIn-right _ (first_key_mentions s.values second k ++ (expr_mentions s.values e ++ last_key_mentions s.values second k)) _ i))))
   slot-apart s second (syntax.enclosed b t) h = slot-apart s second t h
 
   slots-apart : (s : Scope) (second : Bool) (ss : Slots) → NoRepeat (slots_mentions s second ss) → (cond second 1 0 + keyed_places ss ≤ 1) × SlotsKeysApart ss
@@ -108,7 +109,7 @@ mutual
   slots-apart s second (syntax.slot t ts) h =
       let one = left (slot_mentions s second t) _ h in
       let r = slots-apart s (second || carries_key t) ts (right (slot_mentions s second t) _ h) in
-      (place-counts s second t (keyed_places ts) one r.0, slot-apart s second t one, r.1)
+      (place-counts s second t (keyed_places ts) one r.0, (slot-apart s second t one, r.1))
 
 -- none is introduced again in a program that is accepted
 none-again : (p : Program) → IsAccepted p → NoRepeat (mentions p)
@@ -121,5 +122,5 @@ pub accepted-apart : (p : Program) → IsAccepted p → KeysApart p
 accepted-apart p a c d e =
     let s = fold after_statement (component_scope d) d.statements in
     let whole : NoRepeat (component_mentions d) = λ x i. none-again p a x (component-mentioned p c d _ e i) in
-    let r = slots-apart s false (body_slots d.body) (right (statements_mentions (component_scope d) d.statements) _ (right (parameters_mentions no_scope d.parameters) _ (behind _ _ (behind _ _ whole)))) in
-    (omega (arith, r.0), r.1)
+    unzero (keyed_places (body_slots d.body))
+      (slots-apart s false (body_slots d.body) (λ x i. whole x (inr (inr (IsIn-right _ (parameters_mentions no_scope d.parameters) _ (IsIn-right _ (statements_mentions (component_scope d) d.statements) _ i))))))

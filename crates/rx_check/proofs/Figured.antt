@@ -1,17 +1,18 @@
 -- What the figures of a body say of its nodes, levels and waits.
-use Rattle.std.proofs.Common.{◌≡◌, ◌+◌, ◌*◌, Bool, true, false, ◌&&◌, ◌||◌, List, [], ◌∷◌, refl, sym, ap, ◌∙◌, arith, zero-add}
-use Rattle.std.specs.Prelude.{ℕ, bytes_eq, filter}
+use Rattle.std.proofs.Common.{◌≡◌, ◌+◌, ◌*◌, Bool, true, false, ◌&&◌, ◌||◌, not, List, [], ◌∷◌, None, refl, sym, ap, ◌∙◌, arith, zero-add}
+use Rattle.std.specs.Prelude.{ℕ, bytes_eq, filter, cond, is_some}
 use Rattle.rx_base.specs.Values.{Name}
 use Rattle.rx_ast.specs.Syntax.{Program, Component}
-use Rattle.rx_check.specs.Names.{component_number, root_name}
+use Rattle.rx_check.specs.Names.{component_number, component_named, component_names, root_name}
 use Rattle.rx_check.specs.Bounds.{body_by, component_levels, Size, nodes, levels, Waits, may_wait, held, reads_resource, node_bound, depth_bound}
 use Rattle.rx_check.specs.Costs.{held_sum}
 use Rattle.rx_check.specs.Figures.{figures, counts_reads}
-use Rattle.rx_check.specs.Checks.{nesting_levels, root_waits_for}
+use Rattle.rx_check.specs.Checks.{nesting_levels, root_waits_for, outside_uses}
+use Rattle.rx_check.specs.Refusals.{first}
 use Rattle.rx_check.specs.declared.figures.Counted.{Counted}
 use Rattle.rx_check.specs.declared.figures.Counted.TheVariants as counted
 use Rattle.rx_check.specs.declared.figures.Figures.{Figures}
-use Rattle.rx_check.proofs.Held.{held-sum, held-sum_right, held-max, held-product, held-product_right}
+use Rattle.rx_check.proofs.HeldCounts.{held-sum, held-sum_right, held-max, held-product, held-product_right}
 use Rattle.rx_check.proofs.Along.{Along, body-along}
 
 -- Nodes
@@ -147,5 +148,19 @@ none-outside p ns h = none-waits p ns (λ n. go n (root_waits_for p n) refl)
     all = sym (waits-figured counted.All (nesting_levels p) p (component_number p root_name)) ∙ h
     go : (n : Name) (b : Bool) → root_waits_for p n ≡ b → b ≡ false
     go n true e =
-        let more = (body-along (may_wait (λ c. bytes_eq c.name n)) (may_wait (λ c. true)) IsLess (are-less (λ c. bytes_eq c.name n)) (nesting_levels p) p (component_number p root_name)).0 e in cc
+        let more = (body-along (may_wait (λ c. bytes_eq c.name n)) (may_wait (λ c. true)) IsLess (are-less (λ c. bytes_eq c.name n)) (nesting_levels p) p (component_number p root_name)).0 e in cc all
     go n false e = refl
+
+-- then there is no component for whose resources the root waits
+pub none-first : (p : Program)
+    → (body_by (figures counted.All) (nesting_levels p) p (component_number p root_name)).waits ≡ false → first (outside_uses p) ≡ None
+none-first p h = go (is_some (component_named p root_name))
+  where
+    go : (b : Bool) → first (cond b (filter (root_waits_for p) (component_names p)) []) ≡ None
+    go true = rw (none-outside p (component_names p) h) refl
+    go false = refl
+
+-- what is not so is not
+pub not-true : (b : Bool) → not b ≡ true → b ≡ false
+not-true true h = cc
+not-true false h = refl

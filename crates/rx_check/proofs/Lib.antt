@@ -5,9 +5,11 @@ pub mod Distinct
 pub mod Depths
 pub mod Rounds
 pub mod Along
-pub mod Held
+pub mod HeldCounts
 pub mod Figured
 pub mod Alone
 pub mod Apart
 pub mod Bounded
 pub mod Same
+pub mod Examples
+pub mod Declared

@@ -1,6 +1,7 @@
 -- Lists that agree place by place, and figures that agree field by field.
-use Rattle.std.proofs.Common.{◌≡◌, ◌<◌, ◌≤◌, Bool, List, [], ◌∷◌, refl, sym, ap, ◌∙◌, arith, get_or, take, length}
+use Rattle.std.proofs.Common.{◌≡◌, ◌<◌, ◌≤◌, Bool, true, false, not, List, [], ◌∷◌, refl, sym, ap, ◌∙◌, arith, get_or, take, length}
 use Rattle.std.specs.Prelude.{ℕ, zero, suc}
+use mathlib.Core.Bool.{beq}
 use Rattle.rx_check.specs.declared.figures.Figures.{Figures}
 
 pub same_figures : (a b : Figures) → a.own ≡ b.own → a.given ≡ b.given → a.levels ≡ b.levels → a.waits ≡ b.waits → a.unguarded ≡ b.unguarded → a ≡ b
@@ -25,3 +26,9 @@ take-all (x ∷ xs) (suc n) h = ap (λ l. x ∷ l) (take-all xs n (omega (arith,
 -- two lists of one length that agree in all their places
 pub all-same : {A : Type 0} (xs ys : List A) (n : ℕ) → length xs ≤ n → length ys ≤ n → take n xs ≡ take n ys → xs ≡ ys
 all-same xs ys n h k p = sym (take-all xs n h) ∙ (p ∙ take-all ys n k)
+
+pub beq-same : (x y : Bool) → not (beq x y) ≡ false → x ≡ y
+beq-same true true h = refl
+beq-same true false h = cc
+beq-same false true h = cc
+beq-same false false h = refl

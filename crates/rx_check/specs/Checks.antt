@@ -1,5 +1,5 @@
 -- The checks of a program. Each lists what it refuses, in the order of the text.
-use Rattle.std.specs.Prelude.{ℕ, max, Bool, true, false, not, ◌&&◌, ◌||◌, nat_eq, nat_lt, bytes_eq, List, [], ◌∷◌, Option, Some, None, filter, filter_map, map, length, find, cond, is_some, slice_get}
+use Rattle.std.specs.Prelude.{ℕ, max, Bool, true, false, not, ◌&&◌, ◌||◌, nat_eq, nat_lt, bytes_eq, List, [], ◌∷◌, Option, Some, None, filter, filter_map, map, length, find, cond, is_some}
 use Rattle.std.specs.List.{list_all}
 use Rattle.std.specs.Option.{option_map_or}
 use Rattle.rx_base.specs.Values.{Name}
@@ -8,7 +8,7 @@ use Rattle.rx_check.specs.Names.{has_name, root_name, component_names, component
 use Rattle.rx_check.specs.Bounds.{body_by, component_levels, may_wait, node_bound, node_limit, depth_bound}
 use Rattle.rx_check.specs.Limits.{limit_of, cost_limit}
 use Rattle.rx_check.specs.Mentions.{children_name, mentions, function_mentions, component_mentions}
-use Rattle.rx_check.specs.Graphs.{Graph, cycles}
+use Rattle.rx_check.specs.Graphs.{Graph, cycle_names}
 use Rattle.rx_check.specs.Costs.{declaration_cost}
 use Rattle.rx_check.specs.declared.refusal.Count.{Count}
 use Rattle.rx_check.specs.declared.refusal.Count.TheVariants as count
@@ -149,11 +149,11 @@ places p = map (λ c. map (component_number p) (filter_map placed_in (component_
 
 -- the functions that reach themselves by calls
 abbrev pub function_cycles : Program → List Name
-function_cycles p = filter_map (slice_get (function_names p)) (cycles (calls p))
+function_cycles p = cycle_names (calls p) (function_names p)
 
 -- the components that reach themselves by the elements in their bodies
 abbrev pub component_cycles : Program → List Name
-component_cycles p = filter_map (slice_get (component_names p)) (cycles (places p))
+component_cycles p = cycle_names (places p) (component_names p)
 
 -- Resources outside of a boundary
 

@@ -68,9 +68,10 @@ count_refusals p =
 abbrev pub size_refusals : Program → List (Option Refusal)
 size_refusals p = option_map refusal.TreeBound (nodes_over p) ∷ option_map refusal.Cost (cost_over p) ∷ []
 
--- the checks in their order
+-- all checks in their order
 abbrev pub refusals : Program → List (Option Refusal)
-refusals p = name_refusals p ++ (way_refusals p ++ (count_refusals p ++ size_refusals p))
+refusals p =
+    first_some (name_refusals p) ∷ first_some (way_refusals p) ∷ first_some (count_refusals p) ∷ first_some (size_refusals p) ∷ []
 
 -- the refusal of a program, if it is refused: that of the first check that refuses it
 unfoldable pub refusal_of : Program → Option Refusal

@@ -50,7 +50,7 @@ fn function_named<'a>(program: &'a Program, name: &Name) -> Option<&'a Function>
 }
 
 /// The component of a name.
-fn component_named<'a>(program: &'a Program, name: &str) -> Option<&'a Component>
+pub fn component_named<'a>(program: &'a Program, name: &str) -> Option<&'a Component>
     ensures { MatchOption result (component_named program.now name.now ≡ None) (λ c. component_named program.now name.now ≡ Some c.now) }
 {
     for declaration in program.declarations() {

@@ -37,7 +37,7 @@ fn function_place(program: &Program, name: &str) -> Option<usize>
 }
 
 /// The place of the function of a name among the functions; 0 where there is none.
-fn function_number(program: &Program, name: &str) -> usize
+pub fn function_number(program: &Program, name: &str) -> usize
     ensures { result ≡ function_number program.now name.now }
 {
     function_place(program, name).unwrap_or(0)

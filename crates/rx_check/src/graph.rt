@@ -1,13 +1,13 @@
 // Which functions and components lead to themselves.
-ghost use Rattle.std.specs.Prelude.{◌≡◌, [], IfOk, MatchOption, Some, None, false, IsTrue, length, map, filter_map, slice_get, slice_index_or};
-ghost use Rattle.rx_ast.specs.Syntax.{functions, components};
-ghost use Rattle.rx_check.specs.Names.{place_among};
-ghost use Rattle.rx_check.specs.Mentions.{function_mentions, component_mentions};
-ghost use Rattle.rx_check.specs.Checks.{called_in, placed_in};
-ghost use Rattle.rx_check.specs.Graphs.{leads_to, cycles, leads, lead_round, lead_rounds};
+ghost use Rattle.std.specs.Prelude.{◌≡◌, [], IfOk, MatchOption, Some, None, false, IsTrue, length, map, filter_map, slice_index_or};
+ghost use Rattle.rx_check.specs.Names.{component_names, function_number, component_number};
+ghost use Rattle.rx_check.specs.Checks.{function_names, called_in, placed_in, calls, places, function_cycles, component_cycles};
+ghost use Rattle.rx_check.specs.Graphs.{leads_to, name_on_cycle, cycle_names, leads, lead_round, lead_rounds};
 ghost use Rattle.rx_check.specs.Refusals.{first};
 
 use crate::bodies::{component_mentions_of, function_mentions_of};
+use crate::costs::function_number;
+use crate::figures::component_number;
 use crate::mention::Mention;
 use crate::names::Names;
 use rx_ast::{DeclarationKind, Program};
@@ -29,62 +29,54 @@ impl Model for Row {
 }
 
 /// The numbers of the functions that are called.
-fn called(alloc: Global, mentions: &[Mention], functions: &Names) -> Result<Row, AllocError>
-    ensures { IfOk result (λ r. r ≡ map (place_among functions.now) (filter_map called_in mentions.now)) }
+fn called(alloc: Global, program: &Program, mentions: &[Mention]) -> Result<Row, AllocError>
+    ensures { IfOk result (λ r. r ≡ map (function_number program.now) (filter_map called_in mentions.now)) }
 {
     let mut items = Vec::new(alloc);
     for mention in mentions {
         if let Mention::Call { function, .. } = mention {
-            items.push(functions.position(function.text()).unwrap_or(0))?;
+            items.push(function_number(program, function.text()))?;
         }
     }
     Ok(Row { items })
 }
 
 /// The numbers of the components whose elements stand there.
-fn placed(alloc: Global, mentions: &[Mention], components: &Names) -> Result<Row, AllocError>
-    ensures { IfOk result (λ r. r ≡ map (place_among components.now) (filter_map placed_in mentions.now)) }
+fn placed(alloc: Global, program: &Program, mentions: &[Mention]) -> Result<Row, AllocError>
+    ensures { IfOk result (λ r. r ≡ map (component_number program.now) (filter_map placed_in mentions.now)) }
 {
     let mut items = Vec::new(alloc);
     for mention in mentions {
         if let Mention::Element { component, .. } = mention {
-            items.push(components.position(component.text()).unwrap_or(0))?;
+            items.push(component_number(program, component.text()))?;
         }
     }
     Ok(Row { items })
 }
 
-/// For each function the functions that it calls, by the places of their names among these.
-pub fn calls_of(
-    alloc: Global,
-    program: &Program,
-    names: &Names,
-) -> Result<Vec<Row>, AllocError>
-    ensures { IfOk result (λ g. g.items ≡ map (λ f. map (place_among names.now) (filter_map called_in (function_mentions f))) (functions program.now)) }
+/// For each function the functions that it calls.
+fn calls_of(alloc: Global, program: &Program) -> Result<Vec<Row>, AllocError>
+    ensures { IfOk result (λ g. g.items ≡ calls program.now) }
 {
     let mut graph = Vec::new(alloc);
     for declaration in program.declarations() {
         if let DeclarationKind::Function(function) = &declaration.kind {
             let walk = function_mentions_of(alloc, function)?;
-            graph.push(called(alloc, walk.mentions(), names)?)?;
+            graph.push(called(alloc, program, walk.mentions())?)?;
         }
     }
     Ok(graph)
 }
 
-/// For each component the components whose elements stand in its body, by the places of their names among these.
-pub fn places_of(
-    alloc: Global,
-    program: &Program,
-    names: &Names,
-) -> Result<Vec<Row>, AllocError>
-    ensures { IfOk result (λ g. g.items ≡ map (λ c. map (place_among names.now) (filter_map placed_in (component_mentions c))) (components program.now)) }
+/// For each component the components whose elements stand in its body.
+fn places_of(alloc: Global, program: &Program) -> Result<Vec<Row>, AllocError>
+    ensures { IfOk result (λ g. g.items ≡ places program.now) }
 {
     let mut graph = Vec::new(alloc);
     for declaration in program.declarations() {
         if let DeclarationKind::Component(component) = &declaration.kind {
             let walk = component_mentions_of(alloc, component)?;
-            graph.push(placed(alloc, walk.mentions(), names)?)?;
+            graph.push(placed(alloc, program, walk.mentions())?)?;
         }
     }
     Ok(graph)
@@ -168,20 +160,64 @@ fn is_on_cycle(alloc: Global, graph: &[Row], number: usize) -> Result<bool, Allo
     Ok(known(&table, number))
 }
 
+/// The name of a number that leads to itself.
+fn name_on_cycle<'a>(
+    alloc: Global,
+    graph: &[Row],
+    names: &'a Names,
+    number: usize,
+) -> Result<Option<&'a str>, AllocError>
+    ensures { IfOk result (λ o. MatchOption o (name_on_cycle graph.now names.now number ≡ None) (λ x. name_on_cycle graph.now names.now number ≡ Some x.now)) }
+{
+    if !is_on_cycle(alloc, graph, number)? {
+        return Ok(None);
+    }
+    match names.items().get(number) {
+        None => Ok(None),
+        Some(name) => Ok(Some(name.text())),
+    }
+}
+
 /// The name of the first number that leads to itself.
-pub fn first_cycle<'a>(
+fn first_cycle<'a>(
     alloc: Global,
     graph: &[Row],
     names: &'a Names,
 ) -> Result<Option<&'a str>, AllocError>
-    ensures { IfOk result (λ o. MatchOption o (first (filter_map (slice_get names.now) (cycles graph.now)) ≡ None) (λ x. first (filter_map (slice_get names.now) (cycles graph.now)) ≡ Some x.now)) }
+    ensures { IfOk result (λ o. MatchOption o (first (cycle_names graph.now names.now) ≡ None) (λ x. first (cycle_names graph.now names.now) ≡ Some x.now)) }
 {
-    for number in 0..graph.len() {
-        if is_on_cycle(alloc, graph, number)? {
-            if let Some(name) = names.items().get(number) {
-                return Ok(Some(name.text()));
-            }
+    let mut number = 0;
+    for row in graph {
+        if let Some(name) = name_on_cycle(alloc, graph, names, number)? {
+            return Ok(Some(name));
         }
+        number += 1;
     }
     Ok(None)
+}
+
+/// The first function that reaches itself by calls.
+pub fn function_cycle<'a>(
+    alloc: Global,
+    program: &Program,
+    names: &'a Names,
+) -> Result<Option<&'a str>, AllocError>
+    requires { names.now ≡ function_names program.now }
+    ensures { IfOk result (λ o. MatchOption o (first (function_cycles program.now) ≡ None) (λ x. first (function_cycles program.now) ≡ Some x.now)) }
+{
+    let graph = calls_of(alloc, program)?;
+    first_cycle(alloc, &graph, names)
+}
+
+/// The first component that reaches itself by the elements in its body.
+pub fn component_cycle<'a>(
+    alloc: Global,
+    program: &Program,
+    names: &'a Names,
+) -> Result<Option<&'a str>, AllocError>
+    requires { names.now ≡ component_names program.now }
+    ensures { IfOk result (λ o. MatchOption o (first (component_cycles program.now) ≡ None) (λ x. first (component_cycles program.now) ≡ Some x.now)) }
+{
+    let graph = places_of(alloc, program)?;
+    first_cycle(alloc, &graph, names)
 }

@@ -1,4 +1,4 @@
-use Rattle.std.proofs.Common.{◌≤◌, ◌-◌, arith}
+use Rattle.std.proofs.Common.{◌≤◌, ◌-◌, arith, get_or, sym}
 use Rattle.rx_ast.specs.Syntax.{exprs_of}
 use Rattle.rx_ast.specs.ExprView.{links_of}
 use Rattle.rx_ast.specs.Depth.{expr_depth, exprs_depth, links_depth}
@@ -13,6 +13,7 @@ exprs-expr-requires t c =
 
 pub links-expr-requires : goal.links-expr-requires
 links-expr-requires t c =
-    let below : expr_depth c.index-links-at.result.operand ≤ links_depth (links_of c.args.links.now) =
-    rw c.index-links-at.is (operand_depth-get_or c.args.links.now (c.loop-at.at - 1) c.index-links-at.result (omega arith))
-    in (omega (arith, c.decreases, below), tt)
+    let inside : expr_depth (get_or c.args.links.now (c.loop-at.at - 1) c.index-links-at.result).operand ≤ links_depth (links_of c.args.links.now) =
+    operand_depth-get_or c.args.links.now (c.loop-at.at - 1) c.index-links-at.result (omega arith) in
+    let below : expr_depth c.index-links-at.result.operand ≤ links_depth (links_of c.args.links.now) = rw (sym c.index-links-at.is) at inside
+    in (omega (arith, c.decreases, below, inside), tt)

@@ -1,9 +1,9 @@
 // All checks of a program, in their order.
 ghost use Rattle.std.specs.Prelude.{◌≡◌, ◌⊎◌, [], ◌∷◌, IfOk, MatchOption, MatchResult, Some, None, option_map, filter, filter_map, length, slice_get};
-ghost use Rattle.rx_check.specs.Names.{component_names, resources};
+ghost use Rattle.rx_check.specs.Names.{component_names, resources as all_resources};
 ghost use Rattle.rx_check.specs.Bounds.{node_bound, node_limit, depth_bound};
 ghost use Rattle.rx_check.specs.Limits.{limit_of};
-ghost use Rattle.rx_check.specs.Mentions.{mentions};
+ghost use Rattle.rx_check.specs.Mentions.{mentions as all_mentions};
 ghost use Rattle.rx_check.specs.Checks.{repeat_in, unknown_among, misfit_in, function_names, function_cycles, component_cycles, root_waits_for, outside_uses, first_over as over, cost_over};
 ghost use Rattle.rx_check.specs.Refusals.{first, first_some, refused_name, refused_root, name_refusals, way_refusals, count_refusals, size_refusals, refusal_of};
 ghost use Rattle.rx_check.specs.Listed.{IsListed};
@@ -16,7 +16,7 @@ use crate::checks::{
 };
 use crate::costs::cost_over;
 use crate::figures::{Counted, nesting_levels, root_figures};
-use crate::graph::{calls_of, first_cycle, places_of};
+use crate::graph::{component_cycle, function_cycle};
 use crate::held::held_sum;
 use crate::listing::{Listing, names_of};
 use crate::mention::Mention;
@@ -84,8 +84,7 @@ fn refuse_function_cycle(
     requires { names.now ≡ function_names program.now }
     ensures { Answers (refused_name (λ x. Refusal.FunctionCycle x) (function_cycles program.now)) result }
 {
-    let graph = calls_of(alloc, program, names)?;
-    match first_cycle(alloc, &graph, names)? {
+    match function_cycle(alloc, program, names)? {
         None => Ok(()),
         Some(name) => Err(Refusal::FunctionCycle(told(alloc, name)?)),
     }
@@ -100,8 +99,7 @@ fn refuse_component_cycle(
     requires { names.now ≡ component_names program.now }
     ensures { Answers (refused_name (λ x. Refusal.ComponentCycle x) (component_cycles program.now)) result }
 {
-    let graph = places_of(alloc, program, names)?;
-    match first_cycle(alloc, &graph, names)? {
+    match component_cycle(alloc, program, names)? {
         None => Ok(()),
         Some(name) => Err(Refusal::ComponentCycle(told(alloc, name)?)),
     }
@@ -206,7 +204,7 @@ fn refuse_names(
     mentions: &[Mention],
 ) -> Result<(), Refusal>
     requires listed { IsListed program.now listing.now }
-    requires mentioned { mentions.now ≡ mentions program.now }
+    requires mentioned { mentions.now ≡ all_mentions program.now }
     ensures { Answers (first_some (name_refusals program.now)) result }
 {
     refuse_repeat(alloc, mentions)?;
@@ -232,8 +230,8 @@ fn refuse_counts(
     resources: usize,
     depth: u64,
 ) -> Result<(), Refusal>
-    requires mentioned { mentions.now ≡ mentions program.now }
-    requires resources { resources ≡ length (resources program.now) }
+    requires mentioned { mentions.now ≡ all_mentions program.now }
+    requires resources { resources ≡ length (all_resources program.now) }
     requires depth { depth ≡ depth_bound program.now }
     ensures { Answers (first_some (count_refusals program.now)) result }
 {
@@ -282,6 +280,7 @@ fn refuse_sizes(alloc: Global, program: &Program, bound: u64) -> Result<(), Refu
 }
 
 /// All checks, in their order.
+#[tactic(auto, unfolding(crate::specs::Refusals::refusal_of))]
 fn refuse(
     alloc: Global,
     program: &Program,

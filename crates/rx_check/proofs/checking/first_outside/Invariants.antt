@@ -2,7 +2,7 @@ use Rattle.std.proofs.Common.{◌≡◌, drop}
 use Rattle.std.specs.Prelude.{filter}
 use Rattle.rx_check.specs.Checks.{root_waits_for}
 use Rattle.rx_check.specs.Refusals.{first}
-use Rattle.rx_check.proofs.check.first_outside.Given as goal
+use Rattle.rx_check.proofs.checking.first_outside.Given as goal
 
 -- the first is among those that are left
 abbrev pub invariant-loop-name : goal.invariant-loop-name
