@@ -1,0 +1,12 @@
+use Rattle.rx_lists.proofs.Frames.{some-at}
+use Rattle.rx_walks.proofs.Descents.{below-link, below-list}
+use Rattle.rx_walks.proofs.find.below.Goals as goal
+pub returns-in-Some-clause-link : goal.returns-in-Some-clause-link
+returns-in-Some-clause-link g c =
+    let m = some-at c.args.link.now _ c.in-Some.id c.requires c.in-Some.is in
+    rw (c.first_child.ensures.current m) (below-link c.args.self.now.current c.facts.ensures.fits.once c.in-Some.id m)
+
+pub returns-in-Some-clause-list : goal.returns-in-Some-clause-list
+returns-in-Some-clause-list g c =
+    let m = some-at c.args.link.now _ c.in-Some.id c.requires c.in-Some.is in
+    rw (c.first_child.ensures.current m, c.in-Some.is) (below-list c.args.self.now.current c.facts.ensures.fits.once c.in-Some.id m)
