@@ -6,7 +6,6 @@ use Rattle.rx_lists.specs.Reads.{Nodes, Reads, limit, shape_of, IsRead}
 use Rattle.rx_lists.specs.Shapes.{Shape, none, fiber, first, Holds, IsTree, size}
 use Rattle.rx_lists.proofs.Frames.{Reads-live, shape_of-reads, holds-true, apart-false}
 use Rattle.rx_lists.proofs.Freeing.{is-read}
-use Rattle.rx_lists.proofs.Walks.{module}
 use Rattle.rx_links.specs.Drafts.{Draft, taken, made, Trees, entry, Makes, made_size, grafted, Follows, IsForOne, Fits}
 use Rattle.rx_links.specs.Stands.{Drafts, Roots, Stands, Shows}
 use Rattle.rx_links.specs.View.{draft_of, trees_of, IsSound}

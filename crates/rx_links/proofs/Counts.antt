@@ -7,7 +7,8 @@ use Rattle.rx_arena.specs.Nodes.{at}
 use Rattle.rx_lists.specs.Reads.{Nodes}
 use Rattle.rx_lists.specs.Shapes.{Shape, none, fiber, Holds, IsTree, size, ids}
 use Rattle.rx_lists.proofs.Frames.{same_or_not}
-use Rattle.rx_links.specs.Drafts.{Draft, taken, made, Makes, IsMadeOnce, made_size, made_part}
+use Rattle.rx_links.specs.Drafts.{Draft, taken, made, Makes, IsMadeOnce, made_size}
+use Rattle.rx_links.proofs.Parts.{made_part}
 
 -- the id is one of these
 abbrev pub Member : List ℕ → ℕ → Type 0
@@ -44,7 +45,7 @@ pub append-length : (xs ys : List ℕ) → length (xs ++ ys) ≡ length xs + len
 append-length [] ys = omega arith
 append-length (x ∷ xs) ys = omega (arith, append-length xs ys)
 
-module _ {F : Type 0} where
+module _ {X : Type 0} where
   count-cleared : (xs : List (Option X)) (i : ℕ) (x : X) → get_or xs i None ≡ Some x → suc (count_by is_some (set xs i None)) ≡ count_by is_some xs
   count-cleared xs i x e = grind (arith, common_steps)
 
@@ -87,6 +88,7 @@ module _ {F : Type 0} where
       by_case j (inl e) p = let q = cleared-here s x in let r : get_or (set s x None) j None ≡ None = rw e q in absurd (let z = rw r at p in cc)
       by_case j (inr n) p = elim (h j (rw (cleared-others s x j n) at p)) [ inl e ↦ absurd (n e) | inr m ↦ m ]
 
+module _ {F : Type 0} where
   pub ids-held : (c : Shape F) (i : ℕ) → Member (ids c) i → Holds c i
   ids-held none i m = m
   ids-held (fiber id v ks rs) i (inl e) = inl e

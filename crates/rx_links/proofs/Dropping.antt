@@ -8,7 +8,8 @@ use Rattle.rx_lists.specs.Reads.{Nodes, core_of, up_in, alternate_at, Reads, lim
 use Rattle.rx_lists.specs.Shapes.{Shape, none, fiber, first, Holds, IsTree, size}
 use Rattle.rx_lists.proofs.Frames.{same_or_not, eqb-false, Reads-frame, Returns-frame, child-core, shape_of-reads}
 use Rattle.rx_lists.proofs.Freeing.{core-kept, up-kept, node-kept, live-kept, is-read}
-use Rattle.rx_links.specs.Drafts.{Draft, taken, made, Trees, entry, Makes, IsMadeOnce, IsFor, HasMadeKids, grafted, made_part, taking, HasTop, IsOldKids, Follows}
+use Rattle.rx_links.specs.Drafts.{Draft, taken, made, Trees, entry, Makes, IsMadeOnce, IsFor, HasMadeKids, grafted, taking, HasTop, IsOldKids, Follows}
+use Rattle.rx_links.proofs.Parts.{made_part}
 use Rattle.rx_links.specs.Stands.{Drafts, Roots, Shows}
 use Rattle.rx_links.proofs.Computed.{made-live, whole, draft-small}
 use Rattle.rx_links.proofs.Counts.{part-makes, makes-part}

@@ -2,7 +2,8 @@
 use Rattle.std.proofs.Common.{◌≡◌, ◌≢◌, ℕ, Bool, true, false, eqb, ◌⊎◌, inl, inr, ap, sym, refl, eqb-true, eq-eqb, cond, Some, None, Option}
 use Rattle.rx_lists.specs.Shapes.{Shape, none, fiber, Holds, IsTree, IsTop}
 use Rattle.rx_lists.proofs.Frames.{eqb-false}
-use Rattle.rx_links.specs.Drafts.{Draft, taken, made, or_else, Makes, IsMadeOnce, IsFor, IsUnused, old_of, HasMadeKids, rekidded, HasTop, HasKids, kids_at, shape_or_none, kids_under, IsOldKids, Follows}
+use Rattle.rx_links.specs.Drafts.{Draft, taken, made, or_else, Makes, IsMadeOnce, IsFor, IsUnused, old_of, HasMadeKids, rekidded, HasTop, kids_at, shape_or_none, kids_under, IsOldKids, Follows}
+use Rattle.rx_links.proofs.Parts.{HasKids}
 use Rattle.rx_links.proofs.Whole.{for-makes}
 
 pub or-none : (o : Option ℕ) → or_else o None ≡ o

@@ -1,3 +1,4 @@
+pub mod Parts
 pub mod Whole
 pub mod Counts
 pub mod DraftFrames
@@ -10,3 +11,4 @@ pub mod Mapped
 pub mod Reading
 pub mod Placed
 pub mod Unused
+pub mod Inserting

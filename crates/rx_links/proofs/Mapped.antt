@@ -2,18 +2,21 @@
 use Rattle.std.proofs.Common.{Bool, true, false, eqb, cond, ◌||◌, ◌≡◌, ◌<◌, ◌≤◌, ◌+◌, ◌⊎◌, inl, inr, ℕ, zero, suc, refl, sym, ap, ◌∙◌, IsSome, Some, None, Option, option_map, eq-eqb, eqb-true, List, [], ◌∷◌, length, arith}
 use Rattle.rx_arena.specs.Nodes.{at, alternate_in, Changes}
 use Rattle.rx_arena.specs.declared.arena.Node.{Node}
-use Rattle.rx_lists.specs.Reads.{Nodes, Core, core, core_of, up_in, up_at, alternate_at, Reads, Returns, limit}
-use Rattle.rx_lists.specs.Shapes.{Shape, none, fiber, first, Holds, IsTree, size, is_among}
-use Rattle.rx_lists.specs.Ways.{ups, AreAlone, IsWay, among_link, revalued, touched, Revalues}
+use Rattle.rx_lists.specs.Marks.{at_link, revalued, touched, Revalues, CanMark}
+use Rattle.rx_lists.specs.Reads.{Nodes, Core, core, core_of, up_in, up_at, alternate_at, Reads, Returns, limit, shape_of}
+use Rattle.rx_lists.specs.Shapes.{Shape, none, fiber, first, Holds, holds, IsTree, size, is_among}
+use Rattle.rx_lists.specs.Ways.{ups, AreAlone, IsWay}
 use Rattle.rx_lists.proofs.Climbing.{up-value, alternate-value, same-value}
-use Rattle.rx_lists.proofs.Frames.{same_or_not, eqb-false}
-use Rattle.rx_links.specs.Drafts.{Draft, taken, made, Trees, entry, Makes, IsMadeOnce, IsFor, HasTop, IsOldKids, Follows}
-use Rattle.rx_links.specs.Marks.{mapped, mapped_draft, first_way, way_in, way_up, on_way, for_way, marked_above, changed_at, changed_current}
+use Rattle.rx_lists.proofs.Frames.{same_or_not, eqb-false, shape_of-reads, holds-Holds}
+use Rattle.rx_lists.proofs.Freeing.{is-read}
+use Rattle.rx_links.specs.Drafts.{Draft, taken, made, Trees, entry, Makes, IsMadeOnce, IsFor, HasTop, IsOldKids, Follows, kids_of, shape_or_none}
+use Rattle.rx_links.specs.Marks.{mapped, mapped_draft, first_way, way_in, way_up, changed_where, changed_for, marked_where, marked_above, marked_below, changed_current}
 use Rattle.rx_links.specs.Stands.{Drafts, Roots, Shows}
 use Rattle.rx_links.proofs.Computed.{held-live}
 use Rattle.rx_links.proofs.Counts.{tree-fits}
 use Rattle.rx_links.proofs.DraftFrames.{Drafts-alternate}
-use Rattle.rx_links.proofs.Edits.{makes-for}
+use Rattle.rx_links.proofs.Edits.{makes-for, has-held, kids_at-is}
+use Rattle.rx_links.proofs.Parts.{HasKids}
 use Rattle.rx_links.proofs.Whole.{for-makes}
 
 abbrev head : List ℕ → Option ℕ
@@ -33,6 +36,24 @@ false-not true n = absurd (n refl)
 false-not false n = refl
 
 module _ {F : Type 0} where
+  held-kids : (c : Shape F) (f : ℕ) → Holds c f → (k : Shape F) × HasKids c f k
+  held-kids none f h = absurd h
+  held-kids (fiber id v ks rs) f (inl e) = (ks, inl (sym e, refl))
+  held-kids (fiber id v ks rs) f (inr (inl h)) = let r = held-kids ks f h in (r.0, inr (inl r.1))
+  held-kids (fiber id v ks rs) f (inr (inr h)) = let r = held-kids rs f h in (r.0, inr (inr r.1))
+
+  has-tree : (c : Shape F) (f : ℕ) (k : Shape F) → IsTree c → HasKids c f k → IsTree k
+  has-tree none f k t h = absurd h
+  has-tree (fiber id v ks rs) f k t (inl h) = rw (← h.1) t.3
+  has-tree (fiber id v ks rs) f k t (inr (inl h)) = has-tree ks f k t.3 h
+  has-tree (fiber id v ks rs) f k t (inr (inr h)) = has-tree rs f k t.4 h
+
+  has-read : (a : Nodes F) (c : Shape F) (f : ℕ) (k : Shape F) → Reads a c → HasKids c f k → Reads a k
+  has-read a none f k r h = absurd h
+  has-read a (fiber id v ks rs) f k r (inl h) = rw (← h.1) r.1
+  has-read a (fiber id v ks rs) f k r (inr (inl h)) = has-read a ks f k r.1 h
+  has-read a (fiber id v ks rs) f k r (inr (inr h)) = has-read a rs f k r.2 h
+
   core-value : (g : F → F) (v : F) (c s : Option ℕ) (o : Option (Node F)) → option_map core_of o ≡ Some (core v c s)
       → option_map core_of (option_map (revalued g) o) ≡ Some (core (g v) c s)
   core-value g v c s None e = cc
@@ -265,6 +286,48 @@ module _ {F : Type 0} where
       by_test false [] x y = omega (arith, y)
       by_test false (z ∷ zs) x y = omega (arith, x)
 
+  -- values that a test on current fibers changes, with their alternates
+  module _ (t : Roots F) (trees : Trees F) (h : Shows t trees) (p : ℕ → Bool) (held : (y : ℕ) → p y ≡ true → Holds trees.current y) where
+    -- the test passes for no made fiber
+    made_off : (y : ℕ) → Makes trees.draft y → p y ≡ false
+    made_off y q = false-not (p y) (λ e. h.stands.apart y (held y e) q)
+
+    pub where-shows : (new : Nodes F) (g : F → F) → Revalues t.nodes new (touched t.nodes p g) → Shows (record t { nodes = new }) (marked_where p g trees)
+    where-shows new g r =
+        mapped-shows (changed_where p g) (changed_for p g) t trees new (touched t.nodes p g) h r
+        (λ i q. current_case i q (alternate_at t.nodes i) refl) made_case
+      where
+        or-false : (x : Bool) → (x || false) ≡ x
+        or-false true = refl
+        or-false false = refl
+
+        current_case : (i : ℕ) → Holds trees.current i → (o : Option ℕ) → alternate_at t.nodes i ≡ o
+            → option_map (revalued (λ v. cond (p i || at_link p (alternate_at t.nodes i)) (g v) v)) (at t.nodes i)
+            ≡ option_map (revalued (changed_where p g i)) (at t.nodes i)
+        current_case i q None e = rw (e, or-false (p i)) refl
+        current_case i q (Some y) e = rw (e, off, or-false (p i)) refl
+          where
+            off : p y ≡ false
+            off = elim (h.stands.links i y e) [
+              | inl x ↦ absurd (h.stands.apart i q (for-makes trees.draft i (Some y) x))
+              | inr x ↦ made_off y (for-makes trees.draft y (Some i) x)
+            ]
+
+        made_case : (i : ℕ) (o : Option ℕ) → IsFor trees.draft i o
+            → option_map (revalued (λ v. cond (p i || at_link p (alternate_at t.nodes i)) (g v) v)) (at t.nodes i)
+            ≡ option_map (revalued (changed_for p g i o)) (at t.nodes i)
+        made_case i None x =
+            rw (Drafts-alternate t.nodes None trees.draft i None h.stands.drafts x, made_off i (for-makes trees.draft i None x)) refl
+        made_case i (Some j) x =
+            rw (Drafts-alternate t.nodes None trees.draft i (Some j) h.stands.drafts x, made_off i (for-makes trees.draft i (Some j) x)) refl
+
+  -- no two current fibers are alternates
+  current-apart : (t : Roots F) (trees : Trees F) → Shows t trees → (i j : ℕ) → Holds trees.current i → alternate_at t.nodes i ≡ Some j → Holds trees.current j → ⊥
+  current-apart t trees h i j a e b = elim (h.stands.links i j e) [
+    | inl x ↦ h.stands.apart i a (for-makes trees.draft i (Some j) x)
+    | inr x ↦ h.stands.apart j b (for-makes trees.draft j (Some i) x)
+  ]
+
   module _ (t : Roots F) (trees : Trees F) (h : Shows t trees) (f : ℕ) (m : Holds trees.current f) where
     way : List ℕ
     way = way_up trees.current f
@@ -289,28 +352,18 @@ module _ {F : Type 0} where
         small : length (way_up trees.current f) < limit
         small = way_small
 
-    -- no made fiber is on the way
-    made_off : (y : ℕ) → Makes trees.draft y → is_among way y ≡ false
-    made_off y q = false-not (is_among way y) (λ e. h.stands.apart y (way_held y e) q)
-
     alone : (xs : List ℕ) → Distinct xs → ((y : ℕ) → is_among xs y ≡ true → Holds trees.current y) → AreAlone t.nodes xs
     alone [] d s = tt
     alone (x ∷ xs) d s = (
       held-live t trees.current trees.draft h.stands x (s x (rw (eq-eqb x x refl) refl)),
       d.0,
-      λ y e. false-not (is_among (x ∷ xs) y) (λ q. clash x y e (s x (rw (eq-eqb x x refl) refl)) (s y q)),
+      λ y e. false-not (is_among (x ∷ xs) y) (λ q. current-apart t trees h x y (s x (rw (eq-eqb x x refl) refl)) e (s y q)),
       alone xs d.1 (λ y q. s y (or-left-true (eqb x y) (is_among xs y) q)),
     )
       where
         or-left-true : (p q : Bool) → q ≡ true → (p || q) ≡ true
         or-left-true true q e = refl
         or-left-true false q e = e
-
-        clash : (p q : ℕ) → alternate_at t.nodes p ≡ Some q → Holds trees.current p → Holds trees.current q → ⊥
-        clash p q e a b = elim (h.stands.links p q e) [
-          | inl x ↦ h.stands.apart p a (for-makes trees.draft p (Some q) x)
-          | inr x ↦ h.stands.apart q b (for-makes trees.draft q (Some p) x)
-        ]
 
     pub mark-way : IsWay t.nodes (Some f)
     unfolding way
@@ -319,51 +372,66 @@ module _ {F : Type 0} where
       alone = rw ups_way (alone (way_up trees.current f) (way-distinct [] trees.current f h.stands.once tt (λ y q. refl)) way_held);
     }
 
-    pub marked-shows : (new : Nodes F) (g : F → F) → Revalues t.nodes new (touched t.nodes (ups limit t.nodes (Some f)) g)
+    pub marked-shows : (new : Nodes F) (g : F → F) → Revalues t.nodes new (touched t.nodes (is_among (ups limit t.nodes (Some f))) g)
         → Shows (record t { nodes = new }) (marked_above g f trees)
     unfolding way
-    marked-shows new g r =
-        mapped-shows (on_way way g) (for_way way g) t trees new (touched t.nodes way g) h (rw ups_way at r)
-        (λ i q. current_case i q (alternate_at t.nodes i) refl) made_case
-      where
-        current_case : (i : ℕ) → Holds trees.current i → (o : Option ℕ) → alternate_at t.nodes i ≡ o
-            → option_map (revalued (λ v. cond (is_among way i || among_link way (alternate_at t.nodes i)) (g v) v)) (at t.nodes i)
-            ≡ option_map (revalued (on_way way g i)) (at t.nodes i)
-        current_case i q None e = rw (e, or-false (is_among way i)) refl
-          where
-            or-false : (x : Bool) → (x || false) ≡ x
-            or-false true = refl
-            or-false false = refl
-        current_case i q (Some y) e = rw (e, off, or-false (is_among way i)) refl
-          where
-            or-false : (x : Bool) → (x || false) ≡ x
-            or-false true = refl
-            or-false false = refl
+    marked-shows new g r = where-shows t trees h (is_among way) way_held new g (rw ups_way at r)
 
-            off : is_among way y ≡ false
-            off = elim (h.stands.links i y e) [
-              | inl x ↦ absurd (h.stands.apart i q (for-makes trees.draft i (Some y) x))
-              | inr x ↦ made_off y (for-makes trees.draft y (Some i) x)
-            ]
+    -- the children of the fiber
+    kd : (k : Shape F) × HasKids trees.current f k
+    kd = held-kids trees.current f m
 
-        made_case : (i : ℕ) (o : Option ℕ) → IsFor trees.draft i o
-            → option_map (revalued (λ v. cond (is_among way i || among_link way (alternate_at t.nodes i)) (g v) v)) (at t.nodes i)
-            ≡ option_map (revalued (for_way way g i o)) (at t.nodes i)
-        made_case i None x =
-            rw (Drafts-alternate t.nodes None trees.draft i None h.stands.drafts x, made_off i (for-makes trees.draft i None x)) refl
-        made_case i (Some j) x =
-            rw (Drafts-alternate t.nodes None trees.draft i (Some j) h.stands.drafts x, made_off i (for-makes trees.draft i (Some j) x)) refl
+    kids : Shape F
+    kids = kd.0
+
+    has : HasKids trees.current f kids
+    unfolding kids
+    has = kd.1
+
+    kids_is : kids_of trees.current f ≡ kids
+    kids_is = ap shape_or_none (kids_at-is trees.current f kids h.stands.once has)
+
+    kids_tree : IsTree kids
+    kids_tree = has-tree trees.current f kids h.stands.once has
+
+    kids_read : Reads t.nodes kids
+    kids_read = has-read t.nodes trees.current f kids h.stands.reads has
+
+    kids_small : size kids ≤ limit
+    kids_small =
+        omega (arith, tree-fits t.nodes kids kids_tree (λ i q. held-live t trees.current trees.draft h.stands i (has-held trees.current f kids i has q)), h.small)
+
+    module _ (link : Option ℕ) (link_is : link ≡ first (kids_of trees.current f)) where
+      link_kids : link ≡ first kids
+      link_kids = link_is ∙ ap first kids_is
+
+      kids_shape : shape_of limit t.nodes link ≡ kids
+      kids_shape = ap (shape_of limit t.nodes) link_kids ∙ shape_of-reads limit t.nodes kids kids_read kids_small
+
+      pub below-can : CanMark t.nodes link
+      below-can = record {
+        read = rw link_kids (is-read t.nodes kids kids_read kids_small);
+        once = rw kids_shape kids_tree;
+        apart = λ i j a e b.
+            current-apart t trees h i j (has-held trees.current f kids i has (rw kids_shape at a)) e (has-held trees.current f kids j has (rw kids_shape at b));
+      }
+
+      pub below-shows : (new : Nodes F) (g : F → F) → Revalues t.nodes new (touched t.nodes (holds (shape_of limit t.nodes link)) g)
+          → Shows (record t { nodes = new }) (marked_below g f trees)
+      below-shows new g r =
+          rw kids_is
+          (where-shows t trees h (holds kids) (λ y e. has-held trees.current f kids y has (holds-Holds kids y e)) new g (rw kids_shape at r))
 
     pub changed-shows : (new : Nodes F) (g : F → F) → Changes (revalued g) t.nodes new f → Shows (record t { nodes = new }) (changed_current g f trees)
     changed-shows new g ch =
-        mapped-shows (changed_at g f) (λ j o v. v) t trees new (changed_at g f) h (record { at_each = each; live = ch.live }) (λ i q. refl) made_case
+        mapped-shows (changed_where (λ j. eqb j f) g) (λ j o v. v) t trees new (changed_where (λ j. eqb j f) g) h (record { at_each = each; live = ch.live }) (λ i q. refl) made_case
       where
-        each : (i : ℕ) → at new i ≡ option_map (revalued (changed_at g f i)) (at t.nodes i)
+        each : (i : ℕ) → at new i ≡ option_map (revalued (changed_where (λ j. eqb j f) g i)) (at t.nodes i)
         each i = elim (same_or_not i f) [
           | inl e ↦ rw e (ch.changed ∙ sym (pick (eqb f f) g (at t.nodes f) (eq-eqb f f refl)))
           | inr n ↦ ch.others i n ∙ sym (skip (eqb i f) g (at t.nodes i) (eqb-false i f n))
         ]
 
-        made_case : (i : ℕ) (o : Option ℕ) → IsFor trees.draft i o → option_map (revalued (changed_at g f i)) (at t.nodes i) ≡ option_map (revalued (λ v. v)) (at t.nodes i)
+        made_case : (i : ℕ) (o : Option ℕ) → IsFor trees.draft i o → option_map (revalued (changed_where (λ j. eqb j f) g i)) (at t.nodes i) ≡ option_map (revalued (λ v. v)) (at t.nodes i)
         made_case i o y =
             skip (eqb i f) g (at t.nodes i) (eqb-false i f (λ e. h.stands.apart f m (rw e at (for-makes trees.draft i o y)))) ∙ sym (same-value (at t.nodes i))

@@ -54,7 +54,7 @@ module _ {F : Type 0} where
   made_list_at-absent (made id v o ks rs) i n =
       rw (eqb-false id i (λ e. n (inl (sym e))), made_list_at-absent ks i (λ m. n (inr (inl m))), made_list_at-absent rs i (λ m. n (inr (inr m)))) refl
 
-  made_parent-absent : (p : Option ℕ) (w : Draft F) (i : ℕ) → (Makes w i → ⊥) → made_parent_in p w i ≡ None
+  pub made_parent-absent : (p : Option ℕ) (w : Draft F) (i : ℕ) → (Makes w i → ⊥) → made_parent_in p w i ≡ None
   made_parent-absent p (taken s) i n = refl
   made_parent-absent p (made id v o ks rs) i n =
       rw (eqb-false id i (λ e. n (inl (sym e))), made_parent-absent (Some id) ks i (λ m. n (inr (inl m))), made_parent-absent p rs i (λ m. n (inr (inr m)))) refl

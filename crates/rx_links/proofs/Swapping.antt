@@ -10,7 +10,8 @@ use Rattle.rx_lists.specs.Shapes.{Shape, none, fiber, first, Holds, IsTree, IsTo
 use Rattle.rx_lists.proofs.Adopting.{alternate-same, shared-same, reads-same, returns-kids, kids-returns, top-below}
 use Rattle.rx_lists.proofs.Frames.{eqb-false, Reads-frame, Returns-frame, child-core, shape_of-reads}
 use Rattle.rx_lists.proofs.Freeing.{core-kept, up-kept, is-read, own-held, own-frame}
-use Rattle.rx_links.specs.Drafts.{Draft, taken, made, Trees, entry, Makes, IsFor, grafted, HasTop, HasKids, IsOldKids, Follows, Takes}
+use Rattle.rx_links.specs.Drafts.{Draft, taken, made, Trees, entry, Makes, IsFor, grafted, HasTop, IsOldKids, Follows}
+use Rattle.rx_links.proofs.Parts.{HasKids, Takes}
 use Rattle.rx_links.specs.Stands.{Drafts, Roots, Shows}
 use Rattle.rx_links.proofs.Computed.{whole, current-small, draft-small}
 use Rattle.rx_links.proofs.DraftFrames.{first-grafted, Reads-grafted, old-read}

@@ -1,7 +1,8 @@
 -- The old children of a fiber that has no children yet are unused.
 use Rattle.std.proofs.Common.{◌≡◌, ◌≢◌, ◌⊎◌, inl, inr, ℕ, Bool, true, false, eqb, cond, refl, sym, ap, ◌∙◌, Some, None, Option}
 use Rattle.rx_lists.specs.Shapes.{Shape, none, fiber, Holds, IsTree, IsTop}
-use Rattle.rx_links.specs.Drafts.{Draft, taken, made, Trees, Makes, IsFor, IsUnused, IsEmpty, IsBare, grown, HasKids, old_kids, kids_under, IsOldKids, Follows, Fits}
+use Rattle.rx_links.specs.Drafts.{Draft, taken, made, Trees, Makes, IsFor, IsUnused, IsEmpty, IsBare, grown, old_kids, kids_under, IsOldKids, Follows, Fits, IsTopUnused, HasMadeKids}
+use Rattle.rx_links.proofs.Parts.{HasKids}
 use Rattle.rx_links.proofs.Edits.{KidsFor, kids_for-for, kids-all, has-makes, makes-kids, old_of-is, IsOldAny, kids_under-is, top-any, any-below, has-held, top-holds}
 use Rattle.rx_links.proofs.Whole.{for-makes}
 use Rattle.rx_links.proofs.Writes.{for-any}
@@ -41,7 +42,7 @@ module _ {F : Type 0} where
     mine : KidsFor w by (Some from) kids
     has : HasKids c from old
     top : IsTop old j
-    makes : Makes kids i
+    uses : IsTopUnused kids j → ⊥
 
   tops : (c : Shape F) (j : ℕ) (k : Shape F) → IsOldKids c (Some j) k → IsTop c j
   tops none j k h = h
@@ -52,19 +53,20 @@ module _ {F : Type 0} where
   top-none none j e h = h
   top-none (fiber id v ks rs) j e h = cc
 
-  made-under : (c : Shape F) (w : Draft F) (i j : ℕ) → Follows c w → IsFor w i (Some j) → IsTop c j ⊎ MadeUnder c w i j
+  -- a current fiber that one was made for is of the old list, and one of the list itself was made for it; or both are below
+  made-under : (c : Shape F) (w : Draft F) (i j : ℕ) → Follows c w → IsFor w i (Some j) → (IsTop c j × (IsTopUnused w j → ⊥)) ⊎ MadeUnder c w i j
   made-under c (taken s) i j f h = absurd h
-  made-under c (made id v o ks rs) i j f (inl h) = inl (tops c j f.0.0 (rw h.1 at f.0.1))
+  made-under c (made id v o ks rs) i j f (inl h) = inl (tops c j f.0.0 (rw h.1 at f.0.1), λ u. u.0 h.1)
   made-under c (made id v o ks rs) i j f (inr (inr h)) =
       elim (made-under c rs i j f.1 h) [
-        | inl x ↦ inl x
-        | inr r ↦ inr (record { by = r.by; from = r.from; old = r.old; kids = r.kids; mine = inr (inr r.mine); has = r.has; top = r.top; makes = r.makes })
+        | inl x ↦ inl (x.0, λ u. x.1 u.1)
+        | inr r ↦ inr (record { by = r.by; from = r.from; old = r.old; kids = r.kids; mine = inr (inr r.mine); has = r.has; top = r.top; uses = r.uses })
       ]
   made-under c (made id v o ks rs) i j f (inr (inl h)) =
       elim f.0.2 [
         | inl e ↦ absurd (rw e at h)
         | inr g ↦ elim (made-under f.0.0 ks i j g h) [
-          | inl x ↦ inr (here o refl f.0.1 x)
+          | inl x ↦ inr (here o refl f.0.1 x.0 x.1)
           | inr r ↦ inr (record {
             by = r.by;
             from = r.from;
@@ -73,14 +75,14 @@ module _ {F : Type 0} where
             mine = inr (inl r.mine);
             has = let q = r.has in any-below c o (Some r.from) f.0.0 r.old f.0.1 q;
             top = r.top;
-            makes = r.makes;
+            uses = r.uses;
           })
         ]
       ]
     where
-      here : (x : Option ℕ) → o ≡ x → IsOldKids c x f.0.0 → IsTop f.0.0 j → MadeUnder c (made id v o ks rs) i j
-      here None e y z = absurd (top-none f.0.0 j y z)
-      here (Some l) e y z = record {
+      here : (x : Option ℕ) → o ≡ x → IsOldKids c x f.0.0 → IsTop f.0.0 j → (IsTopUnused ks j → ⊥) → MadeUnder c (made id v o ks rs) i j
+      here None e y z u = absurd (top-none f.0.0 j y z)
+      here (Some l) e y z u = record {
         by = id;
         from = l;
         old = f.0.0;
@@ -88,7 +90,7 @@ module _ {F : Type 0} where
         mine = inl (refl, e, refl);
         has = top-any c (Some l) f.0.0 y;
         top = z;
-        makes = for-makes ks i (Some j) h;
+        uses = u;
       }
 
   not-unused : (w : Draft F) (j : ℕ) → ((i : ℕ) → IsFor w i (Some j) → ⊥) → IsUnused w j
@@ -96,13 +98,13 @@ module _ {F : Type 0} where
   not-unused (made id v o ks rs) j n =
       (λ e. n id (inl (refl, e)), not-unused ks j (λ i m. n i (inr (inl m))), not-unused rs j (λ i m. n i (inr (inr m))))
 
-  -- where a made fiber has no children yet, none is made for a child of its old one
-  pub bare-unused : (t : Trees F) (p j : ℕ) → Fits t → IsBare t.draft p → IsTop (old_kids t p) j → IsUnused t.draft j
-  bare-unused t p j f bare_ top_ = not-unused t.draft j (λ i m. clash i m)
+  -- where none of the children of a made fiber is for a child of its old one, no fiber is
+  pub kid-unused : (t : Trees F) (p j : ℕ) → Fits t → HasMadeKids (λ ks. IsTopUnused ks j) t.draft p → IsTop (old_kids t p) j → IsUnused t.draft j
+  kid-unused t p j f free_ top_ = not-unused t.draft j (λ i m. clash i m)
     where
       clash : (i : ℕ) → IsFor t.draft i (Some j) → ⊥
       clash i m =
-          let k = makes-kids t.draft p (has-makes IsEmpty t.draft p bare_) in
+          let k = makes-kids t.draft p (has-makes (λ ks. IsTopUnused ks j) t.draft p free_) in
           let a = for-any t.current t.draft p k.0 k.1 f.follows k.2 in
           let same : old_kids t p ≡ a.0 =
           ap (kids_under t.current) (old_of-is t.draft p k.0 f.made_once (kids_for-for t.draft p k.0 k.1 k.2)) ∙ kids_under-is t.current k.0 a.0 f.once a.1 in
@@ -112,22 +114,21 @@ module _ {F : Type 0} where
           by_old None ks kf l y z = top-none l j y z
           by_old (Some jp) ks kf l y z =
               elim (made-under t.current t.draft i j f.follows m) [
-                | inl x ↦ top-not-kid t.current j jp l f.once x y (top-holds l j z)
+                | inl x ↦ top-not-kid t.current j jp l f.once x.0 y (top-holds l j z)
                 | inr r ↦
                     let e = one-parent t.current j r.from jp r.old l f.once r.has y r.top z in
                     let q = r.mine in
                     let u : r.by ≡ p = f.for_one r.by p jp (rw e at (kids_for-for t.draft r.by (Some r.from) r.kids q)) (kids_for-for t.draft p (Some jp) ks kf) in
-                    let v = kids-all IsEmpty t.draft p f.made_once bare_ (Some r.from) r.kids (rw u at q) in
-                    let w = r.makes in
-                    rw v at w
+                    let v = kids-all (λ x. IsTopUnused x j) t.draft p f.made_once free_ (Some r.from) r.kids (rw u at q) in
+                    r.uses v
               ]
 
-  -- and each other one stays unused when a child is made
-  pub grown-unused : (p id : ℕ) (v : F) (o : Option ℕ) (w : Draft F) (j : ℕ) → o ≢ Some j → IsUnused w j → IsUnused (grown p id v o w) j
-  grown-unused p id v o (taken s) j n u = tt
-  grown-unused p id v o (made jd x q ks rs) j n u =
-      (u.0, by_test (eqb jd p) (grown-unused p id v o ks j n u.1), grown-unused p id v o rs j n u.2)
-    where
-      by_test : (b : Bool) → IsUnused (grown p id v o ks) j → IsUnused (cond b (made id v o (taken none) ks) (grown p id v o ks)) j
-      by_test true h = (n, tt, u.1)
-      by_test false h = h
+  bare-free : (w : Draft F) (p j : ℕ) → IsBare w p → HasMadeKids (λ ks. IsTopUnused ks j) w p
+  bare-free (taken s) p j h = h
+  bare-free (made id v o ks rs) p j (inl h) = inl (h.0, rw h.1 tt)
+  bare-free (made id v o ks rs) p j (inr (inl h)) = inr (inl (bare-free ks p j h))
+  bare-free (made id v o ks rs) p j (inr (inr h)) = inr (inr (bare-free rs p j h))
+
+  -- where a made fiber has no children yet, none is made for a child of its old one
+  pub bare-unused : (t : Trees F) (p j : ℕ) → Fits t → IsBare t.draft p → IsTop (old_kids t p) j → IsUnused t.draft j
+  bare-unused t p j f b top_ = kid-unused t p j f (bare-free t.draft p j b) top_

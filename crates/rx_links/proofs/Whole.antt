@@ -1,7 +1,8 @@
 -- The tree that a draft leaves is a tree again.
 use Rattle.std.proofs.Common.{◌≡◌, ℕ, ◌⊎◌, inl, inr, sym, ◌∙◌, refl, Some, None, Option}
 use Rattle.rx_lists.specs.Shapes.{Shape, none, fiber, Holds, IsTree}
-use Rattle.rx_links.specs.Drafts.{Draft, taken, made, Makes, IsMadeOnce, IsFor, grafted, HasTop, IsOldKids, Follows, Takes, MakesTop, IsForOne}
+use Rattle.rx_links.specs.Drafts.{Draft, taken, made, Makes, IsMadeOnce, IsFor, grafted, HasTop, IsOldKids, Follows, IsForOne}
+use Rattle.rx_links.proofs.Parts.{Takes, MakesTop}
 
 module _ {F : Type 0} where
   pub top-held : (c : Shape F) (j : ℕ) (k : Shape F) (i : ℕ) → HasTop c j k → Holds k i → Holds c i

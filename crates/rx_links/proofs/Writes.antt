@@ -7,9 +7,10 @@ use Rattle.rx_lists.specs.Changes.{Grows, Adds, IsAlone, child_node}
 use Rattle.rx_lists.specs.Links.{child_at, child_under}
 use Rattle.rx_lists.specs.Reads.{Nodes, core_of, core_at, up_in, up_at, alternate_at, node, Reads, limit}
 use Rattle.rx_lists.specs.Shapes.{Shape, none, fiber, first, Holds, IsTop}
-use Rattle.rx_lists.specs.Ways.{revalued}
+use Rattle.rx_lists.specs.Marks.{revalued}
 use Rattle.rx_lists.proofs.Frames.{same_or_not, eqb-false, Reads-frame, Returns-frame, child-core, some-at, if-some, leads_or_not}
-use Rattle.rx_links.specs.Drafts.{Draft, taken, made, Trees, entry, Makes, IsMadeOnce, IsFor, IsUnused, IsMadeList, IsEmpty, IsOpen, IsBare, rekidded, grown, taking, valued, HasKids, old_kids, kids_under, IsOldKids, Follows}
+use Rattle.rx_links.specs.Drafts.{Draft, taken, made, Trees, entry, Makes, IsMadeOnce, IsFor, IsUnused, IsMadeList, IsEmpty, IsOpen, IsBare, rekidded, grown, taking, valued, old_kids, kids_under, IsOldKids, Follows}
+use Rattle.rx_links.proofs.Parts.{HasKids}
 use Rattle.rx_links.specs.Stands.{Drafts, Roots, Shows}
 use Rattle.rx_links.proofs.Computed.{held-live, made-live}
 use Rattle.rx_links.proofs.DraftFrames.{Drafts-frame, Drafts-alternate}
@@ -98,15 +99,15 @@ module _ {F : Type 0} where
     small = omega (arith, count, h.small);
   }
 
-  core-alternate : (x : Option ℕ) (s : Option (Node F)) → option_map core_of (option_map (with_alternate x) s) ≡ option_map core_of s
+  pub core-alternate : (x : Option ℕ) (s : Option (Node F)) → option_map core_of (option_map (with_alternate x) s) ≡ option_map core_of s
   core-alternate x None = refl
   core-alternate x (Some n) = refl
 
-  up-alternate : (x : Option ℕ) (s : Option (Node F)) → up_in (option_map (with_alternate x) s) ≡ up_in s
+  pub up-alternate : (x : Option ℕ) (s : Option (Node F)) → up_in (option_map (with_alternate x) s) ≡ up_in s
   up-alternate x None = refl
   up-alternate x (Some n) = refl
 
-  alternate-alternate : (x : Option ℕ) (s : Option (Node F)) → IsSome s → alternate_in (option_map (with_alternate x) s) ≡ x
+  pub alternate-alternate : (x : Option ℕ) (s : Option (Node F)) → IsSome s → alternate_in (option_map (with_alternate x) s) ≡ x
   alternate-alternate x None h = cc
   alternate-alternate x (Some n) h = refl
 

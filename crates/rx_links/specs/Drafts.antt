@@ -1,6 +1,6 @@
 -- Two trees of fibers as plain data: the current one, and the one in progress.
-use Rattle.std.specs.Prelude.{◌≡◌, ◌≢◌, ℕ, suc, ◌+◌, eqb, ◌||◌, ◌⊎◌, [], ◌∷◌, ◌++◌, Option, Some, None, if◌then◌else◌}
-use Rattle.rx_lists.specs.Shapes.{Shape, none, fiber, first, Holds, holds, IsTree}
+use Rattle.std.specs.Prelude.{◌≡◌, ◌≢◌, ℕ, suc, ◌+◌, eqb, ◌⊎◌, Option, Some, None, if◌then◌else◌}
+use Rattle.rx_lists.specs.Shapes.{Shape, none, fiber, first, Holds, IsTree}
 
 -- a list in progress: made fibers, each with the current fiber that it was made for, or a current list that was taken over
 pub data Draft (F : Type 0) : Type 0 where
@@ -18,15 +18,17 @@ or_else None b = b
 or_else (Some x) b = Some x
 
 module _ {F : Type 0} where
+  -- the link that leads to a list in progress
   abbrev pub entry : Draft F → Option ℕ
   entry (taken s) = first s
   entry (made id v o ks rs) = Some id
 
-  -- the id is made for the draft
+  -- the fiber is made for the draft
   abbrev pub Makes : Draft F → ℕ → Type 0
   Makes (taken s) i = ⊥
   Makes (made id v o ks rs) i = (i ≡ id) ⊎ (Makes ks i ⊎ Makes rs i)
 
+  -- each made fiber stands there once
   abbrev pub IsMadeOnce : Draft F → Type 0
   IsMadeOnce (taken s) = Unit {0}
   IsMadeOnce (made id v o ks rs) =
@@ -58,7 +60,12 @@ module _ {F : Type 0} where
   clone_of (made id v None ks rs) j = or_else (clone_of ks j) (clone_of rs j)
   clone_of (made id v (Some o) ks rs) j = if eqb o j then Some id else or_else (clone_of ks j) (clone_of rs j)
 
-  -- the list has only made fibers
+  -- of the list itself no fiber is made for the current fiber j
+  abbrev pub IsTopUnused : Draft F → ℕ → Type 0
+  IsTopUnused (taken s) j = Unit {0}
+  IsTopUnused (made id v old ks rs) j = (old ≢ Some j) × IsTopUnused rs j
+
+  -- the list has only made fibers, or none
   abbrev pub IsMadeList : Draft F → Type 0
   IsMadeList (taken s) = s ≡ none
   IsMadeList (made id v o ks rs) = IsMadeList rs
@@ -72,6 +79,7 @@ module _ {F : Type 0} where
   abbrev pub IsOpen : Draft F → ℕ → Type 0
   IsOpen w i = HasMadeKids IsMadeList w i
 
+  -- the list has no fibers
   abbrev pub IsEmpty : Draft F → Type 0
   IsEmpty w = w ≡ taken none
 
@@ -79,32 +87,37 @@ module _ {F : Type 0} where
   abbrev pub IsBare : Draft F → ℕ → Type 0
   IsBare w i = HasMadeKids IsEmpty w i
 
-  -- the draft as a list
+  -- the draft as a plain list: what it will be once it is current
   abbrev pub grafted : Draft F → Shape F
   grafted (taken s) = s
   grafted (made id v o ks rs) = fiber id v (grafted ks) (grafted rs)
 
-  -- what the draft made, without what it took over
-  abbrev pub made_part : Draft F → Shape F
-  made_part (taken s) = none
-  made_part (made id v o ks rs) = fiber id v (made_part ks) (made_part rs)
-
-  -- the draft with the value at an id changed by m
+  -- the draft with the value of a made fiber changed by m
   abbrev pub valued : ℕ → (F → F) → Draft F → Draft F
   valued i m (taken s) = taken s
   valued i m (made id v o ks rs) = made id (if eqb id i then m v else v) o (valued i m ks) (valued i m rs)
 
-  -- the draft with its children changed by f at an id
+  -- the draft with the children of a made fiber changed by f
   abbrev pub rekidded : ℕ → (Draft F → Draft F) → Draft F → Draft F
   rekidded i f (taken s) = taken s
   rekidded i f (made id v o ks rs) =
       made id v o (if eqb id i then f ks else rekidded i f ks) (rekidded i f rs)
 
-  -- the draft with a new first child at an id
+  -- the draft with what is behind a made fiber in its list changed by f
+  abbrev pub rerested : ℕ → (Draft F → Draft F) → Draft F → Draft F
+  rerested i f (taken s) = taken s
+  rerested i f (made id v o ks rs) =
+      made id v o (rerested i f ks) (if eqb id i then f rs else rerested i f rs)
+
+  -- the draft with a new first child of a made fiber
   abbrev pub grown : ℕ → (id : ℕ) → F → Option ℕ → Draft F → Draft F
   grown i id v o w = rekidded i (λ ks. made id v o (taken none) ks) w
 
-  -- the draft with a current list as the children at an id
+  -- the draft with a new fiber right behind a made one
+  abbrev pub inserted : ℕ → (id : ℕ) → F → Option ℕ → Draft F → Draft F
+  inserted i id v o w = rerested i (λ rs. made id v o (taken none) rs) w
+
+  -- the draft with a current list as the children of a made fiber
   abbrev pub taking : ℕ → Shape F → Draft F → Draft F
   taking i s w = rekidded i (λ ks. taken s) w
 
@@ -112,11 +125,6 @@ module _ {F : Type 0} where
   abbrev pub HasTop : Shape F → ℕ → Shape F → Type 0
   HasTop none j k = ⊥
   HasTop (fiber id v ks rs) j k = ((id ≡ j) × (ks ≡ k)) ⊎ HasTop rs j k
-
-  -- a fiber of the tree has these children
-  abbrev pub HasKids : Shape F → ℕ → Shape F → Type 0
-  HasKids none j k = ⊥
-  HasKids (fiber id v ks rs) j k = ((id ≡ j) × (ks ≡ k)) ⊎ (HasKids ks j k ⊎ HasKids rs j k)
 
   -- the list of the tree that begins with the fiber: it and its later siblings
   abbrev pub list_at : Shape F → ℕ → Option (Shape F)
@@ -128,14 +136,16 @@ module _ {F : Type 0} where
   kids_at none i = None
   kids_at (fiber id v ks rs) i = if eqb id i then Some ks else or_else (kids_at ks i) (kids_at rs i)
 
+  -- the list, or none
   abbrev pub shape_or_none : Option (Shape F) → Shape F
   shape_or_none None = none
   shape_or_none (Some s) = s
 
+  -- the same: none where the tree has no such fiber
   abbrev pub kids_of : Shape F → ℕ → Shape F
   kids_of c i = shape_or_none (kids_at c i)
 
-  -- the children that the old fiber has in the current tree
+  -- the children that an old fiber has in the current tree
   abbrev pub kids_under : Shape F → Option ℕ → Shape F
   kids_under c None = none
   kids_under c (Some j) = kids_of c j
@@ -156,21 +166,13 @@ module _ {F : Type 0} where
   Follows c (made id v o ks rs) =
       ((k : Shape F) × IsOldKids c o k × ((ks ≡ taken k) ⊎ Follows k ks)) × Follows c rs
 
-  -- the id is in a list that was taken over
-  abbrev pub Takes : Draft F → ℕ → Type 0
-  Takes (taken s) i = Holds s i
-  Takes (made id v o ks rs) i = Takes ks i ⊎ Takes rs i
-
-  -- the list itself has this made fiber
-  abbrev pub MakesTop : Draft F → ℕ → Type 0
-  MakesTop (taken s) i = ⊥
-  MakesTop (made id v o ks rs) i = (i ≡ id) ⊎ MakesTop rs i
-
   -- no current fiber has two made for it
   abbrev pub IsForOne : Draft F → Type 0
   IsForOne w = (a b j : ℕ) → IsFor w a (Some j) → IsFor w b (Some j) → a ≡ b
 
-  -- what always holds of the two trees
+  -- what always holds of the two trees: the links of each form a tree, no made fiber is current, a made fiber stands beside the
+  -- old list that has its alternate, a current fiber has one alternate at most, and what both trees have are whole subtrees of
+  -- the current one
   pub record Fits (t : Trees F) : Type 0 where
     pub once : IsTree t.current
     pub made_once : IsMadeOnce t.draft

@@ -1,7 +1,7 @@
 -- Values that change in both trees at once.
-use Rattle.std.specs.Prelude.{◌≡◌, ◌≢◌, ℕ, ◌+◌, eqb, ◌||◌, ◌⊎◌, List, [], ◌∷◌, ◌++◌, Option, Some, None, if◌then◌else◌}
-use Rattle.rx_lists.specs.Shapes.{Shape, none, fiber, is_among, first}
-use Rattle.rx_links.specs.Drafts.{Draft, taken, made, Trees}
+use Rattle.std.specs.Prelude.{ℕ, Bool, eqb, List, [], ◌∷◌, Option, Some, None, if◌then◌else◌}
+use Rattle.rx_lists.specs.Shapes.{Shape, none, fiber, is_among, holds}
+use Rattle.rx_links.specs.Drafts.{Draft, taken, made, Trees, kids_of}
 
 -- the first of two lists that is not empty
 abbrev pub first_way : List ℕ → List ℕ → List ℕ
@@ -19,32 +19,39 @@ module _ {F : Type 0} where
   mapped_draft g h (taken s) = taken (mapped g s)
   mapped_draft g h (made id v o ks rs) = made id (h id o v) o (mapped_draft g h ks) (mapped_draft g h rs)
 
-  -- a fiber with those above it, the nearest first; `above` are those above the list
+  -- a fiber of a list with those above it, the nearest first, where these are above the list
   abbrev pub way_in : List ℕ → Shape F → ℕ → List ℕ
   way_in above none i = []
   way_in above (fiber id v ks rs) i = if eqb id i then id ∷ above else first_way (way_in (id ∷ above) ks i) (way_in above rs i)
 
+  -- a fiber of the tree with those above it, up to the root
   abbrev pub way_up : Shape F → ℕ → List ℕ
   way_up c i = way_in [] c i
 
-  -- the value changed by m, where the id is on the way
-  abbrev pub on_way : List ℕ → (F → F) → ℕ → F → F
-  on_way ws m i v = if is_among ws i then m v else v
+  -- the value changed by m, where the test passes for the id
+  abbrev pub changed_where : (ℕ → Bool) → (F → F) → ℕ → F → F
+  changed_where p m i v = if p i then m v else v
 
-  abbrev pub for_way : List ℕ → (F → F) → ℕ → Option ℕ → F → F
-  for_way ws m i None v = v
-  for_way ws m i (Some j) v = on_way ws m j v
+  -- the same of a made fiber, where the test passes for the current one that it is for
+  abbrev pub changed_for : (ℕ → Bool) → (F → F) → ℕ → Option ℕ → F → F
+  changed_for p m i None v = v
+  changed_for p m i (Some j) v = changed_where p m j v
 
-  -- m changed a current fiber with those above it, and each fiber that is made for one of these
+  -- m changed each current fiber for which the test passes, in each tree that has it, and each fiber that is made for such a one
+  abbrev pub marked_where : (ℕ → Bool) → (F → F) → Trees F → Trees F
+  marked_where p m t =
+      record { current = mapped (changed_where p m) t.current; draft = mapped_draft (changed_where p m) (changed_for p m) t.draft }
+
+  -- m changed a current fiber and those above it up to the root, each with its alternate
   abbrev pub marked_above : (F → F) → ℕ → Trees F → Trees F
-  marked_above m i t =
-      let ws = way_up t.current i in
-      record { current = mapped (on_way ws m) t.current; draft = mapped_draft (on_way ws m) (for_way ws m) t.draft }
+  marked_above m i t = marked_where (is_among (way_up t.current i)) m t
 
-  abbrev pub changed_at : (F → F) → ℕ → ℕ → F → F
-  changed_at m i j v = if eqb j i then m v else v
+  -- m changed all fibers below a current one, each with its alternate
+  abbrev pub marked_below : (F → F) → ℕ → Trees F → Trees F
+  marked_below m i t = marked_where (holds (kids_of t.current i)) m t
 
-  -- m changed the value of a current fiber, in each tree that has it
+  -- m changed a current fiber alone, in each tree that has it
   abbrev pub changed_current : (F → F) → ℕ → Trees F → Trees F
   changed_current m i t =
-      record { current = mapped (changed_at m i) t.current; draft = mapped_draft (changed_at m i) (λ j o v. v) t.draft }
+      let here : ℕ → Bool = λ j. eqb j i in
+      record { current = mapped (changed_where here m) t.current; draft = mapped_draft (changed_where here m) (λ j o v. v) t.draft }

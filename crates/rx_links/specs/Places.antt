@@ -1,6 +1,6 @@
 -- A place in a list in progress, with what surrounds it.
-use Rattle.std.specs.Prelude.{◌≡◌, ℕ, ◌⊎◌, Option}
-use Rattle.rx_links.specs.Drafts.{Draft, made, Makes}
+use Rattle.std.specs.Prelude.{ℕ, Option}
+use Rattle.rx_links.specs.Drafts.{Draft, made}
 
 -- what surrounds a place: the fibers whose children it is among, and the earlier siblings, the nearest first
 pub data Around (F : Type 0) : Type 0 where
@@ -9,12 +9,8 @@ pub data Around (F : Type 0) : Type 0 where
   after : (id : ℕ) → (value : F) → (old : Option ℕ) → (kids : Draft F) → Around F → Around F
 
 module _ {F : Type 0} where
+  -- a list in progress with what surrounds it
   abbrev pub placed : Around F → Draft F → Draft F
   placed top d = d
   placed (below id v o rs k) d = placed k (made id v o d rs)
   placed (after id v o ks k) d = placed k (made id v o ks d)
-
-  abbrev pub MakesAround : Around F → ℕ → Type 0
-  MakesAround top i = ⊥
-  MakesAround (below id v o rs k) i = (i ≡ id) ⊎ (Makes rs i ⊎ MakesAround k i)
-  MakesAround (after id v o ks k) i = (i ≡ id) ⊎ (Makes ks i ⊎ MakesAround k i)

@@ -1,15 +1,16 @@
 -- What the trees tell of one fiber.
-use Rattle.std.specs.Prelude.{◌≡◌, ◌≢◌, ℕ, ◌+◌, eqb, ◌||◌, ◌⊎◌, [], ◌∷◌, ◌++◌, Option, Some, None, if◌then◌else◌}
-use Rattle.rx_lists.specs.Shapes.{Shape, none, fiber, first, Holds}
-use Rattle.rx_links.specs.Drafts.{Draft, taken, made, Trees, or_else, Makes, list_at}
+use Rattle.std.specs.Prelude.{ℕ, eqb, ◌⊎◌, Option, Some, None, if◌then◌else◌}
+use Rattle.rx_lists.specs.Shapes.{Shape, none, fiber, Holds}
+use Rattle.rx_links.specs.Drafts.{Draft, taken, made, Trees, or_else, Makes, list_at, old_kids}
 
 module _ {F : Type 0} where
-  -- the value, the children and the later siblings of the first fiber of a list
+  -- the value of the first fiber of a list
   abbrev pub value_in : Option (Shape F) → Option F
   value_in None = None
   value_in (Some none) = None
   value_in (Some (fiber id v ks rs)) = Some v
 
+  -- the later siblings of the first fiber of a list
   abbrev pub rest_in : Option (Shape F) → Shape F
   rest_in None = none
   rest_in (Some none) = none
@@ -28,6 +29,7 @@ module _ {F : Type 0} where
   parent_in p none i = None
   parent_in p (fiber id v ks rs) i = if eqb id i then p else or_else (parent_in (Some id) ks i) (parent_in p rs i)
 
+  -- the parent of a fiber of the tree
   abbrev pub parent_of : Shape F → ℕ → Option ℕ
   parent_of c i = parent_in None c i
 
@@ -36,28 +38,33 @@ module _ {F : Type 0} where
   made_list_at (taken s) i = None
   made_list_at (made id v o ks rs) i = if eqb id i then Some (made id v o ks rs) else or_else (made_list_at ks i) (made_list_at rs i)
 
+  -- the value of the first fiber of a list in progress, if it is a made one
   abbrev pub made_value_in : Option (Draft F) → Option F
   made_value_in None = None
   made_value_in (Some (taken s)) = None
   made_value_in (Some (made id v o ks rs)) = Some v
 
+  -- the children of that fiber
   abbrev pub made_kids_in : Option (Draft F) → Draft F
   made_kids_in None = taken none
   made_kids_in (Some (taken s)) = taken none
   made_kids_in (Some (made id v o ks rs)) = ks
 
+  -- the later siblings of that fiber
   abbrev pub made_rest_in : Option (Draft F) → Draft F
   made_rest_in None = taken none
   made_rest_in (Some (taken s)) = taken none
   made_rest_in (Some (made id v o ks rs)) = rs
 
-  -- the value, the children and the later siblings of a made fiber
+  -- the value of a made fiber
   abbrev pub made_value_of : Draft F → ℕ → Option F
   made_value_of w i = made_value_in (made_list_at w i)
 
+  -- the children of a made fiber
   abbrev pub made_kids_of : Draft F → ℕ → Draft F
   made_kids_of w i = made_kids_in (made_list_at w i)
 
+  -- the later siblings of a made fiber
   abbrev pub made_rest_of : Draft F → ℕ → Draft F
   made_rest_of w i = made_rest_in (made_list_at w i)
 
@@ -66,9 +73,19 @@ module _ {F : Type 0} where
   made_parent_in p (taken s) i = None
   made_parent_in p (made id v o ks rs) i = if eqb id i then p else or_else (made_parent_in (Some id) ks i) (made_parent_in p rs i)
 
+  -- the parent of a made fiber
   abbrev pub made_parent_of : Draft F → ℕ → Option ℕ
   made_parent_of w i = made_parent_in None w i
 
   -- the fiber is current, or made for the tree in progress
   abbrev pub IsIn : Trees F → ℕ → Type 0
   IsIn t i = Holds t.current i ⊎ Makes t.draft i
+
+  -- the current list beside which the children of a made fiber are made, and where there is none the root
+  abbrev pub list_under : Trees F → Option ℕ → Shape F
+  list_under t None = t.current
+  list_under t (Some p) = old_kids t p
+
+  -- the current list beside which the list of a made fiber was made
+  abbrev pub old_list : Trees F → ℕ → Shape F
+  old_list t i = list_under t (made_parent_of t.draft i)

@@ -19,7 +19,9 @@ module _ {F : Type 0} where
   Drafts a p (made id v o ks rs) =
       (at a id ≡ Some (node v (entry ks) (entry rs) p o)) × Drafts a (Some id) ks × Drafts a p rs
 
-  -- the fibers from the current root are c, those from the root in progress are w, and there are no other nodes
+  -- the nodes stand for these two trees. Child and sibling links from both roots read as them; return links of current fibers lead
+  -- to the current parent, and those of made ones to the made parent; each made fiber and the current one that it is for are
+  -- alternates, and there are no other alternates and no other nodes
   pub record Stands (t : Roots F) (c : Shape F) (w : Draft F) : Type 0 where
     pub leads_current : t.current ≡ first c
     pub leads_draft : t.draft ≡ entry w

@@ -11,6 +11,7 @@ use Rattle.rx_links.specs.Drafts.{Draft, taken, made, Trees}
 use Rattle.rx_links.specs.Stands.{Roots, Shows}
 
 module _ {F : Type 0} where
+  -- a made fiber, where it has a node, with the lists from its links
   abbrev pub drafted : ℕ → Option (Node F) → (Option ℕ → Draft F) → Draft F
   drafted id None f = taken none
   drafted id (Some n) f = made id n.value n.alternate (f n.child) (f n.sibling)
@@ -22,6 +23,7 @@ module _ {F : Type 0} where
   draft_of (suc n) a c (Some id) =
       if holds c id then taken (shape_of (suc n) a (Some id)) else drafted id (at a id) (draft_of n a c)
 
+  -- the two trees that the links make
   unfoldable pub trees_of : Roots F → Trees F
   trees_of t =
       let c = shape_of limit t.nodes t.current in
@@ -31,11 +33,13 @@ module _ {F : Type 0} where
   pub record IsSound (t : Roots F) : Type 0 where
     pub shows : Shows t (trees_of t)
 
+-- the first of a pair
 abbrev head : Gv → Gv
 head gnil = gnil
 head (gnum n) = gnil
 head (gcons a b) = a
 
+-- the second of a pair
 abbrev tail : Gv → Gv
 tail gnil = gnil
 tail (gnum n) = gnil
@@ -52,6 +56,7 @@ option_one (Some i) (Some j) p = ap Some (ap num p)
 option_one _ _ p = cc
 
 module _ {F : Type 0} (value : Coded F) where
+  -- a list of fibers as numbers
   abbrev stored : Shape F → Gv
   stored none = gnil
   stored (fiber id v ks rs) = gcons (gnum id) (gcons (value.code v) (gcons (stored ks) (stored rs)))
@@ -64,6 +69,7 @@ module _ {F : Type 0} (value : Coded F) where
       (stored_one rs ts (ap (λ g. tail (tail (tail g))) p) i)
   stored_one _ _ p = cc
 
+  -- a list in progress as numbers
   abbrev kept : Draft F → Gv
   kept (taken s) = gcons gnil (stored s)
   kept (made id v o ks rs) = gcons (gnum id) (gcons (value.code v) (gcons (option_code o) (gcons (kept ks) (kept rs))))
@@ -77,11 +83,13 @@ module _ {F : Type 0} (value : Coded F) where
       (kept_one rs ts (ap (λ g. tail (tail (tail (tail g)))) p) i)
   kept_one _ _ p = cc
 
+  -- both trees as numbers
   abbrev all : Trees F → Gv
   all t = gcons (stored t.current) (kept t.draft)
 
   pub all_one : (x y : Trees F) → all x ≡ all y → x ≡ y
   all_one x y p = λ i. record { current = stored_one x.current y.current (ap head p) i; draft = kept_one x.draft y.draft (ap tail p) i }
 
+  -- that coding
   abbrev pub trees_code : Coded (Trees F)
   trees_code = record { code = all; inj = all_one }

@@ -1,9 +1,9 @@
 -- What reading the nodes sees, and what a change elsewhere leaves of it.
-use Rattle.std.proofs.Common.{◌≡◌, ◌≢◌, ℕ, Bool, true, false, eqb, inl, inr, ap, ◌∙◌, refl, eqb-true, Some, None, Option, option_map, IsSome, zero, suc, ◌⊎◌, ◌≤◌, ◌+◌, ◌||◌, eq-eqb, arith, ◌<◌, ◌^◌, IfSome}
+use Rattle.std.proofs.Common.{◌≡◌, ◌≢◌, ℕ, Bool, true, false, eqb, inl, inr, ap, ◌∙◌, refl, eqb-true, Some, None, Option, option_map, IsSome, zero, suc, ◌⊎◌, ◌≤◌, ◌||◌, eq-eqb, arith, IfSome}
 use Rattle.rx_arena.specs.Nodes.{at, Changes}
 use Rattle.rx_arena.specs.declared.arena.Node.{Node}
 use Rattle.rx_lists.specs.Links.{child_in, child_at}
-use Rattle.rx_lists.specs.Reads.{Nodes, Core, core, core_of, core_at, up_at, Reads, Returns, shape_of, node}
+use Rattle.rx_lists.specs.Reads.{Nodes, Core, core, core_of, core_at, up_at, Reads, Returns, shape_of}
 use Rattle.rx_lists.specs.Shapes.{Shape, none, fiber, first, Holds, holds, size}
 
 pub same_or_not : (a b : ℕ) → (a ≡ b) ⊎ (a ≢ b)

@@ -4,6 +4,7 @@ use Rattle.rx_links.proofs.Computed.{opened, sound, shown, made-live}
 use Rattle.rx_links.proofs.Edits.{has-makes}
 use Rattle.rx_links.proofs.Writes.{keeps-shows, grown-shows, fresh_current, fresh_draft, unused-alone, olds-held, olds-live, olds-differ, on-err}
 use Rattle.rx_links.proofs.tree.FiberTree.child.Goals as goal
+
 pub invariant_of-self : goal.invariant_of-self
 invariant_of-self g c = sound _ _ (keeps-shows _ _ _ (opened _ _ c.self.view_is c.self.invariant) c.reserve.ensures.kept c.reserve.ensures.live)
 

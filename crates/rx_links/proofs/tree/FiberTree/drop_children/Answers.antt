@@ -1,6 +1,7 @@
 use Rattle.rx_links.proofs.Computed.{opened, sound, shown, made-live}
 use Rattle.rx_links.proofs.Dropping.{drop-ready, dropped-live, dropped-shows}
 use Rattle.rx_links.proofs.tree.FiberTree.drop_children.Goals as goal
+
 pub own_children-kids-requires : goal.own_children-kids-requires
 own_children-kids-requires g c =
     let h = opened _ c.args.self.now c.self.view_is c.self.invariant in made-live _ _ _ h.stands c.args.id c.requires

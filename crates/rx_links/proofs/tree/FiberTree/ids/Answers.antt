@@ -1,6 +1,7 @@
 use Rattle.std.proofs.Common.{refl}
 use Rattle.rx_links.proofs.Computed.{opened, current-read, current-is}
 use Rattle.rx_links.proofs.tree.FiberTree.ids.Goals as goal
+
 pub ids_into-requires : goal.ids_into-requires
 ids_into-requires g c = current-read _ _ (opened (record { nodes = c.self.inside.nodes; current = c.self.inside.current; draft = c.self.inside.draft }) _ c.self.view_is c.self.invariant)
 

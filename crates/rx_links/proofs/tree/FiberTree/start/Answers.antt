@@ -1,6 +1,7 @@
 use Rattle.rx_links.proofs.Computed.{opened, sound, shown, held-live}
 use Rattle.rx_links.proofs.Writes.{keeps-shows, root-shows, root-alone, on-err}
 use Rattle.rx_links.proofs.tree.FiberTree.start.Goals as goal
+
 pub invariant_of-self : goal.invariant_of-self
 invariant_of-self g c = sound _ _ (keeps-shows _ _ _ (opened _ _ c.self.view_is c.self.invariant) c.reserve.ensures.kept c.reserve.ensures.live)
 

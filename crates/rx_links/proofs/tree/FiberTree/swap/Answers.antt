@@ -1,6 +1,7 @@
 use Rattle.rx_links.proofs.Computed.{opened, sound, shown}
 use Rattle.rx_links.proofs.Swapping.{swap-can, swap-ready, swapped-shows}
 use Rattle.rx_links.proofs.tree.FiberTree.swap.Goals as goal
+
 pub adopt-requires : goal.adopt-requires
 adopt-requires g c =
     swap-can (record { nodes = c.self.inside.nodes; current = c.self.inside.current; draft = c.self.inside.draft }) c.args.self.now (opened _ c.args.self.now c.self.view_is c.self.invariant)

@@ -4,6 +4,7 @@ use Rattle.rx_links.proofs.Computed.{opened, sound, shown, made-live}
 use Rattle.rx_links.proofs.Edits.{has-makes}
 use Rattle.rx_links.proofs.Writes.{over-shows, old_link}
 use Rattle.rx_links.proofs.tree.FiberTree.take_over.Goals as goal
+
 pub old_children-kids-requires : goal.old_children-kids-requires
 old_children-kids-requires g c =
     let h = opened _ c.args.self.now c.self.view_is c.self.invariant in made-live _ _ _ h.stands c.args.id (has-makes IsEmpty _ _ c.requires)

@@ -1,6 +1,7 @@
 use Rattle.rx_links.proofs.Computed.{opened}
 use Rattle.rx_links.proofs.Reading.{in-live, current-value, made-value}
 use Rattle.rx_links.proofs.tree.FiberTree.value.Goals as goal
+
 pub get-requires : goal.get-requires
 get-requires g c = in-live _ _ (opened _ _ c.self.view_is c.self.invariant) _ c.requires
 

@@ -1,0 +1,1 @@
+// Trees with numbers in them.
