@@ -1,5 +1,5 @@
 -- How many nodes are live.
-use Rattle.std.proofs.Common.{◌≡◌, ◌≢◌, ℕ, suc, ◌+◌, ◌≤◌, inl, inr, ◌⊎◌, ap, ◌∙◌, refl, Some, None, Option, IsSome, is_some, List, [], ◌∷◌, ◌++◌, length, arith, get_or, set, count_by, cond}
+use Rattle.std.proofs.Common.{◌≡◌, ◌≢◌, ◌<◌, ℕ, zero, suc, ◌+◌, ◌≤◌, inl, inr, ◌⊎◌, ap, ◌∙◌, refl, Some, None, Option, IsSome, is_some, List, [], ◌∷◌, ◌++◌, length, arith, get_or, set, count_by, cond}
 use Rattle.std.proofs.lemmas.Grind.{common_steps}
 use Rattle.std.proofs.lemmas.List.Sums.{sum_by-cons}
 use Rattle.slab.specs.Slab.{slab_len}
@@ -44,6 +44,11 @@ append-once (x ∷ xs) ys a b d = (
 pub append-length : (xs ys : List ℕ) → length (xs ++ ys) ≡ length xs + length ys
 append-length [] ys = omega arith
 append-length (x ∷ xs) ys = omega (arith, append-length xs ys)
+
+pub member-at : (xs : List ℕ) (k d : ℕ) → k < length xs → Member xs (get_or xs k d)
+member-at [] k d h = absurd (omega arith)
+member-at (x ∷ xs) zero d h = inl refl
+member-at (x ∷ xs) (suc k) d h = inr (member-at xs k d (omega arith))
 
 module _ {X : Type 0} where
   count-cleared : (xs : List (Option X)) (i : ℕ) (x : X) → get_or xs i None ≡ Some x → suc (count_by is_some (set xs i None)) ≡ count_by is_some xs

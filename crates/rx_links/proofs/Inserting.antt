@@ -43,7 +43,7 @@ module _ {F : Type 0} where
             (x.0, inr (inl (f.0.0, f.0.1, x.1)), λ i h. old-held c r f.0.0 i f.0.1 (x.2 i h))
       ]
 
-  parent-some : (q : ℕ) (w : Draft F) (p : ℕ) → Makes w p → (r : ℕ) × (made_parent_in (Some q) w p ≡ Some r)
+  pub parent-some : (q : ℕ) (w : Draft F) (p : ℕ) → Makes w p → (r : ℕ) × (made_parent_in (Some q) w p ≡ Some r)
   parent-some q (taken s) p m = absurd m
   parent-some q (made jd u o ks rs) p m =
       by_test (eqb jd p) refl (made_parent_in (Some jd) ks p) refl m (λ x. parent-some jd ks p x) (λ x. parent-some q rs p x)

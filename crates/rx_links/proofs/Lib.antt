@@ -9,6 +9,7 @@ pub mod Dropping
 pub mod Swapping
 pub mod Mapped
 pub mod Reading
-pub mod Placed
 pub mod Unused
 pub mod Inserting
+pub mod Placed
+pub mod Linked

@@ -1,9 +1,15 @@
 -- A change at the cursor changes what is placed there, and nothing around it.
-use Rattle.std.proofs.Common.{◌≡◌, ℕ, ◌⊎◌, inl, inr, sym, ◌∙◌, refl, eq-eqb, Option}
+use Rattle.std.proofs.Common.{◌≡◌, ℕ, ◌⊎◌, inl, inr, sym, ◌∙◌, refl, eq-eqb, Option, Some, None, IfSome}
+use Rattle.rx_lists.specs.Shapes.{Holds, IsTop}
 use Rattle.rx_lists.proofs.Frames.{eqb-false}
-use Rattle.rx_links.specs.Drafts.{Draft, taken, made, Makes, IsMadeOnce, rekidded, rerested, valued, Trees, Fits}
-use Rattle.rx_links.specs.Places.{Around, top, below, after, placed}
-use Rattle.rx_links.proofs.Edits.{rekidded-absent}
+use Rattle.rx_links.specs.Drafts.{Draft, taken, made, Trees, Fits, or_else, Makes, IsMadeOnce, IsFor, HasMadeKids, IsMadeList, IsEmpty, IsTopUnused, old_of, rekidded, rerested, valued}
+use Rattle.rx_links.specs.Places.{Around, top, below, after, placed, up_of, IsAt}
+use Rattle.rx_links.specs.Readers.{made_list_at, made_parent_in}
+use Rattle.rx_links.proofs.Edits.{KidsFor, kids_for-makes, kids_for-for, old_of-is, rekidded-absent}
+use Rattle.rx_links.proofs.Inserting.{parent-some}
+use Rattle.rx_links.proofs.Reading.{made_list_at-absent, made_parent-absent}
+use Rattle.rx_links.proofs.Unused.{kid-unused}
+use Rattle.rx_links.proofs.Whole.{for-held}
 
 module _ {F : Type 0} where
   -- the fiber is made, and surrounds the place
@@ -88,16 +94,63 @@ module _ {F : Type 0} where
       rerested-placed p f k (made p v o ks rs) (placed-apart k (made p v o ks rs) h p (inl refl))
       ∙ rw (eq-eqb p p refl, rerested-absent p f ks q.0) refl
 
-  -- the same of the tree in progress
-  module _ (t : Trees F) (h : Fits t) where
-    pub rekidded-there : (f : Draft F → Draft F) (k : Around F) (p : ℕ) (v : F) (o : Option ℕ) (ks rs : Draft F) → t.draft ≡ placed k (made p v o ks rs)
-        → rekidded p f t.draft ≡ placed k (made p v o (f ks) rs)
-    rekidded-there f k p v o ks rs e = let q = h.made_once in rw e (rekidded-here f k p v o ks rs (rw e at q))
+  kids_for-placed : (k : Around F) (d : Draft F) (p : ℕ) (o : Option ℕ) (ks : Draft F) → KidsFor d p o ks → KidsFor (placed k d) p o ks
+  kids_for-placed top d p o ks h = h
+  kids_for-placed (below id v q rs k) d p o ks h = kids_for-placed k (made id v q d rs) p o ks (inr (inl h))
+  kids_for-placed (after id v q ls k) d p o ks h = kids_for-placed k (made id v q ls d) p o ks (inr (inr h))
 
-    pub rerested-there : (f : Draft F → Draft F) (k : Around F) (p : ℕ) (v : F) (o : Option ℕ) (ks rs : Draft F) → t.draft ≡ placed k (made p v o ks rs)
-        → rerested p f t.draft ≡ placed k (made p v o ks (f rs))
-    rerested-there f k p v o ks rs e = let q = h.made_once in rw e (rerested-here f k p v o ks rs (rw e at q))
+  has-placed : (Q : Draft F → Type 0) (k : Around F) (d : Draft F) (p : ℕ) → HasMadeKids Q d p → HasMadeKids Q (placed k d) p
+  has-placed Q top d p h = h
+  has-placed Q (below id v q rs k) d p h = has-placed Q k (made id v q d rs) p (inr (inl h))
+  has-placed Q (after id v q ls k) d p h = has-placed Q k (made id v q ls d) p (inr (inr h))
 
-    pub valued-there : (f : F → F) (k : Around F) (p : ℕ) (v : F) (o : Option ℕ) (ks rs : Draft F) → t.draft ≡ placed k (made p v o ks rs)
-        → valued p f t.draft ≡ placed k (made p (f v) o ks rs)
-    valued-there f k p v o ks rs e = let q = h.made_once in rw e (valued-here f k p v o ks rs (rw e at q))
+  list-placed : (k : Around F) (d x : Draft F) (p : ℕ) → (MakesAround k p → ⊥) → made_list_at d p ≡ Some x → made_list_at (placed k d) p ≡ Some x
+  list-placed top d x p n e = e
+  list-placed (below id v q rs k) d x p n e =
+      list-placed k (made id v q d rs) x p (λ m. n (inr (inr m)))
+      (rw (eqb-false id p (λ z. n (inl (sym z))), e) refl)
+  list-placed (after id v q ls k) d x p n e =
+      list-placed k (made id v q ls d) x p (λ m. n (inr (inr m)))
+      (rw (eqb-false id p (λ z. n (inl (sym z))), made_list_at-absent ls p (λ m. n (inr (inl m))), e) refl)
+
+  parent-placed : (k : Around F) (d : Draft F) (p : ℕ) → (MakesAround k p → ⊥) → Makes d p → made_parent_in None (placed k d) p ≡ made_parent_in (up_of k) d p
+  parent-placed top d p n m = refl
+  parent-placed (below id v q rs k) d p n m =
+      let x = parent-some id d p m in
+      parent-placed k (made id v q d rs) p (λ z. n (inr (inr z))) (inr (inl m))
+      ∙ rw (eqb-false id p (λ z. n (inl (sym z))), x.1) refl
+  parent-placed (after id v q ls k) d p n m =
+      parent-placed k (made id v q ls d) p (λ z. n (inr (inr z))) (inr (inr m))
+      ∙ rw (eqb-false id p (λ z. n (inl (sym z))), made_parent-absent (Some id) ls p (λ z. n (inr (inl z)))) refl
+
+  -- all of that, of the tree in progress
+  pub is-at : (t : Trees F) → Fits t → (k : Around F) (p : ℕ) (v : F) (o : Option ℕ) (ks rs : Draft F) → t.draft ≡ placed k (made p v o ks rs) → IsAt t k p v o ks rs
+  is-at t h k p v o ks rs e = record {
+    makes = kids_for-makes t.draft p o ks mine;
+    opens = λ q. rw e (has-placed IsMadeList k (made p v o ks rs) p (inl (refl, q)));
+    bare = λ q. rw e (has-placed IsEmpty k (made p v o ks rs) p (inl (refl, q)));
+    list = rw e (list-placed k (made p v o ks rs) (made p v o ks rs) p away (rw (eq-eqb p p refl) refl));
+    parent = rw e (parent-placed k (made p v o ks rs) p away (inl refl) ∙ rw (eq-eqb p p refl) refl);
+    old = old_is;
+    old_held = by_old o (kids_for-for t.draft p o ks mine);
+    unused = λ j top free. kid-unused t p j h (rw e (has-placed (λ x. IsTopUnused x j) k (made p v o ks rs) p (inl (refl, free)))) (rw (← old_is) at top);
+    kids = λ f. rw e (rekidded-here f k p v o ks rs once);
+    rest = λ f. rw e (rerested-here f k p v o ks rs once);
+    value = λ m. rw e (valued-here m k p v o ks rs once);
+  }
+    where
+      once : IsMadeOnce (placed k (made p v o ks rs))
+      once = let q = h.made_once in rw e at q
+
+      away : MakesAround k p → ⊥
+      away = placed-apart k (made p v o ks rs) once p (inl refl)
+
+      mine : KidsFor t.draft p o ks
+      mine = rw e (kids_for-placed k (made p v o ks rs) p o ks (inl (refl, refl, refl)))
+
+      old_is : old_of t.draft p ≡ o
+      old_is = old_of-is t.draft p o h.made_once (kids_for-for t.draft p o ks mine)
+
+      by_old : (q : Option ℕ) → IsFor t.draft p q → IfSome q (Holds t.current)
+      by_old None f = tt
+      by_old (Some j) f = for-held t.current t.draft p j h.follows f

@@ -49,7 +49,7 @@ module _ {F : Type 0} where
   parent-absent p (fiber id v ks rs) i n =
       rw (eqb-false id i (λ e. n (inl (sym e))), parent-absent (Some id) ks i (λ m. n (inr (inl m))), parent-absent p rs i (λ m. n (inr (inr m)))) refl
 
-  made_list_at-absent : (w : Draft F) (i : ℕ) → (Makes w i → ⊥) → made_list_at w i ≡ None
+  pub made_list_at-absent : (w : Draft F) (i : ℕ) → (Makes w i → ⊥) → made_list_at w i ≡ None
   made_list_at-absent (taken s) i n = refl
   made_list_at-absent (made id v o ks rs) i n =
       rw (eqb-false id i (λ e. n (inl (sym e))), made_list_at-absent ks i (λ m. n (inr (inl m))), made_list_at-absent rs i (λ m. n (inr (inr m)))) refl

@@ -1,7 +1,7 @@
 -- What the trees tell of one fiber.
-use Rattle.std.specs.Prelude.{ℕ, eqb, ◌⊎◌, Option, Some, None, if◌then◌else◌}
-use Rattle.rx_lists.specs.Shapes.{Shape, none, fiber, Holds}
-use Rattle.rx_links.specs.Drafts.{Draft, taken, made, Trees, or_else, Makes, list_at, old_kids}
+use Rattle.std.specs.Prelude.{◌≡◌, ℕ, eqb, ◌⊎◌, Option, Some, None, if◌then◌else◌}
+use Rattle.rx_lists.specs.Shapes.{Shape, none, fiber, first, Holds, IsTree}
+use Rattle.rx_links.specs.Drafts.{Draft, taken, made, Trees, or_else, Makes, list_at, kids_of, shape_or_none, old_kids}
 
 module _ {F : Type 0} where
   -- the value of the first fiber of a list
@@ -23,6 +23,22 @@ module _ {F : Type 0} where
   -- the later siblings of a fiber of the tree
   abbrev pub rest_of : Shape F → ℕ → Shape F
   rest_of c i = rest_in (list_at c i)
+
+  -- the list of the tree to which a link leads
+  abbrev pub list_from : Shape F → Option ℕ → Shape F
+  list_from c None = none
+  list_from c (Some id) = shape_or_none (list_at c id)
+
+  -- how the links of the tree go: the first child of a fiber leads to its children, the next sibling to its later siblings, and
+  -- each list is its first fiber with these. Both are in the tree, and no fiber is there twice.
+  pub record IsLinked (c : Shape F) : Type 0 where
+    pub root : c ≡ list_from c (first c)
+    pub kids : (i : ℕ) → Holds c i → kids_of c i ≡ list_from c (first (kids_of c i))
+    pub rest : (i : ℕ) → Holds c i → rest_of c i ≡ list_from c (first (rest_of c i))
+    pub list : (i : ℕ) → Holds c i → (v : F) × (value_of c i ≡ Some v) × (list_from c (Some i) ≡ fiber i v (kids_of c i) (rest_of c i))
+    pub once : (i : ℕ) → Holds c i → IsTree (list_from c (Some i))
+    pub below : (i j : ℕ) → Holds c i → Holds (kids_of c i) j → Holds c j
+    pub behind : (i j : ℕ) → Holds c i → Holds (rest_of c i) j → Holds c j
 
   -- the parent of a fiber, where p is the parent of the list
   abbrev pub parent_in : Option ℕ → Shape F → ℕ → Option ℕ

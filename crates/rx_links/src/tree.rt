@@ -1,10 +1,10 @@
 // The current tree and the tree in progress.
-ghost use Rattle.std.specs.Prelude.{◌≡◌, ◌+◌, ◌⊎◌, ℕ, None, Some, Option, IfSome, IfOk, OnOk, OnErr};
+ghost use Rattle.std.specs.Prelude.{◌≡◌, ◌+◌, ◌⊎◌, ℕ, None, Some, Option, IfSome, IfOk, OnOk, OnErr, All};
 ghost use Rattle.rx_lists.specs.Shapes.{none, first, ids, Holds, IsTop, size};
-ghost use Rattle.rx_links.specs.Drafts.{Draft, taken, made, entry, Fits, HasMadeKids, IsTopUnused, kids_of, clone_of, old_of, Makes, made_size, IsUnused, IsOpen, IsBare, valued, grown, inserted, taking, grafted, old_kids, rekidded, rerested};
-ghost use Rattle.rx_links.specs.Readers.{IsIn, value_of, rest_of, parent_of, made_value_of, made_kids_of, made_rest_of, made_parent_of, old_list};
+ghost use Rattle.rx_links.specs.Drafts.{Draft, taken, made, entry, Fits, HasMadeKids, IsTopUnused, kids_of, clone_of, old_of, Makes, made_size, IsUnused, IsOpen, IsBare, valued, grown, inserted, taking, grafted, old_kids};
+ghost use Rattle.rx_links.specs.Readers.{IsIn, IsLinked, value_of, rest_of, parent_of, made_value_of, made_kids_of, made_rest_of, made_parent_of, old_list};
 ghost use Rattle.rx_links.specs.Marks.{marked_above, marked_below, changed_current};
-ghost use Rattle.rx_links.specs.Places.{Around, placed};
+ghost use Rattle.rx_links.specs.Places.{Around, placed, IsAt};
 
 use rx_arena::{Arena, FiberId};
 use rx_lists::{
@@ -216,30 +216,29 @@ impl<F> FiberTree<F> {
     }
 
     /// Writes the value of a current fiber alone, in each tree that has it.
-    pub fn set_current(&mut self, id: FiberId, value: F)
+    pub fn set_current(&mut self, fiber: FiberId, value: F)
     where
         F: Drop,
-        requires { Holds self.old.current id }
-        ensures { self.new ≡ changed_current (λ v. value) id self.old }
+        requires { Holds self.old.current fiber }
+        ensures { self.new ≡ changed_current (λ v. value) fiber self.old }
     {
-        write_one(&mut self.nodes, id, value);
+        write_one(&mut self.nodes, fiber, value);
     }
 
     /// What always holds of the two trees. Of the children that the alternate of a made fiber has, one is unused where none of the
     /// made children is for it; so all are where it has none yet.
     pub fn facts(&self)
         ensures fits { Fits self.now }
+        ensures linked { IsLinked self.now.current }
         ensures bare { (p j : ℕ) → IsBare self.now.draft p → IsTop (old_kids self.now p) j → IsUnused self.now.draft j }
         ensures unused { (p j : ℕ) → HasMadeKids (λ ks. IsTopUnused ks j) self.now.draft p → IsTop (old_kids self.now p) j → IsUnused self.now.draft j }
     {
         let _nodes = &self.nodes;
     }
 
-    /// Writes at a made fiber, seen from its place in the tree in progress: they change what stands there, and nothing around it.
+    /// What a made fiber is to the two trees, seen from its place in the tree in progress, as where rendering stands.
     pub fn place_facts(&self)
-        ensures kids { (k : Around F) (p : ℕ) (v : F) (o : Option ℕ) (ks rs : Draft F) (f : Draft F → Draft F) → self.now.draft ≡ placed k (made p v o ks rs) → rekidded p f self.now.draft ≡ placed k (made p v o (f ks) rs) }
-        ensures rest { (k : Around F) (p : ℕ) (v : F) (o : Option ℕ) (ks rs : Draft F) (f : Draft F → Draft F) → self.now.draft ≡ placed k (made p v o ks rs) → rerested p f self.now.draft ≡ placed k (made p v o ks (f rs)) }
-        ensures value { (k : Around F) (p : ℕ) (v : F) (o : Option ℕ) (ks rs : Draft F) (f : F → F) → self.now.draft ≡ placed k (made p v o ks rs) → valued p f self.now.draft ≡ placed k (made p (f v) o ks rs) }
+        ensures { (k : Around F) (p : ℕ) (v : F) (o : Option ℕ) (ks rs : Draft F) → self.now.draft ≡ placed k (made p v o ks rs) → IsAt self.now k p v o ks rs }
     {
         let _nodes = &self.nodes;
     }
@@ -305,7 +304,8 @@ impl<F> FiberTree<F> {
 
     /// The current fibers in tree order: each before its children, and these before its later siblings.
     pub fn ids(&self, alloc: Global) -> Result<Vec<FiberId>, AllocError>
-        ensures { IfOk result (λ out. out.items ≡ ids self.now.current) }
+        ensures list { IfOk result (λ out. out.items ≡ ids self.now.current) }
+        ensures current { IfOk result (λ out. All (Holds self.now.current) out.items) }
     {
         let mut out = Vec::new(alloc);
         ids_into(&self.nodes, self.current, &mut out)?;

@@ -1,13 +1,11 @@
--- Lists within the current tree.
-use Rattle.std.proofs.Common.{◌≡◌, ◌≢◌, ◌<◌, List, drop, get_or, length, ◌⊎◌, ◌+◌, inl, inr, ℕ, zero, suc, refl, sym, ap, Some, None, Option, eq-eqb}
-use Rattle.std.proofs.lemmas.List.{drop_more}
+-- How the links of the current tree go.
+use Rattle.std.proofs.Common.{◌≡◌, ◌≢◌, ◌⊎◌, inl, inr, ℕ, refl, sym, ap, ◌∙◌, Some, None, Option, eq-eqb}
 use Rattle.rx_lists.specs.Shapes.{Shape, none, fiber, first, Holds, IsTree}
 use Rattle.rx_lists.proofs.Frames.{same_or_not, eqb-false}
 use Rattle.rx_links.specs.Drafts.{list_at, kids_at, shape_or_none, kids_of}
-use Rattle.rx_links.specs.Readers.{rest_of}
+use Rattle.rx_links.specs.Readers.{rest_of, value_of, list_from, IsLinked}
 use Rattle.rx_links.proofs.Edits.{kids_at-absent}
 use Rattle.rx_links.proofs.Reading.{holds_or_not, list_at-absent}
-use Rattle.rx_walks.specs.Paths.{later, kids_in, after_first, found_from, list_from, IsLink}
 
 module _ {F : Type 0} where
   -- the list stands in the tree
@@ -51,9 +49,17 @@ module _ {F : Type 0} where
   part-from c none t p = refl
   part-from c (fiber id v ks rs) t p = ap shape_or_none (part-list c id v ks rs t p)
 
-  pub part-link : (c s : Shape F) → IsPart c s → IsLink c (first s)
-  part-link c none p = tt
-  part-link c (fiber id v ks rs) p = part-held c id v ks rs p
+  part-tree : (c s : Shape F) → IsTree c → IsPart c s → IsTree s
+  part-tree none s t p = rw p tt
+  part-tree (fiber id v ks rs) s t (inl e) = rw e t
+  part-tree (fiber id v ks rs) s t (inr (inl p)) = part-tree ks s t.3 p
+  part-tree (fiber id v ks rs) s t (inr (inr p)) = part-tree rs s t.4 p
+
+  part-all : (c s : Shape F) (j : ℕ) → IsPart c s → Holds s j → Holds c j
+  part-all none s j p h = let q = rw p at h in q
+  part-all (fiber id v ks rs) s j (inl e) h = rw e at h
+  part-all (fiber id v ks rs) s j (inr (inl p)) h = inr (inl (part-all ks s j p h))
+  part-all (fiber id v ks rs) s j (inr (inr p)) h = inr (inr (part-all rs s j p h))
 
   -- a fiber of the tree begins a list of it
   pub record Begins (c : Shape F) (i : ℕ) : Type 0 where
@@ -87,45 +93,35 @@ module _ {F : Type 0} where
             part = inr (inr x.part);
           }
 
-  module _ (c : Shape F) (t : IsTree c) (i : ℕ) (h : Holds c i) where
-    b : Begins c i
-    b = begins c i h
-
-    pub beside-link : IsLink c (first (rest_of c i))
-    beside-link = let x = b.list in rw x (let p = b.part in part-link c b.rest (part-rest c i b.value b.kids b.rest p))
-
-    pub beside-list : list_from c (first (rest_of c i)) ≡ after_first (list_from c (Some i))
-    beside-list = let x = b.list in rw x (let p = b.part in part-from c b.rest t (part-rest c i b.value b.kids b.rest p))
-
-    pub below-link : IsLink c (first (kids_of c i))
-    below-link = let x = b.kids_are in rw x (let p = b.part in part-link c b.kids (part-kids c i b.value b.kids b.rest p))
-
-    pub below-list : list_from c (first (kids_of c i)) ≡ kids_in (list_from c (Some i))
-    below-list =
-        let x = b.list in let y = b.kids_are in
-        rw (x, y) (let p = b.part in part-from c b.kids t (part-kids c i b.value b.kids b.rest p))
-
-  pub root-link : (c : Shape F) → IsLink c (first c)
-  root-link none = tt
-  root-link (fiber id v ks rs) = inl refl
-
-  pub root-list : (c : Shape F) → list_from c (first c) ≡ c
+  root-list : (c : Shape F) → c ≡ list_from c (first c)
   root-list none = refl
   root-list (fiber id v ks rs) = rw (eq-eqb id id refl) refl
 
-  pub later-more : (n : ℕ) (s : Shape F) → after_first (later n s) ≡ later (suc n) s
-  later-more zero none = refl
-  later-more zero (fiber id v ks rs) = refl
-  later-more (suc n) none = refl
-  later-more (suc n) (fiber id v ks rs) = later-more n rs
+  pub linked : (c : Shape F) → IsTree c → IsLinked c
+  linked c t = record {
+    root = root-list c;
+    kids = λ i h. let b = begins c i h in kids_case i b;
+    rest = λ i h. let b = begins c i h in rest_case i b;
+    list = λ i h. let b = begins c i h in list_case i b;
+    once = λ i h. let b = begins c i h in once_case i b;
+    below = λ i j h q. let b = begins c i h in below_case i j b q;
+    behind = λ i j h q. let b = begins c i h in behind_case i j b q;
+  }
+    where
+      kids_case : (i : ℕ) → Begins c i → kids_of c i ≡ list_from c (first (kids_of c i))
+      kids_case i b = let y = b.kids_are in let p = b.part in rw y (sym (part-from c b.kids t (part-kids c i b.value b.kids b.rest p)))
 
-  pub from-first : (c : Shape F) (link : Option ℕ) → IsLink c link → first (list_from c link) ≡ link
-  from-first c None h = refl
-  from-first c (Some i) h = let x = begins c i h in let y = x.list in rw y refl
+      rest_case : (i : ℕ) → Begins c i → rest_of c i ≡ list_from c (first (rest_of c i))
+      rest_case i b = let y = b.list in let p = b.part in rw y (sym (part-from c b.rest t (part-rest c i b.value b.kids b.rest p)))
 
-  -- a step down a path
-  pub descend : (path : List ℕ) (i : ℕ) (h h2 r : Option ℕ) (s s2 l : Shape F) → i < length path → l ≡ later (get_or path i 0) s → h2 ≡ first l → s2 ≡ kids_in l
-      → found_from (drop i path) h s ≡ r → found_from (drop (i + 1) path) h2 s2 ≡ r
-  descend path i h h2 r s s2 l within l_is h_is s_is leads =
-      let e = rw (drop_more path i 0 within) at leads in
-      rw (h_is, s_is, l_is) e
+      list_case : (i : ℕ) → Begins c i → (v : F) × (value_of c i ≡ Some v) × (list_from c (Some i) ≡ fiber i v (kids_of c i) (rest_of c i))
+      list_case i b = let x = b.list in let y = b.kids_are in (b.value, rw x refl, rw (x, y) refl)
+
+      once_case : (i : ℕ) → Begins c i → IsTree (list_from c (Some i))
+      once_case i b = let x = b.list in let p = b.part in rw x (part-tree c (fiber i b.value b.kids b.rest) t p)
+
+      below_case : (i j : ℕ) → Begins c i → Holds (kids_of c i) j → Holds c j
+      below_case i j b q = let y = b.kids_are in let p = b.part in part-all c b.kids j (part-kids c i b.value b.kids b.rest p) (rw y at q)
+
+      behind_case : (i j : ℕ) → Begins c i → Holds (rest_of c i) j → Holds c j
+      behind_case i j b q = let y = b.list in let p = b.part in part-all c b.rest j (part-rest c i b.value b.kids b.rest p) (rw y at q)
