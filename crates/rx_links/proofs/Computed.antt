@@ -1,5 +1,5 @@
 -- What is computed from the nodes is what they stand for.
-use Rattle.std.proofs.Common.{◌≡◌, ℕ, zero, suc, ◌⊎◌, ◌≤◌, ◌+◌, ◌||◌, inl, inr, ap, refl, Some, None, Option, IsSome, arith, ◌<◌, ◌∙◌, ◌++◌, ◌∷◌, []}
+use Rattle.std.proofs.Common.{◌≡◌, ℕ, zero, suc, ◌≤◌, ◌+◌, inl, inr, ap, refl, Some, None, Option, IsSome, arith}
 use Rattle.slab.specs.Slab.{slab_len}
 use Rattle.rx_arena.specs.Nodes.{at}
 use Rattle.rx_lists.specs.Reads.{Nodes, Reads, limit, shape_of, IsRead}

@@ -1,5 +1,5 @@
 -- What a change elsewhere leaves of a draft.
-use Rattle.std.proofs.Common.{◌≡◌, ◌≢◌, ℕ, inl, inr, ◌∙◌, refl, Some, None, Option, IsSome}
+use Rattle.std.proofs.Common.{◌≡◌, ℕ, inl, inr, ◌∙◌, refl, Some, None, Option, IsSome}
 use Rattle.rx_arena.specs.Nodes.{at}
 use Rattle.rx_lists.specs.Reads.{Nodes, alternate_at, Reads}
 use Rattle.rx_lists.specs.Shapes.{Shape, none, fiber, first}

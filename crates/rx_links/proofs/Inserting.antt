@@ -5,7 +5,7 @@ use Rattle.rx_arena.specs.Nodes.{at, alternate_in, with_sibling, with_alternate}
 use Rattle.rx_arena.specs.declared.arena.Node.{Node}
 use Rattle.rx_lists.specs.Changes.{Inserts, sibling_node}
 use Rattle.rx_lists.specs.Reads.{Nodes, core_of, core_at, up_in, up_at, alternate_at, node, limit}
-use Rattle.rx_lists.specs.Shapes.{Shape, none, first, Holds, IsTop}
+use Rattle.rx_lists.specs.Shapes.{Shape, none, Holds, IsTop}
 use Rattle.rx_lists.proofs.Frames.{same_or_not, eqb-false, some-at, if-some, leads_or_not, Reads-frame, Returns-frame}
 use Rattle.rx_links.specs.Drafts.{Draft, taken, made, Trees, or_else, entry, Makes, IsMadeOnce, IsFor, IsUnused, inserted, old_kids, IsOldKids, Follows}
 use Rattle.rx_links.specs.Readers.{made_parent_in, list_under, old_list}

@@ -1,5 +1,5 @@
 -- How the links of the current tree go.
-use Rattle.std.proofs.Common.{◌≡◌, ◌≢◌, ◌⊎◌, inl, inr, ℕ, refl, sym, ap, ◌∙◌, Some, None, Option, eq-eqb}
+use Rattle.std.proofs.Common.{◌≡◌, ◌≢◌, ◌⊎◌, inl, inr, ℕ, refl, sym, ap, Some, eq-eqb}
 use Rattle.rx_lists.specs.Shapes.{Shape, none, fiber, first, Holds, IsTree}
 use Rattle.rx_lists.proofs.Frames.{same_or_not, eqb-false}
 use Rattle.rx_links.specs.Drafts.{list_at, kids_at, shape_or_none, kids_of}

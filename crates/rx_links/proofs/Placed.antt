@@ -1,8 +1,8 @@
 -- A change at the cursor changes what is placed there, and nothing around it.
 use Rattle.std.proofs.Common.{◌≡◌, ℕ, ◌⊎◌, inl, inr, sym, ◌∙◌, refl, eq-eqb, Option, Some, None, IfSome}
-use Rattle.rx_lists.specs.Shapes.{Holds, IsTop}
+use Rattle.rx_lists.specs.Shapes.{Holds}
 use Rattle.rx_lists.proofs.Frames.{eqb-false}
-use Rattle.rx_links.specs.Drafts.{Draft, taken, made, Trees, Fits, or_else, Makes, IsMadeOnce, IsFor, HasMadeKids, IsMadeList, IsEmpty, IsTopUnused, old_of, rekidded, rerested, valued}
+use Rattle.rx_links.specs.Drafts.{Draft, taken, made, Trees, Fits, Makes, IsMadeOnce, IsFor, HasMadeKids, IsMadeList, IsEmpty, IsTopUnused, old_of, rekidded, rerested, valued}
 use Rattle.rx_links.specs.Places.{Around, top, below, after, placed, up_of, IsAt}
 use Rattle.rx_links.specs.Readers.{made_list_at, made_parent_in}
 use Rattle.rx_links.proofs.Edits.{KidsFor, kids_for-makes, kids_for-for, old_of-is, rekidded-absent}

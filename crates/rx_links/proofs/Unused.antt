@@ -1,10 +1,9 @@
 -- The old children of a fiber that has no children yet are unused.
-use Rattle.std.proofs.Common.{◌≡◌, ◌≢◌, ◌⊎◌, inl, inr, ℕ, Bool, true, false, eqb, cond, refl, sym, ap, ◌∙◌, Some, None, Option}
+use Rattle.std.proofs.Common.{◌≡◌, ◌⊎◌, inl, inr, ℕ, refl, sym, ap, ◌∙◌, Some, None, Option}
 use Rattle.rx_lists.specs.Shapes.{Shape, none, fiber, Holds, IsTree, IsTop}
-use Rattle.rx_links.specs.Drafts.{Draft, taken, made, Trees, Makes, IsFor, IsUnused, IsEmpty, IsBare, grown, old_kids, kids_under, IsOldKids, Follows, Fits, IsTopUnused, HasMadeKids}
+use Rattle.rx_links.specs.Drafts.{Draft, taken, made, Trees, IsFor, IsUnused, IsBare, old_kids, kids_under, IsOldKids, Follows, Fits, IsTopUnused, HasMadeKids}
 use Rattle.rx_links.proofs.Parts.{HasKids}
 use Rattle.rx_links.proofs.Edits.{KidsFor, kids_for-for, kids-all, has-makes, makes-kids, old_of-is, IsOldAny, kids_under-is, top-any, any-below, has-held, top-holds}
-use Rattle.rx_links.proofs.Whole.{for-makes}
 use Rattle.rx_links.proofs.Writes.{for-any}
 
 module _ {F : Type 0} where

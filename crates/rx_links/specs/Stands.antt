@@ -1,5 +1,5 @@
 -- Which two plain trees the nodes of an arena stand for.
-use Rattle.std.specs.Prelude.{◌≡◌, ℕ, ◌<◌, ◌^◌, ◌⊎◌, Option, Some, None, IsSome}
+use Rattle.std.specs.Prelude.{◌≡◌, ℕ, ◌<◌, ◌⊎◌, Option, Some, None, IsSome}
 use Rattle.slab.specs.Slab.{slab_len}
 use Rattle.rx_arena.specs.Nodes.{at}
 use Rattle.rx_lists.specs.Reads.{Nodes, alternate_at, Reads, Returns, node, limit}

@@ -44,9 +44,10 @@ module _ {F : Type 0} where
   later-less zero s h = absurd (omega arith)
   later-less (suc n) s h = let e : suc n - 1 ≡ n = omega arith in rw e (later-step n s)
 
-  pub later-none : (n : ℕ) → later n (none {F = F}) ≡ none
-  later-none zero = refl
-  later-none (suc n) = refl
+  pub later-none : (n : ℕ) (s : Shape F) → s ≡ none → later n s ≡ none
+  later-none zero s e = e
+  later-none (suc n) none e = refl
+  later-none (suc n) (fiber id v ks rs) e = cc
 
   -- a step down a path
   pub descend : (path : List ℕ) (i : ℕ) (h h2 r : Option ℕ) (s s2 l : Shape F) → i < length path → l ≡ later (get_or path i 0) s → h2 ≡ first l → s2 ≡ kids_in l

@@ -54,11 +54,7 @@ pub(crate) fn below<F>(tree: &FiberTree<F>, link: &Option<FiberId>) -> Option<Fi
 }
 
 // The sibling that many places later, if the list has so many.
-pub(crate) fn later<F>(
-    tree: &FiberTree<F>,
-    link: Option<FiberId>,
-    places: usize,
-) -> Option<FiberId>
+pub(crate) fn later<F>(tree: &FiberTree<F>, link: Option<FiberId>, places: usize) -> Option<FiberId>
     requires { IsLink tree.now.current link }
     ensures link { IsLink tree.now.current result }
     ensures list { list_from tree.now.current result ≡ later places (list_from tree.now.current link) }
