@@ -1,0 +1,2 @@
+//! The law of replay.
+#![tactic(auto)]
