@@ -7,17 +7,17 @@ use Rattle.std.proofs.lemmas.Bool.Decides.{Decides-eqb}
 use Rattle.rx_susp.specs.declared.boundary.BoundaryState.TheVariants.{Shown, Hidden}
 use Rattle.rx_elem.specs.Elements.{Element}
 use Rattle.rx_elem.specs.Identity.{old_places, is_reused}
-use Rattle.rx_elem.specs.Trees.{Mark, of_instance, of_host, of_boundary, plain, Node, node, Forest, none, vacant, child, places, host_number, is_host, elements_in, children_if, fallback_if}
+use Rattle.rx_elem.specs.Trees.{Mark, of_instance, of_host, of_boundary, plain, Node, node, Forest, none, vacant, child, places, host_number, is_host, elements_in}
 use Rattle.rx_elem.specs.Spots.{Around, around_children}
 use Rattle.rx_elem.specs.Compare.{old_nodes, node_at}
 use Rattle.rx_host.specs.Hosts.{Host}
 use Rattle.host_laws.specs.Commits.{AreNumbered, AreNumbered_in}
 use Rattle.host_laws.proofs.Listing.{hosts_at, hosts_in}
 use Rattle.replay_laws.proofs.Counts.{is_number, one_if, times, times_in}
-use Rattle.replay_laws.proofs.Growing.{first, rest, MarkGrows, Grows, Grows_in}
+use Rattle.replay_laws.proofs.Growing.{MarkGrows, Grows, Grows_in}
 use Rattle.replay_laws.proofs.Losing.{gone_times, lost, lost_in}
 use Rattle.replay_laws.proofs.Listed.{all_at, all_child, all_numbered}
-use Rattle.replay_laws.proofs.OldLists.{IfOld, EachOld, EachIn, each_old, first_each, rest_each, reused_old, StandBeside, stand_beside}
+use Rattle.replay_laws.proofs.OldLists.{IfOld, EachOld, EachIn, each_old, reused_old, StandBeside, stand_beside}
 
 pub each_numbered : (os : Forest) → AreNumbered_in os → EachIn AreNumbered os
 each_numbered none h = tt

@@ -1,11 +1,11 @@
 -- Nodes that stand for what their elements say: hosts for hosts, and none for null.
 use Rattle.std.specs.Prelude.{◌≡◌, ℕ, ◌<◌, Bool, true, false, Option, Some, None, refl}
-use Rattle.std.proofs.Common.{sym, ap, subst}
+use Rattle.std.proofs.Common.{sym, subst}
 use Rattle.std.proofs.lemmas.Option.{same_Some}
 use Rattle.std.proofs.lemmas.Slice.Eq.{bytes_eq-Decides}
 use Rattle.rx_elem.specs.Elements.{Element, kind_of, same_kind, is_present}
 use Rattle.rx_elem.specs.Elements as elements
-use Rattle.rx_elem.specs.Trees.{Mark, Node, node, Forest, none, vacant, child, host_number, is_host, element_of}
+use Rattle.rx_elem.specs.Trees.{Node, node, Forest, none, vacant, child, host_number, is_host, element_of}
 use Rattle.rx_host.specs.Hosts.{Content, tag, letters, content_of, by_name}
 use Rattle.host_laws.specs.Related.{HaveOwnNames, AreAlike}
 use Rattle.replay_laws.proofs.OldLists.{NoNull}

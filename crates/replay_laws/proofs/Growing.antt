@@ -1,6 +1,6 @@
 -- A new tree that was rendered against an old one grows out of it: hosts that go on keep their numbers, new ones have none or later ones.
-use Rattle.std.specs.Prelude.{◌≡◌, ℕ, ◌≤◌, Bool, true, false, List, [], ◌∷◌, Option, Some, None, refl}
-use Rattle.std.proofs.Common.{arith, sym, ap, subst}
+use Rattle.std.specs.Prelude.{◌≡◌, ℕ, ◌≤◌, Bool, true, false, List, [], ◌∷◌, Option, Some, None}
+use Rattle.std.proofs.Common.{arith, sym, subst}
 use Rattle.rx_elem.specs.Elements.{Element, kind_of, same_kind}
 use Rattle.rx_elem.specs.Trees.{Mark, of_instance, of_host, of_boundary, plain, Node, node, Forest, none, vacant, child, mark_of, element_of, host_number, is_host, elements_in, children_if, fallback_if}
 use Rattle.rx_elem.specs.Compare.{old_nodes}

@@ -1,7 +1,7 @@
 -- Hosts that go on keep their kinds.
-use Rattle.std.specs.Prelude.{◌≡◌, ℕ, ◌≤◌, Bool, true, false, List, [], ◌∷◌, Option, Some, None, map, option_and_then, refl}
+use Rattle.std.specs.Prelude.{◌≡◌, ℕ, ◌≤◌, true, List, Option, Some, None, refl}
 use Rattle.std.specs.List.{AllByRecursion}
-use Rattle.std.proofs.Common.{sym, ap, subst, ◌∙◌}
+use Rattle.std.proofs.Common.{ap, subst, ◌∙◌}
 use Rattle.std.proofs.lemmas.Option.{same_Some}
 use Rattle.rx_elem.specs.Elements.{Element}
 use Rattle.rx_elem.specs.Elements as elements
@@ -9,7 +9,7 @@ use Rattle.rx_elem.specs.Identity.{old_places}
 use Rattle.rx_elem.specs.Trees.{Mark, of_instance, of_host, of_boundary, plain, Node, node, Forest, none, vacant, child, host_number, is_host, elements_in, children_if, fallback_if}
 use Rattle.rx_elem.specs.Spots.{Around, around_children}
 use Rattle.rx_elem.specs.Compare.{old_nodes}
-use Rattle.rx_host.specs.Hosts.{Host, Content, tag, letters, content_of, host_as, host_numbered, by_name}
+use Rattle.rx_host.specs.Hosts.{Host, Content, content_of, host_as, host_numbered}
 use Rattle.rx_host.specs.HostOps.{bare}
 use Rattle.host_laws.specs.Related.{AreAlike, old_content}
 use Rattle.host_laws.specs.Commits.{HasNumber, AreNumbered, AreNumbered_in}

@@ -11,3 +11,5 @@ pub mod Levels
 pub mod Depths
 pub mod Naming
 pub mod Rendering
+pub mod Committing
+pub mod Reached

@@ -1,5 +1,5 @@
 -- The hosts of a tree in its list, by their numbers.
-use Rattle.std.specs.Prelude.{◌≡◌, ℕ, ◌+◌, ◌≤◌, Bool, true, false, ◌||◌, List, [], ◌∷◌, ◌++◌, Option, Some, None, filter, filter_map, find, cond, nat_eq, refl}
+use Rattle.std.specs.Prelude.{◌≡◌, ℕ, ◌+◌, ◌≤◌, Bool, true, false, ◌||◌, List, [], ◌∷◌, ◌++◌, Some, None, filter_map, cond, nat_eq, refl}
 use Rattle.std.specs.List.{AllByRecursion}
 use Rattle.std.proofs.Common.{arith, sym, ap, subst, ◌∙◌}
 use Rattle.std.proofs.lemmas.Bool.Decides.{nat_tests, Decides-eqb}
@@ -9,7 +9,7 @@ use Rattle.rx_elem.specs.Trees.{Mark, of_instance, of_host, of_boundary, plain, 
 use Rattle.rx_elem.specs.Spots.{Around, around_children, spots_in}
 use Rattle.rx_host.specs.Hosts.{Host, Content, content_of, host_at, host_as, host_numbered, has_host}
 use Rattle.host_laws.specs.Related.{AreDistinct}
-use Rattle.host_laws.specs.Commits.{AreNumbered, AreNumbered_in, HasNumber, front, front_in}
+use Rattle.host_laws.specs.Commits.{AreNumbered, AreNumbered_in, HasNumber}
 use Rattle.host_laws.proofs.Listing.{hosts_at, hosts_in, host_first, other_first, no_number, in-child}
 use Rattle.replay_laws.proofs.Counts.{is_number, one_if, times, times_in}
 

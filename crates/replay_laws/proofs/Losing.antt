@@ -1,5 +1,5 @@
 -- What is gone of an old tree: each number that goes on was that of an old host, and is lost nowhere.
-use Rattle.std.specs.Prelude.{◌≡◌, ℕ, suc, zero, ◌+◌, ◌<◌, ◌≤◌, Bool, true, false, cond, not, ◌||◌, List, [], ◌∷◌, Option, Some, None, map, nat_eq, option_and_then, slice_get, refl}
+use Rattle.std.specs.Prelude.{◌≡◌, ℕ, suc, zero, ◌+◌, ◌<◌, ◌≤◌, Bool, true, false, cond, ◌||◌, List, [], ◌∷◌, Option, Some, None, map, nat_eq, option_and_then, slice_get, refl}
 use Rattle.std.specs.Option.{option_flatten}
 use Rattle.std.proofs.Common.{arith, sym, ap, subst, ◌∙◌}
 use Rattle.std.proofs.lemmas.Bool.Decides.{nat_tests, Decides-eqb}
@@ -175,3 +175,23 @@ gone_there n ps zero q p (child o os) e h =
 gone_there n ps (suc i) q p (child o os) e h =
     let later = gone_there n ps i q (p + 1) os (omega arith) h in
     omega arith
+
+mutual
+  -- what is lost was there
+  pub lost_within : (n : ℕ) (o : Option Node) (x : Node) → lost n o x ≤ times_if n o
+  lost_within n o (node e m ns fs) =
+      omega (
+        arith,
+        old_parts n o,
+        sum_reused n (children_if o) (old_places (elements_in (children_if o)) (elements_in ns)) (places_distinct (elements_in (children_if o)) (elements_in ns)),
+        both_ways n (old_places (elements_in (children_if o)) (elements_in ns)) 0 (children_if o),
+        all_lost_within n (old_nodes (children_if o) (elements_in ns)) ns,
+        sum_reused n (fallback_if o) (old_places (elements_in (fallback_if o)) (elements_in fs)) (places_distinct (elements_in (fallback_if o)) (elements_in fs)),
+        both_ways n (old_places (elements_in (fallback_if o)) (elements_in fs)) 0 (fallback_if o),
+        all_lost_within n (old_nodes (fallback_if o) (elements_in fs)) fs,
+      )
+
+  all_lost_within : (n : ℕ) (os : List (Option Node)) (ns : Forest) → lost_in n os ns ≤ sum_of n os
+  all_lost_within n os none = omega arith
+  all_lost_within n os (vacant ns) = omega (arith, all_lost_within n (rest os) ns, sum_parts n os)
+  all_lost_within n os (child x ns) = omega (arith, lost_within n (first os) x, all_lost_within n (rest os) ns, sum_parts n os)

@@ -1,11 +1,11 @@
 -- What a program's elements name: components that are declared, and attributes each of a name of its own.
-use Rattle.std.specs.Prelude.{◌≡◌, ℕ, suc, zero, ◌<◌, Bool, true, false, cond, ◌||◌, List, [], ◌∷◌, ℤ, Option, Some, None, pos, is_some, filter_map, find, length, map, nat_lt, slice_get, unwrap_or, bytes_eq, refl}
-use Rattle.std.specs.List.{position_or_len, range_with_len, cons_option}
+use Rattle.std.specs.Prelude.{◌≡◌, ℕ, suc, zero, ◌<◌, Bool, true, false, cond, List, [], ◌∷◌, ℤ, Some, None, pos, is_some, filter_map, length, map, nat_lt, slice_get, unwrap_or, bytes_eq, refl}
+use Rattle.std.specs.List.{position_or_len, range_with_len}
 use Rattle.std.specs.Cmp.Lexicographic.{slice_cmp}
 use Rattle.std.specs.Ordering.{nat_cmp, match_ordering}
 use Rattle.std.specs.declared.cmp.Ordering.{Ordering}
 use Rattle.std.specs.declared.cmp.Ordering.TheVariants.{Less, Equal, Greater}
-use Rattle.std.proofs.Common.{arith, sym, subst, ap, ◌∙◌}
+use Rattle.std.proofs.Common.{arith, sym, subst}
 use Rattle.std.proofs.lemmas.Bool.Decides.{nat_tests}
 use Rattle.std.proofs.lemmas.Slice.Eq.{bytes_eq-Decides}
 use Rattle.rx_base.specs.Values.{Name}
@@ -25,7 +25,7 @@ use Rattle.rx_host.specs.Hosts.{with_attr, by_name}
 use Rattle.rx_host.specs.HostOps.{attr_named}
 use Rattle.host_laws.specs.Related.{HaveOwnNames}
 use Rattle.host_laws.proofs.Placing.{neither}
-use Rattle.replay_laws.specs.Attributes.{attribute_name, attribute_names, StandOnce, SlotAttributesApart, SlotsAttributesApart}
+use Rattle.replay_laws.specs.Attributes.{attribute_names, StandOnce, SlotAttributesApart, SlotsAttributesApart}
 use Rattle.replay_laws.proofs.Depths.{gathered-listed}
 
 -- each component that an element names is there, and no host in it has two attributes of one name

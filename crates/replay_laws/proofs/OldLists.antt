@@ -2,11 +2,11 @@
 use Rattle.std.specs.Prelude.{◌≡◌, ℕ, zero, suc, ◌+◌, Bool, true, false, ◌||◌, List, [], ◌∷◌, ◌++◌, Option, Some, None, map, nat_eq, position, option_and_then, slice_get, refl}
 use Rattle.std.specs.List.{zip}
 use Rattle.std.specs.Option.{option_flatten}
-use Rattle.std.proofs.Common.{sym, ap, subst, arith, ◌∙◌}
+use Rattle.std.proofs.Common.{sym, ap, subst, arith}
 use Rattle.std.proofs.lemmas.Bool.Decides.{Decides-eqb}
 use Rattle.rx_elem.specs.Elements.{Element, key_of, kind_of, is_present, same_kind}
 use Rattle.rx_elem.specs.Elements as elements
-use Rattle.rx_elem.specs.Identity.{Identity, Child, identities_after, identity_after, identified, is_same_child, old_places, is_reused}
+use Rattle.rx_elem.specs.Identity.{Identity, Child, identities_after, identity_after, identified, is_same_child, is_reused}
 use Rattle.rx_elem.specs.Trees.{Node, Forest, none, vacant, child, places, element_of, elements_in}
 use Rattle.rx_elem.specs.Compare.{old_nodes, node_at}
 use Rattle.rx_elem.proofs.Equality.{same_kind-self}

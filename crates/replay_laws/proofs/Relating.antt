@@ -1,13 +1,12 @@
 -- A tree that grows out of an old one and has its numbers was rendered against it.
-use Rattle.std.specs.Prelude.{◌≡◌, ℕ, suc, ◌+◌, ◌≤◌, Bool, true, false, List, [], ◌∷◌, ◌++◌, Option, Some, None, map, length, filter, nat_eq, option_and_then, option_to_list, slice_get, refl, if◌then◌else◌}
+use Rattle.std.specs.Prelude.{◌≡◌, ℕ, suc, ◌≤◌, Bool, true, false, List, [], ◌∷◌, Option, Some, None, map, length, filter, nat_eq, option_and_then, option_to_list, refl, if◌then◌else◌}
 use Rattle.std.specs.List.{zip}
-use Rattle.std.specs.Option.{option_flatten}
 use Rattle.std.proofs.Common.{arith, sym, ap, subst, ◌∙◌}
-use Rattle.std.proofs.lemmas.Bool.Decides.{nat_tests, Decides-eqb}
+use Rattle.std.proofs.lemmas.Bool.Decides.{Decides-eqb}
 use Rattle.std.proofs.lemmas.List.Elements.{filter-append}
 use Rattle.rx_elem.specs.Elements.{Element}
-use Rattle.rx_elem.specs.Identity.{old_places, is_reused, moves, moves_after}
-use Rattle.rx_elem.specs.Trees.{Mark, of_instance, of_host, of_boundary, plain, Node, node, Forest, none, vacant, child, places, host_number, is_host, elements_in, children_if, fallback_if}
+use Rattle.rx_elem.specs.Identity.{old_places, moves, moves_after}
+use Rattle.rx_elem.specs.Trees.{Mark, of_instance, of_host, of_boundary, plain, Node, node, Forest, none, vacant, child, host_number, is_host, elements_in, children_if, fallback_if}
 use Rattle.rx_elem.specs.Compare.{Past, pasts, old_nodes, node_at}
 use Rattle.host_laws.specs.Commits.{front, front_in, front_if, WasHost, WasNone, FairGone, RenderedHost, first_past, rest_pasts, Rendered, Rendered_in, HasNumber, AreNumbered, AreNumbered_in}
 use Rattle.replay_laws.proofs.Counts.{is_number, one_if, times, times_in, times_if}

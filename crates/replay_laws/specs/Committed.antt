@@ -1,5 +1,5 @@
 -- What the commits of a program leave, and that their operations replay.
-use Rattle.std.specs.Prelude.{◌≡◌, ℕ, ◌≤◌, Option, Some, None}
+use Rattle.std.specs.Prelude.{◌≡◌, ◌≤◌, Option, Some, None}
 use Rattle.rx_ast.specs.Syntax.{Program}
 use Rattle.rx_elem.specs.Trees.{Node}
 use Rattle.rx_elem.specs.Numbers.{Numbers, numbered}
@@ -17,7 +17,7 @@ use Rattle.replay_laws.specs.Attributes.{AttributesApart}
 pub data IsCommitted (p : Program) : (next : Numbers) → (tree : Option Node) → Type 0 where
   none_yet : (next : Numbers) → 1 ≤ next.host → IsCommitted p next None
   one_more : (s : Sight) (next : Numbers) (old : Option Node) (n : Node)
-    → s.program ≡ p → IsCommitted p next old → fresh s old ≡ made n → IsCommitted p (numbered next n).0 (Some (numbered next n).1)
+      → s.program ≡ p → IsCommitted p next old → fresh s old ≡ made n → IsCommitted p (numbered next n).0 (Some (numbered next n).1)
 
 -- the operations of a commit make the new tree of hosts of the old one
 abbrev pub OpsReplay : (old : Option Node) → (new : Node) → Type 0
