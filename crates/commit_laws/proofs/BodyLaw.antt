@@ -17,6 +17,7 @@ use Rattle.rx_eval.specs.Fresh.{before}
 use Rattle.rx_eval.specs.Touched.{is_read_anew}
 use Rattle.rx_eval.specs.Settled.{read_anew}
 use Rattle.rx_check.specs.Reads.{AllDeclared, IsDeclared}
+use Rattle.rx_elem.proofs.Tests.{or_fails}
 
 -- one list begins another
 abbrev pub Begins : {X : Type 0} → List X → List X → Type 0
@@ -78,10 +79,6 @@ all_grow p i (s ∷ ss) f = go (take_one p i s f) (one_grows p i s f) (all_grow 
     go (taken g) h k = both_taken {P = Grows g} {Q = Grows g} (take_all p i ss g) (k g) (k g) (λ m a b. grows_through f g m h a)
 
 -- Contexts and resources
-
-or_fails : (a b : Bool) → (a || b) ≡ false → (a ≡ false) × (b ≡ false)
-or_fails true b h = absurd (cc h)
-or_fails false b h = (refl, h)
 
 pushed_fails : {X : Type 0} (test : X → Bool) (xs : List X) (x : X) (more : List X) → list_any test ((xs ++ x ∷ []) ++ more) ≡ false → test x ≡ false
 pushed_fails test [] x more h = (or_fails (test x) (list_any test more) h).0

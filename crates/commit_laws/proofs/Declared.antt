@@ -7,14 +7,11 @@ use Rattle.rx_ast.specs.Syntax.{Context, Program, Statement, constant, context, 
 use Rattle.rx_base.specs.Values.{Name}
 use Rattle.rx_check.specs.Names.{context_number, place_among}
 use Rattle.rx_check.specs.Reads.{AllDeclared, IsDeclared, ReadsDeclared}
+use Rattle.commit_laws.proofs.Naming.{place_within}
 
 names_long : (cs : List Context) → length (map (λ c. c.name) cs) ≡ length cs
 names_long [] = refl
 names_long (c ∷ cs) = omega (arith, names_long cs)
-
-place_within : (names : List Name) (name : Name) → 0 < length names → (k : ℕ) (b : Bool) → nat_lt k (length names) ≡ b → unwrap_or (cond b (Some k) None) 0 < length names
-place_within names name some k true e = grind (arith, nat_tests)
-place_within names name some k false e = some
 
 context_within : (p : Program) (name : Name) → 0 < length (contexts p) → context_number p name < length (contexts p)
 context_within p name some =

@@ -11,8 +11,8 @@ use Rattle.rx_queue.specs.History.{Answers, applied, stands_done, stands_open, s
 use Rattle.rx_queue.specs.Journal.{Posted, Target, belongs_to, hook, is_included, is_new, marked_update, same_target, standing_after, state_from, state_of}
 use Rattle.rx_queue.specs.declared.entry.Standing.{Standing}
 use Rattle.rx_queue.specs.declared.entry.Standing.TheVariants.{Done, Open, Owed}
-use Rattle.commit_laws.proofs.Settling.{target_has}
-use Rattle.commit_laws.proofs.TakeOver.{or_fails}
+use Rattle.commit_laws.proofs.Settling.{target_has, with_standing}
+use Rattle.rx_elem.proofs.Tests.{or_fails}
 use Rattle.rx_eval.specs.Again.{AccountedBefore, AllOpen, NoNewUpdate}
 use Rattle.rx_eval.specs.Settled.{includes}
 use Rattle.rx_lane.specs.Lanes as lanes_of
@@ -46,9 +46,6 @@ below_more a b n h k = grind (arith, nat_tests)
 abbrev pub PassesLater : Target → (Posted → Posted) → (Posted → Bool) → (Posted → Bool) → List Posted → Type 0
 PassesLater t f later test [] = Unit {0}
 PassesLater t f later test (u ∷ us) = (same_target t u.target ≡ true → later (f u) ≡ test u) × PassesLater t f later test us
-
-abbrev with_standing : (Posted → Standing) → Posted → Posted
-with_standing f u = record u { standing = f u }
 
 states_change : (answers : Answers) (t : Target) (f : Posted → Standing) (later test : Posted → Bool) (us : List Posted) → PassesLater t (with_standing f) later test us → (x : ℤ)
     → state_from answers later x (filter (λ u. same_target t u.target) (map (with_standing f) us)) ≡ state_from answers test x (filter (λ u. same_target t u.target) us)

@@ -49,7 +49,7 @@ names_length : (cs : List Component) → length (map (λ c. c.name) cs) ≡ leng
 names_length [] = refl
 names_length (c ∷ cs) = omega (arith, names_length cs)
 
-place_within : (names : List Name) (name : Name) → 0 < length names → (k : ℕ) (b : Bool) → nat_lt k (length names) ≡ b → unwrap_or (cond b (Some k) None) 0 < length names
+pub place_within : (names : List Name) (name : Name) → 0 < length names → (k : ℕ) (b : Bool) → nat_lt k (length names) ≡ b → unwrap_or (cond b (Some k) None) 0 < length names
 place_within names name some k true e = grind (arith, nat_tests)
 place_within names name some k false e = some
 

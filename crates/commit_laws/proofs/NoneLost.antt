@@ -16,7 +16,7 @@ use Rattle.rx_queue.specs.History.{stands_done, stands_owed}
 use Rattle.rx_queue.specs.Journal.{Posted, Target, belongs_to, has_later, hook, marked_update, same_target}
 use Rattle.rx_queue.specs.declared.entry.Standing.{Standing}
 use Rattle.rx_queue.specs.declared.entry.Standing.TheVariants.{Done, Open, Owed}
-use Rattle.rx_elem.proofs.Identities.{same_itself}
+use Rattle.rx_elem.proofs.Tests.{same_itself, or_left, or_right, both_hold}
 use Rattle.commit_laws.proofs.OwnNumbers.{CountIs, both_lists, has_occurs, not_below, numbered_counts, occurs, rendered_counts, spots_times}
 use Rattle.commit_laws.proofs.Settling.{kept_at, kept_listed, visible_at, visible_listed}
 use Rattle.rx_eval.specs.Again.{AccountedBefore}
@@ -58,19 +58,6 @@ push_pending tree us u a pending h n v there mounted = go (got_push us u v n the
     go (inr e) = inr (inl (subst (λ (w : Posted). lanes_of.has a w.update.lane ≡ true) e pending))
 
 -- Lanes
-
-or_left : (a b : Bool) → a ≡ true → (a || b) ≡ true
-or_left true b h = refl
-or_left false b h = absurd (cc h)
-
-or_right : (a b : Bool) → b ≡ true → (a || b) ≡ true
-or_right true b h = refl
-or_right false b h = h
-
-pub both_hold : (a b : Bool) → a ≡ true → b ≡ true → (a && b) ≡ true
-both_hold true true h k = refl
-both_hold true false h k = k
-both_hold false b h k = absurd (cc h)
 
 pub union_left : (a b : Lanes) (l : Lane) → lanes_of.has a l ≡ true → lanes_of.has (lanes_of.union a b) l ≡ true
 union_left a b l h = has-lanes_where (λ x. lanes_of.has a x || lanes_of.has b x) l ∙ or_left (lanes_of.has a l) (lanes_of.has b l) h

@@ -11,13 +11,14 @@ use Rattle.rx_eval.specs.Fresh.{Contexts, Places, Renders, Shape, Sight, absent,
 use Rattle.rx_queue.specs.History.{stands_done}
 use Rattle.rx_queue.specs.Journal.{Posted, Target, belongs_to, hook, is_included}
 use Rattle.rx_susp.specs.declared.boundary.BoundaryState.TheVariants.{Hidden, Shown}
-use Rattle.rx_elem.proofs.Identities.{same_numbers}
+use Rattle.rx_elem.proofs.Tests.{same_number}
 use Rattle.commit_laws.proofs.Settling.{tree_seen}
 use Rattle.commit_laws.proofs.Soundness.{calm_is_still, resolution_keeps}
 use Rattle.commit_laws.proofs.TakeOver.{rendered_again}
 use Rattle.commit_laws.specs.HiddenWaits.{AllNumbered, AllSeen, Numbered, Seen}
 use Rattle.commit_laws.specs.Quiet.{AllDone, AllShown, NoneHidden}
 use Rattle.rx_eval.specs.Settled.{AllCalm, DoneBefore, HasValuesOf, IsCalm, IsSettled, IsSound, IsStill, includes, is_stirred, known_by}
+use Rattle.rx_elem.proofs.Numbering.{numbered_element}
 
 passes_done : (i d b : Bool) → (b ≡ true → d ≡ true) → (i && (not d && b)) ≡ false
 passes_done true true b h = refl
@@ -29,7 +30,7 @@ one_belongs : (set : List ℕ) (n : ℕ) → includes set n ≡ true → (t : Ta
 one_belongs set n h (hook i k) there = go (nat_eq i n) refl there
   where
     go : (b : Bool) → nat_eq i n ≡ b → (b || false) ≡ true → includes set i ≡ true
-    go true e x = subst (λ (m : ℕ). includes set m ≡ true) (sym (same_numbers i n e)) h
+    go true e x = subst (λ (m : ℕ). includes set m ≡ true) (sym (same_number i n e)) h
     go false e x = absurd (cc x)
 
 all_done_calm : (s : Sight) (set : List ℕ) (n : ℕ) → includes set n ≡ true → (us : List Posted) → AllDone set us
@@ -77,9 +78,6 @@ rendered_element : (k : ℕ) (s : Sight) (cs : Contexts) (e : Element) (old : Op
 unfolding rendered
 rendered_element zero s cs e old n h = absurd (cc h)
 rendered_element (suc k) s cs e old n h = place_element (rendered k s) e old (shape_of s cs e old) n h
-
-numbered_element : (from : Numbers) (n : Node) → element_of (numbered from n).1 ≡ element_of n
-numbered_element from (node e m ns fs) = refl
 
 -- A commit leaves the root's element at the root.
 pub root_stays : (s : Sight) (old : Option Node) (new : Node) (from : Numbers) → fresh s old ≡ made new → element_of (numbered from new).1 ≡ root_element s.program

@@ -10,13 +10,7 @@ use Rattle.rx_elem.specs.declared.attr.Attr.{Attr}
 use Rattle.rx_elem.specs.declared.attr.AttrValue.{AttrValue}
 use Rattle.rx_elem.specs.Elements as elements
 use Rattle.rx_elem.specs.declared.attr.AttrValue.TheVariants as attr_value
-
-and_passes : (a b : Bool) → (a && b) ≡ true → (a ≡ true) × (b ≡ true)
-and_passes true b h = (refl, h)
-and_passes false b h = absurd (cc h)
-
-same_number : (m n : ℕ) → nat_eq m n ≡ true → m ≡ n
-same_number m n h = grind (arith, nat_tests)
+use Rattle.rx_elem.proofs.Tests.{and_passes, same_number}
 
 same_int : (x y : ℤ) → int_eq x y ≡ true → x ≡ y
 same_int x y h = (Decides-int_eq x y).0 h

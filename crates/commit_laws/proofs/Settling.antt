@@ -12,15 +12,13 @@ use Rattle.rx_queue.specs.Journal.{Posted, Target, belongs_to, committed_value, 
 use Rattle.rx_queue.specs.declared.entry.Standing.{Standing}
 use Rattle.rx_queue.specs.declared.entry.Standing.TheVariants.{Done, Open, Owed}
 use Rattle.rx_susp.specs.declared.boundary.BoundaryState.TheVariants.{Hidden, Shown}
-use Rattle.commit_laws.proofs.TakeOver.{and_passes, done_is_included}
+use Rattle.commit_laws.proofs.TakeOver.{done_is_included}
+use Rattle.rx_elem.proofs.Tests.{and_passes, or_right, same_number}
 use Rattle.commit_laws.specs.HiddenWaits.{AllSeen, NumberSeen, Seen}
 use Rattle.rx_eval.specs.Settled.{DoneBefore, Known, TargetsBelow, done_values, includes, number_of}
 use Rattle.rx_lane.specs.Lanes as lanes_of
 
 -- Marks
-
-same_number : (m n : ℕ) → nat_eq m n ≡ true → m ≡ n
-same_number m n h = grind (arith, nat_tests)
 
 -- each update of this target passes the one test after a change exactly where it passed the other before
 abbrev EachPasses : Target → (Posted → Posted) → (Posted → Bool) → List Posted → Type 0
@@ -28,7 +26,7 @@ EachPasses t f test [] = Unit {0}
 EachPasses t f test (u ∷ us) = (same_target t u.target ≡ true → stands_done (f u).standing ≡ test u) × EachPasses t f test us
 
 -- a change of standings alone
-abbrev with_standing : (Posted → Standing) → Posted → Posted
+abbrev pub with_standing : (Posted → Standing) → Posted → Posted
 with_standing f u = record u { standing = f u }
 
 states_change : (answers : Answers) (t : Target) (f : Posted → Standing) (test : Posted → Bool) (us : List Posted) → EachPasses t (with_standing f) test us → (x : ℤ)
@@ -250,10 +248,6 @@ among_first f x xs set h i same = h i (there (f x) same)
 
     there : (o : Option ℕ) → o ≡ Some i → includes (filter_map f (x ∷ xs)) i ≡ true
     there o e = rw same (rw number_is_itself refl)
-
-or_right : (a b : Bool) → b ≡ true → (a || b) ≡ true
-or_right true b h = refl
-or_right false b h = h
 
 pub among_rest : (f : Spot → Option ℕ) (x : Spot) (xs : List Spot) (set : List ℕ) → Among f (x ∷ xs) set → Among f xs set
 among_rest f x xs set h i there = h i (go (f x) refl)

@@ -16,7 +16,7 @@ use Rattle.rx_queue.specs.History.{stands_done}
 use Rattle.rx_queue.specs.Journal.{Posted, Target, belongs_to, committed_value, hook, is_included, same_target, state_of}
 use Rattle.rx_susp.specs.declared.boundary.BoundaryState.TheVariants.{Hidden}
 use Rattle.rx_eval.proofs.Depths.{ShapeFits, not_deepest, shape_fits}
-use Rattle.rx_elem.proofs.Identities.{same_itself, same_numbers}
+use Rattle.rx_elem.proofs.Tests.{same_itself, same_number, and_passes, or_fails}
 use Rattle.rx_elem.proofs.SelfMatch.{NoNull, matches_itself}
 use Rattle.rx_eval.specs.Levels.{Fits, body_depth, elements_depth}
 use Rattle.rx_eval.specs.Settled.{AllSettled, AllStill, DoneBefore, IsBodyOf, IsOwn, IsSettled, IsStill, Known, done_values, has_cause, kept_shape, known_by, read_anew}
@@ -24,18 +24,10 @@ use Rattle.rx_elem.specs.Elements as elements
 
 -- Hook values
 
-pub or_fails : (a b : Bool) → (a || b) ≡ false → (a ≡ false) × (b ≡ false)
-or_fails true b h = absurd (cc h)
-or_fails false b h = (refl, h)
-
-pub and_passes : (a b : Bool) → (a && b) ≡ true → (a ≡ true) × (b ≡ true)
-and_passes true b h = (refl, h)
-and_passes false b h = absurd (cc h)
-
 target_belongs : (n k : ℕ) (t : Target) → same_target (hook n k) t ≡ true → belongs_to (n ∷ []) t ≡ true
 target_belongs n k (hook i l) h =
     let both = and_passes (nat_eq n i) (nat_eq k l) h in
-    let same : n ≡ i = same_numbers n i both.0 in
+    let same : n ≡ i = same_number n i both.0 in
     let back : nat_eq i n ≡ true = subst (λ (m : ℕ). nat_eq i m ≡ true) (sym same) (same_itself i) in
     rw back refl
 

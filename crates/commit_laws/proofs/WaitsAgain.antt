@@ -20,6 +20,7 @@ use Rattle.rx_eval.specs.Again.{AllValuesAgree, AllWaitAgain, AreResources, AreU
 use Rattle.rx_eval.specs.Settled.{HasValuesOf}
 use Rattle.rx_elem.specs.Elements as elements
 use Rattle.rx_base.specs.Awaits as awaits
+use Rattle.rx_elem.proofs.Tests.{or_left, or_right}
 
 -- Sets of resources
 
@@ -29,14 +30,6 @@ where_small test r h = go (nat_lt r resource_limit) refl
     go : (b : Bool) → nat_lt r resource_limit ≡ b → r < resource_limit
     go true e = grind (arith, nat_tests)
     go false e = let late : resource_limit ≤ r = grind (arith, nat_tests) in absurd (cc (h, has-awaits_where_above test r late))
-
-or_left : (a b : Bool) → a ≡ true → (a || b) ≡ true
-or_left true b h = refl
-or_left false b h = absurd (cc h)
-
-or_right : (a b : Bool) → b ≡ true → (a || b) ≡ true
-or_right true b h = refl
-or_right false b h = h
 
 left_unresolved : (t : Sight) (a b : Awaits) → AreResources a → AreUnresolved t (awaits.union a b) → AreUnresolved t a
 left_unresolved t a b small h r there =

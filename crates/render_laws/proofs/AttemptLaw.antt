@@ -18,7 +18,8 @@ use Rattle.render_laws.specs.Attempts.{Attempts, begun, unless_waits, attempts_b
 use Rattle.render_laws.proofs.Plans.{Alts, Plan, fixed, end, next, plan_in, body_size, body_plan, alts_size}
 use Rattle.render_laws.proofs.Coming.{Has, is_keyed, IsFew, Comes, AllCome, comes_within, comes_less}
 use Rattle.render_laws.proofs.Fitting.{allowed, piece, plans_of, IsThere, FitsIn, FitsOld, old_sub, old_fits}
-use Rattle.render_laws.proofs.FitLists.{HasPlan, replaced, replaced_used, replaced_sub, replaced_offers, own_ids, own_few, own_covered, AllSuit, AllCovered, all_suit, child_of}
+use Rattle.render_laws.proofs.FitLists.{HasPlan, replaced, replaced_used, replaced_sub, replaced_offers, own_ids, own_few, own_covered, AllSuit, AllCovered, all_suit}
+use Rattle.rx_elem.proofs.Identities.{child_of}
 use Rattle.render_laws.proofs.FitRender.{IsPlain, IfReady, found_comes, come_listed, has_primary, has_fallback, has_is_there, primary_fits, fallback_fits, rendered_fits, vacant_fits, AllVacant, unused, none_used}
 use Rattle.render_laws.proofs.Room.{forest_count, in_count, cost, plans_size, all_cost, there_size, spots_in_count}
 use Rattle.render_laws.proofs.RootLaws.{root_alts, root_comes, root_size, bound_is_own, tree_fits}

@@ -6,7 +6,7 @@ use Rattle.rx_check.specs.Names.{component_number, root_name}
 use Rattle.rx_check.specs.Bounds.{node_bound, component_levels, node_limit}
 use Rattle.rx_elem.specs.Elements.{Element}
 use Rattle.rx_elem.specs.Identity.{Identity, identities}
-use Rattle.rx_elem.specs.Trees.{Node, node, Forest, none, vacant, child, elements_in, element_of}
+use Rattle.rx_elem.specs.Trees.{Node, node, Forest, none, vacant, child, elements_in}
 use Rattle.rx_elem.specs.Spots.{at_root, node_count}
 use Rattle.rx_elem.specs.Numbers.{Numbers, numbered, numbered_in, numbered_mark}
 use Rattle.rx_eval.specs.Fresh.{Sight, Contexts, Place, made, rendered, root_element, default_contexts, fresh, IsTree, none_yet, given}
@@ -16,11 +16,9 @@ use Rattle.render_laws.proofs.Fitting.{allowed, Fits, FitsEach, FitsOld, plans_o
 use Rattle.render_laws.proofs.FitLists.{Result}
 use Rattle.render_laws.proofs.FitRender.{IsPlain, rendered_fits}
 use Rattle.render_laws.proofs.Room.{fits_count, spots_count}
+use Rattle.rx_elem.proofs.Numbering.{numbered_element}
 
 -- Numbers change nothing
-
-numbered_element : (c : Numbers) (n : Node) → element_of (numbered c n).1 ≡ element_of n
-numbered_element c (node e m ns fs) = refl
 
 numbered_elements : (c : Numbers) (ns : Forest) → elements_in (numbered_in c ns).1 ≡ elements_in ns
 numbered_elements c none = refl

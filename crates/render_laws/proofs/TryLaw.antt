@@ -19,6 +19,7 @@ use Rattle.render_laws.proofs.Coming.{Has, here, there, is_keyed, count_all, cou
 use Rattle.render_laws.proofs.FitRender.{IsPlain, IfReady, found_comes, come_listed}
 use Rattle.render_laws.proofs.RootLaws.{root_alts, root_comes, root_size, bound_is_own}
 use Rattle.render_laws.proofs.UnitBound.{if_made_nothing}
+use Rattle.render_laws.proofs.Room.{sum_times, tail_size}
 
 -- one for each place that is begun, and so many for one where nothing can stand
 abbrev pub begun_with : ℕ → Weights
@@ -36,13 +37,6 @@ no_more (waits a) n = omega arith
 no_more_if : (x : Places) (n : ℕ) → if_waits x n ≤ n
 no_more_if (all_made ns) n = omega arith
 no_more_if (one_waits a) n = omega arith
-
-sum_times : (a b c : ℕ) → (a + b) * c ≡ a * c + b * c
-sum_times a b c = grind arith
-
-tail_size : (row : Row) → row_size row ≡ alts_size (row_head row) + row_size (row_tail row)
-tail_size end = omega arith
-tail_size (next a row) = omega arith
 
 every_tried : (d : ℕ) (p : Program) (try : Tries) (render : Renders) → HasRoom d p try → (limit : ℕ) (a : Alts) (es : List Element) (olds : List (Option Node))
     → AllCome d p (every limit a) (gathered es) → try_all try render (zip es olds) ≤ count_all (gathered es) * alts_size a

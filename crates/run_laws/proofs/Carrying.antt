@@ -20,7 +20,7 @@ use Rattle.rx_queue.specs.declared.entry.Standing.{Standing}
 use Rattle.rx_queue.specs.declared.entry.Standing.TheVariants.{Open}
 use Rattle.rx_script.specs.Steps.{Path}
 use Rattle.commit_laws.proofs.HiddenLaw.{all_mounted, commit_hides, numbered_at}
-use Rattle.rx_elem.proofs.Identities.{same_itself, same_numbers}
+use Rattle.rx_elem.proofs.Tests.{same_itself, same_number}
 use Rattle.commit_laws.proofs.OwnNumbers.{has_occurs, occurs, occurs_option, spot_times, spots_times}
 use Rattle.commit_laws.proofs.QuietTree.{root_stays}
 use Rattle.commit_laws.proofs.ResourceLaws.{values_stay}
@@ -273,7 +273,7 @@ found_below p next (Some x) path m own h i late = go (nat_eq i m.number) refl
     go false e = refl
     go true e =
         let some = has_occurs m.number (filter_map numbered_at (spots at_root x)) there in
-        let same : i ≡ m.number = same_numbers i m.number e in
+        let same : i ≡ m.number = same_number i m.number e in
         absurd (omega (arith, some, listed_times m.number (spots at_root x), spots_times m.number at_root x, (own m.number).1 (omega arith)))
 
 pub target_below : (p : Program) (next : ℕ) (tree : Option Node) (path : Path) (m : Mounted) → HasOwnNumbers next tree → instance_found p tree path ≡ Some m

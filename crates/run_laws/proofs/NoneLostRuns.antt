@@ -33,7 +33,8 @@ use Rattle.rx_script.specs.declared.step.LaneWord.{LaneWord}
 use Rattle.rx_script.specs.declared.step.Step.{Step}
 use Rattle.run_laws.proofs.AlongRuns.{commit_is, opening_carries, step_keeps, turn_keeps}
 use Rattle.run_laws.proofs.Carrying.{start_renders}
-use Rattle.commit_laws.proofs.NoneLost.{NoneLost, both_hold, commit_none_lost, more_pending, one_itself, push_pending, union_left, union_right}
+use Rattle.commit_laws.proofs.NoneLost.{NoneLost, commit_none_lost, more_pending, one_itself, push_pending, union_left, union_right}
+use Rattle.rx_elem.proofs.Tests.{both_hold}
 use Rattle.run_laws.specs.Carried.{Carries, IsCarried, RendersOn}
 use Rattle.rx_check.specs.Reads.{ReadsDeclared}
 use Rattle.rx_script.specs.declared.step.Step.TheVariants as step

@@ -20,11 +20,10 @@ use Rattle.rx_queue.specs.Journal.{Posted, Target, belongs_to, committed_value, 
 use Rattle.run_laws.proofs.AlongRuns.{reached_carries}
 use Rattle.run_laws.proofs.Carrying.{all_accounted, done_before}
 use Rattle.commit_laws.proofs.HiddenLaw.{all_mounted, numbered_at}
-use Rattle.rx_elem.proofs.Identities.{same_itself, same_numbers}
+use Rattle.rx_elem.proofs.Tests.{same_itself, same_number, and_passes}
 use Rattle.run_laws.proofs.NoneLostRuns.{reached_lost}
 use Rattle.commit_laws.proofs.QuietTree.{quiet_tree}
 use Rattle.commit_laws.proofs.Settling.{kept_at, kept_listed, target_has, visible_at, visible_listed, within_visible}
-use Rattle.commit_laws.proofs.TakeOver.{and_passes}
 use Rattle.run_laws.specs.Carried.{Carries}
 use Rattle.commit_laws.specs.Quiet.{AllDone, AllShown, NoneHidden}
 use Rattle.rx_eval.specs.Settled.{includes}
@@ -192,7 +191,7 @@ tree_shows p s (Some n) resources last deep c h done =
 pub quiet_shows : (p : Program) → QuietLaw p
 quiet_shows p bounded s reached quiet =
     let parts = and_passes (is_empty s.schedule.pending) (nat_eq (hidden_count s.tree) 0) quiet in
-    let shown : hidden_count s.tree ≡ 0 = same_numbers (hidden_count s.tree) 0 parts.1 in
+    let shown : hidden_count s.tree ≡ 0 = same_number (hidden_count s.tree) 0 parts.1 in
     let lists = quiet_lists s.tree shown in
     let done = all_done s (reached_lost p bounded.shallow bounded.declared s reached) lists.1 (λ l. empty_has s.schedule.pending l parts.0) in
     let c = reached_carries p bounded.shallow bounded.declared s reached in

@@ -1,6 +1,6 @@
 -- Each state that can be reached has a tree of the program.
 use Rattle.std.specs.Prelude.{◌≡◌, ℕ, zero, suc, Bool, true, false, cond, List, [], ◌∷◌, ℤ, Option, Some, None, IfSome, refl}
-use Rattle.std.proofs.Common.{inl, inr, sym, subst, ◌∙◌}
+use Rattle.std.proofs.Common.{inl, inr, sym, subst}
 use Rattle.rx_base.specs.Awaits.{Awaits}
 use Rattle.rx_lane.specs.declared.lane.Lane.{Lane}
 use Rattle.rx_lane.specs.declared.lane.Lane.TheVariants as lane
@@ -15,13 +15,12 @@ use Rattle.rx_script.specs.declared.step.Step.TheVariants as step
 use Rattle.rx_script.specs.Steps.{word_of, path_of}
 use Rattle.rx_sched.specs.declared.choice.Choice.{Choice}
 use Rattle.rx_sched.specs.declared.choice.Choice.TheVariants as choice
-use Rattle.rx_elem.specs.Elements.{Element}
-use Rattle.rx_elem.specs.Trees.{Mark, Node, node, element_of}
+use Rattle.rx_elem.specs.Trees.{Node, element_of}
 use Rattle.rx_elem.specs.Spots.{Mounted}
 use Rattle.rx_elem.specs.Compare.{Change}
-use Rattle.rx_elem.specs.Numbers.{Numbers, numbered}
+use Rattle.rx_elem.specs.Numbers.{numbered}
 use Rattle.rx_queue.specs.Journal.{Target, resolved_now}
-use Rattle.rx_eval.specs.Fresh.{Sight, Contexts, Renders, Places, all_made, one_waits, Shape, absent, waiting, one_list, two_lists, made, place_of, over, over_boundary, render_part, rendered as rendered_at, shape_of, fresh, root_element, default_contexts, IsTree, none_yet, given}
+use Rattle.rx_eval.specs.Fresh.{made, fresh, root_element, IsTree, none_yet, given}
 use Rattle.rx_eval.specs.Outcome.{commit, defer, outcome_by, newly_hidden}
 use Rattle.rx_model.specs.State.{State, Progress, opening, instance_found}
 use Rattle.rx_model.specs.Stretch.{Stretch, silent, followed_by}
@@ -34,6 +33,7 @@ use Rattle.rx_model.specs.Laws.{IsBounded, IsReached}
 use Rattle.rx_report.specs.Report.{Counts}
 use Rattle.render_laws.proofs.Bounded.{tree_within}
 use Rattle.run_laws.proofs.RenderBounds.{render_within}
+use Rattle.commit_laws.proofs.QuietTree.{root_stays}
 
 -- the tree of a state is one of the program
 abbrev Holds : Program → State → Type 0
@@ -133,36 +133,9 @@ reached_tree p s t = subst (λ (x : State). Holds p x) t.3 (run_holds p opening 
 
 -- The root of such a tree is App's node
 
-over_element : (e : Element) (m : Mark) (ps : Places) (n : Node) → over e m ps ≡ made n → element_of n ≡ e
-over_element e m (all_made ns) n h = cc
-over_element e m (one_waits a) n h = absurd (cc h)
-
-boundary_element : (e : Element) (old : Option Node) (ps qs : Places) (n : Node) → over_boundary e old ps qs ≡ made n → element_of n ≡ e
-boundary_element e old (all_made ns) qs n h = cc
-boundary_element e old (one_waits a) (all_made fs) n h = cc
-boundary_element e old (one_waits a) (one_waits b) n h = absurd (cc h)
-
-place_element : (below : Contexts → Renders) (e : Element) (old : Option Node) (shape : Shape) (n : Node) → place_of below e old shape ≡ made n → element_of n ≡ e
-place_element below e old absent n h = absurd (cc h)
-place_element below e old (waiting r) n h = absurd (cc h)
-place_element below e old (one_list m p) n h = over_element e m (render_part below p) n h
-place_element below e old (two_lists p f) n h = boundary_element e old (render_part below p) (render_part below f) n h
-
-level_element : (levels : ℕ) (s : Sight) (cs : Contexts) (e : Element) (old : Option Node) (n : Node) → rendered_at (suc levels) s cs e old ≡ made n → element_of n ≡ e
-unfolding rendered_at
-level_element levels s cs e old n h = place_element (rendered_at levels s) e old (shape_of s cs e old) n h
-
-fresh_element : (s : Sight) (old : Option Node) (n : Node) → fresh s old ≡ made n → element_of n ≡ root_element s.program
-unfolding fresh
-fresh_element s old n h = level_element 255 s (default_contexts s.program) (root_element s.program) old n h
-
-numbered_root : (from : Numbers) (n : Node) → element_of (numbered from n).1 ≡ element_of n
-numbered_root from (node e m ns fs) = refl
-
 tree_root : (p : Program) (tree : Option Node) → IsTree p tree → IfSome tree (λ n. element_of n ≡ root_element p)
 tree_root p tree none_yet = tt
-tree_root p tree (given s old n next same t h) =
-    numbered_root next n ∙ subst (λ (q : Program). element_of n ≡ root_element q) same (fresh_element s old n h)
+tree_root p tree (given s old n next same t h) = subst (λ (q : Program). element_of (numbered next n).1 ≡ root_element q) same (root_stays s old n next h)
 
 -- So it has no more nodes than the bound, and App's node as its root.
 pub reached_bounded : (p : Program) → IsBounded p → (s : State) → IsReached p s → TreeIsBounded p s

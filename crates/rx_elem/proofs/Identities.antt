@@ -1,31 +1,22 @@
 -- Identities of children: those of a list are distinct.
 use Rattle.std.specs.Option.{option_map_or}
 use Rattle.std.specs.Ordering.{int_eq}
-use Rattle.std.specs.Prelude.{Bool, IsTrue, List, None, Some, [], cond, count_by, false, length, nat_eq, refl, true, ℕ, ℤ, ◌&&◌, ◌++◌, ◌+◌, ◌<◌, ◌∷◌, ◌≡◌, ◌≤◌}
+use Rattle.std.specs.Prelude.{Bool, IsTrue, List, None, Some, [], cond, count_by, false, length, nat_eq, refl, true, ℕ, ℤ, ◌++◌, ◌+◌, ◌<◌, ◌∷◌, ◌≡◌, ◌≤◌}
 use Rattle.std.proofs.Common.{ap, arith, subst, sym, ◌∙◌}
 use Rattle.std.proofs.lemmas.Bool.Decides.{Decides-int_eq, nat_tests}
 use Rattle.std.proofs.lemmas.List.{length-append}
 use Rattle.std.proofs.lemmas.List.Sums.{sum_by_push}
 use Rattle.rx_elem.specs.Elements.{Element, Key, key_of}
 use Rattle.rx_elem.specs.Identity.{Child, Identity, at_index, at_key, has_key, identities_after, identity_after, same_identity}
-
-both_pass : (a b : Bool) → (a && b) ≡ true → (a ≡ true) × (b ≡ true)
-both_pass true b h = (refl, h)
-both_pass false b h = absurd (cc h)
-
-pub same_numbers : (m n : ℕ) → nat_eq m n ≡ true → m ≡ n
-same_numbers m n h = grind (arith, nat_tests)
-
-pub same_itself : (n : ℕ) → nat_eq n n ≡ true
-same_itself n = grind (arith, nat_tests)
+use Rattle.rx_elem.proofs.Tests.{and_passes, same_number}
 
 pub same_ids : (i j : Identity) → same_identity i j ≡ true → i ≡ j
 same_ids (at_key k o) (at_key l p) h =
-    let both = both_pass (int_eq k l) (nat_eq o p) h in
+    let both = and_passes (int_eq k l) (nat_eq o p) h in
     let a : k ≡ l = (Decides-int_eq k l).0 both.0 in
-    let b : o ≡ p = same_numbers o p both.1 in
+    let b : o ≡ p = same_number o p both.1 in
     cc
-same_ids (at_index i) (at_index j) h = ap at_index (same_numbers i j h)
+same_ids (at_index i) (at_index j) h = ap at_index (same_number i j h)
 same_ids (at_key k o) (at_index j) h = absurd (cc h)
 same_ids (at_index i) (at_key l p) h = absurd (cc h)
 
