@@ -16,7 +16,8 @@ use Rattle.commit_laws.proofs.Leaving.{PlaceIs, rendered_is}
 use Rattle.commit_laws.proofs.Naming.{HasComponents, some_got}
 use Rattle.commit_laws.proofs.Settling.{after_commit, kept_values, new_values, tree_seen, visible_values}
 use Rattle.commit_laws.specs.HiddenWaits.{AllSeen, NumberSeen, Seen}
-use Rattle.rx_eval.specs.Settled.{AllRendered, AllSettled, AreApart, DoneBefore, HasValuesOf, IfHidden, IfSettled, IsBodyIn, IsBodyOf, IsOwnBy, IsRendered, IsSettled, Known, TargetsBelow, done_values, includes, number_of}
+use Rattle.commit_laws.proofs.Rendered.{AllRendered, AreApart, IsBodyIn, IsRendered}
+use Rattle.rx_eval.specs.Settled.{AllSettled, DoneBefore, HasValuesOf, IfHidden, IfSettled, IsBodyOf, IsOwnBy, IsSettled, Known, TargetsBelow, done_values, includes, number_of}
 use Rattle.rx_check.specs.Reads.{ReadsDeclared}
 use Rattle.rx_elem.specs.Elements as elements
 

@@ -1,6 +1,6 @@
 -- Where a program has a context, each context that a component reads is one of its own.
 use Rattle.std.specs.List.{position_or_len}
-use Rattle.std.specs.Prelude.{Bool, List, None, Some, [], bytes_eq, cond, false, length, map, nat_lt, refl, true, unwrap_or, ℕ, ◌<◌, ◌∷◌, ◌≡◌}
+use Rattle.std.specs.Prelude.{List, [], bytes_eq, length, map, nat_lt, refl, ◌<◌, ◌∷◌, ◌≡◌}
 use Rattle.std.proofs.Common.{arith}
 use Rattle.std.proofs.lemmas.Bool.Decides.{nat_tests}
 use Rattle.rx_ast.specs.Syntax.{Context, Program, Statement, constant, context, contexts, effect, reducer, state, use_resource}

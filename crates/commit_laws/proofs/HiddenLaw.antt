@@ -25,9 +25,24 @@ use Rattle.commit_laws.proofs.Settling.{Among, among_first, among_rest}
 use Rattle.commit_laws.proofs.Soundness.{marked_hidden}
 use Rattle.commit_laws.proofs.WaitsAgain.{attempt_waits_again}
 use Rattle.rx_eval.specs.Again.{AccountedBefore, AllOpen, AllValuesAgree, AreUnresolved, NoNewUpdate, ValuesAgree, WaitsAreSmall}
-use Rattle.commit_laws.specs.HiddenWaits.{AllHiddenWait, AllNumbered, AllNumbersIn, AllSeen, HiddenWaits, IfNumbered, IsNumbered, NumberIn, Numbered, NumbersIn, OwnWaits, Seen}
+use Rattle.commit_laws.specs.HiddenWaits.{AllHiddenWait, AllNumbered, AllSeen, HiddenWaits, IfNumbered, IsNumbered, Numbered, OwnWaits, Seen}
 use Rattle.rx_eval.specs.Settled.{HasValuesOf, IfHidden, includes, number_of}
 use Rattle.rx_elem.specs.Elements as elements
+
+-- a number that may be missing is among these
+abbrev pub NumberIn : List ℕ → Option ℕ → Type 0
+NumberIn set o = (i : ℕ) → o ≡ Some i → includes set i ≡ true
+
+-- the same for a tree
+abbrev mutual
+  pub NumbersIn : List ℕ → Node → Type 0
+  NumbersIn set (node e m ns fs) = NumberIn set (number_of m) × AllNumbersIn set ns × AllNumbersIn set fs
+
+  -- the same for the trees of a list
+  pub AllNumbersIn : List ℕ → Forest → Type 0
+  AllNumbersIn set none = Unit {0}
+  AllNumbersIn set (vacant ns) = AllNumbersIn set ns
+  AllNumbersIn set (child n ns) = NumbersIn set n × AllNumbersIn set ns
 
 -- Rendering
 

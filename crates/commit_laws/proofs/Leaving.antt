@@ -18,7 +18,8 @@ use Rattle.rx_eval.proofs.Depths.{ShapeFits, shape_fits}
 use Rattle.rx_elem.proofs.Identities.{child_of}
 use Rattle.commit_laws.proofs.Naming.{AllNamed, HasComponents, Named, body_named, listed_named}
 use Rattle.rx_eval.specs.Levels.{Fits, body_depth, elements_depth}
-use Rattle.rx_eval.specs.Settled.{AllRendered, AllSettled, IfSettled, IsBodyIn, IsOwn, IsRendered, Known}
+use Rattle.commit_laws.proofs.Rendered.{AllRendered, IsBodyIn, IsRendered}
+use Rattle.rx_eval.specs.Settled.{AllSettled, IfSettled, IsOwn, Known}
 use Rattle.rx_check.specs.Reads.{ReadsDeclared}
 use Rattle.rx_elem.specs.Elements as elements
 

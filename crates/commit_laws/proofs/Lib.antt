@@ -1,3 +1,4 @@
+pub mod Rendered
 pub mod SameElements
 pub mod TakeOver
 pub mod BodyLaw

@@ -20,7 +20,8 @@ use Rattle.rx_eval.specs.Fresh.{Contexts, Place, Places, Renders, Sight, all_mad
 use Rattle.commit_laws.proofs.CommitSettles.{mark_rises, number_rises, numbers_rise}
 use Rattle.rx_elem.proofs.Identities.{Distinct, child_of, distinct_after, distinct_equals, equals}
 use Rattle.commit_laws.proofs.Settling.{kept_at, kept_listed, number_if, visible_at, visible_listed}
-use Rattle.rx_eval.specs.Settled.{AreApart, HasOwnNumbers, includes, is_numbered_so, number_of, times_numbered, times_numbered_if, times_numbered_in}
+use Rattle.commit_laws.proofs.Rendered.{AreApart}
+use Rattle.rx_eval.specs.Settled.{HasOwnNumbers, includes, is_numbered_so, number_of, times_numbered, times_numbered_if, times_numbered_in}
 use Rattle.rx_elem.specs.Elements as elements
 
 -- No old node is taken twice

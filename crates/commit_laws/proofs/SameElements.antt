@@ -1,9 +1,9 @@
 -- What the test of two elements tells: they are equal.
 use Rattle.std.specs.Cmp.Lexicographic.{pointwise}
 use Rattle.std.specs.Ordering.{int_eq}
-use Rattle.std.specs.Prelude.{Bool, List, None, Some, [], bytes_eq, false, nat_eq, refl, true, ℕ, ℤ, ◌&&◌, ◌∷◌, ◌≡◌}
-use Rattle.std.proofs.Common.{ap, arith}
-use Rattle.std.proofs.lemmas.Bool.Decides.{Decides-int_eq, nat_tests}
+use Rattle.std.specs.Prelude.{Bool, List, None, Some, [], bytes_eq, nat_eq, refl, true, ℕ, ℤ, ◌&&◌, ◌∷◌, ◌≡◌}
+use Rattle.std.proofs.Common.{ap}
+use Rattle.std.proofs.lemmas.Bool.Decides.{Decides-int_eq}
 use Rattle.std.proofs.lemmas.Slice.Eq.{bytes_eq-Decides}
 use Rattle.rx_elem.specs.Elements.{Element, Elements, Key, same_attr, same_element, same_elements, same_key, same_value}
 use Rattle.rx_elem.specs.declared.attr.Attr.{Attr}

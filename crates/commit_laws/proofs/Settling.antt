@@ -1,6 +1,6 @@
 -- A commit leaves a settled tree: its marks make of the values that a render saw the values that are done.
 use Rattle.std.specs.List.{cons_option, enumerate_from}
-use Rattle.std.specs.Prelude.{Bool, List, None, Option, Some, [], cond, false, filter, filter_map, if◌then◌else◌, map, nat_eq, nat_lt, not, option_and_then, option_map, refl, true, ℕ, ℤ, ◌&&◌, ◌++◌, ◌+◌, ◌||◌, ◌∷◌, ◌≡◌, ◌≤◌}
+use Rattle.std.specs.Prelude.{Bool, List, None, Option, Some, [], cond, false, filter, filter_map, if◌then◌else◌, map, nat_eq, nat_lt, not, option_and_then, option_map, refl, true, ℕ, ℤ, ◌&&◌, ◌++◌, ◌+◌, ◌∷◌, ◌≡◌, ◌≤◌}
 use Rattle.std.proofs.Common.{ap, arith, subst, ◌∙◌}
 use Rattle.std.proofs.lemmas.Bool.Decides.{nat_tests}
 use Rattle.rx_elem.specs.Spots.{Around, Mounted, Spot, around_children, at_root, kept_instances, mounted_as, mounted_at, numbers_of, spot_mark, spots, spots_in, visible_instances}

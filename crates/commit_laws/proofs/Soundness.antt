@@ -18,7 +18,8 @@ use Rattle.rx_susp.specs.declared.boundary.BoundaryState.TheVariants.{Hidden, Sh
 use Rattle.commit_laws.proofs.BodyLaw.{body_agrees}
 use Rattle.commit_laws.proofs.CommitSettles.{commit_settles, fresh_is, number_rises}
 use Rattle.commit_laws.proofs.OwnNumbers.{numbers_stay_own, own_numbers_apart}
-use Rattle.rx_eval.specs.Settled.{AllCalm, AllReadsHold, AllRendered, AllSettled, AllStill, DoneBefore, HasValuesOf, IfHidden, IfSettled, IsBodyIn, IsBodyOf, IsCalm, IsOwn, IsOwnBy, IsRendered, IsSettled, IsSound, IsStill, Known, ReadsHold, TargetsBelow, done_values, has_cause, is_stirred, read_anew, reads_another}
+use Rattle.commit_laws.proofs.Rendered.{AllRendered, IsBodyIn, IsRendered}
+use Rattle.rx_eval.specs.Settled.{AllCalm, AllReadsHold, AllSettled, AllStill, DoneBefore, HasValuesOf, IfHidden, IfSettled, IsBodyOf, IsCalm, IsOwn, IsOwnBy, IsSettled, IsSound, IsStill, Known, ReadsHold, TargetsBelow, done_values, has_cause, is_stirred, read_anew, reads_another}
 use Rattle.rx_check.specs.Reads.{ReadsDeclared}
 use Rattle.rx_elem.specs.Elements as elements
 

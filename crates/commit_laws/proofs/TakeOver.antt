@@ -1,6 +1,6 @@
 -- A subtree that has no cause is rendered to itself.
 use Rattle.std.specs.List.{enumerate_from, list_any, zip}
-use Rattle.std.specs.Prelude.{Bool, List, None, Option, Some, [], cond, false, filter, map, nat_eq, nat_lt, not, option_to_list, refl, suc, true, zero, ℕ, ℤ, ◌&&◌, ◌+◌, ◌||◌, ◌∷◌, ◌≡◌, ◌≤◌}
+use Rattle.std.specs.Prelude.{Bool, List, None, Option, Some, [], cond, false, filter, map, nat_eq, nat_lt, not, option_to_list, refl, suc, true, zero, ℕ, ℤ, ◌&&◌, ◌+◌, ◌∷◌, ◌≡◌, ◌≤◌}
 use Rattle.std.proofs.Common.{ap, arith, inl, inr, subst, sym, ◌∙◌}
 use Rattle.rx_ast.specs.Syntax.{Component, Program}
 use Rattle.rx_base.specs.declared.cut.Cut.{Cut}

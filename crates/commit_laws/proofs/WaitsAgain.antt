@@ -16,11 +16,44 @@ use Rattle.rx_eval.specs.Body.{Body, body_of, ready, wait}
 use Rattle.rx_eval.specs.Fresh.{Contexts, Part, Place, Places, Shape, Sight, absent, all_made, before, empty, inputs_at, made, old_instance, one_list, one_waits, over, over_boundary, place_of, render_all, render_part, rendered, resources_seen, shape_of, shape_of_body, shape_of_component, two_lists, values_of, waiting, waits}
 use Rattle.commit_laws.proofs.BodyLaw.{BodyAgain, body_again}
 use Rattle.rx_elem.proofs.Identities.{child_of}
-use Rattle.rx_eval.specs.Again.{AllValuesAgree, AllWaitAgain, AreResources, AreUnresolved, IfValuesAgree, WaitsAgain, WaitsAreSmall}
+use Rattle.rx_eval.specs.Again.{AllValuesAgree, AreUnresolved, ValuesAgree, WaitsAreSmall}
 use Rattle.rx_eval.specs.Settled.{HasValuesOf}
 use Rattle.rx_elem.specs.Elements as elements
 use Rattle.rx_base.specs.Awaits as awaits
 use Rattle.rx_elem.proofs.Tests.{or_left, or_right}
+
+-- What stays the same
+
+-- each instance of a tree that may be missing has the same values at two sights
+abbrev pub IfValuesAgree : Sight → Sight → Option Node → Type 0
+IfValuesAgree s t None = Unit {0}
+IfValuesAgree s t (Some n) = ValuesAgree s t n
+
+-- all of these are numbers of resources
+abbrev pub AreResources : Awaits → Type 0
+AreResources a = (r : ℕ) → awaits.has a r ≡ true → r < resource_limit
+
+-- a place doesn't wait
+abbrev pub IsNoWait : Place → Type 0
+IsNoWait empty = Unit {0}
+IsNoWait (made n) = Unit {0}
+IsNoWait (waits a) = ⊥
+
+-- none of some places waits
+abbrev pub AreNoWait : Places → Type 0
+AreNoWait (all_made ns) = Unit {0}
+AreNoWait (one_waits a) = ⊥
+
+-- what waited still waits for the same, if none of that has a value, and what didn't wait doesn't
+abbrev pub WaitsAgain : Sight → Place → Place → Type 0
+WaitsAgain t empty q = IsNoWait q
+WaitsAgain t (made n) q = IsNoWait q
+WaitsAgain t (waits a) q = AreResources a × (AreUnresolved t a → q ≡ waits a)
+
+-- the same for the places of a list
+abbrev pub AllWaitAgain : Sight → Places → Places → Type 0
+AllWaitAgain t (all_made ns) qs = AreNoWait qs
+AllWaitAgain t (one_waits a) qs = AreResources a × (AreUnresolved t a → qs ≡ one_waits a)
 
 -- Sets of resources
 

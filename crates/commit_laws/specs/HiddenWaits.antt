@@ -49,21 +49,6 @@ abbrev mutual
   AllHiddenWait n s cs (vacant ns) = AllHiddenWait n s cs ns
   AllHiddenWait n s cs (child x ns) = HiddenWaits n s cs x × AllHiddenWait n s cs ns
 
--- a number that may be missing is among these
-abbrev pub NumberIn : List ℕ → Option ℕ → Type 0
-NumberIn set o = (i : ℕ) → o ≡ Some i → includes set i ≡ true
-
--- the same for a tree
-abbrev mutual
-  pub NumbersIn : List ℕ → Node → Type 0
-  NumbersIn set (node e m ns fs) = NumberIn set (number_of m) × AllNumbersIn set ns × AllNumbersIn set fs
-
-  -- the same for the trees of a list
-  pub AllNumbersIn : List ℕ → Forest → Type 0
-  AllNumbersIn set none = Unit {0}
-  AllNumbersIn set (vacant ns) = AllNumbersIn set ns
-  AllNumbersIn set (child n ns) = NumbersIn set n × AllNumbersIn set ns
-
 -- a number that may be missing is listed, as one that is visible or as one that is kept
 abbrev pub NumberSeen : (visible kept : List ℕ) → Bool → Option ℕ → Type 0
 NumberSeen visible kept true n = (i : ℕ) → n ≡ Some i → includes visible i ≡ true

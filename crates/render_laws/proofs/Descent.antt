@@ -10,11 +10,15 @@ use Rattle.rx_ast.specs.Syntax.{Component}
 use Rattle.rx_check.specs.Names.{component_at}
 use Rattle.rx_eval.specs.Body.{body_of, Body, wait, ready}
 use Rattle.rx_eval.specs.Fresh.{old_instance, shape_of_component, Sight, Contexts, inputs_at, Part, Shape, absent, waiting, one_list, two_lists, shape_of, shape_of_body}
-use Rattle.rx_elem.specs.Trees.{Node, Forest, none, vacant, child, places, children_if, fallback_if}
+use Rattle.rx_elem.specs.Trees.{Node, Forest, none, vacant, child, places, children_if, fallback_if, children_of, fallback_of}
 use Rattle.rx_elem.specs.Compare.{node_at}
 use Rattle.rx_eval.specs.Touched.{children_with_old}
-use Rattle.render_laws.specs.OldNodes.{AllHave, OldHas, GoesDown, PairsHave, OpenHas, FramesHave, CursorHas}
+use Rattle.render_laws.specs.OldNodes.{AllHave, OldHas, PairsHave, OpenHas, FramesHave, CursorHas}
 use Rattle.rx_eval.specs.Cursor.{is_null, Open, around, trying, falling, Frame, Cursor, at_place, at_end, ended, come_to, open_part, arrive, past, unwind, begin, finished, unit, start}
+
+-- a property that a node hands to its children
+abbrev pub GoesDown : (Node → Type 0) → Type 0
+GoesDown P = (n : Node) → P n → AllHave P (children_of n) × AllHave P (fallback_of n)
 
 module _ (P : Node → Type 0) (down : GoesDown P) where
   got_has : (ns : Forest) → AllHave P ns → (q : ℕ) → OldHas P (option_flatten (slice_get (places ns) q))

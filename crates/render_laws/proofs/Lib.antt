@@ -20,3 +20,4 @@ pub mod Attempts
 pub mod AttemptLaw
 pub mod TouchedLaws
 pub mod Descent
+pub mod SettledOld

@@ -1,7 +1,7 @@
 -- What holds of each old node that a render may still come to.
 use Rattle.std.specs.Prelude.{List, [], ◌∷◌, Option, Some, None}
 use Rattle.rx_elem.specs.Elements.{Element}
-use Rattle.rx_elem.specs.Trees.{Node, Forest, none, vacant, child, children_of, fallback_of}
+use Rattle.rx_elem.specs.Trees.{Node, Forest, none, vacant, child}
 use Rattle.rx_eval.specs.Cursor.{Open, around, trying, falling, Frame, Cursor, at_place, at_end, ended}
 
 -- each node of a list has the property
@@ -14,10 +14,6 @@ AllHave P (child n ns) = P n × AllHave P ns
 abbrev pub OldHas : (Node → Type 0) → Option Node → Type 0
 OldHas P None = Unit {0}
 OldHas P (Some n) = P n
-
--- a property that a node hands to its children
-abbrev pub GoesDown : (Node → Type 0) → Type 0
-GoesDown P = (n : Node) → P n → AllHave P (children_of n) × AllHave P (fallback_of n)
 
 -- each old node beside an element has it
 abbrev pub PairsHave : (Node → Type 0) → List (Element × Option Node) → Type 0

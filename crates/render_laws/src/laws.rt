@@ -15,6 +15,8 @@ ghost use Rattle.rx_eval.specs.Cursor.{Frame, falling, Cursor, at_place, ended, 
 ghost use Rattle.rx_eval.specs.Rest.{gives};
 ghost use Rattle.rx_eval.specs.Counts.{each_unit, each_begun, each_place, each_body, next_counts, whole, left, spent, counted};
 ghost use Rattle.render_laws.specs.TouchedCounts.{each_touched, touched_in, NonePassedOver};
+ghost use Rattle.rx_eval.specs.Settled.{Known, IsSettled, IfSettled};
+ghost use Rattle.render_laws.specs.OldNodes.{CursorHas};
 ghost use Rattle.render_laws.specs.InProgress.{InProgress};
 ghost use Rattle.render_laws.specs.Attempts.{attempts};
 ghost use Rattle.render_laws.specs.SameSight.{SeesSame, AllAfter};
@@ -107,4 +109,15 @@ pub fn touched_are_evaluated()
         → counted (each_touched s) n s cs e (Some o) ≡ 0
         → NonePassedOver s old touched (at_place n fs cs e (Some o)) → NonePassedOver s old touched (arrive n fs (Some o)) }
     ensures last { (s : Sight) (old : Option Node) (touched : ℕ) (p : Place) → NonePassedOver s old touched (ended p) → touched ≡ touched_in (visits s old) }
+{}
+
+/// Each old node that a render may still come to is settled, where the old tree is: at the start, after each unit, and
+/// past a subtree that is taken over or an attempt that is skipped.
+pub fn old_nodes_are_settled()
+    ensures start { (p : Program) (k : Known) (s : Sight) (old : Option Node) → IfSettled p k old → CursorHas (IsSettled p k) (start s old) }
+    ensures unit { (p : Program) (k : Known) (s : Sight) (c : Cursor) → CursorHas (IsSettled p k) c → CursorHas (IsSettled p k) (unit s c) }
+    ensures takes_over { (p : Program) (k : Known) (n : ℕ) (fs : List Frame) (cs : Contexts) (e : Element) (o : Node)
+        → CursorHas (IsSettled p k) (at_place n fs cs e (Some o)) → IsSettled p k o × CursorHas (IsSettled p k) (arrive n fs (Some o)) }
+    ensures skips_attempt { (p : Program) (k : Known) (n : ℕ) (fs : List Frame) (s : Sight) (cs : Contexts) (e : Element) (o : Option Node) (q f : Part) (a : Awaits)
+        → shape_of s cs e o ≡ two_lists q f → CursorHas (IsSettled p k) (at_place (suc n) fs cs e o) → CursorHas (IsSettled p k) (open_part n fs (falling e o a) f) }
 {}

@@ -6,12 +6,11 @@ use Rattle.rx_base.specs.Awaits.{Awaits}
 use Rattle.rx_base.specs.declared.cut.Cut.{Cut}
 use Rattle.rx_check.specs.Names.{component_at}
 use Rattle.rx_elem.specs.Elements.{Element, Elements, listed}
-use Rattle.rx_elem.specs.Spots.{kept_instances, visible_instances}
 use Rattle.rx_elem.specs.Trees.{Forest, Instance, Mark, Node, child, elements_in, is_hidden, node, none, of_boundary, of_host, of_instance, plain, vacant}
 use Rattle.rx_elem.specs.declared.effect.ContextRead.{ContextRead}
 use Rattle.rx_eval.specs.Body.{body_of, ready}
 use Rattle.rx_eval.specs.Expressions.{answers_of}
-use Rattle.rx_eval.specs.Fresh.{Contexts, Shape, Sight, absent, default_contexts, one_list, part, resources_seen, two_lists, values_of}
+use Rattle.rx_eval.specs.Fresh.{Contexts, Shape, Sight, absent, default_contexts, one_list, part, resources_seen, two_lists}
 use Rattle.rx_eval.specs.Touched.{contexts_below, has_update, is_read_anew, touched_instance}
 use Rattle.rx_queue.specs.History.{stands_done}
 use Rattle.rx_queue.specs.Journal.{Posted, committed_value, hook, same_target}
@@ -109,36 +108,10 @@ kept_shape cs (elements.list es) m ns fs = one_list m (part cs (elements_in ns) 
 kept_shape cs (elements.boundary key f es) m ns fs = two_lists (part cs (elements_in ns) ns) (part cs (f ∷ []) fs)
 kept_shape cs (elements.provider c key x es) m ns fs = one_list m (part (slice_set cs c x) (elements_in ns) ns)
 
--- What a render leaves
-
--- a component's body gave this at this sight, and so it does in whatever contexts agree with the reads, as those of its place do
-pub record IsBodyIn (s : Sight) (at : Contexts) (number : ℕ) (props : List ℤ) (given : Elements) (i : Instance) (es : List Element) : Type 0 where
-  pub component : Component
-  pub is_component : component_at s.program number ≡ Some component
-  pub is_of : i.component ≡ number
-  pub initials : List ℤ
-  pub mounts : i.number ≡ None → i.initials ≡ initials
-  pub was_read : read_anew at i.reads ≡ false
-  pub gives : (cs : Contexts) → read_anew cs i.reads ≡ false
-      → body_of s.program component (record { props = props; children = listed given; hooks = values_of s i; contexts = cs; resources = resources_seen s })
-      ≡ ready es i.effects initials i.reads
-
 -- the first where a node is a hidden boundary, else the second
 abbrev pub IfHidden : Bool → Type 0 → Type 0 → Type 0
 IfHidden true A B = A
 IfHidden false A B = B
-
--- each component that was rendered is as its body gave it, and what hidden boundaries keep is settled as before
-abbrev mutual
-  pub IsRendered : Sight → Known → Contexts → Node → Type 0
-  IsRendered s k cs (node e m ns fs) =
-      IsOwnBy (IsBodyIn s cs) e m ns fs × IfHidden (is_hidden m) (AllSettled s.program k ns) (AllRendered s k (contexts_below e cs) ns) × AllRendered s k cs fs
-
-  -- the same for the trees of a list
-  pub AllRendered : Sight → Known → Contexts → Forest → Type 0
-  AllRendered s k cs none = Unit {0}
-  AllRendered s k cs (vacant ns) = AllRendered s k cs ns
-  AllRendered s k cs (child n ns) = IsRendered s k cs n × AllRendered s k cs ns
 
 -- an old tree that may be missing is settled
 abbrev pub IfSettled : Program → Known → Option Node → Type 0
@@ -157,10 +130,6 @@ HasValuesOf res more = (r : ℕ) (x : ℤ) → slice_index_or res r None ≡ Som
 -- an instance is one of these
 abbrev pub includes : (instances : List ℕ) → ℕ → Bool
 includes set i = list_any (nat_eq i) set
-
--- no instance is both visible and kept
-abbrev pub AreApart : Node → Type 0
-AreApart n = (i : ℕ) → includes (kept_instances (Some n)) i ≡ true → includes (visible_instances (Some n)) i ≡ false
 
 -- a number that may be missing is this one
 abbrev pub is_numbered_so : ℕ → Option ℕ → Bool
