@@ -4,6 +4,5 @@
 mod laws;
 
 pub use laws::{
-    hidden_waits_again, nothing_new_comes, quiet_trees_stay, soundness_is_kept,
-    untouched_is_told,
+    hidden_waits_again, nothing_new_comes, quiet_trees_stay, soundness_is_kept, untouched_is_told,
 };

@@ -5,5 +5,6 @@ mod laws;
 
 pub use laws::{
     attempts_are_bounded, begun_nodes_are_bounded, bodies_are_counted, depth_suffices,
-    levels_suffice, nodes_are_bounded, old_nodes_are_settled, progress_is_kept, touched_are_evaluated, units_are_bounded, units_give_fresh,
+    levels_suffice, nodes_are_bounded, old_nodes_are_settled, progress_is_kept,
+    touched_are_evaluated, units_are_bounded, units_give_fresh,
 };

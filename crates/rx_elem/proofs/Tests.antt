@@ -29,4 +29,3 @@ same_number m n h = grind (arith, nat_tests)
 
 pub same_itself : (n : ℕ) → nat_eq n n ≡ true
 same_itself n = grind (arith, nat_tests)
-
