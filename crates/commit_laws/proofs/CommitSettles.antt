@@ -253,7 +253,7 @@ module _ (s : Sight) (res : List (Option ℤ)) (visible kept : List ℕ) (before
 
 -- A render that gives a tree
 
-root_found : (n : ℕ) (s : Sight) (cs : Contexts) (c : ℕ) (key : _) (props : List ℤ) (given : Elements) (old : Option Node) (new : Node)
+pub root_found : (n : ℕ) (s : Sight) (cs : Contexts) (c : ℕ) (key : _) (props : List ℤ) (given : Elements) (old : Option Node) (new : Node)
     → rendered n s cs (elements.comp c key props given) old ≡ made new → is_some (component_at s.program c) ≡ true
 unfolding rendered
 root_found zero s cs c key props given old new h = absurd (cc h)

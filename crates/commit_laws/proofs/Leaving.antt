@@ -46,7 +46,7 @@ got_settled p k (vacant ns) h (suc q) = got_settled p k ns h q
 got_settled p k (child n ns) h zero = h.0
 got_settled p k (child n ns) h (suc q) = got_settled p k ns h.1 q
 
-node_settled : (p : Program) (k : Known) (ns : Forest) → AllSettled p k ns → (q : Option ℕ) → IfSettled p k (option_and_then (node_at ns) q)
+pub node_settled : (p : Program) (k : Known) (ns : Forest) → AllSettled p k ns → (q : Option ℕ) → IfSettled p k (option_and_then (node_at ns) q)
 node_settled p k ns h None = tt
 node_settled p k ns h (Some q) = got_settled p k ns h q
 
@@ -55,7 +55,7 @@ olds_settled : (p : Program) (k : Known) (ns : Forest) → AllSettled p k ns →
 olds_settled p k ns h all before [] = tt
 olds_settled p k ns h all before (e ∷ es) = (node_settled p k ns h (position (is_same_child _) all), olds_settled p k ns h all (before ++ e ∷ []) es)
 
-zero_is_null : (p : Program) (e : Element) → Fits zero p e → elements.null ≡ e
+pub zero_is_null : (p : Program) (e : Element) → Fits zero p e → elements.null ≡ e
 zero_is_null p elements.null h = refl
 zero_is_null p (elements.text t) h = absurd (omega arith)
 zero_is_null p (elements.host n key attrs es) h = absurd (omega arith)
@@ -83,11 +83,11 @@ all_are n s k below cs (e ∷ es) (o ∷ olds) full named fits h =
     before_is s k cs e es (rendered n s cs e o) (render_all (rendered n s cs) (zip es olds)) (below cs e o full named.0 (omega arith) h.0)
     (all_are n s k below cs es olds full named.1 (omega arith) h.1)
 
-children_settled : (p : Program) (k : Known) (old : Option Node) → IfSettled p k old → AllSettled p k (children_if old)
+pub children_settled : (p : Program) (k : Known) (old : Option Node) → IfSettled p k old → AllSettled p k (children_if old)
 children_settled p k None h = tt
 children_settled p k (Some (node e m ns fs)) h = h.1
 
-fallback_settled : (p : Program) (k : Known) (old : Option Node) → IfSettled p k old → AllSettled p k (fallback_if old)
+pub fallback_settled : (p : Program) (k : Known) (old : Option Node) → IfSettled p k old → AllSettled p k (fallback_if old)
 fallback_settled p k None h = tt
 fallback_settled p k (Some (node e m ns fs)) h = h.2
 

@@ -18,3 +18,6 @@ pub mod HiddenLaw
 pub mod QuietTree
 pub mod Declared
 pub mod NoneLost
+pub mod BodyWaits
+pub mod OpenAwaits
+pub mod NewlyHidden

@@ -42,7 +42,7 @@ more_pending tree us a b more h n u there mounted = go (h n u there mounted)
     go (inr (inl x)) = inr (inl (more u.update.lane x))
     go (inr (inr o)) = inr (inr o)
 
-got_push : (us : List Posted) (u v : Posted) (n : ℕ) → slice_get (us ++ u ∷ []) n ≡ Some v → (slice_get us n ≡ Some v) ⊎ (u ≡ v)
+pub got_push : (us : List Posted) (u v : Posted) (n : ℕ) → slice_get (us ++ u ∷ []) n ≡ Some v → (slice_get us n ≡ Some v) ⊎ (u ≡ v)
 got_push [] u v zero h = inr (cc)
 got_push [] u v (suc n) h = absurd (cc h)
 got_push (w ∷ us) u v zero h = inl h
@@ -152,7 +152,7 @@ was_mounted s old new from gives i low mounted =
 
 -- A commit
 
-got_mapped : (f : Posted → Posted) (us : List Posted) (n : ℕ) (v : Posted) → slice_get (map f us) n ≡ Some v → (u : Posted) × (slice_get us n ≡ Some u) × (f u ≡ v)
+pub got_mapped : (f : Posted → Posted) (us : List Posted) (n : ℕ) (v : Posted) → slice_get (map f us) n ≡ Some v → (u : Posted) × (slice_get us n ≡ Some u) × (f u ≡ v)
 got_mapped f [] n v h = absurd (cc h)
 got_mapped f (u ∷ us) zero v h = (u, refl, cc)
 got_mapped f (u ∷ us) (suc n) v h = got_mapped f us n v h

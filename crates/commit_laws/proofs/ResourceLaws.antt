@@ -53,11 +53,11 @@ range_at f k zero r h = refl
 range_at f k (suc n) zero h = let e : k + 0 ≡ k = omega arith in rw e at h
 range_at f k (suc n) (suc r) h = range_at f (k + 1) n r (let e : (k + 1) + r ≡ k + suc r = omega arith in rw e h)
 
-no_value : (o : Option ℤ) → is_some o ≡ false → o ≡ None
+pub no_value : (o : Option ℤ) → is_some o ≡ false → o ≡ None
 no_value None h = refl
 no_value (Some x) h = absurd (cc h)
 
-among_fails : (test : ℕ → Bool) (a : List ℕ) → list_any test a ≡ false → (r : ℕ) → awaits.has a r ≡ true → test r ≡ false
+pub among_fails : (test : ℕ → Bool) (a : List ℕ) → list_any test a ≡ false → (r : ℕ) → awaits.has a r ≡ true → test r ≡ false
 among_fails test [] h r there = absurd (cc there)
 among_fails test (q ∷ qs) h r there =
     let parts = or_fails (test q) (list_any test qs) h in go (nat_eq q r) refl there parts.0 (among_fails test qs parts.1 r)

@@ -2,6 +2,7 @@
 ghost use Rattle.std.specs.Prelude.{◌<◌, ◌≡◌, ◌&&◌, not, map, ℕ, ℤ, Bool, true, false, List, [], ◌∷◌, ◌++◌, Option, Some, ◌≤◌, length, is_some};
 ghost use Rattle.std.specs.List.{list_any};
 ghost use Rattle.rx_base.specs.Awaits.{Awaits, resource_limit};
+ghost use Rattle.rx_base.specs.Awaits as awaits;
 ghost use Rattle.rx_base.specs.declared.cut.Cut.{Cut};
 ghost use Rattle.rx_lane.specs.Lanes.{Lanes};
 ghost use Rattle.rx_ast.specs.Syntax.{Program, contexts};
@@ -15,10 +16,10 @@ ghost use Rattle.rx_elem.specs.Numbers.{Numbers, numbered};
 ghost use Rattle.rx_queue.specs.History.{stands_done};
 ghost use Rattle.rx_queue.specs.Journal.{Journal, Posted, Resolution, hook, same_target, is_included, belongs_to, marked_update, resolved_by};
 ghost use Rattle.rx_eval.specs.Fresh.{Sight, Contexts, Part, part, shape_of, rendered, render_part, made, one_waits, fresh, depth_limit, default_contexts, root_element, resources_seen};
-ghost use Rattle.rx_eval.specs.Outcome.{journal_after};
+ghost use Rattle.rx_eval.specs.Outcome.{journal_after, newly_hidden, all_awaits, is_awaited};
 ghost use Rattle.rx_eval.specs.Touched.{Setting, visited, instances_in, is_waiting_still};
 ghost use Rattle.rx_eval.specs.Levels.{Fits};
-ghost use Rattle.rx_eval.specs.Settled.{IsSettled, IsOwn, known_by, DoneBefore, has_cause, kept_shape, IsStill, HasValuesOf, IsSound, IsCalm, ReadsHold, includes};
+ghost use Rattle.rx_eval.specs.Settled.{Known, IfSettled, IsSettled, IsOwn, known_by, DoneBefore, has_cause, kept_shape, IsStill, HasValuesOf, IsSound, IsCalm, ReadsHold, includes};
 ghost use Rattle.rx_check.specs.Reads.{ReadsDeclared};
 ghost use Rattle.rx_eval.specs.Again.{NoneTouched, IsFreeOf, AccountedBefore, NoneOwed, AllValuesAgree, AreUnresolved, WaitsAreSmall, AllOpen, NoNewUpdate};
 ghost use Rattle.commit_laws.specs.HiddenWaits.{IfNumbered, Numbered, HiddenWaits, OwnWaits, Seen, AllSeen};
@@ -92,4 +93,13 @@ pub fn quiet_trees_stay()
         → HasValuesOf res (resources_seen s) → IsSound s.program (record { updates = s.journal.updates; resources = res }) next (Some x) → Numbered x
         → element_of x ≡ root_element s.program → NoneHidden x → AllDone (visible_instances (Some x)) s.journal.updates → fresh s (Some x) ≡ made x }
     ensures root { (s : Sight) (old : Option Node) (new : Node) (from : Numbers) → fresh s old ≡ made new → element_of (numbered from new).1 ≡ root_element s.program }
+{}
+
+/// A render waits only for resources without a value that it sees: so do the visible boundaries that are hidden after a
+/// commit, and all that a deferral waits for.
+pub fn awaited_has_no_value()
+    ensures committed { (s : Sight) (old : Option Node) (new : Node) (from : Numbers) → depth_bound s.program ≤ depth_limit → fresh s old ≡ made new
+        → (r : ℕ) → is_awaited (Some (numbered from new).1) r ≡ true → resolved_by s.cut s.journal r ≡ None }
+    ensures deferred { (s : Sight) (k : Known) (old : Option Node) (new : Node) → depth_bound s.program ≤ depth_limit → IfSettled s.program k old → fresh s old ≡ made new
+        → (r : ℕ) → awaits.has (all_awaits (newly_hidden old new)) r ≡ true → resolved_by s.cut s.journal r ≡ None }
 {}

@@ -4,5 +4,6 @@
 mod laws;
 
 pub use laws::{
-    hidden_waits_again, nothing_new_comes, quiet_trees_stay, soundness_is_kept, untouched_is_told,
+    awaited_has_no_value, hidden_waits_again, nothing_new_comes, quiet_trees_stay,
+    soundness_is_kept, untouched_is_told,
 };

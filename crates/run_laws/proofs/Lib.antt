@@ -4,5 +4,8 @@ pub mod Turns
 pub mod Premises
 pub mod Carrying
 pub mod AlongRuns
-pub mod NoneLostRuns
+pub mod DueLanes
+pub mod Keeping
+pub mod KeptRuns
+pub mod KeptFacts
 pub mod QuietEnds

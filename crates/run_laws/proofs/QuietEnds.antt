@@ -21,7 +21,7 @@ use Rattle.run_laws.proofs.AlongRuns.{reached_carries}
 use Rattle.run_laws.proofs.Carrying.{all_accounted, done_before}
 use Rattle.commit_laws.proofs.HiddenLaw.{all_mounted, numbered_at}
 use Rattle.rx_elem.proofs.Tests.{same_itself, same_number, and_passes}
-use Rattle.run_laws.proofs.NoneLostRuns.{reached_lost}
+use Rattle.run_laws.proofs.KeptFacts.{none_lost}
 use Rattle.commit_laws.proofs.QuietTree.{quiet_tree}
 use Rattle.commit_laws.proofs.Settling.{kept_at, kept_listed, target_has, visible_at, visible_listed, within_visible}
 use Rattle.run_laws.specs.Carried.{Carries}
@@ -193,7 +193,7 @@ quiet_shows p bounded s reached quiet =
     let parts = and_passes (is_empty s.schedule.pending) (nat_eq (hidden_count s.tree) 0) quiet in
     let shown : hidden_count s.tree ≡ 0 = same_number (hidden_count s.tree) 0 parts.1 in
     let lists = quiet_lists s.tree shown in
-    let done = all_done s (reached_lost p bounded.shallow bounded.declared s reached) lists.1 (λ l. empty_has s.schedule.pending l parts.0) in
+    let done = all_done s (none_lost p bounded s reached) lists.1 (λ l. empty_has s.schedule.pending l parts.0) in
     let c = reached_carries p bounded.shallow bounded.declared s reached in
     record {
       hooks = λ k m there. hooks_shown p s (visible_instances s.tree) m (ap (λ (l : List ℕ). includes l m.number) lists.0 ∙ number_got (mounted s.tree) m k there) done;

@@ -12,8 +12,7 @@ ghost use Rattle.rx_model.specs.State.{State, Progress};
 ghost use Rattle.rx_model.specs.Committing.{sight_of};
 ghost use Rattle.rx_model.specs.Committing as committing;
 ghost use Rattle.rx_model.specs.Turns.{unit_bound, Finishes, Yields, gone_on};
-ghost use Rattle.rx_model.specs.Kept.{TreeIsBounded, RendersAreBounded, NoUpdateIsLost};
-ghost use Rattle.rx_model.specs.Laws.{IsBounded, NodeBound, Always, QuietLaw};
+ghost use Rattle.rx_model.specs.Laws.{IsBounded, NodeBound, Always, KeptFacts, QuietLaw};
 ghost use Rattle.run_laws.specs.Carried.{IsCarried, RestsOnSettled};
 
 /// Some program is within all bounds: one with a choice of boundaries around keyed leaves, which has twelve nodes at most.
@@ -48,11 +47,11 @@ pub fn carried_along_runs()
     ensures declared { (p : Program) → 0 < length (contexts p) → ReadsDeclared p }
 {}
 
-/// What each step keeps, in each state of each run.
+/// What each step keeps, in each state of each run: pending lanes are a set, updates are numbered as they came and none
+/// of a mounted instance is lost, a render in progress is due, what is suspended is a pending transition and waits for
+/// what has no value, what is resolved is retried, and the tree and each render that may come are within the bound.
 pub fn kept_facts()
-    ensures no_update_is_lost { (p : Program) → Always p NoUpdateIsLost }
-    ensures tree_is_bounded { (p : Program) → Always p (TreeIsBounded p) }
-    ensures renders_are_bounded { (p : Program) → Always p (RendersAreBounded p) }
+    ensures { (p : Program) → KeptFacts p }
 {}
 
 /// A quiet state shows everything: each hook all its updates in the order in which they came, and the tree what a
