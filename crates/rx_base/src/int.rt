@@ -1,7 +1,9 @@
 // The integers of a program.
-ghost use Rattle.std.specs.Prelude.{◌≡◌};
+ghost use Rattle.std.specs.Prelude.{◌≡◌, int_lt};
 ghost use Rattle.std.specs.Int.{w32};
+ghost use Rattle.std.specs.Ordering.{int_eq};
 ghost use Rattle.rx_base.specs.Values.{wrap};
+ghost use Rattle.rx_base.specs.Arithmetic as arithmetic;
 
 use std::marker::Model;
 
@@ -37,5 +39,79 @@ impl Int {
         ensures { result ≡ self }
     {
         i64::from(self.bits)
+    }
+
+    /// The sum, which wraps.
+    pub fn add(self, other: Int) -> Int
+        ensures { result ≡ arithmetic.add w32 self other }
+    {
+        Int {
+            bits: self.bits.wrapping_add(other.bits),
+        }
+    }
+
+    /// The difference, which wraps.
+    pub fn sub(self, other: Int) -> Int
+        ensures { result ≡ arithmetic.sub w32 self other }
+    {
+        Int {
+            bits: self.bits.wrapping_sub(other.bits),
+        }
+    }
+
+    /// The product, which wraps.
+    pub fn mul(self, other: Int) -> Int
+        ensures { result ≡ arithmetic.mul w32 self other }
+    {
+        Int {
+            bits: self.bits.wrapping_mul(other.bits),
+        }
+    }
+
+    /// The quotient, cut toward 0; 0 where the right side is 0.
+    pub fn div(self, other: Int) -> Int
+        ensures { result ≡ arithmetic.div w32 self other }
+    {
+        if other.bits == 0 {
+            return Int { bits: 0 };
+        }
+        Int {
+            bits: self.bits.wrapping_div(other.bits),
+        }
+    }
+
+    /// The remainder, which has the sign of the left side; 0 where the right side is 0.
+    pub fn rem(self, other: Int) -> Int
+        ensures { result ≡ arithmetic.rem w32 self other }
+    {
+        if other.bits == 0 {
+            return Int { bits: 0 };
+        }
+        Int {
+            bits: self.bits.wrapping_rem(other.bits),
+        }
+    }
+
+    /// The opposite, which wraps.
+    pub fn neg(self) -> Int
+        ensures { result ≡ arithmetic.neg w32 self }
+    {
+        Int {
+            bits: self.bits.wrapping_neg(),
+        }
+    }
+
+    /// Whether the left side is less than the right one.
+    pub fn less(self, other: Int) -> bool
+        ensures { result ≡ int_lt self other }
+    {
+        self.bits < other.bits
+    }
+
+    /// Whether both are the same integer.
+    pub fn same(self, other: Int) -> bool
+        ensures { result ≡ int_eq self other }
+    {
+        self.bits == other.bits
     }
 }

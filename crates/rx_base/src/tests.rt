@@ -18,6 +18,22 @@ fn integers_wrap_at_32_bits(rt: HostRuntime) {
 }
 
 #[test]
+fn quotients_are_cut_toward_zero(rt: HostRuntime) {
+    let smallest = Int::of(-2147483648);
+    assert_eq!(rt; smallest.div(Int::of(-1)).value(), -2147483648);
+    assert_eq!(rt; smallest.rem(Int::of(-1)).value(), 0);
+    assert_eq!(rt; Int::of(-7).rem(Int::of(3)).value(), -1);
+}
+
+#[test]
+fn a_text_is_put_in_quotes(rt: HostRuntime) -> Result<(), Fail> {
+    let text = Str::new(rt.alloc(), "a b")?;
+    let quoted = quote(rt.alloc(), text.text())?;
+    assert_eq!(rt; quoted.text(), "\"a b\"");
+    Ok(())
+}
+
+#[test]
 fn a_name_has_its_text(rt: HostRuntime) -> Result<(), Fail> {
     let name = Name::new(rt.alloc(), "App")?;
     assert_eq!(rt; name.text(), "App");

@@ -5,9 +5,8 @@ ghost use Rattle.rx_hooks.specs.declared.hook.Hook.{Hook};
 ghost use Rattle.rx_hooks.specs.Hooks.{AllAboveDone, HookHistory, HooksStandFor, changed_at, committed_hook, links_with, mounted, owed_hook, pending_of_hooks, relinked, rendered, sent, states_of, work_of_hooks};
 
 use crate::hook::Hook;
-use crate::ints::Ints;
 use crate::work::first_work;
-use rx_base::{Cut, Int};
+use rx_base::{Cut, Int, Ints};
 use rx_lane::{Lane, Lanes};
 use rx_queue::{Fold, Processed, Queue, Update, Work};
 use std::alloc::{AllocError, Global};

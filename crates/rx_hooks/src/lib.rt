@@ -3,10 +3,8 @@
 
 mod hook;
 mod hooks;
-mod ints;
 #[cfg(test)]
 mod tests;
 mod work;
 
 pub use hooks::Hooks;
-pub use ints::Ints;

@@ -20,15 +20,6 @@ abbrev pub applied : Answers → ℤ → Op → ℤ
 applied answers state (Set x) = x
 applied answers state (Call f x) = answers f state x
 
--- the value of a hook at mount and every update that it was sent, oldest first. None is ever taken out.
-pub record History : Type 0 where
-  pub initial : ℤ
-  pub entries : List Entry
-
--- the history of a hook at its mount
-abbrev pub opening : ℤ → History
-opening initial = record { initial = initial; entries = [] }
-
 -- ---- how an update stands
 
 -- it stands open
@@ -49,6 +40,33 @@ stands_owed Open = false
 stands_owed Done = false
 stands_owed Owed = true
 
+-- an update lies before the cut
+abbrev pub lies_before : Cut → Update → Bool
+lies_before cut u = nat_lt u.number cut.updates
+
+-- an update that stands so is included where it lies before the cut and is done, is owed, or has its lane among the lanes
+abbrev pub includes : Lanes → Cut → Update → Standing → Bool
+includes lanes cut u standing = lies_before cut u && (stands_done standing || stands_owed standing || has lanes u.lane)
+
+-- an update that stands so is included, and neither done nor owed
+abbrev pub includes_new : Lanes → Cut → Update → Standing → Bool
+includes_new lanes cut u standing = includes lanes cut u standing && stands_open standing
+
+-- the state after the updates of those that pass a test, in their order
+abbrev pub state_by : {A : Type 0} → (A → Update) → Answers → (A → Bool) → ℤ → List A → ℤ
+state_by update_of answers test state xs = fold (λ now x. applied answers now (update_of x).op) state (filter test xs)
+
+-- the value of a hook at mount and every update that it was sent, oldest first. None is ever taken out.
+pub record History : Type 0 where
+  pub initial : ℤ
+  pub entries : List Entry
+
+-- the history of a hook at its mount
+abbrev pub opening : ℤ → History
+opening initial = record { initial = initial; entries = [] }
+
+-- ---- an update of a history
+
 -- the update is neither done nor owed
 abbrev pub is_open : Entry → Bool
 is_open e = stands_open e.standing
@@ -67,17 +85,17 @@ was_included e = e.included
 
 -- the update lies before the cut
 abbrev pub is_before : Cut → Entry → Bool
-is_before cut e = nat_lt e.update.number cut.updates
+is_before cut e = lies_before cut e.update
 
--- an update is included where it lies before the cut and is done, is owed, or has its lane among the lanes
+-- a render with these lanes at this cut includes the update
 abbrev pub is_included : Lanes → Cut → Entry → Bool
-is_included lanes cut e = is_before cut e && (is_done e || is_owed e || has lanes e.update.lane)
+is_included lanes cut e = includes lanes cut e.update e.standing
 
 -- ---- states
 
 -- the state after the updates that pass a test, in the order of the journal
 abbrev pub state_from : Answers → (Entry → Bool) → ℤ → List Entry → ℤ
-state_from answers test state entries = fold (λ now e. applied answers now e.update.op) state (filter test entries)
+state_from answers test state entries = state_by (λ e. e.update) answers test state entries
 
 -- the state of a hook for these lanes at this cut: its included updates on top of its value at mount
 abbrev pub state_of : Answers → Lanes → Cut → History → ℤ
@@ -141,7 +159,7 @@ marked_owed lanes cut history = record history { entries = map (owed_after lanes
 
 -- the update is included and neither done nor owed
 abbrev pub is_new : Lanes → Cut → Entry → Bool
-is_new lanes cut e = is_included lanes cut e && is_open e
+is_new lanes cut e = includes_new lanes cut e.update e.standing
 
 -- the update is owed and lies before the cut, so it is included for any lanes
 abbrev pub is_owed_before : Cut → Entry → Bool

@@ -1,0 +1,6 @@
+//! The effects of instances.
+#![tactic(auto)]
+
+mod log;
+
+pub use log::LogLine;

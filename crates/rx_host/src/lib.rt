@@ -1,0 +1,6 @@
+//! The tree of hosts.
+#![tactic(auto)]
+
+mod op;
+
+pub use op::HostOp;

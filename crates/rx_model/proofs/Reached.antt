@@ -1,0 +1,80 @@
+-- Each state that can be reached can go on.
+use Rattle.std.proofs.Common.{◌≡◌, inl, inr, ℕ, zero, suc, ◌<◌, ◌≤◌, Bool, true, false, List, [], ◌∷◌, refl, sym, subst, arith, Option, Some, None}
+use Rattle.std.specs.Prelude.{IfSome}
+use Rattle.rx_lane.specs.declared.lane.Lane.TheVariants as lane
+use Rattle.rx_lane.specs.Lanes.{has}
+use Rattle.rx_ast.specs.Syntax.{Program}
+use Rattle.rx_check.specs.Names.{resource_number}
+use Rattle.rx_script.specs.declared.step.Step.{Step}
+use Rattle.rx_script.specs.declared.step.Step.TheVariants as step
+use Rattle.rx_script.specs.Steps.{path_of}
+use Rattle.rx_sched.specs.declared.choice.Choice.{Choice}
+use Rattle.rx_sched.specs.declared.choice.Choice.TheVariants as choice
+use Rattle.rx_queue.specs.Journal.{resolved_now}
+use Rattle.rx_eval.specs.Outcome.{outcome}
+use Rattle.rx_model.specs.State.{State, Progress, opening, instance_found}
+use Rattle.rx_model.specs.Stretch.{Stretch, silent, followed_by}
+use Rattle.rx_model.specs.Accepting.{between_events}
+use Rattle.rx_model.specs.Committing.{passive_run, starting}
+use Rattle.rx_model.specs.Turns.{unit_bound, GoesOn, Continues, TurnBy, choice_of}
+use Rattle.rx_model.specs.Machine.{Flushes, FlushSync, StepTo, RunTo}
+use Rattle.rx_model.specs.Kept.{CanGoOn}
+use Rattle.rx_model.specs.Laws.{AppNeverWaits, IsReached, Progresses}
+use Rattle.rx_model.proofs.Progress.{ended-can, can-passive, can-between, dispatched-can, resolved-can, opening_can, goes_on_from}
+
+-- a stretch that is another one ends in a state that can go on, where that does
+same-can : (p : Program) (r q : Stretch) → r ≡ q → CanGoOn p q.after → CanGoOn p r.after
+same-can p r q e can = subst (λ (x : Stretch). CanGoOn p x.after) (sym e) can
+
+going-keeps : (p : Program) (s : State) (g : Progress) (budget : Option ℕ) (r : Stretch) → g.bodies ≤ g.units → GoesOn p s g budget r → CanGoOn p s → CanGoOn p r.after
+going-keeps p s g budget r few (inl f) can = same-can p r _ f.stretch_is (ended-can p s g f.counts (outcome g.lanes s.tree f.tree) can)
+going-keeps p s g budget r few (inr y) can =
+    same-can p r _ y.stretch_is (record { below = can.below; due = (omega (arith, few, y.one_a_unit), y.in_bound) })
+
+turn-keeps : (p : Program) (s : State) (c : Choice) (budget : Option ℕ) (r : Stretch) → TurnBy p s c budget r → CanGoOn p s → CanGoOn p r.after
+turn-keeps p s choice.None budget r is can = same-can p r (silent s) is can
+turn-keeps p s choice.Keep budget r on can = go s.progress refl on
+  where
+    go : (x : Option Progress) → s.progress ≡ x → Continues p s x budget r → CanGoOn p r.after
+    go None e h = absurd h
+    go (Some g) e h =
+        let due : (g.bodies ≤ g.units) × (g.units < unit_bound p) = subst (λ (x : Option Progress). IfSome x (λ g. (g.bodies ≤ g.units) × (g.units < unit_bound p))) e can.due in
+        going-keeps p s g budget r due.0 h can
+turn-keeps p s (choice.Start lanes) budget r starts can =
+    same-can p r (followed_by (passive_run s) starts.rest) starts.stretch_is
+    (going-keeps p (passive_run s).after (starting s lanes) budget starts.rest (omega arith) starts.begins (can-passive p s can))
+
+flushes-keep : (n : ℕ) (p : Program) (s : State) (r : Stretch) → Flushes n p s r → CanGoOn p s → CanGoOn p r.after
+flushes-keep zero p s r h can = same-can p r (silent s) h.1 can
+flushes-keep (suc n) p s r h can =
+    same-can p r (followed_by h.1 h.2) h.5 (flushes-keep n p h.1.after h.2 h.4 (turn-keeps p s (choice_of s) None h.1 h.3 can))
+
+sync-keeps : (b : Bool) (p : Program) (s : State) (r : Stretch) → FlushSync b p s r → CanGoOn p s → CanGoOn p r.after
+sync-keeps true p s r h can = turn-keeps p s (choice_of s) None r h can
+sync-keeps false p s r h can = same-can p r (silent s) h can
+
+step-keeps : (p : Program) (s : State) (x : Step) (r : Stretch) → StepTo p s x r → CanGoOn p s → CanGoOn p r.after
+step-keeps p s (step.Dispatch d) r h can = same-can p r _ h (dispatched-can p s d (instance_found p s.tree (path_of d)) can)
+step-keeps p s (step.Resolve name v) r h can =
+    same-can p r _ h (resolved-can p (between_events s) name v (resolved_now s.journal (resource_number p name)) (can-between p s can))
+step-keeps p s (step.Tick n) r h can = same-can p r _ h (record { below = can.below; due = can.due })
+step-keeps p s (step.Work n) r h can = turn-keeps p (between_events s) (choice_of (between_events s)) (Some n) r h (can-between p s can)
+step-keeps p s step.Flush r h can = flushes-keep h.0 p (between_events s) r h.2 (can-between p s can)
+step-keeps p s step.FlushSync r h can = sync-keeps (has s.schedule.pending lane.Sync) p (between_events s) r h (can-between p s can)
+step-keeps p s step.Passive r h can = same-can p r _ h (record { below = can.below; due = can.due })
+step-keeps p s step.Event r h can = same-can p r _ h (record { below = can.below; due = can.due })
+step-keeps p s step.State r h can = same-can p r _ h (record { below = can.below; due = can.due })
+step-keeps p s step.Tree r h can = same-can p r _ h (record { below = can.below; due = can.due })
+
+run-keeps : (p : Program) (s : State) (steps : List Step) (r : Stretch) → RunTo p s steps r → CanGoOn p s → CanGoOn p r.after
+run-keeps p s [] r h can = same-can p r (silent s) h can
+run-keeps p s (x ∷ xs) r h can =
+    same-can p r (followed_by h.0 h.1) h.4 (run-keeps p h.0.after xs h.1 h.3 (step-keeps p s x h.0 h.2 can))
+
+-- each state that can be reached can go on
+pub reached-can : (p : Program) (s : State) → IsReached p s → CanGoOn p s
+reached-can p s h = subst (CanGoOn p) h.3 (run-keeps p opening h.0 h.1 h.2 (opening_can p))
+
+-- so each list of steps has a run from there, where App never waits
+pub progresses : (p : Program) → AppNeverWaits p → Progresses p
+progresses p never bounded s reached steps = goes_on_from p (never bounded) s (reached-can p s reached) steps
