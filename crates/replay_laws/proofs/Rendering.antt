@@ -19,8 +19,8 @@ use Rattle.host_laws.specs.Commits.{HasNone, HasNumber, AreNumbered, AreNumbered
 use Rattle.host_laws.proofs.IdentityLaws.{both}
 use Rattle.rx_elem.proofs.Equality.{same_kind-self}
 use Rattle.replay_laws.specs.Attributes.{AttributesApart}
-use Rattle.replay_laws.proofs.Levels.{Fits, body_depth, elements_depth}
-use Rattle.replay_laws.proofs.Depths.{ShapeFits, shape_fits}
+use Rattle.rx_eval.specs.Levels.{Fits, body_depth, elements_depth}
+use Rattle.rx_eval.proofs.Depths.{ShapeFits, shape_fits}
 use Rattle.replay_laws.proofs.Naming.{AllNamed, HasComponents, Named, body_named, listed_named, some_got}
 use Rattle.replay_laws.proofs.Growing.{MarkGrows, Grows, Grows_in}
 use Rattle.replay_laws.proofs.OldLists.{IfOld, EachIn, children_find_themselves}

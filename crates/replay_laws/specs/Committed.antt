@@ -8,9 +8,9 @@ use Rattle.rx_host.specs.Hosts.{hosts}
 use Rattle.rx_host.specs.HostOps.{host_ops}
 use Rattle.rx_host.specs.Forests.{forest_of, Replays, CanBeReplayed}
 use Rattle.host_laws.specs.Commits.{IsCommit, TextsAreLeaves}
-use Rattle.rx_model.specs.State.{State, Progress}
+use Rattle.rx_model.specs.State.{Progress}
 use Rattle.rx_model.specs.Committing.{sight_of}
-use Rattle.rx_model.specs.Laws.{IsBounded, IsReached}
+use Rattle.rx_model.specs.Laws.{IsBounded, Always}
 use Rattle.replay_laws.specs.Attributes.{AttributesApart}
 
 -- The numbers that come next and the tree, after some commits of a program: none yet, or one more of a tree that was rendered against the tree before it and got its numbers.
@@ -26,11 +26,10 @@ RendersCommit p =
     → (s : Sight) (next : Numbers) (old : Option Node) (n : Node) → s.program ≡ p → IsCommitted p next old → fresh s old ≡ made n
     → IsCommit old (numbered next n).1 × TextsAreLeaves (numbered next n).1
 
--- what is said of the commit of each finished render, in each state that can be reached
+-- what is said of the old tree and the new one at the commit of each finished render, in each state that can be reached
 abbrev pub EachCommit : Program → (Option Node → Node → Type 0) → Type 0
 EachCommit p Q =
-    IsBounded p → AttributesApart p
-    → (s : State) (g : Progress) (n : Node) → IsReached p s → fresh (sight_of p s g) s.tree ≡ made n → Q s.tree (numbered s.numbers n).1
+    AttributesApart p → Always p (λ s. (g : Progress) (n : Node) → fresh (sight_of p s g) s.tree ≡ made n → Q s.tree (numbered s.numbers n).1)
 
 -- the operations of each commit make the new tree of hosts of the old one
 abbrev pub ReplayLaw : Program → Type 0
