@@ -3,6 +3,11 @@
 
 mod attr;
 mod effect;
+mod element;
+#[cfg(test)]
+mod tests;
+mod walks;
 
 pub use attr::{Attr, AttrValue};
 pub use effect::{ContextRead, EffectRecord};
+pub use element::{Element, ElementKind};
