@@ -4,6 +4,7 @@
 mod attr;
 mod effect;
 mod element;
+mod kind;
 #[cfg(test)]
 mod tests;
 mod walks;
