@@ -2,7 +2,7 @@
 use Rattle.std.proofs.Common.{◌≡◌, ◌≢◌, ℕ, zero, suc, ◌+◌, ◌-◌, ◌<◌, ◌≤◌, Bool, true, false, ◌||◌, cond, ◌⊎◌, inl, inr, ⊎_elim, Option, Some, None, Ok, Err, List, [], ◌∷◌, ◌++◌, length, drop, refl, sym, ap, ◌∙◌, subst, append_assoc, append-nil, length-append, arith}
 use Rattle.rx_lex.specs.declared.token.Kind.{Kind}
 use Rattle.rx_grammar.specs.Steps.{Read, ◌>>=◌, fault_at, next, is_end, taken, taken_as, within}
-use Rattle.rx_grammar.proofs.Laws.{kind_rank, rank, NoEnd, NoEnd-append, Begun, StopsAt, Reads, bind_ok, bind_err, chosen, same_ends}
+use Rattle.rx_grammar.proofs.Laws.{kind_rank, rank, NoEnd, NoEnd-append, Begun, StopsAt, Reads, said, bind_ok, bind_err, chosen, same_ends}
 
 -- nothing is read
 pub nothing : {A : Type 0} (L : A → List Kind → Type 0) (low high : ℕ) → ((a : A) (p : List Kind) → L a p → ⊥) → Reads {A = A} (λ ts. fault_at ts) L low high false
@@ -39,13 +39,17 @@ pure {A} a high = record {
   some = λ e. (a, [], (refl, refl));
 }
 
--- what is taken from a token, and the token that it stands for
-pub record IsToken {A : Type 0} (g : Kind → Option A) (mk : A → Kind) (low : ℕ) : Type 0 where
-  pub makes : (x : A) → g (mk x) ≡ Some x
-  pub is : (k : Kind) (x : A) → g k ≡ Some x → k ≡ mk x
-  pub ranked : (x : A) → low ≤ kind_rank (mk x)
+-- what is taken from a token, and the token that it stands for, where it is such a one
+pub record IsToken {A : Type 0} (g : Kind → Option A) (mk : A → Kind) (Of : A → Type 0) (low : ℕ) : Type 0 where
+  pub makes : (x : A) → Of x → g (mk x) ≡ Some x
+  pub is : (k : Kind) (x : A) → g k ≡ Some x → (k ≡ mk x) × Of x
+  pub ranked : (x : A) → Of x → low ≤ kind_rank (mk x)
   pub inner : (x : A) → is_end (mk x) ≡ false
-  pub one : A
+  pub one : (x : A) × Of x
+
+-- one token
+abbrev pub One : {A : Type 0} → (A → Kind) → (A → Type 0) → A → List Kind → Type 0
+One mk Of x p = (p ≡ mk x ∷ []) × Of x
 
 pub taken_as_ok : {A : Type 0} (o : Option A) (ts behind : List Kind) (x : A × List Kind) → taken_as o ts behind ≡ Ok x → (o ≡ Some x.0) × (behind ≡ x.1)
 taken_as_ok (Some y) ts behind x h = let e = made (y, behind) x h in (ap (λ z. Some z.0) e, ap (λ z. z.1) e)
@@ -55,9 +59,9 @@ pub taken_as_err : {A : Type 0} (o : Option A) (ts behind : List Kind) (m : ℕ)
 taken_as_err (Some y) ts behind m h = absurd (let b : ⊥ = cc in b)
 taken_as_err None ts behind m h = (refl, cc)
 
-pub taken_ok : {A : Type 0} (g : Kind → Option A) (mk : A → Kind) → ((k : Kind) (x : A) → g k ≡ Some x → k ≡ mk x) → (ts : List Kind) (x : A × List Kind) → taken g ts ≡ Ok x → ts ≡ mk x.0 ∷ x.1
-taken_ok g mk is [] x h = absurd (let b : ⊥ = cc in b)
-taken_ok g mk is (k ∷ ts) x h = let w = taken_as_ok (g k) (k ∷ ts) ts x h in λ i. is k x.0 w.0 i ∷ w.1 i
+pub taken_ok : {A : Type 0} (g : Kind → Option A) (ts : List Kind) (x : A × List Kind) → taken g ts ≡ Ok x → (k : Kind) × (g k ≡ Some x.0) × (ts ≡ k ∷ x.1)
+taken_ok g [] x h = absurd (let b : ⊥ = cc in b)
+taken_ok g (k ∷ ts) x h = let w = taken_as_ok (g k) (k ∷ ts) ts x h in (k, w.0, ap (λ z. k ∷ z) w.1)
 
 taken_keeps : {A : Type 0} (g : Kind → Option A) (p : List Kind) (k : Kind) (v u : List Kind) (a : A) → taken g (p ++ k ∷ v) ≡ Ok (a, k ∷ v) → taken g (p ++ k ∷ u) ≡ Ok (a, k ∷ u)
 taken_keeps g [] k v u a h = let w = taken_as_ok (g k) (k ∷ v) v (a, k ∷ v) h in absurd (omega (arith, ap length w.1))
@@ -78,16 +82,19 @@ taken_stops g L (k ∷ ts) m h =
     let w = taken_as_err (g k) (k ∷ ts) ts m h in record { before = []; left = k ∷ ts; split = refl; count = w.1; begun = inl refl }
 
 -- one token
-pub token : {A : Type 0} {g : Kind → Option A} {mk : A → Kind} {low : ℕ} → IsToken g mk low → Reads (taken g) (λ x p. p ≡ mk x ∷ []) low 0 true
-token {A} {g} {mk} {low} t = record {
-  opens = λ a p rest l lt. subst (λ q. low ≤ rank (q ++ rest)) (sym l) (t.ranked a);
-  plain = λ a p l. subst NoEnd (sym l) (t.inner a, tt);
-  sound = λ ts x h. (mk x.0 ∷ [], taken_ok g mk t.is ts x h, refl);
-  complete = λ a p rest l lt. ap (λ q. taken g (q ++ rest)) l ∙ ap (λ o. taken_as o (mk a ∷ rest) rest) (t.makes a);
+pub token : {A : Type 0} {g : Kind → Option A} {mk : A → Kind} {Of : A → Type 0} {low : ℕ} → IsToken g mk Of low → Reads (taken g) (One mk Of) low 0 true
+token {A} {g} {mk} {Of} {low} t = record {
+  opens = λ a p rest l lt. subst (λ q. low ≤ rank (q ++ rest)) (sym l.0) (t.ranked a l.1);
+  plain = λ a p l. subst NoEnd (sym l.0) (t.inner a, tt);
+  sound = λ ts x h.
+      let w = taken_ok g ts x h in
+      let k = t.is w.0 x.0 w.1 in
+      (mk x.0 ∷ [], w.2 ∙ ap (λ z. z ∷ x.1) k.0, (refl, k.1));
+  complete = λ a p rest l lt. ap (λ q. taken g (q ++ rest)) l.0 ∙ ap (λ o. taken_as o (mk a ∷ rest) rest) (t.makes a l.1);
   keeps = taken_keeps g;
   fails = taken_fails g;
-  stops = taken_stops g (λ x p. p ≡ mk x ∷ []);
-  some = λ e. (t.one, mk t.one ∷ [], refl);
+  stops = taken_stops g (One mk Of);
+  some = λ e. (t.one.0, mk t.one.0 ∷ [], (refl, t.one.1));
 }
 
 -- one phrase and then another
@@ -283,8 +290,25 @@ pub alt : {A : Type 0} (f : Kind → Bool) {r s : List Kind → Read A} {L M : A
 alt {A} f {r} {s} {L} {M} {low} {high} {b} {c} P Q starts avoids = either_laws f r s L M low high b c P Q starts avoids
 
 -- what is read one level further in, and nothing where no level is left
-pub inside : {I A : Type 0} (o : Option I) (r : I → List Kind → Read A) (L : A → List Kind → Type 0) (low high : ℕ) → ((i : I) → o ≡ Some i → Reads (r i) L low high true) → (o ≡ None → (a : A) (p : List Kind) → L a p → ⊥) → Reads (λ ts. within o ts (λ i. r i ts)) L low high false
-inside None r L low high some none = nothing L low high (none refl)
-inside (Some i) r L low high some none =
+pub inside : {I A : Type 0} (o : Option I) {r : I → List Kind → Read A} {L : A → List Kind → Type 0} {low high : ℕ} → ((i : I) → o ≡ Some i → Reads (r i) L low high true) → (o ≡ None → (a : A) (p : List Kind) → L a p → ⊥) → Reads (λ ts. within o ts (λ i. r i ts)) L low high false
+inside None {r} {L} {low} {high} some none = nothing L low high (none refl)
+inside (Some i) {r} {L} {low} {high} some none =
     let h = some i refl in
     record { opens = h.opens; plain = h.plain; sound = h.sound; complete = h.complete; keeps = h.keeps; fails = h.fails; stops = h.stops; some = λ e. absurd (let b : ⊥ = cc in b) }
+
+-- any
+abbrev pub Always : {A : Type 0} → A → Type 0
+Always x = Unit {0}
+
+-- one token and then more
+abbrev pub After : {A B : Type 0} → (A → Kind) → (A → Type 0) → (A → B → List Kind → Type 0) → B → List Kind → Type 0
+After {A} mk Of M c w = (x : A) × (v : List Kind) × (w ≡ mk x ∷ v) × Of x × M x c v
+
+pub after : {A B : Type 0} {g : Kind → Option A} {mk : A → Kind} {Of : A → Type 0} {low : ℕ} {q : A → List Kind → Read B} {M : A → B → List Kind → Type 0} {above high : ℕ} → IsToken g mk Of low → ((x : A) → Reads (q x) (M x) above high true) → 0 < above → Reads (λ ts. taken g ts >>= λ x. q x.0 x.1) (After mk Of M) low high true
+after {A} {B} {g} {mk} {Of} {low} {q} {M} {above} {high} t Q lt = said (After mk Of M) low high (seq (token t) Q lt) (omega arith) (omega arith)
+    (λ c w h. (h.0, h.2, h.3 ∙ ap (λ z. z ++ h.2) h.4.0, h.4.1, h.5))
+    (λ c w h. (h.0, mk h.0 ∷ [], h.1, h.2, (refl, h.3), h.4))
+
+-- what a tree is made of
+abbrev pub Of : {X A : Type 0} → (X → A) → (A → List Kind → Type 0) → A → List Kind → Type 0
+Of {X} mk L a p = (x : X) × (a ≡ mk x) × L (mk x) p
