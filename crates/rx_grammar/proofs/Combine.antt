@@ -312,3 +312,26 @@ after {A} {B} {g} {mk} {Of} {low} {q} {M} {above} {high} t Q lt = said (After mk
 -- what a tree is made of
 abbrev pub Of : {X A : Type 0} → (X → A) → (A → List Kind → Type 0) → A → List Kind → Type 0
 Of {X} mk L a p = (x : X) × (a ≡ mk x) × L (mk x) p
+
+-- phrases that begin with a token that does not pass the test
+abbrev pub Misses : {A : Type 0} → (Kind → Bool) → (A → List Kind → Type 0) → Type 0
+Misses {A} f L = (a : A) (p : List Kind) → L a p → (k : Kind) × (v : List Kind) × (p ≡ k ∷ v) × (f k ≡ false)
+
+pub avoids : {A : Type 0} (f : Kind → Bool) (L : A → List Kind → Type 0) (high : ℕ) → Misses f L → Avoids f L high
+avoids f L high h = λ a p rest l lt. let w = h a p l in ap (λ z. next f (z ++ rest)) w.2 ∙ w.3
+
+pub misses_or : {A : Type 0} (f : Kind → Bool) (L M : A → List Kind → Type 0) → Misses f L → Misses f M → Misses f (Or L M)
+misses_or f L M h g a p (inl l) = h a p l
+misses_or f L M h g a p (inr m) = g a p m
+
+-- what follows does not pass a test of tokens of a low rank
+pub passed : (f : Kind → Bool) (high : ℕ) → ((k : Kind) → f k ≡ true → kind_rank k ≤ high) → (rest : List Kind) → high < rank rest → next f rest ≡ false
+passed f high ranked [] lt = refl
+passed f high ranked (k ∷ ts) lt = no_test (f k) refl
+  where
+    no_test : (b : Bool) → f k ≡ b → b ≡ false
+    no_test true e = absurd (omega (arith, ranked k e))
+    no_test false e = refl
+
+pub avoids_nothing : {A : Type 0} (f : Kind → Bool) (c : A) (high : ℕ) → ((k : Kind) → f k ≡ true → kind_rank k ≤ high) → Avoids f (λ a p. (a ≡ c) × (p ≡ [])) high
+avoids_nothing f c high ranked = λ a p rest l lt. ap (λ z. next f (z ++ rest)) l.1 ∙ passed f high ranked rest lt

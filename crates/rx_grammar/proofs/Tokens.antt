@@ -123,3 +123,16 @@ numeral = record { makes = λ x of. refl; is = λ k x h. (as_number_is k x h, tt
 
 pub quoted : IsToken as_text (λ x. Text x) Always 11
 quoted = record { makes = λ x of. refl; is = λ k x h. (as_text_is k x h, tt); ranked = λ x of. omega arith; inner = λ x. refl; one = ([], tt) }
+
+pub mark_ranked : (s : Sign) (high : ℕ) → sign_rank s ≤ high → (k : Kind) → is_mark s k ≡ true → kind_rank k ≤ high
+mark_ranked s high le k e = subst (λ z. kind_rank z ≤ high) (sym (is_mark_is s k e)) le
+
+pub word_ranked : (w : Keyword) (high : ℕ) → word_rank w ≤ high → (k : Kind) → is_word w k ≡ true → kind_rank k ≤ high
+word_ranked w high le k e = subst (λ z. kind_rank z ≤ high) (sym (is_word_is w k e)) le
+
+pub sign_ranked : (s : Sign) → 1 ≤ sign_rank s
+sign_ranked sign.OpenParen = omega arith
+sign_ranked _ = omega arith
+
+pub mark_self : (s : Sign) → is_mark s (Mark s) ≡ true
+mark_self s = eq-eqb (sign_number s) (sign_number s) refl
