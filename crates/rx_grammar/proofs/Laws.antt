@@ -26,6 +26,7 @@ sign_rank sign.And = 7
 sign_rank sign.Or = 8
 sign_rank sign.Question = 9
 sign_rank sign.Comma = 10
+sign_rank sign.Dot = 1
 sign_rank s = 11
 
 abbrev pub word_rank : Keyword → ℕ

@@ -5,3 +5,5 @@ pub mod Tokens
 pub mod Lists
 pub mod Exprs
 pub mod Attributes
+pub mod Elements
+pub mod Slots
