@@ -2,6 +2,7 @@ pub mod Laws
 pub mod Combine
 pub mod Many
 pub mod Tokens
+pub mod Two
 pub mod Lists
 pub mod Exprs
 pub mod Attributes
