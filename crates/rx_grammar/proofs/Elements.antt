@@ -327,7 +327,7 @@ slot_tag at n (syntax.boundary k s w ss) p is l = (l.0.0, (_, l.1, (boundary_tag
 slot_tag at n (syntax.provider x k e w ss) p is l = (l.0.0, (_, l.1, (provider_tag x k e, w, ss, refl, (l.0.1, l.0.2), l.0.3, l.0.4, refl)))
 slot_tag at n s p is l = absurd (false≢true is)
 
-element_misses : (s : Sign) (n : ℕ) → Misses (is_mark s) (ElementL n)
+pub element_misses : (s : Sign) (n : ℕ) → Misses (is_mark s) (ElementL n)
 element_misses s n t p (o, w, ss, made, fo, fe, fs, e) = by_opening o e
   where
     by_opening : (o : Opening) → p ≡ opening_name o ++ (opening_given o ++ content_tokens w (slots_tokens ss) (opening_name o)) → (k : Kind) × (v : List Kind) × (p ≡ k ∷ v) × (is_mark s k ≡ false)

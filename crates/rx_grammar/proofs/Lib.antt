@@ -8,3 +8,5 @@ pub mod Exprs
 pub mod Attributes
 pub mod Elements
 pub mod Slots
+pub mod Bodies
+pub mod Statements

@@ -24,7 +24,7 @@ use Rattle.rx_grammar.proofs.Exprs.{ExprL, begins_operand, expr_begins, other_si
 use Rattle.rx_grammar.proofs.Elements.{SlotL, ElementL, TagL, ChildrenL, SlotDeeper, SlotLevel, element_reads, tag_whole_reads, tag_slot, is_element, slot_tag, children_reads}
 
 -- no operand begins with a reserved word or a text
-word_other : (w : Keyword) (k : Kind) → begins_operand k ≡ true → is_word w k ≡ false
+pub word_other : (w : Keyword) (k : Kind) → begins_operand k ≡ true → is_word w k ≡ false
 word_other w (Word v) h = absurd (false≢true h)
 word_other w _ h = refl
 
@@ -236,7 +236,7 @@ EnclosedBehind n s p = (t : Slot) × (u : List Kind) × (s ≡ enclosed parenthe
 abbrev Anyway : ℕ → Slot → List Kind → Type 0
 Anyway n = Or (TagL n) (Or (Behind sign.OpenParen (EnclosedBehind n)) (PlainL n))
 
-slot_to : (n : ℕ) (s : Slot) (p : List Kind) → Anyway n s p → SlotL of_slot n s p
+pub slot_to : (n : ℕ) (s : Slot) (p : List Kind) → Anyway n s p → SlotL of_slot n s p
 slot_to n s p (inl l) = tag_slot of_slot n s p l
 slot_to n s p (inr (inl (u, e, (t, v, made, f, left, l)))) =
     let inner = tag_slot of_element (n - 1) t v l in
@@ -254,7 +254,7 @@ element_only (enclosed parentheses s) n h = absurd (let e = h.0 in let b : ⊥ =
 element_only (enclosed braces s) n h = absurd (let e = h.0 in let b : ⊥ = cc in b)
 element_only _ n h = refl
 
-slot_back : (n : ℕ) (s : Slot) (p : List Kind) → SlotL of_slot n s p → Anyway n s p
+pub slot_back : (n : ℕ) (s : Slot) (p : List Kind) → SlotL of_slot n s p → Anyway n s p
 slot_back n null p l = inr (inr (refl, l))
 slot_back n (words t) p l = inr (inr (refl, l))
 slot_back n (number_of e) p l = inr (inr (refl, l))
