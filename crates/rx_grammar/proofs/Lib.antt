@@ -10,3 +10,5 @@ pub mod Elements
 pub mod Slots
 pub mod Bodies
 pub mod Statements
+pub mod Declarations
+pub mod Programs
