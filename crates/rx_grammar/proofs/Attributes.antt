@@ -1,22 +1,21 @@
 -- The laws of reading what stands in an opening tag.
-use Rattle.std.proofs.Common.{◌≡◌, ◌≢◌, ℕ, zero, suc, ◌+◌, ◌-◌, ◌<◌, ◌≤◌, Bool, true, false, ◌||◌, cond, ◌⊎◌, inl, inr, ⊎_elim, Option, Some, None, Ok, Err, List, [], ◌∷◌, ◌++◌, codes, flat_map, refl, sym, ap, ◌∙◌, subst, append_assoc, append-nil, arith}
+use Rattle.std.proofs.Common.{◌≡◌, ℕ, ◌≤◌, Bool, true, false, ◌||◌, ◌⊎◌, inl, inr, ⊎_elim, List, [], ◌∷◌, ◌++◌, codes, flat_map, refl, sym, ap, ◌∙◌, subst, append-nil, arith}
 use Rattle.std.proofs.lemmas.Bool.{false≢true}
 use Rattle.rx_base.specs.Values.{Name}
 use Rattle.rx_lex.specs.declared.token.Keyword.TheVariants as word
 use Rattle.rx_lex.specs.declared.token.Sign.TheVariants as sign
 use Rattle.rx_lex.specs.declared.token.Kind.{Kind}
-use Rattle.rx_lex.specs.declared.token.Kind.TheVariants.{Upper, Lower, Number, Text, Word, Mark, End}
-use Rattle.rx_ast.specs.Syntax.{Expr, Attribute, key, computed, literal, KeyPlace, unkeyed, key_first, key_last, Slot}
-use Rattle.rx_print.specs.Printing.{in_braces, given, key_tokens, expr_tokens, attribute_tokens, key_before, key_behind, keyed, slot_tokens, provider_name}
-use Rattle.rx_print.specs.Levels.{whole_line, ExprFits, HostAttributesFit, ComponentAttributesFit, KeyFits, SlotFits, of_slot}
-use Rattle.rx_grammar.specs.Steps.{Read, ◌>>=◌, next, is_mark, is_word, is_lower, is_text, all_of, taken, as_word, as_lower, as_text, as_lower_name, as_upper}
-use Rattle.rx_grammar.specs.Openings.{Opening, host_tag, component_tag, boundary_tag, provider_tag}
-use Rattle.rx_grammar.specs.Reading.{sign_at, braced_at, key_at, given_at, is_attribute, attribute_at, attributes_at, last_key_at, keyed_at, value_at, braced_slot, fallback_at, provider_at, upper_tag_at, tag_at, closing_name_at}
-use Rattle.rx_grammar.proofs.Laws.{kind_rank, rank, Reads, said}
+use Rattle.rx_lex.specs.declared.token.Kind.TheVariants.{Lower, Text, Word, Mark}
+use Rattle.rx_ast.specs.Syntax.{Expr, Attribute, key, computed, literal, KeyPlace, unkeyed, key_first, key_last}
+use Rattle.rx_print.specs.Printing.{in_braces, given, key_tokens, expr_tokens, attribute_tokens, key_behind, keyed}
+use Rattle.rx_print.specs.Levels.{whole_line, ExprFits, HostAttributesFit, ComponentAttributesFit, KeyFits}
+use Rattle.rx_grammar.specs.Steps.{Read, is_word, is_text}
+use Rattle.rx_grammar.specs.Reading.{braced_at, key_at, given_at, is_attribute, attribute_at, attributes_at, last_key_at, keyed_at, value_at}
+use Rattle.rx_grammar.proofs.Readings.{kind_rank, Reads, said}
 use Rattle.rx_grammar.proofs.Combine.{pure, seq, after, alt, Then, After, Or, Starts, Misses, avoids, avoids_nothing, Always}
-use Rattle.rx_grammar.proofs.Many.{Row, row}
-use Rattle.rx_grammar.proofs.Tokens.{mark, reserved, lower, upper, quoted, lower_name, upper_name, mark_ranked, word_ranked, is_word_is}
-use Rattle.rx_grammar.proofs.Exprs.{ExprL, expr_reads}
+use Rattle.rx_grammar.proofs.Many.{Row, row, Loop, loop}
+use Rattle.rx_grammar.proofs.Tokens.{mark, reserved, lower, quoted, lower_name, word_ranked}
+use Rattle.rx_grammar.proofs.Exprs.{expr_reads}
 
 -- an expression in braces
 abbrev pub BracedL : ℕ → Expr → List Kind → Type 0
@@ -88,6 +87,7 @@ attribute_reads host n = said (AttributeL host n) 1 0
     to a p (inl (e, made, l)) = subst (λ z. AttributeL host n z p) (sym made) l
     to a p (inr (x, v, e, t, (q, w, g, s, inl (c, made, h, f)))) = subst (λ z. AttributeL host n z p) (sym made) (h, cc)
     to a p (inr (x, v, e, t, (q, w, g, s, inr (c, made, l)))) = subst (λ z. AttributeL host n z p) (sym made) (l.0, let b = l.1 in cc)
+
     back : (a : Attribute) (p : List Kind) → AttributeL host n a p → Or (Keyed host n) (Called host n) a p
     back (key e) p l = inl (e, refl, l)
     back (computed x e) p l = inr (x, _, l.1, tt, (tt, _, refl, tt, inr (e, refl, (l.0, refl))))
@@ -157,6 +157,7 @@ last_key_reads n = said (LastKey n) 1 1
     to : (k : KeyPlace) (p : List Kind) → Or (λ k p. (e : Expr) × (k ≡ key_last e) × KeyL n e p) (λ k p. (k ≡ unkeyed) × (p ≡ [])) k p → LastKey n k p
     to k p (inl (e, made, l)) = subst (λ z. LastKey n z p) (sym made) (refl, l.0, l.1)
     to k p (inr (made, nil)) = subst (λ z. LastKey n z p) (sym made) (refl, tt, nil)
+
     back : (k : KeyPlace) (p : List Kind) → LastKey n k p → Or (λ k p. (e : Expr) × (k ≡ key_last e) × KeyL n e p) (λ k p. (k ≡ unkeyed) × (p ≡ [])) k p
     back unkeyed p l = inr (refl, l.2)
     back (key_first e) p l = absurd (false≢true (sym l.0))
@@ -215,3 +216,7 @@ value_reads n = said (ValueL n) 1 0
     (after (lower_name (codes "value")) (λ k. after (mark sign.Equals) (λ q. braced_reads n) (omega arith)) (omega arith)) (omega arith) (omega arith)
     (λ t p h. (h.4.4.0, let a = h.4.4.1 in cc))
     (λ t p l. (tt, _, l.1, tt, (tt, _, refl, tt, (l.0, refl))))
+
+-- how the loop of attributes turns
+pub attributes_loop : (host : Bool) (n : ℕ) → Loop is_attribute (attribute_at host n)
+attributes_loop host n = loop is_attribute 1 1 (attribute_reads host n) (attribute_starts host n) (omega arith) (omega arith) (omega arith) (omega arith) attribute_ranked

@@ -1,26 +1,19 @@
 -- The laws of reading what a component returns.
-use Rattle.std.proofs.Common.{◌≡◌, ◌≢◌, ℕ, zero, suc, ◌+◌, ◌-◌, ◌<◌, ◌≤◌, Bool, true, false, ◌||◌, ◌&&◌, cond, ◌⊎◌, inl, inr, ⊎_elim, Option, Some, None, Ok, Err, List, [], ◌∷◌, ◌++◌, length, drop, codes, flat_map, map, refl, sym, ap, ◌∙◌, subst, append_assoc, append-nil, length-append, arith}
-use Rattle.std.proofs.lemmas.Bool.{false≢true}
-use Rattle.rx_base.specs.Values.{Name}
-use Rattle.rx_lex.specs.declared.token.Keyword.{Keyword}
-use Rattle.rx_lex.specs.declared.token.Keyword.TheVariants as word
-use Rattle.rx_lex.specs.declared.token.Sign.{Sign}
+use Rattle.std.proofs.Common.{◌≡◌, ℕ, ◌-◌, ◌<◌, true, false, inl, inr, Option, Ok, List, [], ◌∷◌, ◌++◌, refl, sym, ap, ◌∙◌, subst, append_assoc, append-nil, arith}
 use Rattle.rx_lex.specs.declared.token.Sign.TheVariants as sign
 use Rattle.rx_lex.specs.declared.token.Kind.{Kind}
-use Rattle.rx_lex.specs.declared.token.Kind.TheVariants.{Upper, Lower, Number, Text, Word, Mark, End}
-use Rattle.rx_ast.specs.Syntax as syntax
-use Rattle.rx_ast.specs.Syntax.{Slot, Slots, slots, slots_of, parentheses, enclosed, Body, single, fragment, enclosed_fragment}
-use Rattle.rx_print.specs.Printing.{in_parentheses, slot_tokens, slots_tokens, fragment_tokens, body_tokens}
-use Rattle.rx_print.specs.Levels.{SlotFits, SlotsFit, BodyFits, of_slot, of_element}
-use Rattle.rx_grammar.specs.Steps.{Read, ◌>>=◌, next, is_mark, within}
-use Rattle.rx_grammar.specs.Reading.{sign_at, SlotInner, plain_with, next_two, slot_inner, fragment_at, opened_body, enclosed_body_of, enclosed_body, body_at}
-use Rattle.rx_grammar.proofs.Laws.{kind_rank, rank, Reads, said}
-use Rattle.rx_grammar.proofs.Combine.{pure, seq, after, alt, inside, Then, After, Or, Starts, Misses, avoids, misses_or, Always}
-use Rattle.rx_grammar.proofs.Many.{HasToken}
+use Rattle.rx_lex.specs.declared.token.Kind.TheVariants.{Mark}
+use Rattle.rx_ast.specs.Syntax.{Slot, slots, slots_of, parentheses, enclosed, Body, single, fragment, enclosed_fragment}
+use Rattle.rx_print.specs.Printing.{slots_tokens, fragment_tokens, body_tokens}
+use Rattle.rx_print.specs.Levels.{SlotsFit, BodyFits, of_slot, of_element}
+use Rattle.rx_grammar.specs.Steps.{Read, ◌>>=◌, is_mark}
+use Rattle.rx_grammar.specs.Reading.{sign_at, SlotInner, plain_with, slot_inner, fragment_at, opened_body, enclosed_body_of, body_at}
+use Rattle.rx_grammar.proofs.Readings.{Reads, said}
+use Rattle.rx_grammar.proofs.Combine.{pure, seq, after, alt, inside, Or, avoids, misses_or}
 use Rattle.rx_grammar.proofs.Tokens.{mark}
 use Rattle.rx_grammar.proofs.Two.{Behind, two}
-use Rattle.rx_grammar.proofs.Elements.{SlotL, ElementL, TagL, ChildrenL, SlotDeeper, SlotLevel, tag_slot, slots_of-slots, element_misses}
-use Rattle.rx_grammar.proofs.Slots.{PlainL, plain_reads, plain_has_token, plain_avoids, plain_misses_less, shut_plain, plain_begun, EnclosedBehind, slot_to, slot_back, slot_level}
+use Rattle.rx_grammar.proofs.Elements.{ElementL, TagL, ChildrenL, SlotLevel, tag_slot, slots_of-slots, element_misses}
+use Rattle.rx_grammar.proofs.Slots.{PlainL, plain_reads, plain_has_token, plain_avoids, plain_misses_less, shut_plain, plain_begun, EnclosedBehind, slot_back, slot_level}
 
 -- what a component returns, with so many levels left
 abbrev pub BodyL : ℕ → Body → List Kind → Type 0
@@ -129,8 +122,18 @@ body_back n (enclosed_fragment ss) p l =
     let two_less : n - 2 ≡ n - 1 - 1 = omega arith in
     let deep : 1 < n = l.0.0 in
     let fit = subst (λ z. SlotsFit z (n - 1 - 1)) (sym same) (subst (SlotsFit ss) two_less l.0.1) in
-    inr (inl (_, l.1, (fragment (slots_of (slots ss)), fragment_tokens ss, ap enclosed_fragment (sym same), refl, omega arith,
-    (omega arith, (_, refl, inl (slots ss, refl, (fit, ap (λ z. Mark sign.Greater ∷ (slots_tokens z ++ Mark sign.Less ∷ Mark sign.Slash ∷ Mark sign.Greater ∷ [])) (sym same))))))))
+    inr (inl (
+      _,
+      l.1,
+      (
+        fragment (slots_of (slots ss)),
+        fragment_tokens ss,
+        ap enclosed_fragment (sym same),
+        refl,
+        omega arith,
+        (omega arith, (_, refl, inl (slots ss, refl, (fit, ap (λ z. Mark sign.Greater ∷ (slots_tokens z ++ Mark sign.Less ∷ Mark sign.Slash ∷ Mark sign.Greater ∷ [])) (sym same))))),
+      ),
+    ))
 
 pub body_reads : (n : ℕ) → Reads (body_at n) (BodyL n) 1 9 true
 unfolding body_at

@@ -1,8 +1,8 @@
 -- How the laws of steps make those of a reading.
-use Rattle.std.proofs.Common.{◌≡◌, ◌≢◌, ℕ, zero, suc, ◌+◌, ◌-◌, ◌<◌, ◌≤◌, Bool, true, false, ◌||◌, cond, ◌⊎◌, inl, inr, ⊎_elim, Option, Some, None, Ok, Err, List, [], ◌∷◌, ◌++◌, length, drop, refl, sym, ap, ◌∙◌, subst, append_assoc, append-nil, length-append, arith}
+use Rattle.std.proofs.Common.{◌≡◌, ℕ, zero, suc, ◌<◌, ◌≤◌, Bool, true, false, ◌||◌, cond, ◌⊎◌, inl, inr, ⊎_elim, Option, Some, None, Ok, Err, List, [], ◌∷◌, ◌++◌, length, refl, sym, ap, ◌∙◌, subst, append_assoc, append-nil, length-append, arith}
 use Rattle.rx_lex.specs.declared.token.Kind.{Kind}
 use Rattle.rx_grammar.specs.Steps.{Read, ◌>>=◌, fault_at, next, is_end, taken, taken_as, within}
-use Rattle.rx_grammar.proofs.Laws.{kind_rank, rank, NoEnd, NoEnd-append, Begun, StopsAt, Reads, said, bind_ok, bind_err, chosen, same_ends}
+use Rattle.rx_grammar.proofs.Readings.{kind_rank, rank, NoEnd, NoEnd-append, Begun, StopsAt, Reads, said, bind_ok, bind_err, chosen, same_ends}
 
 -- nothing is read
 pub nothing : {A : Type 0} (L : A → List Kind → Type 0) (low high : ℕ) → ((a : A) (p : List Kind) → L a p → ⊥) → Reads {A = A} (λ ts. fault_at ts) L low high false
@@ -170,7 +170,10 @@ module _ {A B : Type 0} (r : List Kind → Read A) (q : A → List Kind → Read
 
   first_stops : (ts : List Kind) (m : ℕ) → StopsAt L ts m → StopsAt (Then L M) ts m
   first_stops ts m s = record {
-    before = s.before; left = s.left; split = s.split; count = s.count;
+    before = s.before;
+    left = s.left;
+    split = s.split;
+    count = s.count;
     begun = ⊎_elim
         (λ w. inl w)
         (λ w. let o = (Q w.0).some refl in inr (o.0, w.1 ++ o.1, (w.0, s.before ++ w.1, o.1, sym (append_assoc s.before w.1 o.1), w.2, o.2)))

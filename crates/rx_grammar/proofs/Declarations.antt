@@ -1,27 +1,25 @@
 -- The laws of reading declarations.
-use Rattle.std.proofs.Common.{◌≡◌, ◌≢◌, ℕ, zero, suc, ◌+◌, ◌-◌, ◌<◌, ◌≤◌, Bool, true, false, ◌||◌, ◌&&◌, cond, ◌⊎◌, inl, inr, ⊎_elim, Option, Some, None, Ok, Err, List, [], ◌∷◌, ◌++◌, length, drop, codes, flat_map, map, refl, sym, ap, ◌∙◌, subst, append_assoc, append-nil, length-append, arith}
-use Rattle.std.proofs.lemmas.Bool.{false≢true}
+use Rattle.std.proofs.Common.{◌≡◌, ℕ, ◌≤◌, Bool, true, false, inl, inr, ⊎_elim, List, [], ◌∷◌, ◌++◌, flat_map, map, refl, sym, ap, ◌∙◌, subst, append_assoc, append-nil, arith}
 use Rattle.rx_base.specs.Values.{Name}
-use Rattle.rx_lex.specs.declared.token.Keyword.{Keyword}
 use Rattle.rx_lex.specs.declared.token.Keyword.TheVariants as word
 use Rattle.rx_lex.specs.declared.token.Sign.{Sign}
 use Rattle.rx_lex.specs.declared.token.Sign.TheVariants as sign
 use Rattle.rx_lex.specs.declared.token.Kind.{Kind}
-use Rattle.rx_lex.specs.declared.token.Kind.TheVariants.{Upper, Lower, Number, Text, Word, Mark, End}
+use Rattle.rx_lex.specs.declared.token.Kind.TheVariants.{Upper, Lower, Number, Word, Mark}
 use Rattle.rx_ast.specs.Syntax as syntax
 use Rattle.rx_ast.specs.Syntax.{Expr, Statement, Body, Line, Parameter, integer, given_children, Declaration, of_context, of_function, of_component}
-use Rattle.rx_print.specs.Printing.{in_parentheses, in_braces, expr_tokens, statement_tokens, line_tokens, body_tokens, separated, more_separated, parameter_token, parameters_tokens, default_tokens, declaration_tokens}
+use Rattle.rx_print.specs.Printing.{expr_tokens, statement_tokens, line_tokens, body_tokens, separated, more_separated, parameter_token, parameters_tokens, default_tokens, declaration_tokens}
 use Rattle.rx_print.specs.Levels.{whole_line, ExprFits, LinesFit, ParametersFit, StatementsFit, BodyFits, DeclarationFits, DeclarationsFit}
-use Rattle.rx_grammar.specs.Steps.{Read, ◌>>=◌, next, is_mark, is_word, is_lower, taken, as_word, as_lower, as_upper, as_number, all_of}
-use Rattle.rx_grammar.specs.Reading.{sign_at, expr_at, list_to, function_line, lines_at, default_at, context_at, answer_at, function_at, parameter_at, parameters_at, statements_at, result_at, body_at, component_at, declaration_at, is_declaration, declarations_at}
-use Rattle.rx_grammar.proofs.Laws.{kind_rank, rank, Reads, said}
-use Rattle.rx_grammar.proofs.Combine.{pure, seq, after, token, alt, Then, After, Or, One, Starts, Misses, avoids, misses_or, Always}
-use Rattle.rx_grammar.proofs.Many.{Row, row}
-use Rattle.rx_grammar.proofs.Tokens.{mark, reserved, lower, upper, numeral, mark_ranked, word_ranked, is_word_is}
-use Rattle.rx_grammar.proofs.Lists.{Comma, Commas, ListTo, list}
-use Rattle.rx_grammar.proofs.Exprs.{ExprL, expr_reads}
-use Rattle.rx_grammar.proofs.Bodies.{BodyL, body_reads}
-use Rattle.rx_grammar.proofs.Statements.{StatementL, statements_read, statements_to, statements_back, or_true}
+use Rattle.rx_grammar.specs.Steps.{is_mark, is_word, is_lower, taken, as_lower}
+use Rattle.rx_grammar.specs.Reading.{behind_comma, function_line, lines_at, default_at, context_at, answer_at, function_at, parameter_at, parameters_at, result_at, component_at, declaration_at, is_declaration, declarations_at}
+use Rattle.rx_grammar.proofs.Readings.{kind_rank, Reads, said}
+use Rattle.rx_grammar.proofs.Combine.{pure, seq, after, token, alt, After, Or, Starts, Misses, avoids, Always}
+use Rattle.rx_grammar.proofs.Many.{Row, row, Loop, loop}
+use Rattle.rx_grammar.proofs.Tokens.{mark, reserved, lower, upper, numeral, word_ranked}
+use Rattle.rx_grammar.proofs.Lists.{Comma, Commas, list, list_loop}
+use Rattle.rx_grammar.proofs.Exprs.{expr_reads}
+use Rattle.rx_grammar.proofs.Bodies.{body_reads}
+use Rattle.rx_grammar.proofs.Statements.{statements_read, statements_to, statements_back, or_true}
 
 -- a line of a function
 abbrev pub LineL : ℕ → Line → List Kind → Type 0
@@ -73,6 +71,7 @@ default_reads = said Default 1 0
     to : (d : Bool × ℕ) (p : List Kind) → Or Negative Positive d p → Default d p
     to d p (inl (n, made, e)) = subst (λ z. Default z p) (sym made) e
     to d p (inr (n, made, e)) = subst (λ z. Default z p) (sym made) e
+
     back : (d : Bool × ℕ) (p : List Kind) → Default d p → Or Negative Positive d p
     back (true, n) p e = inl (n, refl, e)
     back (false, n) p e = inr (n, refl, e)
@@ -97,7 +96,7 @@ context_reads = said Context 1 0
     let c = l.0 in
     let ks = default_tokens c.negative c.number in
     let written : p ≡ Word word.Const ∷ Upper c.name ∷ Mark sign.Equals ∷ Word word.CreateContext ∷ Mark sign.OpenParen ∷ (ks ++ Mark sign.CloseParen ∷ Mark sign.Semicolon ∷ []) =
-        l.2 ∙ ap (λ z. Word word.Const ∷ Upper c.name ∷ Mark sign.Equals ∷ Word word.CreateContext ∷ Mark sign.OpenParen ∷ z) (ends ks) in
+    l.2 ∙ ap (λ z. Word word.Const ∷ Upper c.name ∷ Mark sign.Equals ∷ Word word.CreateContext ∷ Mark sign.OpenParen ∷ z) (ends ks) in
     (tt, _, written, tt, (c.name, _, refl, tt, (tt, _, refl, tt, (tt, _, refl, tt, (tt, _, refl, tt, ((c.negative, c.number), ks, _, refl, refl, (tt, _, refl, tt, (tt, [], refl, tt, (l.1, refl))))))))))
 
 -- a token for each item
@@ -159,9 +158,20 @@ function_reads n f = said (FunctionBehind n f) 1 0
     (λ d p l.
     let names = separated (map (λ x. Lower x) l.0) in
     let body = Word word.Return ∷ (expr_tokens l.2 ++ Mark sign.Semicolon ∷ Mark sign.CloseBrace ∷ []) in
-    let rest = Mark sign.OpenBrace ∷ (flat_map line_tokens l.1 ++ body) in
-    (tt, _, l.6, tt, (l.0, names ++ Mark sign.CloseParen ∷ [], rest, sym (append_assoc names (Mark sign.CloseParen ∷ []) rest), (names, refl, separated_back (λ x. Lower x) l.0),
-    (tt, _, refl, tt, (l.1, flat_map line_tokens l.1, body, refl, lines_back n l.1 l.4, (l.2, body, [], sym (append-nil body), (l.5, refl), (l.3, refl)))))))
+    let rest = Mark sign.OpenBrace ∷ (flat_map line_tokens l.1 ++ body) in (
+      tt,
+      _,
+      l.6,
+      tt,
+      (
+        l.0,
+        names ++ Mark sign.CloseParen ∷ [],
+        rest,
+        sym (append_assoc names (Mark sign.CloseParen ∷ []) rest),
+        (names, refl, separated_back (λ x. Lower x) l.0),
+        (tt, _, refl, tt, (l.1, flat_map line_tokens l.1, body, refl, lines_back n l.1 l.4, (l.2, body, [], sym (append-nil body), (l.5, refl), (l.3, refl)))),
+      ),
+    ))
 
 abbrev Given : Parameter → List Kind → Type 0
 Given x p = (x ≡ given_children) × (p ≡ Word word.Children ∷ [])
@@ -185,6 +195,7 @@ parameter_reads = said (Single parameter_token) 1 0
     to : (x : Parameter) (p : List Kind) → Or Given Integer x p → Single parameter_token x p
     to x p (inl (made, e)) = subst (λ z. Single parameter_token z p) (sym made) e
     to x p (inr (y, made, e)) = subst (λ z. Single parameter_token z p) (sym made) e
+
     back : (x : Parameter) (p : List Kind) → Single parameter_token x p → Or Given Integer x p
     back (integer y) p e = inr (y, refl, e)
     back given_children p e = inl (refl, e)
@@ -265,9 +276,20 @@ component_reads n x = said (ComponentBehind n x) 1 0
     (λ d p l.
     let names = parameters_tokens l.0 l.1 in
     let body = Word word.Return ∷ (body_tokens l.3 ++ Mark sign.Semicolon ∷ Mark sign.CloseBrace ∷ []) in
-    let rest = Mark sign.OpenBrace ∷ (flat_map statement_tokens l.2 ++ body) in
-    (tt, _, l.8, tt, ((l.0, l.1), names ++ Mark sign.CloseParen ∷ [], rest, sym (append_assoc names (Mark sign.CloseParen ∷ []) rest), (l.5, refl),
-    (tt, _, refl, tt, (l.2, flat_map statement_tokens l.2, body, refl, statements_back n l.2 l.6, (l.3, body, [], sym (append-nil body), (l.7, refl), (l.4, refl)))))))
+    let rest = Mark sign.OpenBrace ∷ (flat_map statement_tokens l.2 ++ body) in (
+      tt,
+      _,
+      l.8,
+      tt,
+      (
+        (l.0, l.1),
+        names ++ Mark sign.CloseParen ∷ [],
+        rest,
+        sym (append_assoc names (Mark sign.CloseParen ∷ []) rest),
+        (l.5, refl),
+        (tt, _, refl, tt, (l.2, flat_map statement_tokens l.2, body, refl, statements_back n l.2 l.6, (l.3, body, [], sym (append-nil body), (l.7, refl), (l.4, refl)))),
+      ),
+    ))
 
 -- a declaration
 abbrev pub DeclarationL : ℕ → Declaration → List Kind → Type 0
@@ -324,3 +346,16 @@ declarations_to n (d ∷ ds) p (u, v, e, l, h) = let r = declarations_to n ds v 
 pub declarations_back : (n : ℕ) (ds : List Declaration) → DeclarationsFit ds n → Row (DeclarationL n) ds (flat_map declaration_tokens ds)
 declarations_back n [] h = refl
 declarations_back n (d ∷ ds) h = (declaration_tokens d, flat_map declaration_tokens ds, refl, (h.0, refl), declarations_back n ds h.1)
+
+-- how the loops of declarations turn
+pub lines_loop : (n : ℕ) → Loop (is_word word.Const) (function_line n)
+lines_loop n = loop (is_word word.Const) 1 1 (line_reads n) (λ l p t. (Word word.Const, _, t.1, refl)) (omega arith) (omega arith) (omega arith) (omega arith) (word_ranked word.Const 1 (omega arith))
+
+pub names_loop : Loop (is_mark sign.Comma) (behind_comma (taken as_lower))
+names_loop = list_loop sign.CloseParen name_reads (omega arith) (omega arith) (omega arith) (λ x p l. (Lower x, [], l, refl))
+
+pub parameters_loop : Loop (is_mark sign.Comma) (behind_comma parameter_at)
+parameters_loop = list_loop sign.CloseBrace parameter_reads (omega arith) (omega arith) (omega arith) parameter_misses
+
+pub declarations_loop : (n : ℕ) → Loop is_declaration (declaration_at n)
+declarations_loop n = loop is_declaration 1 1 (declaration_reads n) (declaration_starts n) (omega arith) (omega arith) (omega arith) (omega arith) declaration_ranked

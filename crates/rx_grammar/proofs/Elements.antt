@@ -1,25 +1,25 @@
 -- The laws of reading elements and child lists.
-use Rattle.std.proofs.Common.{◌≡◌, ◌≢◌, ℕ, zero, suc, ◌+◌, ◌-◌, ◌<◌, ◌≤◌, Bool, true, false, ◌||◌, ◌&&◌, cond, ◌⊎◌, inl, inr, ⊎_elim, Option, Some, None, Ok, Err, List, [], ◌∷◌, ◌++◌, length, drop, codes, flat_map, refl, sym, ap, ◌∙◌, subst, append_assoc, append-nil, length-append, arith}
+use Rattle.std.proofs.Common.{◌≡◌, ℕ, ◌-◌, ◌<◌, Bool, true, false, inl, inr, Option, Some, None, Ok, List, [], ◌∷◌, ◌++◌, length, codes, flat_map, refl, sym, ap, ◌∙◌, subst, append_assoc, append-nil, arith}
 use Rattle.std.proofs.lemmas.Bool.{false≢true}
 use Rattle.rx_base.specs.Values.{Name}
 use Rattle.rx_lex.specs.declared.token.Keyword.TheVariants as word
 use Rattle.rx_lex.specs.declared.token.Sign.{Sign}
 use Rattle.rx_lex.specs.declared.token.Sign.TheVariants as sign
 use Rattle.rx_lex.specs.declared.token.Kind.{Kind}
-use Rattle.rx_lex.specs.declared.token.Kind.TheVariants.{Upper, Lower, Number, Text, Word, Mark, End}
+use Rattle.rx_lex.specs.declared.token.Kind.TheVariants.{Upper, Lower, Word, Mark}
 use Rattle.rx_ast.specs.Syntax as syntax
 use Rattle.rx_ast.specs.Syntax.{Expr, Attribute, KeyPlace, Slot, Slots, no_slots, slot, slots, slots_of, Ending, at_once, by_tag, parentheses, braces, enclosed}
-use Rattle.rx_print.specs.Printing.{in_braces, given, attribute_tokens, keyed, expr_tokens, slot_tokens, slots_tokens, provider_name, content_tokens, element_tokens}
-use Rattle.rx_print.specs.Levels.{whole_line, ExprFits, HostAttributesFit, ComponentAttributesFit, KeyFits, EndsWith, SlotFits, SlotsFit, Place, of_slot, of_child, of_element}
-use Rattle.rx_grammar.specs.Steps.{Read, ◌>>=◌, next, is_mark, is_word, is_lower, all_of, taken, as_word, as_lower, as_upper, within}
+use Rattle.rx_print.specs.Printing.{in_braces, given, attribute_tokens, keyed, expr_tokens, slot_tokens, slots_tokens, provider_name, content_tokens}
+use Rattle.rx_print.specs.Levels.{whole_line, ExprFits, HostAttributesFit, ComponentAttributesFit, KeyFits, EndsWith, SlotFits, SlotsFit, Place, of_slot, of_child}
+use Rattle.rx_grammar.specs.Steps.{Read, ◌>>=◌, next, is_mark, is_word, is_lower, taken, as_word, as_lower}
 use Rattle.rx_grammar.specs.Openings.{Opening, host_tag, component_tag, boundary_tag, provider_tag, element}
 use Rattle.rx_grammar.specs.Reading.{sign_at, attributes_at, keyed_at, value_at, braced_slot, fallback_at, provider_at, upper_tag_at, tag_at, closing_name_at, SlotInner, close_at, end_or_element, child_at, children_with, content_at, element_with, element_at}
-use Rattle.rx_grammar.proofs.Laws.{kind_rank, rank, Reads, said}
-use Rattle.rx_grammar.proofs.Combine.{pure, seq, after, token, alt, inside, Then, After, Or, One, Starts, Misses, avoids, passed, avoids_nothing, Always}
+use Rattle.rx_grammar.proofs.Readings.{rank, Reads, said}
+use Rattle.rx_grammar.proofs.Combine.{pure, seq, after, token, alt, inside, After, Or, Misses, avoids, passed, Always}
 use Rattle.rx_grammar.proofs.Many.{Row, Step, RowTo, row_to}
-use Rattle.rx_grammar.proofs.Tokens.{mark, reserved, lower, upper, lower_name, upper_name, mark_ranked, mark_self}
+use Rattle.rx_grammar.proofs.Tokens.{mark, reserved, lower, upper, lower_name, upper_name, mark_ranked}
 use Rattle.rx_grammar.proofs.Exprs.{ExprL}
-use Rattle.rx_grammar.proofs.Attributes.{AttributeL, attributes_reads, host_to, host_back, component_to, component_back, KeyedL, keyed_laws, ValueL, value_reads}
+use Rattle.rx_grammar.proofs.Attributes.{AttributeL, attributes_reads, host_to, host_back, component_to, component_back, keyed_laws, ValueL, value_reads}
 
 -- a slot in such a place with so many levels left
 abbrev pub SlotL : Place → ℕ → Slot → List Kind → Type 0
@@ -239,10 +239,20 @@ module _ (kids : List Kind → Read (List Slot)) (n : ℕ) (K : Reads kids (Chil
       let made : s ≡ element o by_tag (slots_of (slots l.0)) = l.1 ∙ ap (element o by_tag) (sym same) in
       let cs = slots_tokens l.0 in
       let close = Mark sign.Less ∷ Mark sign.Slash ∷ [] in
-      let name = opening_name o in
-      (tt, _, l.3, tt, (slots l.0, cs ++ close, name ++ Mark sign.Greater ∷ [], sym (append_assoc cs close (name ++ Mark sign.Greater ∷ [])),
-      (subst (λ z. SlotsFit z n) (sym same) l.2, ap (λ z. slots_tokens z ++ Mark sign.Less ∷ Mark sign.Slash ∷ []) (sym same)),
-      (tt, name, Mark sign.Greater ∷ [], refl, refl, (tt, [], refl, tt, (made, refl))))))
+      let name = opening_name o in (
+        tt,
+        _,
+        l.3,
+        tt,
+        (
+          slots l.0,
+          cs ++ close,
+          name ++ Mark sign.Greater ∷ [],
+          sym (append_assoc cs close (name ++ Mark sign.Greater ∷ [])),
+          (subst (λ z. SlotsFit z n) (sym same) l.2, ap (λ z. slots_tokens z ++ Mark sign.Less ∷ Mark sign.Slash ∷ []) (sym same)),
+          (tt, name, Mark sign.Greater ∷ [], refl, refl, (tt, [], refl, tt, (made, refl))),
+        ),
+      ))
 
   content_to : (o : Opening) (s : Slot) (p : List Kind) → Or (AtOnce o) (ByTag o) s p → Content o s p
   content_to o s p (inl (made, e)) = (at_once, no_slots, made, refl, tt, e)
@@ -398,7 +408,7 @@ module _ (o : Option SlotInner) (n : ℕ) (lev : SlotLevel o n) (read : List Kin
       (avoids (is_mark sign.OpenBrace) BehindLess 0 (λ x p l. (Mark sign.Less, l.1, l.2, refl))))
       (omega arith) (omega arith) child_to child_back
 
-  child_has_token : (s : Slot) (p : List Kind) → SlotL of_child n s p → 0 < length p
+  pub child_has_token : (s : Slot) (p : List Kind) → SlotL of_child n s p → 0 < length p
   child_has_token s p l = by_back (child_back (Some s) p l)
     where
       by_back : Or BracedChild BehindLess (Some s) p → 0 < length p

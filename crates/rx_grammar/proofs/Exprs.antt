@@ -1,11 +1,11 @@
 -- The laws of reading expressions.
-use Rattle.std.proofs.Common.{◌≡◌, ◌≢◌, ℕ, zero, suc, ◌+◌, ◌-◌, ◌<◌, ◌≤◌, ◌==◌, Bool, true, false, ◌||◌, cond, ◌⊎◌, inl, inr, ⊎_elim, Option, Some, None, Ok, Err, List, [], ◌∷◌, ◌++◌, length, refl, sym, ap, ◌∙◌, subst, append_assoc, append-nil, eqb-true, eq-eqb, arith}
+use Rattle.std.proofs.Common.{◌≡◌, ◌≢◌, ℕ, zero, suc, ◌+◌, ◌-◌, ◌<◌, ◌≤◌, ◌==◌, Bool, true, false, cond, ◌⊎◌, inl, inr, ⊎_elim, Option, Some, None, Ok, List, [], ◌∷◌, ◌++◌, refl, sym, ap, ◌∙◌, subst, append-nil, eqb-true, eq-eqb, arith}
 use Rattle.std.proofs.lemmas.Bool.{false≢true}
 use Rattle.rx_base.specs.Values.{Name}
 use Rattle.rx_lex.specs.declared.token.Sign.{Sign}
 use Rattle.rx_lex.specs.declared.token.Sign.TheVariants as sign
 use Rattle.rx_lex.specs.declared.token.Kind.{Kind}
-use Rattle.rx_lex.specs.declared.token.Kind.TheVariants.{Upper, Lower, Number, Text, Word, Mark, End}
+use Rattle.rx_lex.specs.declared.token.Kind.TheVariants.{Lower, Number, Mark}
 use Rattle.rx_ast.specs.declared.expr.Prefix.{Prefix}
 use Rattle.rx_ast.specs.declared.expr.Prefix.TheVariants as prefix
 use Rattle.rx_ast.specs.declared.expr.Operator.{Operator}
@@ -15,13 +15,13 @@ use Rattle.rx_ast.specs.ExprView.{links_of}
 use Rattle.rx_ast.specs.Syntax.{Expr, number, variable, grouped, prefixed, chain, chosen, called, Links, no_links, link, Exprs, no_exprs, expr, exprs_of, exprs}
 use Rattle.rx_print.specs.Printing.{prefix_sign, operator_sign, in_parentheses, expr_tokens, links_tokens, exprs_tokens, more_exprs_tokens}
 use Rattle.rx_print.specs.Levels.{operand_line, or_line, whole_line, operator_line, ExprFits, LinksFit, ExprsFit}
-use Rattle.rx_grammar.specs.Steps.{Read, ◌>>=◌, next, taken, as_number, is_mark, is_lower, all_of}
-use Rattle.rx_grammar.specs.Reading.{sign_at, sign_operator, on_line, as_operator, is_some, is_operator, Inner, prefixed_at, group_at, call_at, named_at, operand_with, link_at, chain_of, line_with, choice_at, expr_with, inner_at, expr_at, operand_at, line_at}
-use Rattle.rx_grammar.proofs.Laws.{kind_rank, rank, sign_rank, Reads, said}
-use Rattle.rx_grammar.proofs.Combine.{pure, seq, after, token, alt, inside, Then, After, Or, Of, Starts, Misses, Avoids, avoids, misses_or, passed, avoids_nothing, Always, IsToken}
-use Rattle.rx_grammar.proofs.Many.{Row, row}
-use Rattle.rx_grammar.proofs.Lists.{Comma, Commas, ListTo, list}
-use Rattle.rx_grammar.proofs.Tokens.{mark, lower, numeral, mark_ranked, mark_self, sign_ranked, is_mark_is, same_sign_is}
+use Rattle.rx_grammar.specs.Steps.{◌>>=◌, taken, as_number, is_mark, is_lower}
+use Rattle.rx_grammar.specs.Reading.{behind_comma, sign_operator, on_line, as_operator, is_some, is_operator, Inner, prefixed_at, group_at, call_at, named_at, operand_with, link_at, chain_of, line_with, choice_at, expr_with, inner_at, expr_at, line_at}
+use Rattle.rx_grammar.proofs.Readings.{kind_rank, sign_rank, Reads, said}
+use Rattle.rx_grammar.proofs.Combine.{pure, seq, after, alt, inside, Then, Or, Of, Starts, Misses, avoids, avoids_nothing, IsToken}
+use Rattle.rx_grammar.proofs.Many.{Row, row, Loop, loop}
+use Rattle.rx_grammar.proofs.Lists.{Comma, Commas, list, list_loop}
+use Rattle.rx_grammar.proofs.Tokens.{mark, lower, numeral, mark_ranked, sign_ranked, is_mark_is}
 
 -- an expression of a line of the grammar with so many levels left
 abbrev pub ExprL : (line levels : ℕ) → Expr → List Kind → Type 0
@@ -294,9 +294,20 @@ module _ (o : Option Inner) (n : ℕ) (lev : Level o n) where
       (exprs_of h.4.0, h.4.5.0, g.left, c.0, let d = c.1 in cc))
       (λ t p l.
       let same = exprs_of-exprs l.0 in
-      let made : t ≡ called f (exprs_of (exprs l.0)) = l.1 ∙ ap (called f) (sym same) in
-      (tt, exprs_tokens l.0 ++ Mark sign.CloseParen ∷ [], l.4, tt, (exprs l.0, exprs_tokens l.0 ++ Mark sign.CloseParen ∷ [], [], sym (append-nil (exprs_tokens l.0 ++ Mark sign.CloseParen ∷ [])),
-      (exprs_tokens l.0, refl, commas_back (n - 1) (exprs l.0) (exprs_tokens l.0) (subst (λ z. ExprsFit z (n - 1)) (sym same) l.3) (ap exprs_tokens (sym same))), (made, refl)))))
+      let made : t ≡ called f (exprs_of (exprs l.0)) = l.1 ∙ ap (called f) (sym same) in (
+        tt,
+        exprs_tokens l.0 ++ Mark sign.CloseParen ∷ [],
+        l.4,
+        tt,
+        (
+          exprs l.0,
+          exprs_tokens l.0 ++ Mark sign.CloseParen ∷ [],
+          [],
+          sym (append-nil (exprs_tokens l.0 ++ Mark sign.CloseParen ∷ [])),
+          (exprs_tokens l.0, refl, commas_back (n - 1) (exprs l.0) (exprs_tokens l.0) (subst (λ z. ExprsFit z (n - 1)) (sym same) l.3) (ap exprs_tokens (sym same))),
+          (made, refl),
+        ),
+      )))
       (λ e a p l. absurd (omega (arith, lev.none e, l.2)))
 
   named_reads : Reads (named_at o) (Named n) 1 2 true
@@ -461,3 +472,13 @@ expr_reads n = whole_reads (inner_at n) n (level n)
 -- a line with operators
 pub test_reads : (n : ℕ) → Reads (line_at or_line n) (ExprL or_line n) 1 8 true
 test_reads n = line_reads (inner_at n) n (level n) or_line (omega arith)
+
+-- how the loops of expressions turn
+pub links_loop : (k n : ℕ) → k < or_line → Loop (is_operator (suc k)) (link_at (suc k) (line_with k (inner_at n)))
+links_loop k n small =
+    let lev = level n in
+    let below = line_reads (inner_at n) n lev k (omega arith) in
+    loop (is_operator (suc k)) (k + 3) (k + 3) (link_reads (inner_at n) n lev k small below) (link_starts (inner_at n) n lev k) (omega arith) (omega arith) (omega arith) (omega arith) (λ t h. let r = operator_ranked (suc k) t h in omega arith)
+
+pub exprs_loop : (n : ℕ) → Loop (is_mark sign.Comma) (behind_comma (expr_at n))
+exprs_loop n = list_loop sign.CloseParen (expr_reads n) (omega arith) (omega arith) (omega arith) (expr_misses sign.CloseParen whole_line n refl)

@@ -1,4 +1,4 @@
-pub mod Laws
+pub mod Readings
 pub mod Combine
 pub mod Many
 pub mod Tokens

@@ -1,14 +1,14 @@
 -- Lists with a comma between each two items.
-use Rattle.std.proofs.Common.{◌≡◌, ◌≢◌, ℕ, zero, suc, ◌+◌, ◌-◌, ◌<◌, ◌≤◌, Bool, true, false, ◌||◌, cond, ◌⊎◌, inl, inr, ⊎_elim, Option, Some, None, Ok, Err, List, [], ◌∷◌, ◌++◌, length, refl, sym, ap, ◌∙◌, subst, append_assoc, append-nil, arith}
+use Rattle.std.proofs.Common.{◌≡◌, ℕ, ◌<◌, ◌≤◌, true, inl, inr, Ok, List, [], ◌∷◌, ◌++◌, refl, sym, ap, ◌∙◌, subst, append_assoc, arith}
 use Rattle.rx_lex.specs.declared.token.Sign.{Sign}
 use Rattle.rx_lex.specs.declared.token.Sign.TheVariants as sign
 use Rattle.rx_lex.specs.declared.token.Kind.{Kind}
 use Rattle.rx_lex.specs.declared.token.Kind.TheVariants.{Mark}
 use Rattle.rx_grammar.specs.Steps.{Read, ◌>>=◌, is_mark, all_of}
 use Rattle.rx_grammar.specs.Reading.{sign_at, behind_comma, list_to}
-use Rattle.rx_grammar.proofs.Laws.{sign_rank, Reads, said}
-use Rattle.rx_grammar.proofs.Combine.{pure, seq, after, alt, Then, After, Or, Starts, Misses, avoids, Always}
-use Rattle.rx_grammar.proofs.Many.{Row, row}
+use Rattle.rx_grammar.proofs.Readings.{sign_rank, Reads, said}
+use Rattle.rx_grammar.proofs.Combine.{pure, seq, after, alt, Then, After, Or, Misses, avoids, Always}
+use Rattle.rx_grammar.proofs.Many.{Row, row, Loop, loop}
 use Rattle.rx_grammar.proofs.Tokens.{mark, mark_ranked, mark_self}
 
 -- an item behind a comma
@@ -46,7 +46,7 @@ module _ {A : Type 0} (close : Sign) (item : List Kind → Read A) (L : A → Li
   to xs p (inl (s, v, e, t, (made, nil))) = subst (λ z. ListTo close L z p) (sym made) ([], e ∙ ap (λ z. Mark close ∷ z) nil, refl)
   to xs p (inr (x, u, v, e, l, (ys, w, r, g, h, (s, z, f, t, (made, nil))))) =
       let end : p ≡ (u ++ w) ++ Mark close ∷ [] =
-          e ∙ ap (λ l. u ++ l) (g ∙ ap (λ l. w ++ l) (f ∙ ap (λ l. Mark close ∷ l) nil)) ∙ sym (append_assoc u w (Mark close ∷ [])) in
+      e ∙ ap (λ l. u ++ l) (g ∙ ap (λ l. w ++ l) (f ∙ ap (λ l. Mark close ∷ l) nil)) ∙ sym (append_assoc u w (Mark close ∷ [])) in
       subst (λ z. ListTo close L z p) (sym made) (u ++ w, end, (u, w, refl, l, h))
 
   back : (xs : List A) (p : List Kind) → ListTo close L xs p → Or (After (λ (u : Unit {0}). Mark close) Always (λ u c q. (c ≡ []) × (q ≡ []))) SomeTo xs p
@@ -70,3 +70,8 @@ module _ {A : Type 0} (close : Sign) (item : List Kind → Read A) (L : A → Li
 -- a list up to and with the sign that closes it
 pub list : {A : Type 0} (close : Sign) {item : List Kind → Read A} {L : A → List Kind → Type 0} {low mid : ℕ} → Reads item L low mid true → 1 ≤ low → mid < 10 → 10 < sign_rank close → Misses (is_mark close) L → Reads (list_to close item) (ListTo close L) 1 0 true
 list close {item} {L} {low} {mid} P least small closes misses = list_laws close item L low mid P least small closes misses
+
+-- how the loop of such a list turns
+pub list_loop : {A : Type 0} (close : Sign) {item : List Kind → Read A} {L : A → List Kind → Type 0} {low mid : ℕ} → Reads item L low mid true → 1 ≤ low → mid < 10 → 10 < sign_rank close → Misses (is_mark close) L → Loop (is_mark sign.Comma) (behind_comma item)
+list_loop close {item} {L} {low} {mid} P least small closes misses =
+    loop (is_mark sign.Comma) 10 10 (comma_reads close item L low mid P least small closes misses) (λ a p h. (Mark sign.Comma, h.0, h.1, refl)) small (omega arith) (omega arith) (omega arith) (mark_ranked sign.Comma 10 (omega arith))

@@ -1,8 +1,8 @@
 -- The laws of loops.
-use Rattle.std.proofs.Common.{◌≡◌, ◌≢◌, ℕ, zero, suc, ◌+◌, ◌-◌, ◌<◌, ◌≤◌, Bool, true, false, ◌||◌, cond, ◌⊎◌, inl, inr, ⊎_elim, Option, Some, None, Ok, Err, List, [], ◌∷◌, ◌++◌, length, drop, refl, sym, ap, ◌∙◌, subst, append_assoc, append-nil, length-append, arith}
+use Rattle.std.proofs.Common.{◌≡◌, ℕ, zero, suc, ◌+◌, ◌<◌, ◌≤◌, Bool, true, false, cond, inl, inr, ⊎_elim, Option, Some, None, Ok, Err, List, [], ◌∷◌, ◌++◌, length, refl, sym, ap, ◌∙◌, subst, append-nil, length-append, arith}
 use Rattle.rx_lex.specs.declared.token.Kind.{Kind}
 use Rattle.rx_grammar.specs.Steps.{Read, ◌>>=◌, next, many, all_of, until_with, until, until_end}
-use Rattle.rx_grammar.proofs.Laws.{kind_rank, rank, StopsAt, Reads, bind_ok, bind_err, chosen, said}
+use Rattle.rx_grammar.proofs.Readings.{kind_rank, rank, Reads, said}
 use Rattle.rx_grammar.proofs.Combine.{pure, seq, alt, Then, Or, Starts}
 
 -- phrases in a row
@@ -121,6 +121,17 @@ module _ {A : Type 0} (f : Kind → Bool) (item : List Kind → Read A) (L : A �
 pub row : {A : Type 0} (f : Kind → Bool) {item : List Kind → Read A} {L : A → List Kind → Type 0} (low high : ℕ) {first mid : ℕ} → Reads item L first mid true → Starts f L → mid < low → low ≤ first → mid ≤ high → low ≤ suc high → ((k : Kind) → f k ≡ true → kind_rank k ≤ high) → Reads (all_of f item) (Row L) low high true
 row f {item} {L} low high {first} {mid} P starts apart below under near ranked = all_laws f item L low first mid high P starts apart below under near ranked
 
+-- how a loop turns, and that each turn takes a token
+pub record Loop {A : Type 0} (f : Kind → Bool) (item : List Kind → Read A) : Type 0 where
+  pub turn : (ts : List Kind) → all_of f item ts ≡ cond (next f ts) (item ts >>= λ x. all_of f item x.1 >>= λ y. Ok (x.0 ∷ y.0, y.1)) (Ok ([], ts))
+  pub less : (ts : List Kind) (x : A × List Kind) → item ts ≡ Ok x → length x.1 < length ts
+
+pub loop : {A : Type 0} (f : Kind → Bool) {item : List Kind → Read A} {L : A → List Kind → Type 0} (low high : ℕ) {first mid : ℕ} → Reads item L first mid true → Starts f L → mid < low → low ≤ first → mid ≤ high → low ≤ suc high → ((k : Kind) → f k ≡ true → kind_rank k ≤ high) → Loop f item
+loop f {item} {L} low high {first} {mid} P starts apart below under near ranked = record {
+  turn = all_turn f item L low first mid high P starts apart below under near ranked;
+  less = shrinks P (starts_some f L starts);
+}
+
 -- what a step reads: an item, or the end
 abbrev pub Step : {A : Type 0} → (A → List Kind → Type 0) → (List Kind → Type 0) → Option A → List Kind → Type 0
 Step L E None p = E p
@@ -228,3 +239,11 @@ module _ {A : Type 0} (step : List Kind → Read (Option A)) (end : List Kind �
 -- all items up to and with their end
 pub row_to : {A : Type 0} {step : List Kind → Read (Option A)} {end : List Kind → Read (Unit {0})} (L : A → List Kind → Type 0) (E : List Kind → Type 0) → Reads step (Step L E) 1 0 true → Reads end (λ u p. E p) 1 0 true → HasToken L → Reads (until_end step end) (RowTo L E) 1 0 true
 row_to {A} {step} {end} L E P Q some = end_laws step end L E P Q some
+
+-- how a loop with an end turns, and that each turn takes a token
+pub record EndLoop {A : Type 0} (step : List Kind → Read (Option A)) (end : List Kind → Read (Unit {0})) : Type 0 where
+  pub turn : (ts : List Kind) → until_end step end ts ≡ (step ts >>= λ x. until_with x.0 x.1 (until_end step end))
+  pub less : (ts : List Kind) (a : A) (us : List Kind) → step ts ≡ Ok (Some a, us) → length us < length ts
+
+pub end_loop : {A : Type 0} {step : List Kind → Read (Option A)} {end : List Kind → Read (Unit {0})} (L : A → List Kind → Type 0) (E : List Kind → Type 0) → Reads step (Step L E) 1 0 true → Reads end (λ u p. E p) 1 0 true → HasToken L → EndLoop step end
+end_loop {A} {step} {end} L E P Q some = record { turn = end_turn step end L E P Q some; less = fewer step end L E P Q some }

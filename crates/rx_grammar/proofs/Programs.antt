@@ -1,19 +1,17 @@
 -- The laws of reading a whole program.
-use Rattle.std.proofs.Common.{◌≡◌, ◌≢◌, ℕ, zero, suc, ◌+◌, ◌-◌, ◌<◌, ◌≤◌, Bool, true, false, ◌||◌, ◌&&◌, cond, ◌⊎◌, inl, inr, ⊎_elim, Option, Some, None, Ok, Err, List, [], ◌∷◌, ◌++◌, length, drop, codes, flat_map, map, refl, sym, ap, ◌∙◌, subst, append_assoc, append-nil, length-append, arith}
+use Rattle.std.proofs.Common.{◌≡◌, ◌≢◌, ℕ, suc, true, false, ◌⊎◌, inl, inr, ⊎_elim, Some, None, Ok, Err, List, [], ◌∷◌, ◌++◌, length, refl, sym, ap, ◌∙◌, subst, append_assoc, append-nil, length-append, arith}
 use Rattle.std.proofs.lemmas.Bool.{false≢true}
-use Rattle.rx_base.specs.Values.{Name}
-use Rattle.rx_lex.specs.declared.token.Keyword.{Keyword}
-use Rattle.rx_lex.specs.declared.token.Keyword.TheVariants as word
-use Rattle.rx_lex.specs.declared.token.Sign.{Sign}
-use Rattle.rx_lex.specs.declared.token.Sign.TheVariants as sign
+use Rattle.std.specs.List.{All}
+use Rattle.std.proofs.lemmas.List.Elements.{All-head, All-tail}
 use Rattle.rx_lex.specs.declared.token.Kind.{Kind}
-use Rattle.rx_lex.specs.declared.token.Kind.TheVariants.{Upper, Lower, Number, Text, Word, Mark, End}
+use Rattle.rx_lex.specs.declared.token.Kind.TheVariants.{End}
 use Rattle.rx_ast.specs.Syntax.{Declaration, Program}
-use Rattle.rx_print.specs.Printing.{declaration_tokens, program_tokens}
-use Rattle.rx_print.specs.Levels.{level_limit, DeclarationsFit, IsGrammatical, HasTokens, BeginsProgram}
+use Rattle.rx_print.specs.Printing.{program_tokens}
+use Rattle.rx_print.specs.Levels.{level_limit, DeclarationsFit, HasTokens}
 use Rattle.rx_grammar.specs.Steps.{Read, ◌>>=◌, is_end, as_end, taken}
 use Rattle.rx_grammar.specs.Reading.{declarations_at, program_at}
-use Rattle.rx_grammar.proofs.Laws.{NoEnd, Begun, Reads, bind_ok, bind_err, same_ends}
+use Rattle.rx_grammar.specs.Stops.{StopsFirst}
+use Rattle.rx_grammar.proofs.Readings.{NoEnd, Begun, Reads, bind_ok, bind_err}
 use Rattle.rx_grammar.proofs.Combine.{taken_ok, taken_as_err, made}
 use Rattle.rx_grammar.proofs.Many.{Row}
 use Rattle.rx_grammar.proofs.Declarations.{DeclarationL, declarations_read, declarations_to, declarations_back}
@@ -168,3 +166,24 @@ one_program p q ks h g =
     let second = program_complete level_limit q [] g.0 in
     let same : program_tokens p ++ End ∷ [] ≡ program_tokens q ++ End ∷ [] = sym h.1 ∙ g.1 in
     ap (λ z. z.0) (made (p, []) (q, []) (sym first ∙ (ap (program_at level_limit) same ∙ second)))
+
+pub read_has_tokens : (p : Program) (ks rest : List Kind) → program_at level_limit ks ≡ Ok (p, rest) → (front : List Kind) × HasTokens p front × (ks ≡ front ++ rest)
+read_has_tokens p ks rest h =
+    let s = program_sound level_limit ks (p, rest) h in
+    (program_tokens p ++ End ∷ [], (s.0, refl), s.1 ∙ sym (append_assoc (program_tokens p) (End ∷ []) rest))
+
+pub has_tokens_read : (p : Program) (ks : List Kind) → HasTokens p ks → program_at level_limit ks ≡ Ok (p, [])
+has_tokens_read p ks h = ap (program_at level_limit) h.1 ∙ program_complete level_limit p [] h.0
+
+not_end : (k : Kind) → k ≢ End → is_end k ≡ false
+not_end End h = absurd (h refl)
+not_end _ h = refl
+
+all_free : (ks : List Kind) → All (λ k. k ≢ End) ks → NoEnd ks
+all_free [] h = tt
+all_free (k ∷ ks) h = (not_end k (All-head (λ k. k ≢ End) k ks h), all_free ks (All-tail (λ k. k ≢ End) k ks h))
+
+pub stops_first : (front : List Kind) (left : ℕ) → All (λ k. k ≢ End) front → program_at level_limit (front ++ End ∷ []) ≡ Err left → StopsFirst (front ++ End ∷ []) left
+stops_first front left free h =
+    let f = program_fault level_limit (front ++ End ∷ []) left (record { front = front; free = all_free front free; whole = refl }) h in
+    record { before = f.before; token = f.token; after = f.after; split = f.split; count = f.count; begins = f.begins; stops = f.stops }

@@ -1,27 +1,26 @@
 -- The laws of reading slots.
-use Rattle.std.proofs.Common.{◌≡◌, ◌≢◌, ℕ, zero, suc, ◌+◌, ◌-◌, ◌<◌, ◌≤◌, Bool, true, false, ◌||◌, ◌&&◌, cond, ◌⊎◌, inl, inr, ⊎_elim, Option, Some, None, Ok, Err, List, [], ◌∷◌, ◌++◌, length, drop, codes, flat_map, refl, sym, ap, ◌∙◌, subst, append_assoc, append-nil, length-append, arith}
+use Rattle.std.proofs.Common.{◌≡◌, ℕ, zero, suc, ◌-◌, ◌<◌, Bool, true, false, cond, inl, inr, Option, Some, None, Ok, Err, List, [], ◌∷◌, ◌++◌, length, refl, sym, ap, ◌∙◌, subst, append_assoc, append-nil, arith}
 use Rattle.std.proofs.lemmas.Bool.{false≢true}
 use Rattle.rx_base.specs.Values.{Name}
 use Rattle.rx_lex.specs.declared.token.Keyword.{Keyword}
 use Rattle.rx_lex.specs.declared.token.Keyword.TheVariants as word
-use Rattle.rx_lex.specs.declared.token.Sign.{Sign}
 use Rattle.rx_lex.specs.declared.token.Sign.TheVariants as sign
 use Rattle.rx_lex.specs.declared.token.Kind.{Kind}
-use Rattle.rx_lex.specs.declared.token.Kind.TheVariants.{Upper, Lower, Number, Text, Word, Mark, End}
+use Rattle.rx_lex.specs.declared.token.Kind.TheVariants.{Number, Text, Word, Mark}
 use Rattle.rx_ast.specs.declared.expr.Prefix.TheVariants as prefix
 use Rattle.rx_ast.specs.Syntax as syntax
 use Rattle.rx_ast.specs.Syntax.{Expr, number, variable, grouped, prefixed, chain, chosen, called, Slot, parentheses, braces, enclosed, null, words, number_of, repeated, choice}
-use Rattle.rx_print.specs.Printing.{in_parentheses, expr_tokens, links_tokens, slot_tokens}
-use Rattle.rx_print.specs.Levels.{or_line, whole_line, ExprFits, SlotFits, Place, of_slot, of_child, of_element}
-use Rattle.rx_grammar.specs.Steps.{Read, ◌>>=◌, next, is_mark, is_word, is_text, taken, as_word, as_text, all_of, within}
-use Rattle.rx_grammar.specs.Reading.{sign_at, Inner, is_operator, link_at, chain_of, operand_with, line_with, line_at, inner_at, expr_at, SlotInner, children_with, element_with, element_at, enclosed_at, repeated_at, slot_choice_at, shown_at, plain_with, next_two, slot_with, slot_inner, slot_at, children_at, element_behind}
-use Rattle.rx_grammar.proofs.Laws.{kind_rank, rank, Reads, said}
-use Rattle.rx_grammar.proofs.Combine.{pure, seq, after, alt, inside, Then, After, Or, Starts, Misses, avoids, avoids_nothing, misses_or, Always}
-use Rattle.rx_grammar.proofs.Many.{HasToken}
-use Rattle.rx_grammar.proofs.Tokens.{mark, reserved, lower, numeral, quoted, mark_ranked, mark_self}
+use Rattle.rx_print.specs.Printing.{expr_tokens, links_tokens, slot_tokens}
+use Rattle.rx_print.specs.Levels.{or_line, whole_line, SlotFits, of_slot, of_child, of_element}
+use Rattle.rx_grammar.specs.Steps.{◌>>=◌, next, is_mark, is_word, is_text, taken, as_word, as_text, all_of}
+use Rattle.rx_grammar.specs.Reading.{sign_at, close_at, child_at, is_operator, link_at, chain_of, operand_with, line_with, line_at, expr_at, SlotInner, element_at, repeated_at, slot_choice_at, shown_at, plain_with, next_two, slot_with, slot_inner, slot_at, children_at, element_behind}
+use Rattle.rx_grammar.proofs.Readings.{rank, Reads, said}
+use Rattle.rx_grammar.proofs.Combine.{pure, seq, after, alt, inside, Then, Or, Misses, avoids, avoids_nothing, misses_or}
+use Rattle.rx_grammar.proofs.Many.{HasToken, EndLoop, end_loop}
+use Rattle.rx_grammar.proofs.Tokens.{mark, reserved, lower, numeral, quoted, mark_ranked}
 use Rattle.rx_grammar.proofs.Two.{Behind, two}
 use Rattle.rx_grammar.proofs.Exprs.{ExprL, begins_operand, expr_begins, other_sign, expr_reads, test_reads}
-use Rattle.rx_grammar.proofs.Elements.{SlotL, ElementL, TagL, ChildrenL, SlotDeeper, SlotLevel, element_reads, tag_whole_reads, tag_slot, is_element, slot_tag, children_reads}
+use Rattle.rx_grammar.proofs.Elements.{SlotL, ElementL, TagL, ChildrenL, SlotDeeper, SlotLevel, element_reads, tag_whole_reads, tag_slot, is_element, slot_tag, Close, close_reads, child_reads, child_has_token, children_reads}
 
 -- no operand begins with a reserved word or a text
 pub word_other : (w : Keyword) (k : Kind) → begins_operand k ≡ true → is_word w k ≡ false
@@ -317,3 +316,10 @@ slot_level (suc n) = record { some = deeper (slot_level n); none = λ e. absurd 
           opened = subst (λ k. Reads (element_at (slot_inner n)) (TagL k) 5 0 false) pred (tag_whole_reads (slot_inner n) n lev);
           children = subst (λ k. Reads (children_at n) (ChildrenL k) 1 0 true) pred K;
         })
+
+-- how the loop of children turns
+pub children_loop : (n : ℕ) → EndLoop (child_at (slot_inner n) (slot_at n)) close_at
+children_loop n =
+    let lev = slot_level n in
+    let S = slot_reads (slot_inner n) n lev in
+    end_loop (SlotL of_child n) Close (child_reads (slot_inner n) n lev (slot_at n) S) close_reads (child_has_token (slot_inner n) n lev (slot_at n) S)

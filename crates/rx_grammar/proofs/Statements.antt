@@ -1,26 +1,25 @@
 -- The laws of reading statements.
-use Rattle.std.proofs.Common.{◌≡◌, ◌≢◌, ℕ, zero, suc, ◌+◌, ◌-◌, ◌<◌, ◌≤◌, Bool, true, false, ◌||◌, ◌&&◌, cond, ◌⊎◌, inl, inr, ⊎_elim, Option, Some, None, Ok, Err, List, [], ◌∷◌, ◌++◌, length, drop, codes, flat_map, map, refl, sym, ap, ◌∙◌, subst, append_assoc, append-nil, length-append, arith}
+use Rattle.std.proofs.Common.{◌≡◌, ◌≢◌, ℕ, ◌≤◌, Bool, true, false, ◌||◌, ◌&&◌, ◌⊎◌, inl, inr, ⊎_elim, Some, List, [], ◌∷◌, ◌++◌, codes, flat_map, refl, sym, ap, ◌∙◌, subst, append_assoc, append-nil, arith}
 use Rattle.std.proofs.lemmas.Bool.{false≢true}
 use Rattle.rx_base.specs.Values.{Name}
 use Rattle.rx_lex.specs.declared.token.Keyword.{Keyword}
 use Rattle.rx_lex.specs.declared.token.Keyword.TheVariants as word
-use Rattle.rx_lex.specs.declared.token.Sign.{Sign}
 use Rattle.rx_lex.specs.declared.token.Sign.TheVariants as sign
 use Rattle.rx_lex.specs.declared.token.Kind.{Kind}
-use Rattle.rx_lex.specs.declared.token.Kind.TheVariants.{Upper, Lower, Number, Text, Word, Mark, End}
+use Rattle.rx_lex.specs.declared.token.Kind.TheVariants.{Upper, Lower, Text, Word, Mark}
 use Rattle.std.specs.List.{list_all}
 use Rattle.rx_lex.specs.Tokens.{IsRun, is_word_byte}
 use Rattle.rx_ast.specs.Syntax.{Expr, exprs_of, Statement, state, reducer, context, use_resource, constant, effect}
-use Rattle.rx_print.specs.Printing.{in_parentheses, expr_tokens, exprs_tokens, binding, pair_binding, effect_word, statement_tokens}
+use Rattle.rx_print.specs.Printing.{expr_tokens, exprs_tokens, statement_tokens}
 use Rattle.rx_print.specs.Levels.{whole_line, ExprFits, ExprsFit, StatementFits, StatementsFit}
-use Rattle.rx_grammar.specs.Steps.{Read, ◌>>=◌, next, is_mark, is_word, taken, as_word, as_lower, as_upper, as_text, all_of}
-use Rattle.rx_grammar.specs.Reading.{sign_at, expr_at, list_to, is_resource, where_resource, as_resource, argument_at, hook_at, pair_at, value_statement, const_at, effect_at, statement_at, is_statement, statements_at}
-use Rattle.rx_grammar.proofs.Laws.{kind_rank, rank, Reads, said}
-use Rattle.rx_grammar.proofs.Combine.{pure, seq, after, alt, Then, After, Or, Starts, Misses, avoids, misses_or, Always, IsToken}
-use Rattle.rx_grammar.proofs.Many.{Row, row}
-use Rattle.rx_grammar.proofs.Tokens.{mark, reserved, lower, upper, quoted, mark_ranked, word_ranked, is_word_is}
-use Rattle.rx_grammar.proofs.Lists.{ListTo, list}
-use Rattle.rx_grammar.proofs.Exprs.{ExprL, begins_operand, expr_begins, expr_misses, expr_reads, commas_to, commas_back}
+use Rattle.rx_grammar.specs.Steps.{is_mark, is_word}
+use Rattle.rx_grammar.specs.Reading.{is_resource, where_resource, as_resource, argument_at, hook_at, pair_at, value_statement, const_at, effect_at, statement_at, is_statement, statements_at}
+use Rattle.rx_grammar.proofs.Readings.{kind_rank, Reads, said}
+use Rattle.rx_grammar.proofs.Combine.{pure, seq, after, alt, After, Or, Starts, Misses, avoids, misses_or, Always, IsToken}
+use Rattle.rx_grammar.proofs.Many.{Row, row, Loop, loop}
+use Rattle.rx_grammar.proofs.Tokens.{mark, reserved, lower, upper, quoted, word_ranked}
+use Rattle.rx_grammar.proofs.Lists.{list}
+use Rattle.rx_grammar.proofs.Exprs.{expr_begins, expr_misses, expr_reads, commas_to, commas_back}
 use Rattle.rx_grammar.proofs.Slots.{word_other}
 
 -- a statement with so many levels left
@@ -258,3 +257,7 @@ statements_to n (s ∷ ss) p (u, v, e, l, h) = let r = statements_to n ss v h in
 pub statements_back : (n : ℕ) (ss : List Statement) → StatementsFit ss n → Row (StatementL n) ss (flat_map statement_tokens ss)
 statements_back n [] h = refl
 statements_back n (s ∷ ss) h = (statement_tokens s, flat_map statement_tokens ss, refl, (h.0, refl), statements_back n ss h.1)
+
+-- how the loop of statements turns
+pub statements_loop : (n : ℕ) → Loop is_statement (statement_at n)
+statements_loop n = loop is_statement 1 1 (statement_reads n) (statement_starts n) (omega arith) (omega arith) (omega arith) (omega arith) statement_ranked

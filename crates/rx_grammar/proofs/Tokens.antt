@@ -1,7 +1,5 @@
 -- The tokens that are taken, and what each stands for.
-use Rattle.std.proofs.Common.{◌≡◌, ◌≢◌, ℕ, zero, suc, ◌+◌, ◌<◌, ◌≤◌, ◌==◌, Bool, true, false, cond, Option, Some, None, List, [], ◌∷◌, ◌++◌, get_or, eqb-true, eq-eqb, refl, sym, ap, ◌∙◌, subst, arith}
-use Rattle.std.specs.Str.{bytes_eq}
-use Rattle.std.specs.List.{list_all}
+use Rattle.std.proofs.Common.{◌≡◌, ℕ, ◌≤◌, Bool, true, false, Some, List, [], ◌∷◌, get_or, eqb-true, eq-eqb, refl, sym, ap, ◌∙◌, subst, arith}
 use Rattle.std.proofs.lemmas.Bool.{false≢true}
 use Rattle.std.proofs.lemmas.Slice.Eq.{bytes_eq-Decides}
 use Rattle.rx_base.specs.Values.{Name}
@@ -10,10 +8,10 @@ use Rattle.rx_lex.specs.declared.token.Keyword.TheVariants as word
 use Rattle.rx_lex.specs.declared.token.Sign.{Sign}
 use Rattle.rx_lex.specs.declared.token.Sign.TheVariants as sign
 use Rattle.rx_lex.specs.declared.token.Kind.{Kind}
-use Rattle.rx_lex.specs.declared.token.Kind.TheVariants.{Upper, Lower, Number, Text, Word, Mark, End}
+use Rattle.rx_lex.specs.declared.token.Kind.TheVariants.{Upper, Lower, Number, Text, Word, Mark}
 use Rattle.rx_lex.specs.Tokens.{sign_number, same_sign, keyword_number, same_keyword}
-use Rattle.rx_grammar.specs.Steps.{is_mark, is_word, is_end, is_lower, is_text, where_true, as_mark, as_word, as_lower, as_upper, as_number, as_text, is_lower_name, is_upper_name, as_lower_name, as_upper_name}
-use Rattle.rx_grammar.proofs.Laws.{sign_rank, word_rank, kind_rank}
+use Rattle.rx_grammar.specs.Steps.{is_mark, is_word, where_true, as_mark, as_word, as_lower, as_upper, as_number, as_text, is_lower_name, is_upper_name, as_lower_name, as_upper_name}
+use Rattle.rx_grammar.proofs.Readings.{sign_rank, word_rank, kind_rank}
 use Rattle.rx_grammar.proofs.Combine.{IsToken, Always}
 
 -- the signs by their numbers

@@ -1,16 +1,11 @@
 -- A choice that looks at two tokens.
-use Rattle.std.proofs.Common.{◌≡◌, ◌≢◌, ℕ, zero, suc, ◌+◌, ◌-◌, ◌<◌, ◌≤◌, Bool, true, false, ◌||◌, ◌&&◌, cond, ◌⊎◌, inl, inr, ⊎_elim, Option, Some, None, Ok, Err, List, [], ◌∷◌, ◌++◌, length, drop, codes, flat_map, refl, sym, ap, ◌∙◌, subst, append_assoc, append-nil, length-append, arith}
-use Rattle.std.proofs.lemmas.Bool.{false≢true}
-use Rattle.rx_base.specs.Values.{Name}
-use Rattle.rx_lex.specs.declared.token.Keyword.{Keyword}
-use Rattle.rx_lex.specs.declared.token.Keyword.TheVariants as word
+use Rattle.std.proofs.Common.{◌≡◌, ℕ, suc, ◌<◌, ◌≤◌, Bool, true, false, ◌&&◌, cond, inl, inr, ⊎_elim, Option, Some, None, Ok, Err, List, [], ◌∷◌, ◌++◌, length, refl, sym, ap, ◌∙◌, subst, length-append, arith}
 use Rattle.rx_lex.specs.declared.token.Sign.{Sign}
-use Rattle.rx_lex.specs.declared.token.Sign.TheVariants as sign
 use Rattle.rx_lex.specs.declared.token.Kind.{Kind}
-use Rattle.rx_lex.specs.declared.token.Kind.TheVariants.{Upper, Lower, Number, Text, Word, Mark, End}
+use Rattle.rx_lex.specs.declared.token.Kind.TheVariants.{Mark}
 use Rattle.rx_grammar.specs.Steps.{Read, ◌>>=◌, fault_at, next, is_mark, taken_as, where_true, within}
 use Rattle.rx_grammar.specs.Reading.{sign_at, next_two}
-use Rattle.rx_grammar.proofs.Laws.{kind_rank, rank, sign_rank, NoEnd, Begun, StopsAt, Reads, bind_ok, chosen}
+use Rattle.rx_grammar.proofs.Readings.{rank, NoEnd, StopsAt, Reads, bind_ok, chosen}
 use Rattle.rx_grammar.proofs.Combine.{token, Or, Starts}
 use Rattle.rx_grammar.proofs.Many.{HasToken}
 use Rattle.rx_grammar.proofs.Tokens.{mark, mark_self, sign_ranked, is_mark_is}

@@ -1,5 +1,5 @@
 -- How each part of a program is read.
-use Rattle.std.specs.Prelude.{◌≡◌, ℕ, zero, suc, ◌-◌, ◌==◌, ◌&&◌, ◌||◌, not, Bool, true, false, if◌then◌else◌, List, [], ◌∷◌, length, drop, codes, Option, Some, None, Result, Ok, Err}
+use Rattle.std.specs.Prelude.{ℕ, zero, suc, ◌-◌, ◌==◌, ◌&&◌, ◌||◌, Bool, true, false, if◌then◌else◌, List, [], ◌∷◌, drop, codes, Option, Some, None, Ok}
 use Rattle.std.specs.List.{list_all}
 use Rattle.rx_base.specs.Values.{Name}
 use Rattle.rx_lex.specs.declared.token.Keyword.TheVariants as word
@@ -14,14 +14,14 @@ use Rattle.rx_ast.specs.declared.expr.Operator.{Operator}
 use Rattle.rx_ast.specs.declared.expr.Operator.TheVariants as operator
 use Rattle.rx_ast.specs.declared.expr.Link.{Link}
 use Rattle.rx_ast.specs.ExprView.{links_of}
-use Rattle.rx_ast.specs.Syntax.{Expr, number, variable, grouped, prefixed, chain, chosen, called, Links, no_links, link, exprs_of}
+use Rattle.rx_ast.specs.Syntax.{Expr, number, variable, grouped, prefixed, chain, chosen, called, exprs_of}
 use Rattle.rx_ast.specs.Syntax.{Attribute, key, computed, literal, KeyPlace, unkeyed, key_first, key_last, at_once, by_tag, parentheses, braces}
 use Rattle.rx_ast.specs.Syntax.{Slot, null, words, number_of, children, repeated, choice, enclosed, no_slots, slots_of}
 use Rattle.rx_ast.specs.Syntax.{Body, single, fragment, enclosed_fragment, Statement, state, reducer, context, use_resource, constant, effect}
 use Rattle.rx_ast.specs.Syntax.{Line, Parameter, integer, given_children, Declaration, of_context, of_function, of_component, Program}
 use Rattle.rx_print.specs.Printing.{prefix_sign}
-use Rattle.rx_print.specs.Levels.{operator_line, or_line, level_limit}
-use Rattle.rx_grammar.specs.Steps.{Read, ◌>>=◌, fault_at, next, taken, is_mark, is_word, is_lower, is_text, as_mark, as_word, as_end, as_lower, as_upper, as_number, as_text, as_lower_name, as_upper_name, all_of, within, until_end}
+use Rattle.rx_print.specs.Levels.{operator_line, or_line}
+use Rattle.rx_grammar.specs.Steps.{Read, ◌>>=◌, next, taken, is_mark, is_word, is_lower, is_text, as_mark, as_word, as_end, as_lower, as_upper, as_number, as_text, as_lower_name, as_upper_name, all_of, within, until_end}
 use Rattle.rx_grammar.specs.Openings.{Opening, host_tag, component_tag, boundary_tag, provider_tag, element}
 
 -- this sign

@@ -1,5 +1,5 @@
 -- The steps of reading: what is read at the front of a list of tokens with the tokens behind it, or how many tokens are left at the first fault.
-use Rattle.std.specs.Prelude.{◌≡◌, ℕ, zero, suc, Bool, true, false, if◌then◌else◌, List, [], ◌∷◌, length, drop, Option, Some, None, Result, Ok, Err}
+use Rattle.std.specs.Prelude.{ℕ, zero, suc, Bool, true, false, if◌then◌else◌, List, [], ◌∷◌, length, Option, Some, None, Result, Ok, Err}
 use Rattle.std.specs.Str.{bytes_eq}
 use Rattle.rx_base.specs.Values.{Name}
 use Rattle.rx_lex.specs.declared.token.Keyword.{Keyword}
@@ -13,7 +13,6 @@ abbrev pub Read : Type 0 → Type 0
 Read A = Result (A × List Kind) ℕ
 
 infixl 10 ◌>>=◌
-
 -- one step, and what is read behind it
 abbrev pub ◌>>=◌ : {A B : Type 0} → Read A → (A × List Kind → Read B) → Read B
 (Ok x) >>= f = f x

@@ -1,4 +1,4 @@
-//! The grammar as it is read: what stands at the front of a list of tokens, and the laws of that.
+//! The grammar as it is read: which program stands at the front of a list of tokens, and at which token none goes on.
 #![tactic(auto)]
 
-use rx_ast::Program;
+pub mod laws;

@@ -1,12 +1,12 @@
 -- The laws of a reading, and how those of its steps make them.
-use Rattle.std.proofs.Common.{◌≡◌, ◌≢◌, ℕ, zero, suc, ◌+◌, ◌-◌, ◌<◌, ◌≤◌, Bool, true, false, ◌||◌, cond, ◌⊎◌, inl, inr, ⊎_elim, Option, Some, None, Ok, Err, List, [], ◌∷◌, ◌++◌, length, drop, refl, sym, ap, ◌∙◌, subst, append_assoc, append-nil, length-append, arith}
+use Rattle.std.proofs.Common.{◌≡◌, ℕ, suc, ◌<◌, ◌≤◌, Bool, true, false, cond, ◌⊎◌, inl, inr, ⊎_elim, Ok, Err, List, [], ◌∷◌, ◌++◌, length, refl, sym, ap, ◌∙◌, length-append, arith}
 use Rattle.rx_lex.specs.declared.token.Keyword.{Keyword}
 use Rattle.rx_lex.specs.declared.token.Keyword.TheVariants as word
 use Rattle.rx_lex.specs.declared.token.Sign.{Sign}
 use Rattle.rx_lex.specs.declared.token.Sign.TheVariants as sign
 use Rattle.rx_lex.specs.declared.token.Kind.{Kind}
-use Rattle.rx_lex.specs.declared.token.Kind.TheVariants.{Upper, Lower, Number, Text, Word, Mark, End}
-use Rattle.rx_grammar.specs.Steps.{Read, ◌>>=◌, fault_at, next, is_end, taken, taken_as}
+use Rattle.rx_lex.specs.declared.token.Kind.TheVariants.{Lower, Word, Mark}
+use Rattle.rx_grammar.specs.Steps.{Read, ◌>>=◌, is_end}
 
 -- A number for each sign: a phrase goes on with tokens of a low one only.
 abbrev pub sign_rank : Sign → ℕ
@@ -126,7 +126,12 @@ said M below above h down up to back = record {
   fails = h.fails;
   stops = λ ts m g.
       let s = h.stops ts m g in
-      record { before = s.before; left = s.left; split = s.split; count = s.count;
-        begun = ⊎_elim (λ w. inl w) (λ w. inr (w.0, w.1, to w.0 (s.before ++ w.1) w.2)) s.begun };
+      record {
+        before = s.before;
+        left = s.left;
+        split = s.split;
+        count = s.count;
+        begun = ⊎_elim (λ w. inl w) (λ w. inr (w.0, w.1, to w.0 (s.before ++ w.1) w.2)) s.begun;
+      };
   some = λ f. let s = h.some f in (s.0, s.1, to s.0 s.1 s.2);
 }
