@@ -2,7 +2,7 @@
 ghost use Rattle.std.specs.Prelude.{◌≡◌, drop};
 ghost use Rattle.std.specs.List.{list_all};
 ghost use Rattle.rx_lex.specs.Tokens.{kinds, is_word_byte};
-ghost use Rattle.rx_grammar.specs.Steps.{next, taken, is_mark, is_word, is_lower, is_text, as_word, as_lower, as_upper, as_number, as_text, as_lower_name, as_upper_name};
+ghost use Rattle.rx_grammar.specs.Steps.{next, taken, is_mark, is_word, is_lower, is_text, as_word, as_lower, as_upper, as_number, as_text, as_lower_name, as_upper_name, as_end};
 ghost use Rattle.rx_grammar.specs.Reading.{sign_at, is_resource, as_resource, next_two};
 ghost use Rattle.rx_parse.specs.Results.{Gives};
 
@@ -213,6 +213,19 @@ pub(crate) fn resource<'a>(alloc: Global, rest: &'a [Token]) -> Result<(Name, &'
     };
     match &token.kind {
         Kind::Text(name) if is_resource(name.text()) => Ok((Name::new(alloc, name.text())?, after)),
+        _ => Err(Fault::Syntax(rest.len())),
+    }
+}
+
+/// What follows the end mark.
+pub(crate) fn expect_end(rest: &[Token]) -> Result<&[Token], Fault>
+    ensures { Gives (λ r. (tt, kinds r.now)) result (taken as_end (kinds rest.now)) }
+{
+    let Some((token, after)) = rest.split_first() else {
+        return Err(Fault::Syntax(0));
+    };
+    match &token.kind {
+        Kind::End => Ok(after),
         _ => Err(Fault::Syntax(rest.len())),
     }
 }
