@@ -92,7 +92,7 @@ pub(crate) fn attributes<'a>(
 {
     let mut attributes = Vec::new(alloc);
     let mut rest = rest;
-    'attributes: while next_is_attribute(rest) {
+    while next_is_attribute(rest) {
         let (attribute, after) = attribute(alloc, rest, level, host)?;
         attributes.push(attribute)?;
         rest = after;

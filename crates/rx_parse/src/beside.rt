@@ -9,8 +9,8 @@ pub(crate) fn closed<'a, T: Drop>(
     part: T,
     rest: Result<&'a [Token], Fault>,
 ) -> Result<(T, &'a [Token]), Fault>
-    ensures ok { IfOk rest (λ r. result ≡ Ok (part, r)) }
-    ensures err { IfErr rest (λ e. result ≡ Err e) }
+    ensures ok { IfOk rest.entry (λ r. result ≡ Ok (part, r)) }
+    ensures err { IfErr rest.entry (λ e. result ≡ Err e) }
 {
     match rest {
         Ok(rest) => Ok((part, rest)),
@@ -23,8 +23,8 @@ pub(crate) fn beside<'a, T: Drop, U: Drop>(
     first: T,
     second: Result<(U, &'a [Token]), Fault>,
 ) -> Result<(T, U, &'a [Token]), Fault>
-    ensures ok { IfOk second (λ x. result ≡ Ok (first, x.0, x.1)) }
-    ensures err { IfErr second (λ e. result ≡ Err e) }
+    ensures ok { IfOk second.entry (λ x. result ≡ Ok (first, x.0, x.1)) }
+    ensures err { IfErr second.entry (λ e. result ≡ Err e) }
 {
     match second {
         Ok((second, rest)) => Ok((first, second, rest)),

@@ -58,7 +58,7 @@ fn more_names<'a>(
     ensures { Gives (λ x. (names.new.items, kinds x.now)) result (in_front names.old.items (all_of (is_mark sign.Comma) (behind_comma (taken as_lower)) (kinds rest.now))) }
 {
     let mut rest = rest;
-    'names: while next_is(rest, Sign::Comma) {
+    while next_is(rest, Sign::Comma) {
         let behind = expect(rest, Sign::Comma)?;
         let (next, after) = lower(alloc, behind)?;
         names.push(next)?;
@@ -136,7 +136,7 @@ fn more_parameters<'a>(
     ensures { Gives (λ x. (parameters.new.items, kinds x.now)) result (in_front parameters.old.items (all_of (is_mark sign.Comma) (behind_comma parameter_at) (kinds rest.now))) }
 {
     let mut rest = rest;
-    'parameters: while next_is(rest, Sign::Comma) {
+    while next_is(rest, Sign::Comma) {
         let behind = expect(rest, Sign::Comma)?;
         let (next, after) = parameter(alloc, behind)?;
         parameters.push(next)?;
@@ -254,7 +254,7 @@ pub(crate) fn declarations<'a>(
 {
     let mut declarations = Vec::new(alloc);
     let mut rest = rest;
-    'declarations: while next_is_declaration(rest) {
+    while next_is_declaration(rest) {
         let (declaration, after) = declaration(alloc, rest, level)?;
         declarations.push(declaration)?;
         rest = after;

@@ -146,7 +146,7 @@ pub(crate) fn children<'a>(
 {
     let mut children = Vec::new(alloc);
     let mut rest = rest;
-    'children: loop {
+    loop {
         let (child, after) = child(alloc, rest, level)?;
         rest = after;
         let Some(child) = child else {

@@ -181,7 +181,7 @@ pub(crate) fn statements<'a>(
 {
     let mut statements = Vec::new(alloc);
     let mut rest = rest;
-    'statements: while next_is_statement(rest) {
+    while next_is_statement(rest) {
         let (statement, after) = statement(alloc, rest, level)?;
         statements.push(statement)?;
         rest = after;
@@ -216,7 +216,7 @@ pub(crate) fn lines<'a>(
 {
     let mut lines = Vec::new(alloc);
     let mut rest = rest;
-    'lines: while next_is_word(rest, Keyword::Const) {
+    while next_is_word(rest, Keyword::Const) {
         let (line, after) = function_line(alloc, rest, level)?;
         lines.push(line)?;
         rest = after;
