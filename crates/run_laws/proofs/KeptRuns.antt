@@ -1,5 +1,5 @@
 -- What each step keeps of lanes, updates and resources, in each state of a run.
-use Rattle.std.specs.Prelude.{Bool, IfSome, List, None, Option, Some, [], false, if◌then◌else◌, is_none, nat_eq, option_map, refl, suc, true, zero, ℕ, ℤ, ◌&&◌, ◌||◌, ◌++◌, ◌∷◌, ◌≡◌, ◌≤◌}
+use Rattle.std.specs.Prelude.{Bool, IfSome, List, None, Option, Some, [], false, if◌then◌else◌, is_none, nat_eq, option_map, refl, true, ℕ, ℤ, ◌&&◌, ◌||◌, ◌++◌, ◌∷◌, ◌≡◌, ◌≤◌}
 use Rattle.std.proofs.Common.{ap, inl, inr, subst, sym, ◌∙◌}
 use Rattle.rx_ast.specs.Syntax.{Program}
 use Rattle.rx_base.specs.Awaits.{Awaits}
@@ -23,12 +23,11 @@ use Rattle.rx_lane.specs.Lanes.{Lanes, has, lanes_where, minus, no_lanes, one, o
 use Rattle.rx_lane.specs.SetLaws.{has-lanes_where}
 use Rattle.rx_lane.specs.declared.lane.Lane.{Lane}
 use Rattle.rx_lane.specs.declared.lane.Lane.TheVariants as lane
-use Rattle.rx_model.specs.Accepting.{accepted, between_events, dispatched, dispatched_for, dispatched_to, lane_of, next_update, op_of, resolved, resolved_as, target_of, with_linked, with_transition}
+use Rattle.rx_model.specs.Accepting.{accepted, dispatched_for, dispatched_to, lane_of, next_update, op_of, resolved_as, target_of, with_linked, with_transition}
 use Rattle.rx_model.specs.Committing.{committed_state, ended, ended_by, passive_run, sight_of, starting}
 use Rattle.rx_model.specs.Kept.{IsSet, NoUpdateIsLost}
 use Rattle.rx_model.specs.Laws.{IsReached}
-use Rattle.rx_model.specs.Machine.{FlushSync, Flushes, RunTo, StepTo}
-use Rattle.rx_model.specs.State.{Progress, State, instance_found, linked_lanes, opening}
+use Rattle.rx_model.specs.State.{Progress, State, linked_lanes, opening}
 use Rattle.rx_model.specs.Stretch.{Stretch, followed_by, silent}
 use Rattle.rx_model.specs.Turns.{Continues, GoesOn, TurnBy, choice_of, gone_on}
 use Rattle.rx_queue.specs.Journal.{Posted, Resolution, Target, has_later, resolved_by, resolved_now, resolved_since}
@@ -37,18 +36,17 @@ use Rattle.rx_report.specs.Report.{Counts}
 use Rattle.rx_sched.specs.Schedule.{Schedule, after_deferral, after_update, become_pending, claimed, linked, wake}
 use Rattle.rx_sched.specs.declared.choice.Choice.{Choice}
 use Rattle.rx_sched.specs.declared.choice.Choice.TheVariants as choice
-use Rattle.rx_script.specs.Steps.{path_of, word_of}
+use Rattle.rx_script.specs.Steps.{word_of}
 use Rattle.rx_script.specs.declared.step.Dispatch.{Dispatch}
 use Rattle.rx_script.specs.declared.step.LaneWord.{LaneWord}
 use Rattle.rx_script.specs.declared.step.LaneWord.TheVariants as word
-use Rattle.rx_script.specs.declared.step.Step.{Step}
-use Rattle.rx_script.specs.declared.step.Step.TheVariants as step
 use Rattle.commit_laws.proofs.NewlyHidden.{awaited_open, committed_open, deferred_open}
 use Rattle.commit_laws.proofs.NoneLost.{commit_none_lost, more_pending, one_itself, push_pending, union_left, union_right}
-use Rattle.run_laws.proofs.AlongRuns.{commit_is, opening_carries, step_keeps, turn_keeps}
+use Rattle.run_laws.proofs.AlongRuns.{commit_is, dispatched_keeps, opening_carries, resolved_keeps, turn_keeps}
 use Rattle.run_laws.proofs.Carrying.{start_renders}
 use Rattle.run_laws.proofs.DueLanes.{DueIn, due_more, set_of, start_due}
 use Rattle.run_laws.proofs.Keeping.{Numbered, Retries, Waits, commit_retries, commit_waits, deferral_waits, marked_numbered, more_waits, none_waits, now_stays, push_numbered, resolution_retries}
+use Rattle.run_laws.proofs.Walk.{holds_along, same_after}
 use Rattle.run_laws.specs.Carried.{Carries, IsCarried, RendersOn}
 
 -- what is kept of lanes, updates and resources
@@ -56,9 +54,6 @@ abbrev pub Keeps : State → Type 0
 Keeps s =
     IsSet s.schedule.pending × Numbered s.journal.updates × NoUpdateIsLost s × Waits s.schedule s.journal × Retries s.tree s.schedule.pending s.journal
     × IfSome s.progress (λ g. DueIn s.schedule g.lanes)
-
-same_kept : (r q : Stretch) → r ≡ q → Keeps q.after → Keeps r.after
-same_kept r q e kept = subst (λ (x : Stretch). Keeps x.after) (sym e) kept
 
 opening_kept : Keeps opening
 opening_kept = (
@@ -284,58 +279,38 @@ module _ (p : Program) (deep : depth_bound p ≤ depth_limit) (declared : ReadsD
       → (resources : List (Option ℤ)) (last : Cut) → Carries p s.journal s.numbers s.tree resources last → RendersOn p s.journal resources last g.lanes g.cut
       → DueIn s.schedule g.lanes → Keeps s → Keeps r.after
   going_kept s g budget r (inl f) resources last c on due h =
-      same_kept r (ended s g f.counts f.tree) f.stretch_is (ended_kept s g f.counts f.tree f.rendered resources last c on due h)
+      same_after Keeps r (ended s g f.counts f.tree) f.stretch_is (ended_kept s g f.counts f.tree f.rendered resources last c on due h)
   going_kept s g budget r (inr y) resources last c on due h =
-      same_kept r (record { lines = []; bodies = y.bodies; after = record s { progress = Some (gone_on g y.budget y.bodies) } }) y.stretch_is
+      same_after Keeps r (record { lines = []; bodies = y.bodies; after = record s { progress = Some (gone_on g y.budget y.bodies) } }) y.stretch_is
       (h.0, h.1, h.2, h.3, h.4, due)
 
   -- a turn, where a render that starts is due
   turn_by_kept : (s : State) (x : Choice) → ((lanes : Lanes) → x ≡ choice.Start lanes → DueIn s.schedule lanes) → (budget : Option ℕ) (r : Stretch) → TurnBy p s x budget r
       → IsCarried p s → Keeps s → Keeps r.after
-  turn_by_kept s choice.None due budget r is c h = same_kept r (silent s) is h
+  turn_by_kept s choice.None due budget r is c h = same_after Keeps r (silent s) is h
   turn_by_kept s choice.Keep due budget r on c h = go s.progress c.3 h.5 on
     where
       go : (x : Option Progress) → IfSome x (λ g. RendersOn p s.journal c.0 c.1 g.lanes g.cut) → IfSome x (λ g. DueIn s.schedule g.lanes) → Continues p s x budget r → Keeps r.after
       go None e d k = absurd k
       go (Some g) e d k = going_kept s g budget r k c.0 c.1 c.2 e d h
   turn_by_kept s (choice.Start lanes) due budget r starts c h =
-      same_kept r (followed_by (passive_run s) starts.rest) starts.stretch_is
+      same_after Keeps r (followed_by (passive_run s) starts.rest) starts.stretch_is
       (going_kept (passive_run s).after (starting s lanes) budget starts.rest starts.begins c.0 c.1 c.2 (start_renders p s.journal s.numbers s.tree lanes c.0 c.1 c.2) (due lanes refl) h)
 
   turn_kept : (s : State) (budget : Option ℕ) (r : Stretch) → TurnBy p s (choice_of s) budget r → IsCarried p s → Keeps s → Keeps r.after
   turn_kept s budget r t c h =
       turn_by_kept s (choice_of s) (λ lanes e. start_due s.schedule (option_map (λ g. g.lanes) s.progress) lanes e) budget r t c h
 
-  flushes_kept : (n : ℕ) (s : State) (r : Stretch) → Flushes n p s r → IsCarried p s → Keeps s → Keeps r.after
-  flushes_kept zero s r t c h = same_kept r (silent s) t.1 h
-  flushes_kept (suc n) s r t c h =
-      same_kept r (followed_by t.1 t.2) t.5
-      (flushes_kept n t.1.after t.2 t.4 (turn_keeps p deep declared s (choice_of s) None t.1 t.3 c) (turn_kept s None t.1 t.3 c h))
-
-  sync_kept : (b : Bool) (s : State) (r : Stretch) → FlushSync b p s r → IsCarried p s → Keeps s → Keeps r.after
-  sync_kept true s r t c h = turn_kept s None r t c h
-  sync_kept false s r t c h = same_kept r (silent s) t h
-
-  -- Steps and runs
-
-  step_kept : (s : State) (x : Step) (r : Stretch) → StepTo p s x r → IsCarried p s → Keeps s → Keeps r.after
-  step_kept s (step.Dispatch d) r t c h = same_kept r (dispatched p s d) t (dispatched_kept p s d (instance_found p s.tree (path_of d)) h)
-  step_kept s (step.Resolve name v) r t c h =
-      same_kept r (resolved p (between_events s) name v) t (resolved_kept p (between_events s) name v (resolved_now s.journal (resource_number p name)) h)
-  step_kept s (step.Tick n) r t c h = same_kept r _ t h
-  step_kept s (step.Work n) r t c h = turn_kept (between_events s) (Some n) r t c h
-  step_kept s step.Flush r t c h = flushes_kept t.0 (between_events s) r t.2 c h
-  step_kept s step.FlushSync r t c h = sync_kept (has s.schedule.pending lane.Sync) (between_events s) r t c h
-  step_kept s step.Passive r t c h = same_kept r _ t h
-  step_kept s step.Event r t c h = same_kept r _ t h
-  step_kept s step.State r t c h = same_kept r _ t h
-  step_kept s step.Tree r t c h = same_kept r _ t h
-
-  run_kept : (s : State) (steps : List Step) (r : Stretch) → RunTo p s steps r → IsCarried p s → Keeps s → Keeps r.after
-  run_kept s [] r t c h = same_kept r (silent s) t h
-  run_kept s (x ∷ xs) r t c h =
-      same_kept r (followed_by t.0 t.1) t.4 (run_kept t.0.after xs t.1 t.3 (step_keeps p deep declared s x t.0 t.2 c) (step_kept s x t.0 t.2 c h))
-
   -- It is kept in each state that can be reached.
   pub reached_keeps : (s : State) → IsReached p s → Keeps s
-  reached_keeps s h = subst Keeps h.3 (run_kept opening h.0 h.1 h.2 (opening_carries p) opening_kept)
+  reached_keeps s t =
+      (holds_along p (λ s. IsCarried p s × Keeps s)
+      (record {
+        starts = (opening_carries p, opening_kept);
+        between = λ s h. h;
+        ticks = λ s n h. h;
+        passive = λ s h. h;
+        turns = λ s budget r t h. (turn_keeps p deep declared s (choice_of s) budget r t h.0, turn_kept s budget r t h.0 h.1);
+        dispatches = λ s d x e h. (dispatched_keeps p deep declared s d x e h.0, dispatched_kept p s d x h.1);
+        resolves = λ s name v x h. (resolved_keeps p deep declared s name v x h.0, resolved_kept p s name v x h.1);
+      }) s t).1

@@ -1,4 +1,5 @@
 pub mod RenderBounds
+pub mod Walk
 pub mod RunTrees
 pub mod Turns
 pub mod Premises
