@@ -10,7 +10,10 @@ ghost use Rattle.rx_parse.specs.Results.{Gives};
 use crate::beside::{beside, closed};
 use crate::expressions::expr;
 use crate::fault::Fault;
-use crate::steps::{expect, expect_lower, expect_word, lower, next_is, next_is_lower, next_is_text, next_is_word, text, upper};
+use crate::steps::{
+    expect, expect_lower, expect_word, lower, next_is, next_is_lower, next_is_text, next_is_word,
+    text, upper,
+};
 use rx_ast::{Attribute, Expr, KeyPlace, Tag};
 use rx_base::Name;
 use rx_lex::{Keyword, Sign, Token};
@@ -26,7 +29,11 @@ fn braced<'a>(alloc: Global, rest: &'a [Token], level: usize) -> Result<(Expr, &
 }
 
 /// A key.
-pub(crate) fn key<'a>(alloc: Global, rest: &'a [Token], level: usize) -> Result<(Expr, &'a [Token]), Fault>
+pub(crate) fn key<'a>(
+    alloc: Global,
+    rest: &'a [Token],
+    level: usize,
+) -> Result<(Expr, &'a [Token]), Fault>
     ensures { Gives (λ x. (x.0, kinds x.1.now)) result (key_at level (kinds rest.now)) }
 {
     let rest = expect_word(rest, Keyword::Key)?;
@@ -114,7 +121,6 @@ pub(crate) fn last_key<'a>(
     }
     Ok((KeyPlace::Unkeyed, rest))
 }
-
 
 /// The value of a provider.
 fn value<'a>(alloc: Global, rest: &'a [Token], level: usize) -> Result<(Expr, &'a [Token]), Fault>

@@ -11,7 +11,9 @@ use crate::bodies::body;
 use crate::expressions::expr;
 use crate::fault::Fault;
 use crate::statements::{lines, statements};
-use crate::steps::{expect, expect_word, lower, next_is, next_is_lower, next_is_word, number, upper};
+use crate::steps::{
+    expect, expect_word, lower, next_is, next_is_lower, next_is_word, number, upper,
+};
 use rx_ast::{Body, Component, Context, Declaration, Expr, Function, Parameter};
 use rx_base::Name;
 use rx_lex::{Keyword, Sign, Token};

@@ -51,10 +51,7 @@ fn line_of(operator: Operator) -> usize
     match operator {
         Operator::Multiply | Operator::Divide | Operator::Remainder => 1,
         Operator::Add | Operator::Subtract => 2,
-        Operator::Less
-        | Operator::LessOrEqual
-        | Operator::Greater
-        | Operator::GreaterOrEqual => 3,
+        Operator::Less | Operator::LessOrEqual | Operator::Greater | Operator::GreaterOrEqual => 3,
         Operator::Equal | Operator::NotEqual => 4,
         Operator::And => 5,
         Operator::Or => 6,

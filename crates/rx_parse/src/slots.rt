@@ -9,7 +9,10 @@ use crate::attributes::{attributes, key, last_key, upper_tag};
 use crate::beside::{beside, closed};
 use crate::expressions::{OR_LINE, expr, line};
 use crate::fault::Fault;
-use crate::steps::{expect, expect_lower, expect_upper, expect_word, lower, next_are, next_is, next_is_lower, next_is_text, next_is_word, number, text};
+use crate::steps::{
+    expect, expect_lower, expect_upper, expect_word, lower, next_are, next_is, next_is_lower,
+    next_is_text, next_is_word, number, text,
+};
 use rx_ast::{Child, Element, Expr, KeyPlace, Slot, Tag};
 use rx_lex::{Keyword, Sign, Token};
 use std::alloc::Global;

@@ -49,10 +49,7 @@ fn hook<'a>(
     let (function, rest) = lower(alloc, rest)?;
     let rest = expect(rest, Sign::Comma)?;
     let (initial, rest) = argument(alloc, rest, level)?;
-    Ok((
-        Statement::reducer(name, setter, function, initial),
-        rest,
-    ))
+    Ok((Statement::reducer(name, setter, function, initial), rest))
 }
 
 /// `[name, setter] =` and a hook.

@@ -17,11 +17,20 @@ fn place_of(rt: &HostRuntime, text: &str) -> Result<Option<usize>, Fail> {
 #[test]
 fn texts_have_these_places(rt: HostRuntime) -> Result<(), Fail> {
     let cases = [
-        ("function App() { return <main key={1}>{for (i < 3, 8) <b>{i}</b>}</main>; }", None),
-        ("const C = createContext(-1); function f(a, b) { return a < b ? 1 : f(b, a); }", None),
+        (
+            "function App() { return <main key={1}>{for (i < 3, 8) <b>{i}</b>}</main>; }",
+            None,
+        ),
+        (
+            "const C = createContext(-1); function f(a, b) { return a < b ? 1 : f(b, a); }",
+            None,
+        ),
         ("function App() { return <a></b>; }", Some(29)),
         ("function App() { return <a>; }", Some(27)),
-        ("function App() { return (<><C.Provider value={1}/></>);", Some(55)),
+        (
+            "function App() { return (<><C.Provider value={1}/></>);",
+            Some(55),
+        ),
     ];
     for (text, place) in cases {
         assert_eq!(rt; place_of(&rt, text)?, place);

@@ -41,12 +41,12 @@ links-loop-alloc-preserved t c =
 pub more_exprs-loop-alloc-smaller : goal.more_exprs-loop-alloc-smaller
 more_exprs-loop-alloc-smaller t c =
     let item : behind_comma (expr_at c.args.level) (kinds c.loop-alloc.rest.now) ≡ Ok (c.in_ok-next.next, kinds c.in_ok-next.after.now) =
-        ap (λ r. r >>= λ s. expr_at c.args.level s.1) c.in_ok-behind.ensures ∙ c.in_ok-next.ensures in
+    ap (λ r. r >>= λ s. expr_at c.args.level s.1) c.in_ok-behind.ensures ∙ c.in_ok-next.ensures in
     smaller (exprs_loop c.args.level) c.loop-alloc.rest.now c.in_ok-next.after.now c.in_ok-next.next item
 
 pub more_exprs-loop-alloc-preserved : goal.more_exprs-loop-alloc-preserved
 more_exprs-loop-alloc-preserved t c =
     let item : behind_comma (expr_at c.args.level) (kinds c.loop-alloc.rest.now) ≡ Ok (c.in_ok-next.next, kinds c.in_ok-next.after.now) =
-        ap (λ r. r >>= λ s. expr_at c.args.level s.1) c.in_ok-behind.ensures ∙ c.in_ok-next.ensures in
+    ap (λ r. r >>= λ s. expr_at c.args.level s.1) c.in_ok-behind.ensures ∙ c.in_ok-next.ensures in
     turned (exprs_loop c.args.level) c.loop-alloc.exprs.items _ c.in_ok-next.next (kinds c.loop-alloc.rest.now) (kinds c.in_ok-next.after.now) _
     (sym c.next_is.ensures ∙ c.loop-alloc-test.true) item c.in_ok-push.ensures.items c.loop-alloc.invariant
