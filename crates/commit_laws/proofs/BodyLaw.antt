@@ -17,7 +17,7 @@ use Rattle.rx_eval.specs.Fresh.{before}
 use Rattle.rx_eval.specs.Touched.{is_read_anew}
 use Rattle.rx_eval.specs.Settled.{read_anew}
 use Rattle.rx_check.specs.Reads.{AllDeclared, IsDeclared}
-use Rattle.rx_elem.proofs.Tests.{or_fails}
+use Rattle.rx_elem.proofs.Deciding.{or_fails}
 
 -- one list begins another
 abbrev pub Begins : {X : Type 0} → List X → List X → Type 0

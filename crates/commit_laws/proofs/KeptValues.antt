@@ -12,7 +12,7 @@ use Rattle.rx_queue.specs.Journal.{Posted, Target, belongs_to, hook, is_included
 use Rattle.rx_queue.specs.declared.entry.Standing.{Standing}
 use Rattle.rx_queue.specs.declared.entry.Standing.TheVariants.{Done, Open, Owed}
 use Rattle.commit_laws.proofs.Settling.{target_has, with_standing}
-use Rattle.rx_elem.proofs.Tests.{or_fails}
+use Rattle.rx_elem.proofs.Deciding.{or_fails}
 use Rattle.rx_eval.specs.Again.{AccountedBefore, AllOpen, NoNewUpdate}
 use Rattle.rx_eval.specs.Settled.{includes}
 use Rattle.rx_lane.specs.Lanes as lanes_of

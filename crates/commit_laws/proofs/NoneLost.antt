@@ -16,7 +16,7 @@ use Rattle.rx_queue.specs.History.{stands_done, stands_owed}
 use Rattle.rx_queue.specs.Journal.{Posted, Target, belongs_to, has_later, hook, marked_update, same_target}
 use Rattle.rx_queue.specs.declared.entry.Standing.{Standing}
 use Rattle.rx_queue.specs.declared.entry.Standing.TheVariants.{Done, Open, Owed}
-use Rattle.rx_elem.proofs.Tests.{same_itself, or_left, or_right, both_hold}
+use Rattle.rx_elem.proofs.Deciding.{same_itself, or_left, or_right, both_hold}
 use Rattle.commit_laws.proofs.OwnNumbers.{CountIs, both_lists, has_occurs, not_below, numbered_counts, occurs, rendered_counts, spots_times}
 use Rattle.commit_laws.proofs.Settling.{kept_at, kept_listed, visible_at, visible_listed}
 use Rattle.rx_eval.specs.Again.{AccountedBefore}

@@ -17,7 +17,7 @@ use Rattle.rx_eval.specs.Fresh.{Contexts, Place, Places, Sight, all_made, before
 use Rattle.rx_queue.specs.Journal.{resolved_by}
 use Rattle.rx_eval.proofs.Depths.{ShapeFits, shape_fits}
 use Rattle.rx_elem.proofs.Identities.{child_of}
-use Rattle.rx_elem.proofs.Tests.{same_number}
+use Rattle.rx_elem.proofs.Deciding.{same_number}
 use Rattle.commit_laws.proofs.BodyWaits.{body_waits}
 use Rattle.commit_laws.proofs.CommitSettles.{root_found}
 use Rattle.commit_laws.proofs.Leaving.{zero_is_null}

@@ -11,7 +11,7 @@ use Rattle.rx_eval.specs.Fresh.{Contexts, Places, Renders, Shape, Sight, absent,
 use Rattle.rx_queue.specs.History.{stands_done}
 use Rattle.rx_queue.specs.Journal.{Posted, Target, belongs_to, hook, is_included}
 use Rattle.rx_susp.specs.declared.boundary.BoundaryState.TheVariants.{Hidden, Shown}
-use Rattle.rx_elem.proofs.Tests.{same_number}
+use Rattle.rx_elem.proofs.Deciding.{same_number}
 use Rattle.commit_laws.proofs.Settling.{tree_seen}
 use Rattle.commit_laws.proofs.Soundness.{calm_is_still, resolution_keeps}
 use Rattle.commit_laws.proofs.TakeOver.{rendered_again}

@@ -13,7 +13,7 @@ use Rattle.rx_eval.specs.Fresh.{Sight, resources_seen}
 use Rattle.rx_eval.specs.Touched.{has_new_work, instances_in, is_waiting_still, resolved_seen}
 use Rattle.rx_queue.specs.Journal.{Posted, Resolution, resolved_by}
 use Rattle.rx_susp.specs.declared.boundary.BoundaryState.TheVariants.{Hidden}
-use Rattle.rx_elem.proofs.Tests.{or_fails}
+use Rattle.rx_elem.proofs.Deciding.{or_fails}
 use Rattle.rx_eval.specs.Again.{AreUnresolved, NoNewUpdate}
 use Rattle.rx_eval.specs.Settled.{HasValuesOf}
 use Rattle.rx_base.specs.Awaits as awaits

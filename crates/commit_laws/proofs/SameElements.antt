@@ -10,7 +10,7 @@ use Rattle.rx_elem.specs.declared.attr.Attr.{Attr}
 use Rattle.rx_elem.specs.declared.attr.AttrValue.{AttrValue}
 use Rattle.rx_elem.specs.Elements as elements
 use Rattle.rx_elem.specs.declared.attr.AttrValue.TheVariants as attr_value
-use Rattle.rx_elem.proofs.Tests.{and_passes, same_number}
+use Rattle.rx_elem.proofs.Deciding.{and_passes, same_number}
 
 same_int : (x y : ℤ) → int_eq x y ≡ true → x ≡ y
 same_int x y h = (Decides-int_eq x y).0 h

@@ -13,7 +13,7 @@ use Rattle.rx_queue.specs.declared.entry.Standing.{Standing}
 use Rattle.rx_queue.specs.declared.entry.Standing.TheVariants.{Done, Open, Owed}
 use Rattle.rx_susp.specs.declared.boundary.BoundaryState.TheVariants.{Hidden, Shown}
 use Rattle.commit_laws.proofs.TakeOver.{done_is_included}
-use Rattle.rx_elem.proofs.Tests.{and_passes, or_right, same_number}
+use Rattle.rx_elem.proofs.Deciding.{and_passes, or_right, same_number}
 use Rattle.commit_laws.specs.HiddenWaits.{AllSeen, NumberSeen, Seen}
 use Rattle.rx_eval.specs.Settled.{DoneBefore, Known, TargetsBelow, done_values, includes, number_of}
 use Rattle.rx_lane.specs.Lanes as lanes_of

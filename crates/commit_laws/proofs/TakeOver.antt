@@ -16,7 +16,7 @@ use Rattle.rx_queue.specs.History.{stands_done}
 use Rattle.rx_queue.specs.Journal.{Posted, Target, belongs_to, committed_value, hook, is_included, same_target, state_of}
 use Rattle.rx_susp.specs.declared.boundary.BoundaryState.TheVariants.{Hidden}
 use Rattle.rx_eval.proofs.Depths.{ShapeFits, not_deepest, shape_fits}
-use Rattle.rx_elem.proofs.Tests.{same_itself, same_number, and_passes, or_fails}
+use Rattle.rx_elem.proofs.Deciding.{same_itself, same_number, and_passes, or_fails}
 use Rattle.rx_elem.proofs.SelfMatch.{NoNull, matches_itself}
 use Rattle.rx_eval.specs.Levels.{Fits, body_depth, elements_depth}
 use Rattle.rx_eval.specs.Settled.{AllSettled, AllStill, DoneBefore, IsBodyOf, IsOwn, IsSettled, IsStill, Known, done_values, has_cause, kept_shape, known_by, read_anew}

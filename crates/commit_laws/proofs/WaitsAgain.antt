@@ -20,7 +20,7 @@ use Rattle.rx_eval.specs.Again.{AllValuesAgree, AreUnresolved, ValuesAgree, Wait
 use Rattle.rx_eval.specs.Settled.{HasValuesOf}
 use Rattle.rx_elem.specs.Elements as elements
 use Rattle.rx_base.specs.Awaits as awaits
-use Rattle.rx_elem.proofs.Tests.{or_left, or_right}
+use Rattle.rx_elem.proofs.Deciding.{or_left, or_right}
 
 -- What stays the same
 

@@ -20,7 +20,7 @@ use Rattle.rx_queue.specs.declared.entry.Standing.{Standing}
 use Rattle.rx_queue.specs.declared.entry.Standing.TheVariants.{Open}
 use Rattle.rx_script.specs.Steps.{Path}
 use Rattle.commit_laws.proofs.HiddenLaw.{all_mounted, commit_hides, numbered_at}
-use Rattle.rx_elem.proofs.Tests.{same_itself, same_number}
+use Rattle.rx_elem.proofs.Deciding.{same_itself, same_number}
 use Rattle.commit_laws.proofs.OwnNumbers.{has_occurs, occurs, occurs_option, spot_times, spots_times}
 use Rattle.commit_laws.proofs.QuietTree.{root_stays}
 use Rattle.commit_laws.proofs.ResourceLaws.{values_stay}

@@ -9,7 +9,7 @@ use Rattle.rx_lane.specs.SetLaws.{has-lanes_where, lanes_agree, same_lane-true}
 use Rattle.rx_sched.specs.Links.{Links, is_linked, links_on, one_link_on}
 use Rattle.rx_sched.specs.Schedule.{Schedule, choose, first_lanes, goes_on, lanes_to_start, same_rank, with_default}
 use Rattle.rx_sched.specs.declared.choice.Choice.TheVariants as choice
-use Rattle.rx_elem.proofs.Tests.{and_passes, or_right}
+use Rattle.rx_elem.proofs.Deciding.{and_passes, or_right}
 use Rattle.rx_model.proofs.LaneSets.{has-first}
 use Rattle.rx_model.proofs.Progress.{has-links_on, has-with_default}
 use Rattle.rx_model.specs.Kept.{IsSet}

@@ -13,7 +13,7 @@ use Rattle.rx_elem.specs.Compare.{Change}
 use Rattle.rx_elem.specs.Numbers.{numbered}
 use Rattle.rx_elem.specs.Spots.{Mounted, kept_instances, visible_instances}
 use Rattle.rx_elem.specs.Trees.{Node}
-use Rattle.rx_elem.proofs.Tests.{both_hold, same_number}
+use Rattle.rx_elem.proofs.Deciding.{both_hold, same_number}
 use Rattle.rx_eval.specs.Again.{AccountedBefore}
 use Rattle.rx_eval.specs.Fresh.{depth_limit, fresh, made}
 use Rattle.rx_eval.specs.Outcome.{Outcome, all_awaits, awaits_resolved, commit, defer, is_awaited, journal_after, newly_hidden, outcome, outcome_by, still_pending, visible_awaits}

@@ -20,7 +20,7 @@ use Rattle.rx_queue.specs.Journal.{Posted, Target, belongs_to, committed_value, 
 use Rattle.run_laws.proofs.AlongRuns.{reached_carries}
 use Rattle.run_laws.proofs.Carrying.{all_accounted, done_before}
 use Rattle.commit_laws.proofs.HiddenLaw.{all_mounted, numbered_at}
-use Rattle.rx_elem.proofs.Tests.{same_itself, same_number, and_passes}
+use Rattle.rx_elem.proofs.Deciding.{same_itself, same_number, and_passes}
 use Rattle.run_laws.proofs.KeptFacts.{none_lost}
 use Rattle.commit_laws.proofs.QuietTree.{quiet_tree}
 use Rattle.commit_laws.proofs.Settling.{kept_at, kept_listed, target_has, visible_at, visible_listed, within_visible}

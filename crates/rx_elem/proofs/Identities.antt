@@ -8,7 +8,7 @@ use Rattle.std.proofs.lemmas.List.{length-append}
 use Rattle.std.proofs.lemmas.List.Sums.{sum_by_push}
 use Rattle.rx_elem.specs.Elements.{Element, Key, key_of}
 use Rattle.rx_elem.specs.Identity.{Child, Identity, at_index, at_key, has_key, identities_after, identity_after, same_identity}
-use Rattle.rx_elem.proofs.Tests.{and_passes, same_number}
+use Rattle.rx_elem.proofs.Deciding.{and_passes, same_number}
 
 pub same_ids : (i j : Identity) → same_identity i j ≡ true → i ≡ j
 same_ids (at_key k o) (at_key l p) h =
