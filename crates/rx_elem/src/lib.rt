@@ -3,6 +3,12 @@
 
 mod attr;
 mod effect;
+mod element;
+mod kind;
+#[cfg(test)]
+mod tests;
+mod walks;
 
 pub use attr::{Attr, AttrValue};
 pub use effect::{ContextRead, EffectRecord};
+pub use element::{Element, ElementKind};
