@@ -1,5 +1,8 @@
 -- What is kept of the visible hidden boundaries of a committed tree: at the last commit's sight their children waited for what they await.
-use Rattle.std.specs.Prelude.{Bool, List, None, Option, Some, cond, false, suc, true, zero, ℕ, ◌≡◌}
+use Rattle.std.specs.Prelude.{Bool, List, None, Option, Some, cond, false, map, suc, true, zero, ℕ, ◌++◌, ◌≡◌}
+use Rattle.rx_base.specs.declared.cut.Cut.{Cut}
+use Rattle.rx_lane.specs.Lanes.{Lanes}
+use Rattle.rx_queue.specs.Journal.{Journal, Posted, Resolution, marked_update}
 use Rattle.rx_elem.specs.Elements.{Element, listed}
 use Rattle.rx_elem.specs.Trees.{Forest, Mark, Node, child, is_hidden, node, none, of_boundary, of_host, of_instance, plain, vacant}
 use Rattle.rx_eval.specs.Fresh.{Contexts, Sight, one_waits, part, render_part, rendered}
@@ -7,6 +10,15 @@ use Rattle.rx_eval.specs.Touched.{contexts_below}
 use Rattle.rx_susp.specs.declared.boundary.BoundaryState.TheVariants.{Hidden}
 use Rattle.rx_eval.specs.Settled.{IfHidden, includes, number_of}
 use Rattle.rx_elem.specs.Elements as elements
+
+-- what a later render sees
+abbrev pub later_sight : Sight → Journal → Lanes → Cut → Sight
+later_sight s j lanes cut = record s { journal = j; lanes = lanes; cut = cut }
+
+-- the journal that a commit leaves with these instances, and what came since
+abbrev pub journal_since : Sight → (visible kept : List ℕ) → (new : List Posted) → List Resolution → Journal
+journal_since s visible kept new resolutions =
+    record { updates = map (marked_update s.lanes s.cut visible kept) s.journal.updates ++ new; resolutions = resolutions }
 
 -- instances and hosts have their numbers
 abbrev pub IsNumbered : Mark → Type 0

@@ -16,7 +16,8 @@ use Rattle.host_laws.proofs.Listing.{hosts_at, hosts_in}
 use Rattle.replay_laws.proofs.Counts.{is_number, one_if, times, times_in}
 use Rattle.replay_laws.proofs.Growing.{MarkGrows, Grows, Grows_in}
 use Rattle.replay_laws.proofs.Losing.{gone_times, lost, lost_in}
-use Rattle.replay_laws.proofs.Listed.{all_at, all_child, all_numbered}
+use Rattle.host_laws.proofs.Owned.{all_at, all_child}
+use Rattle.replay_laws.proofs.Listed.{all_numbered}
 use Rattle.replay_laws.proofs.OldLists.{IfOld, EachOld, EachIn, each_old, reused_old, StandBeside, stand_beside}
 
 pub each_numbered : (os : Forest) → AreNumbered_in os → EachIn AreNumbered os

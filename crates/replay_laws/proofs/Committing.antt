@@ -1,7 +1,7 @@
 -- Each tree that is rendered against what commits left is related to it as a commit relates them.
 use Rattle.std.specs.Prelude.{◌≡◌, ℕ, ◌<◌, ◌≤◌, ◌⊎◌, Bool, true, false, ◌&&◌, Option, Some, None, IfSome, nat_eq, refl}
 use Rattle.std.specs.List.{AllByRecursion}
-use Rattle.std.proofs.Common.{arith, sym, subst, inl, inr, ◌∙◌}
+use Rattle.std.proofs.Common.{ap, arith, sym, subst, inl, inr, ◌∙◌}
 use Rattle.std.proofs.lemmas.Bool.Decides.{nat_tests}
 use Rattle.std.proofs.lemmas.Bool.{cases_lt}
 use Rattle.rx_ast.specs.Syntax.{Program}
@@ -15,20 +15,22 @@ use Rattle.rx_elem.specs.Numbers.{Numbers, numbered, numbered_in, numbered_mark,
 use Rattle.rx_eval.specs.Fresh.{Sight, fresh, made, root_element, depth_limit}
 use Rattle.rx_host.specs.Hosts.{Content, content_of, hosts, has_host, host_numbered}
 use Rattle.host_laws.specs.Related.{has_gone, GoneBelow}
-use Rattle.host_laws.specs.Commits.{HasNumber, AreNumbered, AreNumbered_in, IsSound, IfSound, is_taken, from_root, IsCommit}
+use Rattle.host_laws.specs.Commits.{HasNone, HasNumber, AreNumbered, AreNumbered_in, IsSound, IfSound, is_taken, from_root, IsCommit}
 use Rattle.host_laws.proofs.Listing.{hosts_at}
+use Rattle.host_laws.proofs.Removals.{missing}
 use Rattle.rx_model.specs.Laws.{IsBounded}
 use Rattle.replay_laws.specs.Attributes.{AttributesApart}
 use Rattle.replay_laws.specs.Committed.{IsCommitted, none_yet, one_more, RendersCommit}
 use Rattle.replay_laws.proofs.Counts.{is_number, one_if, times, times_in, times_if, mark_rises, number_rises, numbers_rise, numbered_counts, no_more_than_one, not_below}
 use Rattle.replay_laws.proofs.Growing.{Grows, numbered_grows}
 use Rattle.replay_laws.proofs.Losing.{lost, grown_counts, lost_within}
-use Rattle.replay_laws.proofs.Listed.{occurs_times, none_there, some_there, distinct_once, IsOwn, each_own, not_numbered}
+use Rattle.host_laws.proofs.Owned.{IsOwn, each_own}
+use Rattle.replay_laws.proofs.Listed.{occurs_times, none_there, some_there, distinct_once}
 use Rattle.replay_laws.proofs.OldLists.{IfOld}
 use Rattle.replay_laws.proofs.Relating.{rendered_from}
 use Rattle.replay_laws.proofs.Below.{below_at}
 use Rattle.replay_laws.proofs.KeptKinds.{kinds_at}
-use Rattle.replay_laws.proofs.Fine.{is_hostlike, IsFine, AllFine, NumberBelow, IsBelow, AllBelow}
+use Rattle.replay_laws.proofs.Fine.{fine_leaves, is_hostlike, IsFine, AllFine, NumberBelow, IsBelow, AllBelow}
 use Rattle.replay_laws.proofs.Rendering.{IsOld, IfSameKind, PlaceGrows, fresh_grows}
 
 -- Numbers below the next one
@@ -113,6 +115,15 @@ mutual
   trees_below_more a b (vacant ns) h low = trees_below_more a b ns h low
   trees_below_more a b (child x ns) h low = (tree_below_more a b x h low.0, trees_below_more a b ns h low.1)
 
+none_stays : (c : Numbers) (e : Element) (ns : Forest) → HasNone e ns → HasNone e (numbered_in c ns).1
+none_stays c elements.null ns h = tt
+none_stays c (elements.text t) ns h = ap (λ (x : Forest). (numbered_in c x).1) h
+none_stays c (elements.host n k attrs es) ns h = tt
+none_stays c (elements.comp i k ps es) ns h = tt
+none_stays c (elements.list es) ns h = tt
+none_stays c (elements.boundary k f es) ns h = tt
+none_stays c (elements.provider i k x es) ns h = tt
+
 mutual
   numbered_fine : (c : Numbers) (x : Node) → IsFine x → IsFine (numbered c x).1
   numbered_fine c (node e m ns fs) h = (
@@ -121,6 +132,7 @@ mutual
     h.2,
     all_numbered_fine (numbered_mark c m).0 ns h.3,
     all_numbered_fine (numbered_in (numbered_mark c m).0 ns).0 fs h.4,
+    none_stays (numbered_mark c m).0 e ns h.5,
   )
 
   all_numbered_fine : (c : Numbers) (ns : Forest) → AllFine ns → AllFine (numbered_in c ns).1
@@ -271,7 +283,7 @@ module _ (p : Program) (next : Numbers) (old : Option Node) (x : Node) (kept : I
       (subst (λ o. (n : ℕ) → 1 ≤ lost n o new → has_host (hosts (Some new)) n ≡ false) same gone)
 
   later : (n : ℕ) → next.host ≤ n → host_numbered (hosts old) n ≡ None
-  later n h = not_numbered n (hosts old) (not_there old kept.is_old n (old_above n next.host h old kept.is_old))
+  later n h = missing (hosts old) n (not_there old kept.is_old n (old_above n next.host h old kept.is_old))
 
   found : (o : Option Node) → IfOld (IsOld next.host) o → IfSound o
       → IfOld (λ n. AreNumbered n × (a : Around) × AllByRecursion (IsOwn (hosts o)) (hosts_at a n)) o
@@ -306,8 +318,9 @@ committed_kept p bounded apart _ _ (one_more s next old x same h gives) =
     let kept = committed_kept p bounded apart next old h in
     stays_kept p next old x kept (rendered_grown p bounded apart s same next old x kept gives)
 
--- each render against it is a commit
+-- each render against it is a commit, and no text has children
 pub renders_commit : (p : Program) → RendersCommit p
 renders_commit p bounded apart s next old x same h gives =
     let kept = committed_kept p bounded apart next old h in
-    is_commit p next old x kept (rendered_grown p bounded apart s same next old x kept gives)
+    let grown = rendered_grown p bounded apart s same next old x kept gives in
+    (is_commit p next old x kept grown, fine_leaves (numbered next x).1 (numbered_fine next x grown.1))

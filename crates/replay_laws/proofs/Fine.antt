@@ -7,6 +7,7 @@ use Rattle.rx_elem.specs.Elements.{Element, kind_of, same_kind, is_present}
 use Rattle.rx_elem.specs.Elements as elements
 use Rattle.rx_elem.specs.Trees.{Node, node, Forest, none, vacant, child, host_number, is_host, element_of}
 use Rattle.rx_host.specs.Hosts.{Content, tag, letters, content_of, by_name}
+use Rattle.host_laws.specs.Commits.{HasNone, TextsAreLeaves, TextsAreLeaves_in}
 use Rattle.host_laws.specs.Related.{HaveOwnNames, AreAlike}
 use Rattle.replay_laws.proofs.OldLists.{NoNull}
 
@@ -30,10 +31,10 @@ AttrsOwn (elements.list es) = Unit {0}
 AttrsOwn (elements.boundary k f es) = Unit {0}
 AttrsOwn (elements.provider c k x es) = Unit {0}
 
--- each node is a host where its element is one, no node is one of null, and attributes have names of their own
+-- each node is a host where its element is one, no node is one of null, attributes have names of their own, and no text has children
 abbrev mutual
   pub IsFine : Node → Type 0
-  IsFine (node e m ns fs) = (is_host m ≡ is_hostlike e) × (is_present e ≡ true) × AttrsOwn e × AllFine ns × AllFine fs
+  IsFine (node e m ns fs) = (is_host m ≡ is_hostlike e) × (is_present e ≡ true) × AttrsOwn e × AllFine ns × AllFine fs × HasNone e ns
 
   pub AllFine : Forest → Type 0
   AllFine none = Unit {0}
@@ -61,6 +62,15 @@ pub fine_no_null : (ns : Forest) → AllFine ns → NoNull ns
 fine_no_null none h = tt
 fine_no_null (vacant ns) h = fine_no_null ns h
 fine_no_null (child x ns) h = (fine_present x h.0, fine_no_null ns h.1)
+
+mutual
+  pub fine_leaves : (x : Node) → IsFine x → TextsAreLeaves x
+  fine_leaves (node e m ns fs) h = (h.5, all_fine_leaves ns h.3, all_fine_leaves fs h.4)
+
+  all_fine_leaves : (ns : Forest) → AllFine ns → TextsAreLeaves_in ns
+  all_fine_leaves none h = tt
+  all_fine_leaves (vacant ns) h = all_fine_leaves ns h
+  all_fine_leaves (child x ns) h = (fine_leaves x h.0, all_fine_leaves ns h.1)
 
 -- Elements of one kind
 

@@ -15,7 +15,7 @@ use Rattle.host_laws.specs.Related.{AreAlike, old_content}
 use Rattle.host_laws.specs.Commits.{HasNumber, AreNumbered, AreNumbered_in}
 use Rattle.host_laws.proofs.Listing.{hosts_at, hosts_in}
 use Rattle.replay_laws.proofs.Growing.{first, rest, MarkGrows, Grows, Grows_in}
-use Rattle.replay_laws.proofs.Listed.{IsOwn, all_at, all_child, parts_at, parts_child}
+use Rattle.host_laws.proofs.Owned.{IsOwn, all_at, all_child, parts_at, parts_child}
 use Rattle.replay_laws.proofs.OldLists.{IfOld, EachOld, EachIn, each_old, first_each, rest_each}
 use Rattle.replay_laws.proofs.Fine.{AttrsOwn, IsFine, AllFine, alike}
 

@@ -7,8 +7,6 @@ pub mod OldLists
 pub mod Below
 pub mod Fine
 pub mod KeptKinds
-pub mod Levels
-pub mod Depths
 pub mod Naming
 pub mod Rendering
 pub mod Committing

@@ -26,7 +26,7 @@ use Rattle.rx_host.specs.HostOps.{attr_named}
 use Rattle.host_laws.specs.Related.{HaveOwnNames}
 use Rattle.host_laws.proofs.Placing.{neither}
 use Rattle.replay_laws.specs.Attributes.{attribute_names, StandOnce, SlotAttributesApart, SlotsAttributesApart}
-use Rattle.replay_laws.proofs.Depths.{gathered-listed}
+use Rattle.rx_eval.proofs.Depths.{gathered-listed}
 
 -- each component that an element names is there, and no host in it has two attributes of one name
 abbrev mutual

@@ -31,7 +31,8 @@ use Rattle.rx_model.specs.Machine.{Flushes, FlushSync, StepTo, RunTo}
 use Rattle.rx_model.specs.Laws.{IsReached}
 use Rattle.rx_report.specs.Report.{Counts}
 use Rattle.host_laws.proofs.Replay.{commit_replays}
-use Rattle.replay_laws.specs.Committed.{IsCommitted, none_yet, one_more, ReplayLaw}
+use Rattle.host_laws.proofs.Replayable.{commit_made}
+use Rattle.replay_laws.specs.Committed.{IsCommitted, none_yet, one_more, ReplayLaw, MadeLaw}
 use Rattle.replay_laws.proofs.Committing.{renders_commit}
 
 -- two states have the same tree and the same next numbers
@@ -141,5 +142,11 @@ reached_committed p s t = subst (λ (x : State). Holds p x) t.3 (run_holds p ope
 
 -- so the operations of a commit replay there
 pub replay_law : (p : Program) → ReplayLaw p
-replay_law p bounded apart s g n reached gives =
-    commit_replays s.tree (numbered s.numbers n).1 (renders_commit p bounded apart (sight_of p s g) s.numbers s.tree n refl (reached_committed p s reached) gives)
+replay_law p apart bounded s reached g n gives =
+    commit_replays s.tree (numbered s.numbers n).1 (renders_commit p bounded apart (sight_of p s g) s.numbers s.tree n refl (reached_committed p s reached) gives).0
+
+-- and each of them can be made in its turn
+pub made_law : (p : Program) → MadeLaw p
+made_law p apart bounded s reached g n gives =
+    let c = renders_commit p bounded apart (sight_of p s g) s.numbers s.tree n refl (reached_committed p s reached) gives in
+    commit_made s.tree (numbered s.numbers n).1 c.0 c.1

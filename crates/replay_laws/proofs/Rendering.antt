@@ -15,12 +15,12 @@ use Rattle.rx_elem.specs.Trees.{Mark, of_instance, of_host, of_boundary, plain, 
 use Rattle.rx_elem.specs.Compare.{node_at, old_nodes}
 use Rattle.rx_eval.specs.Body.{Body, body_of, ready, wait}
 use Rattle.rx_eval.specs.Fresh.{Contexts, Place, Places, Sight, all_made, before, empty, fresh, inputs_at, instance_after, made, old_host, old_instance, one_waits, over, over_boundary, place, place_of, render_all, render_list, rendered, shape_of, shape_of_body, shape_of_component, waits, default_contexts, depth_limit, root_element}
-use Rattle.host_laws.specs.Commits.{HasNumber, AreNumbered, AreNumbered_in}
+use Rattle.host_laws.specs.Commits.{HasNone, HasNumber, AreNumbered, AreNumbered_in}
 use Rattle.host_laws.proofs.IdentityLaws.{both}
 use Rattle.rx_elem.proofs.Equality.{same_kind-self}
 use Rattle.replay_laws.specs.Attributes.{AttributesApart}
-use Rattle.replay_laws.proofs.Levels.{Fits, body_depth, elements_depth}
-use Rattle.replay_laws.proofs.Depths.{ShapeFits, shape_fits}
+use Rattle.rx_eval.specs.Levels.{Fits, body_depth, elements_depth}
+use Rattle.rx_eval.proofs.Depths.{ShapeFits, shape_fits}
 use Rattle.replay_laws.proofs.Naming.{AllNamed, HasComponents, Named, body_named, listed_named, some_got}
 use Rattle.replay_laws.proofs.Growing.{MarkGrows, Grows, Grows_in}
 use Rattle.replay_laws.proofs.OldLists.{IfOld, EachIn, children_find_themselves}
@@ -166,23 +166,29 @@ other_grows next e number (Some (node e' m' os gs)) h old kind = old.0.0 ∙ sym
 
 -- Places
 
+no_elements : (ns : Forest) → elements_in ns ≡ [] → ns ≡ none
+no_elements none h = refl
+no_elements (vacant ns) h = absurd (cc)
+no_elements (child x ns) h = absurd (cc)
+
 over_grows : (next : ℕ) (e : Element) (m : Mark) (o : Option Node) (es : List Element) (ps : Places) → PlacesGrow next es (old_nodes (children_if o) es) ps
-    → is_host m ≡ is_hostlike e → is_present e ≡ true → AttrsOwn e → NumberBelow next (host_number m) → MarkGrows next e (host_number m) o (is_host m)
+    → is_host m ≡ is_hostlike e → is_present e ≡ true → AttrsOwn e → ((ns : Forest) → elements_in ns ≡ es → HasNone e ns) → NumberBelow next (host_number m)
+    → MarkGrows next e (host_number m) o (is_host m)
     → PlaceGrows next e o (over e m ps)
-over_grows next e m o es (all_made ns) h host present own low mark = (
+over_grows next e m o es (all_made ns) h host present own leaf low mark = (
   refl,
-  (host, present, own, h.1, tt),
+  (host, present, own, h.1, tt, leaf ns h.0),
   (low, h.2, tt),
   (mark, subst (λ es. Grows_in next (old_nodes (children_if o) es) ns) (sym h.0) h.3, tt),
 )
-over_grows next e m o es (one_waits a) h host present own low mark = tt
+over_grows next e m o es (one_waits a) h host present own leaf low mark = tt
 
 boundary_grows : (next : ℕ) (key : _) (f : Element) (es : Elements) (o : Option Node) (ps qs : Places) → IfOld (IsOld next) o → IfSameKind (elements.boundary key f es) o
     → PlacesGrow next (listed es) (old_nodes (children_if o) (listed es)) ps → PlacesGrow next (f ∷ []) (old_nodes (fallback_if o) (f ∷ [])) qs
     → PlaceGrows next (elements.boundary key f es) o (over_boundary (elements.boundary key f es) o ps qs)
 boundary_grows next key f es o (all_made ns) qs old kind h k = (
   refl,
-  (refl, refl, tt, h.1, tt),
+  (refl, refl, tt, h.1, tt, tt),
   (tt, h.2, tt),
   (
     other_grows next (elements.boundary key f es) None o refl old kind,
@@ -193,7 +199,7 @@ boundary_grows next key f es o (all_made ns) qs old kind h k = (
 boundary_grows next key f es o (one_waits a) (all_made fs) old kind h k =
     let kept = children_old next o old in (
       refl,
-      (refl, refl, tt, kept.0, k.1),
+      (refl, refl, tt, kept.0, k.1, tt),
       (tt, kept.2, k.2),
       (
         other_grows next (elements.boundary key f es) None o refl old kind,
@@ -255,7 +261,7 @@ module _ (next : ℕ) (s : Sight) (apart : AttributesApart s.program) (some : Ha
           (list_grows n below cs es (children_if o)
           (body_named s.program some d (apart c d there) (inputs_at s cs props given (old_instance o)) (listed_named s.program given named.1) es effects initials reads same)
           fit (children_old next o old))
-          refl refl tt tt (other_grows next (elements.comp c key props given) None o refl old kind)
+          refl refl tt (λ ns h. tt) tt (other_grows next (elements.comp c key props given) None o refl old kind)
 
       found : (d : Option Component) → component_at s.program c ≡ d → is_some d ≡ true → ShapeFits n s.program (shape_of_component s cs c props given o d)
           → PlaceGrows next (elements.comp c key props given) o (place_of (rendered n s) (elements.comp c key props given) o (shape_of_component s cs c props given o d))
@@ -266,17 +272,17 @@ module _ (next : ℕ) (s : Sight) (apart : AttributesApart s.program) (some : Ha
       → PlaceGrows next e o (place (rendered n s) s cs e o)
   place_grows n below cs elements.null o named fits old kind = refl
   place_grows n below cs (elements.text t) o named fits old kind =
-      over_grows next (elements.text t) (of_host (old_host o)) o [] (all_made none) (refl, tt, tt, tt) refl refl tt
+      over_grows next (elements.text t) (of_host (old_host o)) o [] (all_made none) (refl, tt, tt, tt) refl refl tt no_elements
       (old_host_below next o old) (host_grows next (elements.text t) o refl old kind)
   place_grows n below cs (elements.host name key attrs es) o named fits old kind =
       over_grows next (elements.host name key attrs es) (of_host (old_host o)) o (listed es) (render_list (rendered n s cs) (listed es) (children_if o))
       (list_grows n below cs (listed es) (children_if o) (listed_named s.program es named.1) (shape_fits n s cs (elements.host name key attrs es) o fits) (children_old next o old))
-      refl refl named.0 (old_host_below next o old) (host_grows next (elements.host name key attrs es) o refl old kind)
+      refl refl named.0 (λ ns h. tt) (old_host_below next o old) (host_grows next (elements.host name key attrs es) o refl old kind)
   place_grows n below cs (elements.comp c key props given) o named fits old kind = comp_grows n below cs c key props given o named fits old kind
   place_grows n below cs (elements.list es) o named fits old kind =
       over_grows next (elements.list es) plain o (listed es) (render_list (rendered n s cs) (listed es) (children_if o))
       (list_grows n below cs (listed es) (children_if o) (listed_named s.program es named) (shape_fits n s cs (elements.list es) o fits) (children_old next o old))
-      refl refl tt tt (other_grows next (elements.list es) None o refl old kind)
+      refl refl tt (λ ns h. tt) tt (other_grows next (elements.list es) None o refl old kind)
   place_grows n below cs (elements.boundary key f es) o named fits old kind =
       let parts = shape_fits n s cs (elements.boundary key f es) o fits in
       boundary_grows next key f es o (render_list (rendered n s cs) (listed es) (children_if o)) (render_list (rendered n s cs) (f ∷ []) (fallback_if o)) old kind
@@ -286,7 +292,7 @@ module _ (next : ℕ) (s : Sight) (apart : AttributesApart s.program) (some : Ha
       over_grows next (elements.provider c key x es) plain o (listed es) (render_list (rendered n s (slice_set cs c x)) (listed es) (children_if o))
       (list_grows n below (slice_set cs c x) (listed es) (children_if o) (listed_named s.program es named)
       (shape_fits n s cs (elements.provider c key x es) o fits) (children_old next o old))
-      refl refl tt tt (other_grows next (elements.provider c key x es) None o refl old kind)
+      refl refl tt (λ ns h. tt) tt (other_grows next (elements.provider c key x es) None o refl old kind)
 
   -- what is rendered grows out of the old node
   pub rendered_grows : (n : ℕ) → BelowGrows n

@@ -3,4 +3,4 @@
 
 mod laws;
 
-pub use laws::{each_render_is_a_commit, replay};
+pub use laws::{each_render_is_a_commit, operations_are_made, replay};

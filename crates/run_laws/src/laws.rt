@@ -31,11 +31,12 @@ pub fn renders_are_bounded()
 /// its slice is used up yields.
 pub fn progress_makes_turns()
     ensures finishes { (p : Program) → IsBounded p → (s : State) (g : Progress) (slice : Option ℕ) (units bodies : ℕ) (tree : Node)
-        → InProgress (sight_of p s g) s.tree units bodies (ended (made tree)) → g.units < units → IfSome slice (λ n. units ≤ g.units + n)
-        → g.bodies ≤ bodies → bodies - g.bodies ≤ units - g.units
+        → InProgress (sight_of p s g) s.tree units bodies (ended (made tree)) → g.units < units
+        → IfSome slice (λ n. units ≤ g.units + n) → g.bodies ≤ bodies → bodies - g.bodies ≤ units - g.units
         → Finishes p s g slice (committing.ended s g (record { units = units; bodies = bodies }) tree) }
     ensures yields { (p : Program) → IsBounded p → (s : State) (g : Progress) (budget bodies : ℕ) (c : Cursor)
-        → InProgress (sight_of p s g) s.tree (g.units + budget) (g.bodies + bodies) c → is_over c ≡ false → bodies ≤ budget
+        → InProgress (sight_of p s g) s.tree (g.units + budget) (g.bodies + bodies) c → is_over c ≡ false
+        → bodies ≤ budget
         → Yields p s g (Some budget) (record { lines = []; bodies = bodies; after = record s { progress = Some (gone_on g budget bodies) } }) }
 {}
 
