@@ -18,7 +18,7 @@ use std::marker::Model;
 /// The value of a fiber is whatever a type holds: nothing here looks into it. Contracts see two trees of plain data, in which
 /// a made fiber stands with the current one that it was made for, and what was taken over is the current list itself.
 ///
-/// Only `swap` and the marks change the current tree. Only `start`, `child`, `child_behind` and `ids` take memory; for want of
+/// Only `swap` and the marks touch the current tree. Only `start`, `child`, `child_behind` and `ids` take memory; for want of
 /// it both trees are as they were.
 #[derive(Drop)]
 pub struct FiberTree<F> {
@@ -213,16 +213,6 @@ impl<F> FiberTree<F> {
         ensures { self.new ≡ record self.old { draft = valued id (F.marked by.now) self.old.draft } }
     {
         mark_one(&mut self.nodes, id, by);
-    }
-
-    /// Writes the value of a current fiber alone, in each tree that has it.
-    pub fn set_current(&mut self, fiber: FiberId, value: F)
-    where
-        F: Drop,
-        requires { Holds self.old.current fiber }
-        ensures { self.new ≡ changed_current (λ v. value) fiber self.old }
-    {
-        write_one(&mut self.nodes, fiber, value);
     }
 
     /// What always holds of the two trees. Of the children that the alternate of a made fiber has, one is unused where none of the
