@@ -4,9 +4,9 @@
 mod attr;
 mod effect;
 mod element;
-mod kind;
 #[cfg(test)]
-mod tests;
+mod examples;
+mod kind;
 mod walks;
 
 pub use attr::{Attr, AttrValue};
