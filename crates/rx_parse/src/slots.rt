@@ -1,8 +1,12 @@
 // Slots, elements and child lists.
+ghost use Rattle.std.specs.Prelude.{Ok};
+ghost use Rattle.rx_lex.specs.declared.token.Sign.TheVariants as sign;
+ghost use Rattle.rx_ast.specs.Syntax.{choice};
+ghost use Rattle.rx_grammar.specs.Steps.{◌>>=◌};
 ghost use Rattle.rx_lex.specs.Tokens.{kinds};
 ghost use Rattle.rx_ast.specs.SlotView.{key_place_of};
 ghost use Rattle.rx_grammar.specs.Openings.{opening_of};
-ghost use Rattle.rx_grammar.specs.Reading.{keyed_at, braced_slot, fallback_at, tag_at, closing_name_at, end_or_element, child_at, content_at, element_at, enclosed_at, repeated_at, slot_choice_at, shown_at, plain_with, slot_with, slot_inner, slot_at, children_at, element_behind};
+ghost use Rattle.rx_grammar.specs.Reading.{sign_at, keyed_at, braced_slot, fallback_at, tag_at, closing_name_at, end_or_element, child_at, content_at, element_at, enclosed_at, repeated_at, slot_choice_at, shown_at, plain_with, slot_with, slot_inner, slot_at, children_at, element_behind};
 ghost use Rattle.rx_parse.specs.Results.{Gives};
 
 use crate::attributes::{attributes, key, last_key, upper_tag};
@@ -226,7 +230,8 @@ fn enclosed<'a>(
     }
     let rest = expect(rest, Sign::OpenParen)?;
     let (element, rest) = element(alloc, rest, level - 1)?;
-    closed(Slot::enclosed(element), expect(rest, Sign::CloseParen))
+    let (element, rest) = closed(element, expect(rest, Sign::CloseParen))?;
+    Ok((Slot::enclosed(element), rest))
 }
 
 /// `for (index < bound, limit) item`
@@ -253,6 +258,22 @@ fn repeated<'a>(
     Ok((Slot::repeated(alloc, index, bound, limit, item)?, rest))
 }
 
+/// The second slot behind a test, with the `:` before it.
+#[cycle(slot)]
+fn second<'a>(
+    alloc: Global,
+    test: Expr,
+    first: Slot,
+    rest: &'a [Token],
+    level: usize,
+) -> Result<(Slot, &'a [Token]), Fault>
+    ensures { Gives (λ x. (x.0, kinds x.1.now)) result (sign_at sign.Colon (kinds rest.now) >>= λ s. slot_at level s.1 >>= λ b. Ok (choice test first b.0, b.1)) }
+{
+    let rest = expect(rest, Sign::Colon)?;
+    let (second, rest) = slot(alloc, rest, level)?;
+    Ok((Slot::choice(alloc, test, first, second)?, rest))
+}
+
 /// The two slots behind a test.
 #[cycle(slot)]
 fn choice<'a>(
@@ -268,9 +289,7 @@ fn choice<'a>(
     }
     let (test, rest) = closed(test, expect(rest, Sign::Question))?;
     let (test, first, rest) = beside(test, slot(alloc, rest, level - 1))?;
-    let (first, rest) = closed(first, expect(rest, Sign::Colon))?;
-    let (first, second, rest) = beside(first, slot(alloc, rest, level - 1))?;
-    Ok((Slot::choice(alloc, test, first, second)?, rest))
+    second(alloc, test, first, rest, level - 1)
 }
 
 /// An integer, or a choice.

@@ -40,6 +40,9 @@ decreases-enclosed l = l.level * 100 + 3
 abbrev pub decreases-repeated : goal.decreases-repeated
 decreases-repeated l = l.level * 100 + 3
 
+abbrev pub decreases-second : goal.decreases-second
+decreases-second l = l.level * 100 + 15
+
 abbrev pub decreases-choice : goal.decreases-choice
 decreases-choice l = l.level * 100 + 3
 
@@ -52,8 +55,8 @@ decreases-plain l = l.level * 100 + 6
 abbrev pub decreases-slot : goal.decreases-slot
 decreases-slot l = l.level * 100 + 10
 
-abbrev pub invariant-children-loop-alloc : goal.invariant-children-loop-alloc
-invariant-children-loop-alloc l = in_front l.children.items (children_at l.level (kinds l.rest)) ≡ children_at l.level (kinds l.fn.rest)
+abbrev pub invariant-children-loop-children : goal.invariant-children-loop-children
+invariant-children-loop-children l = in_front l.children.items (children_at l.level (kinds l.rest)) ≡ children_at l.level (kinds l.fn.rest)
 
-abbrev pub decreases-children-loop-alloc : goal.decreases-children-loop-alloc
-decreases-children-loop-alloc l = length l.rest
+abbrev pub decreases-children-loop-children : goal.decreases-children-loop-children
+decreases-children-loop-children l = length l.rest
