@@ -5,7 +5,7 @@ use Rattle.rx_base.specs.Values.{Name}
 use Rattle.rx_ast.specs.Syntax.{Program}
 use Rattle.rx_check.specs.Bounds.{node_bound, node_limit}
 use Rattle.rx_check.specs.Checks.{is_rooted, count_over}
-use Rattle.rx_check.specs.Refusals.{first_some, refused_name, refusals, refusal_of}
+use Rattle.rx_check.specs.Refusals.{first_some, refused_name, name_refusals, way_refusals, count_refusals, size_refusals, refusals, refusal_of}
 use Rattle.rx_check.specs.Accepted.{IsAccepted}
 use Rattle.rx_check.specs.declared.refusal.Count.{Count}
 use Rattle.rx_check.specs.declared.refusal.Count.TheVariants as count
@@ -66,30 +66,35 @@ front-none (o ∷ os) h = head-none o os h
 place-none : {A : Type 0} (n : ℕ) (os : List (Option A)) → first_some os ≡ None → front (behind n os) ≡ None
 place-none n os h = front-none (behind n os) (behind-none n os h)
 
-counts-none : (p : Program) → first_some (refusals p) ≡ None → (w : Count) → count_over p w ≡ None
-counts-none p h count.Name = map-none _ _ (place-none 7 (refusals p) h)
-counts-none p h count.Text = map-none _ _ (place-none 8 (refusals p) h)
-counts-none p h count.Declarations = map-none _ _ (place-none 9 (refusals p) h)
-counts-none p h count.Parameters = map-none _ _ (place-none 10 (refusals p) h)
-counts-none p h count.Statements = map-none _ _ (place-none 11 (refusals p) h)
-counts-none p h count.Attributes = map-none _ _ (place-none 12 (refusals p) h)
-counts-none p h count.Dependencies = map-none _ _ (place-none 13 (refusals p) h)
-counts-none p h count.List = map-none _ _ (place-none 14 (refusals p) h)
-counts-none p h count.Resources = map-none _ _ (place-none 15 (refusals p) h)
-counts-none p h count.Depth = map-none _ _ (place-none 16 (refusals p) h)
+counts-none : (p : Program) → first_some (count_refusals p) ≡ None → (w : Count) → count_over p w ≡ None
+counts-none p h count.Name = map-none _ _ (place-none 0 (count_refusals p) h)
+counts-none p h count.Text = map-none _ _ (place-none 1 (count_refusals p) h)
+counts-none p h count.Declarations = map-none _ _ (place-none 2 (count_refusals p) h)
+counts-none p h count.Parameters = map-none _ _ (place-none 3 (count_refusals p) h)
+counts-none p h count.Statements = map-none _ _ (place-none 4 (count_refusals p) h)
+counts-none p h count.Attributes = map-none _ _ (place-none 5 (count_refusals p) h)
+counts-none p h count.Dependencies = map-none _ _ (place-none 6 (count_refusals p) h)
+counts-none p h count.List = map-none _ _ (place-none 7 (count_refusals p) h)
+counts-none p h count.Resources = map-none _ _ (place-none 8 (count_refusals p) h)
+counts-none p h count.Depth = map-none _ _ (place-none 9 (count_refusals p) h)
 
 -- a program that is not refused meets every check
 pub accepted : (p : Program) → refusal_of p ≡ None → IsAccepted p
 unfolding refusal_of
-accepted p h = record {
-  introduced_once = names-none _ _ (place-none 0 (refusals p) h);
-  all_known = names-none _ _ (place-none 1 (refusals p) h);
-  all_fit = names-none _ _ (place-none 2 (refusals p) h);
-  no_function_cycle = names-none _ _ (place-none 3 (refusals p) h);
-  no_component_cycle = names-none _ _ (place-none 4 (refusals p) h);
-  no_outside_use = names-none _ _ (place-none 5 (refusals p) h);
-  rooted = root-there (is_rooted p) (place-none 6 (refusals p) h);
-  within_counts = counts-none p h;
-  within_nodes = not-over node_limit (node_bound p) (map-none _ _ (place-none 17 (refusals p) h));
-  within_cost = map-none _ _ (place-none 18 (refusals p) h);
-}
+accepted p h =
+    let names : first_some (name_refusals p) ≡ None = place-none 0 (refusals p) h in
+    let ways : first_some (way_refusals p) ≡ None = place-none 1 (refusals p) h in
+    let numbers : first_some (count_refusals p) ≡ None = place-none 2 (refusals p) h in
+    let sizes : first_some (size_refusals p) ≡ None = place-none 3 (refusals p) h in
+    record {
+      introduced_once = names-none _ _ (place-none 0 (name_refusals p) names);
+      all_known = names-none _ _ (place-none 1 (name_refusals p) names);
+      all_fit = names-none _ _ (place-none 2 (name_refusals p) names);
+      no_function_cycle = names-none _ _ (place-none 0 (way_refusals p) ways);
+      no_component_cycle = names-none _ _ (place-none 1 (way_refusals p) ways);
+      no_outside_use = names-none _ _ (place-none 2 (way_refusals p) ways);
+      rooted = root-there (is_rooted p) (place-none 3 (way_refusals p) ways);
+      within_counts = counts-none p numbers;
+      within_nodes = not-over node_limit (node_bound p) (map-none _ _ (place-none 0 (size_refusals p) sizes));
+      within_cost = map-none _ _ (place-none 1 (size_refusals p) sizes);
+    }

@@ -5,7 +5,7 @@ use Rattle.std.specs.List.{cons_option}
 use Rattle.std.specs.Prelude.{ℕ, suc, filter_map, slice_get}
 use Rattle.rx_ast.specs.Syntax.{Program, Component, Function, as_component, as_function, as_context, components, functions}
 use Rattle.rx_check.specs.Names.{component_names, resources}
-use Rattle.rx_check.specs.Checks.{function_names, context_names, count_in}
+use Rattle.rx_check.specs.Checks.{function_names, context_names, measure_in}
 use Rattle.rx_check.specs.Accepted.{IsAccepted}
 use Rattle.rx_check.specs.declared.refusal.Count.TheVariants as count
 use Rattle.rx_check.specs.declared.mention.Mention.TheVariants as mention
@@ -41,10 +41,10 @@ few-resources p a = not-over 64 (length (resources p)) (a.within_counts count.Re
 pub few-statements : (p : Program) → IsAccepted p → (i : ℕ) (c : Component) → slice_get (components p) i ≡ Some c → length c.statements ≤ 64
 few-statements p a i c e =
     within-find 64 (length c.statements) _ (a.within_counts count.Statements)
-    (IsIn-filter_map (count_in count.Statements) (mention.Counted count.Statements (length c.statements)) _ _ refl (component-mentioned p i c _ e (inr (inl refl))))
+    (IsIn-filter_map (measure_in count.Statements) (mention.Counted count.Statements (length c.statements)) _ _ refl (component-mentioned p i c _ e (inr (inl refl))))
 
 -- a function has few parameters
 pub few-parameters : (p : Program) → IsAccepted p → (i : ℕ) (f : Function) → slice_get (functions p) i ≡ Some f → length f.parameters ≤ 16
 few-parameters p a i f e =
     within-find 16 (length f.parameters) _ (a.within_counts count.Parameters)
-    (IsIn-filter_map (count_in count.Parameters) (mention.Counted count.Parameters (length f.parameters)) _ _ refl (function-mentioned p i f _ e (inl refl)))
+    (IsIn-filter_map (measure_in count.Parameters) (mention.Counted count.Parameters (length f.parameters)) _ _ refl (function-mentioned p i f _ e (inl refl)))

@@ -1,5 +1,5 @@
 -- The checks of a program. Each lists what it refuses, in the order of the text.
-use Rattle.std.specs.Prelude.{ℕ, max, Bool, true, false, not, ◌&&◌, ◌||◌, nat_eq, nat_lt, bytes_eq, List, [], ◌∷◌, Option, Some, None, filter, filter_map, map, length, find, cond, is_some, slice_get}
+use Rattle.std.specs.Prelude.{ℕ, max, Bool, true, false, not, ◌&&◌, ◌||◌, nat_eq, nat_lt, bytes_eq, List, [], ◌∷◌, Option, Some, None, filter, filter_map, map, length, find, cond, is_some}
 use Rattle.std.specs.List.{list_all}
 use Rattle.std.specs.Option.{option_map_or}
 use Rattle.rx_base.specs.Values.{Name}
@@ -8,7 +8,7 @@ use Rattle.rx_check.specs.Names.{has_name, root_name, component_names, component
 use Rattle.rx_check.specs.Bounds.{body_by, component_levels, may_wait, node_bound, node_limit, depth_bound}
 use Rattle.rx_check.specs.Limits.{limit_of, cost_limit}
 use Rattle.rx_check.specs.Mentions.{children_name, mentions, function_mentions, component_mentions}
-use Rattle.rx_check.specs.Graphs.{Graph, cycles}
+use Rattle.rx_check.specs.Graphs.{Graph, cycle_names}
 use Rattle.rx_check.specs.Costs.{declaration_cost}
 use Rattle.rx_check.specs.declared.refusal.Count.{Count}
 use Rattle.rx_check.specs.declared.refusal.Count.TheVariants as count
@@ -49,19 +49,23 @@ function_names p = map (λ f. f.name) (functions p)
 abbrev pub context_names : Program → List Name
 context_names p = map (λ c. c.name) (contexts p)
 
--- a name that is not known as what it stands for
+-- a name that is not known as what it stands for, where these are declared
+abbrev pub unknown_among : (functions components contexts : List Name) → Mention → Option Name
+unknown_among fs cs xs (mention.Introduced x again) = None
+unknown_among fs cs xs (mention.Variable x known) = unless known x
+unknown_among fs cs xs (mention.Call f n) = unless (has_name fs f) f
+unknown_among fs cs xs (mention.Reduction f) = unless (has_name fs f) f
+unknown_among fs cs xs (mention.Context c) = unless (has_name xs c) c
+unknown_among fs cs xs (mention.Element c attrs filled) = unless (has_name cs c) c
+unknown_among fs cs xs (mention.Host h) = None
+unknown_among fs cs xs (mention.Children known) = unless known children_name
+unknown_among fs cs xs (mention.Resource r) = None
+unknown_among fs cs xs (mention.Quoted n) = None
+unknown_among fs cs xs (mention.Counted w n) = None
+
+-- a name of a program that is not known as what it stands for
 abbrev pub unknown_in : Program → Mention → Option Name
-unknown_in p (mention.Introduced x again) = None
-unknown_in p (mention.Variable x known) = unless known x
-unknown_in p (mention.Call f n) = unless (has_name (function_names p) f) f
-unknown_in p (mention.Reduction f) = unless (has_name (function_names p) f) f
-unknown_in p (mention.Context c) = unless (has_name (context_names p) c) c
-unknown_in p (mention.Element c attrs filled) = unless (has_name (component_names p) c) c
-unknown_in p (mention.Host h) = None
-unknown_in p (mention.Children known) = unless known children_name
-unknown_in p (mention.Resource r) = None
-unknown_in p (mention.Quoted n) = None
-unknown_in p (mention.Counted w n) = None
+unknown_in p m = unknown_among (function_names p) (component_names p) (context_names p) m
 
 -- the names that are not known as what they stand for
 abbrev pub unknowns : Program → List Name
@@ -145,11 +149,11 @@ places p = map (λ c. map (component_number p) (filter_map placed_in (component_
 
 -- the functions that reach themselves by calls
 abbrev pub function_cycles : Program → List Name
-function_cycles p = filter_map (slice_get (function_names p)) (cycles (calls p))
+function_cycles p = cycle_names (calls p) (function_names p)
 
 -- the components that reach themselves by the elements in their bodies
 abbrev pub component_cycles : Program → List Name
-component_cycles p = filter_map (slice_get (component_names p)) (cycles (places p))
+component_cycles p = cycle_names (places p) (component_names p)
 
 -- Resources outside of a boundary
 
@@ -224,16 +228,29 @@ count_in v (mention.Resource r) = None
 count_in v (mention.Quoted n) = None
 count_in v (mention.Counted w n) = cond (same_count v w) (Some n) None
 
+-- what is counted of this thing in a mention
+abbrev pub measure_in : Count → Mention → Option ℕ
+measure_in count.Name m = name_length_in m
+measure_in count.Text m = text_length_in m
+measure_in count.Declarations m = None
+measure_in count.Parameters m = count_in count.Parameters m
+measure_in count.Statements m = count_in count.Statements m
+measure_in count.Attributes m = count_in count.Attributes m
+measure_in count.Dependencies m = count_in count.Dependencies m
+measure_in count.List m = count_in count.List m
+measure_in count.Resources m = None
+measure_in count.Depth m = None
+
 -- what is counted of this thing, in the order of the text
 abbrev pub counts : Program → Count → List ℕ
-counts p count.Name = filter_map name_length_in (mentions p)
-counts p count.Text = filter_map text_length_in (mentions p)
+counts p count.Name = filter_map (measure_in count.Name) (mentions p)
+counts p count.Text = filter_map (measure_in count.Text) (mentions p)
 counts p count.Declarations = length p.declarations ∷ []
-counts p count.Parameters = filter_map (count_in count.Parameters) (mentions p)
-counts p count.Statements = filter_map (count_in count.Statements) (mentions p)
-counts p count.Attributes = filter_map (count_in count.Attributes) (mentions p)
-counts p count.Dependencies = filter_map (count_in count.Dependencies) (mentions p)
-counts p count.List = filter_map (count_in count.List) (mentions p)
+counts p count.Parameters = filter_map (measure_in count.Parameters) (mentions p)
+counts p count.Statements = filter_map (measure_in count.Statements) (mentions p)
+counts p count.Attributes = filter_map (measure_in count.Attributes) (mentions p)
+counts p count.Dependencies = filter_map (measure_in count.Dependencies) (mentions p)
+counts p count.List = filter_map (measure_in count.List) (mentions p)
 counts p count.Resources = length (resources p) ∷ []
 counts p count.Depth = depth_bound p ∷ []
 

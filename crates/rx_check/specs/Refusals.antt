@@ -32,17 +32,27 @@ refused_count p w = option_map (λ n. refusal.Count w n (limit_of w)) (count_ove
 abbrev pub refused_root : Program → Option Refusal
 refused_root p = cond (is_rooted p) None (Some refusal.NoApp)
 
--- the checks in their order
-abbrev pub refusals : Program → List (Option Refusal)
-refusals p =
+-- the checks of names
+abbrev pub name_refusals : Program → List (Option Refusal)
+name_refusals p =
     refused_name refusal.Duplicate (repeats p)
     ∷ refused_name refusal.Unknown (unknowns p)
     ∷ refused_name refusal.Arity (misfits p)
-    ∷ refused_name refusal.FunctionCycle (function_cycles p)
+    ∷ []
+
+-- the checks of cycles, of resources outside of a boundary, and of the root
+abbrev pub way_refusals : Program → List (Option Refusal)
+way_refusals p =
+    refused_name refusal.FunctionCycle (function_cycles p)
     ∷ refused_name refusal.ComponentCycle (component_cycles p)
     ∷ refused_name refusal.UseOutside (outside_uses p)
     ∷ refused_root p
-    ∷ refused_count p count.Name
+    ∷ []
+
+-- the checks of counts
+abbrev pub count_refusals : Program → List (Option Refusal)
+count_refusals p =
+    refused_count p count.Name
     ∷ refused_count p count.Text
     ∷ refused_count p count.Declarations
     ∷ refused_count p count.Parameters
@@ -52,9 +62,16 @@ refusals p =
     ∷ refused_count p count.List
     ∷ refused_count p count.Resources
     ∷ refused_count p count.Depth
-    ∷ option_map refusal.TreeBound (nodes_over p)
-    ∷ option_map refusal.Cost (cost_over p)
     ∷ []
+
+-- the checks of nodes and costs
+abbrev pub size_refusals : Program → List (Option Refusal)
+size_refusals p = option_map refusal.TreeBound (nodes_over p) ∷ option_map refusal.Cost (cost_over p) ∷ []
+
+-- all checks in their order
+abbrev pub refusals : Program → List (Option Refusal)
+refusals p =
+    first_some (name_refusals p) ∷ first_some (way_refusals p) ∷ first_some (count_refusals p) ∷ first_some (size_refusals p) ∷ []
 
 -- the refusal of a program, if it is refused: that of the first check that refuses it
 unfoldable pub refusal_of : Program → Option Refusal

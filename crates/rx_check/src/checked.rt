@@ -1,17 +1,17 @@
 // A program that meets every check.
-ghost use Rattle.std.specs.Prelude.{◌≡◌, ◌<◌, ◌^◌, bytes_eq, position, length, filter_map, IfOk};
+ghost use Rattle.std.specs.Prelude.{◌≡◌, ◌<◌, ◌^◌, bytes_eq, position, length, filter_map};
 ghost use Rattle.rx_check.specs.Names.{component_names, resources, hook_in};
 ghost use Rattle.rx_check.specs.Bounds.{node_bound, depth_bound};
 ghost use Rattle.rx_check.specs.Checks.{function_names, context_names};
 ghost use Rattle.rx_check.specs.Accepted.{IsAccepted};
+ghost use Rattle.rx_check.specs.Listed.{IsListed};
 ghost use Rattle.rx_check.specs.Tables.{hook_among, hook_named, parameter_count};
 
 use crate::hook::HookKind;
-use crate::listing::names_of;
+use crate::listing::Listing;
 use crate::table::Table;
 use rx_ast::{Program, Statement, StatementKind};
 use rx_base::Name;
-use std::alloc::{AllocError, Global};
 use std::marker::Model;
 
 /// A program that meets every check. Contracts see it as the program.
@@ -71,32 +71,29 @@ fn hook_among(statements: &[Statement], functions: &Table, name: &str) -> Option
     None
 }
 
-/// A program that meets every check, with its bounds.
-///
-/// # Errors
-///
-/// Want of memory alone.
-pub(crate) fn accept(
-    alloc: Global,
-    program: Program,
-    bound: u64,
-    depth: u64,
-) -> Result<Checked, AllocError>
+/// A program that meets every check, with its names and its bounds.
+pub(crate) fn accept(program: Program, listing: Listing, bound: u64, depth: u64) -> Checked
     requires accepted { IsAccepted program }
+    requires listed { IsListed program listing }
     requires bound { bound ≡ node_bound program }
     requires depth { depth ≡ depth_bound program }
-    ensures { IfOk result (λ c. c ≡ program) }
+    ensures { result ≡ program }
 {
-    let names = names_of(alloc, &program)?;
-    Ok(Checked {
+    let Listing {
+        components,
+        functions,
+        contexts,
+        resources,
+    } = listing;
+    Checked {
         program,
         bound,
         depth,
-        components: Table::new(names.components),
-        functions: Table::new(names.functions),
-        contexts: Table::new(names.contexts),
-        resources: Table::new(names.resources),
-    })
+        components: Table::new(components),
+        functions: Table::new(functions),
+        contexts: Table::new(contexts),
+        resources: Table::new(resources),
+    }
 }
 
 impl Checked {

@@ -1,5 +1,5 @@
 // Names in order.
-ghost use Rattle.std.specs.Prelude.{◌≡◌, List, [], ◌∷◌, ◌++◌, OnOk, OnErr, bytes_eq, position};
+ghost use Rattle.std.specs.Prelude.{◌≡◌, List, [], ◌∷◌, ◌++◌, OnOk, OnErr, bytes_eq, position, length, take};
 ghost use Rattle.rx_check.specs.Names.{has_name};
 
 use rx_base::Name;
@@ -64,5 +64,19 @@ impl Names {
         let name = Name::new(alloc, name)?;
         self.items.push(name)?;
         Ok(())
+    }
+
+    /// How many there are.
+    pub fn len(&self) -> usize
+        ensures { result ≡ length self.now }
+    {
+        self.items.len()
+    }
+
+    /// Keeps so many from the front.
+    pub fn truncate(&mut self, kept: usize)
+        ensures { self.new ≡ take kept self.old }
+    {
+        self.items.truncate(kept);
     }
 }

@@ -1,6 +1,7 @@
 // Why a program is refused.
 
 use rx_base::Name;
+use std::alloc::AllocError;
 
 /// What is counted in a program or in a part of it.
 #[derive(Clone, Copy, Debug, PartialEq, Eq)]
@@ -52,4 +53,15 @@ pub enum Refusal {
     Cost(u64),
     /// No memory is left.
     OutOfMemory,
+}
+
+impl From<AllocError> for Refusal {
+    ghost use Rattle.std.specs.Prelude.{◌≡◌};
+    ghost use Rattle.rx_check.specs.declared.refusal.Refusal.TheVariants.{OutOfMemory};
+
+    ghost from_gives = { λ _ e. e ≡ OutOfMemory };
+
+    fn from(_: AllocError) -> Refusal {
+        Refusal::OutOfMemory
+    }
 }

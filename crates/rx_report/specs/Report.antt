@@ -1,10 +1,10 @@
 -- The lines of a report, and their bytes.
-use Rattle.std.specs.Prelude.{ℕ, ◌+◌, ◌*◌, Bool, true, false, List, [], ◌∷◌, ◌++◌, ℤ, Option, Some, None, map, flat_map, find, option_map, unwrap_or, nat_eq, replicate, codes, decimal, if◌then◌else◌}
+use Rattle.std.specs.Prelude.{ℕ, ◌+◌, ◌*◌, Bool, true, false, ◌&&◌, List, [], ◌∷◌, ◌++◌, ℤ, Option, Some, None, map, flat_map, find, option_map, unwrap_or, nat_eq, replicate, codes, decimal, if◌then◌else◌}
 use Rattle.std.specs.Fmt.{signed_decimal}
 use Rattle.rx_base.specs.Values.{Text, Name, in_quotes}
 use Rattle.rx_lane.specs.declared.lane.Lane.{Lane}
 use Rattle.rx_lane.specs.declared.lane.Lane.TheVariants.{Sync, Input, Default, T1, T2, T3, T4, T5, T6, T7, T8, T9, T10, T11, T12, T13, T14, T15, T16, Retry}
-use Rattle.rx_lane.specs.Lanes.{Lanes}
+use Rattle.rx_lane.specs.Lanes.{Lanes, is_empty}
 use Rattle.rx_elem.specs.declared.attr.AttrValue.{AttrValue}
 use Rattle.rx_elem.specs.declared.attr.AttrValue.TheVariants as attr_value
 use Rattle.rx_elem.specs.Trees.{Node}
@@ -174,6 +174,10 @@ line_text counts (tree_host level h) = replicate (2 * level) 32 ++ content_text 
 line_text counts end_quiet = codes "end quiet"
 line_text counts (end_pending lanes n) = codes "end pending " ++ lanes_text lanes ++ codes " suspended " ++ decimal n
 
+-- the last line of a report
+abbrev pub last_line : (pending : Lanes) → (hidden : ℕ) → Line
+last_line lanes n = if is_empty lanes && nat_eq n 0 then end_quiet else end_pending lanes n
+
 -- a line is printed: operations where they are asked for, each other line always
 abbrev pub is_printed : (ops : Bool) → Line → Bool
 is_printed ops (committed k lanes c tree) = true
@@ -196,6 +200,15 @@ line_bytes o l = if is_printed o.ops l then line_text o.counts l ++ 10 ∷ [] el
 -- the bytes of a report
 unfoldable pub report_bytes : Options → List Line → Text
 report_bytes o = flat_map (line_bytes o)
+
+-- a report as it stands: what it shows, and its bytes
+pub record Written : Type 0 where
+  pub options : Options
+  pub bytes : Text
+
+-- a report with one line more, if that line is printed
+abbrev pub with_line : Written → Line → Written
+with_line r l = record { options = r.options; bytes = r.bytes ++ line_bytes r.options l }
 
 -- the level of the host with this number; the container's is 0
 abbrev pub level_in : (known : List (ℕ × ℕ)) → ℕ → ℕ

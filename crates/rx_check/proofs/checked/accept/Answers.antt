@@ -3,13 +3,13 @@ use Rattle.rx_check.proofs.Limited.{few-component_names, few-function_names, few
 use Rattle.rx_check.proofs.checked.accept.Goals as goal
 
 pub new-requires : goal.new-requires
-new-requires c = rw c.in_ok-names.ensures.components (omega (arith, few-component_names _ c.requires.accepted))
+new-requires c = rw c.requires.listed.components_are (omega (arith, few-component_names _ c.requires.accepted))
 
 pub new-requires-2 : goal.new-requires-2
-new-requires-2 c = rw c.in_ok-names.ensures.functions (omega (arith, few-function_names _ c.requires.accepted))
+new-requires-2 c = rw c.requires.listed.functions_are (omega (arith, few-function_names _ c.requires.accepted))
 
 pub new-requires-3 : goal.new-requires-3
-new-requires-3 c = rw c.in_ok-names.ensures.contexts (omega (arith, few-context_names _ c.requires.accepted))
+new-requires-3 c = rw c.requires.listed.contexts_are (omega (arith, few-context_names _ c.requires.accepted))
 
 pub new-requires-4 : goal.new-requires-4
-new-requires-4 c = rw c.in_ok-names.ensures.resources (omega (arith, few-resources _ c.requires.accepted))
+new-requires-4 c = rw c.requires.listed.resources_are (omega (arith, few-resources _ c.requires.accepted))

@@ -1,0 +1,9 @@
+mod Chosen
+mod MountingComputed
+mod ChildrenComputed
+mod QueuesComputed
+mod EffectsComputed
+mod ContextsComputed
+mod SlicesComputed
+mod BoundariesComputed
+mod TransitionsComputed

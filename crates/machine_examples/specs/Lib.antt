@@ -1,0 +1,10 @@
+pub mod Writes
+pub mod Programs
+pub mod Mounting
+pub mod Children
+pub mod Queues
+pub mod Effects
+pub mod Contexts
+pub mod Slices
+pub mod Boundaries
+pub mod Transitions

@@ -1,0 +1,89 @@
+-- Nodes of fibers under ids, each with a child, a sibling, a return and an alternate link.
+use Rattle.std.specs.Prelude.{◌≡◌, ◌≢◌, ℕ, eqb, Option, Some, None, IsSome, ◌+◌, if◌then◌else◌, option_map, slice_set}
+use Rattle.slab.specs.Slab.{Slab, get, slab_len}
+use Rattle.rx_arena.specs.declared.arena.Node.{Node}
+
+-- the link, or none where it leads to this id
+abbrev pub cut : ℕ → Option ℕ → Option ℕ
+cut id None = None
+cut id (Some to) = if eqb to id then None else Some to
+
+module _ {F : Type 0} where
+  -- the node under an id
+  abbrev pub at : Slab (Node F) → ℕ → Option (Node F)
+  at a id = get a id
+
+  -- the id has a node
+  abbrev pub IsLive : Slab (Node F) → ℕ → Type 0
+  IsLive a id = IsSome (at a id)
+
+  -- each id has what it had
+  abbrev pub Keeps : Slab (Node F) → Slab (Node F) → Type 0
+  Keeps old new = (id : ℕ) → at new id ≡ at old id
+
+  -- a node with no links
+  abbrev pub new_node : F → Node F
+  new_node value = record { value = value; child = None; sibling = None; up = None; alternate = None }
+
+  -- the node with another value
+  abbrev pub with_value : F → Node F → Node F
+  with_value value n = record n { value = value }
+
+  -- the node with another child link
+  abbrev pub with_child : Option ℕ → Node F → Node F
+  with_child to n = record n { child = to }
+
+  -- the node with another sibling link
+  abbrev pub with_sibling : Option ℕ → Node F → Node F
+  with_sibling to n = record n { sibling = to }
+
+  -- the node with another return link
+  abbrev pub with_up : Option ℕ → Node F → Node F
+  with_up to n = record n { up = to }
+
+  -- the node with another alternate link
+  abbrev pub with_alternate : Option ℕ → Node F → Node F
+  with_alternate to n = record n { alternate = to }
+
+  -- the node, with no alternate link where that leads to this id
+  abbrev pub cut_node : ℕ → Node F → Node F
+  cut_node id n = record n { alternate = cut id n.alternate }
+
+  -- what an id has, with no alternate link where that leads to this one
+  abbrev pub without : ℕ → Option (Node F) → Option (Node F)
+  without id slot = option_map (cut_node id) slot
+
+  -- the alternate link of what an id has, if it has a node
+  abbrev pub alternate_in : Option (Node F) → Option ℕ
+  alternate_in None = None
+  alternate_in (Some n) = n.alternate
+
+  -- the alternate of each id's alternate is the id
+  pub record AreMutual (a : Slab (Node F)) : Type 0 where
+    pub back : (id to : ℕ) → alternate_in (at a id) ≡ Some to → alternate_in (at a to) ≡ Some id
+
+  -- f changed the node of one id, and every other id has what it had
+  pub record Changes (f : Node F → Node F) (old new : Slab (Node F)) (id : ℕ) : Type 0 where
+    pub changed : at new id ≡ option_map f (at old id)
+    pub others : (other : ℕ) → other ≢ id → at new other ≡ at old other
+    pub live : slab_len new ≡ slab_len old
+    pub capacity : new.capacity ≡ old.capacity
+
+  -- two nodes became alternates of each other, the alternate links that led to them are cut, and nothing else changed
+  pub record Pairs (old new : Slab (Node F)) (a b : ℕ) : Type 0 where
+    pub first : at new a ≡ option_map (with_alternate (Some b)) (at old a)
+    pub second : at new b ≡ option_map (with_alternate (Some a)) (at old b)
+    pub others : (other : ℕ) → other ≢ a → other ≢ b → at new other ≡ without b (without a (at old other))
+    pub live : slab_len new ≡ slab_len old
+    pub capacity : new.capacity ≡ old.capacity
+
+  -- the node is gone, the alternate link that led to it is cut, and nothing else changed
+  pub record Releases (old new : Slab (Node F)) (id : ℕ) : Type 0 where
+    pub gone : at new id ≡ None
+    pub others : (other : ℕ) → other ≢ id → at new other ≡ without id (at old other)
+    pub live : slab_len new + 1 ≡ slab_len old
+    pub capacity : new.capacity ≡ old.capacity
+
+  -- the nodes with this value at an id
+  abbrev pub value_written : Slab (Node F) → ℕ → F → Slab (Node F)
+  value_written a id value = record a { slots = slice_set a.slots id (option_map (with_value value) (at a id)) }

@@ -1,0 +1,269 @@
+// The nodes of fibers.
+ghost use Rattle.std.specs.Prelude.{◌≡◌, ◌≢◌, ◌+◌, ◌<◌, ◌≤◌, ◌^◌, ℕ, Some, None, IsSome, IfSome, OnOk, OnErr, IfOk, Option, option_map};
+ghost use Rattle.std.specs.Borrow.{Lends, sem};
+ghost use Rattle.slab.specs.Slab.{get, slab_len, HasRoomFor};
+ghost use Rattle.rx_arena.specs.Nodes.{at, IsLive, Keeps, new_node, with_child, with_sibling, with_up, with_value, with_alternate, cut_node, alternate_in, Changes, Pairs, Releases, AreMutual};
+
+use crate::id::FiberId;
+use slab::Slab;
+use std::alloc::{AllocError, Global};
+use std::marker::Model;
+
+/// The value of a fiber with its four links, React's `child`, `sibling`, `return` and `alternate`.
+#[derive(Drop)]
+pub struct Node<F> {
+    value: F,
+    child: Option<FiberId>,
+    sibling: Option<FiberId>,
+    up: Option<FiberId>,
+    alternate: Option<FiberId>,
+}
+
+/// The nodes of fibers under ids that it picks, with any value in them. Where one node is the alternate of another, the other
+/// is its alternate; no link of the other three kinds is looked into. Contracts see which node each id has.
+#[derive(Drop)]
+pub struct Arena<F> {
+    nodes: Slab<Node<F>>,
+}
+
+impl<F> Model for Arena<F> {
+    ghost use Rattle.slab.specs.Slab.{Slab as Slots};
+    ghost use Rattle.rx_arena.specs.declared.arena.Node.{Node};
+
+    ghost Value = { Slots (Node F) };
+
+    ghost use Rattle.rx_arena.specs.Nodes.{AreMutual};
+
+    ghost view = { λ a. a.nodes };
+
+    ghost invariant = { λ a. AreMutual a.nodes };
+}
+
+impl<F> Arena<F> {
+    ghost use Rattle.rx_arena.specs.Lending.{lends_value};
+
+    /// No node. Takes no memory.
+    pub fn new(alloc: Global) -> Arena<F>
+        ensures empty { (id : ℕ) → at result id ≡ None }
+        ensures live { slab_len result ≡ 0 }
+    {
+        Arena {
+            nodes: Slab::new(alloc),
+        }
+    }
+
+    /// Takes memory for that many nodes more, so that as many calls of `alloc` have room. For want of memory nothing changes.
+    pub fn reserve(&mut self, more: u64) -> Result<(), AllocError>
+        ensures ok { OnOk result (HasRoomFor self.new more) }
+        ensures kept { Keeps self.old self.new }
+        ensures live { slab_len self.new ≡ slab_len self.old }
+        ensures limit { OnOk result (slab_len self.new + more < 2 ^ 64) }
+    {
+        self.nodes.reserve(more as usize)?;
+        let _capacity = self.nodes.capacity();
+        Ok(())
+    }
+
+    /// How many nodes there are.
+    pub fn live(&self) -> u64
+        ensures { result ≡ slab_len self.now }
+    {
+        self.nodes.len() as u64
+    }
+
+    /// A new node with no links, for which room was reserved. No alternate link leads to it.
+    pub fn alloc(&mut self, value: F) -> FiberId
+        requires { HasRoomFor self.old 1 }
+        ensures vacant { at self.old result ≡ None }
+        ensures made { at self.new result ≡ Some (new_node value) }
+        ensures others { (id : ℕ) → id ≢ result → at self.new id ≡ at self.old id }
+        ensures alone { (id : ℕ) → alternate_in (at self.new id) ≢ Some result }
+        ensures live { slab_len self.new ≡ slab_len self.old + 1 }
+        ensures capacity { self.new.capacity ≡ self.old.capacity }
+    {
+        let key = self.nodes.insert_reserved(Node {
+            value,
+            child: None,
+            sibling: None,
+            up: None,
+            alternate: None,
+        });
+        FiberId::of(key)
+    }
+
+    /// The value of a node.
+    pub fn get(&self, id: FiberId) -> &F
+        requires { IsLive self.now id }
+        ensures { IfSome (at self.now id) (λ n. result.now ≡ n.value) }
+    {
+        &node_at(&self.nodes, id).value
+    }
+
+    /// The value of a node, to be written; its links and all other nodes stay.
+    pub fn get_mut(&mut self, id: FiberId) -> &mut F
+        requires { IsLive self.old id }
+        ensures* lends { sem 𝓛 (lends_value F.row self.entry id result) }
+        ensures value { IfSome (at self.old id) (λ n. result.now ≡ n.value) }
+    {
+        match self.nodes.get_mut(id.key()) {
+            Some(node) => node.value_mut(),
+            None => unreachable!(),
+        }
+    }
+
+    /// The child link of a node.
+    pub fn child_of(&self, id: FiberId) -> Option<FiberId>
+        requires { IsLive self.now id }
+        ensures { IfSome (at self.now id) (λ n. result ≡ n.child) }
+    {
+        node_at(&self.nodes, id).child
+    }
+
+    /// The sibling link of a node.
+    pub fn sibling_of(&self, id: FiberId) -> Option<FiberId>
+        requires { IsLive self.now id }
+        ensures { IfSome (at self.now id) (λ n. result ≡ n.sibling) }
+    {
+        node_at(&self.nodes, id).sibling
+    }
+
+    /// The return link of a node.
+    pub fn return_of(&self, id: FiberId) -> Option<FiberId>
+        requires { IsLive self.now id }
+        ensures { IfSome (at self.now id) (λ n. result ≡ n.up) }
+    {
+        node_at(&self.nodes, id).up
+    }
+
+    /// The alternate of a node. It is a node, and its own alternate is this one.
+    pub fn alternate_of(&self, id: FiberId) -> Option<FiberId>
+        requires { IsLive self.now id }
+        ensures value { IfSome (at self.now id) (λ n. result ≡ n.alternate) }
+        ensures live { IfSome result (IsLive self.now) }
+        ensures mutual { AreMutual self.now }
+    {
+        node_at(&self.nodes, id).alternate
+    }
+
+    /// Sets the child link of a node alone.
+    pub fn link_child(&mut self, id: FiberId, to: Option<FiberId>)
+        requires { IsLive self.old id }
+        ensures { Changes (with_child to) self.old self.new id }
+    {
+        set_child(&mut self.nodes, id, to);
+    }
+
+    /// Sets the sibling link of a node alone.
+    pub fn link_sibling(&mut self, id: FiberId, to: Option<FiberId>)
+        requires { IsLive self.old id }
+        ensures { Changes (with_sibling to) self.old self.new id }
+    {
+        set_sibling(&mut self.nodes, id, to);
+    }
+
+    /// Sets the return link of a node alone.
+    pub fn link_return(&mut self, id: FiberId, to: Option<FiberId>)
+        requires { IsLive self.old id }
+        ensures { Changes (with_up to) self.old self.new id }
+    {
+        set_up(&mut self.nodes, id, to);
+    }
+
+    /// Makes two nodes alternates of each other. What was the alternate of either has none then.
+    pub fn pair(&mut self, a: FiberId, b: FiberId)
+        requires first { IsLive self.old a }
+        requires second { IsLive self.old b }
+        requires differ { a ≢ b }
+        ensures { Pairs self.old self.new a b }
+    {
+        clear(&mut self.nodes, a);
+        clear(&mut self.nodes, b);
+        set_alternate(&mut self.nodes, a, Some(b));
+        set_alternate(&mut self.nodes, b, Some(a));
+    }
+
+    /// Takes a node out. What was its alternate has none then; other links that lead there are left to the caller.
+    pub fn release(&mut self, id: FiberId)
+    where
+        F: Drop,
+        requires { IsLive self.old id }
+        ensures { Releases self.old self.new id }
+    {
+        clear(&mut self.nodes, id);
+        let _gone = self.nodes.try_remove(id.key());
+    }
+}
+
+impl<F> Node<F> {
+    ghost use Rattle.rx_arena.specs.contracts.arena.Node.{the_row};
+
+    fn value_mut(&mut self) -> &mut F
+        ensures* lends { sem 𝓛 (Lends (the_row F.row) F.row self.entry result (λ v. with_value v self.old)) }
+        ensures value { result.now ≡ self.old.value }
+    {
+        &mut self.value
+    }
+}
+
+fn node_at<F>(nodes: &Slab<Node<F>>, id: FiberId) -> &Node<F>
+    requires { IsLive nodes.now id }
+    ensures { at nodes.now id ≡ Some result.now }
+{
+    match nodes.get(id.key()) {
+        Some(node) => node,
+        None => unreachable!(),
+    }
+}
+
+fn set_child<F>(nodes: &mut Slab<Node<F>>, id: FiberId, to: Option<FiberId>)
+    requires { IsLive nodes.old id }
+    ensures { Changes (with_child to) nodes.old nodes.new id }
+{
+    if let Some(node) = nodes.get_mut(id.key()) {
+        node.child = to;
+    }
+}
+
+fn set_sibling<F>(nodes: &mut Slab<Node<F>>, id: FiberId, to: Option<FiberId>)
+    requires { IsLive nodes.old id }
+    ensures { Changes (with_sibling to) nodes.old nodes.new id }
+{
+    if let Some(node) = nodes.get_mut(id.key()) {
+        node.sibling = to;
+    }
+}
+
+fn set_up<F>(nodes: &mut Slab<Node<F>>, id: FiberId, to: Option<FiberId>)
+    requires { IsLive nodes.old id }
+    ensures { Changes (with_up to) nodes.old nodes.new id }
+{
+    if let Some(node) = nodes.get_mut(id.key()) {
+        node.up = to;
+    }
+}
+
+fn set_alternate<F>(nodes: &mut Slab<Node<F>>, id: FiberId, to: Option<FiberId>)
+    requires { IsLive nodes.old id }
+    ensures { Changes (with_alternate to) nodes.old nodes.new id }
+{
+    if let Some(node) = nodes.get_mut(id.key()) {
+        node.alternate = to;
+    }
+}
+
+// Cuts the alternate link of a node, and the one that leads to it.
+fn clear<F>(nodes: &mut Slab<Node<F>>, id: FiberId)
+    requires live { IsLive nodes.old id }
+    requires mutual { AreMutual nodes.old }
+    ensures own { at nodes.new id ≡ option_map (with_alternate None) (at nodes.old id) }
+    ensures others { (other : ℕ) → other ≢ id → at nodes.new other ≡ option_map (cut_node id) (at nodes.old other) }
+    ensures mutual { AreMutual nodes.new }
+    ensures live { slab_len nodes.new ≡ slab_len nodes.old }
+    ensures capacity { nodes.new.capacity ≡ nodes.old.capacity }
+{
+    let other = node_at(nodes, id).alternate;
+    set_alternate(nodes, id, None);
+    if let Some(other) = other {
+        set_alternate(nodes, other, None);
+    }
+}

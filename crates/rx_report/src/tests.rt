@@ -1,0 +1,104 @@
+// Reports of a few lines.
+use crate::report::Report;
+use rx_base::{Int, Ints, Name, Str};
+use rx_effect::LogLine;
+use rx_elem::{Attr, AttrValue};
+use rx_host::HostOp;
+use rx_lane::{Lane, Lanes};
+use std::test::Fail;
+
+#[test]
+fn renders_with_their_counts(rt: HostRuntime) -> Result<(), Fail> {
+    let mut report = Report::new(rt.alloc(), true, false);
+    let lanes = Lanes::one(Lane::Retry).union(Lanes::one(Lane::Sync));
+    report.commit_line(3, lanes, 12, 5)?;
+    report.defer_line(Lanes::one(Lane::T1), 4, 2)?;
+    assert!(rt;
+        report.bytes()
+            == b"commit 3 Sync+Retry units 12 bodies 5\ndefer T1 units 4 bodies 2\n".as_slice()
+    );
+    Ok(())
+}
+
+#[test]
+fn an_operation_where_it_is_asked_for(rt: HostRuntime) -> Result<(), Fail> {
+    let mut report = Report::new(rt.alloc(), false, true);
+    let op = HostOp::Place {
+        host: 4,
+        parent: 1,
+        before: Some(2),
+    };
+    report.op_line(&op)?;
+    assert!(rt; report.bytes() == b"op place #4 under #1 before #2\n".as_slice());
+    Ok(())
+}
+
+#[test]
+fn an_effect_with_its_values(rt: HostRuntime) -> Result<(), Fail> {
+    let mut report = Report::new(rt.alloc(), false, false);
+    let line = LogLine {
+        passive: true,
+        created: false,
+        instance: 2,
+        label: Str::new(rt.alloc(), "a b")?,
+        values: Ints::new(vec![in rt.alloc(); Int::of(-7)]?),
+    };
+    report.log_line(&line)?;
+    assert!(rt; report.bytes() == b"passive - [2] \"a b\" -7\n".as_slice());
+    Ok(())
+}
+
+#[test]
+fn refusals(rt: HostRuntime) -> Result<(), Fail> {
+    let mut report = Report::new(rt.alloc(), false, false);
+    let path = vec![in rt.alloc();
+        (Name::new(rt.alloc(), "App")?, 0),
+        (Name::new(rt.alloc(), "Cell")?, 2),
+    ]?;
+    report.no_instance_line(&path)?;
+    report.already_line(&Name::new(rt.alloc(), "r")?, Int::of(5))?;
+    assert!(rt; report.bytes() == b"no-instance App/Cell@2\nalready r 5\n".as_slice());
+    Ok(())
+}
+
+#[test]
+fn an_instance_with_a_hook(rt: HostRuntime) -> Result<(), Fail> {
+    let mut report = Report::new(rt.alloc(), false, false);
+    let hooks = vec![in rt.alloc(); Name::new(rt.alloc(), "n")?]?;
+    report.state_head()?;
+    report.state_line(
+        1,
+        &Name::new(rt.alloc(), "App")?,
+        &hooks,
+        &[Int::of(3)],
+        true,
+    )?;
+    assert!(rt; report.bytes() == b"state\n  [1] App n=3 hidden\n".as_slice());
+    Ok(())
+}
+
+#[test]
+fn hosts_on_their_levels(rt: HostRuntime) -> Result<(), Fail> {
+    let mut report = Report::new(rt.alloc(), false, false);
+    let attr = Attr {
+        name: Name::new(rt.alloc(), "x")?,
+        value: AttrValue::Number(Int::of(1)),
+    };
+    let attrs = vec![in rt.alloc(); attr]?;
+    report.tree_head()?;
+    report.element_line(1, &Name::new(rt.alloc(), "b")?, &attrs, true)?;
+    report.text_line(2, &Str::new(rt.alloc(), "t")?, false)?;
+    assert!(rt; report.bytes() == b"tree\n  b x=1 hidden\n    \"t\"\n".as_slice());
+    Ok(())
+}
+
+#[test]
+fn the_end_and_a_cut(rt: HostRuntime) -> Result<(), Fail> {
+    let mut report = Report::new(rt.alloc(), false, false);
+    report.end_line(Lanes::none(), 1)?;
+    report.end_line(Lanes::none(), 0)?;
+    report.cut(36);
+    assert_eq!(rt; report.len(), 36);
+    assert!(rt; report.bytes() == b"end pending none suspended 1\nend qui".as_slice());
+    Ok(())
+}
