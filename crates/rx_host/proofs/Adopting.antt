@@ -1,18 +1,16 @@
 -- A child is taken out of a list of hosts, and leaves its own children to another host.
-use Rattle.std.specs.Prelude.{◌≡◌, ◌⊎◌, ℕ, Bool, true, false, cond, not, ◌&&◌, ◌||◌, List, [], ◌∷◌, ◌++◌, Option, Some, None, filter, find, map, option_map, is_some, nat_eq, bytes_eq, refl, if◌then◌else◌}
-use Rattle.std.specs.List.{list_any}
+use Rattle.std.specs.Prelude.{◌≡◌, ◌⊎◌, ℕ, Bool, true, false, cond, not, ◌&&◌, ◌||◌, List, [], ◌∷◌, ◌++◌, Option, Some, None, filter, find, map, option_map, is_some, nat_eq, refl}
 use Rattle.std.specs.Option.{option_map_or}
 use Rattle.std.proofs.Math.Path.{fun_ext}
-use Rattle.std.proofs.Common.{sym, ◌∙◌, ap, subst, inl, inr}
+use Rattle.std.proofs.Common.{sym, ◌∙◌, ap, inl, inr}
 use Rattle.rx_base.specs.Values.{Name}
 use Rattle.rx_host.specs.declared.entry.HostEntry.{HostEntry}
 use Rattle.rx_host.specs.declared.entry.HostKind.{HostKind}
 use Rattle.rx_host.specs.declared.entry.HostKind.TheVariants as kind
 use Rattle.rx_host.specs.declared.entry.AttrEntry.{AttrEntry}
-use Rattle.rx_host.specs.Forests.{Body, Held, HostForest, tag, letters, is_among, without}
+use Rattle.rx_host.specs.Forests.{Body, tag, is_among, without}
 use Rattle.rx_host.specs.Kept.{entry_of, stands_under, children_kept, is_attr, value_kept, body_as, held_as, forest_as, AreDistinct, AreOwned, IsSound, given}
-use Rattle.rx_host.proofs.Entries.{self, same, flip, entry-named, absent-head, absent-cons, entry-middle, distinct-parts, children-cons, children-middle, without-absent}
-use Rattle.rx_host.proofs.Changes.{nat_eq-turn}
+use Rattle.rx_host.proofs.Entries.{self, same, flip, entry-named, entry-middle, distinct-parts, children-cons}
 use Rattle.rx_host.proofs.Placing.{without-middle}
 use Rattle.rx_host.specs.Steps.{Adopts, TakesOut, HasNoOtherChild}
 
@@ -178,9 +176,9 @@ other-held attrs k n m None num other = refl
 other-held attrs k n m (Some e) num other =
     let apart : nat_eq e.number k ≡ false = ap (λ (i : ℕ). nat_eq i k) (num e refl) ∙ other in
     ap Some (ap (λ (i : ℕ). record { body = body_as (filter (λ a. not (nat_eq a.host k)) attrs) i (given k n e).kind; hidden = (given k n e).hidden }) (given-number k n e)
-      ∙ ap (λ (h : HostKind). record { body = body_as (filter (λ a. not (nat_eq a.host k)) attrs) e.number h; hidden = (given k n e).hidden }) (given-kind k n e)
-      ∙ ap (λ (t : Bool). record { body = body_as (filter (λ a. not (nat_eq a.host k)) attrs) e.number e.kind; hidden = t }) (given-hidden k n e)
-      ∙ ap (λ (b : Body). record { body = b; hidden = e.hidden }) (other-body attrs k e.number e.kind apart))
+    ∙ ap (λ (h : HostKind). record { body = body_as (filter (λ a. not (nat_eq a.host k)) attrs) e.number h; hidden = (given k n e).hidden }) (given-kind k n e)
+    ∙ ap (λ (t : Bool). record { body = body_as (filter (λ a. not (nat_eq a.host k)) attrs) e.number e.kind; hidden = t }) (given-hidden k n e)
+    ∙ ap (λ (b : Body). record { body = b; hidden = e.hidden }) (other-body attrs k e.number e.kind apart))
 
 -- the same, of a host that stays as it is
 stays-held : (attrs : List AttrEntry) (k m : ℕ) (o : Option HostEntry) → ((e : HostEntry) → o ≡ Some e → e.number ≡ m) → nat_eq m k ≡ false
@@ -284,7 +282,7 @@ adopted xs e ys attrs n under other sound =
       sound = record {
         distinct = distinct-given e.number n (xs ++ ys) (without-entry xs e ys attrs sound).2;
         owned = owned-given (map (given e.number n) (xs ++ ys)) (xs ++ e ∷ ys) e.number attrs
-        (λ m not_child. held-given e.number n (xs ++ ys) m ∙ ap is_some (sym (elsewhere xs e ys attrs sound m not_child))) sound.owned;
+            (λ m not_child. held-given e.number n (xs ++ ys) m ∙ ap is_some (sym (elsewhere xs e ys attrs sound m not_child))) sound.owned;
       };
     }
   where
@@ -336,8 +334,10 @@ pub taken_out : (xs : List HostEntry) (e : HostEntry) (ys : List HostEntry) (att
 taken_out xs e ys attrs only sound =
     record {
       takes = record {
-        gone = (ap (option_map (held_as left)) (without-entry xs e ys attrs sound).1,
-          sym (without-middle xs e ys e.number (without-entry xs e ys attrs sound).1) ∙ childless (children_kept (xs ++ e ∷ ys) e.number) e.number only);
+        gone = (
+          ap (option_map (held_as left)) (without-entry xs e ys attrs sound).1,
+          sym (without-middle xs e ys e.number (without-entry xs e ys attrs sound).1) ∙ childless (children_kept (xs ++ e ∷ ys) e.number) e.number only,
+        );
         held = λ m not_host. stays-held attrs e.number m (entry_of (xs ++ ys) m) (entry-named (xs ++ ys) m) not_host ∙ ap (option_map (held_as attrs)) (sym (elsewhere xs e ys attrs sound m not_host));
         children = λ m not_host. sym (without-middle xs e ys m (without-entry xs e ys attrs sound).1);
       };

@@ -1,5 +1,5 @@
 -- What a change of one host makes of the forest, and of what holds of the lists.
-use Rattle.std.specs.Prelude.{◌≡◌, ℕ, suc, ◌<◌, Bool, true, false, cond, List, [], ◌∷◌, ◌++◌, Option, Some, None, option_map, is_some, nat_eq, length, take, drop, get_or, refl, if◌then◌else◌}
+use Rattle.std.specs.Prelude.{◌≡◌, ℕ, suc, ◌<◌, Bool, true, false, cond, List, [], ◌∷◌, ◌++◌, Option, Some, None, option_map, is_some, nat_eq, length, take, drop, get_or, refl}
 use Rattle.std.specs.Option.{option_map_or}
 use Rattle.std.proofs.Math.ListN.{set}
 use Rattle.std.proofs.Math.Path.{fun_ext}
@@ -9,7 +9,7 @@ use Rattle.std.proofs.Common.{sym, ◌∙◌, ap, subst}
 use Rattle.rx_host.specs.declared.entry.HostEntry.{HostEntry}
 use Rattle.rx_host.specs.declared.entry.AttrEntry.{AttrEntry}
 use Rattle.rx_host.specs.Forests.{HostForest, Held, with_held}
-use Rattle.rx_host.specs.Kept.{entry_of, stands_under, children_kept, held_as, forest_as, AreDistinct, AreOwned, IsSound}
+use Rattle.rx_host.specs.Kept.{entry_of, stands_under, children_kept, held_as, forest_as, AreOwned, IsSound}
 use Rattle.rx_host.proofs.Entries.{flip, entry-middle, distinct-parts, distinct-join, children-middle}
 
 pub nat_eq-turn : (m n : ℕ) → nat_eq m n ≡ nat_eq n m
@@ -81,7 +81,7 @@ changes-split xs e d ys attrs change num par is sound =
     let none : entry_of xs e.number ≡ None = (distinct-parts xs e ys sound.distinct).0 in
     record {
       forest = same-forest (forest_as (xs ++ d ∷ ys) attrs) (with_held (forest_as (xs ++ e ∷ ys) attrs) e.number (option_map change))
-      (held-changed xs e d ys attrs change none num is) (children-same xs e d ys num par);
+          (held-changed xs e d ys attrs change none num is) (children-same xs e d ys num par);
       sound = sound-changed xs e d ys attrs num sound;
     }
 

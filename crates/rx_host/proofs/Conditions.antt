@@ -1,14 +1,14 @@
 -- What the conditions of operations say of a list of hosts.
-use Rattle.std.specs.Prelude.{◌≡◌, ℕ, Bool, true, false, cond, not, ◌&&◌, ◌||◌, List, Option, Some, None, option_map, is_some, nat_eq, IsTrue, refl}
+use Rattle.std.specs.Prelude.{◌≡◌, ℕ, Bool, true, false, not, ◌&&◌, List, Option, Some, None, option_map, is_some, nat_eq, IsTrue, refl}
 use Rattle.std.specs.Option.{option_map_or}
-use Rattle.std.proofs.Common.{sym, ◌∙◌, ap, subst}
+use Rattle.std.proofs.Common.{subst}
 use Rattle.rx_elem.specs.Spots.{container}
 use Rattle.rx_base.specs.Values.{Text}
 use Rattle.rx_host.specs.declared.entry.HostEntry.{HostEntry}
 use Rattle.rx_host.specs.declared.entry.HostKind.{HostKind}
 use Rattle.rx_host.specs.declared.entry.HostKind.TheVariants as kind
 use Rattle.rx_host.specs.declared.entry.AttrEntry.{AttrEntry}
-use Rattle.rx_host.specs.Forests.{HostForest, Held, letters, is_tag, is_held, holds_tag, holds_letters, is_free, with_body, with_letters, with_mark, marked, created, Becomes, CanBeMade}
+use Rattle.rx_host.specs.Forests.{HostForest, is_tag, is_held, holds_tag, holds_letters, is_free, with_body, with_letters, marked, created, Becomes, CanBeMade}
 use Rattle.rx_host.specs.Kept.{entry_of, held_as, forest_as, making, marking}
 use Rattle.rx_host.proofs.Creating.{body_new}
 

@@ -1,5 +1,5 @@
 -- A host is made.
-use Rattle.std.specs.Prelude.{◌≡◌, ℕ, Bool, true, false, cond, List, [], ◌∷◌, ◌++◌, Option, Some, None, option_map, is_some, nat_eq, refl, if◌then◌else◌}
+use Rattle.std.specs.Prelude.{◌≡◌, ℕ, Bool, true, false, cond, List, [], ◌∷◌, ◌++◌, Option, Some, None, option_map, is_some, nat_eq, refl}
 use Rattle.std.specs.Option.{option_map_or}
 use Rattle.std.proofs.Math.Path.{fun_ext}
 use Rattle.std.proofs.Common.{sym, ◌∙◌, ap, subst, append-nil}
@@ -7,10 +7,10 @@ use Rattle.rx_host.specs.declared.entry.HostEntry.{HostEntry}
 use Rattle.rx_host.specs.declared.entry.HostKind.{HostKind}
 use Rattle.rx_host.specs.declared.entry.HostKind.TheVariants as kind
 use Rattle.rx_host.specs.declared.entry.AttrEntry.{AttrEntry}
-use Rattle.rx_host.specs.Forests.{Body, Held, HostForest, tag, letters, new_host, created}
-use Rattle.rx_host.specs.Kept.{entry_of, stands_under, children_kept, body_as, held_as, forest_as, AreDistinct, AreOwned, IsSound}
+use Rattle.rx_host.specs.Forests.{Body, tag, letters, new_host, created}
+use Rattle.rx_host.specs.Kept.{entry_of, children_kept, body_as, held_as, forest_as, AreDistinct, AreOwned, IsSound}
 use Rattle.rx_host.proofs.Entries.{entry-middle, distinct-join, children-middle}
-use Rattle.rx_host.proofs.Changes.{nat_eq-turn, same-forest, owned-same}
+use Rattle.rx_host.proofs.Changes.{nat_eq-turn, same-forest}
 use Rattle.rx_host.proofs.Values.{no-value}
 
 -- what a new host of a kind is

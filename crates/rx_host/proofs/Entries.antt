@@ -1,10 +1,10 @@
 -- Lists of hosts, each with a number of its own.
-use Rattle.std.specs.Prelude.{◌≡◌, ◌≢◌, ℕ, Bool, true, false, cond, not, List, [], ◌∷◌, ◌++◌, Option, Some, None, filter, find, map, option_map, is_some, nat_eq, refl, if◌then◌else◌}
-use Rattle.std.proofs.Common.{sym, ◌∙◌, ap, subst, arith}
+use Rattle.std.specs.Prelude.{◌≡◌, ◌≢◌, ℕ, Bool, true, false, cond, List, [], ◌∷◌, ◌++◌, Some, None, filter, map, nat_eq, refl}
+use Rattle.std.proofs.Common.{sym, ◌∙◌, ap, arith}
 use Rattle.std.proofs.lemmas.Bool.Decides.{nat_tests, Decides-eqb}
 use Rattle.std.proofs.lemmas.Option.{same_Some}
 use Rattle.rx_host.specs.declared.entry.HostEntry.{HostEntry}
-use Rattle.rx_host.specs.Forests.{without, insert_before}
+use Rattle.rx_host.specs.Forests.{without}
 use Rattle.rx_host.specs.Kept.{entry_of, stands_under, children_kept, AreDistinct}
 
 pub self : (n : ℕ) → nat_eq n n ≡ true

@@ -1,11 +1,11 @@
 -- The children of one host are given to another, one host after another.
-use Rattle.std.specs.Prelude.{◌≡◌, ℕ, ◌+◌, ◌<◌, ◌≤◌, Bool, true, false, cond, List, [], ◌∷◌, ◌++◌, Some, map, length, take, drop, get_or, refl}
+use Rattle.std.specs.Prelude.{◌≡◌, ℕ, ◌+◌, ◌<◌, List, [], ◌∷◌, ◌++◌, map, length, take, drop, get_or}
 use Rattle.std.proofs.Math.ListN.{set}
 use Rattle.std.proofs.Math.Seq.{set-append_seam, get_or-append_seam}
 use Rattle.std.proofs.lemmas.List.{take_more, drop_more, map-append, length-map, length-take-le}
-use Rattle.std.proofs.Common.{sym, ◌∙◌, ap, subst, append_assoc, le_of_lt}
+use Rattle.std.proofs.Common.{sym, ◌∙◌, ap, append_assoc, le_of_lt}
 use Rattle.rx_host.specs.declared.entry.HostEntry.{HostEntry}
-use Rattle.rx_host.specs.Kept.{stands_under, given}
+use Rattle.rx_host.specs.Kept.{given}
 
 -- the list where so many hosts are done
 abbrev pub given_so_far : (from to : ℕ) → (done : ℕ) → List HostEntry → List HostEntry

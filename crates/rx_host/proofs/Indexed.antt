@@ -1,9 +1,9 @@
 -- The changes of lists, by the index at which they are made.
-use Rattle.std.specs.Prelude.{◌≡◌, ◌⊎◌, ℕ, suc, ◌<◌, Bool, true, false, cond, not, ◌&&◌, ◌||◌, List, [], ◌∷◌, ◌++◌, Option, Some, None, filter, find, map, option_map, is_some, nat_eq, length, take, drop, get_or, IsTrue, IfSome, IfNone, refl}
+use Rattle.std.specs.Prelude.{◌≡◌, ◌⊎◌, ℕ, suc, ◌<◌, Bool, true, false, cond, not, ◌&&◌, ◌||◌, List, [], ◌∷◌, ◌++◌, Option, Some, None, filter, find, map, nat_eq, length, take, drop, get_or, IsTrue, IfSome, IfNone, refl}
 use Rattle.std.proofs.Math.ListN.{set}
 use Rattle.std.proofs.Math.Seq.{split_at, drop-cons}
 use Rattle.std.proofs.lemmas.List.{set_split, take-append-drop, drop_all, get_or_default}
-use Rattle.std.proofs.Common.{sym, ◌∙◌, ap, subst, arith, le_of_eq, inl, inr}
+use Rattle.std.proofs.Common.{sym, ◌∙◌, ap, subst, le_of_eq, inl, inr}
 use Rattle.rx_base.specs.Values.{Name}
 use Rattle.rx_elem.specs.declared.attr.AttrValue.{AttrValue}
 use Rattle.rx_host.specs.declared.entry.HostEntry.{HostEntry}
@@ -11,7 +11,7 @@ use Rattle.rx_host.specs.declared.entry.AttrEntry.{AttrEntry}
 use Rattle.rx_host.specs.Forests.{is_among, can_stand}
 use Rattle.rx_host.specs.Kept.{entry_of, stands_under, children_kept, is_attr, held_as, forest_as, AreDistinct, AreOwned, IsSound, given}
 use Rattle.rx_host.specs.Steps.{HasNoOtherChild}
-use Rattle.rx_host.proofs.Entries.{self, same, flip, absent-head, entry-middle, distinct-parts, children-cons}
+use Rattle.rx_host.proofs.Entries.{self, flip, absent-head, entry-middle, distinct-parts}
 use Rattle.rx_host.proofs.Placing.{StandsBefore, Places, places}
 use Rattle.rx_host.proofs.Values.{SetsValue, set-value, owned-set}
 use Rattle.rx_host.proofs.Adopting.{Adopted, adopted, TakenOut, taken_out, among-middle, among-still, among-cons}

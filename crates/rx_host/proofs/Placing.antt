@@ -1,10 +1,10 @@
 -- A host that is taken out of a list and put in elsewhere.
-use Rattle.std.specs.Prelude.{◌≡◌, ℕ, Bool, true, false, cond, not, List, [], ◌∷◌, ◌++◌, Option, Some, None, filter, option_map, is_some, nat_eq, refl, if◌then◌else◌}
+use Rattle.std.specs.Prelude.{◌≡◌, ℕ, Bool, true, false, cond, List, [], ◌∷◌, ◌++◌, Option, Some, None, option_map, is_some, nat_eq, refl}
 use Rattle.std.specs.Option.{option_map_or}
 use Rattle.std.proofs.Common.{sym, ◌∙◌, ap, subst, append-nil}
 use Rattle.rx_host.specs.declared.entry.HostEntry.{HostEntry}
 use Rattle.rx_host.specs.declared.entry.AttrEntry.{AttrEntry}
-use Rattle.rx_host.specs.Forests.{HostForest, without, insert_before, inserted, placed}
+use Rattle.rx_host.specs.Forests.{without, insert_before, inserted, placed}
 use Rattle.rx_host.specs.Kept.{entry_of, stands_under, children_kept, held_as, forest_as, AreDistinct, IsSound}
 use Rattle.rx_host.proofs.Entries.{self, same, absent-head, absent-parts, entry-middle, distinct-parts, distinct-join, children-cons, children-append, children-middle, without-absent}
 use Rattle.rx_host.proofs.Changes.{same-forest, owned-same}
@@ -68,16 +68,16 @@ placed-there : (us : List HostEntry) (n : ℕ) (vs : List HostEntry) (p q : ℕ)
     ≡ cond b (inserted n before (children_kept us q ++ children_kept vs q)) (children_kept us q ++ children_kept vs q)
 placed-there us n vs p q None stands distinct b h =
     subst (λ (ws : List HostEntry). children_kept us q ++ cond b (n ∷ children_kept ws q) (children_kept ws q)
-        ≡ cond b (inserted n None (children_kept us q ++ children_kept ws q)) (children_kept us q ++ children_kept ws q)) (sym stands) (placed-at_end (children_kept us q) n b)
+    ≡ cond b (inserted n None (children_kept us q ++ children_kept ws q)) (children_kept us q ++ children_kept ws q)) (sym stands) (placed-at_end (children_kept us q) n b)
 placed-there us n vs p q (Some k) stands distinct b h =
     let y : HostEntry = stands.0 in
     let ws : List HostEntry = stands.1 in
     let split : vs ≡ y ∷ ws = stands.2 in
     let there = placed-before us n y ws p q stands.4 (subst (λ (ls : List HostEntry). AreDistinct (us ++ ls)) split distinct) b h in
     let named = subst (λ (m : ℕ). children_kept us q ++ cond b (n ∷ children_kept (y ∷ ws) q) (children_kept (y ∷ ws) q)
-        ≡ cond b (inserted n (Some m) (children_kept us q ++ children_kept (y ∷ ws) q)) (children_kept us q ++ children_kept (y ∷ ws) q)) stands.3 there in
+    ≡ cond b (inserted n (Some m) (children_kept us q ++ children_kept (y ∷ ws) q)) (children_kept us q ++ children_kept (y ∷ ws) q)) stands.3 there in
     subst (λ (ls : List HostEntry). children_kept us q ++ cond b (n ∷ children_kept ls q) (children_kept ls q)
-        ≡ cond b (inserted n (Some k) (children_kept us q ++ children_kept ls q)) (children_kept us q ++ children_kept ls q)) (sym split) named
+    ≡ cond b (inserted n (Some k) (children_kept us q ++ children_kept ls q)) (children_kept us q ++ children_kept ls q)) (sym split) named
 
 -- the children of each host, where a host was put in
 pub children-placed : (us : List HostEntry) (d : HostEntry) (vs : List HostEntry) (p : ℕ) (before : Option ℕ) → d.parent ≡ Some p → StandsBefore p before vs

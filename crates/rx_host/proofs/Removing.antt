@@ -1,8 +1,7 @@
 -- A host is removed with all below it: its children are taken out one after another, each leaving its own children to the host.
-use Rattle.std.specs.Prelude.{◌≡◌, ◌⊎◌, ℕ, Bool, true, false, cond, not, List, [], ◌∷◌, Option, Some, None, filter, nat_eq, refl, if◌then◌else◌}
-use Rattle.std.specs.List.{list_any}
+use Rattle.std.specs.Prelude.{◌≡◌, ◌⊎◌, ℕ, Bool, true, false, List, [], None, nat_eq, refl}
 use Rattle.std.proofs.Common.{sym, ◌∙◌, ap, subst, inl, inr}
-use Rattle.rx_host.specs.Forests.{HostForest, Held, without, IsUnder, itself, below, is_among, Removed}
+use Rattle.rx_host.specs.Forests.{HostForest, without, IsUnder, itself, below, is_among, Removed}
 use Rattle.rx_host.specs.Steps.{Adopts, TakesOut, HasNoOtherChild}
 use Rattle.rx_host.proofs.Entries.{self, same}
 
@@ -17,7 +16,7 @@ removing-begin f n = record { kept = λ m apart. (refl, refl); under = λ m u. u
 
 -- nothing is among no numbers
 none-among : (ms : List ℕ) (m : ℕ) → ms ≡ [] → is_among ms m ≡ true → ⊥
-none-among ms m is among = absurd (cc (ap (λ (ls : List ℕ). is_among ls m) is, among))
+none-among ms m is among = let nowhere : is_among [] m ≡ true = subst (λ (ls : List ℕ). is_among ls m ≡ true) is among in cc nowhere
 
 -- below the host nothing is new
 under-adopts : (h : HostForest) (n : ℕ) (g : HostForest) (a : Adopts h n g) (m : ℕ) → IsUnder g n m → IsUnder h n m

@@ -1,19 +1,16 @@
 -- The values of attributes, where one is set or unset.
-use Rattle.std.specs.Prelude.{◌≡◌, ℕ, suc, ◌<◌, Bool, true, false, cond, not, ◌&&◌, List, [], ◌∷◌, ◌++◌, Option, Some, None, filter, find, option_map, is_some, nat_eq, bytes_eq, length, take, drop, get_or, refl, if◌then◌else◌}
-use Rattle.std.proofs.Math.ListN.{set}
+use Rattle.std.specs.Prelude.{◌≡◌, ℕ, Bool, true, false, cond, not, ◌&&◌, List, [], ◌∷◌, ◌++◌, Option, Some, None, filter, find, option_map, is_some, nat_eq, bytes_eq, refl}
 use Rattle.std.proofs.Math.Path.{fun_ext}
-use Rattle.std.proofs.Math.Seq.{split_at}
-use Rattle.std.proofs.lemmas.List.{set_split}
 use Rattle.std.proofs.lemmas.Slice.Eq.{bytes_eq-Decides}
-use Rattle.std.proofs.Common.{sym, ◌∙◌, ap, subst}
+use Rattle.std.proofs.Common.{sym, ◌∙◌, ap}
 use Rattle.rx_base.specs.Values.{Name}
 use Rattle.rx_elem.specs.declared.attr.AttrValue.{AttrValue}
 use Rattle.rx_host.specs.declared.entry.HostEntry.{HostEntry}
 use Rattle.rx_host.specs.declared.entry.HostKind.{HostKind}
 use Rattle.rx_host.specs.declared.entry.HostKind.TheVariants as kind
 use Rattle.rx_host.specs.declared.entry.AttrEntry.{AttrEntry}
-use Rattle.rx_host.specs.Forests.{Body, Held, HostForest, tag, letters, with_held, with_body, with_value, valued}
-use Rattle.rx_host.specs.Kept.{entry_of, is_attr, value_kept, body_as, held_as, forest_as, children_kept, AreOwned, IsSound}
+use Rattle.rx_host.specs.Forests.{Body, Held, tag, with_body, with_value, valued}
+use Rattle.rx_host.specs.Kept.{entry_of, is_attr, value_kept, body_as, held_as, forest_as, AreOwned}
 use Rattle.rx_host.proofs.Entries.{same, entry-named}
 use Rattle.rx_host.proofs.Changes.{nat_eq-turn, same-forest}
 

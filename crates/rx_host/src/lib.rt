@@ -5,6 +5,8 @@ mod entry;
 mod lists;
 mod op;
 mod replaying;
+#[cfg(test)]
+mod tests;
 mod tree;
 
 pub use entry::HostKind;

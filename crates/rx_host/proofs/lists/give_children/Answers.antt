@@ -1,9 +1,9 @@
-use Rattle.std.proofs.Common.{◌≡◌, ◌∙◌, ◌+◌, ◌<◌, ℕ, length, subst, sym, ap, get_or, List, true, false}
+use Rattle.std.proofs.Common.{◌≡◌, ◌∙◌, ◌<◌, ℕ, length, subst, sym, ap, get_or}
 use Rattle.std.specs.Prelude.{Some, cond, Bool}
 use Rattle.std.proofs.lemmas.List.{get_or_default}
 use Rattle.rx_host.specs.declared.entry.HostEntry.{HostEntry}
 use Rattle.rx_host.specs.Kept.{given, stands_under}
-use Rattle.rx_host.proofs.Giving.{given_so_far, gives-next}
+use Rattle.rx_host.proofs.Giving.{gives-next}
 use Rattle.rx_host.proofs.lists.give_children.Goals as goal
 use Rattle.rx_host.proofs.lists.give_children.Goals.{then-stands_under, else-stands_under}
 

@@ -1,5 +1,5 @@
-use Rattle.std.proofs.Common.{◌≡◌, ◌∙◌, ◌+◌, refl, sym, ap, take, [], ◌∷◌, ◌++◌, get_or, ℕ, List, false}
-use Rattle.std.specs.Prelude.{None, find}
+use Rattle.std.proofs.Common.{◌≡◌, ◌∙◌, ◌+◌, sym, ap, take, [], ◌∷◌, ◌++◌, ℕ, List, false}
+use Rattle.std.specs.Prelude.{find}
 use Rattle.std.proofs.lemmas.List.{take_more}
 use Rattle.rx_base.specs.Values.{Name}
 use Rattle.rx_host.specs.declared.entry.AttrEntry.{AttrEntry}

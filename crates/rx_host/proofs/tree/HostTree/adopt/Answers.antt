@@ -50,4 +50,4 @@ returns-clause-adopts c = λ yes.
     let step = adopted-at hs attrs at c.args.host e within at_is under other c.self.invariant in
     subst (λ (t : Kept). Adopts (forest_kept t) c.args.host (forest_as (with_items c.remove-child.new.self c.give_children.new.hosts).items c.forget_attrs.new.attrs.items)) c.self.view_is
     (subst (λ (ls : List HostEntry). Adopts (forest_as hs attrs) c.args.host (forest_as ls c.forget_attrs.new.attrs.items)) (sym hosts)
-      (subst (λ (ls : List AttrEntry). Adopts (forest_as hs attrs) c.args.host (forest_as (map (given e.number c.args.host) (take at hs ++ drop (suc at) hs)) ls)) (sym c.forget_attrs.ensures.left) step.adopts))
+    (subst (λ (ls : List AttrEntry). Adopts (forest_as hs attrs) c.args.host (forest_as (map (given e.number c.args.host) (take at hs ++ drop (suc at) hs)) ls)) (sym c.forget_attrs.ensures.left) step.adopts))

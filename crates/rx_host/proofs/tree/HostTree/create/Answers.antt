@@ -2,10 +2,10 @@ use Rattle.std.proofs.Common.{◌≡◌, ◌∙◌, ◌≤◌, ◌++◌, ◌∷�
 use Rattle.std.specs.Prelude.{None, IsTrue, is_ok}
 use Rattle.rx_host.specs.declared.entry.HostEntry.{HostEntry}
 use Rattle.rx_host.specs.declared.entry.AttrEntry.{AttrEntry}
-use Rattle.rx_host.specs.Forests.{HostForest, is_free, created}
-use Rattle.rx_host.specs.Kept.{Kept, entry_of, forest_as, forest_kept, IsSound}
+use Rattle.rx_host.specs.Forests.{is_free, created}
+use Rattle.rx_host.specs.Kept.{Kept, forest_as, forest_kept, IsSound}
 use Rattle.rx_host.proofs.Conditions.{can-make, free-absent, becomes-made}
-use Rattle.rx_host.proofs.Creating.{Makes, makes, body_new}
+use Rattle.rx_host.proofs.Creating.{makes, body_new}
 use Rattle.rx_host.proofs.Room.{room-first, when-ok}
 use Rattle.rx_host.proofs.tree.HostTree.create.Goals as goal
 

@@ -1,6 +1,5 @@
-use Rattle.std.proofs.Common.{◌≡◌, ◌∙◌, false, true, sym, ap, subst, le_trans}
-use Rattle.std.specs.Prelude.{IsTrue, is_some, nat_eq}
-use Rattle.rx_host.specs.Forests.{HostForest, is_held}
+use Rattle.std.proofs.Common.{◌≡◌, ◌∙◌, false, sym, ap, subst, le_trans}
+use Rattle.std.specs.Prelude.{is_some}
 use Rattle.rx_host.specs.Kept.{Kept, children_kept, forest_kept}
 use Rattle.rx_host.specs.Steps.{Adopts, HasNoOtherChild}
 use Rattle.rx_host.proofs.Conditions.{held-some}

@@ -1,9 +1,9 @@
 use Rattle.std.proofs.Common.{◌≡◌, ◌∙◌, ◌<◌, ◌≤◌, ◌++◌, ◌∷◌, [], List, length, get_or, take, true, refl, sym, ap, subst}
-use Rattle.std.specs.Prelude.{None, Some, IsTrue, is_ok, find}
+use Rattle.std.specs.Prelude.{None, Some, IsTrue, find}
 use Rattle.rx_host.specs.declared.entry.HostEntry.{HostEntry}
 use Rattle.rx_host.specs.declared.entry.AttrEntry.{AttrEntry}
 use Rattle.rx_host.specs.Forests.{holds_tag, valued}
-use Rattle.rx_host.specs.Kept.{Kept, is_attr, forest_as, forest_kept, AreOwned, IsSound}
+use Rattle.rx_host.specs.Kept.{Kept, is_attr, forest_as, forest_kept, AreOwned}
 use Rattle.rx_host.proofs.Conditions.{tag-some}
 use Rattle.rx_host.proofs.Values.{new-value, owned-push, valued-forest}
 use Rattle.rx_host.proofs.Indexed.{sets-at}

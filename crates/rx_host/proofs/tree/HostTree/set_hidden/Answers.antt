@@ -1,5 +1,4 @@
 use Rattle.std.proofs.Common.{◌≡◌, ◌∙◌, ◌<◌, List, length, get_or, refl, sym, ap, subst}
-use Rattle.std.specs.Prelude.{IsTrue}
 use Rattle.rx_host.specs.declared.entry.HostEntry.{HostEntry}
 use Rattle.rx_host.specs.declared.entry.AttrEntry.{AttrEntry}
 use Rattle.rx_host.specs.Forests.{with_mark, marked}

@@ -2,7 +2,6 @@ use Rattle.std.proofs.Common.{◌≡◌, ◌∙◌, ◌<◌, ◌++◌, suc, List
 use Rattle.std.specs.Prelude.{filter, not, nat_eq}
 use Rattle.rx_host.specs.declared.entry.HostEntry.{HostEntry}
 use Rattle.rx_host.specs.declared.entry.AttrEntry.{AttrEntry}
-use Rattle.rx_host.specs.Forests.{HostForest}
 use Rattle.rx_host.specs.Kept.{Kept, children_kept, forest_as, forest_kept, IsSound}
 use Rattle.rx_host.specs.Steps.{TakesOut, HasNoOtherChild}
 use Rattle.rx_host.proofs.Indexed.{taken-at}
