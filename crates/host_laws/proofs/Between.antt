@@ -19,7 +19,7 @@ use Rattle.host_laws.proofs.Contents.{content_change, contents_replay, content_b
 use Rattle.host_laws.proofs.Removals.{removals_replay, same_forest}
 
 -- what the changes of other hosts leave
-changed_other : (change : Host → Option Held → Option Held) (hs : List Host) (n : ℕ) (x : Option Held) → has_host hs n ≡ false → changed change hs n x ≡ x
+pub changed_other : (change : Host → Option Held → Option Held) (hs : List Host) (n : ℕ) (x : Option Held) → has_host hs n ≡ false → changed change hs n x ≡ x
 changed_other change [] n x h = refl
 changed_other change (g ∷ hs) n x h =
     let parts : (nat_eq g.number n ≡ false) × (has_host hs n ≡ false) = neither _ _ h in
@@ -27,7 +27,7 @@ changed_other change (g ∷ hs) n x h =
     rw other (changed_other change hs n x parts.1)
 
 -- what the change of a host leaves of it
-changed_one : (change : Host → Option Held → Option Held) (hs : List Host) → AreDistinct hs → (n : ℕ) (h : Host) (x : Option Held) → host_numbered hs n ≡ Some h
+pub changed_one : (change : Host → Option Held → Option Held) (hs : List Host) → AreDistinct hs → (n : ℕ) (h : Host) (x : Option Held) → host_numbered hs n ≡ Some h
     → changed change hs n x ≡ change h x
 changed_one change [] d n h x e = absurd (cc)
 changed_one change (g ∷ hs) d n h x e = go (changed_one change hs d.1 n h x) (nat_eq g.number n) refl e
@@ -44,10 +44,10 @@ changed_one change (g ∷ hs) d n h x e = go (changed_one change hs d.1 n h x) (
 
 -- Creations
 
-abbrev creation_if : List Host → Host → List HostOp
+abbrev pub creation_if : List Host → Host → List HostOp
 creation_if old h = if has_host old h.number then [] else creation h.number h.content ∷ []
 
-creations_are : (old new : List Host) → creations old new ≡ flat_map (creation_if old) new
+pub creations_are : (old new : List Host) → creations old new ≡ flat_map (creation_if old) new
 creations_are old [] = refl
 creations_are old (h ∷ hs) = go (has_host old h.number) (creations_are old hs)
   where
@@ -57,10 +57,10 @@ creations_are old (h ∷ hs) = go (has_host old h.number) (creations_are old hs)
     go true rest = rest
     go false rest = ap (λ xs. creation h.number h.content ∷ xs) rest
 
-abbrev create_change : List Host → Host → Option Held → Option Held
+abbrev pub create_change : List Host → Host → Option Held → Option Held
 create_change old h x = if has_host old h.number then x else new_host (body_of (bare h.content)) x
 
-creation_replay : (old : List Host) (h : Host) (f : HostForest) → Replays f (creation_if old h) (with_held f h.number (create_change old h))
+pub creation_replay : (old : List Host) (h : Host) (f : HostForest) → Replays f (creation_if old h) (with_held f h.number (create_change old h))
 creation_replay old h f = go (has_host old h.number)
   where
     one : (c : Content) → Replays f (creation h.number c ∷ []) (with_held f h.number (new_host (body_of (bare c))))
@@ -73,31 +73,31 @@ creation_replay old h f = go (has_host old h.number)
 
 -- Contents
 
-abbrev content_ops_of : List Host → Host → List HostOp
+abbrev pub content_ops_of : List Host → Host → List HostOp
 content_ops_of old h = content_ops h.number (old_content (host_numbered old h.number) h) h.content
 
-abbrev content_change_of : List Host → Host → Option Held → Option Held
+abbrev pub content_change_of : List Host → Host → Option Held → Option Held
 content_change_of old h = option_map (with_body (content_change (old_content (host_numbered old h.number) h) h.content))
 
 -- Marks
 
 -- a host that may be missing had the mark
-abbrev was_hidden : Option Host → Bool
+abbrev pub was_hidden : Option Host → Bool
 was_hidden o = option_map_or (λ g. g.hidden) o false
 
-abbrev mark_change : Bool → Bool → Option Held → Option Held
+abbrev pub mark_change : Bool → Bool → Option Held → Option Held
 mark_change false true x = option_map (with_mark true) x
 mark_change true false x = option_map (with_mark false) x
 mark_change false false x = x
 mark_change true true x = x
 
-mark_replay : (before after : Bool) (n : ℕ) (f : HostForest) → Replays f (hiding_ops n before after) (with_held f n (mark_change before after))
+pub mark_replay : (before after : Bool) (n : ℕ) (f : HostForest) → Replays f (hiding_ops n before after) (with_held f n (mark_change before after))
 mark_replay false true n f = (with_held f n (option_map (with_mark true)), refl, refl)
 mark_replay true false n f = (with_held f n (option_map (with_mark false)), refl, refl)
 mark_replay false false n f = with_held-same f n
 mark_replay true true n f = with_held-same f n
 
-abbrev mark_change_of : List Host → Host → Option Held → Option Held
+abbrev pub mark_change_of : List Host → Host → Option Held → Option Held
 mark_change_of old h = mark_change (was_hidden (host_numbered old h.number)) h.hidden
 
 mark_becomes : (before after : Bool) (b : Body) → mark_change before after (Some (record { body = b; hidden = before })) ≡ Some (record { body = b; hidden = after })
@@ -108,7 +108,7 @@ mark_becomes true true b = refl
 
 -- What is held in the end
 
-found_among : (hs : List Host) (n : ℕ) (h : Host) → host_numbered hs n ≡ Some h → (has_host hs n ≡ true) × (h.number ≡ n)
+pub found_among : (hs : List Host) (n : ℕ) (h : Host) → host_numbered hs n ≡ Some h → (has_host hs n ≡ true) × (h.number ≡ n)
 found_among [] n h e = absurd (cc)
 found_among (g ∷ hs) n h e = go (found_among hs n h) (nat_eq g.number n) refl e
   where
@@ -117,7 +117,7 @@ found_among (g ∷ hs) n h e = go (found_among hs n h) (nat_eq g.number n) refl 
     go rest true f k = (rw f refl, ap (λ y. y.number) (sym (same_Some _ _ k)) ∙ (Decides-eqb g.number n).0 f)
     go rest false f k = (rw f (rest k).0, (rest k).1)
 
-each_found : (P : Host → Type 0) (hs : List Host) → AllByRecursion P hs → (n : ℕ) (h : Host) → host_numbered hs n ≡ Some h → P h
+pub each_found : (P : Host → Type 0) (hs : List Host) → AllByRecursion P hs → (n : ℕ) (h : Host) → host_numbered hs n ≡ Some h → P h
 each_found P [] a n h e = absurd (cc)
 each_found P (g ∷ hs) a n h e = go (each_found P hs a.1 n h) (nat_eq g.number n) e
   where
@@ -126,7 +126,7 @@ each_found P (g ∷ hs) a n h e = go (each_found P hs a.1 n h) (nat_eq g.number 
     go rest false k = rest k
 
 -- not found, not among
-none_among : (hs : List Host) (n : ℕ) → host_numbered hs n ≡ None → has_host hs n ≡ false
+pub none_among : (hs : List Host) (n : ℕ) → host_numbered hs n ≡ None → has_host hs n ≡ false
 none_among [] n e = refl
 none_among (g ∷ hs) n e = go (none_among hs n) (nat_eq g.number n) e
   where
@@ -147,7 +147,7 @@ becomes_held h (Some g) alike true e f =
     rw same (mark_becomes g.hidden h.hidden (body_of h.content))
 becomes_held h (Some g) alike false e f = absurd (cc (f g refl))
 
-all_among : (p : ℕ → Bool) (ms : List ℕ) → list_all p (filter p ms) ≡ true
+pub all_among : (p : ℕ → Bool) (ms : List ℕ) → list_all p (filter p ms) ≡ true
 all_among p [] = refl
 all_among p (m ∷ ms) = go (all_among p ms) (p m) refl
   where

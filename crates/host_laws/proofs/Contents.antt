@@ -48,7 +48,7 @@ abbrev pub set_all : List Attr → Body → Body
 set_all [] b = b
 set_all (a ∷ as') b = set_all as' (with_value a.name (Some a.value) b)
 
-unsets : (n : ℕ) (attrs : List Attr) (f : HostForest) → Replays f (map (λ a. op.UnsetAttr n a.name) attrs) (embodied f n (unset_all attrs))
+pub unsets : (n : ℕ) (attrs : List Attr) (f : HostForest) → Replays f (map (λ a. op.UnsetAttr n a.name) attrs) (embodied f n (unset_all attrs))
 unsets n [] f = embodied-same f n
 unsets n (a ∷ attrs) f = (
   embodied f n (with_value a.name None),
@@ -57,7 +57,7 @@ unsets n (a ∷ attrs) f = (
       (unsets n attrs (embodied f n (with_value a.name None))),
 )
 
-sets : (n : ℕ) (attrs : List Attr) (f : HostForest) → Replays f (map (λ a. op.SetAttr n a.name a.value) attrs) (embodied f n (set_all attrs))
+pub sets : (n : ℕ) (attrs : List Attr) (f : HostForest) → Replays f (map (λ a. op.SetAttr n a.name a.value) attrs) (embodied f n (set_all attrs))
 sets n [] f = embodied-same f n
 sets n (a ∷ attrs) f = (
   embodied f n (with_value a.name (Some a.value)),
@@ -66,13 +66,13 @@ sets n (a ∷ attrs) f = (
       (sets n attrs (embodied f n (with_value a.name (Some a.value)))),
 )
 
-abbrev going : List Attr → List Attr → List Attr
+abbrev pub going : List Attr → List Attr → List Attr
 going old new = filter (λ a. is_none (attr_named new a.name)) old
 
-abbrev coming : List Attr → List Attr → List Attr
+abbrev pub coming : List Attr → List Attr → List Attr
 coming old new = filter (λ a. not (has_attr old a)) new
 
-abbrev attr_change : List Attr → List Attr → Body → Body
+abbrev pub attr_change : List Attr → List Attr → Body → Body
 attr_change old new b = set_all (coming old new) (unset_all (going old new) b)
 
 abbrev pub content_change : Content → Content → Body → Body

@@ -14,4 +14,9 @@ pub mod Parents
 pub mod Placed
 pub mod Ordered
 pub mod Replay
+pub mod Owned
+pub mod Making
+pub mod Standing
+pub mod Leaves
+pub mod Replayable
 mod Example

@@ -7,7 +7,7 @@ use Rattle.rx_host.specs.declared.op.HostOp.{HostOp}
 use Rattle.rx_host.specs.declared.op.HostOp.TheVariants as op
 use Rattle.host_laws.proofs.Removals.{same_forest}
 
-removed_once : (f : HostForest) (n : ℕ) (g h : HostForest) → Removed f n g → Removed f n h → g ≡ h
+pub removed_once : (f : HostForest) (n : ℕ) (g h : HostForest) → Removed f n g → Removed f n h → g ≡ h
 removed_once f n g h r s = same_forest g h (λ m. held m (g.held m) refl (h.held m) refl) (λ m. children m (g.children m) refl (h.children m) refl)
   where
     some_stays : (g : HostForest) → Removed f n g → (m : ℕ) (x : Held) → g.held m ≡ Some x → IsUnder f n m → ⊥
@@ -26,7 +26,7 @@ removed_once f n g h r s = same_forest g h (λ m. held m (g.held m) refl (h.held
     children m (x ∷ xs) e b i = let stays = child_stays g r m x xs e in (r.kept m stays).1 ∙ sym (s.kept m stays).1
     children m [] e (y ∷ ys) i = let stays = child_stays h s m y ys i in (r.kept m stays).1 ∙ sym (s.kept m stays).1
 
-becomes_once : (f : HostForest) (op : HostOp) (g h : HostForest) → Becomes f op g → Becomes f op h → g ≡ h
+pub becomes_once : (f : HostForest) (op : HostOp) (g h : HostForest) → Becomes f op g → Becomes f op h → g ≡ h
 becomes_once f (op.Remove n) g h r s = removed_once f n g h r s
 becomes_once f (op.Create n name) g h r s = r ∙ sym s
 becomes_once f (op.CreateText n t) g h r s = r ∙ sym s

@@ -14,7 +14,7 @@ use Rattle.host_laws.proofs.Placing.{neither}
 use Rattle.host_laws.proofs.Listing.{hosts_at, hosts_in, in-child, host_first, has_host-append, distinct-append, split_hosts}
 
 -- the parents of hosts are one number or among some hosts
-abbrev Within : ℕ → List Host → List Host → Type 0
+abbrev pub Within : ℕ → List Host → List Host → Type 0
 Within p total hs = AllByRecursion (λ h. (h.parent ≡ p) ⊎ (has_host total h.parent ≡ true)) hs
 
 Within-append : (p : ℕ) (total xs ys : List Host) → Within p total xs → Within p total ys → Within p total (xs ++ ys)
@@ -52,7 +52,7 @@ or_right : (a b : Bool) → b ≡ true → (a || b) ≡ true
 or_right true b h = refl
 or_right false b h = h
 
-abbrev Good : ℕ → List Host → Type 0
+abbrev pub Good : ℕ → List Host → Type 0
 Good p hs = ParentsFirst hs × Within p hs hs
 
 -- two parts, the first under p' and the second under p

@@ -80,17 +80,17 @@ not_sibling (g ∷ hs) q n h =
     go other rest false e = rw e rest
 
 -- the first sibling that stands
-record IsFirst (placed : List ℕ) (q : ℕ) (hs : List Host) (b : ℕ) (ys : List ℕ) : Type 0 where
-  next : next_standing placed q hs ≡ Some b
-  first : filter (stands placed) (children_in hs q) ≡ b ∷ ys
-  among : has_host hs b ≡ true
-  stands : stands placed b ≡ true
+pub record IsFirst (placed : List ℕ) (q : ℕ) (hs : List Host) (b : ℕ) (ys : List ℕ) : Type 0 where
+  pub next : next_standing placed q hs ≡ Some b
+  pub first : filter (stands placed) (children_in hs q) ≡ b ∷ ys
+  pub among : has_host hs b ≡ true
+  pub stands : stands placed b ≡ true
 
-record IsLast (placed : List ℕ) (q : ℕ) (hs : List Host) : Type 0 where
-  next : next_standing placed q hs ≡ None
-  last : filter (stands placed) (children_in hs q) ≡ []
+pub record IsLast (placed : List ℕ) (q : ℕ) (hs : List Host) : Type 0 where
+  pub next : next_standing placed q hs ≡ None
+  pub last : filter (stands placed) (children_in hs q) ≡ []
 
-abbrev Next : List ℕ → ℕ → List Host → Type 0
+abbrev pub Next : List ℕ → ℕ → List Host → Type 0
 Next placed q hs = IsLast placed q hs ⊎ ((b : ℕ) × (ys : List ℕ) × IsFirst placed q hs b ys)
 
 later_next : (placed : List ℕ) (q : ℕ) (h : Host) (hs : List Host)
@@ -105,7 +105,7 @@ later_next placed q h hs e f (inr r) =
     or_later true b k = refl
     or_later false b k = k
 
-next_cases : (placed : List ℕ) (q : ℕ) (hs : List Host) → Next placed q hs
+pub next_cases : (placed : List ℕ) (q : ℕ) (hs : List Host) → Next placed q hs
 next_cases placed q [] = inl (record { next = refl; last = refl })
 next_cases placed q (h ∷ hs) = go (next_cases placed q hs) (nat_eq h.parent q) refl (stands placed h.number) refl
   where
@@ -152,7 +152,7 @@ flipped : (m n : ℕ) (b : Bool) → nat_eq m n ≡ b → nat_eq n m ≡ b
 flipped m n true e = grind (arith, nat_tests)
 flipped m n false e = grind (arith, nat_tests)
 
-among_later : (h : Host) (hs : List Host) (n : ℕ) → has_host hs n ≡ true → has_host (h ∷ hs) n ≡ true
+pub among_later : (h : Host) (hs : List Host) (n : ℕ) → has_host hs n ≡ true → has_host (h ∷ hs) n ≡ true
 among_later h hs n k = go (nat_eq h.number n)
   where
     go : (a : Bool) → (a || has_host hs n) ≡ true
@@ -180,7 +180,7 @@ other_number hs m n h k = go (nat_eq n m) refl
     go true e = let same : n ≡ m = (Decides-eqb n m).0 e in absurd (cc (ap (has_host hs) same))
     go false e = refl
 
-still_apart : (before : List Host) (h : Host) (hs : List Host) → ((n : ℕ) → has_host before n ≡ true → has_host (h ∷ hs) n ≡ true → ⊥)
+pub still_apart : (before : List Host) (h : Host) (hs : List Host) → ((n : ℕ) → has_host before n ≡ true → has_host (h ∷ hs) n ≡ true → ⊥)
     → has_host hs h.number ≡ false → (n : ℕ) → has_host (before ++ h ∷ []) n ≡ true → has_host hs n ≡ true → ⊥
 still_apart before h hs apart new n k l = elim (among_append before h n k) [
   | inl m ↦ apart n m (among_later h hs n l)
@@ -188,7 +188,7 @@ still_apart before h hs apart new n k l = elim (among_append before h n k) [
 ]
 
 -- a host that stands is passed over
-stay : (placed : List ℕ) (u p : ℕ → Bool) (before : List Host) (h : Host) (hs : List Host) (f : HostForest)
+pub stay : (placed : List ℕ) (u p : ℕ → Bool) (before : List Host) (h : Host) (hs : List Host) (f : HostForest)
     → has_host hs h.number ≡ false → stands placed h.number ≡ true → Placing placed u p before (h ∷ hs) f → Placing placed u p (before ++ h ∷ []) hs f
 stay placed u p before h hs f new s i = record {
   standing = i.standing;
@@ -205,7 +205,7 @@ stay placed u p before h hs f new s i = record {
     go q false e = rw (children_in-append before (h ∷ []) q) (rw e (rw (append-nil (children_in before q)) refl))
 
 -- a host that is placed comes to its place
-put : (placed : List ℕ) (u p : ℕ → Bool) (before : List Host) (h : Host) (hs : List Host) (f : HostForest)
+pub put : (placed : List ℕ) (u p : ℕ → Bool) (before : List Host) (h : Host) (hs : List Host) (f : HostForest)
     → has_host hs h.number ≡ false → stands placed h.number ≡ false → u h.number ≡ true → Placing placed u p before (h ∷ hs) f
     → Placing placed u (or_is p h.number) (before ++ h ∷ []) hs (forests.placed f h.number h.parent (next_standing placed h.parent hs))
 put placed u p before h hs f new s fits i = record {

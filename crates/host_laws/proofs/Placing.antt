@@ -1,14 +1,9 @@
 -- Putting each placed host before the next sibling that stands gives the new list.
 use Rattle.std.specs.Prelude.{◌≡◌, ℕ, Bool, true, false, ◌||◌, List, [], ◌∷◌, ◌++◌, Option, Some, None, filter, nat_eq, refl}
-use Rattle.std.specs.List.{list_any}
 use Rattle.std.proofs.Common.{◌∙◌, ap, arith}
 use Rattle.std.proofs.lemmas.Bool.Decides.{nat_tests, Decides-eqb}
 use Rattle.std.proofs.lemmas.List.Elements.{filter-append}
-use Rattle.rx_host.specs.Forests.{without, insert_before, inserted}
-
--- whether a number is in a list
-abbrev pub is_among : List ℕ → ℕ → Bool
-is_among ms n = list_any (nat_eq n) ms
+use Rattle.rx_host.specs.Forests.{is_among, without, insert_before, inserted}
 
 -- a test beside one number more
 abbrev pub or_is : (ℕ → Bool) → ℕ → ℕ → Bool

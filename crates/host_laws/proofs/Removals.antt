@@ -21,7 +21,7 @@ is_top old new h = not (has_host new h.number) && not (has_gone old new h.parent
 abbrev pub tops : List Host → List Host → List Host → List ℕ
 tops old new hs = map (λ h. h.number) (filter (is_top old new) hs)
 
-removals_are : (old new hs : List Host) → map (λ h. op.Remove h.number) (filter (is_top old new) hs) ≡ map op.Remove (tops old new hs)
+pub removals_are : (old new hs : List Host) → map (λ h. op.Remove h.number) (filter (is_top old new) hs) ≡ map op.Remove (tops old new hs)
 removals_are old new [] = refl
 removals_are old new (h ∷ hs) = go (removals_are old new hs) (is_top old new h)
   where
@@ -37,7 +37,7 @@ abbrev noted : List Host → List Host → (ℕ → Option ℕ) → Host → ℕ
 noted old new acc h n =
     if nat_eq n h.number then (if is_top old new h then Some h.number else (if has_host new h.number then None else acc h.parent)) else acc n
 
-abbrev notes : List Host → List Host → (ℕ → Option ℕ) → List Host → ℕ → Option ℕ
+abbrev pub notes : List Host → List Host → (ℕ → Option ℕ) → List Host → ℕ → Option ℕ
 notes old new acc [] = acc
 notes old new acc (h ∷ hs) = notes old new (noted old new acc h) hs
 
@@ -69,20 +69,20 @@ others_like_parents old new acc (g ∷ hs) d p = (
   others_like_parents old new (noted old new acc g) hs d.1 p.1,
 )
 
-each_weaker : {P Q : Host → Type 0} → ((h : Host) → P h → Q h) → (hs : List Host) → AllByRecursion P hs → AllByRecursion Q hs
+pub each_weaker : {P Q : Host → Type 0} → ((h : Host) → P h → Q h) → (hs : List Host) → AllByRecursion P hs → AllByRecursion Q hs
 each_weaker w [] a = tt
 each_weaker w (h ∷ hs) a = (w h a.0, each_weaker w hs a.1)
 
-or_right : (a b : Bool) → b ≡ true → (a || b) ≡ true
+pub or_right : (a b : Bool) → b ≡ true → (a || b) ≡ true
 or_right true b h = refl
 or_right false b h = h
 
-either : (a b : Bool) → (a || b) ≡ true → (a ≡ true) ⊎ (b ≡ true)
+pub either : (a b : Bool) → (a || b) ≡ true → (a ≡ true) ⊎ (b ≡ true)
 either true b h = inl refl
 either false b h = inr h
 
 -- each removed host is among the numbers that are removed
-tops_are_in : (old new hs : List Host) → AllByRecursion (λ h. is_top old new h ≡ true → is_among (tops old new hs) h.number ≡ true) hs
+pub tops_are_in : (old new hs : List Host) → AllByRecursion (λ h. is_top old new h ≡ true → is_among (tops old new hs) h.number ≡ true) hs
 tops_are_in old new [] = tt
 tops_are_in old new (g ∷ hs) = (λ t. rw (t, self g.number) refl, each_weaker (λ h k t. more h (is_top old new g) (k t)) hs (tops_are_in old new hs))
   where
@@ -92,7 +92,7 @@ tops_are_in old new (g ∷ hs) = (λ t. rw (t, self g.number) refl, each_weaker 
     more h false k = k
 
 -- each host is among the children of its parent
-each_is_child : (hs : List Host) → AllByRecursion (λ h. is_among (children_in hs h.parent) h.number ≡ true) hs
+pub each_is_child : (hs : List Host) → AllByRecursion (λ h. is_among (children_in hs h.parent) h.number ≡ true) hs
 each_is_child [] = tt
 each_is_child (g ∷ hs) = (rw (self g.parent, self g.number) refl, each_weaker (λ h k. more h (nat_eq g.parent h.parent) k) hs (each_is_child hs))
   where
@@ -102,12 +102,12 @@ each_is_child (g ∷ hs) = (rw (self g.parent, self g.number) refl, each_weaker 
     more h false k = k
 
 -- each host is among the hosts
-each_is_among : (hs : List Host) → AllByRecursion (λ h. has_host hs h.number ≡ true) hs
+pub each_is_among : (hs : List Host) → AllByRecursion (λ h. has_host hs h.number ≡ true) hs
 each_is_among [] = tt
 each_is_among (g ∷ hs) = (rw (self g.number) refl, each_weaker (λ h k. or_right (nat_eq g.number h.number) _ k) hs (each_is_among hs))
 
 -- a child is one of the hosts
-child_is : {P : Host → Type 0} → (hs : List Host) → AllByRecursion P hs → (m k : ℕ) → is_among (children_in hs m) k ≡ true
+pub child_is : {P : Host → Type 0} → (hs : List Host) → AllByRecursion P hs → (m k : ℕ) → is_among (children_in hs m) k ≡ true
     → (h : Host) × (h.number ≡ k) × (h.parent ≡ m) × P h
 child_is [] a m k h = absurd (cc)
 child_is {P} (g ∷ hs) a m k h = go (child_is hs a.1 m k) (nat_eq g.parent m) refl h
@@ -130,7 +130,7 @@ not_gone b false h e = absurd (cc (ap not e))
 HasNote : List Host → List Host → (ℕ → Option ℕ) → ℕ → Type 0
 HasNote old new note m = (r : ℕ) × (note m ≡ Some r) × (is_among (tops old new old) r ≡ true)
 
-gone_parts : (a b : Bool) → (a && not b) ≡ true → (a ≡ true) × (b ≡ false)
+pub gone_parts : (a b : Bool) → (a && not b) ≡ true → (a ≡ true) × (b ≡ false)
 gone_parts true true h = absurd (cc)
 gone_parts true false h = (refl, refl)
 gone_parts false b h = absurd (cc)
@@ -215,7 +215,7 @@ notes_of old new d p = record {
 
 -- A forest without the hosts that go with these
 
-abbrev goes_with : List ℕ → Option ℕ → Bool
+abbrev pub goes_with : List ℕ → Option ℕ → Bool
 goes_with done None = false
 goes_with done (Some r) = is_among done r
 
@@ -320,7 +320,7 @@ without_twice done r (m ∷ ms) = go (without_twice done r ms) (nat_eq m r) refl
     go rest false e false f = rw (e, f, e) (ap (λ xs. m ∷ xs) rest)
 
 -- one removal
-removes_one : (old new : List Host) (note : ℕ → Option ℕ) → Notes old new note → ParentsFirst old → GoneBelow old new → (done : List ℕ) (r : ℕ)
+pub removes_one : (old new : List Host) (note : ℕ → Option ℕ) → Notes old new note → ParentsFirst old → GoneBelow old new → (done : List ℕ) (r : ℕ)
     → is_among done r ≡ false → ((m : ℕ) → is_among done m ≡ true → note m ≡ Some m) → note r ≡ Some r
     → Removed (cut note done (forest_of old)) r (cut note (r ∷ done) (forest_of old))
 removes_one old new note n first closed done r out selves start = record {
@@ -349,14 +349,14 @@ abbrev all_done : List ℕ → List ℕ → List ℕ
 all_done done [] = done
 all_done done (r ∷ rs) = all_done (r ∷ done) rs
 
-abbrev AreApart : List ℕ → Type 0
-AreApart [] = Unit {0}
-AreApart (r ∷ rs) = (is_among rs r ≡ false) × AreApart rs
+abbrev pub NumbersApart : List ℕ → Type 0
+NumbersApart [] = Unit {0}
+NumbersApart (r ∷ rs) = (is_among rs r ≡ false) × NumbersApart rs
 
 -- all removals
 removes_all : (old new : List Host) (note : ℕ → Option ℕ) → Notes old new note → ParentsFirst old → GoneBelow old new → (done rs : List ℕ)
     → ((m : ℕ) → is_among done m ≡ true → note m ≡ Some m) → ((m : ℕ) → is_among rs m ≡ true → note m ≡ Some m)
-    → ((m : ℕ) → is_among done m ≡ true → is_among rs m ≡ true → ⊥) → AreApart rs
+    → ((m : ℕ) → is_among done m ≡ true → is_among rs m ≡ true → ⊥) → NumbersApart rs
     → Replays (cut note done (forest_of old)) (map op.Remove rs) (cut note (all_done done rs) (forest_of old))
 removes_all old new note n first closed done [] selves more apart d = refl
 removes_all old new note n first closed done (r ∷ rs) selves more apart d = (
@@ -396,15 +396,15 @@ not_top old new (g ∷ hs) n h =
     go other rest true = rw (flip g.number n false other) rest
     go other rest false = rest
 
-tops_apart : (old new hs : List Host) → AreDistinct hs → AreApart (tops old new hs)
+pub tops_apart : (old new hs : List Host) → AreDistinct hs → NumbersApart (tops old new hs)
 tops_apart old new [] d = tt
 tops_apart old new (g ∷ hs) d = go (tops_apart old new hs d.1) (is_top old new g)
   where
-    go : AreApart (tops old new hs) → (b : Bool) → AreApart (map (λ h. h.number) (cond b (g ∷ filter (is_top old new) hs) (filter (is_top old new) hs)))
+    go : NumbersApart (tops old new hs) → (b : Bool) → NumbersApart (map (λ h. h.number) (cond b (g ∷ filter (is_top old new) hs) (filter (is_top old new) hs)))
     go rest true = (not_top old new hs g.number d.0, rest)
     go rest false = rest
 
-tops_selves : (old new : List Host) (note : ℕ → Option ℕ) (hs : List Host) → AllByRecursion (λ h. is_top old new h ≡ true → note h.number ≡ Some h.number) hs
+pub tops_selves : (old new : List Host) (note : ℕ → Option ℕ) (hs : List Host) → AllByRecursion (λ h. is_top old new h ≡ true → note h.number ≡ Some h.number) hs
     → (m : ℕ) → is_among (tops old new hs) m ≡ true → note m ≡ Some m
 tops_selves old new note [] a m k = absurd (cc)
 tops_selves old new note (g ∷ hs) a m k = go (tops_selves old new note hs a.1 m) (is_top old new g) refl k
@@ -458,13 +458,29 @@ forest_with h c = record { held = h; children = c }
 pub same_forest : (f g : HostForest) → ((n : ℕ) → f.held n ≡ g.held n) → ((n : ℕ) → f.children n ≡ g.children n) → f ≡ g
 same_forest f g a b = ap (λ h. forest_with h f.children) (fun_ext a) ∙ ap (forest_with g.held) (fun_ext b)
 
+-- before the first removal
+pub cut_nothing : (note : ℕ → Option ℕ) (old : List Host) → cut note [] (forest_of old) ≡ forest_of old
+cut_nothing note old = same_forest (cut note [] (forest_of old)) (forest_of old) (λ n. held (note n) (option_map held_of (host_numbered old n))) (λ n. children (note n) (children_in old n))
+  where
+    held : (o : Option ℕ) (x : Option Held) → (if goes_with [] o then None else x) ≡ x
+    held None x = refl
+    held (Some r) x = refl
+
+    all : (ms : List ℕ) → filter (λ m. not (is_among [] m)) ms ≡ ms
+    all [] = refl
+    all (m ∷ ms) = ap (λ xs. m ∷ xs) (all ms)
+
+    children : (o : Option ℕ) (ms : List ℕ) → (if goes_with [] o then [] else filter (λ m. not (is_among [] m)) ms) ≡ ms
+    children None ms = all ms
+    children (Some r) ms = all ms
+
 -- the removals leave the old forest without what is gone
 pub removals_replay : (old new : List Host) → AreDistinct old → ParentsFirst old → GoneBelow old new
     → Replays (forest_of old) (removals old new) (rest_of old new)
 removals_replay old new d first closed =
     subst (λ ops. Replays (forest_of old) ops (rest_of old new)) (sym (removals_are old new old))
     (subst (λ g. Replays (forest_of old) (map op.Remove (tops old new old)) g) whole
-    (subst (λ f. Replays f (map op.Remove (tops old new old)) (cut note (all_done [] (tops old new old)) (forest_of old))) begin
+    (subst (λ f. Replays f (map op.Remove (tops old new old)) (cut note (all_done [] (tops old new old)) (forest_of old))) (cut_nothing note old)
     (removes_all old new note n first closed [] (tops old new old) (λ m k. absurd (cc)) (tops_selves old new note old n.selves) (λ m k l. absurd (cc)) (tops_apart old new old d))))
   where
     note : ℕ → Option ℕ
@@ -472,21 +488,6 @@ removals_replay old new d first closed =
 
     n : Notes old new note
     n = notes_of old new d first
-
-    begin : cut note [] (forest_of old) ≡ forest_of old
-    begin = same_forest (cut note [] (forest_of old)) (forest_of old) (λ n. held (note n) (option_map held_of (host_numbered old n))) (λ n. children (note n) (children_in old n))
-      where
-        held : (o : Option ℕ) (x : Option Held) → (if goes_with [] o then None else x) ≡ x
-        held None x = refl
-        held (Some r) x = refl
-
-        all : (ms : List ℕ) → filter (λ m. not (is_among [] m)) ms ≡ ms
-        all [] = refl
-        all (m ∷ ms) = ap (λ xs. m ∷ xs) (all ms)
-
-        children : (o : Option ℕ) (ms : List ℕ) → (if goes_with [] o then [] else filter (λ m. not (is_among [] m)) ms) ≡ ms
-        children None ms = all ms
-        children (Some r) ms = all ms
 
     whole : cut note (all_done [] (tops old new old)) (forest_of old) ≡ rest_of old new
     whole = same_forest (cut note (all_done [] (tops old new old)) (forest_of old)) (rest_of old new)

@@ -3,7 +3,7 @@ use Rattle.std.specs.Prelude.{◌≡◌, ℕ, Bool, true, false, ◌&&◌, [], O
 use Rattle.std.proofs.Common.{sym, ◌∙◌, ap, subst}
 use Rattle.std.proofs.lemmas.Bool.Decides.{Decides-eqb}
 use Rattle.host_laws.specs.Commits.{front_if, IsSound, IfSound, from_root, is_taken, IsRendered, IsCommit, placed_by}
-use Rattle.host_laws.specs.Related.{AreDistinct, ParentsFirst, has_gone, rest_of, stands}
+use Rattle.host_laws.specs.Related.{AreDistinct, AreRelated, ParentsFirst, has_gone, rest_of, stands}
 use Rattle.rx_elem.specs.Compare.{above_root}
 use Rattle.rx_elem.specs.Spots.{at_root}
 use Rattle.rx_elem.specs.Trees.{Node}
@@ -86,18 +86,22 @@ distinct_hosts : (old : Option Node) → IfSound old → AreDistinct (hosts old)
 distinct_hosts None s = tt
 distinct_hosts (Some n) s = s.distinct
 
-parents_stand_first : (old : Option Node) → IfSound old → ParentsFirst (hosts old)
+pub parents_stand_first : (old : Option Node) → IfSound old → ParentsFirst (hosts old)
 parents_stand_first None s = tt
 parents_stand_first (Some n) s = (good_at at_root n s.numbered s.distinct s.above).0
 
--- the operations of a commit make the new forest of the old one
-pub commit_replays : (old : Option Node) (new : Node) → IsCommit old new → Replays (forest_of (hosts old)) (host_ops old new) (forest_of (hosts (Some new)))
-unfolding host_ops
-commit_replays old new c = between_replays (hosts old) (hosts (Some new)) (placed_by old new) (record {
+-- so the lists of hosts are related
+pub related : (old : Option Node) (new : Node) → IsCommit old new → AreRelated (hosts old) (hosts (Some new)) (placed_by old new)
+related old new c = record {
   distinct_old = distinct_hosts old c.old_sound;
   distinct_new = c.new_sound.distinct;
   parents_first = parents_stand_first old c.old_sound;
   gone_below = c.gone_below;
   kinds = c.kinds;
   order = order_holds old new c.old_sound c.new_sound c.rendered;
-})
+}
+
+-- the operations of a commit make the new forest of the old one
+pub commit_replays : (old : Option Node) (new : Node) → IsCommit old new → Replays (forest_of (hosts old)) (host_ops old new) (forest_of (hosts (Some new)))
+unfolding host_ops
+commit_replays old new c = between_replays (hosts old) (hosts (Some new)) (placed_by old new) (related old new c)

@@ -1,6 +1,7 @@
 -- Two trees, as a commit relates them.
 use Rattle.std.specs.Prelude.{◌≡◌, ℕ, Bool, true, false, ◌||◌, List, [], ◌∷◌, ◌++◌, Option, Some, None, filter, nat_eq, option_to_list, if◌then◌else◌}
 use Rattle.rx_elem.specs.Elements.{Element}
+use Rattle.rx_elem.specs.Elements as elements
 use Rattle.rx_elem.specs.Identity.{old_places, is_reused}
 use Rattle.rx_elem.specs.Trees.{Mark, of_instance, of_host, of_boundary, plain, Node, node, Forest, none, vacant, child, mark_of, elements_in, host_number, is_host, children_if, fallback_if}
 use Rattle.rx_elem.specs.Spots.{container}
@@ -99,6 +100,27 @@ pub record IsSound (n : Node) : Type 0 where
 abbrev pub IfSound : Option Node → Type 0
 IfSound None = Unit {0}
 IfSound (Some n) = IsSound n
+
+-- a text has no children
+abbrev pub HasNone : Element → Forest → Type 0
+HasNone elements.null ns = Unit {0}
+HasNone (elements.text t) ns = ns ≡ none
+HasNone (elements.host n k attrs es) ns = Unit {0}
+HasNone (elements.comp c k ps es) ns = Unit {0}
+HasNone (elements.list es) ns = Unit {0}
+HasNone (elements.boundary k f es) ns = Unit {0}
+HasNone (elements.provider c k x es) ns = Unit {0}
+
+-- no text of a tree has children
+abbrev mutual
+  pub TextsAreLeaves : Node → Type 0
+  TextsAreLeaves (node e m ns fs) = HasNone e ns × TextsAreLeaves_in ns × TextsAreLeaves_in fs
+
+  -- no text of the trees of a list has any
+  pub TextsAreLeaves_in : Forest → Type 0
+  TextsAreLeaves_in none = Unit {0}
+  TextsAreLeaves_in (vacant ns) = TextsAreLeaves_in ns
+  TextsAreLeaves_in (child n ns) = TextsAreLeaves n × TextsAreLeaves_in ns
 
 -- the hosts that a commit places
 abbrev pub placed_by : (old : Option Node) → (new : Node) → List ℕ

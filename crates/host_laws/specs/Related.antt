@@ -1,8 +1,9 @@
 -- What the laws of moves and of host operations speak of.
-use Rattle.std.specs.Prelude.{◌≡◌, ℕ, ◌<◌, Bool, true, false, not, ◌&&◌, List, [], ◌∷◌, Option, Some, None, option_map, filter, slice_get, if◌then◌else◌}
+use Rattle.std.specs.Prelude.{◌≡◌, ℕ, ◌<◌, Bool, true, false, not, ◌&&◌, ◌||◌, List, [], ◌∷◌, Option, Some, None, option_map, filter, nat_eq, slice_get, if◌then◌else◌}
 use Rattle.std.specs.List.{AllByRecursion}
 use Rattle.std.specs.Option.{option_map_or}
 use Rattle.rx_elem.specs.declared.attr.Attr.{Attr}
+use Rattle.rx_elem.specs.Spots.{container}
 use Rattle.rx_host.specs.Hosts.{Host, Content, host_numbered, has_host}
 use Rattle.rx_host.specs.Hosts as hosts
 use Rattle.rx_host.specs.HostOps.{is_placed, attr_named, bare}
@@ -64,6 +65,19 @@ old_content old h = option_map_or (λ g. g.content) old (bare h.content)
 -- each host that was there before is of the kind that it was
 abbrev pub KeepKinds : (old new : List Host) → Type 0
 KeepKinds old new = AllByRecursion (λ h. AreAlike (old_content (host_numbered old h.number) h) h.content) new
+
+-- a content is that of an element
+abbrev pub is_element : Content → Bool
+is_element (hosts.tag name attrs) = true
+is_element (hosts.letters t) = false
+
+-- a number can have children in a list of hosts: the container, and each element
+abbrev pub can_hold : List Host → ℕ → Bool
+can_hold hs n = nat_eq n container || option_map_or (λ h. is_element h.content) (host_numbered hs n) false
+
+-- each host's parent can have children
+abbrev pub ParentsHold : List Host → Type 0
+ParentsHold hs = AllByRecursion (λ h. can_hold hs h.parent ≡ true) hs
 
 -- a host that isn't placed stands
 abbrev pub stands : (placed : List ℕ) → ℕ → Bool

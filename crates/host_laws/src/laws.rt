@@ -4,12 +4,13 @@ ghost use Rattle.std.specs.List.{list_all};
 ghost use Rattle.rx_elem.specs.Elements.{Element};
 ghost use Rattle.rx_elem.specs.Identity.{Identity, Child, identities, identified, is_same_child, old_places, moves};
 ghost use Rattle.rx_elem.specs.Trees.{Node};
+ghost use Rattle.rx_elem.specs.Spots.{container};
 ghost use Rattle.rx_host.specs.declared.op.HostOp.{HostOp};
 ghost use Rattle.rx_host.specs.Hosts.{Host, hosts, has_host};
 ghost use Rattle.rx_host.specs.HostOps.{host_ops, placements, removals, ops_between};
-ghost use Rattle.rx_host.specs.Forests.{HostForest, children_in, forest_of, Replays};
-ghost use Rattle.host_laws.specs.Commits.{IsCommit};
-ghost use Rattle.host_laws.specs.Related.{IsPassed, AreApart, AreDistinct, ParentsFirst, GoneBelow, rest_of, stands, AreRelated};
+ghost use Rattle.rx_host.specs.Forests.{HostForest, children_in, forest_of, Replays, CanBeReplayed};
+ghost use Rattle.host_laws.specs.Commits.{IsCommit, TextsAreLeaves};
+ghost use Rattle.host_laws.specs.Related.{IsPassed, AreApart, AreDistinct, ParentsFirst, GoneBelow, ParentsHold, rest_of, stands, AreRelated};
 
 /// No two children of a list have one identity.
 pub fn identities_are_distinct()
@@ -68,8 +69,21 @@ pub fn operations_have_one_result()
     ensures { (f : HostForest) (ops : List HostOp) (g h : HostForest) → Replays f ops g → Replays f ops h → g ≡ h }
 {}
 
+/// Each operation between two lists of hosts can be made in its turn, where in the new list each parent stands before its
+/// children and is the container or an element, and no host has the container's number.
+pub fn operations_can_be_made()
+    ensures { (old new : List Host) (placed : List ℕ)
+        → AreRelated old new placed → ParentsFirst new → ParentsHold new → has_host new container ≡ false
+        → CanBeReplayed (forest_of old) (ops_between old new placed) }
+{}
+
 /// The operations of a commit make the new tree of hosts of the old one.
 pub fn commit_replays()
     ensures { (old : Option Node) (new : Node)
         → IsCommit old new → Replays (forest_of (hosts old)) (host_ops old new) (forest_of (hosts (Some new))) }
+{}
+
+/// Each operation of a commit can be made in its turn, where no text has children.
+pub fn commit_can_be_made()
+    ensures { (old : Option Node) (new : Node) → IsCommit old new → TextsAreLeaves new → CanBeReplayed (forest_of (hosts old)) (host_ops old new) }
 {}

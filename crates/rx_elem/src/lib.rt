@@ -3,6 +3,12 @@
 
 mod attr;
 mod effect;
+mod element;
+#[cfg(test)]
+mod examples;
+mod kind;
+mod walks;
 
 pub use attr::{Attr, AttrValue};
 pub use effect::{ContextRead, EffectRecord};
+pub use element::{Element, ElementKind};

@@ -1,5 +1,5 @@
 -- Rendering: the whole tree anew, from the root's element.
-use Rattle.std.specs.Prelude.{ℕ, zero, suc, List, [], ◌∷◌, ℤ, pos, Option, Some, None, map, option_map, option_and_then, slice_set, length, if◌then◌else◌}
+use Rattle.std.specs.Prelude.{◌≡◌, ℕ, zero, suc, List, [], ◌∷◌, ℤ, pos, Option, Some, None, map, option_map, option_and_then, slice_set, length, if◌then◌else◌}
 use Rattle.std.specs.List.{zip, enumerate_from, range_with_len}
 use Rattle.rx_base.specs.Values.{wrap}
 use Rattle.rx_base.specs.Arithmetic.{neg}
@@ -16,6 +16,7 @@ use Rattle.rx_elem.specs.Trees.{Instance, Mark, Node, node, Forest, mark_of, chi
 use Rattle.rx_elem.specs.declared.effect.EffectRecord.{EffectRecord}
 use Rattle.rx_elem.specs.declared.effect.ContextRead.{ContextRead}
 use Rattle.rx_elem.specs.Trees as trees
+use Rattle.rx_elem.specs.Numbers.{Numbers, numbered}
 use Rattle.rx_elem.specs.Compare.{old_nodes}
 use Rattle.rx_queue.specs.Journal.{Journal, hook, state_of, updates_of, resolved_by}
 use Rattle.rx_eval.specs.Expressions.{width, answers_of}
@@ -201,3 +202,8 @@ root_element p = elements.comp (component_number p root_name) None [] elements.n
 -- the whole tree, rendered from the root against the old one
 unfoldable pub fresh : Sight → Option Node → Place
 fresh s old = rendered depth_limit s (default_contexts s.program) (root_element s.program) old
+
+-- a tree of a program: none yet, or one that was rendered against such a tree and got its numbers
+pub data IsTree (p : Program) : Option Node → Type 0 where
+  none_yet : IsTree p None
+  given : (s : Sight) (old : Option Node) (n : Node) (next : Numbers) → s.program ≡ p → IsTree p old → fresh s old ≡ made n → IsTree p (Some (numbered next n).1)

@@ -1,5 +1,8 @@
 // The adapters over std's reader and writer. They tell what these tell, which over real input and output is nothing.
-ghost use Rattle.std.specs.Prelude.{◌≡◌};
+ghost use Rattle.std.specs.Prelude.{◌≡◌, ◌<◌, length, IfOk};
+ghost use Rattle.std.specs.Io.{ReadsAtMost, WritesAtMost};
+ghost use Rattle.std.specs.Io.KnownBytes.{ReadConsumes, WriteAppends};
+ghost use Rattle.rx_io.specs.Causes.{CountsFaults, HasCause};
 
 use crate::sink::Sink;
 use crate::source::{Failed, Source};
@@ -31,7 +34,14 @@ impl<R: Read + Drop> Source for StdSource<R> {
 
     ghost faults = { source_faults };
 
-    fn read(&mut self, into: &mut [u8]) -> Result<usize, Failed> {
+    fn read(&mut self, into: &mut [u8]) -> Result<usize, Failed>
+        ensures bound { ReadsAtMost result into.new }
+        ensures bytes { ReadConsumes (R.remaining (reader_of self.old)) (R.remaining (reader_of self.new)) result into.new }
+        ensures cause { HasCause (source_faults self.old) (source_faults self.new) result }
+
+        // The count stays where the call succeeds, and rises by one where it fails.
+        ensures counts { CountsFaults (source_faults self.old) (source_faults self.new) result }
+    {
         match self.inner.read(into) {
             Ok(count) => Ok(count),
             Err(_) => {
@@ -68,7 +78,15 @@ impl<W: Write + Drop> Sink for StdSink<W> {
 
     ghost faults = { sink_faults };
 
-    fn write(&mut self, from: &[u8]) -> Result<usize, Failed> {
+    fn write(&mut self, from: &[u8]) -> Result<usize, Failed>
+        ensures bound { WritesAtMost result from.now }
+        ensures some { 0 < length from.now → IfOk result (λ n. 0 < n) }
+        ensures bytes { WriteAppends (W.contents (writer_of self.old)) (W.contents (writer_of self.new)) result from.now }
+        ensures cause { HasCause (sink_faults self.old) (sink_faults self.new) result }
+
+        // The count stays where the call succeeds, and rises by one where it fails.
+        ensures counts { CountsFaults (sink_faults self.old) (sink_faults self.new) result }
+    {
         match self.inner.write(from) {
             Ok(count) if count > 0 || from.is_empty() => Ok(count),
             _ => {

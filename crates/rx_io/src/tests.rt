@@ -1,5 +1,6 @@
 // That calls succeed with memory at hand, and what the adapters do over readers and writers of std.
 use super::*;
+use std::alloc::{AllocError, Global};
 use std::io;
 use std::io::{ErrorKind, Read, Write};
 use std::test::Fail;
@@ -104,5 +105,23 @@ fn a_std_sink_gives_its_writer_the_bytes(rt: HostRuntime) -> Result<(), Fail> {
     let mut out = StdSink::new(Stopping { calls: 0 });
     assert_eq!(rt; write_all(&mut out, b"ab"), Ok(()));
     assert_eq!(rt; write_all(&mut out, b"c"), Err(Failed), "it took nothing");
+    Ok(())
+}
+
+/// Bytes of more than one buffer of a system, none like those beside it.
+fn many_bytes(alloc: Global) -> Result<Vec<u8>, AllocError> {
+    (0..70_000u32).map(|i| (i % 251) as u8).collect(alloc)
+}
+
+#[test]
+fn a_large_piece_is_moved_whole(rt: HostRuntime) -> Result<(), Fail> {
+    let alloc = rt.alloc();
+    let many = many_bytes(alloc)?;
+    let mut src = StdSource::new(many.as_slice());
+    let read = read_all(alloc, &mut src, 70_000)?;
+    assert_eq!(rt; read.as_slice(), many.as_slice());
+    let mut written = Vec::new(alloc);
+    assert_eq!(rt; write_all(&mut StdSink::new(&mut written), &many), Ok(()));
+    assert_eq!(rt; written.as_slice(), many.as_slice());
     Ok(())
 }

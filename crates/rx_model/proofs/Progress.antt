@@ -163,13 +163,13 @@ free-ended s g counts (defer waits) now all =
 
 -- ---- a render that starts has a lane of them
 
-has-links_on : (n : ℕ) (links : Links) (pending lanes : Lanes) (l : Lane) → has lanes l ≡ true → has (links_on n links pending lanes) l ≡ true
+pub has-links_on : (n : ℕ) (links : Links) (pending lanes : Lanes) (l : Lane) → has lanes l ≡ true → has (links_on n links pending lanes) l ≡ true
 unfolding links_on one_link_on
 has-links_on zero links pending lanes l h = h
 has-links_on (suc n) links pending lanes l h =
     has-links_on n links pending (one_link_on links pending lanes) l (has-lanes_where _ l ∙ rw h refl)
 
-has-with_default : (sch : Schedule) (lanes : Lanes) (l : Lane) → has lanes l ≡ true → has (with_default sch lanes) l ≡ true
+pub has-with_default : (sch : Schedule) (lanes : Lanes) (l : Lane) → has lanes l ≡ true → has (with_default sch lanes) l ≡ true
 has-with_default sch lanes l h = go (has lanes lane.Input && has sch.pending lane.Default)
   where
     go : (b : Bool) → has (cond b (union lanes (one lane.Default)) lanes) l ≡ true

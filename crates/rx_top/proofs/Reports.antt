@@ -19,7 +19,8 @@ use Rattle.small_model.specs.Accepted.{IsSmallProgram}
 use Rattle.small_model.specs.Small.{is_small}
 use Rattle.rx_top.specs.declared.status.Status.{Status}
 use Rattle.rx_top.specs.declared.status.Status.TheVariants.{Done, Usage, ReadFault, WriteFault, TooLong, ProgramRefused, ScriptRefused, OutOfMemory}
-use Rattle.rx_top.specs.Outcome.{IsAccepted, IsRefused, RefusesScript, IsDueFor, IsOutput, IsSomeOutput, IsBegun, IsDue, IsAnswer, Gives, is_valid, limit, Writes, WritesPart, WritesSome, BeginsRun, WritesRun, script_line, program_line}
+use Rattle.rx_top.specs.Words.{is_valid}
+use Rattle.rx_top.specs.Outcome.{IsAccepted, IsRefused, RefusesScript, IsDueFor, IsOutput, IsSomeOutput, IsBegun, IsDue, IsAnswer, Gives, limit, Writes, WritesPart, WritesSome, BeginsRun, WritesRun, script_line, program_line}
 use Rattle.rx_top.proofs.Running.{report_bytes-append}
 
 one_line : (l : Line) → report_bytes (l ∷ []) ≡ line_bytes l
@@ -124,14 +125,15 @@ due-program input refused TooLong d = absurd d
 due-program input refused OutOfMemory d = absurd d
 
 -- what was read to its end, and began to be answered
-pub begun-part : (words : List Text) (old new w u : Option (List ℕ)) (input : List ℕ) → Consumes old new input → IsAtEnd new
-    → WritesPart w u (IsSomeOutput input) → WritesPart w u (IsBegun words old new)
-begun-part words old new w u input taken end part = (part.0, part.1, part.2, inr (inr (input, taken, end, part.3)), part.4)
+pub begun-part : (words : List Text) (old new w u : Option (List ℕ)) (input : List ℕ) → is_valid words ≡ true → Consumes old new input → IsAtEnd new
+    → length input ≤ limit → WritesPart w u (IsSomeOutput input) → WritesPart w u (IsBegun words old new)
+begun-part words old new w u input valid taken end within part =
+    (part.0, part.1, part.2, inr (inr (valid, (input, taken, end, (within, part.3)))), part.4)
 
-pub begun-some : (words : List Text) (old new w u : Option (List ℕ)) (input : List ℕ) → Consumes old new input → IsAtEnd new
-    → WritesSome w u (IsSomeOutput input) → WritesSome w u (IsBegun words old new)
-begun-some words old new w u input taken end (inl kept) = inl kept
-begun-some words old new w u input taken end (inr part) = inr (begun-part words old new w u input taken end part)
+pub begun-some : (words : List Text) (old new w u : Option (List ℕ)) (input : List ℕ) → is_valid words ≡ true → Consumes old new input → IsAtEnd new
+    → length input ≤ limit → WritesSome w u (IsSomeOutput input) → WritesSome w u (IsBegun words old new)
+begun-some words old new w u input valid taken end within (inl kept) = inl kept
+begun-some words old new w u input valid taken end within (inr part) = inr (begun-part words old new w u input valid taken end within part)
 
 -- the pending lanes at the start are a set
 pub opening-kept : IsKept opening

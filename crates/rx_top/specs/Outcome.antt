@@ -1,6 +1,5 @@
 -- What the top call answers and writes, for the words and the input.
-use Rattle.std.specs.Prelude.{ℕ, map, ◌≡◌, ◌+◌, ◌<◌, ◌≤◌, ◌⊎◌, List, [], ◌∷◌, ◌++◌, length, Bool, true, false, codes, decimal, Option, Ok, Err, bytes_eq}
-use Rattle.std.specs.Borrow.{Bor}
+use Rattle.std.specs.Prelude.{ℕ, ◌≡◌, ◌+◌, ◌<◌, ◌≤◌, ◌⊎◌, List, [], ◌∷◌, ◌++◌, length, true, false, codes, decimal, Option, Ok, Err}
 use Rattle.std.specs.Io.KnownBytes.{Appends, Keeps, Consumes, IsAtEnd}
 use Rattle.rx_base.specs.Values.{Text}
 use Rattle.small_model.specs.declared.script.Step.{Step}
@@ -11,6 +10,7 @@ use Rattle.small_model.specs.Input.{input_of}
 use Rattle.small_model.specs.State.{State}
 use Rattle.small_model.specs.Report.{Line, report_bytes}
 use Rattle.small_model.specs.Machine.{RunTo, Reports}
+use Rattle.rx_top.specs.Words.{is_valid}
 use Rattle.rx_top.specs.declared.status.Status.{Status}
 use Rattle.rx_top.specs.declared.status.Status.TheVariants.{Done, Usage, ReadFault, WriteFault, TooLong, ProgramRefused, ScriptRefused, OutOfMemory}
 
@@ -29,16 +29,6 @@ program_line = codes "program refused 19\n"
 -- the line for a script whose first bad line has this number
 abbrev pub script_line : ℕ → Text
 script_line number = codes "script refused 19 line " ++ decimal number ++ 10 ∷ []
-
--- the texts of the words
-abbrev pub texts : List (Bor Text) → List Text
-texts words = map (λ word. word.now) words
-
--- the words that are valid: `run` alone
-abbrev pub is_valid : List Text → Bool
-is_valid [] = false
-is_valid (word ∷ []) = bytes_eq word (codes "run")
-is_valid (word ∷ next ∷ words) = false
 
 -- the most bytes that an input has
 abbrev pub limit : ℕ
@@ -119,11 +109,12 @@ ReadsAll old new P = (input : List ℕ) × Consumes old new input × IsAtEnd new
 abbrev pub IsSomeOutput : List ℕ → List ℕ → ℕ → Type 0
 IsSomeOutput input text bodies = (due : Status) × IsOutput input due text bodies
 
--- the output that was begun, for the words and what was read
+-- The output that is due for the words and what was read, of which a beginning was written: the line for words that
+-- aren't valid; for those that are, the line for an input that is too long, or the output of the whole input.
 abbrev pub IsBegun : List Text → Option (List ℕ) → Option (List ℕ) → List ℕ → ℕ → Type 0
 IsBegun words old new text bodies = ((is_valid words ≡ false) × (text ≡ usage_line))
-    ⊎ (Reads old new (λ input. limit < length input) × (text ≡ too_long_line))
-    ⊎ ReadsAll old new (λ input. IsSomeOutput input text bodies)
+    ⊎ ((is_valid words ≡ true) × Reads old new (λ input. length input ≡ limit + 1) × (text ≡ too_long_line))
+    ⊎ ((is_valid words ≡ true) × ReadsAll old new (λ input. (length input ≤ limit) × IsSomeOutput input text bodies))
 
 -- what was written begins the lines of a run of these steps
 abbrev pub BeginsRun : Program → State → List Step → Option (List ℕ) → Option (List ℕ) → Type 0

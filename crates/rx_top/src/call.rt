@@ -1,12 +1,15 @@
 // The top call.
-ghost use Rattle.std.specs.Prelude.{◌≡◌, ◌⊎◌, ◌≤◌, ◌<◌, List, ℕ, length, false, true, IfSome};
-ghost use Rattle.std.specs.Io.KnownBytes.{Appends, Keeps};
+ghost use Rattle.std.specs.Prelude.{◌≡◌, ◌≢◌, ◌⊎◌, ◌≤◌, ◌+◌, List, ℕ, length, false, true, IfSome};
+ghost use Rattle.std.specs.Io.KnownBytes.{Appends};
 ghost use Rattle.rx_io.specs.Causes.{Rose};
 ghost use Rattle.rx_top.specs.declared.status.Status.{Status};
-ghost use Rattle.rx_top.specs.Outcome.{texts, is_valid, limit, usage_line, too_long_line, IsDue, IsOutput, IsBegun, Gives, Reads, ReadsAll, Writes, WritesPart, WritesSome};
+ghost use Rattle.rx_io.specs.Whole.{AppendsPrefix};
+ghost use Rattle.rx_top.specs.Words.{is_valid, texts};
+ghost use Rattle.rx_top.specs.Outcome.{limit, usage_line, too_long_line, IsDue, IsOutput, IsBegun, Gives, Reads, ReadsAll, Writes, WritesPart, WritesSome};
 
 use crate::answer::run_input;
 use crate::status::Status;
+use crate::words::{Task, read_words};
 use rx_base::Steps;
 use rx_io::{ReadError, Sink, Source, read_all, write_all};
 use std::alloc::Global;
@@ -14,12 +17,21 @@ use std::sync::ledger::Ledger;
 
 const LIMIT: usize = 1_048_576;
 
-fn is_run(words: &[&str]) -> bool
-    ensures { result ≡ is_valid (texts words.now) }
+/// Writes the line for words that are not valid.
+fn refuse_words<K: Sink>(out: &mut K) -> Status
+    ensures gives { Gives Status.Usage result }
+    ensures no_read { result ≢ Status.ReadFault }
+    ensures no_memory { result ≢ Status.OutOfMemory }
+    ensures done { result ≡ Status.Usage → Appends (K.written out.old) (K.written out.new) usage_line }
+    ensures fault_part { result ≡ Status.WriteFault → AppendsPrefix (K.written out.old) (K.written out.new) usage_line }
+    ensures cause { result ≡ Status.WriteFault → Rose (K.faults out.old) (K.faults out.new) }
 {
-    match words {
-        [word] => *word == "run",
-        _ => false,
+    match write_all(
+        out,
+        b"usage: fiber_run run [--counts] [--ops] | check | gen N\n",
+    ) {
+        Ok(()) => Status::Usage,
+        Err(_) => Status::WriteFault,
     }
 }
 
@@ -41,20 +53,27 @@ pub fn top<S: Source, K: Sink, L: Ledger>(
         × ReadsAll (S.left src.old) (S.left src.new) (λ input. (length input ≤ limit)
         × Writes (K.written out.old) (K.written out.new) steps.old steps.new (IsOutput input Status.Done)) }
 
-    // 2: the words aren't valid, and nothing was read.
+    // 2: the words aren't valid, and no body was evaluated.
     ensures usage { result ≡ Status.Usage → (is_valid (texts words.now) ≡ false)
-        × Keeps (S.left src.old) (S.left src.new) × Appends (K.written out.old) (K.written out.new) usage_line }
+        × Appends (K.written out.old) (K.written out.new) usage_line × (steps.new ≡ steps.old) }
 
-    // 3: the source failed, and nothing was written.
-    ensures read_fault { result ≡ Status.ReadFault → Rose (S.faults src.old) (S.faults src.new) × Keeps (K.written out.old) (K.written out.new) }
+    // Where the words aren't valid, the source is not touched, and so it did not fail.
+    ensures untouched { is_valid (texts words.now) ≡ false → (src.new ≡ src.old) × (result ≢ Status.ReadFault) }
+
+    // 3: the source failed, the sink was not touched, and no body was evaluated.
+    ensures read_fault { result ≡ Status.ReadFault → Rose (S.faults src.old) (S.faults src.new) × (out.new ≡ out.old) × (steps.new ≡ steps.old) }
 
     // 4: the sink failed, and what was written begins the output.
     ensures write_fault { result ≡ Status.WriteFault → Rose (K.faults out.old) (K.faults out.new)
         × WritesPart (K.written out.old) (K.written out.new) (IsBegun (texts words.now) (S.left src.old) (S.left src.new)) }
 
-    // 5: more was taken than may be.
+    // 5: one byte more was taken than may be, and no body was evaluated.
     ensures too_long { result ≡ Status.TooLong → (is_valid (texts words.now) ≡ true)
-        × Reads (S.left src.old) (S.left src.new) (λ input. limit < length input) × Appends (K.written out.old) (K.written out.new) too_long_line }
+        × Reads (S.left src.old) (S.left src.new) (λ input. length input ≡ limit + 1)
+        × Appends (K.written out.old) (K.written out.new) too_long_line × (steps.new ≡ steps.old) }
+
+    // However it ends, at most one byte more was taken than may be.
+    ensures taken { Reads (S.left src.old) (S.left src.new) (λ input. length input ≤ limit + 1) }
 
     // 6 and 7: all was read, and it is refused.
     ensures program_refused { result ≡ Status.ProgramRefused → (is_valid (texts words.now) ≡ true)
@@ -76,14 +95,10 @@ pub fn top<S: Source, K: Sink, L: Ledger>(
         → ¬ (Rose (S.faults src.old) (S.faults src.new)) → ¬ (Rose (K.faults out.old) (K.faults out.new))
         → (result ≡ Status.Done) ⊎ (result ≡ Status.OutOfMemory)) }
 {
-    if !is_run(words) {
-        return match write_all(
-            out,
-            b"usage: fiber_run run [--counts] [--ops] | check | gen N\n",
-        ) {
-            Ok(()) => Status::Usage,
-            Err(_) => Status::WriteFault,
-        };
+    match read_words(alloc, words) {
+        Ok(Some(Task::Run)) => {}
+        Ok(None) => return refuse_words(out),
+        Err(_) => return Status::OutOfMemory,
     }
     match read_all(alloc, src, LIMIT) {
         Ok(input) => run_input(alloc, &input, out, steps),

@@ -5,6 +5,7 @@ mod answer;
 mod call;
 mod run;
 mod status;
+mod words;
 
 pub use call::top;
 pub use status::Status;

@@ -1,13 +1,16 @@
 use Rattle.std.proofs.Common.{rules, ◌≡◌, ◌≤◌, length, true}
 use Rattle.std.specs.Io.KnownBytes.{Consumes}
-use Rattle.rx_top.specs.Outcome.{texts, is_valid, limit}
+use Rattle.rx_top.specs.Words.{is_valid, texts}
+use Rattle.rx_top.specs.Outcome.{limit}
 use Rattle.rx_top.proofs.Reports.{begun-part, begun-some, exact-all, complete-all}
 use Rattle.rx_top.proofs.call.top.Goals as goal
 
 pub returns-in-Ok-read_all-clause-write_fault : goal.returns-in-Ok-read_all-clause-write_fault
 returns-in-Ok-read_all-clause-write_fault g c h =
     let taken : Consumes (g.S.Source.left c.args.src.now) (g.S.Source.left c.read_all.new.src) c.in-Ok-read_all.input.items = search rules in
-    (c.run_input.ensures.cause h, begun-part (texts c.args.words.now) _ _ _ _ _ taken c.in-Ok-read_all.ensures.end (rw c.deref.ensures.value at (c.run_input.ensures.fault_part h)))
+    let within : length c.in-Ok-read_all.input.items ≤ limit = search rules in
+    let valid : is_valid (texts c.args.words.now) ≡ true = search rules in
+    (c.run_input.ensures.cause h, begun-part (texts c.args.words.now) _ _ _ _ _ valid taken c.in-Ok-read_all.ensures.end within (rw c.deref.ensures.value at (c.run_input.ensures.fault_part h)))
 
 pub returns-in-Ok-read_all-clause-program_refused : goal.returns-in-Ok-read_all-clause-program_refused
 returns-in-Ok-read_all-clause-program_refused g c h =
@@ -19,7 +22,9 @@ returns-in-Ok-read_all-clause-program_refused g c h =
 pub returns-in-Ok-read_all-clause-memory : goal.returns-in-Ok-read_all-clause-memory
 returns-in-Ok-read_all-clause-memory g c h =
     let taken : Consumes (g.S.Source.left c.args.src.now) (g.S.Source.left c.read_all.new.src) c.in-Ok-read_all.input.items = search rules in
-    begun-some (texts c.args.words.now) _ _ _ _ _ taken c.in-Ok-read_all.ensures.end (rw c.deref.ensures.value at (c.run_input.ensures.memory_part h))
+    let within : length c.in-Ok-read_all.input.items ≤ limit = search rules in
+    let valid : is_valid (texts c.args.words.now) ≡ true = search rules in
+    begun-some (texts c.args.words.now) _ _ _ _ _ valid taken c.in-Ok-read_all.ensures.end within (rw c.deref.ensures.value at (c.run_input.ensures.memory_part h))
 
 pub returns-in-Ok-read_all-clause-exact : goal.returns-in-Ok-read_all-clause-exact
 returns-in-Ok-read_all-clause-exact g c =

@@ -1,0 +1,236 @@
+-- A subtree that has no cause is rendered to itself.
+use Rattle.std.specs.List.{enumerate_from, list_any, zip}
+use Rattle.std.specs.Prelude.{Bool, List, None, Option, Some, [], cond, false, filter, map, nat_eq, nat_lt, not, option_to_list, refl, suc, true, zero, ℕ, ℤ, ◌&&◌, ◌+◌, ◌∷◌, ◌≡◌, ◌≤◌}
+use Rattle.std.proofs.Common.{ap, arith, inl, inr, subst, sym, ◌∙◌}
+use Rattle.rx_ast.specs.Syntax.{Component, Program}
+use Rattle.rx_base.specs.declared.cut.Cut.{Cut}
+use Rattle.rx_elem.specs.Compare.{old_nodes}
+use Rattle.rx_elem.specs.Elements.{Element, Elements, gathered, is_present, listed}
+use Rattle.rx_elem.specs.Trees.{Forest, Instance, Mark, Node, child, element_of, elements_in, node, none, of_boundary, of_instance, places, vacant}
+use Rattle.rx_eval.specs.Body.{body_of, ready}
+use Rattle.rx_eval.specs.Expressions.{answers_of}
+use Rattle.rx_eval.specs.Fresh.{Contexts, Renders, Sight, all_made, before, empty, hook_values, inputs_at, instance_after, made, one_list, part, place_of, render_all, rendered, shape_of, shape_of_body, shape_of_component}
+use Rattle.rx_eval.specs.Touched.{contexts_below, has_update, touched_instance}
+use Rattle.rx_lane.specs.Lanes.{Lanes}
+use Rattle.rx_queue.specs.History.{stands_done}
+use Rattle.rx_queue.specs.Journal.{Posted, Target, belongs_to, committed_value, hook, is_included, same_target, state_of}
+use Rattle.rx_susp.specs.declared.boundary.BoundaryState.TheVariants.{Hidden}
+use Rattle.rx_eval.proofs.Depths.{ShapeFits, not_deepest, shape_fits}
+use Rattle.rx_elem.proofs.Deciding.{same_itself, same_number, and_passes, or_fails}
+use Rattle.rx_elem.proofs.SelfMatch.{NoNull, matches_itself}
+use Rattle.rx_eval.specs.Levels.{Fits, body_depth, elements_depth}
+use Rattle.rx_eval.specs.Settled.{AllSettled, AllStill, DoneBefore, IsBodyOf, IsOwn, IsSettled, IsStill, Known, done_values, has_cause, kept_shape, known_by, read_anew}
+use Rattle.rx_elem.specs.Elements as elements
+
+-- Hook values
+
+target_belongs : (n k : ℕ) (t : Target) → same_target (hook n k) t ≡ true → belongs_to (n ∷ []) t ≡ true
+target_belongs n k (hook i l) h =
+    let both = and_passes (nat_eq n i) (nat_eq k l) h in
+    let same : n ≡ i = same_number n i both.0 in
+    let back : nat_eq i n ≡ true = subst (λ (m : ℕ). nat_eq i m ≡ true) (sym same) (same_itself i) in
+    rw back refl
+
+included_is_done : (inc done b : Bool) → b ≡ true → (done ≡ true → inc ≡ true) → (inc && (not done && b)) ≡ false → inc ≡ done
+included_is_done true true b h k l = refl
+included_is_done false false b h k l = refl
+included_is_done false true b h k l = absurd (cc (k refl))
+included_is_done true false b h k l = absurd (cc (h, l))
+
+pub done_is_included : (lanes : Lanes) (cut : Cut) (u : Posted) → (stands_done u.standing ≡ true → nat_lt u.update.number cut.updates ≡ true) → stands_done u.standing ≡ true
+    → is_included lanes cut u ≡ true
+done_is_included lanes cut u h k = rw (h k, k) refl
+
+-- the updates of a hook whose instance has no cause: those that are included are done
+updates_agree : (s : Sight) (n k : ℕ) (us : List Posted) → DoneBefore s.cut us
+    → list_any (λ u. is_included s.lanes s.cut u && (not (stands_done u.standing) && belongs_to (n ∷ []) u.target)) us ≡ false
+    → filter (is_included s.lanes s.cut) (filter (λ u. same_target (hook n k) u.target) us) ≡ filter (λ u. stands_done u.standing) (filter (λ u. same_target (hook n k) u.target) us)
+updates_agree s n k [] h l = refl
+updates_agree s n k (u ∷ us) h l =
+    let both = or_fails (is_included s.lanes s.cut u && (not (stands_done u.standing) && belongs_to (n ∷ []) u.target))
+    (list_any (λ u. is_included s.lanes s.cut u && (not (stands_done u.standing) && belongs_to (n ∷ []) u.target)) us) l in
+    go (same_target (hook n k) u.target) refl both.0 (updates_agree s n k us h.1 both.1)
+  where
+    same : (t : Bool) → same_target (hook n k) u.target ≡ t → t ≡ true
+        → (is_included s.lanes s.cut u && (not (stands_done u.standing) && belongs_to (n ∷ []) u.target)) ≡ false
+        → is_included s.lanes s.cut u ≡ stands_done u.standing
+    same t e p f =
+        included_is_done (is_included s.lanes s.cut u) (stands_done u.standing) (belongs_to (n ∷ []) u.target)
+        (target_belongs n k u.target (e ∙ p)) (done_is_included s.lanes s.cut u h.0) f
+
+    pick : (a b : Bool) → a ≡ b → (us vs : List Posted) → (p q : Posted → Bool) → p u ≡ a → q u ≡ b → filter p us ≡ filter q vs
+        → filter p (u ∷ us) ≡ filter q (u ∷ vs)
+    pick true true e us vs p q x y z = rw (x, y, z) refl
+    pick false false e us vs p q x y z = rw (x, y, z) refl
+    pick true false e us vs p q x y z = absurd (cc e)
+    pick false true e us vs p q x y z = absurd (cc e)
+
+    go : (t : Bool) → same_target (hook n k) u.target ≡ t
+        → (is_included s.lanes s.cut u && (not (stands_done u.standing) && belongs_to (n ∷ []) u.target)) ≡ false
+        → filter (is_included s.lanes s.cut) (filter (λ u. same_target (hook n k) u.target) us) ≡ filter (λ u. stands_done u.standing) (filter (λ u. same_target (hook n k) u.target) us)
+        → filter (is_included s.lanes s.cut) (cond t (u ∷ filter (λ u. same_target (hook n k) u.target) us) (filter (λ u. same_target (hook n k) u.target) us))
+        ≡ filter (λ u. stands_done u.standing) (cond t (u ∷ filter (λ u. same_target (hook n k) u.target) us) (filter (λ u. same_target (hook n k) u.target) us))
+    go true e f r =
+        pick (is_included s.lanes s.cut u) (stands_done u.standing) (same true e refl f)
+        (filter (λ u. same_target (hook n k) u.target) us) (filter (λ u. same_target (hook n k) u.target) us)
+        (is_included s.lanes s.cut) (λ u. stands_done u.standing) refl refl r
+    go false e f r = r
+
+-- an instance without a cause has the values that are done
+hooks_agree : (s : Sight) (n : ℕ) → DoneBefore s.cut s.journal.updates
+    → list_any (λ u. is_included s.lanes s.cut u && (not (stands_done u.standing) && belongs_to (n ∷ []) u.target)) s.journal.updates ≡ false
+    → (initials : List ℤ) → hook_values s n initials ≡ done_values s.program (known_by s) n initials
+unfolding state_of committed_value
+hooks_agree s n h l initials = from 0 initials
+  where
+    from : (k : ℕ) (xs : List ℤ)
+        → map (λ h. state_of (answers_of s.program) s.lanes s.cut h.1 (filter (λ u. same_target (hook n h.0) u.target) s.journal.updates)) (enumerate_from k xs)
+        ≡ map (λ h. committed_value (answers_of s.program) h.1 (filter (λ u. same_target (hook n h.0) u.target) s.journal.updates)) (enumerate_from k xs)
+    from k [] = refl
+    from k (x ∷ xs) = rw (updates_agree s n k s.journal.updates h l, from (k + 1) xs) refl
+
+-- Shapes
+
+pub own_not_null : (p : Program) (k : Known) (e : Element) (m : Mark) (ns fs : Forest) → IsOwn p k e m ns fs → is_present e ≡ true
+own_not_null p k elements.null m ns fs h = absurd h
+own_not_null p k (elements.text t) m ns fs h = refl
+own_not_null p k (elements.host n key attrs es) m ns fs h = refl
+own_not_null p k (elements.comp c key props given) m ns fs h = refl
+own_not_null p k (elements.list es) m ns fs h = refl
+own_not_null p k (elements.boundary key f es) m ns fs h = refl
+own_not_null p k (elements.provider c key x es) m ns fs h = refl
+
+-- the body of an instance without a cause gives what the instance has
+body_again : (s : Sight) (cs : Contexts) (d : Component) (props : List ℤ) (given : Elements) (i : Instance) (es : List Element) (n : ℕ) → i.number ≡ Some n
+    → (initials : List ℤ)
+    → body_of s.program d (record { props = props; children = listed given; hooks = Some (done_values s.program (known_by s) n i.initials); contexts = cs; resources = (known_by s).resources })
+    ≡ ready es i.effects initials i.reads
+    → hook_values s n i.initials ≡ done_values s.program (known_by s) n i.initials
+    → body_of s.program d (inputs_at s cs props given (Some i)) ≡ ready es i.effects initials i.reads
+body_again s cs d props given i es n number initials body values = rw (number, values) body
+
+same_instance : (c : ℕ) (i : Instance) (initials : List ℤ) → i.component ≡ c → instance_after c (Some i) initials i.reads i.effects ≡ i
+same_instance c i initials same = rw (sym same) refl
+
+component_again : (s : Sight) (cs : Contexts) (c : ℕ) (props : List ℤ) (given : Elements) (e : Element) (i : Instance) (ns fs : Forest) (d : Component) (initials : List ℤ)
+    → i.component ≡ c
+    → body_of s.program d (inputs_at s cs props given (Some i)) ≡ ready (elements_in ns) i.effects initials i.reads
+    → shape_of_component s cs c props given (Some (node e (of_instance i) ns fs)) (Some d) ≡ one_list (of_instance i) (part cs (elements_in ns) ns)
+component_again s cs c props given e i ns fs d initials same again =
+    ap (shape_of_body cs c (Some (node e (of_instance i) ns fs))) again
+    ∙ ap (λ (j : Instance). one_list (of_instance j) (part cs (elements_in ns) ns)) (same_instance c i initials same)
+
+instance_again : (s : Sight) (cs : Contexts) (c : ℕ) (key : _) (props : List ℤ) (given : Elements) (i : Instance) (ns fs : Forest)
+    → DoneBefore s.cut s.journal.updates → IsBodyOf s.program (known_by s) c props given i (elements_in ns) → touched_instance s cs (Some i) ≡ false
+    → shape_of s cs (elements.comp c key props given) (Some (node (elements.comp c key props given) (of_instance i) ns fs))
+    ≡ one_list (of_instance i) (part cs (elements_in ns) ns)
+instance_again s cs c key props given i ns fs before body calm =
+    let parts = or_fails (has_update s (option_to_list i.number)) (read_anew cs i.reads) calm in
+    let still : has_update s (body.instance ∷ []) ≡ false = rw body.is_numbered at parts.0 in
+    let values = hooks_agree s body.instance before still i.initials in
+    let again : body_of s.program body.component (inputs_at s cs props given (Some i)) ≡ ready (elements_in ns) i.effects body.initials i.reads =
+    body_again s cs body.component props given i (elements_in ns) body.instance body.is_numbered body.initials (body.gives cs parts.1) values in
+    ap (shape_of_component s cs c props given (Some (node (elements.comp c key props given) (of_instance i) ns fs))) body.is_component
+    ∙ component_again s cs c props given (elements.comp c key props given) i ns fs body.component body.initials body.is_of again
+
+-- A place that has no cause renders its own children again: no body need be evaluated to know it.
+pub same_shape : (s : Sight) (cs : Contexts) (e : Element) (m : Mark) (ns fs : Forest) → DoneBefore s.cut s.journal.updates
+    → IsOwn s.program (known_by s) e m ns fs → has_cause s cs m ≡ false
+    → shape_of s cs e (Some (node e m ns fs)) ≡ kept_shape cs e m ns fs
+same_shape s cs elements.null m ns fs before own calm = refl
+same_shape s cs (elements.text t) m ns fs before own calm = rw (own.1, own.2) refl
+same_shape s cs (elements.host n key attrs es) m ns fs before own calm = rw (own.1, own.2) refl
+same_shape s cs (elements.comp c key props given) m ns fs before own calm =
+    let calm_instance : touched_instance s cs (Some own.0) ≡ false = rw own.1 at calm in
+    rw own.1 (instance_again s cs c key props given own.0 ns fs before own.2 calm_instance)
+same_shape s cs (elements.list es) m ns fs before own calm = rw (own.0, own.1) refl
+same_shape s cs (elements.boundary key f es) m ns fs before (inl own) calm = rw own.1 refl
+same_shape s cs (elements.boundary key f es) m ns fs before (inr own) calm = absurd (hidden_has_cause own.0 own.1)
+  where
+    hidden_has_cause : (a : _) → m ≡ of_boundary (Hidden a) → ⊥
+    hidden_has_cause a same = let no_cause : has_cause s cs (of_boundary (Hidden a)) ≡ false = rw same at calm in absurd (cc no_cause)
+same_shape s cs (elements.provider c key x es) m ns fs before own calm = rw (own.0, own.1) refl
+
+-- Subtrees
+
+pub settled_no_null : (p : Program) (k : Known) (ns : Forest) → AllSettled p k ns → NoNull ns
+settled_no_null p k none h = tt
+settled_no_null p k (vacant ns) h = settled_no_null p k ns h
+settled_no_null p k (child (node e m ps fs) ns) h = (own_not_null p k e m ps fs h.0.0, settled_no_null p k ns h.1)
+
+-- the nodes of a kept shape
+place_of_kept : (below : Contexts → Renders) (p : Program) (k : Known) (s : Sight) (cs : Contexts) (e : Element) (m : Mark) (ns fs : Forest)
+    → IsOwn p k e m ns fs → has_cause s cs m ≡ false → old_nodes ns (elements_in ns) ≡ places ns
+    → render_all (below (contexts_below e cs)) (zip (elements_in ns) (places ns)) ≡ all_made ns
+    → place_of below e (Some (node e m ns fs)) (kept_shape cs e m ns fs) ≡ made (node e m ns fs)
+place_of_kept below p k s cs elements.null m ns fs own calm found again = absurd own
+place_of_kept below p k s cs (elements.text t) m ns fs own calm found again = rw (found, again, own.3) refl
+place_of_kept below p k s cs (elements.host n key attrs es) m ns fs own calm found again = rw (found, again, own.3) refl
+place_of_kept below p k s cs (elements.comp c key props given) m ns fs own calm found again = rw (found, again, own.3) refl
+place_of_kept below p k s cs (elements.list es) m ns fs own calm found again = rw (found, again, own.2) refl
+place_of_kept below p k s cs (elements.boundary key f es) m ns fs (inl own) calm found again = rw (found, again, own.0, own.2) refl
+place_of_kept below p k s cs (elements.boundary key f es) m ns fs (inr own) calm found again = absurd (hidden_has_cause own.0 own.1)
+  where
+    hidden_has_cause : (a : _) → m ≡ of_boundary (Hidden a) → ⊥
+    hidden_has_cause a same = let no_cause : has_cause s cs (of_boundary (Hidden a)) ≡ false = rw same at calm in absurd (cc no_cause)
+place_of_kept below p k s cs (elements.provider c key x es) m ns fs own calm found again = rw (found, again, own.2) refl
+
+-- the children of a kept shape are less deep
+kept_fits : (n : ℕ) (p : Program) (cs : Contexts) (e : Element) (m : Mark) (ns fs : Forest) → is_present e ≡ true
+    → ShapeFits n p (kept_shape cs e m ns fs) → elements_depth (body_depth n p) (gathered (elements_in ns)) ≤ n
+kept_fits n p cs elements.null m ns fs present h = absurd (cc present)
+kept_fits n p cs (elements.text t) m ns fs present h = h
+kept_fits n p cs (elements.host x key attrs es) m ns fs present h = h
+kept_fits n p cs (elements.comp c key props given) m ns fs present h = h
+kept_fits n p cs (elements.list es) m ns fs present h = h
+kept_fits n p cs (elements.boundary key f es) m ns fs present h = h.0
+kept_fits n p cs (elements.provider c key x es) m ns fs present h = h
+
+pub children_fit_again : (n : ℕ) (s : Sight) (cs : Contexts) (e : Element) (m : Mark) (ns fs : Forest) → DoneBefore s.cut s.journal.updates
+    → IsOwn s.program (known_by s) e m ns fs → has_cause s cs m ≡ false → Fits (suc n) s.program e
+    → elements_depth (body_depth n s.program) (gathered (elements_in ns)) ≤ n
+children_fit_again n s cs e m ns fs before own calm fits =
+    let whole = shape_fits n s cs e (Some (node e m ns fs)) fits in
+    kept_fits n s.program cs e m ns fs (own_not_null s.program (known_by s) e m ns fs own)
+    (subst (ShapeFits n s.program) (same_shape s cs e m ns fs before own calm) whole)
+
+node_again : (n : ℕ) (s : Sight) (cs : Contexts) (e : Element) (m : Mark) (ns fs : Forest) → DoneBefore s.cut s.journal.updates
+    → IsOwn s.program (known_by s) e m ns fs → has_cause s cs m ≡ false → NoNull ns
+    → render_all (rendered n s (contexts_below e cs)) (zip (elements_in ns) (places ns)) ≡ all_made ns
+    → rendered (suc n) s cs e (Some (node e m ns fs)) ≡ made (node e m ns fs)
+unfolding rendered
+node_again n s cs e m ns fs before own calm there again =
+    (ap (place_of (rendered n s) e (Some (node e m ns fs))) (same_shape s cs e m ns fs before own calm)
+    ∙ place_of_kept (rendered n s) s.program (known_by s) s cs e m ns fs own calm (matches_itself ns there) again)
+
+first_again : (n : ℕ) (s : Sight) (cs : Contexts) (x : Node) (ns : Forest) → rendered n s cs (element_of x) (Some x) ≡ made x
+    → render_all (rendered n s cs) (zip (elements_in ns) (places ns)) ≡ all_made ns
+    → render_all (rendered n s cs) (zip (elements_in (child x ns)) (places (child x ns))) ≡ all_made (child x ns)
+first_again n s cs x ns first rest = rw (first, rest) refl
+
+pub null_is_empty : (n : ℕ) (s : Sight) (cs : Contexts) (old : Option Node) → rendered n s cs elements.null old ≡ empty
+unfolding rendered
+null_is_empty zero s cs old = refl
+null_is_empty (suc n) s cs old = refl
+
+gap_again : (n : ℕ) (s : Sight) (cs : Contexts) (ns : Forest) → render_all (rendered n s cs) (zip (elements_in ns) (places ns)) ≡ all_made ns
+    → render_all (rendered n s cs) (zip (elements_in (vacant ns)) (places (vacant ns))) ≡ all_made (vacant ns)
+gap_again n s cs ns rest = rw (null_is_empty n s cs None, rest) refl
+
+mutual
+  -- A subtree that has no cause is rendered to itself.
+  pub rendered_again : (n : ℕ) (s : Sight) (cs : Contexts) (o : Node) → DoneBefore s.cut s.journal.updates → IsSettled s.program (known_by s) o → IsStill s cs o
+      → Fits n s.program (element_of o) → rendered n s cs (element_of o) (Some o) ≡ made o
+  rendered_again zero s cs (node e m ns fs) before settled still fits =
+      absurd (omega (arith, not_deepest s.program e fits (own_not_null s.program (known_by s) e m ns fs settled.0)))
+  rendered_again (suc n) s cs (node e m ns fs) before settled still fits =
+      node_again n s cs e m ns fs before settled.0 still.0 (settled_no_null s.program (known_by s) ns settled.1)
+      (all_again n s (contexts_below e cs) ns before settled.1 still.1 (children_fit_again n s cs e m ns fs before settled.0 still.0 fits))
+
+  pub all_again : (n : ℕ) (s : Sight) (cs : Contexts) (ns : Forest) → DoneBefore s.cut s.journal.updates → AllSettled s.program (known_by s) ns → AllStill s cs ns
+      → elements_depth (body_depth n s.program) (gathered (elements_in ns)) ≤ n
+      → render_all (rendered n s cs) (zip (elements_in ns) (places ns)) ≡ all_made ns
+  all_again n s cs none before settled still fits = refl
+  all_again n s cs (vacant ns) before settled still fits = gap_again n s cs ns (all_again n s cs ns before settled still (omega arith))
+  all_again n s cs (child x ns) before settled still fits =
+      first_again n s cs x ns (rendered_again n s cs x before settled.0 still.0 (omega arith)) (all_again n s cs ns before settled.1 still.1 (omega arith))

@@ -1,0 +1,274 @@
+-- A hidden boundary whose awaited resources have no value, and whose kept instances have the same values, waits for the same again.
+use Rattle.std.specs.List.{zip}
+use Rattle.std.specs.Option.{option_flatten}
+use Rattle.std.specs.Prelude.{Bool, List, None, Option, Some, [], false, map, nat_eq, nat_lt, option_and_then, position, refl, slice_get, slice_index_or, suc, true, zero, ℕ, ℤ, ◌++◌, ◌<◌, ◌||◌, ◌∷◌, ◌≡◌, ◌≤◌}
+use Rattle.std.proofs.Common.{ap, arith, subst, ◌∙◌}
+use Rattle.std.proofs.lemmas.Bool.Decides.{nat_tests}
+use Rattle.rx_ast.specs.Syntax.{Component}
+use Rattle.rx_base.specs.Awaits.{Awaits, awaits_where, resource_limit}
+use Rattle.rx_base.specs.AwaitsLaws.{has-awaits_where, has-awaits_where_above}
+use Rattle.rx_check.specs.Names.{component_at}
+use Rattle.rx_elem.specs.Compare.{node_at, old_nodes}
+use Rattle.rx_elem.specs.Elements.{Element, Elements, listed}
+use Rattle.rx_elem.specs.Identity.{Child, identified, identities_after, is_same_child}
+use Rattle.rx_elem.specs.Trees.{Forest, Mark, Node, child, children_if, elements_in, fallback_if, node, none, of_boundary, of_host, of_instance, places, plain, vacant}
+use Rattle.rx_eval.specs.Body.{Body, body_of, ready, wait}
+use Rattle.rx_eval.specs.Fresh.{Contexts, Part, Place, Places, Shape, Sight, absent, all_made, before, empty, inputs_at, made, old_instance, one_list, one_waits, over, over_boundary, place_of, render_all, render_part, rendered, resources_seen, shape_of, shape_of_body, shape_of_component, two_lists, values_of, waiting, waits}
+use Rattle.commit_laws.proofs.BodyLaw.{BodyAgain, body_again}
+use Rattle.rx_elem.proofs.Identities.{child_of}
+use Rattle.rx_eval.specs.Again.{AllValuesAgree, AreUnresolved, ValuesAgree, WaitsAreSmall}
+use Rattle.rx_eval.specs.Settled.{HasValuesOf}
+use Rattle.rx_elem.specs.Elements as elements
+use Rattle.rx_base.specs.Awaits as awaits
+use Rattle.rx_elem.proofs.Deciding.{or_left, or_right}
+
+-- What stays the same
+
+-- each instance of a tree that may be missing has the same values at two sights
+abbrev pub IfValuesAgree : Sight → Sight → Option Node → Type 0
+IfValuesAgree s t None = Unit {0}
+IfValuesAgree s t (Some n) = ValuesAgree s t n
+
+-- all of these are numbers of resources
+abbrev pub AreResources : Awaits → Type 0
+AreResources a = (r : ℕ) → awaits.has a r ≡ true → r < resource_limit
+
+-- a place doesn't wait
+abbrev pub IsNoWait : Place → Type 0
+IsNoWait empty = Unit {0}
+IsNoWait (made n) = Unit {0}
+IsNoWait (waits a) = ⊥
+
+-- none of some places waits
+abbrev pub AreNoWait : Places → Type 0
+AreNoWait (all_made ns) = Unit {0}
+AreNoWait (one_waits a) = ⊥
+
+-- what waited still waits for the same, if none of that has a value, and what didn't wait doesn't
+abbrev pub WaitsAgain : Sight → Place → Place → Type 0
+WaitsAgain t empty q = IsNoWait q
+WaitsAgain t (made n) q = IsNoWait q
+WaitsAgain t (waits a) q = AreResources a × (AreUnresolved t a → q ≡ waits a)
+
+-- the same for the places of a list
+abbrev pub AllWaitAgain : Sight → Places → Places → Type 0
+AllWaitAgain t (all_made ns) qs = AreNoWait qs
+AllWaitAgain t (one_waits a) qs = AreResources a × (AreUnresolved t a → qs ≡ one_waits a)
+
+-- Sets of resources
+
+where_small : (test : ℕ → Bool) → AreResources (awaits_where test)
+where_small test r h = go (nat_lt r resource_limit) refl
+  where
+    go : (b : Bool) → nat_lt r resource_limit ≡ b → r < resource_limit
+    go true e = grind (arith, nat_tests)
+    go false e = let late : resource_limit ≤ r = grind (arith, nat_tests) in absurd (cc (h, has-awaits_where_above test r late))
+
+left_unresolved : (t : Sight) (a b : Awaits) → AreResources a → AreUnresolved t (awaits.union a b) → AreUnresolved t a
+left_unresolved t a b small h r there =
+    h r (has-awaits_where (λ q. awaits.has a q || awaits.has b q) r (small r there) ∙ or_left (awaits.has a r) (awaits.has b r) there)
+
+right_unresolved : (t : Sight) (a b : Awaits) → AreResources b → AreUnresolved t (awaits.union a b) → AreUnresolved t b
+right_unresolved t a b small h r there =
+    h r (has-awaits_where (λ q. awaits.has a q || awaits.has b q) r (small r there) ∙ or_right (awaits.has a r) (awaits.has b r) there)
+
+one_unresolved : (t : Sight) (r : ℕ) → r < resource_limit → AreUnresolved t (awaits.one r) → slice_index_or (resources_seen t) r None ≡ None
+one_unresolved t r lt h = let itself : nat_eq r r ≡ true = grind (arith, nat_tests) in h r (has-awaits_where (nat_eq r) r lt ∙ itself)
+
+-- Places and lists
+
+before_again : (t : Sight) (p q : Place) (ps qs : Places) → WaitsAgain t p q → AllWaitAgain t ps qs → AllWaitAgain t (before p ps) (before q qs)
+before_again t empty empty (all_made ns) (all_made ms) h k = tt
+before_again t empty (made y) (all_made ns) (all_made ms) h k = tt
+before_again t (made x) empty (all_made ns) (all_made ms) h k = tt
+before_again t (made x) (made y) (all_made ns) (all_made ms) h k = tt
+before_again t empty q (all_made ns) (one_waits b) h k = absurd k
+before_again t (made x) q (all_made ns) (one_waits b) h k = absurd k
+before_again t empty (waits b) (all_made ns) (all_made ms) h k = absurd h
+before_again t (made x) (waits b) (all_made ns) (all_made ms) h k = absurd h
+before_again t empty empty (one_waits a) qs h k = (k.0, λ u. rw (k.1 u) refl)
+before_again t empty (made y) (one_waits a) qs h k = (k.0, λ u. rw (k.1 u) refl)
+before_again t empty (waits b) (one_waits a) qs h k = absurd h
+before_again t (made x) empty (one_waits a) qs h k = (k.0, λ u. rw (k.1 u) refl)
+before_again t (made x) (made y) (one_waits a) qs h k = (k.0, λ u. rw (k.1 u) refl)
+before_again t (made x) (waits b) (one_waits a) qs h k = absurd h
+before_again t (waits a) q ps qs h k = (h.0, λ u. rw (h.1 u) refl)
+
+over_again : (t : Sight) (e : Element) (m : Mark) (ps qs : Places) → AllWaitAgain t ps qs → WaitsAgain t (over e m ps) (over e m qs)
+over_again t e m (all_made ns) (all_made ms) h = tt
+over_again t e m (all_made ns) (one_waits b) h = absurd h
+over_again t e m (one_waits a) qs h = (h.0, λ u. rw (h.1 u) refl)
+
+-- A boundary that came out with a node does so again, even if its children wait for something else by now.
+parts_again : (t : Sight) (e : Element) (old : Option Node) (ps qs ps' qs' : Places) → AllWaitAgain t ps ps' → AllWaitAgain t qs qs'
+    → WaitsAgain t (over_boundary e old ps qs) (over_boundary e old ps' qs')
+parts_again t e old (all_made ns) qs (all_made ms) qs' h k = tt
+parts_again t e old (all_made ns) qs (one_waits a) qs' h k = absurd h
+parts_again t e old (one_waits a) (all_made fs) (all_made ms) qs' h k = tt
+parts_again t e old (one_waits a) (all_made fs) (one_waits c) (all_made gs) h k = tt
+parts_again t e old (one_waits a) (all_made fs) (one_waits c) (one_waits d) h k = absurd k
+parts_again t e old (one_waits a) (one_waits b) ps' qs' h k = (
+  where_small (λ r. awaits.has a r || awaits.has b r),
+  λ u. rw (h.1 (left_unresolved t a b h.0 u), k.1 (right_unresolved t a b k.0 u)) refl,
+)
+
+-- Old nodes
+
+abbrev OldsAgree : Sight → Sight → List Element → List (Option Node) → Type 0
+OldsAgree s t [] olds = Unit {0}
+OldsAgree s t (e ∷ es) [] = ⊥
+OldsAgree s t (e ∷ es) (o ∷ olds) = IfValuesAgree s t o × OldsAgree s t es olds
+
+got_agrees : (s t : Sight) (ns : Forest) → AllValuesAgree s t ns → (q : ℕ) → IfValuesAgree s t (option_flatten (slice_get (places ns) q))
+got_agrees s t none h q = tt
+got_agrees s t (vacant ns) h zero = tt
+got_agrees s t (vacant ns) h (suc q) = got_agrees s t ns h q
+got_agrees s t (child n ns) h zero = h.0
+got_agrees s t (child n ns) h (suc q) = got_agrees s t ns h.1 q
+
+node_agrees : (s t : Sight) (ns : Forest) → AllValuesAgree s t ns → (q : Option ℕ) → IfValuesAgree s t (option_and_then (node_at ns) q)
+node_agrees s t ns h None = tt
+node_agrees s t ns h (Some q) = got_agrees s t ns h q
+
+olds_agree : (s t : Sight) (ns : Forest) → AllValuesAgree s t ns → (all : List Child) (before es : List Element)
+    → OldsAgree s t es (map (option_and_then (node_at ns)) (map (λ c. position (is_same_child c) all) (map child_of (zip (identities_after before es) es))))
+olds_agree s t ns h all before [] = tt
+olds_agree s t ns h all before (e ∷ es) = (node_agrees s t ns h (position (is_same_child _) all), olds_agree s t ns h all (before ++ e ∷ []) es)
+
+children_agree : (s t : Sight) (old : Option Node) → IfValuesAgree s t old → AllValuesAgree s t (children_if old)
+children_agree s t None h = tt
+children_agree s t (Some (node e m ns fs)) h = h.1
+
+fallback_agrees : (s t : Sight) (old : Option Node) → IfValuesAgree s t old → AllValuesAgree s t (fallback_if old)
+fallback_agrees s t None h = tt
+fallback_agrees s t (Some (node e m ns fs)) h = h.2
+
+olds_hooks : (s t : Sight) (old : Option Node) → IfValuesAgree s t old
+    → option_and_then (values_of s) (old_instance old) ≡ option_and_then (values_of t) (old_instance old)
+olds_hooks s t None h = refl
+olds_hooks s t (Some (node e (of_instance i) ns fs)) h = h.0
+olds_hooks s t (Some (node e (of_host n) ns fs)) h = refl
+olds_hooks s t (Some (node e plain ns fs)) h = refl
+olds_hooks s t (Some (node e (of_boundary b) ns fs)) h = refl
+
+-- Rendering
+
+-- a shape at the other sight: the same, unless what its body waits for has a value
+abbrev ShapeAgain : Sight → Shape → Shape → Type 0
+ShapeAgain t absent q = q ≡ absent
+ShapeAgain t (waiting r) q = (r < resource_limit) × (slice_index_or (resources_seen t) r None ≡ None → q ≡ waiting r)
+ShapeAgain t (one_list m p) q = q ≡ one_list m p
+ShapeAgain t (two_lists p f) q = q ≡ two_lists p f
+
+module _ (s : Sight) (j : _) (l : _) (c : _) (small : WaitsAreSmall s.program) (more : HasValuesOf (resources_seen s) (resources_seen (record s { journal = j; lanes = l; cut = c }))) where
+  -- the other sight
+  abbrev later : Sight
+  later = record s { journal = j; lanes = l; cut = c }
+
+  shape_of_again : (cs : Contexts) (k : ℕ) (old : Option Node) (a b : Body) → ((r : ℕ) → a ≡ wait r → r < resource_limit)
+      → BodyAgain s.program (record { props = []; children = []; hooks = None; contexts = []; resources = resources_seen s }) (resources_seen later) more a b
+      → ShapeAgain later (shape_of_body cs k old a) (shape_of_body cs k old b)
+  shape_of_again cs k old (wait r) b lt h = (lt r refl, λ none. rw (h none) refl)
+  shape_of_again cs k old (ready es effects initials reads) b lt h = rw h refl
+
+  found_again : (cs : Contexts) (k : ℕ) (props : List ℤ) (given : Elements) (old : Option Node) (d : Component) → component_at s.program k ≡ Some d → IfValuesAgree s later old
+      → ShapeAgain later (shape_of_body cs k old (body_of s.program d (inputs_at s cs props given (old_instance old)))) (shape_of_body cs k old (body_of s.program d (inputs_at later cs props given (old_instance old))))
+  found_again cs k props given old d there agree =
+      shape_of_again cs k old (body_of s.program d (inputs_at s cs props given (old_instance old))) (body_of s.program d (inputs_at later cs props given (old_instance old)))
+      (λ r same. small k d (inputs_at s cs props given (old_instance old)) r there same)
+      (go (option_and_then (values_of later) (old_instance old)) (olds_hooks s later old agree)
+      (body_again s.program (inputs_at s cs props given (old_instance old)) (resources_seen later) more d))
+    where
+      go : (h : Option (List ℤ)) → option_and_then (values_of s) (old_instance old) ≡ h
+          → BodyAgain s.program (inputs_at s cs props given (old_instance old)) (resources_seen later) more (body_of s.program d (inputs_at s cs props given (old_instance old)))
+          (body_of s.program d (record (inputs_at s cs props given (old_instance old)) { resources = resources_seen later }))
+          → BodyAgain s.program (inputs_at s cs props given (old_instance old)) (resources_seen later) more (body_of s.program d (inputs_at s cs props given (old_instance old)))
+          (body_of s.program d (record { props = props; children = listed given; hooks = h; contexts = cs; resources = resources_seen later }))
+      go h same x =
+          subst (λ (y : Option (List ℤ)). BodyAgain s.program (inputs_at s cs props given (old_instance old)) (resources_seen later) more (body_of s.program d (inputs_at s cs props given (old_instance old)))
+          (body_of s.program d (record { props = props; children = listed given; hooks = y; contexts = cs; resources = resources_seen later }))) same x
+
+  comp_again : (cs : Contexts) (k : ℕ) (props : List ℤ) (given : Elements) (old : Option Node) → IfValuesAgree s later old → (d : Option Component) → component_at s.program k ≡ d
+      → ShapeAgain later (shape_of_component s cs k props given old d) (shape_of_component later cs k props given old d)
+  comp_again cs k props given old agree None there = refl
+  comp_again cs k props given old agree (Some d) there = found_again cs k props given old d there agree
+
+  shape_again : (cs : Contexts) (e : Element) (old : Option Node) → IfValuesAgree s later old → ShapeAgain later (shape_of s cs e old) (shape_of later cs e old)
+  shape_again cs elements.null old h = refl
+  shape_again cs (elements.text x) old h = refl
+  shape_again cs (elements.host n key attrs es) old h = refl
+  shape_again cs (elements.comp k key props given) old h = comp_again cs k props given old h (component_at s.program k) refl
+  shape_again cs (elements.list es) old h = refl
+  shape_again cs (elements.boundary key f es) old h = refl
+  shape_again cs (elements.provider k key x es) old h = refl
+
+  abbrev BelowAgain : ℕ → Type 0
+  BelowAgain n = (cs : Contexts) (e : Element) (old : Option Node) → IfValuesAgree s later old → WaitsAgain later (rendered n s cs e old) (rendered n later cs e old)
+
+  all_wait_again : (n : ℕ) → BelowAgain n → (cs : Contexts) (es : List Element) (olds : List (Option Node)) → OldsAgree s later es olds
+      → AllWaitAgain later (render_all (rendered n s cs) (zip es olds)) (render_all (rendered n later cs) (zip es olds))
+  all_wait_again n below cs [] olds h = tt
+  all_wait_again n below cs (e ∷ es) [] h = absurd h
+  all_wait_again n below cs (e ∷ es) (o ∷ olds) h =
+      before_again later (rendered n s cs e o) (rendered n later cs e o) (render_all (rendered n s cs) (zip es olds)) (render_all (rendered n later cs) (zip es olds))
+      (below cs e o h.0) (all_wait_again n below cs es olds h.1)
+
+  part_again : (n : ℕ) → BelowAgain n → (p : Part) → AllValuesAgree s later p.old → AllWaitAgain later (render_part (rendered n s) p) (render_part (rendered n later) p)
+  part_again n below p h =
+      all_wait_again n below p.contexts p.elements (old_nodes p.old p.elements) (olds_agree s later p.old h (identified (elements_in p.old)) [] p.elements)
+
+  -- the old lists of a shape
+  abbrev OldsOf : Shape → Type 0
+  OldsOf absent = Unit {0}
+  OldsOf (waiting r) = Unit {0}
+  OldsOf (one_list m p) = AllValuesAgree s later p.old
+  OldsOf (two_lists p f) = AllValuesAgree s later p.old × AllValuesAgree s later f.old
+
+  body_olds : (cs : Contexts) (k : ℕ) (old : Option Node) (b : Body) → IfValuesAgree s later old → OldsOf (shape_of_body cs k old b)
+  body_olds cs k old (wait r) h = tt
+  body_olds cs k old (ready es effects initials reads) h = children_agree s later old h
+
+  component_olds : (cs : Contexts) (k : ℕ) (props : List ℤ) (given : Elements) (old : Option Node) (d : Option Component) → IfValuesAgree s later old
+      → OldsOf (shape_of_component s cs k props given old d)
+  component_olds cs k props given old None h = tt
+  component_olds cs k props given old (Some d) h = body_olds cs k old (body_of s.program d (inputs_at s cs props given (old_instance old))) h
+
+  shape_olds : (cs : Contexts) (e : Element) (old : Option Node) → IfValuesAgree s later old → OldsOf (shape_of s cs e old)
+  shape_olds cs elements.null old h = tt
+  shape_olds cs (elements.text x) old h = tt
+  shape_olds cs (elements.host n key attrs es) old h = children_agree s later old h
+  shape_olds cs (elements.comp k key props given) old h = component_olds cs k props given old (component_at s.program k) h
+  shape_olds cs (elements.list es) old h = children_agree s later old h
+  shape_olds cs (elements.boundary key f es) old h = (children_agree s later old h, fallback_agrees s later old h)
+  shape_olds cs (elements.provider k key x es) old h = children_agree s later old h
+
+  from_again : (n : ℕ) → BelowAgain n → (e : Element) (old : Option Node) (a b : Shape) → ShapeAgain later a b → OldsOf a
+      → WaitsAgain later (place_of (rendered n s) e old a) (place_of (rendered n later) e old b)
+  from_again n below e old absent b h olds = rw h tt
+  from_again n below e old (waiting r) b h olds =
+      (where_small (nat_eq r), λ u. ap (place_of (rendered n later) e old) (h.1 (one_unresolved later r h.0 u)))
+  from_again n below e old (one_list m p) b h olds =
+      rw h (over_again later e m (render_part (rendered n s) p) (render_part (rendered n later) p) (part_again n below p olds))
+  from_again n below e old (two_lists p f) b h olds =
+      rw h (parts_again later e old (render_part (rendered n s) p) (render_part (rendered n s) f) (render_part (rendered n later) p) (render_part (rendered n later) f)
+      (part_again n below p olds.0) (part_again n below f olds.1))
+
+  place_again_at : (n : ℕ) → BelowAgain n → (cs : Contexts) (e : Element) (old : Option Node) → IfValuesAgree s later old
+      → WaitsAgain later (place_of (rendered n s) e old (shape_of s cs e old)) (place_of (rendered n later) e old (shape_of later cs e old))
+  place_again_at n below cs e old h = from_again n below e old (shape_of s cs e old) (shape_of later cs e old) (shape_again cs e old h) (shape_olds cs e old h)
+
+  -- Each place waits again for what it waited for, and none waits that didn't.
+  pub rendered_waits_again : (n : ℕ) → BelowAgain n
+  unfolding rendered
+  rendered_waits_again zero cs e old h = tt
+  rendered_waits_again (suc n) cs e old h = place_again_at n (rendered_waits_again n) cs e old h
+
+  -- The children of a boundary that waited wait for the same, where none of that has a value.
+  pub attempt_waits_again : (n : ℕ) (p : Part) (a : Awaits) → AllValuesAgree s later p.old → render_part (rendered n s) p ≡ one_waits a → AreUnresolved later a
+      → render_part (rendered n later) p ≡ one_waits a
+  attempt_waits_again n p a agree waited unresolved =
+      go (render_part (rendered n s) p) waited (part_again n (rendered_waits_again n) p agree)
+    where
+      go : (ps : Places) → ps ≡ one_waits a → AllWaitAgain later ps (render_part (rendered n later) p) → render_part (rendered n later) p ≡ one_waits a
+      go ps same h =
+          let x : AllWaitAgain later (one_waits a) (render_part (rendered n later) p) = rw same at h in x.1 unresolved

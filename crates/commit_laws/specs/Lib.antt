@@ -1,0 +1,2 @@
+pub mod HiddenWaits
+pub mod Quiet

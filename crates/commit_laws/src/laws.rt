@@ -1,0 +1,119 @@
+// Laws of the definitions.
+ghost use Rattle.std.specs.Prelude.{◌<◌, ◌≡◌, ◌&&◌, not, map, ℕ, ℤ, Bool, true, false, List, [], ◌∷◌, ◌++◌, Option, Some, ◌≤◌, length, is_some};
+ghost use Rattle.std.specs.List.{list_any};
+ghost use Rattle.rx_base.specs.Awaits.{Awaits, resource_limit};
+ghost use Rattle.rx_base.specs.Awaits as awaits;
+ghost use Rattle.rx_base.specs.declared.cut.Cut.{Cut};
+ghost use Rattle.rx_lane.specs.Lanes.{Lanes};
+ghost use Rattle.rx_ast.specs.Syntax.{Program, contexts};
+ghost use Rattle.rx_check.specs.Bounds.{depth_bound};
+ghost use Rattle.rx_check.specs.Names.{resources};
+ghost use Rattle.rx_susp.specs.declared.boundary.BoundaryState.TheVariants.{Hidden};
+ghost use Rattle.rx_elem.specs.Elements.{Element, Elements, same_element, Key, listed, boundary};
+ghost use Rattle.rx_elem.specs.Trees.{Node, node, Mark, of_boundary, Forest, element_of};
+ghost use Rattle.rx_elem.specs.Spots.{visible_instances, kept_instances};
+ghost use Rattle.rx_elem.specs.Numbers.{Numbers, numbered};
+ghost use Rattle.rx_queue.specs.History.{stands_done};
+ghost use Rattle.rx_queue.specs.Journal.{Journal, Posted, Resolution, hook, same_target, is_included, belongs_to, marked_update, resolved_by};
+ghost use Rattle.rx_eval.specs.Fresh.{Sight, Contexts, Part, part, shape_of, rendered, render_part, made, one_waits, fresh, depth_limit, default_contexts, root_element, resources_seen};
+ghost use Rattle.rx_eval.specs.Outcome.{journal_after, newly_hidden, all_awaits, is_awaited};
+ghost use Rattle.rx_eval.specs.Touched.{Setting, visited, instances_in, is_waiting_still};
+ghost use Rattle.rx_eval.specs.Levels.{Fits};
+ghost use Rattle.rx_eval.specs.Settled.{Known, IfSettled, IsSettled, IsOwn, known_by, DoneBefore, has_cause, kept_shape, IsStill, HasValuesOf, IsSound, IsCalm, ReadsHold, includes};
+ghost use Rattle.rx_check.specs.Reads.{ReadsDeclared};
+ghost use Rattle.rx_eval.specs.Again.{NoneTouched, IsFreeOf, AccountedBefore, NoneOwed, AllValuesAgree, AreUnresolved, WaitsAreSmall, AllOpen, NoNewUpdate};
+ghost use Rattle.commit_laws.specs.HiddenWaits.{later_sight, journal_since, IfNumbered, Numbered, HiddenWaits, OwnWaits, Seen, AllSeen};
+ghost use Rattle.commit_laws.specs.Quiet.{NoneHidden, AllDone};
+
+/// A place without a cause of its own renders its own children again, and a subtree in which nothing has a cause is rendered to itself.
+pub fn nothing_new_comes()
+    ensures shape { (s : Sight) (cs : Contexts) (e : Element) (m : Mark) (ns fs : Forest) → DoneBefore s.cut s.journal.updates
+        → IsOwn s.program (known_by s) e m ns fs → has_cause s cs m ≡ false
+        → shape_of s cs e (Some (node e m ns fs)) ≡ kept_shape cs e m ns fs }
+    ensures subtree { (s : Sight) (cs : Contexts) (o : Node) (levels : ℕ) → DoneBefore s.cut s.journal.updates
+        → IsSettled s.program (known_by s) o → IsStill s cs o → Fits levels s.program (element_of o)
+        → rendered levels s cs (element_of o) (Some o) ≡ made o }
+    ensures elements { (e f : Element) → same_element e f ≡ true → e ≡ f }
+{}
+
+/// What is kept of the committed tree: a commit keeps it, and so do an update that is accepted and a resolution.
+pub fn soundness_is_kept()
+    ensures commit { (s : Sight) (old : Option Node) (new : Node) (from : Numbers) (res : List (Option ℤ))
+        → depth_bound s.program ≤ depth_limit → ReadsDeclared s.program → DoneBefore s.cut s.journal.updates
+        → HasValuesOf res (resources_seen s)
+        → IsSound s.program (record { updates = s.journal.updates; resources = res }) from.instance old
+        → fresh s old ≡ made new
+        → IsSound s.program (record { updates = (journal_after s.lanes s.cut (numbered from new).1 s.journal).updates; resources = resources_seen s }) (numbered from new).0.instance (Some (numbered from new).1) }
+    ensures update { (p : Program) (us : List Posted) (res : List (Option ℤ)) (next : ℕ) (tree : Option Node) (u : Posted)
+        → stands_done u.standing ≡ false → ((k i : ℕ) → next ≤ i → same_target (hook i k) u.target ≡ false)
+        → IsSound p (record { updates = us; resources = res }) next tree
+        → IsSound p (record { updates = us ++ u ∷ []; resources = res }) next tree }
+    ensures resolution { (p : Program) (us : List Posted) (res more : List (Option ℤ)) (next : ℕ) (tree : Option Node)
+        → HasValuesOf res more → IsSound p (record { updates = us; resources = res }) next tree
+        → IsSound p (record { updates = us; resources = more }) next tree }
+    ensures calm { (s : Sight) (cs : Contexts) (n : Node) → IsCalm s n → ReadsHold cs n → IsStill s cs n }
+{}
+
+/// In a subtree in which nothing has a cause no component place is touched; and lanes tell where nothing has one: by then no update of a visible instance is owed.
+pub fn untouched_is_told()
+    ensures places { (s : Sight) (at : Setting) (o : Node) (levels : ℕ) → DoneBefore s.cut s.journal.updates
+        → IsSettled s.program (known_by s) o → IsStill s at.contexts o → Fits levels s.program (element_of o)
+        → NoneTouched (visited levels s at (element_of o) (Some o)) }
+    ensures lanes { (s : Sight) (set : List ℕ) (us : List Posted) → IsFreeOf s.lanes set us
+        → list_any (λ u. is_included s.lanes s.cut u && (not (stands_done u.standing) && belongs_to set u.target)) us ≡ false }
+    ensures owed { (s : Sight) (visible kept : List ℕ) (us : List Posted) → AccountedBefore s.cut us
+        → NoneOwed visible (map (marked_update s.lanes s.cut visible kept) us) }
+{}
+
+/// The children of a hidden boundary wait for the same again, where nothing that they wait for has a value and no update of what it keeps is new.
+pub fn hidden_waits_again()
+    ensures attempt { (s : Sight) (j : Journal) (lanes : Lanes) (cut : Cut) → WaitsAreSmall s.program
+        → HasValuesOf (resources_seen s) (resources_seen (later_sight s j lanes cut))
+        → (levels : ℕ) (p : Part) (a : Awaits) → AllValuesAgree s (later_sight s j lanes cut) p.old
+        → render_part (rendered levels s) p ≡ one_waits a → AreUnresolved (later_sight s j lanes cut) a
+        → render_part (rendered levels (later_sight s j lanes cut)) p ≡ one_waits a }
+    ensures commit { (s : Sight) (old : Option Node) (new : Node) (from : Numbers) → IfNumbered old → fresh s old ≡ made new
+        → HiddenWaits depth_limit s (default_contexts s.program) (numbered from new).1 × Numbered (numbered from new).1 }
+    ensures listed { (x : Node) → Seen (visible_instances (Some x)) (kept_instances (Some x)) true x }
+    ensures small { (p : Program) → length (resources p) ≤ resource_limit → WaitsAreSmall p }
+    ensures resources { (s : Sight) (us : List Posted) (more : List Resolution) (cut : Cut) (lanes : Lanes)
+        → s.cut.resolutions ≤ cut.resolutions
+        → HasValuesOf (resources_seen s) (resources_seen (later_sight s (record { updates = us; resolutions = s.journal.resolutions ++ more }) lanes cut)) }
+    ensures awaits { (t : Sight) (a : Awaits) → list_any (λ r. is_some (resolved_by t.cut t.journal r)) a ≡ false → AreUnresolved t a }
+    ensures tested { (t : Sight) (e : Element) (a : Awaits) (ns fs : Forest) → length (resources t.program) ≤ resource_limit
+        → is_waiting_still t (node e (of_boundary (Hidden a)) ns fs) (Hidden a) ≡ true
+        → AreUnresolved t a × NoNewUpdate t.lanes t.cut (instances_in ns) t.journal.updates }
+    ensures untouched { (s : Sight) (lanes : Lanes) (cut : Cut) (visible kept : List ℕ)
+        → ((i : ℕ) → includes kept i ≡ true → includes visible i ≡ false) → s.cut.updates ≤ cut.updates
+        → (new : List Posted) (resolutions : List Resolution) → AccountedBefore s.cut s.journal.updates
+        → AllOpen new → WaitsAreSmall s.program
+        → (n : ℕ) (cs : Contexts) (key : Key) (f : Element) (es : Elements) (a : Awaits) (ns : Forest)
+        → OwnWaits n s cs (boundary key f es) (of_boundary (Hidden a)) ns → AllSeen visible kept false ns
+        → NoNewUpdate lanes cut (instances_in ns) (map (marked_update s.lanes s.cut visible kept) s.journal.updates)
+        → NoNewUpdate lanes cut (instances_in ns) new
+        → HasValuesOf (resources_seen s) (resources_seen (later_sight s (journal_since s visible kept new resolutions) lanes cut))
+        → AreUnresolved (later_sight s (journal_since s visible kept new resolutions) lanes cut) a
+        → render_part (rendered n (later_sight s (journal_since s visible kept new resolutions) lanes cut)) (part cs (listed es) ns) ≡ one_waits a }
+{}
+
+/// Where nothing is hidden and each update of a visible instance is done, any render gives the committed tree again; a commit leaves the root's element at the root.
+pub fn quiet_trees_stay()
+    ensures tree { (s : Sight) (x : Node) (res : List (Option ℤ)) (next : ℕ) → depth_bound s.program ≤ depth_limit
+        → DoneBefore s.cut s.journal.updates → HasValuesOf res (resources_seen s)
+        → IsSound s.program (record { updates = s.journal.updates; resources = res }) next (Some x) → Numbered x
+        → element_of x ≡ root_element s.program → NoneHidden x
+        → AllDone (visible_instances (Some x)) s.journal.updates → fresh s (Some x) ≡ made x }
+    ensures root { (s : Sight) (old : Option Node) (new : Node) (from : Numbers) → fresh s old ≡ made new
+        → element_of (numbered from new).1 ≡ root_element s.program }
+{}
+
+/// A render waits only for resources without a value that it sees: so do the visible boundaries that are hidden after a
+/// commit, and all that a deferral waits for.
+pub fn awaited_has_no_value()
+    ensures committed { (s : Sight) (old : Option Node) (new : Node) (from : Numbers) → depth_bound s.program ≤ depth_limit
+        → fresh s old ≡ made new → (r : ℕ) → is_awaited (Some (numbered from new).1) r ≡ true
+        → resolved_by s.cut s.journal r ≡ None }
+    ensures deferred { (s : Sight) (k : Known) (old : Option Node) (new : Node) → depth_bound s.program ≤ depth_limit
+        → IfSettled s.program k old → fresh s old ≡ made new → (r : ℕ)
+        → awaits.has (all_awaits (newly_hidden old new)) r ≡ true → resolved_by s.cut s.journal r ≡ None }
+{}

@@ -1,0 +1,9 @@
+//! Laws on taking over what has no cause, and on what a commit leaves.
+#![tactic(auto)]
+
+mod laws;
+
+pub use laws::{
+    awaited_has_no_value, hidden_waits_again, nothing_new_comes, quiet_trees_stay,
+    soundness_is_kept, untouched_is_told,
+};

@@ -1,0 +1,5 @@
+pub mod InProgress
+pub mod SameSight
+pub mod Attempts
+pub mod TouchedCounts
+pub mod OldNodes

@@ -1,0 +1,13 @@
+pub mod Counts
+pub mod Growing
+pub mod Losing
+pub mod Listed
+pub mod Relating
+pub mod OldLists
+pub mod Below
+pub mod Fine
+pub mod KeptKinds
+pub mod Naming
+pub mod Rendering
+pub mod Committing
+pub mod Reached

@@ -1,0 +1,12 @@
+pub mod RenderBounds
+pub mod Walk
+pub mod RunTrees
+pub mod Turns
+pub mod Premises
+pub mod Carrying
+pub mod AlongRuns
+pub mod DueLanes
+pub mod Keeping
+pub mod KeptRuns
+pub mod KeptFacts
+pub mod QuietEnds

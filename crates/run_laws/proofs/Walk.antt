@@ -1,0 +1,65 @@
+-- What turns, dispatches and resolutions keep holds in each state that can be reached.
+use Rattle.std.specs.Prelude.{◌≡◌, ℕ, zero, suc, ℤ, Bool, true, false, List, [], ◌∷◌, Option, None, Some, refl}
+use Rattle.std.proofs.Common.{sym, subst}
+use Rattle.rx_base.specs.Values.{Name}
+use Rattle.rx_ast.specs.Syntax.{Program}
+use Rattle.rx_check.specs.Names.{resource_number}
+use Rattle.rx_lane.specs.Lanes.{has}
+use Rattle.rx_lane.specs.declared.lane.Lane.TheVariants as lane
+use Rattle.rx_elem.specs.Spots.{Mounted}
+use Rattle.rx_queue.specs.Journal.{resolved_now}
+use Rattle.rx_sched.specs.Deadlines.{later}
+use Rattle.rx_script.specs.Steps.{path_of}
+use Rattle.rx_script.specs.declared.step.Dispatch.{Dispatch}
+use Rattle.rx_script.specs.declared.step.Step.{Step}
+use Rattle.rx_script.specs.declared.step.Step.TheVariants as step
+use Rattle.rx_model.specs.State.{State, instance_found, opening}
+use Rattle.rx_model.specs.Stretch.{Stretch, followed_by, silent}
+use Rattle.rx_model.specs.Accepting.{between_events, dispatched_to, resolved_as}
+use Rattle.rx_model.specs.Committing.{passive_run}
+use Rattle.rx_model.specs.Turns.{TurnBy, choice_of}
+use Rattle.rx_model.specs.Machine.{FlushSync, Flushes, RunTo, StepTo}
+use Rattle.rx_model.specs.Laws.{IsReached}
+
+-- what a fact needs to hold all along: the start has it, and it is kept
+pub record IsKeptAlong (p : Program) (Holds : State → Type 0) : Type 0 where
+  pub starts : Holds opening
+  pub between : (s : State) → Holds s → Holds (between_events s)
+  pub ticks : (s : State) (n : ℕ) → Holds s → Holds (record (between_events s) { now = n })
+  pub passive : (s : State) → Holds s → Holds (passive_run s).after
+  pub turns : (s : State) (budget : Option ℕ) (r : Stretch) → TurnBy p s (choice_of s) budget r → Holds s → Holds r.after
+  pub dispatches : (s : State) (d : Dispatch) (x : Option Mounted) → instance_found p s.tree (path_of d) ≡ x → Holds s → Holds (dispatched_to p s d x).after
+  pub resolves : (s : State) (name : Name) (v : ℤ) (x : Option ℤ) → Holds s → Holds (resolved_as p s name v x).after
+
+-- a stretch that is another one ends in a state with this fact, where that does
+pub same_after : (Holds : State → Type 0) (r q : Stretch) → r ≡ q → Holds q.after → Holds r.after
+same_after Holds r q e h = subst (λ (x : Stretch). Holds x.after) (sym e) h
+
+module _ (p : Program) (Holds : State → Type 0) (kept : IsKeptAlong p Holds) where
+  flushes_keep : (n : ℕ) (s : State) (r : Stretch) → Flushes n p s r → Holds s → Holds r.after
+  flushes_keep zero s r t h = same_after Holds r (silent s) t.1 h
+  flushes_keep (suc n) s r t h = same_after Holds r (followed_by t.1 t.2) t.5 (flushes_keep n t.1.after t.2 t.4 (kept.turns s None t.1 t.3 h))
+
+  sync_keeps : (b : Bool) (s : State) (r : Stretch) → FlushSync b p s r → Holds s → Holds r.after
+  sync_keeps true s r t h = kept.turns s None r t h
+  sync_keeps false s r t h = same_after Holds r (silent s) t h
+
+  step_keeps : (s : State) (x : Step) (r : Stretch) → StepTo p s x r → Holds s → Holds r.after
+  step_keeps s (step.Dispatch d) r t h = same_after Holds r _ t (kept.dispatches s d (instance_found p s.tree (path_of d)) refl h)
+  step_keeps s (step.Resolve name v) r t h =
+      same_after Holds r _ t (kept.resolves (between_events s) name v (resolved_now s.journal (resource_number p name)) (kept.between s h))
+  step_keeps s (step.Tick n) r t h = same_after Holds r _ t (kept.ticks s (later s.now n) h)
+  step_keeps s (step.Work n) r t h = kept.turns (between_events s) (Some n) r t (kept.between s h)
+  step_keeps s step.Flush r t h = flushes_keep t.0 (between_events s) r t.2 (kept.between s h)
+  step_keeps s step.FlushSync r t h = sync_keeps (has s.schedule.pending lane.Sync) (between_events s) r t (kept.between s h)
+  step_keeps s step.Passive r t h = same_after Holds r _ t (kept.passive (between_events s) (kept.between s h))
+  step_keeps s step.Event r t h = same_after Holds r _ t (kept.between s h)
+  step_keeps s step.State r t h = same_after Holds r _ t (kept.between s h)
+  step_keeps s step.Tree r t h = same_after Holds r _ t (kept.between s h)
+
+  run_keeps : (s : State) (steps : List Step) (r : Stretch) → RunTo p s steps r → Holds s → Holds r.after
+  run_keeps s [] r t h = same_after Holds r (silent s) t h
+  run_keeps s (x ∷ xs) r t h = same_after Holds r (followed_by t.0 t.1) t.4 (run_keeps t.0.after xs t.1 t.3 (step_keeps s x t.0 t.2 h))
+
+  pub holds_along : (s : State) → IsReached p s → Holds s
+  holds_along s t = subst Holds t.3 (run_keeps opening t.0 t.1 t.2 kept.starts)

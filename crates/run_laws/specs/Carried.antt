@@ -1,0 +1,81 @@
+-- What each state of a run has for taking over, for trying a hidden boundary again or not, and for the next commit.
+use Rattle.std.specs.Prelude.{IfSome, List, None, Option, Some, [], length, ℕ, ℤ, ◌++◌, ◌<◌, ◌∷◌, ◌≡◌, ◌≤◌}
+use Rattle.rx_ast.specs.Syntax.{Program}
+use Rattle.rx_base.specs.declared.cut.Cut.{Cut}
+use Rattle.rx_elem.specs.Numbers.{Numbers}
+use Rattle.rx_elem.specs.Trees.{Node, element_of}
+use Rattle.rx_eval.specs.Fresh.{Sight, default_contexts, depth_limit, resources_seen, root_element}
+use Rattle.rx_eval.specs.Outcome.{journal_after}
+use Rattle.rx_lane.specs.Lanes.{Lanes, no_lanes}
+use Rattle.rx_model.specs.Committing.{sight_of}
+use Rattle.rx_model.specs.State.{Progress, State}
+use Rattle.rx_queue.specs.Journal.{Journal, Posted, Resolution, cut_now}
+use Rattle.rx_eval.specs.Again.{AccountedBefore, AllOpen}
+use Rattle.commit_laws.specs.HiddenWaits.{HiddenWaits, IfNumbered}
+use Rattle.rx_eval.specs.Settled.{DoneBefore, HasValuesOf, IfReadsHold, IfSettled, IsSound, known_by}
+
+-- updates are numbered below this
+abbrev pub NumbersBelow : ℕ → List Posted → Type 0
+NumbersBelow n [] = Unit {0}
+NumbersBelow n (u ∷ us) = (u.update.number < n) × NumbersBelow n us
+
+-- what a render with these lanes at this cut sees
+abbrev pub sight_at : Program → Journal → Lanes → Cut → Sight
+sight_at p j lanes cut = record { program = p; journal = j; lanes = lanes; cut = cut }
+
+-- the values of the resources that a render that starts now would see
+abbrev pub values_now : Program → Journal → List (Option ℤ)
+values_now p j = resources_seen (sight_at p j no_lanes (cut_now j))
+
+-- The last commit, which gave this tree: at what it saw each visible hidden boundary waited for what it awaits, and the journal is what it left and what came since.
+pub record LastCommit (p : Program) (j : Journal) (cut : Cut) (tree : Node) : Type 0 where
+  pub lanes : Lanes
+  pub journal : Journal
+  pub accounted : AccountedBefore cut journal.updates
+  pub waits : HiddenWaits depth_limit (sight_at p journal lanes cut) (default_contexts p) tree
+  pub new : List Posted
+  pub opened : AllOpen new
+  pub updates_are : j.updates ≡ (journal_after lanes cut tree journal).updates ++ new
+  pub more : List Resolution
+  pub resolutions_are : j.resolutions ≡ journal.resolutions ++ more
+
+-- the last commit of a tree that may be missing
+abbrev pub IfCommitted : Program → Journal → Cut → Option Node → Type 0
+IfCommitted p j cut None = Unit {0}
+IfCommitted p j cut (Some n) = LastCommit p j cut n
+
+-- the root's element stands at the root
+abbrev pub IfRooted : Program → Option Node → Type 0
+IfRooted p None = Unit {0}
+IfRooted p (Some n) = element_of n ≡ root_element p
+
+-- What holds of a journal and the committed tree, by the values of the resources that the last commit saw, and its cut.
+pub record Carries (p : Program) (j : Journal) (numbers : Numbers) (tree : Option Node) (resources : List (Option ℤ)) (last : Cut) : Type 0 where
+  pub below : NumbersBelow (length j.updates) j.updates
+  pub sound : IsSound p (record { updates = j.updates; resources = resources }) numbers.instance tree
+  pub seen : HasValuesOf resources (values_now p j)
+  pub numbered : IfNumbered tree
+  pub rooted : IfRooted p tree
+  pub updates_before : last.updates ≤ length j.updates
+  pub resolutions_before : last.resolutions ≤ length j.resolutions
+  pub committed : IfCommitted p j last tree
+
+-- What holds of a render, by the values that the last commit saw and its cut.
+pub record RendersOn (p : Program) (j : Journal) (resources : List (Option ℤ)) (last : Cut) (lanes : Lanes) (cut : Cut) : Type 0 where
+  pub updates_grow : last.updates ≤ cut.updates
+  pub resolutions_grow : last.resolutions ≤ cut.resolutions
+  pub updates_before : cut.updates ≤ length j.updates
+  pub resolutions_before : cut.resolutions ≤ length j.resolutions
+  pub accounted : AccountedBefore cut j.updates
+  pub more : HasValuesOf resources (resources_seen (sight_at p j lanes cut))
+
+-- what holds of a state, and of the render that is in progress
+abbrev pub IsCarried : Program → State → Type 0
+IsCarried p s =
+    (resources : List (Option ℤ)) × (last : Cut) × Carries p s.journal s.numbers s.tree resources last × IfSome s.progress (λ g. RendersOn p s.journal resources last g.lanes g.cut)
+
+-- the old tree of a render in progress is settled for what the render sees, what is done lies before its cut, and its reads hold
+abbrev pub RestsOnSettled : Program → State → Type 0
+RestsOnSettled p s =
+    (g : Progress) → s.progress ≡ Some g
+    → IfSettled p (known_by (sight_of p s g)) s.tree × DoneBefore g.cut s.journal.updates × IfReadsHold (default_contexts p) s.tree

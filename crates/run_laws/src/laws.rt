@@ -1,0 +1,62 @@
+// Laws of runs.
+ghost use Rattle.std.specs.Prelude.{◌≡◌, ℕ, ◌+◌, ◌-◌, ◌<◌, ◌≤◌, [], false, IfSome, Option, Some, length};
+ghost use Rattle.rx_ast.specs.Syntax.{Program, contexts};
+ghost use Rattle.rx_check.specs.Bounds.{node_bound};
+ghost use Rattle.rx_check.specs.Reads.{ReadsDeclared};
+ghost use Rattle.rx_elem.specs.Trees.{Node};
+ghost use Rattle.rx_eval.specs.Fresh.{Sight, made};
+ghost use Rattle.rx_eval.specs.Cursor.{Cursor, ended, is_over};
+ghost use Rattle.rx_eval.specs.Counts.{each_unit, whole};
+ghost use Rattle.render_laws.specs.InProgress.{InProgress};
+ghost use Rattle.rx_model.specs.State.{State, Progress};
+ghost use Rattle.rx_model.specs.Committing.{sight_of};
+ghost use Rattle.rx_model.specs.Committing as committing;
+ghost use Rattle.rx_model.specs.Turns.{unit_bound, Finishes, Yields, gone_on};
+ghost use Rattle.rx_model.specs.Laws.{IsBounded, NodeBound, Always, KeptFacts, QuietLaw};
+ghost use Rattle.run_laws.specs.Carried.{IsCarried, RestsOnSettled};
+
+/// Some program is within all bounds: one with a choice of boundaries around keyed leaves, which has twelve nodes at most.
+pub fn premises_are_met()
+    ensures { (p : Program) × IsBounded p × (node_bound p ≡ 12) }
+{}
+
+/// Each render of a program that is accepted ends below the bound of the machine, and its tree and its attempts are
+/// within the node bound.
+pub fn renders_are_bounded()
+    ensures units { (s : Sight) → IsBounded s.program → (old : Option Node) → whole each_unit s old < unit_bound s.program }
+    ensures bound { (p : Program) → NodeBound p }
+{}
+
+/// A render in progress makes the turns of the machine: one that has ended in a node finishes, and one that hasn't when
+/// its slice is used up yields.
+pub fn progress_makes_turns()
+    ensures finishes { (p : Program) → IsBounded p → (s : State) (g : Progress) (slice : Option ℕ) (units bodies : ℕ) (tree : Node)
+        → InProgress (sight_of p s g) s.tree units bodies (ended (made tree)) → g.units < units
+        → IfSome slice (λ n. units ≤ g.units + n) → g.bodies ≤ bodies → bodies - g.bodies ≤ units - g.units
+        → Finishes p s g slice (committing.ended s g (record { units = units; bodies = bodies }) tree) }
+    ensures yields { (p : Program) → IsBounded p → (s : State) (g : Progress) (budget bodies : ℕ) (c : Cursor)
+        → InProgress (sight_of p s g) s.tree (g.units + budget) (g.bodies + bodies) c → is_over c ≡ false
+        → bodies ≤ budget
+        → Yields p s g (Some budget) (record { lines = []; bodies = bodies; after = record s { progress = Some (gone_on g budget bodies) } }) }
+{}
+
+/// In each state of each run what is kept of the committed tree holds, and what a render in progress needs to take over
+/// what has no cause, and to leave alone what waits.
+pub fn carried_along_runs()
+    ensures carried { (p : Program) → Always p (IsCarried p) }
+    ensures rests { (p : Program) → Always p (RestsOnSettled p) }
+    ensures declared { (p : Program) → 0 < length (contexts p) → ReadsDeclared p }
+{}
+
+/// What each step keeps, in each state of each run: pending lanes are a set, updates are numbered as they came and none
+/// of a mounted instance is lost, a render in progress is due, what is suspended is a pending transition and waits for
+/// what has no value, what is resolved is retried, and the tree and each render that may come are within the bound.
+pub fn kept_facts()
+    ensures { (p : Program) → KeptFacts p }
+{}
+
+/// A quiet state shows everything: each hook all its updates in the order in which they came, and the tree what a
+/// render with all lanes would give.
+pub fn quiet_ends()
+    ensures { (p : Program) → QuietLaw p }
+{}

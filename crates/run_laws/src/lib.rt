@@ -1,0 +1,9 @@
+//! Laws of each state that a run comes to.
+#![tactic(auto)]
+
+mod laws;
+
+pub use laws::{
+    carried_along_runs, kept_facts, premises_are_met, progress_makes_turns, quiet_ends,
+    renders_are_bounded,
+};

@@ -1,0 +1,35 @@
+-- What the laws of the machine ask of a program that is accepted.
+use Rattle.std.proofs.Common.{◌≡◌, ◌≤◌, ◌⊎◌, inl, inr, Bool, true, false, List, [], ◌∷◌, Option, Some, None, refl, sym, ap, subst, ◌∙◌, arith, length}
+use Rattle.std.specs.Prelude.{ℕ, max, cond, is_some, nat_eq, nat_lt, filter, filter_map, option_map, slice_get, unwrap_or, position, bytes_eq}
+use Rattle.std.specs.Option.{option_map_or}
+use Rattle.rx_ast.specs.Syntax.{Program, Component, components}
+use Rattle.rx_check.specs.Names.{component_named, component_names, component_number, root_name}
+use Rattle.rx_check.specs.Bounds.{component_levels, root_by, body_by, may_wait, root_waits, depth_bound}
+use Rattle.rx_check.specs.Checks.{is_rooted, nesting_levels, root_waits_for, outside_uses}
+use Rattle.rx_check.specs.Accepted.{IsAccepted}
+use Rattle.rx_check.specs.declared.refusal.Count.TheVariants as count
+use Rattle.rx_check.proofs.Accepting.{not-over}
+use Rattle.rx_check.proofs.Limited.{few-components}
+use Rattle.rx_check.proofs.Alone.{none-alone}
+
+-- a root without parameters is there
+root-is_some : (o : Option Component) → option_map_or (λ (c : Component). nat_eq (length c.parameters) 0) o false ≡ true → is_some o ≡ true
+root-is_some None h = cc
+root-is_some (Some c) h = refl
+
+-- the levels that are asked of are the greatest
+levels-few : (p : Program) → IsAccepted p → nesting_levels p ≡ component_levels
+levels-few p a = omega (arith, few-components p a)
+
+-- the root never waits
+pub accepted-ready : (p : Program) → IsAccepted p → root_waits (λ c. true) p ≡ false
+unfolding root_waits
+accepted-ready p a =
+    let there = root-is_some (component_named p root_name) a.rooted in
+    let none : filter (root_waits_for p) (component_names p) ≡ [] = rw there at a.no_outside_use in
+    let same = levels-few p a in
+    none-alone p component_levels (component_number p root_name) (rw (sym same) none)
+
+-- no tree is too deep
+pub accepted-shallow : (p : Program) → IsAccepted p → depth_bound p ≤ 256
+accepted-shallow p a = not-over 256 (depth_bound p) (a.within_counts count.Depth)

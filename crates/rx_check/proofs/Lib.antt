@@ -1,0 +1,15 @@
+pub mod Accepting
+pub mod Among
+pub mod Limited
+pub mod Distinct
+pub mod Depths
+pub mod Rounds
+pub mod Along
+pub mod HeldCounts
+pub mod Figured
+pub mod Alone
+pub mod Apart
+pub mod Bounded
+pub mod Same
+pub mod Examples
+pub mod Declared

@@ -1,0 +1,43 @@
+-- What is kept of a program that is accepted, and how its hooks are found by their names.
+use Rattle.std.specs.Prelude.{◌≡◌, ℕ, ◌+◌, List, [], ◌∷◌, ◌++◌, Option, Some, None, cond, bytes_eq, slice_get, length}
+use Rattle.std.specs.Option.{option_map_or, option_and_then}
+use Rattle.rx_base.specs.Values.{Name}
+use Rattle.rx_ast.specs.Syntax.{Program, functions}
+use Rattle.rx_check.specs.Names.{has_name, component_names, resources, component_at, place_among, StateHook, hooks_of}
+use Rattle.rx_check.specs.Bounds.{node_bound, depth_bound}
+use Rattle.rx_check.specs.Checks.{function_names, context_names}
+use Rattle.rx_check.specs.Accepted.{IsAccepted}
+use Rattle.rx_check.specs.declared.hook.HookKind.{HookKind}
+use Rattle.rx_check.specs.declared.hook.HookKind.TheVariants as kind
+
+-- a program that is accepted, with its bounds and its names
+pub record IsChecked (p : Program) (bound depth : ℕ) (components functions contexts used : List Name) : Type 0 where
+  pub accepted : IsAccepted p
+  pub bound_is : bound ≡ node_bound p
+  pub depth_is : depth ≡ depth_bound p
+  pub components_are : components ≡ component_names p
+  pub functions_are : functions ≡ function_names p
+  pub contexts_are : contexts ≡ context_names p
+  pub resources_are : used ≡ resources p
+
+-- the kind of the hook of this number
+abbrev pub kind_of : (functions : List Name) → (number : ℕ) → StateHook → HookKind
+kind_of functions number h = option_map_or (λ f. kind.Reducer number (place_among functions f)) h.reducer (kind.State number)
+
+-- the hook of this name among these, which are numbered from here on
+abbrev pub hook_among : (functions : List Name) → Name → (number : ℕ) → List StateHook → Option HookKind
+hook_among functions name number [] = None
+hook_among functions name number (h ∷ hs) =
+    cond (bytes_eq name h.name) (Some (kind_of functions number h)) (hook_among functions name (number + 1) hs)
+
+-- the hook of this name in the component of this number
+abbrev pub hook_named : Program → (component : ℕ) → Name → Option HookKind
+hook_named p component name = option_and_then (λ c. hook_among (function_names p) name 0 (hooks_of c)) (component_at p component)
+
+-- how many parameters the function of this number has
+abbrev pub parameter_count : Program → (function : ℕ) → ℕ
+parameter_count p function = option_map_or (λ f. length f.parameters) (slice_get (functions p) function) 0
+
+-- names with one more, if it is not one of them
+abbrev pub with_name : List Name → Name → List Name
+with_name names name = cond (has_name names name) names (names ++ name ∷ [])

@@ -1,0 +1,181 @@
+// A program that meets every check.
+ghost use Rattle.std.specs.Prelude.{◌≡◌, ◌<◌, ◌^◌, bytes_eq, position, length, filter_map};
+ghost use Rattle.rx_check.specs.Names.{component_names, resources, hook_in};
+ghost use Rattle.rx_check.specs.Bounds.{node_bound, depth_bound};
+ghost use Rattle.rx_check.specs.Checks.{function_names, context_names};
+ghost use Rattle.rx_check.specs.Accepted.{IsAccepted};
+ghost use Rattle.rx_check.specs.Listed.{IsListed};
+ghost use Rattle.rx_check.specs.Tables.{hook_among, hook_named, parameter_count};
+
+use crate::hook::HookKind;
+use crate::listing::Listing;
+use crate::table::Table;
+use rx_ast::{Program, Statement, StatementKind};
+use rx_base::Name;
+use std::marker::Model;
+
+/// A program that meets every check. Contracts see it as the program.
+#[derive(Drop)]
+pub struct Checked {
+    program: Program,
+    bound: u64,
+    depth: u64,
+    components: Table,
+    functions: Table,
+    contexts: Table,
+    resources: Table,
+}
+
+impl Model for Checked {
+    ghost use Rattle.rx_ast.specs.Syntax as syntax;
+    ghost use Rattle.rx_ast.specs.ProgramCodes.{program_code};
+    ghost use Rattle.rx_check.specs.Tables.{IsChecked};
+
+    ghost Value = { syntax.Program };
+
+    ghost coded = { program_code };
+
+    ghost view = { λ c. c.program };
+
+    ghost invariant = { λ c. IsChecked c.program c.bound c.depth c.components c.functions c.contexts c.resources };
+}
+
+/// The hook that keeps a state under this name among those of these statements.
+fn hook_among(statements: &[Statement], functions: &Table, name: &str) -> Option<HookKind>
+    requires { length statements.now < 2 ^ 32 }
+    ensures { result ≡ hook_among functions.now name.now 0 (filter_map hook_in statements.now) }
+{
+    let mut number = 0;
+    for statement in statements {
+        match &statement.kind {
+            StatementKind::State { name: hook, .. } => {
+                if name == hook.text() {
+                    return Some(HookKind::State { number });
+                }
+                number += 1;
+            }
+            StatementKind::Reducer {
+                name: hook,
+                function,
+                ..
+            } => {
+                if name == hook.text() {
+                    let function = functions.number(function.text()).unwrap_or(0);
+                    return Some(HookKind::Reducer { number, function });
+                }
+                number += 1;
+            }
+            _ => {}
+        }
+    }
+    None
+}
+
+/// A program that meets every check, with its names and its bounds.
+pub(crate) fn accept(program: Program, listing: Listing, bound: u64, depth: u64) -> Checked
+    requires accepted { IsAccepted program }
+    requires listed { IsListed program listing }
+    requires bound { bound ≡ node_bound program }
+    requires depth { depth ≡ depth_bound program }
+    ensures { result ≡ program }
+{
+    let Listing {
+        components,
+        functions,
+        contexts,
+        resources,
+    } = listing;
+    Checked {
+        program,
+        bound,
+        depth,
+        components: Table::new(components),
+        functions: Table::new(functions),
+        contexts: Table::new(contexts),
+        resources: Table::new(resources),
+    }
+}
+
+impl Checked {
+    /// The program.
+    pub fn program(&self) -> &Program
+        ensures program { result.now ≡ self.now }
+        ensures accepted { IsAccepted self.now }
+    {
+        &self.program
+    }
+
+    /// The most nodes that a tree of the program has, the root with them.
+    pub fn bound(&self) -> u64
+        ensures { result ≡ node_bound self.now }
+    {
+        self.bound
+    }
+
+    /// The most levels that a tree of the program has, the root with them.
+    pub fn depth(&self) -> u64
+        ensures { result ≡ depth_bound self.now }
+    {
+        self.depth
+    }
+
+    /// The names of its components, by their numbers.
+    pub fn components(&self) -> &[Name]
+        ensures { result.now ≡ component_names self.now }
+    {
+        self.components.names()
+    }
+
+    /// The names of the resources that it reads, by their numbers.
+    pub fn resources(&self) -> &[Name]
+        ensures { result.now ≡ resources self.now }
+    {
+        self.resources.names()
+    }
+
+    /// The number of a component.
+    pub fn component(&self, name: &str) -> Option<u32>
+        ensures { result ≡ position (bytes_eq name.now) (component_names self.now) }
+    {
+        self.components.number(name)
+    }
+
+    /// The number of a function.
+    pub fn function(&self, name: &str) -> Option<u32>
+        ensures { result ≡ position (bytes_eq name.now) (function_names self.now) }
+    {
+        self.functions.number(name)
+    }
+
+    /// The number of a context.
+    pub fn context(&self, name: &str) -> Option<u32>
+        ensures { result ≡ position (bytes_eq name.now) (context_names self.now) }
+    {
+        self.contexts.number(name)
+    }
+
+    /// The number of a resource.
+    pub fn resource(&self, name: &str) -> Option<u32>
+        ensures { result ≡ position (bytes_eq name.now) (resources self.now) }
+    {
+        self.resources.number(name)
+    }
+
+    /// The hook of a component, given by its number, that keeps a state under this name.
+    pub fn hook(&self, component: u32, name: &str) -> Option<HookKind>
+        ensures { result ≡ hook_named self.now component name.now }
+    {
+        let component = self.program.component(component as usize)?;
+        hook_among(component.statements(), &self.functions, name)
+    }
+
+    /// How many parameters a function, given by its number, has; 0 where there is none.
+    pub fn parameters_of(&self, function: u32) -> u32
+        ensures { result ≡ parameter_count self.now function }
+    {
+        match self.program.function(function as usize) {
+            None => 0,
+            Some(function) => function.parameters().len() as u32,
+        }
+    }
+}

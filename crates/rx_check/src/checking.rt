@@ -1,0 +1,309 @@
+// All checks of a program, in their order.
+ghost use Rattle.std.specs.Prelude.{◌≡◌, ◌⊎◌, [], ◌∷◌, IfOk, MatchOption, MatchResult, Some, None, option_map, filter, filter_map, length, slice_get};
+ghost use Rattle.rx_check.specs.Names.{component_names, resources as all_resources};
+ghost use Rattle.rx_check.specs.Bounds.{node_bound, node_limit, depth_bound};
+ghost use Rattle.rx_check.specs.Limits.{limit_of};
+ghost use Rattle.rx_check.specs.Mentions.{mentions as all_mentions};
+ghost use Rattle.rx_check.specs.Checks.{repeat_in, unknown_among, misfit_in, function_names, function_cycles, component_cycles, root_waits_for, outside_uses, first_over as over, cost_over};
+ghost use Rattle.rx_check.specs.Refusals.{first, first_some, refused_name, refused_root, name_refusals, way_refusals, count_refusals, size_refusals, refusal_of};
+ghost use Rattle.rx_check.specs.Listed.{IsListed};
+ghost use Rattle.rx_check.specs.Answers.{Answers};
+
+use crate::bodies::mentions_of;
+use crate::checked::{Checked, accept};
+use crate::checks::{
+    component_named, first_misfit, first_over, first_repeat, first_unknown, is_rooted, limit_of,
+};
+use crate::costs::cost_over;
+use crate::figures::{Counted, nesting_levels, root_figures};
+use crate::graph::{component_cycle, function_cycle};
+use crate::held::held_sum;
+use crate::listing::{Listing, names_of};
+use crate::mention::Mention;
+use crate::names::Names;
+use crate::refusal::{Count, Refusal};
+use rx_ast::Program;
+use rx_base::Name;
+use std::alloc::{AllocError, Global};
+
+/// No program that is accepted has a greater node bound.
+const NODE_LIMIT: u64 = 4096;
+
+/// The name as it is told.
+fn told(alloc: Global, name: &str) -> Result<Name, Refusal>
+    ensures { MatchResult result (λ n. n ≡ name.now) (λ r. r ≡ Refusal.OutOfMemory) }
+{
+    let name = Name::new(alloc, name)?;
+    Ok(name)
+}
+
+/// No name is declared or bound twice.
+fn refuse_repeat(alloc: Global, mentions: &[Mention]) -> Result<(), Refusal>
+    ensures { Answers (refused_name (λ x. Refusal.Duplicate x) (filter_map repeat_in mentions.now)) result }
+{
+    match first_repeat(mentions) {
+        None => Ok(()),
+        Some(name) => Err(Refusal::Duplicate(told(alloc, name)?)),
+    }
+}
+
+/// All names are known.
+fn refuse_unknown(alloc: Global, listing: &Listing, mentions: &[Mention]) -> Result<(), Refusal>
+    ensures { Answers (refused_name (λ x. Refusal.Unknown x) (filter_map (unknown_among listing.now.functions listing.now.components listing.now.contexts) mentions.now)) result }
+{
+    match first_unknown(listing, mentions) {
+        None => Ok(()),
+        Some(name) => Err(Refusal::Unknown(told(alloc, name)?)),
+    }
+}
+
+/// Functions and components are given what they take.
+fn refuse_misfit(alloc: Global, program: &Program, mentions: &[Mention]) -> Result<(), Refusal>
+    ensures { Answers (refused_name (λ x. Refusal.Arity x) (filter_map (misfit_in program.now) mentions.now)) result }
+{
+    match first_misfit(alloc, program, mentions)? {
+        None => Ok(()),
+        Some(name) => Err(Refusal::Arity(told(alloc, name)?)),
+    }
+}
+
+/// No function reaches itself.
+fn refuse_function_cycle(alloc: Global, program: &Program, names: &Names) -> Result<(), Refusal>
+    requires { names.now ≡ function_names program.now }
+    ensures { Answers (refused_name (λ x. Refusal.FunctionCycle x) (function_cycles program.now)) result }
+{
+    match function_cycle(alloc, program, names)? {
+        None => Ok(()),
+        Some(name) => Err(Refusal::FunctionCycle(told(alloc, name)?)),
+    }
+}
+
+/// No component reaches itself.
+fn refuse_component_cycle(alloc: Global, program: &Program, names: &Names) -> Result<(), Refusal>
+    requires { names.now ≡ component_names program.now }
+    ensures { Answers (refused_name (λ x. Refusal.ComponentCycle x) (component_cycles program.now)) result }
+{
+    match component_cycle(alloc, program, names)? {
+        None => Ok(()),
+        Some(name) => Err(Refusal::ComponentCycle(told(alloc, name)?)),
+    }
+}
+
+/// There is a root without parameters.
+fn refuse_root(program: &Program) -> Result<(), Refusal>
+    ensures { Answers (refused_root program.now) result }
+{
+    if is_rooted(program) {
+        Ok(())
+    } else {
+        Err(Refusal::NoApp)
+    }
+}
+
+/// What was found is within its limit.
+fn refuse_count(what: Count, over: Option<u64>) -> Result<(), Refusal>
+    ensures { Answers (option_map (λ n. Refusal.Count what n (limit_of what)) over) result }
+{
+    match over {
+        None => Ok(()),
+        Some(found) => Err(Refusal::Count {
+            what,
+            found,
+            limit: limit_of(what),
+        }),
+    }
+}
+
+/// A number, where it is over the limit of what it counts.
+fn number_over(what: Count, found: u64) -> Option<u64>
+    ensures { result ≡ over (limit_of what) (found ∷ []) }
+{
+    if limit_of(what) < found {
+        Some(found)
+    } else {
+        None
+    }
+}
+
+/// The root waits where the reads of this component alone count.
+fn waits_for(alloc: Global, program: &Program, name: &str) -> Result<bool, AllocError>
+    ensures { IfOk result (λ b. b ≡ root_waits_for program.now name.now) }
+{
+    let counted = Counted::One(Name::new(alloc, name)?);
+    let figures = root_figures(alloc, program, &counted, nesting_levels(program))?;
+    Ok(figures.waits)
+}
+
+/// The first of these components for whose resources the root waits.
+fn first_outside<'a>(
+    alloc: Global,
+    program: &Program,
+    names: &'a [Name],
+) -> Result<Option<&'a str>, AllocError>
+    ensures { IfOk result (λ o. MatchOption o (first (filter (root_waits_for program.now) names.now) ≡ None) (λ x. first (filter (root_waits_for program.now) names.now) ≡ Some x.now)) }
+{
+    for name in names {
+        if waits_for(alloc, program, name.text())? {
+            return Ok(Some(name.text()));
+        }
+    }
+    Ok(None)
+}
+
+/// The first component for whose resources the root waits, where there is a root.
+fn outside_use<'a>(
+    alloc: Global,
+    program: &Program,
+    names: &'a Names,
+) -> Result<Option<&'a str>, AllocError>
+    requires { names.now ≡ component_names program.now }
+    ensures { IfOk result (λ o. MatchOption o (first (outside_uses program.now) ≡ None) (λ x. first (outside_uses program.now) ≡ Some x.now)) }
+{
+    if component_named(program, "App").is_none() {
+        return Ok(None);
+    }
+    let figures = root_figures(alloc, program, &Counted::All, nesting_levels(program))?;
+    if !figures.waits {
+        return Ok(None);
+    }
+    first_outside(alloc, program, names.items())
+}
+
+/// The root waits for no component.
+fn refuse_outside_use(alloc: Global, program: &Program, names: &Names) -> Result<(), Refusal>
+    requires { names.now ≡ component_names program.now }
+    ensures { Answers (refused_name (λ x. Refusal.UseOutside x) (outside_uses program.now)) result }
+{
+    match outside_use(alloc, program, names)? {
+        None => Ok(()),
+        Some(name) => Err(Refusal::UseOutside(told(alloc, name)?)),
+    }
+}
+
+/// The checks of names.
+fn refuse_names(
+    alloc: Global,
+    program: &Program,
+    listing: &Listing,
+    mentions: &[Mention],
+) -> Result<(), Refusal>
+    requires listed { IsListed program.now listing.now }
+    requires mentioned { mentions.now ≡ all_mentions program.now }
+    ensures { Answers (first_some (name_refusals program.now)) result }
+{
+    refuse_repeat(alloc, mentions)?;
+    refuse_unknown(alloc, listing, mentions)?;
+    refuse_misfit(alloc, program, mentions)
+}
+
+/// The checks of ways: cycles, waits and the root.
+fn refuse_ways(alloc: Global, program: &Program, listing: &Listing) -> Result<(), Refusal>
+    requires { IsListed program.now listing.now }
+    ensures { Answers (first_some (way_refusals program.now)) result }
+{
+    refuse_function_cycle(alloc, program, &listing.functions)?;
+    refuse_component_cycle(alloc, program, &listing.components)?;
+    refuse_outside_use(alloc, program, &listing.components)?;
+    refuse_root(program)
+}
+
+/// The checks of counts in the order of the text.
+fn refuse_counts(
+    program: &Program,
+    mentions: &[Mention],
+    resources: usize,
+    depth: u64,
+) -> Result<(), Refusal>
+    requires mentioned { mentions.now ≡ all_mentions program.now }
+    requires resources { resources ≡ length (all_resources program.now) }
+    requires depth { depth ≡ depth_bound program.now }
+    ensures { Answers (first_some (count_refusals program.now)) result }
+{
+    refuse_count(Count::Name, first_over(Count::Name, mentions))?;
+    refuse_count(Count::Text, first_over(Count::Text, mentions))?;
+    let declarations = program.declarations().len() as u64;
+    refuse_count(
+        Count::Declarations,
+        number_over(Count::Declarations, declarations),
+    )?;
+    refuse_count(Count::Parameters, first_over(Count::Parameters, mentions))?;
+    refuse_count(Count::Statements, first_over(Count::Statements, mentions))?;
+    refuse_count(Count::Attributes, first_over(Count::Attributes, mentions))?;
+    refuse_count(
+        Count::Dependencies,
+        first_over(Count::Dependencies, mentions),
+    )?;
+    refuse_count(Count::List, first_over(Count::List, mentions))?;
+    let resources = resources as u64;
+    refuse_count(Count::Resources, number_over(Count::Resources, resources))?;
+    refuse_count(Count::Depth, number_over(Count::Depth, depth))
+}
+
+/// The node bound is within its limit.
+fn refuse_nodes(bound: u64) -> Result<(), Refusal>
+    ensures { Answers (option_map (λ n. Refusal.TreeBound n) (over node_limit (bound ∷ []))) result }
+{
+    if NODE_LIMIT < bound {
+        Err(Refusal::TreeBound(bound))
+    } else {
+        Ok(())
+    }
+}
+
+/// The cost of each declaration is within its limit.
+fn refuse_cost(alloc: Global, program: &Program) -> Result<(), Refusal>
+    ensures { Answers (option_map (λ n. Refusal.Cost n) (cost_over program.now)) result }
+{
+    match cost_over(alloc, program)? {
+        None => Ok(()),
+        Some(found) => Err(Refusal::Cost(found)),
+    }
+}
+
+/// The checks of sizes.
+fn refuse_sizes(alloc: Global, program: &Program, bound: u64) -> Result<(), Refusal>
+    requires { bound ≡ node_bound program.now }
+    ensures { Answers (first_some (size_refusals program.now)) result }
+{
+    refuse_nodes(bound)?;
+    refuse_cost(alloc, program)
+}
+
+/// All checks, in their order.
+#[tactic(auto, unfolding(crate::specs::Refusals::refusal_of))]
+fn refuse(
+    alloc: Global,
+    program: &Program,
+    listing: &Listing,
+    bound: u64,
+    depth: u64,
+) -> Result<(), Refusal>
+    requires listed { IsListed program.now listing.now }
+    requires bound { bound ≡ node_bound program.now }
+    requires depth { depth ≡ depth_bound program.now }
+    ensures { Answers (refusal_of program.now) result }
+{
+    let walk = mentions_of(alloc, program)?;
+    refuse_names(alloc, program, listing, walk.mentions())?;
+    refuse_ways(alloc, program, listing)?;
+    refuse_counts(program, walk.mentions(), listing.resources.len(), depth)?;
+    refuse_sizes(alloc, program, bound)
+}
+
+/// The program, where it meets every check.
+///
+/// # Errors
+///
+/// The refusal of the first check that it does not meet, in the order of `Refusal`'s variants, with the first place in the text that
+/// the check refuses; or want of memory.
+pub fn check(alloc: Global, program: Program) -> Result<Checked, Refusal>
+    ensures program { IfOk result (λ c. c ≡ program) }
+    ensures answers { Answers (refusal_of program) result }
+{
+    let listing = names_of(alloc, &program)?;
+    let figures = root_figures(alloc, &program, &Counted::All, 256)?;
+    let bound = held_sum(1, figures.own);
+    let depth = held_sum(1, figures.levels);
+    refuse(alloc, &program, &listing, bound, depth)?;
+    Ok(accept(program, listing, bound, depth))
+}

@@ -1,0 +1,47 @@
+// What tells whether two elements are of one node.
+ghost use Rattle.std.specs.Prelude.{◌≡◌};
+ghost use Rattle.rx_elem.specs.Elements.{is_present, key_of, kind_of, same_kind};
+
+use crate::element::{Element, ElementKind};
+use rx_base::Int;
+
+impl Element {
+    /// The key, if the element has one.
+    pub fn key(&self) -> Option<Int>
+        ensures { result ≡ key_of self.now }
+    {
+        match self.kind() {
+            ElementKind::Null | ElementKind::Text(_) | ElementKind::List(_) => None,
+            ElementKind::Host(_, key, _, _) => *key,
+            ElementKind::Comp(_, key, _, _) => *key,
+            ElementKind::Boundary(key, _, _) => *key,
+            ElementKind::Provider(_, key, _, _) => *key,
+        }
+    }
+
+    /// True where the element stands for a node: all but `null` do.
+    pub fn is_present(&self) -> bool
+        ensures { result ≡ is_present self.now }
+    {
+        match self.kind() {
+            ElementKind::Null => false,
+            _ => true,
+        }
+    }
+
+    /// True where a node of this element and one of the other can be one, beside their identity (react.dev, Preserving and
+    /// Resetting State).
+    pub fn is_same_kind(&self, other: &Element) -> bool
+        ensures { result ≡ same_kind (kind_of self.now) (kind_of other.now) }
+    {
+        match (self.kind(), other.kind()) {
+            (ElementKind::Text(_), ElementKind::Text(_)) => true,
+            (ElementKind::Host(m, _, _, _), ElementKind::Host(n, _, _, _)) => m.text() == n.text(),
+            (ElementKind::Comp(c, _, _, _), ElementKind::Comp(d, _, _, _)) => *c == *d,
+            (ElementKind::List(_), ElementKind::List(_)) => true,
+            (ElementKind::Boundary(_, _, _), ElementKind::Boundary(_, _, _)) => true,
+            (ElementKind::Provider(c, _, _, _), ElementKind::Provider(d, _, _, _)) => *c == *d,
+            _ => false,
+        }
+    }
+}

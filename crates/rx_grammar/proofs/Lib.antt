@@ -1,0 +1,14 @@
+pub mod Readings
+pub mod Combine
+pub mod Many
+pub mod Tokens
+pub mod Two
+pub mod Lists
+pub mod Exprs
+pub mod Attributes
+pub mod Elements
+pub mod Slots
+pub mod Bodies
+pub mod Statements
+pub mod Declarations
+pub mod Programs

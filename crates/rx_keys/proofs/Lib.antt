@@ -1,0 +1,5 @@
+mod Counting
+mod Distinct
+mod Finding
+mod Matches
+mod Moving

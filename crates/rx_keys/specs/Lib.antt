@@ -1,0 +1,2 @@
+pub mod IdentityView
+pub mod Found

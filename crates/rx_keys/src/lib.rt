@@ -1,0 +1,11 @@
+//! Which children of a list are those of before, and which moved.
+#![tactic(auto)]
+
+mod identity;
+mod known;
+mod matching;
+#[cfg(test)]
+mod tests;
+
+pub use identity::{Identity, identities};
+pub use matching::{Matching, match_children};

@@ -1,0 +1,15 @@
+pub mod Parts
+pub mod Whole
+pub mod Counts
+pub mod DraftFrames
+pub mod Computed
+pub mod Edits
+pub mod Writes
+pub mod Dropping
+pub mod Swapping
+pub mod Mapped
+pub mod Reading
+pub mod Unused
+pub mod Inserting
+pub mod Placed
+pub mod Linked

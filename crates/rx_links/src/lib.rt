@@ -1,0 +1,10 @@
+//! Two linked trees of fibers, the current one and the one in progress, seen as two trees of plain data.
+#![tactic(auto)]
+
+#[cfg(test)]
+mod tests;
+mod tree;
+
+pub use rx_arena::FiberId;
+pub use rx_lists::Mark;
+pub use tree::FiberTree;

@@ -1,0 +1,16 @@
+// Lists with numbers in them.
+ghost use Rattle.std.specs.Prelude.{◌≡◌, ◌∷◌, []};
+
+use super::*;
+use rx_arena::Arena;
+use std::alloc::AllocError;
+
+#[test]
+fn writes_a_value(rt: HostRuntime) -> Result<(), AllocError> {
+    let mut arena = Arena::new(rt.alloc());
+    arena.reserve(1)?;
+    let id = make_root(&mut arena, None, 5_u32);
+    write_one(&mut arena, id, 6);
+    assert_eq!(rt; *arena.get(id), 6);
+    Ok(())
+}

@@ -1,0 +1,124 @@
+-- What is read of the words of a line is the reading of its form.
+use Rattle.std.proofs.Common.{◌≡◌, ◌∙◌, sym, ap, ◌≤◌, ◌<◌, ℤ, Bool, true, false, cond, List, [], ◌∷◌, length, map, get_or, Option, Some, None, option_map, refl, arith, bytes_eq, codes}
+use Rattle.std.specs.Borrow.{Bor}
+use Rattle.rx_base.specs.Values.{Name, Text}
+use Rattle.rx_script.specs.declared.step.LaneWord.{LaneWord}
+use Rattle.rx_script.specs.declared.step.Dispatch.TheVariants.{Set, Call, Send}
+use Rattle.rx_script.specs.declared.step.Step.{Step}
+use Rattle.rx_script.specs.declared.step.Step.TheVariants as step
+use Rattle.rx_script.specs.declared.form.Place.{Place}
+use Rattle.rx_script.specs.declared.form.Form.{Form}
+use Rattle.rx_script.specs.Steps.{Path}
+use Rattle.rx_script.specs.Words.{lower_of, integer_of}
+use Rattle.rx_script.specs.Lines.{◌◂◌, lane_of, path_of, form_of, value_form, call_form}
+use Rattle.rx_script.specs.Readings.{held_path, held_value, held_integer, place_of, reading, value_reading, call_reading}
+
+-- what the parts of a dispatch name
+abbrev named : Option LaneWord → Option Path → Option Name → Option Place
+named l p h = Some (λ lane path name. record { lane = lane; path = held_path path; hook = name }) ◂ l ◂ p ◂ h
+
+-- a dispatch whose reading is the one of held parts
+abbrev Holds : (LaneWord → Path → Name → ℤ → Step) → Type 0
+Holds make =
+    (l : LaneWord) (p : Path) (h : Name) (x : ℤ)
+    → reading (make l p h x) ≡ record { step = make l (held_path p) h (held_value x); value = held_integer x }
+
+value-holds : (make : LaneWord → Path → Name → ℤ → Step) → Holds make → (l : Option LaneWord) (p : Option Path) (h : Option Name) (x : Option ℤ)
+    → value_reading (Some make) (named l p h) x ≡ option_map reading (Some make ◂ l ◂ p ◂ h ◂ x)
+value-holds make holds None p h x = refl
+value-holds make holds (Some l) None h x = refl
+value-holds make holds (Some l) (Some p) None x = refl
+value-holds make holds (Some l) (Some p) (Some h) None = refl
+value-holds make holds (Some l) (Some p) (Some h) (Some x) = sym (ap Some (holds l p h x))
+
+value-none : (place : Option Place) (x : Option ℤ) → value_reading None place x ≡ None
+value-none None x = refl
+value-none (Some place) None = refl
+value-none (Some place) (Some x) = refl
+
+-- a dispatch of a value by the tests of its word
+abbrev value_by : (set send : Bool) → Option (LaneWord → Path → Name → ℤ → Step)
+value_by set send =
+    cond set (Some (λ lane path name x. step.Dispatch (Set lane path name x)))
+    (cond send (Some (λ lane path name x. step.Dispatch (Send lane path name x))) None)
+
+value-reads : (set send : Bool) (l : Option LaneWord) (p : Option Path) (h : Option Name) (x : Option ℤ)
+    → value_reading (value_by set send) (named l p h) x ≡ option_map reading (value_by set send ◂ l ◂ p ◂ h ◂ x)
+value-reads true send l p h x = value-holds (λ lane path name y. step.Dispatch (Set lane path name y)) (λ l p h x. refl) l p h x
+value-reads false true l p h x = value-holds (λ lane path name y. step.Dispatch (Send lane path name y)) (λ l p h x. refl) l p h x
+value-reads false false l p h x = value-none (named l p h) x
+
+call-none : (place : Option Place) (f : Option Name) (x : Option ℤ) → call_reading None place f x ≡ None
+call-none None f x = refl
+call-none (Some place) None x = refl
+call-none (Some place) (Some f) None = refl
+call-none (Some place) (Some f) (Some x) = refl
+
+-- a dispatch of a function by the test of its word
+abbrev call_by : Bool → Option (LaneWord → Path → Name → Name → ℤ → Step)
+call_by call = cond call (Some (λ lane path name f x. step.Dispatch (Call lane path name f x))) None
+
+call-reads : (call : Bool) (l : Option LaneWord) (p : Option Path) (h f : Option Name) (x : Option ℤ)
+    → call_reading (call_by call) (named l p h) f x ≡ option_map reading (call_by call ◂ l ◂ p ◂ h ◂ f ◂ x)
+call-reads true None p h f x = refl
+call-reads true (Some l) None h f x = refl
+call-reads true (Some l) (Some p) None f x = refl
+call-reads true (Some l) (Some p) (Some h) None x = refl
+call-reads true (Some l) (Some p) (Some h) (Some f) None = refl
+call-reads true (Some l) (Some p) (Some h) (Some f) (Some x) = refl
+call-reads false l p h f x = call-none (named l p h) f x
+
+-- By the number of words
+
+-- the words that slices of a line are
+abbrev texts : List (Bor Text) → List Text
+texts ws = map (λ w. w.now) ws
+
+pub four-words : (ws : List (Bor Text)) → 4 ≤ length ws → length ws < 5 → None ≡ option_map reading (form_of (texts ws))
+four-words [] least below = absurd (omega arith)
+four-words (a ∷ []) least below = absurd (omega arith)
+four-words (a ∷ b ∷ []) least below = absurd (omega arith)
+four-words (a ∷ b ∷ c ∷ []) least below = absurd (omega arith)
+four-words (a ∷ b ∷ c ∷ d ∷ []) least below = refl
+four-words (a ∷ b ∷ c ∷ d ∷ e ∷ ws) least below = absurd (omega arith)
+
+pub five-words : (ws : List (Bor Text)) (d0 d1 d2 d3 d4 : Bor Text) (place : Option Place) (answer : Option Form) → 5 ≤ length ws → length ws < 6
+    → place ≡ place_of (get_or ws 1 d1).now (get_or ws 2 d2).now (get_or ws 3 d3).now
+    → answer ≡ value_reading (value_form (get_or ws 0 d0).now) place (integer_of (get_or ws 4 d4).now)
+    → answer ≡ option_map reading (form_of (texts ws))
+five-words [] d0 d1 d2 d3 d4 place answer least below is reads = absurd (omega arith)
+five-words (a ∷ []) d0 d1 d2 d3 d4 place answer least below is reads = absurd (omega arith)
+five-words (a ∷ b ∷ []) d0 d1 d2 d3 d4 place answer least below is reads = absurd (omega arith)
+five-words (a ∷ b ∷ c ∷ []) d0 d1 d2 d3 d4 place answer least below is reads = absurd (omega arith)
+five-words (a ∷ b ∷ c ∷ d ∷ []) d0 d1 d2 d3 d4 place answer least below is reads = absurd (omega arith)
+five-words (a ∷ b ∷ c ∷ d ∷ e ∷ []) d0 d1 d2 d3 d4 place answer least below is reads =
+    reads ∙ ap (λ q. value_reading (value_form a.now) q (integer_of e.now)) is
+    ∙ value-reads (bytes_eq a.now (codes "set")) (bytes_eq a.now (codes "send")) (lane_of b.now) (path_of c.now) (lower_of d.now) (integer_of e.now)
+five-words (a ∷ b ∷ c ∷ d ∷ e ∷ f ∷ ws) d0 d1 d2 d3 d4 place answer least below is reads = absurd (omega arith)
+
+pub six-words : (ws : List (Bor Text)) (d0 d1 d2 d3 d4 d5 : Bor Text) (place : Option Place) (function : Option Name) (answer : Option Form)
+    → 6 ≤ length ws → length ws < 7
+    → place ≡ place_of (get_or ws 1 d1).now (get_or ws 2 d2).now (get_or ws 3 d3).now → function ≡ lower_of (get_or ws 4 d4).now
+    → answer ≡ call_reading (call_form (get_or ws 0 d0).now) place function (integer_of (get_or ws 5 d5).now)
+    → answer ≡ option_map reading (form_of (texts ws))
+six-words [] d0 d1 d2 d3 d4 d5 place function answer least below is fun reads = absurd (omega arith)
+six-words (a ∷ []) d0 d1 d2 d3 d4 d5 place function answer least below is fun reads = absurd (omega arith)
+six-words (a ∷ b ∷ []) d0 d1 d2 d3 d4 d5 place function answer least below is fun reads = absurd (omega arith)
+six-words (a ∷ b ∷ c ∷ []) d0 d1 d2 d3 d4 d5 place function answer least below is fun reads = absurd (omega arith)
+six-words (a ∷ b ∷ c ∷ d ∷ []) d0 d1 d2 d3 d4 d5 place function answer least below is fun reads = absurd (omega arith)
+six-words (a ∷ b ∷ c ∷ d ∷ e ∷ []) d0 d1 d2 d3 d4 d5 place function answer least below is fun reads = absurd (omega arith)
+six-words (a ∷ b ∷ c ∷ d ∷ e ∷ f ∷ []) d0 d1 d2 d3 d4 d5 place function answer least below is fun reads =
+    reads ∙ ap (λ q. call_reading (call_form a.now) q function (integer_of f.now)) is
+    ∙ ap (λ g. call_reading (call_form a.now) (place_of b.now c.now d.now) g (integer_of f.now)) fun
+    ∙ call-reads (bytes_eq a.now (codes "call")) (lane_of b.now) (path_of c.now) (lower_of d.now) (lower_of e.now) (integer_of f.now)
+six-words (a ∷ b ∷ c ∷ d ∷ e ∷ f ∷ g ∷ ws) d0 d1 d2 d3 d4 d5 place function answer least below is fun reads = absurd (omega arith)
+
+pub more-words : (ws : List (Bor Text)) → 7 ≤ length ws → None ≡ option_map reading (form_of (texts ws))
+more-words [] least = absurd (omega arith)
+more-words (a ∷ []) least = absurd (omega arith)
+more-words (a ∷ b ∷ []) least = absurd (omega arith)
+more-words (a ∷ b ∷ c ∷ []) least = absurd (omega arith)
+more-words (a ∷ b ∷ c ∷ d ∷ []) least = absurd (omega arith)
+more-words (a ∷ b ∷ c ∷ d ∷ e ∷ []) least = absurd (omega arith)
+more-words (a ∷ b ∷ c ∷ d ∷ e ∷ f ∷ []) least = absurd (omega arith)
+more-words (a ∷ b ∷ c ∷ d ∷ e ∷ f ∷ g ∷ ws) least = refl

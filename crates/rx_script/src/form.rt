@@ -1,0 +1,240 @@
+// The forms of lines.
+ghost use Rattle.std.specs.Prelude.{◌≡◌, map, option_map, IfOk};
+ghost use Rattle.rx_script.specs.Lines.{◌◂◌, call_form, form_of, fits_width as is_of_width, lane_of, number_form as number_form_of, plain_form as plain_form_of, resolve_form, value_form};
+ghost use Rattle.rx_script.specs.Readings.{at_place, call_at_place, call_reading, counts_in_bounds, form_in_bounds, place_of, reading, value_reading};
+ghost use Rattle.rx_script.specs.Words.{integer_of, natural_of, resource_of};
+
+use crate::path::{is_path_in_bounds, read_path};
+use crate::step::{Dispatch, LaneWord, Path, Step};
+use crate::words::{integer, lower, natural, resource};
+use rx_base::{Int, Name};
+use std::alloc::{AllocError, Global};
+
+/// A step whose names may name nothing and whose numbers may be out of their bounds.
+#[derive(Drop)]
+pub(crate) struct Form {
+    /// The step, with an integer of 32 bits for its number with a sign.
+    pub(crate) step: Step,
+    /// Its number with a sign, 0 where it has none.
+    pub(crate) value: i64,
+}
+
+/// The lane of a word.
+fn lane(word: &[u8]) -> Option<LaneWord>
+    ensures { result ≡ lane_of word.now }
+{
+    if word == b"sync".as_slice() {
+        Some(LaneWord::Sync)
+    } else if word == b"input".as_slice() {
+        Some(LaneWord::Input)
+    } else if word == b"default".as_slice() {
+        Some(LaneWord::Default)
+    } else if word == b"transition".as_slice() {
+        Some(LaneWord::Transition)
+    } else {
+        None
+    }
+}
+
+/// The step that one word is.
+fn plain_step(word: &[u8]) -> Option<Step>
+    ensures { result ≡ plain_form_of word.now }
+{
+    if word == b"flush".as_slice() {
+        Some(Step::Flush)
+    } else if word == b"flushsync".as_slice() {
+        Some(Step::FlushSync)
+    } else if word == b"passive".as_slice() {
+        Some(Step::Passive)
+    } else if word == b"event".as_slice() {
+        Some(Step::Event)
+    } else if word == b"state".as_slice() {
+        Some(Step::State)
+    } else if word == b"tree".as_slice() {
+        Some(Step::Tree)
+    } else {
+        None
+    }
+}
+
+/// The form of a line of one word.
+fn plain_form(word: &[u8]) -> Option<Form>
+    ensures { result ≡ option_map reading (plain_form_of word.now) }
+{
+    plain_step(word).map(|step| Form { step, value: 0 })
+}
+
+/// The form of a line of a word and a number.
+fn number_form(word: &[u8], number: &[u8]) -> Option<Form>
+    ensures { result ≡ option_map reading (number_form_of word.now ◂ natural_of number.now) }
+{
+    let number = natural(number)?;
+    let step = if word == b"tick".as_slice() {
+        Step::Tick(number)
+    } else if word == b"work".as_slice() {
+        Step::Work(number)
+    } else {
+        return None;
+    };
+    Some(Form { step, value: 0 })
+}
+
+/// The form of a line that gives a resource its value.
+fn resolve_line(
+    alloc: Global,
+    word: &[u8],
+    name: &[u8],
+    value: &[u8],
+) -> Result<Option<Form>, AllocError>
+    ensures { IfOk result (λ f. f ≡ option_map reading (resolve_form word.now ◂ resource_of name.now ◂ integer_of value.now)) }
+{
+    if word != b"resolve".as_slice() {
+        return Ok(None);
+    }
+    let Some(name) = resource(alloc, name)? else {
+        return Ok(None);
+    };
+    let Some(value) = integer(value) else {
+        return Ok(None);
+    };
+    let step = Step::Resolve(name, Int::of(value));
+    Ok(Some(Form { step, value }))
+}
+
+/// The lane, the instance and the hook that a dispatch names.
+#[derive(Drop)]
+struct Place {
+    lane: LaneWord,
+    path: Path,
+    hook: Name,
+}
+
+/// What a dispatch names, from its words, with the numbers of its path held.
+fn read_place(
+    alloc: Global,
+    lane_word: &[u8],
+    path: &[u8],
+    hook: &[u8],
+) -> Result<Option<Place>, AllocError>
+    ensures { IfOk result (λ place. place ≡ place_of lane_word.now path.now hook.now) }
+{
+    let Some(lane) = lane(lane_word) else {
+        return Ok(None);
+    };
+    let Some(path) = read_path(alloc, path)? else {
+        return Ok(None);
+    };
+    let Some(hook) = lower(alloc, hook)? else {
+        return Ok(None);
+    };
+    Ok(Some(Place { lane, path, hook }))
+}
+
+/// The dispatch of a value or an action that a word stands for.
+fn value_dispatch(word: &[u8], place: Place, value: Int) -> Option<Dispatch>
+    ensures { option_map Step.Dispatch result ≡ at_place (value_form word.now) place value }
+{
+    if word == b"set".as_slice() {
+        Some(Dispatch::Set(place.lane, place.path, place.hook, value))
+    } else if word == b"send".as_slice() {
+        Some(Dispatch::Send(place.lane, place.path, place.hook, value))
+    } else {
+        None
+    }
+}
+
+/// The form of a dispatch of a value or an action.
+fn value_line(word: &[u8], place: Option<Place>, value: &[u8]) -> Option<Form>
+    ensures { result ≡ value_reading (value_form word.now) place (integer_of value.now) }
+{
+    let place = place?;
+    let value = integer(value)?;
+    let dispatch = value_dispatch(word, place, Int::of(value))?;
+    Some(Form {
+        step: Step::Dispatch(dispatch),
+        value,
+    })
+}
+
+/// The dispatch of a function that a word stands for.
+fn call_dispatch(word: &[u8], place: Place, function: Name, value: Int) -> Option<Dispatch>
+    ensures { option_map Step.Dispatch result ≡ call_at_place (call_form word.now) place function value }
+{
+    if word == b"call".as_slice() {
+        Some(Dispatch::Call(place.lane, place.path, place.hook, function, value))
+    } else {
+        None
+    }
+}
+
+/// The form of a dispatch of a function.
+fn call_line(
+    word: &[u8],
+    place: Option<Place>,
+    function: Option<Name>,
+    value: &[u8],
+) -> Option<Form>
+    ensures { result ≡ call_reading (call_form word.now) place function (integer_of value.now) }
+{
+    let place = place?;
+    let function = function?;
+    let value = integer(value)?;
+    let dispatch = call_dispatch(word, place, function, Int::of(value))?;
+    Some(Form {
+        step: Step::Dispatch(dispatch),
+        value,
+    })
+}
+
+/// The form that words have.
+pub(crate) fn read_form(alloc: Global, words: &[&[u8]]) -> Result<Option<Form>, AllocError>
+    ensures { IfOk result (λ f. f ≡ option_map reading (form_of (map (λ w. w.now) words.now))) }
+{
+    match words {
+        [] => Ok(None),
+        [word] => Ok(plain_form(word)),
+        [word, number] => Ok(number_form(word, number)),
+        [word, name, value] => resolve_line(alloc, word, name, value),
+        [_, _, _, _] => Ok(None),
+        [word, lane, path, hook, value] => {
+            let place = read_place(alloc, lane, path, hook)?;
+            Ok(value_line(word, place, value))
+        }
+        [word, lane, path, hook, function, value] => {
+            let place = read_place(alloc, lane, path, hook)?;
+            Ok(call_line(word, place, lower(alloc, function)?, value))
+        }
+        _ => Ok(None),
+    }
+}
+
+/// The greatest time of a tick, and the greatest budget of a turn.
+const GREATEST_COUNT: u64 = 1_000_000;
+
+/// Whether a number is an integer of 32 bits.
+fn fits_width(value: i64) -> bool
+    ensures { result ≡ is_of_width value }
+{
+    -(1 << 31) <= value && value < 1 << 31
+}
+
+/// Whether all numbers of a step but the one with a sign are in their bounds.
+fn are_counts_in_bounds(step: &Step) -> bool
+    ensures { result ≡ counts_in_bounds step.now }
+{
+    match step {
+        Step::Dispatch(Dispatch::Set(_, path, _, _)) => is_path_in_bounds(path),
+        Step::Dispatch(Dispatch::Call(_, path, _, _, _)) => is_path_in_bounds(path),
+        Step::Dispatch(Dispatch::Send(_, path, _, _)) => is_path_in_bounds(path),
+        Step::Tick(time) => *time <= GREATEST_COUNT,
+        Step::Work(budget) => 1 <= *budget && *budget <= GREATEST_COUNT,
+        _ => true,
+    }
+}
+
+/// Whether all numbers of a form are in their bounds.
+pub(crate) fn is_in_bounds(form: &Form) -> bool
+    ensures { result ≡ form_in_bounds form.now }
+{
+    fits_width(form.value) && are_counts_in_bounds(&form.step)
+}

@@ -1,0 +1,96 @@
+// What the steps of a script name.
+ghost use Rattle.std.specs.Prelude.{◌≡◌};
+ghost use Rattle.rx_script.specs.Lines.{has_targets as are_targets_there, hook_at, is_reducer as is_one_of_reducer, is_state as is_one_of_state, is_updater as is_one_of_two, target_from, target_of};
+
+use crate::step::{Dispatch, Path, Step};
+use rx_base::Name;
+use rx_check::{Checked, HookKind};
+
+/// The component that the rest of a path ends at, if each of its names is one of a component.
+fn target_behind(checked: &Checked, root: u32, parts: &[(Name, u64)]) -> Option<u32>
+    ensures { result ≡ target_from checked.now root parts.now }
+{
+    let mut component = root;
+    'parts: for part in parts {
+        component = checked.component(part.0.text())?;
+    }
+    Some(component)
+}
+
+/// The component that a path ends at, if it begins with the root's name, and each of its names is one of a component.
+fn target(checked: &Checked, path: &Path) -> Option<u32>
+    ensures { result ≡ target_of checked.now path.now }
+{
+    match path.parts.as_slice() {
+        [] => None,
+        [first, rest @ ..] => {
+            if first.0.text() != "App" {
+                return None;
+            }
+            let root = checked.component(first.0.text())?;
+            target_behind(checked, root, rest)
+        }
+    }
+}
+
+/// The hook of this name in the component that a path ends at.
+fn hook(checked: &Checked, path: &Path, name: &Name) -> Option<HookKind>
+    ensures { result ≡ hook_at checked.now path.now name.now }
+{
+    let component = target(checked, path)?;
+    checked.hook(component, name.text())
+}
+
+/// Whether there is a hook, one of `useState`.
+fn is_state(hook: Option<HookKind>) -> bool
+    ensures { result ≡ is_one_of_state hook }
+{
+    match hook {
+        Some(HookKind::State { .. }) => true,
+        Some(HookKind::Reducer { .. }) => false,
+        None => false,
+    }
+}
+
+/// Whether there is a hook, one of `useReducer`.
+fn is_reducer(hook: Option<HookKind>) -> bool
+    ensures { result ≡ is_one_of_reducer hook }
+{
+    match hook {
+        Some(HookKind::State { .. }) => false,
+        Some(HookKind::Reducer { .. }) => true,
+        None => false,
+    }
+}
+
+/// Whether this is the name of a function of a state and an argument.
+fn is_updater(checked: &Checked, name: &Name) -> bool
+    ensures { result ≡ is_one_of_two checked.now name.now }
+{
+    match checked.function(name.text()) {
+        Some(function) => checked.parameters_of(function) == 2,
+        None => false,
+    }
+}
+
+/// Whether all that a step names is there.
+pub(crate) fn has_targets(checked: &Checked, step: &Step) -> bool
+    ensures { result ≡ are_targets_there checked.now step.now }
+{
+    match step {
+        Step::Dispatch(Dispatch::Set(_, path, name, _)) => is_state(hook(checked, path, name)),
+        Step::Dispatch(Dispatch::Call(_, path, name, function, _)) => {
+            is_state(hook(checked, path, name)) && is_updater(checked, function)
+        }
+        Step::Dispatch(Dispatch::Send(_, path, name, _)) => is_reducer(hook(checked, path, name)),
+        Step::Resolve(name, _) => checked.resource(name.text()).is_some(),
+        Step::Tick(_)
+        | Step::Work(_)
+        | Step::Flush
+        | Step::FlushSync
+        | Step::Passive
+        | Step::Event
+        | Step::State
+        | Step::Tree => true,
+    }
+}
