@@ -69,16 +69,18 @@ mutual
   slot-alone p f g e h (syntax.repeated i b n s) w = slot-alone p f g e h s w
   slot-alone p f g e h (syntax.choice c s t) w =
       elim (or-cases (slot_by (may_wait any) f p s).own (slot_by (may_wait any) f p t).own w) [
-        inl l ↦ let r = slot-alone p f g e h s l in (r.0, r.1, or-left _ _ r.2)
-      | inr l ↦ let r = slot-alone p f g e h t l in (r.0, r.1, or-right _ _ r.2) ]
+        | inl l ↦ let r = slot-alone p f g e h s l in (r.0, r.1, or-left _ _ r.2)
+        | inr l ↦ let r = slot-alone p f g e h t l in (r.0, r.1, or-right _ _ r.2)
+      ]
   slot-alone p f g e h (syntax.host x attrs q ss) w = slots-alone p f g e h ss w
   slot-alone p f g e h (syntax.comp x attrs q ss) w =
       elim (or-cases (f (component_number p x)).own ((f (component_number p x)).given && (slots_by (may_wait any) f p ss).own) w) [
-        inl l ↦ let r = h (component_number p x) l in (r.0, r.1, or-left _ _ r.2)
-      | inr l ↦
-          let both-true = and-cases (f (component_number p x)).given (slots_by (may_wait any) f p ss).own l in
-          let r = slots-alone p f g e h ss both-true.1 in
-          (r.0, r.1, or-right _ _ (both _ _ (e r.0 (component_number p x) ∙ both-true.0) r.2)) ]
+        | inl l ↦ let r = h (component_number p x) l in (r.0, r.1, or-left _ _ r.2)
+        | inr l ↦
+            let both-true = and-cases (f (component_number p x)).given (slots_by (may_wait any) f p ss).own l in
+            let r = slots-alone p f g e h ss both-true.1 in
+            (r.0, r.1, or-right _ _ (both _ _ (e r.0 (component_number p x) ∙ both-true.0) r.2))
+      ]
   slot-alone p f g e h (syntax.boundary k s q ss) w = slot-alone p f g e h s w
   slot-alone p f g e h (syntax.provider x k v q ss) w = slots-alone p f g e h ss w
   slot-alone p f g e h (syntax.enclosed b s) w = slot-alone p f g e h s w
@@ -89,8 +91,9 @@ mutual
   slots-alone p f g e h syntax.no_slots w = cc
   slots-alone p f g e h (syntax.slot s ss) w =
       elim (or-cases (slot_by (may_wait any) f p s).own (slots_by (may_wait any) f p ss).own w) [
-        inl l ↦ let r = slot-alone p f g e h s l in (r.0, r.1, or-left _ _ r.2)
-      | inr l ↦ let r = slots-alone p f g e h ss l in (r.0, r.1, or-right _ _ r.2) ]
+        | inl l ↦ let r = slot-alone p f g e h s l in (r.0, r.1, or-left _ _ r.2)
+        | inr l ↦ let r = slots-alone p f g e h ss l in (r.0, r.1, or-right _ _ r.2)
+      ]
 
 -- a component that stands in a list has its name among the names
 named-In : (cs : List Component) (i : ℕ) (c : Component) → slice_get cs i ≡ Some c → IsIn c.name (map (λ d. d.name) cs)
@@ -107,16 +110,17 @@ body_if-alone : (p : Program) (f : ℕ → Waits) (g : Name → ℕ → Waits) �
 body_if-alone p f g e h i None at w = cc
 body_if-alone p f g e h i (Some c) at w =
     elim (or-cases (reads_resource c) (slots_by (may_wait any) f p (body_slots c.body)).own w) [
-      inl l ↦ (c.name, named-In (components p) i c at, or-left _ _ (both _ _ (itself c.name) l))
-    | inr l ↦ let r = slots-alone p f g e h (body_slots c.body) l in (r.0, r.1, or-right _ _ r.2) ]
+      | inl l ↦ (c.name, named-In (components p) i c at, or-left _ _ (both _ _ (itself c.name) l))
+      | inr l ↦ let r = slots-alone p f g e h (body_slots c.body) l in (r.0, r.1, or-right _ _ r.2)
+    ]
 
 body-alone : (p : Program) (n c : ℕ) → (body_by (may_wait any) n p c).own ≡ true → Alone p (λ x. (body_by (may_wait (only x)) n p c).own)
 unfolding body_by
 body-alone p zero c w = cc
 body-alone p (suc n) c w =
     body_if-alone p (body_by (may_wait any) n p) (λ x. body_by (may_wait (only x)) n p)
-      (λ x d. body-along (may_wait (only x)) (may_wait any) SameGiven (same-given (only x) any) n p d)
-      (body-alone p n) c (component_at p c) refl w
+    (λ x d. body-along (may_wait (only x)) (may_wait any) SameGiven (same-given (only x) any) n p d)
+    (body-alone p n) c (component_at p c) refl w
 
 -- where none is left of a filter, the test fails for each
 none-left : (q : Name → Bool) (ns : List Name) (n : Name) → filter q ns ≡ [] → IsIn n ns → q n ≡ false

@@ -58,8 +58,9 @@ key-again s syntax.children h = cc
 key-again s (syntax.repeated i e n t) h = cc
 key-again s (syntax.choice c a b) h =
     elim (or-true (carries_key a) (carries_key b) h) [
-      inl k ↦ IsIn-right _ (expr_mentions s.values c) _ (IsIn-left _ (slot_mentions s true a) _ (key-again s a k))
-    | inr k ↦ IsIn-right _ (expr_mentions s.values c) _ (IsIn-right _ (slot_mentions s true a) _ (key-again s b k)) ]
+      | inl k ↦ IsIn-right _ (expr_mentions s.values c) _ (IsIn-left _ (slot_mentions s true a) _ (key-again s a k))
+      | inr k ↦ IsIn-right _ (expr_mentions s.values c) _ (IsIn-right _ (slot_mentions s true a) _ (key-again s b k))
+    ]
 key-again s (syntax.host n attrs w ss) h = inr (inr (IsIn-left _ (attributes_mentions s.values (taken_first true) attrs) _ (attributes-again s.values (key_name ∷ []) attrs refl h)))
 key-again s (syntax.comp n attrs w ss) h = inr (inr (IsIn-left _ (attributes_mentions s.values (taken_first true) attrs) _ (attributes-again s.values (key_name ∷ []) attrs refl h)))
 key-again s (syntax.boundary k f w ss) h = IsIn-left _ (first_key_mentions s.values true k ++ (slot_mentions s false f ++ last_key_mentions s.values true k)) _ (place-again s.values k (slot_mentions s false f) h)
@@ -123,4 +124,4 @@ accepted-apart p a c d e =
     let s = fold after_statement (component_scope d) d.statements in
     let whole : NoRepeat (component_mentions d) = λ x i. none-again p a x (component-mentioned p c d _ e i) in
     unzero (keyed_places (body_slots d.body))
-      (slots-apart s false (body_slots d.body) (λ x i. whole x (inr (inr (IsIn-right _ (parameters_mentions no_scope d.parameters) _ (IsIn-right _ (statements_mentions (component_scope d) d.statements) _ i))))))
+    (slots-apart s false (body_slots d.body) (λ x i. whole x (inr (inr (IsIn-right _ (parameters_mentions no_scope d.parameters) _ (IsIn-right _ (statements_mentions (component_scope d) d.statements) _ i))))))

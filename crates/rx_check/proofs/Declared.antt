@@ -57,12 +57,13 @@ statement-declared p a s (effect layout label es) h = tt
 
 all-declared : (p : Program) → IsAccepted p → (s : Scope) (ts : List Statement) → ((m : Mention) → IsIn m (statements_mentions s ts) → IsIn m (mentions p)) → AllDeclared p ts
 all-declared p a s [] h = tt
-all-declared p a s (t ∷ ts) h =
-    (statement-declared p a s t (λ m i. h m (IsIn-left m (statement_mentions s t) _ i)),
-      all-declared p a (after_statement s t) ts (λ m i. h m (IsIn-right m (statement_mentions s t) _ i)))
+all-declared p a s (t ∷ ts) h = (
+  statement-declared p a s t (λ m i. h m (IsIn-left m (statement_mentions s t) _ i)),
+  all-declared p a (after_statement s t) ts (λ m i. h m (IsIn-right m (statement_mentions s t) _ i)),
+)
 
 -- the contexts that a program reads are declared, where it is accepted
 pub accepted-declared : (p : Program) → IsAccepted p → ReadsDeclared p
 accepted-declared p a c d e =
     all-declared p a (component_scope d) d.statements
-      (λ m i. component-mentioned p c d m e (inr (inr (IsIn-right m (parameters_mentions no_scope d.parameters) _ (IsIn-left m (statements_mentions (component_scope d) d.statements) _ i)))))
+    (λ m i. component-mentioned p c d m e (inr (inr (IsIn-right m (parameters_mentions no_scope d.parameters) _ (IsIn-left m (statements_mentions (component_scope d) d.statements) _ i)))))

@@ -25,13 +25,13 @@ around s ss = syntax.host (codes "p") [] syntax.by_tag (syntax.slot s ss)
 abbrev key_in_earlier_branch : Program
 key_in_earlier_branch = record {
   declarations =
-    component (codes "Z") (syntax.integer (codes "p") ∷ syntax.given_children ∷ []) []
+      component (codes "Z") (syntax.integer (codes "p") ∷ syntax.given_children ∷ []) []
       (around
-        (syntax.choice (syntax.variable (codes "p")) syntax.null
-          (syntax.choice (syntax.variable (codes "p")) syntax.null (syntax.host (codes "i") (syntax.key (syntax.number 1) ∷ []) syntax.at_once syntax.no_slots)))
-        (syntax.slot (syntax.host (codes "b") (syntax.key (syntax.number 2) ∷ []) syntax.at_once syntax.no_slots) syntax.no_slots))
-    ∷ component (codes "App") [] [] syntax.null
-    ∷ [];
+      (syntax.choice (syntax.variable (codes "p")) syntax.null
+      (syntax.choice (syntax.variable (codes "p")) syntax.null (syntax.host (codes "i") (syntax.key (syntax.number 1) ∷ []) syntax.at_once syntax.no_slots)))
+      (syntax.slot (syntax.host (codes "b") (syntax.key (syntax.number 2) ∷ []) syntax.at_once syntax.no_slots) syntax.no_slots))
+      ∷ component (codes "App") [] [] syntax.null
+      ∷ [];
 }
 
 -- a key in a branch within a branch is one of its place
@@ -44,12 +44,12 @@ second_key = refl
 abbrev dropped_children : Program
 dropped_children = record {
   declarations =
-    component (codes "W") [] (syntax.use_resource (codes "u") (codes "r") ∷ []) syntax.null
-    ∷ component (codes "H") (syntax.given_children ∷ []) [] syntax.null
-    ∷ component (codes "F") (syntax.given_children ∷ []) [] (syntax.comp (codes "H") [] syntax.by_tag (syntax.slot syntax.children syntax.no_slots))
-    ∷ component (codes "App") [] []
+      component (codes "W") [] (syntax.use_resource (codes "u") (codes "r") ∷ []) syntax.null
+      ∷ component (codes "H") (syntax.given_children ∷ []) [] syntax.null
+      ∷ component (codes "F") (syntax.given_children ∷ []) [] (syntax.comp (codes "H") [] syntax.by_tag (syntax.slot syntax.children syntax.no_slots))
+      ∷ component (codes "App") [] []
       (syntax.comp (codes "F") [] syntax.by_tag (syntax.slot (syntax.comp (codes "W") [] syntax.at_once syntax.no_slots) syntax.no_slots))
-    ∷ [];
+      ∷ [];
 }
 
 -- children that are not placed make nothing wait

@@ -38,9 +38,9 @@ are-nodes k = record {
   at_choice = λ a a' b b' h l. (rw (h.0, l.0) (held-sum b.own b'.own), rw (h.1, l.1) (held-sum b.given b'.given));
   at_around = λ a b h. (rw h.0 (held-sum_right 1 b.own), rw zero-add h.1);
   at_boundary = λ a a' b b' h l.
-    (rw (h.0, l.0, held-sum) (held-sum_right 1 (b.own + b'.own)), rw (h.1, l.1, zero-add) (held-sum b.given b'.given));
+      (rw (h.0, l.0, held-sum) (held-sum_right 1 (b.own + b'.own)), rw (h.1, l.1, zero-add) (held-sum b.given b'.given));
   at_component = λ a a' b b' h l.
-    (rw (h.0, h.1, l.0) (component-own b.own b.given b'.own), rw (h.1, l.1) (held-product b.given b'.given));
+      (rw (h.0, h.1, l.0) (component-own b.own b.given b'.own), rw (h.1, l.1) (held-product b.given b'.given));
   at_body = λ c a b h. h;
   at_beside = λ a a' b b' h l. (rw (h.0, l.0) (held-sum b.own b'.own), rw (h.1, l.1) (held-sum b.given b'.given));
 }
@@ -130,7 +130,7 @@ are-less t = record {
   at_around = λ a b h. h;
   at_boundary = λ a a' b b' h l. l;
   at_component = λ a a' b b' h l.
-    (or-less a.own (a.given && a'.own) b.own (b.given && b'.own) h.0 (and-less a.given a'.own b.given b'.own h.1 l.0), rw (h.1, l.1) refl);
+      (or-less a.own (a.given && a'.own) b.own (b.given && b'.own) h.0 (and-less a.given a'.own b.given b'.own h.1 l.0), rw (h.1, l.1) refl);
   at_body = λ c a b h. (or-less (t c && reads_resource c) a.own (true && reads_resource c) b.own (reads-less (t c) (reads_resource c)) h.0, h.1);
   at_beside = λ a a' b b' h l. (or-less a.own a'.own b.own b'.own h.0 l.0, rw (h.1, l.1) refl);
 }
@@ -146,6 +146,7 @@ none-outside p ns h = none-waits p ns (λ n. go n (root_waits_for p n) refl)
   where
     all : (body_by (may_wait (λ c. true)) (nesting_levels p) p (component_number p root_name)).own ≡ false
     all = sym (waits-figured counted.All (nesting_levels p) p (component_number p root_name)) ∙ h
+
     go : (n : Name) (b : Bool) → root_waits_for p n ≡ b → b ≡ false
     go n true e =
         let more = (body-along (may_wait (λ c. bytes_eq c.name n)) (may_wait (λ c. true)) IsLess (are-less (λ c. bytes_eq c.name n)) (nesting_levels p) p (component_number p root_name)).0 e in cc all

@@ -41,10 +41,12 @@ large-left a (suc b) h =
 pub held-product : (a b : ℕ) → held (held a * held b) ≡ held (a * b)
 held-product a b =
     elim (either-way a 1000000000) [
-      inr h ↦ large-left a b h
-    | inl h ↦ elim (either-way b 1000000000) [
-        inr k ↦ ap held (mul_comm (held a) (held b)) ∙ (large-left b a k ∙ ap held (mul_comm b a))
-      | inl k ↦ rw (low a h, low b k) refl ] ]
+      | inr h ↦ large-left a b h
+      | inl h ↦ elim (either-way b 1000000000) [
+        | inr k ↦ ap held (mul_comm (held a) (held b)) ∙ (large-left b a k ∙ ap held (mul_comm b a))
+        | inl k ↦ rw (low a h, low b k) refl
+      ]
+    ]
 
 pub held-product_right : (a b : ℕ) → held (a * held b) ≡ held (a * b)
 held-product_right a b = sym (held-product a (held b)) ∙ (ap (λ x. held (held a * x)) (held-held b) ∙ held-product a b)

@@ -27,11 +27,7 @@ fn name_of(parameter: &Parameter) -> &str
 
 impl Walk {
     /// Notes what parameters of a component mention, and binds them.
-    fn parameters(
-        &mut self,
-        scope: &mut Scope,
-        parameters: &[Parameter],
-    ) -> Result<(), AllocError>
+    fn parameters(&mut self, scope: &mut Scope, parameters: &[Parameter]) -> Result<(), AllocError>
         ensures mentions { OnOk result (self.new ≡ self.old ++ parameters_mentions scope.old parameters.now) }
         ensures scope { OnOk result (scope.new ≡ fold after_parameter scope.old parameters.now) }
     {
@@ -163,11 +159,7 @@ impl Walk {
     }
 
     /// Notes what statements mention, and binds their names.
-    fn statements(
-        &mut self,
-        scope: &mut Scope,
-        statements: &[Statement],
-    ) -> Result<(), AllocError>
+    fn statements(&mut self, scope: &mut Scope, statements: &[Statement]) -> Result<(), AllocError>
         ensures mentions { OnOk result (self.new ≡ self.old ++ statements_mentions scope.old statements.now) }
         ensures scope { OnOk result (scope.new ≡ fold after_statement scope.old statements.now) }
     {

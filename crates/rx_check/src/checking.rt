@@ -48,11 +48,7 @@ fn refuse_repeat(alloc: Global, mentions: &[Mention]) -> Result<(), Refusal>
 }
 
 /// All names are known.
-fn refuse_unknown(
-    alloc: Global,
-    listing: &Listing,
-    mentions: &[Mention],
-) -> Result<(), Refusal>
+fn refuse_unknown(alloc: Global, listing: &Listing, mentions: &[Mention]) -> Result<(), Refusal>
     ensures { Answers (refused_name (λ x. Refusal.Unknown x) (filter_map (unknown_among listing.now.functions listing.now.components listing.now.contexts) mentions.now)) result }
 {
     match first_unknown(listing, mentions) {
@@ -62,11 +58,7 @@ fn refuse_unknown(
 }
 
 /// Functions and components are given what they take.
-fn refuse_misfit(
-    alloc: Global,
-    program: &Program,
-    mentions: &[Mention],
-) -> Result<(), Refusal>
+fn refuse_misfit(alloc: Global, program: &Program, mentions: &[Mention]) -> Result<(), Refusal>
     ensures { Answers (refused_name (λ x. Refusal.Arity x) (filter_map (misfit_in program.now) mentions.now)) result }
 {
     match first_misfit(alloc, program, mentions)? {
@@ -76,11 +68,7 @@ fn refuse_misfit(
 }
 
 /// No function reaches itself.
-fn refuse_function_cycle(
-    alloc: Global,
-    program: &Program,
-    names: &Names,
-) -> Result<(), Refusal>
+fn refuse_function_cycle(alloc: Global, program: &Program, names: &Names) -> Result<(), Refusal>
     requires { names.now ≡ function_names program.now }
     ensures { Answers (refused_name (λ x. Refusal.FunctionCycle x) (function_cycles program.now)) result }
 {
@@ -91,11 +79,7 @@ fn refuse_function_cycle(
 }
 
 /// No component reaches itself.
-fn refuse_component_cycle(
-    alloc: Global,
-    program: &Program,
-    names: &Names,
-) -> Result<(), Refusal>
+fn refuse_component_cycle(alloc: Global, program: &Program, names: &Names) -> Result<(), Refusal>
     requires { names.now ≡ component_names program.now }
     ensures { Answers (refused_name (λ x. Refusal.ComponentCycle x) (component_cycles program.now)) result }
 {
@@ -238,11 +222,17 @@ fn refuse_counts(
     refuse_count(Count::Name, first_over(Count::Name, mentions))?;
     refuse_count(Count::Text, first_over(Count::Text, mentions))?;
     let declarations = program.declarations().len() as u64;
-    refuse_count(Count::Declarations, number_over(Count::Declarations, declarations))?;
+    refuse_count(
+        Count::Declarations,
+        number_over(Count::Declarations, declarations),
+    )?;
     refuse_count(Count::Parameters, first_over(Count::Parameters, mentions))?;
     refuse_count(Count::Statements, first_over(Count::Statements, mentions))?;
     refuse_count(Count::Attributes, first_over(Count::Attributes, mentions))?;
-    refuse_count(Count::Dependencies, first_over(Count::Dependencies, mentions))?;
+    refuse_count(
+        Count::Dependencies,
+        first_over(Count::Dependencies, mentions),
+    )?;
     refuse_count(Count::List, first_over(Count::List, mentions))?;
     let resources = resources as u64;
     refuse_count(Count::Resources, number_over(Count::Resources, resources))?;

@@ -102,7 +102,10 @@ fn takes_children(component: &Component) -> bool
 fn all_among(names: &Names, others: &Names) -> bool
     ensures { result ≡ list_all (has_name others.now) names.now }
 {
-    names.items().iter().all(|name| others.contains(name.text()))
+    names
+        .items()
+        .iter()
+        .all(|name| others.contains(name.text()))
 }
 
 /// The attributes are the integer parameters, and a child is given only where it is taken.
@@ -115,8 +118,11 @@ fn fits(
     ensures { IfOk result (λ b. b ≡ fits attributes.now filled component.now) }
 {
     let props = props_of(alloc, component)?;
-    Ok(all_among(attributes, &props) && all_among(&props, attributes)
-        && (!filled || takes_children(component)))
+    Ok(
+        all_among(attributes, &props)
+            && all_among(&props, attributes)
+            && (!filled || takes_children(component)),
+    )
 }
 
 /// An element of a component has what the component takes.
@@ -147,7 +153,10 @@ fn misfit<'a>(
         Mention::Call {
             function,
             arguments,
-        } => Ok(unless(takes_arguments(program, function, *arguments), function.text())),
+        } => Ok(unless(
+            takes_arguments(program, function, *arguments),
+            function.text(),
+        )),
         Mention::Reduction(function) => {
             Ok(unless(takes_arguments(program, function, 2), function.text()))
         }
@@ -200,7 +209,8 @@ fn name_length(mention: &Mention) -> Option<u64>
         | Mention::Reduction(name)
         | Mention::Context(name)
         | Mention::Element {
-            component: name, ..
+            component: name,
+            ..
         }
         | Mention::Host(name)
         | Mention::Resource(name) => name,
@@ -300,7 +310,8 @@ fn unknown<'a>(listing: &Listing, mention: &'a Mention) -> Option<&'a str>
         }
         Mention::Context(name) => unless(listing.contexts.contains(name.text()), name.text()),
         Mention::Element {
-            component: name, ..
+            component: name,
+            ..
         } => unless(listing.components.contains(name.text()), name.text()),
         _ => None,
     }

@@ -62,7 +62,10 @@ fn expr(program: &Program, costs: &[u64], expr: &Expr) -> u64
         ExprKind::Number(_) | ExprKind::Variable(_) => 1,
         ExprKind::Group(inner) => self::expr(program, costs, inner),
         ExprKind::Prefixed { operand, .. } => held_sum(1, self::expr(program, costs, operand)),
-        ExprKind::Chain { first, links: others } => {
+        ExprKind::Chain {
+            first,
+            links: others,
+        } => {
             let first = self::expr(program, costs, first);
             held_sum(first, links(program, costs, others))
         }
@@ -177,10 +180,12 @@ fn tag(program: &Program, costs: &[u64], tag: &Tag) -> u64
 {
     match tag {
         Tag::Host {
-            attributes: given, ..
+            attributes: given,
+            ..
         }
         | Tag::Component {
-            attributes: given, ..
+            attributes: given,
+            ..
         } => attributes(program, costs, given),
         Tag::Suspense {
             key: place,
@@ -190,7 +195,9 @@ fn tag(program: &Program, costs: &[u64], tag: &Tag) -> u64
             held_sum(place, slot(program, costs, fallback))
         }
         Tag::Provider {
-            key: place, value, ..
+            key: place,
+            value,
+            ..
         } => {
             let place = key(program, costs, place);
             held_sum(place, expr(program, costs, value))

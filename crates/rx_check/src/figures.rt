@@ -259,12 +259,7 @@ fn slots(program: &Program, counted: &Counted, table: &[Figures], children: &[Ch
 }
 
 /// The figures of a fragment.
-fn fragment(
-    program: &Program,
-    counted: &Counted,
-    table: &[Figures],
-    fragment: &Fragment,
-) -> Figures
+fn fragment(program: &Program, counted: &Counted, table: &[Figures], fragment: &Fragment) -> Figures
     ensures { result ≡ slots_by (figures counted.now) (known_in table.now) program.now fragment.now }
 {
     slots(program, counted, table, fragment.children())

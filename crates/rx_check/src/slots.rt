@@ -34,8 +34,9 @@ fn element_carries_key(element: &Element) -> bool
     ensures { result ≡ carries_key element.now }
 {
     match &element.tag {
-        Tag::Host { attributes, .. } | Tag::Component { attributes, .. } => key_among(attributes)
-            .is_some(),
+        Tag::Host { attributes, .. } | Tag::Component { attributes, .. } => key_among(
+            attributes,
+        ).is_some(),
         Tag::Suspense { key, .. } | Tag::Provider { key, .. } => key.value().is_some(),
     }
 }
@@ -154,12 +155,7 @@ impl Walk {
     }
 
     /// Notes a key that stands before what else is given.
-    fn key_first(
-        &mut self,
-        scope: &Names,
-        second: bool,
-        place: &KeyPlace,
-    ) -> Result<(), AllocError>
+    fn key_first(&mut self, scope: &Names, second: bool, place: &KeyPlace) -> Result<(), AllocError>
         ensures { OnOk result (self.new ≡ self.old ++ first_key_mentions scope.now second (key_place_of place.now)) }
     {
         match place {

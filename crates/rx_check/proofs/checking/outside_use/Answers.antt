@@ -10,6 +10,6 @@ pub returns-then-not-figures : goal.returns-then-not-figures
 returns-then-not-figures c =
     let p = c.args.program.now in
     none-first p
-      (sym (ap (λ f. f.waits) c.in_ok-figures.ensures
-      ∙ ap (λ n. (body_by (figures counted.All) n p (component_number p root_name)).waits) c.nesting_levels.ensures)
-      ∙ not-true c.in_ok-figures.figures.waits c.if-not-figures.true)
+    (sym (ap (λ f. f.waits) c.in_ok-figures.ensures
+    ∙ ap (λ n. (body_by (figures counted.All) n p (component_number p root_name)).waits) c.nesting_levels.ensures)
+    ∙ not-true c.in_ok-figures.figures.waits c.if-not-figures.true)

@@ -12,5 +12,5 @@ unfolding declaration_cost
 returns c =
     c.first_over.ensures
     ∙ (ap (λ t. first_over cost_limit (map (cost_from (slice_index t) c.args.program.now) c.args.program.now.declarations))
-        (c.deref.ensures.value ∙ (c.in_ok-costs.ensures ∙ ap (λ n. cost_rounds n c.args.program.now []) c.function_count.ensures))
+    (c.deref.ensures.value ∙ (c.in_ok-costs.ensures ∙ ap (λ n. cost_rounds n c.args.program.now []) c.function_count.ensures))
     ∙ ap (λ b. first_over cost_limit (map (cost_from b c.args.program.now) c.args.program.now.declarations)) (sym (costs-rounds _ c.args.program.now)))
