@@ -8,6 +8,9 @@ use Rattle.rx_check.specs.Bounds.{component_levels, root_by, body_by, may_wait, 
 use Rattle.rx_check.specs.Checks.{is_rooted, nesting_levels, root_waits_for, outside_uses}
 use Rattle.rx_check.specs.Accepted.{IsAccepted}
 use Rattle.rx_check.specs.declared.refusal.Count.TheVariants as count
+use Rattle.rx_check.specs.Runnable.{IsRunnable}
+use Rattle.rx_check.proofs.Apart.{accepted-apart}
+use Rattle.rx_check.proofs.Declared.{accepted-declared}
 use Rattle.rx_check.proofs.Accepting.{not-over}
 use Rattle.rx_check.proofs.Limited.{few-components}
 use Rattle.rx_check.proofs.Alone.{none-alone}
@@ -22,7 +25,7 @@ levels-few : (p : Program) → IsAccepted p → nesting_levels p ≡ component_l
 levels-few p a = omega (arith, few-components p a)
 
 -- the root never waits
-pub accepted-ready : (p : Program) → IsAccepted p → root_waits (λ c. true) p ≡ false
+accepted-ready : (p : Program) → IsAccepted p → root_waits (λ c. true) p ≡ false
 unfolding root_waits
 accepted-ready p a =
     let there = root-is_some (component_named p root_name) a.rooted in
@@ -31,5 +34,16 @@ accepted-ready p a =
     none-alone p component_levels (component_number p root_name) (rw (sym same) none)
 
 -- no tree is too deep
-pub accepted-shallow : (p : Program) → IsAccepted p → depth_bound p ≤ 256
+accepted-shallow : (p : Program) → IsAccepted p → depth_bound p ≤ 256
 accepted-shallow p a = not-over 256 (depth_bound p) (a.within_counts count.Depth)
+
+-- the machine can run a program that is accepted
+pub accepted-runnable : (p : Program) → IsAccepted p → IsRunnable p
+accepted-runnable p a = record {
+  rooted = a.rooted;
+  ready = accepted-ready p a;
+  shallow = accepted-shallow p a;
+  small = a.within_nodes;
+  keys_apart = accepted-apart p a;
+  reads_declared = accepted-declared p a;
+}

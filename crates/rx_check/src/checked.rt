@@ -4,6 +4,7 @@ ghost use Rattle.rx_check.specs.Names.{component_names, resources, hook_in};
 ghost use Rattle.rx_check.specs.Bounds.{node_bound, depth_bound};
 ghost use Rattle.rx_check.specs.Checks.{function_names, context_names};
 ghost use Rattle.rx_check.specs.Accepted.{IsAccepted};
+ghost use Rattle.rx_check.specs.Runnable.{IsRunnable};
 ghost use Rattle.rx_check.specs.Listed.{IsListed};
 ghost use Rattle.rx_check.specs.Tables.{hook_among, hook_named, parameter_count};
 
@@ -101,6 +102,7 @@ impl Checked {
     pub fn program(&self) -> &Program
         ensures program { result.now ≡ self.now }
         ensures accepted { IsAccepted self.now }
+        ensures runnable { IsRunnable self.now }
     {
         &self.program
     }

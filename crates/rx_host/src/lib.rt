@@ -1,6 +1,15 @@
-//! The tree of hosts.
+//! The tree of hosts, and the operations on it.
 #![tactic(auto)]
 
+mod entry;
+mod lists;
 mod op;
+mod replaying;
+#[cfg(test)]
+mod tests;
+mod tree;
 
+pub use entry::HostKind;
 pub use op::HostOp;
+pub use replaying::replay;
+pub use tree::HostTree;
