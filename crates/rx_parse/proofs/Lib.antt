@@ -1,5 +1,0 @@
-pub mod Exits
-pub mod Lines
-pub mod Texts
-pub mod Top
-pub mod Turns
