@@ -7,16 +7,16 @@ use Rattle.std.proofs.Common.{ap, append-nil, append_assoc, arith, subst, sym, â
 use Rattle.std.proofs.lemmas.Bool.Decides.{Decides-int_eq, nat_tests}
 use Rattle.std.proofs.lemmas.List.{length-append}
 use Rattle.rx_ast.specs.Syntax.{Component, Program, Statement, body_slots, constant, context, contexts, effect, reducer, state, use_resource}
-use Rattle.rx_check.specs.Names.{context_number, resource_number}
+use Rattle.rx_rules.specs.Names.{context_number, resource_number}
 use Rattle.rx_elem.specs.Elements.{Element}
 use Rattle.rx_elem.specs.declared.effect.ContextRead.{ContextRead}
 use Rattle.rx_elem.specs.declared.effect.EffectRecord.{EffectRecord}
-use Rattle.rx_eval.specs.Body.{Body, Frame, Inputs, Taken, and_then, body_of, bound, elements_of, finished, opening_frame, ready, stopped_at, take_all, take_one, taken, wait, with_hook, with_resource}
-use Rattle.rx_eval.specs.Expressions.{value_in}
-use Rattle.rx_eval.specs.Fresh.{before}
-use Rattle.rx_eval.specs.Touched.{is_read_anew}
-use Rattle.rx_eval.specs.Settled.{read_anew}
-use Rattle.rx_check.specs.Reads.{AllDeclared, IsDeclared}
+use Rattle.rx_meaning.specs.Body.{Body, Frame, Inputs, Taken, and_then, body_of, bound, elements_of, finished, opening_frame, ready, stopped_at, take_all, take_one, taken, wait, with_hook, with_resource}
+use Rattle.rx_meaning.specs.Expressions.{value_in}
+use Rattle.rx_meaning.specs.Fresh.{before}
+use Rattle.rx_meaning.specs.Touched.{is_read_anew}
+use Rattle.rx_meaning.specs.Settled.{read_anew}
+use Rattle.rx_rules.specs.Reads.{AllDeclared, IsDeclared}
 use Rattle.rx_elem.proofs.Deciding.{or_fails}
 
 -- one list begins another

@@ -5,9 +5,9 @@ use Rattle.std.proofs.Common.{ap, arith, subst, sym, ◌∙◌}
 use Rattle.std.proofs.lemmas.Bool.Decides.{nat_tests}
 use Rattle.rx_ast.specs.Syntax.{Component, Program, Statement, body_slots, components, constant, context, effect, reducer, state, use_resource}
 use Rattle.rx_base.specs.Values.{Name}
-use Rattle.rx_check.specs.Names.{component_at, distinct, resource_in, resource_number, resources, resources_of}
-use Rattle.rx_eval.specs.Body.{Frame, Inputs, Taken, and_then, body_of, finished, opening_frame, stopped_at, take_all, take_one, taken, wait, with_resource}
-use Rattle.rx_eval.specs.Fresh.{Sight, resources_seen}
+use Rattle.rx_rules.specs.Names.{component_at, distinct, resource_in, resource_number, resources, resources_of}
+use Rattle.rx_meaning.specs.Body.{Frame, Inputs, Taken, and_then, body_of, finished, opening_frame, stopped_at, take_all, take_one, taken, wait, with_resource}
+use Rattle.rx_meaning.specs.Fresh.{Sight, resources_seen}
 use Rattle.rx_queue.specs.Journal.{resolved_by}
 
 -- Statements that read resources

@@ -1,12 +1,12 @@
 -- Which instances are calm can be told by lanes: no update of theirs that waits has a lane of the render, and after a commit no update of a visible instance is owed.
 use Rattle.std.specs.List.{list_any}
 use Rattle.std.specs.Prelude.{Bool, List, [], false, if◌then◌else◌, map, nat_lt, not, refl, true, ℕ, ◌&&◌, ◌||◌, ◌∷◌, ◌≡◌}
-use Rattle.rx_eval.specs.Fresh.{Sight}
+use Rattle.rx_meaning.specs.Fresh.{Sight}
 use Rattle.rx_queue.specs.History.{stands_done, stands_owed}
 use Rattle.rx_queue.specs.Journal.{Posted, belongs_to, is_included, marked_update}
 use Rattle.rx_queue.specs.declared.entry.Standing.{Standing}
 use Rattle.rx_queue.specs.declared.entry.Standing.TheVariants.{Done, Open, Owed}
-use Rattle.rx_eval.specs.Again.{AccountedBefore, IsFreeOf, NoneOwed}
+use Rattle.rx_meaning.specs.Again.{AccountedBefore, IsFreeOf, NoneOwed}
 use Rattle.rx_lane.specs.Lanes as lanes_of
 
 one_free : (x l b : Bool) (st : Standing) → (b ≡ true → (stands_owed st ≡ false) × (stands_done st ≡ false → l ≡ false))

@@ -2,23 +2,23 @@
 use Rattle.std.specs.Prelude.{Bool, List, None, Option, Some, [], cond, false, is_some, length, map, refl, suc, true, zero, ℕ, ℤ, ◌∷◌, ◌≡◌, ◌≤◌}
 use Rattle.std.proofs.Common.{ap, arith, inl, inr, subst, sym, ◌∙◌}
 use Rattle.rx_ast.specs.Syntax.{Component, Context, Program, components, contexts}
-use Rattle.rx_check.specs.Bounds.{depth_bound}
-use Rattle.rx_check.specs.Names.{component_at, component_number, root_name}
+use Rattle.rx_rules.specs.Bounds.{depth_bound}
+use Rattle.rx_rules.specs.Names.{component_at, component_number, root_name}
 use Rattle.rx_elem.specs.Elements.{Element, Elements, listed}
 use Rattle.rx_elem.specs.Numbers.{Numbers, numbered, numbered_host, numbered_in, numbered_instance, numbered_mark}
 use Rattle.rx_elem.specs.Spots.{kept_instances, visible_instances}
 use Rattle.rx_elem.specs.Trees.{Forest, Instance, Mark, Node, child, elements_in, is_hidden, node, none, of_boundary, of_host, of_instance, plain, vacant}
-use Rattle.rx_eval.specs.Body.{body_of, ready}
-use Rattle.rx_eval.specs.Fresh.{Contexts, Place, Sight, before, default_contexts, default_of, depth_limit, fresh, made, place_of, rendered, resources_seen, root_element, shape_of_component, values_of}
-use Rattle.rx_eval.specs.Touched.{contexts_below}
+use Rattle.rx_meaning.specs.Body.{body_of, ready}
+use Rattle.rx_meaning.specs.Fresh.{Contexts, Place, Sight, before, default_contexts, default_of, depth_limit, fresh, made, place_of, rendered, resources_seen, root_element, shape_of_component, values_of}
+use Rattle.rx_meaning.specs.Touched.{contexts_below}
 use Rattle.commit_laws.proofs.BodyLaw.{body_agrees, body_mounted}
 use Rattle.commit_laws.proofs.Leaving.{PlaceIs, rendered_is}
 use Rattle.commit_laws.proofs.Naming.{HasComponents, some_got}
 use Rattle.commit_laws.proofs.Settling.{after_commit, kept_values, new_values, tree_seen, visible_values}
 use Rattle.commit_laws.specs.HiddenWaits.{AllSeen, NumberSeen, Seen}
 use Rattle.commit_laws.proofs.Rendered.{AllRendered, AreApart, IsBodyIn, IsRendered}
-use Rattle.rx_eval.specs.Settled.{AllSettled, DoneBefore, HasValuesOf, IfHidden, IfSettled, IsBodyOf, IsOwnBy, IsSettled, Known, TargetsBelow, done_values, includes, number_of}
-use Rattle.rx_check.specs.Reads.{ReadsDeclared}
+use Rattle.rx_meaning.specs.Settled.{AllSettled, DoneBefore, HasValuesOf, IfHidden, IfSettled, IsBodyOf, IsOwnBy, IsSettled, Known, TargetsBelow, done_values, includes, number_of}
+use Rattle.rx_rules.specs.Reads.{ReadsDeclared}
 use Rattle.rx_elem.specs.Elements as elements
 
 -- Numbering

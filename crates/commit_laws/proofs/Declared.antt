@@ -5,8 +5,8 @@ use Rattle.std.proofs.Common.{arith}
 use Rattle.std.proofs.lemmas.Bool.Decides.{nat_tests}
 use Rattle.rx_ast.specs.Syntax.{Context, Program, Statement, constant, context, contexts, effect, reducer, state, use_resource}
 use Rattle.rx_base.specs.Values.{Name}
-use Rattle.rx_check.specs.Names.{context_number, place_among}
-use Rattle.rx_check.specs.Reads.{AllDeclared, IsDeclared, ReadsDeclared}
+use Rattle.rx_rules.specs.Names.{context_number, place_among}
+use Rattle.rx_rules.specs.Reads.{AllDeclared, IsDeclared, ReadsDeclared}
 use Rattle.commit_laws.proofs.Naming.{place_within}
 
 names_long : (cs : List Context) → length (map (λ c. c.name) cs) ≡ length cs

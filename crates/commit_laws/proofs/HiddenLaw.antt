@@ -6,16 +6,16 @@ use Rattle.std.proofs.Common.{ap, subst, sym, ◌∙◌}
 use Rattle.rx_ast.specs.Syntax.{Component}
 use Rattle.rx_base.specs.Awaits.{Awaits}
 use Rattle.rx_base.specs.declared.cut.Cut.{Cut}
-use Rattle.rx_check.specs.Names.{component_at}
+use Rattle.rx_rules.specs.Names.{component_at}
 use Rattle.rx_elem.specs.Compare.{node_at, old_nodes}
 use Rattle.rx_elem.specs.Elements.{Element, Elements, listed}
 use Rattle.rx_elem.specs.Identity.{Child, identified, identities_after, is_same_child}
 use Rattle.rx_elem.specs.Numbers.{Numbers, numbered, numbered_host, numbered_in, numbered_instance, numbered_mark}
 use Rattle.rx_elem.specs.Spots.{Around, Mounted, Spot, around_children, at_root, mounted_as, mounted_at, numbers_of, spot_mark, spots, spots_in}
 use Rattle.rx_elem.specs.Trees.{Forest, Instance, Mark, Node, child, children_if, elements_in, fallback_if, instance_in, is_hidden, node, none, of_boundary, of_host, of_instance, places, plain, vacant}
-use Rattle.rx_eval.specs.Body.{Body, body_of, ready, wait}
-use Rattle.rx_eval.specs.Fresh.{Contexts, Place, Places, Sight, all_made, before, default_contexts, depth_limit, empty, fresh, inputs_at, instance_after, made, old_instance, one_waits, over, over_boundary, part, place, place_of, render_all, render_list, render_part, rendered, resources_seen, root_element, shape_of_body, shape_of_component, values_of, waits}
-use Rattle.rx_eval.specs.Touched.{contexts_below, instances_in}
+use Rattle.rx_meaning.specs.Body.{Body, body_of, ready, wait}
+use Rattle.rx_meaning.specs.Fresh.{Contexts, Place, Places, Sight, all_made, before, default_contexts, depth_limit, empty, fresh, inputs_at, instance_after, made, old_instance, one_waits, over, over_boundary, part, place, place_of, render_all, render_list, render_part, rendered, resources_seen, root_element, shape_of_body, shape_of_component, values_of, waits}
+use Rattle.rx_meaning.specs.Touched.{contexts_below, instances_in}
 use Rattle.rx_lane.specs.Lanes.{Lanes}
 use Rattle.rx_queue.specs.Journal.{Posted, Resolution, marked_update}
 use Rattle.rx_susp.specs.declared.boundary.BoundaryState.TheVariants.{Hidden, Shown}
@@ -24,9 +24,9 @@ use Rattle.commit_laws.proofs.KeptValues.{values_again}
 use Rattle.commit_laws.proofs.Settling.{Among, among_first, among_rest}
 use Rattle.commit_laws.proofs.Soundness.{marked_hidden}
 use Rattle.commit_laws.proofs.WaitsAgain.{attempt_waits_again}
-use Rattle.rx_eval.specs.Again.{AccountedBefore, AllOpen, AllValuesAgree, AreUnresolved, NoNewUpdate, ValuesAgree, WaitsAreSmall}
+use Rattle.rx_meaning.specs.Again.{AccountedBefore, AllOpen, AllValuesAgree, AreUnresolved, NoNewUpdate, ValuesAgree, WaitsAreSmall}
 use Rattle.commit_laws.specs.HiddenWaits.{AllHiddenWait, AllNumbered, AllSeen, HiddenWaits, IfNumbered, IsNumbered, Numbered, OwnWaits, Seen}
-use Rattle.rx_eval.specs.Settled.{HasValuesOf, IfHidden, includes, number_of}
+use Rattle.rx_meaning.specs.Settled.{HasValuesOf, IfHidden, includes, number_of}
 use Rattle.rx_elem.specs.Elements as elements
 
 -- a number that may be missing is among these

@@ -4,8 +4,8 @@ use Rattle.std.specs.Prelude.{Bool, List, [], cond, false, filter, fold, if◌th
 use Rattle.std.proofs.Common.{ap, arith}
 use Rattle.std.proofs.lemmas.Bool.Decides.{nat_tests}
 use Rattle.rx_base.specs.declared.cut.Cut.{Cut}
-use Rattle.rx_eval.specs.Expressions.{answers_of}
-use Rattle.rx_eval.specs.Fresh.{Sight, hook_values}
+use Rattle.rx_meaning.specs.Expressions.{answers_of}
+use Rattle.rx_meaning.specs.Fresh.{Sight, hook_values}
 use Rattle.rx_lane.specs.Lanes.{Lanes}
 use Rattle.rx_queue.specs.History.{Answers, applied, stands_done, stands_open, stands_owed}
 use Rattle.rx_queue.specs.Journal.{Posted, Target, belongs_to, hook, is_included, is_new, marked_update, same_target, standing_after, state_from, state_of}
@@ -13,8 +13,8 @@ use Rattle.rx_queue.specs.declared.entry.Standing.{Standing}
 use Rattle.rx_queue.specs.declared.entry.Standing.TheVariants.{Done, Open, Owed}
 use Rattle.commit_laws.proofs.Settling.{target_has, with_standing}
 use Rattle.rx_elem.proofs.Deciding.{or_fails}
-use Rattle.rx_eval.specs.Again.{AccountedBefore, AllOpen, NoNewUpdate}
-use Rattle.rx_eval.specs.Settled.{includes}
+use Rattle.rx_meaning.specs.Again.{AccountedBefore, AllOpen, NoNewUpdate}
+use Rattle.rx_meaning.specs.Settled.{includes}
 use Rattle.rx_lane.specs.Lanes as lanes_of
 
 -- the standing of a kept update after the commit, with the tests as they come out

@@ -4,23 +4,23 @@ use Rattle.std.specs.Option.{option_flatten}
 use Rattle.std.specs.Prelude.{List, None, Option, Some, [], is_some, length, map, option_and_then, position, refl, slice_get, slice_set, suc, true, zero, ℕ, ℤ, ◌++◌, ◌∷◌, ◌≡◌, ◌≤◌}
 use Rattle.std.proofs.Common.{ap, arith, inl, inr, subst, sym, ◌∙◌}
 use Rattle.rx_ast.specs.Syntax.{Component, Program}
-use Rattle.rx_check.specs.Names.{component_at}
+use Rattle.rx_rules.specs.Names.{component_at}
 use Rattle.rx_elem.specs.Compare.{node_at, old_nodes}
 use Rattle.rx_elem.specs.Elements.{Element, Elements, gathered, listed}
 use Rattle.rx_elem.specs.Identity.{Child, identified, identities_after, is_same_child}
 use Rattle.rx_elem.specs.Trees.{Forest, Instance, Mark, Node, child, children_if, element_of, elements_in, fallback_if, instance_in, node, none, of_host, of_instance, places, plain, vacant}
 use Rattle.rx_elem.specs.declared.effect.ContextRead.{ContextRead}
 use Rattle.rx_elem.specs.declared.effect.EffectRecord.{EffectRecord}
-use Rattle.rx_eval.specs.Body.{Body, body_of, ready, wait}
-use Rattle.rx_eval.specs.Fresh.{Contexts, Place, Places, Sight, all_made, before, empty, inputs_at, instance_after, made, old_host, old_instance, one_waits, over, over_boundary, place, place_of, render_all, render_list, rendered, resources_seen, shape_of, shape_of_body, shape_of_component, waits}
+use Rattle.rx_meaning.specs.Body.{Body, body_of, ready, wait}
+use Rattle.rx_meaning.specs.Fresh.{Contexts, Place, Places, Sight, all_made, before, empty, inputs_at, instance_after, made, old_host, old_instance, one_waits, over, over_boundary, place, place_of, render_all, render_list, rendered, resources_seen, shape_of, shape_of_body, shape_of_component, waits}
 use Rattle.commit_laws.proofs.BodyLaw.{IsFull, body_agrees, body_read}
-use Rattle.rx_eval.proofs.Depths.{ShapeFits, shape_fits}
+use Rattle.rx_meaning.proofs.Depths.{ShapeFits, shape_fits}
 use Rattle.rx_elem.proofs.Identities.{child_of}
 use Rattle.commit_laws.proofs.Naming.{AllNamed, HasComponents, Named, body_named, listed_named}
-use Rattle.rx_eval.specs.Levels.{Fits, body_depth, elements_depth}
+use Rattle.rx_meaning.specs.Levels.{Fits, body_depth, elements_depth}
 use Rattle.commit_laws.proofs.Rendered.{AllRendered, IsBodyIn, IsRendered}
-use Rattle.rx_eval.specs.Settled.{AllSettled, IfSettled, IsOwn, Known}
-use Rattle.rx_check.specs.Reads.{ReadsDeclared}
+use Rattle.rx_meaning.specs.Settled.{AllSettled, IfSettled, IsOwn, Known}
+use Rattle.rx_rules.specs.Reads.{ReadsDeclared}
 use Rattle.rx_elem.specs.Elements as elements
 
 -- what is known of a place, by what it gives

@@ -6,16 +6,16 @@ use Rattle.std.proofs.lemmas.Bool.Decides.{nat_tests}
 use Rattle.rx_ast.specs.Syntax.{Component, Program, Slot, Slots, body_slots, components}
 use Rattle.rx_base.specs.Arithmetic.{is_zero}
 use Rattle.rx_base.specs.Values.{Name}
-use Rattle.rx_check.specs.Names.{component_at, component_number, place_among}
+use Rattle.rx_rules.specs.Names.{component_at, component_number, place_among}
 use Rattle.rx_elem.specs.Elements.{Element, Elements, gathered, listed}
 use Rattle.rx_elem.specs.declared.effect.ContextRead.{ContextRead}
 use Rattle.rx_elem.specs.declared.effect.EffectRecord.{EffectRecord}
-use Rattle.rx_eval.specs.Body.{Inputs, Taken, body_of, elements_of, finished, opening_frame, ready, stopped_at, take_all, taken, turns}
-use Rattle.rx_eval.specs.Expressions.{Env, value_in}
-use Rattle.rx_eval.proofs.Depths.{gathered-listed}
+use Rattle.rx_meaning.specs.Body.{Inputs, Taken, body_of, elements_of, finished, opening_frame, ready, stopped_at, take_all, taken, turns}
+use Rattle.rx_meaning.specs.Expressions.{Env, value_in}
+use Rattle.rx_meaning.proofs.Depths.{gathered-listed}
 use Rattle.rx_elem.specs.Elements as elements
 use Rattle.rx_ast.specs.Syntax as syntax
-use Rattle.rx_eval.specs.Body as body
+use Rattle.rx_meaning.specs.Body as body
 
 -- each component that an element names is there
 abbrev mutual

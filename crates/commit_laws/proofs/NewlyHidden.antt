@@ -5,16 +5,16 @@ use Rattle.std.proofs.Common.{ap, arith, subst, sym, ◌∙◌}
 use Rattle.std.proofs.lemmas.List.{length-map}
 use Rattle.rx_ast.specs.Syntax.{Program}
 use Rattle.rx_base.specs.Awaits.{Awaits}
-use Rattle.rx_check.specs.Bounds.{depth_bound}
+use Rattle.rx_rules.specs.Bounds.{depth_bound}
 use Rattle.rx_elem.specs.Compare.{Above, Change, Past, above_children, above_fallback, above_root, change_of, changes, changes_in, compare, compare_in, compare_trees, no_past, node_at, old_nodes, pasts}
 use Rattle.rx_elem.specs.Elements.{Element}
 use Rattle.rx_elem.specs.Identity.{Child, identified, identities_after, is_same_child, moves, moves_after, old_places}
 use Rattle.rx_elem.specs.Numbers.{Numbers, numbered, numbered_in, numbered_instance, numbered_mark}
 use Rattle.rx_elem.specs.Spots.{Around, Spot, around_children, at_root, spot_mark, spots, spots_in}
 use Rattle.rx_elem.specs.Trees.{Forest, Mark, Node, awaits_in, boundary_in, child, children_if, elements_in, fallback_if, is_hidden, mark_of, node, none, of_boundary, of_host, of_instance, places, plain, vacant}
-use Rattle.rx_eval.specs.Fresh.{Sight, depth_limit, fresh, made}
-use Rattle.rx_eval.specs.Outcome.{all_awaits, hides_shown, newly_hidden, old_state, visible_awaits}
-use Rattle.rx_eval.specs.Settled.{AllSettled, IfHidden, IfSettled, IsSettled, Known}
+use Rattle.rx_meaning.specs.Fresh.{Sight, depth_limit, fresh, made}
+use Rattle.rx_meaning.specs.Outcome.{all_awaits, hides_shown, newly_hidden, old_state, visible_awaits}
+use Rattle.rx_meaning.specs.Settled.{AllSettled, IfHidden, IfSettled, IsSettled, Known}
 use Rattle.rx_queue.specs.Journal.{resolved_by}
 use Rattle.rx_susp.specs.declared.boundary.BoundaryState.{BoundaryState}
 use Rattle.rx_susp.specs.declared.boundary.BoundaryState.TheVariants.{Hidden, Shown}

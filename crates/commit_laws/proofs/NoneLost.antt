@@ -7,8 +7,8 @@ use Rattle.rx_base.specs.declared.cut.Cut.{Cut}
 use Rattle.rx_elem.specs.Numbers.{Numbers, numbered}
 use Rattle.rx_elem.specs.Spots.{at_root, kept_instances, mounted, spots, visible_instances}
 use Rattle.rx_elem.specs.Trees.{Node}
-use Rattle.rx_eval.specs.Fresh.{Sight, default_contexts, depth_limit, fresh, made, root_element}
-use Rattle.rx_eval.specs.Outcome.{journal_after}
+use Rattle.rx_meaning.specs.Fresh.{Sight, default_contexts, depth_limit, fresh, made, root_element}
+use Rattle.rx_meaning.specs.Outcome.{journal_after}
 use Rattle.rx_lane.specs.Lanes.{Lanes}
 use Rattle.rx_lane.specs.SetLaws.{has-lanes_where}
 use Rattle.rx_lane.specs.declared.lane.Lane.{Lane}
@@ -19,8 +19,8 @@ use Rattle.rx_queue.specs.declared.entry.Standing.TheVariants.{Done, Open, Owed}
 use Rattle.rx_elem.proofs.Deciding.{same_itself, or_left, or_right, both_hold}
 use Rattle.commit_laws.proofs.OwnNumbers.{CountIs, both_lists, has_occurs, not_below, numbered_counts, occurs, rendered_counts, spots_times}
 use Rattle.commit_laws.proofs.Settling.{kept_at, kept_listed, visible_at, visible_listed}
-use Rattle.rx_eval.specs.Again.{AccountedBefore}
-use Rattle.rx_eval.specs.Settled.{TargetsBelow, includes, times_numbered, times_numbered_if}
+use Rattle.rx_meaning.specs.Again.{AccountedBefore}
+use Rattle.rx_meaning.specs.Settled.{TargetsBelow, includes, times_numbered, times_numbered_if}
 use Rattle.rx_lane.specs.Lanes as lanes_of
 
 -- the same as of a state, of its parts

@@ -6,24 +6,24 @@ use Rattle.std.proofs.lemmas.Bool.Decides.{nat_tests}
 use Rattle.rx_ast.specs.Syntax.{Component, components}
 use Rattle.rx_base.specs.Awaits.{Awaits, awaits_where, resource_limit}
 use Rattle.rx_base.specs.AwaitsLaws.{has-awaits_where, has-awaits_where_above}
-use Rattle.rx_check.specs.Bounds.{depth_bound}
-use Rattle.rx_check.specs.Names.{component_at, component_number, root_name}
+use Rattle.rx_rules.specs.Bounds.{depth_bound}
+use Rattle.rx_rules.specs.Names.{component_at, component_number, root_name}
 use Rattle.rx_elem.specs.Compare.{node_at, old_nodes}
 use Rattle.rx_elem.specs.Elements.{Element, Elements, gathered, listed}
 use Rattle.rx_elem.specs.Identity.{Child, identified, identities_after, is_same_child}
 use Rattle.rx_elem.specs.Trees.{Forest, Mark, Node, awaits_in, child, children_if, element_of, elements_in, fallback_if, is_hidden, node, none, of_host, of_instance, plain, vacant}
-use Rattle.rx_eval.specs.Body.{Body, body_of, ready, wait}
-use Rattle.rx_eval.specs.Fresh.{Contexts, Place, Places, Sight, all_made, before, default_contexts, depth_limit, empty, fresh, inputs_at, instance_after, made, old_host, old_instance, one_waits, over, over_boundary, place, place_of, render_all, render_list, rendered, root_element, shape_of, shape_of_body, shape_of_component, waits}
+use Rattle.rx_meaning.specs.Body.{Body, body_of, ready, wait}
+use Rattle.rx_meaning.specs.Fresh.{Contexts, Place, Places, Sight, all_made, before, default_contexts, depth_limit, empty, fresh, inputs_at, instance_after, made, old_host, old_instance, one_waits, over, over_boundary, place, place_of, render_all, render_list, rendered, root_element, shape_of, shape_of_body, shape_of_component, waits}
 use Rattle.rx_queue.specs.Journal.{resolved_by}
-use Rattle.rx_eval.proofs.Depths.{ShapeFits, shape_fits}
+use Rattle.rx_meaning.proofs.Depths.{ShapeFits, shape_fits}
 use Rattle.rx_elem.proofs.Identities.{child_of}
 use Rattle.rx_elem.proofs.Deciding.{same_number}
 use Rattle.commit_laws.proofs.BodyWaits.{body_waits}
 use Rattle.commit_laws.proofs.CommitSettles.{root_found}
 use Rattle.commit_laws.proofs.Leaving.{zero_is_null}
 use Rattle.commit_laws.proofs.Naming.{AllNamed, HasComponents, Named, body_named, listed_named, some_got}
-use Rattle.rx_eval.specs.Settled.{IfHidden}
-use Rattle.rx_eval.specs.Levels.{Fits, body_depth, elements_depth}
+use Rattle.rx_meaning.specs.Settled.{IfHidden}
+use Rattle.rx_meaning.specs.Levels.{Fits, body_depth, elements_depth}
 use Rattle.rx_elem.specs.Elements as elements
 use Rattle.rx_base.specs.Awaits as awaits
 

@@ -7,21 +7,21 @@ use Rattle.std.proofs.Math.Nat.{mul-le-mul_right}
 use Rattle.std.proofs.lemmas.Bool.Decides.{nat_tests}
 use Rattle.std.proofs.lemmas.Option.{slice_get_past}
 use Rattle.rx_ast.specs.Syntax.{Component}
-use Rattle.rx_check.specs.Bounds.{levels}
-use Rattle.rx_check.specs.Names.{component_at}
+use Rattle.rx_rules.specs.Bounds.{levels}
+use Rattle.rx_rules.specs.Names.{component_at}
 use Rattle.rx_elem.specs.Compare.{node_at, old_nodes}
 use Rattle.rx_elem.specs.Elements.{Element, Elements, key_of, kind_of, listed, same_kind}
 use Rattle.rx_elem.specs.Identity.{Child, Identity, identities, identities_after, identity_after, is_same_child, same_identity}
 use Rattle.rx_elem.specs.Numbers.{Numbers, numbered, numbered_host, numbered_in, numbered_instance, numbered_mark}
 use Rattle.rx_elem.specs.Spots.{Around, Spot, around_children, at_root, spot_mark, spots, spots_in, visible_instances}
 use Rattle.rx_elem.specs.Trees.{Forest, Mark, Node, child, children_if, element_of, elements_in, fallback_if, node, none, of_boundary, of_host, of_instance, places, plain, vacant}
-use Rattle.rx_eval.specs.Body.{Body, body_of, ready, wait}
-use Rattle.rx_eval.specs.Fresh.{Contexts, Place, Places, Renders, Sight, all_made, before, default_contexts, depth_limit, empty, fresh, inputs_at, instance_after, made, old_instance, one_waits, over, over_boundary, place, place_of, render_all, render_list, rendered, root_element, shape_of_body, shape_of_component, waits}
+use Rattle.rx_meaning.specs.Body.{Body, body_of, ready, wait}
+use Rattle.rx_meaning.specs.Fresh.{Contexts, Place, Places, Renders, Sight, all_made, before, default_contexts, depth_limit, empty, fresh, inputs_at, instance_after, made, old_instance, one_waits, over, over_boundary, place, place_of, render_all, render_list, rendered, root_element, shape_of_body, shape_of_component, waits}
 use Rattle.commit_laws.proofs.CommitSettles.{mark_rises, number_rises, numbers_rise}
 use Rattle.rx_elem.proofs.Identities.{Distinct, child_of, distinct_after, distinct_equals, equals}
 use Rattle.commit_laws.proofs.Settling.{kept_at, kept_listed, number_if, visible_at, visible_listed}
 use Rattle.commit_laws.proofs.Rendered.{AreApart}
-use Rattle.rx_eval.specs.Settled.{HasOwnNumbers, includes, is_numbered_so, number_of, times_numbered, times_numbered_if, times_numbered_in}
+use Rattle.rx_meaning.specs.Settled.{HasOwnNumbers, includes, is_numbered_so, number_of, times_numbered, times_numbered_if, times_numbered_in}
 use Rattle.rx_elem.specs.Elements as elements
 
 -- No old node is taken twice

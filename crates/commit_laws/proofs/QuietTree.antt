@@ -2,12 +2,12 @@
 use Rattle.std.specs.List.{list_any}
 use Rattle.std.specs.Prelude.{Bool, List, Option, Some, [], false, nat_eq, not, refl, suc, true, zero, ℕ, ℤ, ◌&&◌, ◌||◌, ◌∷◌, ◌≡◌, ◌≤◌}
 use Rattle.std.proofs.Common.{ap, arith, subst, sym, ◌∙◌}
-use Rattle.rx_check.specs.Bounds.{depth_bound}
+use Rattle.rx_rules.specs.Bounds.{depth_bound}
 use Rattle.rx_elem.specs.Elements.{Element}
 use Rattle.rx_elem.specs.Numbers.{Numbers, numbered}
 use Rattle.rx_elem.specs.Spots.{kept_instances, visible_instances}
 use Rattle.rx_elem.specs.Trees.{Forest, Instance, Node, child, children_if, element_of, node, none, of_boundary, of_host, of_instance, plain, vacant}
-use Rattle.rx_eval.specs.Fresh.{Contexts, Places, Renders, Shape, Sight, absent, all_made, before, default_contexts, depth_limit, fresh, made, one_list, one_waits, over, over_boundary, place_of, render_part, rendered, resources_seen, root_element, shape_of, two_lists, waiting}
+use Rattle.rx_meaning.specs.Fresh.{Contexts, Places, Renders, Shape, Sight, absent, all_made, before, default_contexts, depth_limit, fresh, made, one_list, one_waits, over, over_boundary, place_of, render_part, rendered, resources_seen, root_element, shape_of, two_lists, waiting}
 use Rattle.rx_queue.specs.History.{stands_done}
 use Rattle.rx_queue.specs.Journal.{Posted, Target, belongs_to, hook, is_included}
 use Rattle.rx_susp.specs.declared.boundary.BoundaryState.TheVariants.{Hidden, Shown}
@@ -17,7 +17,7 @@ use Rattle.commit_laws.proofs.Soundness.{calm_is_still, resolution_keeps}
 use Rattle.commit_laws.proofs.TakeOver.{rendered_again}
 use Rattle.commit_laws.specs.HiddenWaits.{AllNumbered, AllSeen, Numbered, Seen}
 use Rattle.commit_laws.specs.Quiet.{AllDone, AllShown, NoneHidden}
-use Rattle.rx_eval.specs.Settled.{AllCalm, DoneBefore, HasValuesOf, IsCalm, IsSettled, IsSound, IsStill, includes, is_stirred, known_by}
+use Rattle.rx_meaning.specs.Settled.{AllCalm, DoneBefore, HasValuesOf, IsCalm, IsSettled, IsSound, IsStill, includes, is_stirred, known_by}
 use Rattle.rx_elem.proofs.Numbering.{numbered_element}
 
 passes_done : (i d b : Bool) → (b ≡ true → d ≡ true) → (i && (not d && b)) ≡ false

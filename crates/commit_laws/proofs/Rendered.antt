@@ -1,14 +1,14 @@
 -- What a render leaves: each component that was rendered is as its body gave it.
 use Rattle.std.specs.Prelude.{List, None, Some, false, true, ℕ, ℤ, ◌≡◌}
 use Rattle.rx_ast.specs.Syntax.{Component}
-use Rattle.rx_check.specs.Names.{component_at}
+use Rattle.rx_rules.specs.Names.{component_at}
 use Rattle.rx_elem.specs.Elements.{Element, Elements, listed}
 use Rattle.rx_elem.specs.Spots.{kept_instances, visible_instances}
 use Rattle.rx_elem.specs.Trees.{Forest, Instance, Node, child, is_hidden, node, none, vacant}
-use Rattle.rx_eval.specs.Body.{body_of, ready}
-use Rattle.rx_eval.specs.Fresh.{Contexts, Sight, resources_seen, values_of}
-use Rattle.rx_eval.specs.Touched.{contexts_below}
-use Rattle.rx_eval.specs.Settled.{AllSettled, IfHidden, IsOwnBy, Known, includes, read_anew}
+use Rattle.rx_meaning.specs.Body.{body_of, ready}
+use Rattle.rx_meaning.specs.Fresh.{Contexts, Sight, resources_seen, values_of}
+use Rattle.rx_meaning.specs.Touched.{contexts_below}
+use Rattle.rx_meaning.specs.Settled.{AllSettled, IfHidden, IsOwnBy, Known, includes, read_anew}
 
 -- a component's body gave this at this sight, and so it does in whatever contexts agree with the reads, as those of its place do
 pub record IsBodyIn (s : Sight) (at : Contexts) (number : ℕ) (props : List ℤ) (given : Elements) (i : Instance) (es : List Element) : Type 0 where

@@ -6,16 +6,16 @@ use Rattle.std.proofs.lemmas.Bool.Decides.{nat_tests}
 use Rattle.rx_base.specs.Awaits.{Awaits, resource_limit}
 use Rattle.rx_base.specs.AwaitsLaws.{has-awaits_where}
 use Rattle.rx_base.specs.declared.cut.Cut.{Cut}
-use Rattle.rx_check.specs.Names.{resources}
+use Rattle.rx_rules.specs.Names.{resources}
 use Rattle.rx_elem.specs.Elements.{Element}
 use Rattle.rx_elem.specs.Trees.{Forest, node, of_boundary}
-use Rattle.rx_eval.specs.Fresh.{Sight, resources_seen}
-use Rattle.rx_eval.specs.Touched.{has_new_work, instances_in, is_waiting_still, resolved_seen}
+use Rattle.rx_meaning.specs.Fresh.{Sight, resources_seen}
+use Rattle.rx_meaning.specs.Touched.{has_new_work, instances_in, is_waiting_still, resolved_seen}
 use Rattle.rx_queue.specs.Journal.{Posted, Resolution, resolved_by}
 use Rattle.rx_susp.specs.declared.boundary.BoundaryState.TheVariants.{Hidden}
 use Rattle.rx_elem.proofs.Deciding.{or_fails}
-use Rattle.rx_eval.specs.Again.{AreUnresolved, NoNewUpdate}
-use Rattle.rx_eval.specs.Settled.{HasValuesOf}
+use Rattle.rx_meaning.specs.Again.{AreUnresolved, NoNewUpdate}
+use Rattle.rx_meaning.specs.Settled.{HasValuesOf}
 use Rattle.rx_base.specs.Awaits as awaits
 
 mapped_more : (f g : ℕ → Option ℤ) → ((q : ℕ) (x : ℤ) → f q ≡ Some x → g q ≡ Some x) → (qs : List ℕ) (r : ℕ) (x : ℤ)

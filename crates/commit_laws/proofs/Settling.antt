@@ -5,8 +5,8 @@ use Rattle.std.proofs.Common.{ap, arith, subst, ◌∙◌}
 use Rattle.std.proofs.lemmas.Bool.Decides.{nat_tests}
 use Rattle.rx_elem.specs.Spots.{Around, Mounted, Spot, around_children, at_root, kept_instances, mounted_as, mounted_at, numbers_of, spot_mark, spots, spots_in, visible_instances}
 use Rattle.rx_elem.specs.Trees.{Forest, Mark, Node, child, instance_in, is_hidden, node, none, of_boundary, of_host, of_instance, plain, vacant}
-use Rattle.rx_eval.specs.Expressions.{answers_of}
-use Rattle.rx_eval.specs.Fresh.{Sight, hook_values, resources_seen}
+use Rattle.rx_meaning.specs.Expressions.{answers_of}
+use Rattle.rx_meaning.specs.Fresh.{Sight, hook_values, resources_seen}
 use Rattle.rx_queue.specs.History.{Answers, applied, stands_done}
 use Rattle.rx_queue.specs.Journal.{Posted, Target, belongs_to, committed_value, hook, is_included, marked_update, same_target, standing_after, state_from, state_of}
 use Rattle.rx_queue.specs.declared.entry.Standing.{Standing}
@@ -15,7 +15,7 @@ use Rattle.rx_susp.specs.declared.boundary.BoundaryState.TheVariants.{Hidden, Sh
 use Rattle.commit_laws.proofs.TakeOver.{done_is_included}
 use Rattle.rx_elem.proofs.Deciding.{and_passes, or_right, same_number}
 use Rattle.commit_laws.specs.HiddenWaits.{AllSeen, NumberSeen, Seen}
-use Rattle.rx_eval.specs.Settled.{DoneBefore, Known, TargetsBelow, done_values, includes, number_of}
+use Rattle.rx_meaning.specs.Settled.{DoneBefore, Known, TargetsBelow, done_values, includes, number_of}
 use Rattle.rx_lane.specs.Lanes as lanes_of
 
 -- Marks

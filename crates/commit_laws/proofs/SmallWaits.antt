@@ -6,9 +6,9 @@ use Rattle.std.proofs.lemmas.Bool.Decides.{nat_tests}
 use Rattle.rx_ast.specs.Syntax.{Component, Program, Statement, body_slots, constant, context, effect, reducer, state, use_resource}
 use Rattle.rx_base.specs.Awaits.{resource_limit}
 use Rattle.rx_base.specs.Values.{Name}
-use Rattle.rx_check.specs.Names.{resource_number, resources}
-use Rattle.rx_eval.specs.Body.{Frame, Inputs, Taken, and_then, body_of, finished, opening_frame, stopped_at, take_all, take_one, taken, wait, with_resource}
-use Rattle.rx_eval.specs.Again.{WaitsAreSmall}
+use Rattle.rx_rules.specs.Names.{resource_number, resources}
+use Rattle.rx_meaning.specs.Body.{Frame, Inputs, Taken, and_then, body_of, finished, opening_frame, stopped_at, take_all, take_one, taken, wait, with_resource}
+use Rattle.rx_meaning.specs.Again.{WaitsAreSmall}
 
 number_small : (names : List Name) (name : Name) → length names ≤ resource_limit → (k : ℕ) (b : Bool) → nat_lt k (length names) ≡ b
     → unwrap_or (cond b (Some k) None) 0 < resource_limit

@@ -3,15 +3,15 @@ use Rattle.std.specs.List.{enumerate_from}
 use Rattle.std.specs.Prelude.{Bool, List, None, Option, Some, [], cond, false, filter, map, refl, true, ℕ, ℤ, ◌++◌, ◌+◌, ◌∷◌, ◌≡◌, ◌≤◌}
 use Rattle.std.proofs.Common.{arith, inl, inr, subst, sym, ◌∙◌}
 use Rattle.rx_ast.specs.Syntax.{Program}
-use Rattle.rx_check.specs.Bounds.{depth_bound}
+use Rattle.rx_rules.specs.Bounds.{depth_bound}
 use Rattle.rx_elem.specs.Elements.{Element, Elements, listed}
 use Rattle.rx_elem.specs.Numbers.{Numbers, numbered, numbered_host, numbered_in, numbered_instance, numbered_mark}
 use Rattle.rx_elem.specs.Spots.{kept_instances, visible_instances}
 use Rattle.rx_elem.specs.Trees.{Forest, Instance, Mark, Node, child, elements_in, is_hidden, node, none, of_boundary, of_host, of_instance, plain, vacant}
-use Rattle.rx_eval.specs.Expressions.{answers_of}
-use Rattle.rx_eval.specs.Fresh.{Contexts, Sight, before, default_contexts, depth_limit, fresh, made, resources_seen}
-use Rattle.rx_eval.specs.Outcome.{journal_after}
-use Rattle.rx_eval.specs.Touched.{contexts_below}
+use Rattle.rx_meaning.specs.Expressions.{answers_of}
+use Rattle.rx_meaning.specs.Fresh.{Contexts, Sight, before, default_contexts, depth_limit, fresh, made, resources_seen}
+use Rattle.rx_meaning.specs.Outcome.{journal_after}
+use Rattle.rx_meaning.specs.Touched.{contexts_below}
 use Rattle.rx_queue.specs.History.{stands_done}
 use Rattle.rx_queue.specs.Journal.{Posted, committed_value, hook, marked_update, same_target}
 use Rattle.rx_susp.specs.declared.boundary.BoundaryState.TheVariants.{Hidden, Shown}
@@ -19,8 +19,8 @@ use Rattle.commit_laws.proofs.BodyLaw.{body_agrees}
 use Rattle.commit_laws.proofs.CommitSettles.{commit_settles, fresh_is, number_rises}
 use Rattle.commit_laws.proofs.OwnNumbers.{numbers_stay_own, own_numbers_apart}
 use Rattle.commit_laws.proofs.Rendered.{AllRendered, IsBodyIn, IsRendered}
-use Rattle.rx_eval.specs.Settled.{AllCalm, AllReadsHold, AllSettled, AllStill, DoneBefore, HasValuesOf, IfHidden, IfSettled, IsBodyOf, IsCalm, IsOwn, IsOwnBy, IsSettled, IsSound, IsStill, Known, ReadsHold, TargetsBelow, done_values, has_cause, is_stirred, read_anew, reads_another}
-use Rattle.rx_check.specs.Reads.{ReadsDeclared}
+use Rattle.rx_meaning.specs.Settled.{AllCalm, AllReadsHold, AllSettled, AllStill, DoneBefore, HasValuesOf, IfHidden, IfSettled, IsBodyOf, IsCalm, IsOwn, IsOwnBy, IsSettled, IsSound, IsStill, Known, ReadsHold, TargetsBelow, done_values, has_cause, is_stirred, read_anew, reads_another}
+use Rattle.rx_rules.specs.Reads.{ReadsDeclared}
 use Rattle.rx_elem.specs.Elements as elements
 
 -- Reads

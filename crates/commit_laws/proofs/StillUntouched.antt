@@ -5,13 +5,13 @@ use Rattle.std.proofs.Common.{arith, subst, sym}
 use Rattle.rx_elem.specs.Compare.{old_nodes}
 use Rattle.rx_elem.specs.Elements.{Element, gathered}
 use Rattle.rx_elem.specs.Trees.{Forest, Mark, Node, child, element_of, elements_in, instance_in, node, none, of_instance, places, vacant}
-use Rattle.rx_eval.specs.Fresh.{Contexts, Part, Place, Places, Renders, Shape, Sight, all_made, before, empty, made, one_waits, part, render_all, rendered, shape_of, waits}
-use Rattle.rx_eval.specs.Touched.{Setting, Visit, Visits, contexts_below, part_waits, setting_below, setting_of_fallback, setting_of_primary, touched_instance, visit_all, visit_below, visit_here, visit_part, visited, waits_at}
+use Rattle.rx_meaning.specs.Fresh.{Contexts, Part, Place, Places, Renders, Shape, Sight, all_made, before, empty, made, one_waits, part, render_all, rendered, shape_of, waits}
+use Rattle.rx_meaning.specs.Touched.{Setting, Visit, Visits, contexts_below, part_waits, setting_below, setting_of_fallback, setting_of_primary, touched_instance, visit_all, visit_below, visit_here, visit_part, visited, waits_at}
 use Rattle.rx_elem.proofs.SelfMatch.{matches_itself}
 use Rattle.commit_laws.proofs.TakeOver.{all_again, children_fit_again, same_shape, settled_no_null}
-use Rattle.rx_eval.specs.Again.{NoneTouched}
-use Rattle.rx_eval.specs.Levels.{Fits, body_depth, elements_depth}
-use Rattle.rx_eval.specs.Settled.{AllSettled, AllStill, DoneBefore, IsOwn, IsSettled, IsStill, has_cause, kept_shape, known_by}
+use Rattle.rx_meaning.specs.Again.{NoneTouched}
+use Rattle.rx_meaning.specs.Levels.{Fits, body_depth, elements_depth}
+use Rattle.rx_meaning.specs.Settled.{AllSettled, AllStill, DoneBefore, IsOwn, IsSettled, IsStill, has_cause, kept_shape, known_by}
 use Rattle.rx_elem.specs.Elements as elements
 
 none_append : (xs ys : List Visit) → NoneTouched xs → NoneTouched ys → NoneTouched (xs ++ ys)

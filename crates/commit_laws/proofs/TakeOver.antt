@@ -7,19 +7,19 @@ use Rattle.rx_base.specs.declared.cut.Cut.{Cut}
 use Rattle.rx_elem.specs.Compare.{old_nodes}
 use Rattle.rx_elem.specs.Elements.{Element, Elements, gathered, is_present, listed}
 use Rattle.rx_elem.specs.Trees.{Forest, Instance, Mark, Node, child, element_of, elements_in, node, none, of_boundary, of_instance, places, vacant}
-use Rattle.rx_eval.specs.Body.{body_of, ready}
-use Rattle.rx_eval.specs.Expressions.{answers_of}
-use Rattle.rx_eval.specs.Fresh.{Contexts, Renders, Sight, all_made, before, empty, hook_values, inputs_at, instance_after, made, one_list, part, place_of, render_all, rendered, shape_of, shape_of_body, shape_of_component}
-use Rattle.rx_eval.specs.Touched.{contexts_below, has_update, touched_instance}
+use Rattle.rx_meaning.specs.Body.{body_of, ready}
+use Rattle.rx_meaning.specs.Expressions.{answers_of}
+use Rattle.rx_meaning.specs.Fresh.{Contexts, Renders, Sight, all_made, before, empty, hook_values, inputs_at, instance_after, made, one_list, part, place_of, render_all, rendered, shape_of, shape_of_body, shape_of_component}
+use Rattle.rx_meaning.specs.Touched.{contexts_below, has_update, touched_instance}
 use Rattle.rx_lane.specs.Lanes.{Lanes}
 use Rattle.rx_queue.specs.History.{stands_done}
 use Rattle.rx_queue.specs.Journal.{Posted, Target, belongs_to, committed_value, hook, is_included, same_target, state_of}
 use Rattle.rx_susp.specs.declared.boundary.BoundaryState.TheVariants.{Hidden}
-use Rattle.rx_eval.proofs.Depths.{ShapeFits, not_deepest, shape_fits}
+use Rattle.rx_meaning.proofs.Depths.{ShapeFits, not_deepest, shape_fits}
 use Rattle.rx_elem.proofs.Deciding.{same_itself, same_number, and_passes, or_fails}
 use Rattle.rx_elem.proofs.SelfMatch.{NoNull, matches_itself}
-use Rattle.rx_eval.specs.Levels.{Fits, body_depth, elements_depth}
-use Rattle.rx_eval.specs.Settled.{AllSettled, AllStill, DoneBefore, IsBodyOf, IsOwn, IsSettled, IsStill, Known, done_values, has_cause, kept_shape, known_by, read_anew}
+use Rattle.rx_meaning.specs.Levels.{Fits, body_depth, elements_depth}
+use Rattle.rx_meaning.specs.Settled.{AllSettled, AllStill, DoneBefore, IsBodyOf, IsOwn, IsSettled, IsStill, Known, done_values, has_cause, kept_shape, known_by, read_anew}
 use Rattle.rx_elem.specs.Elements as elements
 
 -- Hook values

@@ -7,17 +7,17 @@ use Rattle.std.proofs.lemmas.Bool.Decides.{nat_tests}
 use Rattle.rx_ast.specs.Syntax.{Component}
 use Rattle.rx_base.specs.Awaits.{Awaits, awaits_where, resource_limit}
 use Rattle.rx_base.specs.AwaitsLaws.{has-awaits_where, has-awaits_where_above}
-use Rattle.rx_check.specs.Names.{component_at}
+use Rattle.rx_rules.specs.Names.{component_at}
 use Rattle.rx_elem.specs.Compare.{node_at, old_nodes}
 use Rattle.rx_elem.specs.Elements.{Element, Elements, listed}
 use Rattle.rx_elem.specs.Identity.{Child, identified, identities_after, is_same_child}
 use Rattle.rx_elem.specs.Trees.{Forest, Mark, Node, child, children_if, elements_in, fallback_if, node, none, of_boundary, of_host, of_instance, places, plain, vacant}
-use Rattle.rx_eval.specs.Body.{Body, body_of, ready, wait}
-use Rattle.rx_eval.specs.Fresh.{Contexts, Part, Place, Places, Shape, Sight, absent, all_made, before, empty, inputs_at, made, old_instance, one_list, one_waits, over, over_boundary, place_of, render_all, render_part, rendered, resources_seen, shape_of, shape_of_body, shape_of_component, two_lists, values_of, waiting, waits}
+use Rattle.rx_meaning.specs.Body.{Body, body_of, ready, wait}
+use Rattle.rx_meaning.specs.Fresh.{Contexts, Part, Place, Places, Shape, Sight, absent, all_made, before, empty, inputs_at, made, old_instance, one_list, one_waits, over, over_boundary, place_of, render_all, render_part, rendered, resources_seen, shape_of, shape_of_body, shape_of_component, two_lists, values_of, waiting, waits}
 use Rattle.commit_laws.proofs.BodyLaw.{BodyAgain, body_again}
 use Rattle.rx_elem.proofs.Identities.{child_of}
-use Rattle.rx_eval.specs.Again.{AllValuesAgree, AreUnresolved, ValuesAgree, WaitsAreSmall}
-use Rattle.rx_eval.specs.Settled.{HasValuesOf}
+use Rattle.rx_meaning.specs.Again.{AllValuesAgree, AreUnresolved, ValuesAgree, WaitsAreSmall}
+use Rattle.rx_meaning.specs.Settled.{HasValuesOf}
 use Rattle.rx_elem.specs.Elements as elements
 use Rattle.rx_base.specs.Awaits as awaits
 use Rattle.rx_elem.proofs.Deciding.{or_left, or_right}

@@ -5,10 +5,10 @@ use Rattle.rx_lane.specs.Lanes.{Lanes}
 use Rattle.rx_queue.specs.Journal.{Journal, Posted, Resolution, marked_update}
 use Rattle.rx_elem.specs.Elements.{Element, listed}
 use Rattle.rx_elem.specs.Trees.{Forest, Mark, Node, child, is_hidden, node, none, of_boundary, of_host, of_instance, plain, vacant}
-use Rattle.rx_eval.specs.Fresh.{Contexts, Sight, one_waits, part, render_part, rendered}
-use Rattle.rx_eval.specs.Touched.{contexts_below}
+use Rattle.rx_meaning.specs.Fresh.{Contexts, Sight, one_waits, part, render_part, rendered}
+use Rattle.rx_meaning.specs.Touched.{contexts_below}
 use Rattle.rx_susp.specs.declared.boundary.BoundaryState.TheVariants.{Hidden}
-use Rattle.rx_eval.specs.Settled.{IfHidden, includes, number_of}
+use Rattle.rx_meaning.specs.Settled.{IfHidden, includes, number_of}
 use Rattle.rx_elem.specs.Elements as elements
 
 -- what a later render sees

@@ -7,11 +7,11 @@ use Rattle.std.proofs.Common.{sym, ◌∙◌, ap, subst, arith}
 use Rattle.std.proofs.lemmas.Bool.Decides.{nat_tests, Decides-eqb}
 use Rattle.std.proofs.lemmas.Option.{same_Some}
 use Rattle.host_laws.specs.Related.{AreAlike, AreDistinct, AreRelated, has_gone, rest_of, old_content}
-use Rattle.rx_host.specs.Forests.{HostForest, Held, Body, body_of, held_of, children_in, forest_of, with_held, with_body, new_host, with_mark, Replays}
-use Rattle.rx_host.specs.HostOps.{removals, creations, creation, placements, contents, content_ops, bare, hidings, hiding_ops, ops_between}
-use Rattle.rx_host.specs.Hosts.{Host, Content, host_numbered, has_host}
-use Rattle.rx_host.specs.declared.op.HostOp.{HostOp}
-use Rattle.rx_host.specs.Hosts as hosts
+use Rattle.rx_forest.specs.Forests.{HostForest, Held, Body, body_of, held_of, children_in, forest_of, with_held, with_body, new_host, with_mark, Replays}
+use Rattle.rx_forest.specs.HostOps.{removals, creations, creation, placements, contents, content_ops, bare, hidings, hiding_ops, ops_between}
+use Rattle.rx_forest.specs.Hosts.{Host, Content, host_numbered, has_host}
+use Rattle.rx_forest.specs.declared.op.HostOp.{HostOp}
+use Rattle.rx_forest.specs.Hosts as hosts
 use Rattle.host_laws.proofs.Placing.{neither}
 use Rattle.host_laws.proofs.Placements.{placements_settle}
 use Rattle.host_laws.proofs.Held.{replays-append, with_held-same, changed, changes_all}

@@ -12,12 +12,12 @@ use Rattle.rx_elem.specs.Elements.{same_value}
 use Rattle.rx_elem.specs.declared.attr.Attr.{Attr}
 use Rattle.rx_elem.specs.declared.attr.AttrValue.{AttrValue}
 use Rattle.rx_elem.specs.declared.attr.AttrValue.TheVariants.{Number, Text}
-use Rattle.rx_host.specs.Forests.{HostForest, Held, Body, tag, body_of, with_held, with_body, with_value, with_letters, Replays}
-use Rattle.rx_host.specs.HostOps.{attr_named, has_attr, attr_ops, content_ops}
-use Rattle.rx_host.specs.Hosts.{Host, Content}
-use Rattle.rx_host.specs.declared.op.HostOp.TheVariants as op
-use Rattle.rx_host.specs.Hosts as hosts
-use Rattle.rx_host.specs.Forests as forests
+use Rattle.rx_forest.specs.Forests.{HostForest, Held, Body, tag, body_of, with_held, with_body, with_value, with_letters, Replays}
+use Rattle.rx_forest.specs.HostOps.{attr_named, has_attr, attr_ops, content_ops}
+use Rattle.rx_forest.specs.Hosts.{Host, Content}
+use Rattle.rx_forest.specs.declared.op.HostOp.TheVariants as op
+use Rattle.rx_forest.specs.Hosts as hosts
+use Rattle.rx_forest.specs.Forests as forests
 use Rattle.host_laws.proofs.Held.{with_held-same, with_held-twice, replays-append}
 
 -- what a host is changes

@@ -5,10 +5,10 @@ use Rattle.host_laws.specs.Commits.{IsCommit, IsRendered, FairGone}
 use Rattle.host_laws.specs.Related.{KeepKinds, GoneBelow}
 use Rattle.rx_elem.specs.Elements.{Element, Elements}
 use Rattle.rx_elem.specs.Trees.{Node, node, children_of, none, vacant, child, of_host, elements_in}
-use Rattle.rx_host.specs.Forests.{forest_of, Replays}
-use Rattle.rx_host.specs.HostOps.{host_ops}
-use Rattle.rx_host.specs.Hosts.{hosts, has_host}
-use Rattle.rx_host.specs.declared.op.HostOp.TheVariants as op
+use Rattle.rx_forest.specs.Forests.{forest_of, Replays}
+use Rattle.rx_forest.specs.HostOps.{host_ops}
+use Rattle.rx_forest.specs.Hosts.{hosts, has_host}
+use Rattle.rx_forest.specs.declared.op.HostOp.TheVariants as op
 use Rattle.rx_elem.specs.Elements as elements
 use Rattle.host_laws.proofs.Replay.{commit_replays}
 

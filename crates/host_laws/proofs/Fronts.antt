@@ -13,7 +13,7 @@ use Rattle.rx_elem.specs.Compare.{Change, Past, Above, change_of, above_children
 use Rattle.rx_elem.specs.Elements.{Element, key_of}
 use Rattle.rx_elem.specs.Identity.{Identity, Child, same_identity, identity_after, identities_after, identified, is_same_child, old_places}
 use Rattle.rx_elem.specs.Trees.{mark_of, Mark, Node, node, Forest, none, vacant, child, element_of, places, elements_in, host_number, is_host, children_if, fallback_if}
-use Rattle.rx_host.specs.Forests.{is_among}
+use Rattle.rx_forest.specs.Forests.{is_among}
 use Rattle.rx_elem.specs.Elements as elements
 use Rattle.host_laws.proofs.IdentityLaws.{places_distinct}
 use Rattle.host_laws.proofs.Order.{unmoved, Contribute, joined, order_is_kept}

@@ -2,9 +2,9 @@
 use Rattle.std.specs.Prelude.{◌≡◌, ℕ, Bool, true, false, List, [], ◌∷◌, ◌++◌, Option, flat_map, nat_eq, refl, if◌then◌else◌}
 use Rattle.std.proofs.Math.Path.{fun_ext}
 use Rattle.std.proofs.Common.{ap, subst}
-use Rattle.rx_host.specs.Forests.{HostForest, Held, with_held, Replays}
-use Rattle.rx_host.specs.Hosts.{Host}
-use Rattle.rx_host.specs.declared.op.HostOp.{HostOp}
+use Rattle.rx_forest.specs.Forests.{HostForest, Held, with_held, Replays}
+use Rattle.rx_forest.specs.Hosts.{Host}
+use Rattle.rx_forest.specs.declared.op.HostOp.{HostOp}
 
 -- one list of operations after another
 pub replays-append : (xs ys : List HostOp) (f g h : HostForest) → Replays f xs g → Replays g ys h → Replays f (xs ++ ys) h

@@ -8,7 +8,7 @@ use Rattle.rx_elem.specs.Elements.{Element}
 use Rattle.rx_elem.specs.Elements as elements
 use Rattle.rx_elem.specs.Trees.{of_instance, of_host, of_boundary, plain, Node, node, Forest, none, vacant, child}
 use Rattle.rx_elem.specs.Spots.{Around, around_children}
-use Rattle.rx_host.specs.Hosts.{Host, Content, content_of, tag, host_as, by_name}
+use Rattle.rx_forest.specs.Hosts.{Host, Content, content_of, tag, host_as, by_name}
 use Rattle.host_laws.specs.Related.{can_hold, is_element}
 use Rattle.host_laws.specs.Commits.{HasNone, AreNumbered, AreNumbered_in, TextsAreLeaves, TextsAreLeaves_in}
 use Rattle.host_laws.proofs.Listing.{hosts_at, hosts_in}

@@ -10,8 +10,8 @@ use Rattle.host_laws.specs.Related.{AreDistinct}
 use Rattle.rx_elem.specs.Spots.{Around, around_children, spots, spots_in}
 use Rattle.rx_susp.specs.declared.boundary.BoundaryState.TheVariants.{Shown, Hidden}
 use Rattle.rx_elem.specs.Trees.{Mark, host_number, is_host, of_instance, of_host, of_boundary, plain, Node, node, Forest, none, vacant, child}
-use Rattle.rx_host.specs.Forests.{children_in}
-use Rattle.rx_host.specs.Hosts.{Host, Content, has_host, host_at, host_as, content_of}
+use Rattle.rx_forest.specs.Forests.{children_in}
+use Rattle.rx_forest.specs.Hosts.{Host, Content, has_host, host_at, host_as, content_of}
 use Rattle.rx_elem.specs.Elements.{Element}
 use Rattle.host_laws.proofs.Placing.{neither}
 use Rattle.host_laws.proofs.Placements.{children_in-append, other_number}

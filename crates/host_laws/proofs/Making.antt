@@ -7,12 +7,12 @@ use Rattle.std.proofs.lemmas.Bool.Decides.{Decides-eqb}
 use Rattle.rx_base.specs.Values.{Name}
 use Rattle.rx_elem.specs.declared.attr.Attr.{Attr}
 use Rattle.rx_elem.specs.declared.attr.AttrValue.{AttrValue}
-use Rattle.rx_host.specs.declared.op.HostOp.{HostOp}
-use Rattle.rx_host.specs.declared.op.HostOp.TheVariants as op
-use Rattle.rx_host.specs.Hosts.{Host, Content, host_numbered, has_host}
-use Rattle.rx_host.specs.Hosts as hosts
-use Rattle.rx_host.specs.HostOps.{attr_ops, content_ops, creation, hiding_ops}
-use Rattle.rx_host.specs.Forests.{HostForest, Held, Body, tag, letters, forest_of, held_of, with_held, with_body, with_value, is_tag, is_held, holds_tag, is_among, Replays, CanBeReplayed}
+use Rattle.rx_forest.specs.declared.op.HostOp.{HostOp}
+use Rattle.rx_forest.specs.declared.op.HostOp.TheVariants as op
+use Rattle.rx_forest.specs.Hosts.{Host, Content, host_numbered, has_host}
+use Rattle.rx_forest.specs.Hosts as hosts
+use Rattle.rx_forest.specs.HostOps.{attr_ops, content_ops, creation, hiding_ops}
+use Rattle.rx_forest.specs.Forests.{HostForest, Held, Body, tag, letters, forest_of, held_of, with_held, with_body, with_value, is_tag, is_held, holds_tag, is_among, Replays, CanBeReplayed}
 use Rattle.host_laws.specs.Related.{AreDistinct, ParentsFirst, GoneBelow, AreAlike, is_element}
 use Rattle.host_laws.proofs.Placing.{neither}
 use Rattle.host_laws.proofs.OneResult.{becomes_once, removed_once}

@@ -2,9 +2,9 @@
 use Rattle.std.specs.Prelude.{◌≡◌, ℕ, List, [], ◌∷◌, Option, Some, None, refl}
 use Rattle.std.proofs.Common.{sym, ◌∙◌, subst}
 use Rattle.std.proofs.lemmas.Option.{none-some}
-use Rattle.rx_host.specs.Forests.{HostForest, Held, IsUnder, Removed, Becomes, Replays}
-use Rattle.rx_host.specs.declared.op.HostOp.{HostOp}
-use Rattle.rx_host.specs.declared.op.HostOp.TheVariants as op
+use Rattle.rx_forest.specs.Forests.{HostForest, Held, IsUnder, Removed, Becomes, Replays}
+use Rattle.rx_forest.specs.declared.op.HostOp.{HostOp}
+use Rattle.rx_forest.specs.declared.op.HostOp.TheVariants as op
 use Rattle.host_laws.proofs.Removals.{same_forest}
 
 pub removed_once : (f : HostForest) (n : ℕ) (g h : HostForest) → Removed f n g → Removed f n h → g ≡ h

@@ -5,7 +5,7 @@ use Rattle.std.proofs.Common.{sym, ◌∙◌, ap, arith, inl, inr}
 use Rattle.std.proofs.lemmas.Bool.{cases_lt}
 use Rattle.std.proofs.lemmas.Bool.Decides.{nat_tests, Decides-eqb}
 use Rattle.host_laws.specs.Related.{AreApart}
-use Rattle.rx_host.specs.Forests.{is_among}
+use Rattle.rx_forest.specs.Forests.{is_among}
 
 -- the places of the reused children that don't move
 abbrev pub unmoved : ℕ → List (Option ℕ) → List ℕ

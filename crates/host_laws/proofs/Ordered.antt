@@ -12,8 +12,8 @@ use Rattle.rx_elem.specs.Elements.{Element}
 use Rattle.rx_elem.specs.Identity.{old_places, moves}
 use Rattle.rx_elem.specs.Spots.{Around, around_children, spots_in}
 use Rattle.rx_elem.specs.Trees.{Mark, of_instance, of_host, of_boundary, plain, Node, node, Forest, none, vacant, child, places, elements_in, children_if, fallback_if}
-use Rattle.rx_host.specs.Forests.{children_in}
-use Rattle.rx_host.specs.Hosts.{Host, Content, content_of, host_at, host_as, has_host}
+use Rattle.rx_forest.specs.Forests.{children_in}
+use Rattle.rx_forest.specs.Hosts.{Host, Content, content_of, host_at, host_as, has_host}
 use Rattle.host_laws.proofs.Fronts.{Fair, Fair_in}
 use Rattle.host_laws.proofs.Fronts.{children_same}
 use Rattle.host_laws.proofs.Listing.{hosts_at, hosts_in, FrontsAre, FrontsAre_in, has_host-append, in-child}

@@ -7,7 +7,7 @@ use Rattle.std.proofs.lemmas.List.Elements.{filter_map-append}
 use Rattle.rx_elem.specs.Elements.{Element}
 use Rattle.rx_elem.specs.Trees.{Mark, of_instance, of_host, of_boundary, plain, Node, node, Forest, child}
 use Rattle.rx_elem.specs.Spots.{Around, around_children, spots_in}
-use Rattle.rx_host.specs.Hosts.{Host, Content, content_of, host_at, host_as, host_numbered, has_host}
+use Rattle.rx_forest.specs.Hosts.{Host, Content, content_of, host_at, host_as, host_numbered, has_host}
 use Rattle.host_laws.specs.Related.{AreDistinct}
 use Rattle.host_laws.specs.Commits.{HasNumber}
 use Rattle.host_laws.proofs.Listing.{hosts_at, hosts_in, host_first, other_first, in-child}

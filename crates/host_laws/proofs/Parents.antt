@@ -9,7 +9,7 @@ use Rattle.host_laws.specs.Related.{AreDistinct, ParentsFirst}
 use Rattle.rx_elem.specs.Spots.{Around, around_children, spots_in}
 use Rattle.rx_susp.specs.declared.boundary.BoundaryState.TheVariants.{Shown, Hidden}
 use Rattle.rx_elem.specs.Trees.{of_instance, of_host, of_boundary, plain, Node, node, Forest, none, vacant, child}
-use Rattle.rx_host.specs.Hosts.{Host, host_at, host_as, has_host}
+use Rattle.rx_forest.specs.Hosts.{Host, host_at, host_as, has_host}
 use Rattle.host_laws.proofs.Placing.{neither}
 use Rattle.host_laws.proofs.Listing.{hosts_at, hosts_in, in-child, host_first, has_host-append, distinct-append, split_hosts}
 

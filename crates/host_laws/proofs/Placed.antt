@@ -11,8 +11,8 @@ use Rattle.rx_elem.specs.Compare.{Past, Change, Above, change_of, above_children
 use Rattle.rx_elem.specs.Spots.{Around, around_children, spots_in}
 use Rattle.rx_elem.specs.Elements.{Element}
 use Rattle.rx_elem.specs.Trees.{Mark, host_number, is_host, of_instance, of_host, of_boundary, plain, Node, node, Forest, none, vacant, child, elements_in, children_if, fallback_if}
-use Rattle.rx_host.specs.HostOps.{is_placed, placed_in, placed_hosts}
-use Rattle.rx_host.specs.Hosts.{Host, Content, content_of, host_at, host_as, has_host}
+use Rattle.rx_forest.specs.HostOps.{is_placed, placed_in, placed_hosts}
+use Rattle.rx_forest.specs.Hosts.{Host, Content, content_of, host_at, host_as, has_host}
 use Rattle.host_laws.proofs.Fronts.{Fair, Fair_in}
 use Rattle.host_laws.proofs.Placing.{neither}
 use Rattle.host_laws.proofs.Placements.{other_number}

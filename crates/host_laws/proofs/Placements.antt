@@ -8,10 +8,10 @@ use Rattle.std.proofs.lemmas.List.Elements.{filter-append}
 use Rattle.std.proofs.lemmas.Option.{none-some, same_Some}
 use Rattle.std.proofs.lemmas.List.{append-nil, map-append}
 use Rattle.host_laws.specs.Related.{stands, AreDistinct}
-use Rattle.rx_host.specs.Forests.{HostForest, children_in, without, insert_before, inserted, Replays, is_among}
-use Rattle.rx_host.specs.HostOps.{is_placed, next_standing, placements}
-use Rattle.rx_host.specs.Hosts.{Host, has_host}
-use Rattle.rx_host.specs.Forests as forests
+use Rattle.rx_forest.specs.Forests.{HostForest, children_in, without, insert_before, inserted, Replays, is_among}
+use Rattle.rx_forest.specs.HostOps.{is_placed, next_standing, placements}
+use Rattle.rx_forest.specs.Hosts.{Host, has_host}
+use Rattle.rx_forest.specs.Forests as forests
 use Rattle.host_laws.proofs.IdentityLaws.{both}
 use Rattle.host_laws.proofs.Placing.{or_is, neither, settled_without, filter_inserted, insert_before_first}
 

@@ -3,7 +3,7 @@ use Rattle.std.specs.Prelude.{◌≡◌, ℕ, Bool, true, false, ◌||◌, List,
 use Rattle.std.proofs.Common.{◌∙◌, ap, arith}
 use Rattle.std.proofs.lemmas.Bool.Decides.{nat_tests, Decides-eqb}
 use Rattle.std.proofs.lemmas.List.Elements.{filter-append}
-use Rattle.rx_host.specs.Forests.{is_among, without, insert_before, inserted}
+use Rattle.rx_forest.specs.Forests.{is_among, without, insert_before, inserted}
 
 -- a test beside one number more
 abbrev pub or_is : (ℕ → Bool) → ℕ → ℕ → Bool

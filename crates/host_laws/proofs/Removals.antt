@@ -6,10 +6,10 @@ use Rattle.std.proofs.Common.{sym, ◌∙◌, ap, subst, arith, inl, inr}
 use Rattle.std.proofs.lemmas.Bool.Decides.{nat_tests, Decides-eqb}
 use Rattle.std.proofs.lemmas.Option.{none-some, same_Some}
 use Rattle.host_laws.specs.Related.{AreDistinct, ParentsFirst, has_gone, GoneBelow, rest_of}
-use Rattle.rx_host.specs.Forests.{HostForest, Held, held_of, children_in, forest_of, without, IsUnder, itself, below, Removed, Replays, is_among}
-use Rattle.rx_host.specs.HostOps.{removals}
-use Rattle.rx_host.specs.Hosts.{Host, host_numbered, has_host}
-use Rattle.rx_host.specs.declared.op.HostOp.TheVariants as op
+use Rattle.rx_forest.specs.Forests.{HostForest, Held, held_of, children_in, forest_of, without, IsUnder, itself, below, Removed, Replays, is_among}
+use Rattle.rx_forest.specs.HostOps.{removals}
+use Rattle.rx_forest.specs.Hosts.{Host, host_numbered, has_host}
+use Rattle.rx_forest.specs.declared.op.HostOp.TheVariants as op
 use Rattle.host_laws.proofs.IdentityLaws.{both}
 use Rattle.host_laws.proofs.Placing.{neither}
 

@@ -7,9 +7,9 @@ use Rattle.host_laws.specs.Related.{AreDistinct, AreRelated, ParentsFirst, has_g
 use Rattle.rx_elem.specs.Compare.{above_root}
 use Rattle.rx_elem.specs.Spots.{at_root}
 use Rattle.rx_elem.specs.Trees.{Node}
-use Rattle.rx_host.specs.Forests.{children_in, forest_of, Replays}
-use Rattle.rx_host.specs.HostOps.{host_ops}
-use Rattle.rx_host.specs.Hosts.{hosts, has_host}
+use Rattle.rx_forest.specs.Forests.{children_in, forest_of, Replays}
+use Rattle.rx_forest.specs.HostOps.{host_ops}
+use Rattle.rx_forest.specs.Hosts.{hosts, has_host}
 use Rattle.host_laws.proofs.Fronts.{Fair}
 use Rattle.host_laws.proofs.Placing.{neither}
 use Rattle.host_laws.proofs.Fronts.{node_same}

@@ -6,11 +6,11 @@ use Rattle.std.proofs.Common.{sym, ap, subst, inl, inr, ◌∙◌}
 use Rattle.std.proofs.lemmas.Bool.Decides.{Decides-eqb}
 use Rattle.rx_elem.specs.Trees.{Node}
 use Rattle.rx_elem.specs.Spots.{at_root}
-use Rattle.rx_host.specs.declared.op.HostOp.TheVariants as op
-use Rattle.rx_host.specs.Hosts.{Host, Content, hosts, host_numbered, has_host}
-use Rattle.rx_host.specs.Hosts as hosts_of
-use Rattle.rx_host.specs.HostOps.{bare, host_ops, removals, creations, placements, contents, hidings, ops_between, hiding_ops}
-use Rattle.rx_host.specs.Forests.{HostForest, Held, body_of, held_of, forest_of, children_in, is_tag, is_held, holds_tag, can_be_parent, Replays, CanBeReplayed}
+use Rattle.rx_forest.specs.declared.op.HostOp.TheVariants as op
+use Rattle.rx_forest.specs.Hosts.{Host, Content, hosts, host_numbered, has_host}
+use Rattle.rx_forest.specs.Hosts as hosts_of
+use Rattle.rx_forest.specs.HostOps.{bare, host_ops, removals, creations, placements, contents, hidings, ops_between, hiding_ops}
+use Rattle.rx_forest.specs.Forests.{HostForest, Held, body_of, held_of, forest_of, children_in, is_tag, is_held, holds_tag, can_be_parent, Replays, CanBeReplayed}
 use Rattle.host_laws.specs.Related.{ParentsFirst, AreAlike, AreRelated, has_gone, rest_of, stands, old_content, is_element, can_hold, ParentsHold}
 use Rattle.host_laws.specs.Commits.{IsCommit, TextsAreLeaves, placed_by}
 use Rattle.host_laws.proofs.Held.{changed, changes_all, replays-append}

@@ -3,10 +3,10 @@ use Rattle.std.specs.Prelude.{◌≡◌, ℕ, Bool, true, false, ◌||◌, ◌�
 use Rattle.std.specs.List.{list_all, AllByRecursion}
 use Rattle.std.proofs.Common.{sym, ◌∙◌, ap, subst, inl, inr, append_assoc}
 use Rattle.std.proofs.lemmas.Bool.Decides.{Decides-eqb}
-use Rattle.rx_host.specs.Hosts.{Host, has_host}
-use Rattle.rx_host.specs.HostOps.{is_placed, next_standing, placements}
-use Rattle.rx_host.specs.Forests.{HostForest, Held, children_in, is_among, IsUnder, itself, below, is_held, can_be_parent, can_stand, CanBeMade, CanBeReplayed}
-use Rattle.rx_host.specs.Forests as forests
+use Rattle.rx_forest.specs.Hosts.{Host, has_host}
+use Rattle.rx_forest.specs.HostOps.{is_placed, next_standing, placements}
+use Rattle.rx_forest.specs.Forests.{HostForest, Held, children_in, is_among, IsUnder, itself, below, is_held, can_be_parent, can_stand, CanBeMade, CanBeReplayed}
+use Rattle.rx_forest.specs.Forests as forests
 use Rattle.host_laws.specs.Related.{stands, AreDistinct, ParentsFirst}
 use Rattle.host_laws.proofs.IdentityLaws.{both}
 use Rattle.host_laws.proofs.Placing.{or_is}

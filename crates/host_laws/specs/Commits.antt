@@ -6,8 +6,8 @@ use Rattle.rx_elem.specs.Identity.{old_places, is_reused}
 use Rattle.rx_elem.specs.Trees.{Mark, of_instance, of_host, of_boundary, plain, Node, node, Forest, none, vacant, child, mark_of, elements_in, host_number, is_host, children_if, fallback_if}
 use Rattle.rx_elem.specs.Spots.{container}
 use Rattle.rx_elem.specs.Compare.{Past, no_past, pasts, node_at, changes, compare_trees}
-use Rattle.rx_host.specs.Hosts.{Content, content_of, hosts, has_host}
-use Rattle.rx_host.specs.HostOps.{placed_hosts}
+use Rattle.rx_forest.specs.Hosts.{Content, content_of, hosts, has_host}
+use Rattle.rx_forest.specs.HostOps.{placed_hosts}
 use Rattle.host_laws.specs.Related.{AreDistinct, GoneBelow, KeepKinds}
 
 -- the numbers of the hosts at the top of a tree: those below which it has no other

@@ -4,10 +4,10 @@ use Rattle.std.specs.List.{AllByRecursion}
 use Rattle.std.specs.Option.{option_map_or}
 use Rattle.rx_elem.specs.declared.attr.Attr.{Attr}
 use Rattle.rx_elem.specs.Spots.{container}
-use Rattle.rx_host.specs.Hosts.{Host, Content, host_numbered, has_host}
-use Rattle.rx_host.specs.Hosts as hosts
-use Rattle.rx_host.specs.HostOps.{is_placed, attr_named, bare}
-use Rattle.rx_host.specs.Forests.{HostForest, held_of, children_in}
+use Rattle.rx_forest.specs.Hosts.{Host, Content, host_numbered, has_host}
+use Rattle.rx_forest.specs.Hosts as hosts
+use Rattle.rx_forest.specs.HostOps.{is_placed, attr_named, bare}
+use Rattle.rx_forest.specs.Forests.{HostForest, held_of, children_in}
 
 -- Places of children
 

@@ -5,10 +5,10 @@ ghost use Rattle.rx_elem.specs.Elements.{Element};
 ghost use Rattle.rx_elem.specs.Identity.{Identity, Child, identities, identified, is_same_child, old_places, moves};
 ghost use Rattle.rx_elem.specs.Trees.{Node};
 ghost use Rattle.rx_elem.specs.Spots.{container};
-ghost use Rattle.rx_host.specs.declared.op.HostOp.{HostOp};
-ghost use Rattle.rx_host.specs.Hosts.{Host, hosts, has_host};
-ghost use Rattle.rx_host.specs.HostOps.{host_ops, placements, removals, ops_between};
-ghost use Rattle.rx_host.specs.Forests.{HostForest, children_in, forest_of, Replays, CanBeReplayed};
+ghost use Rattle.rx_forest.specs.declared.op.HostOp.{HostOp};
+ghost use Rattle.rx_forest.specs.Hosts.{Host, hosts, has_host};
+ghost use Rattle.rx_forest.specs.HostOps.{host_ops, placements, removals, ops_between};
+ghost use Rattle.rx_forest.specs.Forests.{HostForest, children_in, forest_of, Replays, CanBeReplayed};
 ghost use Rattle.host_laws.specs.Commits.{IsCommit, TextsAreLeaves};
 ghost use Rattle.host_laws.specs.Related.{IsPassed, AreApart, AreDistinct, ParentsFirst, GoneBelow, ParentsHold, rest_of, stands, AreRelated};
 

@@ -3,14 +3,14 @@ use Rattle.std.proofs.Common.{false, true, refl}
 use Rattle.std.specs.Fmt.{digits}
 use Rattle.rx_base.specs.Awaits.{awaits_where}
 use Rattle.rx_lane.specs.Lanes.{lanes_where}
-use Rattle.rx_check.specs.Bounds.{body_by, node_bound}
+use Rattle.rx_rules.specs.Bounds.{body_by, node_bound}
 use Rattle.rx_sched.specs.Links.{linked_by, links_among, one_link_on, links_on}
 use Rattle.rx_sched.specs.Deadlines.{timed}
 use Rattle.rx_queue.specs.Journal.{state_of, committed_value}
-use Rattle.rx_eval.specs.Body.{body_of}
-use Rattle.rx_eval.specs.Fresh.{rendered, fresh}
-use Rattle.rx_host.specs.HostOps.{host_ops}
-use Rattle.rx_report.specs.Report.{report_bytes}
+use Rattle.rx_meaning.specs.Body.{body_of}
+use Rattle.rx_meaning.specs.Fresh.{rendered, fresh}
+use Rattle.rx_forest.specs.HostOps.{host_ops}
+use Rattle.rx_lines.specs.Lines.{report_bytes}
 use Rattle.machine_examples.specs.Programs.{users, late_users, nested_boundaries, boxes, boxes_with_effects}
 use Rattle.machine_examples.specs.Boundaries.{FirstWait, first_wait_script, first_wait_report, LaterResolution, later_resolution_script, later_resolution_report, ResolvedTwice, resolved_twice_script, resolved_twice_report, WaitingFallback, waiting_fallback_script, waiting_fallback_report, HiddenHosts, hidden_hosts_script, hidden_hosts_report, HidingAndShowing, hiding_and_showing_script, hiding_and_showing_report}
 use Rattle.machine_examples.proofs.Chosen.{written}

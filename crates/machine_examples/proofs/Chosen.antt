@@ -6,14 +6,14 @@ use Rattle.rx_base.specs.Values.{Text}
 use Rattle.rx_lane.specs.declared.lane.Lane.TheVariants as lane
 use Rattle.rx_lane.specs.Lanes.{has}
 use Rattle.rx_ast.specs.Syntax.{Program}
-use Rattle.rx_script.specs.declared.step.Step.{Step}
-use Rattle.rx_script.specs.declared.step.Step.TheVariants as step
+use Rattle.rx_step.specs.declared.step.Step.{Step}
+use Rattle.rx_step.specs.declared.step.Step.TheVariants as step
 use Rattle.rx_sched.specs.declared.choice.Choice.{Choice}
 use Rattle.rx_sched.specs.declared.choice.Choice.TheVariants as choice
 use Rattle.rx_sched.specs.Deadlines.{later}
-use Rattle.rx_eval.specs.Fresh.{Place, empty, made, waits, fresh}
-use Rattle.rx_host.specs.Hosts.{hosts}
-use Rattle.rx_report.specs.Report.{Counts, Options, tree_lines, report_bytes}
+use Rattle.rx_meaning.specs.Fresh.{Place, empty, made, waits, fresh}
+use Rattle.rx_forest.specs.Hosts.{hosts}
+use Rattle.rx_lines.specs.Lines.{Counts, Options, tree_lines, report_bytes}
 use Rattle.rx_model.specs.State.{State, Progress, opening, state_lines, end_line}
 use Rattle.rx_model.specs.Stretch.{Stretch, writes, silent, followed_by}
 use Rattle.rx_model.specs.Accepting.{dispatched, resolved, between_events}

@@ -3,14 +3,14 @@ use Rattle.std.proofs.Common.{false, true, refl}
 use Rattle.std.specs.Fmt.{digits}
 use Rattle.rx_base.specs.Awaits.{awaits_where}
 use Rattle.rx_lane.specs.Lanes.{lanes_where}
-use Rattle.rx_check.specs.Bounds.{body_by, node_bound}
+use Rattle.rx_rules.specs.Bounds.{body_by, node_bound}
 use Rattle.rx_sched.specs.Links.{linked_by, links_among, one_link_on, links_on}
 use Rattle.rx_sched.specs.Deadlines.{timed}
 use Rattle.rx_queue.specs.Journal.{state_of, committed_value}
-use Rattle.rx_eval.specs.Body.{body_of}
-use Rattle.rx_eval.specs.Fresh.{rendered, fresh}
-use Rattle.rx_host.specs.HostOps.{host_ops}
-use Rattle.rx_report.specs.Report.{report_bytes}
+use Rattle.rx_meaning.specs.Body.{body_of}
+use Rattle.rx_meaning.specs.Fresh.{rendered, fresh}
+use Rattle.rx_forest.specs.HostOps.{host_ops}
+use Rattle.rx_lines.specs.Lines.{report_bytes}
 use Rattle.machine_examples.specs.Programs.{boxes}
 use Rattle.machine_examples.specs.Transitions.{Owed, owed_script, owed_report, Deferred, deferred_script, deferred_report, DeferredThenResolved, deferred_then_resolved_script, deferred_then_resolved_report, NewDeadline, new_deadline_script, new_deadline_report, Linked, linked_script, linked_report}
 use Rattle.machine_examples.proofs.Chosen.{written}

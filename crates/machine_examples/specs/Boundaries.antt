@@ -1,10 +1,10 @@
 -- Content that waits (react.dev, Suspense).
 use Rattle.std.specs.Prelude.{List, [], ◌∷◌, true, false, codes, pos}
 use Rattle.rx_base.specs.Values.{Text}
-use Rattle.rx_script.specs.declared.step.Step.{Step}
-use Rattle.rx_script.specs.declared.step.LaneWord.TheVariants as word
-use Rattle.rx_script.specs.declared.step.Dispatch.TheVariants as dispatch
-use Rattle.rx_script.specs.declared.step.Step.TheVariants as step
+use Rattle.rx_step.specs.declared.step.Step.{Step}
+use Rattle.rx_step.specs.declared.step.LaneWord.TheVariants as word
+use Rattle.rx_step.specs.declared.step.Dispatch.TheVariants as dispatch
+use Rattle.rx_step.specs.declared.step.Step.TheVariants as step
 use Rattle.machine_examples.specs.Writes.{Writes}
 use Rattle.machine_examples.specs.Programs.{users, late_users, nested_boundaries, boxes, boxes_with_effects}
 

@@ -3,17 +3,17 @@ use Rattle.std.specs.Prelude.{◌≡◌, ◌⊎◌, ℕ, zero, suc, ◌+◌, ◌
 use Rattle.std.specs.List.{zip, AllByRecursion}
 use Rattle.std.proofs.Common.{arith, inl, inr, sym, subst}
 use Rattle.rx_ast.specs.Syntax.{Program, Component}
-use Rattle.rx_check.specs.Names.{component_number, component_at, root_name}
-use Rattle.rx_check.specs.Bounds.{node_bound, component_levels, node_limit}
+use Rattle.rx_rules.specs.Names.{component_number, component_at, root_name}
+use Rattle.rx_rules.specs.Bounds.{node_bound, component_levels, node_limit}
 use Rattle.rx_elem.specs.Elements.{Element, Elements, gathered, listed}
 use Rattle.rx_elem.specs.Elements as elements
 use Rattle.rx_elem.specs.Identity.{Identity, identities, identified, is_same_child}
 use Rattle.rx_elem.specs.Trees.{Node, Forest, children_if, fallback_if, elements_in}
 use Rattle.rx_elem.specs.Spots.{spots_in, at_root}
 use Rattle.rx_elem.specs.Compare.{old_nodes, node_at}
-use Rattle.rx_eval.specs.Body.{Body, wait, ready, body_of}
-use Rattle.rx_eval.specs.Fresh.{Sight, Contexts, Renders, Place, empty, made, waits, rendered, shape_of, shape_of_body, shape_of_component, inputs_at, old_instance, default_contexts, root_element, depth_limit, IsTree}
-use Rattle.rx_check.specs.Keys.{KeysApart}
+use Rattle.rx_meaning.specs.Body.{Body, wait, ready, body_of}
+use Rattle.rx_meaning.specs.Fresh.{Sight, Contexts, Renders, Place, empty, made, waits, rendered, shape_of, shape_of_body, shape_of_component, inputs_at, old_instance, default_contexts, root_element, depth_limit, IsTree}
+use Rattle.rx_rules.specs.Keys.{KeysApart}
 use Rattle.render_laws.specs.Attempts.{Attempts, begun, unless_waits, attempts_below, shape_attempts, attempts}
 use Rattle.render_laws.proofs.Plans.{Alts, Plan, fixed, end, next, plan_in, body_size, body_plan, alts_size}
 use Rattle.render_laws.proofs.Coming.{Has, is_keyed, IsFew, Comes, AllCome, comes_within, comes_less}

@@ -2,14 +2,14 @@
 use Rattle.std.specs.Prelude.{◌≡◌, ◌⊎◌, ℕ, ◌*◌, ◌≤◌, Option, Some, None, length}
 use Rattle.std.proofs.Common.{arith, inl, inr, sym, subst, ◌∙◌}
 use Rattle.rx_ast.specs.Syntax.{Program}
-use Rattle.rx_check.specs.Names.{component_at}
-use Rattle.rx_check.specs.Bounds.{node_bound, node_limit}
+use Rattle.rx_rules.specs.Names.{component_at}
+use Rattle.rx_rules.specs.Bounds.{node_bound, node_limit}
 use Rattle.rx_elem.specs.Trees.{Node}
 use Rattle.rx_elem.specs.Spots.{node_count}
-use Rattle.rx_eval.specs.Fresh.{Sight, empty, made, fresh, IsTree, none_yet, given}
-use Rattle.rx_eval.specs.Touched.{visits}
-use Rattle.rx_check.specs.Keys.{KeysApart}
-use Rattle.rx_eval.specs.Counts.{each_unit, each_begun, whole}
+use Rattle.rx_meaning.specs.Fresh.{Sight, empty, made, fresh, IsTree, none_yet, given}
+use Rattle.rx_meaning.specs.Touched.{visits}
+use Rattle.rx_rules.specs.Keys.{KeysApart}
+use Rattle.rx_meaning.specs.Counts.{each_unit, each_begun, whole}
 use Rattle.render_laws.proofs.FitRender.{IsPlain}
 use Rattle.render_laws.proofs.RootLaws.{given_bounded, tree_bounded}
 use Rattle.render_laws.proofs.TryLaw.{begun_with, begun_bounded}

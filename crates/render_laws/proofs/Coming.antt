@@ -6,12 +6,12 @@ use Rattle.rx_base.specs.Values.{Name}
 use Rattle.rx_base.specs.Arithmetic.{is_zero}
 use Rattle.rx_ast.specs.Syntax.{Program, Slot, Slots, Expr, key_of, key_in}
 use Rattle.rx_ast.specs.Syntax as syntax
-use Rattle.rx_check.specs.Names.{component_number, component_at}
+use Rattle.rx_rules.specs.Names.{component_number, component_at}
 use Rattle.rx_elem.specs.Elements.{Element, Elements, gathered}
 use Rattle.rx_elem.specs.Elements as elements
-use Rattle.rx_eval.specs.Expressions.{Env, value_in}
-use Rattle.rx_eval.specs.Body.{element_of, elements_of, turns, key_value}
-use Rattle.rx_check.specs.Keys.{carries_key, keyed_places, SlotKeysApart, SlotsKeysApart}
+use Rattle.rx_meaning.specs.Expressions.{Env, value_in}
+use Rattle.rx_meaning.specs.Body.{element_of, elements_of, turns, key_value}
+use Rattle.rx_rules.specs.Keys.{carries_key, keyed_places, SlotKeysApart, SlotsKeysApart}
 use Rattle.render_laws.proofs.Plans.{Alts, nil, alt, Plan, fixed, every, Row, end, next, joined, no_plan, only, slot_alts, slots_row, slots_keyed, slots_plan, body_plan}
 
 -- these plans are those of an alternative

@@ -6,11 +6,11 @@ use Rattle.rx_base.specs.Awaits as awaits
 use Rattle.rx_elem.specs.Elements.{Element}
 use Rattle.rx_elem.specs.Elements as elements
 use Rattle.rx_elem.specs.Trees.{Node, none, forest}
-use Rattle.rx_eval.specs.Fresh.{Sight, Contexts, Renders, made, waits, Places, all_made, one_waits, over_boundary, render_all, rendered, fresh, Part, Shape, absent, waiting, one_list, two_lists, shape_of, render_part, place_of}
-use Rattle.rx_eval.specs.Counts.{Tries, try_all, Weights, each_unit, begins_as, if_made, count_part, count_open, count_shape, counted, count_around, left, next_counts, whole, spent}
-use Rattle.rx_eval.specs.Touched.{children_with_old}
-use Rattle.rx_eval.specs.Cursor.{given_by, is_null, Open, around, trying, falling, Frame, Cursor, at_place, at_end, ended, come_to, open_part, arrive, past, unwind, begin, finished, unit, start, after, StandsAtNode, is_over}
-use Rattle.rx_eval.specs.Rest.{onto, from_open, gives}
+use Rattle.rx_meaning.specs.Fresh.{Sight, Contexts, Renders, made, waits, Places, all_made, one_waits, over_boundary, render_all, rendered, fresh, Part, Shape, absent, waiting, one_list, two_lists, shape_of, render_part, place_of}
+use Rattle.rx_meaning.specs.Counts.{Tries, try_all, Weights, each_unit, begins_as, if_made, count_part, count_open, count_shape, counted, count_around, left, next_counts, whole, spent}
+use Rattle.rx_meaning.specs.Touched.{children_with_old}
+use Rattle.rx_meaning.specs.Cursor.{given_by, is_null, Open, around, trying, falling, Frame, Cursor, at_place, at_end, ended, come_to, open_part, arrive, past, unwind, begin, finished, unit, start, after, StandsAtNode, is_over}
+use Rattle.rx_meaning.specs.Rest.{onto, from_open, gives}
 use Rattle.render_laws.proofs.Resuming.{onto_push, onto_waits, onto_made, open_made, null_is_empty, after_gives}
 
 null_counts : (w : Weights) (levels : ℕ) (s : Sight) (cs : Contexts) (e : Element) (old : Option Node) → is_null e ≡ true → counted w levels s cs e old ≡ 0

@@ -5,12 +5,12 @@ use Rattle.std.proofs.lemmas.List.{length-map}
 use Rattle.std.proofs.lemmas.List.Quantifiers.{position-Some}
 use Rattle.rx_base.specs.Values.{Name}
 use Rattle.rx_ast.specs.Syntax.{Program, Component, components}
-use Rattle.rx_check.specs.Names.{component_number, component_at, root_name}
-use Rattle.rx_check.specs.Bounds.{node_bound}
+use Rattle.rx_rules.specs.Names.{component_number, component_at, root_name}
+use Rattle.rx_rules.specs.Bounds.{node_bound}
 use Rattle.rx_elem.specs.Trees.{Node}
-use Rattle.rx_eval.specs.Fresh.{Sight, empty, rendered, fresh, root_element, default_contexts}
-use Rattle.rx_check.specs.Keys.{KeysApart}
-use Rattle.rx_eval.specs.Counts.{whole, counted}
+use Rattle.rx_meaning.specs.Fresh.{Sight, empty, rendered, fresh, root_element, default_contexts}
+use Rattle.rx_rules.specs.Keys.{KeysApart}
+use Rattle.rx_meaning.specs.Counts.{whole, counted}
 use Rattle.render_laws.proofs.Coming.{IsDeclared}
 use Rattle.render_laws.proofs.FitRender.{IsPlain}
 use Rattle.render_laws.proofs.TryLaw.{begun_with}

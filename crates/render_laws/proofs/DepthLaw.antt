@@ -3,14 +3,14 @@ use Rattle.std.specs.Prelude.{◌≡◌, ℕ, zero, suc, ◌≤◌, List, [], �
 use Rattle.std.specs.List.{zip}
 use Rattle.std.proofs.Common.{arith, sym, ◌∙◌}
 use Rattle.rx_ast.specs.Syntax.{Program}
-use Rattle.rx_check.specs.Bounds.{depth_bound}
+use Rattle.rx_rules.specs.Bounds.{depth_bound}
 use Rattle.rx_elem.specs.Elements.{Element, Elements, listed, gathered}
 use Rattle.rx_elem.specs.Elements as elements
 use Rattle.rx_elem.specs.Trees.{Node}
 use Rattle.rx_elem.specs.Compare.{old_nodes}
-use Rattle.rx_eval.specs.Fresh.{Sight, Contexts, Renders, empty, rendered, render_all, render_part, Part, Shape, absent, waiting, one_list, two_lists, shape_of, place_of, depth_limit, default_contexts, root_element, fresh}
-use Rattle.rx_eval.specs.Levels.{body_depth, element_depth, elements_depth, Fits, PartFits}
-use Rattle.rx_eval.proofs.Depths.{ShapeFits, shape_fits}
+use Rattle.rx_meaning.specs.Fresh.{Sight, Contexts, Renders, empty, rendered, render_all, render_part, Part, Shape, absent, waiting, one_list, two_lists, shape_of, place_of, depth_limit, default_contexts, root_element, fresh}
+use Rattle.rx_meaning.specs.Levels.{body_depth, element_depth, elements_depth, Fits, PartFits}
+use Rattle.rx_meaning.proofs.Depths.{ShapeFits, shape_fits}
 
 -- two ways to render agree on each element that is no deeper
 abbrev Agree : ℕ → Program → Renders → Renders → Type 0

@@ -7,14 +7,14 @@ use Rattle.rx_base.specs.Awaits as awaits
 use Rattle.rx_elem.specs.Elements.{Element, listed, Elements}
 use Rattle.rx_elem.specs.Elements as elements
 use Rattle.rx_ast.specs.Syntax.{Component}
-use Rattle.rx_check.specs.Names.{component_at}
-use Rattle.rx_eval.specs.Body.{body_of, Body, wait, ready}
-use Rattle.rx_eval.specs.Fresh.{old_instance, shape_of_component, Sight, Contexts, inputs_at, Part, Shape, absent, waiting, one_list, two_lists, shape_of, shape_of_body}
+use Rattle.rx_rules.specs.Names.{component_at}
+use Rattle.rx_meaning.specs.Body.{body_of, Body, wait, ready}
+use Rattle.rx_meaning.specs.Fresh.{old_instance, shape_of_component, Sight, Contexts, inputs_at, Part, Shape, absent, waiting, one_list, two_lists, shape_of, shape_of_body}
 use Rattle.rx_elem.specs.Trees.{Node, Forest, none, vacant, child, places, children_if, fallback_if, children_of, fallback_of}
 use Rattle.rx_elem.specs.Compare.{node_at}
-use Rattle.rx_eval.specs.Touched.{children_with_old}
+use Rattle.rx_meaning.specs.Touched.{children_with_old}
 use Rattle.render_laws.specs.OldNodes.{AllHave, OldHas, PairsHave, OpenHas, FramesHave, CursorHas}
-use Rattle.rx_eval.specs.Cursor.{is_null, Open, around, trying, falling, Frame, Cursor, at_place, at_end, ended, come_to, open_part, arrive, past, unwind, begin, finished, unit, start}
+use Rattle.rx_meaning.specs.Cursor.{is_null, Open, around, trying, falling, Frame, Cursor, at_place, at_end, ended, come_to, open_part, arrive, past, unwind, begin, finished, unit, start}
 
 -- a property that a node hands to its children
 abbrev pub GoesDown : (Node → Type 0) → Type 0

@@ -4,18 +4,18 @@ use Rattle.std.specs.List.{zip}
 use Rattle.std.proofs.Common.{arith, sym, subst}
 use Rattle.rx_base.specs.Values.{Name}
 use Rattle.rx_ast.specs.Syntax.{Program, Component, body_slots}
-use Rattle.rx_check.specs.Names.{component_number, component_at}
+use Rattle.rx_rules.specs.Names.{component_number, component_at}
 use Rattle.rx_elem.specs.Elements.{Element, Elements, gathered, listed}
 use Rattle.rx_elem.specs.Elements as elements
 use Rattle.rx_elem.specs.Identity.{Identity, identities}
 use Rattle.rx_elem.specs.Trees.{Node, node, Forest, Mark, none, vacant, child, children_if, fallback_if, elements_in, element_of}
 use Rattle.rx_elem.specs.Trees as trees
 use Rattle.rx_elem.specs.Compare.{old_nodes}
-use Rattle.rx_eval.specs.Body.{Inputs, Body, wait, ready, body_of, Taken, finished, take_all, opening_frame}
-use Rattle.rx_eval.specs.Body as body
-use Rattle.rx_eval.specs.Fresh.{Sight, Contexts, Renders, empty, Places, all_made, one_waits, before, over, over_boundary, place, place_of, rendered, render_all, render_list, shape_of_body, shape_of_component, inputs_at, old_instance, old_host, instance_after}
-use Rattle.rx_check.specs.Keys.{keyed_places, SlotsKeysApart, KeysApart}
-use Rattle.rx_eval.proofs.Depths.{gathered-listed}
+use Rattle.rx_meaning.specs.Body.{Inputs, Body, wait, ready, body_of, Taken, finished, take_all, opening_frame}
+use Rattle.rx_meaning.specs.Body as body
+use Rattle.rx_meaning.specs.Fresh.{Sight, Contexts, Renders, empty, Places, all_made, one_waits, before, over, over_boundary, place, place_of, rendered, render_all, render_list, shape_of_body, shape_of_component, inputs_at, old_instance, old_host, instance_after}
+use Rattle.rx_rules.specs.Keys.{keyed_places, SlotsKeysApart, KeysApart}
+use Rattle.rx_meaning.proofs.Depths.{gathered-listed}
 use Rattle.render_laws.proofs.Plans.{Alts, Plan, fixed, end, next, slots_keyed, slots_plan, plan_in, body_plan}
 use Rattle.render_laws.proofs.Coming.{Has, here, there, is_keyed, IsFew, AllCome, IsDeclared, all_come_less, comes_less, slots_few, slots_come}
 use Rattle.render_laws.proofs.Fitting.{plans_of, IsThere, Used, FitsEach, FitsIn, FitsOld, nothing_used}

@@ -3,20 +3,20 @@ use Rattle.std.specs.Prelude.{◌≡◌, ℕ, zero, suc, ◌+◌, ◌<◌, ◌�
 use Rattle.std.proofs.Common.{arith, ap, sym, ◌∙◌, subst, add-zero}
 use Rattle.rx_base.specs.Awaits.{Awaits}
 use Rattle.rx_base.specs.Awaits as awaits
-use Rattle.rx_check.specs.Bounds.{depth_bound}
+use Rattle.rx_rules.specs.Bounds.{depth_bound}
 use Rattle.rx_elem.specs.Elements.{Element}
 use Rattle.rx_elem.specs.Trees.{Node}
-use Rattle.rx_eval.specs.Fresh.{Sight, Contexts, empty, made, waits, one_waits, over_boundary, rendered, fresh, depth_limit, Part, Shape, absent, waiting, one_list, two_lists, shape_of, render_part}
-use Rattle.rx_eval.specs.Cursor.{is_null, Open, around, trying, falling, Frame, Cursor, at_place, at_end, ended, come_to, open_part, arrive, past, unwind, begin, finished, unit, start, StandsAtNode, is_over}
-use Rattle.rx_eval.specs.Touched.{children_with_old}
-use Rattle.rx_eval.specs.Rest.{tree_from, gives}
-use Rattle.rx_eval.specs.Counts.{Weights, each_unit, each_body, begins_as, next_counts, counted, count_around, count_part, if_made, left, whole}
+use Rattle.rx_meaning.specs.Fresh.{Sight, Contexts, empty, made, waits, one_waits, over_boundary, rendered, fresh, depth_limit, Part, Shape, absent, waiting, one_list, two_lists, shape_of, render_part}
+use Rattle.rx_meaning.specs.Cursor.{is_null, Open, around, trying, falling, Frame, Cursor, at_place, at_end, ended, come_to, open_part, arrive, past, unwind, begin, finished, unit, start, StandsAtNode, is_over}
+use Rattle.rx_meaning.specs.Touched.{children_with_old}
+use Rattle.rx_meaning.specs.Rest.{tree_from, gives}
+use Rattle.rx_meaning.specs.Counts.{Weights, each_unit, each_body, begins_as, next_counts, counted, count_around, count_part, if_made, left, whole}
 use Rattle.render_laws.proofs.Resuming.{arrive_gives, open_gives, unit_gives, start_gives}
-use Rattle.rx_eval.specs.Levels.{Fits, PartFits}
+use Rattle.rx_meaning.specs.Levels.{Fits, PartFits}
 use Rattle.render_laws.proofs.Counting.{arrive_counts, arrive_stands, part_counts, come_stands, unit_counts, unit_stands, place_begun, begins_one, start_counts}
 use Rattle.render_laws.proofs.UnitBound.{one_body}
 use Rattle.render_laws.specs.InProgress.{if_ended, InProgress}
-use Rattle.rx_eval.proofs.Depths.{ShapeFits, shape_fits}
+use Rattle.rx_meaning.proofs.Depths.{ShapeFits, shape_fits}
 use Rattle.render_laws.proofs.LevelLaw.{open_fits, arrive_fits, unit_fits, start_fits}
 
 at_most_one : (c : Cursor) → if_ended c ≤ 1

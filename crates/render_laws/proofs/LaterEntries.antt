@@ -5,18 +5,18 @@ use Rattle.std.proofs.Common.{arith, ap, sym, ◌∙◌}
 use Rattle.std.proofs.lemmas.Bool.Decides.{nat_tests}
 use Rattle.std.proofs.lemmas.List.{take-append-le}
 use Rattle.rx_ast.specs.Syntax.{Component}
-use Rattle.rx_check.specs.Names.{component_at, resources}
+use Rattle.rx_rules.specs.Names.{component_at, resources}
 use Rattle.rx_elem.specs.Elements.{Element, Elements, listed}
 use Rattle.rx_elem.specs.Elements as elements
 use Rattle.rx_elem.specs.Trees.{Instance, Node}
 use Rattle.rx_queue.specs.History.{applied}
 use Rattle.rx_queue.specs.Journal.{Journal, Posted, Resolution, hook, same_target, is_included, state_of}
-use Rattle.rx_eval.specs.Expressions.{answers_of}
-use Rattle.rx_eval.specs.Body.{body_of}
-use Rattle.rx_eval.specs.Fresh.{Sight, Contexts, Renders, Place, made, rendered, fresh, depth_limit, default_contexts, root_element, values_of, old_instance, inputs_at, shape_of, shape_of_component, shape_of_body, place_of}
-use Rattle.rx_eval.specs.Cursor.{Frame, Cursor, at_place, at_end, ended, finished}
-use Rattle.rx_eval.specs.Rest.{from_open, list_from, tree_from, gives}
-use Rattle.rx_eval.specs.Counts.{unless_waits, try_all, Weights, each_unit, each_body, count_shape, count_open, counted, count_around, left, whole}
+use Rattle.rx_meaning.specs.Expressions.{answers_of}
+use Rattle.rx_meaning.specs.Body.{body_of}
+use Rattle.rx_meaning.specs.Fresh.{Sight, Contexts, Renders, Place, made, rendered, fresh, depth_limit, default_contexts, root_element, values_of, old_instance, inputs_at, shape_of, shape_of_component, shape_of_body, place_of}
+use Rattle.rx_meaning.specs.Cursor.{Frame, Cursor, at_place, at_end, ended, finished}
+use Rattle.rx_meaning.specs.Rest.{from_open, list_from, tree_from, gives}
+use Rattle.rx_meaning.specs.Counts.{unless_waits, try_all, Weights, each_unit, each_body, count_shape, count_open, counted, count_around, left, whole}
 use Rattle.render_laws.specs.SameSight.{SeesSame, AllAfter}
 use Rattle.render_laws.specs.InProgress.{InProgress}
 

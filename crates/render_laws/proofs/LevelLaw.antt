@@ -2,7 +2,7 @@
 use Rattle.std.specs.Prelude.{◌≡◌, ℕ, zero, suc, ◌≤◌, Bool, true, false, cond, List, [], ◌∷◌, ◌++◌, Option, Some, None}
 use Rattle.std.specs.List.{zip}
 use Rattle.std.proofs.Common.{arith}
-use Rattle.rx_eval.specs.Levels.{body_depth, elements_depth, Fits, PartFits}
+use Rattle.rx_meaning.specs.Levels.{body_depth, elements_depth, Fits, PartFits}
 use Rattle.rx_ast.specs.Syntax.{Program}
 use Rattle.rx_base.specs.Awaits.{Awaits}
 use Rattle.rx_base.specs.Awaits as awaits
@@ -10,12 +10,12 @@ use Rattle.rx_elem.specs.Elements.{Element, Elements, gathered, listed}
 use Rattle.rx_elem.specs.Elements as elements
 use Rattle.rx_elem.specs.Trees.{Node}
 use Rattle.rx_elem.specs.Compare.{old_nodes}
-use Rattle.rx_check.specs.Bounds.{depth_bound}
-use Rattle.rx_eval.specs.Fresh.{Sight, Contexts, depth_limit, Part, Shape, absent, waiting, one_list, two_lists, shape_of}
-use Rattle.rx_eval.specs.Touched.{children_with_old}
-use Rattle.rx_eval.specs.Cursor.{is_null, Open, around, trying, falling, Frame, Cursor, at_place, at_end, ended, come_to, open_part, arrive, past, unwind, begin, finished, unit, start, after, StandsAtNode, HasLevel}
+use Rattle.rx_rules.specs.Bounds.{depth_bound}
+use Rattle.rx_meaning.specs.Fresh.{Sight, Contexts, depth_limit, Part, Shape, absent, waiting, one_list, two_lists, shape_of}
+use Rattle.rx_meaning.specs.Touched.{children_with_old}
+use Rattle.rx_meaning.specs.Cursor.{is_null, Open, around, trying, falling, Frame, Cursor, at_place, at_end, ended, come_to, open_part, arrive, past, unwind, begin, finished, unit, start, after, StandsAtNode, HasLevel}
 use Rattle.render_laws.specs.InProgress.{AllFit, OpenFits, FramesFit, CursorFits}
-use Rattle.rx_eval.proofs.Depths.{ShapeFits, shape_fits}
+use Rattle.rx_meaning.proofs.Depths.{ShapeFits, shape_fits}
 use Rattle.render_laws.proofs.Counting.{after_stands}
 
 zip_fits : (n : ℕ) (p : Program) (es : List Element) (olds : List (Option Node)) → elements_depth (body_depth n p) (gathered es) ≤ n → AllFit n p (zip es olds)

@@ -6,10 +6,10 @@ use Rattle.rx_base.specs.Awaits as awaits
 use Rattle.rx_elem.specs.Elements.{Element}
 use Rattle.rx_elem.specs.Elements as elements
 use Rattle.rx_elem.specs.Trees.{Node, none, forest}
-use Rattle.rx_eval.specs.Fresh.{Sight, Contexts, Renders, Place, empty, made, waits, Places, all_made, one_waits, before, render_all, rendered, fresh, Part, Shape, absent, waiting, one_list, two_lists, shape_of, render_part, place_of}
-use Rattle.rx_eval.specs.Touched.{children_with_old}
-use Rattle.rx_eval.specs.Cursor.{given_by, is_null, Open, around, trying, falling, Frame, Cursor, at_place, at_end, ended, come_to, open_part, arrive, past, unwind, begin, finished, unit, start, after}
-use Rattle.rx_eval.specs.Rest.{onto, from_open, tree_from, gives}
+use Rattle.rx_meaning.specs.Fresh.{Sight, Contexts, Renders, Place, empty, made, waits, Places, all_made, one_waits, before, render_all, rendered, fresh, Part, Shape, absent, waiting, one_list, two_lists, shape_of, render_part, place_of}
+use Rattle.rx_meaning.specs.Touched.{children_with_old}
+use Rattle.rx_meaning.specs.Cursor.{given_by, is_null, Open, around, trying, falling, Frame, Cursor, at_place, at_end, ended, come_to, open_part, arrive, past, unwind, begin, finished, unit, start, after}
+use Rattle.rx_meaning.specs.Rest.{onto, from_open, tree_from, gives}
 
 -- Lists
 

@@ -2,14 +2,14 @@
 use Rattle.std.specs.Prelude.{◌≡◌, ℕ, suc, ◌+◌, ◌≤◌, true, false, List, [], ◌∷◌, ◌++◌, Option, Some, None, refl}
 use Rattle.std.proofs.Common.{arith, ap, sym, subst}
 use Rattle.rx_ast.specs.Syntax.{Program}
-use Rattle.rx_check.specs.Names.{component_number, root_name}
-use Rattle.rx_check.specs.Bounds.{node_bound, component_levels, node_limit}
+use Rattle.rx_rules.specs.Names.{component_number, root_name}
+use Rattle.rx_rules.specs.Bounds.{node_bound, component_levels, node_limit}
 use Rattle.rx_elem.specs.Elements.{Element}
 use Rattle.rx_elem.specs.Identity.{Identity, identities}
 use Rattle.rx_elem.specs.Trees.{Node, node, Forest, none, vacant, child, elements_in}
 use Rattle.rx_elem.specs.Spots.{at_root, node_count}
 use Rattle.rx_elem.specs.Numbers.{Numbers, numbered, numbered_in, numbered_mark}
-use Rattle.rx_eval.specs.Fresh.{Sight, Contexts, Place, made, rendered, root_element, default_contexts, fresh, IsTree, none_yet, given}
+use Rattle.rx_meaning.specs.Fresh.{Sight, Contexts, Place, made, rendered, root_element, default_contexts, fresh, IsTree, none_yet, given}
 use Rattle.render_laws.proofs.Plans.{Alts, nil, alt, Plan, no_plan, body_size, body_plan, body_total, alts_size}
 use Rattle.render_laws.proofs.Coming.{Comes, here}
 use Rattle.render_laws.proofs.Fitting.{allowed, Fits, FitsEach, FitsOld, plans_of}

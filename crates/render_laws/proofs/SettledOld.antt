@@ -4,9 +4,9 @@ use Rattle.rx_base.specs.Awaits.{Awaits}
 use Rattle.rx_ast.specs.Syntax.{Program}
 use Rattle.rx_elem.specs.Elements.{Element}
 use Rattle.rx_elem.specs.Trees.{Node, node, Forest, none, vacant, child}
-use Rattle.rx_eval.specs.Fresh.{Sight, Contexts, Part, two_lists, shape_of}
-use Rattle.rx_eval.specs.Cursor.{Frame, falling, Cursor, at_place, open_part, arrive, start, unit}
-use Rattle.rx_eval.specs.Settled.{Known, IsSettled, AllSettled, IfSettled}
+use Rattle.rx_meaning.specs.Fresh.{Sight, Contexts, Part, two_lists, shape_of}
+use Rattle.rx_meaning.specs.Cursor.{Frame, falling, Cursor, at_place, open_part, arrive, start, unit}
+use Rattle.rx_meaning.specs.Settled.{Known, IsSettled, AllSettled, IfSettled}
 use Rattle.render_laws.specs.OldNodes.{AllHave, OldHas, CursorHas}
 use Rattle.render_laws.proofs.Descent.{GoesDown, arrive_has, unit_has, attempt_has, start_has}
 

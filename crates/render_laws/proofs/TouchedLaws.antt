@@ -4,10 +4,10 @@ use Rattle.std.proofs.Common.{arith, sym}
 use Rattle.rx_elem.specs.Elements.{Element}
 use Rattle.rx_elem.specs.Elements as elements
 use Rattle.rx_elem.specs.Trees.{Node}
-use Rattle.rx_eval.specs.Fresh.{Sight, Contexts, Place, made, rendered, old_instance}
-use Rattle.rx_eval.specs.Touched.{Visit, visits, touched_instance}
-use Rattle.rx_eval.specs.Cursor.{Frame, Cursor, at_place, ended, arrive, unit, start, StandsAtNode}
-use Rattle.rx_eval.specs.Counts.{counted, whole, next_counts, left}
+use Rattle.rx_meaning.specs.Fresh.{Sight, Contexts, Place, made, rendered, old_instance}
+use Rattle.rx_meaning.specs.Touched.{Visit, visits, touched_instance}
+use Rattle.rx_meaning.specs.Cursor.{Frame, Cursor, at_place, ended, arrive, unit, start, StandsAtNode}
+use Rattle.rx_meaning.specs.Counts.{counted, whole, next_counts, left}
 use Rattle.render_laws.specs.TouchedCounts.{each_touched, touched_in, NonePassedOver}
 use Rattle.render_laws.proofs.Counting.{unit_counts, start_counts}
 use Rattle.render_laws.proofs.GoingLaws.{taken_left}

@@ -4,16 +4,16 @@ use Rattle.std.specs.List.{zip}
 use Rattle.std.proofs.Common.{arith}
 use Rattle.std.proofs.Math.Nat.{mul-le-mul_right}
 use Rattle.rx_ast.specs.Syntax.{Program, Component}
-use Rattle.rx_check.specs.Names.{component_at}
-use Rattle.rx_check.specs.Bounds.{node_bound, component_levels, node_limit}
+use Rattle.rx_rules.specs.Names.{component_at}
+use Rattle.rx_rules.specs.Bounds.{node_bound, component_levels, node_limit}
 use Rattle.rx_elem.specs.Elements.{Element, Elements, gathered, listed}
 use Rattle.rx_elem.specs.Elements as elements
 use Rattle.rx_elem.specs.Trees.{Node, Forest, children_if, fallback_if}
 use Rattle.rx_elem.specs.Compare.{old_nodes}
-use Rattle.rx_eval.specs.Body.{Body, wait, ready, body_of}
-use Rattle.rx_eval.specs.Fresh.{Sight, Contexts, Renders, Place, empty, made, waits, Places, all_made, one_waits, render_list, rendered, shape_of, shape_of_body, shape_of_component, inputs_at, old_instance, default_contexts, root_element}
-use Rattle.rx_eval.specs.Cursor.{is_null}
-use Rattle.rx_eval.specs.Counts.{Weights, Tries, unless_waits, if_waits, try_all, if_made, count_shape, counted, whole}
+use Rattle.rx_meaning.specs.Body.{Body, wait, ready, body_of}
+use Rattle.rx_meaning.specs.Fresh.{Sight, Contexts, Renders, Place, empty, made, waits, Places, all_made, one_waits, render_list, rendered, shape_of, shape_of_body, shape_of_component, inputs_at, old_instance, default_contexts, root_element}
+use Rattle.rx_meaning.specs.Cursor.{is_null}
+use Rattle.rx_meaning.specs.Counts.{Weights, Tries, unless_waits, if_waits, try_all, if_made, count_shape, counted, whole}
 use Rattle.render_laws.proofs.Plans.{Alts, Plan, fixed, every, Row, end, next, plan_in, body_plan, alts_size, plan_size, row_size}
 use Rattle.render_laws.proofs.Coming.{Has, here, there, is_keyed, count_all, count_keyed, IsFew, Comes, AllCome, row_head, row_tail, comes_less}
 use Rattle.render_laws.proofs.FitRender.{IsPlain, IfReady, found_comes, come_listed}

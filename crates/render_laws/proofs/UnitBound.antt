@@ -4,10 +4,10 @@ use Rattle.std.proofs.Common.{arith}
 use Rattle.rx_elem.specs.Elements.{Element, listed}
 use Rattle.rx_elem.specs.Elements as elements
 use Rattle.rx_elem.specs.Trees.{Node}
-use Rattle.rx_eval.specs.Fresh.{Sight, Contexts, Renders, Place, empty, made, waits, Places, all_made, one_waits, rendered, fresh, over_boundary, over, depth_limit, default_contexts, root_element, Part, Shape, absent, waiting, one_list, two_lists, shape_of, render_part, place_of}
-use Rattle.rx_eval.specs.Counts.{Tries, unless_waits, if_waits, try_all, each_unit, each_begun, each_body, one_if_component, if_made, count_part, count_shape, counted, whole}
-use Rattle.rx_eval.specs.Touched.{children_with_old}
-use Rattle.rx_eval.specs.Cursor.{is_null}
+use Rattle.rx_meaning.specs.Fresh.{Sight, Contexts, Renders, Place, empty, made, waits, Places, all_made, one_waits, rendered, fresh, over_boundary, over, depth_limit, default_contexts, root_element, Part, Shape, absent, waiting, one_list, two_lists, shape_of, render_part, place_of}
+use Rattle.rx_meaning.specs.Counts.{Tries, unless_waits, if_waits, try_all, each_unit, each_begun, each_body, one_if_component, if_made, count_part, count_shape, counted, whole}
+use Rattle.rx_meaning.specs.Touched.{children_with_old}
+use Rattle.rx_meaning.specs.Cursor.{is_null}
 
 pub if_made_nothing : (ps : Places) → if_made ps 0 ≡ 0
 if_made_nothing (all_made ns) = refl

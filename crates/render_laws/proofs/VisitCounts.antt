@@ -5,10 +5,10 @@ use Rattle.std.proofs.Common.{arith, sym, ◌∙◌}
 use Rattle.rx_elem.specs.Elements.{Element}
 use Rattle.rx_elem.specs.Elements as elements
 use Rattle.rx_elem.specs.Trees.{Node}
-use Rattle.rx_eval.specs.Fresh.{Sight, Contexts, Renders, Place, empty, made, waits, Places, all_made, one_waits, render_all, render_part, rendered, before, depth_limit, root_element, Part, Shape, absent, waiting, one_list, two_lists, shape_of}
-use Rattle.rx_eval.specs.Touched.{Visit, Setting, Visits, waits_at, visit_all, visit_part, part_waits, children_with_old, visit_as, component_in, visit_here, visit_below, setting_below, setting_of_primary, setting_of_fallback, visited, at_top, visits, evaluated}
-use Rattle.rx_eval.specs.Cursor.{is_null}
-use Rattle.rx_eval.specs.Counts.{Tries, Weights, each_place, each_body, unless_waits, if_waits, try_all, if_made, count_part, count_shape, counted, whole}
+use Rattle.rx_meaning.specs.Fresh.{Sight, Contexts, Renders, Place, empty, made, waits, Places, all_made, one_waits, render_all, render_part, rendered, before, depth_limit, root_element, Part, Shape, absent, waiting, one_list, two_lists, shape_of}
+use Rattle.rx_meaning.specs.Touched.{Visit, Setting, Visits, waits_at, visit_all, visit_part, part_waits, children_with_old, visit_as, component_in, visit_here, visit_below, setting_below, setting_of_primary, setting_of_fallback, visited, at_top, visits, evaluated}
+use Rattle.rx_meaning.specs.Cursor.{is_null}
+use Rattle.rx_meaning.specs.Counts.{Tries, Weights, each_place, each_body, unless_waits, if_waits, try_all, if_made, count_part, count_shape, counted, whole}
 
 -- how many visits pass a test
 abbrev pub passing : (Visit → Bool) → List Visit → ℕ

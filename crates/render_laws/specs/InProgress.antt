@@ -1,13 +1,13 @@
 -- What holds of a render in progress, after so many units and bodies, at the place where it stands.
 use Rattle.std.specs.Prelude.{◌≡◌, ℕ, suc, ◌+◌, ◌≤◌, List, [], ◌∷◌, Option}
 use Rattle.rx_ast.specs.Syntax.{Program}
-use Rattle.rx_eval.specs.Levels.{Fits, PartFits}
+use Rattle.rx_meaning.specs.Levels.{Fits, PartFits}
 use Rattle.rx_elem.specs.Elements.{Element}
 use Rattle.rx_elem.specs.Trees.{Node}
-use Rattle.rx_eval.specs.Fresh.{Sight, empty, made, waits, fresh}
-use Rattle.rx_eval.specs.Cursor.{Open, around, trying, falling, Frame, Cursor, at_place, at_end, ended, StandsAtNode}
-use Rattle.rx_eval.specs.Rest.{gives}
-use Rattle.rx_eval.specs.Counts.{each_unit, each_body, left, whole}
+use Rattle.rx_meaning.specs.Fresh.{Sight, empty, made, waits, fresh}
+use Rattle.rx_meaning.specs.Cursor.{Open, around, trying, falling, Frame, Cursor, at_place, at_end, ended, StandsAtNode}
+use Rattle.rx_meaning.specs.Rest.{gives}
+use Rattle.rx_meaning.specs.Counts.{each_unit, each_body, left, whole}
 
 -- the places that are left of a list need no more levels
 abbrev pub AllFit : ℕ → Program → List (Element × Option Node) → Type 0

@@ -2,7 +2,7 @@
 use Rattle.std.specs.Prelude.{List, [], ◌∷◌, Option, Some, None}
 use Rattle.rx_elem.specs.Elements.{Element}
 use Rattle.rx_elem.specs.Trees.{Node, Forest, none, vacant, child}
-use Rattle.rx_eval.specs.Cursor.{Open, around, trying, falling, Frame, Cursor, at_place, at_end, ended}
+use Rattle.rx_meaning.specs.Cursor.{Open, around, trying, falling, Frame, Cursor, at_place, at_end, ended}
 
 -- each node of a list has the property
 abbrev pub AllHave : (Node → Type 0) → Forest → Type 0

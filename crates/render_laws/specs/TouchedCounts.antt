@@ -3,10 +3,10 @@ use Rattle.std.specs.Prelude.{◌≡◌, ℕ, ◌+◌, cond, List, Option, filte
 use Rattle.rx_elem.specs.Elements.{Element}
 use Rattle.rx_elem.specs.Elements as elements
 use Rattle.rx_elem.specs.Trees.{Node}
-use Rattle.rx_eval.specs.Fresh.{Sight, Contexts, old_instance}
-use Rattle.rx_eval.specs.Touched.{Visit, touched_instance}
-use Rattle.rx_eval.specs.Cursor.{Cursor}
-use Rattle.rx_eval.specs.Counts.{Weights, left, whole}
+use Rattle.rx_meaning.specs.Fresh.{Sight, Contexts, old_instance}
+use Rattle.rx_meaning.specs.Touched.{Visit, touched_instance}
+use Rattle.rx_meaning.specs.Cursor.{Cursor}
+use Rattle.rx_meaning.specs.Counts.{Weights, left, whole}
 
 -- one where a component's place is touched
 abbrev pub one_if_touched : Sight → Contexts → Element → Option Node → ℕ

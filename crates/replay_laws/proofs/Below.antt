@@ -10,7 +10,7 @@ use Rattle.rx_elem.specs.Identity.{old_places, is_reused}
 use Rattle.rx_elem.specs.Trees.{Mark, of_instance, of_host, of_boundary, plain, Node, node, Forest, none, vacant, child, places, host_number, is_host, elements_in}
 use Rattle.rx_elem.specs.Spots.{Around, around_children}
 use Rattle.rx_elem.specs.Compare.{old_nodes, node_at}
-use Rattle.rx_host.specs.Hosts.{Host}
+use Rattle.rx_forest.specs.Hosts.{Host}
 use Rattle.host_laws.specs.Commits.{AreNumbered, AreNumbered_in}
 use Rattle.host_laws.proofs.Listing.{hosts_at, hosts_in}
 use Rattle.replay_laws.proofs.Counts.{is_number, one_if, times, times_in}

@@ -5,15 +5,15 @@ use Rattle.std.proofs.Common.{ap, arith, sym, subst, inl, inr, ◌∙◌}
 use Rattle.std.proofs.lemmas.Bool.Decides.{nat_tests}
 use Rattle.std.proofs.lemmas.Bool.{cases_lt}
 use Rattle.rx_ast.specs.Syntax.{Program}
-use Rattle.rx_check.specs.Bounds.{depth_bound}
+use Rattle.rx_rules.specs.Bounds.{depth_bound}
 use Rattle.rx_elem.proofs.Equality.{same_kind-self}
 use Rattle.rx_elem.specs.Elements.{Element, kind_of, same_kind}
 use Rattle.rx_elem.specs.Elements as elements
 use Rattle.rx_elem.specs.Trees.{Mark, of_instance, of_host, of_boundary, plain, Node, node, Forest, none, vacant, child, element_of, host_number, is_host}
 use Rattle.rx_elem.specs.Spots.{Around, at_root}
 use Rattle.rx_elem.specs.Numbers.{Numbers, numbered, numbered_in, numbered_mark, numbered_instance, numbered_host}
-use Rattle.rx_eval.specs.Fresh.{Sight, fresh, made, root_element, depth_limit}
-use Rattle.rx_host.specs.Hosts.{Content, content_of, hosts, has_host, host_numbered}
+use Rattle.rx_meaning.specs.Fresh.{Sight, fresh, made, root_element, depth_limit}
+use Rattle.rx_forest.specs.Hosts.{Content, content_of, hosts, has_host, host_numbered}
 use Rattle.host_laws.specs.Related.{has_gone, GoneBelow}
 use Rattle.host_laws.specs.Commits.{HasNone, HasNumber, AreNumbered, AreNumbered_in, IsSound, IfSound, is_taken, from_root, IsCommit}
 use Rattle.host_laws.proofs.Listing.{hosts_at}

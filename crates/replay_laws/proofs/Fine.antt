@@ -6,7 +6,7 @@ use Rattle.std.proofs.lemmas.Slice.Eq.{bytes_eq-Decides}
 use Rattle.rx_elem.specs.Elements.{Element, kind_of, same_kind, is_present}
 use Rattle.rx_elem.specs.Elements as elements
 use Rattle.rx_elem.specs.Trees.{Node, node, Forest, none, vacant, child, host_number, is_host, element_of}
-use Rattle.rx_host.specs.Hosts.{Content, tag, letters, content_of, by_name}
+use Rattle.rx_forest.specs.Hosts.{Content, tag, letters, content_of, by_name}
 use Rattle.host_laws.specs.Commits.{HasNone, TextsAreLeaves, TextsAreLeaves_in}
 use Rattle.host_laws.specs.Related.{HaveOwnNames, AreAlike}
 use Rattle.replay_laws.proofs.OldLists.{NoNull}

@@ -9,8 +9,8 @@ use Rattle.rx_elem.specs.Identity.{old_places}
 use Rattle.rx_elem.specs.Trees.{Mark, of_instance, of_host, of_boundary, plain, Node, node, Forest, none, vacant, child, host_number, is_host, elements_in, children_if, fallback_if}
 use Rattle.rx_elem.specs.Spots.{Around, around_children}
 use Rattle.rx_elem.specs.Compare.{old_nodes}
-use Rattle.rx_host.specs.Hosts.{Host, Content, content_of, host_as, host_numbered}
-use Rattle.rx_host.specs.HostOps.{bare}
+use Rattle.rx_forest.specs.Hosts.{Host, Content, content_of, host_as, host_numbered}
+use Rattle.rx_forest.specs.HostOps.{bare}
 use Rattle.host_laws.specs.Related.{AreAlike, old_content}
 use Rattle.host_laws.specs.Commits.{HasNumber, AreNumbered, AreNumbered_in}
 use Rattle.host_laws.proofs.Listing.{hosts_at, hosts_in}

@@ -6,7 +6,7 @@ use Rattle.std.proofs.lemmas.Bool.Decides.{nat_tests, Decides-eqb}
 use Rattle.rx_elem.specs.Elements.{Element}
 use Rattle.rx_elem.specs.Trees.{Mark, of_instance, of_host, of_boundary, plain, Node, node, Forest, none, vacant, child, host_number, is_host}
 use Rattle.rx_elem.specs.Spots.{Around, around_children, spots_in}
-use Rattle.rx_host.specs.Hosts.{Host, host_at, has_host}
+use Rattle.rx_forest.specs.Hosts.{Host, host_at, has_host}
 use Rattle.host_laws.specs.Related.{AreDistinct}
 use Rattle.host_laws.specs.Commits.{AreNumbered, AreNumbered_in}
 use Rattle.host_laws.proofs.Listing.{hosts_at, hosts_in, host_first, other_first, no_number, in-child}

@@ -12,21 +12,21 @@ use Rattle.rx_base.specs.Values.{Name}
 use Rattle.rx_base.specs.Arithmetic.{is_zero}
 use Rattle.rx_ast.specs.Syntax.{Component, Program, Slot, Slots, Attribute, key, computed, literal, body_slots, components}
 use Rattle.rx_ast.specs.Syntax as syntax
-use Rattle.rx_check.specs.Names.{component_at, component_number, place_among, has_name}
+use Rattle.rx_rules.specs.Names.{component_at, component_number, place_among, has_name}
 use Rattle.rx_elem.specs.Elements.{Element, Elements, gathered, listed}
 use Rattle.rx_elem.specs.Elements as elements
 use Rattle.rx_elem.specs.declared.attr.Attr.{Attr}
 use Rattle.rx_elem.specs.declared.effect.EffectRecord.{EffectRecord}
 use Rattle.rx_elem.specs.declared.effect.ContextRead.{ContextRead}
-use Rattle.rx_eval.specs.Expressions.{Env, value_in}
-use Rattle.rx_eval.specs.Body.{Inputs, Taken, attr_in, body_of, elements_of, finished, opening_frame, ready, stopped_at, take_all, taken, turns}
-use Rattle.rx_eval.specs.Body as body
-use Rattle.rx_host.specs.Hosts.{with_attr, by_name}
-use Rattle.rx_host.specs.HostOps.{attr_named}
+use Rattle.rx_meaning.specs.Expressions.{Env, value_in}
+use Rattle.rx_meaning.specs.Body.{Inputs, Taken, attr_in, body_of, elements_of, finished, opening_frame, ready, stopped_at, take_all, taken, turns}
+use Rattle.rx_meaning.specs.Body as body
+use Rattle.rx_forest.specs.Hosts.{with_attr, by_name}
+use Rattle.rx_forest.specs.HostOps.{attr_named}
 use Rattle.host_laws.specs.Related.{HaveOwnNames}
 use Rattle.host_laws.proofs.Placing.{neither}
 use Rattle.replay_laws.specs.Attributes.{attribute_names, StandOnce, SlotAttributesApart, SlotsAttributesApart}
-use Rattle.rx_eval.proofs.Depths.{gathered-listed}
+use Rattle.rx_meaning.proofs.Depths.{gathered-listed}
 
 -- each component that an element names is there, and no host in it has two attributes of one name
 abbrev mutual

@@ -6,13 +6,13 @@ use Rattle.rx_lane.specs.declared.lane.Lane.{Lane}
 use Rattle.rx_lane.specs.declared.lane.Lane.TheVariants as lane
 use Rattle.rx_lane.specs.Lanes.{has, only_transitions}
 use Rattle.rx_ast.specs.Syntax.{Program}
-use Rattle.rx_check.specs.Names.{resource_number}
-use Rattle.rx_script.specs.declared.step.LaneWord.{LaneWord}
-use Rattle.rx_script.specs.declared.step.LaneWord.TheVariants as word
-use Rattle.rx_script.specs.declared.step.Dispatch.{Dispatch}
-use Rattle.rx_script.specs.declared.step.Step.{Step}
-use Rattle.rx_script.specs.declared.step.Step.TheVariants as step
-use Rattle.rx_script.specs.Steps.{word_of, path_of}
+use Rattle.rx_rules.specs.Names.{resource_number}
+use Rattle.rx_step.specs.declared.step.LaneWord.{LaneWord}
+use Rattle.rx_step.specs.declared.step.LaneWord.TheVariants as word
+use Rattle.rx_step.specs.declared.step.Dispatch.{Dispatch}
+use Rattle.rx_step.specs.declared.step.Step.{Step}
+use Rattle.rx_step.specs.declared.step.Step.TheVariants as step
+use Rattle.rx_step.specs.Steps.{word_of, path_of}
 use Rattle.rx_sched.specs.declared.choice.Choice.{Choice}
 use Rattle.rx_sched.specs.declared.choice.Choice.TheVariants as choice
 use Rattle.rx_elem.specs.Trees.{Node}
@@ -20,8 +20,8 @@ use Rattle.rx_elem.specs.Spots.{Mounted}
 use Rattle.rx_elem.specs.Compare.{Change}
 use Rattle.rx_elem.specs.Numbers.{numbered}
 use Rattle.rx_queue.specs.Journal.{Target, resolved_now}
-use Rattle.rx_eval.specs.Fresh.{made, fresh}
-use Rattle.rx_eval.specs.Outcome.{commit, defer, outcome_by, newly_hidden}
+use Rattle.rx_meaning.specs.Fresh.{made, fresh}
+use Rattle.rx_meaning.specs.Outcome.{commit, defer, outcome_by, newly_hidden}
 use Rattle.rx_model.specs.State.{State, Progress, opening, instance_found}
 use Rattle.rx_model.specs.Stretch.{Stretch, silent, followed_by}
 use Rattle.rx_model.specs.Accepting.{in_event, dispatched_to, resolved_as, between_events}
@@ -29,7 +29,7 @@ use Rattle.rx_model.specs.Committing.{passive_run, starting, sight_of, committed
 use Rattle.rx_model.specs.Turns.{GoesOn, Continues, TurnBy, choice_of}
 use Rattle.rx_model.specs.Machine.{Flushes, FlushSync, StepTo, RunTo}
 use Rattle.rx_model.specs.Laws.{IsReached}
-use Rattle.rx_report.specs.Report.{Counts}
+use Rattle.rx_lines.specs.Lines.{Counts}
 use Rattle.host_laws.proofs.Replay.{commit_replays}
 use Rattle.host_laws.proofs.Replayable.{commit_made}
 use Rattle.replay_laws.specs.Committed.{IsCommitted, none_yet, one_more, ReplayLaw, MadeLaw}

@@ -6,21 +6,21 @@ use Rattle.std.proofs.Common.{arith, sym, subst, ◌∙◌}
 use Rattle.std.proofs.lemmas.Option.{none-some}
 use Rattle.std.proofs.lemmas.List.Quantifiers.{position-Some}
 use Rattle.rx_ast.specs.Syntax.{Component, Program, components}
-use Rattle.rx_check.specs.Names.{component_at, component_number, root_name}
-use Rattle.rx_check.specs.Bounds.{depth_bound}
+use Rattle.rx_rules.specs.Names.{component_at, component_number, root_name}
+use Rattle.rx_rules.specs.Bounds.{depth_bound}
 use Rattle.rx_elem.specs.Elements.{Element, Elements, kind_of, same_kind, gathered, listed, is_present}
 use Rattle.rx_elem.specs.Elements as elements
 use Rattle.rx_elem.specs.Identity.{Child, identified, identities_after, is_same_child, same_identity}
 use Rattle.rx_elem.specs.Trees.{Mark, of_instance, of_host, of_boundary, plain, Node, node, Forest, none, vacant, child, places, element_of, host_number, is_host, elements_in, children_if, fallback_if}
 use Rattle.rx_elem.specs.Compare.{node_at, old_nodes}
-use Rattle.rx_eval.specs.Body.{Body, body_of, ready, wait}
-use Rattle.rx_eval.specs.Fresh.{Contexts, Place, Places, Sight, all_made, before, empty, fresh, inputs_at, instance_after, made, old_host, old_instance, one_waits, over, over_boundary, place, place_of, render_all, render_list, rendered, shape_of, shape_of_body, shape_of_component, waits, default_contexts, depth_limit, root_element}
+use Rattle.rx_meaning.specs.Body.{Body, body_of, ready, wait}
+use Rattle.rx_meaning.specs.Fresh.{Contexts, Place, Places, Sight, all_made, before, empty, fresh, inputs_at, instance_after, made, old_host, old_instance, one_waits, over, over_boundary, place, place_of, render_all, render_list, rendered, shape_of, shape_of_body, shape_of_component, waits, default_contexts, depth_limit, root_element}
 use Rattle.host_laws.specs.Commits.{HasNone, HasNumber, AreNumbered, AreNumbered_in}
 use Rattle.host_laws.proofs.IdentityLaws.{both}
 use Rattle.rx_elem.proofs.Equality.{same_kind-self}
 use Rattle.replay_laws.specs.Attributes.{AttributesApart}
-use Rattle.rx_eval.specs.Levels.{Fits, body_depth, elements_depth}
-use Rattle.rx_eval.proofs.Depths.{ShapeFits, shape_fits}
+use Rattle.rx_meaning.specs.Levels.{Fits, body_depth, elements_depth}
+use Rattle.rx_meaning.proofs.Depths.{ShapeFits, shape_fits}
 use Rattle.replay_laws.proofs.Naming.{AllNamed, HasComponents, Named, body_named, listed_named, some_got}
 use Rattle.replay_laws.proofs.Growing.{MarkGrows, Grows, Grows_in}
 use Rattle.replay_laws.proofs.OldLists.{IfOld, EachIn, children_find_themselves}

@@ -3,7 +3,7 @@ use Rattle.std.specs.Prelude.{◌≡◌, ℕ, false, List, [], ◌∷◌, Option
 use Rattle.rx_base.specs.Values.{Name}
 use Rattle.rx_ast.specs.Syntax.{Attribute, key, computed, literal, Program, Component, Slot, Slots, body_slots}
 use Rattle.rx_ast.specs.Syntax as syntax
-use Rattle.rx_check.specs.Names.{has_name, component_at}
+use Rattle.rx_rules.specs.Names.{has_name, component_at}
 
 -- the name of an attribute; a key has none
 abbrev pub attribute_name : Attribute → Option Name

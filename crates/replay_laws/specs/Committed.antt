@@ -3,10 +3,10 @@ use Rattle.std.specs.Prelude.{◌≡◌, ◌≤◌, Option, Some, None}
 use Rattle.rx_ast.specs.Syntax.{Program}
 use Rattle.rx_elem.specs.Trees.{Node}
 use Rattle.rx_elem.specs.Numbers.{Numbers, numbered}
-use Rattle.rx_eval.specs.Fresh.{Sight, fresh, made}
-use Rattle.rx_host.specs.Hosts.{hosts}
-use Rattle.rx_host.specs.HostOps.{host_ops}
-use Rattle.rx_host.specs.Forests.{forest_of, Replays, CanBeReplayed}
+use Rattle.rx_meaning.specs.Fresh.{Sight, fresh, made}
+use Rattle.rx_forest.specs.Hosts.{hosts}
+use Rattle.rx_forest.specs.HostOps.{host_ops}
+use Rattle.rx_forest.specs.Forests.{forest_of, Replays, CanBeReplayed}
 use Rattle.host_laws.specs.Commits.{IsCommit, TextsAreLeaves}
 use Rattle.rx_model.specs.State.{Progress}
 use Rattle.rx_model.specs.Committing.{sight_of}

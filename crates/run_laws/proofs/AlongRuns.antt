@@ -5,14 +5,14 @@ use Rattle.rx_ast.specs.Syntax.{Program}
 use Rattle.rx_base.specs.Awaits.{Awaits}
 use Rattle.rx_base.specs.Values.{Name}
 use Rattle.rx_base.specs.declared.cut.Cut.{Cut}
-use Rattle.rx_check.specs.Bounds.{depth_bound}
-use Rattle.rx_check.specs.Names.{resource_number, resources}
+use Rattle.rx_rules.specs.Bounds.{depth_bound}
+use Rattle.rx_rules.specs.Names.{resource_number, resources}
 use Rattle.rx_elem.specs.Compare.{Change}
 use Rattle.rx_elem.specs.Numbers.{numbered}
 use Rattle.rx_elem.specs.Spots.{Mounted}
 use Rattle.rx_elem.specs.Trees.{Node}
-use Rattle.rx_eval.specs.Fresh.{depth_limit, fresh, made, resources_seen}
-use Rattle.rx_eval.specs.Outcome.{Outcome, all_awaits, commit, defer, newly_hidden, outcome, outcome_by}
+use Rattle.rx_meaning.specs.Fresh.{depth_limit, fresh, made, resources_seen}
+use Rattle.rx_meaning.specs.Outcome.{Outcome, all_awaits, commit, defer, newly_hidden, outcome, outcome_by}
 use Rattle.rx_lane.specs.Lanes.{Lanes, only_transitions}
 use Rattle.rx_lane.specs.declared.lane.Lane.{Lane}
 use Rattle.rx_model.specs.Accepting.{accepted, dispatched_for, dispatched_to, in_event, lane_of, next_update, op_of, resolved_as, target_of}
@@ -23,18 +23,18 @@ use Rattle.rx_model.specs.Stretch.{Stretch, followed_by, silent}
 use Rattle.rx_model.specs.Turns.{Continues, GoesOn, TurnBy, choice_of, gone_on}
 use Rattle.rx_queue.specs.Journal.{Target, hook, same_target}
 use Rattle.rx_queue.specs.declared.update.Op.{Op}
-use Rattle.rx_report.specs.Report.{Counts}
+use Rattle.rx_lines.specs.Lines.{Counts}
 use Rattle.rx_sched.specs.declared.choice.Choice.{Choice}
-use Rattle.rx_script.specs.Steps.{hook_name, path_of, word_of}
-use Rattle.rx_script.specs.declared.step.Dispatch.{Dispatch}
-use Rattle.rx_script.specs.declared.step.LaneWord.{LaneWord}
+use Rattle.rx_step.specs.Steps.{hook_name, path_of, word_of}
+use Rattle.rx_step.specs.declared.step.Dispatch.{Dispatch}
+use Rattle.rx_step.specs.declared.step.LaneWord.{LaneWord}
 use Rattle.run_laws.proofs.Carrying.{commit_carries, done_before, resolution_carries, resolution_renders, start_renders, target_below, update_carries, update_renders}
 use Rattle.commit_laws.proofs.Soundness.{resolution_keeps}
 use Rattle.run_laws.proofs.Walk.{holds_along, same_after}
 use Rattle.run_laws.specs.Carried.{Carries, IsCarried, RendersOn, RestsOnSettled}
-use Rattle.rx_check.specs.Reads.{ReadsDeclared}
+use Rattle.rx_rules.specs.Reads.{ReadsDeclared}
 use Rattle.rx_sched.specs.declared.choice.Choice.TheVariants as choice
-use Rattle.rx_script.specs.declared.step.LaneWord.TheVariants as word
+use Rattle.rx_step.specs.declared.step.LaneWord.TheVariants as word
 use Rattle.rx_lane.specs.declared.lane.Lane.TheVariants as lane
 use Rattle.rx_lane.specs.Lanes as lanes_of
 

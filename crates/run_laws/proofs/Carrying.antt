@@ -5,31 +5,31 @@ use Rattle.std.proofs.lemmas.Bool.Decides.{nat_tests}
 use Rattle.std.proofs.lemmas.List.{length-append}
 use Rattle.rx_ast.specs.Syntax.{Program}
 use Rattle.rx_base.specs.declared.cut.Cut.{Cut}
-use Rattle.rx_check.specs.Bounds.{depth_bound}
-use Rattle.rx_check.specs.Names.{resources}
+use Rattle.rx_rules.specs.Bounds.{depth_bound}
+use Rattle.rx_rules.specs.Names.{resources}
 use Rattle.rx_elem.specs.Numbers.{Numbers, numbered}
 use Rattle.rx_elem.specs.Spots.{Mounted, Spot, at_root, kept_instances, mounted, numbers_of, spot_mark, spots, visible_instances}
 use Rattle.rx_elem.specs.Trees.{Node}
-use Rattle.rx_eval.specs.Fresh.{default_contexts, depth_limit, fresh, made, part, resources_seen}
-use Rattle.rx_eval.specs.Outcome.{journal_after}
+use Rattle.rx_meaning.specs.Fresh.{default_contexts, depth_limit, fresh, made, part, resources_seen}
+use Rattle.rx_meaning.specs.Outcome.{journal_after}
 use Rattle.rx_lane.specs.Lanes.{Lanes, no_lanes}
 use Rattle.rx_model.specs.State.{find_from, instance_found, is_step, step_to}
 use Rattle.rx_queue.specs.History.{stands_done, stands_owed}
 use Rattle.rx_queue.specs.Journal.{Journal, Posted, Resolution, cut_now, hook, marked_update, same_target}
 use Rattle.rx_queue.specs.declared.entry.Standing.{Standing}
 use Rattle.rx_queue.specs.declared.entry.Standing.TheVariants.{Open}
-use Rattle.rx_script.specs.Steps.{Path}
+use Rattle.rx_step.specs.Steps.{Path}
 use Rattle.commit_laws.proofs.HiddenLaw.{all_mounted, commit_hides, numbered_at}
 use Rattle.rx_elem.proofs.Deciding.{same_itself, same_number}
 use Rattle.commit_laws.proofs.OwnNumbers.{has_occurs, occurs, occurs_option, spot_times, spots_times}
 use Rattle.commit_laws.proofs.QuietTree.{root_stays}
 use Rattle.commit_laws.proofs.ResourceLaws.{values_stay}
 use Rattle.commit_laws.proofs.Soundness.{commit_keeps, update_keeps}
-use Rattle.rx_eval.specs.Again.{AccountedBefore, AllOpen}
+use Rattle.rx_meaning.specs.Again.{AccountedBefore, AllOpen}
 use Rattle.run_laws.specs.Carried.{Carries, IfCommitted, NumbersBelow, RendersOn, sight_at, values_now}
 use Rattle.commit_laws.specs.HiddenWaits.{HiddenWaits, Numbered}
-use Rattle.rx_eval.specs.Settled.{DoneBefore, HasOwnNumbers, HasValuesOf, includes, number_of}
-use Rattle.rx_check.specs.Reads.{ReadsDeclared}
+use Rattle.rx_meaning.specs.Settled.{DoneBefore, HasOwnNumbers, HasValuesOf, includes, number_of}
+use Rattle.rx_rules.specs.Reads.{ReadsDeclared}
 
 more_of : (a b c : List (Option ℤ)) → HasValuesOf a b → HasValuesOf b c → HasValuesOf a c
 more_of a b c f g r x h = g r x (f r x h)

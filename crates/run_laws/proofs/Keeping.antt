@@ -13,7 +13,7 @@ use Rattle.rx_lane.specs.SetLaws.{has-lanes_where}
 use Rattle.rx_elem.specs.Trees.{Node}
 use Rattle.rx_elem.proofs.Deciding.{and_passes, both_hold, or_left, or_right, same_number}
 use Rattle.rx_queue.specs.Journal.{Journal, Posted, Resolution, marked_update, resolved_by, resolved_now, resolved_since}
-use Rattle.rx_eval.specs.Outcome.{awaits_resolved, is_awaited, visible_awaits}
+use Rattle.rx_meaning.specs.Outcome.{awaits_resolved, is_awaited, visible_awaits}
 use Rattle.rx_sched.specs.Schedule.{Schedule, after_commit, after_deferral, while_suspended}
 use Rattle.commit_laws.proofs.NoneLost.{got_mapped, union_right}
 use Rattle.commit_laws.proofs.OpenAwaits.{where_passes}

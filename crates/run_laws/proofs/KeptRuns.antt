@@ -6,18 +6,18 @@ use Rattle.rx_base.specs.Awaits.{Awaits}
 use Rattle.rx_base.specs.Awaits as awaits
 use Rattle.rx_base.specs.Values.{Name}
 use Rattle.rx_base.specs.declared.cut.Cut.{Cut}
-use Rattle.rx_check.specs.Bounds.{depth_bound}
-use Rattle.rx_check.specs.Names.{resource_number}
-use Rattle.rx_check.specs.Reads.{ReadsDeclared}
+use Rattle.rx_rules.specs.Bounds.{depth_bound}
+use Rattle.rx_rules.specs.Names.{resource_number}
+use Rattle.rx_rules.specs.Reads.{ReadsDeclared}
 use Rattle.rx_elem.specs.Compare.{Change}
 use Rattle.rx_elem.specs.Numbers.{numbered}
 use Rattle.rx_elem.specs.Spots.{Mounted, kept_instances, visible_instances}
 use Rattle.rx_elem.specs.Trees.{Node}
 use Rattle.rx_elem.proofs.Deciding.{both_hold, same_number}
-use Rattle.rx_eval.specs.Again.{AccountedBefore}
-use Rattle.rx_eval.specs.Fresh.{depth_limit, fresh, made}
-use Rattle.rx_eval.specs.Outcome.{Outcome, all_awaits, awaits_resolved, commit, defer, is_awaited, journal_after, newly_hidden, outcome, outcome_by, still_pending, visible_awaits}
-use Rattle.rx_eval.specs.Settled.{IfSettled, Known, TargetsBelow}
+use Rattle.rx_meaning.specs.Again.{AccountedBefore}
+use Rattle.rx_meaning.specs.Fresh.{depth_limit, fresh, made}
+use Rattle.rx_meaning.specs.Outcome.{Outcome, all_awaits, awaits_resolved, commit, defer, is_awaited, journal_after, newly_hidden, outcome, outcome_by, still_pending, visible_awaits}
+use Rattle.rx_meaning.specs.Settled.{IfSettled, Known, TargetsBelow}
 use Rattle.rx_hooks.specs.Hooks.{links_with}
 use Rattle.rx_lane.specs.Lanes.{Lanes, has, lanes_where, minus, no_lanes, one, only_transitions, union}
 use Rattle.rx_lane.specs.SetLaws.{has-lanes_where}
@@ -32,14 +32,14 @@ use Rattle.rx_model.specs.Stretch.{Stretch, followed_by, silent}
 use Rattle.rx_model.specs.Turns.{Continues, GoesOn, TurnBy, choice_of, gone_on}
 use Rattle.rx_queue.specs.Journal.{Posted, Resolution, Target, has_later, resolved_by, resolved_now, resolved_since}
 use Rattle.rx_queue.specs.declared.update.Op.{Op}
-use Rattle.rx_report.specs.Report.{Counts}
+use Rattle.rx_lines.specs.Lines.{Counts}
 use Rattle.rx_sched.specs.Schedule.{Schedule, after_deferral, after_update, become_pending, claimed, linked, wake}
 use Rattle.rx_sched.specs.declared.choice.Choice.{Choice}
 use Rattle.rx_sched.specs.declared.choice.Choice.TheVariants as choice
-use Rattle.rx_script.specs.Steps.{word_of}
-use Rattle.rx_script.specs.declared.step.Dispatch.{Dispatch}
-use Rattle.rx_script.specs.declared.step.LaneWord.{LaneWord}
-use Rattle.rx_script.specs.declared.step.LaneWord.TheVariants as word
+use Rattle.rx_step.specs.Steps.{word_of}
+use Rattle.rx_step.specs.declared.step.Dispatch.{Dispatch}
+use Rattle.rx_step.specs.declared.step.LaneWord.{LaneWord}
+use Rattle.rx_step.specs.declared.step.LaneWord.TheVariants as word
 use Rattle.commit_laws.proofs.NewlyHidden.{awaited_open, committed_open, deferred_open}
 use Rattle.commit_laws.proofs.NoneLost.{commit_none_lost, more_pending, one_itself, push_pending, union_left, union_right}
 use Rattle.run_laws.proofs.AlongRuns.{commit_is, dispatched_keeps, opening_carries, resolved_keeps, turn_keeps}

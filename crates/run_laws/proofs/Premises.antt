@@ -3,12 +3,12 @@ use Rattle.std.specs.Prelude.{◌≡◌, ℕ, zero, suc, ◌≤◌, true, false,
 use Rattle.std.proofs.Common.{arith, subst}
 use Rattle.rx_ast.specs.Syntax.{Program, Component, of_component, single, slot, no_slots, body_slots, by_tag, at_once, unkeyed}
 use Rattle.rx_ast.specs.Syntax as syntax
-use Rattle.rx_check.specs.Names.{component_at}
-use Rattle.rx_check.specs.Bounds.{node_bound, depth_bound, root_waits, body_by, node_limit}
-use Rattle.rx_eval.specs.Fresh.{depth_limit}
+use Rattle.rx_rules.specs.Names.{component_at}
+use Rattle.rx_rules.specs.Bounds.{node_bound, depth_bound, root_waits, body_by, node_limit}
+use Rattle.rx_meaning.specs.Fresh.{depth_limit}
 use Rattle.rx_model.specs.Laws.{IsBounded}
-use Rattle.rx_check.specs.Reads.{AllDeclared, ReadsDeclared}
-use Rattle.rx_check.specs.Keys.{KeysApart, keyed_places, SlotsKeysApart}
+use Rattle.rx_rules.specs.Reads.{AllDeclared, ReadsDeclared}
+use Rattle.rx_rules.specs.Keys.{KeysApart, keyed_places, SlotsKeysApart}
 
 -- function Leaf() { const u = use("r"); return {u}; }
 abbrev leaf : Component

@@ -4,12 +4,12 @@ use Rattle.std.specs.Prelude.{Bool, IfSome, List, None, Option, Some, [], cond, 
 use Rattle.std.proofs.Common.{ap, arith, inl, inr, subst, sym, ◌∙◌}
 use Rattle.rx_ast.specs.Syntax.{Program}
 use Rattle.rx_base.specs.declared.cut.Cut.{Cut}
-use Rattle.rx_check.specs.Bounds.{depth_bound}
-use Rattle.rx_check.specs.Names.{resources}
+use Rattle.rx_rules.specs.Bounds.{depth_bound}
+use Rattle.rx_rules.specs.Names.{resources}
 use Rattle.rx_elem.specs.Spots.{Around, Mounted, Spot, around_children, at_root, hidden_count, kept_instances, mounted, numbers_of, spot_mark, spots, spots_in, visible_instances}
 use Rattle.rx_elem.specs.Trees.{Forest, Mark, Node, child, is_hidden, node, none, vacant}
-use Rattle.rx_eval.specs.Expressions.{answers_of}
-use Rattle.rx_eval.specs.Fresh.{depth_limit, fresh, made}
+use Rattle.rx_meaning.specs.Expressions.{answers_of}
+use Rattle.rx_meaning.specs.Fresh.{depth_limit, fresh, made}
 use Rattle.rx_lane.specs.Lanes.{Lanes, is_empty}
 use Rattle.rx_lane.specs.declared.lane.Lane.{Lane}
 use Rattle.rx_model.specs.Kept.{IsAccountedFor, NoUpdateIsLost}
@@ -26,7 +26,7 @@ use Rattle.commit_laws.proofs.QuietTree.{quiet_tree}
 use Rattle.commit_laws.proofs.Settling.{kept_at, kept_listed, target_has, visible_at, visible_listed, within_visible}
 use Rattle.run_laws.specs.Carried.{Carries}
 use Rattle.commit_laws.specs.Quiet.{AllDone, AllShown, NoneHidden}
-use Rattle.rx_eval.specs.Settled.{includes}
+use Rattle.rx_meaning.specs.Settled.{includes}
 use Rattle.rx_lane.specs.Lanes as lanes_of
 
 empty_has : (lanes : Lanes) (l : Lane) → is_empty lanes ≡ true → lanes_of.has lanes l ≡ false

@@ -2,12 +2,12 @@
 use Rattle.std.specs.Prelude.{◌≡◌, ◌<◌, ◌≤◌, Option, length}
 use Rattle.std.proofs.Common.{arith, subst}
 use Rattle.rx_ast.specs.Syntax.{Program}
-use Rattle.rx_check.specs.Bounds.{node_bound, node_limit}
-use Rattle.rx_check.specs.Keys.{KeysApart}
+use Rattle.rx_rules.specs.Bounds.{node_bound, node_limit}
+use Rattle.rx_rules.specs.Keys.{KeysApart}
 use Rattle.rx_elem.specs.Trees.{Node}
-use Rattle.rx_eval.specs.Fresh.{Sight, IsTree}
-use Rattle.rx_eval.specs.Touched.{visits}
-use Rattle.rx_eval.specs.Counts.{each_unit, whole}
+use Rattle.rx_meaning.specs.Fresh.{Sight, IsTree}
+use Rattle.rx_meaning.specs.Touched.{visits}
+use Rattle.rx_meaning.specs.Counts.{each_unit, whole}
 use Rattle.rx_model.specs.Laws.{IsBounded}
 use Rattle.rx_model.specs.Turns.{unit_bound}
 use Rattle.rx_model.specs.Kept.{IsRenderBounded}

@@ -6,10 +6,10 @@ use Rattle.rx_lane.specs.declared.lane.Lane.{Lane}
 use Rattle.rx_lane.specs.declared.lane.Lane.TheVariants as lane
 use Rattle.rx_lane.specs.Lanes.{has, only_transitions}
 use Rattle.rx_ast.specs.Syntax.{Program}
-use Rattle.rx_script.specs.declared.step.LaneWord.{LaneWord}
-use Rattle.rx_script.specs.declared.step.LaneWord.TheVariants as word
-use Rattle.rx_script.specs.declared.step.Dispatch.{Dispatch}
-use Rattle.rx_script.specs.Steps.{word_of}
+use Rattle.rx_step.specs.declared.step.LaneWord.{LaneWord}
+use Rattle.rx_step.specs.declared.step.LaneWord.TheVariants as word
+use Rattle.rx_step.specs.declared.step.Dispatch.{Dispatch}
+use Rattle.rx_step.specs.Steps.{word_of}
 use Rattle.rx_sched.specs.declared.choice.Choice.{Choice}
 use Rattle.rx_sched.specs.declared.choice.Choice.TheVariants as choice
 use Rattle.rx_elem.specs.Trees.{Node, element_of}
@@ -17,8 +17,8 @@ use Rattle.rx_elem.specs.Spots.{Mounted}
 use Rattle.rx_elem.specs.Compare.{Change}
 use Rattle.rx_elem.specs.Numbers.{numbered}
 use Rattle.rx_queue.specs.Journal.{Target}
-use Rattle.rx_eval.specs.Fresh.{made, fresh, root_element, IsTree, none_yet, given}
-use Rattle.rx_eval.specs.Outcome.{commit, defer, outcome_by, newly_hidden}
+use Rattle.rx_meaning.specs.Fresh.{made, fresh, root_element, IsTree, none_yet, given}
+use Rattle.rx_meaning.specs.Outcome.{commit, defer, outcome_by, newly_hidden}
 use Rattle.rx_model.specs.State.{State, Progress}
 use Rattle.rx_model.specs.Stretch.{Stretch, silent, followed_by}
 use Rattle.rx_model.specs.Accepting.{in_event, dispatched_to, resolved_as}
@@ -26,7 +26,7 @@ use Rattle.rx_model.specs.Committing.{passive_run, starting, sight_of, committed
 use Rattle.rx_model.specs.Turns.{GoesOn, Continues, TurnBy, choice_of}
 use Rattle.rx_model.specs.Kept.{TreeIsBounded, RendersAreBounded}
 use Rattle.rx_model.specs.Laws.{IsBounded, IsReached}
-use Rattle.rx_report.specs.Report.{Counts}
+use Rattle.rx_lines.specs.Lines.{Counts}
 use Rattle.render_laws.proofs.Bounded.{tree_within}
 use Rattle.run_laws.proofs.Walk.{holds_along, same_after}
 use Rattle.run_laws.proofs.RenderBounds.{render_within}

@@ -3,13 +3,13 @@ use Rattle.std.specs.Prelude.{◌≡◌, ℕ, ◌+◌, ◌-◌, ◌<◌, ◌≤�
 use Rattle.std.proofs.Common.{arith}
 use Rattle.rx_ast.specs.Syntax.{Program}
 use Rattle.rx_elem.specs.Trees.{Node}
-use Rattle.rx_eval.specs.Fresh.{made}
+use Rattle.rx_meaning.specs.Fresh.{made}
 use Rattle.rx_model.specs.State.{State, Progress}
 use Rattle.rx_model.specs.Committing.{sight_of}
 use Rattle.rx_model.specs.Committing as committing
 use Rattle.rx_model.specs.Laws.{IsBounded}
 use Rattle.rx_model.specs.Turns.{Finishes, Yields, gone_on}
-use Rattle.rx_eval.specs.Cursor.{Cursor, ended, is_over}
+use Rattle.rx_meaning.specs.Cursor.{Cursor, ended, is_over}
 use Rattle.render_laws.specs.InProgress.{InProgress}
 use Rattle.run_laws.proofs.RenderBounds.{units_below}
 use Rattle.render_laws.proofs.GoingLaws.{holds_unfinished, holds_last}

@@ -3,16 +3,16 @@ use Rattle.std.specs.Prelude.{◌≡◌, ℕ, zero, suc, ℤ, Bool, true, false,
 use Rattle.std.proofs.Common.{sym, subst}
 use Rattle.rx_base.specs.Values.{Name}
 use Rattle.rx_ast.specs.Syntax.{Program}
-use Rattle.rx_check.specs.Names.{resource_number}
+use Rattle.rx_rules.specs.Names.{resource_number}
 use Rattle.rx_lane.specs.Lanes.{has}
 use Rattle.rx_lane.specs.declared.lane.Lane.TheVariants as lane
 use Rattle.rx_elem.specs.Spots.{Mounted}
 use Rattle.rx_queue.specs.Journal.{resolved_now}
 use Rattle.rx_sched.specs.Deadlines.{later}
-use Rattle.rx_script.specs.Steps.{path_of}
-use Rattle.rx_script.specs.declared.step.Dispatch.{Dispatch}
-use Rattle.rx_script.specs.declared.step.Step.{Step}
-use Rattle.rx_script.specs.declared.step.Step.TheVariants as step
+use Rattle.rx_step.specs.Steps.{path_of}
+use Rattle.rx_step.specs.declared.step.Dispatch.{Dispatch}
+use Rattle.rx_step.specs.declared.step.Step.{Step}
+use Rattle.rx_step.specs.declared.step.Step.TheVariants as step
 use Rattle.rx_model.specs.State.{State, instance_found, opening}
 use Rattle.rx_model.specs.Stretch.{Stretch, followed_by, silent}
 use Rattle.rx_model.specs.Accepting.{between_events, dispatched_to, resolved_as}

@@ -4,15 +4,15 @@ use Rattle.rx_ast.specs.Syntax.{Program}
 use Rattle.rx_base.specs.declared.cut.Cut.{Cut}
 use Rattle.rx_elem.specs.Numbers.{Numbers}
 use Rattle.rx_elem.specs.Trees.{Node, element_of}
-use Rattle.rx_eval.specs.Fresh.{Sight, default_contexts, depth_limit, resources_seen, root_element}
-use Rattle.rx_eval.specs.Outcome.{journal_after}
+use Rattle.rx_meaning.specs.Fresh.{Sight, default_contexts, depth_limit, resources_seen, root_element}
+use Rattle.rx_meaning.specs.Outcome.{journal_after}
 use Rattle.rx_lane.specs.Lanes.{Lanes, no_lanes}
 use Rattle.rx_model.specs.Committing.{sight_of}
 use Rattle.rx_model.specs.State.{Progress, State}
 use Rattle.rx_queue.specs.Journal.{Journal, Posted, Resolution, cut_now}
-use Rattle.rx_eval.specs.Again.{AccountedBefore, AllOpen}
+use Rattle.rx_meaning.specs.Again.{AccountedBefore, AllOpen}
 use Rattle.commit_laws.specs.HiddenWaits.{HiddenWaits, IfNumbered}
-use Rattle.rx_eval.specs.Settled.{DoneBefore, HasValuesOf, IfReadsHold, IfSettled, IsSound, known_by}
+use Rattle.rx_meaning.specs.Settled.{DoneBefore, HasValuesOf, IfReadsHold, IfSettled, IsSound, known_by}
 
 -- updates are numbered below this
 abbrev pub NumbersBelow : ℕ → List Posted → Type 0

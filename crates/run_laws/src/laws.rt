@@ -1,12 +1,12 @@
 // Laws of runs.
 ghost use Rattle.std.specs.Prelude.{◌≡◌, ℕ, ◌+◌, ◌-◌, ◌<◌, ◌≤◌, [], false, IfSome, Option, Some, length};
 ghost use Rattle.rx_ast.specs.Syntax.{Program, contexts};
-ghost use Rattle.rx_check.specs.Bounds.{node_bound};
-ghost use Rattle.rx_check.specs.Reads.{ReadsDeclared};
+ghost use Rattle.rx_rules.specs.Bounds.{node_bound};
+ghost use Rattle.rx_rules.specs.Reads.{ReadsDeclared};
 ghost use Rattle.rx_elem.specs.Trees.{Node};
-ghost use Rattle.rx_eval.specs.Fresh.{Sight, made};
-ghost use Rattle.rx_eval.specs.Cursor.{Cursor, ended, is_over};
-ghost use Rattle.rx_eval.specs.Counts.{each_unit, whole};
+ghost use Rattle.rx_meaning.specs.Fresh.{Sight, made};
+ghost use Rattle.rx_meaning.specs.Cursor.{Cursor, ended, is_over};
+ghost use Rattle.rx_meaning.specs.Counts.{each_unit, whole};
 ghost use Rattle.render_laws.specs.InProgress.{InProgress};
 ghost use Rattle.rx_model.specs.State.{State, Progress};
 ghost use Rattle.rx_model.specs.Committing.{sight_of};

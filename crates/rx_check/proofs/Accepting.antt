@@ -3,7 +3,7 @@ use Rattle.std.proofs.Common.{◌≡◌, ◌≤◌, Bool, true, false, List, [],
 use Rattle.std.specs.Prelude.{ℕ, zero, suc, nat_lt, find, option_map, cond}
 use Rattle.rx_base.specs.Values.{Name}
 use Rattle.rx_ast.specs.Syntax.{Program}
-use Rattle.rx_check.specs.Bounds.{node_bound, node_limit}
+use Rattle.rx_rules.specs.Bounds.{node_bound, node_limit}
 use Rattle.rx_check.specs.Checks.{is_rooted, count_over}
 use Rattle.rx_check.specs.Refusals.{first_some, refused_name, name_refusals, way_refusals, count_refusals, size_refusals, refusals, refusal_of}
 use Rattle.rx_check.specs.Accepted.{IsAccepted}

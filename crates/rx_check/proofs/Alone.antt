@@ -5,8 +5,8 @@ use Rattle.std.proofs.lemmas.Slice.Eq.{bytes_eq-Decides}
 use Rattle.rx_base.specs.Values.{Name}
 use Rattle.rx_ast.specs.Syntax.{Program, Component, components, Slot, Slots, body_slots}
 use Rattle.rx_ast.specs.Syntax as syntax
-use Rattle.rx_check.specs.Names.{component_number, component_at, component_names, root_name}
-use Rattle.rx_check.specs.Bounds.{slot_by, slots_by, body_if, body_by, Waits, may_wait, reads_resource, root_waits, component_levels}
+use Rattle.rx_rules.specs.Names.{component_number, component_at, component_names, root_name}
+use Rattle.rx_rules.specs.Bounds.{slot_by, slots_by, body_if, body_by, Waits, may_wait, reads_resource, root_waits, component_levels}
 use Rattle.rx_check.specs.Checks.{root_waits_for, nesting_levels}
 use Rattle.rx_check.proofs.Among.{IsIn}
 use Rattle.rx_check.proofs.Along.{Along, slot-along, slots-along, body-along}

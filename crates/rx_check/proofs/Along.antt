@@ -4,8 +4,8 @@ use Rattle.std.specs.Prelude.{ℕ, zero, suc, max, min, bytes_eq, filter, cond}
 use Rattle.rx_base.specs.Values.{Name}
 use Rattle.rx_ast.specs.Syntax.{Program, Component, Slot, Slots, body_slots}
 use Rattle.rx_ast.specs.Syntax as syntax
-use Rattle.rx_check.specs.Names.{component_number, component_at, root_name}
-use Rattle.rx_check.specs.Bounds.{Column, slot_by, slots_by, body_if, body_by, component_levels, root_by, Size, nodes, levels, Waits, may_wait, held, reads_resource, node_bound, depth_bound}
+use Rattle.rx_rules.specs.Names.{component_number, component_at, root_name}
+use Rattle.rx_rules.specs.Bounds.{Column, slot_by, slots_by, body_if, body_by, component_levels, root_by, Size, nodes, levels, Waits, may_wait, held, reads_resource, node_bound, depth_bound}
 use Rattle.rx_check.specs.Costs.{held_sum, held_product}
 use Rattle.rx_check.specs.Figures.{figures, counts_reads, known_in}
 use Rattle.rx_check.specs.Checks.{nesting_levels, root_waits_for}

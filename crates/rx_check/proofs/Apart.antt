@@ -6,8 +6,8 @@ use Rattle.std.proofs.lemmas.List.Folds.{list_any-append}
 use Rattle.rx_base.specs.Values.{Name}
 use Rattle.rx_ast.specs.Syntax.{Program, Component, Slot, Slots, body_slots, Attribute, key, computed, literal, key_of, KeyPlace, unkeyed, key_first, key_last, key_in}
 use Rattle.rx_ast.specs.Syntax as syntax
-use Rattle.rx_check.specs.Names.{has_name, component_at}
-use Rattle.rx_check.specs.Keys.{carries_key, keyed_places, SlotKeysApart, SlotsKeysApart, KeysApart}
+use Rattle.rx_rules.specs.Names.{has_name, component_at}
+use Rattle.rx_rules.specs.Keys.{carries_key, keyed_places, SlotKeysApart, SlotsKeysApart, KeysApart}
 use Rattle.rx_check.specs.Mentions.{Scope, bound, key_name, expr_mentions, attributes_mentions, first_key_mentions, last_key_mentions, taken_first, slot_mentions, slots_mentions, statements_mentions, parameters_mentions, component_mentions, component_scope, after_statement, no_scope, mentions}
 use Rattle.rx_check.specs.Checks.{repeat_in, repeats}
 use Rattle.rx_check.specs.Accepted.{IsAccepted}

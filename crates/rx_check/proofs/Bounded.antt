@@ -3,8 +3,8 @@ use Rattle.std.proofs.Common.{◌≡◌, ◌≤◌, ◌⊎◌, inl, inr, Bool, t
 use Rattle.std.specs.Prelude.{ℕ, max, cond, is_some, nat_eq, nat_lt, filter, filter_map, option_map, slice_get, unwrap_or, position, bytes_eq}
 use Rattle.std.specs.Option.{option_map_or}
 use Rattle.rx_ast.specs.Syntax.{Program, Component, components}
-use Rattle.rx_check.specs.Names.{component_named, component_names, component_number, root_name}
-use Rattle.rx_check.specs.Bounds.{component_levels, root_by, body_by, may_wait, root_waits, depth_bound}
+use Rattle.rx_rules.specs.Names.{component_named, component_names, component_number, root_name}
+use Rattle.rx_rules.specs.Bounds.{component_levels, root_by, body_by, may_wait, root_waits, depth_bound}
 use Rattle.rx_check.specs.Checks.{is_rooted, nesting_levels, root_waits_for, outside_uses}
 use Rattle.rx_check.specs.Accepted.{IsAccepted}
 use Rattle.rx_check.specs.declared.refusal.Count.TheVariants as count

@@ -5,8 +5,8 @@ use Rattle.std.specs.Prelude.{ℕ, suc, nat_lt, cond, fold, position, unwrap_or,
 use Rattle.std.specs.List.{position_or_len}
 use Rattle.rx_base.specs.Values.{Name}
 use Rattle.rx_ast.specs.Syntax.{Program, Component, Statement, state, reducer, context, use_resource, constant, effect, contexts, body_slots}
-use Rattle.rx_check.specs.Names.{has_name, place_among, context_number, component_at}
-use Rattle.rx_check.specs.Reads.{IsDeclared, AllDeclared, ReadsDeclared}
+use Rattle.rx_rules.specs.Names.{has_name, place_among, context_number, component_at}
+use Rattle.rx_rules.specs.Reads.{IsDeclared, AllDeclared, ReadsDeclared}
 use Rattle.rx_check.specs.Mentions.{Scope, no_scope, statement_mentions, statements_mentions, after_statement, parameters_mentions, component_scope, component_mentions, slots_mentions, mentions}
 use Rattle.rx_check.specs.Checks.{context_names, unknown_in, unknowns}
 use Rattle.rx_check.specs.Accepted.{IsAccepted}

@@ -5,7 +5,7 @@ use Rattle.std.proofs.lemmas.List.Folds.{list_any-append}
 use Rattle.std.proofs.lemmas.List.{append-nil}
 use Rattle.std.proofs.lemmas.Slice.Eq.{bytes_eq-Decides}
 use Rattle.rx_base.specs.Values.{Name}
-use Rattle.rx_check.specs.Names.{has_name, without, distinct}
+use Rattle.rx_rules.specs.Names.{has_name, without, distinct}
 use Rattle.rx_check.specs.Tables.{with_name}
 
 -- the test that a name is none of these

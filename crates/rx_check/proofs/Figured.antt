@@ -3,8 +3,8 @@ use Rattle.std.proofs.Common.{◌≡◌, ◌+◌, ◌*◌, Bool, true, false, �
 use Rattle.std.specs.Prelude.{ℕ, bytes_eq, filter, cond, is_some}
 use Rattle.rx_base.specs.Values.{Name}
 use Rattle.rx_ast.specs.Syntax.{Program, Component}
-use Rattle.rx_check.specs.Names.{component_number, component_named, component_names, root_name}
-use Rattle.rx_check.specs.Bounds.{body_by, component_levels, Size, nodes, levels, Waits, may_wait, held, reads_resource, node_bound, depth_bound}
+use Rattle.rx_rules.specs.Names.{component_number, component_named, component_names, root_name}
+use Rattle.rx_rules.specs.Bounds.{body_by, component_levels, Size, nodes, levels, Waits, may_wait, held, reads_resource, node_bound, depth_bound}
 use Rattle.rx_check.specs.Costs.{held_sum}
 use Rattle.rx_check.specs.Figures.{figures, counts_reads}
 use Rattle.rx_check.specs.Checks.{nesting_levels, root_waits_for, outside_uses}

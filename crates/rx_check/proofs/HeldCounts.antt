@@ -2,7 +2,7 @@
 use Rattle.std.proofs.Common.{◌≡◌, ◌≤◌, ◌<◌, ◌+◌, ◌*◌, ◌⊎◌, inl, inr, refl, sym, ap, ◌∙◌, arith}
 use Rattle.std.specs.Prelude.{ℕ, zero, suc, max, min}
 use Rattle.std.proofs.Math.Nat.{mul-zero, mul_comm, le-mul_of_pos_right}
-use Rattle.rx_check.specs.Bounds.{held}
+use Rattle.rx_rules.specs.Bounds.{held}
 
 pub held-sum : (a b : ℕ) → held (held a + held b) ≡ held (a + b)
 held-sum a b = omega arith

@@ -4,7 +4,7 @@ use Rattle.std.proofs.lemmas.List.{length-map}
 use Rattle.std.specs.List.{cons_option}
 use Rattle.std.specs.Prelude.{ℕ, suc, filter_map, slice_get}
 use Rattle.rx_ast.specs.Syntax.{Program, Component, Function, as_component, as_function, as_context, components, functions}
-use Rattle.rx_check.specs.Names.{component_names, resources}
+use Rattle.rx_rules.specs.Names.{component_names, resources}
 use Rattle.rx_check.specs.Checks.{function_names, context_names, measure_in}
 use Rattle.rx_check.specs.Accepted.{IsAccepted}
 use Rattle.rx_check.specs.declared.refusal.Count.TheVariants as count

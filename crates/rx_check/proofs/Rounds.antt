@@ -4,8 +4,8 @@ use Rattle.std.specs.Prelude.{ℕ, zero, suc, nat_eq, slice_get, slice_index, sl
 use Rattle.std.specs.List.{list_any}
 use Rattle.std.specs.Option.{option_map_or}
 use Rattle.rx_ast.specs.Syntax.{Program, Component, Function, components, functions}
-use Rattle.rx_check.specs.Names.{component_at}
-use Rattle.rx_check.specs.Bounds.{body_by, body_if}
+use Rattle.rx_rules.specs.Names.{component_at}
+use Rattle.rx_rules.specs.Bounds.{body_by, body_if}
 use Rattle.rx_check.specs.Figures.{figures, no_figures, known_in, round_of, rounds}
 use Rattle.rx_check.specs.Costs.{function_cost, cost_if, body_cost, cost_round, cost_rounds}
 use Rattle.rx_check.specs.Graphs.{Graph, next_of, leads_to, leads, lead_round, lead_rounds}

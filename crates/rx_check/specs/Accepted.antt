@@ -1,7 +1,7 @@
 -- What is known of a program that is accepted.
 use Rattle.std.specs.Prelude.{◌≡◌, ◌≤◌, true, [], None}
 use Rattle.rx_ast.specs.Syntax.{Program}
-use Rattle.rx_check.specs.Bounds.{node_bound, node_limit}
+use Rattle.rx_rules.specs.Bounds.{node_bound, node_limit}
 use Rattle.rx_check.specs.Checks.{repeats, unknowns, misfits, function_cycles, component_cycles, outside_uses, is_rooted, count_over, cost_over}
 use Rattle.rx_check.specs.declared.refusal.Count.{Count}
 

@@ -4,8 +4,8 @@ use Rattle.std.specs.List.{list_all}
 use Rattle.std.specs.Option.{option_map_or}
 use Rattle.rx_base.specs.Values.{Name}
 use Rattle.rx_ast.specs.Syntax.{Program, Parameter, integer, given_children, Component, functions, components, contexts}
-use Rattle.rx_check.specs.Names.{has_name, root_name, component_names, component_named, component_number, function_named, function_number, prop_names, resources}
-use Rattle.rx_check.specs.Bounds.{body_by, component_levels, may_wait, node_bound, node_limit, depth_bound}
+use Rattle.rx_rules.specs.Names.{has_name, root_name, component_names, component_named, component_number, function_named, function_number, prop_names, resources}
+use Rattle.rx_rules.specs.Bounds.{body_by, component_levels, may_wait, node_bound, node_limit, depth_bound}
 use Rattle.rx_check.specs.Limits.{limit_of, cost_limit}
 use Rattle.rx_check.specs.Mentions.{children_name, mentions, function_mentions, component_mentions}
 use Rattle.rx_check.specs.Graphs.{Graph, cycle_names}

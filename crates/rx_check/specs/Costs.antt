@@ -5,8 +5,8 @@ use Rattle.rx_ast.specs.Syntax as syntax
 use Rattle.rx_ast.specs.SlotView.{key_place_of}
 use Rattle.rx_ast.specs.declared.slot.Tag.{Tag}
 use Rattle.rx_ast.specs.declared.slot.Tag.TheVariants as tag
-use Rattle.rx_check.specs.Names.{function_number}
-use Rattle.rx_check.specs.Bounds.{held}
+use Rattle.rx_rules.specs.Names.{function_number}
+use Rattle.rx_rules.specs.Bounds.{held}
 
 -- a sum, held
 abbrev pub held_sum : ℕ → ℕ → ℕ

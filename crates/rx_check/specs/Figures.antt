@@ -1,10 +1,10 @@
 -- What is computed of a slot: its nodes, levels and waits side by side, each sum and product held.
 use Rattle.std.specs.Prelude.{ℕ, zero, suc, max, Bool, true, false, ◌&&◌, ◌||◌, bytes_eq, List, map, slice_index_or, Some}
 use Rattle.rx_ast.specs.Syntax.{Component, Program, components}
-use Rattle.rx_check.specs.Bounds.{Column, slot_by, body_if, reads_resource}
+use Rattle.rx_rules.specs.Bounds.{Column, slot_by, body_if, reads_resource}
 use Rattle.rx_ast.specs.declared.slot.Tag.{Tag}
 use Rattle.rx_ast.specs.declared.slot.Tag.TheVariants as tag
-use Rattle.rx_check.specs.Names.{component_number}
+use Rattle.rx_rules.specs.Names.{component_number}
 use Rattle.rx_check.specs.Costs.{held_sum, held_product}
 use Rattle.rx_check.specs.declared.figures.Figures.{Figures}
 use Rattle.rx_check.specs.declared.figures.Counted.{Counted}

@@ -1,7 +1,7 @@
 -- The names of a program, listed.
 use Rattle.std.specs.Prelude.{◌≡◌}
 use Rattle.rx_ast.specs.Syntax.{Program}
-use Rattle.rx_check.specs.Names.{component_names, resources}
+use Rattle.rx_rules.specs.Names.{component_names, resources}
 use Rattle.rx_check.specs.Checks.{function_names, context_names}
 use Rattle.rx_check.specs.declared.listing.Listing.{Listing}
 

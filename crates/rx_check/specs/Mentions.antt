@@ -3,8 +3,8 @@ use Rattle.std.specs.Prelude.{Bool, true, false, ◌||◌, List, [], ◌∷◌, 
 use Rattle.rx_base.specs.Values.{Name}
 use Rattle.rx_ast.specs.Syntax.{Expr, Links, Exprs, exprs, Attribute, key, computed, literal, KeyPlace, unkeyed, key_first, key_last, Slot, Slots, body_slots, Statement, state, reducer, context, use_resource, constant, effect, Parameter, integer, given_children, Line, Function, Component, Declaration, of_context, of_function, of_component, declared_name, Program}
 use Rattle.rx_ast.specs.Syntax as syntax
-use Rattle.rx_check.specs.Names.{has_name}
-use Rattle.rx_check.specs.Keys.{carries_key}
+use Rattle.rx_rules.specs.Names.{has_name}
+use Rattle.rx_rules.specs.Keys.{carries_key}
 use Rattle.rx_check.specs.declared.refusal.Count.TheVariants as count
 use Rattle.rx_check.specs.declared.mention.Mention.{Mention}
 use Rattle.rx_check.specs.declared.mention.Mention.TheVariants as mention

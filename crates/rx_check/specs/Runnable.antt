@@ -1,9 +1,9 @@
 -- What the machine relies on in a program that is accepted.
 use Rattle.std.specs.Prelude.{◌≡◌, ◌≤◌, true, false}
 use Rattle.rx_ast.specs.Syntax.{Program}
-use Rattle.rx_check.specs.Bounds.{node_bound, node_limit, depth_bound, root_waits}
-use Rattle.rx_check.specs.Keys.{KeysApart}
-use Rattle.rx_check.specs.Reads.{ReadsDeclared}
+use Rattle.rx_rules.specs.Bounds.{node_bound, node_limit, depth_bound, root_waits}
+use Rattle.rx_rules.specs.Keys.{KeysApart}
+use Rattle.rx_rules.specs.Reads.{ReadsDeclared}
 use Rattle.rx_check.specs.Limits.{limit_of}
 use Rattle.rx_check.specs.Checks.{is_rooted}
 use Rattle.rx_check.specs.declared.refusal.Count.TheVariants as count

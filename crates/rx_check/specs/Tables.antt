@@ -3,8 +3,8 @@ use Rattle.std.specs.Prelude.{◌≡◌, ℕ, ◌+◌, List, [], ◌∷◌, ◌+
 use Rattle.std.specs.Option.{option_map_or, option_and_then}
 use Rattle.rx_base.specs.Values.{Name}
 use Rattle.rx_ast.specs.Syntax.{Program, functions}
-use Rattle.rx_check.specs.Names.{has_name, component_names, resources, component_at, place_among, StateHook, hooks_of}
-use Rattle.rx_check.specs.Bounds.{node_bound, depth_bound}
+use Rattle.rx_rules.specs.Names.{has_name, component_names, resources, component_at, place_among, StateHook, hooks_of}
+use Rattle.rx_rules.specs.Bounds.{node_bound, depth_bound}
 use Rattle.rx_check.specs.Checks.{function_names, context_names}
 use Rattle.rx_check.specs.Accepted.{IsAccepted}
 use Rattle.rx_check.specs.declared.hook.HookKind.{HookKind}

@@ -1,7 +1,7 @@
 // A program that meets every check.
 ghost use Rattle.std.specs.Prelude.{◌≡◌, ◌<◌, ◌^◌, bytes_eq, position, length, filter_map};
-ghost use Rattle.rx_check.specs.Names.{component_names, resources, hook_in};
-ghost use Rattle.rx_check.specs.Bounds.{node_bound, depth_bound};
+ghost use Rattle.rx_rules.specs.Names.{component_names, resources, hook_in};
+ghost use Rattle.rx_rules.specs.Bounds.{node_bound, depth_bound};
 ghost use Rattle.rx_check.specs.Checks.{function_names, context_names};
 ghost use Rattle.rx_check.specs.Accepted.{IsAccepted};
 ghost use Rattle.rx_check.specs.Runnable.{IsRunnable};

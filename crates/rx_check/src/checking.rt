@@ -1,7 +1,7 @@
 // All checks of a program, in their order.
 ghost use Rattle.std.specs.Prelude.{◌≡◌, ◌⊎◌, [], ◌∷◌, IfOk, MatchOption, MatchResult, Some, None, option_map, filter, filter_map, length, slice_get};
-ghost use Rattle.rx_check.specs.Names.{component_names, resources as all_resources};
-ghost use Rattle.rx_check.specs.Bounds.{node_bound, node_limit, depth_bound};
+ghost use Rattle.rx_rules.specs.Names.{component_names, resources as all_resources};
+ghost use Rattle.rx_rules.specs.Bounds.{node_bound, node_limit, depth_bound};
 ghost use Rattle.rx_check.specs.Limits.{limit_of};
 ghost use Rattle.rx_check.specs.Mentions.{mentions as all_mentions};
 ghost use Rattle.rx_check.specs.Checks.{repeat_in, unknown_among, misfit_in, function_names, function_cycles, component_cycles, root_waits_for, outside_uses, first_over as over, cost_over};

@@ -4,7 +4,7 @@ ghost use Rattle.std.specs.List.{position_from};
 ghost use Rattle.rx_ast.specs.Syntax.{exprs_of, slots_of, body_slots, functions};
 ghost use Rattle.rx_ast.specs.ExprView.{links_of};
 ghost use Rattle.rx_ast.specs.SlotView.{key_place_of};
-ghost use Rattle.rx_check.specs.Names.{function_number};
+ghost use Rattle.rx_rules.specs.Names.{function_number};
 ghost use Rattle.rx_check.specs.Checks.{function_names, first_over, cost_over};
 ghost use Rattle.rx_check.specs.Limits.{cost_limit};
 ghost use Rattle.rx_check.specs.Costs.{expr_cost, links_cost, exprs_cost, lines_cost, body_cost, attribute_cost, attributes_cost, key_cost, slot_cost, slots_cost, tag_cost, statement_cost, statements_cost, cost_from, cost_round, cost_rounds};

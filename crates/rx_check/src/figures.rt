@@ -2,8 +2,8 @@
 ghost use Rattle.std.specs.Prelude.{◌≡◌, [], bytes_eq, IfOk, Some, IsTrue, length};
 ghost use Rattle.std.specs.List.{position_from};
 ghost use Rattle.rx_ast.specs.Syntax.{slots_of, body_slots, components};
-ghost use Rattle.rx_check.specs.Names.{component_names, component_number, root_name};
-ghost use Rattle.rx_check.specs.Bounds.{body_by, slot_by, slots_by, body_if, reads_resource};
+ghost use Rattle.rx_rules.specs.Names.{component_names, component_number, root_name};
+ghost use Rattle.rx_rules.specs.Bounds.{body_by, slot_by, slots_by, body_if, reads_resource};
 ghost use Rattle.rx_check.specs.Checks.{nesting_levels};
 ghost use Rattle.rx_check.specs.Figures.{counts_reads, no_figures, text_figures, children_figures, beside_figures, around_figures, repeated_figures, boundary_figures, component_figures, figures, known_in, tag_figures, round_of, rounds};
 

@@ -1,6 +1,6 @@
 // Which functions and components lead to themselves.
 ghost use Rattle.std.specs.Prelude.{◌≡◌, [], IfOk, MatchOption, Some, None, false, IsTrue, length, map, filter_map, slice_index_or};
-ghost use Rattle.rx_check.specs.Names.{component_names, function_number, component_number};
+ghost use Rattle.rx_rules.specs.Names.{component_names, function_number, component_number};
 ghost use Rattle.rx_check.specs.Checks.{function_names, called_in, placed_in, calls, places, function_cycles, component_cycles};
 ghost use Rattle.rx_check.specs.Graphs.{leads_to, name_on_cycle, cycle_names, leads, lead_round, lead_rounds};
 ghost use Rattle.rx_check.specs.Refusals.{first};

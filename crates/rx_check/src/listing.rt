@@ -1,6 +1,6 @@
 // The names that a program declares and reads.
 ghost use Rattle.std.specs.Prelude.{◌≡◌, OnOk, IfOk, fold};
-ghost use Rattle.rx_check.specs.Names.{component_names, resources, resources_of};
+ghost use Rattle.rx_rules.specs.Names.{component_names, resources, resources_of};
 ghost use Rattle.rx_check.specs.Checks.{function_names, context_names};
 ghost use Rattle.rx_check.specs.Tables.{with_name};
 

@@ -1,6 +1,6 @@
 // Names in order.
 ghost use Rattle.std.specs.Prelude.{◌≡◌, List, [], ◌∷◌, ◌++◌, OnOk, OnErr, bytes_eq, position, length, take};
-ghost use Rattle.rx_check.specs.Names.{has_name};
+ghost use Rattle.rx_rules.specs.Names.{has_name};
 
 use rx_base::Name;
 use std::alloc::{AllocError, Global};

@@ -2,8 +2,8 @@
 ghost use Rattle.std.specs.Prelude.{◌≡◌, false, List, [], ◌∷◌, ◌++◌, OnOk, IfOk, length};
 ghost use Rattle.rx_ast.specs.Syntax.{slots_of, repeated};
 ghost use Rattle.rx_ast.specs.SlotView.{key_place_of};
-ghost use Rattle.rx_check.specs.Names.{has_name};
-ghost use Rattle.rx_check.specs.Keys.{carries_key};
+ghost use Rattle.rx_rules.specs.Names.{has_name};
+ghost use Rattle.rx_rules.specs.Keys.{carries_key};
 ghost use Rattle.rx_check.specs.Mentions.{children_name, attributes_mentions, given_names, key_mentions, first_key_mentions, last_key_mentions, taken_first, is_filled, slot_mentions, slots_mentions};
 ghost use Rattle.rx_check.specs.Tags.{tag_mentions};
 

@@ -2,7 +2,7 @@
 ghost use Rattle.std.specs.Prelude.{◌≡◌, List, [], ◌∷◌, ◌++◌, OnOk, length};
 ghost use Rattle.rx_ast.specs.Syntax.{exprs, exprs_of};
 ghost use Rattle.rx_ast.specs.ExprView.{links_of};
-ghost use Rattle.rx_check.specs.Names.{has_name};
+ghost use Rattle.rx_rules.specs.Names.{has_name};
 ghost use Rattle.rx_check.specs.Mentions.{introduced, expr_mentions, links_mentions, exprs_mentions};
 
 use crate::mention::Mention;

@@ -8,7 +8,7 @@ use Rattle.rx_host.specs.declared.entry.HostEntry.{HostEntry}
 use Rattle.rx_host.specs.declared.entry.HostKind.{HostKind}
 use Rattle.rx_host.specs.declared.entry.HostKind.TheVariants as kind
 use Rattle.rx_host.specs.declared.entry.AttrEntry.{AttrEntry}
-use Rattle.rx_host.specs.Forests.{Body, tag, is_among, without}
+use Rattle.rx_forest.specs.Forests.{Body, tag, is_among, without}
 use Rattle.rx_host.specs.Kept.{entry_of, stands_under, children_kept, is_attr, value_kept, body_as, held_as, forest_as, AreDistinct, AreOwned, IsSound, given}
 use Rattle.rx_host.proofs.Entries.{self, same, flip, entry-named, entry-middle, distinct-parts, children-cons}
 use Rattle.rx_host.proofs.Placing.{without-middle}

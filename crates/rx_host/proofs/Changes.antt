@@ -8,7 +8,7 @@ use Rattle.std.proofs.lemmas.List.{set_split}
 use Rattle.std.proofs.Common.{sym, ◌∙◌, ap, subst}
 use Rattle.rx_host.specs.declared.entry.HostEntry.{HostEntry}
 use Rattle.rx_host.specs.declared.entry.AttrEntry.{AttrEntry}
-use Rattle.rx_host.specs.Forests.{HostForest, Held, with_held}
+use Rattle.rx_forest.specs.Forests.{HostForest, Held, with_held}
 use Rattle.rx_host.specs.Kept.{entry_of, stands_under, children_kept, held_as, forest_as, AreOwned, IsSound}
 use Rattle.rx_host.proofs.Entries.{flip, entry-middle, distinct-parts, distinct-join, children-middle}
 

@@ -8,7 +8,7 @@ use Rattle.rx_host.specs.declared.entry.HostEntry.{HostEntry}
 use Rattle.rx_host.specs.declared.entry.HostKind.{HostKind}
 use Rattle.rx_host.specs.declared.entry.HostKind.TheVariants as kind
 use Rattle.rx_host.specs.declared.entry.AttrEntry.{AttrEntry}
-use Rattle.rx_host.specs.Forests.{HostForest, is_tag, is_held, holds_tag, holds_letters, is_free, with_body, with_letters, marked, created, Becomes, CanBeMade}
+use Rattle.rx_forest.specs.Forests.{HostForest, is_tag, is_held, holds_tag, holds_letters, is_free, with_body, with_letters, marked, created, Becomes, CanBeMade}
 use Rattle.rx_host.specs.Kept.{entry_of, held_as, forest_as, making, marking}
 use Rattle.rx_host.proofs.Creating.{body_new}
 

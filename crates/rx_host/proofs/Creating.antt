@@ -7,7 +7,7 @@ use Rattle.rx_host.specs.declared.entry.HostEntry.{HostEntry}
 use Rattle.rx_host.specs.declared.entry.HostKind.{HostKind}
 use Rattle.rx_host.specs.declared.entry.HostKind.TheVariants as kind
 use Rattle.rx_host.specs.declared.entry.AttrEntry.{AttrEntry}
-use Rattle.rx_host.specs.Forests.{Body, tag, letters, new_host, created}
+use Rattle.rx_forest.specs.Forests.{Body, tag, letters, new_host, created}
 use Rattle.rx_host.specs.Kept.{entry_of, children_kept, body_as, held_as, forest_as, AreDistinct, AreOwned, IsSound}
 use Rattle.rx_host.proofs.Entries.{entry-middle, distinct-join, children-middle}
 use Rattle.rx_host.proofs.Changes.{nat_eq-turn, same-forest}

@@ -4,7 +4,7 @@ use Rattle.std.proofs.Common.{sym, ◌∙◌, ap, arith}
 use Rattle.std.proofs.lemmas.Bool.Decides.{nat_tests, Decides-eqb}
 use Rattle.std.proofs.lemmas.Option.{same_Some}
 use Rattle.rx_host.specs.declared.entry.HostEntry.{HostEntry}
-use Rattle.rx_host.specs.Forests.{without}
+use Rattle.rx_forest.specs.Forests.{without}
 use Rattle.rx_host.specs.Kept.{entry_of, stands_under, children_kept, AreDistinct}
 
 pub self : (n : ℕ) → nat_eq n n ≡ true

@@ -8,7 +8,7 @@ use Rattle.rx_base.specs.Values.{Name}
 use Rattle.rx_elem.specs.declared.attr.AttrValue.{AttrValue}
 use Rattle.rx_host.specs.declared.entry.HostEntry.{HostEntry}
 use Rattle.rx_host.specs.declared.entry.AttrEntry.{AttrEntry}
-use Rattle.rx_host.specs.Forests.{is_among, can_stand}
+use Rattle.rx_forest.specs.Forests.{is_among, can_stand}
 use Rattle.rx_host.specs.Kept.{entry_of, stands_under, children_kept, is_attr, held_as, forest_as, AreDistinct, AreOwned, IsSound, given}
 use Rattle.rx_host.specs.Steps.{HasNoOtherChild}
 use Rattle.rx_host.proofs.Entries.{self, flip, absent-head, entry-middle, distinct-parts}

@@ -4,7 +4,7 @@ use Rattle.std.specs.Option.{option_map_or}
 use Rattle.std.proofs.Common.{sym, ◌∙◌, ap, subst, append-nil}
 use Rattle.rx_host.specs.declared.entry.HostEntry.{HostEntry}
 use Rattle.rx_host.specs.declared.entry.AttrEntry.{AttrEntry}
-use Rattle.rx_host.specs.Forests.{without, insert_before, inserted, placed}
+use Rattle.rx_forest.specs.Forests.{without, insert_before, inserted, placed}
 use Rattle.rx_host.specs.Kept.{entry_of, stands_under, children_kept, held_as, forest_as, AreDistinct, IsSound}
 use Rattle.rx_host.proofs.Entries.{self, same, absent-head, absent-parts, entry-middle, distinct-parts, distinct-join, children-cons, children-append, children-middle, without-absent}
 use Rattle.rx_host.proofs.Changes.{same-forest, owned-same}

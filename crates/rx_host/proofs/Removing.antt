@@ -1,7 +1,7 @@
 -- A host is removed with all below it: its children are taken out one after another, each leaving its own children to the host.
 use Rattle.std.specs.Prelude.{◌≡◌, ◌⊎◌, ℕ, Bool, true, false, List, [], None, nat_eq, refl}
 use Rattle.std.proofs.Common.{sym, ◌∙◌, ap, subst, inl, inr}
-use Rattle.rx_host.specs.Forests.{HostForest, without, IsUnder, itself, below, is_among, Removed}
+use Rattle.rx_forest.specs.Forests.{HostForest, without, IsUnder, itself, below, is_among, Removed}
 use Rattle.rx_host.specs.Steps.{Adopts, TakesOut, HasNoOtherChild}
 use Rattle.rx_host.proofs.Entries.{self, same}
 

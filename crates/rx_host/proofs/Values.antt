@@ -9,7 +9,7 @@ use Rattle.rx_host.specs.declared.entry.HostEntry.{HostEntry}
 use Rattle.rx_host.specs.declared.entry.HostKind.{HostKind}
 use Rattle.rx_host.specs.declared.entry.HostKind.TheVariants as kind
 use Rattle.rx_host.specs.declared.entry.AttrEntry.{AttrEntry}
-use Rattle.rx_host.specs.Forests.{Body, Held, tag, with_body, with_value, valued}
+use Rattle.rx_forest.specs.Forests.{Body, Held, tag, with_body, with_value, valued}
 use Rattle.rx_host.specs.Kept.{entry_of, is_attr, value_kept, body_as, held_as, forest_as, AreOwned}
 use Rattle.rx_host.proofs.Entries.{same, entry-named}
 use Rattle.rx_host.proofs.Changes.{nat_eq-turn, same-forest}

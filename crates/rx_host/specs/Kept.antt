@@ -7,9 +7,9 @@ use Rattle.rx_host.specs.declared.entry.HostEntry.{HostEntry}
 use Rattle.rx_host.specs.declared.entry.AttrEntry.{AttrEntry}
 use Rattle.rx_host.specs.declared.entry.HostKind.{HostKind}
 use Rattle.rx_host.specs.declared.entry.HostKind.TheVariants as kind
-use Rattle.rx_host.specs.declared.op.HostOp.{HostOp}
-use Rattle.rx_host.specs.declared.op.HostOp.TheVariants as op
-use Rattle.rx_host.specs.Forests.{Body, tag, letters, Held, HostForest}
+use Rattle.rx_forest.specs.declared.op.HostOp.{HostOp}
+use Rattle.rx_forest.specs.declared.op.HostOp.TheVariants as op
+use Rattle.rx_forest.specs.Forests.{Body, tag, letters, Held, HostForest}
 
 -- A tree as it is kept: hosts, of which siblings stand in order, their attributes, and room for how many more of each
 pub record Kept : Type 0 where

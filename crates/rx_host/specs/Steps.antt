@@ -1,6 +1,6 @@
 -- The steps in which a host is removed: its children are taken out one after another, each leaving its own children to the host, and then the host.
 use Rattle.std.specs.Prelude.{◌≡◌, ◌⊎◌, ℕ, true, false, List, [], None, nat_eq}
-use Rattle.rx_host.specs.Forests.{HostForest, without, is_among}
+use Rattle.rx_forest.specs.Forests.{HostForest, without, is_among}
 
 -- a child of a host is taken out, and leaves its children to the host
 pub record Adopts (f : HostForest) (n : ℕ) (g : HostForest) : Type 0 where

@@ -3,13 +3,11 @@
 
 mod entry;
 mod lists;
-mod op;
 mod replaying;
 #[cfg(test)]
 mod tests;
 mod tree;
 
 pub use entry::HostKind;
-pub use op::HostOp;
 pub use replaying::replay;
 pub use tree::HostTree;

@@ -1,12 +1,12 @@
 // A list of operations, one after another.
 ghost use Rattle.std.specs.Prelude.{◌≡◌, ◌≤◌, length, IfOk, OnErr, OnOk};
-ghost use Rattle.rx_host.specs.Forests.{CanBeReplayed, Replays};
+ghost use Rattle.rx_forest.specs.Forests.{CanBeReplayed, Replays};
 ghost use Rattle.rx_host.specs.Kept.{forest_kept};
 
-use crate::op::HostOp;
 use crate::tree::HostTree;
 use rx_base::{Name, Str};
 use rx_elem::AttrValue;
+use rx_forest::HostOp;
 use std::alloc::{AllocError, Global};
 
 /// Does what these operations say, one after another. Where memory is wanting the tree stays as it was.

@@ -1,8 +1,8 @@
 // A tree of one host.
-use crate::op::HostOp;
 use crate::replaying::replay;
 use crate::tree::HostTree;
 use rx_base::Name;
+use rx_forest::HostOp;
 use std::test::Fail;
 
 #[test]

@@ -1,7 +1,7 @@
 // A tree of hosts.
 ghost use Rattle.std.specs.Prelude.{◌≡◌, ℕ, ◌+◌, ◌<◌, ◌≤◌, [], Some, None, true, false, length, is_some, OnOk};
-ghost use Rattle.rx_host.specs.declared.op.HostOp.TheVariants as op;
-ghost use Rattle.rx_host.specs.Forests.{Becomes, CanBeMade};
+ghost use Rattle.rx_forest.specs.declared.op.HostOp.TheVariants as op;
+ghost use Rattle.rx_forest.specs.Forests.{Becomes, CanBeMade};
 ghost use Rattle.rx_host.specs.Kept.{children_kept, entry_of, forest_as, forest_kept, making, marking};
 ghost use Rattle.rx_host.specs.Steps.{Adopts, HasNoOtherChild, TakesOut};
 
@@ -10,9 +10,9 @@ use crate::lists::{
     forget_attr, forget_attrs, give_children, place_before, place_of, place_of_attr,
     place_of_child, push_attr,
 };
-use crate::op::HostOp;
 use rx_base::{Name, Str};
 use rx_elem::AttrValue;
+use rx_forest::HostOp;
 use std::alloc::{AllocError, Global};
 use std::marker::Model;
 

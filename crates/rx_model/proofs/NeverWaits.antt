@@ -8,15 +8,15 @@ use Rattle.std.specs.List.{list_any, zip, range_with_len, position_or_len}
 use Rattle.rx_base.specs.Arithmetic.{is_zero}
 use Rattle.rx_ast.specs.Syntax.{Statement, Slot, Slots, Component, Program, components, body_slots}
 use Rattle.rx_ast.specs.Syntax as syntax
-use Rattle.rx_check.specs.Names.{component_number, component_at, component_names, root_name, resource_in}
-use Rattle.rx_check.specs.Bounds.{Waits, may_wait, slot_by, slots_by, body_by, body_if, reads_resource, root_waits}
+use Rattle.rx_rules.specs.Names.{component_number, component_at, component_names, root_name, resource_in}
+use Rattle.rx_rules.specs.Bounds.{Waits, may_wait, slot_by, slots_by, body_by, body_if, reads_resource, root_waits}
 use Rattle.rx_elem.specs.Elements.{Element, Elements, listed, gathered}
 use Rattle.rx_elem.specs.Elements as elements
 use Rattle.rx_elem.specs.Trees.{Node, Forest, Mark, children_if, fallback_if}
 use Rattle.rx_elem.specs.Compare.{old_nodes}
-use Rattle.rx_eval.specs.Expressions.{Env, value_in}
-use Rattle.rx_eval.specs.Body.{Inputs, Body, ready, Frame, Taken, taken, take_one, take_all, and_then, element_of, elements_of, finished, opening_frame, body_of, turns}
-use Rattle.rx_eval.specs.Fresh.{Sight, Contexts, Place, empty, made, waits, Places, all_made, one_waits, before, render_all, render_list, shape_of_component, shape_of_body, inputs_at, old_instance, over, over_boundary, place_of, rendered, fresh, default_contexts}
+use Rattle.rx_meaning.specs.Expressions.{Env, value_in}
+use Rattle.rx_meaning.specs.Body.{Inputs, Body, ready, Frame, Taken, taken, take_one, take_all, and_then, element_of, elements_of, finished, opening_frame, body_of, turns}
+use Rattle.rx_meaning.specs.Fresh.{Sight, Contexts, Place, empty, made, waits, Places, all_made, one_waits, before, render_all, render_list, shape_of_component, shape_of_body, inputs_at, old_instance, over, over_boundary, place_of, rendered, fresh, default_contexts}
 use Rattle.rx_model.specs.Laws.{AppNeverWaits}
 
 -- every component's reads count

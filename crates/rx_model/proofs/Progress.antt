@@ -12,13 +12,13 @@ use Rattle.rx_lane.specs.declared.lane.Lane.TheVariants as lane
 use Rattle.rx_lane.specs.Lanes.{Lanes, has, same_lane, is_transition, lanes_where, no_lanes, one, union, minus, intersection, transitions}
 use Rattle.rx_lane.specs.SetLaws.{lanes_agree, has-lanes_where}
 use Rattle.rx_ast.specs.Syntax.{Program}
-use Rattle.rx_check.specs.Names.{resource_number}
-use Rattle.rx_script.specs.declared.step.LaneWord.{LaneWord}
-use Rattle.rx_script.specs.declared.step.LaneWord.TheVariants as word
-use Rattle.rx_script.specs.declared.step.Dispatch.{Dispatch}
-use Rattle.rx_script.specs.declared.step.Step.{Step}
-use Rattle.rx_script.specs.declared.step.Step.TheVariants as step
-use Rattle.rx_script.specs.Steps.{word_of, path_of}
+use Rattle.rx_rules.specs.Names.{resource_number}
+use Rattle.rx_step.specs.declared.step.LaneWord.{LaneWord}
+use Rattle.rx_step.specs.declared.step.LaneWord.TheVariants as word
+use Rattle.rx_step.specs.declared.step.Dispatch.{Dispatch}
+use Rattle.rx_step.specs.declared.step.Step.{Step}
+use Rattle.rx_step.specs.declared.step.Step.TheVariants as step
+use Rattle.rx_step.specs.Steps.{word_of, path_of}
 use Rattle.rx_elem.specs.Trees.{Node}
 use Rattle.rx_elem.specs.Spots.{Mounted}
 use Rattle.rx_elem.specs.Numbers.{numbered}
@@ -28,8 +28,8 @@ use Rattle.rx_sched.specs.declared.choice.Choice.{Choice}
 use Rattle.rx_sched.specs.declared.choice.Choice.TheVariants as choice
 use Rattle.rx_sched.specs.Links.{Links, one_link_on, links_on}
 use Rattle.rx_sched.specs.Schedule.{Schedule, after_commit, after_deferral, choose, same_rank, with_default, lanes_to_start}
-use Rattle.rx_eval.specs.Outcome.{Outcome, commit, defer, outcome, still_pending, visible_awaits}
-use Rattle.rx_report.specs.Report.{Counts}
+use Rattle.rx_meaning.specs.Outcome.{Outcome, commit, defer, outcome, still_pending, visible_awaits}
+use Rattle.rx_lines.specs.Lines.{Counts}
 use Rattle.rx_model.specs.State.{State, Progress, opening, instance_found}
 use Rattle.rx_model.specs.Stretch.{Stretch, silent, followed_by}
 use Rattle.rx_model.specs.Accepting.{accepted, dispatched, dispatched_to, dispatched_for, in_event, lane_of, next_update, op_of, target_of, resolved, resolved_as, between_events}

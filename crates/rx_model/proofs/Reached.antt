@@ -4,14 +4,14 @@ use Rattle.std.specs.Prelude.{IfSome}
 use Rattle.rx_lane.specs.declared.lane.Lane.TheVariants as lane
 use Rattle.rx_lane.specs.Lanes.{has}
 use Rattle.rx_ast.specs.Syntax.{Program}
-use Rattle.rx_check.specs.Names.{resource_number}
-use Rattle.rx_script.specs.declared.step.Step.{Step}
-use Rattle.rx_script.specs.declared.step.Step.TheVariants as step
-use Rattle.rx_script.specs.Steps.{path_of}
+use Rattle.rx_rules.specs.Names.{resource_number}
+use Rattle.rx_step.specs.declared.step.Step.{Step}
+use Rattle.rx_step.specs.declared.step.Step.TheVariants as step
+use Rattle.rx_step.specs.Steps.{path_of}
 use Rattle.rx_sched.specs.declared.choice.Choice.{Choice}
 use Rattle.rx_sched.specs.declared.choice.Choice.TheVariants as choice
 use Rattle.rx_queue.specs.Journal.{resolved_now}
-use Rattle.rx_eval.specs.Outcome.{outcome}
+use Rattle.rx_meaning.specs.Outcome.{outcome}
 use Rattle.rx_model.specs.State.{State, Progress, opening, instance_found}
 use Rattle.rx_model.specs.Stretch.{Stretch, silent, followed_by}
 use Rattle.rx_model.specs.Accepting.{between_events}

@@ -7,7 +7,7 @@ use Rattle.rx_lane.specs.declared.lane.Lane.TheVariants.{Sync, Input, Default, T
 use Rattle.rx_lane.specs.Lanes.{Lanes, all_lanes, has, is_empty, lanes_where}
 use Rattle.rx_lane.specs.SetLaws.{has-lanes_where}
 use Rattle.rx_base.specs.Values.{Text, Name}
-use Rattle.rx_report.specs.Report.{joined, lane_name, part_text, lanes_text, last_line, end_quiet, end_pending}
+use Rattle.rx_lines.specs.Lines.{joined, lane_name, part_text, lanes_text, last_line, end_quiet, end_pending}
 
 -- the texts that are left, where none or some came before them
 abbrev pub left_of : Bool → Text → List Text → Text

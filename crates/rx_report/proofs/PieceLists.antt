@@ -4,7 +4,7 @@ use Rattle.std.specs.Prelude.{map, flat_map, replicate}
 use Rattle.std.specs.List.{zip}
 use Rattle.std.proofs.lemmas.List.{drop_more, drop_all, replicate-append-replicate}
 use Rattle.rx_base.specs.Values.{Text, Name}
-use Rattle.rx_report.specs.Report.{hook_text}
+use Rattle.rx_lines.specs.Lines.{hook_text}
 
 -- what is written by now is these pieces up to those that are left
 pub record Writes {A : Type 0} (piece : A → Text) (log old : Text) (all left : List A) : Type 0 where

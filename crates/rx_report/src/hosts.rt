@@ -1,13 +1,13 @@
 // Hosts, and the operations on them.
 ghost use Rattle.std.specs.Prelude.{◌≡◌, ◌++◌, ◌*◌, codes, flat_map, replicate, OnOk};
 ghost use Rattle.rx_base.specs.Values.{in_quotes};
-ghost use Rattle.rx_host.specs.Hosts.{tag, letters};
-ghost use Rattle.rx_report.specs.Report as report;
+ghost use Rattle.rx_forest.specs.Hosts.{tag, letters};
+ghost use Rattle.rx_lines.specs.Lines as report;
 
 use crate::draft::Draft;
 use rx_base::{Name, Str};
 use rx_elem::{Attr, AttrValue};
-use rx_host::HostOp;
+use rx_forest::HostOp;
 use std::alloc::AllocError;
 
 impl Draft {

@@ -4,7 +4,7 @@ ghost use Rattle.std.specs.List.{zip};
 ghost use Rattle.std.specs.Fmt.{signed_decimal};
 ghost use Rattle.rx_base.specs.Values.{in_quotes};
 ghost use Rattle.rx_lane.specs.Lanes.{has, lanes_where};
-ghost use Rattle.rx_report.specs.Report as report;
+ghost use Rattle.rx_lines.specs.Lines as report;
 
 use crate::draft::Draft;
 use itoa::Buffer;

@@ -2,15 +2,15 @@
 ghost use Rattle.std.specs.Prelude.{◌≡◌, ℕ, [], take, length, map, OnOk, OnErr};
 ghost use Rattle.std.specs.List.{zip};
 ghost use Rattle.rx_elem.specs.Trees.{Node};
-ghost use Rattle.rx_host.specs.Hosts.{tag, letters};
+ghost use Rattle.rx_forest.specs.Hosts.{tag, letters};
 ghost use Rattle.rx_lane.specs.Lanes.{has, lanes_where};
-ghost use Rattle.rx_report.specs.Report as report;
+ghost use Rattle.rx_lines.specs.Lines as report;
 
 use crate::draft::Draft;
 use rx_base::{Int, Name, Str};
 use rx_effect::LogLine;
 use rx_elem::Attr;
-use rx_host::HostOp;
+use rx_forest::HostOp;
 use rx_lane::Lanes;
 use std::alloc::{AllocError, Global};
 use std::marker::Model;
@@ -28,7 +28,7 @@ pub struct Report {
 
 impl Model for Report {
     ghost use Rattle.std.specs.Prelude.{◌++◌};
-    ghost use Rattle.rx_report.specs.Report.{Written};
+    ghost use Rattle.rx_lines.specs.Lines.{Written};
 
     ghost Value = { Written };
 

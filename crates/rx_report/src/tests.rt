@@ -3,7 +3,7 @@ use crate::report::Report;
 use rx_base::{Int, Ints, Name, Str};
 use rx_effect::LogLine;
 use rx_elem::{Attr, AttrValue};
-use rx_host::HostOp;
+use rx_forest::HostOp;
 use rx_lane::{Lane, Lanes};
 use std::test::Fail;
 

@@ -4,7 +4,7 @@ use Rattle.std.specs.Int.{w32}
 use Rattle.std.proofs.lemmas.Bool.Decides.{nat_tests}
 use Rattle.std.proofs.lemmas.Int.{ints}
 use Rattle.rx_base.specs.Values.{wrap}
-use Rattle.rx_script.specs.Steps.{Path}
+use Rattle.rx_step.specs.Steps.{Path}
 use Rattle.rx_script.specs.Lines.{fits_width, path_in_bounds, instance_limit, step_limit}
 use Rattle.rx_script.specs.Readings.{held, held_at, held_integer, held_value, held_path}
 

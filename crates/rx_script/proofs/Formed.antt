@@ -4,13 +4,13 @@ use Rattle.std.specs.Prelude.{position, option_and_then}
 use Rattle.std.specs.Borrow.{Bor}
 use Rattle.rx_base.specs.Values.{Name, Text}
 use Rattle.rx_ast.specs.Syntax.{Program}
-use Rattle.rx_check.specs.Names.{component_names, root_name}
+use Rattle.rx_rules.specs.Names.{component_names, root_name}
 use Rattle.rx_check.specs.Tables.{hook_named}
-use Rattle.rx_script.specs.declared.step.Dispatch.TheVariants.{Set, Call, Send}
-use Rattle.rx_script.specs.declared.step.Step.{Step}
-use Rattle.rx_script.specs.declared.step.Step.TheVariants as step
+use Rattle.rx_step.specs.declared.step.Dispatch.TheVariants.{Set, Call, Send}
+use Rattle.rx_step.specs.declared.step.Step.{Step}
+use Rattle.rx_step.specs.declared.step.Step.TheVariants as step
 use Rattle.rx_script.specs.declared.form.Form.{Form}
-use Rattle.rx_script.specs.Steps.{Path}
+use Rattle.rx_step.specs.Steps.{Path}
 use Rattle.rx_script.specs.Lines.{form_of, meant, formed, bad, good, bad_line, unknown_target, out_of_range, has_targets, in_bounds, fits_width, path_in_bounds, step_limit, target_from, target_of, hook_at, is_state, is_reducer, is_updater}
 use Rattle.rx_script.specs.Readings.{held_path, held_step, reading, form_in_bounds}
 use Rattle.rx_script.proofs.Bounds.{fits-held, limit-held, one-held, path-held, held-small, held-path-small, held_value-small, both-true}

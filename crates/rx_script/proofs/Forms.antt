@@ -2,13 +2,13 @@
 use Rattle.std.proofs.Common.{◌≡◌, ◌∙◌, sym, ap, ◌≤◌, ◌<◌, ℤ, Bool, true, false, cond, List, [], ◌∷◌, length, map, get_or, Option, Some, None, option_map, refl, arith, bytes_eq, codes}
 use Rattle.std.specs.Borrow.{Bor}
 use Rattle.rx_base.specs.Values.{Name, Text}
-use Rattle.rx_script.specs.declared.step.LaneWord.{LaneWord}
-use Rattle.rx_script.specs.declared.step.Dispatch.TheVariants.{Set, Call, Send}
-use Rattle.rx_script.specs.declared.step.Step.{Step}
-use Rattle.rx_script.specs.declared.step.Step.TheVariants as step
+use Rattle.rx_step.specs.declared.step.LaneWord.{LaneWord}
+use Rattle.rx_step.specs.declared.step.Dispatch.TheVariants.{Set, Call, Send}
+use Rattle.rx_step.specs.declared.step.Step.{Step}
+use Rattle.rx_step.specs.declared.step.Step.TheVariants as step
 use Rattle.rx_script.specs.declared.form.Place.{Place}
 use Rattle.rx_script.specs.declared.form.Form.{Form}
-use Rattle.rx_script.specs.Steps.{Path}
+use Rattle.rx_step.specs.Steps.{Path}
 use Rattle.rx_script.specs.Words.{lower_of, integer_of}
 use Rattle.rx_script.specs.Lines.{◌◂◌, lane_of, path_of, form_of, value_form, call_form}
 use Rattle.rx_script.specs.Readings.{held_path, held_value, held_integer, place_of, reading, value_reading, call_reading}

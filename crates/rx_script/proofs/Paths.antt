@@ -4,7 +4,7 @@ use Rattle.std.specs.Borrow.{Bor}
 use Rattle.std.specs.List.{slice_split}
 use Rattle.std.proofs.lemmas.List.{drop_more}
 use Rattle.rx_base.specs.Values.{Text, Name}
-use Rattle.rx_script.specs.Steps.{Path}
+use Rattle.rx_step.specs.Steps.{Path}
 use Rattle.rx_script.specs.Lines.{◌◂◌, part_of, parts_of, is_at_sign}
 use Rattle.rx_script.specs.Readings.{held_part, held_path}
 

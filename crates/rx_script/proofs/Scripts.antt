@@ -5,7 +5,7 @@ use Rattle.std.specs.Str.Lines.{strip_carriage_return}
 use Rattle.std.proofs.lemmas.List.Splits.{length-slice_split}
 use Rattle.rx_base.specs.Values.{Text}
 use Rattle.rx_ast.specs.Syntax.{Program}
-use Rattle.rx_script.specs.declared.step.Step.{Step}
+use Rattle.rx_step.specs.declared.step.Step.{Step}
 use Rattle.rx_script.specs.declared.script.ScriptError.{ScriptError}
 use Rattle.rx_script.specs.declared.line.LineError.{LineError}
 use Rattle.rx_script.specs.declared.line.LineError.TheVariants as line_error

@@ -4,18 +4,18 @@ use Rattle.std.specs.List.{list_all, slice_split}
 use Rattle.std.specs.Option.{option_map_or}
 use Rattle.rx_base.specs.Values.{Text, Name}
 use Rattle.rx_ast.specs.Syntax.{Program}
-use Rattle.rx_check.specs.Names.{component_names, resources, root_name}
+use Rattle.rx_rules.specs.Names.{component_names, resources, root_name}
 use Rattle.rx_check.specs.Checks.{function_names}
 use Rattle.rx_check.specs.Tables.{hook_named, parameter_count}
 use Rattle.rx_check.specs.declared.hook.HookKind.{HookKind}
 use Rattle.rx_check.specs.declared.hook.HookKind.TheVariants as kind
-use Rattle.rx_script.specs.declared.step.LaneWord.{LaneWord}
-use Rattle.rx_script.specs.declared.step.LaneWord.TheVariants.{Sync, Input, Default, Transition}
-use Rattle.rx_script.specs.declared.step.Dispatch.{Dispatch}
-use Rattle.rx_script.specs.declared.step.Dispatch.TheVariants.{Set, Call, Send}
-use Rattle.rx_script.specs.declared.step.Step.{Step}
-use Rattle.rx_script.specs.declared.step.Step.TheVariants as step
-use Rattle.rx_script.specs.Steps.{Path, path_of as path_in}
+use Rattle.rx_step.specs.declared.step.LaneWord.{LaneWord}
+use Rattle.rx_step.specs.declared.step.LaneWord.TheVariants.{Sync, Input, Default, Transition}
+use Rattle.rx_step.specs.declared.step.Dispatch.{Dispatch}
+use Rattle.rx_step.specs.declared.step.Dispatch.TheVariants.{Set, Call, Send}
+use Rattle.rx_step.specs.declared.step.Step.{Step}
+use Rattle.rx_step.specs.declared.step.Step.TheVariants as step
+use Rattle.rx_step.specs.Steps.{Path, path_of as path_in}
 use Rattle.rx_script.specs.Words.{lines_of, words_of, natural_of, integer_of, upper_of, lower_of, resource_of}
 
 -- Forms

@@ -2,18 +2,18 @@
 use Rattle.std.specs.Prelude.{◌≡◌, ℕ, Bool, true, option_map, ◌&&◌, nat_le, ◌^◌, ◌-◌, min, ℤ, pos, negsuc, List, [], ◌∷◌, map, Option, Some, None, option_and_then, Result, Err}
 use Rattle.std.specs.Int.{w32}
 use Rattle.rx_base.specs.Values.{wrap, Name, Text}
-use Rattle.rx_script.specs.declared.step.Dispatch.{Dispatch}
-use Rattle.rx_script.specs.declared.step.Dispatch.TheVariants.{Set, Call, Send}
-use Rattle.rx_script.specs.declared.step.Step.{Step}
-use Rattle.rx_script.specs.declared.step.Step.TheVariants as step
+use Rattle.rx_step.specs.declared.step.Dispatch.{Dispatch}
+use Rattle.rx_step.specs.declared.step.Dispatch.TheVariants.{Set, Call, Send}
+use Rattle.rx_step.specs.declared.step.Step.{Step}
+use Rattle.rx_step.specs.declared.step.Step.TheVariants as step
 use Rattle.rx_script.specs.declared.form.Form.{Form}
 use Rattle.rx_script.specs.declared.form.Place.{Place}
-use Rattle.rx_script.specs.declared.step.LaneWord.{LaneWord}
+use Rattle.rx_step.specs.declared.step.LaneWord.{LaneWord}
 use Rattle.rx_script.specs.declared.script.ScriptError.{ScriptError}
 use Rattle.rx_script.specs.declared.script.ScriptError.TheVariants.{BadLine, UnknownTarget, OutOfRange, OutOfMemory}
 use Rattle.rx_script.specs.declared.line.LineError.{LineError}
 use Rattle.rx_script.specs.declared.line.LineError.TheVariants as line
-use Rattle.rx_script.specs.Steps.{Path, path_of}
+use Rattle.rx_step.specs.Steps.{Path, path_of}
 use Rattle.rx_script.specs.Words.{lower_of, natural_of, opposite}
 use Rattle.rx_script.specs.Lines.{◌◂◌, lane_of, path_of as written_path, operand, fits_width, path_in_bounds, step_limit, bad_line, unknown_target, out_of_range, Line, silent, good, bad, BadStep}
 

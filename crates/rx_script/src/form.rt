@@ -5,9 +5,9 @@ ghost use Rattle.rx_script.specs.Readings.{at_place, call_at_place, call_reading
 ghost use Rattle.rx_script.specs.Words.{integer_of, natural_of, resource_of};
 
 use crate::path::{is_path_in_bounds, read_path};
-use crate::step::{Dispatch, LaneWord, Path, Step};
 use crate::words::{integer, lower, natural, resource};
 use rx_base::{Int, Name};
+use rx_step::{Dispatch, LaneWord, Path, Step};
 use std::alloc::{AllocError, Global};
 
 /// A step whose names may name nothing and whose numbers may be out of their bounds.

@@ -4,10 +4,10 @@ ghost use Rattle.rx_script.specs.Lines.{is_comment as is_comment_line, line_of, 
 ghost use Rattle.rx_script.specs.Readings.{IsFault, good_if};
 
 use crate::form::{is_in_bounds, read_form};
-use crate::step::Step;
 use crate::targets::has_targets;
 use crate::words::words;
 use rx_check::Checked;
+use rx_step::Step;
 use std::alloc::{AllocError, Global};
 
 /// Why a line is no step.

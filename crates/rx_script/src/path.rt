@@ -4,9 +4,9 @@ ghost use Rattle.std.specs.List.{slice_split};
 ghost use Rattle.rx_script.specs.Lines.{is_at_sign, is_slash, part_of, parts_of, path_in_bounds, path_of};
 ghost use Rattle.rx_script.specs.Readings.{held_part, held_path};
 
-use crate::step::Path;
 use crate::words::{natural, upper};
 use rx_base::Name;
+use rx_step::Path;
 use std::alloc::{AllocError, Global};
 
 /// The greatest number of an instance in a path.

@@ -6,8 +6,8 @@ ghost use Rattle.rx_script.specs.Readings.{IsErrorAt, Refuses, found_steps};
 
 use crate::input::{first_piece, without_return};
 use crate::line::{LineError, read_line};
-use crate::step::Step;
 use rx_check::Checked;
+use rx_step::Step;
 use std::alloc::{AllocFailed, Global};
 
 /// Why a script has no steps: the first line that is bad, counted from 1.

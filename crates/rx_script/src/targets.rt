@@ -2,9 +2,9 @@
 ghost use Rattle.std.specs.Prelude.{◌≡◌};
 ghost use Rattle.rx_script.specs.Lines.{has_targets as are_targets_there, hook_at, is_reducer as is_one_of_reducer, is_state as is_one_of_state, is_updater as is_one_of_two, target_from, target_of};
 
-use crate::step::{Dispatch, Path, Step};
 use rx_base::Name;
 use rx_check::{Checked, HookKind};
+use rx_step::{Dispatch, Path, Step};
 
 /// The component that the rest of a path ends at, if each of its names is one of a component.
 fn target_behind(checked: &Checked, root: u32, parts: &[(Name, u64)]) -> Option<u32>

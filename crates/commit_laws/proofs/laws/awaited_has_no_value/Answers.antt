@@ -1,6 +1,6 @@
 use Rattle.rx_elem.specs.Numbers.{numbered}
 use Rattle.std.specs.Prelude.{Some}
-use Rattle.rx_eval.specs.Outcome.{visible_awaits}
+use Rattle.rx_meaning.specs.Outcome.{visible_awaits}
 use Rattle.commit_laws.proofs.NewlyHidden.{awaited_open, committed_open, deferred_open}
 use Rattle.commit_laws.proofs.laws.awaited_has_no_value.Goals as goal
 

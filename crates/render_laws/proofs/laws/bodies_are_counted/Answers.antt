@@ -1,4 +1,4 @@
-use Rattle.rx_eval.specs.Counts.{each_body}
+use Rattle.rx_meaning.specs.Counts.{each_body}
 use Rattle.render_laws.proofs.Counting.{spent_and_left}
 use Rattle.render_laws.proofs.VisitCounts.{bodies_are_visits, places_are_visits}
 use Rattle.render_laws.proofs.UnitBound.{more_units_than_bodies}

@@ -1,6 +1,6 @@
 use Rattle.std.proofs.Common.{◌≡◌, ◌≤◌, drop}
 use Rattle.std.specs.Prelude.{filter_map}
-use Rattle.rx_check.specs.Names.{hook_in}
+use Rattle.rx_rules.specs.Names.{hook_in}
 use Rattle.rx_check.specs.Tables.{hook_among}
 use Rattle.rx_check.proofs.checked.hook_among.Given as goal
 

@@ -1,6 +1,6 @@
 use Rattle.std.proofs.Common.{◌≡◌, sym, ap, ◌∙◌}
-use Rattle.rx_check.specs.Names.{component_number, root_name}
-use Rattle.rx_check.specs.Bounds.{body_by}
+use Rattle.rx_rules.specs.Names.{component_number, root_name}
+use Rattle.rx_rules.specs.Bounds.{body_by}
 use Rattle.rx_check.specs.Figures.{figures}
 use Rattle.rx_check.specs.declared.figures.Counted.TheVariants as counted
 use Rattle.rx_check.proofs.Figured.{none-first, not-true}

@@ -1,7 +1,7 @@
 use Rattle.std.proofs.Common.{◌≡◌, sym, ap, ◌∙◌}
 use Rattle.std.specs.Prelude.{bytes_eq}
-use Rattle.rx_check.specs.Names.{component_number, root_name}
-use Rattle.rx_check.specs.Bounds.{body_by, may_wait}
+use Rattle.rx_rules.specs.Names.{component_number, root_name}
+use Rattle.rx_rules.specs.Bounds.{body_by, may_wait}
 use Rattle.rx_check.specs.Checks.{nesting_levels}
 use Rattle.rx_check.specs.Figures.{figures}
 use Rattle.rx_check.specs.declared.figures.Counted.TheVariants as counted

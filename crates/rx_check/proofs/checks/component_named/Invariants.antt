@@ -1,7 +1,7 @@
 use Rattle.std.proofs.Common.{◌≡◌, drop}
 use Rattle.std.specs.Prelude.{filter_map, find, bytes_eq}
 use Rattle.rx_ast.specs.Syntax.{as_component}
-use Rattle.rx_check.specs.Names.{component_named}
+use Rattle.rx_rules.specs.Names.{component_named}
 use Rattle.rx_check.proofs.checks.component_named.Given as goal
 
 -- what is wanted is among those that are left

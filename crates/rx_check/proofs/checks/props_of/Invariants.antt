@@ -1,6 +1,6 @@
 use Rattle.std.proofs.Common.{◌≡◌, ◌++◌, drop}
 use Rattle.std.specs.Prelude.{filter_map}
-use Rattle.rx_check.specs.Names.{integer_in, prop_names}
+use Rattle.rx_rules.specs.Names.{integer_in, prop_names}
 use Rattle.rx_check.proofs.checks.props_of.Given as goal
 
 -- what is listed and what is left make the whole

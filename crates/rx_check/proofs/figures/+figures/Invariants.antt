@@ -2,7 +2,7 @@ use Rattle.std.proofs.Common.{◌≡◌, ◌+◌, ◌*◌, ◌≤◌, length, dr
 use Rattle.rx_ast.specs.Syntax.{slots_of, at_once, no_slots}
 use Rattle.rx_ast.specs.SlotView.{tagged}
 use Rattle.rx_ast.specs.Depth.{slot_depth, slots_depth}
-use Rattle.rx_check.specs.Bounds.{slots_by}
+use Rattle.rx_rules.specs.Bounds.{slots_by}
 use Rattle.rx_check.specs.Figures.{figures, known_in}
 use Rattle.rx_check.proofs.figures.+figures.Given as goal
 

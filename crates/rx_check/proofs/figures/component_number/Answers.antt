@@ -2,7 +2,7 @@ use Rattle.std.proofs.Common.{ap, sym, ◌∙◌}
 use Rattle.std.specs.Prelude.{unwrap_or, bytes_eq}
 use Rattle.std.proofs.lemmas.Iterator.Adapters.{position_from-zero}
 use Rattle.rx_base.specs.Values.{Name}
-use Rattle.rx_check.specs.Names.{component_names}
+use Rattle.rx_rules.specs.Names.{component_names}
 use Rattle.rx_check.proofs.figures.component_number.Goals as goal
 
 pub returns : goal.returns

@@ -2,7 +2,7 @@ use Rattle.std.proofs.Common.{◌≡◌, ◌≤◌, map, drop}
 use Rattle.std.specs.Prelude.{filter_map, bytes_eq}
 use Rattle.std.specs.List.{position_from}
 use Rattle.rx_ast.specs.Syntax.{as_component}
-use Rattle.rx_check.specs.Names.{component_names}
+use Rattle.rx_rules.specs.Names.{component_names}
 use Rattle.rx_check.proofs.figures.component_place.Given as goal
 
 -- the name is looked for among those that are left, which are numbered from here on

@@ -1,8 +1,8 @@
 use Rattle.std.proofs.Common.{◌≡◌, drop}
 use Rattle.std.specs.Prelude.{is_some}
 use Rattle.std.specs.List.{list_any}
-use Rattle.rx_check.specs.Names.{resource_in}
-use Rattle.rx_check.specs.Bounds.{reads_resource}
+use Rattle.rx_rules.specs.Names.{resource_in}
+use Rattle.rx_rules.specs.Bounds.{reads_resource}
 use Rattle.rx_check.proofs.figures.reads_resource.Given as goal
 
 -- a read is looked for among the statements that are left

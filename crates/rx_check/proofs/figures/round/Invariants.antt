@@ -1,7 +1,7 @@
 use Rattle.std.proofs.Common.{◌≡◌, ◌++◌, Some, map, drop}
 use Rattle.std.specs.Prelude.{filter_map}
 use Rattle.rx_ast.specs.Syntax.{as_component}
-use Rattle.rx_check.specs.Bounds.{body_if}
+use Rattle.rx_rules.specs.Bounds.{body_if}
 use Rattle.rx_check.specs.Figures.{figures, known_in, round_of}
 use Rattle.rx_check.proofs.figures.round.Given as goal
 

@@ -1,6 +1,6 @@
 use Rattle.std.proofs.Common.{◌≡◌, ◌++◌, map, drop}
 use Rattle.std.specs.Prelude.{filter_map}
-use Rattle.rx_check.specs.Names.{function_number}
+use Rattle.rx_rules.specs.Names.{function_number}
 use Rattle.rx_check.specs.Checks.{called_in}
 use Rattle.rx_check.proofs.graph.called.Given as goal
 

@@ -1,7 +1,7 @@
 use Rattle.std.proofs.Common.{◌≡◌, ◌++◌, map, drop}
 use Rattle.std.specs.Prelude.{filter_map}
 use Rattle.rx_ast.specs.Syntax.{as_function}
-use Rattle.rx_check.specs.Names.{function_number}
+use Rattle.rx_rules.specs.Names.{function_number}
 use Rattle.rx_check.specs.Mentions.{function_mentions}
 use Rattle.rx_check.specs.Checks.{called_in, calls}
 use Rattle.rx_check.proofs.graph.calls_of.Given as goal

@@ -1,6 +1,6 @@
 use Rattle.std.proofs.Common.{◌≡◌, ◌++◌, map, drop}
 use Rattle.std.specs.Prelude.{filter_map}
-use Rattle.rx_check.specs.Names.{component_number}
+use Rattle.rx_rules.specs.Names.{component_number}
 use Rattle.rx_check.specs.Checks.{placed_in}
 use Rattle.rx_check.proofs.graph.placed.Given as goal
 

@@ -1,7 +1,7 @@
 use Rattle.std.proofs.Common.{◌≡◌, ◌++◌, map, drop}
 use Rattle.std.specs.Prelude.{filter_map}
 use Rattle.rx_ast.specs.Syntax.{as_component}
-use Rattle.rx_check.specs.Names.{component_number}
+use Rattle.rx_rules.specs.Names.{component_number}
 use Rattle.rx_check.specs.Mentions.{component_mentions}
 use Rattle.rx_check.specs.Checks.{placed_in, places}
 use Rattle.rx_check.proofs.graph.places_of.Given as goal

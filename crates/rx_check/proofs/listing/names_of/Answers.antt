@@ -2,7 +2,7 @@ use Rattle.std.proofs.Common.{arith}
 use Rattle.std.proofs.lemmas.Grind.{common_steps}
 use Rattle.std.specs.Prelude.{flat_map}
 use Rattle.rx_ast.specs.Syntax.{components}
-use Rattle.rx_check.specs.Names.{resources_of}
+use Rattle.rx_rules.specs.Names.{resources_of}
 use Rattle.rx_check.proofs.Distinct.{gathered-from_none}
 use Rattle.rx_check.proofs.listing.names_of.Goals as goal
 

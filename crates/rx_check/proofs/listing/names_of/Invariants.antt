@@ -1,7 +1,7 @@
 use Rattle.std.proofs.Common.{◌≡◌, ◌++◌, [], map, drop}
 use Rattle.std.specs.Prelude.{filter_map, flat_map, fold}
 use Rattle.rx_ast.specs.Syntax.{as_component, as_function, as_context, components}
-use Rattle.rx_check.specs.Names.{component_names, resources_of}
+use Rattle.rx_rules.specs.Names.{component_names, resources_of}
 use Rattle.rx_check.specs.Checks.{function_names, context_names}
 use Rattle.rx_check.specs.Tables.{with_name}
 use Rattle.rx_check.proofs.listing.names_of.Given as goal

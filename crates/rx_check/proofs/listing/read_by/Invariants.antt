@@ -1,6 +1,6 @@
 use Rattle.std.proofs.Common.{◌≡◌, drop}
 use Rattle.std.specs.Prelude.{filter_map, fold}
-use Rattle.rx_check.specs.Names.{resource_in}
+use Rattle.rx_rules.specs.Names.{resource_in}
 use Rattle.rx_check.specs.Tables.{with_name}
 use Rattle.rx_check.proofs.listing.read_by.Given as goal
 

@@ -1,6 +1,6 @@
 use Rattle.std.proofs.Common.{◌≤◌, length}
 use Rattle.std.specs.Vec.Iter.{into_iter_items}
-use Rattle.rx_host.specs.Forests.{HostForest, CanBeReplayed, Replays}
+use Rattle.rx_forest.specs.Forests.{HostForest, CanBeReplayed, Replays}
 use Rattle.rx_host.specs.Kept.{forest_kept}
 use Rattle.rx_host.proofs.replaying.apply_all.Given as goal
 

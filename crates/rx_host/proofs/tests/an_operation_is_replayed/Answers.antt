@@ -1,6 +1,6 @@
 use Rattle.std.proofs.Common.{◌∙◌, refl, sym, subst}
 use Rattle.std.specs.Prelude.{IsTrue, not}
-use Rattle.rx_host.specs.Forests.{HostForest, is_held}
+use Rattle.rx_forest.specs.Forests.{HostForest, is_held}
 use Rattle.rx_host.proofs.tests.an_operation_is_replayed.Goals as goal
 
 pub replay-requires : goal.replay-requires

@@ -1,5 +1,5 @@
 use Rattle.std.proofs.Common.{arith, ap, sym, ◌∙◌, ◌+◌, map, drop}
-use Rattle.rx_script.specs.Steps.{Path}
+use Rattle.rx_step.specs.Steps.{Path}
 use Rattle.rx_script.specs.Lines.{parts_of}
 use Rattle.rx_script.proofs.Paths.{in_front, push-next, push-none}
 use Rattle.rx_script.proofs.path.push_parts.Goals as goal

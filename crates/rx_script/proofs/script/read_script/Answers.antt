@@ -1,5 +1,5 @@
 use Rattle.std.proofs.Common.{arith, rules, ◌≡◌, ◌+◌, ◌∙◌, List, ap, sym}
-use Rattle.rx_script.specs.declared.step.Step.{Step}
+use Rattle.rx_step.specs.declared.step.Step.{Step}
 use Rattle.rx_script.specs.Words.{lines_of}
 use Rattle.rx_script.specs.Lines.{line_of, steps_from}
 use Rattle.rx_script.specs.Readings.{good_if}

@@ -2,7 +2,7 @@ use Rattle.std.proofs.Common.{◌≡◌, ◌∙◌, ◌≤◌, ◌++◌, ◌∷�
 use Rattle.std.specs.Prelude.{None, IsTrue, is_ok}
 use Rattle.rx_host.specs.declared.entry.HostEntry.{HostEntry}
 use Rattle.rx_host.specs.declared.entry.AttrEntry.{AttrEntry}
-use Rattle.rx_host.specs.Forests.{is_free, created}
+use Rattle.rx_forest.specs.Forests.{is_free, created}
 use Rattle.rx_host.specs.Kept.{Kept, forest_as, forest_kept, IsSound}
 use Rattle.rx_host.proofs.Conditions.{can-make, free-absent, becomes-made}
 use Rattle.rx_host.proofs.Creating.{makes, body_new}

@@ -1,9 +1,9 @@
 use Rattle.std.proofs.Common.{◌≡◌, ◌∙◌, ◌<◌, ◌≤◌, ◌++◌, ◌∷◌, ◌⊎◌, ℕ, suc, List, length, get_or, take, drop, refl, sym, ap, subst}
 use Rattle.std.specs.Prelude.{None, Some, IfNone, IfSome, is_ok, vec_len, vec_capacity}
-use Rattle.rx_host.specs.declared.op.HostOp.TheVariants as op
+use Rattle.rx_forest.specs.declared.op.HostOp.TheVariants as op
 use Rattle.rx_host.specs.declared.entry.HostEntry.{HostEntry}
 use Rattle.rx_host.specs.declared.entry.AttrEntry.{AttrEntry}
-use Rattle.rx_host.specs.Forests.{CanBeMade, placed}
+use Rattle.rx_forest.specs.Forests.{CanBeMade, placed}
 use Rattle.rx_host.specs.Kept.{Kept, entry_of, forest_as, forest_kept, IsSound}
 use Rattle.rx_host.proofs.Indexed.{places-at}
 use Rattle.rx_host.proofs.Room.{room-first, room-left, when-ok}

@@ -2,7 +2,7 @@ use Rattle.std.proofs.Common.{◌≡◌, ◌∙◌, ◌<◌, ◌≤◌, ◌++◌
 use Rattle.std.specs.Prelude.{None, Some, IsTrue, find}
 use Rattle.rx_host.specs.declared.entry.HostEntry.{HostEntry}
 use Rattle.rx_host.specs.declared.entry.AttrEntry.{AttrEntry}
-use Rattle.rx_host.specs.Forests.{holds_tag, valued}
+use Rattle.rx_forest.specs.Forests.{holds_tag, valued}
 use Rattle.rx_host.specs.Kept.{Kept, is_attr, forest_as, forest_kept, AreOwned}
 use Rattle.rx_host.proofs.Conditions.{tag-some}
 use Rattle.rx_host.proofs.Values.{new-value, owned-push, valued-forest}

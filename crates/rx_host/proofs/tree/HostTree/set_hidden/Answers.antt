@@ -1,7 +1,7 @@
 use Rattle.std.proofs.Common.{◌≡◌, ◌∙◌, ◌<◌, List, length, get_or, refl, sym, ap, subst}
 use Rattle.rx_host.specs.declared.entry.HostEntry.{HostEntry}
 use Rattle.rx_host.specs.declared.entry.AttrEntry.{AttrEntry}
-use Rattle.rx_host.specs.Forests.{with_mark, marked}
+use Rattle.rx_forest.specs.Forests.{with_mark, marked}
 use Rattle.rx_host.specs.Kept.{Kept, forest_kept}
 use Rattle.rx_host.proofs.Conditions.{becomes-marked}
 use Rattle.rx_host.proofs.Changes.{changes-at}

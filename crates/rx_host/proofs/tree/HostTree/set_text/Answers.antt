@@ -3,7 +3,7 @@ use Rattle.std.specs.Prelude.{IsTrue}
 use Rattle.rx_host.specs.declared.entry.HostEntry.{HostEntry}
 use Rattle.rx_host.specs.declared.entry.AttrEntry.{AttrEntry}
 use Rattle.rx_host.specs.declared.entry.HostKind.TheVariants as kind
-use Rattle.rx_host.specs.Forests.{holds_letters, with_body, with_letters, relettered}
+use Rattle.rx_forest.specs.Forests.{holds_letters, with_body, with_letters, relettered}
 use Rattle.std.proofs.Math.ListN.{set}
 use Rattle.rx_host.specs.Kept.{Kept, forest_as, forest_kept, IsSound}
 use Rattle.rx_host.proofs.Conditions.{letters-changed}

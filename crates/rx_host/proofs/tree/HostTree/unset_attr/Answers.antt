@@ -3,7 +3,7 @@ use Rattle.std.specs.Prelude.{None, filter, not}
 use Rattle.rx_base.specs.Values.{Name}
 use Rattle.rx_host.specs.declared.entry.HostEntry.{HostEntry}
 use Rattle.rx_host.specs.declared.entry.AttrEntry.{AttrEntry}
-use Rattle.rx_host.specs.Forests.{valued}
+use Rattle.rx_forest.specs.Forests.{valued}
 use Rattle.rx_host.specs.Kept.{Kept, is_attr, forest_as, forest_kept, AreOwned}
 use Rattle.rx_host.proofs.Values.{unset-value, owned-filter, valued-forest}
 use Rattle.rx_host.proofs.tree.HostTree.unset_attr.Goals as goal

@@ -2,7 +2,7 @@ use Rattle.std.proofs.Common.{◌∙◌, ap, ◌++◌, refl}
 use Rattle.std.specs.Prelude.{codes}
 use Rattle.rx_base.specs.Values.{Text}
 use Rattle.rx_elem.specs.declared.attr.Attr.{Attr}
-use Rattle.rx_report.specs.Report.{value_text}
+use Rattle.rx_lines.specs.Lines.{value_text}
 use Rattle.rx_report.proofs.PieceLists.{writes-begin, writes-next, writes-end}
 use Rattle.rx_report.proofs.draft.Draft.put_attrs.Goals as goal
 

@@ -1,6 +1,6 @@
 use Rattle.std.proofs.Common.{◌≡◌, ◌++◌, drop}
 use Rattle.std.specs.Prelude.{codes}
-use Rattle.rx_report.specs.Report.{value_text}
+use Rattle.rx_lines.specs.Lines.{value_text}
 use Rattle.rx_report.proofs.PieceLists.{Writes}
 use Rattle.rx_report.proofs.draft.Draft.put_attrs.Given as goal
 

@@ -2,7 +2,7 @@ use Rattle.std.proofs.Common.{◌≡◌, ◌∙◌, sym, ap, append_assoc, ◌++
 use Rattle.std.specs.Prelude.{codes}
 use Rattle.rx_base.specs.Values.{Text}
 use Rattle.rx_lane.specs.Lanes.{has, lanes_where}
-use Rattle.rx_report.specs.Report.{Line, line_text}
+use Rattle.rx_lines.specs.Lines.{Line, line_text}
 use Rattle.rx_report.proofs.Joins.{last-quiet, last-pending}
 use Rattle.rx_report.proofs.draft.Draft.put_end_line.Goals as goal
 

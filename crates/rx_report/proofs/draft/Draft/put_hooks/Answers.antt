@@ -1,6 +1,6 @@
 use Rattle.std.proofs.Common.{◌≡◌, ◌∙◌, ◌+◌, ap, ◌++◌, refl, drop, get_or, ℤ}
 use Rattle.rx_base.specs.Values.{Name}
-use Rattle.rx_report.specs.Report.{hook_text}
+use Rattle.rx_lines.specs.Lines.{hook_text}
 use Rattle.rx_report.proofs.PieceLists.{hooks_text, hooks-next, hooks-past, hooks-end}
 use Rattle.rx_report.proofs.draft.Draft.put_hooks.Goals as goal
 use Rattle.rx_report.proofs.draft.Draft.put_hooks.Goals.{in-Some+in_ok-put_hook, in_default}

@@ -3,7 +3,7 @@ use Rattle.std.specs.Prelude.{map, codes, if◌then◌else◌}
 use Rattle.rx_base.specs.Values.{Text}
 use Rattle.rx_lane.specs.Lanes.{all_lanes, lanes_where, has}
 use Rattle.rx_lane.specs.declared.lane.Lane.TheVariants.{Sync}
-use Rattle.rx_report.specs.Report.{lane_name}
+use Rattle.rx_lines.specs.Lines.{lane_name}
 use Rattle.rx_report.proofs.Joins.{Joins, joins-begin, names-begin, names-next, names-skip, names-end}
 use Rattle.rx_report.proofs.draft.Draft.put_names.Goals as goal
 use Rattle.rx_report.proofs.draft.Draft.put_names.Goals.{then-has+in_ok-put_between+in_ok-put, else-has}

@@ -1,7 +1,7 @@
 use Rattle.std.proofs.Common.{◌≡◌, drop}
 use Rattle.std.specs.Prelude.{map, codes}
 use Rattle.rx_lane.specs.Lanes.{has, lanes_where}
-use Rattle.rx_report.specs.Report.{lane_name}
+use Rattle.rx_lines.specs.Lines.{lane_name}
 use Rattle.rx_report.proofs.Joins.{Joins, names_left}
 use Rattle.rx_report.proofs.draft.Draft.put_names.Given as goal
 

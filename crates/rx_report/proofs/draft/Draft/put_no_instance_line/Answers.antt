@@ -1,7 +1,7 @@
 use Rattle.std.proofs.Common.{◌≡◌, ◌∙◌, ap, ◌++◌, [], ◌∷◌, subst, OnOk, append_assoc}
 use Rattle.std.specs.Prelude.{map, codes}
 use Rattle.rx_base.specs.Values.{Text}
-use Rattle.rx_report.specs.Report.{part_text, joined}
+use Rattle.rx_lines.specs.Lines.{part_text, joined}
 use Rattle.rx_report.proofs.draft.Draft.put_no_instance_line.Goals as goal
 
 pub returns-clause-put : goal.returns-clause-put

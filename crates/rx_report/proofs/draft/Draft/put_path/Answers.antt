@@ -1,7 +1,7 @@
 use Rattle.std.proofs.Common.{◌≡◌, ◌∙◌, ap, ◌++◌, [], ℕ, refl}
 use Rattle.std.specs.Prelude.{map, codes, if◌then◌else◌}
 use Rattle.rx_base.specs.Values.{Text, Name}
-use Rattle.rx_report.specs.Report.{part_text}
+use Rattle.rx_lines.specs.Lines.{part_text}
 use Rattle.rx_report.proofs.Joins.{joins-begin, parts-next, parts-end}
 use Rattle.rx_report.proofs.draft.Draft.put_path.Goals as goal
 

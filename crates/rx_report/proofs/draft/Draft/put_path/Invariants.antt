@@ -1,6 +1,6 @@
 use Rattle.std.proofs.Common.{◌≡◌, drop}
 use Rattle.std.specs.Prelude.{map, codes}
-use Rattle.rx_report.specs.Report.{part_text}
+use Rattle.rx_lines.specs.Lines.{part_text}
 use Rattle.rx_report.proofs.Joins.{Joins}
 use Rattle.rx_report.proofs.draft.Draft.put_path.Given as goal
 

@@ -2,7 +2,7 @@ use Rattle.std.proofs.Common.{◌≡◌, ◌∙◌, ap, ◌++◌, [], ◌∷◌,
 use Rattle.std.specs.Prelude.{codes, decimal}
 use Rattle.rx_base.specs.Values.{Text}
 use Rattle.rx_lane.specs.Lanes.{has, lanes_where}
-use Rattle.rx_report.specs.Report.{lanes_text}
+use Rattle.rx_lines.specs.Lines.{lanes_text}
 use Rattle.rx_report.proofs.Joins.{behind-four}
 use Rattle.rx_report.proofs.draft.Draft.put_pending_line.Goals as goal
 

@@ -1,8 +1,8 @@
 -- The rest of a render: what the place that it has come to, the siblings after it and the nodes around it give.
 use Rattle.std.specs.Prelude.{ℕ, suc, List, [], ◌∷◌, Option}
 use Rattle.rx_elem.specs.Trees.{Node}
-use Rattle.rx_eval.specs.Fresh.{Sight, Contexts, Renders, Place, made, Places, one_waits, before, over, over_boundary, render_all, rendered, render_part}
-use Rattle.rx_eval.specs.Cursor.{Open, around, trying, falling, Frame, Cursor, at_place, at_end, ended, given_by, finished}
+use Rattle.rx_meaning.specs.Fresh.{Sight, Contexts, Renders, Place, made, Places, one_waits, before, over, over_boundary, render_all, rendered, render_part}
+use Rattle.rx_meaning.specs.Cursor.{Open, around, trying, falling, Frame, Cursor, at_place, at_end, ended, given_by, finished}
 
 -- the results of places that are done, before those of the places that follow
 abbrev pub onto : List (Option Node) → Places → Places

@@ -7,9 +7,9 @@ use Rattle.rx_elem.specs.Elements.{same_value}
 use Rattle.rx_elem.specs.declared.attr.Attr.{Attr}
 use Rattle.rx_elem.specs.Trees.{Node, mark_of, host_number}
 use Rattle.rx_elem.specs.Compare.{Change, changes, compare_trees}
-use Rattle.rx_host.specs.declared.op.HostOp.{HostOp}
-use Rattle.rx_host.specs.declared.op.HostOp.TheVariants as op
-use Rattle.rx_host.specs.Hosts.{Content, tag, letters, Host, hosts, host_numbered, has_host}
+use Rattle.rx_forest.specs.declared.op.HostOp.{HostOp}
+use Rattle.rx_forest.specs.declared.op.HostOp.TheVariants as op
+use Rattle.rx_forest.specs.Hosts.{Content, tag, letters, Host, hosts, host_numbered, has_host}
 
 -- a host is gone
 abbrev pub is_gone : (new : List Host) → Host → Bool

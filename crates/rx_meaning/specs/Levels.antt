@@ -1,10 +1,10 @@
 -- How deep an element's places nest.
 use Rattle.std.specs.Prelude.{ℕ, ◌+◌, ◌≤◌, max}
 use Rattle.rx_ast.specs.Syntax.{Program}
-use Rattle.rx_check.specs.Bounds.{body_by, levels}
+use Rattle.rx_rules.specs.Bounds.{body_by, levels}
 use Rattle.rx_elem.specs.Elements.{Element, Elements, gathered}
 use Rattle.rx_elem.specs.Elements as elements
-use Rattle.rx_eval.specs.Fresh.{Part}
+use Rattle.rx_meaning.specs.Fresh.{Part}
 
 -- how many levels of places an element has, from how many the bodies of components have
 abbrev mutual

@@ -1,7 +1,7 @@
 -- Contexts that are read are declared.
 use Rattle.std.specs.Prelude.{◌≡◌, ℕ, true, List, [], ◌∷◌, Some, length, nat_lt}
 use Rattle.rx_ast.specs.Syntax.{Statement, state, reducer, context, use_resource, constant, effect, Component, Program, contexts}
-use Rattle.rx_check.specs.Names.{component_at, context_number}
+use Rattle.rx_rules.specs.Names.{component_at, context_number}
 
 -- a context that a statement reads is one of the program's
 abbrev pub IsDeclared : Program → Statement → Type 0

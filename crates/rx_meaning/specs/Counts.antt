@@ -3,10 +3,10 @@ use Rattle.std.specs.Prelude.{ℕ, zero, suc, ◌+◌, List, [], ◌∷◌, Opti
 use Rattle.rx_elem.specs.Elements.{Element}
 use Rattle.rx_elem.specs.Elements as elements
 use Rattle.rx_elem.specs.Trees.{Node}
-use Rattle.rx_eval.specs.Fresh.{Sight, Contexts, Renders, Place, empty, made, waits, Places, all_made, one_waits, rendered, depth_limit, default_contexts, root_element, Part, Shape, absent, waiting, one_list, two_lists, shape_of, render_part}
-use Rattle.rx_eval.specs.Touched.{children_with_old}
-use Rattle.rx_eval.specs.Cursor.{is_null, Open, around, trying, falling, Frame, Cursor, at_place, at_end, ended, finished, after}
-use Rattle.rx_eval.specs.Rest.{from_open, list_from}
+use Rattle.rx_meaning.specs.Fresh.{Sight, Contexts, Renders, Place, empty, made, waits, Places, all_made, one_waits, rendered, depth_limit, default_contexts, root_element, Part, Shape, absent, waiting, one_list, two_lists, shape_of, render_part}
+use Rattle.rx_meaning.specs.Touched.{children_with_old}
+use Rattle.rx_meaning.specs.Cursor.{is_null, Open, around, trying, falling, Frame, Cursor, at_place, at_end, ended, finished, after}
+use Rattle.rx_meaning.specs.Rest.{from_open, list_from}
 
 -- what is counted: for each place that is begun, for one where nothing can stand since no level is left or its component is missing, and for each node that is completed
 pub record Weights : Type 0 where

@@ -4,14 +4,14 @@ use Rattle.std.specs.Prelude.{Bool, List, None, Option, Some, [], cond, false, f
 use Rattle.rx_ast.specs.Syntax.{Component, Program}
 use Rattle.rx_base.specs.Awaits.{Awaits}
 use Rattle.rx_base.specs.declared.cut.Cut.{Cut}
-use Rattle.rx_check.specs.Names.{component_at}
+use Rattle.rx_rules.specs.Names.{component_at}
 use Rattle.rx_elem.specs.Elements.{Element, Elements, listed}
 use Rattle.rx_elem.specs.Trees.{Forest, Instance, Mark, Node, child, elements_in, is_hidden, node, none, of_boundary, of_host, of_instance, plain, vacant}
 use Rattle.rx_elem.specs.declared.effect.ContextRead.{ContextRead}
-use Rattle.rx_eval.specs.Body.{body_of, ready}
-use Rattle.rx_eval.specs.Expressions.{answers_of}
-use Rattle.rx_eval.specs.Fresh.{Contexts, Shape, Sight, absent, default_contexts, one_list, part, resources_seen, two_lists}
-use Rattle.rx_eval.specs.Touched.{contexts_below, has_update, is_read_anew, touched_instance}
+use Rattle.rx_meaning.specs.Body.{body_of, ready}
+use Rattle.rx_meaning.specs.Expressions.{answers_of}
+use Rattle.rx_meaning.specs.Fresh.{Contexts, Shape, Sight, absent, default_contexts, one_list, part, resources_seen, two_lists}
+use Rattle.rx_meaning.specs.Touched.{contexts_below, has_update, is_read_anew, touched_instance}
 use Rattle.rx_queue.specs.History.{stands_done}
 use Rattle.rx_queue.specs.Journal.{Posted, committed_value, hook, same_target}
 use Rattle.rx_susp.specs.declared.boundary.BoundaryState.TheVariants.{Hidden, Shown}

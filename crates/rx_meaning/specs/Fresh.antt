@@ -8,7 +8,7 @@ use Rattle.rx_base.specs.Awaits as awaits
 use Rattle.rx_base.specs.declared.cut.Cut.{Cut}
 use Rattle.rx_lane.specs.Lanes.{Lanes}
 use Rattle.rx_ast.specs.Syntax.{Context, Component, Program, contexts}
-use Rattle.rx_check.specs.Names.{component_number, component_at, root_name, resources}
+use Rattle.rx_rules.specs.Names.{component_number, component_at, root_name, resources}
 use Rattle.rx_susp.specs.declared.boundary.BoundaryState.TheVariants.{Shown, Hidden}
 use Rattle.rx_elem.specs.Elements.{Element, Elements, listed}
 use Rattle.rx_elem.specs.Elements as elements
@@ -19,8 +19,8 @@ use Rattle.rx_elem.specs.Trees as trees
 use Rattle.rx_elem.specs.Numbers.{Numbers, numbered}
 use Rattle.rx_elem.specs.Compare.{old_nodes}
 use Rattle.rx_queue.specs.Journal.{Journal, hook, state_of, updates_of, resolved_by}
-use Rattle.rx_eval.specs.Expressions.{width, answers_of}
-use Rattle.rx_eval.specs.Body.{Inputs, Body, wait, ready, body_of}
+use Rattle.rx_meaning.specs.Expressions.{width, answers_of}
+use Rattle.rx_meaning.specs.Body.{Inputs, Body, wait, ready, body_of}
 
 -- what a render sees
 pub record Sight : Type 0 where

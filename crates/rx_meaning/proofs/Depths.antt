@@ -5,16 +5,16 @@ use Rattle.std.proofs.Common.{ap, arith}
 use Rattle.rx_base.specs.Arithmetic.{is_zero}
 use Rattle.rx_ast.specs.Syntax.{Program, Component, Slot, Slots, body_slots}
 use Rattle.rx_ast.specs.Syntax as syntax
-use Rattle.rx_check.specs.Names.{component_number, component_at}
-use Rattle.rx_check.specs.Bounds.{slot_by, slots_by, body_if, body_by, levels}
+use Rattle.rx_rules.specs.Names.{component_number, component_at}
+use Rattle.rx_rules.specs.Bounds.{slot_by, slots_by, body_if, body_by, levels}
 use Rattle.rx_elem.specs.Elements.{Element, Elements, listed, gathered, is_present}
 use Rattle.rx_elem.specs.Elements as elements
 use Rattle.rx_elem.specs.Trees.{Node}
-use Rattle.rx_eval.specs.Expressions.{Env, value_in}
-use Rattle.rx_eval.specs.Body.{element_of, elements_of, turns, Inputs, Body, wait, ready, body_of, Taken, finished, take_all, opening_frame}
-use Rattle.rx_eval.specs.Body as body
-use Rattle.rx_eval.specs.Fresh.{Sight, Contexts, Shape, absent, waiting, one_list, two_lists, shape_of_body, shape_of_component, shape_of, inputs_at, old_instance}
-use Rattle.rx_eval.specs.Levels.{body_depth, element_depth, elements_depth, Fits, PartFits}
+use Rattle.rx_meaning.specs.Expressions.{Env, value_in}
+use Rattle.rx_meaning.specs.Body.{element_of, elements_of, turns, Inputs, Body, wait, ready, body_of, Taken, finished, take_all, opening_frame}
+use Rattle.rx_meaning.specs.Body as body
+use Rattle.rx_meaning.specs.Fresh.{Sight, Contexts, Shape, absent, waiting, one_list, two_lists, shape_of_body, shape_of_component, shape_of, inputs_at, old_instance}
+use Rattle.rx_meaning.specs.Levels.{body_depth, element_depth, elements_depth, Fits, PartFits}
 
 pub gathered-listed : (es : Elements) → gathered (listed es) ≡ es
 gathered-listed elements.none = refl

@@ -9,9 +9,9 @@ use Rattle.rx_elem.specs.declared.attr.AttrValue.{AttrValue}
 use Rattle.rx_elem.specs.declared.attr.AttrValue.TheVariants as attr_value
 use Rattle.rx_elem.specs.Trees.{Node}
 use Rattle.rx_effect.specs.declared.log.LogLine.{LogLine}
-use Rattle.rx_host.specs.Hosts.{Host, Content, tag, letters}
-use Rattle.rx_host.specs.declared.op.HostOp.{HostOp}
-use Rattle.rx_host.specs.declared.op.HostOp.TheVariants as op
+use Rattle.rx_forest.specs.Hosts.{Host, Content, tag, letters}
+use Rattle.rx_forest.specs.declared.op.HostOp.{HostOp}
+use Rattle.rx_forest.specs.declared.op.HostOp.TheVariants as op
 
 -- how many units a render took, and how many bodies it evaluated
 pub record Counts : Type 0 where

@@ -2,7 +2,7 @@
 use Rattle.std.specs.Prelude.{◌≡◌, ℕ, ◌+◌, ◌≤◌, Bool, false, ◌||◌, cond, Some, is_some}
 use Rattle.rx_ast.specs.Syntax.{Program, Component, Slot, Slots, body_slots, key_of, key_in}
 use Rattle.rx_ast.specs.Syntax as syntax
-use Rattle.rx_check.specs.Names.{component_at}
+use Rattle.rx_rules.specs.Names.{component_at}
 
 -- a slot, or a branch of its choice, is an element with a key
 abbrev pub carries_key : Slot → Bool

@@ -6,11 +6,11 @@ use Rattle.rx_base.specs.Values.{Text, Name}
 use Rattle.rx_elem.specs.declared.attr.Attr.{Attr}
 use Rattle.rx_elem.specs.declared.attr.AttrValue.{AttrValue}
 use Rattle.rx_elem.specs.Spots.{container}
-use Rattle.rx_host.specs.declared.op.HostOp.{HostOp}
-use Rattle.rx_host.specs.declared.op.HostOp.TheVariants as op
-use Rattle.rx_host.specs.Hosts.{Host, Content, host_numbered}
-use Rattle.rx_host.specs.Hosts as hosts
-use Rattle.rx_host.specs.HostOps.{attr_named}
+use Rattle.rx_forest.specs.declared.op.HostOp.{HostOp}
+use Rattle.rx_forest.specs.declared.op.HostOp.TheVariants as op
+use Rattle.rx_forest.specs.Hosts.{Host, Content, host_numbered}
+use Rattle.rx_forest.specs.Hosts as hosts
+use Rattle.rx_forest.specs.HostOps.{attr_named}
 
 -- what a host is: an element with the value of each attribute, by its name, or a text
 pub data Body : Type 0 where

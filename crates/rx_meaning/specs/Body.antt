@@ -7,14 +7,14 @@ use Rattle.rx_base.specs.Values.{Name}
 use Rattle.rx_base.specs.Arithmetic.{is_zero}
 use Rattle.rx_ast.specs.Syntax.{Expr, Statement, state, reducer, context, use_resource, constant, effect, Slot, Slots, Attribute, key, computed, literal, Component, Program, body_slots, slot_key}
 use Rattle.rx_ast.specs.Syntax as syntax
-use Rattle.rx_check.specs.Names.{component_number, component_at, context_number, resource_number, prop_names}
+use Rattle.rx_rules.specs.Names.{component_number, component_at, context_number, resource_number, prop_names}
 use Rattle.rx_elem.specs.Elements.{Element, Elements, Key, gathered}
 use Rattle.rx_elem.specs.declared.attr.Attr.{Attr}
 use Rattle.rx_elem.specs.Elements as elements
 use Rattle.rx_elem.specs.declared.attr.AttrValue.TheVariants as attr_value
 use Rattle.rx_elem.specs.declared.effect.EffectRecord.{EffectRecord}
 use Rattle.rx_elem.specs.declared.effect.ContextRead.{ContextRead}
-use Rattle.rx_eval.specs.Expressions.{Env, value_in}
+use Rattle.rx_meaning.specs.Expressions.{Env, value_in}
 
 -- what a body is evaluated from: its props, the children that it is given, from the second render on the values of its hooks, and the values of the contexts and the resources
 pub record Inputs : Type 0 where

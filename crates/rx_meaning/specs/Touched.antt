@@ -16,7 +16,7 @@ use Rattle.rx_elem.specs.Spots.{spots_in, at_root, mounted_at, numbers_of}
 use Rattle.rx_elem.specs.Compare.{old_nodes}
 use Rattle.rx_queue.specs.History.{stands_done}
 use Rattle.rx_queue.specs.Journal.{is_included, is_new, belongs_to, resolved_by}
-use Rattle.rx_eval.specs.Fresh.{Sight, Contexts, Place, empty, made, waits, Renders, rendered, default_contexts, root_element, depth_limit, old_instance, Part, Shape, absent, waiting, one_list, two_lists, shape_of}
+use Rattle.rx_meaning.specs.Fresh.{Sight, Contexts, Place, empty, made, waits, Renders, rendered, default_contexts, root_element, depth_limit, old_instance, Part, Shape, absent, waiting, one_list, two_lists, shape_of}
 
 -- a place of a tree: which child it is in each list from it up to the root
 abbrev pub Address : Type 0

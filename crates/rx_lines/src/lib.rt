@@ -1,0 +1,2 @@
+//! The text of each line of a report.
+#![tactic(auto)]

@@ -1,0 +1,4 @@
+pub mod Names
+pub mod Bounds
+pub mod Keys
+pub mod Reads
