@@ -7,8 +7,8 @@ use Rattle.rx_rules.specs.Bounds.{node_bound, node_limit}
 use Rattle.rx_check.specs.Checks.{is_rooted, count_over}
 use Rattle.rx_check.specs.Refusals.{first_some, refused_name, name_refusals, way_refusals, count_refusals, size_refusals, refusals, refusal_of}
 use Rattle.rx_check.specs.Accepted.{IsAccepted}
-use Rattle.rx_check.specs.declared.refusal.Count.{Count}
-use Rattle.rx_check.specs.declared.refusal.Count.TheVariants as count
+use Rattle.rx_mentions.specs.declared.count.Count.{Count}
+use Rattle.rx_mentions.specs.declared.count.Count.TheVariants as count
 use Rattle.rx_check.specs.declared.refusal.Refusal.{Refusal}
 use Rattle.rx_check.specs.declared.refusal.Refusal.TheVariants as refusal
 

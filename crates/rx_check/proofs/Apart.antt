@@ -8,12 +8,12 @@ use Rattle.rx_ast.specs.Syntax.{Program, Component, Slot, Slots, body_slots, Att
 use Rattle.rx_ast.specs.Syntax as syntax
 use Rattle.rx_rules.specs.Names.{has_name, component_at}
 use Rattle.rx_rules.specs.Keys.{carries_key, keyed_places, SlotKeysApart, SlotsKeysApart, KeysApart}
-use Rattle.rx_check.specs.Mentions.{Scope, bound, key_name, expr_mentions, attributes_mentions, first_key_mentions, last_key_mentions, taken_first, slot_mentions, slots_mentions, statements_mentions, parameters_mentions, component_mentions, component_scope, after_statement, no_scope, mentions}
+use Rattle.rx_mentions.specs.Mentions.{Scope, bound, key_name, expr_mentions, attributes_mentions, first_key_mentions, last_key_mentions, taken_first, slot_mentions, slots_mentions, statements_mentions, parameters_mentions, component_mentions, component_scope, after_statement, no_scope, mentions}
 use Rattle.rx_check.specs.Checks.{repeat_in, repeats}
 use Rattle.rx_check.specs.Accepted.{IsAccepted}
-use Rattle.rx_check.specs.declared.mention.Mention.{Mention}
-use Rattle.rx_check.specs.declared.mention.Mention.TheVariants as mention
-use Rattle.rx_check.proofs.Among.{IsIn, IsIn-left, IsIn-right, IsIn-filter_map, component-mentioned}
+use Rattle.rx_mentions.specs.declared.mention.Mention.{Mention}
+use Rattle.rx_mentions.specs.declared.mention.Mention.TheVariants as mention
+use Rattle.rx_mentions.proofs.Among.{IsIn, IsIn-left, IsIn-right, IsIn-filter_map, component-mentioned}
 
 -- no name is introduced again
 abbrev NoRepeat : List Mention → Type 0

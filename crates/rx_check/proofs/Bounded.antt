@@ -5,15 +5,16 @@ use Rattle.std.specs.Option.{option_map_or}
 use Rattle.rx_ast.specs.Syntax.{Program, Component, components}
 use Rattle.rx_rules.specs.Names.{component_named, component_names, component_number, root_name}
 use Rattle.rx_rules.specs.Bounds.{component_levels, root_by, body_by, may_wait, root_waits, depth_bound}
-use Rattle.rx_check.specs.Checks.{is_rooted, nesting_levels, root_waits_for, outside_uses}
+use Rattle.rx_check.specs.Checks.{is_rooted, root_waits_for, outside_uses}
+use Rattle.rx_figures.specs.Figures.{nesting_levels}
 use Rattle.rx_check.specs.Accepted.{IsAccepted}
-use Rattle.rx_check.specs.declared.refusal.Count.TheVariants as count
+use Rattle.rx_mentions.specs.declared.count.Count.TheVariants as count
 use Rattle.rx_check.specs.Runnable.{IsRunnable}
 use Rattle.rx_check.proofs.Apart.{accepted-apart}
 use Rattle.rx_check.proofs.Declared.{accepted-declared}
 use Rattle.rx_check.proofs.Accepting.{not-over}
 use Rattle.rx_check.proofs.Limited.{few-components}
-use Rattle.rx_check.proofs.Alone.{none-alone}
+use Rattle.rx_figures.proofs.Alone.{none-alone}
 
 -- a root without parameters is there
 root-is_some : (o : Option Component) → option_map_or (λ (c : Component). nat_eq (length c.parameters) 0) o false ≡ true → is_some o ≡ true

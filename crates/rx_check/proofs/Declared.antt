@@ -7,12 +7,13 @@ use Rattle.rx_base.specs.Values.{Name}
 use Rattle.rx_ast.specs.Syntax.{Program, Component, Statement, state, reducer, context, use_resource, constant, effect, contexts, body_slots}
 use Rattle.rx_rules.specs.Names.{has_name, place_among, context_number, component_at}
 use Rattle.rx_rules.specs.Reads.{IsDeclared, AllDeclared, ReadsDeclared}
-use Rattle.rx_check.specs.Mentions.{Scope, no_scope, statement_mentions, statements_mentions, after_statement, parameters_mentions, component_scope, component_mentions, slots_mentions, mentions}
-use Rattle.rx_check.specs.Checks.{context_names, unknown_in, unknowns}
+use Rattle.rx_mentions.specs.Mentions.{Scope, no_scope, statement_mentions, statements_mentions, after_statement, parameters_mentions, component_scope, component_mentions, slots_mentions, mentions}
+use Rattle.rx_names.specs.Listed.{context_names}
+use Rattle.rx_check.specs.Checks.{unknown_in, unknowns}
 use Rattle.rx_check.specs.Accepted.{IsAccepted}
-use Rattle.rx_check.specs.declared.mention.Mention.{Mention}
-use Rattle.rx_check.specs.declared.mention.Mention.TheVariants as mention
-use Rattle.rx_check.proofs.Among.{IsIn, IsIn-left, IsIn-right, IsIn-filter_map, component-mentioned}
+use Rattle.rx_mentions.specs.declared.mention.Mention.{Mention}
+use Rattle.rx_mentions.specs.declared.mention.Mention.TheVariants as mention
+use Rattle.rx_mentions.proofs.Among.{IsIn, IsIn-left, IsIn-right, IsIn-filter_map, component-mentioned}
 
 not-empty : (ns : List Name) (x : Name) → has_name ns x ≡ true → 0 < length ns
 not-empty [] x h = cc

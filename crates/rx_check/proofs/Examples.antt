@@ -5,9 +5,9 @@ use Rattle.rx_ast.specs.Syntax as syntax
 use Rattle.rx_ast.specs.Syntax.{Program, Component, Parameter, Statement, Slot}
 use Rattle.rx_base.specs.Values.{Name}
 use Rattle.rx_rules.specs.Bounds.{node_bound, depth_bound}
-use Rattle.rx_check.specs.Mentions.{mentions}
-use Rattle.rx_check.specs.Graphs.{leads_to}
-use Rattle.rx_check.specs.Costs.{declaration_cost, function_cost}
+use Rattle.rx_mentions.specs.Mentions.{mentions}
+use Rattle.rx_order.specs.Graphs.{leads_to}
+use Rattle.rx_figures.specs.Costs.{declaration_cost, function_cost}
 use Rattle.rx_rules.specs.Bounds.{body_by}
 use Rattle.rx_check.specs.Refusals.{refusal_of}
 use Rattle.rx_check.specs.declared.refusal.Refusal.TheVariants as refusal

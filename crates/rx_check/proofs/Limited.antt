@@ -1,16 +1,27 @@
 -- What is within its limits in a program that is accepted.
-use Rattle.std.proofs.Common.{◌≡◌, ◌≤◌, inl, inr, List, [], ◌∷◌, Option, Some, None, refl, arith, length}
+use Rattle.std.proofs.Common.{◌≡◌, ◌≤◌, ◌⊎◌, inl, inr, Bool, true, false, List, [], ◌∷◌, Option, Some, None, refl, arith, length}
 use Rattle.std.proofs.lemmas.List.{length-map}
 use Rattle.std.specs.List.{cons_option}
-use Rattle.std.specs.Prelude.{ℕ, suc, filter_map, slice_get}
+use Rattle.std.specs.Prelude.{ℕ, suc, nat_lt, find, filter_map, slice_get}
 use Rattle.rx_ast.specs.Syntax.{Program, Component, Function, as_component, as_function, as_context, components, functions}
 use Rattle.rx_rules.specs.Names.{component_names, resources}
-use Rattle.rx_check.specs.Checks.{function_names, context_names, measure_in}
+use Rattle.rx_names.specs.Listed.{function_names, context_names}
+use Rattle.rx_check.specs.Checks.{measure_in}
 use Rattle.rx_check.specs.Accepted.{IsAccepted}
-use Rattle.rx_check.specs.declared.refusal.Count.TheVariants as count
-use Rattle.rx_check.specs.declared.mention.Mention.TheVariants as mention
+use Rattle.rx_mentions.specs.declared.count.Count.TheVariants as count
+use Rattle.rx_mentions.specs.declared.mention.Mention.TheVariants as mention
 use Rattle.rx_check.proofs.Accepting.{not-over}
-use Rattle.rx_check.proofs.Among.{within-find, IsIn-filter_map, component-mentioned, function-mentioned}
+use Rattle.rx_mentions.proofs.Among.{IsIn, IsIn-filter_map, component-mentioned, function-mentioned}
+
+-- a number in a list of which none is over a limit is within it
+pub within-find : (limit n : ℕ) (ns : List ℕ) → find (nat_lt limit) ns ≡ None → IsIn n ns → n ≤ limit
+within-find limit n [] e h = absurd h
+within-find limit n (m ∷ ms) e h = go (λ f. within-find limit n ms f) (nat_lt limit m) refl h
+  where
+    go : (find (nat_lt limit) ms ≡ None → IsIn n ms → n ≤ limit) → (b : Bool) → nat_lt limit m ≡ b → (n ≡ m) ⊎ IsIn n ms → n ≤ limit
+    go later true t i = let bad : Some m ≡ None = (rw t at e) in cc
+    go later false t (inl s) = grind (arith, t, s)
+    go later false t (inr i) = later (rw t at e) i
 
 fewer : {X Y : Type 0} (f : X → Option Y) (xs : List X) → length (filter_map f xs) ≤ length xs
 fewer f [] = omega arith

@@ -2,8 +2,9 @@
 use Rattle.std.specs.Prelude.{◌≡◌, ◌≤◌, true, [], None}
 use Rattle.rx_ast.specs.Syntax.{Program}
 use Rattle.rx_rules.specs.Bounds.{node_bound, node_limit}
-use Rattle.rx_check.specs.Checks.{repeats, unknowns, misfits, function_cycles, component_cycles, outside_uses, is_rooted, count_over, cost_over}
-use Rattle.rx_check.specs.declared.refusal.Count.{Count}
+use Rattle.rx_check.specs.Checks.{repeats, unknowns, misfits, function_cycles, component_cycles, outside_uses, is_rooted, count_over}
+use Rattle.rx_figures.specs.Costs.{cost_over}
+use Rattle.rx_mentions.specs.declared.count.Count.{Count}
 
 -- the program meets every check
 pub record IsAccepted (p : Program) : Type 0 where

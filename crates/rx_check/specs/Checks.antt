@@ -1,19 +1,22 @@
 -- The checks of a program. Each lists what it refuses, in the order of the text.
-use Rattle.std.specs.Prelude.{ℕ, max, Bool, true, false, not, ◌&&◌, ◌||◌, nat_eq, nat_lt, bytes_eq, List, [], ◌∷◌, Option, Some, None, filter, filter_map, map, length, find, cond, is_some}
+use Rattle.std.specs.Prelude.{ℕ, Bool, true, false, not, ◌&&◌, ◌||◌, nat_eq, bytes_eq, List, [], ◌∷◌, Option, Some, None, filter, filter_map, length, find, cond, is_some}
 use Rattle.std.specs.List.{list_all}
 use Rattle.std.specs.Option.{option_map_or}
 use Rattle.rx_base.specs.Values.{Name}
-use Rattle.rx_ast.specs.Syntax.{Program, Parameter, integer, given_children, Component, functions, components, contexts}
-use Rattle.rx_rules.specs.Names.{has_name, root_name, component_names, component_named, component_number, function_named, function_number, prop_names, resources}
-use Rattle.rx_rules.specs.Bounds.{body_by, component_levels, may_wait, node_bound, node_limit, depth_bound}
-use Rattle.rx_check.specs.Limits.{limit_of, cost_limit}
-use Rattle.rx_check.specs.Mentions.{children_name, mentions, function_mentions, component_mentions}
-use Rattle.rx_check.specs.Graphs.{Graph, cycle_names}
-use Rattle.rx_check.specs.Costs.{declaration_cost}
-use Rattle.rx_check.specs.declared.refusal.Count.{Count}
-use Rattle.rx_check.specs.declared.refusal.Count.TheVariants as count
-use Rattle.rx_check.specs.declared.mention.Mention.{Mention}
-use Rattle.rx_check.specs.declared.mention.Mention.TheVariants as mention
+use Rattle.rx_ast.specs.Syntax.{Program, Parameter, integer, given_children, Component}
+use Rattle.rx_rules.specs.Names.{has_name, root_name, component_names, component_named, component_number, function_named, prop_names, resources}
+use Rattle.rx_rules.specs.Bounds.{body_by, may_wait, node_bound, node_limit, depth_bound}
+use Rattle.rx_names.specs.Listed.{function_names, context_names}
+use Rattle.rx_order.specs.Graphs.{cycle_names}
+use Rattle.rx_mentions.specs.Mentions.{children_name, mentions}
+use Rattle.rx_mentions.specs.Ways.{calls, places}
+use Rattle.rx_mentions.specs.declared.count.Count.{Count}
+use Rattle.rx_mentions.specs.declared.count.Count.TheVariants as count
+use Rattle.rx_mentions.specs.declared.mention.Mention.{Mention}
+use Rattle.rx_mentions.specs.declared.mention.Mention.TheVariants as mention
+use Rattle.rx_figures.specs.Costs.{first_over}
+use Rattle.rx_figures.specs.Figures.{nesting_levels}
+use Rattle.rx_check.specs.Limits.{limit_of}
 
 -- the name, unless it is as it must be
 abbrev pub unless : Bool → Name → Option Name
@@ -40,14 +43,6 @@ abbrev pub repeats : Program → List Name
 repeats p = filter_map repeat_in (mentions p)
 
 -- Unknown
-
--- the names that are declared as functions, in the order of the text
-abbrev pub function_names : Program → List Name
-function_names p = map (λ f. f.name) (functions p)
-
--- the names that are declared as contexts, in the order of the text
-abbrev pub context_names : Program → List Name
-context_names p = map (λ c. c.name) (contexts p)
 
 -- a name that is not known as what it stands for, where these are declared
 abbrev pub unknown_among : (functions components contexts : List Name) → Mention → Option Name
@@ -111,42 +106,6 @@ misfits p = filter_map (misfit_in p) (mentions p)
 
 -- Cycles
 
--- the function that is called
-abbrev pub called_in : Mention → Option Name
-called_in (mention.Introduced x again) = None
-called_in (mention.Variable x known) = None
-called_in (mention.Call f n) = Some f
-called_in (mention.Reduction f) = None
-called_in (mention.Context c) = None
-called_in (mention.Element c attrs filled) = None
-called_in (mention.Host h) = None
-called_in (mention.Children known) = None
-called_in (mention.Resource r) = None
-called_in (mention.Quoted n) = None
-called_in (mention.Counted w n) = None
-
--- the component whose element stands there
-abbrev pub placed_in : Mention → Option Name
-placed_in (mention.Introduced x again) = None
-placed_in (mention.Variable x known) = None
-placed_in (mention.Call f n) = None
-placed_in (mention.Reduction f) = None
-placed_in (mention.Context c) = None
-placed_in (mention.Element c attrs filled) = Some c
-placed_in (mention.Host h) = None
-placed_in (mention.Children known) = None
-placed_in (mention.Resource r) = None
-placed_in (mention.Quoted n) = None
-placed_in (mention.Counted w n) = None
-
--- for each function, by their numbers, the functions that it calls
-abbrev pub calls : Program → Graph
-calls p = map (λ f. map (function_number p) (filter_map called_in (function_mentions f))) (functions p)
-
--- for each component, by their numbers, the components whose elements stand in its body
-abbrev pub places : Program → Graph
-places p = map (λ c. map (component_number p) (filter_map placed_in (component_mentions c))) (components p)
-
 -- the functions that reach themselves by calls
 abbrev pub function_cycles : Program → List Name
 function_cycles p = cycle_names (calls p) (function_names p)
@@ -156,10 +115,6 @@ abbrev pub component_cycles : Program → List Name
 component_cycles p = cycle_names (places p) (component_names p)
 
 -- Resources outside of a boundary
-
--- No program nests components deeper, before the number of its declarations is known.
-abbrev pub nesting_levels : Program → ℕ
-nesting_levels p = max component_levels (length (components p))
 
 -- the root may wait, where the reads of the components of this name alone count
 abbrev pub root_waits_for : Program → Name → Bool
@@ -254,10 +209,6 @@ counts p count.List = filter_map (measure_in count.List) (mentions p)
 counts p count.Resources = length (resources p) ∷ []
 counts p count.Depth = depth_bound p ∷ []
 
--- the first of these numbers that is over a limit
-abbrev pub first_over : (limit : ℕ) → List ℕ → Option ℕ
-first_over limit ns = find (nat_lt limit) ns
-
 -- the first count of this thing that is over its limit
 abbrev pub count_over : Program → Count → Option ℕ
 count_over p w = first_over (limit_of w) (counts p w)
@@ -267,7 +218,3 @@ count_over p w = first_over (limit_of w) (counts p w)
 -- the node bound, where it is over its limit
 abbrev pub nodes_over : Program → Option ℕ
 nodes_over p = first_over node_limit (node_bound p ∷ [])
-
--- the first cost of a declaration that is over its limit
-abbrev pub cost_over : Program → Option ℕ
-cost_over p = first_over cost_limit (map (declaration_cost p) p.declarations)

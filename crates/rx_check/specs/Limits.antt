@@ -1,7 +1,7 @@
 -- The limits of a program.
 use Rattle.std.specs.Prelude.{ℕ}
-use Rattle.rx_check.specs.declared.refusal.Count.{Count}
-use Rattle.rx_check.specs.declared.refusal.Count.TheVariants as count
+use Rattle.rx_mentions.specs.declared.count.Count.{Count}
+use Rattle.rx_mentions.specs.declared.count.Count.TheVariants as count
 
 -- the most that is allowed of what is counted
 abbrev pub limit_of : Count → ℕ
@@ -15,7 +15,3 @@ limit_of count.Dependencies = 16
 limit_of count.List = 64
 limit_of count.Resources = 64
 limit_of count.Depth = 256
-
--- the greatest cost of a declaration
-abbrev pub cost_limit : ℕ
-cost_limit = 1000000

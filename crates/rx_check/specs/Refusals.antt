@@ -2,17 +2,14 @@
 use Rattle.std.specs.Prelude.{List, [], ◌∷◌, Option, Some, None, option_map, cond}
 use Rattle.rx_base.specs.Values.{Name}
 use Rattle.rx_ast.specs.Syntax.{Program}
+use Rattle.rx_order.specs.Graphs.{first}
 use Rattle.rx_check.specs.Limits.{limit_of}
-use Rattle.rx_check.specs.Checks.{repeats, unknowns, misfits, function_cycles, component_cycles, outside_uses, is_rooted, count_over, nodes_over, cost_over}
-use Rattle.rx_check.specs.declared.refusal.Count.{Count}
-use Rattle.rx_check.specs.declared.refusal.Count.TheVariants as count
+use Rattle.rx_check.specs.Checks.{repeats, unknowns, misfits, function_cycles, component_cycles, outside_uses, is_rooted, count_over, nodes_over}
+use Rattle.rx_figures.specs.Costs.{cost_over}
+use Rattle.rx_mentions.specs.declared.count.Count.{Count}
+use Rattle.rx_mentions.specs.declared.count.Count.TheVariants as count
 use Rattle.rx_check.specs.declared.refusal.Refusal.{Refusal}
 use Rattle.rx_check.specs.declared.refusal.Refusal.TheVariants as refusal
-
--- the first of a list
-abbrev pub first : {A : Type 0} → List A → Option A
-first [] = None
-first (x ∷ xs) = Some x
 
 -- the first that there is
 abbrev pub first_some : {A : Type 0} → List (Option A) → Option A

@@ -6,7 +6,7 @@ use Rattle.rx_rules.specs.Keys.{KeysApart}
 use Rattle.rx_rules.specs.Reads.{ReadsDeclared}
 use Rattle.rx_check.specs.Limits.{limit_of}
 use Rattle.rx_check.specs.Checks.{is_rooted}
-use Rattle.rx_check.specs.declared.refusal.Count.TheVariants as count
+use Rattle.rx_mentions.specs.declared.count.Count.TheVariants as count
 
 -- The program has a root without parameters, which never waits; its trees have few nodes and levels; in each child list at most one place carries a key; and each context that is read is declared.
 pub record IsRunnable (p : Program) : Type 0 where

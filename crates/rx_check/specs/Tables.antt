@@ -1,11 +1,11 @@
 -- What is kept of a program that is accepted, and how its hooks are found by their names.
-use Rattle.std.specs.Prelude.{◌≡◌, ℕ, ◌+◌, List, [], ◌∷◌, ◌++◌, Option, Some, None, cond, bytes_eq, slice_get, length}
+use Rattle.std.specs.Prelude.{◌≡◌, ℕ, ◌+◌, List, [], ◌∷◌, Option, Some, None, cond, bytes_eq, slice_get, length}
 use Rattle.std.specs.Option.{option_map_or, option_and_then}
 use Rattle.rx_base.specs.Values.{Name}
 use Rattle.rx_ast.specs.Syntax.{Program, functions}
-use Rattle.rx_rules.specs.Names.{has_name, component_names, resources, component_at, place_among, StateHook, hooks_of}
+use Rattle.rx_rules.specs.Names.{component_names, resources, component_at, place_among, StateHook, hooks_of}
 use Rattle.rx_rules.specs.Bounds.{node_bound, depth_bound}
-use Rattle.rx_check.specs.Checks.{function_names, context_names}
+use Rattle.rx_names.specs.Listed.{function_names, context_names}
 use Rattle.rx_check.specs.Accepted.{IsAccepted}
 use Rattle.rx_check.specs.declared.hook.HookKind.{HookKind}
 use Rattle.rx_check.specs.declared.hook.HookKind.TheVariants as kind
@@ -37,7 +37,3 @@ hook_named p component name = option_and_then (λ c. hook_among (function_names 
 -- how many parameters the function of this number has
 abbrev pub parameter_count : Program → (function : ℕ) → ℕ
 parameter_count p function = option_map_or (λ f. length f.parameters) (slice_get (functions p) function) 0
-
--- names with one more, if it is not one of them
-abbrev pub with_name : List Name → Name → List Name
-with_name names name = cond (has_name names name) names (names ++ name ∷ [])

@@ -2,17 +2,16 @@
 ghost use Rattle.std.specs.Prelude.{◌≡◌, ◌<◌, ◌^◌, bytes_eq, position, length, filter_map};
 ghost use Rattle.rx_rules.specs.Names.{component_names, resources, hook_in};
 ghost use Rattle.rx_rules.specs.Bounds.{node_bound, depth_bound};
-ghost use Rattle.rx_check.specs.Checks.{function_names, context_names};
+ghost use Rattle.rx_names.specs.Listed.{function_names, context_names};
 ghost use Rattle.rx_check.specs.Accepted.{IsAccepted};
 ghost use Rattle.rx_check.specs.Runnable.{IsRunnable};
-ghost use Rattle.rx_check.specs.Listed.{IsListed};
+ghost use Rattle.rx_names.specs.Listed.{IsListed};
 ghost use Rattle.rx_check.specs.Tables.{hook_among, hook_named, parameter_count};
 
 use crate::hook::HookKind;
-use crate::listing::Listing;
-use crate::table::Table;
 use rx_ast::{Program, Statement, StatementKind};
 use rx_base::Name;
+use rx_names::{Listing, Table};
 use std::marker::Model;
 
 /// A program that meets every check. Contracts see it as the program.

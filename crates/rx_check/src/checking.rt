@@ -3,27 +3,25 @@ ghost use Rattle.std.specs.Prelude.{◌≡◌, ◌⊎◌, [], ◌∷◌, IfOk, M
 ghost use Rattle.rx_rules.specs.Names.{component_names, resources as all_resources};
 ghost use Rattle.rx_rules.specs.Bounds.{node_bound, node_limit, depth_bound};
 ghost use Rattle.rx_check.specs.Limits.{limit_of};
-ghost use Rattle.rx_check.specs.Mentions.{mentions as all_mentions};
-ghost use Rattle.rx_check.specs.Checks.{repeat_in, unknown_among, misfit_in, function_names, function_cycles, component_cycles, root_waits_for, outside_uses, first_over as over, cost_over};
-ghost use Rattle.rx_check.specs.Refusals.{first, first_some, refused_name, refused_root, name_refusals, way_refusals, count_refusals, size_refusals, refusal_of};
-ghost use Rattle.rx_check.specs.Listed.{IsListed};
+ghost use Rattle.rx_mentions.specs.Mentions.{mentions as all_mentions};
+ghost use Rattle.rx_check.specs.Checks.{repeat_in, unknown_among, misfit_in, function_cycles, component_cycles, root_waits_for, outside_uses};
+ghost use Rattle.rx_names.specs.Listed.{function_names};
+ghost use Rattle.rx_figures.specs.Costs.{first_over as over, cost_over};
+ghost use Rattle.rx_order.specs.Graphs.{first, IsFinished};
+ghost use Rattle.rx_mentions.specs.Ways.{calls, places};
+ghost use Rattle.rx_check.specs.Refusals.{first_some, refused_name, refused_root, name_refusals, way_refusals, count_refusals, size_refusals, refusal_of};
+ghost use Rattle.rx_names.specs.Listed.{IsListed};
 ghost use Rattle.rx_check.specs.Answers.{Answers};
 
-use crate::bodies::mentions_of;
 use crate::checked::{Checked, accept};
-use crate::checks::{
-    component_named, first_misfit, first_over, first_repeat, first_unknown, is_rooted, limit_of,
-};
-use crate::costs::cost_over;
-use crate::figures::{Counted, nesting_levels, root_figures};
-use crate::graph::{component_cycle, function_cycle};
-use crate::held::held_sum;
-use crate::listing::{Listing, names_of};
-use crate::mention::Mention;
-use crate::names::Names;
-use crate::refusal::{Count, Refusal};
+use crate::checks::{first_misfit, first_over, first_repeat, first_unknown, is_rooted, limit_of};
+use crate::refusal::Refusal;
 use rx_ast::Program;
 use rx_base::Name;
+use rx_figures::{Counted, cost_over, held_sum, nesting_levels, root_figures};
+use rx_mentions::{Count, Mention, calls_of, mentions_of, places_of};
+use rx_names::{Listing, Names, component_named, names_of};
+use rx_order::{Order, Row, finishing_order, first_cycle};
 use std::alloc::{AllocError, Global};
 
 /// No program that is accepted has a greater node bound.
@@ -67,15 +65,65 @@ fn refuse_misfit(alloc: Global, program: &Program, mentions: &[Mention]) -> Resu
     }
 }
 
+/// The order in which functions are finished.
+fn function_order(alloc: Global, program: &Program, graph: &[Row]) -> Result<Order, AllocError>
+    requires { graph.now ≡ calls program.now }
+    ensures { IfOk result (λ o. IsFinished (calls program.now) o) }
+{
+    finishing_order(alloc, graph)
+}
+
+/// The first function that reaches itself.
+fn function_cycle<'a>(
+    alloc: Global,
+    program: &Program,
+    graph: &[Row],
+    order: &Order,
+    names: &'a [Name],
+) -> Result<Option<&'a str>, AllocError>
+    requires graph { graph.now ≡ calls program.now }
+    requires order { IsFinished (calls program.now) order.now }
+    requires names { names.now ≡ function_names program.now }
+    ensures { IfOk result (λ o. MatchOption o (first (function_cycles program.now) ≡ None) (λ x. first (function_cycles program.now) ≡ Some x.now)) }
+{
+    first_cycle(alloc, graph, order, names)
+}
+
 /// No function reaches itself.
 fn refuse_function_cycle(alloc: Global, program: &Program, names: &Names) -> Result<(), Refusal>
     requires { names.now ≡ function_names program.now }
     ensures { Answers (refused_name (λ x. Refusal.FunctionCycle x) (function_cycles program.now)) result }
 {
-    match function_cycle(alloc, program, names)? {
+    let graph = calls_of(alloc, program)?;
+    let order = function_order(alloc, program, &graph)?;
+    match function_cycle(alloc, program, &graph, &order, names.items())? {
         None => Ok(()),
         Some(name) => Err(Refusal::FunctionCycle(told(alloc, name)?)),
     }
+}
+
+/// The order in which components are finished.
+fn component_order(alloc: Global, program: &Program, graph: &[Row]) -> Result<Order, AllocError>
+    requires { graph.now ≡ places program.now }
+    ensures { IfOk result (λ o. IsFinished (places program.now) o) }
+{
+    finishing_order(alloc, graph)
+}
+
+/// The first component that reaches itself.
+fn component_cycle<'a>(
+    alloc: Global,
+    program: &Program,
+    graph: &[Row],
+    order: &Order,
+    names: &'a [Name],
+) -> Result<Option<&'a str>, AllocError>
+    requires graph { graph.now ≡ places program.now }
+    requires order { IsFinished (places program.now) order.now }
+    requires names { names.now ≡ component_names program.now }
+    ensures { IfOk result (λ o. MatchOption o (first (component_cycles program.now) ≡ None) (λ x. first (component_cycles program.now) ≡ Some x.now)) }
+{
+    first_cycle(alloc, graph, order, names)
 }
 
 /// No component reaches itself.
@@ -83,7 +131,9 @@ fn refuse_component_cycle(alloc: Global, program: &Program, names: &Names) -> Re
     requires { names.now ≡ component_names program.now }
     ensures { Answers (refused_name (λ x. Refusal.ComponentCycle x) (component_cycles program.now)) result }
 {
-    match component_cycle(alloc, program, names)? {
+    let graph = places_of(alloc, program)?;
+    let order = component_order(alloc, program, &graph)?;
+    match component_cycle(alloc, program, &graph, &order, names.items())? {
         None => Ok(()),
         Some(name) => Err(Refusal::ComponentCycle(told(alloc, name)?)),
     }

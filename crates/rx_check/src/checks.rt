@@ -3,15 +3,14 @@ ghost use Rattle.std.specs.Prelude.{◌≡◌, MatchOption, IfOk, Some, None, fi
 ghost use Rattle.std.specs.List.{list_all};
 ghost use Rattle.rx_rules.specs.Names.{prop_names, has_name, function_named, component_named};
 ghost use Rattle.rx_check.specs.Limits.{limit_of};
-ghost use Rattle.rx_check.specs.Checks.{unless, repeat_in, unknown_among, misfit_in, is_children, fits, element_fits, takes_arguments, is_rooted, measure_in, same_count, count_in, name_length_in, text_length_in, first_over};
-ghost use Rattle.rx_check.specs.Refusals.{first};
+ghost use Rattle.rx_check.specs.Checks.{unless, repeat_in, unknown_among, misfit_in, is_children, fits, element_fits, takes_arguments, is_rooted, measure_in, same_count, count_in, name_length_in, text_length_in};
+ghost use Rattle.rx_figures.specs.Costs.{first_over};
+ghost use Rattle.rx_order.specs.Graphs.{first};
 
-use crate::listing::Listing;
-use crate::mention::Mention;
-use crate::names::Names;
-use crate::refusal::Count;
-use rx_ast::{Component, DeclarationKind, Function, ParameterKind, Program};
+use rx_ast::{Component, ParameterKind, Program};
 use rx_base::Name;
+use rx_mentions::{Count, Mention};
+use rx_names::{Listing, Names, component_named, function_named};
 use std::alloc::{AllocError, Global};
 
 /// The name, unless it is as it must be.
@@ -29,34 +28,6 @@ pub fn first_repeat(mentions: &[Mention]) -> Option<&str>
         if let Mention::Introduced { name, again } = mention {
             if *again {
                 return Some(name.text());
-            }
-        }
-    }
-    None
-}
-
-/// The function of a name.
-fn function_named<'a>(program: &'a Program, name: &Name) -> Option<&'a Function>
-    ensures { MatchOption result (function_named program.now name.now ≡ None) (λ f. function_named program.now name.now ≡ Some f.now) }
-{
-    for declaration in program.declarations() {
-        if let DeclarationKind::Function(function) = &declaration.kind {
-            if function.name().text() == name.text() {
-                return Some(function);
-            }
-        }
-    }
-    None
-}
-
-/// The component of a name.
-pub fn component_named<'a>(program: &'a Program, name: &str) -> Option<&'a Component>
-    ensures { MatchOption result (component_named program.now name.now ≡ None) (λ c. component_named program.now name.now ≡ Some c.now) }
-{
-    for declaration in program.declarations() {
-        if let DeclarationKind::Component(component) = &declaration.kind {
-            if component.name().text() == name {
-                return Some(component);
             }
         }
     }

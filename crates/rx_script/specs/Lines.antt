@@ -5,7 +5,7 @@ use Rattle.std.specs.Option.{option_map_or}
 use Rattle.rx_base.specs.Values.{Text, Name}
 use Rattle.rx_ast.specs.Syntax.{Program}
 use Rattle.rx_rules.specs.Names.{component_names, resources, root_name}
-use Rattle.rx_check.specs.Checks.{function_names}
+use Rattle.rx_names.specs.Listed.{function_names}
 use Rattle.rx_check.specs.Tables.{hook_named, parameter_count}
 use Rattle.rx_check.specs.declared.hook.HookKind.{HookKind}
 use Rattle.rx_check.specs.declared.hook.HookKind.TheVariants as kind

@@ -1,8 +1,8 @@
 use Rattle.std.proofs.Common.{sym, ap, ◌∙◌}
-use Rattle.rx_check.specs.Costs.{held_sum}
-use Rattle.rx_check.specs.declared.figures.Counted.TheVariants as counted
+use Rattle.rx_figures.specs.Costs.{held_sum}
+use Rattle.rx_figures.specs.declared.figures.Counted.TheVariants as counted
 use Rattle.rx_check.proofs.Accepting.{accepted}
-use Rattle.rx_check.proofs.Figured.{bound-figured, depth-figured}
+use Rattle.rx_figures.proofs.Figured.{bound-figured, depth-figured}
 use Rattle.rx_check.proofs.checking.check.Goals as goal
 
 pub refuse-requires-clause-bound : goal.refuse-requires-clause-bound

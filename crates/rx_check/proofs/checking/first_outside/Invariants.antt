@@ -1,7 +1,7 @@
 use Rattle.std.proofs.Common.{◌≡◌, drop}
 use Rattle.std.specs.Prelude.{filter}
 use Rattle.rx_check.specs.Checks.{root_waits_for}
-use Rattle.rx_check.specs.Refusals.{first}
+use Rattle.rx_order.specs.Graphs.{first}
 use Rattle.rx_check.proofs.checking.first_outside.Given as goal
 
 -- the first is among those that are left

@@ -1,9 +1,9 @@
 use Rattle.std.proofs.Common.{◌≡◌, sym, ap, ◌∙◌}
 use Rattle.rx_rules.specs.Names.{component_number, root_name}
 use Rattle.rx_rules.specs.Bounds.{body_by}
-use Rattle.rx_check.specs.Figures.{figures}
-use Rattle.rx_check.specs.declared.figures.Counted.TheVariants as counted
-use Rattle.rx_check.proofs.Figured.{none-first, not-true}
+use Rattle.rx_figures.specs.Figures.{figures}
+use Rattle.rx_figures.specs.declared.figures.Counted.TheVariants as counted
+use Rattle.rx_check.proofs.Outside.{none-first, not-true}
 use Rattle.rx_check.proofs.checking.outside_use.Goals as goal
 
 pub returns-then-not-figures : goal.returns-then-not-figures

@@ -2,10 +2,10 @@ use Rattle.std.proofs.Common.{◌≡◌, sym, ap, ◌∙◌}
 use Rattle.std.specs.Prelude.{bytes_eq}
 use Rattle.rx_rules.specs.Names.{component_number, root_name}
 use Rattle.rx_rules.specs.Bounds.{body_by, may_wait}
-use Rattle.rx_check.specs.Checks.{nesting_levels}
-use Rattle.rx_check.specs.Figures.{figures}
-use Rattle.rx_check.specs.declared.figures.Counted.TheVariants as counted
-use Rattle.rx_check.proofs.Figured.{waits-figured}
+use Rattle.rx_figures.specs.Figures.{nesting_levels}
+use Rattle.rx_figures.specs.Figures.{figures}
+use Rattle.rx_figures.specs.declared.figures.Counted.TheVariants as counted
+use Rattle.rx_figures.proofs.Figured.{waits-figured}
 use Rattle.rx_check.proofs.checking.waits_for.Goals as goal
 
 pub returns : goal.returns

@@ -1,7 +1,8 @@
 use Rattle.std.proofs.Common.{◌≡◌, drop}
 use Rattle.std.specs.Prelude.{filter_map}
 use Rattle.rx_check.specs.Limits.{limit_of}
-use Rattle.rx_check.specs.Checks.{measure_in, first_over}
+use Rattle.rx_check.specs.Checks.{measure_in}
+use Rattle.rx_figures.specs.Costs.{first_over}
 use Rattle.rx_check.proofs.checks.first_over.Given as goal
 
 -- the first is among those that are left

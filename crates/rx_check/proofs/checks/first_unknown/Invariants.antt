@@ -1,7 +1,7 @@
 use Rattle.std.proofs.Common.{◌≡◌, drop}
 use Rattle.std.specs.Prelude.{filter_map}
 use Rattle.rx_check.specs.Checks.{unknown_among}
-use Rattle.rx_check.specs.Refusals.{first}
+use Rattle.rx_order.specs.Graphs.{first}
 use Rattle.rx_check.proofs.checks.first_unknown.Given as goal
 
 -- the first is among those that are left

@@ -1,0 +1,6 @@
+pub mod HeldCounts
+pub mod Along
+pub mod Rounds
+pub mod Figured
+pub mod Alone
+pub mod Same

@@ -1,0 +1,15 @@
+use Rattle.std.proofs.Common.{◌≡◌, ◌≤◌, length, drop}
+use Rattle.std.specs.Prelude.{slice_index}
+use Rattle.rx_figures.specs.Costs.{attributes_cost}
+use Rattle.rx_figures.proofs.costs.attributes.Given as goal
+
+-- the sum is that of what was passed, from the end on
+abbrev pub invariant-loop-at : goal.invariant-loop-at
+invariant-loop-at l =
+    record {
+      within : l.at ≤ length l.attributes;
+      total : l.sum ≡ attributes_cost (slice_index l.costs) l.program ((drop l.at l.attributes));
+    }
+
+abbrev pub decreases-loop-at : goal.decreases-loop-at
+decreases-loop-at l = l.at

@@ -1,0 +1,120 @@
+-- What is computed of a slot: its nodes, levels and waits side by side, each sum and product held.
+use Rattle.std.specs.Prelude.{ℕ, zero, suc, max, Bool, true, false, ◌&&◌, ◌||◌, bytes_eq, List, map, length, slice_index_or, Some}
+use Rattle.rx_ast.specs.Syntax.{Component, Program, components}
+use Rattle.rx_rules.specs.Bounds.{component_levels, Column, slot_by, body_if, reads_resource}
+use Rattle.rx_ast.specs.declared.slot.Tag.{Tag}
+use Rattle.rx_ast.specs.declared.slot.Tag.TheVariants as tag
+use Rattle.rx_rules.specs.Names.{component_number}
+use Rattle.rx_figures.specs.Costs.{held_sum, held_product}
+use Rattle.rx_figures.specs.declared.figures.Figures.{Figures}
+use Rattle.rx_figures.specs.declared.figures.Counted.{Counted}
+use Rattle.rx_figures.specs.declared.figures.Counted.TheVariants as counted
+
+-- the reads of a component count
+abbrev pub counts_reads : Counted → Component → Bool
+counts_reads counted.All c = true
+counts_reads (counted.One name) c = bytes_eq c.name name
+
+-- nothing
+abbrev pub no_figures : Figures
+no_figures = record { own = 0; given = 0; levels = 0; waits = false; unguarded = false }
+
+-- a text
+abbrev pub text_figures : Figures
+text_figures = record { own = 1; given = 0; levels = 1; waits = false; unguarded = false }
+
+-- the children that are given
+abbrev pub children_figures : Figures
+children_figures = record { own = 1; given = 1; levels = 1; waits = false; unguarded = true }
+
+-- two places beside each other
+abbrev pub beside_figures : Figures → Figures → Figures
+beside_figures a b =
+    record {
+      own = held_sum a.own b.own;
+      given = held_sum a.given b.given;
+      levels = max a.levels b.levels;
+      waits = a.waits || b.waits;
+      unguarded = a.unguarded || b.unguarded;
+    }
+
+-- a node around what is in it
+abbrev pub around_figures : Figures → Figures
+around_figures a = record { own = held_sum 1 a.own; given = a.given; levels = held_sum 1 a.levels; waits = a.waits; unguarded = a.unguarded }
+
+-- so many items
+abbrev pub repeated_figures : ℕ → Figures → Figures
+repeated_figures n a =
+    record {
+      own = held_sum 1 (held_product n a.own);
+      given = held_product n a.given;
+      levels = held_sum 1 a.levels;
+      waits = a.waits;
+      unguarded = a.unguarded;
+    }
+
+-- a boundary with its fallback
+abbrev pub boundary_figures : (primary fallback : Figures) → Figures
+boundary_figures a b =
+    record {
+      own = held_sum 1 (held_sum a.own b.own);
+      given = held_sum a.given b.given;
+      levels = held_sum 1 (max a.levels b.levels);
+      waits = b.waits;
+      unguarded = b.unguarded;
+    }
+
+-- a component with its body, given these children
+abbrev pub component_figures : (body children : Figures) → Figures
+component_figures c k =
+    record {
+      own = held_sum 1 (held_sum c.own (held_product c.given k.own));
+      given = held_product c.given k.given;
+      levels = held_sum 1 (held_sum c.levels k.levels);
+      waits = c.waits || (c.unguarded && k.waits);
+      unguarded = c.unguarded && k.unguarded;
+    }
+
+-- a body, of which the component may read a resource
+abbrev pub body_figures : Bool → Figures → Figures
+body_figures reads a = record { own = a.own; given = a.given; levels = a.levels; waits = reads || a.waits; unguarded = a.unguarded }
+
+-- the column of all
+abbrev pub figures : Counted → Column Figures
+figures counted =
+    record {
+      nothing = no_figures;
+      text = text_figures;
+      children = children_figures;
+      repeated = repeated_figures;
+      choice = beside_figures;
+      around = around_figures;
+      boundary = boundary_figures;
+      component = component_figures;
+      body = λ c a. body_figures (counts_reads counted c && reads_resource c) a;
+      beside = beside_figures;
+    }
+
+-- No program nests components deeper, before the number of its declarations is known.
+abbrev pub nesting_levels : Program → ℕ
+nesting_levels p = max component_levels (length (components p))
+
+-- what is known of each component, by its number
+abbrev pub known_in : List Figures → ℕ → Figures
+known_in table c = slice_index_or table c no_figures
+
+-- the figures of an element of this tag, from those of its children
+abbrev pub tag_figures : Counted → List Figures → Program → Tag → (inner : Figures) → Figures
+tag_figures counted table p (tag.Host x attrs) inner = around_figures inner
+tag_figures counted table p (tag.Component x attrs) inner = component_figures (known_in table (component_number p x)) inner
+tag_figures counted table p (tag.Suspense k f) inner = boundary_figures inner (slot_by (figures counted) (known_in table) p f.value)
+tag_figures counted table p (tag.Provider x k e) inner = around_figures inner
+
+-- one round over all components, from what was known before
+abbrev pub round_of : Counted → Program → List Figures → List Figures
+round_of counted p table = map (λ c. body_if (figures counted) (known_in table) p (Some c)) (components p)
+
+-- so many rounds
+unfoldable pub rounds : Counted → ℕ → Program → List Figures → List Figures
+rounds counted zero p table = table
+rounds counted (suc n) p table = rounds counted n p (round_of counted p table)

@@ -1,0 +1,394 @@
+// Nodes, levels and waits of slots.
+ghost use Rattle.std.specs.Prelude.{◌≡◌, [], bytes_eq, IfOk, Some, IsTrue, length};
+ghost use Rattle.std.specs.List.{position_from};
+ghost use Rattle.rx_ast.specs.Syntax.{slots_of, body_slots, components};
+ghost use Rattle.rx_rules.specs.Names.{component_names, component_number, root_name};
+ghost use Rattle.rx_rules.specs.Bounds.{body_by, slot_by, slots_by, body_if, reads_resource};
+ghost use Rattle.rx_figures.specs.Figures.{nesting_levels};
+ghost use Rattle.rx_figures.specs.Figures.{counts_reads, no_figures, text_figures, children_figures, beside_figures, around_figures, repeated_figures, boundary_figures, component_figures, figures, known_in, tag_figures, round_of, rounds};
+
+use crate::held::{held_product, held_sum};
+use rx_ast::{
+    Body, BodyKind, Child, ChildKind, Component, Content, DeclarationKind, Element, Fragment,
+    Program, Slot, SlotKind, StatementKind, Tag,
+};
+use rx_base::Name;
+use rx_names::{component_count, component_number};
+use std::alloc::{AllocError, Global};
+
+/// The components whose reads count.
+#[derive(Debug, Drop)]
+pub enum Counted {
+    All,
+    /// Those of this name alone.
+    One(Name),
+}
+
+/// Nodes, levels and waits of a place.
+#[derive(Clone, Copy, Debug, PartialEq, Eq)]
+pub struct Figures {
+    /// Nodes of its own.
+    pub own: u64,
+    /// Nodes for each node of the children that are given.
+    pub given: u64,
+    /// How deep its nodes nest.
+    pub levels: u64,
+    /// It may wait.
+    pub waits: bool,
+    /// It places the given children where their wait would be its own.
+    pub unguarded: bool,
+}
+
+/// Nothing.
+fn nothing() -> Figures
+    ensures { result ≡ no_figures }
+{
+    Figures {
+        own: 0,
+        given: 0,
+        levels: 0,
+        waits: false,
+        unguarded: false,
+    }
+}
+
+/// A text.
+fn text() -> Figures
+    ensures { result ≡ text_figures }
+{
+    Figures {
+        own: 1,
+        given: 0,
+        levels: 1,
+        waits: false,
+        unguarded: false,
+    }
+}
+
+/// The children that are given.
+fn given_children() -> Figures
+    ensures { result ≡ children_figures }
+{
+    Figures {
+        own: 1,
+        given: 1,
+        levels: 1,
+        waits: false,
+        unguarded: true,
+    }
+}
+
+/// Two places beside each other.
+fn beside(a: Figures, b: Figures) -> Figures
+    ensures { result ≡ beside_figures a b }
+{
+    Figures {
+        own: held_sum(a.own, b.own),
+        given: held_sum(a.given, b.given),
+        levels: a.levels.max(b.levels),
+        waits: a.waits || b.waits,
+        unguarded: a.unguarded || b.unguarded,
+    }
+}
+
+/// A node around what is in it.
+fn around(a: Figures) -> Figures
+    ensures { result ≡ around_figures a }
+{
+    Figures {
+        own: held_sum(1, a.own),
+        given: a.given,
+        levels: held_sum(1, a.levels),
+        waits: a.waits,
+        unguarded: a.unguarded,
+    }
+}
+
+/// So many items.
+fn repeated(limit: u64, a: Figures) -> Figures
+    ensures { result ≡ repeated_figures limit a }
+{
+    Figures {
+        own: held_sum(1, held_product(limit, a.own)),
+        given: held_product(limit, a.given),
+        levels: held_sum(1, a.levels),
+        waits: a.waits,
+        unguarded: a.unguarded,
+    }
+}
+
+/// A boundary with its fallback.
+fn boundary(a: Figures, b: Figures) -> Figures
+    ensures { result ≡ boundary_figures a b }
+{
+    Figures {
+        own: held_sum(1, held_sum(a.own, b.own)),
+        given: held_sum(a.given, b.given),
+        levels: held_sum(1, a.levels.max(b.levels)),
+        waits: b.waits,
+        unguarded: b.unguarded,
+    }
+}
+
+/// A component with its body, given these children.
+fn filled(c: Figures, k: Figures) -> Figures
+    ensures { result ≡ component_figures c k }
+{
+    Figures {
+        own: held_sum(1, held_sum(c.own, held_product(c.given, k.own))),
+        given: held_product(c.given, k.given),
+        levels: held_sum(1, held_sum(c.levels, k.levels)),
+        waits: c.waits || (c.unguarded && k.waits),
+        unguarded: c.unguarded && k.unguarded,
+    }
+}
+
+/// What is known of a component.
+fn known(table: &[Figures], component: usize) -> Figures
+    ensures { result ≡ known_in table.now component }
+{
+    match table.get(component) {
+        None => nothing(),
+        Some(figures) => *figures,
+    }
+}
+
+/// The figures of an element, from those of its children.
+#[cycle(figures)]
+fn tag(
+    program: &Program,
+    counted: &Counted,
+    table: &[Figures],
+    tag: &Tag,
+    inner: Figures,
+) -> Figures
+    ensures { result ≡ tag_figures counted.now table.now program.now tag.now inner }
+{
+    match tag {
+        Tag::Host { .. } | Tag::Provider { .. } => around(inner),
+        Tag::Component { name, .. } => {
+            filled(known(table, component_number(program, name.text())), inner)
+        }
+        Tag::Suspense { fallback, .. } => boundary(inner, slot(program, counted, table, fallback)),
+    }
+}
+
+/// The figures of an element.
+#[cycle(figures)]
+fn element(program: &Program, counted: &Counted, table: &[Figures], element: &Element) -> Figures
+    ensures { result ≡ slot_by (figures counted.now) (known_in table.now) program.now element.now }
+{
+    match &element.content {
+        Content::AtOnce => tag(program, counted, table, &element.tag, nothing()),
+        Content::Children(children) => {
+            let inner = slots(program, counted, table, children);
+            tag(program, counted, table, &element.tag, inner)
+        }
+    }
+}
+
+/// The figures of a slot.
+#[cycle(figures)]
+fn slot(program: &Program, counted: &Counted, table: &[Figures], slot: &Slot) -> Figures
+    ensures { result ≡ slot_by (figures counted.now) (known_in table.now) program.now slot.now }
+{
+    match &slot.kind {
+        SlotKind::Null => nothing(),
+        SlotKind::Text(_) | SlotKind::Value(_) => text(),
+        SlotKind::Children => given_children(),
+        SlotKind::For(repetition) => repeated(
+            repetition.limit,
+            self::slot(program, counted, table, &repetition.item),
+        ),
+        SlotKind::Choice { first, second, .. } => {
+            let first = self::slot(program, counted, table, first);
+            let second = self::slot(program, counted, table, second);
+            beside(first, second)
+        }
+        SlotKind::Element(inner) | SlotKind::Enclosed(inner) => {
+            element(program, counted, table, inner)
+        }
+    }
+}
+
+/// The figures of a place of a child list.
+#[cycle(figures)]
+fn child(program: &Program, counted: &Counted, table: &[Figures], child: &Child) -> Figures
+    ensures { result ≡ slot_by (figures counted.now) (known_in table.now) program.now child.now }
+{
+    match &child.kind {
+        ChildKind::Element(inner) => element(program, counted, table, inner),
+        ChildKind::Braced(inner) => slot(program, counted, table, inner),
+    }
+}
+
+/// The figures of a child list.
+#[cycle(figures)]
+fn slots(program: &Program, counted: &Counted, table: &[Figures], children: &[Child]) -> Figures
+    ensures { result ≡ slots_by (figures counted.now) (known_in table.now) program.now (slots_of children.now) }
+{
+    let mut at = children.len();
+    let mut sum = nothing();
+    while at > 0 {
+        at -= 1;
+        sum = beside(child(program, counted, table, &children[at]), sum);
+    }
+    sum
+}
+
+/// The figures of a fragment.
+fn fragment(program: &Program, counted: &Counted, table: &[Figures], fragment: &Fragment) -> Figures
+    ensures { result ≡ slots_by (figures counted.now) (known_in table.now) program.now fragment.now }
+{
+    slots(program, counted, table, fragment.children())
+}
+
+/// The figures of what a component returns.
+fn body(program: &Program, counted: &Counted, table: &[Figures], body: &Body) -> Figures
+    ensures { result ≡ slots_by (figures counted.now) (known_in table.now) program.now (body_slots body.now) }
+{
+    match &body.kind {
+        BodyKind::Slot(only) => {
+            let figures = slot(program, counted, table, only);
+            beside(figures, nothing())
+        }
+        BodyKind::Fragment(inner) | BodyKind::Enclosed(inner) => {
+            fragment(program, counted, table, inner)
+        }
+    }
+}
+
+/// Whether a component reads a resource.
+fn reads_resource(component: &Component) -> bool
+    ensures { result ≡ reads_resource component.now }
+{
+    for statement in component.statements() {
+        if let StatementKind::Resource { .. } = &statement.kind {
+            return true;
+        }
+    }
+    false
+}
+
+/// Whether the reads of a component count.
+fn counts_reads(counted: &Counted, component: &Component) -> bool
+    ensures { result ≡ counts_reads counted.now component.now }
+{
+    match counted {
+        Counted::All => true,
+        Counted::One(name) => component.name().text() == name.text(),
+    }
+}
+
+/// The figures of a component's body.
+fn component(
+    program: &Program,
+    counted: &Counted,
+    table: &[Figures],
+    component: &Component,
+) -> Figures
+    ensures { result ≡ body_if (figures counted.now) (known_in table.now) program.now (Some component.now) }
+{
+    let inner = body(program, counted, table, component.body());
+    let reads = counts_reads(counted, component) && reads_resource(component);
+    Figures {
+        own: inner.own,
+        given: inner.given,
+        levels: inner.levels,
+        waits: reads || inner.waits,
+        unguarded: inner.unguarded,
+    }
+}
+
+/// One round over all components, from what was known before.
+fn round(
+    alloc: Global,
+    program: &Program,
+    counted: &Counted,
+    table: &[Figures],
+) -> Result<Vec<Figures>, AllocError>
+    ensures { IfOk result (λ t. t.items ≡ round_of counted.now program.now table.now) }
+{
+    let mut next = Vec::new(alloc);
+    for declaration in program.declarations() {
+        if let DeclarationKind::Component(inner) = &declaration.kind {
+            next.push(component(program, counted, table, inner))?;
+        }
+    }
+    Ok(next)
+}
+
+/// Whether the figures are the same.
+#[tactic(auto, using(crate::proofs::Same::same_figures))]
+fn is_same(a: &Figures, b: &Figures) -> bool
+    ensures { IsTrue result → a.now ≡ b.now }
+{
+    if a.own == b.own {
+        if a.given == b.given {
+            if a.levels == b.levels {
+                if a.waits == b.waits {
+                    return a.unguarded == b.unguarded;
+                }
+            }
+        }
+    }
+    false
+}
+
+/// Whether a round changed nothing.
+fn are_same(a: &[Figures], b: &[Figures]) -> bool
+    ensures { IsTrue result → a.now ≡ b.now }
+{
+    if a.len() != b.len() {
+        return false;
+    }
+    for at in 0..a.len() {
+        if !is_same(&a[at], &b[at]) {
+            return false;
+        }
+    }
+    true
+}
+
+/// Rounds until nothing changes, and at most so many.
+fn settled(
+    alloc: Global,
+    program: &Program,
+    counted: &Counted,
+    most: usize,
+) -> Result<Vec<Figures>, AllocError>
+    ensures { IfOk result (λ t. t.items ≡ rounds counted.now most program.now []) }
+{
+    let mut table: Vec<Figures> = Vec::new(alloc);
+    let mut left = most;
+    while left > 0 {
+        let next = round(alloc, program, counted, &table)?;
+        if are_same(&next, &table) {
+            return Ok(table);
+        }
+        table = next;
+        left -= 1;
+    }
+    Ok(table)
+}
+
+/// How deep components may nest.
+pub fn nesting_levels(program: &Program) -> usize
+    ensures { result ≡ nesting_levels program.now }
+{
+    let count = component_count(program);
+    if count < 256 { 256 } else { count }
+}
+
+/// The figures of the root's body, where components nest at most so deep.
+pub fn root_figures(
+    alloc: Global,
+    program: &Program,
+    counted: &Counted,
+    most: usize,
+) -> Result<Figures, AllocError>
+    ensures { IfOk result (λ f. f ≡ body_by (figures counted.now) most program.now (component_number program.now root_name)) }
+{
+    let table = settled(alloc, program, counted, most)?;
+    Ok(known(&table, component_number(program, "App")))
+}

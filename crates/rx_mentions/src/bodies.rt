@@ -1,0 +1,268 @@
+// The mentions of declarations.
+ghost use Rattle.std.specs.Prelude.{◌≡◌, false, List, [], ◌∷◌, ◌++◌, OnOk, IfOk, length, fold, flat_map};
+ghost use Rattle.rx_ast.specs.Syntax.{body_slots};
+ghost use Rattle.rx_mentions.specs.Mentions.{bound, after_parameter, after_line, after_statement, parameter_name, expr_mentions, slots_mentions, names_mentions, lines_mentions, function_mentions, parameters_mentions, pair_mentions, statement_mentions, statements_mentions, component_mentions, declaration_mentions, declarations_mentions, mentions};
+
+use crate::count::Count;
+use crate::mention::Mention;
+use crate::scope::Scope;
+use crate::walk::Walk;
+use rx_ast::{
+    Body, BodyKind, Component, Declaration, DeclarationKind, Expr, Fragment, Function, Line,
+    Parameter, ParameterKind, Program, Statement, StatementKind,
+};
+use rx_base::Name;
+use rx_names::Names;
+use std::alloc::{AllocError, Global};
+
+/// The name of a parameter.
+fn name_of(parameter: &Parameter) -> &str
+    ensures { result.now ≡ parameter_name parameter.now }
+{
+    match &parameter.kind {
+        ParameterKind::Integer(name) => name.text(),
+        ParameterKind::Children => "children",
+    }
+}
+
+impl Walk {
+    /// Notes what parameters of a component mention, and binds them.
+    fn parameters(&mut self, scope: &mut Scope, parameters: &[Parameter]) -> Result<(), AllocError>
+        ensures mentions { OnOk result (self.new ≡ self.old ++ parameters_mentions scope.old parameters.now) }
+        ensures scope { OnOk result (scope.new ≡ fold after_parameter scope.old parameters.now) }
+    {
+        for parameter in parameters {
+            self.introduced(scope.names(), name_of(parameter))?;
+            scope.parameter(parameter)?;
+        }
+        Ok(())
+    }
+
+    /// Notes what parameters of a function mention, and binds them.
+    fn names(&mut self, scope: &mut Scope, names: &[Name]) -> Result<(), AllocError>
+        ensures mentions { OnOk result (self.new ≡ self.old ++ names_mentions scope.old names.now) }
+        ensures scope { OnOk result (scope.new ≡ fold bound scope.old names.now) }
+    {
+        for name in names {
+            self.introduced(scope.names(), name.text())?;
+            scope.bind(name)?;
+        }
+        Ok(())
+    }
+
+    /// Notes what lines of a function mention, and binds their names.
+    fn lines(&mut self, scope: &mut Scope, lines: &[Line]) -> Result<(), AllocError>
+        ensures mentions { OnOk result (self.new ≡ self.old ++ lines_mentions scope.old lines.now) }
+        ensures scope { OnOk result (scope.new ≡ fold after_line scope.old lines.now) }
+    {
+        for line in lines {
+            self.introduced(scope.names(), line.name().text())?;
+            self.expr(scope.values(), line.value())?;
+            scope.bind(line.name())?;
+        }
+        Ok(())
+    }
+
+    /// Notes what a function mentions behind its name.
+    fn function(&mut self, function: &Function) -> Result<(), AllocError>
+        ensures { OnOk result (self.new ≡ self.old ++ function_mentions function.now) }
+    {
+        let mut scope = Scope::new(self.alloc);
+        self.counted(Count::Parameters, function.parameters().len())?;
+        self.counted(Count::Statements, function.lines().len())?;
+        self.names(&mut scope, function.parameters())?;
+        self.lines(&mut scope, function.lines())?;
+        self.expr(scope.values(), function.answer())
+    }
+
+    /// Notes the two names of a hook.
+    fn pair(&mut self, scope: &Scope, name: &Name, setter: &Name) -> Result<(), AllocError>
+        ensures { OnOk result (self.new ≡ self.old ++ pair_mentions scope.now name.now setter.now) }
+    {
+        self.introduced(scope.names(), name.text())?;
+        let again = scope.names().contains(setter.text()) || setter.text() == name.text();
+        let name = Name::new(self.alloc, setter.text())?;
+        self.note(Mention::Introduced { name, again })
+    }
+
+    /// Notes a function that reduces a state.
+    fn reduction(&mut self, function: &Name) -> Result<(), AllocError>
+        ensures { OnOk result (self.new ≡ self.old ++ Mention.Reduction function.now ∷ []) }
+    {
+        let function = Name::new(self.alloc, function.text())?;
+        self.note(Mention::Reduction(function))
+    }
+
+    /// Notes a resource.
+    fn resource(&mut self, name: &Name) -> Result<(), AllocError>
+        ensures { OnOk result (self.new ≡ self.old ++ Mention.Resource name.now ∷ []) }
+    {
+        let name = Name::new(self.alloc, name.text())?;
+        self.note(Mention::Resource(name))
+    }
+
+    /// Notes what the values of an effect mention.
+    fn dependencies(&mut self, scope: &Names, values: &[Expr]) -> Result<(), AllocError>
+        ensures { OnOk result (self.new ≡ self.old ++ flat_map (expr_mentions scope.now) values.now) }
+    {
+        for value in values {
+            self.expr(scope, value)?;
+        }
+        Ok(())
+    }
+
+    /// Notes what a statement mentions.
+    fn statement(&mut self, scope: &Scope, statement: &Statement) -> Result<(), AllocError>
+        ensures { OnOk result (self.new ≡ self.old ++ statement_mentions scope.now statement.now) }
+    {
+        match &statement.kind {
+            StatementKind::State {
+                name,
+                setter,
+                initial,
+            } => {
+                self.pair(scope, name, setter)?;
+                self.expr(scope.values(), initial)
+            }
+            StatementKind::Reducer {
+                name,
+                setter,
+                function,
+                initial,
+            } => {
+                self.pair(scope, name, setter)?;
+                self.reduction(function)?;
+                self.expr(scope.values(), initial)
+            }
+            StatementKind::Context { name, source } => {
+                self.introduced(scope.names(), name.text())?;
+                self.context(source)
+            }
+            StatementKind::Resource { name, resource } => {
+                self.introduced(scope.names(), name.text())?;
+                self.resource(resource)
+            }
+            StatementKind::Constant { name, value } => {
+                self.introduced(scope.names(), name.text())?;
+                self.expr(scope.values(), value)
+            }
+            StatementKind::Effect {
+                label,
+                dependencies,
+                ..
+            } => {
+                self.quoted(label)?;
+                self.counted(Count::Dependencies, dependencies.len())?;
+                self.dependencies(scope.values(), dependencies)
+            }
+        }
+    }
+
+    /// Notes what statements mention, and binds their names.
+    fn statements(&mut self, scope: &mut Scope, statements: &[Statement]) -> Result<(), AllocError>
+        ensures mentions { OnOk result (self.new ≡ self.old ++ statements_mentions scope.old statements.now) }
+        ensures scope { OnOk result (scope.new ≡ fold after_statement scope.old statements.now) }
+    {
+        for statement in statements {
+            self.statement(scope, statement)?;
+            scope.statement(statement)?;
+        }
+        Ok(())
+    }
+
+    /// Notes what a fragment mentions.
+    fn fragment(&mut self, scope: &mut Scope, fragment: &Fragment) -> Result<(), AllocError>
+        ensures { OnOk result (self.new ≡ self.old ++ slots_mentions scope.old false fragment.now) }
+    {
+        self.children(scope, fragment.children())
+    }
+
+    /// Notes what a body mentions.
+    fn body(&mut self, scope: &mut Scope, body: &Body) -> Result<(), AllocError>
+        ensures { OnOk result (self.new ≡ self.old ++ slots_mentions scope.old false (body_slots body.now)) }
+    {
+        match &body.kind {
+            BodyKind::Slot(slot) => self.slot(scope, false, slot),
+            BodyKind::Fragment(fragment) | BodyKind::Enclosed(fragment) => {
+                self.fragment(scope, fragment)
+            }
+        }
+    }
+
+    /// Notes what a component mentions behind its name.
+    fn component(&mut self, component: &Component) -> Result<(), AllocError>
+        ensures { OnOk result (self.new ≡ self.old ++ component_mentions component.now) }
+    {
+        let mut scope = Scope::new(self.alloc);
+        self.counted(Count::Parameters, component.parameters().len())?;
+        self.counted(Count::Statements, component.statements().len())?;
+        self.parameters(&mut scope, component.parameters())?;
+        self.statements(&mut scope, component.statements())?;
+        self.body(&mut scope, component.body())
+    }
+
+    /// Notes what a declaration mentions behind its name.
+    fn declaration(&mut self, declaration: &Declaration) -> Result<(), AllocError>
+        ensures { OnOk result (self.new ≡ self.old ++ declaration_mentions declaration.now) }
+    {
+        match &declaration.kind {
+            DeclarationKind::Context(_) => Ok(()),
+            DeclarationKind::Function(function) => self.function(function),
+            DeclarationKind::Component(component) => self.component(component),
+        }
+    }
+
+    /// Notes what declarations mention.
+    fn declarations(&mut self, declarations: &[Declaration]) -> Result<(), AllocError>
+        ensures { OnOk result (self.new ≡ self.old ++ declarations_mentions [] declarations.now) }
+    {
+        let mut taken = Names::new(self.alloc);
+        for declaration in declarations {
+            let name = declaration.name().text();
+            self.introduced(&taken, name)?;
+            self.declaration(declaration)?;
+            taken.push(self.alloc, name)?;
+        }
+        Ok(())
+    }
+}
+
+/// What a program mentions, in the order of its text.
+///
+/// # Errors
+///
+/// Want of memory alone.
+#[tactic(auto, unfolding(crate::specs::Mentions::mentions))]
+pub fn mentions_of(alloc: Global, program: &Program) -> Result<Walk, AllocError>
+    ensures { IfOk result (λ w. w ≡ mentions program.now) }
+{
+    let mut walk = Walk::new(alloc);
+    walk.declarations(program.declarations())?;
+    Ok(walk)
+}
+
+/// What a function mentions behind its name.
+///
+/// # Errors
+///
+/// Want of memory alone.
+pub fn function_mentions_of(alloc: Global, function: &Function) -> Result<Walk, AllocError>
+    ensures { IfOk result (λ w. w ≡ function_mentions function.now) }
+{
+    let mut walk = Walk::new(alloc);
+    walk.function(function)?;
+    Ok(walk)
+}
+
+/// What a component mentions behind its name.
+///
+/// # Errors
+///
+/// Want of memory alone.
+pub fn component_mentions_of(alloc: Global, component: &Component) -> Result<Walk, AllocError>
+    ensures { IfOk result (λ w. w ≡ component_mentions component.now) }
+{
+    let mut walk = Walk::new(alloc);
+    walk.component(component)?;
+    Ok(walk)
+}

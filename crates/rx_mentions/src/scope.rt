@@ -1,0 +1,103 @@
+// What is bound at a place of a body.
+ghost use Rattle.std.specs.Prelude.{◌≡◌, OnOk, length, take};
+
+use rx_ast::{Parameter, ParameterKind, Statement, StatementKind};
+use rx_base::Name;
+use rx_names::Names;
+use std::alloc::{AllocError, Global};
+use std::marker::Model;
+
+/// What is bound at a place of a body: the names that stand for values, and all names.
+#[derive(Drop)]
+pub struct Scope {
+    alloc: Global,
+    values: Names,
+    names: Names,
+}
+
+impl Model for Scope {
+    ghost use Rattle.rx_mentions.specs.Mentions.{Scope as Bound};
+
+    ghost Value = { Bound };
+
+    ghost view = { λ s. record { values = s.values; names = s.names } };
+}
+
+impl Scope {
+    ghost use Rattle.rx_mentions.specs.Mentions.{no_scope, bound, kept, after_parameter, after_statement};
+
+    /// Nothing is bound yet.
+    pub fn new(alloc: Global) -> Scope
+        ensures { result ≡ no_scope }
+    {
+        Scope {
+            alloc,
+            values: Names::new(alloc),
+            names: Names::new(alloc),
+        }
+    }
+
+    /// The names that stand for values.
+    pub fn values(&self) -> &Names
+        ensures { result.now ≡ self.now.values }
+    {
+        &self.values
+    }
+
+    /// All names.
+    pub fn names(&self) -> &Names
+        ensures { result.now ≡ self.now.names }
+    {
+        &self.names
+    }
+
+    /// Binds a name that stands for a value.
+    pub fn bind(&mut self, name: &Name) -> Result<(), AllocError>
+        ensures { OnOk result (self.new ≡ bound self.old name.now) }
+    {
+        self.values.push(self.alloc, name.text())?;
+        self.names.push(self.alloc, name.text())
+    }
+
+    /// Binds a name that has no value.
+    pub fn keep(&mut self, name: &str) -> Result<(), AllocError>
+        ensures { OnOk result (self.new ≡ kept self.old name.now) }
+    {
+        self.names.push(self.alloc, name)
+    }
+
+    /// Leaves what was bound behind so many values and names.
+    pub fn leave(&mut self, values: usize, names: usize)
+        ensures { self.new ≡ record { values = take values self.old.values; names = take names self.old.names } }
+    {
+        self.values.truncate(values);
+        self.names.truncate(names);
+    }
+
+    /// Binds a parameter.
+    pub fn parameter(&mut self, parameter: &Parameter) -> Result<(), AllocError>
+        ensures { OnOk result (self.new ≡ after_parameter self.old parameter.now) }
+    {
+        match &parameter.kind {
+            ParameterKind::Integer(name) => self.bind(name),
+            ParameterKind::Children => self.keep("children"),
+        }
+    }
+
+    /// Binds what a statement binds.
+    pub fn statement(&mut self, statement: &Statement) -> Result<(), AllocError>
+        ensures { OnOk result (self.new ≡ after_statement self.old statement.now) }
+    {
+        match &statement.kind {
+            StatementKind::State { name, setter, .. }
+            | StatementKind::Reducer { name, setter, .. } => {
+                self.bind(name)?;
+                self.keep(setter.text())
+            }
+            StatementKind::Context { name, .. }
+            | StatementKind::Resource { name, .. }
+            | StatementKind::Constant { name, .. } => self.bind(name),
+            StatementKind::Effect { .. } => Ok(()),
+        }
+    }
+}

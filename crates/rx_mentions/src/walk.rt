@@ -1,0 +1,163 @@
+// The mentions of a program, in the order of its text.
+ghost use Rattle.std.specs.Prelude.{◌≡◌, List, [], ◌∷◌, ◌++◌, OnOk, length};
+ghost use Rattle.rx_ast.specs.Syntax.{exprs, exprs_of};
+ghost use Rattle.rx_ast.specs.ExprView.{links_of};
+ghost use Rattle.rx_rules.specs.Names.{has_name};
+ghost use Rattle.rx_mentions.specs.Mentions.{introduced, expr_mentions, links_mentions, exprs_mentions};
+
+use crate::count::Count;
+use crate::mention::Mention;
+use rx_ast::{Expr, ExprKind, Link};
+use rx_base::Name;
+use rx_names::Names;
+use std::alloc::{AllocError, Global};
+use std::marker::Model;
+
+/// The mentions so far.
+#[derive(Drop)]
+pub struct Walk {
+    pub(crate) alloc: Global,
+    mentions: Vec<Mention>,
+}
+
+impl Model for Walk {
+    ghost use Rattle.std.specs.Prelude.{List};
+    ghost use Rattle.rx_mentions.specs.declared.mention.Mention.{Mention};
+
+    ghost Value = { List Mention };
+
+    ghost view = { λ w. w.mentions.items };
+}
+
+impl Walk {
+    /// No mention yet.
+    pub fn new(alloc: Global) -> Walk
+        ensures { result ≡ [] }
+    {
+        Walk {
+            alloc,
+            mentions: Vec::new(alloc),
+        }
+    }
+
+    /// The mentions in order.
+    pub fn mentions(&self) -> &[Mention]
+        ensures { result.now ≡ self.now }
+    {
+        &self.mentions
+    }
+
+    /// Notes a mention.
+    pub fn note(&mut self, mention: Mention) -> Result<(), AllocError>
+        ensures { OnOk result (self.new ≡ self.old ++ mention ∷ []) }
+    {
+        self.mentions.push(mention)?;
+        Ok(())
+    }
+
+    /// Notes a name that is introduced where these stand already.
+    pub fn introduced(&mut self, taken: &Names, name: &str) -> Result<(), AllocError>
+        ensures { OnOk result (self.new ≡ self.old ++ introduced taken.now name.now ∷ []) }
+    {
+        let again = taken.contains(name);
+        let name = Name::new(self.alloc, name)?;
+        self.note(Mention::Introduced { name, again })
+    }
+
+    /// Notes a count.
+    pub fn counted(&mut self, what: Count, found: usize) -> Result<(), AllocError>
+        ensures { OnOk result (self.new ≡ self.old ++ Mention.Counted what found ∷ []) }
+    {
+        let found = found as u64;
+        self.note(Mention::Counted { what, found })
+    }
+
+    /// Notes a text.
+    pub fn quoted(&mut self, text: &Name) -> Result<(), AllocError>
+        ensures { OnOk result (self.new ≡ self.old ++ Mention.Quoted (length text.now) ∷ []) }
+    {
+        self.note(Mention::Quoted(text.text().len()))
+    }
+
+    /// Notes a variable.
+    fn variable(&mut self, scope: &Names, name: &Name) -> Result<(), AllocError>
+        ensures { OnOk result (self.new ≡ self.old ++ Mention.Variable name.now (has_name scope.now name.now) ∷ []) }
+    {
+        let known = scope.contains(name.text());
+        let name = Name::new(self.alloc, name.text())?;
+        self.note(Mention::Variable { name, known })
+    }
+
+    /// Notes a call with so many arguments.
+    fn call(&mut self, function: &Name, arguments: usize) -> Result<(), AllocError>
+        ensures { OnOk result (self.new ≡ self.old ++ Mention.Call function.now arguments ∷ []) }
+    {
+        let function = Name::new(self.alloc, function.text())?;
+        self.note(Mention::Call {
+            function,
+            arguments,
+        })
+    }
+
+    /// Notes a call with these arguments.
+    fn call_of(&mut self, function: &Name, arguments: &[Expr]) -> Result<(), AllocError>
+        ensures { OnOk result (self.new ≡ self.old ++ Mention.Call function.now (length (exprs (exprs_of arguments.now))) ∷ []) }
+    {
+        self.call(function, arguments.len())
+    }
+
+    /// Notes what an expression mentions, where these names stand for values.
+    #[cycle(expr)]
+    pub fn expr(&mut self, scope: &Names, expr: &Expr) -> Result<(), AllocError>
+        ensures { OnOk result (self.new ≡ self.old ++ expr_mentions scope.now expr.now) }
+    {
+        match &expr.kind {
+            ExprKind::Number(_) => Ok(()),
+            ExprKind::Variable(name) => self.variable(scope, name),
+            ExprKind::Group(inner) => self.expr(scope, inner),
+            ExprKind::Prefixed { operand, .. } => self.expr(scope, operand),
+            ExprKind::Chain { first, links } => {
+                self.expr(scope, first)?;
+                self.links(scope, links)
+            }
+            ExprKind::Choice {
+                test,
+                first,
+                second,
+            } => {
+                self.expr(scope, test)?;
+                self.expr(scope, first)?;
+                self.expr(scope, second)
+            }
+            ExprKind::Call {
+                function,
+                arguments,
+            } => {
+                self.call_of(function, arguments)?;
+                self.exprs(scope, arguments)
+            }
+        }
+    }
+
+    /// Notes what the operands of a chain behind its first mention.
+    #[cycle(expr)]
+    fn links(&mut self, scope: &Names, links: &[Link]) -> Result<(), AllocError>
+        ensures { OnOk result (self.new ≡ self.old ++ links_mentions scope.now (links_of links.now)) }
+    {
+        for link in links {
+            self.expr(scope, &link.operand)?;
+        }
+        Ok(())
+    }
+
+    /// Notes what expressions mention.
+    #[cycle(expr)]
+    fn exprs(&mut self, scope: &Names, exprs: &[Expr]) -> Result<(), AllocError>
+        ensures { OnOk result (self.new ≡ self.old ++ exprs_mentions scope.now (exprs_of exprs.now)) }
+    {
+        for expr in exprs {
+            self.expr(scope, expr)?;
+        }
+        Ok(())
+    }
+}
