@@ -1,11 +1,4 @@
-pub mod Entries
-pub mod Changes
-pub mod Placing
-pub mod Values
-pub mod Creating
-pub mod Conditions
-pub mod Removing
-pub mod Adopting
-pub mod Indexed
-pub mod Giving
-pub mod Room
+pub mod Numbers
+pub mod Neighbours
+pub mod Linked
+pub mod Tabled

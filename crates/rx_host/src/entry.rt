@@ -1,9 +1,9 @@
-// Hosts and attributes, as a tree keeps them.
+// Hosts, as a tree keeps them.
 ghost use Rattle.std.specs.Prelude.{◌≡◌};
-ghost use Rattle.rx_host.specs.Kept as kept;
+ghost use Rattle.rx_host.specs.Attrs.{AreByName};
 
+use crate::attrs::AttrList;
 use rx_base::{Name, Str};
-use rx_elem::AttrValue;
 
 /// What a host is made as: an element without attributes, or a text.
 #[derive(Drop, Debug)]
@@ -12,47 +12,45 @@ pub enum HostKind {
     Text(Str),
 }
 
-/// A host. It stands under another one, under the container, whose number is 0, or nowhere yet.
+/// What is shown of a host: an element with its attributes, or a text, and whether it is marked as hidden.
+#[derive(Drop)]
+pub struct HostView {
+    pub(crate) hidden: bool,
+    pub(crate) kind: HostKind,
+    pub(crate) attrs: AttrList,
+}
+
+impl HostView {
+    /// Whether it is marked as hidden.
+    pub fn is_hidden(&self) -> bool
+        ensures { result ≡ self.now.hidden }
+    {
+        self.hidden
+    }
+
+    /// Whether it is an element, and its name, or a text.
+    pub fn kind(&self) -> &HostKind
+        ensures { result.now ≡ self.now.kind }
+    {
+        &self.kind
+    }
+
+    /// Its attributes in the order of their names, by their bytes. A text has none that counts.
+    pub fn attrs(&self) -> &AttrList
+        ensures attrs { result.now ≡ self.now.attrs }
+        ensures by_name { AreByName result.now }
+    {
+        self.attrs.look_in()
+    }
+}
+
+/// A host with its links. It stands under another one, under the container, or nowhere yet.
 #[derive(Drop)]
 pub struct HostEntry {
-    pub number: u64,
     pub parent: Option<u64>,
-    pub hidden: bool,
-    pub kind: HostKind,
-}
-
-impl HostEntry {
-    /// Whether it stands under this host.
-    pub fn stands_under(&self, parent: u64) -> bool
-        ensures { result ≡ kept.stands_under parent self.now }
-    {
-        match self.parent {
-            Some(number) => parent == number,
-            None => false,
-        }
-    }
-
-    /// Makes it something else.
-    pub fn set_kind(&mut self, kind: HostKind)
-        ensures { self.new ≡ record self.old { kind = kind } }
-    {
-        self.kind = kind;
-    }
-}
-
-/// An attribute of a host.
-#[derive(Drop)]
-pub struct AttrEntry {
-    pub host: u64,
-    pub name: Name,
-    pub value: AttrValue,
-}
-
-impl AttrEntry {
-    /// Whether it is that of this name, of this host.
-    pub fn is(&self, host: u64, name: &Name) -> bool
-        ensures { result ≡ kept.is_attr host name.now self.now }
-    {
-        self.host == host && self.name.text() == name.text()
-    }
+    pub before: Option<u64>,
+    pub after: Option<u64>,
+    pub first: Option<u64>,
+    pub last: Option<u64>,
+    pub view: HostView,
 }

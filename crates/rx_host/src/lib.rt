@@ -1,13 +1,9 @@
 //! The tree of hosts, and the operations on it.
 #![tactic(auto)]
 
+mod attrs;
 mod entry;
-mod lists;
-mod replaying;
-#[cfg(test)]
-mod tests;
-mod tree;
+mod table;
 
-pub use entry::HostKind;
-pub use replaying::replay;
-pub use tree::HostTree;
+pub use attrs::AttrList;
+pub use entry::{HostKind, HostView};
