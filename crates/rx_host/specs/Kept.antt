@@ -59,6 +59,10 @@ children_kept t = linked_children (links_kept t) (length t.entries)
 abbrev pub forest_kept : Kept → HostForest
 forest_kept t = record { held = held_in (entry_of t.entries); children = children_kept t }
 
+-- no host
+abbrev pub no_hosts : HostForest
+no_hosts = record { held = λ n. None; children = λ p. [] }
+
 -- what holds of each tree: its links are those of the children that they lead through, and the container is no host
 pub record IsSound (t : Kept) : Type 0 where
   pub linked : IsLinked (links_kept t) (children_kept t)

@@ -1,5 +1,5 @@
 -- What changes in a table of hosts.
-use Rattle.std.specs.Prelude.{◌≡◌, ℕ, ◌+◌, Bool, true, false, cond, List, Option, Some, None, option_map, is_some, nat_eq, ◌||◌, ◌≤◌, if◌then◌else◌}
+use Rattle.std.specs.Prelude.{◌≡◌, ℕ, ◌+◌, Bool, true, false, cond, List, Option, Some, None, option_map, is_some, nat_eq, ◌||◌, if◌then◌else◌, min}
 use Rattle.std.specs.HashMap.{get, spare, hash_map_len}
 use Rattle.rx_elem.specs.Spots.{container}
 use Rattle.rx_forest.specs.Forests.{Held, HostForest, placed, can_stand, without}
@@ -7,7 +7,7 @@ use Rattle.rx_host.specs.declared.entry.HostEntry.{HostEntry}
 use Rattle.rx_host.specs.declared.entry.HostView.{HostView}
 use Rattle.rx_host.specs.declared.table.HostTable.{HostTable}
 use Rattle.rx_host.specs.Links.{Links, IsLinked}
-use Rattle.rx_host.specs.Kept.{held_in, links_of}
+use Rattle.rx_host.specs.Kept.{Kept, held_in, links_of}
 
 -- the host of a number
 abbrev pub host_in : HostTable → ℕ → Option HostEntry
@@ -56,3 +56,7 @@ pub record ChangesHost (old : HostTable) (n : ℕ) (change : Option Held → Opt
 -- a forest of these hosts, with these children
 abbrev pub forest_in : HostTable → (children : ℕ → List ℕ) → HostForest
 forest_in t children = record { held = shown_in t; children = children }
+
+-- the tree that a table and so many spare cells for attributes are
+abbrev pub kept_in : HostTable → (cells : ℕ) → Kept
+kept_in t cells = record { entries = t.hosts.entries; first = t.first; last = t.last; spare = min (room_in t) cells }

@@ -1,5 +1,7 @@
 // The attributes of one host.
-ghost use Rattle.std.specs.Prelude.{◌≡◌, [], ◌∷◌, ◌++◌, length, MatchOption};
+ghost use Rattle.std.specs.Prelude.{◌≡◌, ◌≤◌, ◌+◌, [], ◌∷◌, None, MatchOption, vec_len, bytes_eq, if◌then◌else◌};
+ghost use Rattle.rx_base.specs.Values as base;
+ghost use Rattle.rx_forest.specs.Forests.{value_named};
 ghost use Rattle.rx_host.specs.Attrs.{AreByName, with_value, without_name};
 
 use rx_base::Name;
@@ -71,7 +73,9 @@ impl AttrList {
 
     /// Gives the attribute of a name its value. Where there was none, it takes the last of these cells.
     pub fn set(&mut self, name: Name, value: AttrValue, cells: &mut Vec<Box<AttrList>>)
-        ensures { self.new ≡ with_value name value self.old }
+        requires room { 1 ≤ vec_len cells.old }
+        ensures attrs { self.new ≡ with_value name value self.old }
+        ensures room { vec_len cells.old ≤ vec_len cells.new + 1 }
     {
         match &mut self.link {
             Link::End => self.push(name, value, cells),
@@ -84,7 +88,12 @@ impl AttrList {
     }
 
     // Puts an attribute before the others.
-    fn push(&mut self, name: Name, value: AttrValue, cells: &mut Vec<Box<AttrList>>) {
+    fn push(&mut self, name: Name, value: AttrValue, cells: &mut Vec<Box<AttrList>>)
+        requires room { 1 ≤ vec_len cells.old }
+        requires by_name { AreByName (record { name = name; value = value } ∷ self.old) }
+        ensures attrs { self.new ≡ record { name = name; value = value } ∷ self.old }
+        ensures room { vec_len cells.old ≡ vec_len cells.new + 1 }
+    {
         if let Some(mut cell) = cells.pop() {
             let rest = mem::replace(self, AttrList::new());
             *cell = rest;
@@ -94,7 +103,8 @@ impl AttrList {
 
     /// Takes away the attribute of a name.
     pub fn unset(&mut self, name: &Name)
-        ensures { self.new ≡ without_name name.now self.old }
+        ensures attrs { self.new ≡ without_name name.now self.old }
+        ensures values { (other : base.Name) → value_named self.new other ≡ (if bytes_eq other name.now then None else value_named self.old other) }
     {
         match &mut self.link {
             Link::End => {}

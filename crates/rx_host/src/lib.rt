@@ -3,7 +3,13 @@
 
 mod attrs;
 mod entry;
+mod replaying;
 mod table;
+#[cfg(test)]
+mod tests;
+mod tree;
 
 pub use attrs::AttrList;
 pub use entry::{HostKind, HostView};
+pub use replaying::replay;
+pub use tree::HostTree;

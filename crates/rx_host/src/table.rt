@@ -1,13 +1,15 @@
 // A table of hosts, and their links.
-ghost use Rattle.std.specs.Prelude.{◌≡◌, ◌+◌, ◌<◌, ◌≤◌, ℕ, List, [], Some, None, true, IsSome, IfSome, IfNone, is_some, OnOk, option_map, nat_eq, cond, option_and_then, if◌then◌else◌, IsTrue};
+ghost use Rattle.std.specs.Prelude.{◌≡◌, ◌+◌, ◌<◌, ◌≤◌, ℕ, List, [], Some, None, true, IsSome, IfSome, IfNone, is_some, OnOk, option_map, nat_eq, cond, option_and_then, if◌then◌else◌, IsTrue, vec_len};
 ghost use Rattle.std.specs.Option.{option_copied};
 ghost use Rattle.rx_elem.specs.Spots.{container};
-ghost use Rattle.rx_forest.specs.Forests.{without, inserted, placed, can_stand, with_body, with_letters, with_mark};
+ghost use Rattle.rx_forest.specs.Forests.{without, inserted, placed, can_stand, with_body, with_letters, with_mark, with_value};
 ghost use Rattle.rx_host.specs.Links.{IsLinked, is_within, link_ahead, with_ahead, with_behind, with_place};
 ghost use Rattle.rx_host.specs.Linking.{ChangesHost, KeepsHosts, count_in, forest_in, has, host_in, is_spot, links_in, room_in, shown_in};
 
-use crate::entry::{HostEntry, HostKind, HostView};
-use rx_base::Str;
+use crate::attrs::AttrList;
+use crate::entry::{HostEntry, HostView};
+use rx_base::{Name, Str};
+use rx_elem::AttrValue;
 use std::alloc::{AllocError, Global};
 use std::collections::HashMap;
 
@@ -88,6 +90,41 @@ impl HostTable {
     {
         if let Some(entry) = self.hosts.get_mut(&host) {
             entry.view.hidden = hidden;
+        }
+    }
+
+    /// Changes the letters of a text; an element stays.
+    pub fn set_letters(&mut self, host: u64, text: Str)
+        ensures { ChangesHost self.old host (option_map (with_body (with_letters text))) self.new }
+    {
+        if let Some(entry) = self.hosts.get_mut(&host) {
+            entry.view.set_letters(text);
+        }
+    }
+
+    /// Gives an attribute of a host its value; a text has none that counts.
+    pub fn set_attr(
+        &mut self,
+        host: u64,
+        name: Name,
+        value: AttrValue,
+        cells: &mut Vec<Box<AttrList>>,
+    )
+        requires { 1 ≤ vec_len cells.old }
+        ensures changes { ChangesHost self.old host (option_map (with_body (with_value name (Some value)))) self.new }
+        ensures room { vec_len cells.old ≤ vec_len cells.new + 1 }
+    {
+        if let Some(entry) = self.hosts.get_mut(&host) {
+            entry.view.set_attr(name, value, cells);
+        }
+    }
+
+    /// Takes an attribute of a host away.
+    pub fn unset_attr(&mut self, host: u64, name: &Name)
+        ensures { ChangesHost self.old host (option_map (with_body (with_value name.now None))) self.new }
+    {
+        if let Some(entry) = self.hosts.get_mut(&host) {
+            entry.view.unset_attr(name);
         }
     }
 
