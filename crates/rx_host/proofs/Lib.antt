@@ -2,5 +2,8 @@ pub mod Numbers
 pub mod Neighbours
 pub mod Linked
 pub mod Tabled
+pub mod Viewed
 pub mod Attributes
 pub mod Changes
+pub mod Settled
+pub mod Conditions

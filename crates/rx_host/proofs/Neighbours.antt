@@ -10,7 +10,7 @@ abbrev pub Outside : List ℕ → Option ℕ → Type 0
 Outside ms None = Unit {0}
 Outside ms (Some n) = is_among ms n ≡ false
 
-outside-head : (m : ℕ) (ms : List ℕ) (start : Option ℕ) → Outside (m ∷ ms) start → same_link (Some m) start ≡ false
+pub outside-head : (m : ℕ) (ms : List ℕ) (start : Option ℕ) → Outside (m ∷ ms) start → same_link (Some m) start ≡ false
 outside-head m ms None out = refl
 outside-head m ms (Some n) out = flip n m false (among-parts m ms n out).0
 
@@ -111,7 +111,7 @@ ahead-first start [] c is = refl
 ahead-first start (m ∷ ms) c is = rw is refl
 
 -- a member isn't what begins the list
-member-other : (n : ℕ) (ms : List ℕ) (start : Option ℕ) → is_among ms n ≡ true → Outside ms start → same_link (Some n) start ≡ false
+pub member-other : (n : ℕ) (ms : List ℕ) (start : Option ℕ) → is_among ms n ≡ true → Outside ms start → same_link (Some n) start ≡ false
 member-other n ms None among out = refl
 member-other n ms (Some i) among out = split (nat_eq n i) (λ k. absurd (cc (among, ap (is_among ms) (same n i k) ∙ out))) (λ k. k)
 
