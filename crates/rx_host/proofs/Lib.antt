@@ -7,3 +7,4 @@ pub mod Attributes
 pub mod Changes
 pub mod Settled
 pub mod Conditions
+pub mod Removing

@@ -1,5 +1,5 @@
 -- The children that links lead through are those that they are the links of.
-use Rattle.std.specs.Prelude.{◌≡◌, ℕ, zero, suc, ◌≤◌, ◌+◌, Bool, true, false, not, ◌||◌, ◌&&◌, cond, List, [], ◌∷◌, ◌++◌, Option, Some, None, nat_eq, refl, option_and_then, option_map, is_some, length, IsSome, if◌then◌else◌}
+use Rattle.std.specs.Prelude.{◌≡◌, ℕ, zero, suc, ◌≤◌, ◌+◌, Bool, true, false, not, ◌||◌, ◌&&◌, cond, List, [], ◌∷◌, ◌++◌, Option, Some, None, nat_eq, refl, option_and_then, option_map, is_some, length, IsSome, IfSome, if◌then◌else◌}
 use Rattle.std.specs.List.{AllByRecursion, IsDistinct, list_any}
 use Rattle.std.specs.Map.{lookup}
 use Rattle.std.specs.Cmp.{nat_eq_equiv}
@@ -260,3 +260,28 @@ next-is t cells n p before after sound is =
     let among : is_among (ks p) n ≡ true = ap (λ (ms : List ℕ). is_among ms n) is ∙ among-middle before n after in
     sound.linked.after n ∙ ap (λ (o : Option ℕ). behind (siblings ks o) (Some n)) (member-parent t ks sound.linked p n among) ∙ ap (λ (ms : List ℕ). behind ms (Some n)) is
     ∙ behind-split None before n after (subst AreDistinct is (sound.linked.distinct p)) tt
+
+-- First children
+
+first-member : (ms : List ℕ) (n : ℕ) → Some n ≡ behind ms None → is_among ms n ≡ true
+first-member [] n is = absurd (cc is)
+first-member (m ∷ ms) n is = let at : n ≡ m = cc is in rw (at, self) refl
+
+shown-some : (o : Option HostEntry) → is_some o ≡ true → is_some (option_map (λ e. held_as e.view) o) ≡ true
+shown-some None is = is
+shown-some (Some e) is = refl
+
+pub child-held : (t : HostTable) (cells p : ℕ) (o : Option ℕ) → IsSound (kept_in t cells) → o ≡ (links_in t).first p → IfSome o (λ n. is_some ((forest_kept (kept_in t cells)).held n) ≡ true)
+child-held t cells p None sound is = tt
+child-held t cells p (Some n) sound is =
+    let ks = children_kept (kept_in t cells) in
+    let among : is_among (ks p) n ≡ true = first-member (ks p) n (is ∙ sound.linked.first p) in
+    shown-some (host_in t n) (member-held t ks sound.linked p n among)
+
+pub child-alone : (t : HostTable) (cells p : ℕ) (o : Option ℕ) → IsSound (kept_in t cells) → o ≡ (links_in t).first p
+    → IfSome o (λ n. (q : ℕ) → nat_eq q p ≡ false → is_among (children_kept (kept_in t cells) q) n ≡ false)
+child-alone t cells p None sound is = tt
+child-alone t cells p (Some n) sound is =
+    let ks = children_kept (kept_in t cells) in
+    let among : is_among (ks p) n ≡ true = first-member (ks p) n (is ∙ sound.linked.first p) in
+    λ q other. sound.linked.members q n ∙ ap (leads_to q) (member-parent t ks sound.linked p n among) ∙ other

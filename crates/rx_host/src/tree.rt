@@ -1,5 +1,5 @@
 // A tree of hosts.
-ghost use Rattle.std.specs.Prelude.{◌≡◌, ℕ, ◌+◌, ◌<◌, ◌≤◌, List, ◌∷◌, ◌++◌, [], Some, None, true, false, is_some, nat_eq, if◌then◌else◌, length, option_map, vec_len, OnOk};
+ghost use Rattle.std.specs.Prelude.{◌≡◌, ℕ, ◌+◌, ◌<◌, ◌≤◌, List, ◌∷◌, ◌++◌, [], Some, None, true, false, is_some, nat_eq, if◌then◌else◌, length, option_map, vec_len, IfSome, OnOk};
 ghost use Rattle.std.specs.Option.{option_copied};
 ghost use Rattle.rx_forest.specs.declared.op.HostOp.TheVariants as op;
 ghost use Rattle.rx_forest.specs.Forests.{Becomes, CanBeMade, is_among, placed, without};
@@ -126,6 +126,15 @@ impl HostTree {
         self.table.stand(host, parent, before);
     }
 
+    // The first child of a host. It is held, and is a child of no other host.
+    fn child_of(&self, host: u64) -> Option<u64>
+        ensures first { result ≡ first_of ((forest_kept self.now).children host) }
+        ensures held { IfSome result (λ n. is_some ((forest_kept self.now).held n) ≡ true) }
+        ensures alone { IfSome result (λ n. (q : ℕ) → nat_eq q host ≡ false → is_among ((forest_kept self.now).children q) n ≡ false) }
+    {
+        self.table.first_of(host)
+    }
+
     // Puts a host under a parent, behind its other children.
     fn append_to(&mut self, parent: u64, host: u64)
         requires held { is_some ((forest_kept self.old).held host) ≡ true }
@@ -169,7 +178,7 @@ impl HostTree {
         ensures count { length self.new.entries ≡ length self.old.entries }
         ensures spare { self.old.spare ≤ self.new.spare }
     {
-        'children: while let Some(grandchild) = self.first_child(child) {
+        'children: while let Some(grandchild) = self.child_of(child) {
             self.append_to(host, grandchild);
         }
     }
@@ -181,7 +190,7 @@ impl HostTree {
         ensures spare { self.old.spare ≤ self.new.spare }
     {
         self.detach(host);
-        'children: while let Some(child) = self.first_child(host) {
+        'children: while let Some(child) = self.child_of(host) {
             self.lift_children(child, host);
             self.detach(child);
             self.forget(child);
