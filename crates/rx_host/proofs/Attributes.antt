@@ -117,13 +117,13 @@ with-named n v (a ∷ attrs) x =
     split-order (order n a.name)
     (λ e. rw (e, name-turn n x) (split (bytes_eq x n) (λ f. rw f refl) (λ f. rw f refl)))
     (λ e.
-      let at : bytes_eq a.name x ≡ bytes_eq x n = ap (λ (z : Name). bytes_eq z x) (sym (order-same n a.name e)) ∙ name-turn n x in
-      rw (e, at) (split (bytes_eq x n) (λ f. rw f refl) (λ f. rw f refl)))
+    let at : bytes_eq a.name x ≡ bytes_eq x n = ap (λ (z : Name). bytes_eq z x) (sym (order-same n a.name e)) ∙ name-turn n x in
+    rw (e, at) (split (bytes_eq x n) (λ f. rw f refl) (λ f. rw f refl)))
     (λ e. split (bytes_eq a.name x)
-      (λ f.
-        let away : bytes_eq x n ≡ false = ap (λ (z : Name). bytes_eq z n) (sym (name-same a.name x f)) ∙ name-turn a.name n ∙ greater-apart n a.name e in
-        rw (e, f, away) refl)
-      (λ f. rw (e, f) (with-named n v attrs x)))
+    (λ f.
+    let away : bytes_eq x n ≡ false = ap (λ (z : Name). bytes_eq z n) (sym (name-same a.name x f)) ∙ name-turn a.name n ∙ greater-apart n a.name e in
+    rw (e, f, away) refl)
+    (λ f. rw (e, f) (with-named n v attrs x)))
 
 absent-named : (x : Name) (attrs : List Attr) → IsBefore x (names attrs) → value_named attrs x ≡ None
 absent-named x [] before = refl
@@ -135,17 +135,17 @@ without-named n [] x sorted = split (bytes_eq x n) (λ e. rw e refl) (λ e. rw e
 without-named n (a ∷ attrs) x sorted =
     split (bytes_eq a.name n)
     (λ e.
-      let at : a.name ≡ n = name-same a.name n e in
-      split (bytes_eq x n)
-      (λ f. rw (e, f) (absent-named x attrs (subst (λ (z : Name). IsBefore z (names attrs)) (at ∙ sym (name-same x n f)) sorted.0)))
-      (λ f.
-        let away : bytes_eq a.name x ≡ false = ap (λ (z : Name). bytes_eq z x) at ∙ name-turn n x ∙ f in
-        rw (e, f, away) refl))
+    let at : a.name ≡ n = name-same a.name n e in
+    split (bytes_eq x n)
+    (λ f. rw (e, f) (absent-named x attrs (subst (λ (z : Name). IsBefore z (names attrs)) (at ∙ sym (name-same x n f)) sorted.0)))
+    (λ f.
+    let away : bytes_eq a.name x ≡ false = ap (λ (z : Name). bytes_eq z x) at ∙ name-turn n x ∙ f in
+    rw (e, f, away) refl))
     (λ e. split (bytes_eq a.name x)
-      (λ f.
-        let away : bytes_eq x n ≡ false = ap (λ (z : Name). bytes_eq z n) (sym (name-same a.name x f)) ∙ e in
-        rw (e, f, away) refl)
-      (λ f. rw (e, f) (without-named n attrs x sorted.1)))
+    (λ f.
+    let away : bytes_eq x n ≡ false = ap (λ (z : Name). bytes_eq z n) (sym (name-same a.name x f)) ∙ e in
+    rw (e, f, away) refl)
+    (λ f. rw (e, f) (without-named n attrs x sorted.1)))
 
 -- One step of a walk
 

@@ -88,8 +88,8 @@ module _ (links : Links) (ks : ℕ → List ℕ) (n p : ℕ) (s : IsLinked links
   gone-first q =
       split (nat_eq q p)
       (λ e.
-        let at : q ≡ p = same q p e in
-        rw (e, ahead-is, behind-is, s.first q, at) (sym (behind-without n None None (ks p) here refl tt (s.distinct p))))
+      let at : q ≡ p = same q p e in
+      rw (e, ahead-is, behind-is, s.first q, at) (sym (behind-without n None None (ks p) here refl tt (s.distinct p))))
       (λ e. rw (e, elsewhere q e, s.first q) (either (same_link None (links.before n)) (behind (ks q) None)))
     where
       either : (b : Bool) (o : Option ℕ) → cond b o o ≡ o
@@ -100,8 +100,8 @@ module _ (links : Links) (ks : ℕ → List ℕ) (n p : ℕ) (s : IsLinked links
   gone-last q =
       split (nat_eq q p)
       (λ e.
-        let at : q ≡ p = same q p e in
-        rw (e, ahead-is, behind-is, s.last q, at) (sym (ahead-without n None None (ks p) here refl refl refl (s.distinct p))))
+      let at : q ≡ p = same q p e in
+      rw (e, ahead-is, behind-is, s.last q, at) (sym (ahead-without n None None (ks p) here refl refl refl (s.distinct p))))
       (λ e. rw (e, elsewhere q e, s.last q) (either (same_link None (links.after n)) (ahead (ks q) None)))
     where
       either : (b : Bool) (o : Option ℕ) → cond b o o ≡ o
@@ -116,12 +116,12 @@ module _ (links : Links) (ks : ℕ → List ℕ) (n p : ℕ) (s : IsLinked links
   gone-before m other (Some q) up =
       split (nat_eq q p)
       (λ e.
-        let at : q ≡ p = same q p e in
-        let in_list : is_among (ks p) m ≡ true = s.members p m ∙ ap (leads_to p) up ∙ flip q p true e in
-        rw (ahead-is, behind-is, s.before m, up, at) (sym (ahead-without n (Some m) None (ks p) here other in_list refl (s.distinct p))))
+      let at : q ≡ p = same q p e in
+      let in_list : is_among (ks p) m ≡ true = s.members p m ∙ ap (leads_to p) up ∙ flip q p true e in
+      rw (ahead-is, behind-is, s.before m, up, at) (sym (ahead-without n (Some m) None (ks p) here other in_list refl (s.distinct p))))
       (λ e.
-        let out : is_among (ks p) m ≡ false = s.members p m ∙ ap (leads_to p) up ∙ flip q p false e in
-        rw (behind-is, behind-other None (ks p) (Some n) m out, s.before m, up, elsewhere q e) refl)
+      let out : is_among (ks p) m ≡ false = s.members p m ∙ ap (leads_to p) up ∙ flip q p false e in
+      rw (behind-is, behind-other None (ks p) (Some n) m out, s.before m, up, elsewhere q e) refl)
 
   gone-after : (m : ℕ) → nat_eq m n ≡ false → (o : Option ℕ) → links.parent m ≡ o
       → cond (same_link (Some m) (links.before n)) (links.after n) (links.after m) ≡ behind (siblings (λ q. without n (ks q)) o) (Some m)
@@ -131,11 +131,11 @@ module _ (links : Links) (ks : ℕ → List ℕ) (n p : ℕ) (s : IsLinked links
   gone-after m other (Some q) up =
       split (nat_eq q p)
       (λ e.
-        let at : q ≡ p = same q p e in
-        rw (ahead-is, behind-is, s.after m, up, at) (sym (behind-without n (Some m) None (ks p) here other tt (s.distinct p))))
+      let at : q ≡ p = same q p e in
+      rw (ahead-is, behind-is, s.after m, up, at) (sym (behind-without n (Some m) None (ks p) here other tt (s.distinct p))))
       (λ e.
-        let out : is_among (ks p) m ≡ false = s.members p m ∙ ap (leads_to p) up ∙ flip q p false e in
-        rw (ahead-is, ahead-away (ks p) (Some n) m out, s.after m, up, elsewhere q e) refl)
+      let out : is_among (ks p) m ≡ false = s.members p m ∙ ap (leads_to p) up ∙ flip q p false e in
+      rw (ahead-is, ahead-away (ks p) (Some n) m out, s.after m, up, elsewhere q e) refl)
 
   gone-members : (q m : ℕ) → is_among (without n (ks q)) m ≡ leads_to q (put links.parent n None m)
   gone-members q m =
@@ -178,8 +178,8 @@ module _ (links : Links) (ks : ℕ → List ℕ) (n p : ℕ) (a b : Option ℕ) 
   come-first q =
       split (nat_eq q p)
       (λ e.
-        let at : q ≡ p = same q p e in
-        rw (e, a-is, s.first q, at) (sym (behind-insert n None b None (ks p) refl tt (s.distinct p))))
+      let at : q ≡ p = same q p e in
+      rw (e, a-is, s.first q, at) (sym (behind-insert n None b None (ks p) refl tt (s.distinct p))))
       (λ e. rw (e, s.first q) (either (same_link None a) (behind (ks q) None)))
     where
       either : (t : Bool) (o : Option ℕ) → cond t o o ≡ o
@@ -190,8 +190,8 @@ module _ (links : Links) (ks : ℕ → List ℕ) (n p : ℕ) (a b : Option ℕ) 
   come-last q =
       split (nat_eq q p)
       (λ e.
-        let at : q ≡ p = same q p e in
-        rw (e, s.last q, at) (sym (ahead-insert n b None None (ks p) (absent p) refl wb refl)))
+      let at : q ≡ p = same q p e in
+      rw (e, s.last q, at) (sym (ahead-insert n b None None (ks p) (absent p) refl wb refl)))
       (λ e. rw (e, s.last q) (either (same_link None b) (ahead (ks q) None)))
     where
       either : (t : Bool) (o : Option ℕ) → cond t o o ≡ o
@@ -206,12 +206,12 @@ module _ (links : Links) (ks : ℕ → List ℕ) (n p : ℕ) (a b : Option ℕ) 
   come-before m other (Some q) up =
       split (nat_eq q p)
       (λ e.
-        let at : q ≡ p = same q p e in
-        let in_list : is_among (ks p) m ≡ true = s.members p m ∙ ap (leads_to p) up ∙ flip q p true e in
-        rw (s.before m, up, e, at) (sym (ahead-insert n b (Some m) None (ks p) (absent p) other wb in_list)))
+      let at : q ≡ p = same q p e in
+      let in_list : is_among (ks p) m ≡ true = s.members p m ∙ ap (leads_to p) up ∙ flip q p true e in
+      rw (s.before m, up, e, at) (sym (ahead-insert n b (Some m) None (ks p) (absent p) other wb in_list)))
       (λ e.
-        let out : is_among (ks p) m ≡ false = s.members p m ∙ ap (leads_to p) up ∙ flip q p false e in
-        rw (within-away (ks p) b m wb out, s.before m, up, e) refl)
+      let out : is_among (ks p) m ≡ false = s.members p m ∙ ap (leads_to p) up ∙ flip q p false e in
+      rw (within-away (ks p) b m wb out, s.before m, up, e) refl)
 
   come-after : (m : ℕ) → nat_eq m n ≡ false → (o : Option ℕ) → links.parent m ≡ o
       → cond (same_link (Some m) a) (Some n) (links.after m) ≡ behind (siblings (children_with ks n p b) o) (Some m)
@@ -221,21 +221,21 @@ module _ (links : Links) (ks : ℕ → List ℕ) (n p : ℕ) (a b : Option ℕ) 
   come-after m other (Some q) up =
       split (nat_eq q p)
       (λ e.
-        let at : q ≡ p = same q p e in
-        rw (a-is, s.after m, up, e, at) (sym (behind-insert n (Some m) b None (ks p) other tt (s.distinct p))))
+      let at : q ≡ p = same q p e in
+      rw (a-is, s.after m, up, e, at) (sym (behind-insert n (Some m) b None (ks p) other tt (s.distinct p))))
       (λ e.
-        let out : is_among (ks p) m ≡ false = s.members p m ∙ ap (leads_to p) up ∙ flip q p false e in
-        rw (a-is, ahead-away (ks p) b m out, s.after m, up, e) refl)
+      let out : is_among (ks p) m ≡ false = s.members p m ∙ ap (leads_to p) up ∙ flip q p false e in
+      rw (a-is, ahead-away (ks p) b m out, s.after m, up, e) refl)
 
   come-members : (q m : ℕ) → is_among (children_with ks n p b q) m ≡ leads_to q (put links.parent n (Some p) m)
   come-members q m =
       split (nat_eq q p)
       (λ e. split (nat_eq m n)
-        (λ f. rw (e, among-insert, f, e) refl)
-        (λ f. rw (e, among-insert, f) (s.members q m)))
+      (λ f. rw (e, among-insert, f, e) refl)
+      (λ f. rw (e, among-insert, f) (s.members q m)))
       (λ e. split (nat_eq m n)
-        (λ f. rw (e, f, same m n f, e) (absent q))
-        (λ f. rw (e, f) (s.members q m)))
+      (λ f. rw (e, f, same m n f, e) (absent q))
+      (λ f. rw (e, f) (s.members q m)))
 
   come-distinct : (q : ℕ) → AreDistinct (children_with ks n p b q)
   come-distinct q = split (nat_eq q p) (λ e. rw e (distinct-insert n b (ks q) (absent q) (s.distinct q))) (λ e. rw e (s.distinct q))
@@ -248,10 +248,10 @@ module _ (links : Links) (ks : ℕ → List ℕ) (n p : ℕ) (a b : Option ℕ) 
     last = λ q. rw (last-ahead, last-behind) (come-last q);
     before = λ m. rw (parent-ahead, parent-behind, before-ahead, before-behind)
         (split (nat_eq m n)
-          (λ e. rw (e, same m n e, self p, within-away (ks p) b n wb (absent p), a-is) (sym (ahead-new n b None (ks p) (absent p))))
-          (λ e. rw e (come-before m e (links.parent m) refl)));
+        (λ e. rw (e, same m n e, self p, within-away (ks p) b n wb (absent p), a-is) (sym (ahead-new n b None (ks p) (absent p))))
+        (λ e. rw e (come-before m e (links.parent m) refl)));
     after = λ m. rw (parent-ahead, parent-behind, after-ahead, after-behind)
         (split (nat_eq m n)
-          (λ e. rw (e, same m n e, self p, a-is, ahead-away (ks p) b n (absent p)) (sym (behind-new n b None (ks p) (absent p) refl wb)))
-          (λ e. rw e (come-after m e (links.parent m) refl)));
+        (λ e. rw (e, same m n e, self p, a-is, ahead-away (ks p) b n (absent p)) (sym (behind-new n b None (ks p) (absent p) refl wb)))
+        (λ e. rw e (come-after m e (links.parent m) refl)));
   }

@@ -59,11 +59,11 @@ ahead-insert n b c start (m ∷ ms) apart other wb wc =
     let parts = among-parts m ms n apart in
     split (same_link b (Some m))
     (λ e. split (same_link c (Some m))
-      (λ f. let one : same_link c b ≡ true = ap (same_link c) (link-same b (Some m) e) ∙ f in rw (e, other, f, one) refl)
-      (λ f. let two : same_link c b ≡ false = ap (same_link c) (link-same b (Some m) e) ∙ f in rw (e, other, f, two) refl))
+    (λ f. let one : same_link c b ≡ true = ap (same_link c) (link-same b (Some m) e) ∙ f in rw (e, other, f, one) refl)
+    (λ f. let two : same_link c b ≡ false = ap (same_link c) (link-same b (Some m) e) ∙ f in rw (e, other, f, two) refl))
     (λ e. split (same_link c (Some m))
-      (λ f. let two : same_link c b ≡ false = ap (λ (i : Option ℕ). same_link i b) (link-same c (Some m) f) ∙ link-turn (Some m) b ∙ e in rw (e, f, two) refl)
-      (λ f. rw (e, f) (ahead-insert n b c (Some m) ms parts.1 other (within-rest m ms b wb e) (within-rest m ms c wc f))))
+    (λ f. let two : same_link c b ≡ false = ap (λ (i : Option ℕ). same_link i b) (link-same c (Some m) f) ∙ link-turn (Some m) b ∙ e in rw (e, f, two) refl)
+    (λ f. rw (e, f) (ahead-insert n b c (Some m) ms parts.1 other (within-rest m ms b wb e) (within-rest m ms c wc f))))
 
 pub behind-new : (n : ℕ) (b start : Option ℕ) (ms : List ℕ) → is_among ms n ≡ false → same_link (Some n) start ≡ false → is_within ms b ≡ true
     → behind_from start (insert_at n b ms) (Some n) ≡ b
@@ -80,14 +80,14 @@ behind-insert n a b start [] other out d = split (same_link a start) (λ e. rw e
 behind-insert n a b start (m ∷ ms) other out d =
     split (same_link b (Some m))
     (λ e. split (same_link a start)
-      (λ f. rw (e, f) refl)
-      (λ f. rw (e, f, other) refl))
+    (λ f. rw (e, f) refl)
+    (λ f. rw (e, f, other) refl))
     (λ e. split (same_link a start)
-      (λ f.
-        let two : same_link a (ahead_from (Some m) ms b) ≡ false =
-        ap (λ (i : Option ℕ). same_link i (ahead_from (Some m) ms b)) (link-same a start f) ∙ link-turn start (ahead_from (Some m) ms b) ∙ ahead-other start m ms b out in
-        rw (e, f, two) refl)
-      (λ f. rw (e, f) (behind-insert n a b (Some m) ms other d.0 d.1)))
+    (λ f.
+    let two : same_link a (ahead_from (Some m) ms b) ≡ false =
+    ap (λ (i : Option ℕ). same_link i (ahead_from (Some m) ms b)) (link-same a start f) ∙ link-turn start (ahead_from (Some m) ms b) ∙ ahead-other start m ms b out in
+    rw (e, f, two) refl)
+    (λ f. rw (e, f) (behind-insert n a b (Some m) ms other d.0 d.1)))
 
 -- A number goes
 
@@ -129,21 +129,21 @@ behind-without n a start (m ∷ ms) among other out d =
     let begun : same_link (Some n) start ≡ false = member-other n (m ∷ ms) start among out in
     split (nat_eq m n)
     (λ e.
-      let here : n ≡ m = sym (same m n e) in
-      let gone : without n ms ≡ ms = without-absent n ms (ap (is_among ms) here ∙ d.0) in
-      let away : same_link a (Some m) ≡ false = ap (λ (i : ℕ). same_link a (Some i)) (sym here) ∙ other in
-      let last = behind-gone m a start ms away in
-      rw (e, gone, flip m n true e, begun, here) last)
+    let here : n ≡ m = sym (same m n e) in
+    let gone : without n ms ≡ ms = without-absent n ms (ap (is_among ms) here ∙ d.0) in
+    let away : same_link a (Some m) ≡ false = ap (λ (i : ℕ). same_link a (Some i)) (sym here) ∙ other in
+    let last = behind-gone m a start ms away in
+    rw (e, gone, flip m n true e, begun, here) last)
     (λ e.
-      let apart : nat_eq n m ≡ false = flip m n false e in
-      split (same_link a start)
-      (λ f.
-        let two : same_link a (ahead_from (Some m) ms (Some n)) ≡ false =
-        ap (λ (i : Option ℕ). same_link i (ahead_from (Some m) ms (Some n))) (link-same a start f) ∙ link-turn start (ahead_from (Some m) ms (Some n)) ∙ ahead-other start m ms (Some n) out in
-        rw (e, f, apart, two) refl)
-      (λ f.
-        let still : is_among ms n ≡ true = subst (λ (b : Bool). (b || is_among ms n) ≡ true) apart among in
-        rw (e, f, apart, begun) (behind-without n a (Some m) ms still other d.0 d.1)))
+    let apart : nat_eq n m ≡ false = flip m n false e in
+    split (same_link a start)
+    (λ f.
+    let two : same_link a (ahead_from (Some m) ms (Some n)) ≡ false =
+    ap (λ (i : Option ℕ). same_link i (ahead_from (Some m) ms (Some n))) (link-same a start f) ∙ link-turn start (ahead_from (Some m) ms (Some n)) ∙ ahead-other start m ms (Some n) out in
+    rw (e, f, apart, two) refl)
+    (λ f.
+    let still : is_among ms n ≡ true = subst (λ (b : Bool). (b || is_among ms n) ≡ true) apart among in
+    rw (e, f, apart, begun) (behind-without n a (Some m) ms still other d.0 d.1)))
 
 pub ahead-without : (n : ℕ) (c start : Option ℕ) (ms : List ℕ) → is_among ms n ≡ true → same_link c (Some n) ≡ false → is_within ms c ≡ true → same_link (Some n) start ≡ false → AreDistinct ms
     → ahead_from start (without n ms) c ≡ cond (same_link c (behind_from start ms (Some n))) (ahead_from start ms (Some n)) (ahead_from start ms c)
@@ -151,21 +151,21 @@ ahead-without n c start [] among other wc begun d = absurd (cc among)
 ahead-without n c start (m ∷ ms) among other wc begun d =
     split (nat_eq m n)
     (λ e. split (same_link c (Some m))
-      (λ f. absurd (cc (other, ap (λ (i : ℕ). same_link c (Some i)) (sym (same m n e)) ∙ f)))
-      (λ f.
-        let here : n ≡ m = sym (same m n e) in
-        let gone : without n ms ≡ ms = without-absent n ms (ap (is_among ms) here ∙ d.0) in
-        let first : behind_from (Some m) ms (Some n) ≡ behind ms None = ap (λ (i : ℕ). behind_from (Some m) ms (Some i)) here ∙ behind-start (Some m) ms in
-        let last : ahead_from start ms c ≡ cond (same_link c (behind ms None)) start (ahead_from (Some m) ms c) =
-        split (same_link c (behind ms None)) (λ k. rw k (ahead-first start ms c k)) (λ k. rw k (ahead-else start (Some m) ms c k (within-rest m ms c wc f))) in
-        rw (e, gone, flip m n true e, begun, f, first) last))
+    (λ f. absurd (cc (other, ap (λ (i : ℕ). same_link c (Some i)) (sym (same m n e)) ∙ f)))
+    (λ f.
+    let here : n ≡ m = sym (same m n e) in
+    let gone : without n ms ≡ ms = without-absent n ms (ap (is_among ms) here ∙ d.0) in
+    let first : behind_from (Some m) ms (Some n) ≡ behind ms None = ap (λ (i : ℕ). behind_from (Some m) ms (Some i)) here ∙ behind-start (Some m) ms in
+    let last : ahead_from start ms c ≡ cond (same_link c (behind ms None)) start (ahead_from (Some m) ms c) =
+    split (same_link c (behind ms None)) (λ k. rw k (ahead-first start ms c k)) (λ k. rw k (ahead-else start (Some m) ms c k (within-rest m ms c wc f))) in
+    rw (e, gone, flip m n true e, begun, f, first) last))
     (λ e.
-      let apart : nat_eq n m ≡ false = flip m n false e in
-      split (same_link c (Some m))
-      (λ f.
-        let two : same_link c (behind_from (Some m) ms (Some n)) ≡ false =
-        ap (λ (i : Option ℕ). same_link i (behind_from (Some m) ms (Some n))) (link-same c (Some m) f) ∙ behind-other (Some m) ms (Some n) m d.0 in
-        rw (e, f, apart, begun, two) refl)
-      (λ f.
-        let still : is_among ms n ≡ true = subst (λ (b : Bool). (b || is_among ms n) ≡ true) apart among in
-        rw (e, f, apart, begun) (ahead-without n c (Some m) ms still other (within-rest m ms c wc f) apart d.1)))
+    let apart : nat_eq n m ≡ false = flip m n false e in
+    split (same_link c (Some m))
+    (λ f.
+    let two : same_link c (behind_from (Some m) ms (Some n)) ≡ false =
+    ap (λ (i : Option ℕ). same_link i (behind_from (Some m) ms (Some n))) (link-same c (Some m) f) ∙ behind-other (Some m) ms (Some n) m d.0 in
+    rw (e, f, apart, begun, two) refl)
+    (λ f.
+    let still : is_among ms n ≡ true = subst (λ (b : Bool). (b || is_among ms n) ≡ true) apart among in
+    rw (e, f, apart, begun) (ahead-without n c (Some m) ms still other (within-rest m ms c wc f) apart d.1)))

@@ -67,13 +67,13 @@ among-without n [] k = refl
 among-without n (m ∷ ms) k =
     split (nat_eq m n)
     (λ e. split (nat_eq k m)
-      (λ f. let one : nat_eq k n ≡ true = ap (λ (i : ℕ). nat_eq i n) (same k m f) ∙ e in
-            rw (e, f, one) (among-without n ms k ∙ rw one (and-false (is_among ms k))))
-      (λ f. rw (e, f) (among-without n ms k)))
+    (λ f. let one : nat_eq k n ≡ true = ap (λ (i : ℕ). nat_eq i n) (same k m f) ∙ e in
+    rw (e, f, one) (among-without n ms k ∙ rw one (and-false (is_among ms k))))
+    (λ f. rw (e, f) (among-without n ms k)))
     (λ e. split (nat_eq k m)
-      (λ f. let other : nat_eq k n ≡ false = ap (λ (i : ℕ). nat_eq i n) (same k m f) ∙ e in
-            rw (e, f, other) refl)
-      (λ f. rw (e, f) (among-without n ms k)))
+    (λ f. let other : nat_eq k n ≡ false = ap (λ (i : ℕ). nat_eq i n) (same k m f) ∙ e in
+    rw (e, f, other) refl)
+    (λ f. rw (e, f) (among-without n ms k)))
 
 pub without-absent : (n : ℕ) (ms : List ℕ) → is_among ms n ≡ false → without n ms ≡ ms
 without-absent n [] e = refl

@@ -151,11 +151,11 @@ pub nowhere-next : (h h1 h2 g : HostForest) (n child : ℕ) → Nowhere h n → 
 nowhere-next h h1 h2 g n child nowhere lifts children2 children3 q =
     ap (λ (k : ℕ → List ℕ). is_among (k q) n) (children3 ∙ children2)
     ∙ fewer child n (h1.children q)
-      (split (nat_eq q child)
-        (λ e. ap (λ (i : ℕ). is_among (h1.children i) n) (same q child e) ∙ ap (λ (ms : List ℕ). is_among ms n) lifts.none)
-        (λ e. split (nat_eq q n)
-          (λ k. ap (λ (i : ℕ). is_among (h1.children i) n) (same q n k) ∙ lifts.both n ∙ rw (nowhere n, nowhere child) refl)
-          (λ k. ap (λ (ms : List ℕ). is_among ms n) (lifts.others q e k) ∙ nowhere q)))
+    (split (nat_eq q child)
+    (λ e. ap (λ (i : ℕ). is_among (h1.children i) n) (same q child e) ∙ ap (λ (ms : List ℕ). is_among ms n) lifts.none)
+    (λ e. split (nat_eq q n)
+    (λ k. ap (λ (i : ℕ). is_among (h1.children i) n) (same q n k) ∙ lifts.both n ∙ rw (nowhere n, nowhere child) refl)
+    (λ k. ap (λ (ms : List ℕ). is_among ms n) (lifts.others q e k) ∙ nowhere q)))
 
 -- The host goes
 
@@ -260,10 +260,10 @@ module _ (f h g : HostForest) (child host n : ℕ) (other : nat_eq child host �
       ∙ ap (λ (b : Bool). b || is_among (without n (h.children child)) m) (among-end (without n (h.children host)) n m ∙ ap (λ (b : Bool). b || nat_eq m n) (among-without n (h.children host) m))
       ∙ ap (λ (b : Bool). ((is_among (h.children host) m && not (nat_eq m n)) || nat_eq m n) || b) (among-without n (h.children child) m)
       ∙ split (nat_eq m n)
-        (λ e.
-          let here : is_among (h.children child) m ≡ true = ap (is_among (h.children child)) (same m n e) ∙ among in
-          rw (e, here) (yes (is_among (h.children host) m)))
-        (λ e. rw e (plain (is_among (h.children host) m) (is_among (h.children child) m)))
+      (λ e.
+      let here : is_among (h.children child) m ≡ true = ap (is_among (h.children child)) (same m n e) ∙ among in
+      rw (e, here) (yes (is_among (h.children host) m)))
+      (λ e. rw e (plain (is_among (h.children host) m) (is_among (h.children child) m)))
     where
       yes : (x : Bool) → (((x && false) || true) || false) ≡ (x || true)
       yes true = refl
@@ -280,9 +280,9 @@ module _ (f h g : HostForest) (child host n : ℕ) (other : nat_eq child host �
     others = λ m a b. away m b ∙ without-absent n (h.children m) (single m a) ∙ l.others m a b;
     both = λ m. joined m ∙ l.both m;
     nowhere = λ q.
-      split (nat_eq q host)
-      (λ e. ap (λ (ms : List ℕ). is_among ms host) (own q e) ∙ among-end (without n (h.children q)) n host ∙ rw (fewer n host (h.children q) (l.nowhere q), not-host) refl)
-      (λ e. ap (λ (ms : List ℕ). is_among ms host) (away q e) ∙ fewer n host (h.children q) (l.nowhere q));
+        split (nat_eq q host)
+        (λ e. ap (λ (ms : List ℕ). is_among ms host) (own q e) ∙ among-end (without n (h.children q)) n host ∙ rw (fewer n host (h.children q) (l.nowhere q), not-host) refl)
+        (λ e. ap (λ (ms : List ℕ). is_among ms host) (away q e) ∙ fewer n host (h.children q) (l.nowhere q));
   }
 
   pub fewer-children : length (g.children child) < length (h.children child)

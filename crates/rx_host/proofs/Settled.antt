@@ -27,11 +27,12 @@ Follows after (m ∷ ms) = (after m ≡ behind ms None) × Follows after ms
 
 follows : (after : ℕ → Option ℕ) (start : Option ℕ) (ms : List ℕ) → AreDistinct ms → Outside ms start → ((m : ℕ) → is_among ms m ≡ true → after m ≡ behind_from start ms (Some m)) → Follows after ms
 follows after start [] d out is = tt
-follows after start (m ∷ ms) d out is =
-    (is m (rw self refl) ∙ rw (outside-head m ms start out) (behind-start (Some m) ms),
-     follows after (Some m) ms d.1 d.0 (λ k among.
-       let here : is_among (m ∷ ms) k ≡ true = more (nat_eq k m) (is_among ms k) among in
-       is k here ∙ rw (member-other k (m ∷ ms) start here out) refl))
+follows after start (m ∷ ms) d out is = (
+  is m (rw self refl) ∙ rw (outside-head m ms start out) (behind-start (Some m) ms),
+  follows after (Some m) ms d.1 d.0 (λ k among.
+      let here : is_among (m ∷ ms) k ≡ true = more (nat_eq k m) (is_among ms k) among in
+      is k here ∙ rw (member-other k (m ∷ ms) start here out) refl),
+)
   where
     more : (a b : Bool) → b ≡ true → (a || b) ≡ true
     more true b e = refl

@@ -30,10 +30,10 @@ module _ (f g : ℕ → Option HostEntry) (first last : Option ℕ) (p : ℕ) (e
   written F v top new q =
       ap (λ (o : Option HostEntry). cond (nat_eq q container) top (option_and_then F o)) (is q)
       ∙ split (nat_eq p q)
-        (λ t.
-          let away : nat_eq q container ≡ false = ap (λ (i : ℕ). nat_eq i container) (sym (same p q t)) ∙ other in
-          rw (t, flip p q true t, away) new)
-        (λ t. rw (t, flip p q false t) refl)
+      (λ t.
+      let away : nat_eq q container ≡ false = ap (λ (i : ℕ). nat_eq i container) (sym (same p q t)) ∙ other in
+      rw (t, flip p q true t, away) new)
+      (λ t. rw (t, flip p q false t) refl)
 
   pub first-written : d.parent ≡ e.parent → d.before ≡ e.before → d.after ≡ e.after → d.last ≡ e.last
       → links_of g first last ≡ with_behind (links_of f first last) p None d.first
@@ -81,8 +81,8 @@ module _ (t : HostTable) (ks : ℕ → List ℕ) (s : IsLinked (links_in t) ks) 
       split (nat_eq p container)
       (λ e. rw e refl)
       (λ e.
-        let some = some-first (ks p) n among in
-        rw e (held-of (λ x. x.first) (host_in t p) some.0 (sym (ap (λ (b : Bool). cond b t.first (option_and_then (λ x. x.first) (host_in t p))) e) ∙ s.first p ∙ some.1)))
+      let some = some-first (ks p) n among in
+      rw e (held-of (λ x. x.first) (host_in t p) some.0 (sym (ap (λ (b : Bool). cond b t.first (option_and_then (λ x. x.first) (host_in t p))) e) ∙ s.first p ∙ some.1)))
 
   pub within-spot : (p : ℕ) (a : Option ℕ) → is_spot t p None ≡ true → is_within (ks p) a ≡ true → is_spot t p a ≡ true
   within-spot p None spot is = spot

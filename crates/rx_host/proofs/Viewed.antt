@@ -28,14 +28,14 @@ module _ (old new : HostTable) (n : ℕ) (e : HostEntry) (v : HostView) (change 
       → ChangesHost old n (option_map change) new
   changes-view held first last count room = record {
     shown = fun_ext (λ m.
-      ap (option_map (λ x. held_as x.view)) (is m)
-      ∙ split (nat_eq n m)
+        ap (option_map (λ x. held_as x.view)) (is m)
+        ∙ split (nat_eq n m)
         (λ t. rw (t, flip n m true t) (ap Some held ∙ sym (ap (λ (o : Option HostEntry). option_map change (option_map (λ x. held_as x.view) o)) (ap (host_in old) (sym (same n m t)) ∙ was))))
         (λ t. rw (t, flip n m false t) refl));
     links = same-links (links_in new) (links_in old) (field (λ x. x.parent) refl) (field (λ x. x.before) refl) (field (λ x. x.after) refl)
         (end (λ x. x.first) new.first old.first refl first) (end (λ x. x.last) new.last old.last refl last);
     held = λ m.
-      ap is_some (is m) ∙ split (nat_eq n m) (λ t. rw t (sym (ap is_some (ap (host_in old) (sym (same n m t)) ∙ was)))) (λ t. rw t refl);
+        ap is_some (is m) ∙ split (nat_eq n m) (λ t. rw t (sym (ap is_some (ap (host_in old) (sym (same n m t)) ∙ was)))) (λ t. rw t refl);
     count = count;
     room = room;
   }

@@ -212,13 +212,7 @@ impl HostTable {
     }
 
     // Writes where a host stands.
-    fn set_place(
-        &mut self,
-        host: u64,
-        parent: Option<u64>,
-        before: Option<u64>,
-        after: Option<u64>,
-    )
+    fn set_place(&mut self, host: u64, parent: Option<u64>, before: Option<u64>, after: Option<u64>)
         ensures links { has self.old host ≡ true → links_in self.new ≡ with_place (links_in self.old) host parent before after }
         ensures kept { KeepsHosts self.old self.new }
     {

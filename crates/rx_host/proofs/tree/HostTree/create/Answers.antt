@@ -15,7 +15,7 @@ invariant_of-self c =
     let free = can-make (forest_kept (kept_in old cells)) c.args.host c.args.kind can in
     let view = held-new c.new.result c.args.kind c.new.ensures.kind c.new.ensures.hidden c.new.ensures.attrs in
     (stands-added old c.add.new.self cells cells c.args.host c.new.result (body_new c.args.kind) c.self.invariant (free-other (forest_kept (kept_in old cells)) c.args.host free)
-      (free-absent old cells c.args.host free) view c.add.ensures.added c.add.ensures.first c.add.ensures.last).sound
+    (free-absent old cells c.args.host free) view c.add.ensures.added c.add.ensures.first c.add.ensures.last).sound
 
 pub returns-clause-made : goal.returns-clause-made
 returns-clause-made c =
@@ -26,5 +26,5 @@ returns-clause-made c =
     let view = held-new c.new.result c.args.kind c.new.ensures.kind c.new.ensures.hidden c.new.ensures.attrs in
     becomes-made (forest_kept c.args.self.now) _ c.args.host c.args.kind
     ((stands-added old c.add.new.self cells cells c.args.host c.new.result (body_new c.args.kind) c.self.invariant (free-other (forest_kept (kept_in old cells)) c.args.host free)
-      (free-absent old cells c.args.host free) view c.add.ensures.added c.add.ensures.first c.add.ensures.last).forest
+    (free-absent old cells c.args.host free) view c.add.ensures.added c.add.ensures.first c.add.ensures.last).forest
     ∙ ap (λ (t : Kept). created (forest_kept t) c.args.host (body_new c.args.kind)) c.self.view_is)
