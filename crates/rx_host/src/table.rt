@@ -139,8 +139,8 @@ impl HostTable {
         }
     }
 
-    /// What is last among the children of a parent.
-    pub fn last_of(&self, parent: u64) -> Option<u64>
+    // What is last among the children of a parent.
+    fn last_of(&self, parent: u64) -> Option<u64>
         ensures { result ≡ (links_in self.now).last parent }
     {
         if parent == 0 {
@@ -157,18 +157,11 @@ impl HostTable {
         self.hosts.get(&host)?.after
     }
 
-    /// What stands before a host.
-    pub fn before(&self, host: u64) -> Option<u64>
+    // What stands before a host.
+    fn before(&self, host: u64) -> Option<u64>
         ensures { result ≡ (links_in self.now).before host }
     {
         self.hosts.get(&host)?.before
-    }
-
-    /// The parent of a host.
-    pub fn parent(&self, host: u64) -> Option<u64>
-        ensures { result ≡ (links_in self.now).parent host }
-    {
-        self.hosts.get(&host)?.parent
     }
 
     // Writes what stands behind a child of a parent, or what is first.
@@ -229,13 +222,16 @@ impl HostTable {
         ensures nowhere { (links_in self.new).parent host ≡ None }
         ensures kept { KeepsHosts self.old self.new }
     {
-        if let Some(parent) = self.parent(host) {
-            let before = self.before(host);
-            let after = self.after(host);
-            self.set_behind(parent, before, after);
-            self.set_ahead(parent, after, before);
-            self.set_place(host, None, None, None);
-        }
+        let Some(entry) = self.hosts.get(&host) else {
+            return;
+        };
+        let (before, after) = (entry.before, entry.after);
+        let Some(parent) = entry.parent else {
+            return;
+        };
+        self.set_behind(parent, before, after);
+        self.set_ahead(parent, after, before);
+        self.set_place(host, None, None, None);
     }
 
     // What stands before a child of a parent, or is last.
