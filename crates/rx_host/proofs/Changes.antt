@@ -1,7 +1,7 @@
 -- What a change of what is shown of a host makes of what is held of it.
-use Rattle.std.specs.Prelude.{◌≡◌, ℕ, Bool, false, List, [], Some, None, bytes_eq, refl}
+use Rattle.std.specs.Prelude.{◌≡◌, Bool, false, List, [], Some, refl}
 use Rattle.std.proofs.Math.Path.{fun_ext}
-use Rattle.std.proofs.Common.{sym, ◌∙◌, ap}
+use Rattle.std.proofs.Common.{◌∙◌, ap}
 use Rattle.rx_base.specs.Values.{Name}
 use Rattle.rx_elem.specs.declared.attr.Attr.{Attr}
 use Rattle.rx_elem.specs.declared.attr.AttrValue.{AttrValue}

@@ -1,17 +1,15 @@
 -- When an operation can be made, and what it becomes.
-use Rattle.std.specs.Prelude.{◌≡◌, ℕ, Bool, true, false, not, ◌&&◌, ◌||◌, cond, List, Option, Some, None, option_map, is_some, nat_eq, IsTrue, refl}
+use Rattle.std.specs.Prelude.{◌≡◌, ℕ, Bool, true, false, not, ◌&&◌, ◌||◌, cond, Option, Some, None, option_map, is_some, nat_eq, IsTrue, refl}
 use Rattle.std.specs.Option.{option_map_or}
-use Rattle.std.proofs.Common.{sym, ◌∙◌, ap, subst}
+use Rattle.std.proofs.Common.{sym, ◌∙◌}
 use Rattle.rx_elem.specs.Spots.{container}
-use Rattle.rx_forest.specs.Forests.{Body, tag, letters, HostForest, Held, is_tag, is_held, holds_tag, is_free, can_be_parent, marked, created, Becomes, CanBeMade}
+use Rattle.rx_forest.specs.Forests.{Body, tag, letters, HostForest, is_tag, is_held, holds_tag, is_free, can_be_parent, marked, created, Becomes, CanBeMade}
 use Rattle.rx_host.specs.declared.entry.HostEntry.{HostEntry}
-use Rattle.rx_host.specs.declared.entry.HostView.{HostView}
 use Rattle.rx_host.specs.declared.entry.HostKind.{HostKind}
 use Rattle.rx_host.specs.declared.entry.HostKind.TheVariants as kind
 use Rattle.rx_host.specs.declared.table.HostTable.{HostTable}
 use Rattle.rx_host.specs.Kept.{held_as, forest_kept, making, marking}
 use Rattle.rx_host.specs.Linking.{host_in, has, is_spot, kept_in}
-use Rattle.rx_host.proofs.Numbers.{split}
 
 shown-some : (o : Option HostEntry) → is_some (option_map (λ e. held_as e.view) o) ≡ is_some o
 shown-some None = refl

@@ -1,9 +1,9 @@
 -- Links stay those of children where a number goes from a list or comes into one.
-use Rattle.std.specs.Prelude.{◌≡◌, ℕ, Bool, true, false, not, ◌||◌, ◌&&◌, cond, List, [], ◌∷◌, ◌++◌, Option, Some, None, nat_eq, refl}
-use Rattle.std.proofs.Common.{sym, ◌∙◌, ap, subst}
+use Rattle.std.specs.Prelude.{◌≡◌, ℕ, Bool, true, false, ◌&&◌, cond, List, [], ◌∷◌, Option, Some, None, nat_eq, refl}
+use Rattle.std.proofs.Common.{sym, ◌∙◌, ap}
 use Rattle.rx_forest.specs.Forests.{is_among, without}
 use Rattle.rx_host.specs.Links.{Links, same_link, behind, ahead, siblings, leads_to, is_within, AreDistinct, IsLinked, put, with_behind, with_ahead, with_place}
-use Rattle.rx_host.proofs.Numbers.{split, self, same, flip, turn, link-self, link-same, link-turn, among-parts, insert_at, among-insert, distinct-insert, among-without, without-absent, without-among, distinct-without}
+use Rattle.rx_host.proofs.Numbers.{split, self, same, flip, link-turn, insert_at, among-insert, distinct-insert, among-without, without-absent, without-among, distinct-without}
 use Rattle.rx_host.proofs.Neighbours.{ahead-other, behind-other, ahead-new, ahead-insert, behind-new, behind-insert, behind-without, ahead-without}
 
 -- What a step changes

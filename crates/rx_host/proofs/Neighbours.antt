@@ -1,9 +1,9 @@
 -- What stands behind and before a number, where a number goes or comes.
-use Rattle.std.specs.Prelude.{◌≡◌, ℕ, Bool, true, false, not, ◌||◌, ◌&&◌, cond, List, [], ◌∷◌, ◌++◌, Option, Some, None, nat_eq, refl}
+use Rattle.std.specs.Prelude.{◌≡◌, ℕ, Bool, true, false, ◌||◌, cond, List, [], ◌∷◌, Option, Some, None, nat_eq, refl}
 use Rattle.std.proofs.Common.{sym, ◌∙◌, ap, subst}
 use Rattle.rx_forest.specs.Forests.{is_among, without}
-use Rattle.rx_host.specs.Links.{same_link, behind_from, ahead_from, behind, ahead, is_within, AreDistinct}
-use Rattle.rx_host.proofs.Numbers.{split, self, same, flip, turn, link-self, link-same, link-turn, among-parts, insert_at, without-absent}
+use Rattle.rx_host.specs.Links.{same_link, behind_from, ahead_from, behind, is_within, AreDistinct}
+use Rattle.rx_host.proofs.Numbers.{split, self, same, flip, link-self, link-same, link-turn, among-parts, insert_at, without-absent}
 
 -- what stands before a list is none of these
 abbrev pub Outside : List ℕ → Option ℕ → Type 0

@@ -1,8 +1,8 @@
 -- Numbers, links, and lists of numbers.
-use Rattle.std.specs.Prelude.{◌≡◌, ◌≢◌, ℕ, Bool, true, false, not, ◌||◌, ◌&&◌, cond, List, [], ◌∷◌, ◌++◌, Option, Some, None, filter, nat_eq, refl}
+use Rattle.std.specs.Prelude.{◌≡◌, ◌≢◌, ℕ, Bool, true, false, not, ◌||◌, ◌&&◌, cond, List, [], ◌∷◌, Option, Some, None, nat_eq, refl}
 use Rattle.std.proofs.Common.{sym, ◌∙◌, ap, arith}
 use Rattle.std.proofs.lemmas.Bool.Decides.{nat_tests, Decides-eqb}
-use Rattle.rx_forest.specs.Forests.{is_among, without, inserted, insert_before}
+use Rattle.rx_forest.specs.Forests.{is_among, without, inserted}
 use Rattle.rx_host.specs.Links.{same_link, AreDistinct}
 
 -- a test holds or not

@@ -1,10 +1,10 @@
 -- A host is removed with all below it: its children go one after another, each leaving its own children to the host.
-use Rattle.std.specs.Prelude.{◌≡◌, ◌⊎◌, ◌≤◌, ◌<◌, ℕ, suc, Bool, true, false, not, ◌||◌, ◌&&◌, cond, List, [], ◌∷◌, ◌++◌, Option, Some, None, nat_eq, refl, is_some, length, if◌then◌else◌}
+use Rattle.std.specs.Prelude.{◌≡◌, ◌⊎◌, ◌≤◌, ◌<◌, ℕ, Bool, true, false, not, ◌||◌, ◌&&◌, List, [], ◌∷◌, ◌++◌, Option, Some, None, nat_eq, refl, length, if◌then◌else◌}
 use Rattle.std.proofs.Common.{sym, ◌∙◌, ap, subst, inl, inr, arith}
 use Rattle.rx_forest.specs.Forests.{HostForest, Held, placed, without, IsUnder, itself, below, is_among, Removed}
 use Rattle.rx_host.specs.Steps.{Lifts}
 use Rattle.rx_host.specs.Kept.{first_of}
-use Rattle.rx_host.proofs.Numbers.{split, self, same, flip, among-parts, among-without, without-absent, without-among}
+use Rattle.rx_host.proofs.Numbers.{split, self, same, among-without, without-absent}
 
 -- a host is nobody's child
 abbrev pub Nowhere : HostForest → ℕ → Type 0

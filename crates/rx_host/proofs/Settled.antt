@@ -1,20 +1,20 @@
 -- The children that links lead through are those that they are the links of.
-use Rattle.std.specs.Prelude.{◌≡◌, ℕ, zero, suc, ◌≤◌, ◌+◌, Bool, true, false, not, ◌||◌, ◌&&◌, cond, List, [], ◌∷◌, ◌++◌, Option, Some, None, nat_eq, refl, option_and_then, option_map, is_some, length, IsSome, IfSome, if◌then◌else◌}
-use Rattle.std.specs.List.{AllByRecursion, IsDistinct, list_any}
+use Rattle.std.specs.Prelude.{◌≡◌, ℕ, zero, suc, ◌≤◌, Bool, true, false, ◌||◌, cond, List, [], ◌∷◌, ◌++◌, Option, Some, None, nat_eq, refl, option_and_then, option_map, is_some, length, IfSome, if◌then◌else◌}
+use Rattle.std.specs.List.{AllByRecursion, IsDistinct}
 use Rattle.std.specs.Map.{lookup}
 use Rattle.std.specs.Cmp.{nat_eq_equiv}
 use Rattle.std.proofs.Math.Path.{fun_ext}
 use Rattle.std.proofs.lemmas.Map.Steps.{length-le_from_keys}
 use Rattle.std.proofs.Common.{sym, ◌∙◌, ap, subst, arith}
 use Rattle.rx_elem.specs.Spots.{container}
-use Rattle.rx_forest.specs.Forests.{Held, HostForest, Body, is_among, without, with_held, created, new_host}
+use Rattle.rx_forest.specs.Forests.{Held, HostForest, Body, is_among, with_held, created}
 use Rattle.rx_host.specs.declared.entry.HostEntry.{HostEntry}
 use Rattle.rx_host.specs.declared.entry.HostView.{HostView}
 use Rattle.rx_host.specs.declared.table.HostTable.{HostTable}
-use Rattle.rx_host.specs.Links.{Links, IsLinked, AreDistinct, same_link, behind_from, ahead_from, behind, ahead, siblings, leads_to, walk, linked_children}
-use Rattle.rx_host.specs.Kept.{Kept, entry_of, held_as, held_in, links_of, links_kept, children_kept, forest_kept, first_of, no_hosts, IsSound}
-use Rattle.rx_host.specs.Linking.{host_in, links_in, shown_in, count_in, has, kept_in, forest_in, KeepsHosts, ChangesHost}
-use Rattle.rx_host.proofs.Numbers.{split, self, same, flip, turn, among-parts}
+use Rattle.rx_host.specs.Links.{Links, IsLinked, AreDistinct, behind_from, behind, ahead, siblings, leads_to, walk, linked_children}
+use Rattle.rx_host.specs.Kept.{held_as, held_in, links_of, children_kept, forest_kept, first_of, no_hosts, IsSound}
+use Rattle.rx_host.specs.Linking.{host_in, links_in, shown_in, count_in, kept_in, forest_in, KeepsHosts, ChangesHost}
+use Rattle.rx_host.proofs.Numbers.{split, self, same, flip, among-parts}
 use Rattle.rx_host.proofs.Neighbours.{Outside, outside-head, behind-start, member-other}
 use Rattle.rx_host.proofs.Tabled.{same-links, member-held, member-parent}
 

@@ -1,15 +1,15 @@
 -- What a write to one host makes of the links of a table.
-use Rattle.std.specs.Prelude.{◌≡◌, ◌≢◌, ℕ, Bool, true, false, not, ◌||◌, ◌&&◌, cond, List, [], ◌∷◌, ◌++◌, Option, Some, None, nat_eq, refl, option_and_then, option_map, is_some, if◌then◌else◌, IsTrue}
+use Rattle.std.specs.Prelude.{◌≡◌, ℕ, Bool, true, false, not, ◌||◌, ◌&&◌, cond, List, [], ◌∷◌, Option, Some, None, nat_eq, refl, option_and_then, is_some, if◌then◌else◌, IsTrue}
 use Rattle.std.proofs.Math.Path.{fun_ext}
 use Rattle.std.proofs.Common.{sym, ◌∙◌, ap, subst}
 use Rattle.rx_elem.specs.Spots.{container}
 use Rattle.rx_forest.specs.Forests.{HostForest, is_among, without, inserted, can_stand}
 use Rattle.rx_host.specs.declared.entry.HostEntry.{HostEntry}
-use Rattle.rx_host.specs.Links.{Links, same_link, behind, ahead, behind_from, ahead_from, siblings, leads_to, is_within, link_ahead, AreDistinct, IsLinked, put, with_behind, with_ahead, with_place}
+use Rattle.rx_host.specs.Links.{Links, same_link, behind, ahead, behind_from, ahead_from, siblings, leads_to, is_within, link_ahead, IsLinked, with_behind, with_ahead, with_place}
 use Rattle.rx_host.specs.declared.table.HostTable.{HostTable}
 use Rattle.rx_host.specs.Linking.{host_in, links_in, has, is_spot, KeepsHosts}
 use Rattle.rx_host.specs.Kept.{links_of}
-use Rattle.rx_host.proofs.Numbers.{split, self, same, flip, turn, not-same, among-parts, insert_at, inserted-is, among-without, without-absent}
+use Rattle.rx_host.proofs.Numbers.{split, self, same, flip, inserted-is, among-without, without-absent}
 use Rattle.rx_host.proofs.Linked.{detached, detaches, attached, attaches, children_with}
 
 -- links that agree everywhere are the same

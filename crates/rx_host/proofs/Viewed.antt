@@ -1,5 +1,5 @@
 -- What a write to what is shown of one host makes of a table.
-use Rattle.std.specs.Prelude.{◌≡◌, ℕ, Bool, true, false, cond, Option, Some, None, nat_eq, refl, option_and_then, option_map, is_some, if◌then◌else◌}
+use Rattle.std.specs.Prelude.{◌≡◌, ℕ, true, false, cond, Option, Some, nat_eq, refl, option_and_then, option_map, is_some}
 use Rattle.std.proofs.Math.Path.{fun_ext}
 use Rattle.std.proofs.Common.{sym, ◌∙◌, ap}
 use Rattle.rx_elem.specs.Spots.{container}
@@ -8,7 +8,7 @@ use Rattle.rx_host.specs.declared.entry.HostEntry.{HostEntry}
 use Rattle.rx_host.specs.declared.entry.HostView.{HostView}
 use Rattle.rx_host.specs.declared.table.HostTable.{HostTable}
 use Rattle.rx_host.specs.Kept.{held_as}
-use Rattle.rx_host.specs.Linking.{host_in, links_in, shown_in, count_in, room_in, has, ChangesHost}
+use Rattle.rx_host.specs.Linking.{host_in, links_in, count_in, room_in, ChangesHost}
 use Rattle.rx_host.proofs.Numbers.{split, same, flip}
 use Rattle.rx_host.proofs.Tabled.{same-links}
 

@@ -1,12 +1,11 @@
 -- What changes in a table of hosts.
-use Rattle.std.specs.Prelude.{◌≡◌, ℕ, ◌+◌, Bool, true, false, cond, List, Option, Some, None, option_map, is_some, nat_eq, ◌||◌, if◌then◌else◌, min}
+use Rattle.std.specs.Prelude.{◌≡◌, ℕ, Bool, true, cond, List, Option, Some, None, is_some, nat_eq, if◌then◌else◌, min}
 use Rattle.std.specs.HashMap.{get, spare, hash_map_len}
 use Rattle.rx_elem.specs.Spots.{container}
-use Rattle.rx_forest.specs.Forests.{Held, HostForest, placed, can_stand, without}
+use Rattle.rx_forest.specs.Forests.{Held, HostForest}
 use Rattle.rx_host.specs.declared.entry.HostEntry.{HostEntry}
-use Rattle.rx_host.specs.declared.entry.HostView.{HostView}
 use Rattle.rx_host.specs.declared.table.HostTable.{HostTable}
-use Rattle.rx_host.specs.Links.{Links, IsLinked}
+use Rattle.rx_host.specs.Links.{Links}
 use Rattle.rx_host.specs.Kept.{Kept, held_in, links_of}
 
 -- the host of a number

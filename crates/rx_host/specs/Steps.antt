@@ -1,5 +1,5 @@
 -- The steps in which a host is removed: it is taken out of where it stands, its children go one after another, each leaving its own children to the host, and then the host goes.
-use Rattle.std.specs.Prelude.{◌≡◌, ℕ, Bool, true, false, ◌||◌, List, [], nat_eq}
+use Rattle.std.specs.Prelude.{◌≡◌, ℕ, false, ◌||◌, [], nat_eq}
 use Rattle.rx_forest.specs.Forests.{HostForest, is_among}
 
 -- the children of one host become children of another

@@ -1,4 +1,4 @@
-use Rattle.std.proofs.Common.{◌≡◌, ℕ, [], ◌∙◌, sym, ap, subst, vec_len}
+use Rattle.std.proofs.Common.{◌∙◌, sym, ap, subst, vec_len}
 use Rattle.rx_forest.specs.Forests.{CanBeMade, created}
 use Rattle.rx_host.specs.Kept.{Kept, forest_kept, making}
 use Rattle.rx_host.specs.Linking.{kept_in}

@@ -1,4 +1,4 @@
-use Rattle.std.proofs.Common.{◌≡◌, ◌∙◌, sym, ap, subst, vec_len}
+use Rattle.std.proofs.Common.{◌∙◌, sym, ap, subst, vec_len}
 use Rattle.rx_forest.specs.declared.op.HostOp.TheVariants as op
 use Rattle.rx_forest.specs.Forests.{CanBeMade, placed}
 use Rattle.rx_host.specs.Kept.{Kept, children_kept, forest_kept}

@@ -1,4 +1,4 @@
-use Rattle.std.proofs.Common.{◌≡◌, ◌∙◌, ℕ, List, true, false, ap, sym, subst, le_trans}
+use Rattle.std.proofs.Common.{◌≡◌, ◌∙◌, ℕ, List, false, ap, sym, subst, le_trans}
 use Rattle.std.specs.Prelude.{Option, is_some}
 use Rattle.rx_forest.specs.Forests.{HostForest, Held, is_among}
 use Rattle.rx_host.specs.Kept.{forest_kept}
