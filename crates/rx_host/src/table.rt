@@ -1,10 +1,9 @@
 // A table of hosts, and their links.
-ghost use Rattle.std.specs.Prelude.{◌≡◌, ◌+◌, ◌<◌, ◌≤◌, ℕ, List, [], Some, None, true, IsSome, IfSome, IfNone, is_some, OnOk, option_map, nat_eq, cond, option_and_then, if◌then◌else◌, IsTrue, vec_len};
+ghost use Rattle.std.specs.Prelude.{◌≡◌, ◌+◌, ◌<◌, ◌≤◌, ℕ, List, [], Some, None, true, OnOk, option_map, nat_eq, cond, if◌then◌else◌, IsTrue, vec_len};
 ghost use Rattle.std.specs.Option.{option_copied};
-ghost use Rattle.rx_elem.specs.Spots.{container};
 ghost use Rattle.rx_forest.specs.Forests.{without, inserted, placed, can_stand, with_body, with_letters, with_mark, with_value};
 ghost use Rattle.rx_host.specs.Links.{IsLinked, is_within, link_ahead, with_ahead, with_behind, with_place};
-ghost use Rattle.rx_host.specs.Linking.{ChangesHost, KeepsHosts, count_in, forest_in, has, host_in, is_spot, links_in, room_in, shown_in};
+ghost use Rattle.rx_host.specs.Linking.{ChangesHost, KeepsHosts, count_in, forest_in, has, host_in, is_spot, links_in, room_in};
 
 use crate::attrs::AttrList;
 use crate::entry::{HostEntry, HostView};
