@@ -1,12 +1,13 @@
 -- Attributes in the order of their names.
-use Rattle.std.specs.Prelude.{◌≡◌, Bool, true, false, cond, List, [], ◌∷◌, Some, None, bytes_eq, refl}
+use Rattle.std.specs.Prelude.{◌≡◌, ℕ, zero, suc, ◌+◌, ◌<◌, length, Bool, true, false, cond, List, [], ◌∷◌, Some, None, map, bytes_eq, refl}
 use Rattle.std.specs.List.{AllByRecursion}
 use Rattle.std.specs.Ordering.{nat_cmp, match_ordering, ordering_reverse, is_eq}
 use Rattle.std.specs.Cmp.Lexicographic.{slice_cmp}
 use Rattle.std.specs.declared.cmp.Ordering.{Ordering}
 use Rattle.std.specs.declared.cmp.Ordering.TheVariants.{Less, Equal, Greater}
-use Rattle.std.proofs.Common.{sym, ◌∙◌, ap}
+use Rattle.std.proofs.Common.{sym, ◌∙◌, ap, subst, arith, get_or}
 use Rattle.std.proofs.lemmas.Cmp.{nat_list_cmp_total}
+use Rattle.std.proofs.lemmas.Map.Keys.{sorted_head, sorted_tail, sorted_from_all_adjacent}
 use Rattle.std.proofs.lemmas.Map.Text.{is_eq-slice_cmp}
 use Rattle.std.proofs.lemmas.Slice.Eq.{bytes_eq-Decides}
 use Rattle.rx_base.specs.Values.{Name}
@@ -16,7 +17,16 @@ use Rattle.rx_forest.specs.Hosts.{with_attr, by_name}
 use Rattle.rx_forest.specs.HostOps.{attr_named}
 use Rattle.rx_forest.specs.Forests.{value_named}
 use Rattle.host_laws.specs.Related.{HaveOwnNames}
-use Rattle.rx_report.specs.TreeOrder.{ComesBefore, AreByName}
+use Rattle.rx_host.specs.Attrs.{AreByName}
+
+-- a name comes before those of attributes
+abbrev IsAfter : Name → List Attr → Type 0
+IsAfter x attrs = AllByRecursion (λ y. slice_cmp nat_cmp x y ≡ Less) (map (λ a. a.name) attrs)
+
+-- each name comes before those behind it
+abbrev InOrder : List Attr → Type 0
+InOrder [] = Unit {0}
+InOrder (a ∷ attrs) = IsAfter a.name attrs × InOrder attrs
 
 -- Names
 
@@ -33,18 +43,18 @@ apart x y e = test_of y x Greater (turned x y Less e)
 itself : (x : Name) → bytes_eq x x ≡ true
 itself x = (bytes_eq-Decides x x).1 refl
 
-all_after : (a b : Attr) (cs : List Attr) → ComesBefore a b → AllByRecursion (ComesBefore b) cs → AllByRecursion (ComesBefore a) cs
+all_after : (a b : Attr) (cs : List Attr) → slice_cmp nat_cmp a.name b.name ≡ Less → IsAfter b.name cs → IsAfter a.name cs
 all_after a b [] l cs = tt
 all_after a b (c ∷ cs) l m = (nat_list_cmp_total.trans a.name b.name c.name l m.0, all_after a b cs l m.1)
 
 -- a name before all others is that of none
-none_named : (a : Attr) (bs : List Attr) → AllByRecursion (ComesBefore a) bs → attr_named bs a.name ≡ None
+none_named : (a : Attr) (bs : List Attr) → IsAfter a.name bs → attr_named bs a.name ≡ None
 none_named a [] l = refl
 none_named a (b ∷ bs) l = let other = apart a.name b.name l.0 in rw other (none_named a bs l.1)
 
 -- Attributes in order are known by their values
 
-no_value : (a : Attr) (bs : List Attr) → AllByRecursion (ComesBefore a) bs → value_named bs a.name ≡ None
+no_value : (a : Attr) (bs : List Attr) → IsAfter a.name bs → value_named bs a.name ≡ None
 no_value a bs l = rw (none_named a bs l) refl
 
 first_value : (a : Attr) (attrs : List Attr) → value_named (a ∷ attrs) a.name ≡ Some a.value
@@ -57,7 +67,7 @@ other_value a attrs x e = rw e refl
 abbrev SameValues : List Attr → List Attr → Type 0
 SameValues xs ys = (x : Name) → value_named xs x ≡ value_named ys x
 
-rest_values : (a b : Attr) (xs ys : List Attr) → a.name ≡ b.name → AllByRecursion (ComesBefore a) xs → AllByRecursion (ComesBefore b) ys
+rest_values : (a b : Attr) (xs ys : List Attr) → a.name ≡ b.name → IsAfter a.name xs → IsAfter b.name ys
     → SameValues (a ∷ xs) (b ∷ ys) → SameValues xs ys
 rest_values a b xs ys same l m values x = go (bytes_eq a.name x) refl
   where
@@ -69,7 +79,7 @@ rest_values a b xs ys same l m values x = go (bytes_eq a.name x) refl
         let other : bytes_eq b.name x ≡ false = ap (λ n. bytes_eq n x) (sym same) ∙ e in
         sym (other_value a xs x e) ∙ values x ∙ other_value b ys x other
 
-first_before : (a b : Attr) (xs ys : List Attr) → AreByName (b ∷ ys) → SameValues (a ∷ xs) (b ∷ ys) → ComesBefore a b → ⊥
+first_before : (a b : Attr) (xs ys : List Attr) → InOrder (b ∷ ys) → SameValues (a ∷ xs) (b ∷ ys) → slice_cmp nat_cmp a.name b.name ≡ Less → ⊥
 first_before a b xs ys m values l =
     let none : value_named (b ∷ ys) a.name ≡ None = no_value a (b ∷ ys) (l, all_after a b ys l m.0) in
     let some : value_named (b ∷ ys) a.name ≡ Some a.value = sym (values a.name) ∙ first_value a xs in cc
@@ -77,8 +87,7 @@ first_before a b xs ys m values l =
 same_attr : (a b : Attr) → a.name ≡ b.name → a.value ≡ b.value → a ≡ b
 same_attr a b name value = ap (λ (x : Name). record { name = x; value = a.value }) name ∙ ap (λ (v : AttrValue). record { name = b.name; value = v }) value
 
--- attributes in order that have the same values are the same
-pub same_attrs : (xs ys : List Attr) → AreByName xs → AreByName ys → ((x : Name) → value_named xs x ≡ value_named ys x) → xs ≡ ys
+same_attrs : (xs ys : List Attr) → InOrder xs → InOrder ys → ((x : Name) → value_named xs x ≡ value_named ys x) → xs ≡ ys
 same_attrs [] [] l m values = refl
 same_attrs [] (b ∷ ys) l m values = let some = first_value b ys in let none = values b.name in absurd (cc)
 same_attrs (a ∷ xs) [] l m values = let some = first_value a xs in let none = values a.name in absurd (cc)
@@ -128,29 +137,57 @@ own_without a (b ∷ bs) own = go (slice_cmp nat_cmp a.name b.name) refl own (ow
         let other : bytes_eq b.name a.name ≡ false = test_of b.name a.name Less (turned a.name b.name Greater e) in
         ((none_without a bs b.name k.0, later.0), rw other later.1)
 
-all_with : (P : Attr → Type 0) (a : Attr) (bs : List Attr) → P a → AllByRecursion P bs → AllByRecursion P (with_attr a bs)
-all_with P a [] h l = (h, tt)
-all_with P a (b ∷ bs) h l = go (slice_cmp nat_cmp a.name b.name) (all_with P a bs h l.1)
+all_with : (x : Name) (a : Attr) (bs : List Attr) → slice_cmp nat_cmp x a.name ≡ Less → IsAfter x bs → IsAfter x (with_attr a bs)
+all_with x a [] h l = (h, tt)
+all_with x a (b ∷ bs) h l = go (slice_cmp nat_cmp a.name b.name) (all_with x a bs h l.1)
   where
-    go : (o : Ordering) → AllByRecursion P (with_attr a bs) → AllByRecursion P (match_ordering o (a ∷ b ∷ bs) (a ∷ b ∷ bs) (b ∷ with_attr a bs))
+    go : (o : Ordering) → IsAfter x (with_attr a bs) → IsAfter x (match_ordering o (a ∷ b ∷ bs) (a ∷ b ∷ bs) (b ∷ with_attr a bs))
     go Less rest = (h, l)
     go Equal rest = (h, l)
     go Greater rest = (l.0, rest)
 
-with_in_order : (a : Attr) (bs : List Attr) → AreByName bs → attr_named bs a.name ≡ None → AreByName (with_attr a bs)
+with_in_order : (a : Attr) (bs : List Attr) → InOrder bs → attr_named bs a.name ≡ None → InOrder (with_attr a bs)
 with_in_order a [] l none = (tt, tt)
 with_in_order a (b ∷ bs) l none = go (slice_cmp nat_cmp a.name b.name) refl (with_in_order a bs l.1)
   where
     parts : (bytes_eq b.name a.name ≡ false) × (attr_named bs a.name ≡ None)
     parts = split_named b bs a.name none
 
-    go : (o : Ordering) → slice_cmp nat_cmp a.name b.name ≡ o → (attr_named bs a.name ≡ None → AreByName (with_attr a bs))
-        → AreByName (match_ordering o (a ∷ b ∷ bs) (a ∷ b ∷ bs) (b ∷ with_attr a bs))
+    go : (o : Ordering) → slice_cmp nat_cmp a.name b.name ≡ o → (attr_named bs a.name ≡ None → InOrder (with_attr a bs))
+        → InOrder (match_ordering o (a ∷ b ∷ bs) (a ∷ b ∷ bs) (b ∷ with_attr a bs))
     go Less e rest = ((e, all_after a b bs e l.0), l)
     go Equal e rest = let same : bytes_eq b.name a.name ≡ true = test_of b.name a.name Equal (turned a.name b.name Equal e) in let other = parts.0 in absurd (cc)
-    go Greater e rest = (all_with (ComesBefore b) a bs (turned a.name b.name Greater e) l.0, rest parts.1)
+    go Greater e rest = (all_with b.name a bs (turned a.name b.name Greater e) l.0, rest parts.1)
 
--- attributes that were put in order stand in the order of their names, where these are their own
-pub in_order : (attrs : List Attr) → HaveOwnNames (by_name attrs) → AreByName (by_name attrs)
+in_order : (attrs : List Attr) → HaveOwnNames (by_name attrs) → InOrder (by_name attrs)
 in_order [] own = tt
 in_order (a ∷ attrs) own = let parts = own_without a (by_name attrs) own in with_in_order a (by_name attrs) (in_order attrs parts.0) parts.1
+
+-- In the words of the tree of hosts
+
+from_by_name : (attrs : List Attr) → AreByName attrs → InOrder attrs
+from_by_name [] l = tt
+from_by_name (a ∷ attrs) l =
+    let names : List Name = map (λ b. b.name) attrs in
+    (sorted_head (slice_cmp nat_cmp) a.name names l, from_by_name attrs (sorted_tail (slice_cmp nat_cmp) a.name names l))
+
+names_rise : (attrs : List Attr) → InOrder attrs → (d : Name) (k : ℕ) → suc k < length (map (λ a. a.name) attrs)
+    → slice_cmp nat_cmp (get_or (map (λ a. a.name) attrs) k d) (get_or (map (λ a. a.name) attrs) (suc k) d) ≡ Less
+names_rise [] l d k h = absurd (omega arith)
+names_rise (a ∷ []) l d k h = absurd (omega arith)
+names_rise (a ∷ b ∷ attrs) l d zero h = l.0.0
+names_rise (a ∷ b ∷ attrs) l d (suc k) h = names_rise (b ∷ attrs) l.1 d k (omega arith)
+
+to_by_name : (attrs : List Attr) → InOrder attrs → AreByName attrs
+to_by_name attrs l = sorted_from_all_adjacent nat_list_cmp_total (map (λ a. a.name) attrs) [] (λ k h.
+    let next : k + 1 ≡ suc k = omega arith in
+    let names : List Name = map (λ a. a.name) attrs in
+    subst (λ n. slice_cmp nat_cmp (get_or names k []) (get_or names n []) ≡ Less) (sym next) (names_rise attrs l [] k (omega arith)))
+
+-- attributes in the order of their names that have the same values are the same
+pub same_by_name : (xs ys : List Attr) → AreByName xs → AreByName ys → ((x : Name) → value_named xs x ≡ value_named ys x) → xs ≡ ys
+same_by_name xs ys l m values = same_attrs xs ys (from_by_name xs l) (from_by_name ys m) values
+
+-- attributes that were put in order stand in the order of their names, where these are their own
+pub put_by_name : (attrs : List Attr) → HaveOwnNames (by_name attrs) → AreByName (by_name attrs)
+put_by_name attrs own = to_by_name (by_name attrs) (in_order attrs own)

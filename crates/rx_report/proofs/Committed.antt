@@ -13,7 +13,7 @@ use Rattle.host_laws.specs.Commits.{AreNumbered, AreNumbered_in, IsCommit}
 use Rattle.host_laws.proofs.Listing.{hosts_at, hosts_in, in-child, host_first, other_first, same_above}
 use Rattle.host_laws.proofs.Owned.{below-append, all_at, parts_at, all_child, parts_child}
 use Rattle.rx_report.specs.TreeOrder.{StandBelow, nothing, child, IsByName, AreInTreeOrder}
-use Rattle.rx_report.proofs.ByName.{in_order}
+use Rattle.rx_report.proofs.ByName.{put_by_name}
 
 -- hosts below a number, and then more below it
 both_below : (p : ℕ) (xs ys : List Host) → StandBelow p xs → StandBelow p ys → StandBelow p (xs ++ ys)
@@ -61,7 +61,7 @@ content_in_order elements.null c is own = absurd (cc)
 content_in_order (elements.text t) c is own = let same : letters t ≡ c = cc in subst IsByName same tt
 content_in_order (elements.host n k attrs es) c is own =
     let same : tag n (by_name attrs) ≡ c = cc in
-    subst IsByName same (in_order attrs (subst OwnNames (sym same) own))
+    subst IsByName same (put_by_name attrs (subst OwnNames (sym same) own))
 content_in_order (elements.comp n k ps es) c is own = absurd (cc)
 content_in_order (elements.list es) c is own = absurd (cc)
 content_in_order (elements.boundary k f es) c is own = absurd (cc)

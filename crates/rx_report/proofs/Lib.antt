@@ -4,3 +4,6 @@ pub mod Walks
 pub mod ByName
 pub mod OneList
 pub mod Committed
+pub mod Going
+pub mod Progress
+pub mod Bounded

@@ -8,15 +8,16 @@ use Rattle.rx_forest.specs.Forests as forests
 use Rattle.rx_forest.specs.Forests.{HostForest, Held, held_of, body_of, forest_of}
 use Rattle.rx_lines.specs.Lines.{Line, host_lines}
 use Rattle.rx_report.specs.TreeOrder.{IsByName, AreInTreeOrder}
-use Rattle.rx_report.proofs.ByName.{same_attrs}
-use Rattle.rx_report.proofs.Walks.{Walk, walked, step, walk_of}
+use Rattle.rx_report.proofs.ByName.{same_by_name}
+use Rattle.rx_report.specs.Walks.{Walk, walked, step}
+use Rattle.rx_report.proofs.Walks.{walk_of}
 
 -- contents that are one body are the same
-same_content : (c d : Content) → IsByName c → IsByName d → body_of c ≡ body_of d → c ≡ d
+pub same_content : (c d : Content) → IsByName c → IsByName d → body_of c ≡ body_of d → c ≡ d
 same_content (tag m xs) (tag n ys) l m' e =
     let name : m ≡ n = cc in
     let values : forests.value_named xs ≡ forests.value_named ys = cc in
-    let attrs : xs ≡ ys = same_attrs xs ys l m' (λ x. ap (λ (f : List ℕ → Option AttrValue). f x) values) in cc
+    let attrs : xs ≡ ys = same_by_name xs ys l m' (λ x. ap (λ (f : List ℕ → Option AttrValue). f x) values) in cc
 same_content (tag m xs) (letters t) l m' e = absurd (cc)
 same_content (letters s) (tag n ys) l m' e = absurd (cc)
 same_content (letters s) (letters t) l m' e = cc

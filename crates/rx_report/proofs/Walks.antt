@@ -1,4 +1,4 @@
--- The walk of a forest, first child before next sibling, lists the hosts that the forest stands for, each on its level.
+-- A walk of a forest lists the hosts that it stands for, in tree order and each on its level.
 use Rattle.std.specs.Prelude.{◌≡◌, ℕ, ◌+◌, Bool, true, false, ◌||◌, List, [], ◌∷◌, ◌++◌, Some, nat_eq, refl}
 use Rattle.std.specs.List.{AllByRecursion}
 use Rattle.std.proofs.Common.{sym, ◌∙◌, ap, subst, arith}
@@ -6,7 +6,7 @@ use Rattle.std.proofs.lemmas.Bool.Decides.{nat_tests, Decides-eqb}
 use Rattle.std.proofs.lemmas.List.{append-nil}
 use Rattle.rx_elem.specs.Spots.{container}
 use Rattle.rx_forest.specs.Hosts.{Host, has_host}
-use Rattle.rx_forest.specs.Forests.{HostForest, held_of, children_in, forest_of}
+use Rattle.rx_forest.specs.Forests.{held_of, children_in, forest_of}
 use Rattle.rx_lines.specs.Lines.{Line, tree_host, level_in, host_lines}
 use Rattle.host_laws.specs.Related.{AreDistinct}
 use Rattle.host_laws.proofs.Placing.{neither}
@@ -14,13 +14,7 @@ use Rattle.host_laws.proofs.Placements.{children_in-append, other_number}
 use Rattle.host_laws.proofs.Listing.{has_host-append, distinct-append}
 use Rattle.host_laws.proofs.Owned.{IsOwn, each_own, all_first, all_last}
 use Rattle.rx_report.specs.TreeOrder.{StandBelow, nothing, child, IsByName, AreInTreeOrder}
-
--- A walk below a number: each child is listed, then what is below it, one level deeper, and then the later children. With the hosts go their lines.
-pub data Walk (f : HostForest) : (parent level : ℕ) → (children : List ℕ) → List Host → List Line → Type 0 where
-  walked : {p level : ℕ} → Walk f p level [] [] []
-  step : {p level n : ℕ} {ns : List ℕ} {below later : List Host} {deeper others : List Line} (h : Host)
-      → h.number ≡ n → h.parent ≡ p → f.held n ≡ Some (held_of h) → IsByName h.content → Walk f n (level + 1) (f.children n) below deeper
-      → Walk f p level ns later others → Walk f p level (n ∷ ns) (h ∷ below ++ later) (tree_host level h ∷ deeper ++ others)
+use Rattle.rx_report.specs.Walks.{Walk, walked, step}
 
 -- the levels that are known behind some hosts
 abbrev pub known_after : List (ℕ × ℕ) → List Host → List (ℕ × ℕ)

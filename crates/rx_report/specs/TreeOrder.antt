@@ -1,27 +1,15 @@
 -- Lists of hosts in tree order.
 use Rattle.std.specs.Prelude.{◌≡◌, ℕ, false, List, [], ◌∷◌, ◌++◌}
 use Rattle.std.specs.List.{AllByRecursion}
-use Rattle.std.specs.Ordering.{nat_cmp}
-use Rattle.std.specs.Cmp.Lexicographic.{slice_cmp}
-use Rattle.std.specs.declared.cmp.Ordering.TheVariants.{Less}
-use Rattle.rx_elem.specs.declared.attr.Attr.{Attr}
 use Rattle.rx_elem.specs.Spots.{container}
 use Rattle.rx_forest.specs.Hosts.{Host, Content, tag, letters, has_host}
+use Rattle.rx_host.specs.Attrs.{AreByName}
 use Rattle.host_laws.specs.Related.{AreDistinct}
 
 -- Hosts stand below a number in tree order: there is none, or the first is its child, behind it comes what stands below that child, and then come the later children with what stands below them.
 pub data StandBelow : (parent : ℕ) → List Host → Type 0 where
   nothing : {p : ℕ} → StandBelow p []
   child : {p : ℕ} {below later : List Host} (h : Host) → h.parent ≡ p → StandBelow h.number below → StandBelow p later → StandBelow p (h ∷ below ++ later)
-
--- the name of an attribute comes before that of another one
-abbrev pub ComesBefore : Attr → Attr → Type 0
-ComesBefore a b = slice_cmp nat_cmp a.name b.name ≡ Less
-
--- attributes stand in the order of their names, and no name stands twice
-abbrev pub AreByName : List Attr → Type 0
-AreByName [] = Unit {0}
-AreByName (a ∷ attrs) = AllByRecursion (ComesBefore a) attrs × AreByName attrs
 
 -- the attributes of an element stand in the order of their names
 abbrev pub IsByName : Content → Type 0

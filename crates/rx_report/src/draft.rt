@@ -35,6 +35,11 @@ impl Draft {
         }
     }
 
+    /// What gives it memory.
+    pub fn alloc(&self) -> Global {
+        *self.bytes.allocator()
+    }
+
     /// All bytes so far.
     pub fn bytes(&self) -> &[u8]
         ensures { result.now ≡ self.now.done ++ self.now.begun }
