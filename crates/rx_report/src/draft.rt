@@ -35,9 +35,11 @@ impl Draft {
         }
     }
 
-    /// What gives it memory.
-    pub fn alloc(&self) -> Global {
-        *self.bytes.allocator()
+    /// No number yet, in a list that takes its memory where the bytes do.
+    pub fn no_numbers(&self) -> Vec<u64>
+        ensures { result.items ≡ [] }
+    {
+        Vec::new(*self.bytes.allocator())
     }
 
     /// All bytes so far.

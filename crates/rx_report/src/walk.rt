@@ -53,8 +53,9 @@ impl Draft {
         ensures put { (o : Options) (all : List Host) → AreInTreeOrder all → forest_kept hosts.now ≡ forest_of all → OnOk result (self.new.begun ≡ self.old.begun ++ report_bytes o (host_lines [] all)) }
         ensures done { self.new.done ≡ self.old.done }
     {
-        let mut above = Vec::new(self.alloc());
+        let mut above = self.no_numbers();
         let mut next = hosts.first_child(0);
+        // Numbers have 64 bits and none is 0, so these rounds list all hosts.
         'hosts: for _listed in 0..u64::MAX {
             let Some(host) = next else {
                 return Ok(());

@@ -16,7 +16,7 @@ hosts-init c = record {
   fits = search rules;
   lines = λ o all t is.
       let f : HostForest = forest_kept c.args.hosts.now in
-      subst (λ (ns : List ℕ). Progress f o all c.args.self.now.begun c.args.self.now.begun (reverse ns) c.first_child-next.result 0) (sym c.new-above.ensures.items)
+      subst (λ (ns : List ℕ). Progress f o all c.args.self.now.begun c.args.self.now.begun (reverse ns) c.first_child-next.result 0) (sym c.no_numbers-above.ensures)
       (begins f o all c.args.self.now.begun c.first_child-next.result t is c.first_child-next.ensures);
 }
 
