@@ -1,62 +1,72 @@
 -- How a tree of hosts is kept, and the forest that it stands for.
-use Rattle.std.specs.Prelude.{◌≡◌, ℕ, Bool, true, false, cond, ◌&&◌, List, [], ◌∷◌, Option, Some, None, filter, find, map, option_map, is_some, nat_eq, bytes_eq}
-use Rattle.std.specs.Option.{option_map_or}
-use Rattle.rx_base.specs.Values.{Name}
-use Rattle.rx_elem.specs.declared.attr.AttrValue.{AttrValue}
+use Rattle.std.specs.Prelude.{◌≡◌, ℕ, Bool, cond, List, [], ◌∷◌, Option, Some, None, option_map, option_and_then, nat_eq, length, if◌then◌else◌}
+use Rattle.std.specs.Map.{lookup}
+use Rattle.rx_elem.specs.declared.attr.Attr.{Attr}
+use Rattle.rx_elem.specs.Spots.{container}
 use Rattle.rx_host.specs.declared.entry.HostEntry.{HostEntry}
-use Rattle.rx_host.specs.declared.entry.AttrEntry.{AttrEntry}
+use Rattle.rx_host.specs.declared.entry.HostView.{HostView}
 use Rattle.rx_host.specs.declared.entry.HostKind.{HostKind}
 use Rattle.rx_host.specs.declared.entry.HostKind.TheVariants as kind
 use Rattle.rx_forest.specs.declared.op.HostOp.{HostOp}
 use Rattle.rx_forest.specs.declared.op.HostOp.TheVariants as op
-use Rattle.rx_forest.specs.Forests.{Body, tag, letters, Held, HostForest}
+use Rattle.rx_forest.specs.Forests.{Body, tag, letters, Held, HostForest, value_named}
+use Rattle.rx_host.specs.Links.{Links, IsLinked, linked_children}
 
--- A tree as it is kept: hosts, of which siblings stand in order, their attributes, and room for how many more of each
+-- A tree as it is kept: hosts under their numbers, the container's first and last child, and room for how many more hosts and attributes
 pub record Kept : Type 0 where
-  pub hosts : List HostEntry
-  pub attrs : List AttrEntry
+  pub entries : List (ℕ × HostEntry)
+  pub first : Option ℕ
+  pub last : Option ℕ
   pub spare : ℕ
 
--- a host has this number
-abbrev pub has_number : ℕ → HostEntry → Bool
-has_number n h = nat_eq h.number n
-
 -- the host of a number
-abbrev pub entry_of : List HostEntry → ℕ → Option HostEntry
-entry_of hs n = find (has_number n) hs
+abbrev pub entry_of : List (ℕ × HostEntry) → ℕ → Option HostEntry
+entry_of es n = lookup (nat_eq n) es
 
--- a host stands under this one
-abbrev pub stands_under : ℕ → HostEntry → Bool
-stands_under p h = option_map_or (nat_eq p) h.parent false
-
--- the children of a host
-abbrev pub children_kept : List HostEntry → ℕ → List ℕ
-children_kept hs p = map (λ h. h.number) (filter (stands_under p) hs)
-
--- an attribute is that of this name, of this host
-abbrev pub is_attr : ℕ → Name → AttrEntry → Bool
-is_attr n name a = nat_eq a.host n && bytes_eq a.name name
-
--- the value of a host's attribute
-abbrev pub value_kept : List AttrEntry → ℕ → Name → Option AttrValue
-value_kept attrs n name = option_map (λ a. a.value) (find (is_attr n name) attrs)
-
--- what a host is
-abbrev pub body_as : List AttrEntry → ℕ → HostKind → Body
-body_as attrs n (kind.Element name) = tag name (value_kept attrs n)
-body_as attrs n (kind.Text t) = letters t
+-- what a host of this kind and with these attributes is
+abbrev pub body_as : HostKind → List Attr → Body
+body_as (kind.Element name) attrs = tag name (value_named attrs)
+body_as (kind.Text t) attrs = letters t
 
 -- what is held of a host
-abbrev pub held_as : List AttrEntry → HostEntry → Held
-held_as attrs h = record { body = body_as attrs h.number h.kind; hidden = h.hidden }
+abbrev pub held_as : HostView → Held
+held_as v = record { body = body_as v.kind v.attrs; hidden = v.hidden }
 
--- the forest of hosts and attributes
-abbrev pub forest_as : List HostEntry → List AttrEntry → HostForest
-forest_as hs attrs = record { held = λ n. option_map (held_as attrs) (entry_of hs n); children = children_kept hs }
+-- what is held under each number
+abbrev pub held_in : (ℕ → Option HostEntry) → ℕ → Option Held
+held_in entry n = option_map (λ e. held_as e.view) (entry n)
+
+-- the links of hosts, and of the container to its first and last child
+abbrev pub links_of : (ℕ → Option HostEntry) → (first last : Option ℕ) → Links
+links_of entry first last =
+    record {
+      parent = λ n. option_and_then (λ e. e.parent) (entry n);
+      before = λ n. option_and_then (λ e. e.before) (entry n);
+      after = λ n. option_and_then (λ e. e.after) (entry n);
+      first = λ p. if nat_eq p container then first else option_and_then (λ e. e.first) (entry p);
+      last = λ p. if nat_eq p container then last else option_and_then (λ e. e.last) (entry p);
+    }
+
+-- the links of a tree
+abbrev pub links_kept : Kept → Links
+links_kept t = links_of (entry_of t.entries) t.first t.last
+
+-- the children of each number
+abbrev pub children_kept : Kept → ℕ → List ℕ
+children_kept t = linked_children (links_kept t) (length t.entries)
 
 -- the forest that a tree stands for
 abbrev pub forest_kept : Kept → HostForest
-forest_kept t = forest_as t.hosts t.attrs
+forest_kept t = record { held = held_in (entry_of t.entries); children = children_kept t }
+
+-- no host
+abbrev pub no_hosts : HostForest
+no_hosts = record { held = λ n. None; children = λ p. [] }
+
+-- what holds of each tree: its links are those of the children that they lead through, and the container is no host
+pub record IsSound (t : Kept) : Type 0 where
+  pub linked : IsLinked (links_kept t) (children_kept t)
+  pub outside : entry_of t.entries container ≡ None
 
 -- the operation that makes a host of this kind
 abbrev pub making : ℕ → HostKind → HostOp
@@ -67,21 +77,7 @@ making n (kind.Text t) = op.CreateText n t
 abbrev pub marking : ℕ → (hidden : Bool) → HostOp
 marking n hidden = cond hidden (op.Hide n) (op.Show n)
 
--- each number is that of one host alone
-abbrev pub AreDistinct : List HostEntry → Type 0
-AreDistinct [] = Unit {0}
-AreDistinct (h ∷ hs) = (entry_of hs h.number ≡ None) × AreDistinct hs
-
--- each attribute is that of a host
-abbrev pub AreOwned : List HostEntry → List AttrEntry → Type 0
-AreOwned hs [] = Unit {0}
-AreOwned hs (a ∷ attrs) = (is_some (entry_of hs a.host) ≡ true) × AreOwned hs attrs
-
--- what holds of the hosts and attributes of each tree
-pub record IsSound (hs : List HostEntry) (attrs : List AttrEntry) : Type 0 where
-  pub distinct : AreDistinct hs
-  pub owned : AreOwned hs attrs
-
--- a host that stood under one host stands under another one; each other host stays
-abbrev pub given : (from to : ℕ) → HostEntry → HostEntry
-given from to h = cond (stands_under from h) (record h { parent = Some to }) h
+-- the first of a list
+abbrev pub first_of : List ℕ → Option ℕ
+first_of [] = None
+first_of (n ∷ ns) = Some n

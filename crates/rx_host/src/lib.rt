@@ -1,13 +1,15 @@
 //! The tree of hosts, and the operations on it.
 #![tactic(auto)]
 
+mod attrs;
 mod entry;
-mod lists;
 mod replaying;
+mod table;
 #[cfg(test)]
 mod tests;
 mod tree;
 
-pub use entry::HostKind;
+pub use attrs::AttrList;
+pub use entry::{HostKind, HostView};
 pub use replaying::replay;
 pub use tree::HostTree;

@@ -1,15 +1,14 @@
 // A tree of hosts.
-ghost use Rattle.std.specs.Prelude.{◌≡◌, ℕ, ◌+◌, ◌<◌, ◌≤◌, [], Some, None, true, false, length, is_some, OnOk};
+ghost use Rattle.std.specs.Prelude.{◌≡◌, ℕ, ◌+◌, ◌<◌, ◌≤◌, List, ◌∷◌, ◌++◌, [], Some, None, true, false, is_some, nat_eq, if◌then◌else◌, length, option_map, vec_len, IfSome, OnOk};
+ghost use Rattle.std.specs.Option.{option_copied};
 ghost use Rattle.rx_forest.specs.declared.op.HostOp.TheVariants as op;
-ghost use Rattle.rx_forest.specs.Forests.{Becomes, CanBeMade};
-ghost use Rattle.rx_host.specs.Kept.{children_kept, entry_of, forest_as, forest_kept, making, marking};
-ghost use Rattle.rx_host.specs.Steps.{Adopts, HasNoOtherChild, TakesOut};
+ghost use Rattle.rx_forest.specs.Forests.{Becomes, CanBeMade, is_among, placed, without};
+ghost use Rattle.rx_host.specs.Kept.{first_of, forest_kept, held_as, making, marking, no_hosts};
+ghost use Rattle.rx_host.specs.Steps.{Lifts};
 
-use crate::entry::{AttrEntry, HostEntry, HostKind};
-use crate::lists::{
-    forget_attr, forget_attrs, give_children, place_before, place_of, place_of_attr,
-    place_of_child, push_attr,
-};
+use crate::attrs::AttrList;
+use crate::entry::{HostKind, HostView};
+use crate::table::HostTable;
 use rx_base::{Name, Str};
 use rx_elem::AttrValue;
 use rx_forest::HostOp;
@@ -19,33 +18,37 @@ use std::marker::Model;
 /// The tree of hosts: what is shown. Hosts are known by their numbers, from 1; 0 is the container, which has children and
 /// is no host. Contracts see it as a forest, and as the room that it has.
 ///
-/// No operation takes memory. Some need room for one host or attribute more, and each uses at most that; `reserve` makes
-/// room.
+/// A host and its neighbours are found at once, whatever their number; an attribute is found among those of its host. No
+/// operation takes memory. Some need room for one host or attribute more, and each uses at most that; `reserve` makes room.
 #[derive(Drop)]
 pub struct HostTree {
-    hosts: Vec<HostEntry>,
-    attrs: Vec<AttrEntry>,
+    table: HostTable,
+    cells: Vec<Box<AttrList>>,
+    alloc: Global,
 }
 
 impl Model for HostTree {
-    ghost use Rattle.std.specs.Prelude.{◌-◌, min, vec_len, vec_capacity};
+    ghost use Rattle.std.specs.Prelude.{vec_len};
     ghost use Rattle.rx_host.specs.Kept.{Kept, IsSound};
 
     ghost Value = { Kept };
 
-    ghost view = { λ t. record { hosts = t.hosts.items; attrs = t.attrs.items; spare = min (vec_capacity t.hosts - vec_len t.hosts) (vec_capacity t.attrs - vec_len t.attrs) } };
+    ghost use Rattle.rx_host.specs.Linking.{kept_in};
 
-    ghost invariant = { λ t. IsSound t.hosts.items t.attrs.items };
+    ghost view = { λ t. kept_in t.table (vec_len t.cells) };
+
+    ghost invariant = { λ t. IsSound (kept_in t.table (vec_len t.cells)) };
 }
 
 impl HostTree {
     /// No host.
     pub fn new(alloc: Global) -> HostTree
-        ensures { forest_kept result ≡ forest_as [] [] }
+        ensures { forest_kept result ≡ no_hosts }
     {
         HostTree {
-            hosts: Vec::new(alloc),
-            attrs: Vec::new(alloc),
+            table: HostTable::new(alloc),
+            cells: Vec::new(alloc),
+            alloc,
         }
     }
 
@@ -55,8 +58,32 @@ impl HostTree {
         ensures same { forest_kept self.new ≡ forest_kept self.old }
         ensures kept { self.old.spare ≤ self.new.spare }
     {
-        self.hosts.reserve(operations as usize)?;
-        self.attrs.reserve(operations as usize)
+        self.table.reserve(operations)?;
+        fill(self.alloc, &mut self.cells, operations)
+    }
+
+    /// The first child of a host, or of the container.
+    pub fn first_child(&self, host: u64) -> Option<u64>
+        ensures { result ≡ first_of ((forest_kept self.now).children host) }
+    {
+        self.table.first_of(host)
+    }
+
+    /// The sibling behind a host.
+    pub fn next_sibling(&self, host: u64) -> Option<u64>
+        ensures { (p : ℕ) (before after : List ℕ) → (forest_kept self.now).children p ≡ before ++ host ∷ after → result ≡ first_of after }
+    {
+        self.table.after(host)
+    }
+
+    /// What is shown of a host.
+    pub fn view(&self, host: u64) -> Option<&HostView>
+        ensures { option_map held_as (option_copied result) ≡ (forest_kept self.now).held host }
+    {
+        match self.table.get(host) {
+            Some(entry) => Some(&entry.view),
+            None => None,
+        }
     }
 
     /// Makes a host, which stands nowhere yet and isn't marked.
@@ -66,13 +93,7 @@ impl HostTree {
         ensures made { Becomes (forest_kept self.old) (making host kind) (forest_kept self.new) }
         ensures spare { self.old.spare ≤ self.new.spare + 1 }
     {
-        let entry = HostEntry {
-            number: host,
-            parent: None,
-            hidden: false,
-            kind,
-        };
-        let _ = self.hosts.push(entry);
+        self.table.add(host, HostView::new(kind));
     }
 
     /// Places a host under a parent, before one of its other children.
@@ -102,42 +123,63 @@ impl HostTree {
         ensures made { Becomes (forest_kept self.old) (op.Place host parent before) (forest_kept self.new) }
         ensures spare { self.old.spare ≤ self.new.spare }
     {
-        let Some(from) = place_of(&self.hosts, host) else {
-            return;
-        };
-        let mut entry = self.hosts.remove(from);
-        entry.parent = Some(parent);
-        let to = place_before(&self.hosts, before);
-        let _ = self.hosts.insert(to, entry);
+        self.table.stand(host, parent, before);
     }
 
-    // Takes out one of a host's children, if there is one beside the host itself, and leaves its children to the host.
-    fn adopt(&mut self, host: u64) -> bool
-        ensures adopts { result ≡ true → Adopts (forest_kept self.old) host (forest_kept self.new) }
-        ensures fewer { result ≡ true → length self.new.hosts < length self.old.hosts }
-        ensures same { result ≡ false → self.new ≡ self.old }
-        ensures last { result ≡ false → HasNoOtherChild host (children_kept self.old.hosts host) }
-        ensures spare { self.old.spare ≤ self.new.spare }
+    // The first child of a host. It is held, and is a child of no other host.
+    fn child_of(&self, host: u64) -> Option<u64>
+        ensures first { result ≡ first_of ((forest_kept self.now).children host) }
+        ensures held { IfSome result (λ n. is_some ((forest_kept self.now).held n) ≡ true) }
+        ensures alone { IfSome result (λ n. (q : ℕ) → nat_eq q host ≡ false → is_among ((forest_kept self.now).children q) n ≡ false) }
     {
-        let Some(at) = place_of_child(&self.hosts, host) else {
-            return false;
-        };
-        let child = self.hosts.remove(at);
-        give_children(&mut self.hosts, child.number, host);
-        forget_attrs(&mut self.attrs, child.number);
-        true
+        self.table.first_of(host)
     }
 
-    // Takes out a host that has no other child.
-    fn take_out(&mut self, host: u64)
-        requires held { is_some (entry_of self.old.hosts host) ≡ true }
-        requires last { HasNoOtherChild host (children_kept self.old.hosts host) }
-        ensures takes { TakesOut (forest_kept self.old) host (forest_kept self.new) }
+    // Puts a host under a parent, behind its other children.
+    fn append_to(&mut self, parent: u64, host: u64)
+        requires held { is_some ((forest_kept self.old).held host) ≡ true }
+        requires parent { is_some ((forest_kept self.old).held parent) ≡ true }
+        ensures stands { forest_kept self.new ≡ placed (forest_kept self.old) host parent None }
+        ensures count { length self.new.entries ≡ length self.old.entries }
         ensures spare { self.old.spare ≤ self.new.spare }
     {
-        if let Some(at) = place_of(&self.hosts, host) {
-            let _ = self.hosts.remove(at);
-            forget_attrs(&mut self.attrs, host);
+        self.table.stand(host, parent, None);
+    }
+
+    // Takes a host out of where it stands.
+    fn detach(&mut self, host: u64)
+        ensures held { (forest_kept self.new).held ≡ (forest_kept self.old).held }
+        ensures children { (forest_kept self.new).children ≡ (λ q. without host ((forest_kept self.old).children q)) }
+        ensures count { length self.new.entries ≡ length self.old.entries }
+        ensures spare { self.old.spare ≤ self.new.spare }
+    {
+        self.table.detach(host);
+    }
+
+    // Drops a host that stands nowhere and has no children.
+    fn forget(&mut self, host: u64)
+        requires held { is_some ((forest_kept self.old).held host) ≡ true }
+        requires nowhere { (q : ℕ) → is_among ((forest_kept self.old).children q) host ≡ false }
+        requires childless { (forest_kept self.old).children host ≡ [] }
+        ensures held { (forest_kept self.new).held ≡ (λ m. if nat_eq m host then None else (forest_kept self.old).held m) }
+        ensures children { (forest_kept self.new).children ≡ (forest_kept self.old).children }
+        ensures count { length self.new.entries < length self.old.entries }
+        ensures spare { self.old.spare ≤ self.new.spare }
+    {
+        self.table.forget(host);
+    }
+
+    // Gives the children of a host to another one, behind its own.
+    fn lift_children(&mut self, child: u64, host: u64)
+        requires held { is_some ((forest_kept self.old).held host) ≡ true }
+        requires other { nat_eq child host ≡ false }
+        requires nowhere { (q : ℕ) → is_among ((forest_kept self.old).children q) host ≡ false }
+        ensures lifts { Lifts (forest_kept self.old) child host (forest_kept self.new) }
+        ensures count { length self.new.entries ≡ length self.old.entries }
+        ensures spare { self.old.spare ≤ self.new.spare }
+    {
+        'children: while let Some(grandchild) = self.child_of(child) {
+            self.append_to(host, grandchild);
         }
     }
 
@@ -147,8 +189,13 @@ impl HostTree {
         ensures made { Becomes (forest_kept self.old) (op.Remove host) (forest_kept self.new) }
         ensures spare { self.old.spare ≤ self.new.spare }
     {
-        'children: while self.adopt(host) {}
-        self.take_out(host);
+        self.detach(host);
+        'children: while let Some(child) = self.child_of(host) {
+            self.lift_children(child, host);
+            self.detach(child);
+            self.forget(child);
+        }
+        self.forget(host);
     }
 
     /// Marks a host as hidden, or takes the mark away.
@@ -157,10 +204,7 @@ impl HostTree {
         ensures made { Becomes (forest_kept self.old) (marking host hidden) (forest_kept self.new) }
         ensures spare { self.old.spare ≤ self.new.spare }
     {
-        if let Some(at) = place_of(&self.hosts, host) {
-            let entry = &mut self.hosts[at];
-            entry.hidden = hidden;
-        }
+        self.table.set_hidden(host, hidden);
     }
 
     /// Changes a text.
@@ -169,10 +213,7 @@ impl HostTree {
         ensures made { Becomes (forest_kept self.old) (op.SetText host text) (forest_kept self.new) }
         ensures spare { self.old.spare ≤ self.new.spare }
     {
-        if let Some(at) = place_of(&self.hosts, host) {
-            let entry = &mut self.hosts[at];
-            entry.set_kind(HostKind::Text(text));
-        }
+        self.table.set_letters(host, text);
     }
 
     /// Gives an attribute of an element its value.
@@ -182,15 +223,7 @@ impl HostTree {
         ensures made { Becomes (forest_kept self.old) (op.SetAttr host name value) (forest_kept self.new) }
         ensures spare { self.old.spare ≤ self.new.spare + 1 }
     {
-        match place_of_attr(&self.attrs, host, &name) {
-            Some(at) => {
-                let attr = &mut self.attrs[at];
-                attr.value = value;
-            }
-            None => {
-                push_attr(&mut self.attrs, AttrEntry { host, name, value });
-            }
-        }
+        self.table.set_attr(host, name, value, &mut self.cells);
     }
 
     /// Takes an attribute of an element away.
@@ -199,7 +232,7 @@ impl HostTree {
         ensures made { Becomes (forest_kept self.old) (op.UnsetAttr host name.now) (forest_kept self.new) }
         ensures spare { self.old.spare ≤ self.new.spare }
     {
-        forget_attr(&mut self.attrs, host, name);
+        self.table.unset_attr(host, name);
     }
 
     /// Does what an operation says.
@@ -225,4 +258,15 @@ impl HostTree {
             HostOp::Show(host) => self.set_hidden(host, false),
         }
     }
+}
+
+// Makes cells until there are so many.
+fn fill(alloc: Global, cells: &mut Vec<Box<AttrList>>, wanted: u64) -> Result<(), AllocError>
+    ensures room { OnOk result (wanted ≤ vec_len cells.new) }
+    ensures kept { vec_len cells.old ≤ vec_len cells.new }
+{
+    'cells: while (cells.len() as u64) < wanted {
+        cells.push(Box::new(alloc, AttrList::new())?)?;
+    }
+    Ok(())
 }
