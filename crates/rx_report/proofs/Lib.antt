@@ -1,2 +1,9 @@
 pub mod Joins
 pub mod PieceLists
+pub mod Walks
+pub mod ByName
+pub mod OneList
+pub mod Committed
+pub mod Going
+pub mod Progress
+pub mod Bounded

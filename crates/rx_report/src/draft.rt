@@ -35,6 +35,13 @@ impl Draft {
         }
     }
 
+    /// No number yet, in a list that takes its memory where the bytes do.
+    pub fn no_numbers(&self) -> Vec<u64>
+        ensures { result.items ≡ [] }
+    {
+        Vec::new(*self.bytes.allocator())
+    }
+
     /// All bytes so far.
     pub fn bytes(&self) -> &[u8]
         ensures { result.now ≡ self.now.done ++ self.now.begun }

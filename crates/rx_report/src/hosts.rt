@@ -1,13 +1,18 @@
 // Hosts, and the operations on them.
 ghost use Rattle.std.specs.Prelude.{◌≡◌, ◌++◌, ◌*◌, codes, flat_map, replicate, OnOk};
 ghost use Rattle.rx_base.specs.Values.{in_quotes};
-ghost use Rattle.rx_forest.specs.Hosts.{tag, letters};
+ghost use Rattle.rx_forest.specs.Forests.{held_of};
+ghost use Rattle.rx_forest.specs.Hosts.{Host};
+ghost use Rattle.rx_host.specs.Kept.{held_as};
+ghost use Rattle.rx_lines.specs.Lines.{Options};
 ghost use Rattle.rx_lines.specs.Lines as report;
+ghost use Rattle.rx_report.specs.TreeOrder.{IsByName};
 
 use crate::draft::Draft;
 use rx_base::{Name, Str};
 use rx_elem::{Attr, AttrValue};
 use rx_forest::HostOp;
+use rx_host::{AttrList, HostKind, HostView};
 use std::alloc::AllocError;
 
 impl Draft {
@@ -46,12 +51,14 @@ impl Draft {
     }
 
     // The attributes of a host.
-    fn put_attrs(&mut self, attrs: &[Attr]) -> Result<(), AllocError>
+    fn put_attrs(&mut self, attrs: &AttrList) -> Result<(), AllocError>
         ensures put { OnOk result (self.new.begun ≡ self.old.begun ++ flat_map (λ a. codes " " ++ a.name ++ codes "=" ++ report.value_text a.value) attrs.now) }
         ensures done { self.new.done ≡ self.old.done }
     {
-        'attrs: for attr in attrs {
+        let mut rest = attrs;
+        'attrs: while let Some((attr, behind)) = rest.first() {
             self.put_attr(attr)?;
+            rest = behind;
         }
         Ok(())
     }
@@ -78,23 +85,29 @@ impl Draft {
         Ok(())
     }
 
-    /// An element on its level, with its attributes.
-    pub fn put_element(&mut self, level: u64, name: &Name, attrs: &[Attr]) -> Result<(), AllocError>
-        ensures put { OnOk result (self.new.begun ≡ self.old.begun ++ replicate (2 * level) 32 ++ report.content_text (tag name.now attrs.now)) }
+    // What a host is: an element with its attributes, or a text.
+    fn put_content(&mut self, host: &HostView) -> Result<(), AllocError>
+        ensures put { (h : Host) → held_as host.now ≡ held_of h → IsByName h.content → OnOk result (self.new.begun ≡ self.old.begun ++ report.content_text h.content) }
         ensures done { self.new.done ≡ self.old.done }
     {
-        self.put_level(level)?;
-        self.put_name(name)?;
-        self.put_attrs(attrs)
+        match host.kind() {
+            HostKind::Element(name) => {
+                self.put_name(name)?;
+                self.put_attrs(host.attrs())
+            }
+            HostKind::Text(text) => self.put_quoted(text),
+        }
     }
 
-    /// A text on its level.
-    pub fn put_letters(&mut self, level: u64, text: &Str) -> Result<(), AllocError>
-        ensures put { OnOk result (self.new.begun ≡ self.old.begun ++ replicate (2 * level) 32 ++ report.content_text (letters text.now)) }
+    /// The line of a host on its level.
+    pub fn put_view_line(&mut self, level: u64, host: &HostView) -> Result<(), AllocError>
+        ensures put { (o : Options) (h : Host) → held_as host.now ≡ held_of h → IsByName h.content → OnOk result (self.new.begun ≡ self.old.begun ++ report.line_bytes o (report.tree_host level h)) }
         ensures done { self.new.done ≡ self.old.done }
     {
         self.put_level(level)?;
-        self.put_quoted(text)
+        self.put_content(host)?;
+        self.put_hidden(host.is_hidden())?;
+        self.put(b"\n")
     }
 
     // A placement.

@@ -1,16 +1,20 @@
 // Whole lines, each with its end.
-ghost use Rattle.std.specs.Prelude.{◌≡◌, [], ◌∷◌, ◌++◌, ◌*◌, ◌&&◌, nat_eq, map, replicate, OnOk};
+ghost use Rattle.std.specs.Prelude.{◌≡◌, List, [], ◌∷◌, ◌++◌, ◌&&◌, nat_eq, map, OnOk};
 ghost use Rattle.std.specs.List.{zip};
 ghost use Rattle.rx_elem.specs.Trees.{Node};
-ghost use Rattle.rx_forest.specs.Hosts.{tag, letters};
+ghost use Rattle.rx_forest.specs.Forests.{forest_of};
+ghost use Rattle.rx_forest.specs.Hosts.{Host};
+ghost use Rattle.rx_host.specs.Kept.{forest_kept};
 ghost use Rattle.rx_lane.specs.Lanes.{has, is_empty, lanes_where};
+ghost use Rattle.rx_lines.specs.Lines.{Options};
 ghost use Rattle.rx_lines.specs.Lines as report;
+ghost use Rattle.rx_report.specs.TreeOrder.{AreInTreeOrder};
 
 use crate::draft::Draft;
 use rx_base::{Int, Name, Str};
 use rx_effect::LogLine;
-use rx_elem::Attr;
 use rx_forest::HostOp;
+use rx_host::HostTree;
 use rx_lane::Lanes;
 use std::alloc::AllocError;
 
@@ -70,6 +74,15 @@ impl Draft {
         self.put_quoted(&line.label)?;
         self.put_values(line.values.as_slice())?;
         self.put(b"\n")
+    }
+
+    /// The tree of hosts: its head, and a line for each host, in tree order.
+    pub fn put_tree_lines(&mut self, hosts: &HostTree) -> Result<(), AllocError>
+        ensures put { (o : Options) (all : List Host) → AreInTreeOrder all → forest_kept hosts.now ≡ forest_of all → OnOk result (self.new.begun ≡ self.old.begun ++ report.report_bytes o (report.tree_lines all)) }
+        ensures done { self.new.done ≡ self.old.done }
+    {
+        self.put(b"tree\n")?;
+        self.put_host_lines(hosts)
     }
 
     /// A deferred render.
@@ -138,37 +151,6 @@ impl Draft {
         self.put(b" ")?;
         self.put_name(name)?;
         self.put_hooks(hooks, values)?;
-        self.put_hidden(hidden)?;
-        self.put(b"\n")
-    }
-
-    /// An element of the host on its level.
-    pub fn put_element_line(
-        &mut self,
-        level: u64,
-        name: &Name,
-        attrs: &[Attr],
-        hidden: bool,
-    ) -> Result<(), AllocError>
-        ensures put { OnOk result (self.new.begun ≡ self.old.begun ++ (replicate (2 * level) 32 ++ report.content_text (tag name.now attrs.now) ++ report.hidden_text hidden) ++ 10 ∷ []) }
-        ensures done { self.new.done ≡ self.old.done }
-    {
-        self.put_element(level, name, attrs)?;
-        self.put_hidden(hidden)?;
-        self.put(b"\n")
-    }
-
-    /// A text of the host on its level.
-    pub fn put_letters_line(
-        &mut self,
-        level: u64,
-        text: &Str,
-        hidden: bool,
-    ) -> Result<(), AllocError>
-        ensures put { OnOk result (self.new.begun ≡ self.old.begun ++ (replicate (2 * level) 32 ++ report.content_text (letters text.now) ++ report.hidden_text hidden) ++ 10 ∷ []) }
-        ensures done { self.new.done ≡ self.old.done }
-    {
-        self.put_letters(level, text)?;
         self.put_hidden(hidden)?;
         self.put(b"\n")
     }

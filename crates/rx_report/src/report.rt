@@ -1,16 +1,19 @@
 // A report that grows line by line.
-ghost use Rattle.std.specs.Prelude.{◌≡◌, ℕ, [], take, length, map, OnOk, OnErr};
+ghost use Rattle.std.specs.Prelude.{◌≡◌, List, [], ◌++◌, take, length, map, OnOk, OnErr};
 ghost use Rattle.std.specs.List.{zip};
 ghost use Rattle.rx_elem.specs.Trees.{Node};
-ghost use Rattle.rx_forest.specs.Hosts.{tag, letters};
+ghost use Rattle.rx_forest.specs.Forests.{forest_of};
+ghost use Rattle.rx_forest.specs.Hosts.{Host};
+ghost use Rattle.rx_host.specs.Kept.{forest_kept};
 ghost use Rattle.rx_lane.specs.Lanes.{has, lanes_where};
 ghost use Rattle.rx_lines.specs.Lines as report;
+ghost use Rattle.rx_report.specs.TreeOrder.{AreInTreeOrder};
 
 use crate::draft::Draft;
 use rx_base::{Int, Name, Str};
 use rx_effect::LogLine;
-use rx_elem::Attr;
 use rx_forest::HostOp;
+use rx_host::HostTree;
 use rx_lane::Lanes;
 use std::alloc::{AllocError, Global};
 use std::marker::Model;
@@ -169,39 +172,14 @@ impl Report {
         self.draft.end(written)
     }
 
-    /// The head of the lines of all hosts.
-    pub fn tree_head(&mut self) -> Result<(), AllocError>
-        ensures written { OnOk result (self.new ≡ report.with_line self.old report.tree_head) }
+    /// The tree of hosts, where hosts in tree order are what it stands for: its head, and a line for each of them, two spaces
+    /// further in for each level, with its attributes by name.
+    pub fn tree_lines(&mut self, hosts: &HostTree) -> Result<(), AllocError>
+        ensures written { (all : List Host) → AreInTreeOrder all → forest_kept hosts.now ≡ forest_of all → OnOk result (self.new ≡ record { options = self.old.options; bytes = self.old.bytes ++ report.report_bytes self.old.options (report.tree_lines all) }) }
         ensures unchanged { OnErr result (self.new ≡ self.old) }
     {
         self.draft.begin();
-        let written = self.draft.put(b"tree\n");
-        self.draft.end(written)
-    }
-
-    /// An element of the host on its level, from 1, with its attributes by name. Neither its number nor its parent shows.
-    pub fn element_line(
-        &mut self,
-        level: u64,
-        name: &Name,
-        attrs: &[Attr],
-        hidden: bool,
-    ) -> Result<(), AllocError>
-        ensures written { (number parent : ℕ) → OnOk result (self.new ≡ report.with_line self.old (report.tree_host level (record { number = number; parent = parent; hidden = hidden; content = tag name.now attrs.now }))) }
-        ensures unchanged { OnErr result (self.new ≡ self.old) }
-    {
-        self.draft.begin();
-        let written = self.draft.put_element_line(level, name, attrs, hidden);
-        self.draft.end(written)
-    }
-
-    /// A text of the host on its level, from 1. Neither its number nor its parent shows.
-    pub fn text_line(&mut self, level: u64, text: &Str, hidden: bool) -> Result<(), AllocError>
-        ensures written { (number parent : ℕ) → OnOk result (self.new ≡ report.with_line self.old (report.tree_host level (record { number = number; parent = parent; hidden = hidden; content = letters text.now }))) }
-        ensures unchanged { OnErr result (self.new ≡ self.old) }
-    {
-        self.draft.begin();
-        let written = self.draft.put_letters_line(level, text, hidden);
+        let written = self.draft.put_tree_lines(hosts);
         self.draft.end(written)
     }
 

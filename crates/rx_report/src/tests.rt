@@ -2,8 +2,8 @@
 use crate::report::Report;
 use rx_base::{Int, Ints, Name, Str};
 use rx_effect::LogLine;
-use rx_elem::{Attr, AttrValue};
 use rx_forest::HostOp;
+use rx_host::HostTree;
 use rx_lane::{Lane, Lanes};
 use std::test::Fail;
 
@@ -78,17 +78,10 @@ fn an_instance_with_a_hook(rt: HostRuntime) -> Result<(), Fail> {
 }
 
 #[test]
-fn hosts_on_their_levels(rt: HostRuntime) -> Result<(), Fail> {
+fn a_tree_without_hosts(rt: HostRuntime) -> Result<(), Fail> {
     let mut report = Report::new(rt.alloc(), false, false);
-    let attr = Attr {
-        name: Name::new(rt.alloc(), "x")?,
-        value: AttrValue::Number(Int::of(1)),
-    };
-    let attrs = vec![in rt.alloc(); attr]?;
-    report.tree_head()?;
-    report.element_line(1, &Name::new(rt.alloc(), "b")?, &attrs, true)?;
-    report.text_line(2, &Str::new(rt.alloc(), "t")?, false)?;
-    assert!(rt; report.bytes() == b"tree\n  b x=1 hidden\n    \"t\"\n".as_slice());
+    report.tree_lines(&HostTree::new(rt.alloc()))?;
+    assert!(rt; report.bytes() == b"tree\n".as_slice());
     Ok(())
 }
 
