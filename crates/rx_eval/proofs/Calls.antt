@@ -99,3 +99,13 @@ pub operand_size : (ls : List Link) (i : ℕ) (l : Link) → i < length ls → e
 operand_size [] i l h = absurd (omega arith)
 operand_size (m ∷ ls) zero l h = omega arith
 operand_size (m ∷ ls) (suc i) l h = omega (arith, operand_size ls i l (omega arith))
+
+no_values : (ps : List Name) → zip {X = ℤ} ps [] ≡ []
+no_values [] = refl
+no_values (p ∷ ps) = refl
+
+-- the first two parameters have the values of two arguments
+pub two_bound : (ps : List Name) (a b : Name) (x y : ℤ) → 2 ≤ length ps → a ≡ get_or ps 0 a → b ≡ get_or ps 1 b → zip ps (x ∷ y ∷ []) ≡ (a, x) ∷ (b, y) ∷ []
+two_bound [] a b x y h e f = absurd (omega arith)
+two_bound (p ∷ []) a b x y h e f = absurd (omega arith)
+two_bound (p ∷ q ∷ ps) a b x y h e f = rw (e, f, no_values ps) refl

@@ -1,0 +1,18 @@
+-- What a body is evaluated from and what it gives, as the definitions have them.
+use Rattle.std.specs.Prelude.{List, [], ◌∷◌, ◌≡◌, ◌≤◌, Some, None, Option, option_map, length}
+use Rattle.std.specs.Option.{option_copied, option_map_or}
+use Rattle.rx_ast.specs.Syntax as syntax
+use Rattle.rx_meaning.specs.Expressions.{Env}
+use Rattle.rx_meaning.specs.Body as body
+use Rattle.rx_eval.specs.declared.inputs.Inputs.{Inputs}
+
+-- the inputs of a body
+abbrev pub inputs_of : Inputs → body.Inputs
+inputs_of i =
+    record {
+      props = i.props.now;
+      children = i.children.now;
+      hooks = option_copied i.hooks;
+      contexts = i.contexts.now;
+      resources = i.resources.now;
+    }
