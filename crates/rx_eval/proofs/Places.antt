@@ -6,7 +6,7 @@ use Rattle.std.proofs.Common.{sym, ◌∙◌, ap, subst, arith}
 use Rattle.std.proofs.lemmas.List.{take_more}
 use Rattle.std.proofs.lemmas.List.FromFn.{map-range_with_len_more}
 use Rattle.rx_base.specs.Values.{Name}
-use Rattle.rx_ast.specs.Syntax.{Slot, slots_of, Program}
+use Rattle.rx_ast.specs.Syntax.{Slot, Slots, no_slots, slot, slots, slots_of, Program}
 use Rattle.rx_ast.specs.Depth.{slot_depth, slots_depth}
 use Rattle.rx_elem.specs.Elements.{Element}
 use Rattle.rx_meaning.specs.Expressions.{Env}
@@ -18,6 +18,11 @@ pub slot_depth-get_or : (ss : List Slot) (i : ℕ) (d : Slot) → i < length ss 
 slot_depth-get_or [] i d h = absurd (omega arith)
 slot_depth-get_or (s ∷ ss) zero d h = omega arith
 slot_depth-get_or (s ∷ ss) (suc i) d h = omega (arith, slot_depth-get_or ss i d (omega arith))
+
+-- the plain data of the list of slots is the slots
+pub slots_of_slots : (ss : Slots) → slots_of (slots ss) ≡ ss
+slots_of_slots no_slots = refl
+slots_of_slots (slot s ss) = ap (λ l. slot s l) (slots_of_slots ss)
 
 -- what is known of the loops of a child list is known of each place
 pub short-get_or : (ss : List Slot) (i : ℕ) (s : Slot) → i < length ss → s ≡ get_or ss i s → HaveShortLoops (slots_of ss) → HasShortLoops s

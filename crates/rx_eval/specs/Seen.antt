@@ -1,8 +1,5 @@
--- What a body is evaluated from and what it gives, as the definitions have them.
-use Rattle.std.specs.Prelude.{List, [], ◌∷◌, ◌≡◌, ◌≤◌, Some, None, Option, option_map, length}
-use Rattle.std.specs.Option.{option_copied, option_map_or}
-use Rattle.rx_ast.specs.Syntax as syntax
-use Rattle.rx_meaning.specs.Expressions.{Env}
+-- What a body is evaluated from, as the definitions have them.
+use Rattle.std.specs.Option.{option_copied}
 use Rattle.rx_meaning.specs.Body as body
 use Rattle.rx_eval.specs.declared.inputs.Inputs.{Inputs}
 

@@ -1,10 +1,11 @@
 // What statements give, one at a time.
-ghost use Rattle.std.specs.Prelude.{◌≡◌, ◌+◌, ◌<◌, ◌^◌, [], None, IfOk, map, option_copied, slice_index_or, pos};
+ghost use Rattle.std.specs.Prelude.{◌≡◌, ◌+◌, ◌<◌, ◌^◌, [], ◌∷◌, Some, None, IfOk, MatchOption, map, option_copied, slice_index_or, pos};
+ghost use Rattle.rx_base.specs.Values.{Name as Bytes};
 ghost use Rattle.rx_meaning.specs.Expressions.{Env as Values, value_in};
 ghost use Rattle.rx_meaning.specs.Body.{take_one, taken, with_hook, with_read, with_resource, with_effect};
 ghost use Rattle.rx_eval.specs.declared.statements.Gathered.{Gathered as Parts};
 ghost use Rattle.rx_eval.specs.Seen.{inputs_of};
-ghost use Rattle.rx_eval.specs.Steps.{frame_of, step_taken};
+ghost use Rattle.rx_eval.specs.Steps.{frame_of, name_in, step_taken};
 
 use crate::env::Env;
 use crate::evaluator::Evaluator;
@@ -26,11 +27,10 @@ pub(crate) struct Gathered {
 }
 
 /// What a statement does, beside what it gathers.
-pub(crate) enum Step<'a> {
-    /// A name has a value from here on.
-    Bind(&'a Name, Int),
-    /// No name has.
-    Pass,
+#[derive(Clone, Copy, Debug, PartialEq, Eq)]
+pub(crate) enum Step {
+    /// The next statement is taken: the value of the name that this one binds, 0 where it binds none.
+    Value(Int),
     /// The body waits for a resource.
     Wait(u32),
 }
@@ -51,39 +51,29 @@ impl Gathered {
         }
     }
 
-    /// One more hook that keeps a state (react.dev, useState): at mount it has its initial value, later its state.
-    fn hook<'a>(
-        &mut self,
-        states: Option<&[Int]>,
-        name: &'a Name,
-        initial: Int,
-    ) -> Result<Step<'a>, AllocError>
+    /// The value of one more hook that keeps a state (react.dev, useState): at mount its initial value, later its state.
+    fn hook(&mut self, states: Option<&[Int]>, initial: Int) -> Result<Int, AllocError>
         requires { self.old.hooks + 1 < 2 ^ 64 }
-        ensures gives { (env : Values) → IfOk result (λ s. step_taken env self.new s ≡ taken (with_hook (option_copied states.entry) name.now initial (frame_of env self.old))) }
+        ensures { (env : Values) (name : Bytes) → IfOk result (λ x. frame_of ((name, x) ∷ env) self.new ≡ with_hook (option_copied states.entry) name initial (frame_of env self.old)) }
     {
         let number = self.hooks;
         self.hooks = number + 1;
         match states {
             None => {
                 self.initials.push(initial)?;
-                Ok(Step::Bind(name, initial))
+                Ok(initial)
             }
-            Some(states) => Ok(Step::Bind(name, number_at(states, number))),
+            Some(states) => Ok(number_at(states, number)),
         }
     }
 
-    /// A context that is read, and its value (react.dev, useContext).
-    fn read<'a>(
-        &mut self,
-        contexts: &[Int],
-        name: &'a Name,
-        context: u32,
-    ) -> Result<Step<'a>, AllocError>
-        ensures gives { (env : Values) → IfOk result (λ s. step_taken env self.new s ≡ taken (with_read name.now context (slice_index_or contexts.now context (pos 0)) (frame_of env self.old))) }
+    /// The value of a context that is read (react.dev, useContext).
+    fn read(&mut self, contexts: &[Int], context: u32) -> Result<Int, AllocError>
+        ensures { (env : Values) (name : Bytes) → IfOk result (λ x. frame_of ((name, x) ∷ env) self.new ≡ with_read name context (slice_index_or contexts.now context (pos 0)) (frame_of env self.old)) }
     {
         let value = number_at(contexts, context as usize);
         self.reads.push(ContextRead { context, value })?;
-        Ok(Step::Bind(name, value))
+        Ok(value)
     }
 
     /// An effect with the values of its dependencies (react.dev, useEffect).
@@ -94,7 +84,7 @@ impl Gathered {
         label: &Name,
         values: Ints,
     ) -> Result<(), AllocError>
-        ensures gives { (env : Values) → IfOk result (λ _. frame_of env self.new ≡ with_effect (record { layout = layout; label = label.now; values = values }) (frame_of env self.old)) }
+        ensures { (env : Values) → IfOk result (λ _. frame_of env self.new ≡ with_effect (record { layout = layout; label = label.now; values = values }) (frame_of env self.old)) }
     {
         let label = Str::new(alloc, label.text())?;
         self.effects.push(EffectRecord {
@@ -117,12 +107,26 @@ fn number_at(values: &[Int], place: usize) -> Int
 }
 
 /// What reading a resource does (react.dev, use): the body waits unless the resource has a value.
-fn resource_read<'a>(resources: &[Option<Int>], name: &'a Name, resource: u32) -> Step<'a>
-    ensures { (env : Values) (g : Parts) → step_taken env g result ≡ with_resource name.now resource (slice_index_or resources.now resource None) (frame_of env g) }
+fn resource_read(resources: &[Option<Int>], resource: u32) -> Step
+    ensures { (env : Values) (g : Parts) (name : Bytes) → step_taken (Some name) env g result ≡ with_resource name resource (slice_index_or resources.now resource None) (frame_of env g) }
 {
     match resources.get(resource as usize) {
-        Some(Some(value)) => Step::Bind(name, *value),
+        Some(Some(value)) => Step::Value(*value),
         _ => Step::Wait(resource),
+    }
+}
+
+/// The name that a statement binds, if it binds one.
+pub(crate) fn name_of(statement: &Statement) -> Option<&Name>
+    ensures { MatchOption result (name_in statement.now ≡ None) (λ x. name_in statement.now ≡ Some x.now) }
+{
+    match &statement.kind {
+        StatementKind::State { name, .. } => Some(name),
+        StatementKind::Reducer { name, .. } => Some(name),
+        StatementKind::Context { name, .. } => Some(name),
+        StatementKind::Resource { name, .. } => Some(name),
+        StatementKind::Constant { name, .. } => Some(name),
+        StatementKind::Effect { .. } => None,
     }
 }
 
@@ -143,34 +147,35 @@ fn values_of(
 }
 
 /// Takes one statement.
-pub(crate) fn take<'a>(
+pub(crate) fn take(
     alloc: Global,
     evaluator: &Evaluator,
     inputs: &Inputs,
     env: &Env,
-    statement: &'a Statement,
+    statement: &Statement,
     gathered: &mut Gathered,
-) -> Result<Step<'a>, AllocError>
+) -> Result<Step, AllocError>
     requires { gathered.old.hooks + 1 < 2 ^ 64 }
-    ensures { IfOk result (λ s. step_taken env.now gathered.new s ≡ take_one evaluator.now (inputs_of inputs.now) statement.now (frame_of env.now gathered.old)) }
+    ensures { IfOk result (λ s. step_taken (name_in statement.now) env.now gathered.new s ≡ take_one evaluator.now (inputs_of inputs.now) statement.now (frame_of env.now gathered.old)) }
 {
     match &statement.kind {
-        StatementKind::State { name, initial, .. } => {
-            gathered.hook(inputs.hooks, name, evaluator.value(env, initial))
+        StatementKind::State { initial, .. } => {
+            let initial = evaluator.value(env, initial);
+            Ok(Step::Value(gathered.hook(inputs.hooks, initial)?))
         }
-        StatementKind::Reducer { name, initial, .. } => {
-            gathered.hook(inputs.hooks, name, evaluator.value(env, initial))
+        StatementKind::Reducer { initial, .. } => {
+            let initial = evaluator.value(env, initial);
+            Ok(Step::Value(gathered.hook(inputs.hooks, initial)?))
         }
-        StatementKind::Context { name, source } => {
-            gathered.read(inputs.contexts, name, evaluator.context(source))
+        StatementKind::Context { source, .. } => {
+            let context = evaluator.context(source);
+            Ok(Step::Value(gathered.read(inputs.contexts, context)?))
         }
-        StatementKind::Resource { name, resource } => {
+        StatementKind::Resource { resource, .. } => {
             let resource = evaluator.resource(resource);
-            Ok(resource_read(inputs.resources, name, resource))
+            Ok(resource_read(inputs.resources, resource))
         }
-        StatementKind::Constant { name, value } => {
-            Ok(Step::Bind(name, evaluator.value(env, value)))
-        }
+        StatementKind::Constant { value, .. } => Ok(Step::Value(evaluator.value(env, value))),
         StatementKind::Effect {
             layout,
             label,
@@ -178,7 +183,7 @@ pub(crate) fn take<'a>(
         } => {
             let values = values_of(alloc, evaluator, env, dependencies)?;
             gathered.effect(alloc, *layout, label, values)?;
-            Ok(Step::Pass)
+            Ok(Step::Value(Int::of(0)))
         }
     }
 }
