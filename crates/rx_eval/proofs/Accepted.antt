@@ -79,9 +79,10 @@ mutual
       let behind = among-right (expr_mentions s.values e) (mention.Counted count.List limit ∷ slot_mentions (bound s i) false item) all (λ m k. h m (inr k)) in
       (short limit (behind (mention.Counted count.List limit) (inl refl)), slot-short all short (bound s i) false item (λ m k. behind m (inr k)))
   slot-short all short s second (syntax.choice c a b) h =
-      let behind = among-right (expr_mentions s.values c) (slot_mentions s second a ++ slot_mentions s second b) all h in
-      (slot-short all short s second a (among-left (slot_mentions s second a) (slot_mentions s second b) all behind),
-        slot-short all short s second b (among-right (slot_mentions s second a) (slot_mentions s second b) all behind))
+      let behind = among-right (expr_mentions s.values c) (slot_mentions s second a ++ slot_mentions s second b) all h in (
+        slot-short all short s second a (among-left (slot_mentions s second a) (slot_mentions s second b) all behind),
+        slot-short all short s second b (among-right (slot_mentions s second a) (slot_mentions s second b) all behind),
+      )
   slot-short all short s second (syntax.host n attrs w ss) h =
       slots-short all short s false ss (among-right (attributes_mentions s.values (taken_first second) attrs) (slots_mentions s false ss) all (λ m k. h m (inr (inr k))))
   slot-short all short s second (syntax.comp n attrs w ss) h =
@@ -89,9 +90,10 @@ mutual
   slot-short all short s second (syntax.boundary k f w ss) h =
       let first = first_key_mentions s.values second k in
       let last = last_key_mentions s.values second k in
-      let own = first ++ (slot_mentions s false f ++ last) in
-      (slot-short all short s false f (among-left (slot_mentions s false f) last all (among-right first (slot_mentions s false f ++ last) all (among-left own (slots_mentions s false ss) all h))),
-        slots-short all short s false ss (among-right own (slots_mentions s false ss) all h))
+      let own = first ++ (slot_mentions s false f ++ last) in (
+        slot-short all short s false f (among-left (slot_mentions s false f) last all (among-right first (slot_mentions s false f ++ last) all (among-left own (slots_mentions s false ss) all h))),
+        slots-short all short s false ss (among-right own (slots_mentions s false ss) all h),
+      )
   slot-short all short s second (syntax.provider n k e w ss) h =
       slots-short all short s false ss
       (among-right (first_key_mentions s.values second k ++ (expr_mentions s.values e ++ last_key_mentions s.values second k)) (slots_mentions s false ss) all (λ m i. h m (inr i)))
@@ -99,9 +101,10 @@ mutual
 
   slots-short : (all : List Mention) → Short all → (s : Scope) (second : Bool) (ts : Slots) → Among (slots_mentions s second ts) all → HaveShortLoops ts
   slots-short all short s second syntax.no_slots h = tt
-  slots-short all short s second (syntax.slot t ts) h =
-      (slot-short all short s second t (among-left (slot_mentions s second t) (slots_mentions s (second || carries_key t) ts) all h),
-        slots-short all short s (second || carries_key t) ts (among-right (slot_mentions s second t) (slots_mentions s (second || carries_key t) ts) all h))
+  slots-short all short s second (syntax.slot t ts) h = (
+    slot-short all short s second t (among-left (slot_mentions s second t) (slots_mentions s (second || carries_key t) ts) all h),
+    slots-short all short s (second || carries_key t) ts (among-right (slot_mentions s second t) (slots_mentions s (second || carries_key t) ts) all h),
+  )
 
 -- the mentions of a component stand among those of the declarations
 component-In : (ds : List Declaration) (taken : List Name) (i : ℕ) (c : Component) (m : Mention) → slice_get (filter_map as_component ds) i ≡ Some c → IsIn m (component_mentions c) → IsIn m (declarations_mentions taken ds)

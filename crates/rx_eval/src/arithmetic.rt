@@ -36,20 +36,8 @@ pub(crate) fn between_operands(operator: Operator, x: Int, y: Int) -> Int
     ensures { result ≡ between_operands w32 operator x y }
 {
     match operator {
-        Operator::Or => {
-            if is_zero(x) {
-                y
-            } else {
-                x
-            }
-        }
-        Operator::And => {
-            if is_zero(x) {
-                x
-            } else {
-                y
-            }
-        }
+        Operator::Or => { if is_zero(x) { y } else { x } }
+        Operator::And => { if is_zero(x) { x } else { y } }
         Operator::Equal => truth(x.same(y)),
         Operator::NotEqual => truth(!x.same(y)),
         Operator::Less => truth(x.less(y)),

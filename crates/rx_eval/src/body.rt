@@ -157,7 +157,13 @@ fn with_props(
         None => {
             let statements = component.statements();
             let _few = statements.len();
-            follow(scene, bound, statements, returned, Gathered::new(scene.alloc))
+            follow(
+                scene,
+                bound,
+                statements,
+                returned,
+                Gathered::new(scene.alloc),
+            )
         }
         Some((parameter, before)) => match &parameter.kind {
             ParameterKind::Children => with_props(scene, component, returned, before, props, bound),
@@ -190,7 +196,14 @@ fn body_at(
         inputs,
     };
     let nothing = Env::new();
-    with_props(&scene, component, returned, component.parameters(), inputs.props, &nothing)
+    with_props(
+        &scene,
+        component,
+        returned,
+        component.parameters(),
+        inputs.props,
+        &nothing,
+    )
 }
 
 /// The initial values of a component's hooks, where its statements do not wait.

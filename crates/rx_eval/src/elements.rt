@@ -89,11 +89,7 @@ pub(crate) fn element(
             }
         }
         SlotKind::Element(written) | SlotKind::Enclosed(written) => written_element(
-            alloc,
-            evaluator,
-            children,
-            env,
-            written,
+            alloc, evaluator, children, env, written,
         ),
     }
 }
@@ -152,7 +148,11 @@ fn written_element(
             let fallback = element(alloc, evaluator, children, env, fallback)?;
             ElementKind::Boundary(key_value(evaluator, env, key.value()), fallback, inner)
         }
-        Tag::Provider { context, key, value } => {
+        Tag::Provider {
+            context,
+            key,
+            value,
+        } => {
             let context = evaluator.context(context);
             let key = key_value(evaluator, env, key.value());
             ElementKind::Provider(context, key, evaluator.value(env, value), inner)

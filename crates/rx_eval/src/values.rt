@@ -85,7 +85,14 @@ fn call(checked: &Checked, nesting: usize, env: &Env, name: &Name, arguments: &[
         None => Int::of(0),
         Some(function) => {
             let count = function.parameters().len().min(arguments.len());
-            with_arguments(checked, nesting, env, function, &arguments[..count], &Env::new())
+            with_arguments(
+                checked,
+                nesting,
+                env,
+                function,
+                &arguments[..count],
+                &Env::new(),
+            )
         }
     }
 }

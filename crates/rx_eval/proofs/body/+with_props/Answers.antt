@@ -23,9 +23,10 @@ pub with_props-requires-in-Some-split_last : goal.with_props-requires-in-Some-sp
 with_props-requires-in-Some-split_last t c =
     let some : integer_in c.in-Some.parameter.now ≡ Some c.in-Integer.name = rw (← c.parameter.view_is, c.in-Integer.is) refl in
     let more : length (filter_map integer_in c.args.parameters.now) ≡ length (filter_map integer_in c.in-Some.before.now) + 1 =
-    count_with c.args.parameters.now c.in-Some.before.now c.in-Some.parameter.now c.in-Integer.name c.in-Some.ensures.cases.0 some in
-    (omega (arith, c.decreases, c.in-Some.ensures.cases.1),
-      (c.requires.short, omega (arith, more, c.requires.given, c.in-Some-split_last.ensures.cases.1)))
+    count_with c.args.parameters.now c.in-Some.before.now c.in-Some.parameter.now c.in-Integer.name c.in-Some.ensures.cases.0 some in (
+      omega (arith, c.decreases, c.in-Some.ensures.cases.1),
+      (c.requires.short, omega (arith, more, c.requires.given, c.in-Some-split_last.ensures.cases.1)),
+    )
 
 pub returns-in-Children : goal.returns-in-Children
 returns-in-Children t c =

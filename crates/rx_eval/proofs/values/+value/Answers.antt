@@ -20,18 +20,23 @@ pub call-with_arguments-requires : goal.call-with_arguments-requires
 call-with_arguments-requires t c =
     let es = c.args.arguments.now in
     let n = c.min-count.result in
-    let count : n ≡ min (length c.in-Some.function.now.parameters) (length es) = rw (← c.parameters.ensures) c.min-count.ensures in
-    (omega (arith, c.decreases, exprs_size-take es n),
-      (omega arith,
-        (named-contained c.args.checked.now c.args.name.now c.in-Some.function.now c.in-Some.ensures,
-          omega (arith, count, length-take n es))))
+    let count : n ≡ min (length c.in-Some.function.now.parameters) (length es) = rw (← c.parameters.ensures) c.min-count.ensures in (
+      omega (arith, c.decreases, exprs_size-take es n),
+      (
+        omega arith,
+        (
+          named-contained c.args.checked.now c.args.name.now c.in-Some.function.now c.in-Some.ensures,
+          omega (arith, count, length-take n es),
+        ),
+      ),
+    )
 
 pub call-returns-in-Some : goal.call-returns-in-Some
 call-returns-in-Some t c =
     let count : c.min-count.result ≡ min (length c.in-Some.function.now.parameters) (length c.args.arguments.now) = rw (← c.parameters.ensures) c.min-count.ensures in
     rw c.new.ensures at c.with_arguments.ensures
     ∙ call-answer c.args.nesting c.args.checked.now c.args.name.now c.in-Some.function.now c.args.env.now c.args.arguments.now (take c.min-count.result c.args.arguments.now) c.min-count.result
-      (omega arith) c.in-Some.ensures count refl
+    (omega arith) c.in-Some.ensures count refl
 
 pub with_arguments-after_lines-requires : goal.with_arguments-after_lines-requires
 with_arguments-after_lines-requires t c =
@@ -58,7 +63,7 @@ with_arguments-returns-in-Some t c =
     let f = c.args.function.now in
     let x = c.index-parameters-before.result in
     let more : zip (take (length c.args.arguments.now) f.parameters) (values w32 calls c.args.env.now (exprs_of c.args.arguments.now)) ++ c.args.bound.now
-      ≡ zip (take (length c.in-Some.before.now) f.parameters) (values w32 calls c.args.env.now (exprs_of c.in-Some.before.now)) ++ c.with-bound.result =
+    ≡ zip (take (length c.in-Some.before.now) f.parameters) (values w32 calls c.args.env.now (exprs_of c.in-Some.before.now)) ++ c.with-bound.result =
     rw (c.with-bound.ensures, c.value-argument.ensures)
     (bound_more w32 calls c.args.env.now f.parameters c.args.arguments.now c.in-Some.before.now c.in-Some.argument.now x c.args.bound.now c.in-Some.ensures.cases.0 c.requires.within
     (rw (← c.parameters.ensures) c.index-parameters-before.is)) in
