@@ -1,0 +1,23 @@
+-- What a body gives, as the definitions have it.
+use Rattle.std.specs.Prelude.{List, ℤ, Option, Some, None}
+use Rattle.std.specs.Borrow.{Bor}
+use Rattle.rx_ast.specs.Syntax as syntax
+use Rattle.rx_ast.specs.Syntax.{Slots, no_slots, body_slots}
+use Rattle.rx_meaning.specs.Body as body
+use Rattle.rx_eval.specs.declared.body.Body.{Body}
+use Rattle.rx_eval.specs.declared.body.Body.TheVariants as given
+
+-- what a body gives
+abbrev pub body_seen : Body → body.Body
+body_seen (given.Wait r) = body.wait r
+body_seen (given.Ready elements effects initials reads) = body.ready elements.items effects.items initials reads.items
+
+-- the initial values of hooks that a body gives, where it is ready
+abbrev pub initials_of : body.Body → Option (List ℤ)
+initials_of (body.wait r) = None
+initials_of (body.ready es effects initials reads) = Some initials
+
+-- the slots that are returned; none where they are not wanted
+abbrev pub returned_slots : Option (Bor syntax.Body) → Slots
+returned_slots None = no_slots
+returned_slots (Some b) = body_slots b.now
