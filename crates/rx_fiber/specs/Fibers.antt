@@ -1,0 +1,23 @@
+-- What a fiber holds beside its links.
+use Rattle.std.specs.Prelude.{ℕ, Option}
+use Rattle.rx_base.specs.Awaits.{Awaits}
+use Rattle.rx_elem.specs.Elements.{Element}
+use Rattle.rx_elem.specs.Trees.{Mark}
+
+-- how far a fiber has come
+pub data Stage : Type 0 where
+  -- it is made for a place that the render has not come to
+  waiting : Stage
+  -- it is begun: a node with this mark, over its children
+  begun : Mark → Stage
+  -- a boundary whose children are tried
+  trying : Stage
+  -- the fallback of the boundary right before it, which keeps its primary content and waits for these
+  fallback : Awaits → Stage
+
+-- a fiber: its place among the children of its parent, its element, how far it has come, and where the hooks of its instance stand, if it is one that is committed
+pub record Fiber : Type 0 where
+  pub place : ℕ
+  pub element : Element
+  pub stage : Stage
+  pub hooks : Option ℕ

@@ -1,0 +1,4 @@
+pub mod Fibers
+pub mod Reading
+pub mod Surround
+pub mod Standing

@@ -1,0 +1,2 @@
+//! What a fiber holds, and which trees the fibers stand for.
+#![tactic(auto)]
