@@ -1,8 +1,9 @@
 -- What a fiber holds beside its links.
 use Rattle.std.specs.Prelude.{ℕ, Option}
+use Rattle.rx_susp.specs.declared.boundary.BoundaryState.TheVariants.{Shown}
 use Rattle.rx_base.specs.Awaits.{Awaits}
 use Rattle.rx_elem.specs.Elements.{Element}
-use Rattle.rx_elem.specs.Trees.{Mark}
+use Rattle.rx_elem.specs.Trees.{Mark, of_boundary}
 
 -- how far a fiber has come
 pub data Stage : Type 0 where
@@ -21,3 +22,14 @@ pub record Fiber : Type 0 where
   pub element : Element
   pub stage : Stage
   pub hooks : Option ℕ
+
+-- a node is completed: a boundary whose children were tried is shown, and nothing else changes
+abbrev pub completed_stage : Stage → Stage
+completed_stage waiting = waiting
+completed_stage (begun m) = begun m
+completed_stage trying = begun (of_boundary Shown)
+completed_stage (fallback a) = fallback a
+
+-- the fiber of a node that is completed
+abbrev pub completed : Fiber → Fiber
+completed v = record v { stage = completed_stage v.stage }

@@ -11,10 +11,10 @@ use Rattle.rx_links.specs.Drafts.{Draft, taken, made, Trees, grafted}
 use Rattle.rx_links.specs.Places.{Around, placed}
 use Rattle.rx_meaning.specs.Fresh.{Contexts}
 use Rattle.rx_meaning.specs.Fresh as fresh
-use Rattle.rx_meaning.specs.Cursor.{Open, around, trying, falling, Frame, Cursor, at_place, at_end, ended}
+use Rattle.rx_meaning.specs.Cursor.{Open, Frame, Cursor, at_place, at_end, ended}
 use Rattle.rx_fiber.specs.Fibers.{Fiber}
 use Rattle.rx_fiber.specs.Reading.{IsOld, IsTreeOf}
-use Rattle.rx_fiber.specs.Surround.{IsWaiting, AreDone, IsAround, IsListOf}
+use Rattle.rx_fiber.specs.Surround.{IsWaiting, AreDone, open_element, IsAround, IsListOf}
 
 -- what a provider's element gives
 abbrev pub given_in : Element → Option (ℕ × ℤ)
@@ -28,9 +28,7 @@ given_in (elements.provider c k x es) = Some (c, x)
 
 -- what an open node gives to the contexts below it
 abbrev pub given_by : Open → Option (ℕ × ℤ)
-given_by (around e m) = given_in e
-given_by (trying e old f) = None
-given_by (falling e old a) = None
+given_by x = given_in (open_element x)
 
 -- the stack has what the open nodes give: a provider is on it, and each node's list has the values at it
 pub data IsStack : Stack → List (Open × Contexts) → Type 0 where

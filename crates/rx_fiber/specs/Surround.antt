@@ -46,6 +46,12 @@ above_list (after id v o ks k) = above_list k
 abbrev pub AreDone : Around Fiber → (place : ℕ) → List (Option Node) → Type 0
 AreDone k n done = (xs : List (Option Node)) (s : Shape Fiber) → AreFor n (forest xs) s → AreFor 0 (forest (done ++ xs)) (behind_earlier k s)
 
+-- the element of an open node
+abbrev pub open_element : Open → Element
+open_element (around e m) = e
+open_element (trying e old f) = e
+open_element (falling e old a) = e
+
 -- the fallback of a boundary
 abbrev pub fallback_in : Element → Element
 fallback_in elements.null = elements.null
@@ -64,9 +70,10 @@ pub data IsOpenAs (current : Shape Fiber) (v : Fiber) (o : Option ℕ) (cs : Con
   falls : {e : Element} {old : Option Node} {a : Awaits} → v.element ≡ e → v.stage ≡ begun (of_boundary (Hidden a)) → has_node (children_if old) ≡ false
       → IsOpenAs current v o cs (falling e old a)
 
--- the fibers are those of a boundary that keeps its primary content, and of its fallback, whose list is among the children of the latter
+-- the fibers are those of a boundary that keeps its primary content, and of its fallback, with the element of the boundary, whose list is among the children of the latter
 pub record IsKeptAs (v w : Fiber) (kept : Shape Fiber) (e : Element) (old : Option Node) (a : Awaits) : Type 0 where
   pub of : IsOf v v.place e (of_boundary (Hidden a))
+  pub element : w.element ≡ e
   pub stage : w.stage ≡ stage.fallback a
   pub keeps : has_node (children_if old) ≡ true
   pub are : AreFor 0 (children_if old) kept
