@@ -1,3 +1,4 @@
 pub mod Coming
 pub mod Arriving
 pub mod Completing
+pub mod Stacking
