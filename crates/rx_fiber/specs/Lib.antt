@@ -1,4 +1,6 @@
 pub mod Fibers
+pub mod FiberCode
+pub mod FiberView
 pub mod Reading
 pub mod Surround
 pub mod Standing
