@@ -74,7 +74,7 @@ pub arrives : (t : Trees Fiber) (st : Stack) (k j : Around Fiber) (n levels : �
     → IsAround t.current k n rs fs → IsStack st (opened fs) → StandsAt t st (next_at k rs) (arrive levels fs (Some x))
 arrives t st _ j _ levels _ _ x here same more at_root (bottom none) =
     over (subst (λ d. AreFor 0 (forest (Some x ∷ [])) (grafted d)) (sym here)
-        (subst (λ s. AreFor 0 (forest (Some x ∷ [])) s) (sym (grafted_top j (taken shapes.none) same)) (more [] (λ xs s a. a) [] shapes.none reading.no_more)))
+    (subst (λ s. AreFor 0 (forest (Some x ∷ [])) s) (sym (grafted_top j (taken shapes.none) same)) (more [] (λ xs s a. a) [] shapes.none reading.no_more)))
     none
 arrives t st k j n levels rs (f ∷ fs) x here same more (inside before behind list) stack =
     subst (λ at. StandsAt t st at (arrive levels (f ∷ fs) (Some x))) (next_is t.current k (suc n) _ f.rest rs behind (list_parent t.current k _ f.node f.contexts fs list))

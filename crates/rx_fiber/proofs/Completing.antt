@@ -7,7 +7,7 @@ use Rattle.rx_elem.specs.Trees.{Node, forest}
 use Rattle.rx_lists.specs.Shapes.{Shape, fiber}
 use Rattle.rx_lists.specs.Shapes as shapes
 use Rattle.rx_links.specs.Drafts.{Draft, taken, made, Trees, grafted}
-use Rattle.rx_links.specs.Places.{Around, top, below, after, placed}
+use Rattle.rx_links.specs.Places.{Around, top, below, after, placed, up_of}
 use Rattle.rx_meaning.specs.Fresh.{Contexts}
 use Rattle.rx_meaning.specs.Cursor.{Open, Frame, at_end, arrive, finished}
 use Rattle.rx_fiber.specs.Fibers.{Fiber, completed, completed_stage}
@@ -53,12 +53,17 @@ opens_element c v o cs x (falls e m none) = e
 
 -- What the fiber that is completed next is to the two trees: once its value is that of a node that is done, and what its element gave is taken from the stack, the render arrives with its node.
 pub record Completes (t : Trees Fiber) (q : ℕ) (fs : List Frame) (x : Open) (done : List (Option Node)) : Type 0 where
+  -- what surrounds the fiber, and what surrounds the first fiber of its node: another one where it is that of a fallback beside kept content
   pub around : Around Fiber
+  pub first : Around Fiber
+  pub place : ℕ
   pub value : Fiber
   pub old : Option ℕ
   pub kids : Draft Fiber
   pub rest : Draft Fiber
   pub here : t.draft ≡ placed around (made q value old kids rest)
+  pub surrounds : IsAround t.current first place rest fs
+  pub parent : up_of around ≡ up_of first
   pub element : value.element ≡ open_element x
   pub arrives : (new : Trees Fiber) (st : Stack) (levels : ℕ) → new.current ≡ t.current → new.draft ≡ placed around (made q (completed value) old kids rest)
       → IsStack st (opened fs) → StandsAt new st (next_at around rest) (arrive levels fs (Some (finished x done)))
@@ -69,6 +74,10 @@ completing t st q levels fs x done (completes {n = n} {k = k} here before (of_no
     let ks : Draft Fiber = whole_list k (taken shapes.none) in
     record {
       around = k₁;
+      first = k₁;
+      place = v.place;
+      surrounds = around;
+      parent = refl;
       value = v;
       old = o;
       kids = ks;
@@ -76,15 +85,19 @@ completing t st q levels fs x done (completes {n = n} {k = k} here before (of_no
       here = here ∙ (placed_list k (taken shapes.none) ∙ ap (λ a. placed a ks) above);
       element = opens_element t.current v o cs x is;
       arrives = λ new st levels same there stack.
-        arrives new st k₁ (after q (completed v) o ks k₁) v.place levels rest fs (finished x done) there refl
-        (λ earlier are. one_done k₁ v.place earlier (finished x done) q (completed v) o ks are
-            (λ more. node_finished t.current v o cs x q done (grafted ks) more is (list_done k n done before)))
-        (subst (λ c. IsAround c k₁ v.place rest fs) (sym same) around) stack;
+          arrives new st k₁ (after q (completed v) o ks k₁) v.place levels rest fs (finished x done) there refl
+          (λ earlier are. one_done k₁ v.place earlier (finished x done) q (completed v) o ks are
+          (λ more. node_finished t.current v o cs x q done (grafted ks) more is (list_done k n done before)))
+          (subst (λ c. IsAround c k₁ v.place rest fs) (sym same) around) stack;
     }
 completing t st q levels fs x done (completes {n = n} {k = k} here before (of_fallback {k₁ = k₁} {b = b} {v = v} {w = w} {o = o} {p = p} {kept = kept} {rest = rest} {e = e} {old = old} {a = a} above is around) stack) =
     let ks : Draft Fiber = whole_list k (taken shapes.none) in
     record {
       around = after b v o (taken kept) k₁;
+      first = k₁;
+      place = v.place;
+      surrounds = around;
+      parent = refl;
       value = w;
       old = p;
       kids = ks;
@@ -92,8 +105,8 @@ completing t st q levels fs x done (completes {n = n} {k = k} here before (of_fa
       here = here ∙ (placed_list k (taken shapes.none) ∙ ap (λ a. placed a ks) above);
       element = is.element;
       arrives = λ new st levels same there stack.
-        arrives new st k₁ (after q (completed w) p ks (after b v o (taken kept) k₁)) v.place levels rest fs (finished x done) there refl
-        (λ earlier are. two_done k₁ v.place earlier (finished x done) b q v (completed w) o p (taken kept) ks are
-            (λ more. beside is.of refl is.keeps is.are (ap completed_stage is.stage) (list_done k n done before)))
-        (subst (λ c. IsAround c k₁ v.place rest fs) (sym same) around) stack;
+          arrives new st k₁ (after q (completed w) p ks (after b v o (taken kept) k₁)) v.place levels rest fs (finished x done) there refl
+          (λ earlier are. two_done k₁ v.place earlier (finished x done) b q v (completed w) o p (taken kept) ks are
+          (λ more. beside is.of refl is.keeps is.are (ap completed_stage is.stage) (list_done k n done before)))
+          (subst (λ c. IsAround c k₁ v.place rest fs) (sym same) around) stack;
     }

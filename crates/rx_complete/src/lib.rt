@@ -1,0 +1,6 @@
+//! The unit of a render that completes a node.
+#![tactic(auto)]
+
+mod completing;
+
+pub use completing::{Next, complete};
