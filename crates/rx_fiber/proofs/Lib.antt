@@ -4,3 +4,4 @@ pub mod Completing
 pub mod Stacking
 pub mod Starting
 pub mod Opening
+pub mod OldLists

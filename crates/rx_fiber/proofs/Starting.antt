@@ -45,7 +45,7 @@ root_old c (Some x) (next {rest = rest} is a) =
     let b = begun_by 0 x c rest is in
     let e : c ≡ fiber b.id b.value b.kids b.later = b.is in
     let f : first c ≡ Some b.id = ap first e in
-    subst (λ o. IsOld c o (Some x)) (sym f) (of (first_list c b.id b.value b.kids b.later e ∙ ap Some (sym e)) f is)
+    subst (λ o. IsOld c o (Some x)) (sym f) (of (first_list c b.id b.value b.kids b.later e ∙ ap Some (sym e)) f (next is a))
 
 -- A render is at its start once the root's fiber is made, with no provider around it.
 pub starts : (s : Sight) (old : Option Node) (t : Trees Fiber) (id : ℕ) (v : Fiber)

@@ -4,3 +4,4 @@ pub mod FiberView
 pub mod Reading
 pub mod Surround
 pub mod Standing
+pub mod OldLists

@@ -41,7 +41,8 @@ mutual
 abbrev pub IsTreeOf : Option Node → Shape Fiber → Type 0
 IsTreeOf tree s = AreFor 0 (forest (tree ∷ [])) s
 
--- the current fiber of a node: none where there is no node
+-- the current fiber of a node: none where there is no node. The list from the fiber on stands for the node and those after it.
 pub data IsOld (current : Shape Fiber) : Option ℕ → Option Node → Type 0 where
   new : IsOld current None None
-  of : {j n : ℕ} {x : Node} {s rest : Shape Fiber} → list_at current j ≡ Some s → shapes.first s ≡ Some j → IsFor n x s rest → IsOld current (Some j) (Some x)
+  of : {j n : ℕ} {x : Node} {ns : Forest} {s : Shape Fiber} → list_at current j ≡ Some s → shapes.first s ≡ Some j → AreFor n (child x ns) s
+      → IsOld current (Some j) (Some x)
