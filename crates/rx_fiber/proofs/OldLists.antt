@@ -84,3 +84,74 @@ kids_listed c id v ks rs linked e =
 
 pub old_listed : (c : Shape Fiber) (j : ℕ) (s : Shape Fiber) → list_at c j ≡ Some s → first s ≡ Some j → IsListIn c s
 old_listed c j s e f = rw f (ap shape_or_none e)
+
+-- The lists of an old node
+
+no_nodes : (n : ℕ) (ns : Forest) → has_node ns ≡ false → AreFor n ns none
+no_nodes n trees.none e = no_more
+no_nodes n (trees.vacant ns) e = gap (no_nodes (suc n) ns e)
+no_nodes n (trees.child x ns) e = cc
+
+-- a list of the current tree that stands for these places
+pub record IsListFor (c : Shape Fiber) (ns : Forest) (s : Shape Fiber) : Type 0 where
+  pub are : AreFor 0 ns s
+  pub listed : IsListIn c s
+
+primary_shown : (v : Fiber) (m : trees.Mark) (id : ℕ) (ks rs : Shape Fiber) → v.stage ≡ begun m → is_hidden m ≡ false → primary_list (fiber id v ks rs) ≡ ks
+primary_shown v m id ks rs e f = let g : hides_in v.stage ≡ false = ap hides_in e ∙ f in rw g refl
+
+primary_gone : (v : Fiber) (m : trees.Mark) (id : ℕ) (ks rs : Shape Fiber) → v.stage ≡ begun m → is_hidden m ≡ true → begins_fallback rs ≡ false → primary_list (fiber id v ks rs) ≡ none
+primary_gone v m id ks rs e f h = let g : hides_in v.stage ≡ true = ap hides_in e ∙ f in rw (g, h) refl
+
+primary_kept : (v : Fiber) (id : ℕ) (ks rs : Shape Fiber) → begins_fallback rs ≡ true → primary_list (fiber id v ks rs) ≡ ks
+primary_kept v id ks rs h = rw h (kept (hides_in v.stage))
+  where
+    kept : (b : Bool) → (if b && false then none else ks) ≡ ks
+    kept true = refl
+    kept false = refl
+
+fallback_shown : (v : Fiber) (m : trees.Mark) (id : ℕ) (ks rs : Shape Fiber) → v.stage ≡ begun m → is_hidden m ≡ false → fallback_list (fiber id v ks rs) ≡ none
+fallback_shown v m id ks rs e f = let g : hides_in v.stage ≡ false = ap hides_in e ∙ f in rw g refl
+
+fallback_alone : (v : Fiber) (m : trees.Mark) (id : ℕ) (ks rs : Shape Fiber) → v.stage ≡ begun m → is_hidden m ≡ true → begins_fallback rs ≡ false → fallback_list (fiber id v ks rs) ≡ ks
+fallback_alone v m id ks rs e f h = let g : hides_in v.stage ≡ true = ap hides_in e ∙ f in rw (g, h) refl
+
+fallback_beside : (v : Fiber) (m : trees.Mark) (id : ℕ) (ks rs : Shape Fiber) → v.stage ≡ begun m → is_hidden m ≡ true → begins_fallback rs ≡ true → fallback_list (fiber id v ks rs) ≡ first_kids rs
+fallback_beside v m id ks rs e f h = let g : hides_in v.stage ≡ true = ap hides_in e ∙ f in rw (g, h) refl
+
+module _ (c : Shape Fiber) (linked : IsLinked c) where
+  primary_node : (n : ℕ) (x : Node) (s rest : Shape Fiber) → IsFor n x s rest → BeginsFrom (suc n) rest → IsListIn c s → IsListFor c (children_of x) (primary_list s)
+  primary_node n _ _ rest (whole {id = id} {v = v} {m = m} {ns = ns} {ks = ks} is shown a) b l =
+      subst (λ s. IsListFor c ns s) (sym (primary_shown v m id ks rest is.stage shown)) (record { are = a; listed = kids_listed c id v ks rest linked l })
+  primary_node n _ _ rest (alone {id = id} {v = v} {m = m} {ns = ns} {ks = ks} is hidden gone a) b l =
+      subst (λ s. IsListFor c ns s) (sym (primary_gone v m id ks rest is.stage hidden (no_fallback (suc n) rest b))) (record { are = no_nodes 0 ns gone; listed = refl })
+  primary_node n _ _ rest (beside {id = id} {jd = jd} {v = v} {w = w} {ns = ns} {ks = ks} {ws = ws} is hidden some a s f) b l =
+      subst (λ s. IsListFor c ns s) (sym (primary_kept v id ks (fiber jd w ws rest) (ap is_fallback s)))
+      (record { are = a; listed = kids_listed c id v ks (fiber jd w ws rest) linked l })
+
+  fallback_node : (n : ℕ) (x : Node) (s rest : Shape Fiber) → IsFor n x s rest → BeginsFrom (suc n) rest → IsListIn c s → IsListFor c (fallback_of x) (fallback_list s)
+  fallback_node n _ _ rest (whole {id = id} {v = v} {m = m} {ns = ns} {ks = ks} is shown a) b l =
+      subst (λ s. IsListFor c trees.none s) (sym (fallback_shown v m id ks rest is.stage shown)) (record { are = no_more; listed = refl })
+  fallback_node n _ _ rest (alone {id = id} {v = v} {m = m} {ns = ns} {fs = fs} {ks = ks} is hidden gone a) b l =
+      subst (λ s. IsListFor c fs s) (sym (fallback_alone v m id ks rest is.stage hidden (no_fallback (suc n) rest b)))
+      (record { are = a; listed = kids_listed c id v ks rest linked l })
+  fallback_node n _ _ rest (beside {id = id} {jd = jd} {v = v} {w = w} {m = m} {ns = ns} {fs = fs} {ks = ks} {ws = ws} is hidden some a s f) b l =
+      subst (λ s. IsListFor c fs s) (sym (fallback_beside v m id ks (fiber jd w ws rest) is.stage hidden (ap is_fallback s)))
+      (record { are = f; listed = kids_listed c jd w ws rest linked (rest_listed c id v ks (fiber jd w ws rest) linked l) })
+
+  from_old : (j : ℕ) (s : Shape Fiber) → list_at c j ≡ Some s → s ≡ list_from c (Some j)
+  from_old j s e = sym (ap shape_or_none e)
+
+  -- The children of an old node, of a boundary its primary, are read from its fiber.
+  pub primary_is : (o : Option ℕ) (old : Option Node) → IsOld c o old → IsListFor c (children_if old) (primary_list (list_from c o))
+  primary_is _ _ new = record { are = no_more; listed = refl }
+  primary_is _ _ (of {j = j} {n = n} {x = x} {ns = ns} {s = s} here leads (next {rest = rest} is a)) =
+      subst (λ l. IsListFor c (children_of x) (primary_list l)) (from_old j s here)
+      (primary_node n x s rest is (list_begins (suc n) ns rest a) (old_listed c j s here leads))
+
+  -- So is its fallback.
+  pub fallback_is : (o : Option ℕ) (old : Option Node) → IsOld c o old → IsListFor c (fallback_if old) (fallback_list (list_from c o))
+  fallback_is _ _ new = record { are = no_more; listed = refl }
+  fallback_is _ _ (of {j = j} {n = n} {x = x} {ns = ns} {s = s} here leads (next {rest = rest} is a)) =
+      subst (λ l. IsListFor c (fallback_of x) (fallback_list l)) (from_old j s here)
+      (fallback_node n x s rest is (list_begins (suc n) ns rest a) (old_listed c j s here leads))
