@@ -24,7 +24,7 @@ pub gap_done : (k : Around Fiber) (n : ℕ) (done : List (Option Node)) → AreD
 gap_done k n done h xs s a =
     subst (λ l. AreFor 0 (forest l) (around.behind_earlier k s)) (sym (append_assoc done (None ∷ []) xs)) (h (None ∷ xs) s (gap a))
 
-top_values : {st : Stack} {x : Open} {cs : Contexts} {xs : List (Open × Contexts)} → IsStack st ((x, cs) ∷ xs) → values_at st ≡ cs
+pub top_values : {st : Stack} {x : Open} {cs : Contexts} {xs : List (Open × Contexts)} → IsStack st ((x, cs) ∷ xs) → values_at st ≡ cs
 top_values (same g v rest) = v
 top_values (gives g v rest) = v
 

@@ -43,12 +43,12 @@ list_done k n done before =
 pub node_finished : (c : Shape Fiber) (v : Fiber) (o : Option ℕ) (cs : Contexts) (x : Open) (q : ℕ) (done : List (Option Node)) (ks rest : Shape Fiber)
     → IsOpenAs c v o cs x → AreFor 0 (forest done) ks → IsFor v.place (finished x done) (fiber q (completed v) ks rest) rest
 node_finished c v o cs x q done ks rest (opens e m shown) a = whole (record { at = refl; element = e; stage = ap completed_stage m }) shown a
-node_finished c v o cs x q done ks rest (tries e s old) a = whole (record { at = refl; element = e; stage = ap completed_stage s }) refl a
+node_finished c v o cs x q done ks rest (tries e s b old) a = whole (record { at = refl; element = e; stage = ap completed_stage s }) refl a
 node_finished c v o cs x q done ks rest (falls e m none) a = alone (record { at = refl; element = e; stage = ap completed_stage m }) refl none a
 
 pub opens_element : (c : Shape Fiber) (v : Fiber) (o : Option ℕ) (cs : Contexts) (x : Open) → IsOpenAs c v o cs x → v.element ≡ open_element x
 opens_element c v o cs x (opens e m shown) = e
-opens_element c v o cs x (tries e s old) = e
+opens_element c v o cs x (tries e s is old) = e
 opens_element c v o cs x (falls e m none) = e
 
 -- What the fiber that is completed next is to the two trees: once its value is that of a node that is done, and what its element gave is taken from the stack, the render arrives with its node.

@@ -5,3 +5,5 @@ pub mod Stacking
 pub mod Starting
 pub mod Opening
 pub mod OldLists
+pub mod Matching
+pub mod Unwinding

@@ -1,5 +1,5 @@
 -- The current fibers of a node tell its old lists.
-use Rattle.std.specs.Prelude.{◌≡◌, ℕ, zero, suc, ◌+◌, ◌-◌, ◌≤◌, Bool, true, false, not, ◌&&◌, List, [], ◌∷◌, ◌++◌, Option, Some, None, if◌then◌else◌, slice_get, ◌⊎◌}
+use Rattle.std.specs.Prelude.{◌≡◌, ℕ, zero, suc, ◌+◌, ◌-◌, ◌≤◌, Bool, true, false, not, ◌&&◌, List, [], ◌∷◌, ◌++◌, Option, Some, None, if◌then◌else◌, slice_get, ◌⊎◌, is_some}
 use Rattle.std.specs.Option.{option_flatten}
 use Rattle.std.proofs.Common.{refl, sym, ap, ◌∙◌, subst, inl, inr, arith}
 use Rattle.rx_elem.specs.Elements.{Element}
@@ -155,3 +155,56 @@ module _ (c : Shape Fiber) (linked : IsLinked c) where
   fallback_is _ _ (of {j = j} {n = n} {x = x} {ns = ns} {s = s} here leads (next {rest = rest} is a)) =
       subst (λ l. IsListFor c (fallback_of x) (fallback_list l)) (from_old j s here)
       (fallback_node n x s rest is (list_begins (suc n) ns rest a) (old_listed c j s here leads))
+
+  -- what an old node keeps, where it keeps some, is what its fiber has as children
+  pub kept_is : (o : Option ℕ) (old : Option Node) → IsOld c o old → has_node (children_if old) ≡ true → AreFor 0 (children_if old) (kids_under c o)
+  kept_is _ _ new some = cc
+  kept_is _ _ (of {j = j} {n = n} {x = x} here leads (next {s = s} {rest = rest} is a)) some = node_kept n x s rest is some (old_listed c j s here leads) leads
+    where
+      node_kept : (n : ℕ) (x : Node) (s rest : Shape Fiber) → IsFor n x s rest → has_node (children_of x) ≡ true → IsListIn c s → first s ≡ Some j
+          → AreFor 0 (children_of x) (kids_of c j)
+      node_kept n _ _ rest (whole {id = id} {v = v} {ns = ns} {ks = ks} is shown a) some l f =
+          let q : id ≡ j = cc in subst (λ i. AreFor 0 ns (kids_of c i)) q (subst (λ k. AreFor 0 ns k) (sym (kids_are c id v ks rest linked l)) a)
+      node_kept n _ _ rest (alone is hidden gone a) some l f = cc
+      node_kept n _ _ rest (beside {id = id} {jd = jd} {v = v} {w = w} {ns = ns} {ks = ks} {ws = ws} is hidden some a s b) more l f =
+          let q : id ≡ j = cc in subst (λ i. AreFor 0 ns (kids_of c i)) q (subst (λ k. AreFor 0 ns k) (sym (kids_are c id v ks (fiber jd w ws rest) linked l)) a)
+
+-- a list of places has a node where its list of fibers is not empty
+pub has_node_is : (n : ℕ) (ns : Forest) (s : Shape Fiber) → AreFor n ns s → has_node ns ≡ is_some (first s)
+has_node_is n _ _ no_more = refl
+has_node_is n (trees.vacant ns) s (gap a) = has_node_is (suc n) ns s a
+has_node_is n (trees.child x ns) s (next {rest = rest} is a) = by_node n x s rest is
+  where
+    by_node : (n : ℕ) (x : Node) (s rest : Shape Fiber) → IsFor n x s rest → true ≡ is_some (first s)
+    by_node n _ _ rest (whole is shown a) = refl
+    by_node n _ _ rest (alone is hidden gone a) = refl
+    by_node n _ _ rest (beside is hidden some a s b) = refl
+
+-- The places of an old list
+
+module _ {A : Type 0} (g : A) (tells : ℕ → Fiber → A) where
+  pub spread_gap : (n id : ℕ) (v : Fiber) (ks rs : Shape Fiber) → BeginsFrom (suc n) (fiber id v ks rs)
+      → spread g tells n (fiber id v ks rs) ≡ g ∷ spread g tells (suc n) (fiber id v ks rs)
+  spread_gap n id v ks rs h =
+      let l : suc n ≤ v.place = h.0 in
+      let e : v.place - n ≡ suc (v.place - suc n) = omega arith in
+      let f : is_fallback v.stage ≡ false = h.1 in
+      rw (f, e) refl
+
+  spread_here : (n id : ℕ) (v : Fiber) (ks rs : Shape Fiber) → v.place ≡ n → is_fallback v.stage ≡ false
+      → spread g tells n (fiber id v ks rs) ≡ tells id v ∷ spread g tells (suc n) rs
+  spread_here n id v ks rs p f =
+      let e : v.place - n ≡ 0 = omega arith in
+      rw (f, e, p) refl
+
+  spread_past : (n id : ℕ) (v : Fiber) (ks rs : Shape Fiber) → is_fallback v.stage ≡ true → spread g tells n (fiber id v ks rs) ≡ spread g tells n rs
+  spread_past n id v ks rs f = rw f refl
+
+  -- what a node's fiber tells stands at its place
+  pub spread_node : (n : ℕ) (x : Node) (s rest : Shape Fiber) → IsFor n x s rest
+      → (id : ℕ) × (v : Fiber) × (first s ≡ Some id) × (v.element ≡ element_of x) × (spread g tells n s ≡ tells id v ∷ spread g tells (suc n) rest)
+  spread_node n _ _ rest (whole {id = id} {v = v} {ks = ks} is shown a) = (id, v, refl, is.element, spread_here n id v ks rest is.at (ap is_fallback is.stage))
+  spread_node n _ _ rest (alone {id = id} {v = v} {ks = ks} is hidden gone a) = (id, v, refl, is.element, spread_here n id v ks rest is.at (ap is_fallback is.stage))
+  spread_node n _ _ rest (beside {id = id} {jd = jd} {v = v} {w = w} {ks = ks} {ws = ws} is hidden some a s b) =
+      (id, v, refl, is.element, spread_here n id v ks (fiber jd w ws rest) is.at (ap is_fallback is.stage)
+          ∙ ap (λ l. tells id v ∷ l) (spread_past (suc n) jd w ws rest (ap is_fallback s)))

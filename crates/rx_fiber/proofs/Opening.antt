@@ -15,7 +15,7 @@ use Rattle.rx_meaning.specs.Touched.{children_with_old}
 use Rattle.rx_fiber.specs.Fibers.{Fiber, begun}
 use Rattle.rx_fiber.specs.Fibers as stage
 use Rattle.rx_fiber.specs.Reading.{has_node, AreFor, IsOf, IsOld}
-use Rattle.rx_fiber.specs.Surround.{AreNext, IsOpenAs, opens, tries, falls, IsKeptAs, fallback_in, IsAround, IsListOf, of_node, of_fallback}
+use Rattle.rx_fiber.specs.Surround.{AreNext, IsOpenAs, opens, tries, falls, IsKeptAs, fallback_in, is_boundary, IsAround, IsListOf, of_node, of_fallback}
 use Rattle.rx_fiber.specs.Standing.{IsStack, opened, StandsAt}
 use Rattle.rx_fiber.proofs.Coming.{come_at, comes}
 
@@ -36,12 +36,12 @@ opens_one t st k p levels v o d rs fs e m list here element mark shown kids surr
 -- A boundary tries its children, and remembers its fallback.
 pub tries_children : (t : Trees Fiber) (st : Stack) (k : Around Fiber) (p levels : ℕ) (v : Fiber) (o : Option ℕ) (d rs : Draft Fiber) (fs : List Frame) (e : Element) (old : Option Node)
     (cs : Contexts) (es : List Element)
-    → t.draft ≡ placed k (made p v o d rs) → v.element ≡ e → v.stage ≡ stage.trying → IsOld t.current o old
+    → t.draft ≡ placed k (made p v o d rs) → v.element ≡ e → v.stage ≡ stage.trying → is_boundary e ≡ true → IsOld t.current o old
     → AreNext t.current 0 (children_with_old (part cs es (children_if old))) d → IsAround t.current k v.place rs fs
     → IsStack st ((trying e old (part cs (fallback_in e ∷ []) (fallback_if old)), cs) ∷ opened fs)
     → StandsAt t st (Some (come_at d p)) (open_part levels fs (trying e old (part cs (fallback_in e ∷ []) (fallback_if old))) (part cs es (children_if old)))
-tries_children t st k p levels v o d rs fs e old cs es here element trying_now was kids surrounds stack =
-    opens_node t st k p levels v o d rs fs (trying e old (part cs (fallback_in e ∷ []) (fallback_if old))) (part cs es (children_if old)) here (tries element trying_now was) kids surrounds
+tries_children t st k p levels v o d rs fs e old cs es here element trying_now is was kids surrounds stack =
+    opens_node t st k p levels v o d rs fs (trying e old (part cs (fallback_in e ∷ []) (fallback_if old))) (part cs es (children_if old)) here (tries element trying_now is was) kids surrounds
     stack
 
 -- A boundary that keeps no node opens its fallback, whose list is its own children.

@@ -5,3 +5,4 @@ pub mod Reading
 pub mod Surround
 pub mod Standing
 pub mod OldLists
+pub mod Unwound

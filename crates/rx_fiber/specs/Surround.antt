@@ -1,5 +1,5 @@
 -- What surrounds the place that a render has come to, read from the fibers around it.
-use Rattle.std.specs.Prelude.{◌≡◌, ℕ, suc, true, false, List, [], ◌∷◌, ◌++◌, Option}
+use Rattle.std.specs.Prelude.{◌≡◌, ℕ, suc, Bool, true, false, List, [], ◌∷◌, ◌++◌, Option}
 use Rattle.rx_base.specs.Awaits.{Awaits}
 use Rattle.rx_elem.specs.Elements.{Element}
 use Rattle.rx_elem.specs.Elements as elements
@@ -62,10 +62,20 @@ fallback_in (elements.list es) = elements.null
 fallback_in (elements.boundary k f es) = f
 fallback_in (elements.provider c k x es) = elements.null
 
+-- the element is that of a boundary
+abbrev pub is_boundary : Element → Bool
+is_boundary elements.null = false
+is_boundary (elements.text t) = false
+is_boundary (elements.host n k attrs es) = false
+is_boundary (elements.comp c k ps es) = false
+is_boundary (elements.list es) = false
+is_boundary (elements.boundary k f es) = true
+is_boundary (elements.provider c k x es) = false
+
 -- the fiber is that of an open node, whose list, in these contexts, is among its children; o is the current fiber that it was made for
 pub data IsOpenAs (current : Shape Fiber) (v : Fiber) (o : Option ℕ) (cs : Contexts) : Open → Type 0 where
   opens : {e : Element} {m : Mark} → v.element ≡ e → v.stage ≡ begun m → is_hidden m ≡ false → IsOpenAs current v o cs (around e m)
-  tries : {e : Element} {old : Option Node} → v.element ≡ e → v.stage ≡ stage.trying → IsOld current o old
+  tries : {e : Element} {old : Option Node} → v.element ≡ e → v.stage ≡ stage.trying → is_boundary e ≡ true → IsOld current o old
       → IsOpenAs current v o cs (trying e old (part cs (fallback_in e ∷ []) (fallback_if old)))
   falls : {e : Element} {old : Option Node} {a : Awaits} → v.element ≡ e → v.stage ≡ begun (of_boundary (Hidden a)) → has_node (children_if old) ≡ false
       → IsOpenAs current v o cs (falling e old a)
