@@ -1,12 +1,11 @@
 -- Where a render comes from a node that is done, by the fibers around it.
 use Rattle.std.specs.Prelude.{◌≡◌, ℕ, suc, cond, List, [], ◌∷◌, ◌++◌, Option, Some, None}
-use Rattle.std.proofs.Common.{refl, sym, ap, ◌∙◌, subst}
+use Rattle.std.proofs.Common.{refl, sym, subst}
 use Rattle.rx_elem.specs.Elements.{Element}
 use Rattle.rx_elem.specs.Trees.{Node}
 use Rattle.rx_lists.specs.Shapes.{Shape}
-use Rattle.rx_links.specs.Drafts.{Draft, taken, made, Trees, entry, or_else}
+use Rattle.rx_links.specs.Drafts.{Draft, made, Trees, entry, or_else}
 use Rattle.rx_links.specs.Places.{Around, up_of, IsAt}
-use Rattle.rx_links.specs.Readers.{made_rest_in}
 use Rattle.rx_meaning.specs.Fresh.{Contexts}
 use Rattle.rx_meaning.specs.Cursor.{Open, Frame, come_to, arrive, at_place, at_end}
 use Rattle.rx_fiber.specs.Fibers.{Fiber}

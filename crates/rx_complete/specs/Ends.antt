@@ -1,5 +1,5 @@
 -- What is completed next, and where the render comes from there.
-use Rattle.std.specs.Prelude.{◌≡◌, ℕ, List, Option, Some, None}
+use Rattle.std.specs.Prelude.{ℕ, List, Option, Some, None}
 use Rattle.rx_ctx.specs.Contexts.{Stack}
 use Rattle.rx_elem.specs.Elements.{Element}
 use Rattle.rx_elem.specs.Trees.{Node}
@@ -9,12 +9,17 @@ use Rattle.rx_meaning.specs.Fresh.{Contexts, Place}
 use Rattle.rx_meaning.specs.Cursor.{Open, Frame, Cursor, at_place, at_end, ended}
 use Rattle.rx_fiber.specs.Fibers.{Fiber}
 use Rattle.rx_fiber.specs.Standing.{StandsAt}
+use Rattle.rx_fiber.specs.Unwound.{IsWithin}
 use Rattle.rx_complete.specs.declared.completing.Next.{Next}
 use Rattle.rx_complete.specs.declared.completing.Next.TheVariants.{Sibling, Parent, Done}
 
 -- the fiber's list is done, and its node is completed next
 pub data IsAtEnd (t : Trees Fiber) (st : Stack) (q : ℕ) : Type 0 where
   ends : {levels : ℕ} {fs : List Frame} {x : Open} {done : List (Option Node)} → StandsAt t st (Some q) (at_end levels fs x done) → IsAtEnd t st q
+
+-- the fiber lies in the list of an open node, or is the root
+pub data IsOpenBelow (t : Trees Fiber) (st : Stack) (p : ℕ) : Type 0 where
+  lies : {fs : List Frame} → IsWithin t st p fs → IsOpenBelow t st p
 
 -- the fiber that an answer names
 abbrev pub fiber_in : Next → Option ℕ

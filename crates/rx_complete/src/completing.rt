@@ -26,7 +26,7 @@ pub enum Next {
 }
 
 // At the end of a provider its context has the value from outside again.
-fn leave(element: &Element, contexts: &mut ContextStack)
+pub(crate) fn leave(element: &Element, contexts: &mut ContextStack)
     ensures { (x : Open) (cs : Contexts) (xs : List (Open × Contexts)) → element.now ≡ open_element x → IsStack contexts.old ((x, cs) ∷ xs) → IsStack contexts.new xs }
 {
     if let ElementKind::Provider(_, _, _, _) = element.kind() {

@@ -1,5 +1,5 @@
 -- A node is completed: its list is done, and the render arrives with it.
-use Rattle.std.specs.Prelude.{◌≡◌, ℕ, List, [], ◌∷◌, ◌++◌, Option, Some, None}
+use Rattle.std.specs.Prelude.{◌≡◌, ℕ, List, [], Option, Some}
 use Rattle.std.proofs.Common.{refl, sym, ap, ◌∙◌, subst}
 use Rattle.std.proofs.lemmas.List.{append-nil}
 use Rattle.rx_ctx.specs.Contexts.{Stack}
@@ -13,7 +13,7 @@ use Rattle.rx_meaning.specs.Cursor.{Open, Frame, at_end, arrive, finished}
 use Rattle.rx_fiber.specs.Fibers.{Fiber, completed, completed_stage}
 use Rattle.rx_fiber.specs.Reading.{AreFor, IsFor, whole, alone, beside}
 use Rattle.rx_fiber.specs.Reading as reading
-use Rattle.rx_fiber.specs.Surround.{AreDone, IsOpenAs, opens, tries, falls, IsAround, IsListOf, of_node, of_fallback, behind_earlier, above_list, open_element}
+use Rattle.rx_fiber.specs.Surround.{AreDone, IsOpenAs, opens, tries, falls, IsAround, of_node, of_fallback, behind_earlier, above_list, open_element}
 use Rattle.rx_fiber.specs.Standing.{IsStack, opened, StandsAt, completes}
 use Rattle.rx_fiber.proofs.Arriving.{one_done, two_done, next_at, arrives}
 

@@ -1,27 +1,26 @@
 -- For each new child of a node its old fiber is that of its old node.
-use Rattle.std.specs.Prelude.{◌≡◌, ℕ, zero, suc, ◌+◌, ◌<◌, ◌≤◌, Bool, true, false, not, cond, nat_lt, List, [], ◌∷◌, ◌++◌, length, map, Option, Some, None, slice_get, option_and_then, option_map, position, ◌⊎◌, ◌-◌, if◌then◌else◌}
+use Rattle.std.specs.Prelude.{◌≡◌, ℕ, zero, suc, ◌+◌, ◌≤◌, Bool, true, false, cond, nat_lt, List, [], ◌∷◌, ◌++◌, length, map, Option, Some, None, slice_get, option_and_then, option_map, position, ◌⊎◌, ◌-◌, if◌then◌else◌}
 use Rattle.std.specs.Option.{option_flatten}
 use Rattle.std.specs.List.{zip, position_or_len}
 use Rattle.std.proofs.Common.{refl, sym, ap, ◌∙◌, subst, inl, inr, arith}
 use Rattle.std.proofs.lemmas.Bool.Decides.{nat_tests}
-use Rattle.std.proofs.lemmas.List.{append_assoc, append-nil, length-append}
+use Rattle.std.proofs.lemmas.List.{append_assoc, append-nil}
 use Rattle.std.proofs.lemmas.Option.{slice_get_past}
 use Rattle.rx_elem.specs.Elements.{Element, key_of}
 use Rattle.rx_elem.specs.Elements as elements
-use Rattle.rx_elem.specs.Identity.{Identity, Child, identity_after, identities_after, identities, identified, is_same_child, old_places}
+use Rattle.rx_elem.specs.Identity.{Identity, Child, identity_after, identities_after, identified, is_same_child}
 use Rattle.rx_elem.specs.Compare.{node_at, old_nodes}
 use Rattle.rx_elem.specs.Trees.{Node, Forest, element_of, elements_in, places}
 use Rattle.rx_elem.specs.Trees as trees
 use Rattle.rx_lists.specs.Shapes.{Shape, none, fiber, first}
 use Rattle.rx_links.specs.Drafts.{list_at}
-use Rattle.rx_links.specs.Readers.{list_from, IsLinked}
+use Rattle.rx_links.specs.Readers.{IsLinked}
 use Rattle.rx_fiber.specs.Fibers.{Fiber}
 use Rattle.rx_fiber.specs.Reading.{AreFor, no_more, gap, next, IsFor, whole, alone, beside, IsOld, new, of}
 use Rattle.rx_fiber.specs.OldLists.{is_fallback, filled, spread, old_elements, old_fibers, fiber_at, matched}
-use Rattle.rx_fiber.proofs.OldLists.{BeginsFrom, list_begins, IsListIn, list_is, rest_listed, spread_gap, spread_node, IsListFor}
+use Rattle.rx_fiber.proofs.OldLists.{list_begins, IsListIn, list_is, rest_listed, spread_gap, spread_node, IsListFor}
 
 -- Each place of an old list
-
 
 -- the elements of a list are those that its fibers tell, but for places without a node at its end
 pub elements_are : (n : ℕ) (ns : Forest) (s : Shape Fiber) → AreFor n ns s
@@ -34,10 +33,12 @@ elements_are n (trees.vacant ns) (fiber id v ks rs) (gap a) =
     (m, ap (λ l. elements.null ∷ l) e ∙ ap (λ l. l ++ filled m elements.null) (sym f))
 elements_are n (trees.child x ns) s (next {rest = rest} is a) =
     let (m, e) = elements_are (suc n) ns rest a in
-    let (id, v, f, same, g) = spread_node elements.null (λ id v. v.element) n x s rest is in
-    (m, ap (λ l. element_of x ∷ l) e
-        ∙ (ap (λ x. x ∷ (spread elements.null (λ id v. v.element) (suc n) rest ++ filled m elements.null)) (sym same)
-            ∙ ap (λ l. l ++ filled m elements.null) (sym g)))
+    let (id, v, f, same, g) = spread_node elements.null (λ id v. v.element) n x s rest is in (
+      m,
+      ap (λ l. element_of x ∷ l) e
+          ∙ (ap (λ x. x ∷ (spread elements.null (λ id v. v.element) (suc n) rest ++ filled m elements.null)) (sym same)
+          ∙ ap (λ l. l ++ filled m elements.null) (sym g)),
+    )
 
 at_first : (c s : Shape Fiber) (id : ℕ) → IsListIn c s → first s ≡ Some id → list_at c id ≡ Some s
 at_first c none id l f = cc
@@ -78,7 +79,7 @@ olds_from c linked n (trees.child x ns) s (next {rest = rest} is a) l p =
     let (id, v, f, same, e) = spread_node None (λ id v. Some id) n x s rest is in
     subst (λ y. IsOld c (slot_at y p) (node_in (Some x ∷ places ns) p)) (sym e)
     (one_place c (Some id) (Some x) (spread None (λ id v. Some id) (suc n) rest) (places ns) (of (at_first c s id l f) f (next is a))
-        (olds_from c linked (suc n) ns rest a (rest_in c linked n x s rest is l)) p)
+    (olds_from c linked (suc n) ns rest a (rest_in c linked n x s rest is l)) p)
 
 -- The fiber at a place of an old list is that of the node there.
 pub old_at : (c : Shape Fiber) → IsLinked c → (ns : Forest) (s : Shape Fiber) → IsListFor c ns s → (p : ℕ) → IsOld c (fiber_at s p) (node_at ns p)

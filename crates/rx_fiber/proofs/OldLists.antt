@@ -1,19 +1,16 @@
 -- The current fibers of a node tell its old lists.
-use Rattle.std.specs.Prelude.{◌≡◌, ℕ, zero, suc, ◌+◌, ◌-◌, ◌≤◌, Bool, true, false, not, ◌&&◌, List, [], ◌∷◌, ◌++◌, Option, Some, None, if◌then◌else◌, slice_get, ◌⊎◌, is_some}
-use Rattle.std.specs.Option.{option_flatten}
+use Rattle.std.specs.Prelude.{◌≡◌, ℕ, suc, ◌-◌, ◌≤◌, Bool, true, false, ◌&&◌, ◌∷◌, Option, Some, None, if◌then◌else◌, ◌⊎◌, is_some}
 use Rattle.std.proofs.Common.{refl, sym, ap, ◌∙◌, subst, inl, inr, arith}
 use Rattle.rx_elem.specs.Elements.{Element}
-use Rattle.rx_elem.specs.Elements as elements
-use Rattle.rx_elem.specs.Compare.{node_at}
 use Rattle.rx_elem.specs.Trees.{Node, Forest, element_of, elements_in, places, children_if, children_of, fallback_if, fallback_of, is_hidden}
 use Rattle.rx_elem.specs.Trees as trees
 use Rattle.rx_lists.specs.Shapes.{Shape, none, fiber, first, Holds}
 use Rattle.rx_links.specs.Drafts.{list_at, shape_or_none, kids_of, kids_under}
-use Rattle.rx_links.specs.Readers.{list_from, rest_of, rest_in, value_of, IsLinked}
+use Rattle.rx_links.specs.Readers.{list_from, rest_of, rest_in, IsLinked}
 use Rattle.rx_links.proofs.Reading.{holds_or_not, list_at-absent}
-use Rattle.rx_fiber.specs.Fibers.{Stage, Fiber, begun, fallback}
+use Rattle.rx_fiber.specs.Fibers.{Fiber, begun}
 use Rattle.rx_fiber.specs.Reading.{has_node, IsOf, AreFor, no_more, gap, next, IsFor, whole, alone, beside, IsOld, new, of}
-use Rattle.rx_fiber.specs.OldLists.{is_fallback, hides_in, begins_fallback, first_kids, primary_list, fallback_list, filled, spread, old_elements, old_fibers, fiber_at}
+use Rattle.rx_fiber.specs.OldLists.{is_fallback, hides_in, begins_fallback, first_kids, primary_list, fallback_list, spread}
 
 -- The places of fibers
 
@@ -205,6 +202,11 @@ module _ {A : Type 0} (g : A) (tells : ℕ → Fiber → A) where
       → (id : ℕ) × (v : Fiber) × (first s ≡ Some id) × (v.element ≡ element_of x) × (spread g tells n s ≡ tells id v ∷ spread g tells (suc n) rest)
   spread_node n _ _ rest (whole {id = id} {v = v} {ks = ks} is shown a) = (id, v, refl, is.element, spread_here n id v ks rest is.at (ap is_fallback is.stage))
   spread_node n _ _ rest (alone {id = id} {v = v} {ks = ks} is hidden gone a) = (id, v, refl, is.element, spread_here n id v ks rest is.at (ap is_fallback is.stage))
-  spread_node n _ _ rest (beside {id = id} {jd = jd} {v = v} {w = w} {ks = ks} {ws = ws} is hidden some a s b) =
-      (id, v, refl, is.element, spread_here n id v ks (fiber jd w ws rest) is.at (ap is_fallback is.stage)
-          ∙ ap (λ l. tells id v ∷ l) (spread_past (suc n) jd w ws rest (ap is_fallback s)))
+  spread_node n _ _ rest (beside {id = id} {jd = jd} {v = v} {w = w} {ks = ks} {ws = ws} is hidden some a s b) = (
+    id,
+    v,
+    refl,
+    is.element,
+    spread_here n id v ks (fiber jd w ws rest) is.at (ap is_fallback is.stage)
+        ∙ ap (λ l. tells id v ∷ l) (spread_past (suc n) jd w ws rest (ap is_fallback s)),
+  )

@@ -1,6 +1,6 @@
 -- A place begins: its fiber is begun, and the render comes to the first of its children, or to its end.
-use Rattle.std.specs.Prelude.{◌≡◌, ℕ, true, false, List, [], ◌∷◌, Option, Some, None}
-use Rattle.std.proofs.Common.{refl, sym, ap, ◌∙◌, subst}
+use Rattle.std.specs.Prelude.{◌≡◌, ℕ, true, false, List, [], ◌∷◌, Option, Some}
+use Rattle.std.proofs.Common.{refl}
 use Rattle.rx_base.specs.Awaits.{Awaits}
 use Rattle.rx_susp.specs.declared.boundary.BoundaryState.TheVariants.{Hidden}
 use Rattle.rx_ctx.specs.Contexts.{Stack}
@@ -14,8 +14,8 @@ use Rattle.rx_meaning.specs.Cursor.{Open, around, trying, falling, Frame, open_p
 use Rattle.rx_meaning.specs.Touched.{children_with_old}
 use Rattle.rx_fiber.specs.Fibers.{Fiber, begun}
 use Rattle.rx_fiber.specs.Fibers as stage
-use Rattle.rx_fiber.specs.Reading.{has_node, AreFor, IsOf, IsOld}
-use Rattle.rx_fiber.specs.Surround.{AreNext, IsOpenAs, opens, tries, falls, IsKeptAs, fallback_in, is_boundary, IsAround, IsListOf, of_node, of_fallback}
+use Rattle.rx_fiber.specs.Reading.{has_node, IsOld}
+use Rattle.rx_fiber.specs.Surround.{AreNext, IsOpenAs, opens, tries, falls, IsKeptAs, fallback_in, is_boundary, IsAround, of_node, of_fallback}
 use Rattle.rx_fiber.specs.Standing.{IsStack, opened, StandsAt}
 use Rattle.rx_fiber.proofs.Coming.{come_at, comes}
 

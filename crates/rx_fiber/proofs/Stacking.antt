@@ -1,6 +1,6 @@
 -- The stack of contexts at the beginning and at the end of an open node.
-use Rattle.std.specs.Prelude.{◌≡◌, ℕ, ℤ, List, [], ◌∷◌, Option, Some, None, slice_set}
-use Rattle.std.proofs.Common.{refl, sym, ap, ◌∙◌, subst}
+use Rattle.std.specs.Prelude.{◌≡◌, ℕ, ℤ, List, [], ◌∷◌, Some, None, slice_set}
+use Rattle.std.proofs.Common.{refl, ap, subst}
 use Rattle.rx_ctx.specs.Contexts.{Stack, values_at}
 use Rattle.rx_ctx.specs.Contexts as contexts
 use Rattle.rx_meaning.specs.Fresh.{Contexts}

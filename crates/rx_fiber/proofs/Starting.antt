@@ -1,5 +1,5 @@
 -- A render at its start, and the tree that it leaves at its end.
-use Rattle.std.specs.Prelude.{◌≡◌, ℕ, suc, List, [], ◌∷◌, Option, Some, None}
+use Rattle.std.specs.Prelude.{◌≡◌, ℕ, Option, Some, None}
 use Rattle.std.proofs.Common.{refl, sym, ap, ◌∙◌, subst, eq-eqb}
 use Rattle.rx_ctx.specs.Contexts.{Stack}
 use Rattle.rx_ctx.specs.Contexts as contexts
@@ -7,7 +7,7 @@ use Rattle.rx_elem.specs.Trees.{Node, Forest, forest}
 use Rattle.rx_elem.specs.Trees as trees
 use Rattle.rx_lists.specs.Shapes.{Shape, fiber, first}
 use Rattle.rx_lists.specs.Shapes as shapes
-use Rattle.rx_links.specs.Drafts.{Draft, taken, made, Trees, grafted, list_at}
+use Rattle.rx_links.specs.Drafts.{taken, made, Trees, grafted, list_at}
 use Rattle.rx_links.specs.Places.{top}
 use Rattle.rx_meaning.specs.Fresh.{Sight, Place, default_contexts, root_element}
 use Rattle.rx_meaning.specs.Fresh as fresh

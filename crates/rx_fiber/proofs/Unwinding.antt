@@ -1,22 +1,20 @@
 -- A wait goes outwards from fiber to fiber, up to the nearest boundary that tries its children.
-use Rattle.std.specs.Prelude.{◌≡◌, ℕ, suc, Bool, true, false, List, [], ◌∷◌, Option, Some, None, if◌then◌else◌}
-use Rattle.std.proofs.Common.{refl, sym, ap, ◌∙◌, subst}
-use Rattle.rx_base.specs.Awaits.{Awaits, union}
+use Rattle.std.specs.Prelude.{◌≡◌, ℕ, suc, true, false, List, [], ◌∷◌, Option, Some, None}
+use Rattle.std.proofs.Common.{refl, ap, ◌∙◌}
+use Rattle.rx_base.specs.Awaits.{Awaits}
 use Rattle.rx_ctx.specs.Contexts.{Stack, values_at}
 use Rattle.rx_elem.specs.Elements.{Element}
 use Rattle.rx_elem.specs.Elements as elements
-use Rattle.rx_elem.specs.Trees.{Node, Mark, is_hidden, awaits_in, fallback_if}
+use Rattle.rx_elem.specs.Trees.{Node}
 use Rattle.rx_lists.specs.Shapes.{Shape}
 use Rattle.rx_lists.specs.Shapes as shapes
 use Rattle.rx_links.specs.Drafts.{Draft, taken, made, Trees}
 use Rattle.rx_links.specs.Places.{Around, top, below, after, placed, up_of}
-use Rattle.rx_meaning.specs.Fresh.{Contexts, Part, part, waits}
-use Rattle.rx_meaning.specs.Cursor.{Open, around, trying, falling, Frame, Cursor, at_place, ended, past, open_part, unwind}
-use Rattle.rx_fiber.specs.Fibers.{Stage, Fiber, begun}
-use Rattle.rx_fiber.specs.Fibers as stage
-use Rattle.rx_fiber.specs.Reading.{IsOld}
-use Rattle.rx_fiber.specs.Surround.{above_list, fallback_in, is_boundary, open_element, IsOpenAs, opens, tries, falls, IsAround, at_root, inside, IsKeptAs, IsListOf, of_node, of_fallback}
-use Rattle.rx_fiber.specs.Standing.{given_in, given_by, IsStack, opened, StandsAt, begins}
+use Rattle.rx_meaning.specs.Fresh.{Contexts}
+use Rattle.rx_meaning.specs.Cursor.{Open, falling, Frame, at_place, past, open_part, unwind}
+use Rattle.rx_fiber.specs.Fibers.{Fiber}
+use Rattle.rx_fiber.specs.Surround.{above_list, is_boundary, open_element, IsOpenAs, opens, tries, falls, IsAround, at_root, inside, IsKeptAs, IsListOf, of_node, of_fallback}
+use Rattle.rx_fiber.specs.Standing.{given_in, IsStack, opened, StandsAt, begins}
 use Rattle.rx_fiber.specs.Unwound.{IsWithin, is_trying, passed_on, IsLeftAt}
 use Rattle.rx_fiber.proofs.Arriving.{up_above}
 use Rattle.rx_fiber.proofs.Completing.{whole_list, placed_list, opens_element}

@@ -1,11 +1,10 @@
 -- What the current fibers of a node tell of its old lists.
-use Rattle.std.specs.Prelude.{◌≡◌, ℕ, zero, suc, ◌-◌, Bool, true, false, not, ◌&&◌, List, [], ◌∷◌, ◌++◌, Option, Some, None, if◌then◌else◌, slice_get, option_and_then, map}
+use Rattle.std.specs.Prelude.{ℕ, zero, suc, ◌-◌, Bool, true, false, not, ◌&&◌, List, [], ◌∷◌, ◌++◌, Option, Some, None, if◌then◌else◌, slice_get, option_and_then, map}
 use Rattle.std.specs.Option.{option_flatten}
-use Rattle.rx_base.specs.Awaits.{Awaits}
 use Rattle.rx_elem.specs.Elements.{Element}
 use Rattle.rx_elem.specs.Elements as elements
 use Rattle.rx_elem.specs.Identity.{old_places}
-use Rattle.rx_elem.specs.Trees.{Mark, is_hidden}
+use Rattle.rx_elem.specs.Trees.{is_hidden}
 use Rattle.rx_lists.specs.Shapes.{Shape, none, fiber}
 use Rattle.rx_fiber.specs.Fibers.{Stage, Fiber, waiting, begun, trying, fallback}
 

@@ -1,12 +1,11 @@
 -- What a wait leaves of a render: the fibers outside of the place that waits, up to the nearest boundary that tries its children.
-use Rattle.std.specs.Prelude.{◌≡◌, ℕ, Bool, true, false, List, [], ◌∷◌, Option, Some, None, if◌then◌else◌}
+use Rattle.std.specs.Prelude.{◌≡◌, ℕ, Bool, true, false, List, [], ◌∷◌, Option, if◌then◌else◌}
 use Rattle.rx_base.specs.Awaits.{Awaits, union}
 use Rattle.rx_ctx.specs.Contexts.{Stack, values_at}
-use Rattle.rx_elem.specs.Elements.{Element}
 use Rattle.rx_elem.specs.Trees.{Node, is_hidden, awaits_in, fallback_if}
 use Rattle.rx_links.specs.Drafts.{Draft, made, Trees}
 use Rattle.rx_links.specs.Places.{Around, placed}
-use Rattle.rx_meaning.specs.Fresh.{Contexts, part}
+use Rattle.rx_meaning.specs.Fresh.{part}
 use Rattle.rx_meaning.specs.Cursor.{Frame, falling, Cursor, open_part}
 use Rattle.rx_fiber.specs.Fibers.{Stage, Fiber, waiting, begun, trying, fallback}
 use Rattle.rx_fiber.specs.Reading.{IsOld}

@@ -1,4 +1,4 @@
-use Rattle.std.proofs.Common.{inr, ap, ◌∙◌}
+use Rattle.std.proofs.Common.{inr, ◌∙◌}
 use Rattle.rx_complete.proofs.Completed.{end_made, still_made, next_same, marked_stands, marked_leads}
 use Rattle.rx_complete.proofs.completing.complete.Goals as goal
 
