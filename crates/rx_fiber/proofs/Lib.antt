@@ -7,3 +7,4 @@ pub mod Opening
 pub mod OldLists
 pub mod Matching
 pub mod Unwinding
+pub mod OldReads

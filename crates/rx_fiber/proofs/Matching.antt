@@ -101,7 +101,7 @@ module _ {A B : Type 0} (g : A) (h : B) (f : ℕ → Fiber → A) (k : ℕ → F
   spread_length n none = refl
   spread_length n (fiber id v ks rs) =
       length_choice (is_fallback v.stage) (spread g f n rs) _ (spread h k n rs) _ (spread_length n rs)
-      (filled_length (v.place - n) (f id v) (k id v) (spread g f (suc v.place) rs) (spread h k (suc v.place) rs) (spread_length (suc v.place) rs))
+      (filled_length (v.place - n) (f id v) (k id v) (spread g f (suc (n + (v.place - n))) rs) (spread h k (suc (n + (v.place - n))) rs) (spread_length (suc (n + (v.place - n))) rs))
 
 ids_append : (before xs ys : List Element) → identities_after before (xs ++ ys) ≡ identities_after before xs ++ identities_after (before ++ xs) ys
 ids_append before [] ys = ap (λ b. identities_after b ys) (sym (append-nil before))

@@ -1,5 +1,5 @@
 -- The current fibers of a node tell its old lists.
-use Rattle.std.specs.Prelude.{◌≡◌, ℕ, suc, ◌-◌, ◌≤◌, Bool, true, false, ◌&&◌, ◌∷◌, Option, Some, None, if◌then◌else◌, ◌⊎◌, is_some}
+use Rattle.std.specs.Prelude.{◌≡◌, ℕ, suc, ◌+◌, ◌-◌, ◌≤◌, Bool, true, false, ◌&&◌, ◌∷◌, Option, Some, None, if◌then◌else◌, ◌⊎◌, is_some}
 use Rattle.std.proofs.Common.{refl, sym, ap, ◌∙◌, subst, inl, inr, arith}
 use Rattle.rx_elem.specs.Elements.{Element}
 use Rattle.rx_elem.specs.Trees.{Node, Forest, element_of, elements_in, places, children_if, children_of, fallback_if, fallback_of, is_hidden}
@@ -185,14 +185,16 @@ module _ {A : Type 0} (g : A) (tells : ℕ → Fiber → A) where
   spread_gap n id v ks rs h =
       let l : suc n ≤ v.place = h.0 in
       let e : v.place - n ≡ suc (v.place - suc n) = omega arith in
+      let q : n + suc (v.place - suc n) ≡ suc n + (v.place - suc n) = omega arith in
       let f : is_fallback v.stage ≡ false = h.1 in
-      rw (f, e) refl
+      rw (f, e, q) refl
 
   spread_here : (n id : ℕ) (v : Fiber) (ks rs : Shape Fiber) → v.place ≡ n → is_fallback v.stage ≡ false
       → spread g tells n (fiber id v ks rs) ≡ tells id v ∷ spread g tells (suc n) rs
   spread_here n id v ks rs p f =
       let e : v.place - n ≡ 0 = omega arith in
-      rw (f, e, p) refl
+      let q : n + 0 ≡ n = omega arith in
+      rw (f, e, q) refl
 
   spread_past : (n id : ℕ) (v : Fiber) (ks rs : Shape Fiber) → is_fallback v.stage ≡ true → spread g tells n (fiber id v ks rs) ≡ spread g tells n rs
   spread_past n id v ks rs f = rw f refl

@@ -1,5 +1,5 @@
 -- What the current fibers of a node tell of its old lists.
-use Rattle.std.specs.Prelude.{ℕ, zero, suc, ◌-◌, Bool, true, false, not, ◌&&◌, List, [], ◌∷◌, ◌++◌, Option, Some, None, if◌then◌else◌, slice_get, option_and_then, map}
+use Rattle.std.specs.Prelude.{ℕ, zero, suc, ◌+◌, ◌-◌, Bool, true, false, not, ◌&&◌, List, [], ◌∷◌, ◌++◌, Option, Some, None, if◌then◌else◌, slice_get, option_and_then, map}
 use Rattle.std.specs.Option.{option_flatten}
 use Rattle.rx_elem.specs.Elements.{Element}
 use Rattle.rx_elem.specs.Elements as elements
@@ -52,7 +52,7 @@ module _ {A : Type 0} where
   abbrev pub spread : A → (ℕ → Fiber → A) → (place : ℕ) → Shape Fiber → List A
   spread gap tells n none = []
   spread gap tells n (fiber id v ks rs) =
-      if is_fallback v.stage then spread gap tells n rs else filled (v.place - n) gap ++ tells id v ∷ spread gap tells (suc v.place) rs
+      if is_fallback v.stage then spread gap tells n rs else filled (v.place - n) gap ++ tells id v ∷ spread gap tells (suc (n + (v.place - n))) rs
 
 -- the elements of a list of fibers, place by place: null where there is no fiber
 abbrev pub old_elements : Shape Fiber → List Element

@@ -3,8 +3,10 @@
 
 mod fiber;
 mod mark;
+mod old;
 mod stage;
 
 pub use fiber::Fiber;
 pub use mark::{Instance, Mark};
+pub use old::{old_fallback, old_primary};
 pub use stage::{Stage, StageChange};
