@@ -8,3 +8,4 @@ pub mod OldLists
 pub mod Matching
 pub mod Unwinding
 pub mod OldReads
+pub mod OldPlaces

@@ -48,6 +48,10 @@ module _ {A : Type 0} where
   filled zero x = []
   filled (suc n) x = x ∷ filled n x
 
+  -- what one fiber tells behind so many places: the gap at those before its own, and then its own; nothing where it is that of a fallback
+  abbrev pub told : A → A → (place : ℕ) → Fiber → List A
+  told gap x n v = if is_fallback v.stage then [] else filled (v.place - n) gap ++ x ∷ []
+
   -- what the fibers of a list tell, each at its place, from a place on; what stands at a place without one is given
   abbrev pub spread : A → (ℕ → Fiber → A) → (place : ℕ) → Shape Fiber → List A
   spread gap tells n none = []

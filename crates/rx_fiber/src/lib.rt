@@ -8,5 +8,5 @@ mod stage;
 
 pub use fiber::Fiber;
 pub use mark::{Instance, Mark};
-pub use old::{old_fallback, old_primary};
+pub use old::{OldChildren, old_children, old_fallback, old_primary};
 pub use stage::{Stage, StageChange};

@@ -6,8 +6,8 @@ pub returns-then-begins_fallback-clause-held : goal.returns-then-begins_fallback
 returns-then-begins_fallback-clause-held c =
     let h = some_held c.args.tree.now.current c.args.old c.in_ok-id.id c.requires c.in_ok-id.was in
     let k =
-        some_held c.args.tree.now.current _ c.in_ok-behind.field-0 (rest_held c.args.tree.now.current c.facts.ensures.linked c.in_ok-id.id h)
-        (sym (c.next_sibling-behind.ensures.current h) ∙ c.in_ok-behind.was) in
+    some_held c.args.tree.now.current _ c.in_ok-behind.field-0 (rest_held c.args.tree.now.current c.facts.ensures.linked c.in_ok-id.id h)
+    (sym (c.next_sibling-behind.ensures.current h) ∙ c.in_ok-behind.was) in
     rw (c.first_child.ensures.current k) (kids_held c.args.tree.now.current c.facts.ensures.linked c.in_ok-behind.field-0 k)
 
 pub returns-clause-held : goal.returns-clause-held
