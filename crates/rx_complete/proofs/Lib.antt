@@ -1,0 +1,4 @@
+pub mod Leading
+pub mod Completed
+pub mod Depths
+pub mod Waiting

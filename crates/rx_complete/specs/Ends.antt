@@ -1,0 +1,44 @@
+-- What is completed next, and where the render comes from there.
+use Rattle.std.specs.Prelude.{ℕ, List, Option, Some, None}
+use Rattle.rx_ctx.specs.Contexts.{Stack}
+use Rattle.rx_elem.specs.Elements.{Element}
+use Rattle.rx_elem.specs.Trees.{Node}
+use Rattle.rx_links.specs.Drafts.{Draft, Trees, entry}
+use Rattle.rx_links.specs.Readers.{made_rest_of, made_parent_of}
+use Rattle.rx_meaning.specs.Fresh.{Contexts, Place}
+use Rattle.rx_meaning.specs.Cursor.{Open, Frame, Cursor, at_place, at_end, ended}
+use Rattle.rx_fiber.specs.Fibers.{Fiber}
+use Rattle.rx_fiber.specs.Standing.{StandsAt}
+use Rattle.rx_fiber.specs.Unwound.{IsWithin}
+use Rattle.rx_complete.specs.declared.completing.Next.{Next}
+use Rattle.rx_complete.specs.declared.completing.Next.TheVariants.{Sibling, Parent, Done}
+
+-- the fiber's list is done, and its node is completed next
+pub data IsAtEnd (t : Trees Fiber) (st : Stack) (q : ℕ) : Type 0 where
+  ends : {levels : ℕ} {fs : List Frame} {x : Open} {done : List (Option Node)} → StandsAt t st (Some q) (at_end levels fs x done) → IsAtEnd t st q
+
+-- the fiber lies in the list of an open node, or is the root
+pub data IsOpenBelow (t : Trees Fiber) (st : Stack) (p : ℕ) : Type 0 where
+  lies : {fs : List Frame} → IsWithin t st p fs → IsOpenBelow t st p
+
+-- the fiber that an answer names
+abbrev pub fiber_in : Next → Option ℕ
+fiber_in (Sibling id) = Some id
+fiber_in (Parent id) = Some id
+fiber_in Done = None
+
+-- the next sibling, and where there is none the parent, and where there is none nothing
+abbrev pub next_by : (sibling parent : Option ℕ) → Next
+next_by (Some id) p = Sibling id
+next_by None (Some id) = Parent id
+next_by None None = Done
+
+-- what comes after a fiber of the tree in progress
+abbrev pub next_after : Draft Fiber → ℕ → Next
+next_after d i = next_by (entry (made_rest_of d i)) (made_parent_of d i)
+
+-- a sibling begins next, a parent is completed next, and no unit is left after the root
+pub data LeadsTo : Next → Cursor → Type 0 where
+  to_sibling : {id levels : ℕ} {fs : List Frame} {cs : Contexts} {e : Element} {old : Option Node} → LeadsTo (Sibling id) (at_place levels fs cs e old)
+  to_parent : {id levels : ℕ} {fs : List Frame} {x : Open} {done : List (Option Node)} → LeadsTo (Parent id) (at_end levels fs x done)
+  to_none : {p : Place} → LeadsTo Done (ended p)

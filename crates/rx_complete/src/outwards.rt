@@ -1,0 +1,76 @@
+// A wait goes outwards.
+ghost use Rattle.std.specs.Prelude.{◌≡◌, ℕ, List, Option, Some, None, MatchOption};
+ghost use Rattle.rx_links.specs.Drafts.{Draft, taken};
+ghost use Rattle.rx_lists.specs.Shapes.{none};
+ghost use Rattle.rx_meaning.specs.Fresh.{waits};
+ghost use Rattle.rx_meaning.specs.Cursor.{Frame, ended, unwind};
+ghost use Rattle.rx_fiber.specs.FiberView.{stage_seen};
+ghost use Rattle.rx_fiber.specs.Unwound.{IsWithin, is_trying, passed_on, IsLeftAt};
+ghost use Rattle.rx_complete.specs.Ends.{IsOpenBelow};
+
+use crate::completing::leave;
+use rx_base::Awaits;
+use rx_ctx::ContextStack;
+use rx_fiber::{Fiber, Mark, Stage};
+use rx_links::{FiberId, FiberTree};
+
+// What is waited for outside of a fiber of this stage.
+fn past(stage: &Stage, awaits: Awaits) -> Awaits
+    ensures { result ≡ passed_on (stage_seen stage.now) awaits }
+{
+    match stage {
+        Stage::Begun(Mark::Boundary(state)) if state.hides() => state.awaits().union(awaits),
+        Stage::Fallback(own) => own.union(awaits),
+        _ => awaits,
+    }
+}
+
+fn tries(stage: &Stage) -> bool
+    ensures { result ≡ is_trying (stage_seen stage.now) }
+{
+    matches!(stage, Stage::Trying)
+}
+
+// The nearest boundary above a fiber that tries its children.
+fn find_boundary(
+    tree: &FiberTree<Fiber>,
+    at: FiberId,
+    contexts: &mut ContextStack,
+    awaits: &mut Awaits,
+) -> Option<FiberId>
+    requires { IsOpenBelow tree.now contexts.old at }
+    ensures { (levels : ℕ) (fs : List Frame) → IsWithin tree.now contexts.old at fs → MatchOption result (unwind levels fs awaits.old ≡ ended (waits awaits.new)) (λ q. (kids : Draft Fiber) × IsLeftAt tree.now contexts.new q kids awaits.new (unwind levels fs awaits.old)) }
+{
+    tree.place_facts();
+    tree.facts();
+    let mut here = at;
+    'outwards: while let Some(outer) = tree.parent(here) {
+        let fiber = tree.value(outer);
+        if tries(fiber.stage()) {
+            return Some(outer);
+        }
+        *awaits = past(fiber.stage(), *awaits);
+        leave(fiber.element(), contexts);
+        here = outer;
+    }
+    None
+}
+
+/// A place waits: the attempts around it are given up, up to the nearest boundary that tries its children. What that one made
+/// below it is released, and its fallback is to open next. The resources grow by what each fallback on the way waits for, and
+/// each provider on the way is left. `None` where no boundary stands above: then the tree waits, and all fibers stay.
+pub fn unwind_to_boundary(
+    tree: &mut FiberTree<Fiber>,
+    at: FiberId,
+    contexts: &mut ContextStack,
+    awaits: &mut Awaits,
+) -> Option<FiberId>
+    requires { IsOpenBelow tree.old contexts.old at }
+    ensures left { (levels : ℕ) (fs : List Frame) → IsWithin tree.old contexts.old at fs → MatchOption result ((unwind levels fs awaits.old ≡ ended (waits awaits.new)) × (tree.new ≡ tree.old)) (λ q. IsLeftAt tree.new contexts.new q (taken none) awaits.new (unwind levels fs awaits.old)) }
+    ensures current { tree.new.current ≡ tree.old.current }
+{
+    let boundary = find_boundary(tree, at, contexts, awaits)?;
+    tree.place_facts();
+    tree.drop_children(boundary);
+    Some(boundary)
+}

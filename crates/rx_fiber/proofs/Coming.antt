@@ -1,0 +1,41 @@
+-- A list comes to its next child that isn't null, or it is done.
+use Rattle.std.specs.Prelude.{◌≡◌, ℕ, suc, cond, List, [], ◌∷◌, ◌++◌, Option, Some, None}
+use Rattle.std.proofs.Common.{sym, subst}
+use Rattle.std.proofs.lemmas.List.{append_assoc}
+use Rattle.rx_ctx.specs.Contexts.{Stack, values_at}
+use Rattle.rx_elem.specs.Elements.{Element}
+use Rattle.rx_elem.specs.Trees.{Node, forest}
+use Rattle.rx_links.specs.Drafts.{Draft, taken, made, Trees}
+use Rattle.rx_links.specs.Places.{Around, placed}
+use Rattle.rx_meaning.specs.Fresh.{Contexts}
+use Rattle.rx_meaning.specs.Cursor.{Open, Frame, come_to, at_place}
+use Rattle.rx_fiber.specs.Fibers.{Fiber}
+use Rattle.rx_fiber.specs.Reading.{AreFor, gap}
+use Rattle.rx_fiber.specs.Surround.{AreDone, AreNext, IsAround, inside, IsListOf}
+use Rattle.rx_fiber.specs.Surround as around
+use Rattle.rx_fiber.specs.Standing.{IsStack, same, gives, opened, StandsAt, begins, completes}
+
+-- the fiber that the render has come to: the first that is still to begin, or the one whose list it is
+abbrev pub come_at : Draft Fiber → ℕ → ℕ
+come_at (taken s) q = q
+come_at (made id v o ks rs) q = id
+
+pub gap_done : (k : Around Fiber) (n : ℕ) (done : List (Option Node)) → AreDone k n done → AreDone k (suc n) (done ++ None ∷ [])
+gap_done k n done h xs s a =
+    subst (λ l. AreFor 0 (forest l) (around.behind_earlier k s)) (sym (append_assoc done (None ∷ []) xs)) (h (None ∷ xs) s (gap a))
+
+pub top_values : {st : Stack} {x : Open} {cs : Contexts} {xs : List (Open × Contexts)} → IsStack st ((x, cs) ∷ xs) → values_at st ≡ cs
+top_values (same g v rest) = v
+top_values (gives g v rest) = v
+
+pub comes : (t : Trees Fiber) (st : Stack) (k : Around Fiber) (n q levels : ℕ) (fs : List Frame) (x : Open) (cs : Contexts) (done : List (Option Node))
+    (xs : List (Element × Option Node)) (d : Draft Fiber)
+    → t.draft ≡ placed k d → AreDone k n done → AreNext t.current n xs d → IsListOf t.current k q x cs fs → IsStack st ((x, cs) ∷ opened fs)
+    → StandsAt t st (Some (come_at d q)) (come_to levels fs x cs done xs)
+comes t st k n q levels fs x cs done [] _ here before around.no_more list stack = completes here before list stack
+comes t st k n q levels fs x cs done (y ∷ ys) d here before (around.gap null more) list stack =
+    subst (λ b. StandsAt t st (Some (come_at d q)) (cond b (come_to levels fs x cs (done ++ None ∷ []) ys) (at_place levels ((record { node = x; contexts = cs; done = done; rest = ys }) ∷ fs) cs y.0 y.1)))
+    (sym null) (comes t st k (suc n) q levels fs x cs (done ++ None ∷ []) ys d here (gap_done k n done before) more list stack)
+comes t st k n q levels fs x cs done (y ∷ ys) (made id _ _ _ _) here before (around.next there waits old more) list stack =
+    subst (λ b. StandsAt t st (Some id) (cond b (come_to levels fs x cs (done ++ None ∷ []) ys) (at_place levels ((record { node = x; contexts = cs; done = done; rest = ys }) ∷ fs) cs y.0 y.1)))
+    (sym there) (begins here waits old (inside before more list) (top_values stack) stack)

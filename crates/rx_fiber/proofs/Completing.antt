@@ -1,0 +1,112 @@
+-- A node is completed: its list is done, and the render arrives with it.
+use Rattle.std.specs.Prelude.{◌≡◌, ℕ, List, [], Option, Some}
+use Rattle.std.proofs.Common.{refl, sym, ap, ◌∙◌, subst}
+use Rattle.std.proofs.lemmas.List.{append-nil}
+use Rattle.rx_ctx.specs.Contexts.{Stack}
+use Rattle.rx_elem.specs.Trees.{Node, forest}
+use Rattle.rx_lists.specs.Shapes.{Shape, fiber}
+use Rattle.rx_lists.specs.Shapes as shapes
+use Rattle.rx_links.specs.Drafts.{Draft, taken, made, Trees, grafted}
+use Rattle.rx_links.specs.Places.{Around, top, below, after, placed, up_of}
+use Rattle.rx_meaning.specs.Fresh.{Contexts}
+use Rattle.rx_meaning.specs.Cursor.{Open, Frame, at_end, arrive, finished}
+use Rattle.rx_fiber.specs.Fibers.{Fiber, completed, completed_stage}
+use Rattle.rx_fiber.specs.Reading.{AreFor, IsFor, whole, alone, beside}
+use Rattle.rx_fiber.specs.Reading as reading
+use Rattle.rx_fiber.specs.Surround.{AreDone, IsOpenAs, opens, tries, falls, IsAround, of_node, of_fallback, behind_earlier, above_list, open_element}
+use Rattle.rx_fiber.specs.Standing.{IsStack, opened, StandsAt, completes}
+use Rattle.rx_fiber.proofs.Arriving.{one_done, two_done, next_at, arrives}
+
+-- a list in progress with the earlier siblings of its place
+abbrev pub whole_list : Around Fiber → Draft Fiber → Draft Fiber
+whole_list top d = d
+whole_list (below id v o rs k) d = d
+whole_list (after id v o ks k) d = whole_list k (made id v o ks d)
+
+pub placed_list : (k : Around Fiber) (d : Draft Fiber) → placed k d ≡ placed (above_list k) (whole_list k d)
+placed_list top d = refl
+placed_list (below id v o rs k) d = refl
+placed_list (after id v o ks k) d = placed_list k (made id v o ks d)
+
+pub grafted_list : (k : Around Fiber) (d : Draft Fiber) → grafted (whole_list k d) ≡ behind_earlier k (grafted d)
+grafted_list top d = refl
+grafted_list (below id v o rs k) d = refl
+grafted_list (after id v o ks k) d = grafted_list k (made id v o ks d)
+
+-- a list that is done is that of its nodes
+pub list_done : (k : Around Fiber) (n : ℕ) (done : List (Option Node)) → AreDone k n done → AreFor 0 (forest done) (grafted (whole_list k (taken shapes.none)))
+list_done k n done before =
+    subst (λ s. AreFor 0 (forest done) s) (sym (grafted_list k (taken shapes.none)))
+    (subst (λ l. AreFor 0 (forest l) (behind_earlier k shapes.none)) (append-nil done) (before [] shapes.none reading.no_more))
+
+-- a list that is done stands for the node of its fiber, once that one is completed
+pub node_finished : (c : Shape Fiber) (v : Fiber) (o : Option ℕ) (cs : Contexts) (x : Open) (q : ℕ) (done : List (Option Node)) (ks rest : Shape Fiber)
+    → IsOpenAs c v o cs x → AreFor 0 (forest done) ks → IsFor v.place (finished x done) (fiber q (completed v) ks rest) rest
+node_finished c v o cs x q done ks rest (opens e m shown) a = whole (record { at = refl; element = e; stage = ap completed_stage m }) shown a
+node_finished c v o cs x q done ks rest (tries e s b old) a = whole (record { at = refl; element = e; stage = ap completed_stage s }) refl a
+node_finished c v o cs x q done ks rest (falls e m none) a = alone (record { at = refl; element = e; stage = ap completed_stage m }) refl none a
+
+pub opens_element : (c : Shape Fiber) (v : Fiber) (o : Option ℕ) (cs : Contexts) (x : Open) → IsOpenAs c v o cs x → v.element ≡ open_element x
+opens_element c v o cs x (opens e m shown) = e
+opens_element c v o cs x (tries e s is old) = e
+opens_element c v o cs x (falls e m none) = e
+
+-- What the fiber that is completed next is to the two trees: once its value is that of a node that is done, and what its element gave is taken from the stack, the render arrives with its node.
+pub record Completes (t : Trees Fiber) (q : ℕ) (fs : List Frame) (x : Open) (done : List (Option Node)) : Type 0 where
+  -- what surrounds the fiber, and what surrounds the first fiber of its node: another one where it is that of a fallback beside kept content
+  pub around : Around Fiber
+  pub first : Around Fiber
+  pub place : ℕ
+  pub value : Fiber
+  pub old : Option ℕ
+  pub kids : Draft Fiber
+  pub rest : Draft Fiber
+  pub here : t.draft ≡ placed around (made q value old kids rest)
+  pub surrounds : IsAround t.current first place rest fs
+  pub parent : up_of around ≡ up_of first
+  pub element : value.element ≡ open_element x
+  pub arrives : (new : Trees Fiber) (st : Stack) (levels : ℕ) → new.current ≡ t.current → new.draft ≡ placed around (made q (completed value) old kids rest)
+      → IsStack st (opened fs) → StandsAt new st (next_at around rest) (arrive levels fs (Some (finished x done)))
+
+pub completing : (t : Trees Fiber) (st : Stack) (q levels : ℕ) (fs : List Frame) (x : Open) (done : List (Option Node))
+    → StandsAt t st (Some q) (at_end levels fs x done) → Completes t q fs x done
+completing t st q levels fs x done (completes {n = n} {k = k} here before (of_node {k₁ = k₁} {v = v} {o = o} {rest = rest} {cs = cs} above is around) stack) =
+    let ks : Draft Fiber = whole_list k (taken shapes.none) in
+    record {
+      around = k₁;
+      first = k₁;
+      place = v.place;
+      surrounds = around;
+      parent = refl;
+      value = v;
+      old = o;
+      kids = ks;
+      rest = rest;
+      here = here ∙ (placed_list k (taken shapes.none) ∙ ap (λ a. placed a ks) above);
+      element = opens_element t.current v o cs x is;
+      arrives = λ new st levels same there stack.
+          arrives new st k₁ (after q (completed v) o ks k₁) v.place levels rest fs (finished x done) there refl
+          (λ earlier are. one_done k₁ v.place earlier (finished x done) q (completed v) o ks are
+          (λ more. node_finished t.current v o cs x q done (grafted ks) more is (list_done k n done before)))
+          (subst (λ c. IsAround c k₁ v.place rest fs) (sym same) around) stack;
+    }
+completing t st q levels fs x done (completes {n = n} {k = k} here before (of_fallback {k₁ = k₁} {b = b} {v = v} {w = w} {o = o} {p = p} {kept = kept} {rest = rest} {e = e} {old = old} {a = a} above is around) stack) =
+    let ks : Draft Fiber = whole_list k (taken shapes.none) in
+    record {
+      around = after b v o (taken kept) k₁;
+      first = k₁;
+      place = v.place;
+      surrounds = around;
+      parent = refl;
+      value = w;
+      old = p;
+      kids = ks;
+      rest = rest;
+      here = here ∙ (placed_list k (taken shapes.none) ∙ ap (λ a. placed a ks) above);
+      element = is.element;
+      arrives = λ new st levels same there stack.
+          arrives new st k₁ (after q (completed w) p ks (after b v o (taken kept) k₁)) v.place levels rest fs (finished x done) there refl
+          (λ earlier are. two_done k₁ v.place earlier (finished x done) b q v (completed w) o p (taken kept) ks are
+          (λ more. beside is.of refl is.keeps is.are (ap completed_stage is.stage) (list_done k n done before)))
+          (subst (λ c. IsAround c k₁ v.place rest fs) (sym same) around) stack;
+    }

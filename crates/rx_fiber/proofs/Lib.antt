@@ -1,0 +1,11 @@
+pub mod Coming
+pub mod Arriving
+pub mod Completing
+pub mod Stacking
+pub mod Starting
+pub mod Opening
+pub mod OldLists
+pub mod Matching
+pub mod Unwinding
+pub mod OldReads
+pub mod OldPlaces

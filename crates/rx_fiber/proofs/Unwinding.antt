@@ -1,0 +1,220 @@
+-- A wait goes outwards from fiber to fiber, up to the nearest boundary that tries its children.
+use Rattle.std.specs.Prelude.{◌≡◌, ℕ, suc, true, false, List, [], ◌∷◌, Option, Some, None}
+use Rattle.std.proofs.Common.{refl, ap, ◌∙◌}
+use Rattle.rx_base.specs.Awaits.{Awaits}
+use Rattle.rx_ctx.specs.Contexts.{Stack, values_at}
+use Rattle.rx_elem.specs.Elements.{Element}
+use Rattle.rx_elem.specs.Elements as elements
+use Rattle.rx_elem.specs.Trees.{Node}
+use Rattle.rx_lists.specs.Shapes.{Shape}
+use Rattle.rx_lists.specs.Shapes as shapes
+use Rattle.rx_links.specs.Drafts.{Draft, taken, made, Trees}
+use Rattle.rx_links.specs.Places.{Around, top, below, after, placed, up_of}
+use Rattle.rx_meaning.specs.Fresh.{Contexts}
+use Rattle.rx_meaning.specs.Cursor.{Open, falling, Frame, at_place, past, open_part, unwind}
+use Rattle.rx_fiber.specs.Fibers.{Fiber}
+use Rattle.rx_fiber.specs.Surround.{above_list, is_boundary, open_element, IsOpenAs, opens, tries, falls, IsAround, at_root, inside, IsKeptAs, IsListOf, of_node, of_fallback}
+use Rattle.rx_fiber.specs.Standing.{given_in, IsStack, opened, StandsAt, begins}
+use Rattle.rx_fiber.specs.Unwound.{IsWithin, is_trying, passed_on, IsLeftAt}
+use Rattle.rx_fiber.proofs.Arriving.{up_above}
+use Rattle.rx_fiber.proofs.Completing.{whole_list, placed_list, opens_element}
+use Rattle.rx_fiber.proofs.Coming.{top_values}
+use Rattle.rx_fiber.proofs.Stacking.{kept}
+
+-- how many fibers a place is below
+abbrev pub depth : Around Fiber → ℕ
+depth top = 0
+depth (below id v o rs k) = suc (depth k)
+depth (after id v o ks k) = depth k
+
+depth_above : (k : Around Fiber) → depth k ≡ depth (above_list k)
+depth_above top = refl
+depth_above (below id v o rs k) = refl
+depth_above (after id v o ks k) = depth_above k
+
+boundary_gives : (e : Element) → is_boundary e ≡ true → given_in e ≡ None
+boundary_gives elements.null h = refl
+boundary_gives (elements.text t) h = refl
+boundary_gives (elements.host n k attrs es) h = refl
+boundary_gives (elements.comp c k ps es) h = refl
+boundary_gives (elements.list es) h = refl
+boundary_gives (elements.boundary k f es) h = refl
+boundary_gives (elements.provider c k x es) h = cc
+
+-- What stands right outside of a fiber: the fiber that is open there, and what a wait does at it.
+pub record Outside (t : Trees Fiber) (st : Stack) (p : ℕ) (f : Frame) (fs : List Frame) : Type 0 where
+  pub inner : Around Fiber
+  pub first : Fiber
+  pub first_old : Option ℕ
+  pub first_kids : Draft Fiber
+  pub first_rest : Draft Fiber
+  pub starts : t.draft ≡ placed inner (made p first first_old first_kids first_rest)
+  pub id : ℕ
+  pub parent : up_of inner ≡ Some id
+  pub around : Around Fiber
+  pub value : Fiber
+  pub old : Option ℕ
+  pub kids : Draft Fiber
+  pub rest : Draft Fiber
+  pub here : t.draft ≡ placed around (made id value old kids rest)
+  pub deeper : depth inner ≡ suc (depth around)
+  pub element : value.element ≡ open_element f.node
+  -- it is no boundary that tries its children: the wait goes on outwards
+  pub outwards : is_trying value.stage ≡ false → (levels : ℕ) (a : Awaits) → unwind levels (f ∷ fs) a ≡ unwind (suc levels) fs (passed_on value.stage a)
+  pub within : (new : Stack) → IsStack new (opened fs) → IsWithin t new id fs
+  -- it is one: the wait stops there, whatever its children are then
+  pub left : is_trying value.stage ≡ true → (new : Trees Fiber) (ks : Draft Fiber) (levels : ℕ) (a : Awaits) → new.current ≡ t.current
+      → new.draft ≡ placed around (made id value old ks rest) → IsLeftAt new st id ks a (unwind levels (f ∷ fs) a)
+
+outwards_open : (c : Shape Fiber) (v : Fiber) (o : Option ℕ) (cs : Contexts) (x : Open) (fs : List Frame) → IsOpenAs c v o cs x → is_trying v.stage ≡ false → (levels : ℕ) (a : Awaits)
+    → past x a (unwind (suc levels) fs) (open_part levels fs) ≡ unwind (suc levels) fs (passed_on v.stage a)
+outwards_open c v o cs _ fs (opens {e = e} {m = m} element mark shown) out levels a = ap (unwind (suc levels) fs) (rw (mark, shown) refl)
+outwards_open c v o cs _ fs (tries element s is old) out levels a = cc (ap is_trying s)
+outwards_open c v o cs _ fs (falls element mark gone) out levels a = ap (unwind (suc levels) fs) (rw mark refl)
+
+left_open : (t : Trees Fiber) (st : Stack) (k : Around Fiber) (q : ℕ) (v : Fiber) (o : Option ℕ) (rest : Draft Fiber) (cs : Contexts) (x : Open) (fs : List Frame)
+    → IsOpenAs t.current v o cs x → IsAround t.current k v.place rest fs → IsStack st ((x, cs) ∷ opened fs) → is_trying v.stage ≡ true
+    → (new : Trees Fiber) (ks : Draft Fiber) (levels : ℕ) (a : Awaits) → new.current ≡ t.current → new.draft ≡ placed k (made q v o ks rest)
+    → IsLeftAt new st q ks a (past x a (unwind (suc levels) fs) (open_part levels fs))
+left_open t st k q v o rest cs _ fs (opens element mark shown) surrounds stack in_it new ls levels a same there = cc (ap is_trying mark)
+left_open t st k q v o rest cs _ fs (falls element mark gone) surrounds stack in_it new ls levels a same there = cc (ap is_trying mark)
+left_open t st k q v o rest cs _ fs (tries {e = e} {old = old} element s is was) surrounds stack in_it new ls levels a same there =
+    let values : values_at st ≡ cs = top_values stack in
+    record {
+      around = k;
+      value = v;
+      old = o;
+      rest = rest;
+      levels = levels;
+      frames = fs;
+      node = old;
+      here = there;
+      stage = s;
+      boundary = ap is_boundary element ∙ is;
+      was = rw same was;
+      surrounds = rw same surrounds;
+      stack = kept st _ cs (opened fs) (boundary_gives e is) stack;
+      opens = rw (element, values) refl;
+    }
+
+-- a frame whose node is this one
+falling_outside : (t : Trees Fiber) (st : Stack) (p : ℕ) (done : List (Option Node)) (left : List (Element × Option Node)) (cs : Contexts) (e : Element) (old : Option Node) (a : Awaits)
+    (fs : List Frame) (i : Around Fiber) (u : Fiber) (r : Option ℕ) (us ls : Draft Fiber) (k₁ : Around Fiber) (q b : ℕ) (v w : Fiber) (o s : Option ℕ) (kept : Shape Fiber) (rest : Draft Fiber)
+    → t.draft ≡ placed i (made p u r us ls) → above_list i ≡ below q w s rest (after b v o (taken kept) k₁) → IsKeptAs v w kept e old a → IsAround t.current k₁ v.place rest fs
+    → Outside t st p (record { node = falling e old a; contexts = cs; done = done; rest = left }) fs
+falling_outside t st p done left cs e old a fs i u r us ls k₁ q b v w o s kept rest here up is surrounds =
+    let ks : Draft Fiber = whole_list i (made p u r us ls) in
+    let at : t.draft ≡ placed (after b v o (taken kept) k₁) (made q w s ks rest) = here ∙ (placed_list i (made p u r us ls) ∙ ap (λ k. placed k ks) up) in
+    record {
+      inner = i;
+      first = u;
+      first_old = r;
+      first_kids = us;
+      first_rest = ls;
+      starts = here;
+      id = q;
+      parent = up_above i ∙ ap up_of up;
+      around = after b v o (taken kept) k₁;
+      value = w;
+      old = s;
+      kids = ks;
+      rest = rest;
+      here = at;
+      deeper = depth_above i ∙ ap depth up;
+      element = is.element;
+      outwards = λ out levels c. ap (unwind (suc levels) fs) (let m = is.stage in rw m refl);
+      within = λ new stack. record {
+        around = after b v o (taken kept) k₁;
+        value = w;
+        old = s;
+        kids = ks;
+        rest = rest;
+        here = at;
+        beside = k₁;
+        place = v.place;
+        later = rest;
+        same_list = refl;
+        surrounds = surrounds;
+        stack = stack;
+      };
+      left = λ in_it new ls levels c same there. cc (ap is_trying is.stage);
+    }
+
+list_outside : (t : Trees Fiber) (st : Stack) (p : ℕ) (done : List (Option Node)) (left : List (Element × Option Node)) (x : Open) (cs : Contexts)
+    (fs : List Frame) (i : Around Fiber) (u : Fiber) (r : Option ℕ) (us ls : Draft Fiber) (j : Around Fiber) (q : ℕ)
+    → t.draft ≡ placed i (made p u r us ls) → above_list i ≡ above_list j → IsListOf t.current j q x cs fs → IsStack st ((x, cs) ∷ opened fs)
+    → Outside t st p (record { node = x; contexts = cs; done = done; rest = left }) fs
+list_outside t st p done left x cs fs i u r us ls j q starts same (of_node {k₁ = k₁} {v = v} {o = o} {rest = rest} above is surrounds) stack =
+    let ks : Draft Fiber = whole_list i (made p u r us ls) in
+    let up : above_list i ≡ below q v o rest k₁ = same ∙ above in
+    let at : t.draft ≡ placed k₁ (made q v o ks rest) = starts ∙ (placed_list i (made p u r us ls) ∙ ap (λ k. placed k ks) up) in
+    record {
+      inner = i;
+      first = u;
+      first_old = r;
+      first_kids = us;
+      first_rest = ls;
+      starts = starts;
+      id = q;
+      parent = up_above i ∙ ap up_of up;
+      around = k₁;
+      value = v;
+      old = o;
+      kids = ks;
+      rest = rest;
+      here = at;
+      deeper = depth_above i ∙ ap depth up;
+      element = opens_element t.current v o cs x is;
+      outwards = λ out levels a. outwards_open t.current v o cs x fs is out levels a;
+      within = λ new stack. record {
+        around = k₁;
+        value = v;
+        old = o;
+        kids = ks;
+        rest = rest;
+        here = at;
+        beside = k₁;
+        place = v.place;
+        later = rest;
+        same_list = refl;
+        surrounds = surrounds;
+        stack = stack;
+      };
+      left = λ in_it new ls levels a same there. left_open t st k₁ q v o rest cs x fs is surrounds stack in_it new ls levels a same there;
+    }
+list_outside t st p done left _ cs fs i u r us ls j q starts same
+    (of_fallback {k₁ = k₁} {b = b} {v = v} {w = w} {o = o} {p = s} {kept = keeps} {rest = rest} {e = e} {old = old} {a = a} above is surrounds) stack =
+    falling_outside t st p done left cs e old a fs i u r us ls k₁ q b v w o s keeps rest starts (same ∙ above) is surrounds
+
+-- The fiber outside of one is open, and the wait goes past it or stops there.
+pub outside : (t : Trees Fiber) (st : Stack) (p : ℕ) (f : Frame) (fs : List Frame) → IsWithin t st p (f ∷ fs) → Outside t st p f fs
+outside t st p f fs w = by_list w.beside w.place w.later w.same_list w.surrounds
+  where
+    by_list : (j : Around Fiber) (n : ℕ) (later : Draft Fiber) → above_list w.around ≡ above_list j → IsAround t.current j n later (f ∷ fs) → Outside t st p f fs
+    by_list j n later same (inside before behind list) =
+        list_outside t st p f.done f.rest f.node f.contexts fs w.around w.value w.old w.kids w.rest j _ w.here same list w.stack
+
+-- The root has nothing outside of it, and a wait there is that of the whole tree.
+pub at_top : (t : Trees Fiber) (st : Stack) (p : ℕ) (w : IsWithin t st p []) → up_of w.around ≡ None
+at_top t st p w = by_list w.beside w.place w.later w.same_list w.surrounds
+  where
+    by_list : (j : Around Fiber) (n : ℕ) (later : Draft Fiber) → above_list w.around ≡ above_list j → IsAround t.current j n later [] → up_of w.around ≡ None
+    by_list _ _ _ same at_root = up_above w.around ∙ ap up_of same
+
+-- A place that waits lies in the list of the innermost open node.
+pub place_within : (t : Trees Fiber) (st : Stack) (p levels : ℕ) (fs : List Frame) (cs : Contexts) (e : Element) (old : Option Node)
+    → StandsAt t st (Some p) (at_place levels fs cs e old) → IsWithin t st p fs
+place_within t st p levels fs cs e old (begins {n = n} {v = v} {o = o} {rs = rs} {k = k} here is was surrounds values stack) = record {
+  around = k;
+  value = v;
+  old = o;
+  kids = taken shapes.none;
+  rest = rs;
+  here = here;
+  beside = k;
+  place = n;
+  later = rs;
+  same_list = refl;
+  surrounds = surrounds;
+  stack = stack;
+}

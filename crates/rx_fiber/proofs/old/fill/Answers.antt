@@ -1,0 +1,12 @@
+use Rattle.std.proofs.Common.{◌≡◌, ◌<◌, length, refl, sym, ◌∙◌, arith}
+use Rattle.rx_fiber.proofs.OldPlaces.{fill_more, one_longer}
+use Rattle.rx_fiber.proofs.old.fill.Goals as goal
+
+pub filling-preserved : goal.filling-preserved
+filling-preserved c =
+    let longer = one_longer _ _ _ c.in_ok-push.ensures.items in
+    let few : length c.filling.children.elements.items < c.args.place = omega arith in
+    record {
+      elements = fill_more _ _ _ _ _ _ _ c.in_ok-push.ensures.items c.in_ok-null.ensures few longer ∙ c.filling.invariant.elements;
+      fibers = fill_more _ _ _ _ _ _ _ c.in_ok-push-2.ensures.items refl few longer ∙ c.filling.invariant.fibers;
+    }

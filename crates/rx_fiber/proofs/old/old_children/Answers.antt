@@ -1,0 +1,21 @@
+use Rattle.std.proofs.Common.{◌≡◌, Some, refl, sym, ◌∙◌, subst}
+use Rattle.rx_lists.specs.Shapes.{Holds}
+use Rattle.rx_fiber.proofs.OldPlaces.{told_same, listed_step}
+use Rattle.rx_fiber.proofs.OldReads.{some_held, rest_held}
+use Rattle.rx_fiber.proofs.old.old_children.Goals as goal
+
+pub listing-preserved : goal.listing-preserved
+listing-preserved c =
+    let h = some_held c.args.tree.now.current c.listing.next c.in-Some.id c.listing.invariant.held c.in-Some.is in
+    let value = c.value.ensures.current h in
+    let beyond = c.next_sibling-next.ensures.current h in
+    record {
+      held = rw beyond (rest_held c.args.tree.now.current c.facts.ensures.linked c.in-Some.id h);
+      same = told_same _ _ _ _ _ _ _ _ c.value.result.now c.listing.invariant.same c.in_ok-add.ensures.elements c.in_ok-add.ensures.fibers;
+      elements =
+          listed_step c.args.tree.now.current c.facts.ensures.linked c.in-Some.id h c.listing.next c.next_sibling-next.result c.value.result.now _ _ _ _ (λ id v. v.element) c.in-Some.is value beyond
+          c.listing.invariant.elements c.in_ok-add.ensures.elements;
+      fibers =
+          listed_step c.args.tree.now.current c.facts.ensures.linked c.in-Some.id h c.listing.next c.next_sibling-next.result c.value.result.now _ _ _ _ (λ id v. Some id) c.in-Some.is value beyond
+          c.listing.invariant.fibers c.in_ok-add.ensures.fibers;
+    }

@@ -1,0 +1,42 @@
+-- A fiber of the code as plain data.
+use Rattle.rx_elem.specs.Trees as trees
+use Rattle.rx_fiber.specs.Fibers as fibers
+use Rattle.rx_fiber.specs.Fibers.{completed_stage}
+use Rattle.rx_elem.specs.Trees.{of_instance, of_host, of_boundary, plain}
+use Rattle.rx_fiber.specs.declared.mark.Instance.{Instance}
+use Rattle.rx_fiber.specs.declared.mark.Mark.{Mark}
+use Rattle.rx_fiber.specs.declared.mark.Mark.TheVariants as mark
+use Rattle.rx_fiber.specs.declared.stage.Stage.{Stage}
+use Rattle.rx_fiber.specs.declared.stage.Stage.TheVariants as stage
+use Rattle.rx_susp.specs.declared.boundary.BoundaryState.TheVariants as boundary
+use Rattle.rx_fiber.specs.declared.stage.StageChange.{StageChange}
+use Rattle.rx_fiber.specs.declared.stage.StageChange.TheVariants as change
+
+-- an instance
+abbrev pub instance_seen : Instance → trees.Instance
+instance_seen i =
+    record { number = i.number; component = i.component; initials = i.initials.value; reads = i.reads.value.items; effects = i.effects.value.items }
+
+-- what a node has beside its element and its children
+abbrev pub mark_seen : Mark → trees.Mark
+mark_seen (mark.Instance i) = of_instance (instance_seen i)
+mark_seen (mark.Host n) = of_host n
+mark_seen (mark.Boundary b) = of_boundary b
+mark_seen mark.Plain = plain
+
+-- how far a fiber has come
+abbrev pub stage_seen : Stage → fibers.Stage
+stage_seen stage.Waiting = fibers.waiting
+stage_seen (stage.Begun m) = fibers.begun (mark_seen m)
+stage_seen stage.Trying = fibers.trying
+stage_seen (stage.Fallback a) = fibers.fallback a
+
+-- a stage after a change
+abbrev pub changed_stage : StageChange → fibers.Stage → fibers.Stage
+changed_stage change.Complete s = completed_stage s
+changed_stage change.Try s = fibers.trying
+changed_stage (change.Hide a) s = fibers.begun (of_boundary (boundary.Hidden a))
+
+-- a fiber whose stage is changed
+abbrev pub changed : StageChange → fibers.Fiber → fibers.Fiber
+changed by v = record v { stage = changed_stage by v.stage }

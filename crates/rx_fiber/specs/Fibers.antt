@@ -1,0 +1,35 @@
+-- What a fiber holds beside its links.
+use Rattle.std.specs.Prelude.{ℕ, Option}
+use Rattle.rx_susp.specs.declared.boundary.BoundaryState.TheVariants.{Shown}
+use Rattle.rx_base.specs.Awaits.{Awaits}
+use Rattle.rx_elem.specs.Elements.{Element}
+use Rattle.rx_elem.specs.Trees.{Mark, of_boundary}
+
+-- how far a fiber has come
+pub data Stage : Type 0 where
+  -- it is made for a place that the render has not come to
+  waiting : Stage
+  -- it is begun: a node with this mark, over its children
+  begun : Mark → Stage
+  -- a boundary whose children are tried
+  trying : Stage
+  -- the fallback of the boundary right before it, which keeps its primary content and waits for these
+  fallback : Awaits → Stage
+
+-- a fiber: its place among the children of its parent, its element, how far it has come, and where the hooks of its instance stand, if it is one that is committed
+pub record Fiber : Type 0 where
+  pub place : ℕ
+  pub element : Element
+  pub stage : Stage
+  pub hooks : Option ℕ
+
+-- a node is completed: a boundary whose children were tried is shown, and nothing else changes
+abbrev pub completed_stage : Stage → Stage
+completed_stage waiting = waiting
+completed_stage (begun m) = begun m
+completed_stage trying = begun (of_boundary Shown)
+completed_stage (fallback a) = fallback a
+
+-- the fiber of a node that is completed
+abbrev pub completed : Fiber → Fiber
+completed v = record v { stage = completed_stage v.stage }

@@ -1,0 +1,106 @@
+-- What surrounds the place that a render has come to, read from the fibers around it.
+use Rattle.std.specs.Prelude.{◌≡◌, ℕ, suc, Bool, true, false, List, [], ◌∷◌, ◌++◌, Option}
+use Rattle.rx_base.specs.Awaits.{Awaits}
+use Rattle.rx_elem.specs.Elements.{Element}
+use Rattle.rx_elem.specs.Elements as elements
+use Rattle.rx_elem.specs.Trees.{Mark, of_boundary, Node, forest, children_if, fallback_if, is_hidden}
+use Rattle.rx_susp.specs.declared.boundary.BoundaryState.TheVariants.{Hidden}
+use Rattle.rx_lists.specs.Shapes.{Shape, fiber}
+use Rattle.rx_lists.specs.Shapes as shapes
+use Rattle.rx_links.specs.Drafts.{Draft, taken, made, grafted}
+use Rattle.rx_links.specs.Places.{Around, top, below, after}
+use Rattle.rx_meaning.specs.Fresh.{Contexts, part}
+use Rattle.rx_meaning.specs.Cursor.{Open, around, trying, falling, Frame, is_null}
+use Rattle.rx_fiber.specs.Fibers.{Fiber, waiting, begun}
+use Rattle.rx_fiber.specs.Fibers as stage
+use Rattle.rx_fiber.specs.Reading.{has_node, IsOf, AreFor, IsOld}
+
+-- the fiber of a place that the render has not come to
+pub record IsWaiting (v : Fiber) (place : ℕ) (e : Element) : Type 0 where
+  pub at : v.place ≡ place
+  pub element : v.element ≡ e
+  pub stage : v.stage ≡ waiting
+
+-- The children of a list that are still to begin, from a place on: each that isn't null has a fiber, made beside the current fiber of its old node.
+pub data AreNext (current : Shape Fiber) : (place : ℕ) → List (Element × Option Node) → Draft Fiber → Type 0 where
+  no_more : {n : ℕ} → AreNext current n [] (taken shapes.none)
+  gap : {n : ℕ} {x : Element × Option Node} {xs : List (Element × Option Node)} {d : Draft Fiber}
+      → is_null x.0 ≡ true → AreNext current (suc n) xs d → AreNext current n (x ∷ xs) d
+  next : {n id : ℕ} {v : Fiber} {o : Option ℕ} {x : Element × Option Node} {xs : List (Element × Option Node)} {d : Draft Fiber}
+      → is_null x.0 ≡ false → IsWaiting v n x.0 → IsOld current o x.1 → AreNext current (suc n) xs d
+      → AreNext current n (x ∷ xs) (made id v o (taken shapes.none) d)
+
+-- a list of fibers behind the earlier siblings of a place
+abbrev pub behind_earlier : Around Fiber → Shape Fiber → Shape Fiber
+behind_earlier top s = s
+behind_earlier (below id v o rs k) s = s
+behind_earlier (after id v o ks k) s = behind_earlier k (fiber id v (grafted ks) s)
+
+-- what surrounds the list in which a place is
+abbrev pub above_list : Around Fiber → Around Fiber
+above_list top = top
+above_list (below id v o rs k) = below id v o rs k
+above_list (after id v o ks k) = above_list k
+
+-- the earlier siblings of a place stand for what is done: whatever follows from the place on, the list stands for both
+abbrev pub AreDone : Around Fiber → (place : ℕ) → List (Option Node) → Type 0
+AreDone k n done = (xs : List (Option Node)) (s : Shape Fiber) → AreFor n (forest xs) s → AreFor 0 (forest (done ++ xs)) (behind_earlier k s)
+
+-- the element of an open node
+abbrev pub open_element : Open → Element
+open_element (around e m) = e
+open_element (trying e old f) = e
+open_element (falling e old a) = e
+
+-- the fallback of a boundary
+abbrev pub fallback_in : Element → Element
+fallback_in elements.null = elements.null
+fallback_in (elements.text t) = elements.null
+fallback_in (elements.host n k attrs es) = elements.null
+fallback_in (elements.comp c k ps es) = elements.null
+fallback_in (elements.list es) = elements.null
+fallback_in (elements.boundary k f es) = f
+fallback_in (elements.provider c k x es) = elements.null
+
+-- the element is that of a boundary
+abbrev pub is_boundary : Element → Bool
+is_boundary elements.null = false
+is_boundary (elements.text t) = false
+is_boundary (elements.host n k attrs es) = false
+is_boundary (elements.comp c k ps es) = false
+is_boundary (elements.list es) = false
+is_boundary (elements.boundary k f es) = true
+is_boundary (elements.provider c k x es) = false
+
+-- the fiber is that of an open node, whose list, in these contexts, is among its children; o is the current fiber that it was made for
+pub data IsOpenAs (current : Shape Fiber) (v : Fiber) (o : Option ℕ) (cs : Contexts) : Open → Type 0 where
+  opens : {e : Element} {m : Mark} → v.element ≡ e → v.stage ≡ begun m → is_hidden m ≡ false → IsOpenAs current v o cs (around e m)
+  tries : {e : Element} {old : Option Node} → v.element ≡ e → v.stage ≡ stage.trying → is_boundary e ≡ true → IsOld current o old
+      → IsOpenAs current v o cs (trying e old (part cs (fallback_in e ∷ []) (fallback_if old)))
+  falls : {e : Element} {old : Option Node} {a : Awaits} → v.element ≡ e → v.stage ≡ begun (of_boundary (Hidden a)) → has_node (children_if old) ≡ false
+      → IsOpenAs current v o cs (falling e old a)
+
+-- the fibers are those of a boundary that keeps its primary content, and of its fallback, with the element of the boundary, whose list is among the children of the latter
+pub record IsKeptAs (v w : Fiber) (kept : Shape Fiber) (e : Element) (old : Option Node) (a : Awaits) : Type 0 where
+  pub of : IsOf v v.place e (of_boundary (Hidden a))
+  pub element : w.element ≡ e
+  pub stage : w.stage ≡ stage.fallback a
+  pub keeps : has_node (children_if old) ≡ true
+  pub are : AreFor 0 (children_if old) kept
+
+-- What surrounds a place reads as these open nodes, innermost first.
+mutual
+  -- around the place, which is this one of its list and has these later siblings
+  pub data IsAround (current : Shape Fiber) : Around Fiber → (place : ℕ) → (rs : Draft Fiber) → List Frame → Type 0 where
+    at_root : IsAround current top 0 (taken shapes.none) []
+    inside : {k : Around Fiber} {n q : ℕ} {rs : Draft Fiber} {f : Frame} {fs : List Frame}
+        → AreDone k n f.done → AreNext current (suc n) f.rest rs → IsListOf current k q f.node f.contexts fs → IsAround current k n rs (f ∷ fs)
+
+  -- the list that is surrounded so is that of an open node, in these contexts, and is among the children of q
+  pub data IsListOf (current : Shape Fiber) : Around Fiber → (q : ℕ) → Open → Contexts → List Frame → Type 0 where
+    of_node : {k k₁ : Around Fiber} {q : ℕ} {v : Fiber} {o : Option ℕ} {rest : Draft Fiber} {x : Open} {cs : Contexts} {fs : List Frame}
+        → above_list k ≡ below q v o rest k₁ → IsOpenAs current v o cs x → IsAround current k₁ v.place rest fs → IsListOf current k q x cs fs
+    of_fallback : {k k₁ : Around Fiber} {q b : ℕ} {v w : Fiber} {o p : Option ℕ} {kept : Shape Fiber} {rest : Draft Fiber} {cs : Contexts} {fs : List Frame}
+        {e : Element} {old : Option Node} {a : Awaits}
+        → above_list k ≡ below q w p rest (after b v o (taken kept) k₁) → IsKeptAs v w kept e old a → IsAround current k₁ v.place rest fs
+        → IsListOf current k q (falling e old a) cs fs

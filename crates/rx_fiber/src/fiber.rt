@@ -1,0 +1,103 @@
+// A fiber's value.
+ghost use Rattle.std.specs.Prelude.{◌≡◌};
+ghost use Rattle.rx_fiber.specs.Fibers as fibers;
+ghost use Rattle.rx_fiber.specs.FiberView.{stage_seen, changed};
+
+use crate::mark::Mark;
+use crate::stage::{Stage, StageChange};
+use rx_elem::Element;
+use rx_susp::BoundaryState;
+use std::marker::Model;
+
+/// What a fiber holds beside its links: its place among the children of its parent, counted from 0 with the places that are
+/// `null`; the element that stands there; how far it has come; and where the hooks of its instance stand, if that is
+/// committed.
+#[derive(Drop)]
+pub struct Fiber {
+    place: u32,
+    element: Element,
+    stage: Stage,
+    hooks: Option<u32>,
+}
+
+impl Model for Fiber {
+    ghost use Rattle.rx_fiber.specs.Fibers as fibers;
+    ghost use Rattle.rx_fiber.specs.FiberCode.{fiber_code};
+
+    ghost Value = { fibers.Fiber };
+
+    ghost coded = { fiber_code };
+
+    ghost use Rattle.rx_fiber.specs.FiberView.{stage_seen};
+
+    ghost view = { λ v. record { place = v.place; element = v.element; stage = stage_seen v.stage; hooks = v.hooks } };
+}
+
+impl Fiber {
+    /// A fiber of this place.
+    pub fn new(place: u32, element: Element, stage: Stage, hooks: Option<u32>) -> Fiber
+        ensures { result ≡ record { place = place; element = element; stage = stage_seen stage; hooks = hooks } }
+    {
+        Fiber {
+            place,
+            element,
+            stage,
+            hooks,
+        }
+    }
+
+    /// Its place among the children of its parent.
+    pub fn place(&self) -> u32
+        ensures { result ≡ self.now.place }
+    {
+        self.place
+    }
+
+    /// The element that stands there.
+    pub fn element(&self) -> &Element
+        ensures { result.now ≡ self.now.element }
+    {
+        &self.element
+    }
+
+    /// How far it has come.
+    pub fn stage(&self) -> &Stage
+        ensures { stage_seen result.now ≡ self.now.stage }
+    {
+        &self.stage
+    }
+
+    /// Where the hooks of its instance stand, if that is committed.
+    pub fn hooks(&self) -> Option<u32>
+        ensures { result ≡ self.now.hooks }
+    {
+        self.hooks
+    }
+
+    /// Changes the stage.
+    pub fn change(&mut self, by: StageChange)
+        ensures { self.new ≡ changed by self.old }
+    {
+        match by {
+            StageChange::Complete => {
+                if let Stage::Trying = self.stage {
+                    self.stage = Stage::Begun(Mark::Boundary(BoundaryState::Shown));
+                }
+            }
+            StageChange::Try => self.stage = Stage::Trying,
+            StageChange::Hide(awaits) => {
+                self.stage = Stage::Begun(Mark::Boundary(BoundaryState::Hidden(awaits)));
+            }
+        }
+    }
+}
+
+impl rx_lists::Mark<StageChange> for Fiber {
+    ghost use Rattle.rx_fiber.specs.FiberView.{changed};
+
+    ghost marked = { changed };
+
+    fn mark(&mut self, by: &StageChange) {
+        self.change(*by);
+    }
+}

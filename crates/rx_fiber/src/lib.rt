@@ -1,0 +1,12 @@
+//! What a fiber holds, and which trees the fibers stand for.
+#![tactic(auto)]
+
+mod fiber;
+mod mark;
+mod old;
+mod stage;
+
+pub use fiber::Fiber;
+pub use mark::{Instance, Mark};
+pub use old::{OldChildren, old_children, old_fallback, old_primary};
+pub use stage::{Stage, StageChange};

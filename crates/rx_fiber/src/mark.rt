@@ -1,0 +1,70 @@
+// What a node has beside its element and its children.
+ghost use Rattle.std.specs.Prelude.{◌≡◌, IfOk};
+ghost use Rattle.rx_fiber.specs.FiberView.{instance_seen, mark_seen};
+
+use rx_base::Ints;
+use rx_elem::{ContextRead, EffectRecord};
+use rx_susp::BoundaryState;
+use std::alloc::AllocError;
+use std::rc::Rc;
+
+/// What is kept of a component's instance (react.dev, State as a Snapshot): its number, from its first commit on; its
+/// component, by its number in the order of the text; the initial values of its hooks; the contexts that it read; and its
+/// effects. What does not change from one render to the next is shared by both alternates.
+#[derive(Drop)]
+pub struct Instance {
+    pub number: Option<u32>,
+    pub component: u32,
+    pub initials: Rc<Ints>,
+    pub reads: Rc<Vec<ContextRead>>,
+    pub effects: Rc<Vec<EffectRecord>>,
+}
+
+/// What a node has beside its element and its children.
+#[derive(Drop)]
+pub enum Mark {
+    /// Of a component.
+    Instance(Instance),
+    /// Of a host or a text, with its number from its first commit on.
+    Host(Option<u32>),
+    Boundary(BoundaryState),
+    /// Of a list or a provider.
+    Plain,
+}
+
+impl Instance {
+    /// The same instance, by one handle more of each of its parts.
+    ///
+    /// # Errors
+    ///
+    /// Want of memory alone.
+    pub fn copy(&self) -> Result<Instance, AllocError>
+        ensures { IfOk result (λ i. instance_seen i ≡ instance_seen self.now) }
+    {
+        Ok(Instance {
+            number: self.number,
+            component: self.component,
+            initials: self.initials.clone()?,
+            reads: self.reads.clone()?,
+            effects: self.effects.clone()?,
+        })
+    }
+}
+
+impl Mark {
+    /// The same mark.
+    ///
+    /// # Errors
+    ///
+    /// Want of memory alone.
+    pub fn copy(&self) -> Result<Mark, AllocError>
+        ensures { IfOk result (λ m. mark_seen m ≡ mark_seen self.now) }
+    {
+        match self {
+            Mark::Instance(instance) => Ok(Mark::Instance(instance.copy()?)),
+            Mark::Host(number) => Ok(Mark::Host(*number)),
+            Mark::Boundary(state) => Ok(Mark::Boundary(*state)),
+            Mark::Plain => Ok(Mark::Plain),
+        }
+    }
+}

@@ -1,0 +1,144 @@
+// The old lists of a node, read from its current fiber.
+ghost use Rattle.std.specs.Prelude.{◌≡◌, ◌-◌, ◌++◌, length, Option, None, Some, IfSome, IfOk, OnOk};
+ghost use Rattle.rx_elem.specs.Elements as elements;
+ghost use Rattle.rx_lists.specs.Shapes.{Holds};
+ghost use Rattle.rx_links.specs.Readers.{list_from};
+ghost use Rattle.rx_fiber.specs.FiberView.{stage_seen};
+ghost use Rattle.rx_fiber.specs.OldLists.{is_fallback, hides_in, begins_fallback, primary_list, fallback_list, filled, told, old_elements, old_fibers};
+
+use crate::fiber::Fiber;
+use crate::mark::Mark;
+use crate::stage::Stage;
+use rx_elem::{Element, ElementKind};
+use rx_links::{FiberId, FiberTree};
+use std::alloc::{AllocError, Global};
+
+fn is_fallback(stage: &Stage) -> bool
+    ensures { result ≡ is_fallback (stage_seen stage.now) }
+{
+    matches!(stage, Stage::Fallback(_))
+}
+
+fn hides(stage: &Stage) -> bool
+    ensures { result ≡ hides_in (stage_seen stage.now) }
+{
+    match stage {
+        Stage::Begun(Mark::Boundary(state)) => state.hides(),
+        _ => false,
+    }
+}
+
+// Whether a list begins with the fiber of a fallback.
+fn begins_fallback(tree: &FiberTree<Fiber>, link: Option<FiberId>) -> bool
+    requires { IfSome link (Holds tree.now.current) }
+    ensures { result ≡ begins_fallback (list_from tree.now.current link) }
+{
+    tree.facts();
+    match link {
+        Some(id) => is_fallback(tree.value(id).stage()),
+        None => false,
+    }
+}
+
+/// The first child of an old node, by its current fiber; of a boundary, the first of its primary, and none where it is hidden
+/// and keeps none.
+pub fn old_primary(tree: &FiberTree<Fiber>, old: Option<FiberId>) -> Option<FiberId>
+    requires { IfSome old (Holds tree.now.current) }
+    ensures held { IfSome result (Holds tree.now.current) }
+    ensures list { list_from tree.now.current result ≡ primary_list (list_from tree.now.current old) }
+{
+    tree.facts();
+    let id = old?;
+    let hidden = hides(tree.value(id).stage());
+    if hidden && !begins_fallback(tree, tree.next_sibling(id)) {
+        return None;
+    }
+    tree.first_child(id)
+}
+
+/// The first child of the fallback of an old boundary, by its current fiber: none where it is shown.
+pub fn old_fallback(tree: &FiberTree<Fiber>, old: Option<FiberId>) -> Option<FiberId>
+    requires { IfSome old (Holds tree.now.current) }
+    ensures held { IfSome result (Holds tree.now.current) }
+    ensures list { list_from tree.now.current result ≡ fallback_list (list_from tree.now.current old) }
+{
+    tree.facts();
+    let id = old?;
+    if !hides(tree.value(id).stage()) {
+        return None;
+    }
+    let behind = tree.next_sibling(id);
+    if begins_fallback(tree, behind) {
+        return tree.first_child(behind?);
+    }
+    tree.first_child(id)
+}
+
+/// The children of an old list, place by place: the element that stood there, `null` where none did, and its current fiber.
+#[derive(Drop)]
+pub struct OldChildren {
+    pub elements: Vec<Element>,
+    pub fibers: Vec<Option<FiberId>>,
+}
+
+// Goes on with places where nothing stood, up to this one.
+fn fill(alloc: Global, children: &mut OldChildren, place: u32) -> Result<(), AllocError>
+    ensures elements { OnOk result (children.new.elements.items ≡ children.old.elements.items ++ filled (place - length children.old.elements.items) elements.null) }
+    ensures fibers { OnOk result (children.new.fibers.items ≡ children.old.fibers.items ++ filled (place - length children.old.elements.items) None) }
+{
+    'filling: while children.elements.len() < place as usize {
+        let null = Element::new(alloc, ElementKind::Null)?;
+        children.elements.push(null)?;
+        children.fibers.push(None)?;
+    }
+    Ok(())
+}
+
+// Goes on with a fiber of the list; that of a fallback stands in no place.
+fn add(
+    alloc: Global,
+    children: &mut OldChildren,
+    id: FiberId,
+    fiber: &Fiber,
+) -> Result<(), AllocError>
+    requires { length children.old.elements.items ≡ length children.old.fibers.items }
+    ensures elements { OnOk result (children.new.elements.items ≡ children.old.elements.items ++ told elements.null fiber.now.element (length children.old.elements.items) fiber.now) }
+    ensures fibers { OnOk result (children.new.fibers.items ≡ children.old.fibers.items ++ told None (Some id) (length children.old.fibers.items) fiber.now) }
+{
+    if is_fallback(fiber.stage()) {
+        return Ok(());
+    }
+    fill(alloc, children, fiber.place())?;
+    let element = fiber.element().copy()?;
+    children.elements.push(element)?;
+    children.fibers.push(Some(id))?;
+    Ok(())
+}
+
+/// The children of the old list that begins with a current fiber. What is matched with them is matched with all places of the
+/// list: those at its end without a node are left out, and nothing is found there.
+///
+/// # Errors
+///
+/// Want of memory alone.
+pub fn old_children(
+    alloc: Global,
+    tree: &FiberTree<Fiber>,
+    first: Option<FiberId>,
+) -> Result<OldChildren, AllocError>
+    requires { IfSome first (Holds tree.now.current) }
+    ensures elements { IfOk result (λ c. c.elements.items ≡ old_elements (list_from tree.now.current first)) }
+    ensures fibers { IfOk result (λ c. c.fibers.items ≡ old_fibers (list_from tree.now.current first)) }
+{
+    tree.facts();
+    let mut children = OldChildren {
+        elements: Vec::new(alloc),
+        fibers: Vec::new(alloc),
+    };
+    let mut next = first;
+    'listing: while let Some(id) = next {
+        add(alloc, &mut children, id, tree.value(id))?;
+        next = tree.next_sibling(id);
+    }
+    Ok(children)
+}
