@@ -3,6 +3,7 @@ use rx_base::Int;
 use rx_elem::Element;
 
 /// What a component's body is evaluated from (react.dev, Passing Props to a Component; State as a Snapshot).
+#[derive(Drop)]
 pub struct Inputs<'a> {
     /// Its integer props, in the order of the component's parameters.
     pub props: &'a [Int],
