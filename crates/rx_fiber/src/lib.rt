@@ -5,6 +5,8 @@ mod fiber;
 mod mark;
 mod old;
 mod stage;
+#[cfg(test)]
+mod tests;
 
 pub use fiber::Fiber;
 pub use mark::{Instance, Mark};

@@ -1,4 +1,4 @@
-use Rattle.std.proofs.Common.{◌≡◌, ◌<◌, length, refl, sym, ◌∙◌, arith}
+use Rattle.std.proofs.Common.{◌<◌, length, refl, ◌∙◌, arith}
 use Rattle.rx_fiber.proofs.OldPlaces.{fill_more, one_longer}
 use Rattle.rx_fiber.proofs.old.fill.Goals as goal
 

@@ -1,5 +1,4 @@
-use Rattle.std.proofs.Common.{◌≡◌, Some, refl, sym, ◌∙◌, subst}
-use Rattle.rx_lists.specs.Shapes.{Holds}
+use Rattle.std.proofs.Common.{Some}
 use Rattle.rx_fiber.proofs.OldPlaces.{told_same, listed_step}
 use Rattle.rx_fiber.proofs.OldReads.{some_held, rest_held}
 use Rattle.rx_fiber.proofs.old.old_children.Goals as goal

@@ -1,4 +1,3 @@
-use Rattle.std.proofs.Common.{IfSome}
 use Rattle.rx_fiber.proofs.OldReads.{some_held, kids_held}
 use Rattle.rx_fiber.proofs.old.old_primary.Goals as goal
 
