@@ -66,7 +66,7 @@ front-none (o ∷ os) h = head-none o os h
 place-none : {A : Type 0} (n : ℕ) (os : List (Option A)) → first_some os ≡ None → front (behind n os) ≡ None
 place-none n os h = front-none (behind n os) (behind-none n os h)
 
-counts-none : (p : Program) → first_some (count_refusals p) ≡ None → (w : Count) → count_over p w ≡ None
+pub counts-none : (p : Program) → first_some (count_refusals p) ≡ None → (w : Count) → count_over p w ≡ None
 counts-none p h count.Name = map-none _ _ (place-none 0 (count_refusals p) h)
 counts-none p h count.Text = map-none _ _ (place-none 1 (count_refusals p) h)
 counts-none p h count.Declarations = map-none _ _ (place-none 2 (count_refusals p) h)

@@ -7,10 +7,10 @@ ghost use Rattle.rx_check.specs.Checks.{unless, repeat_in, unknown_among, misfit
 ghost use Rattle.rx_figures.specs.Costs.{first_over};
 ghost use Rattle.rx_order.specs.Graphs.{first};
 
-use rx_ast::{Component, ParameterKind, Program};
+use rx_ast::{Component, ParameterKind};
 use rx_base::Name;
 use rx_mentions::{Count, Mention};
-use rx_names::{Listing, Names, component_named, function_named};
+use rx_names::{Index, Listing, Names};
 use std::alloc::{AllocError, Global};
 
 /// The name, unless it is as it must be.
@@ -35,10 +35,10 @@ pub fn first_repeat(mentions: &[Mention]) -> Option<&str>
 }
 
 /// A function takes so many arguments.
-fn takes_arguments(program: &Program, function: &Name, arguments: usize) -> bool
+fn takes_arguments(program: &Index, function: &Name, arguments: usize) -> bool
     ensures { result ≡ takes_arguments program.now function.now arguments }
 {
-    match function_named(program, function) {
+    match program.function_named(function.text()) {
         None => false,
         Some(function) => function.parameters().len() == arguments,
     }
@@ -99,14 +99,14 @@ fn fits(
 /// An element of a component has what the component takes.
 fn element_fits(
     alloc: Global,
-    program: &Program,
+    program: &Index,
     component: &Name,
     attributes: &Names,
     filled: bool,
 ) -> Result<bool, AllocError>
     ensures { IfOk result (λ b. b ≡ element_fits program.now component.now attributes.now filled) }
 {
-    match component_named(program, component.text()) {
+    match program.component_named(component.text()) {
         None => Ok(false),
         Some(component) => fits(alloc, attributes, filled, component),
     }
@@ -115,7 +115,7 @@ fn element_fits(
 /// The name that fails the check of arity in a mention.
 fn misfit<'a>(
     alloc: Global,
-    program: &Program,
+    program: &Index,
     mention: &'a Mention,
 ) -> Result<Option<&'a str>, AllocError>
     ensures { IfOk result (λ o. MatchOption o (misfit_in program.now mention.now ≡ None) (λ x. misfit_in program.now mention.now ≡ Some x.now)) }
@@ -146,7 +146,7 @@ fn misfit<'a>(
 /// The first function or component that is given another number of parts than it takes.
 pub fn first_misfit<'a>(
     alloc: Global,
-    program: &Program,
+    program: &Index,
     mentions: &'a [Mention],
 ) -> Result<Option<&'a str>, AllocError>
     ensures { IfOk result (λ o. MatchOption o (first (filter_map (misfit_in program.now) mentions.now) ≡ None) (λ x. first (filter_map (misfit_in program.now) mentions.now) ≡ Some x.now)) }
@@ -160,10 +160,10 @@ pub fn first_misfit<'a>(
 }
 
 /// The component `App` is there and has no parameters.
-pub fn is_rooted(program: &Program) -> bool
+pub fn is_rooted(program: &Index) -> bool
     ensures { result ≡ is_rooted program.now }
 {
-    match component_named(program, "App") {
+    match program.component_named("App") {
         None => false,
         Some(component) => component.parameters().len() == 0,
     }

@@ -7,8 +7,8 @@ ghost use Rattle.rx_rules.specs.Keys.{carries_key};
 ghost use Rattle.rx_mentions.specs.Mentions.{children_name, attributes_mentions, given_names, key_mentions, first_key_mentions, last_key_mentions, taken_first, is_filled, slot_mentions, slots_mentions};
 ghost use Rattle.rx_mentions.specs.Tags.{tag_mentions};
 
-use crate::count::Count;
 use crate::mention::Mention;
+use crate::count::Count;
 use crate::scope::Scope;
 use crate::walk::Walk;
 use rx_ast::{
@@ -287,11 +287,9 @@ impl Walk {
             what: Count::List,
             found: repetition.limit,
         })?;
-        let values = scope.values().len();
-        let names = scope.names().len();
         scope.bind(&repetition.index)?;
         self.slot(scope, false, &repetition.item)?;
-        scope.leave(values, names);
+        scope.leave();
         Ok(())
     }
 
