@@ -23,7 +23,7 @@ within-find limit n (m ∷ ms) e h = go (λ f. within-find limit n ms f) (nat_lt
     go later false t (inl s) = grind (arith, t, s)
     go later false t (inr i) = later (rw t at e) i
 
-fewer : {X Y : Type 0} (f : X → Option Y) (xs : List X) → length (filter_map f xs) ≤ length xs
+pub fewer : {X Y : Type 0} (f : X → Option Y) (xs : List X) → length (filter_map f xs) ≤ length xs
 fewer f [] = omega arith
 fewer f (x ∷ xs) = elim (f x) as (λ o. length (cons_option o (filter_map f xs)) ≤ suc (length xs)) [ None ↦ omega (arith, fewer f xs) | Some w ↦ omega (arith, fewer f xs) ]
 

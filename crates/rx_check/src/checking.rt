@@ -1,15 +1,16 @@
 // All checks of a program, in their order.
-ghost use Rattle.std.specs.Prelude.{◌≡◌, ◌⊎◌, [], ◌∷◌, IfOk, MatchOption, MatchResult, Some, None, option_map, filter, filter_map, length, slice_get};
-ghost use Rattle.rx_rules.specs.Names.{component_names, resources as all_resources};
-ghost use Rattle.rx_rules.specs.Bounds.{node_bound, node_limit, depth_bound};
-ghost use Rattle.rx_check.specs.Limits.{limit_of};
+ghost use Rattle.std.specs.Prelude.{◌≡◌, ◌≤◌, ◌⊎◌, [], ◌∷◌, IfOk, MatchOption, MatchResult, Some, None, option_map, filter, filter_map, length};
+ghost use Rattle.rx_rules.specs.Names.{component_names, component_number, root_name, resources as all_resources};
+ghost use Rattle.rx_rules.specs.Bounds.{body_by, node_bound, node_limit, depth_bound};
+ghost use Rattle.rx_names.specs.Listed.{IsListed, function_names};
+ghost use Rattle.rx_order.specs.Graphs.{first, IsFinished};
 ghost use Rattle.rx_mentions.specs.Mentions.{mentions as all_mentions};
+ghost use Rattle.rx_mentions.specs.Ways.{calls, places};
+ghost use Rattle.rx_figures.specs.Figures.{figures, nesting_levels};
+ghost use Rattle.rx_figures.specs.Costs.{cost_over, first_over as over};
+ghost use Rattle.rx_check.specs.Limits.{limit_of};
 ghost use Rattle.rx_check.specs.Checks.{repeat_in, unknown_among, misfit_in, function_cycles, component_cycles, root_waits_for, outside_uses};
-ghost use Rattle.rx_names.specs.Listed.{function_names};
-ghost use Rattle.rx_figures.specs.Costs.{first_over as over, cost_over};
-ghost use Rattle.rx_order.specs.Graphs.{first};
-ghost use Rattle.rx_check.specs.Refusals.{first_some, refused_name, refused_root, name_refusals, way_refusals, count_refusals, size_refusals, refusal_of};
-ghost use Rattle.rx_names.specs.Listed.{IsListed};
+ghost use Rattle.rx_check.specs.Refusals.{first_some, refused_name, refused_count, refused_root, name_refusals, way_refusals, count_refusals, size_refusals, refusal_of};
 ghost use Rattle.rx_check.specs.Answers.{Answers};
 
 use crate::checked::{Checked, accept};
@@ -17,10 +18,10 @@ use crate::checks::{first_misfit, first_over, first_repeat, first_unknown, is_ro
 use crate::refusal::Refusal;
 use rx_ast::Program;
 use rx_base::Name;
-use rx_figures::{Counted, cost_over, held_sum, nesting_levels, root_figures};
+use rx_figures::{Counted, Figures, cost_over, held_sum, root_figures};
 use rx_mentions::{Count, Mention, calls_of, mentions_of, places_of};
-use rx_names::{Listing, Names, component_named, names_of};
-use rx_order::first_cycle;
+use rx_names::{Listing, component_named, names_of};
+use rx_order::{Order, Row, finishing_order, first_cycle};
 use std::alloc::{AllocError, Global};
 
 /// No program that is accepted has a greater node bound.
@@ -64,50 +65,78 @@ fn refuse_misfit(alloc: Global, program: &Program, mentions: &[Mention]) -> Resu
     }
 }
 
-/// The first function that reaches itself by calls.
+/// The order in which functions are finished.
+fn function_order(alloc: Global, program: &Program, graph: &[Row]) -> Result<Order, AllocError>
+    requires { graph.now ≡ calls program.now }
+    ensures { IfOk result (λ o. IsFinished (calls program.now) o) }
+{
+    finishing_order(alloc, graph)
+}
+
+/// The first function that reaches itself.
 fn function_cycle<'a>(
     alloc: Global,
     program: &Program,
-    names: &'a Names,
+    graph: &[Row],
+    order: &Order,
+    names: &'a [Name],
 ) -> Result<Option<&'a str>, AllocError>
-    requires { names.now ≡ function_names program.now }
+    requires graph { graph.now ≡ calls program.now }
+    requires order { IsFinished (calls program.now) order.now }
+    requires names { names.now ≡ function_names program.now }
     ensures { IfOk result (λ o. MatchOption o (first (function_cycles program.now) ≡ None) (λ x. first (function_cycles program.now) ≡ Some x.now)) }
 {
-    let graph = calls_of(alloc, program)?;
-    first_cycle(alloc, &graph, names.items())
+    first_cycle(alloc, graph, order, names)
 }
 
-/// The first component that reaches itself by the elements in its body.
-fn component_cycle<'a>(
-    alloc: Global,
-    program: &Program,
-    names: &'a Names,
-) -> Result<Option<&'a str>, AllocError>
-    requires { names.now ≡ component_names program.now }
-    ensures { IfOk result (λ o. MatchOption o (first (component_cycles program.now) ≡ None) (λ x. first (component_cycles program.now) ≡ Some x.now)) }
-{
-    let graph = places_of(alloc, program)?;
-    first_cycle(alloc, &graph, names.items())
-}
-
-/// No function reaches itself.
-fn refuse_function_cycle(alloc: Global, program: &Program, names: &Names) -> Result<(), Refusal>
+/// No function reaches itself; the order in which they are finished.
+fn refuse_function_cycle(alloc: Global, program: &Program, names: &[Name]) -> Result<Order, Refusal>
     requires { names.now ≡ function_names program.now }
-    ensures { Answers (refused_name (λ x. Refusal.FunctionCycle x) (function_cycles program.now)) result }
+    ensures answers { Answers (refused_name (λ x. Refusal.FunctionCycle x) (function_cycles program.now)) result }
+    ensures order { IfOk result (λ o. IsFinished (calls program.now) o) }
 {
-    match function_cycle(alloc, program, names)? {
-        None => Ok(()),
+    let graph = calls_of(alloc, program)?;
+    let order = function_order(alloc, program, &graph)?;
+    match function_cycle(alloc, program, &graph, &order, names)? {
+        None => Ok(order),
         Some(name) => Err(Refusal::FunctionCycle(told(alloc, name)?)),
     }
 }
 
-/// No component reaches itself.
-fn refuse_component_cycle(alloc: Global, program: &Program, names: &Names) -> Result<(), Refusal>
-    requires { names.now ≡ component_names program.now }
-    ensures { Answers (refused_name (λ x. Refusal.ComponentCycle x) (component_cycles program.now)) result }
+/// The order in which components are finished.
+fn component_order(alloc: Global, program: &Program, graph: &[Row]) -> Result<Order, AllocError>
+    requires { graph.now ≡ places program.now }
+    ensures { IfOk result (λ o. IsFinished (places program.now) o) }
 {
-    match component_cycle(alloc, program, names)? {
-        None => Ok(()),
+    finishing_order(alloc, graph)
+}
+
+/// The first component that reaches itself.
+fn component_cycle<'a>(
+    alloc: Global,
+    program: &Program,
+    graph: &[Row],
+    order: &Order,
+    names: &'a [Name],
+) -> Result<Option<&'a str>, AllocError>
+    requires graph { graph.now ≡ places program.now }
+    requires order { IsFinished (places program.now) order.now }
+    requires names { names.now ≡ component_names program.now }
+    ensures { IfOk result (λ o. MatchOption o (first (component_cycles program.now) ≡ None) (λ x. first (component_cycles program.now) ≡ Some x.now)) }
+{
+    first_cycle(alloc, graph, order, names)
+}
+
+/// No component reaches itself; the order in which they are finished.
+fn refuse_component_cycle(alloc: Global, program: &Program, names: &[Name]) -> Result<Order, Refusal>
+    requires { names.now ≡ component_names program.now }
+    ensures answers { Answers (refused_name (λ x. Refusal.ComponentCycle x) (component_cycles program.now)) result }
+    ensures order { IfOk result (λ o. IsFinished (places program.now) o) }
+{
+    let graph = places_of(alloc, program)?;
+    let order = component_order(alloc, program, &graph)?;
+    match component_cycle(alloc, program, &graph, &order, names)? {
+        None => Ok(order),
         Some(name) => Err(Refusal::ComponentCycle(told(alloc, name)?)),
     }
 }
@@ -149,11 +178,17 @@ fn number_over(what: Count, found: u64) -> Option<u64>
 }
 
 /// The root waits where the reads of this component alone count.
-fn waits_for(alloc: Global, program: &Program, name: &str) -> Result<bool, AllocError>
+fn waits_for(
+    alloc: Global,
+    program: &Program,
+    order: &Order,
+    name: &str,
+) -> Result<bool, AllocError>
+    requires { IsFinished (places program.now) order.now }
     ensures { IfOk result (λ b. b ≡ root_waits_for program.now name.now) }
 {
     let counted = Counted::One(Name::new(alloc, name)?);
-    let figures = root_figures(alloc, program, &counted, nesting_levels(program))?;
+    let figures = root_figures(alloc, program, &counted, order)?;
     Ok(figures.waits)
 }
 
@@ -161,43 +196,56 @@ fn waits_for(alloc: Global, program: &Program, name: &str) -> Result<bool, Alloc
 fn first_outside<'a>(
     alloc: Global,
     program: &Program,
+    order: &Order,
     names: &'a [Name],
 ) -> Result<Option<&'a str>, AllocError>
+    requires { IsFinished (places program.now) order.now }
     ensures { IfOk result (λ o. MatchOption o (first (filter (root_waits_for program.now) names.now) ≡ None) (λ x. first (filter (root_waits_for program.now) names.now) ≡ Some x.now)) }
 {
     for name in names {
-        if waits_for(alloc, program, name.text())? {
+        if waits_for(alloc, program, order, name.text())? {
             return Ok(Some(name.text()));
         }
     }
     Ok(None)
 }
 
-/// The first component for whose resources the root waits, where there is a root.
+/// The first component for whose resources the root waits, where there is a root, and where it waits with all reads counted.
 fn outside_use<'a>(
     alloc: Global,
     program: &Program,
-    names: &'a Names,
+    order: &Order,
+    names: &'a [Name],
+    waits: bool,
 ) -> Result<Option<&'a str>, AllocError>
-    requires { names.now ≡ component_names program.now }
+    requires order { IsFinished (places program.now) order.now }
+    requires names { names.now ≡ component_names program.now }
+    requires waits { waits ≡ (body_by (figures Counted.All) (nesting_levels program.now) program.now (component_number program.now root_name)).waits }
     ensures { IfOk result (λ o. MatchOption o (first (outside_uses program.now) ≡ None) (λ x. first (outside_uses program.now) ≡ Some x.now)) }
 {
     if component_named(program, "App").is_none() {
         return Ok(None);
     }
-    let figures = root_figures(alloc, program, &Counted::All, nesting_levels(program))?;
-    if !figures.waits {
+    if !waits {
         return Ok(None);
     }
-    first_outside(alloc, program, names.items())
+    first_outside(alloc, program, order, names)
 }
 
 /// The root waits for no component.
-fn refuse_outside_use(alloc: Global, program: &Program, names: &Names) -> Result<(), Refusal>
-    requires { names.now ≡ component_names program.now }
+fn refuse_outside_use(
+    alloc: Global,
+    program: &Program,
+    order: &Order,
+    names: &[Name],
+    waits: bool,
+) -> Result<(), Refusal>
+    requires order { IsFinished (places program.now) order.now }
+    requires names { names.now ≡ component_names program.now }
+    requires waits { waits ≡ (body_by (figures Counted.All) (nesting_levels program.now) program.now (component_number program.now root_name)).waits }
     ensures { Answers (refused_name (λ x. Refusal.UseOutside x) (outside_uses program.now)) result }
 {
-    match outside_use(alloc, program, names)? {
+    match outside_use(alloc, program, order, names, waits)? {
         None => Ok(()),
         Some(name) => Err(Refusal::UseOutside(told(alloc, name)?)),
     }
@@ -219,15 +267,36 @@ fn refuse_names(
     refuse_misfit(alloc, program, mentions)
 }
 
+/// How functions are finished, and the figures of the root.
+#[derive(Drop)]
+struct Ways {
+    calls: Order,
+    root: Figures,
+}
+
 /// The checks of ways: cycles, waits and the root.
-fn refuse_ways(alloc: Global, program: &Program, listing: &Listing) -> Result<(), Refusal>
+fn refuse_ways(alloc: Global, program: &Program, listing: &Listing) -> Result<Ways, Refusal>
     requires { IsListed program.now listing.now }
-    ensures { Answers (first_some (way_refusals program.now)) result }
+    ensures answers { Answers (first_some (way_refusals program.now)) result }
+    ensures calls { IfOk result (λ w. IsFinished (calls program.now) w.calls) }
+    ensures root { IfOk result (λ w. w.root ≡ body_by (figures Counted.All) (nesting_levels program.now) program.now (component_number program.now root_name)) }
 {
-    refuse_function_cycle(alloc, program, &listing.functions)?;
-    refuse_component_cycle(alloc, program, &listing.components)?;
-    refuse_outside_use(alloc, program, &listing.components)?;
-    refuse_root(program)
+    let calls = refuse_function_cycle(alloc, program, listing.functions.items())?;
+    let names = listing.components.items();
+    let places = refuse_component_cycle(alloc, program, names)?;
+    let root = root_figures(alloc, program, &Counted::All, &places)?;
+    refuse_outside_use(alloc, program, &places, names, root.waits)?;
+    refuse_root(program)?;
+    Ok(Ways { calls, root })
+}
+
+/// A tree of few declarations is within its depth.
+fn refuse_depth(program: &Program, depth: u64) -> Result<(), Refusal>
+    requires few { length program.now.declarations ≤ 256 }
+    requires depth { length program.now.declarations ≤ 256 → depth ≡ depth_bound program.now }
+    ensures { Answers (refused_count program.now Count.Depth) result }
+{
+    refuse_count(Count::Depth, number_over(Count::Depth, depth))
 }
 
 /// The checks of counts in the order of the text.
@@ -239,7 +308,7 @@ fn refuse_counts(
 ) -> Result<(), Refusal>
     requires mentioned { mentions.now ≡ all_mentions program.now }
     requires resources { resources ≡ length (all_resources program.now) }
-    requires depth { depth ≡ depth_bound program.now }
+    requires depth { length program.now.declarations ≤ 256 → depth ≡ depth_bound program.now }
     ensures { Answers (first_some (count_refusals program.now)) result }
 {
     refuse_count(Count::Name, first_over(Count::Name, mentions))?;
@@ -259,7 +328,7 @@ fn refuse_counts(
     refuse_count(Count::List, first_over(Count::List, mentions))?;
     let resources = resources as u64;
     refuse_count(Count::Resources, number_over(Count::Resources, resources))?;
-    refuse_count(Count::Depth, number_over(Count::Depth, depth))
+    refuse_depth(program, depth)
 }
 
 /// The node bound is within its limit.
@@ -274,43 +343,53 @@ fn refuse_nodes(bound: u64) -> Result<(), Refusal>
 }
 
 /// The cost of each declaration is within its limit.
-fn refuse_cost(alloc: Global, program: &Program) -> Result<(), Refusal>
+fn refuse_cost(alloc: Global, program: &Program, order: &Order) -> Result<(), Refusal>
+    requires { IsFinished (calls program.now) order.now }
     ensures { Answers (option_map (λ n. Refusal.Cost n) (cost_over program.now)) result }
 {
-    match cost_over(alloc, program)? {
+    match cost_over(alloc, program, order)? {
         None => Ok(()),
         Some(found) => Err(Refusal::Cost(found)),
     }
 }
 
 /// The checks of sizes.
-fn refuse_sizes(alloc: Global, program: &Program, bound: u64) -> Result<(), Refusal>
-    requires { bound ≡ node_bound program.now }
+fn refuse_sizes(
+    alloc: Global,
+    program: &Program,
+    order: &Order,
+    bound: u64,
+) -> Result<(), Refusal>
+    requires order { IsFinished (calls program.now) order.now }
+    requires bound { bound ≡ node_bound program.now }
     ensures { Answers (first_some (size_refusals program.now)) result }
 {
     refuse_nodes(bound)?;
-    refuse_cost(alloc, program)
+    refuse_cost(alloc, program, order)
 }
 
-/// All checks, in their order.
-#[tactic(auto, unfolding(crate::specs::Refusals::refusal_of))]
-fn refuse(
-    alloc: Global,
-    program: &Program,
-    listing: &Listing,
-    bound: u64,
+/// The most nodes and levels of a tree, the root with them.
+struct Bounds {
+    nodes: u64,
     depth: u64,
-) -> Result<(), Refusal>
-    requires listed { IsListed program.now listing.now }
-    requires bound { bound ≡ node_bound program.now }
-    requires depth { depth ≡ depth_bound program.now }
-    ensures { Answers (refusal_of program.now) result }
+}
+
+/// All checks, in their order, of a program whose names are listed.
+#[tactic(auto, unfolding(crate::specs::Refusals::refusal_of))]
+fn refuse(alloc: Global, program: &Program, listing: &Listing) -> Result<Bounds, Refusal>
+    requires { IsListed program.now listing.now }
+    ensures answers { Answers (refusal_of program.now) result }
+    ensures nodes { IfOk result (λ b. b.nodes ≡ node_bound program.now) }
+    ensures depth { IfOk result (λ b. b.depth ≡ depth_bound program.now) }
 {
     let walk = mentions_of(alloc, program)?;
     refuse_names(alloc, program, listing, walk.mentions())?;
-    refuse_ways(alloc, program, listing)?;
+    let ways = refuse_ways(alloc, program, listing)?;
+    let nodes = held_sum(1, ways.root.own);
+    let depth = held_sum(1, ways.root.levels);
     refuse_counts(program, walk.mentions(), listing.resources.len(), depth)?;
-    refuse_sizes(alloc, program, bound)
+    refuse_sizes(alloc, program, &ways.calls, nodes)?;
+    Ok(Bounds { nodes, depth })
 }
 
 /// The program, where it meets every check.
@@ -324,9 +403,6 @@ pub fn check(alloc: Global, program: Program) -> Result<Checked, Refusal>
     ensures answers { Answers (refusal_of program) result }
 {
     let listing = names_of(alloc, &program)?;
-    let figures = root_figures(alloc, &program, &Counted::All, 256)?;
-    let bound = held_sum(1, figures.own);
-    let depth = held_sum(1, figures.levels);
-    refuse(alloc, &program, &listing, bound, depth)?;
-    Ok(accept(program, listing, bound, depth))
+    let bounds = refuse(alloc, &program, &listing)?;
+    Ok(accept(program, listing, bounds.nodes, bounds.depth))
 }

@@ -1,13 +1,13 @@
 // What expressions cost.
-ghost use Rattle.std.specs.Prelude.{◌≡◌, [], bytes_eq, IfOk, length, slice_index, map};
-ghost use Rattle.std.specs.List.{position_from};
+ghost use Rattle.std.specs.Prelude.{◌≡◌, ℕ, List, [], ◌∷◌, ◌++◌, true, IfOk, length, slice_index, map};
+ghost use Rattle.std.specs.List.{list_all};
 ghost use Rattle.rx_ast.specs.Syntax.{exprs_of, slots_of, body_slots, functions};
 ghost use Rattle.rx_ast.specs.ExprView.{links_of};
 ghost use Rattle.rx_ast.specs.SlotView.{key_place_of};
-ghost use Rattle.rx_rules.specs.Names.{function_number};
-ghost use Rattle.rx_names.specs.Listed.{function_names};
-ghost use Rattle.rx_figures.specs.Costs.{first_over, cost_over};
-ghost use Rattle.rx_figures.specs.Costs.{cost_limit};
+ghost use Rattle.rx_order.specs.Graphs.{next_of, is_among, IsFinished};
+ghost use Rattle.rx_mentions.specs.Ways.{calls};
+ghost use Rattle.rx_figures.specs.Costs.{function_cost, cost_limit, cost_over, first_over};
+ghost use Rattle.rx_figures.specs.Finished.{AreCosts};
 ghost use Rattle.rx_figures.specs.Costs.{expr_cost, links_cost, exprs_cost, lines_cost, body_cost, attribute_cost, attributes_cost, key_cost, slot_cost, slots_cost, tag_cost, statement_cost, statements_cost, cost_from, cost_round, cost_rounds};
 
 use crate::held::{held_product, held_sum};
@@ -17,6 +17,7 @@ use rx_ast::{
     Slot, SlotKind, Statement, StatementKind, Tag,
 };
 use rx_names::{function_count, function_number};
+use rx_order::Order;
 use std::alloc::{AllocError, Global};
 
 /// The greatest cost of a declaration.
@@ -349,10 +350,63 @@ fn first_over(program: &Program, costs: &[u64]) -> Option<u64>
     None
 }
 
-/// The first cost of a declaration that is over the limit.
-pub fn cost_over(alloc: Global, program: &Program) -> Result<Option<u64>, AllocError>
+/// Puts the cost of one function more into the table, from those of the functions that it calls.
+fn finish(program: &Program, costs: &mut Vec<u64>, number: usize)
+    requires { length costs.old.items ≡ length (functions program.now) }
+    ensures sized { length costs.new.items ≡ length costs.old.items }
+    ensures more { (done : List ℕ) → AreCosts program.now costs.old.items done
+        → list_all (is_among done) (next_of (calls program.now) number) ≡ true → AreCosts program.now costs.new.items (done ++ number ∷ []) }
+{
+    match program.function(number) {
+        None => {}
+        Some(inner) => {
+            let found = function(program, costs.as_slice(), inner);
+            costs[number] = found;
+        }
+    }
+}
+
+/// The costs of these functions, each from those of the functions that it calls, which are finished before it.
+fn in_order(alloc: Global, program: &Program, order: &Order) -> Result<Vec<u64>, AllocError>
+    requires { IsFinished (calls program.now) order.now }
+    ensures costs { IfOk result (λ t. AreCosts program.now t.items order.now) }
+    ensures sized { IfOk result (λ t. length t.items ≡ length (functions program.now)) }
+{
+    let mut costs = vec![in alloc; 0; function_count(program)]?;
+    for number in order.numbers() {
+        finish(program, &mut costs, *number);
+    }
+    Ok(costs)
+}
+
+/// The costs of all functions. In an order in which functions are finished each is looked at once; where not all are finished
+/// in the order, rounds over all functions are made.
+fn costs_of(alloc: Global, program: &Program, order: &Order) -> Result<Vec<u64>, AllocError>
+    requires { IsFinished (calls program.now) order.now }
+    ensures { IfOk result (λ t. function_cost (length (functions program.now)) program.now ≡ slice_index t.items) }
+{
+    let count = function_count(program);
+    if order.is_whole(count) {
+        let finished = in_order(alloc, program, order)?;
+        return Ok(finished);
+    }
+    let table = settled(alloc, program, count)?;
+    Ok(table)
+}
+
+/// The first cost of a declaration that is over the limit, with an order in which functions are finished.
+///
+/// # Errors
+///
+/// Want of memory alone.
+pub fn cost_over(
+    alloc: Global,
+    program: &Program,
+    order: &Order,
+) -> Result<Option<u64>, AllocError>
+    requires { IsFinished (calls program.now) order.now }
     ensures { IfOk result (λ o. o ≡ cost_over program.now) }
 {
-    let costs = settled(alloc, program, function_count(program))?;
+    let costs = costs_of(alloc, program, order)?;
     Ok(first_over(program, &costs))
 }

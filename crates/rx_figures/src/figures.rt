@@ -1,11 +1,13 @@
 // Nodes, levels and waits of slots.
-ghost use Rattle.std.specs.Prelude.{◌≡◌, [], bytes_eq, IfOk, Some, IsTrue, length};
-ghost use Rattle.std.specs.List.{position_from};
+ghost use Rattle.std.specs.Prelude.{◌≡◌, ℕ, List, [], ◌∷◌, ◌++◌, true, IfOk, Some, IsTrue, length};
 ghost use Rattle.rx_ast.specs.Syntax.{slots_of, body_slots, components};
-ghost use Rattle.rx_rules.specs.Names.{component_names, component_number, root_name};
+ghost use Rattle.rx_rules.specs.Names.{component_number, root_name};
 ghost use Rattle.rx_rules.specs.Bounds.{body_by, slot_by, slots_by, body_if, reads_resource};
-ghost use Rattle.rx_figures.specs.Figures.{nesting_levels};
-ghost use Rattle.rx_figures.specs.Figures.{counts_reads, no_figures, text_figures, children_figures, beside_figures, around_figures, repeated_figures, boundary_figures, component_figures, figures, known_in, tag_figures, round_of, rounds};
+ghost use Rattle.std.specs.List.{list_all};
+ghost use Rattle.rx_order.specs.Graphs.{next_of, is_among, IsFinished};
+ghost use Rattle.rx_mentions.specs.Ways.{places};
+ghost use Rattle.rx_figures.specs.Figures.{nesting_levels, counts_reads, no_figures, text_figures, children_figures, beside_figures, around_figures, repeated_figures, boundary_figures, component_figures, figures, known_in, tag_figures, round_of, rounds};
+ghost use Rattle.rx_figures.specs.Finished.{AreFigures};
 
 use crate::held::{held_product, held_sum};
 use rx_ast::{
@@ -14,6 +16,7 @@ use rx_ast::{
 };
 use rx_base::Name;
 use rx_names::{component_count, component_number};
+use rx_order::Order;
 use std::alloc::{AllocError, Global};
 
 /// The components whose reads count.
@@ -373,22 +376,66 @@ fn settled(
 }
 
 /// How deep components may nest.
-pub fn nesting_levels(program: &Program) -> usize
+fn nesting_levels(program: &Program) -> usize
     ensures { result ≡ nesting_levels program.now }
 {
     let count = component_count(program);
     if count < 256 { 256 } else { count }
 }
 
-/// The figures of the root's body, where components nest at most so deep.
+/// Puts the figures of one component more into the table, from those of the components that its body places.
+fn finish(program: &Program, counted: &Counted, table: &mut Vec<Figures>, number: usize)
+    requires { length table.old.items ≡ length (components program.now) }
+    ensures sized { length table.new.items ≡ length table.old.items }
+    ensures more { (done : List ℕ) → AreFigures counted.now program.now table.old.items done
+        → list_all (is_among done) (next_of (places program.now) number) ≡ true → AreFigures counted.now program.now table.new.items (done ++ number ∷ []) }
+{
+    match program.component(number) {
+        None => {}
+        Some(inner) => {
+            let found = component(program, counted, table.as_slice(), inner);
+            table[number] = found;
+        }
+    }
+}
+
+/// The figures of these components, each from those of the components that its body places, which are finished before it.
+fn in_order(
+    alloc: Global,
+    program: &Program,
+    counted: &Counted,
+    order: &Order,
+) -> Result<Vec<Figures>, AllocError>
+    requires { IsFinished (places program.now) order.now }
+    ensures { IfOk result (λ t. AreFigures counted.now program.now t.items order.now) }
+{
+    let mut table = vec![in alloc; nothing(); component_count(program)]?;
+    for number in order.numbers() {
+        finish(program, counted, &mut table, *number);
+    }
+    Ok(table)
+}
+
+/// The figures of the root's body. In an order in which components are finished each is looked at once; where the root is not
+/// finished in the order, rounds over all components are made.
+///
+/// # Errors
+///
+/// Want of memory alone.
 pub fn root_figures(
     alloc: Global,
     program: &Program,
     counted: &Counted,
-    most: usize,
+    order: &Order,
 ) -> Result<Figures, AllocError>
-    ensures { IfOk result (λ f. f ≡ body_by (figures counted.now) most program.now (component_number program.now root_name)) }
+    requires { IsFinished (places program.now) order.now }
+    ensures { IfOk result (λ f. f ≡ body_by (figures counted.now) (nesting_levels program.now) program.now (component_number program.now root_name)) }
 {
-    let table = settled(alloc, program, counted, most)?;
-    Ok(known(&table, component_number(program, "App")))
+    let root = component_number(program, "App");
+    if order.has(root) {
+        let finished = in_order(alloc, program, counted, order)?;
+        return Ok(known(&finished, root));
+    }
+    let table = settled(alloc, program, counted, nesting_levels(program))?;
+    Ok(known(&table, root))
 }

@@ -1,6 +1,6 @@
 -- Which numbers lead to which, and which lead to themselves.
-use Rattle.std.specs.Prelude.{ℕ, zero, suc, ◌+◌, Bool, false, ◌||◌, nat_eq, List, [], ◌∷◌, Option, Some, None, length, map, cond, unwrap_or, slice_get, slice_index_or}
-use Rattle.std.specs.List.{list_any, cons_option}
+use Rattle.std.specs.Prelude.{◌≡◌, ◌≤◌, ℕ, zero, suc, ◌+◌, Bool, true, false, ◌&&◌, ◌||◌, ◌++◌, nat_eq, List, [], ◌∷◌, Option, Some, None, length, map, cond, unwrap_or, slice_get, slice_index_or}
+use Rattle.std.specs.List.{list_any, list_all, cons_option}
 use Rattle.rx_base.specs.Values.{Name}
 
 -- the first of a list
@@ -46,3 +46,17 @@ lead_round g y table = map (leads y table) g
 unfoldable pub lead_rounds : Graph → (target : ℕ) → ℕ → List Bool → List Bool
 lead_rounds g y zero table = table
 lead_rounds g y (suc n) table = lead_rounds g y n (lead_round g y table)
+
+-- a number is one of these
+abbrev pub is_among : List ℕ → ℕ → Bool
+is_among ns x = list_any (nat_eq x) ns
+
+-- each of these numbers in order leads only to earlier ones, or to those that were finished before
+abbrev pub finishes : Graph → (before order : List ℕ) → Bool
+finishes g before [] = true
+finishes g before (x ∷ xs) = list_all (is_among before) (next_of g x) && finishes g (before ++ x ∷ []) xs
+
+-- the numbers stand in an order in which each leads only to earlier ones, and they are no more than the rows
+pub record IsFinished (g : Graph) (order : List ℕ) : Type 0 where
+  pub finishes_all : finishes g [] order ≡ true
+  pub few : length order ≤ length g

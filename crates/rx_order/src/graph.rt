@@ -1,8 +1,8 @@
 // Which numbers lead to themselves.
 ghost use Rattle.std.specs.Prelude.{◌≡◌, [], IfOk, MatchOption, Some, None, false, IsTrue, length, map, filter_map, slice_index_or};
-ghost use Rattle.rx_order.specs.Graphs.{leads_to, name_on_cycle, cycle_names, leads, lead_round, lead_rounds};
-ghost use Rattle.rx_order.specs.Graphs.{first};
+ghost use Rattle.rx_order.specs.Graphs.{first, leads_to, name_on_cycle, cycle_names, leads, lead_round, lead_rounds, IsFinished};
 
+use crate::order::Order;
 use rx_base::Name;
 use std::alloc::{AllocError, Global};
 use std::marker::Model;
@@ -27,6 +27,13 @@ impl Row {
         ensures { result ≡ items.items }
     {
         Row { items }
+    }
+
+    /// The numbers.
+    pub fn items(&self) -> &[usize]
+        ensures { result.now ≡ self.now }
+    {
+        &self.items
     }
 }
 
@@ -126,17 +133,40 @@ fn name_on_cycle<'a>(
     }
 }
 
-/// The name of the first number that leads to itself.
+/// The name of a number that leads to itself; a number that is finished in the order is not looked at.
+fn name_unless_finished<'a>(
+    alloc: Global,
+    graph: &[Row],
+    order: &Order,
+    names: &'a [Name],
+    number: usize,
+) -> Result<Option<&'a str>, AllocError>
+    requires { IsFinished graph.now order.now }
+    ensures { IfOk result (λ o. MatchOption o (name_on_cycle graph.now names.now number ≡ None) (λ x. name_on_cycle graph.now names.now number ≡ Some x.now)) }
+{
+    if order.has(number) {
+        return Ok(None);
+    }
+    name_on_cycle(alloc, graph, names, number)
+}
+
+/// The name of the first number that leads to itself. Those that are finished in an order are not looked at.
+///
+/// # Errors
+///
+/// Want of memory alone.
 pub fn first_cycle<'a>(
     alloc: Global,
     graph: &[Row],
+    order: &Order,
     names: &'a [Name],
 ) -> Result<Option<&'a str>, AllocError>
+    requires { IsFinished graph.now order.now }
     ensures { IfOk result (λ o. MatchOption o (first (cycle_names graph.now names.now) ≡ None) (λ x. first (cycle_names graph.now names.now) ≡ Some x.now)) }
 {
     let mut number = 0;
     for row in graph {
-        if let Some(name) = name_on_cycle(alloc, graph, names, number)? {
+        if let Some(name) = name_unless_finished(alloc, graph, order, names, number)? {
             return Ok(Some(name));
         }
         number += 1;
