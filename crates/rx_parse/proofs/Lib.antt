@@ -1,0 +1,5 @@
+pub mod Exits
+pub mod Lines
+pub mod Texts
+pub mod Top
+pub mod Turns
