@@ -1,4 +1,5 @@
 pub mod Exits
+pub mod Inner
 pub mod Lines
 pub mod Texts
 pub mod Top

@@ -5,6 +5,7 @@ ghost use Rattle.rx_ast.specs.SlotView.{key_place_of};
 ghost use Rattle.rx_grammar.specs.Steps.{next};
 ghost use Rattle.rx_grammar.specs.Openings.{opening_of};
 ghost use Rattle.rx_grammar.specs.Reading.{braced_at, key_at, given_at, is_attribute, attribute_at, attributes_at, last_key_at, keyed_at, value_at, provider_at, upper_tag_at};
+ghost use Rattle.rx_parse.specs.Parts.{host_tag_at};
 ghost use Rattle.rx_parse.specs.Results.{Gives};
 
 use crate::beside::{beside, closed};
@@ -169,6 +170,19 @@ fn provider<'a>(
         },
         rest,
     ))
+}
+
+/// The tag of an element of the host.
+pub(crate) fn host_tag<'a>(
+    alloc: Global,
+    rest: &'a [Token],
+    level: usize,
+) -> Result<(Tag, &'a [Token]), Fault>
+    ensures { Gives (λ x. (opening_of x.0, kinds x.1.now)) result (host_tag_at level (kinds rest.now)) }
+{
+    let (name, rest) = lower(alloc, rest)?;
+    let (attributes, rest) = attributes(alloc, rest, level, true)?;
+    Ok((Tag::Host { name, attributes }, rest))
 }
 
 /// The tag of a component or a provider.

@@ -1,21 +1,20 @@
 // Slots, elements and child lists.
-ghost use Rattle.std.specs.Prelude.{Ok};
-ghost use Rattle.rx_lex.specs.declared.token.Sign.TheVariants as sign;
-ghost use Rattle.rx_ast.specs.Syntax.{choice};
-ghost use Rattle.rx_grammar.specs.Steps.{◌>>=◌};
 ghost use Rattle.rx_lex.specs.Tokens.{kinds};
 ghost use Rattle.rx_ast.specs.SlotView.{key_place_of};
 ghost use Rattle.rx_grammar.specs.Openings.{opening_of};
-ghost use Rattle.rx_grammar.specs.Reading.{sign_at, keyed_at, braced_slot, fallback_at, tag_at, closing_name_at, end_or_element, child_at, content_at, element_at, enclosed_at, repeated_at, slot_choice_at, shown_at, plain_with, slot_with, slot_inner, slot_at, children_at, element_behind};
+ghost use Rattle.rx_grammar.specs.Reading.{keyed_at, braced_slot, fallback_at, tag_at, end_or_element, child_at, element_at, enclosed_at, repeated_at, slot_choice_at, shown_at, plain_with, slot_with, slot_inner, slot_at, children_at, element_behind};
+ghost use Rattle.rx_parse.specs.Parts.{second_at};
 ghost use Rattle.rx_parse.specs.Results.{Gives};
 
-use crate::attributes::{attributes, key, last_key, upper_tag};
+use crate::attributes::{host_tag, key, last_key, upper_tag};
 use crate::beside::{beside, closed};
-use crate::expressions::{OR_LINE, expr, line};
+use crate::elements::{ended, filled};
+use crate::expressions::{OR_LINE, line};
 use crate::fault::Fault;
+use crate::repetitions::repetition;
 use crate::steps::{
-    expect, expect_lower, expect_upper, expect_word, lower, next_are, next_is, next_is_lower,
-    next_is_text, next_is_word, number, text,
+    expect, expect_lower, expect_word, next_are, next_is, next_is_lower, next_is_text,
+    next_is_word, text,
 };
 use rx_ast::{Child, Element, Expr, KeyPlace, Slot, Tag};
 use rx_lex::{Keyword, Sign, Token};
@@ -81,27 +80,9 @@ fn tag<'a>(alloc: Global, rest: &'a [Token], level: usize) -> Result<(Tag, &'a [
         return Ok((Tag::Suspense { key, fallback }, rest));
     }
     if next_is_lower(rest) {
-        let (name, rest) = lower(alloc, rest)?;
-        let (attributes, rest) = attributes(alloc, rest, level, true)?;
-        return Ok((Tag::Host { name, attributes }, rest));
+        return host_tag(alloc, rest, level);
     }
     upper_tag(alloc, rest, level)
-}
-
-/// What follows the name of the closing tag that is wanted.
-fn closing_name<'a>(tag: &Tag, rest: &'a [Token]) -> Result<&'a [Token], Fault>
-    ensures { Gives (λ r. (tt, kinds r.now)) result (closing_name_at (opening_of tag.now) (kinds rest.now)) }
-{
-    match tag {
-        Tag::Host { name, .. } => expect_lower(rest, name.text()),
-        Tag::Component { name, .. } => expect_upper(rest, name.text()),
-        Tag::Suspense { .. } => expect_word(rest, Keyword::Suspense),
-        Tag::Provider { context, .. } => {
-            let rest = expect_upper(rest, context.text())?;
-            let rest = expect(rest, Sign::Dot)?;
-            expect_word(rest, Keyword::Provider)
-        }
-    }
 }
 
 /// Behind the `<` of a child list: an element, or none where the list ends.
@@ -163,32 +144,9 @@ pub(crate) fn children<'a>(
     }
 }
 
-/// What stands behind the opening tag of an element.
-#[cycle(slot)]
-#[tactic(auto, unfolding(rx_grammar::specs::Reading::content_at))]
-fn content<'a>(
-    alloc: Global,
-    tag: Tag,
-    rest: &'a [Token],
-    level: usize,
-) -> Result<(Element, &'a [Token]), Fault>
-    ensures { Gives (λ x. (x.0, kinds x.1.now)) result (content_at (children_at level) (opening_of tag) (kinds rest.now)) }
-{
-    if next_is(rest, Sign::Slash) {
-        let (tag, rest) = closed(tag, expect(rest, Sign::Slash))?;
-        let (tag, rest) = closed(tag, expect(rest, Sign::Greater))?;
-        return Ok((Element::ended(tag), rest));
-    }
-    let (tag, rest) = closed(tag, expect(rest, Sign::Greater))?;
-    let (tag, children, rest) = beside(tag, children(alloc, rest, level))?;
-    let name = closing_name(&tag, rest);
-    let (filled, rest) = closed(Element::filled(tag, children), name)?;
-    closed(filled, expect(rest, Sign::Greater))
-}
-
 /// An element behind its `<`, with so many levels left in it.
 #[cycle(slot)]
-#[tactic(auto, unfolding(rx_grammar::specs::Reading::element_with))]
+#[tactic(auto, unfolding(rx_grammar::specs::Reading::element_with, rx_grammar::specs::Reading::content_at))]
 pub(crate) fn behind_less<'a>(
     alloc: Global,
     rest: &'a [Token],
@@ -197,7 +155,12 @@ pub(crate) fn behind_less<'a>(
     ensures { Gives (λ x. (x.0, kinds x.1.now)) result (element_behind level (kinds rest.now)) }
 {
     let (tag, rest) = tag(alloc, rest, level)?;
-    content(alloc, tag, rest, level)
+    if next_is(rest, Sign::Slash) {
+        return ended(tag, rest);
+    }
+    let (tag, rest) = closed(tag, expect(rest, Sign::Greater))?;
+    let (tag, children, rest) = beside(tag, children(alloc, rest, level))?;
+    filled(tag, children, rest)
 }
 
 /// An element.
@@ -246,14 +209,7 @@ fn repeated<'a>(
     if level == 0 {
         return Err(Fault::Syntax(rest.len()));
     }
-    let rest = expect_word(rest, Keyword::For)?;
-    let rest = expect(rest, Sign::OpenParen)?;
-    let (index, rest) = lower(alloc, rest)?;
-    let rest = expect(rest, Sign::Less)?;
-    let (bound, rest) = expr(alloc, rest, level - 1)?;
-    let (bound, rest) = closed(bound, expect(rest, Sign::Comma))?;
-    let (bound, limit, rest) = beside(bound, number(rest))?;
-    let (bound, rest) = closed(bound, expect(rest, Sign::CloseParen))?;
+    let (index, bound, limit, rest) = repetition(alloc, rest, level - 1)?;
     let (bound, item, rest) = beside(bound, slot(alloc, rest, level - 1))?;
     Ok((Slot::repeated(alloc, index, bound, limit, item)?, rest))
 }
@@ -267,7 +223,7 @@ fn second<'a>(
     rest: &'a [Token],
     level: usize,
 ) -> Result<(Slot, &'a [Token]), Fault>
-    ensures { Gives (λ x. (x.0, kinds x.1.now)) result (sign_at sign.Colon (kinds rest.now) >>= λ s. slot_at level s.1 >>= λ b. Ok (choice test first b.0, b.1)) }
+    ensures { Gives (λ x. (x.0, kinds x.1.now)) result (second_at (slot_at level) test first (kinds rest.now)) }
 {
     let rest = expect(rest, Sign::Colon)?;
     let (second, rest) = slot(alloc, rest, level)?;

@@ -25,9 +25,6 @@ decreases-child l = l.level * 100 + 66
 abbrev pub decreases-children : goal.decreases-children
 decreases-children l = l.level * 100 + 67
 
-abbrev pub decreases-content : goal.decreases-content
-decreases-content l = l.level * 100 + 68
-
 abbrev pub decreases-behind_less : goal.decreases-behind_less
 decreases-behind_less l = l.level * 100 + 70
 
