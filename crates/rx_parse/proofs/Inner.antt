@@ -3,12 +3,12 @@ use Rattle.std.proofs.Common.{◌≡◌, ℕ, zero, suc, ◌-◌, ◌<◌, Ok, E
 use Rattle.rx_lex.specs.declared.token.Sign.TheVariants as sign
 use Rattle.rx_lex.specs.declared.token.Keyword.TheVariants as word
 use Rattle.rx_lex.specs.declared.token.Kind.{Kind}
-use Rattle.rx_ast.specs.Syntax.{Slot, repeated}
+use Rattle.rx_ast.specs.Syntax.{Expr, Slot, repeated, enclosed, parentheses}
 use Rattle.rx_grammar.specs.Steps.{Read, ◌>>=◌, within, taken, as_word, as_lower, as_number}
-use Rattle.rx_grammar.specs.Reading.{sign_at, expr_at, SlotInner, slot_inner, slot_at, element_at, element_behind, children_at, repeated_at}
+use Rattle.rx_grammar.specs.Reading.{sign_at, expr_at, SlotInner, slot_inner, slot_at, element_at, element_behind, children_at, repeated_at, enclosed_at, slot_choice_at}
 use Rattle.rx_parse.specs.declared.fault.Fault.{Fault}
 use Rattle.rx_parse.specs.Results.{Fails}
-use Rattle.rx_parse.specs.Parts.{repetition_at}
+use Rattle.rx_parse.specs.Parts.{repetition_at, second_at}
 
 abbrev pub slots_in : ℕ → SlotInner
 slots_in n = record { expr = expr_at n; slot = slot_at n; element = element_behind n; opened = element_at (slot_inner n); children = children_at n }
@@ -30,3 +30,9 @@ unfolding repetition_at
 repeated_in n ts lt =
     in_slots n ts _ lt
     ∙ parted (taken (as_word word.For) ts) _ _ _ (λ f. parted (sign_at sign.OpenParen f.1) _ _ _ (λ p. parted (taken as_lower p.1) _ _ _ (λ x. parted (sign_at sign.Less x.1) _ _ _ (λ l. parted (expr_at (n - 1) l.1) _ _ _ (λ e. parted (sign_at sign.Comma e.1) _ _ _ (λ c. parted (taken as_number c.1) _ _ _ (λ m. parted (sign_at sign.CloseParen m.1) _ _ _ (λ r. refl))))))))
+
+pub enclosed_in : (n : ℕ) (ts : List Kind) → 0 < n → enclosed_at (slot_inner n) ts ≡ (sign_at sign.OpenParen ts >>= λ p. element_at (slot_inner (n - 1)) p.1 >>= λ e. sign_at sign.CloseParen e.1 >>= λ c. Ok (enclosed parentheses e.0, c.1))
+enclosed_in n ts lt = in_slots n ts _ lt
+
+pub choice_in : (n : ℕ) (test : Expr) (ts : List Kind) → 0 < n → slot_choice_at (slot_inner n) test ts ≡ (sign_at sign.Question ts >>= λ q. slot_at (n - 1) q.1 >>= λ a. second_at (slot_at (n - 1)) test a.0 a.1)
+choice_in n test ts lt = in_slots n ts _ lt
