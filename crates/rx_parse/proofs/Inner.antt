@@ -1,14 +1,14 @@
 -- What is read one level further in, at the exits of the functions of slots.
-use Rattle.std.proofs.Common.{◌≡◌, ℕ, zero, suc, ◌-◌, ◌<◌, Ok, Err, List, refl, sym, ap, ◌∙◌, subst, arith}
+use Rattle.std.proofs.Common.{◌≡◌, ℕ, zero, suc, ◌-◌, ◌<◌, Option, Some, None, Ok, Err, List, refl, sym, ap, ◌∙◌, subst, arith}
 use Rattle.rx_lex.specs.declared.token.Sign.TheVariants as sign
 use Rattle.rx_lex.specs.declared.token.Keyword.TheVariants as word
 use Rattle.rx_lex.specs.declared.token.Kind.{Kind}
-use Rattle.rx_ast.specs.Syntax.{Expr, Slot, repeated, enclosed, parentheses}
+use Rattle.rx_ast.specs.Syntax.{Expr, Slot, repeated, choice, enclosed, parentheses}
 use Rattle.rx_grammar.specs.Steps.{Read, ◌>>=◌, within, taken, as_word, as_lower, as_number}
 use Rattle.rx_grammar.specs.Reading.{sign_at, expr_at, SlotInner, slot_inner, slot_at, element_at, element_behind, children_at, repeated_at, enclosed_at, slot_choice_at}
 use Rattle.rx_parse.specs.declared.fault.Fault.{Fault}
 use Rattle.rx_parse.specs.Results.{Fails}
-use Rattle.rx_parse.specs.Parts.{repetition_at, second_at}
+use Rattle.rx_parse.specs.Parts.{repetition_at, sides_at}
 
 abbrev pub slots_in : ℕ → SlotInner
 slots_in n = record { expr = expr_at n; slot = slot_at n; element = element_behind n; opened = element_at (slot_inner n); children = children_at n }
@@ -34,5 +34,10 @@ repeated_in n ts lt =
 pub enclosed_in : (n : ℕ) (ts : List Kind) → 0 < n → enclosed_at (slot_inner n) ts ≡ (sign_at sign.OpenParen ts >>= λ p. element_at (slot_inner (n - 1)) p.1 >>= λ e. sign_at sign.CloseParen e.1 >>= λ c. Ok (enclosed parentheses e.0, c.1))
 enclosed_in n ts lt = in_slots n ts _ lt
 
-pub choice_in : (n : ℕ) (test : Expr) (ts : List Kind) → 0 < n → slot_choice_at (slot_inner n) test ts ≡ (sign_at sign.Question ts >>= λ q. slot_at (n - 1) q.1 >>= λ a. second_at (slot_at (n - 1)) test a.0 a.1)
-choice_in n test ts lt = in_slots n ts _ lt
+pub sides_in : (n : ℕ) (ts : List Kind) → 0 < n → sides_at (slot_inner n) ts ≡ (sign_at sign.Question ts >>= λ q. slot_at (n - 1) q.1 >>= λ a. sign_at sign.Colon a.1 >>= λ s. slot_at (n - 1) s.1 >>= λ b. Ok ((a.0, b.0), b.1))
+sides_in n ts lt = in_slots n ts _ lt
+
+-- a choice is its test and its two sides
+pub choice_sides : (o : Option SlotInner) (test : Expr) (ts : List Kind) → slot_choice_at o test ts ≡ (sides_at o ts >>= λ x. Ok (choice test x.0.0 x.0.1, x.1))
+choice_sides None test ts = refl
+choice_sides (Some i) test ts = parted (sign_at sign.Question ts) _ _ _ (λ q. parted (i.slot q.1) _ _ _ (λ a. parted (sign_at sign.Colon a.1) _ _ _ (λ s. parted (i.slot s.1) _ _ _ (λ b. refl))))

@@ -2,13 +2,13 @@
 ghost use Rattle.rx_lex.specs.Tokens.{kinds};
 ghost use Rattle.rx_ast.specs.SlotView.{key_place_of};
 ghost use Rattle.rx_grammar.specs.Openings.{opening_of};
-ghost use Rattle.rx_grammar.specs.Reading.{keyed_at, braced_slot, fallback_at, tag_at, end_or_element, child_at, element_at, enclosed_at, repeated_at, slot_choice_at, shown_at, plain_with, slot_with, slot_inner, slot_at, children_at, element_behind};
-ghost use Rattle.rx_parse.specs.Parts.{second_at};
+ghost use Rattle.rx_grammar.specs.Reading.{keyed_at, braced_slot, fallback_at, tag_at, end_or_element, child_at, element_at, enclosed_at, repeated_at, shown_at, plain_with, slot_with, slot_inner, slot_at, children_at, element_behind};
+ghost use Rattle.rx_parse.specs.Parts.{sides_at};
 ghost use Rattle.rx_parse.specs.Results.{Gives};
 
 use crate::attributes::{host_tag, key, last_key, upper_tag};
 use crate::beside::{beside, closed};
-use crate::elements::{ended, filled};
+use crate::elements::{boundary, choice, ended, filled};
 use crate::expressions::{OR_LINE, line};
 use crate::fault::Fault;
 use crate::repetitions::repetition;
@@ -16,7 +16,7 @@ use crate::steps::{
     expect, expect_lower, expect_word, next_are, next_is, next_is_lower, next_is_text,
     next_is_word, text,
 };
-use rx_ast::{Child, Element, Expr, KeyPlace, Slot, Tag};
+use rx_ast::{Child, Element, KeyPlace, Slot, Tag};
 use rx_lex::{Keyword, Sign, Token};
 use std::alloc::Global;
 
@@ -76,8 +76,7 @@ fn tag<'a>(alloc: Global, rest: &'a [Token], level: usize) -> Result<(Tag, &'a [
     if next_is_word(rest, Keyword::Suspense) {
         let rest = expect_word(rest, Keyword::Suspense)?;
         let (key, fallback, rest) = keyed_fallback(alloc, rest, level)?;
-        let fallback = Box::new(alloc, fallback)?;
-        return Ok((Tag::Suspense { key, fallback }, rest));
+        return Ok((boundary(alloc, key, fallback)?, rest));
     }
     if next_is_lower(rest) {
         return host_tag(alloc, rest, level);
@@ -214,38 +213,22 @@ fn repeated<'a>(
     Ok((Slot::repeated(alloc, index, bound, limit, item)?, rest))
 }
 
-/// The second slot behind a test, with the `:` before it.
+/// The two sides of a choice behind its test.
 #[cycle(slot)]
-fn second<'a>(
+fn sides<'a>(
     alloc: Global,
-    test: Expr,
-    first: Slot,
     rest: &'a [Token],
     level: usize,
-) -> Result<(Slot, &'a [Token]), Fault>
-    ensures { Gives (λ x. (x.0, kinds x.1.now)) result (second_at (slot_at level) test first (kinds rest.now)) }
-{
-    let rest = expect(rest, Sign::Colon)?;
-    let (second, rest) = slot(alloc, rest, level)?;
-    Ok((Slot::choice(alloc, test, first, second)?, rest))
-}
-
-/// The two slots behind a test.
-#[cycle(slot)]
-fn choice<'a>(
-    alloc: Global,
-    test: Expr,
-    rest: &'a [Token],
-    level: usize,
-) -> Result<(Slot, &'a [Token]), Fault>
-    ensures { Gives (λ x. (x.0, kinds x.1.now)) result (slot_choice_at (slot_inner level) test (kinds rest.now)) }
+) -> Result<(Slot, Slot, &'a [Token]), Fault>
+    ensures { Gives (λ x. ((x.0, x.1), kinds x.2.now)) result (sides_at (slot_inner level) (kinds rest.now)) }
 {
     if level == 0 {
         return Err(Fault::Syntax(rest.len()));
     }
-    let (test, rest) = closed(test, expect(rest, Sign::Question))?;
-    let (test, first, rest) = beside(test, slot(alloc, rest, level - 1))?;
-    second(alloc, test, first, rest, level - 1)
+    let rest = expect(rest, Sign::Question)?;
+    let (first, rest) = slot(alloc, rest, level - 1)?;
+    let (first, rest) = closed(first, expect(rest, Sign::Colon))?;
+    beside(first, slot(alloc, rest, level - 1))
 }
 
 /// An integer, or a choice.
@@ -255,7 +238,7 @@ fn shown<'a>(alloc: Global, rest: &'a [Token], level: usize) -> Result<(Slot, &'
 {
     let (test, rest) = line(alloc, rest, OR_LINE, level)?;
     if next_is(rest, Sign::Question) {
-        return choice(alloc, test, rest, level);
+        return choice(alloc, test, sides(alloc, rest, level));
     }
     Ok((Slot::value(test), rest))
 }

@@ -37,11 +37,8 @@ decreases-enclosed l = l.level * 100 + 3
 abbrev pub decreases-repeated : goal.decreases-repeated
 decreases-repeated l = l.level * 100 + 3
 
-abbrev pub decreases-second : goal.decreases-second
-decreases-second l = l.level * 100 + 15
-
-abbrev pub decreases-choice : goal.decreases-choice
-decreases-choice l = l.level * 100 + 3
+abbrev pub decreases-sides : goal.decreases-sides
+decreases-sides l = l.level * 100 + 3
 
 abbrev pub decreases-shown : goal.decreases-shown
 decreases-shown l = l.level * 100 + 5
