@@ -1,8 +1,8 @@
 -- What is read at the exits of a function, step by step.
-use Rattle.std.proofs.Common.{◌≡◌, ℕ, zero, suc, ◌-◌, ◌<◌, Option, Some, None, Ok, Err, List, sym, ap, ◌∙◌, subst, arith}
+use Rattle.std.proofs.Common.{◌≡◌, ℕ, zero, suc, ◌-◌, ◌<◌, Ok, List, sym, ap, ◌∙◌, subst, arith}
 use Rattle.rx_lex.specs.declared.token.Sign.TheVariants as sign
 use Rattle.rx_lex.specs.declared.token.Kind.{Kind}
-use Rattle.rx_ast.specs.Syntax.{Expr, grouped, chosen}
+use Rattle.rx_ast.specs.Syntax.{Expr, grouped}
 use Rattle.rx_grammar.specs.Steps.{Read, ◌>>=◌, within}
 use Rattle.rx_grammar.specs.Reading.{sign_at, Inner, inner_at, expr_with, operand_with, expr_at, group_at, choice_at}
 use Rattle.rx_parse.specs.declared.fault.Fault.{Fault}

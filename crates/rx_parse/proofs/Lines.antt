@@ -1,5 +1,5 @@
 -- The line above a line.
-use Rattle.std.proofs.Common.{◌≡◌, ℕ, suc, ◌+◌, ◌==◌, Option, Some, None, Bool, true, false, cond, sym, ap, ◌∙◌, arith}
+use Rattle.std.proofs.Common.{◌≡◌, ℕ, suc, ◌+◌, ◌==◌, Some, None, cond, ap, arith}
 use Rattle.rx_ast.specs.declared.expr.Operator.{Operator}
 use Rattle.rx_print.specs.Levels.{operator_line}
 use Rattle.rx_grammar.specs.Reading.{on_line}

@@ -1,5 +1,5 @@
 -- Texts and tokens that begin a part.
-use Rattle.std.proofs.Common.{◌≡◌, ℕ, ◌<◌, ◌||◌, List, [], ◌∷◌, length, false, refl, arith}
+use Rattle.std.proofs.Common.{◌≡◌, ℕ, ◌<◌, ◌||◌, List, [], ◌∷◌, length, refl, arith}
 use Rattle.std.specs.List.{list_all}
 use Rattle.rx_lex.specs.Tokens.{is_word_byte}
 use Rattle.rx_lex.specs.declared.token.Keyword.TheVariants as word

@@ -1,5 +1,5 @@
 -- Where the tokens of a text are refused.
-use Rattle.std.proofs.Common.{◌≡◌, ◌≢◌, ℕ, suc, ◌+◌, ◌-◌, ◌<◌, ◌≤◌, false, Ok, Err, List, [], ◌∷◌, ◌++◌, length, get_or, map, refl, sym, ap, ◌∙◌, subst, append_assoc, append-nil, length-append, arith}
+use Rattle.std.proofs.Common.{◌≡◌, ◌≢◌, ℕ, ◌+◌, ◌-◌, ◌<◌, ◌≤◌, false, Ok, Err, List, [], ◌∷◌, ◌++◌, length, get_or, refl, sym, ap, ◌∙◌, subst, append_assoc, append-nil, length-append, arith}
 use Rattle.std.proofs.lemmas.List.{length-map, map-append}
 use Rattle.rx_lex.specs.declared.token.Kind.{Kind}
 use Rattle.rx_lex.specs.declared.token.Kind.TheVariants.{End}
@@ -10,9 +10,8 @@ use Rattle.rx_print.specs.Printing.{program_tokens}
 use Rattle.rx_print.specs.Levels.{HasTokens, BeginsProgram, level_limit}
 use Rattle.std.specs.List.{All}
 use Rattle.std.proofs.lemmas.List.Elements.{All-head, All-tail}
-use Rattle.rx_grammar.specs.Steps.{Read, is_end}
+use Rattle.rx_grammar.specs.Steps.{is_end}
 use Rattle.rx_grammar.specs.Reading.{program_at}
-use Rattle.rx_grammar.specs.Stops.{StopsFirst}
 use Rattle.rx_grammar.proofs.Readings.{NoEnd}
 use Rattle.rx_grammar.proofs.Combine.{made}
 use Rattle.rx_grammar.proofs.Programs.{read_has_tokens, has_tokens_read, stops_first, last_end}

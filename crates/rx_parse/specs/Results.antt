@@ -1,5 +1,5 @@
 -- What a function of the parser returns, beside what is read there.
-use Rattle.std.specs.Prelude.{◌≡◌, ℕ, List, ◌++◌, Result, Ok, Err}
+use Rattle.std.specs.Prelude.{◌≡◌, List, ◌++◌, Result, Ok, Err}
 use Rattle.rx_lex.specs.declared.token.Kind.{Kind}
 use Rattle.rx_grammar.specs.Steps.{Read, ◌>>=◌}
 use Rattle.rx_parse.specs.declared.fault.Fault.{Fault}

@@ -1,4 +1,4 @@
-use Rattle.std.proofs.Common.{◌≡◌, Ok, sym, ap, ◌∙◌}
+use Rattle.std.proofs.Common.{sym, ◌∙◌}
 use Rattle.rx_lex.specs.Tokens.{kinds}
 use Rattle.rx_grammar.proofs.Attributes.{attributes_loop}
 use Rattle.rx_parse.proofs.Turns.{turned, smaller}

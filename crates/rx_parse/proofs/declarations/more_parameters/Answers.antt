@@ -1,6 +1,6 @@
 use Rattle.std.proofs.Common.{◌≡◌, Ok, sym, ap, ◌∙◌}
 use Rattle.rx_lex.specs.Tokens.{kinds}
-use Rattle.rx_grammar.specs.Steps.{taken, as_lower, ◌>>=◌}
+use Rattle.rx_grammar.specs.Steps.{◌>>=◌}
 use Rattle.rx_grammar.specs.Reading.{behind_comma, parameter_at}
 use Rattle.rx_grammar.proofs.Declarations.{parameters_loop}
 use Rattle.rx_parse.proofs.Turns.{turned, smaller}

@@ -1,11 +1,10 @@
-use Rattle.std.proofs.Common.{◌≡◌, ◌<◌, suc, Ok, refl, sym, ap, ◌∙◌, arith}
+use Rattle.std.proofs.Common.{◌≡◌, Ok, sym, ap, ◌∙◌, arith}
 use Rattle.std.proofs.lemmas.Result.{err_from_is_err_and}
 use Rattle.rx_lex.specs.Tokens.{kinds}
-use Rattle.rx_lex.specs.declared.token.Sign.TheVariants as sign
-use Rattle.rx_grammar.specs.Steps.{is_mark, ◌>>=◌}
-use Rattle.rx_grammar.specs.Reading.{sign_at, behind_comma, is_operator, link_at, line_with, inner_at, expr_at}
+use Rattle.rx_grammar.specs.Steps.{◌>>=◌}
+use Rattle.rx_grammar.specs.Reading.{behind_comma, expr_at}
 use Rattle.rx_grammar.proofs.Exprs.{links_loop, exprs_loop}
-use Rattle.rx_parse.proofs.Exits.{group_fails, group_reads, choice_colon_fails, choice_second_fails, reads_behind}
+use Rattle.rx_parse.proofs.Exits.{group_fails, group_reads, choice_colon_fails, choice_second_fails}
 use Rattle.rx_parse.proofs.Turns.{turned, smaller}
 use Rattle.rx_parse.proofs.expressions.+expr.Goals as goal
 

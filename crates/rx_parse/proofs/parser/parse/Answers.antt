@@ -1,4 +1,4 @@
-use Rattle.std.proofs.Common.{◌≡◌, Err, sym, ◌∙◌, subst, arith}
+use Rattle.std.proofs.Common.{◌≡◌, Err, subst, arith}
 use Rattle.rx_lex.specs.Tokens.{kinds}
 use Rattle.rx_print.specs.Levels.{level_limit}
 use Rattle.rx_grammar.specs.Reading.{program_at}
