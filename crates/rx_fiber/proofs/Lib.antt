@@ -9,3 +9,4 @@ pub mod Matching
 pub mod Unwinding
 pub mod OldReads
 pub mod OldPlaces
+pub mod OldTops
