@@ -1,0 +1,20 @@
+use Rattle.std.proofs.Common.{◌≡◌, Ok, sym, ap, ◌∙◌}
+use Rattle.rx_lex.specs.Tokens.{kinds}
+use Rattle.rx_grammar.specs.Steps.{◌>>=◌}
+use Rattle.rx_grammar.specs.Reading.{behind_comma, parameter_at}
+use Rattle.rx_grammar.proofs.Declarations.{parameters_loop}
+use Rattle.rx_parse.proofs.Turns.{turned, smaller}
+use Rattle.rx_parse.proofs.declarations.more_parameters.Goals as goal
+
+pub loop-alloc-smaller : goal.loop-alloc-smaller
+loop-alloc-smaller c =
+    let item : behind_comma (parameter_at) (kinds c.loop-alloc.rest.now) ≡ Ok (c.in_ok-next.next, kinds c.in_ok-next.after.now) =
+    ap (λ r. r >>= λ s. parameter_at s.1) c.in_ok-behind.ensures ∙ c.in_ok-next.ensures in
+    smaller (parameters_loop) c.loop-alloc.rest.now c.in_ok-next.after.now c.in_ok-next.next item
+
+pub loop-alloc-preserved : goal.loop-alloc-preserved
+loop-alloc-preserved c =
+    let item : behind_comma (parameter_at) (kinds c.loop-alloc.rest.now) ≡ Ok (c.in_ok-next.next, kinds c.in_ok-next.after.now) =
+    ap (λ r. r >>= λ s. parameter_at s.1) c.in_ok-behind.ensures ∙ c.in_ok-next.ensures in
+    turned (parameters_loop) c.loop-alloc.parameters.items _ c.in_ok-next.next (kinds c.loop-alloc.rest.now) (kinds c.in_ok-next.after.now) _
+    (sym c.next_is.ensures ∙ c.loop-alloc-test.true) item c.in_ok-push.ensures.items c.loop-alloc.invariant

@@ -1,0 +1,4 @@
+pub mod Faults
+pub mod Jsx
+pub mod Parts
+pub mod Results
