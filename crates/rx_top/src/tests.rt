@@ -713,7 +713,7 @@ fn push_piece(program: &mut String, text: &str, number: u64) -> Result<(), Alloc
 fn program_of(alloc: Global, pieces: &[(&str, u64, u64)]) -> Result<String, AllocError> {
     let mut program = String::new(alloc);
     for (text, first, last) in pieces {
-        for number in *first..*last + 1 {
+        for number in *first..last.saturating_add(1) {
             push_piece(&mut program, text, number)?;
         }
     }
