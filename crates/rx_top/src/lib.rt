@@ -3,6 +3,7 @@
 
 mod answer;
 mod call;
+mod lines;
 mod run;
 mod status;
 mod words;

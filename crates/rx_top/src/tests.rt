@@ -2,6 +2,7 @@
 ghost use Rattle.std.specs.Prelude.{◌≡◌};
 
 use super::*;
+use itoa::Buffer;
 use rx_base::Steps;
 use rx_io::{MemSink, MemSource};
 use std::alloc::{AllocError, Global};
@@ -22,10 +23,13 @@ struct Row<'a> {
 const TWO_COUNTERS: &str =
     "function Counter({start}) { const [n, setN] = useState(start); return <p>{n}</p>; } function App() { return <div><Counter start={1}/><Counter start={2}/></div>; }";
 
+const ONE_FUNCTION: &str =
+    "function app(s, a) { return s * 10 + a; } function App() { const [s, setS] = useState(0); return <p>{s}</p>; }";
+
 const STATES: &str =
     "commit 1 Default\ncommit 2 Sync\nstate\n  [1] App\n  [2] Counter n=1\n  [3] Counter n=7\nend quiet\n";
 
-const ROWS: [Row<'static>; 12] = [
+const ROWS: [Row<'static>; 14] = [
     // Two counters: the second is set.
     Row {
         words: &["run"],
@@ -85,21 +89,40 @@ const ROWS: [Row<'static>; 12] = [
         status: 2,
         output: "usage: fiber_run run [--counts] [--ops] | check | gen N\n",
     },
-    // A program that is not small.
+    // A program that is accepted and not small.
     Row {
         words: &["run"],
-        program: "function app(s, a) { return s * 10 + a; } function App() { const [s, setS] = useState(0); return <p>{s}</p>; }",
-        script: "jump",
+        program: ONE_FUNCTION,
+        script: "flush",
         failing_reads: &[],
         failing_writes: &[],
         status: 6,
         output: "program refused 19\n",
     },
-    // The first bad line of a script.
+    // What is not accepted is refused before what is not small: a bad line of a script, and before it a program.
+    Row {
+        words: &["run"],
+        program: ONE_FUNCTION,
+        script: "jump",
+        failing_reads: &[],
+        failing_writes: &[],
+        status: 7,
+        output: "script refused 14 line 1\n",
+    },
+    Row {
+        words: &["run"],
+        program: "function App() { return <p>{x}</p>; }",
+        script: "jump",
+        failing_reads: &[],
+        failing_writes: &[],
+        status: 6,
+        output: "program refused 5 x\n",
+    },
+    // The first line of a script that small programs have not.
     Row {
         words: &["run"],
         program: TWO_COUNTERS,
-        script: "flush\ntree\nset sync App n 1",
+        script: "flush\ntree\nset sync App/Counter n 1",
         failing_reads: &[],
         failing_writes: &[],
         status: 7,
@@ -191,17 +214,583 @@ fn each_row_has_its_status_and_output(rt: HostRuntime) -> Result<(), Fail> {
     Ok(())
 }
 
+const TWO_KEYS: &str =
+    "function Item({v}) { const [n, setN] = useState(v); return <i>{n}</i>; } function App() { const [a, setA] = useState(1); return <div>{for (i < 2, 2) i || a ? <Item key={5} v={10 + i}/> : null}</div>; }";
+
+const WAITING: &str =
+    "function User({p}) { const [n, setN] = useState(p); const u = use(\"user\"); return <b>{u + n}</b>; } function App() { const [p, setP] = useState(1); return <Suspense fallback={<i/>}><User p={p}/></Suspense>; }";
+
+/// An input, and what `check` answers to it. Its program is written in pieces: a text, once for each number from one to
+/// another, both of them too; `#` stands for the number and `~` for the one before it.
+struct Case<'a> {
+    pieces: &'a [(&'a str, u64, u64)],
+    script: &'a str,
+    status: u8,
+    output: &'a str,
+}
+
+const CASES: [Case<'static>; 51] = [
+    // What is accepted: bounds, and how many steps there are.
+    Case {
+        pieces: &[(
+            "function App() { return <>{for (i < 0, 64) <p>{for (j < 0, 61) j}</p>}{for (k < 0, 61) k}</>; }",
+            1,
+            1,
+        )],
+        script: "",
+        status: 0,
+        output: "accepted nodes 4096 depth 5 steps 0\n",
+    },
+    Case {
+        pieces: &[(TWO_KEYS, 1, 1)],
+        script: "flush\nset sync App a 0\nflush\nstate",
+        status: 0,
+        output: "accepted nodes 9 depth 6 steps 4\n",
+    },
+    // Each refusal, in order.
+    Case {
+        pieces: &[("function App() { return <p>{1 & 2}</p>; }", 1, 1)],
+        script: "",
+        status: 6,
+        output: "program refused 2 at 30\n",
+    },
+    Case {
+        pieces: &[("function App() { return <p>{1}</q>; }", 1, 1)],
+        script: "",
+        status: 6,
+        output: "program refused 3 at 32\n",
+    },
+    Case {
+        pieces: &[(
+            "function App() { const a = 1; const a = 2; return null; }",
+            1,
+            1,
+        )],
+        script: "",
+        status: 6,
+        output: "program refused 4 a\n",
+    },
+    Case {
+        pieces: &[("function App() { return <p>{x}</p>; }", 1, 1)],
+        script: "",
+        status: 6,
+        output: "program refused 5 x\n",
+    },
+    Case {
+        pieces: &[(
+            "function f(a) { return a; } function App() { return <p>{f(1, 2)}</p>; }",
+            1,
+            1,
+        )],
+        script: "",
+        status: 6,
+        output: "program refused 6 f\n",
+    },
+    Case {
+        pieces: &[(
+            "function f(a) { return f(a); } function App() { return null; }",
+            1,
+            1,
+        )],
+        script: "",
+        status: 6,
+        output: "program refused 7 f\n",
+    },
+    Case {
+        pieces: &[(
+            "function A() { return <A/>; } function App() { return null; }",
+            1,
+            1,
+        )],
+        script: "",
+        status: 6,
+        output: "program refused 8 A\n",
+    },
+    Case {
+        pieces: &[(
+            "function App() { const u = use(\"r\"); return <p>{u}</p>; }",
+            1,
+            1,
+        )],
+        script: "",
+        status: 6,
+        output: "program refused 9 App\n",
+    },
+    Case {
+        pieces: &[("", 1, 1)],
+        script: "",
+        status: 6,
+        output: "program refused 10\n",
+    },
+    Case {
+        pieces: &[(
+            "function App() { return <>{for (i < 0, 64) <p>{for (j < 0, 61) j}</p>}{for (k < 0, 65) k}</>; }",
+            1,
+            1,
+        )],
+        script: "",
+        status: 6,
+        output: "program refused 11 list 65 64\n",
+    },
+    Case {
+        pieces: &[(
+            "function App() { return <>{for (i < 0, 64) <p>{for (j < 0, 61) j}</p>}{for (k < 0, 62) k}</>; }",
+            1,
+            1,
+        )],
+        script: "",
+        status: 6,
+        output: "program refused 12 4097\n",
+    },
+    Case {
+        pieces: &[
+            ("function g0(a) { return a; }", 1, 1),
+            (" function g#(a) { return g~(a) + g~(a); }", 1, 18),
+            (" function App() { return null; }", 1, 1),
+        ],
+        script: "",
+        status: 6,
+        output: "program refused 13 1572859\n",
+    },
+    Case {
+        pieces: &[(ONE_FUNCTION, 1, 1)],
+        script: "work 01",
+        status: 7,
+        output: "script refused 14 line 1\n",
+    },
+    Case {
+        pieces: &[(ONE_FUNCTION, 1, 1)],
+        script: "set sync App/Box s 1",
+        status: 7,
+        output: "script refused 15 line 1\n",
+    },
+    Case {
+        pieces: &[(ONE_FUNCTION, 1, 1)],
+        script: "work 1000001",
+        status: 7,
+        output: "script refused 16 line 1\n",
+    },
+    // The program is refused before the script, and of the script the first bad line.
+    Case {
+        pieces: &[("function App() { return <p>{x}</p>; }", 1, 1)],
+        script: "jump",
+        status: 6,
+        output: "program refused 5 x\n",
+    },
+    Case {
+        pieces: &[(ONE_FUNCTION, 1, 1)],
+        script: "flush\n# none\nset sync Box s 1\njump",
+        status: 7,
+        output: "script refused 15 line 3\n",
+    },
+    // How deep places nest.
+    Case {
+        pieces: &[
+            ("function App() { return ", 1, 1),
+            ("(", 1, 64),
+            ("1", 1, 1),
+            (")", 1, 64),
+            ("; }", 1, 1),
+        ],
+        script: "",
+        status: 0,
+        output: "accepted nodes 2 depth 2 steps 0\n",
+    },
+    Case {
+        pieces: &[
+            ("function App() { return ", 1, 1),
+            ("(", 1, 65),
+            ("1", 1, 1),
+            (")", 1, 65),
+            ("; }", 1, 1),
+        ],
+        script: "",
+        status: 6,
+        output: "program refused 3 at 88\n",
+    },
+    // The greatest number.
+    Case {
+        pieces: &[("function App() { return <p>{2147483648}</p>; }", 1, 1)],
+        script: "",
+        status: 0,
+        output: "accepted nodes 3 depth 3 steps 0\n",
+    },
+    Case {
+        pieces: &[("function App() { return <p>{2147483649}</p>; }", 1, 1)],
+        script: "",
+        status: 6,
+        output: "program refused 2 at 28\n",
+    },
+    // The cost of a declaration.
+    Case {
+        pieces: &[
+            ("function g0(a) { return a; }", 1, 1),
+            (" function g#(a) { return g~(a) + g~(a); }", 1, 17),
+            (" function App() { return null; }", 1, 1),
+        ],
+        script: "",
+        status: 0,
+        output: "accepted nodes 1 depth 1 steps 0\n",
+    },
+    Case {
+        pieces: &[
+            ("function g0(a) { return a; }", 1, 1),
+            (" function g#(a) { return g~(a) + g~(a); }", 1, 17),
+            (
+                " function h(a) { return g17(a) + g15(a) + g11(a) + g9(a) + g8(a) + g3(a) + g2(a) + a + a + -a; } function App() { return null; }",
+                1,
+                1,
+            ),
+        ],
+        script: "",
+        status: 0,
+        output: "accepted nodes 1 depth 1 steps 0\n",
+    },
+    Case {
+        pieces: &[
+            ("function g0(a) { return a; }", 1, 1),
+            (" function g#(a) { return g~(a) + g~(a); }", 1, 17),
+            (
+                " function h(a) { return g17(a) + g15(a) + g11(a) + g9(a) + g8(a) + g3(a) + g2(a) + a + a + - -a; } function App() { return null; }",
+                1,
+                1,
+            ),
+        ],
+        script: "",
+        status: 6,
+        output: "program refused 13 1000001\n",
+    },
+    // The counts, each at its limit and one past it.
+    Case {
+        pieces: &[
+            ("function C0() { return <p/>; }", 1, 1),
+            (" function C#() { return <C~/>; }", 1, 253),
+            (" function App() { return <C253/>; }", 1, 1),
+        ],
+        script: "",
+        status: 0,
+        output: "accepted nodes 256 depth 256 steps 0\n",
+    },
+    Case {
+        pieces: &[
+            ("function C0() { return <p/>; }", 1, 1),
+            (" function C#() { return <C~/>; }", 1, 254),
+            (" function App() { return <C254/>; }", 1, 1),
+        ],
+        script: "",
+        status: 6,
+        output: "program refused 11 depth 257 256\n",
+    },
+    Case {
+        pieces: &[
+            ("function App() { const ", 1, 1),
+            ("n", 1, 64),
+            (" = 1; return null; }", 1, 1),
+        ],
+        script: "",
+        status: 0,
+        output: "accepted nodes 1 depth 1 steps 0\n",
+    },
+    Case {
+        pieces: &[
+            ("function App() { const ", 1, 1),
+            ("n", 1, 65),
+            (" = 1; return null; }", 1, 1),
+        ],
+        script: "",
+        status: 6,
+        output: "program refused 11 name 65 64\n",
+    },
+    Case {
+        pieces: &[
+            ("function App() { return \"", 1, 1),
+            ("s", 1, 256),
+            ("\"; }", 1, 1),
+        ],
+        script: "",
+        status: 0,
+        output: "accepted nodes 2 depth 2 steps 0\n",
+    },
+    Case {
+        pieces: &[
+            ("function App() { return \"", 1, 1),
+            ("s", 1, 257),
+            ("\"; }", 1, 1),
+        ],
+        script: "",
+        status: 6,
+        output: "program refused 11 string 257 256\n",
+    },
+    Case {
+        pieces: &[
+            ("function f#() { return 0; } ", 1, 255),
+            ("function App() { return null; }", 1, 1),
+        ],
+        script: "",
+        status: 0,
+        output: "accepted nodes 1 depth 1 steps 0\n",
+    },
+    Case {
+        pieces: &[
+            ("function f#() { return 0; } ", 1, 256),
+            ("function App() { return null; }", 1, 1),
+        ],
+        script: "",
+        status: 6,
+        output: "program refused 11 declarations 257 256\n",
+    },
+    Case {
+        pieces: &[
+            ("function f(a", 1, 1),
+            (", a#", 2, 16),
+            (") { return 0; } function App() { return null; }", 1, 1),
+        ],
+        script: "",
+        status: 0,
+        output: "accepted nodes 1 depth 1 steps 0\n",
+    },
+    Case {
+        pieces: &[
+            ("function f(a", 1, 1),
+            (", a#", 2, 17),
+            (") { return 0; } function App() { return null; }", 1, 1),
+        ],
+        script: "",
+        status: 6,
+        output: "program refused 11 parameters 17 16\n",
+    },
+    Case {
+        pieces: &[
+            ("function App() { ", 1, 1),
+            ("const v# = 0; ", 1, 64),
+            ("return null; }", 1, 1),
+        ],
+        script: "",
+        status: 0,
+        output: "accepted nodes 1 depth 1 steps 0\n",
+    },
+    Case {
+        pieces: &[
+            ("function App() { ", 1, 1),
+            ("const v# = 0; ", 1, 65),
+            ("return null; }", 1, 1),
+        ],
+        script: "",
+        status: 6,
+        output: "program refused 11 statements 65 64\n",
+    },
+    Case {
+        pieces: &[
+            ("function App() { return <p", 1, 1),
+            (" a#={1}", 1, 16),
+            ("/>; }", 1, 1),
+        ],
+        script: "",
+        status: 0,
+        output: "accepted nodes 2 depth 2 steps 0\n",
+    },
+    Case {
+        pieces: &[
+            ("function App() { return <p", 1, 1),
+            (" a#={1}", 1, 17),
+            ("/>; }", 1, 1),
+        ],
+        script: "",
+        status: 6,
+        output: "program refused 11 attributes 17 16\n",
+    },
+    Case {
+        pieces: &[
+            ("function App() { useEffect(\"e\", [0", 1, 1),
+            (", #", 2, 16),
+            ("]); return null; }", 1, 1),
+        ],
+        script: "",
+        status: 0,
+        output: "accepted nodes 1 depth 1 steps 0\n",
+    },
+    Case {
+        pieces: &[
+            ("function App() { useEffect(\"e\", [0", 1, 1),
+            (", #", 2, 17),
+            ("]); return null; }", 1, 1),
+        ],
+        script: "",
+        status: 6,
+        output: "program refused 11 dependencies 17 16\n",
+    },
+    Case {
+        pieces: &[("function App() { return for (i < 1, 64) null; }", 1, 1)],
+        script: "",
+        status: 0,
+        output: "accepted nodes 2 depth 2 steps 0\n",
+    },
+    Case {
+        pieces: &[("function App() { return for (i < 1, 65) null; }", 1, 1)],
+        script: "",
+        status: 6,
+        output: "program refused 11 list 65 64\n",
+    },
+    Case {
+        pieces: &[
+            ("function A() { ", 1, 1),
+            ("const u# = use(\"r#\"); ", 1, 32),
+            ("return null; } function B() { ", 1, 1),
+            ("const u# = use(\"r#\"); ", 33, 64),
+            (
+                "return null; } function App() { return <Suspense fallback={null}><A/><B/></Suspense>; }",
+                1,
+                1,
+            ),
+        ],
+        script: "",
+        status: 0,
+        output: "accepted nodes 4 depth 3 steps 0\n",
+    },
+    Case {
+        pieces: &[
+            ("function A() { ", 1, 1),
+            ("const u# = use(\"r#\"); ", 1, 32),
+            ("return null; } function B() { ", 1, 1),
+            ("const u# = use(\"r#\"); ", 33, 65),
+            (
+                "return null; } function App() { return <Suspense fallback={null}><A/><B/></Suspense>; }",
+                1,
+                1,
+            ),
+        ],
+        script: "",
+        status: 6,
+        output: "program refused 11 resources 65 64\n",
+    },
+    // The numbers of a script.
+    Case {
+        pieces: &[(ONE_FUNCTION, 1, 1)],
+        script: "work 1000000",
+        status: 0,
+        output: "accepted nodes 3 depth 3 steps 1\n",
+    },
+    Case {
+        pieces: &[(ONE_FUNCTION, 1, 1)],
+        script: "set sync App s 2147483647",
+        status: 0,
+        output: "accepted nodes 3 depth 3 steps 1\n",
+    },
+    Case {
+        pieces: &[(ONE_FUNCTION, 1, 1)],
+        script: "set sync App/App@4095 s 1",
+        status: 0,
+        output: "accepted nodes 3 depth 3 steps 1\n",
+    },
+    Case {
+        pieces: &[(ONE_FUNCTION, 1, 1)],
+        script: "set sync App s 2147483648",
+        status: 7,
+        output: "script refused 16 line 1\n",
+    },
+    Case {
+        pieces: &[(ONE_FUNCTION, 1, 1)],
+        script: "set sync App/App@4096 s 1",
+        status: 7,
+        output: "script refused 16 line 1\n",
+    },
+];
+
+/// A piece of a program for this number.
+fn push_piece(program: &mut String, text: &str, number: u64) -> Result<(), AllocError> {
+    let mut buffer = Buffer::new();
+    for c in text.chars() {
+        match c {
+            '#' => program.push_str(buffer.format(number))?,
+            '~' => program.push_str(buffer.format(number.saturating_sub(1)))?,
+            _ => program.push(c)?,
+        }
+    }
+    Ok(())
+}
+
+/// The program of these pieces.
+fn program_of(alloc: Global, pieces: &[(&str, u64, u64)]) -> Result<String, AllocError> {
+    let mut program = String::new(alloc);
+    for (text, first, last) in pieces {
+        for number in *first..last.saturating_add(1) {
+            push_piece(&mut program, text, number)?;
+        }
+    }
+    Ok(program)
+}
+
+/// What `check` answers to a program and a script.
+fn checked(alloc: Global, program: &[u8], script: &[u8]) -> Result<(u8, Vec<u8>), AllocError> {
+    let mut input = Vec::from_slice(alloc, program)?;
+    input.extend_from_slice(b"\n---\n")?;
+    input.extend_from_slice(script)?;
+    let mut src = MemSource::new(alloc, &input, &[])?;
+    answer::<Brand>(alloc, &["check"], &mut src, &[], Blank::new(1))
+}
+
 #[test]
-fn a_byte_of_no_character_is_refused(rt: HostRuntime) -> Result<(), Fail> {
+fn each_input_is_judged(rt: HostRuntime) -> Result<(), Fail> {
     let alloc = rt.alloc();
-    for input in [
-        b"\xff".as_slice(),
-        b"function App() { return <p/>; } // \xff",
+    for (i, case) in CASES.iter().enumerate() {
+        let program = program_of(alloc, case.pieces)?;
+        let found = checked(alloc, program.as_bytes(), case.script.as_bytes())?;
+        assert_eq!(rt; found.0, case.status, "case {i}");
+        assert_eq!(rt; found.1.as_slice(), case.output.as_bytes(), "case {i}");
+    }
+    Ok(())
+}
+
+#[test]
+fn each_beginning_of_a_program_is_refused(rt: HostRuntime) -> Result<(), Fail> {
+    let alloc = rt.alloc();
+    let whole = WAITING.as_bytes();
+    for n in 0..whole.len() {
+        let found = checked(alloc, &whole[..n], b"flush")?;
+        let line = found.1.as_slice();
+        let known = line.starts_with(b"program refused 2 at ")
+            || line.starts_with(b"program refused 3 at ")
+            || line == b"program refused 10\n".as_slice();
+        assert_eq!(rt; found.0, 6, "of {n} bytes");
+        assert!(rt; known, "of {n} bytes");
+    }
+    Ok(())
+}
+
+#[test]
+fn a_byte_of_no_character_has_a_place(rt: HostRuntime) -> Result<(), Fail> {
+    let alloc = rt.alloc();
+    for (program, script, status, output) in [
+        (
+            b"\xff".as_slice(),
+            b"".as_slice(),
+            6,
+            "program refused 2 at 0\n",
+        ),
+        (b"\x00", b"", 6, "program refused 2 at 0\n"),
+        (b"& // \xff", b"", 6, "program refused 2 at 5\n"),
+        (
+            b"// \xe2\x82\xac \xe2\x82",
+            b"",
+            6,
+            "program refused 2 at 7\n",
+        ),
+        (
+            ONE_FUNCTION.as_bytes(),
+            b"\xff",
+            7,
+            "script refused 14 line 1\n",
+        ),
+        (
+            ONE_FUNCTION.as_bytes(),
+            b"# \xff",
+            0,
+            "accepted nodes 3 depth 3 steps 0\n",
+        ),
     ] {
-        let mut src = MemSource::new(alloc, input, &[])?;
-        let found = answer::<Brand>(alloc, &["run"], &mut src, &[], Blank::new(1))?;
-        assert_eq!(rt; found.0, 6);
-        assert_eq!(rt; found.1.as_slice(), b"program refused 19\n".as_slice());
+        let found = checked(alloc, program, script)?;
+        assert_eq!(rt; found.0, status);
+        assert_eq!(rt; found.1.as_slice(), output.as_bytes());
     }
     Ok(())
 }
@@ -210,7 +799,7 @@ fn a_byte_of_no_character_is_refused(rt: HostRuntime) -> Result<(), Fail> {
 fn an_input_that_is_too_long_is_refused(rt: HostRuntime) -> Result<(), Fail> {
     let alloc = rt.alloc();
     for (count, status, output) in [
-        (1_048_576, 6, "program refused 19\n"),
+        (1_048_576, 6, "program refused 10\n"),
         (1_048_577, 5, "input over 1048576 bytes\n"),
     ] {
         let spaces = vec![in alloc; b' '; count]?;
