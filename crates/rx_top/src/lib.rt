@@ -12,4 +12,6 @@ pub use call::top;
 pub use status::Status;
 
 #[cfg(test)]
+mod cases;
+#[cfg(test)]
 mod tests;
