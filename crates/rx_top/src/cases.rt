@@ -1,5 +1,8 @@
 // Inputs of `check`, each with the status and the line that are wanted.
 
+pub(crate) const ONE_FUNCTION: &str =
+    "function app(s, a) { return s * 10 + a; } function App() { const [s, setS] = useState(0); return <p>{s}</p>; }";
+
 const TWO_KEYS: &str =
     "function Item({v}) { const [n, setN] = useState(v); return <i>{n}</i>; } function App() { const [a, setA] = useState(1); return <div>{for (i < 2, 2) i || a ? <Item key={5} v={10 + i}/> : null}</div>; }";
 

@@ -2,7 +2,7 @@
 ghost use Rattle.std.specs.Prelude.{◌≡◌};
 
 use super::*;
-use crate::cases::{CASES, WAITING};
+use crate::cases::{CASES, ONE_FUNCTION, WAITING};
 use itoa::Buffer;
 use rx_base::Steps;
 use rx_io::{MemSink, MemSource};
@@ -23,9 +23,6 @@ struct Row<'a> {
 
 const TWO_COUNTERS: &str =
     "function Counter({start}) { const [n, setN] = useState(start); return <p>{n}</p>; } function App() { return <div><Counter start={1}/><Counter start={2}/></div>; }";
-
-const ONE_FUNCTION: &str =
-    "function app(s, a) { return s * 10 + a; } function App() { const [s, setS] = useState(0); return <p>{s}</p>; }";
 
 const STATES: &str =
     "commit 1 Default\ncommit 2 Sync\nstate\n  [1] App\n  [2] Counter n=1\n  [3] Counter n=7\nend quiet\n";
