@@ -1,0 +1,6 @@
+pub mod Lists
+pub mod Read
+pub mod Numbered
+pub mod Ends
+pub mod Pasts
+pub mod Compared
