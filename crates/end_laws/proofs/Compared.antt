@@ -1,9 +1,9 @@
 -- A trimmed tree beside a trimmed old one: the same comparison, with each of its nodes trimmed.
-use Rattle.std.specs.Prelude.{◌≡◌, ℕ, Bool, true, false, List, [], ◌∷◌, ◌++◌, map, Option, Some, None}
+use Rattle.std.specs.Prelude.{◌≡◌, Bool, false, List, [], ◌∷◌, ◌++◌, map, Option, Some, None}
 use Rattle.std.proofs.Common.{refl, sym, ap, ◌∙◌}
 use Rattle.std.proofs.lemmas.List.{map-append}
-use Rattle.rx_elem.specs.Trees.{Node, node, Forest, none, vacant, child, children_if, fallback_if, elements_in}
-use Rattle.rx_elem.specs.Compare.{Past, no_past, pasts, Change, Above, above_root, above_children, above_fallback, change_of, Gone, gone_nodes, gone_from, gone_below, Compared, compared, AllCompared, no_comparisons, comparison, compare, compare_in, compare_trees, changes, changes_in}
+use Rattle.rx_elem.specs.Trees.{Node, node, Forest, none, vacant, child, elements_in}
+use Rattle.rx_elem.specs.Compare.{Past, pasts, Change, Above, above_root, above_children, above_fallback, change_of, Gone, gone_nodes, gone_from, Compared, compared, AllCompared, no_comparisons, comparison, compare, compare_in, compare_trees, changes, changes_in}
 use Rattle.end_laws.specs.Trimmed.{vacant_before, trimmed, trimmed_in, trimmed_if}
 use Rattle.end_laws.proofs.Pasts.{gone_same, trimmed_past, pasts_trimmed, more_pasts}
 
@@ -56,19 +56,25 @@ list_same : (a : Above) (old new : Forest)
 list_same a old new same =
     let (ps, k, d, e) = pasts_trimmed old new in
     ap (λ qs. compare_in a qs (trimmed_in new)) e
-        ∙ (same ps ∙ ap trimmed_all (sym (more_pasts a ps k new) ∙ ap (λ qs. compare_in a qs new) (sym d)))
+    ∙ (same ps ∙ ap trimmed_all (sym (more_pasts a ps k new) ∙ ap (λ qs. compare_in a qs new) (sym d)))
 
 mutual
   pub compare_same : (a : Above) (old : Option Node) (moved : Bool) (n : Node)
       → compare a (record { old = trimmed_if old; moved = moved }) (trimmed n) ≡ trimmed_compared (compare a (record { old = old; moved = moved }) n)
   compare_same a None moved (node e m ns fs) =
       let c = change_of a (record { old = None; moved = moved }) (node e m ns fs) in
-      rw (gone_both (above_children c).was_visible c.was_visible none ns none fs,
-      list_same (above_children c) none ns (λ qs. compare_in_same (above_children c) qs ns), list_same (above_fallback c) none fs (λ qs. compare_in_same (above_fallback c) qs fs)) refl
+      rw (
+        gone_both (above_children c).was_visible c.was_visible none ns none fs,
+        list_same (above_children c) none ns (λ qs. compare_in_same (above_children c) qs ns),
+        list_same (above_fallback c) none fs (λ qs. compare_in_same (above_fallback c) qs fs),
+      ) refl
   compare_same a (Some (node d l os ps)) moved (node e m ns fs) =
       let c = change_of a (record { old = Some (node d l os ps); moved = moved }) (node e m ns fs) in
-      rw (gone_both (above_children c).was_visible c.was_visible os ns ps fs,
-      list_same (above_children c) os ns (λ qs. compare_in_same (above_children c) qs ns), list_same (above_fallback c) ps fs (λ qs. compare_in_same (above_fallback c) qs fs)) refl
+      rw (
+        gone_both (above_children c).was_visible c.was_visible os ns ps fs,
+        list_same (above_children c) os ns (λ qs. compare_in_same (above_children c) qs ns),
+        list_same (above_fallback c) ps fs (λ qs. compare_in_same (above_fallback c) qs fs),
+      ) refl
 
   compare_in_same : (a : Above) (ps : List Past) (ns : Forest) → compare_in a (map trimmed_past ps) (trimmed_in ns) ≡ trimmed_all (compare_in a ps ns)
   compare_in_same a ps none = refl

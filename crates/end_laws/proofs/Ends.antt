@@ -1,8 +1,8 @@
 -- What stands in no place at the end of a list changes nothing of how new and old children are matched.
-use Rattle.std.specs.Prelude.{◌≡◌, ℕ, zero, suc, ◌+◌, ◌≤◌, Bool, true, false, cond, not, ◌&&◌, ◌||◌, List, [], ◌∷◌, ◌++◌, replicate, length, map, filter, filter_map, Option, Some, None, slice_get, option_map, option_and_then, position}
-use Rattle.std.specs.List.{zip, list_any, range_with_len, position_from}
+use Rattle.std.specs.Prelude.{◌≡◌, ℕ, zero, suc, ◌+◌, ◌≤◌, Bool, true, false, cond, not, ◌&&◌, List, [], ◌∷◌, ◌++◌, replicate, length, map, filter, Option, Some, None, slice_get, position}
+use Rattle.std.specs.List.{zip, range_with_len, position_from}
 use Rattle.std.specs.Option.{option_map_or}
-use Rattle.std.proofs.Common.{refl, sym, ap, ◌∙◌, subst, arith}
+use Rattle.std.proofs.Common.{refl, sym, ap, ◌∙◌, arith}
 use Rattle.std.proofs.lemmas.List.{map-append}
 use Rattle.std.proofs.lemmas.List.Elements.{filter_agree}
 use Rattle.std.proofs.lemmas.Iterator.Adapters.{position_from-zero}
@@ -45,9 +45,9 @@ module _ (test : Child → Bool) where
   found_same fails es k =
       let (late, e) = more_children [] es (replicate k null) in
       ap (position test) e
-          ∙ (position_from-zero test (identified es ++ children_after late (replicate k null))
-          ∙ (found_before 0 (identified es) (children_after late (replicate k null)) (λ m. no_null_found fails m late k)
-          ∙ sym (position_from-zero test (identified es))))
+      ∙ (position_from-zero test (identified es ++ children_after late (replicate k null))
+      ∙ (found_before 0 (identified es) (children_after late (replicate k null)) (λ m. no_null_found fails m late k)
+      ∙ sym (position_from-zero test (identified es))))
 
 -- What is absent agrees with nothing
 
@@ -102,9 +102,9 @@ pub old_places_end : (old new : List Element) (j k : ℕ)
 old_places_end old new j k =
     let (late, e) = more_children [] new (replicate k null) in
     old_end old j (identified (new ++ replicate k null))
-        ∙ (ap (map (λ c. position (is_same_child c) (identified old))) e
-        ∙ (map-append (λ c. position (is_same_child c) (identified old)) (identified new) (children_after late (replicate k null))
-        ∙ ap (λ l. old_places old new ++ l) (new_end (identified old) late k)))
+    ∙ (ap (map (λ c. position (is_same_child c) (identified old))) e
+    ∙ (map-append (λ c. position (is_same_child c) (identified old)) (identified new) (children_after late (replicate k null))
+    ∙ ap (λ l. old_places old new ++ l) (new_end (identified old) late k)))
 
 -- The old children that are gone
 

@@ -4,3 +4,5 @@ pub mod Numbered
 pub mod Ends
 pub mod Pasts
 pub mod Compared
+pub mod Logs
+pub mod Outcomes

@@ -1,7 +1,7 @@
 -- A list each of whose elements is changed, read by what the change leaves alone.
 use Rattle.std.specs.Prelude.{◌≡◌, Bool, true, false, cond, List, [], ◌∷◌, Option, None, Some, filter, filter_map, map, option_map}
 use Rattle.std.specs.List.{cons_option}
-use Rattle.std.proofs.Common.{refl, ap}
+use Rattle.std.proofs.Common.{refl}
 
 module _ {A : Type 0} (change : A → A) where
   pub map_same : {B : Type 0} (f : A → B) → ((x : A) → f (change x) ≡ f x) → (xs : List A) → map f (map change xs) ≡ map f xs

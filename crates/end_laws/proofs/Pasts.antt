@@ -1,14 +1,12 @@
 -- The old nodes of the children of a trimmed node are the old nodes, trimmed.
-use Rattle.std.specs.Prelude.{◌≡◌, ℕ, zero, suc, Bool, true, false, List, [], ◌∷◌, ◌++◌, replicate, map, Option, Some, None, slice_get, option_map, option_and_then}
-use Rattle.std.specs.List.{zip, list_any}
-use Rattle.std.specs.Option.{option_flatten}
+use Rattle.std.specs.Prelude.{◌≡◌, ℕ, zero, suc, List, [], ◌∷◌, ◌++◌, replicate, map, Option, Some, None, option_and_then}
+use Rattle.std.specs.List.{zip}
 use Rattle.std.proofs.Common.{refl, sym, ap, ◌∙◌}
 use Rattle.rx_elem.specs.Elements.{Element}
 use Rattle.rx_elem.specs.Elements as elements
 use Rattle.rx_elem.specs.Identity.{old_places, moves_after}
-use Rattle.rx_elem.specs.Trees.{Node, node, Forest, none, vacant, child, element_of, elements_in, places}
+use Rattle.rx_elem.specs.Trees.{Node, node, Forest, none, vacant, child, element_of, elements_in}
 use Rattle.rx_elem.specs.Compare.{node_at, gone_nodes, Past, no_past, pasts, Above, compare, compare_in, comparison}
-use Rattle.rx_elem.specs.Compare as comparing
 use Rattle.end_laws.specs.Trimmed.{vacant_before, trimmed, trimmed_in, trimmed_if}
 use Rattle.end_laws.proofs.Lists.{filter_map_changed}
 use Rattle.end_laws.proofs.Ends.{old_places_end, removed_places_end}

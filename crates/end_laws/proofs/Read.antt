@@ -1,8 +1,8 @@
 -- What is read out of a trimmed tree: the same nodes stand in the same order, each trimmed, with the same around them.
-use Rattle.std.specs.Prelude.{◌≡◌, ℕ, Bool, List, [], ◌++◌, Option, None, Some, length, map, filter, filter_map}
-use Rattle.std.proofs.Common.{refl, ap, ◌∙◌, sym}
+use Rattle.std.specs.Prelude.{◌≡◌, Option, None, Some, length, map, filter, filter_map}
+use Rattle.std.proofs.Common.{refl, ap, ◌∙◌}
 use Rattle.std.proofs.lemmas.List.{map-append, length-map}
-use Rattle.rx_elem.specs.Trees.{Mark, mark_of, Node, node, Forest, none, vacant, child}
+use Rattle.rx_elem.specs.Trees.{mark_of, Node, node, Forest, none, vacant, child}
 use Rattle.rx_elem.specs.Spots.{Around, at_root, around_children, Spot, spots, spots_in, tree_spots, spot_mark, mounted_in, mounted, hidden_spots}
 use Rattle.rx_elem.specs.Trees.{awaits_in, is_hidden}
 use Rattle.rx_forest.specs.Hosts.{host_at, hosts}

@@ -1,7 +1,6 @@
 -- A tree without the vacant places at the ends of its lists: all that a commit reads of it.
 use Rattle.std.specs.Prelude.{Option, option_map}
 use Rattle.rx_elem.specs.Trees.{Node, node, Forest, none, vacant, child}
-use Rattle.rx_meaning.specs.Outcome.{Outcome, commit, defer}
 
 -- a vacant place before the other places of a list, but none where no place follows
 abbrev pub vacant_before : Forest → Forest
@@ -23,8 +22,3 @@ abbrev mutual
 -- the same of a tree that may be missing
 abbrev pub trimmed_if : Option Node → Option Node
 trimmed_if tree = option_map trimmed tree
-
--- what becomes of a render, with the tree that it commits trimmed
-abbrev pub trimmed_outcome : Outcome → Outcome
-trimmed_outcome (commit n) = commit (trimmed n)
-trimmed_outcome (defer a) = defer a

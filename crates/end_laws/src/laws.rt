@@ -11,7 +11,8 @@ ghost use Rattle.rx_forest.specs.Hosts.{hosts};
 ghost use Rattle.rx_forest.specs.HostOps.{host_ops};
 ghost use Rattle.rx_queue.specs.Journal.{Journal};
 ghost use Rattle.rx_meaning.specs.Outcome.{newly_hidden, all_awaits, outcome, journal_after, visible_awaits, is_awaited, awaits_resolved, still_pending};
-ghost use Rattle.end_laws.specs.Trimmed.{trimmed, trimmed_if, trimmed_outcome};
+ghost use Rattle.end_laws.specs.Trimmed.{trimmed, trimmed_if};
+ghost use Rattle.end_laws.specs.Outcomes.{trimmed_outcome};
 
 /// What is read out of one tree: its instances, hosts and hidden boundaries, and what a commit of it leaves in the
 /// journal and pending.
