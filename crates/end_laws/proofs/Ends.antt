@@ -1,4 +1,4 @@
--- What stands in no place at the end of a list changes nothing of how new and old children are matched.
+-- Null at the end of a list changes nothing of how new and old children are matched.
 use Rattle.std.specs.Prelude.{◌≡◌, ℕ, zero, suc, ◌+◌, ◌≤◌, Bool, true, false, cond, not, ◌&&◌, List, [], ◌∷◌, ◌++◌, replicate, length, map, filter, Option, Some, None, slice_get, position}
 use Rattle.std.specs.List.{zip, range_with_len, position_from}
 use Rattle.std.specs.Option.{option_map_or}
