@@ -3,7 +3,7 @@ use denote.Param.Weighed.{most}
 use Rattle.rx_elem.specs.Trees.{Node, height}
 use Rattle.rx_node.specs.declared.node.Node.TheShapes.{weighed-Parts-children-at-1}
 use Rattle.rx_node.specs.declared.node.Node.TheDeep.{size-Node}
-use Rattle.rx_node.proofs.+node-drop.Goals as goal
+use Rattle.rx_node.proofs.+node.Goals as goal
 
 -- a step into a node counts twice: for it, and for what is in it
 most_le-twice : (ns : List (Option Node))
