@@ -11,8 +11,9 @@ ghost use Rattle.rx_complete.specs.Ends.{IsOpenBelow};
 use crate::completing::leave;
 use rx_base::Awaits;
 use rx_ctx::ContextStack;
-use rx_fiber::{Fiber, Mark, Stage};
+use rx_fiber::{Fiber, Stage};
 use rx_links::{FiberId, FiberTree};
+use rx_node::Mark;
 
 // What is waited for outside of a fiber of this stage.
 fn past(stage: &Stage, awaits: Awaits) -> Awaits

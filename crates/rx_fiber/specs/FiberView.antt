@@ -1,28 +1,13 @@
 -- A fiber of the code as plain data.
-use Rattle.rx_elem.specs.Trees as trees
 use Rattle.rx_fiber.specs.Fibers as fibers
 use Rattle.rx_fiber.specs.Fibers.{completed_stage}
-use Rattle.rx_elem.specs.Trees.{of_instance, of_host, of_boundary, plain}
-use Rattle.rx_fiber.specs.declared.mark.Instance.{Instance}
-use Rattle.rx_fiber.specs.declared.mark.Mark.{Mark}
-use Rattle.rx_fiber.specs.declared.mark.Mark.TheVariants as mark
+use Rattle.rx_elem.specs.Trees.{of_boundary}
+use Rattle.rx_node.specs.MarkView.{mark_seen}
 use Rattle.rx_fiber.specs.declared.stage.Stage.{Stage}
 use Rattle.rx_fiber.specs.declared.stage.Stage.TheVariants as stage
 use Rattle.rx_susp.specs.declared.boundary.BoundaryState.TheVariants as boundary
 use Rattle.rx_fiber.specs.declared.stage.StageChange.{StageChange}
 use Rattle.rx_fiber.specs.declared.stage.StageChange.TheVariants as change
-
--- an instance
-abbrev pub instance_seen : Instance → trees.Instance
-instance_seen i =
-    record { number = i.number; component = i.component; initials = i.initials.value; reads = i.reads.value.items; effects = i.effects.value.items }
-
--- what a node has beside its element and its children
-abbrev pub mark_seen : Mark → trees.Mark
-mark_seen (mark.Instance i) = of_instance (instance_seen i)
-mark_seen (mark.Host n) = of_host n
-mark_seen (mark.Boundary b) = of_boundary b
-mark_seen mark.Plain = plain
 
 -- how far a fiber has come
 abbrev pub stage_seen : Stage → fibers.Stage

@@ -1,5 +1,5 @@
 -- What a fiber holds beside its links.
-use Rattle.std.specs.Prelude.{ℕ, Option}
+use Rattle.std.specs.Prelude.{ℕ}
 use Rattle.rx_susp.specs.declared.boundary.BoundaryState.TheVariants.{Shown}
 use Rattle.rx_base.specs.Awaits.{Awaits}
 use Rattle.rx_elem.specs.Elements.{Element}
@@ -16,12 +16,11 @@ pub data Stage : Type 0 where
   -- the fallback of the boundary right before it, which keeps its primary content and waits for these
   fallback : Awaits → Stage
 
--- a fiber: its place among the children of its parent, its element, how far it has come, and where the hooks of its instance stand, if it is one that is committed
+-- a fiber: its place among the children of its parent, its element, and how far it has come
 pub record Fiber : Type 0 where
   pub place : ℕ
   pub element : Element
   pub stage : Stage
-  pub hooks : Option ℕ
 
 -- a node is completed: a boundary whose children were tried is shown, and nothing else changes
 abbrev pub completed_stage : Stage → Stage

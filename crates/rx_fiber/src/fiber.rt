@@ -3,21 +3,19 @@ ghost use Rattle.std.specs.Prelude.{◌≡◌};
 ghost use Rattle.rx_fiber.specs.Fibers as fibers;
 ghost use Rattle.rx_fiber.specs.FiberView.{stage_seen, changed};
 
-use crate::mark::Mark;
 use crate::stage::{Stage, StageChange};
 use rx_elem::Element;
+use rx_node::Mark;
 use rx_susp::BoundaryState;
 use std::marker::Model;
 
 /// What a fiber holds beside its links: its place among the children of its parent, counted from 0 with the places that are
-/// `null`; the element that stands there; how far it has come; and where the hooks of its instance stand, if that is
-/// committed.
+/// `null`; the element that stands there; and how far it has come.
 #[derive(Drop)]
 pub struct Fiber {
     place: u32,
     element: Element,
     stage: Stage,
-    hooks: Option<u32>,
 }
 
 impl Model for Fiber {
@@ -30,19 +28,18 @@ impl Model for Fiber {
 
     ghost use Rattle.rx_fiber.specs.FiberView.{stage_seen};
 
-    ghost view = { λ v. record { place = v.place; element = v.element; stage = stage_seen v.stage; hooks = v.hooks } };
+    ghost view = { λ v. record { place = v.place; element = v.element; stage = stage_seen v.stage } };
 }
 
 impl Fiber {
     /// A fiber of this place.
-    pub fn new(place: u32, element: Element, stage: Stage, hooks: Option<u32>) -> Fiber
-        ensures { result ≡ record { place = place; element = element; stage = stage_seen stage; hooks = hooks } }
+    pub fn new(place: u32, element: Element, stage: Stage) -> Fiber
+        ensures { result ≡ record { place = place; element = element; stage = stage_seen stage } }
     {
         Fiber {
             place,
             element,
             stage,
-            hooks,
         }
     }
 
@@ -65,13 +62,6 @@ impl Fiber {
         ensures { stage_seen result.now ≡ self.now.stage }
     {
         &self.stage
-    }
-
-    /// Where the hooks of its instance stand, if that is committed.
-    pub fn hooks(&self) -> Option<u32>
-        ensures { result ≡ self.now.hooks }
-    {
-        self.hooks
     }
 
     /// Changes the stage.

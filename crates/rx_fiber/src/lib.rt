@@ -2,13 +2,11 @@
 #![tactic(auto)]
 
 mod fiber;
-mod mark;
 mod old;
 mod stage;
 #[cfg(test)]
 mod tests;
 
 pub use fiber::Fiber;
-pub use mark::{Instance, Mark};
 pub use old::{OldChildren, old_children, old_fallback, old_primary};
 pub use stage::{Stage, StageChange};

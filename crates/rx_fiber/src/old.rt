@@ -7,10 +7,10 @@ ghost use Rattle.rx_fiber.specs.FiberView.{stage_seen};
 ghost use Rattle.rx_fiber.specs.OldLists.{is_fallback, hides_in, begins_fallback, primary_list, fallback_list, filled, told, old_elements, old_fibers};
 
 use crate::fiber::Fiber;
-use crate::mark::Mark;
 use crate::stage::Stage;
 use rx_elem::{Element, ElementKind};
 use rx_links::{FiberId, FiberTree};
+use rx_node::Mark;
 use std::alloc::{AllocError, Global};
 
 fn is_fallback(stage: &Stage) -> bool

@@ -1,6 +1,6 @@
 // How far a fiber has come.
-use crate::mark::Mark;
 use rx_base::Awaits;
+use rx_node::Mark;
 
 /// How far a fiber has come in the render that made it.
 #[derive(Drop)]

@@ -1,6 +1,6 @@
 // What a node has beside its element and its children.
 ghost use Rattle.std.specs.Prelude.{◌≡◌, IfOk};
-ghost use Rattle.rx_fiber.specs.FiberView.{instance_seen, mark_seen};
+ghost use Rattle.rx_node.specs.MarkView.{instance_seen, mark_seen};
 
 use rx_base::Ints;
 use rx_elem::{ContextRead, EffectRecord};
@@ -10,10 +10,10 @@ use std::rc::Rc;
 
 /// What is kept of a component's instance (react.dev, State as a Snapshot): its number, from its first commit on; its
 /// component, by its number in the order of the text; the initial values of its hooks; the contexts that it read; and its
-/// effects. What does not change from one render to the next is shared by both alternates.
+/// effects. What does not change from one render to the next is shared by the trees of both.
 #[derive(Drop)]
 pub struct Instance {
-    pub number: Option<u32>,
+    pub number: Option<u64>,
     pub component: u32,
     pub initials: Rc<Ints>,
     pub reads: Rc<Vec<ContextRead>>,
@@ -26,7 +26,7 @@ pub enum Mark {
     /// Of a component.
     Instance(Instance),
     /// Of a host or a text, with its number from its first commit on.
-    Host(Option<u32>),
+    Host(Option<u64>),
     Boundary(BoundaryState),
     /// Of a list or a provider.
     Plain,

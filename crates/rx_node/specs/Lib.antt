@@ -1,0 +1,4 @@
+pub mod MarkView
+pub mod NodeView
+pub mod NodeCode
+pub mod NodeFalls

@@ -1,0 +1,117 @@
+// A node of a finished tree.
+ghost use Rattle.std.specs.Prelude.{◌≡◌, ◌<◌, IfOk};
+ghost use Rattle.rx_elem.specs.Trees.{node, element_of, mark_of, children_of, fallback_of, places, forest, height, height_in};
+ghost use Rattle.rx_node.specs.MarkView.{mark_seen};
+
+use crate::mark::Mark;
+use rx_elem::Element;
+use std::alloc::{AllocError, Global};
+use std::marker::Model;
+use std::rc::Rc;
+
+/// A node of a finished tree, with all below it. Whoever holds it has a handle: what is in it stands once. Contracts see it
+/// as plain data.
+#[derive(Drop)]
+#[cycle(node)]
+pub struct Node {
+    parts: Rc<Parts>,
+}
+
+/// What is in a node: a boundary's children are its primary content.
+#[derive(Drop)]
+#[cycle(node)]
+struct Parts {
+    element: Element,
+    mark: Mark,
+    children: Vec<Option<Node>>,
+    fallback: Vec<Option<Node>>,
+}
+
+impl Model for Node {
+    ghost use Rattle.rx_elem.specs.Trees as trees;
+    ghost use Rattle.rx_node.specs.NodeCode.{node_code};
+
+    ghost Value = { trees.Node };
+
+    ghost coded = { node_code };
+
+    ghost use Rattle.rx_node.specs.NodeView.{node_seen};
+
+    ghost view = { λ n. node_seen n.parts.value };
+
+    ghost size = { trees.height };
+
+    ghost use Rattle.rx_node.specs.NodeFalls.{height_falls};
+
+    ghost size_decreases = { λ a h. height_falls a.parts.value };
+}
+
+impl Node {
+    /// The node with these parts.
+    ///
+    /// # Errors
+    ///
+    /// Want of memory alone.
+    pub fn new(
+        alloc: Global,
+        element: Element,
+        mark: Mark,
+        children: Vec<Option<Node>>,
+        fallback: Vec<Option<Node>>,
+    ) -> Result<Node, AllocError>
+        ensures { IfOk result (λ n. n ≡ node element (mark_seen mark) (forest children.items) (forest fallback.items)) }
+    {
+        let parts = Parts {
+            element,
+            mark,
+            children,
+            fallback,
+        };
+        let parts = Rc::new(alloc, parts)?;
+        Ok(Node { parts })
+    }
+
+    /// The element that it was rendered from.
+    pub fn element(&self) -> &Element
+        ensures { result.now ≡ element_of self.now }
+    {
+        &self.parts.element
+    }
+
+    /// What it has beside its element and its children.
+    pub fn mark(&self) -> &Mark
+        ensures { mark_seen result.now ≡ mark_of self.now }
+    {
+        &self.parts.mark
+    }
+
+    /// Its children, a place each; of a boundary, its primary content.
+    pub fn children(&self) -> &[Option<Node>]
+        ensures are { result.now ≡ places (children_of self.now) }
+        ensures all { forest result.now ≡ children_of self.now }
+        ensures lower { height_in (forest result.now) < height self.now }
+    {
+        &self.parts.children
+    }
+
+    /// The fallback of a boundary, a place each; of any other node, nothing.
+    pub fn fallback(&self) -> &[Option<Node>]
+        ensures are { result.now ≡ places (fallback_of self.now) }
+        ensures all { forest result.now ≡ fallback_of self.now }
+        ensures lower { height_in (forest result.now) < height self.now }
+    {
+        &self.parts.fallback
+    }
+
+    /// The same node, by one handle more.
+    ///
+    /// # Errors
+    ///
+    /// Want of memory alone.
+    pub fn copy(&self) -> Result<Node, AllocError>
+        ensures { IfOk result (λ n. n ≡ self.now) }
+    {
+        let parts = self.parts.clone()?;
+        Ok(Node { parts })
+    }
+}
