@@ -1,0 +1,3 @@
+pub mod Links
+pub mod Listing
+pub mod Trims
