@@ -1,14 +1,14 @@
 -- Where the links of one fiber of the two trees lead.
-use Rattle.std.proofs.Common.{◌≡◌, ◌⊎◌, inl, inr, ℕ, suc, ◌+◌, ◌<◌, ◌≤◌, refl, sym, ap, ◌∙◌, subst, arith, true, false, Option, Some, None, IfSome}
-use Rattle.rx_lists.specs.Shapes.{Shape, none, fiber, first, Holds, holds, size}
+use Rattle.std.proofs.Common.{◌≡◌, ◌⊎◌, inl, inr, ℕ, refl, sym, ap, ◌∙◌, subst, Option, Some, None, IfSome}
+use Rattle.rx_lists.specs.Shapes.{Shape, none, fiber, first, Holds}
 use Rattle.rx_lists.proofs.Frames.{holds-true, apart-false}
-use Rattle.rx_links.specs.Drafts.{Draft, taken, made, Trees, entry, Makes, Fits, Follows, HasTop, IsOldKids, grafted, kids_of, list_at, shape_or_none}
-use Rattle.rx_links.specs.Places.{Around, top, below, after, placed, IsAt}
+use Rattle.rx_links.specs.Drafts.{Draft, taken, made, Trees, entry, Makes, Fits, Follows, HasTop, IsOldKids, grafted, kids_of}
+use Rattle.rx_links.specs.Places.{Around, top, below, after, placed}
 use Rattle.rx_links.specs.Readers.{value_of, rest_of, list_from, IsLinked, made_list_at, made_value_of, made_kids_of, made_rest_of, IsIn}
 use Rattle.rx_links.proofs.Placed.{is-at}
 use Rattle.rx_fiber.specs.Fibers.{Fiber}
 use Rattle.rx_fiber.proofs.OldLists.{IsListIn, list_is, list_held, kids_listed, rest_listed}
-use Rattle.rx_read.specs.Lists.{grafted_or_none, list_of}
+use Rattle.rx_read.specs.Lists.{list_of}
 
 -- What was taken over is a list of the current tree
 

@@ -1,20 +1,18 @@
 -- How a list of fibers is read, one after the other.
-use Rattle.std.proofs.Common.{◌≡◌, ℕ, suc, ◌+◌, ◌-◌, ◌<◌, ◌≤◌, Bool, true, false, not, ◌&&◌, cond, List, [], ◌∷◌, ◌++◌, length, refl, sym, ap, ◌∙◌, subst, arith, Option, Some, None, IfSome}
+use Rattle.std.proofs.Common.{◌≡◌, ℕ, suc, ◌+◌, ◌-◌, ◌<◌, ◌≤◌, Bool, true, false, not, ◌&&◌, cond, List, [], ◌∷◌, ◌++◌, length, refl, sym, ap, ◌∙◌, subst, arith, Option, Some, None}
 use Rattle.std.proofs.lemmas.List.{append_assoc, append-nil, length-append}
 use Rattle.rx_elem.specs.Elements.{Element}
 use Rattle.rx_elem.specs.Trees.{Mark, Node, node, Forest, forest, is_hidden}
-use Rattle.rx_elem.specs.Trees as trees
 use Rattle.rx_lists.specs.Shapes.{Shape, none, fiber, size}
 use Rattle.rx_links.specs.Drafts.{Trees}
-use Rattle.rx_links.specs.Readers.{IsIn}
-use Rattle.rx_fiber.specs.Fibers.{Stage, Fiber, waiting, begun, trying, fallback}
+use Rattle.rx_fiber.specs.Fibers.{Fiber, begun}
 use Rattle.rx_fiber.specs.FiberView.{stage_seen}
 use Rattle.rx_fiber.specs.declared.stage.Stage as declared
 use Rattle.rx_fiber.specs.declared.stage.Stage.TheVariants as variants
 use Rattle.rx_node.specs.declared.mark.Mark as code
 use Rattle.rx_fiber.specs.OldLists.{is_fallback, filled, hides_in, begins_fallback, first_kids, primary_list, fallback_list}
 use Rattle.rx_read.specs.Lists.{list_of}
-use Rattle.rx_read.specs.Places.{mark_in, primary_from, fallback_from, node_from, own_places, places_in, fallback_behind, first_places}
+use Rattle.rx_read.specs.Places.{mark_in, primary_from, fallback_from, places_in, fallback_behind, first_places}
 use Rattle.rx_read.proofs.Links.{Linked}
 
 -- The lists of a node

@@ -1,14 +1,14 @@
 -- The places that are read from fibers are those of the tree that they stand for, but for the vacant ones at the ends of lists.
-use Rattle.std.proofs.Common.{◌≡◌, ℕ, zero, suc, ◌+◌, ◌-◌, ◌≤◌, Bool, true, false, List, [], ◌∷◌, ◌++◌, length, refl, sym, ap, ◌∙◌, subst, arith, Option, Some, None}
+use Rattle.std.proofs.Common.{◌≡◌, ℕ, zero, suc, ◌+◌, ◌-◌, ◌≤◌, true, false, List, [], ◌∷◌, ◌++◌, length, refl, sym, ap, ◌∙◌, arith, Option, Some, None}
 use Rattle.rx_elem.specs.Elements.{Element}
 use Rattle.rx_elem.specs.Trees.{Node, node, Forest, vacant, child, forest, is_hidden}
 use Rattle.rx_elem.specs.Trees as trees
 use Rattle.rx_lists.specs.Shapes.{Shape, none, fiber}
-use Rattle.rx_fiber.specs.Fibers.{Fiber, begun, fallback}
+use Rattle.rx_fiber.specs.Fibers.{Fiber, begun}
 use Rattle.rx_fiber.specs.OldLists.{is_fallback, filled}
 use Rattle.rx_fiber.specs.Reading.{has_node, IsOf, AreFor, no_more, gap, next, IsFor, whole, alone, beside, IsTreeOf}
 use Rattle.end_laws.specs.Trimmed.{vacant_before, trimmed, trimmed_in, trimmed_if}
-use Rattle.rx_read.specs.Places.{mark_in, node_from, own_places, places_in, fallback_behind}
+use Rattle.rx_read.specs.Places.{mark_in, node_from, places_in, fallback_behind}
 
 -- a list begins with the fiber of a node, at this place or later
 abbrev BeginsFrom : ℕ → Shape Fiber → Type 0

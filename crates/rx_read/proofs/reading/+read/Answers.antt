@@ -1,4 +1,4 @@
-use Rattle.std.proofs.Common.{◌≡◌, ◌-◌, ◌<◌, ◌++◌, length, Some, None, sym, ap, ◌∙◌, subst, arith}
+use Rattle.std.proofs.Common.{◌-◌, ◌<◌, ◌++◌, length, Some, None, sym, ap, ◌∙◌, subst, arith}
 use Rattle.rx_lists.specs.Shapes.{size}
 use Rattle.rx_lists.proofs.Frames.{some-at}
 use Rattle.rx_node.specs.MarkView.{mark_seen}

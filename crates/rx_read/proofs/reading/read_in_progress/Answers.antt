@@ -1,5 +1,4 @@
 use Rattle.std.proofs.Common.{◌≡◌, Some, None, sym, ◌∙◌, subst}
-use Rattle.rx_elem.specs.Trees.{Node}
 use Rattle.rx_fiber.specs.Reading.{IsTreeOf}
 use Rattle.end_laws.specs.Trimmed.{trimmed}
 use Rattle.rx_read.proofs.Links.{from_draft}
