@@ -88,6 +88,13 @@ list_of_entry t fits linked k (made id v o ks rs) e =
 three : (i : ℕ) {u v : Fiber} {ks ls rs ts : Shape Fiber} → u ≡ v → ks ≡ ls → rs ≡ ts → fiber i u ks rs ≡ fiber i v ls ts
 three i p q r = λ k. fiber i (p k) (q k) (r k)
 
+-- what was taken over is current
+pub taken_held : (t : Trees Fiber) → Fits t → IsLinked t.current → (k : Around Fiber) (s : Shape Fiber) → t.draft ≡ placed k (taken s) → IfSome (first s) (Holds t.current)
+taken_held t fits linked k none e = tt
+taken_held t fits linked k (fiber id v ks rs) e =
+    list_held t.current id (fiber id v ks rs)
+    (list_is t.current id v ks rs (kept_placed t.current k (taken (fiber id v ks rs)) (subst (IsKept t.current) e (draft_kept t fits linked))))
+
 -- a fiber of the two trees: its list is its value over the list of its child link, before that of its sibling link
 pub record Linked (t : Trees Fiber) (i : ℕ) (v : Fiber) (child sibling : Option ℕ) : Type 0 where
   pub list : list_of t (Some i) ≡ fiber i v (list_of t child) (list_of t sibling)
