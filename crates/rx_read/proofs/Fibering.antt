@@ -1,10 +1,9 @@
 -- One fiber gets its number.
-use Rattle.std.proofs.Common.{◌≡◌, ℕ, ◌+◌, ◌∙◌, refl, sym, ap, Option, None, Some}
+use Rattle.std.proofs.Common.{◌≡◌, ℕ, ◌+◌, ◌∙◌, refl, ap, Option, None, Some}
 use Rattle.rx_elem.specs.Trees.{Mark, Instance, of_instance, of_host, of_boundary, plain}
 use Rattle.rx_elem.specs.Numbers.{Numbers, numbered_instance, numbered_host, numbered_mark}
 use Rattle.rx_fiber.specs.Fibers.{Stage, Fiber, waiting, begun, trying, fallback, with_number, numbered_stage}
 use Rattle.rx_read.specs.Lacking.{without, mark_lacks, stage_lacks}
-use Rattle.rx_read.specs.declared.numbering.Lack.{Lack}
 use Rattle.rx_read.specs.declared.numbering.Lack.TheVariants as lack
 use Rattle.rx_read.specs.Numbering.{numbered_at, numbered_fiber}
 

@@ -1,5 +1,5 @@
 -- How far numbers grow where fibers get theirs.
-use Rattle.std.proofs.Common.{◌≡◌, ℕ, suc, ◌+◌, ◌^◌, ◌<◌, ◌≤◌, arith, Option, None, Some}
+use Rattle.std.proofs.Common.{ℕ, suc, ◌+◌, ◌^◌, ◌<◌, ◌≤◌, arith, Option, None, Some}
 use Rattle.rx_elem.specs.Trees.{Mark, Instance, of_instance, of_host, of_boundary, plain}
 use Rattle.rx_elem.specs.Numbers.{Numbers, numbered_instance, numbered_host, numbered_mark}
 use Rattle.rx_links.specs.Drafts.{Draft, taken, made, made_size}

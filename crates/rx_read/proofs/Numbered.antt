@@ -1,13 +1,13 @@
 -- The fibers of a tree with its new numbers stand for the tree with these.
-use Rattle.std.proofs.Common.{◌≡◌, ◌⊎◌, inl, inr, ℕ, suc, eqb, Bool, true, false, refl, sym, ap, ◌∙◌, subst, Option, Some, None}
+use Rattle.std.proofs.Common.{◌≡◌, ℕ, suc, eqb, Bool, true, false, refl, sym, ap, ◌∙◌, subst, Option, Some, None}
 use Rattle.rx_base.specs.Awaits.{Awaits}
 use Rattle.rx_elem.specs.Elements.{Element}
 use Rattle.rx_elem.specs.Trees.{Mark, of_instance, of_host, of_boundary, plain, Instance, Node, node, Forest, vacant, child, is_hidden, awaits_in}
 use Rattle.rx_elem.specs.Trees as trees
-use Rattle.rx_elem.specs.Numbers.{Numbers, numbered_instance, numbered_host, numbered_mark, numbered, numbered_in}
+use Rattle.rx_elem.specs.Numbers.{Numbers, numbered_instance, numbered_mark, numbered, numbered_in}
 use Rattle.commit_laws.specs.HiddenWaits.{IsNumbered, Numbered, AllNumbered, IfNumbered}
-use Rattle.rx_lists.specs.Shapes.{Shape, none, fiber, first}
-use Rattle.rx_links.specs.Drafts.{Draft, taken, made, Trees, or_else, Fits, grafted, list_at, shape_or_none}
+use Rattle.rx_lists.specs.Shapes.{Shape, none, fiber}
+use Rattle.rx_links.specs.Drafts.{Draft, taken, made, Trees, Fits, grafted, list_at}
 use Rattle.rx_links.specs.Readers.{IsLinked}
 use Rattle.rx_fiber.specs.Fibers.{Stage, Fiber, waiting, begun, trying, fallback}
 use Rattle.rx_fiber.specs.Reading.{has_node, IsOf, AreFor, no_more, gap, next, IsFor, whole, alone, beside, IsTreeOf}

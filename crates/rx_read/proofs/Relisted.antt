@@ -1,12 +1,12 @@
 -- Numbers at a place of the tree in progress.
-use Rattle.std.proofs.Common.{◌≡◌, ◌≢◌, ◌⊎◌, inl, inr, ℕ, suc, ◌+◌, ◌<◌, ◌≤◌, Bool, true, false, eqb, eq-eqb, refl, sym, ap, ◌∙◌, subst, arith, Option, Some, None, IfSome}
+use Rattle.std.proofs.Common.{◌≡◌, ◌⊎◌, inl, inr, ℕ, ◌<◌, Bool, true, false, eqb, eq-eqb, refl, sym, ap, ◌∙◌, subst, arith, Option, Some, None, IfSome}
 use Rattle.rx_elem.specs.Numbers.{Numbers}
 use Rattle.rx_lists.specs.Shapes.{Shape, none, fiber, first, Holds}
 use Rattle.rx_lists.proofs.Frames.{same_or_not, eqb-false}
-use Rattle.rx_links.specs.Drafts.{Draft, taken, made, Trees, or_else, entry, Makes, IsMadeOnce, IsMadeList, Fits, Follows, IsOldKids, made_size, valued}
+use Rattle.rx_links.specs.Drafts.{Draft, taken, made, Trees, entry, Makes, IsMadeOnce, IsMadeList, Fits, Follows, made_size, valued}
 use Rattle.rx_links.specs.Places.{Around, top, below, after, placed, IsAt}
 use Rattle.rx_links.specs.Readers.{IsLinked, IsIn, parent_in, parent_of, made_value_of, made_kids_of, made_rest_of, made_parent_of}
-use Rattle.rx_links.proofs.Placed.{MakesAround, placed-once, placed-apart, is-at}
+use Rattle.rx_links.proofs.Placed.{MakesAround, placed-apart, is-at}
 use Rattle.rx_fiber.specs.Fibers.{Fiber}
 use Rattle.rx_read.specs.Numbering.{numbered_fiber, numbered_draft, numbered_first, made_from, relisted, relisted_from, made_entry, AreHeld}
 use Rattle.rx_read.proofs.Links.{Stands, stands, list_of_entry, taken_held}
@@ -181,7 +181,7 @@ module _ (t : Trees Fiber) (fits : Fits t) (linked : IsLinked t.current) (i : �
   pub child_is : (child : ℕ) (parent : Option ℕ) → Some child ≡ entry (made_kids_of t.draft i)
       → (Holds t.current child → parent ≡ parent_of t.current child) → (Makes t.draft child → parent ≡ made_parent_of t.draft child)
       → ((parent ≡ Some i) × (Some child ≡ made_entry (made_kids_of t.draft i)) × Makes t.draft child)
-        ⊎ ((parent ≡ Some i → ⊥) × (None ≡ made_entry (made_kids_of t.draft i)))
+      ⊎ ((parent ≡ Some i → ⊥) × (None ≡ made_entry (made_kids_of t.draft i)))
   child_is child parent e a b = subst (λ d. ((parent ≡ Some i) × (Some child ≡ made_entry d) × Makes t.draft child) ⊎ ((parent ≡ Some i → ⊥) × (None ≡ made_entry d))) (sym kids_at)
       (by_kids p.kids p.here (e ∙ ap entry kids_at))
     where

@@ -1,4 +1,4 @@
-use Rattle.std.proofs.Common.{◌≡◌, ◌<◌, Some, None, inr, sym, ap, ◌∙◌, subst, arith}
+use Rattle.std.proofs.Common.{◌<◌, Some, inr, sym, ap, ◌∙◌, subst, arith}
 use Rattle.rx_lists.proofs.Frames.{some-at}
 use Rattle.rx_links.specs.Drafts.{made_size}
 use Rattle.rx_read.specs.Numbering.{numbered_draft, made_from, relisted_from, AreHeld}

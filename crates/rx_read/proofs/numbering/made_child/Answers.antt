@@ -1,4 +1,4 @@
-use Rattle.std.proofs.Common.{◌≡◌, Some, None, sym, ap, ◌∙◌}
+use Rattle.std.proofs.Common.{Some, sym, ◌∙◌}
 use Rattle.rx_read.proofs.Relisted.{child_in, child_made, child_taken, not_same}
 use Rattle.rx_read.proofs.numbering.made_child.Goals as goal
 

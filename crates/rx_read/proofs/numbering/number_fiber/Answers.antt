@@ -1,4 +1,4 @@
-use Rattle.std.proofs.Common.{◌≡◌, ◌<◌, ◌+◌, ◌^◌, sym, ap, ◌∙◌, subst, arith}
+use Rattle.std.proofs.Common.{sym, ap, ◌∙◌, subst, arith}
 use Rattle.rx_fiber.specs.FiberView.{changed}
 use Rattle.rx_fiber.specs.declared.stage.StageChange.TheVariants as change
 use Rattle.rx_read.specs.Lacking.{stage_lacks}
@@ -58,4 +58,3 @@ returns-in-Host-clause-value c =
     c.mark_made-in-Host.ensures
     ∙ ap (λ w. record t { draft = w })
     (value_alike t c.facts.ensures.fits c.args.id c.requires.made (changed (change.Number c.args.next.host)) (λ v. (numbered_fiber n v).1) v e (sym (ap (λ r. r.1) (fiber_host n v lacks))))
-
