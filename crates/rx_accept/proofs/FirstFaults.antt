@@ -1,8 +1,7 @@
 -- The first token with which no program goes on is one token, and tokens that a program has hold none.
-use Rattle.std.proofs.Common.{◌≡◌, ℕ, List, [], ◌∷◌, ◌++◌, map, ap, sym, ◌∙◌, refl, subst, append_assoc, inl, inr, ◌⊎◌}
+use Rattle.std.proofs.Common.{◌≡◌, ℕ, List, [], ◌∷◌, ◌++◌, ap, sym, ◌∙◌, subst, append_assoc}
 use Rattle.std.proofs.lemmas.List.{map-append}
 use Rattle.rx_lex.specs.declared.token.Kind.{Kind}
-use Rattle.rx_lex.specs.declared.token.Kind.TheVariants.{End}
 use Rattle.rx_lex.specs.declared.token.Token.{Token}
 use Rattle.rx_lex.specs.Tokens.{kinds}
 use Rattle.rx_ast.specs.Syntax.{Program}

@@ -1,5 +1,5 @@
 -- What an input is found to be.
-use Rattle.std.specs.Prelude.{ℕ, ◌≡◌, ◌<◌, ◌^◌, List, [], Ok, Err, length}
+use Rattle.std.specs.Prelude.{ℕ, ◌≡◌, List, [], Ok, Err}
 use Rattle.rx_base.specs.Values.{Text}
 use Rattle.rx_ast.specs.Syntax.{Program}
 use Rattle.rx_step.specs.declared.step.Step.{Step}

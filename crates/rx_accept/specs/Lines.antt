@@ -1,5 +1,5 @@
 -- The lines that tell of a refusal.
-use Rattle.std.specs.Prelude.{ℕ, ◌≡◌, List, [], ◌∷◌, ◌++◌, codes, decimal}
+use Rattle.std.specs.Prelude.{ℕ, ◌≡◌, [], ◌∷◌, ◌++◌, codes, decimal}
 use Rattle.rx_base.specs.Values.{Text}
 use Rattle.rx_mentions.specs.declared.count.Count.{Count}
 use Rattle.rx_mentions.specs.declared.count.Count.TheVariants as count

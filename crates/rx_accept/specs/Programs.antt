@@ -1,5 +1,5 @@
 -- From the text of a program to a program that meets every check, and why a text is refused.
-use Rattle.std.specs.Prelude.{ℕ, ◌≡◌, ◌++◌, List, [], ◌∷◌, length, Some, None}
+use Rattle.std.specs.Prelude.{◌≡◌, ◌++◌, List, [], ◌∷◌, length, Some, None}
 use Rattle.std.specs.Str.{IsUtf8, IsValidUpTo}
 use Rattle.rx_base.specs.Values.{Text}
 use Rattle.rx_lex.specs.declared.token.Token.{Token}

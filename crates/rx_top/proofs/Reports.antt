@@ -1,5 +1,5 @@
 -- A run, and the end line behind it.
-use Rattle.std.proofs.Common.{◌≡◌, ℕ, ◌+◌, ◌<◌, List, [], ◌∷◌, ◌++◌, sym, ap, ◌∙◌, append_assoc, append-nil, Some, None, Ok, Err, length, inl, inr, refl, true, false, ◌&&◌, Bool, arith, ◌≤◌, ◌⊎◌, IfSome, is_some, subst}
+use Rattle.std.proofs.Common.{◌≡◌, ℕ, ◌<◌, List, [], ◌∷◌, ◌++◌, sym, ap, ◌∙◌, append_assoc, append-nil, Some, None, Ok, Err, length, inl, inr, refl, true, false, arith, ◌≤◌, ◌⊎◌, IfSome, is_some, subst}
 use Rattle.std.specs.declared.option.Option.{Option}
 use Rattle.std.specs.Io.KnownBytes.{Appends, Consumes, IsAtEnd}
 use Rattle.std.proofs.KnownBytes.{Appends-trans}
@@ -15,7 +15,7 @@ use Rattle.small_model.specs.Syntax.{Component, Program}
 use Rattle.small_model.specs.Mentions.{mentions}
 use Rattle.small_model.specs.State.{State, opening, end_line}
 use Rattle.small_model.specs.Report.{Line, line_bytes, report_bytes}
-use Rattle.small_model.specs.Machine.{RunTo, Run, Reports}
+use Rattle.small_model.specs.Machine.{RunTo, Reports}
 use Rattle.rx_lane.specs.Lanes.{lanes_where}
 use Rattle.small_model.specs.Kept.{IsKept}
 use Rattle.small_model.specs.Lines.{steps_of}

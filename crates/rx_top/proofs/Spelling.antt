@@ -1,8 +1,8 @@
 -- What clap finds among valid words, and what is made of it.
-use Rattle.std.proofs.Common.{◌≡◌, ◌∙◌, sym, ap, ap₂, refl, Bool, true, false, cond, List, [], ◌∷◌, Option, Some, None, option_map, codes, bytes_eq, subst}
+use Rattle.std.proofs.Common.{◌≡◌, ◌∙◌, sym, ap, refl, Bool, true, false, cond, List, [], ◌∷◌, Option, Some, None, codes, bytes_eq, subst}
 use Rattle.std.proofs.lemmas.Slice.Eq.{bytes_eq-Decides}
 use Rattle.rx_base.specs.Values.{Text}
-use Rattle.clap.specs.Words.{App, first_of, is_simple, matches_of, takes}
+use Rattle.clap.specs.Words.{first_of, is_simple, matches_of, takes}
 use Rattle.clap.proofs.OnLiterals.{clap_on_literals}
 use Rattle.rx_top.specs.declared.words.Task.{Task}
 use Rattle.rx_top.specs.Words.{command_line, spelled, task_named, task_of}

@@ -1,5 +1,5 @@
 -- The words of the command line, and what they ask for.
-use Rattle.std.specs.Prelude.{Bool, true, false, List, [], ◌∷◌, map, Option, Some, None, is_some, codes, bytes_eq, if◌then◌else◌}
+use Rattle.std.specs.Prelude.{Bool, true, List, [], ◌∷◌, map, Option, Some, None, is_some, codes, bytes_eq, if◌then◌else◌}
 use Rattle.std.specs.Borrow.{Bor}
 use Rattle.rx_base.specs.Values.{Text}
 use Rattle.clap.specs.Words.{App, new_app, new_rule, with_rule}

@@ -1,8 +1,3 @@
-use Rattle.std.proofs.Common.{rules}
-use Rattle.rx_script.specs.Input.{input_of}
-use Rattle.rx_script.specs.Lines.{steps_of}
-use Rattle.rx_script.specs.Readings.{Refuses}
-use Rattle.rx_accept.specs.Programs.{IsSoundText}
 use Rattle.rx_accept.proofs.BadScripts.{bad-judged}
 use Rattle.rx_accept.proofs.accepting.judge.Goals as goal
 

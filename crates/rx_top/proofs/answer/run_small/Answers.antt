@@ -1,4 +1,4 @@
-use Rattle.std.proofs.Common.{rules, ◌≡◌, Err, inl, inr, refl}
+use Rattle.std.proofs.Common.{rules, ◌≡◌, Err, inr, refl}
 use Rattle.rx_script.specs.Input.{input_of}
 use Rattle.small_model.specs.Lines.{steps_of}
 use Rattle.rx_top.specs.declared.status.Status.TheVariants.{Done, ProgramRefused, ScriptRefused}
