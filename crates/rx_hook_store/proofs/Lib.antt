@@ -1,2 +1,4 @@
 pub mod Rendering
 pub mod Stores
+pub mod Dispatching
+pub mod Sending

@@ -1,3 +1,4 @@
 pub mod Store
 pub mod Gives
 pub mod Rendered
+pub mod Changing
