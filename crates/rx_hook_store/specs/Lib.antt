@@ -2,3 +2,4 @@ pub mod Store
 pub mod Gives
 pub mod Rendered
 pub mod Changing
+pub mod Commits

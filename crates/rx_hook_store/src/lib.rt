@@ -4,5 +4,7 @@
 mod laws;
 mod store;
 
-pub use laws::keeps_give;
+pub use laws::{
+    committed_keeps_hooks, hooks_are_there, keeps_give, links_are_below, what_is_kept_stays,
+};
 pub use store::HookStore;
