@@ -1,28 +1,25 @@
 -- After a commit what is kept stands for the machine's state.
-use Rattle.std.proofs.Common.{◌≡◌, ℕ, ℤ, zero, suc, ◌+◌, ◌<◌, ◌≤◌, Bool, true, false, not, ◌||◌, cond, nat_eq, Option, Some, List, [], ◌∷◌, map, filter, slice_get, refl, sym, ap, ◌∙◌, subst, arith}
+use Rattle.std.proofs.Common.{◌≡◌, ℕ, ℤ, zero, suc, ◌≤◌, Bool, true, false, not, ◌||◌, cond, nat_eq, Option, Some, List, [], ◌∷◌, map, filter, slice_get, refl, sym, subst, arith}
 use Rattle.std.specs.List.{list_any}
 use Rattle.std.proofs.lemmas.Bool.Decides.{nat_tests}
-use Rattle.rx_base.specs.declared.cut.Cut.{Cut}
-use Rattle.rx_lane.specs.Lanes.{Lanes, no_lanes}
 use Rattle.rx_ast.specs.Syntax.{Program}
 use Rattle.rx_elem.specs.Numbers.{Numbers}
 use Rattle.rx_elem.specs.Trees.{Node}
 use Rattle.rx_elem.specs.Spots.{Mounted, kept_instances, mounted, numbers_of, visible_instances}
-use Rattle.rx_queue.specs.Journal.{Posted, Target, belongs_to, hook, marked_update, same_target}
-use Rattle.rx_queue.specs.Bridge.{posted_as}
+use Rattle.rx_queue.specs.Journal.{Posted, hook, marked_update, same_target}
 use Rattle.rx_queue.proofs.Bridging.{committed_agrees, owed_agrees}
 use Rattle.rx_hooks.specs.declared.hook.Hook.{Hook}
 use Rattle.rx_hooks.specs.Hooks.{HookHistory, HooksStandFor, committed_hook, owed_hook, rendered}
 use Rattle.rx_hooks.specs.Hooks as hooks_of
 use Rattle.rx_meaning.specs.Expressions.{answers_of}
 use Rattle.rx_meaning.specs.Settled.{HasOwnNumbers, TargetsBelow, includes}
-use Rattle.rx_model.specs.State.{Progress, State, linked_lanes}
+use Rattle.rx_model.specs.State.{Progress, State}
 use Rattle.rx_model.specs.Committing.{committed_state}
-use Rattle.rx_model.specs.HooksOf.{AreHooksFrom, IsHookOf, KeepsAllHooks}
+use Rattle.rx_model.specs.HooksOf.{AreHooksFrom, KeepsAllHooks}
 use Rattle.commit_laws.proofs.OwnNumbers.{own_numbers_apart}
-use Rattle.rx_hook_store.specs.Rendered.{IsRendered, KeepsInstance}
+use Rattle.rx_hook_store.specs.Rendered.{KeepsInstance}
 use Rattle.rx_hook_store.specs.Changing.{HooksChange}
-use Rattle.rx_hook_store.specs.Commits.{AreMounted, LinksBelow, SettlesHooks, hidden, made, shown}
+use Rattle.rx_hook_store.specs.Commits.{LinksBelow, SettlesHooks, hidden, made, shown}
 use Rattle.rx_hook_store.proofs.Stores.{KeptBy, all-keep}
 
 -- ---- which instances are shown
@@ -140,7 +137,7 @@ committed_keeps p s g fixed old new below links own settles = all-keep p (commit
         (hooks_shown s g fixed m.number is_in is_out 0 m.initials is.histories is.are_of)
     go k m at (hidden visible is c) =
         let is_in : includes (kept_instances (Some fixed.1)) m.number ≡ true =
-            passes_in (λ (m : Mounted). not m.visible) (mounted (Some fixed.1)) k m at (not_hidden m.visible visible) in
+        passes_in (λ (m : Mounted). not m.visible) (mounted (Some fixed.1)) k m at (not_hidden m.visible visible) in
         changed (map (owed_hook g.lanes g.cut)) p (committed_state s g fixed) new m.number m.initials (old m.number) c is.hooks is.histories is.kept_is is.stand
         (hooks_hidden s g fixed m.number (apart m.number is_in) is_in 0 m.initials is.histories is.are_of)
     go k m at (made new_one are) =

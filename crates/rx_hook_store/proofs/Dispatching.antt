@@ -1,20 +1,19 @@
 -- A dispatch: what it makes of the hooks of its instance, and that what is kept stays that of the machine's state.
-use Rattle.std.proofs.Common.{◌≡◌, ℕ, ℤ, zero, suc, ◌+◌, ◌<◌, ◌≤◌, Bool, true, false, not, ◌&&◌, cond, nat_eq, nat_lt, Option, Some, None, List, [], ◌∷◌, ◌++◌, length, map, filter, find, slice_get, refl, sym, ap, ◌∙◌, subst, arith}
+use Rattle.std.proofs.Common.{◌≡◌, ℕ, ℤ, zero, suc, ◌+◌, ◌≤◌, Bool, true, false, not, ◌&&◌, cond, nat_eq, Some, List, [], ◌∷◌, length, filter, find, slice_get, refl, sym, ap, ◌∙◌, subst, arith}
 use Rattle.std.specs.Option.{option_map_or}
 use Rattle.std.proofs.lemmas.Bool.Decides.{nat_tests}
 use Rattle.rx_lane.specs.declared.lane.Lane.{Lane}
 use Rattle.rx_lane.specs.Lanes.{Lanes, no_lanes}
 use Rattle.rx_step.specs.declared.step.LaneWord.{LaneWord}
 use Rattle.rx_step.specs.declared.step.LaneWord.TheVariants as word
-use Rattle.rx_elem.specs.Spots.{mounted}
 use Rattle.rx_queue.specs.declared.update.Op.{Op}
 use Rattle.rx_queue.specs.declared.update.Update.{Update}
 use Rattle.rx_queue.specs.declared.entry.Standing.TheVariants.{Open}
-use Rattle.rx_queue.specs.Journal.{Journal, Posted, Target, hook, same_target}
+use Rattle.rx_queue.specs.Journal.{Journal, Target, hook, same_target}
 use Rattle.rx_queue.specs.History.{History, pushed}
 use Rattle.rx_queue.specs.Bridge.{IsHistoryOf}
 use Rattle.rx_queue.proofs.Bridging.{others_stay, pushed_agrees, with_posted}
-use Rattle.rx_hooks.specs.Hooks.{HookHistory, changed_at, links_with, relinked, sent}
+use Rattle.rx_hooks.specs.Hooks.{HookHistory, changed_at, links_with}
 use Rattle.rx_model.specs.State.{Linked, State, linked_lanes}
 use Rattle.rx_model.specs.Accepting.{dispatched_for, lane_of, next_update, with_linked}
 use Rattle.rx_model.specs.HooksOf.{AreHooksFrom, IsHookOf}

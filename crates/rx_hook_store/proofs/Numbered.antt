@@ -1,11 +1,11 @@
 -- The instances that are mounted have numbers below the next one, and others link nothing.
-use Rattle.std.proofs.Common.{◌≡◌, ℕ, zero, suc, ◌+◌, ◌<◌, ◌≤◌, Bool, true, false, cond, nat_eq, Option, Some, None, List, [], ◌∷◌, filter_map, slice_get, refl, sym, ap, ◌∙◌, subst, arith}
+use Rattle.std.proofs.Common.{◌≡◌, ℕ, zero, suc, ◌+◌, ◌<◌, ◌≤◌, Bool, true, false, cond, nat_eq, Option, Some, None, List, [], ◌∷◌, filter_map, slice_get, refl, ap, ◌∙◌, arith}
 use Rattle.std.specs.List.{cons_option}
 use Rattle.std.specs.Option.{option_and_then, option_map}
 use Rattle.std.proofs.lemmas.Bool.Decides.{nat_tests}
 use Rattle.rx_step.specs.declared.step.LaneWord.{LaneWord}
 use Rattle.rx_step.specs.declared.step.LaneWord.TheVariants as word
-use Rattle.rx_elem.specs.Trees.{Instance, Mark, Node, instance_in, of_boundary, of_host, of_instance, plain}
+use Rattle.rx_elem.specs.Trees.{Mark, Node, instance_in, of_boundary, of_host, of_instance, plain}
 use Rattle.rx_elem.specs.Numbers.{numbered}
 use Rattle.rx_elem.specs.Spots.{Around, Mounted, Spot, at_root, mounted, mounted_as, mounted_in, spot_mark, spots}
 use Rattle.rx_queue.specs.declared.update.Op.{Op}

@@ -1,5 +1,5 @@
 -- What is kept by instance, over a dispatch; and what is told of one hook.
-use Rattle.std.proofs.Common.{◌≡◌, ℕ, ℤ, zero, suc, ◌+◌, ◌<◌, ◌≤◌, Bool, true, false, ◌&&◌, nat_eq, nat_lt, Option, Some, Result, List, [], ◌∷◌, ◌++◌, length, map, slice_get, refl, sym, ap, ◌∙◌, subst, arith}
+use Rattle.std.proofs.Common.{◌≡◌, ℕ, ℤ, zero, suc, ◌+◌, ◌<◌, ◌≤◌, Bool, false, ◌&&◌, nat_eq, nat_lt, Option, Some, Result, List, [], ◌∷◌, ◌++◌, length, map, slice_get, refl, sym, ap, ◌∙◌, subst, arith}
 use Rattle.std.specs.List.{enumerate_from}
 use Rattle.std.specs.Option.{IsSomeAnd}
 use Rattle.std.specs.Result.{IfOk, OnOk}
@@ -26,7 +26,7 @@ use Rattle.rx_model.specs.State.{State, committed_values, linked_lanes}
 use Rattle.rx_model.specs.Accepting.{dispatched_for, lane_of}
 use Rattle.rx_model.specs.HooksOf.{AreHooksFrom, IsHookOf, KeepsAllHooks}
 use Rattle.rx_hook_store.specs.Rendered.{IsRendered, KeepsInstance}
-use Rattle.rx_hook_store.specs.Changing.{ChangesHooks, HooksChange, dispatched_hook, lanes_linked}
+use Rattle.rx_hook_store.specs.Changing.{ChangesHooks, dispatched_hook, lanes_linked}
 use Rattle.rx_hook_store.proofs.Stores.{KeptBy, all-keep, by_number, each-keeps}
 use Rattle.rx_hook_store.proofs.Dispatching.{hooks_dispatched, instance_apart, others_dispatched, tree_dispatched}
 

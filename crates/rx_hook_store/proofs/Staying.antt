@@ -4,7 +4,7 @@ use Rattle.std.specs.Option.{IsSome, IsSomeAnd}
 use Rattle.rx_base.specs.declared.cut.Cut.{Cut}
 use Rattle.rx_lane.specs.Lanes.{Lanes}
 use Rattle.rx_ast.specs.Syntax.{Program}
-use Rattle.rx_elem.specs.Spots.{Mounted, mounted}
+use Rattle.rx_elem.specs.Spots.{mounted}
 use Rattle.rx_queue.specs.Journal.{Posted, hook, same_target}
 use Rattle.rx_hooks.specs.declared.hook.Hook.{Hook}
 use Rattle.rx_hooks.specs.Hooks.{HookHistory}
@@ -13,7 +13,7 @@ use Rattle.rx_meaning.specs.Expressions.{answers_of}
 use Rattle.rx_model.specs.State.{State, linked_lanes}
 use Rattle.rx_model.specs.HooksOf.{AreHooksFrom, KeepsAllHooks}
 use Rattle.rx_hook_store.specs.Rendered.{IsRendered, KeepsInstance}
-use Rattle.rx_hook_store.proofs.Stores.{KeptBy, all-keep, each-keeps, keeps-same, rendered-same}
+use Rattle.rx_hook_store.proofs.Stores.{KeptBy, all-keep, each-keeps}
 
 -- ---- another state
 

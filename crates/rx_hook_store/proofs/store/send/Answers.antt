@@ -16,5 +16,5 @@ returns-in-Transition-clause-ok c answers histories stand =
 pub returns-in-Transition-clause-linked : goal.returns-in-Transition-clause-linked
 returns-in-Transition-clause-linked c answers histories history stand at =
     let lanes = c.transition.ensures.linked answers (changed_at c.args.place (sent c.args.update) histories) (sent c.args.update history) (c.in_ok-push.ensures.ok answers histories stand)
-        (get-changed_at c.args.place (sent c.args.update) histories history at) in
+    (get-changed_at c.args.place (sent c.args.update) histories history at) in
     ap (λ (l : Lanes). Some l) lanes ∙ sym (ap (λ (w : LaneWord). lanes_linked w c.args.update c.args.pending history.linked) c.in-Transition.is)
