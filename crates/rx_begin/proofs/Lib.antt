@@ -1,0 +1,4 @@
+pub mod Making
+pub mod Matched
+pub mod Nodes
+pub mod Marks
