@@ -11,19 +11,15 @@ use Rattle.rx_fiber.specs.Fibers.{Fiber, Stage}
 use Rattle.rx_fiber.specs.OldLists.{primary_list}
 use Rattle.rx_fiber.proofs.OldTops.{primary_top}
 use Rattle.rx_begin.specs.Children.{AreMade, HasMadeFrom}
-use Rattle.rx_begin.specs.Nodes.{IsBareAt, IsBareBeside, HasStage, HasOpened, begun_over}
+use Rattle.rx_begin.specs.Nodes.{IsBareAt, IsBareBeside, HasStage, HasList, HasOpened, begun_over, begun_from}
 use Rattle.rx_begin.specs.declared.node.Begun.{Begun}
 use Rattle.rx_begin.specs.declared.node.Begun.TheVariants.{Child, Leaf}
 use Rattle.rx_begin.proofs.Making.{KnowsPlaces, made_list}
 
--- the list of a fiber that is made leads where its first child is, if it has one
-child_is : (d : Draft Fiber) (id : ℕ) → IsMadeList d → entry d ≡ Some id → Child id ≡ begun_over d
-child_is (taken s) id is e = cc (ap shapes.first is)
-child_is (made jd v o ks rs) id is e = ap Child (let f : id ≡ jd = cc in f)
-
-leaf_is : (d : Draft Fiber) → entry d ≡ None → Leaf ≡ begun_over d
-leaf_is (taken s) e = refl
-leaf_is (made jd v o ks rs) e = cc
+-- the first of the children that are made tells where the render comes
+from_first : (d : Draft Fiber) → IsMadeList d → begun_from (entry d) ≡ begun_over d
+from_first (taken s) is = ap (λ l. begun_from (shapes.first l)) is
+from_first (made jd v o ks rs) is = refl
 
 module _ (t u new : Trees Fiber) (p : ℕ) (first : Option ℕ) (stage : Stage) (es : List Element) (os : List (Option ℕ)) (beside : IsBareBeside t p first) (done : HasMadeFrom 0 t u p es os)
     (knows : KnowsPlaces u) where
@@ -52,17 +48,25 @@ module _ (t u new : Trees Fiber) (p : ℕ) (first : Option ℕ) (stage : Stage) 
     pub made_new : Makes new.draft p
     made_new = at_new.makes
 
-    is_opened : (answer : Begun) → answer ≡ begun_over done.kids → HasOpened t new p stage es os answer
-    is_opened answer is = record { kids = done.kids; are = done.are; stands = stands_new; current = same_current; answer_is = is }
+    pub has_list : (link : Option ℕ) → link ≡ entry (made_kids_of new.draft p) → HasList t new p stage es os link
+    has_list link is = record {
+      kids = done.kids;
+      are = done.are;
+      stands = stands_new;
+      current = same_current;
+      first_is = is ∙ ap entry (ap made_kids_in at_new.list);
+    }
 
-    kids_now : made_kids_of new.draft p ≡ done.kids
-    kids_now = ap made_kids_in at_new.list
-
-    pub opened_child : (link : Option ℕ) (id : ℕ) → link ≡ entry (made_kids_of new.draft p) → link ≡ Some id → HasOpened t new p stage es os (Child id)
-    opened_child link id e f = is_opened (Child id) (child_is done.kids id (made_list 0 es os done.kids done.are) (sym (ap entry kids_now) ∙ (sym e ∙ f)))
-
-    pub opened_leaf : (link : Option ℕ) → link ≡ entry (made_kids_of new.draft p) → link ≡ None → HasOpened t new p stage es os Leaf
-    opened_leaf link e f = is_opened Leaf (leaf_is done.kids (sym (ap entry kids_now) ∙ (sym e ∙ f)))
+-- where the render comes from a list that is made
+pub opened_from : (t new : Trees Fiber) (p : ℕ) (stage : Stage) (es : List Element) (os : List (Option ℕ)) (first : Option ℕ) (answer : Begun) → HasList t new p stage es os first
+    → answer ≡ begun_from first → HasOpened t new p stage es os answer
+opened_from t new p stage es os first answer list is = record {
+  kids = list.kids;
+  are = list.are;
+  stands = list.stands;
+  current = list.current;
+  answer_is = is ∙ (ap begun_from list.first_is ∙ from_first list.kids (made_list 0 es os list.kids list.are));
+}
 
 -- a fiber that has no children yet stands beside the primary list of its old node
 pub bare_beside : (t : Trees Fiber) (p : ℕ) (old first : Option ℕ) → KnowsPlaces t → IsLinked t.current → IsBareAt t p → old ≡ old_of t.draft p

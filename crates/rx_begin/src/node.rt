@@ -7,7 +7,7 @@ ghost use Rattle.rx_links.specs.Readers.{list_from};
 ghost use Rattle.rx_fiber.specs.FiberView.{stage_seen};
 ghost use Rattle.rx_node.specs.MarkView.{instance_seen, mark_seen};
 ghost use Rattle.rx_fiber.specs.OldLists.{matched, primary_list};
-ghost use Rattle.rx_begin.specs.Nodes.{IsBareAt, IsBareBeside, HasStage, HasOpened, mark_at};
+ghost use Rattle.rx_begin.specs.Nodes.{IsBareAt, IsBareBeside, HasStage, HasList, HasOpened, begun_from, mark_at};
 
 use crate::children::make_children;
 use rx_elem::Element;
@@ -84,19 +84,25 @@ pub(crate) fn open_list(
     stage: Stage,
     elements: &[Element],
     first_old: Option<FiberId>,
-) -> Result<Begun, AllocError>
+) -> Result<Option<FiberId>, AllocError>
     requires held { IfSome first_old (Holds tree.old.current) }
     requires beside { IsBareBeside tree.old at first_old }
-    ensures opened { IfOk result (λ b. HasOpened tree.old tree.new at (stage_seen stage) elements.now (matched (list_from tree.old.current first_old) elements.now) b) }
+    ensures opened { IfOk result (λ first. HasList tree.old tree.new at (stage_seen stage) elements.now (matched (list_from tree.old.current first_old) elements.now) first) }
     ensures current { tree.new.current ≡ tree.old.current }
 {
     make_children(alloc, tree, at, elements, first_old)?;
     tree.place_facts();
     set_stage(tree, at, stage)?;
     tree.place_facts();
-    match tree.first_child(at) {
-        Some(id) => Ok(Begun::Child(id)),
-        None => Ok(Begun::Leaf),
+    Ok(tree.first_child(at))
+}
+
+fn begun_from(first: Option<FiberId>) -> Begun
+    ensures { result ≡ begun_from first }
+{
+    match first {
+        Some(id) => Begun::Child(id),
+        None => Begun::Leaf,
     }
 }
 
@@ -115,5 +121,6 @@ pub(crate) fn open_node(
     tree.place_facts();
     tree.facts();
     let first_old = old_primary(tree, tree.alternate(at));
-    open_list(alloc, tree, at, stage, elements, first_old)
+    let first = open_list(alloc, tree, at, stage, elements, first_old)?;
+    Ok(begun_from(first))
 }
