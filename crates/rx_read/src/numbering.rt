@@ -1,6 +1,5 @@
 // Numbers for the instances and hosts that are new.
 ghost use Rattle.std.specs.Prelude.{◌≡◌, ◌+◌, ◌^◌, ◌<◌, Some, IfSome};
-ghost use Rattle.rx_elem.specs.Numbers as numbers;
 ghost use Rattle.rx_elem.specs.Numbers.{numbered};
 ghost use Rattle.rx_elem.specs.Trees as trees;
 ghost use Rattle.rx_links.specs.Drafts.{Makes, made_size, grafted, valued};
