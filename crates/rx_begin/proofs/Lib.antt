@@ -1,0 +1,11 @@
+pub mod Lists
+pub mod Making
+pub mod Matched
+pub mod Nodes
+pub mod Marks
+pub mod Starts
+pub mod ByElement
+pub mod Bodies
+pub mod Begins
+pub mod Beside
+pub mod Falling
