@@ -59,7 +59,7 @@ module _ (t : Trees Fiber) (fits : Fits t) (linked : IsLinked t.current) (knows 
       let here : old_of t.draft id ≡ o = (knows k id v o d rs e).old in
       record {
         list = u.follows.0.0;
-        follows = elim u.follows.0.2 [ | inl f ↦ absurd (n u.follows.0.0 f) | inr g ↦ g ];
+        follows = elim u.follows.0.2 [ inl f ↦ absurd (n u.follows.0.0 f) | inr g ↦ g ];
         is = ap (kids_under t.current) here ∙ kids_under-is t.current o u.follows.0.0 fits.once old;
         lifts = λ q m h. any_below t.current o q u.follows.0.0 m old (top-any u.follows.0.0 q m h);
         listed = listed_any o u.follows.0.0 old;

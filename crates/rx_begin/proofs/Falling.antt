@@ -1,7 +1,6 @@
 -- A boundary's fallback opens, alone or beside what the boundary keeps.
-use Rattle.std.specs.Prelude.{◌≡◌, ℕ, Bool, true, false, not, ◌&&◌, List, [], ◌∷◌, Option, Some, None, IfSome, is_some, if◌then◌else◌}
-use Rattle.std.specs.List.{zip}
-use Rattle.std.proofs.Common.{refl, sym, ap, ◌∙◌, subst, inl, inr}
+use Rattle.std.specs.Prelude.{◌≡◌, ℕ, true, false, List, [], ◌∷◌, Option, Some, None, IfSome, is_some}
+use Rattle.std.proofs.Common.{refl, sym, ap, ◌∙◌, subst}
 use Rattle.rx_base.specs.Awaits.{Awaits}
 use Rattle.rx_ctx.specs.Contexts.{Stack, values_at}
 use Rattle.rx_elem.specs.Elements.{Element}
@@ -10,7 +9,7 @@ use Rattle.rx_elem.specs.Trees.{Node, children_if, fallback_if, of_boundary}
 use Rattle.rx_elem.specs.Compare.{old_nodes}
 use Rattle.rx_susp.specs.declared.boundary.BoundaryState.TheVariants.{Hidden}
 use Rattle.rx_lists.specs.Shapes.{Shape, none, fiber, first, Holds, IsTop}
-use Rattle.rx_links.specs.Drafts.{Draft, taken, made, Trees, Makes, entry, old_of, kids_of, kids_under, IsBare, IsMadeList, old_kids, Fits, taking, valued, inserted, rekidded, rerested}
+use Rattle.rx_links.specs.Drafts.{Draft, taken, made, Trees, Makes, entry, old_of, kids_under, IsBare, IsMadeList, old_kids, Fits, taking, valued, inserted}
 use Rattle.rx_links.specs.Places.{Around, after, placed, IsAt}
 use Rattle.rx_links.specs.Readers.{list_from, old_list, IsLinked, made_value_of, made_value_in, made_kids_of, made_kids_in}
 use Rattle.rx_meaning.specs.Fresh.{Part, part}
@@ -19,25 +18,23 @@ use Rattle.rx_meaning.specs.Touched.{children_with_old}
 use Rattle.rx_fiber.specs.Fibers.{Fiber, begun, fallback}
 use Rattle.rx_fiber.specs.FiberView.{changed}
 use Rattle.rx_fiber.specs.declared.stage.StageChange.TheVariants as change
-use Rattle.rx_fiber.specs.OldLists.{is_fallback, hides_in, begins_fallback, first_kids, primary_list, fallback_list, matched}
-use Rattle.rx_fiber.specs.Reading.{has_node, AreFor, IsOld}
-use Rattle.rx_fiber.specs.Surround.{AreNext, IsAround, IsKeptAs, fallback_in, is_boundary}
+use Rattle.rx_fiber.specs.OldLists.{primary_list, fallback_list, matched}
+use Rattle.rx_fiber.specs.Reading.{has_node}
+use Rattle.rx_fiber.specs.Surround.{AreNext, IsAround, fallback_in, is_boundary}
 use Rattle.rx_fiber.specs.Standing.{given_in, IsStack, opened, StandsAt}
 use Rattle.rx_fiber.specs.Unwound.{IsLeftAt}
 use Rattle.rx_fiber.proofs.Coming.{come_at}
-use Rattle.rx_fiber.proofs.Matching.{AreOld, matched_old}
-use Rattle.rx_fiber.proofs.OldLists.{IsListIn, rest_listed, kids_are, IsListFor, primary_is, fallback_is, kept_is, has_node_is}
+use Rattle.rx_fiber.proofs.Matching.{matched_old}
+use Rattle.rx_fiber.proofs.OldLists.{primary_is, fallback_is, kept_is, has_node_is}
 use Rattle.rx_fiber.proofs.Opening.{falls_alone, falls_beside}
 use Rattle.rx_fiber.proofs.Stacking.{unchanged}
 use Rattle.rx_begin.specs.Children.{AreMade, HasMadeFrom}
 use Rattle.rx_begin.specs.Nodes.{IsBareAt, IsBareBeside, HasList}
-use Rattle.rx_begin.specs.Beginning.{IsPlace, IsEnd}
 use Rattle.rx_begin.specs.Opening.{IsLeft, left, KeepsNode, HasOpenedAs, opened_at, fallback_behind, HasKept, HasFallback}
 use Rattle.rx_begin.specs.declared.opening.Opened.{Opened}
-use Rattle.rx_begin.specs.declared.opening.Opened.TheVariants.{First, Empty}
 use Rattle.rx_begin.proofs.Making.{KnowsPlaces, made_list}
 use Rattle.rx_begin.proofs.Beside.{alone_tops, beside_tops, sibling_top}
-use Rattle.rx_begin.proofs.Starts.{nexts, leads, Leads}
+use Rattle.rx_begin.proofs.Starts.{nexts, leads}
 
 boundary_gives : (e : Element) → is_boundary e ≡ true → given_in e ≡ None
 boundary_gives elements.null h = refl
@@ -194,39 +191,47 @@ put_so t new p id w old a v knows is stage value element = record {
 module _ (t u : Trees Fiber) (p : ℕ) (a : Awaits) (o : Option ℕ) (is_left : IsLeft t p a) (knows : KnowsPlaces t) (same_old : o ≡ old_of t.draft p) (kept : HasKept t u p a)
     (same : u.current ≡ t.current) where
   pub kept_made : KnowsPlaces u → Makes u.draft p
-  kept_made knows_u = elim is_left [ left l ↦
-      (knows_u l.around p (record l.value { stage = begun (of_boundary (Hidden a)) }) l.old (taken (kids_under t.current l.old)) l.rest (kept l.around l.value l.old l.rest l.here)).makes ]
+  kept_made knows_u = elim is_left [
+    | left l ↦
+        (knows_u l.around p (record l.value { stage = begun (of_boundary (Hidden a)) }) l.old (taken (kids_under t.current l.old)) l.rest (kept l.around l.value l.old l.rest l.here)).makes
+  ]
 
   pub held_old : IfSome o (Holds u.current)
-  held_old = elim is_left [ left l ↦
-      subst (λ q. IfSome q (Holds u.current)) (sym (left_old t _ p a _ l knows o same_old))
-      (subst (λ k. IfSome l.old (Holds k)) (sym same) (left_at t _ p a _ l knows).old_held) ]
+  held_old = elim is_left [
+    | left l ↦
+        subst (λ q. IfSome q (Holds u.current)) (sym (left_old t _ p a _ l knows o same_old))
+        (subst (λ k. IfSome l.old (Holds k)) (sym same) (left_at t _ p a _ l knows).old_held)
+  ]
 
   pub kept_sibling : (r : Option ℕ) → KnowsPlaces u → Fits u → IsLinked u.current → r ≡ fallback_behind (list_from t.current o) → IfSome r (IsTop (old_list u p))
-  kept_sibling r knows_u fits linked e = elim is_left [ left l ↦
-      sibling_top u fits linked knows_u l.around p (record l.value { stage = begun (of_boundary (Hidden a)) }) l.old r (taken (kids_under t.current l.old)) l.rest
-      (kept l.around l.value l.old l.rest l.here) (e ∙ (ap (λ k. fallback_behind (list_from k o)) (sym same) ∙ ap (λ q. fallback_behind (list_from u.current q)) (left_old t _ p a _ l knows o same_old))) ]
+  kept_sibling r knows_u fits linked e = elim is_left [
+    | left l ↦
+        sibling_top u fits linked knows_u l.around p (record l.value { stage = begun (of_boundary (Hidden a)) }) l.old r (taken (kids_under t.current l.old)) l.rest
+        (kept l.around l.value l.old l.rest l.here) (e ∙ (ap (λ k. fallback_behind (list_from k o)) (sym same) ∙ ap (λ q. fallback_behind (list_from u.current q)) (left_old t _ p a _ l knows o same_old)))
+  ]
 
   -- the fallback's fiber has room for its list
   pub room_beside : (w : Trees Fiber) (r first : Option ℕ) (q : ℕ) → KeepsNode t p a true → IsLinked t.current → r ≡ fallback_behind (list_from t.current o) → HasFallback u w p r a q
       → list_from t.current first ≡ fallback_list (list_from t.current o) → IsBareBeside w q first
-  room_beside w r first q keeps linked e put list = elim is_left [ left l ↦ (
-      let current : w.current ≡ t.current = put.current ∙ same in
-      let behind : r ≡ fallback_behind (list_from t.current l.old) =
-      e ∙ ap (λ x. fallback_behind (list_from t.current x)) (left_old t _ p a _ l knows o same_old) in
-      let v : Fiber = record l.value { stage = begun (of_boundary (Hidden a)) } in
-      record {
-        around = after p v l.old (taken (kids_under t.current l.old)) l.around;
-        value = put.value;
-        old = r;
-        rest = l.rest;
-        here = (put.stands l.around v l.old (taken (kids_under t.current l.old)) l.rest (kept l.around l.value l.old l.rest l.here)).1;
-        tops = λ j h.
-            subst (λ k. IsTop (kids_under k r) j) (sym current)
-            (beside_tops t.current linked l.old r l.node j l.was (keeps _ _ l) behind
-            (subst (λ x. IsTop (fallback_list (list_from t.current x)) j) (left_old t _ p a _ l knows o same_old)
-            (subst (λ s. IsTop s j) list (subst (λ k. IsTop (list_from k first) j) current h))));
-      }) ]
+  room_beside w r first q keeps linked e put list = elim is_left [
+    | left l ↦ (
+        let current : w.current ≡ t.current = put.current ∙ same in
+        let behind : r ≡ fallback_behind (list_from t.current l.old) =
+        e ∙ ap (λ x. fallback_behind (list_from t.current x)) (left_old t _ p a _ l knows o same_old) in
+        let v : Fiber = record l.value { stage = begun (of_boundary (Hidden a)) } in
+        record {
+          around = after p v l.old (taken (kids_under t.current l.old)) l.around;
+          value = put.value;
+          old = r;
+          rest = l.rest;
+          here = (put.stands l.around v l.old (taken (kids_under t.current l.old)) l.rest (kept l.around l.value l.old l.rest l.here)).1;
+          tops = λ j h.
+              subst (λ k. IsTop (kids_under k r) j) (sym current)
+              (beside_tops t.current linked l.old r l.node j l.was (keeps _ _ l) behind
+              (subst (λ x. IsTop (fallback_list (list_from t.current x)) j) (left_old t _ p a _ l knows o same_old)
+              (subst (λ s. IsTop s j) list (subst (λ k. IsTop (list_from k first) j) current h))));
+        })
+  ]
 
 -- the old fibers of the fallback's list are those of the definition
 pub same_olds : (t u : Trees Fiber) (st : Stack) (p : ℕ) (a : Awaits) (c : Cursor) (l : IsLeftAt t st p (taken none) a c) (first o : Option ℕ) (es : List Element)

@@ -1,9 +1,7 @@
 // A component's place begins with its body.
 ghost use Rattle.std.specs.Prelude.{◌≡◌, ◌+◌, ◌≤◌, ℕ, ℤ, List, Option, Some, length, IfOk, IfSome, OnOk, IsSome, option_map, option_and_then};
 ghost use Rattle.std.specs.Option.{option_copied};
-ghost use Rattle.rx_ast.specs.Syntax.{Program};
 ghost use Rattle.rx_rules.specs.Names.{component_at, prop_names};
-ghost use Rattle.rx_ctx.specs.Contexts.{values_at};
 ghost use Rattle.rx_elem.specs.Elements.{Elements, listed};
 ghost use Rattle.rx_elem.specs.Trees as trees;
 ghost use Rattle.rx_elem.specs.Trees.{Node, instance_in};
@@ -115,7 +113,16 @@ fn body_at<L: Ledger>(
     ensures states { (st : State) → DoneBefore scene.now.cut st.journal.updates → KeepsAllHooks scene.now.checked.now st (kept_hooks hooks.old) → KeepsAllHooks scene.now.checked.now st (kept_hooks hooks.new) }
 {
     let values = values_of(alloc, scene, number, hooks)?;
-    evaluate(alloc, scene, component, props, children, slice_of(&values), contexts, steps)
+    evaluate(
+        alloc,
+        scene,
+        component,
+        props,
+        children,
+        slice_of(&values),
+        contexts,
+        steps,
+    )
 }
 
 // An instance keeps its number and its initial values (react.dev, State as a Snapshot).
@@ -213,6 +220,8 @@ pub(crate) fn begin_component<L: Ledger>(
     tree.place_facts();
     let old = old_instance(tree, tree.alternate(at))?;
     let number = number_of(&old);
-    let body = body_at(alloc, scene, component, props, children, number, hooks, contexts, steps)?;
+    let body = body_at(
+        alloc, scene, component, props, children, number, hooks, contexts, steps,
+    )?;
     open_body(alloc, tree, at, component, old, body)
 }

@@ -1,7 +1,6 @@
 // The fallback of a boundary opens.
-ghost use Rattle.std.specs.Prelude.{◌≡◌, ◌∷◌, [], true, false, IfOk, IfSome, OnOk};
+ghost use Rattle.std.specs.Prelude.{◌≡◌, ◌∷◌, [], true, false, IfOk, IfSome};
 ghost use Rattle.rx_ctx.specs.Contexts.{Stack};
-ghost use Rattle.rx_elem.specs.Elements as elements;
 ghost use Rattle.rx_lists.specs.Shapes.{Holds, IsTop, none};
 ghost use Rattle.rx_links.specs.Drafts.{taken, Makes, IsUnused};
 ghost use Rattle.rx_links.specs.Readers.{list_from, old_list};
@@ -58,10 +57,7 @@ fn old_beside(tree: &FiberTree<Fiber>, old: Option<FiberId>) -> Option<FiberId>
 }
 
 // No fiber is made for it yet, as none is before its boundary opens its fallback.
-fn unused(
-    tree: &FiberTree<Fiber>,
-    old: Option<FiberId>,
-) -> Result<Option<FiberId>, AllocError>
+fn unused(tree: &FiberTree<Fiber>, old: Option<FiberId>) -> Result<Option<FiberId>, AllocError>
     requires { IfSome old (Holds tree.now.current) }
     ensures same { IfOk result (λ r. r ≡ old) }
     ensures unused { IfOk result (λ r. IfSome r (IsUnused tree.now.draft)) }

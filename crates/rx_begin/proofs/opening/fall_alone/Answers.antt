@@ -1,7 +1,6 @@
-use Rattle.std.proofs.Common.{ap, refl, sym, subst, ◌∙◌, [], ◌∷◌}
+use Rattle.std.proofs.Common.{refl, sym, subst}
 use Rattle.rx_links.specs.Readers.{list_from}
-use Rattle.rx_fiber.specs.OldLists.{matched, fallback_list}
-use Rattle.rx_fiber.specs.Surround.{fallback_in}
+use Rattle.rx_fiber.specs.OldLists.{matched}
 use Rattle.rx_begin.specs.Opening.{HasOpenedAs}
 use Rattle.rx_begin.proofs.Nodes.{bare_made}
 use Rattle.rx_begin.proofs.Falling.{room_alone, left_alone, left_old, same_olds}

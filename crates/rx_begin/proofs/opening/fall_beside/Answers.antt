@@ -1,6 +1,6 @@
-use Rattle.std.proofs.Common.{ap, refl, inr, sym, subst, ◌∙◌, ℕ, List, Option, IfSome}
+use Rattle.std.proofs.Common.{ap, inr, sym, subst, ◌∙◌, ℕ, List, Option, IfSome}
 use Rattle.rx_lists.specs.Shapes.{Holds}
-use Rattle.rx_links.specs.Readers.{list_from, IsLinked}
+use Rattle.rx_links.specs.Readers.{list_from}
 use Rattle.rx_fiber.specs.OldLists.{matched}
 use Rattle.rx_begin.specs.Opening.{HasOpenedAs, fallback_behind}
 use Rattle.rx_begin.proofs.Nodes.{bare_made}

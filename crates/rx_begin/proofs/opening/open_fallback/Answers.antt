@@ -1,4 +1,4 @@
-use Rattle.std.proofs.Common.{ap, inr, refl, sym, ◌∙◌, [], ◌∷◌}
+use Rattle.std.proofs.Common.{ap, inr, ◌∙◌, [], ◌∷◌}
 use Rattle.rx_fiber.specs.Surround.{fallback_in}
 use Rattle.rx_begin.proofs.ByElement.{if_ok}
 use Rattle.rx_begin.proofs.Nodes.{bare_made}
