@@ -1,10 +1,10 @@
 -- What holds of the instances of a tree, of those that are mounted, and of those of a tree whose new nodes have their numbers.
-use Rattle.std.specs.Prelude.{◌≡◌, ◌≤◌, ◌⊎◌, ℕ, zero, suc, ℤ, Bool, true, false, cond, List, [], ◌∷◌, ◌++◌, Option, Some, None, filter_map, option_map, option_and_then, slice_get, refl}
+use Rattle.std.specs.Prelude.{◌≡◌, ◌≤◌, ◌⊎◌, ℕ, zero, suc, ℤ, Bool, true, false, List, [], ◌∷◌, ◌++◌, Option, Some, None, filter_map, option_map, option_and_then, slice_get, refl}
 use Rattle.std.specs.List.{AllByRecursion, cons_option}
 use Rattle.std.proofs.Common.{inl, inr, subst, sym, ap, ◌∙◌, arith}
 use Rattle.rx_elem.specs.Elements.{Element}
 use Rattle.rx_elem.specs.Numbers.{Numbers, numbered, numbered_host, numbered_in, numbered_instance, numbered_mark}
-use Rattle.rx_elem.specs.Spots.{Around, Mounted, Spot, around_children, at_root, mounted, mounted_as, mounted_in, spot_mark, spots, spots_in}
+use Rattle.rx_elem.specs.Spots.{Around, Mounted, Spot, around_children, at_root, mounted_as, mounted_in, spots, spots_in}
 use Rattle.rx_elem.specs.Trees.{Forest, Instance, Mark, Node, child, children_if, instance_in, is_hidden, node, none, of_boundary, of_host, of_instance, plain, vacant}
 use Rattle.rx_susp.specs.declared.boundary.BoundaryState.TheVariants.{Hidden, Shown}
 use Rattle.rx_meaning.specs.Fresh.{Place, empty, made, waits}
@@ -211,7 +211,7 @@ module _ (Q R : ℕ → List ℤ → Type 0) where
     hidden_spots a (node e m ns fs) seen h = (
       mark_at a m (hidden_mark a m seen h.0),
       spots_join (MountedMeets Q R) (spots_in (around_children a m) ns) (spots_in a fs)
-      (all_hidden (around_children a m) ns (still_hidden a m seen) h.1) (all_hidden a fs seen h.2),
+          (all_hidden (around_children a m) ns (still_hidden a m seen) h.1) (all_hidden a fs seen h.2),
     )
 
     all_hidden : (a : Around) (ns : Forest) → a.visible ≡ false → AllMeet R ns → SpotsHave (MountedMeets Q R) (spots_in a ns)
@@ -236,7 +236,7 @@ module _ (Q R : ℕ → List ℤ → Type 0) where
     made_spots a (node e m ns fs) seen h = (
       mark_at a m (shown_mark a m seen h.0),
       spots_join (MountedMeets Q R) (spots_in (around_children a m) ns) (spots_in a fs)
-      (children_at a m ns seen (λ b is k. all_made_spots b ns is k) h.1) (all_made_spots a fs seen h.2),
+          (children_at a m ns seen (λ b is k. all_made_spots b ns is k) h.1) (all_made_spots a fs seen h.2),
     )
 
     all_made_spots : (a : Around) (ns : Forest) → a.visible ≡ true → AllMade Q R ns → SpotsHave (MountedMeets Q R) (spots_in a ns)
@@ -319,11 +319,11 @@ module _ (base : ℕ) (Q R : ℕ → List ℤ → Type 0) where
     made_numbered c (node e m ns fs) le h = (
       mark_numbered Q c m le h.0,
       subst (λ b. IfHidden b (AllMeet (OrNew base R) (numbered_in (numbered_mark c m).0 ns).1) (AllMade (OrNew base Q) (OrNew base R) (numbered_in (numbered_mark c m).0 ns).1)) (marked_hidden c m)
-      (if_hidden_more (AllMeet R ns) (AllMade Q R ns) (AllMeet (OrNew base R) (numbered_in (numbered_mark c m).0 ns).1)
-      (AllMade (OrNew base Q) (OrNew base R) (numbered_in (numbered_mark c m).0 ns).1) (is_hidden m)
-      (all_numbered R (numbered_mark c m).0 ns (omega (arith, mark_rises c m)))
-      (all_made_numbered (numbered_mark c m).0 ns (omega (arith, mark_rises c m)))
-      h.1),
+          (if_hidden_more (AllMeet R ns) (AllMade Q R ns) (AllMeet (OrNew base R) (numbered_in (numbered_mark c m).0 ns).1)
+          (AllMade (OrNew base Q) (OrNew base R) (numbered_in (numbered_mark c m).0 ns).1) (is_hidden m)
+          (all_numbered R (numbered_mark c m).0 ns (omega (arith, mark_rises c m)))
+          (all_made_numbered (numbered_mark c m).0 ns (omega (arith, mark_rises c m)))
+          h.1),
       all_made_numbered (numbered_in (numbered_mark c m).0 ns).0 fs (omega (arith, mark_rises c m, numbers_rise (numbered_mark c m).0 ns)) h.2,
     )
 

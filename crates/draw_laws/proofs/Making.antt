@@ -9,12 +9,12 @@ use Rattle.rx_elem.specs.Elements.{Element, Elements}
 use Rattle.rx_elem.specs.Elements as elements
 use Rattle.rx_elem.specs.declared.effect.ContextRead.{ContextRead}
 use Rattle.rx_elem.specs.declared.effect.EffectRecord.{EffectRecord}
-use Rattle.rx_elem.specs.Trees.{Forest, Instance, Mark, Node, child, children_if, children_of, fallback_of, forest, is_hidden, node, none, of_boundary, of_host, of_instance, plain, vacant}
+use Rattle.rx_elem.specs.Trees.{Forest, Instance, Mark, Node, child, children_if, forest, instance_in, is_hidden, node, none, of_boundary, of_host, of_instance, plain, vacant}
 use Rattle.rx_meaning.specs.Body.{Body, body_of, ready, wait}
 use Rattle.rx_meaning.specs.Fresh.{Contexts, Part, Shape, Sight, absent, inputs_at, instance_after, old_instance, one_list, shape_of, shape_of_body, shape_of_component, two_lists, waiting}
 use Rattle.rx_meaning.specs.Settled.{IfHidden}
 use Rattle.rx_meaning.specs.Touched.{children_with_old, component_in}
-use Rattle.rx_meaning.specs.Cursor.{Cursor, Frame, Open, around, arrive, at_end, at_place, begin, come_to, ended, falling, finished, given_by, is_null, open_part, past, start, trying, unit, unwind}
+use Rattle.rx_meaning.specs.Cursor.{Cursor, Frame, Open, around, arrive, at_end, at_place, begin, come_to, ended, falling, finished, is_null, open_part, past, start, trying, unit, unwind}
 use Rattle.render_laws.specs.OldNodes.{AllHave, CursorHas, OldHas}
 use Rattle.render_laws.proofs.Descent.{GoesDown, arrive_has, attempt_has, start_has, unit_has}
 use Rattle.draw_laws.specs.Made.{AllMade, AllMeet, BeginsMeeting, DoneMade, FramesMade, InstancesMade, MarkMeets, NodesMade, OpenMade, TreeMade, TreeMeets}
@@ -33,6 +33,22 @@ goes_down R (node e m ns fs) h = (all_have R ns h.1, all_have R fs h.2)
 old_children : (R : ℕ → List ℤ → Type 0) (old : Option Node) → OldHas (TreeMeets R) old → AllMeet R (children_if old)
 old_children R None h = tt
 old_children R (Some (node e m ns fs)) h = h.1
+
+old_mark : (R : ℕ → List ℤ → Type 0) (m : Mark) (i : Instance) (n : ℕ) → MarkMeets R m → instance_in m ≡ Some i → i.number ≡ Some n → R n i.initials
+old_mark R (of_instance j) i n h e is =
+    let same : j ≡ i = cc in subst (λ (k : Instance). R n k.initials) same (h n (ap (λ (k : Instance). k.number) same ∙ is))
+old_mark R (of_host k) i n h e is = cc
+old_mark R (of_boundary b) i n h e is = cc
+old_mark R plain i n h e is = cc
+
+old_meets : (R : ℕ → List ℤ → Type 0) (old : Option Node) (i : Instance) (n : ℕ) → OldHas (TreeMeets R) old → old_instance old ≡ Some i → i.number ≡ Some n → R n i.initials
+old_meets R None i n h e is = cc
+old_meets R (Some (node e m ns fs)) i n h at is = old_mark R m i n h.0 at is
+
+-- the old instance of a place meets the second
+pub place_meets : (Q R : ℕ → List ℤ → Type 0) (n : ℕ) (fs : List Frame) (cs : Contexts) (e : Element) (old : Option Node) (i : Instance) (k : ℕ)
+    → InstancesMade Q R (at_place n fs cs e old) → old_instance old ≡ Some i → i.number ≡ Some k → R k i.initials
+place_meets Q R n fs cs e old i k h at is = old_meets R old i k h.olds.0 at is
 
 module _ (Q R : ℕ → List ℤ → Type 0) where
   -- ---- nodes

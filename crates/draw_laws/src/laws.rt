@@ -5,12 +5,12 @@ ghost use Rattle.rx_ast.specs.Syntax.{Component, Program};
 ghost use Rattle.rx_rules.specs.Names.{component_at};
 ghost use Rattle.rx_check.specs.Checks.{unknowns, is_rooted};
 ghost use Rattle.rx_elem.specs.Elements.{Element, Elements, gathered, listed};
-ghost use Rattle.rx_elem.specs.Trees.{Node};
+ghost use Rattle.rx_elem.specs.Trees.{Instance, Node};
 ghost use Rattle.rx_elem.specs.Numbers.{Numbers, numbered};
 ghost use Rattle.rx_elem.specs.declared.effect.EffectRecord.{EffectRecord};
 ghost use Rattle.rx_elem.specs.declared.effect.ContextRead.{ContextRead};
 ghost use Rattle.rx_meaning.specs.Body.{Inputs, body_of, ready};
-ghost use Rattle.rx_meaning.specs.Fresh.{Sight, Contexts, Part, made, root_element, shape_of, two_lists};
+ghost use Rattle.rx_meaning.specs.Fresh.{Sight, Contexts, Part, made, old_instance, root_element, shape_of, two_lists};
 ghost use Rattle.rx_meaning.specs.Cursor.{Frame, Cursor, at_place, ended, falling, arrive, open_part, start, unit};
 ghost use Rattle.draw_laws.specs.Drawn.{IsDrawn, AreDrawn};
 ghost use Rattle.draw_laws.specs.Cursors.{CursorDrawn};
@@ -42,7 +42,8 @@ pub fn cursors_are_drawn()
 
 /// What holds of the instances that a render has made: a test of each visible one that had a number before, and another
 /// of each one that a hidden boundary keeps. It holds at the start where each mounted instance passes the second test; a
-/// unit keeps it that begins no component's place, or one whose old instance passes the first. At the end each instance
+/// unit keeps it that begins no component's place, or one whose old instance passes the first; the old instance of each
+/// place passes the second. At the end each instance
 /// of the new tree passes its test, but for the new ones once they have their numbers.
 pub fn instances_are_made()
     ensures start { (shown kept : ℕ → List ℤ → Bool) (s : Sight) (old : Option Node)
@@ -56,6 +57,9 @@ pub fn instances_are_made()
         (o : Option Node) (q f : Part) (a : Awaits) → shape_of s cs e o ≡ two_lists q f
         → InstancesMade (Passes shown) (Passes kept) (at_place (suc n) fs cs e o)
         → InstancesMade (Passes shown) (Passes kept) (open_part n fs (falling e o a) f) }
+    ensures place { (shown kept : ℕ → List ℤ → Bool) (n : ℕ) (fs : List Frame) (cs : Contexts) (e : Element) (o : Option Node)
+        (i : Instance) (k : ℕ) → InstancesMade (Passes shown) (Passes kept) (at_place n fs cs e o) → old_instance o ≡ Some i
+        → i.number ≡ Some k → Passes kept k i.initials }
     ensures more { (shown kept seen held : ℕ → List ℤ → Bool) (c : Cursor)
         → ((n : ℕ) (xs : List ℤ) → Passes shown n xs → Passes seen n xs)
         → ((n : ℕ) (xs : List ℤ) → Passes kept n xs → Passes held n xs)
