@@ -1,6 +1,6 @@
 // What a node has beside its element and its children.
-ghost use Rattle.std.specs.Prelude.{◌≡◌, IfOk};
-ghost use Rattle.rx_elem.specs.Trees.{is_host, is_hidden, is_shown, boundary_in, awaits_in};
+ghost use Rattle.std.specs.Prelude.{◌≡◌, IfOk, option_and_then};
+ghost use Rattle.rx_elem.specs.Trees.{instance_in, effects_in, is_host, is_hidden, is_shown, boundary_in, awaits_in};
 ghost use Rattle.rx_node.specs.MarkView.{instance_seen, mark_seen};
 
 use rx_base::{Awaits, Ints};
@@ -93,6 +93,26 @@ impl Mark {
         match self {
             Mark::Boundary(state) => !state.hides(),
             Mark::Instance(_) | Mark::Host(_) | Mark::Plain => false,
+        }
+    }
+
+    /// The number of an instance, from its first commit on; of anything else, nothing.
+    pub fn instance_number(&self) -> Option<u64>
+        ensures { result ≡ option_and_then (λ i. i.number) (instance_in (mark_seen self.now)) }
+    {
+        match self {
+            Mark::Instance(instance) => instance.number,
+            Mark::Host(_) | Mark::Boundary(_) | Mark::Plain => None,
+        }
+    }
+
+    /// The effects of an instance, in statement order; of anything else, none.
+    pub fn effects(&self) -> &[EffectRecord]
+        ensures { result.now ≡ effects_in (mark_seen self.now) }
+    {
+        match self {
+            Mark::Instance(instance) => &instance.effects,
+            Mark::Host(_) | Mark::Boundary(_) | Mark::Plain => &[],
         }
     }
 
