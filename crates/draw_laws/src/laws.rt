@@ -1,0 +1,39 @@
+// Laws of what a render draws.
+ghost use Rattle.std.specs.Prelude.{◌≡◌, ℕ, suc, ℤ, List, [], Option, Some, true};
+ghost use Rattle.rx_base.specs.Awaits.{Awaits};
+ghost use Rattle.rx_ast.specs.Syntax.{Component, Program};
+ghost use Rattle.rx_rules.specs.Names.{component_at};
+ghost use Rattle.rx_check.specs.Checks.{unknowns, is_rooted};
+ghost use Rattle.rx_elem.specs.Elements.{Element, Elements, gathered, listed};
+ghost use Rattle.rx_elem.specs.Trees.{Node};
+ghost use Rattle.rx_elem.specs.declared.effect.EffectRecord.{EffectRecord};
+ghost use Rattle.rx_elem.specs.declared.effect.ContextRead.{ContextRead};
+ghost use Rattle.rx_meaning.specs.Body.{Inputs, body_of, ready};
+ghost use Rattle.rx_meaning.specs.Fresh.{Sight, Contexts, Part, root_element, shape_of, two_lists};
+ghost use Rattle.rx_meaning.specs.Cursor.{Frame, Cursor, at_place, falling, arrive, open_part, start, unit};
+ghost use Rattle.draw_laws.specs.Drawn.{IsDrawn, AreDrawn};
+ghost use Rattle.draw_laws.specs.Cursors.{CursorDrawn};
+
+/// Where each name of a program is known, the elements of a body that is ready fit the program, if the children that it
+/// is given do; and so does the root's element.
+pub fn bodies_are_drawn()
+    ensures body { (p : Program) (number : ℕ) (c : Component) (i : Inputs) (es : List Element) (effects : List EffectRecord)
+        (initials : List ℤ) (reads : List ContextRead) → unknowns p ≡ [] → component_at p number ≡ Some c
+        → AreDrawn p (gathered i.children) → body_of p c i ≡ ready es effects initials reads → AreDrawn p (gathered es) }
+    ensures root { (p : Program) → is_rooted p ≡ true → IsDrawn p (root_element p) }
+    ensures given { (p : Program) (es : Elements) → AreDrawn p es → AreDrawn p (gathered (listed es)) }
+{}
+
+/// What a render of such a program has yet to come to fits it: at its start, after each unit, and past a subtree that is
+/// taken over or an attempt that is skipped. So does the element of each place that it comes to.
+pub fn cursors_are_drawn()
+    ensures start { (s : Sight) (old : Option Node) → is_rooted s.program ≡ true → CursorDrawn s.program (start s old) }
+    ensures unit { (s : Sight) (c : Cursor) → unknowns s.program ≡ [] → CursorDrawn s.program c → CursorDrawn s.program (unit s c) }
+    ensures takes_over { (p : Program) (n : ℕ) (fs : List Frame) (cs : Contexts) (e : Element) (o : Node)
+        → CursorDrawn p (at_place n fs cs e (Some o)) → CursorDrawn p (arrive n fs (Some o)) }
+    ensures skips_attempt { (s : Sight) (n : ℕ) (fs : List Frame) (cs : Contexts) (e : Element) (o : Option Node) (q f : Part)
+        (a : Awaits) → unknowns s.program ≡ [] → shape_of s cs e o ≡ two_lists q f
+        → CursorDrawn s.program (at_place (suc n) fs cs e o) → CursorDrawn s.program (open_part n fs (falling e o a) f) }
+    ensures place { (p : Program) (n : ℕ) (fs : List Frame) (cs : Contexts) (e : Element) (o : Option Node)
+        → CursorDrawn p (at_place n fs cs e o) → IsDrawn p e }
+{}
