@@ -1,0 +1,6 @@
+pub mod Defaults
+pub mod Contexts
+pub mod Instances
+pub mod Later
+pub mod Starting
+pub mod Ending
