@@ -1,0 +1,54 @@
+// Laws of the definitions: a tree and the same tree without the vacant places at the ends of its lists answer alike.
+ghost use Rattle.std.specs.Prelude.{◌≡◌, ℕ, Option, Some, length};
+ghost use Rattle.rx_base.specs.declared.cut.Cut.{Cut};
+ghost use Rattle.rx_lane.specs.Lanes.{Lanes};
+ghost use Rattle.rx_elem.specs.Trees.{Node};
+ghost use Rattle.rx_elem.specs.Spots.{node_count, hidden_count, mounted, visible_instances, kept_instances};
+ghost use Rattle.rx_elem.specs.Numbers.{Numbers, numbered};
+ghost use Rattle.rx_elem.specs.Compare.{compare_trees};
+ghost use Rattle.rx_effect.specs.EffectLog.{layout_log, passive_of};
+ghost use Rattle.rx_forest.specs.Hosts.{hosts};
+ghost use Rattle.rx_forest.specs.HostOps.{host_ops};
+ghost use Rattle.rx_queue.specs.Journal.{Journal};
+ghost use Rattle.rx_meaning.specs.Outcome.{newly_hidden, all_awaits, outcome, journal_after, visible_awaits, is_awaited, awaits_resolved, still_pending};
+ghost use Rattle.end_laws.specs.Trimmed.{trimmed, trimmed_if};
+ghost use Rattle.end_laws.specs.Outcomes.{trimmed_outcome};
+
+/// What is read out of one tree: its instances, hosts and hidden boundaries, and what a commit of it leaves in the
+/// journal and pending.
+pub fn ends_are_not_read()
+    ensures mounted { (t : Option Node) → mounted (trimmed_if t) ≡ mounted t }
+    ensures hosts { (t : Option Node) → hosts (trimmed_if t) ≡ hosts t }
+    ensures nodes { (t : Option Node) → node_count (trimmed_if t) ≡ node_count t }
+    ensures hidden { (t : Option Node) → hidden_count (trimmed_if t) ≡ hidden_count t }
+    ensures visible { (t : Option Node) → visible_instances (trimmed_if t) ≡ visible_instances t }
+    ensures kept { (t : Option Node) → kept_instances (trimmed_if t) ≡ kept_instances t }
+    ensures waits { (t : Option Node) → visible_awaits (trimmed_if t) ≡ visible_awaits t }
+    ensures awaited { (t : Option Node) (r : ℕ) → is_awaited (trimmed_if t) r ≡ is_awaited t r }
+    ensures resolved { (cut : Cut) (j : Journal) (new : Node) → awaits_resolved cut j (trimmed new) ≡ awaits_resolved cut j new }
+    ensures pending { (lanes : Lanes) (cut : Cut) (j : Journal) (new : Node)
+        → still_pending lanes cut j (trimmed new) ≡ still_pending lanes cut j new }
+    ensures journal { (lanes : Lanes) (cut : Cut) (new : Node) (j : Journal)
+        → journal_after lanes cut (trimmed new) j ≡ journal_after lanes cut new j }
+{}
+
+/// The numbers that a commit gives: the trimmed tree gets the same, and leaves the same to come next.
+pub fn ends_are_not_numbered()
+    ensures { (next : Numbers) (n : Node) → numbered next (trimmed n) ≡ ((numbered next n).0, trimmed (numbered next n).1) }
+{}
+
+/// What a comparison of the new tree with the old one gives: the effects that are destroyed and created, the operations
+/// on hosts, the boundaries that are newly hidden and what they wait for, and whether the render is committed.
+pub fn ends_are_not_compared()
+    ensures layout { (old : Option Node) (new : Node)
+        → layout_log (compare_trees (trimmed_if old) (trimmed new)) ≡ layout_log (compare_trees old new) }
+    ensures passive { (old : Option Node) (new : Node)
+        → passive_of (compare_trees (trimmed_if old) (trimmed new)) ≡ passive_of (compare_trees old new) }
+    ensures ops { (old : Option Node) (new : Node) → host_ops (trimmed_if old) (trimmed new) ≡ host_ops old new }
+    ensures hidden { (old : Option Node) (new : Node)
+        → length (newly_hidden (trimmed_if old) (trimmed new)) ≡ length (newly_hidden old new) }
+    ensures awaits { (old : Option Node) (new : Node)
+        → all_awaits (newly_hidden (trimmed_if old) (trimmed new)) ≡ all_awaits (newly_hidden old new) }
+    ensures outcome { (lanes : Lanes) (old : Option Node) (new : Node)
+        → outcome lanes (trimmed_if old) (trimmed new) ≡ trimmed_outcome (outcome lanes old new) }
+{}
