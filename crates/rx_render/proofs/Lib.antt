@@ -4,3 +4,5 @@ pub mod Instances
 pub mod Later
 pub mod Starting
 pub mod Ending
+pub mod Advancing
+pub mod Going

@@ -1,5 +1,9 @@
 // What the next unit of a render does.
+ghost use Rattle.std.specs.Prelude.{◌≡◌};
+ghost use Rattle.rx_render.specs.LastUnit.{unit_before};
+
 use rx_links::FiberId;
+use rx_loop::Unit;
 
 /// What the next unit of a render does.
 #[derive(Clone, Copy)]
@@ -10,4 +14,14 @@ pub enum At {
     Completes(FiberId),
     /// No unit is left.
     Over,
+}
+
+// Whether more units follow the one that has come there.
+pub(crate) fn unit_before(at: At) -> Unit
+    ensures { result ≡ unit_before at }
+{
+    match at {
+        At::Over => Unit::Last,
+        _ => Unit::More,
+    }
 }

@@ -1,6 +1,7 @@
 //! A render in progress, driven unit by unit.
 #![tactic(auto)]
 
+mod advance;
 mod at;
 mod laws;
 mod renderer;

@@ -1,5 +1,6 @@
 // A render in progress.
-ghost use Rattle.std.specs.Prelude.{◌≡◌, ◌<◌, IfOk, OnOk, OnErr};
+ghost use Rattle.std.specs.Prelude.{◌≡◌, ◌+◌, ◌<◌, ◌≤◌, IfOk, OnOk, OnErr};
+ghost use Rattle.rx_loop.specs.Ends.{MatchUnit};
 ghost use Rattle.rx_lists.specs.Shapes.{none};
 ghost use Rattle.rx_links.specs.Drafts.{taken};
 ghost use Rattle.rx_model.specs.State.{State, opening};
@@ -9,19 +10,25 @@ ghost use Rattle.rx_hook_store.specs.Store.{kept_hooks};
 ghost use Rattle.rx_render.specs.declared.at.At.TheVariants.{Over};
 ghost use Rattle.rx_render.specs.Rendering.{IsIdle, left_of};
 ghost use Rattle.rx_render.specs.Renders.{CanStart, IsStartOf, Renders};
+ghost use Rattle.rx_render.specs.Turning.{GoesOn, GivesUp, BreaksOff};
+ghost use Rattle.rx_render.specs.TurningLaws.{goes_on_same, goes_on_join, gives_up_after};
 
-use crate::at::At;
+use crate::advance::{advance, bodies_next};
+use crate::at::{At, unit_before};
 use crate::roots::{default_contexts, root_element};
 use draw_laws::cursors_are_drawn;
-use rx_base::{Cut, Int};
+use rx_base::{Cut, Int, Steps};
+use rx_begin::Scene;
 use rx_check::Checked;
 use rx_ctx::ContextStack;
 use rx_fiber::{Fiber, Stage};
 use rx_hook_store::HookStore;
 use rx_lane::Lanes;
 use rx_links::FiberTree;
+use rx_loop::{Unit, Units};
 use std::alloc::{AllocError, Global};
 use std::marker::Model;
+use std::sync::ledger::Ledger;
 
 /// The two trees of a root and its hooks, with the render that is in progress: what it sees, where it stands, and how many
 /// units and bodies it has taken (react.dev, Render and Commit).
@@ -133,4 +140,70 @@ impl Renderer {
         self.bodies = 0;
         Ok(())
     }
+
+    // Does one unit. Where memory runs out no unit is left.
+    fn try_unit<L: Ledger>(&mut self, steps: &mut Steps<L>) -> Result<Unit, AllocError>
+        requires { 0 < left_of self.old }
+        ensures falls { OnOk result (left_of self.new < left_of self.old) }
+        ensures last { IfOk result (λ u. MatchUnit u (left_of self.new ≡ 0) (0 < left_of self.new)) }
+        ensures counts { OnOk result (self.new.units ≡ self.old.units + 1) }
+        ensures ticks { OnOk result (steps.new + self.old.bodies ≡ steps.old + self.new.bodies) }
+        ensures onward { OnOk result (GoesOn self.old self.new) }
+        ensures stopped { OnErr result (BreaksOff self.old self.new) }
+        ensures rises { steps.old ≤ steps.new }
+    {
+        cursors_are_drawn();
+        self.fibers.place_facts();
+        let at = self.at;
+        let evaluated = bodies_next(&self.fibers, at);
+        self.at = At::Over;
+        let scene = Scene {
+            checked: &self.checked,
+            resources: &self.resources,
+            lanes: self.lanes,
+            cut: self.cut,
+        };
+        let next = advance(
+            self.alloc,
+            &mut self.fibers,
+            at,
+            &scene,
+            &mut self.hooks,
+            &mut self.contexts,
+            steps,
+        )?;
+        self.at = next;
+        self.units += 1;
+        self.bodies += evaluated;
+        Ok(unit_before(next))
+    }
+}
+
+/// A unit begins the place of a fiber or completes its node. Where memory runs out the render is given up.
+impl Units for Renderer {
+    ghost left = { left_of };
+
+    ghost done = { λ v. v.units };
+
+    ghost bodies = { λ v. v.bodies };
+
+    ghost goes_on = { GoesOn };
+
+    ghost gives_up = { GivesUp };
+
+    fn unit<L: Ledger>(&mut self, steps: &mut Steps<L>) -> Result<Unit, AllocError> {
+        match self.try_unit(steps) {
+            Ok(unit) => Ok(unit),
+            Err(error) => {
+                self.discard();
+                Err(error)
+            }
+        }
+    }
+
+    ghost starts = { goes_on_same };
+
+    ghost joins = { goes_on_join };
+
+    ghost breaks_off = { gives_up_after };
 }
