@@ -1,5 +1,5 @@
 -- Where a unit of each kind comes to.
-use Rattle.std.specs.Prelude.{◌≡◌, ℕ, zero, suc, ◌+◌, ◌<◌, ◌≤◌, Bool, true, false, List, [], ◌∷◌, filter, nat_eq, ℤ, Option, Some, None, Result, Ok, Err, IfOk, OnOk, refl}
+use Rattle.std.specs.Prelude.{◌≡◌, ℕ, zero, suc, ◌+◌, ◌<◌, ◌≤◌, Bool, true, false, List, [], ◌∷◌, filter, nat_eq, ℤ, Option, Some, None, Result, Ok, Err, IfOk, OnOk, OnErr, refl}
 use Rattle.std.specs.List.{range_with_len}
 use Rattle.std.proofs.Common.{sym, ap, ◌∙◌, subst, arith, add-one}
 use Rattle.rx_base.specs.Awaits.{Awaits, one, nothing, awaits_where}
@@ -98,7 +98,7 @@ module _ (s : Sight) (kept : ℕ → Option (List Hook)) (t : Trees Fiber) (st :
 -- hooks that give values are kept
 keeps_given : (s : Sight) (kept : ℕ → Option (List Hook)) (old : Option Instance) → GivesHooks s kept old → KeepsHooks kept old
 keeps_given s kept None gives n e = absurd (let f : ⊥ = cc in f)
-keeps_given s kept (Some i) gives n e = let g = gives i n refl e in rw g.kept_is tt
+keeps_given s kept (Some i) gives n e = let g = gives i n refl e in rw g.kept_is refl
 
 -- a place of which the next unit begins can be begun
 pub can_begin : (scene : Scene) (kept : ℕ → Option (List Hook)) (t : Trees Fiber) (st : Stack) (id : ℕ) → CanBegin scene kept t st id → IsAtPlace scene.checked.now kept t st id
@@ -132,7 +132,7 @@ end_ticks s t st id steps _ (to_end h) = omega arith
 pub no_component : (k : ElementKind) → ((a : ℕ) (b : Option ℤ) (xs : List ℤ) (es : _) → k ≡ kind.Comp a b xs es → ⊥) → 0 ≡ one_if_component (element_seen k)
 no_component kind.Null n = refl
 no_component (kind.Text t) n = refl
-no_component (kind.Host t k as es) n = refl
+no_component (kind.Host t k attrs es) n = refl
 no_component (kind.Comp a b xs es) n = absurd (n a b xs es refl)
 no_component (kind.List es) n = refl
 no_component (kind.Boundary k f es) n = refl
@@ -153,3 +153,7 @@ if_ok (Err e) f h = tt
 pub on_ok : {A E : Type 0} {P : Type 0} (r : Result A E) → P → OnOk r P
 on_ok (Ok a) h = h
 on_ok (Err e) h = tt
+
+pub on_err : {A E : Type 0} {P : Type 0} (r : Result A E) → P → OnErr r P
+on_err (Ok a) h = tt
+on_err (Err e) h = h

@@ -44,12 +44,12 @@ fn awaits_for(resource: u32) -> Awaits
 }
 
 // How many bodies the next unit evaluates.
-pub(crate) fn bodies_next(tree: &FiberTree<Fiber>, at: At) -> u64
-    requires { IsMadeAt tree.now.draft at }
-    ensures { result ≡ bodies_next tree.now.draft at }
+pub(crate) fn bodies_next(tree: &FiberTree<Fiber>, at: &At) -> u64
+    requires { IsMadeAt tree.now.draft at.now }
+    ensures { result ≡ bodies_next tree.now.draft at.now }
 {
     match at {
-        At::Begins(id) => match tree.value(id).element().kind() {
+        At::Begins(id) => match tree.value(*id).element().kind() {
             ElementKind::Comp(_, _, _, _) => 1,
             _ => 0,
         },

@@ -17,8 +17,8 @@ pub enum At {
 }
 
 // Whether more units follow the one that has come there.
-pub(crate) fn unit_before(at: At) -> Unit
-    ensures { result ≡ unit_before at }
+pub(crate) fn unit_before(at: &At) -> Unit
+    ensures { result ≡ unit_before at.now }
 {
     match at {
         At::Over => Unit::Last,

@@ -154,8 +154,8 @@ impl Renderer {
     {
         cursors_are_drawn();
         self.fibers.place_facts();
+        let evaluated = bodies_next(&self.fibers, &self.at);
         let at = self.at;
-        let evaluated = bodies_next(&self.fibers, at);
         self.at = At::Over;
         let scene = Scene {
             checked: &self.checked,
@@ -175,7 +175,7 @@ impl Renderer {
         self.at = next;
         self.units += 1;
         self.bodies += evaluated;
-        Ok(unit_before(next))
+        Ok(unit_before(&self.at))
     }
 }
 

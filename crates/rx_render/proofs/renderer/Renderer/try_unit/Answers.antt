@@ -1,5 +1,7 @@
 use Rattle.std.proofs.Common.{◌+◌, refl, ◌∙◌}
+use Rattle.rx_render.specs.declared.at.At.TheVariants.{Over}
 use Rattle.rx_render.specs.contracts.renderer.Renderer.{the_view}
+use Rattle.rx_render.proofs.Advancing.{on_err}
 use Rattle.rx_render.proofs.Going.{stepped, over_rendering, inside_made, inside_ready, units_fit, bodies_fit, breaks, steps_on, steps_to, falls, last, ticks}
 use Rattle.rx_render.proofs.renderer.Renderer.try_unit.Goals as goal
 
@@ -59,4 +61,7 @@ returns-clause-onward g c =
 
 pub returns-in_err-next-clause-stopped : goal.returns-in_err-next-clause-stopped
 returns-in_err-next-clause-stopped g c =
-    breaks c.args.self.now (the_view c.self.inside) c.self.view_is c.self.invariant c.requires _ refl c.in_err-next.ensures.current refl c.in_err-next.ensures.states
+    on_err c.from_residual.result
+    (breaks c.args.self.now (the_view c.self.inside) c.self.view_is c.self.invariant c.requires
+    (record (the_view c.self.inside) { trees = c.advance.new.tree; hooks = c.advance.new.hooks; contexts = c.advance.new.contexts; at = Over }) refl c.in_err-next.ensures.current refl
+    c.in_err-next.ensures.states)
