@@ -1,5 +1,5 @@
 mod Counting
-mod Distinct
+pub mod Distinct
 mod Finding
 mod Matches
 mod Moving

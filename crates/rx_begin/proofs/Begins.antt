@@ -1,0 +1,172 @@
+-- What is asked where a place begins, and what it leaves.
+use Rattle.std.specs.Prelude.{◌≡◌, ℕ, ℤ, suc, ◌+◌, ◌<◌, false, List, Option, Some, None, Result, Ok, Err, IfOk, OnOk, IfSome, IsSome, length, option_and_then, option_map}
+use Rattle.std.proofs.Common.{refl, sym, ap, ◌∙◌, subst, arith}
+use Rattle.rx_ast.specs.Syntax.{Program, Component}
+use Rattle.rx_ast.specs.Syntax as syntax
+use Rattle.rx_rules.specs.Names.{component_at, prop_names}
+use Rattle.rx_ctx.specs.Contexts.{Stack, values_at}
+use Rattle.rx_elem.specs.Elements.{Element, Elements, listed}
+use Rattle.rx_elem.specs.Elements as elements
+use Rattle.rx_elem.specs.Trees.{Node, host_number, instance_in}
+use Rattle.rx_hooks.specs.declared.hook.Hook.{Hook}
+use Rattle.rx_links.specs.Drafts.{Trees, Makes, old_of}
+use Rattle.rx_links.specs.Readers.{list_from, made_value_of, IsLinked}
+use Rattle.rx_meaning.specs.Body.{Body, wait, ready, body_of}
+use Rattle.rx_meaning.specs.Counts.{each_body, begins_as, one_if_component, next_counts}
+use Rattle.rx_meaning.specs.Cursor.{Frame, at_place, is_null}
+use Rattle.rx_meaning.specs.Fresh.{Sight, Contexts, Shape, absent, waiting, one_list, two_lists, shape_of, shape_of_body, shape_of_component, inputs_at, old_instance}
+use Rattle.rx_fiber.specs.Fibers.{Fiber}
+use Rattle.rx_fiber.specs.OldLists.{primary_list, matched}
+use Rattle.rx_fiber.specs.Reading.{IsOld}
+use Rattle.rx_fiber.specs.Standing.{StandsAt}
+use Rattle.draw_laws.specs.Drawn.{IsDrawn}
+use Rattle.rx_begin.specs.Nodes.{IsBareAt, HasOpened, mark_at, parts_in, begun_stage, begun_children, begun_stack, given_context}
+use Rattle.rx_begin.specs.Scenes.{GivesHooks, number_in}
+use Rattle.rx_begin.specs.Bodies.{HasShape}
+use Rattle.rx_begin.specs.Beginning.{IsAtPlace, stands, BeginsPlace}
+use Rattle.rx_begin.specs.declared.node.Begun.{Begun}
+use Rattle.rx_begin.proofs.Lists.{same_parts}
+use Rattle.rx_begin.proofs.Making.{KnowsPlaces}
+use Rattle.rx_begin.proofs.Nodes.{bare_made}
+use Rattle.rx_begin.proofs.Marks.{old_instance_is}
+use Rattle.rx_begin.proofs.Bodies.{kept_if}
+use Rattle.rx_begin.proofs.ByElement.{element_at, old_at, bare_at, other_begun, body_begun}
+
+pub on_ok : {A E : Type 0} (r : Result A E) (P Q : Type 0) → (P → Q) → OnOk r P → OnOk r Q
+on_ok (Ok a) P Q f h = f h
+on_ok (Err e) P Q f h = tt
+
+pub any_ok : {A E : Type 0} (r : Result A E) (P : Type 0) → P → OnOk r P
+any_ok (Ok a) P h = h
+any_ok (Err e) P h = tt
+
+pub if_ok_too : {A E : Type 0} (r : Result A E) (P Q : A → Type 0) (R : Type 0) → ((a : A) → P a → R → Q a) → IfOk r P → OnOk r R → IfOk r Q
+if_ok_too (Ok a) P Q R f h g = f a h g
+if_ok_too (Err e) P Q R f h g = tt
+
+-- What is asked
+
+pub place_bare : (p : Program) (kept : ℕ → Option (List Hook)) (t : Trees Fiber) (st : Stack) (q : ℕ) → IsAtPlace p kept t st q → IsBareAt t q
+place_bare p kept t st q (stands {n = n} {fs = fs} {cs = cs} {e = e} {old = old} at there drawn keeps) = bare_at t st q n fs cs e old at
+
+pub made_at : (p : Program) (kept : ℕ → Option (List Hook)) (t : Trees Fiber) (st : Stack) (q : ℕ) → KnowsPlaces t → IsAtPlace p kept t st q → Makes t.draft q
+made_at p kept t st q knows at = bare_made t q knows (place_bare p kept t st q at)
+
+context_given : (p : Program) (e : Element) (m : ℕ) → IsDrawn p e → m ≡ length (syntax.contexts p) → IfSome (given_context e) (λ c. c < m)
+context_given p elements.null m d f = tt
+context_given p (elements.text t) m d f = tt
+context_given p (elements.host n k attrs es) m d f = tt
+context_given p (elements.comp c k ps es) m d f = tt
+context_given p (elements.list es) m d f = tt
+context_given p (elements.boundary k g es) m d f = tt
+context_given p (elements.provider c k x es) m d f = subst (λ l. c < l) (sym f) d.0
+
+props_given : (p : Program) (e : Element) (c : ℕ) (props : List ℤ) (es : List Element) → IsDrawn p e → parts_in e ≡ Some (c, (props, es))
+    → option_map (λ d. length (prop_names d)) (component_at p c) ≡ Some (length props)
+props_given p elements.null c props es d f = cc
+props_given p (elements.text t) c props es d f = cc
+props_given p (elements.host n k attrs xs) c props es d f = cc
+props_given p (elements.list xs) c props es d f = cc
+props_given p (elements.boundary k g xs) c props es d f = cc
+props_given p (elements.provider b k x xs) c props es d f = cc
+props_given p (elements.comp b k ps kids) c props es d f =
+    let (q, r, l) = same_parts b c ps props (listed kids) es f in
+    subst (λ i. option_map (λ d. length (prop_names d)) (component_at p i) ≡ Some (length props)) q
+    (subst (λ l. option_map (λ d. length (prop_names d)) (component_at p b) ≡ Some (length l)) r d.0)
+
+module _ (p : Program) (kept : ℕ → Option (List Hook)) (t : Trees Fiber) (st : Stack) (q : ℕ) (knows : KnowsPlaces t) (at_it : IsAtPlace p kept t st q) where
+  pub place_kept : IfSome (number_in (option_and_then instance_in (mark_at t.current (old_of t.draft q)))) (λ n. IsSome (kept n))
+  place_kept = elim at_it [ stands {n = n} {fs = fs} {cs = cs} {e = e} {old = old} at there drawn keeps ↦
+      subst (λ i. IfSome (number_in i) (λ n. IsSome (kept n))) (sym (old_instance_is t.current (old_of t.draft q) old (old_at t st q n fs cs e old knows at))) (kept_if kept (old_instance old) keeps) ]
+
+  module _ (v : Fiber) (element : Element) (value : Some v ≡ made_value_of t.draft q) (is : element ≡ v.element) where
+    pub place_drawn : IsDrawn p element
+    place_drawn = elim at_it [ stands {n = n} {fs = fs} {cs = cs} {e = e} {old = old} at there drawn keeps ↦
+        subst (IsDrawn p) (sym (is ∙ element_at t st q n fs cs e old knows at v value)) drawn ]
+
+    pub place_there : is_null element ≡ false
+    place_there = elim at_it [ stands {n = n} {fs = fs} {cs = cs} {e = e} {old = old} at there drawn keeps ↦
+        subst (λ x. is_null x ≡ false) (sym (is ∙ element_at t st q n fs cs e old knows at v value)) there ]
+
+    pub place_context : length (values_at st) ≡ length (syntax.contexts p) → IfSome (given_context element) (λ c. c < length (values_at st))
+    place_context same = context_given p element (length (values_at st)) place_drawn same
+
+    pub place_props : (c : ℕ) (props : List ℤ) (es : List Element) → parts_in element ≡ Some (c, (props, es)) → option_map (λ d. length (prop_names d)) (component_at p c) ≡ Some (length props)
+    place_props c props es parts = props_given p element c props es place_drawn parts
+
+-- What it leaves
+
+module _ (s : Sight) (kept : ℕ → Option (List Hook)) (t : Trees Fiber) (st : Stack) (new : Trees Fiber) (st' : Stack) (p : ℕ) (linked : IsLinked t.current) (knows : KnowsPlaces t) (v : Fiber) (element : Element)
+    (value : Some v ≡ made_value_of t.draft p) (is : element ≡ v.element) (answer : Begun) where
+  pub begins_body : (c : ℕ) (props : List ℤ) (es : List Element) (here : Contexts) → parts_in element ≡ Some (c, (props, es)) → here ≡ values_at st → st' ≡ st
+      → ((old : Option Node) (kids : Elements) → IsOld t.current (old_of t.draft p) old → GivesHooks s kept (old_instance old) → listed kids ≡ es
+      → HasShape (shape_of_component s here c props kids old (component_at s.program c)) here old t new p answer) → BeginsPlace s kept t st new st' p answer
+  begins_body c props es here parts same stacks has n fs cs e old at gives =
+      let x : element ≡ e = is ∙ element_at t st p n fs cs e old knows at v value in
+      body_begun s t st new st' p n fs cs e old linked knows at answer c props es here (ap parts_in (sym x) ∙ parts) same
+      (λ kids f. has old kids (old_at t st p n fs cs e old knows at) gives f) stacks
+
+  pub begins_other : is_null element ≡ false → parts_in element ≡ None → st' ≡ begun_stack element st
+      → HasOpened t new p (begun_stage element (option_and_then host_number (mark_at t.current (old_of t.draft p)))) (begun_children element)
+      (matched (primary_list (list_from t.current (old_of t.draft p))) (begun_children element)) answer → BeginsPlace s kept t st new st' p answer
+  begins_other there none stacks done n fs cs e old at gives =
+      let x : element ≡ e = is ∙ element_at t st p n fs cs e old knows at v value in
+      let number : Option ℕ = option_and_then host_number (mark_at t.current (old_of t.draft p)) in
+      other_begun s t st new st' p n fs cs e old linked knows at answer number (old_of t.draft p) (ap is_null (sym x) ∙ there) (ap parts_in (sym x) ∙ none) refl refl
+      (subst (λ y. HasOpened t new p (begun_stage y number) (begun_children y) (matched (primary_list (list_from t.current (old_of t.draft p))) (begun_children y)) answer) x done)
+      (stacks ∙ ap (λ y. begun_stack y st) x)
+
+-- How many bodies are evaluated
+
+none_counted : (e : Element) (cs : Contexts) (old : Option Node) (sh : Shape) → one_if_component e ≡ 0 → begins_as each_body cs e old sh ≡ 0
+none_counted e cs old absent h = refl
+none_counted e cs old (waiting r) h = h
+none_counted e cs old (one_list m l) h = h
+none_counted e cs old (two_lists l f) h = h
+
+no_body : (e : Element) → parts_in e ≡ None → one_if_component e ≡ 0
+no_body elements.null h = refl
+no_body (elements.text t) h = refl
+no_body (elements.host n k attrs es) h = refl
+no_body (elements.comp c k ps es) h = cc
+no_body (elements.list es) h = refl
+no_body (elements.boundary k f es) h = refl
+no_body (elements.provider c k x es) h = refl
+
+body_counted : (e : Element) (cs : Contexts) (c : ℕ) (old : Option Node) (b : Body) → begins_as each_body cs e old (shape_of_body cs c old b) ≡ one_if_component e
+body_counted e cs c old (wait r) = refl
+body_counted e cs c old (ready es effects initials reads) = refl
+
+component_counted : (s : Sight) (e : Element) (cs : Contexts) (c : ℕ) (props : List ℤ) (kids : Elements) (old : Option Node) (o : Option Component) (m : ℕ)
+    → option_map (λ d. length (prop_names d)) o ≡ Some m → begins_as each_body cs e old (shape_of_component s cs c props kids old o) ≡ one_if_component e
+component_counted s e cs c props kids old None m h = cc
+component_counted s e cs c props kids old (Some d) m h = body_counted e cs c old (body_of s.program d (inputs_at s cs props kids (old_instance old)))
+
+one_counted : (s : Sight) (e : Element) (cs : Contexts) (old : Option Node) (c : ℕ) (props : List ℤ) (es : List Element) (m : ℕ) → parts_in e ≡ Some (c, (props, es))
+    → option_map (λ d. length (prop_names d)) (component_at s.program c) ≡ Some m → begins_as each_body cs e old (shape_of s cs e old) ≡ 1
+one_counted s elements.null cs old c props es m h f = cc
+one_counted s (elements.text t) cs old c props es m h f = cc
+one_counted s (elements.host n k attrs xs) cs old c props es m h f = cc
+one_counted s (elements.list xs) cs old c props es m h f = cc
+one_counted s (elements.boundary k g xs) cs old c props es m h f = cc
+one_counted s (elements.provider b k x xs) cs old c props es m h f = cc
+one_counted s (elements.comp b k ps kids) cs old c props es m h f =
+    let (q, r, l) = same_parts b c ps props (listed kids) es h in
+    component_counted s (elements.comp b k ps kids) cs b ps kids old (component_at s.program b) m (subst (λ i. option_map (λ d. length (prop_names d)) (component_at s.program i) ≡ Some m) (sym q) f)
+
+module _ (t : Trees Fiber) (st : Stack) (p : ℕ) (knows : KnowsPlaces t) (v : Fiber) (element : Element) (value : Some v ≡ made_value_of t.draft p) (is : element ≡ v.element)
+    (s : Sight) (n : ℕ) (fs : List Frame) (cs : Contexts) (e : Element) (old : Option Node) (at : StandsAt t st (Some p) (at_place (suc n) fs cs e old)) where
+  pub counts_none : (k l : ℕ) → parts_in element ≡ None → l ≡ k → l ≡ k + next_counts each_body s (at_place (suc n) fs cs e old)
+  counts_none k l none same =
+      let x : element ≡ e = is ∙ element_at t st p n fs cs e old knows at v value in
+      let z : begins_as each_body cs e old (shape_of s cs e old) ≡ 0 = none_counted e cs old (shape_of s cs e old) (no_body e (ap parts_in (sym x) ∙ none)) in
+      omega arith
+
+  pub counts_one : (checked : Program) (c : ℕ) (props : List ℤ) (es : List Element) (k l : ℕ) → s.program ≡ checked → parts_in element ≡ Some (c, (props, es))
+      → option_map (λ d. length (prop_names d)) (component_at checked c) ≡ Some (length props) → l ≡ k + 1 → l ≡ k + next_counts each_body s (at_place (suc n) fs cs e old)
+  counts_one checked c props es k l same parts given once =
+      let x : element ≡ e = is ∙ element_at t st p n fs cs e old knows at v value in
+      let z : begins_as each_body cs e old (shape_of s cs e old) ≡ 1 =
+      one_counted s e cs old c props es (length props) (ap parts_in (sym x) ∙ parts)
+      (subst (λ q. option_map (λ d. length (prop_names d)) (component_at q c) ≡ Some (length props)) (sym same) given) in
+      omega arith

@@ -1,0 +1,188 @@
+-- What a place leaves that is begun, by its element.
+use Rattle.std.specs.Prelude.{◌≡◌, ℕ, ℤ, suc, ◌+◌, false, true, List, [], ◌∷◌, Option, Some, None, Result, Ok, Err, IfOk, option_and_then, option_map, slice_set, length}
+use Rattle.std.proofs.Common.{refl, sym, ap, ◌∙◌, subst}
+use Rattle.rx_base.specs.Values.{Text, Name}
+use Rattle.rx_rules.specs.Names.{component_at}
+use Rattle.rx_ctx.specs.Contexts.{Stack, values_at}
+use Rattle.rx_ctx.specs.Contexts as contexts
+use Rattle.rx_elem.specs.declared.attr.Attr.{Attr}
+use Rattle.rx_elem.specs.Elements.{Element, Elements, Key, listed}
+use Rattle.rx_elem.specs.Elements as elements
+use Rattle.rx_elem.specs.Trees.{Node, Mark, of_host, plain, host_number, is_hidden, children_if, fallback_if}
+use Rattle.rx_elem.specs.Trees as trees
+use Rattle.rx_lists.specs.Shapes as shapes
+use Rattle.rx_links.specs.Drafts.{Draft, taken, made, Trees, Makes, old_of}
+use Rattle.rx_links.specs.Places.{Around, placed}
+use Rattle.rx_links.specs.Readers.{list_from, IsLinked, made_value_of, made_value_in}
+use Rattle.rx_meaning.specs.Fresh.{Sight, Contexts, Part, part, Shape, waiting, one_list, two_lists, shape_of, shape_of_component, old_host}
+use Rattle.rx_meaning.specs.Cursor.{Open, around, trying, Frame, at_place, is_null}
+use Rattle.rx_fiber.specs.Fibers.{Fiber, Stage, begun}
+use Rattle.rx_fiber.specs.Fibers as stage
+use Rattle.rx_fiber.specs.OldLists.{primary_list, matched}
+use Rattle.rx_fiber.specs.Reading.{IsOld}
+use Rattle.rx_fiber.specs.Surround.{fallback_in, is_boundary}
+use Rattle.rx_fiber.specs.Standing.{given_in, IsStack, opened, StandsAt, begins}
+use Rattle.rx_fiber.proofs.Stacking.{pushed, unchanged}
+use Rattle.rx_begin.specs.Nodes.{IsBareAt, HasOpened, mark_at, parts_in, begun_stage, begun_children, begun_stack}
+use Rattle.rx_begin.specs.Bodies.{IsOpened, HasShape, waits, opens}
+use Rattle.rx_begin.specs.Beginning.{HasBegun}
+use Rattle.rx_begin.specs.declared.node.Begun.{Begun}
+use Rattle.rx_begin.specs.declared.node.Begun.TheVariants.{Suspended}
+use Rattle.rx_begin.proofs.Lists.{same_parts}
+use Rattle.rx_begin.proofs.Making.{KnowsPlaces}
+use Rattle.rx_begin.proofs.Marks.{old_host_is}
+use Rattle.rx_begin.proofs.Opened.{begun_one, begun_trying, begun_waiting, of_old}
+
+pub if_ok : {A E : Type 0} (r : Result A E) (P Q : A → Type 0) → ((a : A) → P a → Q a) → IfOk r P → IfOk r Q
+if_ok (Ok a) P Q f h = f a h
+if_ok (Err e) P Q f h = tt
+
+module _ (t : Trees Fiber) (st : Stack) (p n : ℕ) (fs : List Frame) (cs : Contexts) (e : Element) (old : Option Node) where
+  -- the fiber's element is the one of the place
+  pub element_at : KnowsPlaces t → StandsAt t st (Some p) (at_place (suc n) fs cs e old) → (v : Fiber) → Some v ≡ made_value_of t.draft p → v.element ≡ e
+  element_at knows (begins {v = v} {o = o} {rs = rs} {k = k} here is was surrounds values stack) w f =
+      let l : made_value_of t.draft p ≡ Some v = ap made_value_in (knows k p v o (taken shapes.none) rs here).list in
+      let same : w ≡ v = cc in
+      ap (λ u. u.element) same ∙ is.element
+
+  pub old_at : KnowsPlaces t → StandsAt t st (Some p) (at_place (suc n) fs cs e old) → IsOld t.current (old_of t.draft p) old
+  old_at knows (begins {v = v} {o = o} {rs = rs} {k = k} here is was surrounds values stack) =
+      subst (λ q. IsOld t.current q old) (sym (knows k p v o (taken shapes.none) rs here).old) was
+
+  pub values_here : StandsAt t st (Some p) (at_place (suc n) fs cs e old) → values_at st ≡ cs
+  values_here (begins here is was surrounds values stack) = values
+
+  pub bare_at : StandsAt t st (Some p) (at_place (suc n) fs cs e old) → IsBareAt t p
+  bare_at (begins {v = v} {o = o} {rs = rs} {k = k} here is was surrounds values stack) = record { around = k; value = v; old = o; rest = rs; here = here }
+
+-- a node that gives nothing leaves the stack as it is
+around_stack : (st st' : Stack) (x : Open) (xs : List (Open × Contexts)) (e : Element) (m : Mark) (cs : Contexts) → given_in e ≡ None → st' ≡ st → values_at st ≡ cs → IsStack st xs
+    → IsStack st' ((around e m, cs) ∷ xs)
+around_stack st st' x xs e m cs given same values stack =
+    subst (λ q. IsStack q ((around e m, cs) ∷ xs)) (sym same) (subst (λ l. IsStack st ((around e m, l) ∷ xs)) values (unchanged st (around e m) xs given stack))
+
+module _ (s : Sight) (t : Trees Fiber) (st : Stack) (new : Trees Fiber) (st' : Stack) (p n : ℕ) (fs : List Frame) (cs : Contexts) (e : Element) (old : Option Node)
+    (linked : IsLinked t.current) (knows : KnowsPlaces t) (at : StandsAt t st (Some p) (at_place (suc n) fs cs e old)) (answer : Begun) where
+  abbrev Opens : Stage → List Element → Type 0
+  Opens m es = HasOpened t new p m es (matched (primary_list (list_from t.current (old_of t.draft p))) es) answer
+
+  again : (m l : Stage) (es xs : List Element) → m ≡ l → es ≡ xs → Opens m es → Opens l xs
+  again m l es xs f g h = subst (λ q. Opens q xs) f (subst (λ ys. Opens m ys) g h)
+
+  -- a node with one list that gives nothing
+  plain_begun : (m : Mark) (l : Stage) (es : List Element) (list : Part) → shape_of s cs e old ≡ one_list m list → given_in e ≡ None → list.contexts ≡ cs → list.old ≡ children_if old
+      → is_hidden m ≡ false → l ≡ begun m → es ≡ list.elements → Opens l es → st' ≡ st → HasBegun s t st new st' p n fs cs e old answer
+  plain_begun m l es list shape given same was shown stage_is elements_are done stacks =
+      begun_one s t st new st' p n fs cs e old linked knows answer m list (again l (begun m) es list.elements stage_is elements_are done) at shape shown
+      (of_old s t st new st' p n fs cs e old linked knows list was)
+      (λ values stack. subst (λ c. IsStack st' ((around e m, c) ∷ opened fs)) (sym same) (around_stack st st' (around e m) (opened fs) e m cs given stacks values stack))
+
+  host_mark : (number : Option ℕ) (o : Option ℕ) → number ≡ option_and_then host_number (mark_at t.current o) → o ≡ old_of t.draft p → begun (of_host number) ≡ begun (of_host (old_host old))
+  host_mark number o f g =
+      ap (λ m. begun (of_host m)) (f ∙ (ap (λ q. option_and_then host_number (mark_at t.current q)) g ∙ old_host_is t.current (old_of t.draft p) old (old_at t st p n fs cs e old knows at)))
+
+  -- a text has no children
+  pub text_begun : (x : Text) (number o : Option ℕ) → elements.text x ≡ e → number ≡ option_and_then host_number (mark_at t.current o) → o ≡ old_of t.draft p → Opens (begun (of_host number)) []
+      → st' ≡ st → HasBegun s t st new st' p n fs cs e old answer
+  text_begun x number o is f g done stacks =
+      begun_one s t st new st' p n fs cs e old linked knows answer (of_host (old_host old)) (part cs [] trees.none)
+      (again (begun (of_host number)) (begun (of_host (old_host old))) [] [] (host_mark number o f g) refl done) at (shape is) refl (λ q was. tt)
+      (λ values stack. around_stack st st' (around e (of_host (old_host old))) (opened fs) e (of_host (old_host old)) cs (given is) stacks values stack)
+    where
+      shape : elements.text x ≡ e → shape_of s cs e old ≡ one_list (of_host (old_host old)) (part cs [] trees.none)
+      shape f = subst (λ y. shape_of s cs y old ≡ one_list (of_host (old_host old)) (part cs [] trees.none)) f refl
+
+      given : elements.text x ≡ e → given_in e ≡ None
+      given f = subst (λ y. given_in y ≡ None) f refl
+
+  pub host_begun : (name : Name) (key : Key) (attrs : List Attr) (es : Elements) (number o : Option ℕ) → elements.host name key attrs es ≡ e
+      → number ≡ option_and_then host_number (mark_at t.current o) → o ≡ old_of t.draft p → Opens (begun (of_host number)) (listed es) → st' ≡ st → HasBegun s t st new st' p n fs cs e old answer
+  host_begun name key attrs es number o is f g done stacks =
+      plain_begun (of_host (old_host old)) (begun (of_host number)) (listed es) (part cs (listed es) (children_if old))
+      (subst (λ y. shape_of s cs y old ≡ one_list (of_host (old_host old)) (part cs (listed es) (children_if old))) is refl)
+      (subst (λ y. given_in y ≡ None) is refl) refl refl refl (host_mark number o f g) refl done stacks
+
+  pub list_begun : (es : Elements) → elements.list es ≡ e → Opens (begun plain) (listed es) → st' ≡ st → HasBegun s t st new st' p n fs cs e old answer
+  list_begun es is done stacks =
+      plain_begun plain (begun plain) (listed es) (part cs (listed es) (children_if old))
+      (subst (λ y. shape_of s cs y old ≡ one_list plain (part cs (listed es) (children_if old))) is refl)
+      (subst (λ y. given_in y ≡ None) is refl) refl refl refl refl refl done stacks
+
+  pub provider_begun : (c : ℕ) (key : Key) (x : ℤ) (es : Elements) → elements.provider c key x es ≡ e → Opens (begun plain) (listed es) → st' ≡ contexts.below c x st
+      → HasBegun s t st new st' p n fs cs e old answer
+  provider_begun c key x es is done stacks =
+      let list : Part = part (slice_set cs c x) (listed es) (children_if old) in
+      begun_one s t st new st' p n fs cs e old linked knows answer plain list (again (begun plain) (begun plain) (listed es) (listed es) refl refl done) at
+      (subst (λ y. shape_of s cs y old ≡ one_list plain list) is refl) refl (of_old s t st new st' p n fs cs e old linked knows list refl)
+      (λ values stack.
+      subst (λ q. IsStack q ((around e plain, slice_set cs c x) ∷ opened fs)) (sym stacks)
+      (subst (λ l. IsStack (contexts.below c x st) ((around e plain, slice_set l c x) ∷ opened fs)) values
+      (pushed st (around e plain) (opened fs) c x (subst (λ y. given_in y ≡ Some (c, x)) is refl) stack)))
+
+  pub boundary_begun : (key : Key) (f : Element) (es : Elements) → elements.boundary key f es ≡ e → Opens stage.trying (listed es) → st' ≡ st → HasBegun s t st new st' p n fs cs e old answer
+  boundary_begun key f es is done stacks =
+      begun_trying s t st new st' p n fs cs e old linked knows answer (listed es) (again stage.trying stage.trying (listed es) (listed es) refl refl done) at
+      (subst (λ y. is_boundary y ≡ true) is refl)
+      (subst (λ y. shape_of s cs y old ≡ two_lists (part cs (listed es) (children_if old)) (part cs (fallback_in y ∷ []) (fallback_if old))) is refl)
+      (λ values stack.
+      let x : Open = trying e old (part cs (fallback_in e ∷ []) (fallback_if old)) in
+      subst (λ q. IsStack q ((x, cs) ∷ opened fs)) (sym stacks)
+      (subst (λ l. IsStack st ((x, l) ∷ opened fs)) values (unchanged st x (opened fs) (subst (λ y. given_in y ≡ None) is refl) stack)))
+
+  pub comp_begun : (c : ℕ) (key : Key) (props : List ℤ) (kids : Elements) (contexts_here : Contexts) → elements.comp c key props kids ≡ e → contexts_here ≡ values_at st
+      → HasShape (shape_of_component s contexts_here c props kids old (component_at s.program c)) contexts_here old t new p answer → st' ≡ st → HasBegun s t st new st' p n fs cs e old answer
+  comp_begun c key props kids here is same has stacks = by_shape (subst (λ l. HasShape (shape_of_component s l c props kids old (component_at s.program c)) l old t new p answer) (same ∙ values_here t st p n fs cs e old at) has)
+    where
+      shape_is : shape_of s cs e old ≡ shape_of_component s cs c props kids old (component_at s.program c)
+      shape_is = subst (λ y. shape_of s cs y old ≡ shape_of_component s cs c props kids old (component_at s.program c)) is refl
+
+      by_shape : HasShape (shape_of_component s cs c props kids old (component_at s.program c)) cs old t new p answer → HasBegun s t st new st' p n fs cs e old answer
+      by_shape (waits r shape trees_same answer_is) =
+          subst (λ a. HasBegun s t st new st' p n fs cs e old a) (sym answer_is) (begun_waiting s t st new st' p n fs cs e old r at (shape_is ∙ shape) trees_same stacks)
+      by_shape (opens o) =
+          plain_begun o.mark (begun o.mark) o.list.elements o.list (shape_is ∙ o.shape_is) (subst (λ y. given_in y ≡ None) is refl) o.contexts o.was o.shown refl refl o.opened stacks
+
+  -- a place of no component
+  pub other_begun : (number o : Option ℕ) → is_null e ≡ false → parts_in e ≡ None → number ≡ option_and_then host_number (mark_at t.current o) → o ≡ old_of t.draft p
+      → Opens (begun_stage e number) (begun_children e) → st' ≡ begun_stack e st → HasBegun s t st new st' p n fs cs e old answer
+  other_begun number o there none f g done stacks = by_element e refl
+    where
+      by_element : (x : Element) → x ≡ e → HasBegun s t st new st' p n fs cs e old answer
+      by_element elements.null h = absurd (let q : is_null elements.null ≡ false = ap is_null h ∙ there in let r : ⊥ = cc in r)
+      by_element (elements.text y) h =
+          text_begun y number o h f g (again (begun_stage e number) (begun (of_host number)) (begun_children e) [] (ap (λ z. begun_stage z number) (sym h)) (ap begun_children (sym h)) done)
+          (stacks ∙ ap (λ z. begun_stack z st) (sym h))
+      by_element (elements.host name key attrs es) h =
+          host_begun name key attrs es number o h f g
+          (again (begun_stage e number) (begun (of_host number)) (begun_children e) (listed es) (ap (λ z. begun_stage z number) (sym h)) (ap begun_children (sym h)) done)
+          (stacks ∙ ap (λ z. begun_stack z st) (sym h))
+      by_element (elements.comp c key props kids) h = absurd (let q : parts_in (elements.comp c key props kids) ≡ None = ap parts_in h ∙ none in let r : ⊥ = cc in r)
+      by_element (elements.list es) h =
+          list_begun es h (again (begun_stage e number) (begun plain) (begun_children e) (listed es) (ap (λ z. begun_stage z number) (sym h)) (ap begun_children (sym h)) done)
+          (stacks ∙ ap (λ z. begun_stack z st) (sym h))
+      by_element (elements.boundary key fallback es) h =
+          boundary_begun key fallback es h (again (begun_stage e number) stage.trying (begun_children e) (listed es) (ap (λ z. begun_stage z number) (sym h)) (ap begun_children (sym h)) done)
+          (stacks ∙ ap (λ z. begun_stack z st) (sym h))
+      by_element (elements.provider c key x es) h =
+          provider_begun c key x es h (again (begun_stage e number) (begun plain) (begun_children e) (listed es) (ap (λ z. begun_stage z number) (sym h)) (ap begun_children (sym h)) done)
+          (stacks ∙ ap (λ z. begun_stack z st) (sym h))
+
+  -- a component's place
+  pub body_begun : (c : ℕ) (props : List ℤ) (es : List Element) (here : Contexts) → parts_in e ≡ Some (c, (props, es)) → here ≡ values_at st
+      → ((kids : Elements) → listed kids ≡ es → HasShape (shape_of_component s here c props kids old (component_at s.program c)) here old t new p answer) → st' ≡ st
+      → HasBegun s t st new st' p n fs cs e old answer
+  body_begun c props es here parts same has stacks = by_element e refl
+    where
+      none_here : (x : Element) → x ≡ e → parts_in x ≡ None → HasBegun s t st new st' p n fs cs e old answer
+      none_here x h none = absurd (let q : parts_in x ≡ Some (c, (props, es)) = ap parts_in h ∙ parts in let r : ⊥ = cc in r)
+
+      by_element : (x : Element) → x ≡ e → HasBegun s t st new st' p n fs cs e old answer
+      by_element elements.null h = none_here elements.null h refl
+      by_element (elements.text y) h = none_here (elements.text y) h refl
+      by_element (elements.host name key attrs kids) h = none_here (elements.host name key attrs kids) h refl
+      by_element (elements.list kids) h = none_here (elements.list kids) h refl
+      by_element (elements.boundary key fallback kids) h = none_here (elements.boundary key fallback kids) h refl
+      by_element (elements.provider d key x kids) h = none_here (elements.provider d key x kids) h refl
+      by_element (elements.comp d key others kids) h =
+          let (q0, q1, q2) = same_parts d c others props (listed kids) es (ap parts_in h ∙ parts) in
+          comp_begun c key props kids here (subst (λ i. elements.comp i key props kids ≡ e) q0 (subst (λ ps. elements.comp d key ps kids ≡ e) q1 h)) same (has kids q2) stacks

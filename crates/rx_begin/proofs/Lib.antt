@@ -1,0 +1,9 @@
+pub mod Lists
+pub mod Making
+pub mod Matched
+pub mod Nodes
+pub mod Marks
+pub mod Opened
+pub mod ByElement
+pub mod Bodies
+pub mod Begins

@@ -1,0 +1,147 @@
+-- What a node leaves that is begun over its children.
+use Rattle.std.specs.Prelude.{◌≡◌, ℕ, suc, cond, true, false, List, [], ◌∷◌, ◌++◌, Option, Some, None}
+use Rattle.std.specs.List.{zip}
+use Rattle.std.proofs.Common.{refl, sym, ap, ◌∙◌, subst}
+use Rattle.rx_base.specs.Awaits.{one}
+use Rattle.rx_ctx.specs.Contexts.{Stack, values_at}
+use Rattle.rx_elem.specs.Elements.{Element}
+use Rattle.rx_elem.specs.Trees.{Node, Mark, is_hidden, children_if, fallback_if}
+use Rattle.rx_elem.specs.Compare.{old_nodes}
+use Rattle.rx_lists.specs.Shapes.{Shape}
+use Rattle.rx_lists.specs.Shapes as shapes
+use Rattle.rx_links.specs.Drafts.{Draft, taken, made, Trees, old_of}
+use Rattle.rx_links.specs.Places.{Around, placed}
+use Rattle.rx_links.specs.Readers.{list_from, IsLinked}
+use Rattle.rx_meaning.specs.Fresh.{Sight, Contexts, Part, part, one_list, two_lists, waiting, shape_of}
+use Rattle.rx_meaning.specs.Fresh as fresh
+use Rattle.rx_meaning.specs.Cursor.{Open, around, trying, Frame, Cursor, at_place, at_end, ended, come_to, open_part, unwind, unit}
+use Rattle.rx_meaning.specs.Cursor as cursor
+use Rattle.rx_meaning.specs.Touched.{children_with_old}
+use Rattle.rx_fiber.specs.Fibers.{Fiber, begun}
+use Rattle.rx_fiber.specs.Fibers as stage
+use Rattle.rx_fiber.specs.OldLists.{primary_list, matched}
+use Rattle.rx_fiber.specs.Reading.{IsOld}
+use Rattle.rx_fiber.specs.Surround.{AreNext, IsAround, fallback_in, is_boundary}
+use Rattle.rx_fiber.specs.Surround as surround
+use Rattle.rx_fiber.specs.Standing.{IsStack, opened, StandsAt, begins}
+use Rattle.rx_fiber.specs.Unwound.{IsWithin}
+use Rattle.rx_fiber.proofs.Coming.{come_at}
+use Rattle.rx_fiber.proofs.OldLists.{primary_is}
+use Rattle.rx_fiber.proofs.Matching.{AreOld, matched_old}
+use Rattle.rx_fiber.proofs.Opening.{opens_one, tries_children}
+use Rattle.rx_fiber.proofs.Unwinding.{place_within}
+use Rattle.rx_begin.specs.Children.{AreMade, no_more, gap, next}
+use Rattle.rx_begin.specs.Nodes.{begun_over, HasOpened}
+use Rattle.rx_begin.specs.Beginning.{IsPlace, IsEnd, HasBegun}
+use Rattle.rx_begin.specs.declared.node.Begun.{Begun}
+use Rattle.rx_begin.specs.declared.node.Begun.TheVariants.{Child, Leaf, Suspended}
+use Rattle.rx_begin.proofs.Making.{KnowsPlaces}
+
+-- the children that are made are those that begin next
+pub nexts : (c : Shape Fiber) (n : ℕ) (es : List Element) (os : List (Option ℕ)) (xs : List (Option Node)) (d : Draft Fiber) → AreMade n es os d → AreOld c os xs → AreNext c n (zip es xs) d
+nexts c n [] [] [] _ no_more olds = surround.no_more
+nexts c n [] [] (x ∷ xs) _ no_more olds = absurd olds
+nexts c n [] (o ∷ os) xs d are olds = elim are [ ]
+nexts c n (e ∷ es) [] xs d are olds = elim are [ ]
+nexts c n (e ∷ es) (o ∷ os) [] d are olds = absurd olds
+nexts c n (e ∷ es) (o ∷ os) (x ∷ xs) d (gap null more) olds = surround.gap null (nexts c (suc n) es os xs d more olds.1)
+nexts c n (e ∷ es) (o ∷ os) (x ∷ xs) (made _ _ _ _ d) (next there waits more) olds = surround.next there waits olds.0 (nexts c (suc n) es os xs d more olds.1)
+
+-- the cursor is of the form that the answer says
+abbrev pub Leads : Begun → Cursor → Type 0
+Leads (Child id) c = IsPlace c
+Leads Leaf c = IsEnd c
+Leads (Suspended r) c = ⊥
+
+pub leads : (c : Shape Fiber) (n levels : ℕ) (fs : List Frame) (x : Open) (cs : Contexts) (done : List (Option Node)) (xs : List (Element × Option Node)) (d : Draft Fiber)
+    → AreNext c n xs d → Leads (begun_over d) (come_to levels fs x cs done xs)
+leads c n levels fs x cs done [] _ surround.no_more = tt
+leads c n levels fs x cs done (y ∷ ys) d (surround.gap null more) =
+    subst (λ b. Leads (begun_over d) (cond b (come_to levels fs x cs (done ++ None ∷ []) ys) (at_place levels ((record { node = x; contexts = cs; done = done; rest = ys }) ∷ fs) cs y.0 y.1)))
+    (sym null) (leads c (suc n) levels fs x cs (done ++ None ∷ []) ys d more)
+leads c n levels fs x cs done (y ∷ ys) (made id _ _ _ _) (surround.next there waits old more) =
+    subst (λ b. Leads (Child id) (cond b (come_to levels fs x cs (done ++ None ∷ []) ys) (at_place levels ((record { node = x; contexts = cs; done = done; rest = ys }) ∷ fs) cs y.0 y.1)))
+    (sym there) tt
+
+module _ (s : Sight) (t : Trees Fiber) (st : Stack) (new : Trees Fiber) (st' : Stack) (p n : ℕ) (fs : List Frame) (cs : Contexts) (e : Element) (old : Option Node) where
+  pub unit_begins : unit s (at_place (suc n) fs cs e old) ≡ cursor.begin n fs e old (shape_of s cs e old)
+  unfolding unit
+  unit_begins = refl
+
+  has_begun : (answer : Begun) (d : Draft Fiber) → answer ≡ begun_over d → StandsAt new st' (Some (come_at d p)) (unit s (at_place (suc n) fs cs e old))
+      → Leads (begun_over d) (unit s (at_place (suc n) fs cs e old)) → HasBegun s t st new st' p n fs cs e old answer
+  has_begun answer (taken l) is at form = subst (λ a. HasBegun s t st new st' p n fs cs e old a) (sym is) (at, form)
+  has_begun answer (made id v o ks rs) is at form = subst (λ a. HasBegun s t st new st' p n fs cs e old a) (sym is) (at, form)
+
+  -- a node comes to its list
+  comes_to : (answer : Begun) (x : Open) (list : Part) (d : Draft Fiber) → answer ≡ begun_over d → cursor.begin n fs e old (shape_of s cs e old) ≡ open_part n fs x list
+      → StandsAt new st' (Some (come_at d p)) (open_part n fs x list) → AreNext new.current 0 (children_with_old list) d → HasBegun s t st new st' p n fs cs e old answer
+  comes_to answer x list d is same at kids =
+      let u : unit s (at_place (suc n) fs cs e old) ≡ open_part n fs x list = unit_begins ∙ same in
+      has_begun answer d is (subst (λ c. StandsAt new st' (Some (come_at d p)) c) (sym u) at)
+      (subst (λ c. Leads (begun_over d) c) (sym u) (leads new.current 0 n fs x list.contexts [] (children_with_old list) d kids))
+
+  module _ (linked : IsLinked t.current) (knows : KnowsPlaces t) where
+    -- the old fibers of its children are those of their old nodes
+    olds_of : (o : Option ℕ) (es : List Element) → IsOld t.current o old → AreOld t.current (matched (primary_list (list_from t.current o)) es) (old_nodes (children_if old) es)
+    olds_of o es was = matched_old t.current linked (children_if old) (primary_list (list_from t.current o)) (primary_is t.current linked o old was) es
+
+    abbrev OldsOf : Part → Type 0
+    OldsOf list =
+        (o : Option ℕ) → IsOld t.current o old → AreOld t.current (matched (primary_list (list_from t.current o)) list.elements) (old_nodes list.old list.elements)
+
+    pub of_old : (list : Part) → list.old ≡ children_if old → OldsOf list
+    of_old list same o was = subst (λ l. AreOld t.current (matched (primary_list (list_from t.current o)) list.elements) (old_nodes l list.elements)) (sym same) (olds_of o list.elements was)
+
+    old_is : (k : Around Fiber) (v : Fiber) (o : Option ℕ) (rs : Draft Fiber) → t.draft ≡ placed k (made p v o (taken shapes.none) rs) → old_of t.draft p ≡ o
+    old_is k v o rs here = (knows k p v o (taken shapes.none) rs here).old
+
+    kids_next : (list : Part) (os : List (Option ℕ)) (d : Draft Fiber) → new.current ≡ t.current → AreMade 0 list.elements os d
+        → AreOld t.current os (old_nodes list.old list.elements) → AreNext new.current 0 (children_with_old list) d
+    kids_next list os d same are olds =
+        subst (λ c. AreNext c 0 (children_with_old list) d) (sym same) (nexts t.current 0 list.elements os (old_nodes list.old list.elements) d are olds)
+
+    -- a node with one list
+    pub begun_one : (answer : Begun) (m : Mark) (list : Part)
+        → HasOpened t new p (begun m) list.elements (matched (primary_list (list_from t.current (old_of t.draft p))) list.elements) answer
+        → StandsAt t st (Some p) (at_place (suc n) fs cs e old) → shape_of s cs e old ≡ one_list m list → is_hidden m ≡ false → OldsOf list
+        → (values_at st ≡ cs → IsStack st (opened fs) → IsStack st' ((around e m, list.contexts) ∷ opened fs)) → HasBegun s t st new st' p n fs cs e old answer
+    begun_one answer m list done (begins {v = v} {o = o} {rs = rs} {k = k} here is was surrounds values stack) shape shown olds stacks =
+        let old_same = old_is k v o rs here in
+        let kids = kids_next list (matched (primary_list (list_from t.current (old_of t.draft p))) list.elements) done.kids done.current done.are
+        (subst (λ q. AreOld t.current (matched (primary_list (list_from t.current q)) list.elements) (old_nodes list.old list.elements)) (sym old_same) (olds o was)) in
+        let surrounds' : IsAround new.current k v.place rs fs =
+        subst (λ c. IsAround c k v.place rs fs) (sym done.current) (subst (λ place. IsAround t.current k place rs fs) (sym is.at) surrounds) in
+        comes_to answer (around e m) list done.kids done.answer_is (ap (cursor.begin n fs e old) shape)
+        (opens_one new st' k p n (record v { stage = begun m }) o done.kids rs fs e m list (done.stands k v o rs here) is.element refl shown kids surrounds' (stacks values stack))
+        kids
+
+    -- a boundary
+    pub begun_trying : (answer : Begun) (es : List Element)
+        → HasOpened t new p stage.trying es (matched (primary_list (list_from t.current (old_of t.draft p))) es) answer
+        → StandsAt t st (Some p) (at_place (suc n) fs cs e old) → is_boundary e ≡ true
+        → shape_of s cs e old ≡ two_lists (part cs es (children_if old)) (part cs (fallback_in e ∷ []) (fallback_if old))
+        → (values_at st ≡ cs → IsStack st (opened fs) → IsStack st' ((trying e old (part cs (fallback_in e ∷ []) (fallback_if old)), cs) ∷ opened fs))
+        → HasBegun s t st new st' p n fs cs e old answer
+    begun_trying answer es done (begins {v = v} {o = o} {rs = rs} {k = k} here is was surrounds values stack) boundary shape stacks =
+        let list : Part = part cs es (children_if old) in
+        let old_same = old_is k v o rs here in
+        let kids = kids_next list (matched (primary_list (list_from t.current (old_of t.draft p))) es) done.kids done.current done.are
+        (subst (λ q. AreOld t.current (matched (primary_list (list_from t.current q)) es) (old_nodes (children_if old) es)) (sym old_same) (olds_of o es was)) in
+        let surrounds' : IsAround new.current k v.place rs fs =
+        subst (λ c. IsAround c k v.place rs fs) (sym done.current) (subst (λ place. IsAround t.current k place rs fs) (sym is.at) surrounds) in
+        let was' : IsOld new.current o old = subst (λ c. IsOld c o old) (sym done.current) was in
+        comes_to answer (trying e old (part cs (fallback_in e ∷ []) (fallback_if old))) list done.kids done.answer_is (ap (cursor.begin n fs e old) shape)
+        (tries_children new st' k p n (record v { stage = stage.trying }) o done.kids rs fs e old cs es (done.stands k v o rs here) is.element refl boundary was' kids surrounds' (stacks values stack))
+        kids
+
+  -- a body that waits
+  pub begun_waiting : (r : ℕ) → StandsAt t st (Some p) (at_place (suc n) fs cs e old) → shape_of s cs e old ≡ waiting r → new ≡ t → st' ≡ st
+      → HasBegun s t st new st' p n fs cs e old (Suspended r)
+  begun_waiting r at shape same_trees same_stack = (
+    shape,
+    unit_begins ∙ ap (cursor.begin n fs e old) shape,
+    same_trees,
+    same_stack,
+    subst (λ x. IsWithin x st' p fs) (sym same_trees) (subst (λ x. IsWithin t x p fs) (sym same_stack) (place_within t st p (suc n) fs cs e old at)),
+  )

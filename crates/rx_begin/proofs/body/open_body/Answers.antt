@@ -1,0 +1,8 @@
+use Rattle.std.proofs.Common.{ap, refl}
+use Rattle.rx_meaning.specs.Fresh.{shape_of_body}
+use Rattle.rx_eval.specs.Given.{body_seen}
+use Rattle.rx_begin.specs.Bodies.{waits}
+use Rattle.rx_begin.proofs.body.open_body.Goals as goal
+
+pub returns-in-Wait-clause-opened : goal.returns-in-Wait-clause-opened
+returns-in-Wait-clause-opened c cs node same = waits c.in-Wait.resource (ap (λ b. shape_of_body cs c.args.component node (body_seen b)) c.in-Wait.is) refl refl

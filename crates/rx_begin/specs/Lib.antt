@@ -1,0 +1,6 @@
+pub mod Children
+pub mod Nodes
+pub mod PartsView
+pub mod Scenes
+pub mod Bodies
+pub mod Beginning

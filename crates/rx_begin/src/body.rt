@@ -1,0 +1,216 @@
+// A component's place begins with its body.
+ghost use Rattle.std.specs.Prelude.{◌≡◌, ◌+◌, ℕ, ℤ, List, Option, Some, length, IfOk, IfSome, OnOk, IsSome, option_map, option_and_then};
+ghost use Rattle.std.specs.Option.{option_copied};
+ghost use Rattle.rx_ast.specs.Syntax.{Program};
+ghost use Rattle.rx_rules.specs.Names.{component_at, prop_names};
+ghost use Rattle.rx_ctx.specs.Contexts.{values_at};
+ghost use Rattle.rx_elem.specs.Elements.{Elements, listed};
+ghost use Rattle.rx_elem.specs.Trees as trees;
+ghost use Rattle.rx_elem.specs.Trees.{Node, instance_in};
+ghost use Rattle.rx_links.specs.Drafts.{old_of};
+ghost use Rattle.rx_meaning.specs.Body.{body_of};
+ghost use Rattle.rx_meaning.specs.Fresh.{Sight, Contexts, values_of, instance_after, inputs_at, old_instance, shape_of_body, shape_of_component};
+ghost use Rattle.rx_meaning.specs.Settled.{DoneBefore};
+ghost use Rattle.rx_model.specs.State.{State};
+ghost use Rattle.rx_model.specs.HooksOf.{KeepsAllHooks};
+ghost use Rattle.rx_eval.specs.Given.{body_seen};
+ghost use Rattle.rx_node.specs.MarkView.{instance_seen};
+ghost use Rattle.rx_fiber.specs.Reading.{IsOld};
+ghost use Rattle.rx_hook_store.specs.Store.{kept_hooks};
+ghost use Rattle.rx_hook_store.specs.Gives.{GivesValues};
+ghost use Rattle.rx_begin.specs.Nodes.{IsBareAt, mark_at};
+ghost use Rattle.rx_begin.specs.Scenes.{IsSceneOf, GivesHooks, number_in};
+ghost use Rattle.rx_begin.specs.Bodies.{HasShape};
+
+use crate::node::{Begun, old_instance, open_node};
+use crate::scene::Scene;
+use rx_base::{Int, Ints, Steps};
+use rx_elem::{ContextRead, EffectRecord, Element};
+use rx_eval::{Body, Evaluator, Inputs, eval_body};
+use rx_fiber::{Fiber, Stage};
+use rx_hook_store::HookStore;
+use rx_links::{FiberId, FiberTree};
+use rx_node::{Instance, Mark};
+use std::alloc::{AllocError, Global};
+use std::rc::Rc;
+use std::sync::ledger::Ledger;
+
+// The values of the hooks of an instance, if it has a number.
+fn values_of(
+    alloc: Global,
+    scene: &Scene,
+    number: Option<u64>,
+    hooks: &mut HookStore,
+) -> Result<Option<Ints>, AllocError>
+    requires { IfSome number (λ n. IsSome (kept_hooks hooks.old n)) }
+    ensures values { IfOk result (λ v. (s : Sight) (old : Option trees.Instance) → IsSceneOf scene.now s → number_in old ≡ number → GivesHooks s (kept_hooks hooks.old) old → v ≡ option_and_then (values_of s) old) }
+    ensures still { (s : Sight) (k : ℕ) (initials : List ℤ) → IsSceneOf scene.now s → GivesValues s (kept_hooks hooks.old) k initials → GivesValues s (kept_hooks hooks.new) k initials }
+    ensures states { (st : State) → DoneBefore scene.now.cut st.journal.updates → KeepsAllHooks scene.now.checked.now st (kept_hooks hooks.old) → KeepsAllHooks scene.now.checked.now st (kept_hooks hooks.new) }
+{
+    match number {
+        None => Ok(None),
+        Some(number) => {
+            let fold = Evaluator::new(scene.checked);
+            let values = hooks.render_values(alloc, number, &fold, scene.lanes, scene.cut)?;
+            Ok(Some(values))
+        }
+    }
+}
+
+fn slice_of(values: &Option<Ints>) -> Option<&[Int]>
+    ensures { option_copied result ≡ values.now }
+{
+    match values {
+        Some(values) => Some(values.as_slice()),
+        None => None,
+    }
+}
+
+// A component's body, where its hooks have these states.
+fn evaluate<'x, L: Ledger>(
+    alloc: Global,
+    scene: &'x Scene<'x>,
+    component: u32,
+    props: &'x Ints,
+    children: &'x [Element],
+    states: Option<&'x [Int]>,
+    contexts: &'x [Int],
+    steps: &mut Steps<L>,
+) -> Result<Body, AllocError>
+    requires { option_map (λ d. length (prop_names d)) (component_at scene.now.checked.now component) ≡ Some (length props.now) }
+    ensures body { IfOk result (λ b. option_map (λ d. body_of scene.now.checked.now d (record { props = props.now; children = children.now; hooks = option_copied states.entry; contexts = contexts.now; resources = scene.now.resources.now }))
+        (component_at scene.now.checked.now component) ≡ Some (body_seen b)) }
+    ensures once { steps.new ≡ steps.old + 1 }
+{
+    let resources = scene.resources;
+    let inputs = Inputs {
+        props: props.as_slice(),
+        children,
+        hooks: states,
+        contexts,
+        resources,
+    };
+    eval_body(alloc, scene.checked, component, &inputs, steps)
+}
+
+// A component's body, from the hooks of its old instance.
+fn body_at<L: Ledger>(
+    alloc: Global,
+    scene: &Scene,
+    component: u32,
+    props: &Ints,
+    children: &[Element],
+    number: Option<u64>,
+    hooks: &mut HookStore,
+    contexts: &[Int],
+    steps: &mut Steps<L>,
+) -> Result<Body, AllocError>
+    requires given { option_map (λ d. length (prop_names d)) (component_at scene.now.checked.now component) ≡ Some (length props.now) }
+    requires kept { IfSome number (λ n. IsSome (kept_hooks hooks.old n)) }
+    ensures body { IfOk result (λ b. (s : Sight) (old : Option trees.Instance) (kids : Elements) → IsSceneOf scene.now s → number_in old ≡ number → GivesHooks s (kept_hooks hooks.old) old → listed kids ≡ children.now
+        → option_map (λ d. body_of s.program d (inputs_at s contexts.now props.now kids old)) (component_at s.program component) ≡ Some (body_seen b)) }
+    ensures once { OnOk result (steps.new ≡ steps.old + 1) }
+    ensures still { (s : Sight) (k : ℕ) (initials : List ℤ) → IsSceneOf scene.now s → GivesValues s (kept_hooks hooks.old) k initials → GivesValues s (kept_hooks hooks.new) k initials }
+    ensures states { (st : State) → DoneBefore scene.now.cut st.journal.updates → KeepsAllHooks scene.now.checked.now st (kept_hooks hooks.old) → KeepsAllHooks scene.now.checked.now st (kept_hooks hooks.new) }
+{
+    let values = values_of(alloc, scene, number, hooks)?;
+    evaluate(alloc, scene, component, props, children, slice_of(&values), contexts, steps)
+}
+
+// An instance keeps its number and its initial values (react.dev, State as a Snapshot).
+fn instance_after(
+    alloc: Global,
+    component: u32,
+    old: Option<Instance>,
+    initials: Ints,
+    reads: Vec<ContextRead>,
+    effects: Vec<EffectRecord>,
+) -> Result<Instance, AllocError>
+    ensures { IfOk result (λ i. instance_seen i ≡ instance_after component (option_map instance_seen old) initials reads.items effects.items) }
+{
+    let reads = Rc::new(alloc, reads)?;
+    let effects = Rc::new(alloc, effects)?;
+    match old {
+        Some(old) => Ok(Instance {
+            number: old.number,
+            component,
+            initials: old.initials,
+            reads,
+            effects,
+        }),
+        None => Ok(Instance {
+            number: None,
+            component,
+            initials: Rc::new(alloc, initials)?,
+            reads,
+            effects,
+        }),
+    }
+}
+
+fn number_of(instance: &Option<Instance>) -> Option<u64>
+    ensures { result ≡ number_in (option_map instance_seen instance.now) }
+{
+    match instance {
+        Some(instance) => instance.number,
+        None => None,
+    }
+}
+
+// A component's fiber is begun over what its body gives.
+fn open_body(
+    alloc: Global,
+    tree: &mut FiberTree<Fiber>,
+    at: FiberId,
+    component: u32,
+    old: Option<Instance>,
+    body: Body,
+) -> Result<Begun, AllocError>
+    requires bare { IsBareAt tree.old at }
+    ensures opened { IfOk result (λ b. (cs : Contexts) (node : Option Node) → option_map instance_seen old ≡ old_instance node → HasShape (shape_of_body cs component node (body_seen body)) cs node tree.old tree.new at b) }
+    ensures current { tree.new.current ≡ tree.old.current }
+{
+    match body {
+        Body::Wait(resource) => Ok(Begun::Suspended(resource)),
+        Body::Ready {
+            elements,
+            effects,
+            initials,
+            reads,
+        } => {
+            let instance = instance_after(alloc, component, old, initials, reads, effects)?;
+            let stage = Stage::Begun(Mark::Instance(instance));
+            open_node(alloc, tree, at, stage, &elements)
+        }
+    }
+}
+
+// A component's place begins: its body is evaluated, once.
+pub(crate) fn begin_component<L: Ledger>(
+    alloc: Global,
+    tree: &mut FiberTree<Fiber>,
+    at: FiberId,
+    scene: &Scene,
+    component: u32,
+    props: &Ints,
+    children: &[Element],
+    hooks: &mut HookStore,
+    contexts: &[Int],
+    steps: &mut Steps<L>,
+) -> Result<Begun, AllocError>
+    requires bare { IsBareAt tree.old at }
+    requires given { option_map (λ d. length (prop_names d)) (component_at scene.now.checked.now component) ≡ Some (length props.now) }
+    requires kept { IfSome (number_in (option_and_then instance_in (mark_at tree.old.current (old_of tree.old.draft at)))) (λ n. IsSome (kept_hooks hooks.old n)) }
+    ensures evaluated { IfOk result (λ b. (s : Sight) (old : Option Node) (kids : Elements) → IsSceneOf scene.now s → IsOld tree.old.current (old_of tree.old.draft at) old → GivesHooks s (kept_hooks hooks.old) (old_instance old)
+        → listed kids ≡ children.now → HasShape (shape_of_component s contexts.now component props.now kids old (component_at s.program component)) contexts.now old tree.old tree.new at b) }
+    ensures current { tree.new.current ≡ tree.old.current }
+    ensures once { OnOk result (steps.new ≡ steps.old + 1) }
+    ensures still { (s : Sight) (k : ℕ) (initials : List ℤ) → IsSceneOf scene.now s → GivesValues s (kept_hooks hooks.old) k initials → GivesValues s (kept_hooks hooks.new) k initials }
+    ensures states { (st : State) → DoneBefore scene.now.cut st.journal.updates → KeepsAllHooks scene.now.checked.now st (kept_hooks hooks.old) → KeepsAllHooks scene.now.checked.now st (kept_hooks hooks.new) }
+{
+    tree.place_facts();
+    let old = old_instance(tree, tree.alternate(at))?;
+    let number = number_of(&old);
+    let body = body_at(alloc, scene, component, props, children, number, hooks, contexts, steps)?;
+    open_body(alloc, tree, at, component, old, body)
+}

@@ -1,0 +1,77 @@
+// What an element's fiber begins with.
+ghost use Rattle.std.specs.Prelude.{◌≡◌, ◌<◌, length, IfSome, OnOk, OnErr, option_map};
+ghost use Rattle.rx_ctx.specs.Contexts.{values_at};
+ghost use Rattle.rx_fiber.specs.FiberView.{stage_seen};
+ghost use Rattle.rx_begin.specs.Nodes.{parts_in, begun_stage, begun_children, begun_stack, given_context};
+ghost use Rattle.rx_begin.specs.PartsView.{parts_seen};
+
+use rx_base::Ints;
+use rx_ctx::ContextStack;
+use rx_elem::{Element, ElementKind};
+use rx_fiber::Stage;
+use rx_node::Mark;
+use std::alloc::AllocError;
+
+/// The number, the props and the children of a component's element.
+#[derive(Clone, Copy)]
+pub(crate) struct Parts<'a> {
+    pub component: u32,
+    pub props: &'a Ints,
+    pub children: &'a [Element],
+}
+
+#[tactic(auto, using(crate::proofs::Lists::listed_gathered))]
+/// The parts of a component's element, if it is one.
+pub(crate) fn parts_of(element: &Element) -> Option<Parts>
+    ensures { option_map parts_seen result ≡ parts_in element.now }
+{
+    match element.kind() {
+        ElementKind::Comp(component, _, props, children) => Some(Parts {
+            component: *component,
+            props,
+            children,
+        }),
+        _ => None,
+    }
+}
+
+/// How far the fiber of another element has come once it is begun.
+pub(crate) fn begun_stage(element: &Element, number: Option<u64>) -> Stage
+    ensures { stage_seen result ≡ begun_stage element.now number }
+{
+    match element.kind() {
+        ElementKind::Null | ElementKind::Comp(_, _, _, _) => Stage::Waiting,
+        ElementKind::Text(_) | ElementKind::Host(_, _, _, _) => Stage::Begun(Mark::Host(number)),
+        ElementKind::List(_) | ElementKind::Provider(_, _, _, _) => Stage::Begun(Mark::Plain),
+        ElementKind::Boundary(_, _, _) => Stage::Trying,
+    }
+}
+
+#[tactic(auto, using(crate::proofs::Lists::listed_gathered))]
+/// The children that it is begun over.
+pub(crate) fn begun_children(element: &Element) -> &[Element]
+    ensures { result.now ≡ begun_children element.now }
+{
+    match element.kind() {
+        ElementKind::Host(_, _, _, children) => children,
+        ElementKind::List(children) => children,
+        ElementKind::Boundary(_, _, children) => children,
+        ElementKind::Provider(_, _, _, children) => children,
+        _ => &[],
+    }
+}
+
+/// A provider gives its value.
+///
+/// # Errors
+///
+/// Want of memory alone.
+pub(crate) fn enter(element: &Element, contexts: &mut ContextStack) -> Result<(), AllocError>
+    requires { IfSome (given_context element.now) (λ c. c < length (values_at contexts.old)) }
+    ensures { OnOk result (contexts.new ≡ begun_stack element.now contexts.old) }
+{
+    if let ElementKind::Provider(context, _, value, _) = element.kind() {
+        contexts.push(*context, *value)?;
+    }
+    Ok(())
+}

@@ -1,0 +1,13 @@
+//! One unit of a render that begins the place of a fiber.
+#![tactic(auto)]
+
+mod beginning;
+mod body;
+mod children;
+mod kind;
+mod node;
+mod scene;
+
+pub use beginning::begin;
+pub use node::Begun;
+pub use scene::Scene;

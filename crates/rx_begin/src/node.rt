@@ -1,0 +1,126 @@
+// A node begins over its children.
+ghost use Rattle.std.specs.Prelude.{◌≡◌, IfOk, OnOk, IfSome, option_and_then, option_map};
+ghost use Rattle.rx_lists.specs.Shapes.{Holds};
+ghost use Rattle.rx_elem.specs.Trees.{host_number, instance_in};
+ghost use Rattle.rx_links.specs.Drafts.{Makes, old_of};
+ghost use Rattle.rx_links.specs.Readers.{list_from};
+ghost use Rattle.rx_fiber.specs.FiberView.{stage_seen};
+ghost use Rattle.rx_node.specs.MarkView.{instance_seen, mark_seen};
+ghost use Rattle.rx_fiber.specs.OldLists.{matched, primary_list};
+ghost use Rattle.rx_begin.specs.Nodes.{IsBareAt, IsBareBeside, HasStage, HasList, HasOpened, begun_from, mark_at};
+
+use crate::children::make_children;
+use rx_elem::Element;
+use rx_fiber::{Fiber, Stage, old_primary};
+use rx_links::{FiberId, FiberTree};
+use rx_node::{Instance, Mark};
+use std::alloc::{AllocError, Global};
+
+/// Where a render comes from the place that it began.
+#[derive(Clone, Copy)]
+pub enum Begun {
+    /// The first child, which begins next.
+    Child(FiberId),
+    /// There is no child: the node is completed next.
+    Leaf,
+    /// The body waits for a resource, by its number.
+    Suspended(u32),
+}
+
+// The mark of an old node, by its current fiber.
+fn old_mark(tree: &FiberTree<Fiber>, old: Option<FiberId>) -> Option<&Mark>
+    requires { IfSome old (Holds tree.now.current) }
+    ensures { option_map (λ m. mark_seen m.now) result ≡ mark_at tree.now.current old }
+{
+    match tree.value(old?).stage() {
+        Stage::Begun(mark) => Some(mark),
+        _ => None,
+    }
+}
+
+// The number of an old host, if it is one.
+pub(crate) fn old_host(tree: &FiberTree<Fiber>, old: Option<FiberId>) -> Option<u64>
+    requires { IfSome old (Holds tree.now.current) }
+    ensures { result ≡ option_and_then host_number (mark_at tree.now.current old) }
+{
+    match old_mark(tree, old)? {
+        Mark::Host(number) => *number,
+        _ => None,
+    }
+}
+
+// The instance of an old component, if it is one.
+pub(crate) fn old_instance(
+    tree: &FiberTree<Fiber>,
+    old: Option<FiberId>,
+) -> Result<Option<Instance>, AllocError>
+    requires { IfSome old (Holds tree.now.current) }
+    ensures { IfOk result (λ i. option_map instance_seen i ≡ option_and_then instance_in (mark_at tree.now.current old)) }
+{
+    match old_mark(tree, old) {
+        Some(Mark::Instance(instance)) => Ok(Some(instance.copy()?)),
+        _ => Ok(None),
+    }
+}
+
+// Changes the stage of a made fiber.
+fn set_stage(tree: &mut FiberTree<Fiber>, at: FiberId, stage: Stage) -> Result<(), AllocError>
+    requires { Makes tree.old.draft at }
+    ensures stage { OnOk result (HasStage tree.old tree.new at (stage_seen stage)) }
+    ensures current { tree.new.current ≡ tree.old.current }
+{
+    let fiber = tree.value(at);
+    let element = fiber.element().copy()?;
+    let place = fiber.place();
+    tree.set_value(at, Fiber::new(place, element, stage));
+    Ok(())
+}
+
+// A fiber is begun with this stage over these children, each made for its old one in a list of the current tree.
+pub(crate) fn open_list(
+    alloc: Global,
+    tree: &mut FiberTree<Fiber>,
+    at: FiberId,
+    stage: Stage,
+    elements: &[Element],
+    first_old: Option<FiberId>,
+) -> Result<Option<FiberId>, AllocError>
+    requires held { IfSome first_old (Holds tree.old.current) }
+    requires beside { IsBareBeside tree.old at first_old }
+    ensures opened { IfOk result (λ first. HasList tree.old tree.new at (stage_seen stage) elements.now (matched (list_from tree.old.current first_old) elements.now) first) }
+    ensures current { tree.new.current ≡ tree.old.current }
+{
+    make_children(alloc, tree, at, elements, first_old)?;
+    tree.place_facts();
+    set_stage(tree, at, stage)?;
+    tree.place_facts();
+    Ok(tree.first_child(at))
+}
+
+fn begun_from(first: Option<FiberId>) -> Begun
+    ensures { result ≡ begun_from first }
+{
+    match first {
+        Some(id) => Begun::Child(id),
+        None => Begun::Leaf,
+    }
+}
+
+// A fiber is begun beside the children of its old node.
+pub(crate) fn open_node(
+    alloc: Global,
+    tree: &mut FiberTree<Fiber>,
+    at: FiberId,
+    stage: Stage,
+    elements: &[Element],
+) -> Result<Begun, AllocError>
+    requires bare { IsBareAt tree.old at }
+    ensures opened { IfOk result (λ b. HasOpened tree.old tree.new at (stage_seen stage) elements.now (matched (primary_list (list_from tree.old.current (old_of tree.old.draft at))) elements.now) b) }
+    ensures current { tree.new.current ≡ tree.old.current }
+{
+    tree.place_facts();
+    tree.facts();
+    let first_old = old_primary(tree, tree.alternate(at));
+    let first = open_list(alloc, tree, at, stage, elements, first_old)?;
+    Ok(begun_from(first))
+}
