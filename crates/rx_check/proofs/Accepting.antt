@@ -25,7 +25,7 @@ names-none : (r : Name → Refusal) (ns : List Name) → refused_name r ns ≡ N
 names-none r [] h = refl
 names-none r (n ∷ ns) h = cc
 
-map-none : {A B : Type 0} (f : A → B) (o : Option A) → option_map f o ≡ None → o ≡ None
+pub map-none : {A B : Type 0} (f : A → B) (o : Option A) → option_map f o ≡ None → o ≡ None
 map-none f None h = refl
 map-none f (Some x) h = cc
 
@@ -66,7 +66,7 @@ front-none (o ∷ os) h = head-none o os h
 place-none : {A : Type 0} (n : ℕ) (os : List (Option A)) → first_some os ≡ None → front (behind n os) ≡ None
 place-none n os h = front-none (behind n os) (behind-none n os h)
 
-counts-none : (p : Program) → first_some (count_refusals p) ≡ None → (w : Count) → count_over p w ≡ None
+pub counts-none : (p : Program) → first_some (count_refusals p) ≡ None → (w : Count) → count_over p w ≡ None
 counts-none p h count.Name = map-none _ _ (place-none 0 (count_refusals p) h)
 counts-none p h count.Text = map-none _ _ (place-none 1 (count_refusals p) h)
 counts-none p h count.Declarations = map-none _ _ (place-none 2 (count_refusals p) h)

@@ -11,8 +11,8 @@ use Rattle.rx_rules.specs.Keys.{carries_key, keyed_places, SlotKeysApart, SlotsK
 use Rattle.rx_mentions.specs.Mentions.{Scope, bound, key_name, expr_mentions, attributes_mentions, first_key_mentions, last_key_mentions, taken_first, slot_mentions, slots_mentions, statements_mentions, parameters_mentions, component_mentions, component_scope, after_statement, no_scope, mentions}
 use Rattle.rx_check.specs.Checks.{repeat_in, repeats}
 use Rattle.rx_check.specs.Accepted.{IsAccepted}
-use Rattle.rx_mentions.specs.declared.mention.Mention.{Mention}
-use Rattle.rx_mentions.specs.declared.mention.Mention.TheVariants as mention
+use Rattle.rx_mentions.specs.Mention.{Mention}
+use Rattle.rx_mentions.specs.Mention as mention
 use Rattle.rx_mentions.proofs.Among.{IsIn, IsIn-left, IsIn-right, IsIn-filter_map, component-mentioned}
 
 -- no name is introduced again

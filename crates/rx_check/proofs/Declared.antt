@@ -11,8 +11,8 @@ use Rattle.rx_mentions.specs.Mentions.{Scope, no_scope, statement_mentions, stat
 use Rattle.rx_names.specs.Listed.{context_names}
 use Rattle.rx_check.specs.Checks.{unknown_in, unknowns}
 use Rattle.rx_check.specs.Accepted.{IsAccepted}
-use Rattle.rx_mentions.specs.declared.mention.Mention.{Mention}
-use Rattle.rx_mentions.specs.declared.mention.Mention.TheVariants as mention
+use Rattle.rx_mentions.specs.Mention.{Mention}
+use Rattle.rx_mentions.specs.Mention as mention
 use Rattle.rx_mentions.proofs.Among.{IsIn, IsIn-left, IsIn-right, IsIn-filter_map, component-mentioned}
 
 not-empty : (ns : List Name) (x : Name) → has_name ns x ≡ true → 0 < length ns

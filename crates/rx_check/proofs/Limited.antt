@@ -9,7 +9,7 @@ use Rattle.rx_names.specs.Listed.{function_names, context_names}
 use Rattle.rx_check.specs.Checks.{measure_in}
 use Rattle.rx_check.specs.Accepted.{IsAccepted}
 use Rattle.rx_mentions.specs.declared.count.Count.TheVariants as count
-use Rattle.rx_mentions.specs.declared.mention.Mention.TheVariants as mention
+use Rattle.rx_mentions.specs.Mention as mention
 use Rattle.rx_check.proofs.Accepting.{not-over}
 use Rattle.rx_mentions.proofs.Among.{IsIn, IsIn-filter_map, component-mentioned, function-mentioned}
 
@@ -23,7 +23,7 @@ within-find limit n (m ∷ ms) e h = go (λ f. within-find limit n ms f) (nat_lt
     go later false t (inl s) = grind (arith, t, s)
     go later false t (inr i) = later (rw t at e) i
 
-fewer : {X Y : Type 0} (f : X → Option Y) (xs : List X) → length (filter_map f xs) ≤ length xs
+pub fewer : {X Y : Type 0} (f : X → Option Y) (xs : List X) → length (filter_map f xs) ≤ length xs
 fewer f [] = omega arith
 fewer f (x ∷ xs) = elim (f x) as (λ o. length (cons_option o (filter_map f xs)) ≤ suc (length xs)) [ None ↦ omega (arith, fewer f xs) | Some w ↦ omega (arith, fewer f xs) ]
 

@@ -69,8 +69,3 @@ none-first p h = go (is_some (component_named p root_name))
     go : (b : Bool) → first (cond b (filter (root_waits_for p) (component_names p)) []) ≡ None
     go true = rw (none-outside p (component_names p) h) refl
     go false = refl
-
--- what is not so is not
-pub not-true : (b : Bool) → not b ≡ true → b ≡ false
-not-true true h = cc
-not-true false h = refl

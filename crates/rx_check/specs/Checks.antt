@@ -12,8 +12,8 @@ use Rattle.rx_mentions.specs.Mentions.{children_name, mentions}
 use Rattle.rx_mentions.specs.Ways.{calls, places}
 use Rattle.rx_mentions.specs.declared.count.Count.{Count}
 use Rattle.rx_mentions.specs.declared.count.Count.TheVariants as count
-use Rattle.rx_mentions.specs.declared.mention.Mention.{Mention}
-use Rattle.rx_mentions.specs.declared.mention.Mention.TheVariants as mention
+use Rattle.rx_mentions.specs.Mention.{Mention}
+use Rattle.rx_mentions.specs.Mention as mention
 use Rattle.rx_figures.specs.Costs.{first_over}
 use Rattle.rx_figures.specs.Figures.{nesting_levels}
 use Rattle.rx_check.specs.Limits.{limit_of}

@@ -1,16 +1,16 @@
 // All checks of a program, in their order.
-ghost use Rattle.std.specs.Prelude.{◌≡◌, ◌⊎◌, [], ◌∷◌, IfOk, MatchOption, MatchResult, Some, None, option_map, filter, filter_map, length, slice_get};
-ghost use Rattle.rx_rules.specs.Names.{component_names, resources as all_resources};
-ghost use Rattle.rx_rules.specs.Bounds.{node_bound, node_limit, depth_bound};
-ghost use Rattle.rx_check.specs.Limits.{limit_of};
-ghost use Rattle.rx_mentions.specs.Mentions.{mentions as all_mentions};
-ghost use Rattle.rx_check.specs.Checks.{repeat_in, unknown_among, misfit_in, function_cycles, component_cycles, root_waits_for, outside_uses};
-ghost use Rattle.rx_names.specs.Listed.{function_names};
-ghost use Rattle.rx_figures.specs.Costs.{first_over as over, cost_over};
+ghost use Rattle.std.specs.Prelude.{◌≡◌, ◌≤◌, ◌⊎◌, [], ◌∷◌, IfOk, MatchOption, MatchResult, Some, None, option_map, filter, filter_map, length};
+ghost use Rattle.rx_rules.specs.Names.{component_names, component_number, root_name};
+ghost use Rattle.rx_rules.specs.Bounds.{body_by, node_bound, node_limit, depth_bound};
+ghost use Rattle.rx_names.specs.Listed.{IsListed, function_names};
 ghost use Rattle.rx_order.specs.Graphs.{first, IsFinished};
+ghost use Rattle.rx_mentions.specs.Mentions.{mentions as all_mentions};
 ghost use Rattle.rx_mentions.specs.Ways.{calls, places};
-ghost use Rattle.rx_check.specs.Refusals.{first_some, refused_name, refused_root, name_refusals, way_refusals, count_refusals, size_refusals, refusal_of};
-ghost use Rattle.rx_names.specs.Listed.{IsListed};
+ghost use Rattle.rx_figures.specs.Figures.{figures, nesting_levels};
+ghost use Rattle.rx_figures.specs.Costs.{cost_over, first_over as over};
+ghost use Rattle.rx_check.specs.Limits.{limit_of};
+ghost use Rattle.rx_check.specs.Checks.{repeat_in, unknown_among, misfit_in, function_cycles, component_cycles, root_waits_for, outside_uses};
+ghost use Rattle.rx_check.specs.Refusals.{first_some, refused_name, refused_count, refused_root, name_refusals, way_refusals, count_refusals, size_refusals, refusal_of};
 ghost use Rattle.rx_check.specs.Answers.{Answers};
 
 use crate::checked::{Checked, accept};
@@ -18,9 +18,9 @@ use crate::checks::{first_misfit, first_over, first_repeat, first_unknown, is_ro
 use crate::refusal::Refusal;
 use rx_ast::Program;
 use rx_base::Name;
-use rx_figures::{Counted, cost_over, held_sum, nesting_levels, root_figures};
+use rx_figures::{Counted, Figures, cost_over, held_sum, root_figures};
 use rx_mentions::{Count, Mention, calls_of, mentions_of, places_of};
-use rx_names::{Listing, Names, component_named, names_of};
+use rx_names::{Index, Listing, names_of};
 use rx_order::{Order, Row, finishing_order, first_cycle};
 use std::alloc::{AllocError, Global};
 
@@ -56,7 +56,7 @@ fn refuse_unknown(alloc: Global, listing: &Listing, mentions: &[Mention]) -> Res
 }
 
 /// Functions and components are given what they take.
-fn refuse_misfit(alloc: Global, program: &Program, mentions: &[Mention]) -> Result<(), Refusal>
+fn refuse_misfit(alloc: Global, program: &Index, mentions: &[Mention]) -> Result<(), Refusal>
     ensures { Answers (refused_name (λ x. Refusal.Arity x) (filter_map (misfit_in program.now) mentions.now)) result }
 {
     match first_misfit(alloc, program, mentions)? {
@@ -66,7 +66,7 @@ fn refuse_misfit(alloc: Global, program: &Program, mentions: &[Mention]) -> Resu
 }
 
 /// The order in which functions are finished.
-fn function_order(alloc: Global, program: &Program, graph: &[Row]) -> Result<Order, AllocError>
+fn function_order(alloc: Global, program: &Index, graph: &[Row]) -> Result<Order, AllocError>
     requires { graph.now ≡ calls program.now }
     ensures { IfOk result (λ o. IsFinished (calls program.now) o) }
 {
@@ -76,7 +76,7 @@ fn function_order(alloc: Global, program: &Program, graph: &[Row]) -> Result<Ord
 /// The first function that reaches itself.
 fn function_cycle<'a>(
     alloc: Global,
-    program: &Program,
+    program: &Index,
     graph: &[Row],
     order: &Order,
     names: &'a [Name],
@@ -89,21 +89,22 @@ fn function_cycle<'a>(
     first_cycle(alloc, graph, order, names)
 }
 
-/// No function reaches itself.
-fn refuse_function_cycle(alloc: Global, program: &Program, names: &Names) -> Result<(), Refusal>
-    requires { names.now ≡ function_names program.now }
-    ensures { Answers (refused_name (λ x. Refusal.FunctionCycle x) (function_cycles program.now)) result }
+/// No function reaches itself; the order in which they are finished.
+fn refuse_function_cycle(alloc: Global, program: &Index) -> Result<Order, Refusal>
+    ensures answers { Answers (refused_name (λ x. Refusal.FunctionCycle x) (function_cycles program.now)) result }
+    ensures order { IfOk result (λ o. IsFinished (calls program.now) o) }
 {
     let graph = calls_of(alloc, program)?;
     let order = function_order(alloc, program, &graph)?;
-    match function_cycle(alloc, program, &graph, &order, names.items())? {
-        None => Ok(()),
+    let names = program.listing().functions.items();
+    match function_cycle(alloc, program, &graph, &order, names)? {
+        None => Ok(order),
         Some(name) => Err(Refusal::FunctionCycle(told(alloc, name)?)),
     }
 }
 
 /// The order in which components are finished.
-fn component_order(alloc: Global, program: &Program, graph: &[Row]) -> Result<Order, AllocError>
+fn component_order(alloc: Global, program: &Index, graph: &[Row]) -> Result<Order, AllocError>
     requires { graph.now ≡ places program.now }
     ensures { IfOk result (λ o. IsFinished (places program.now) o) }
 {
@@ -113,7 +114,7 @@ fn component_order(alloc: Global, program: &Program, graph: &[Row]) -> Result<Or
 /// The first component that reaches itself.
 fn component_cycle<'a>(
     alloc: Global,
-    program: &Program,
+    program: &Index,
     graph: &[Row],
     order: &Order,
     names: &'a [Name],
@@ -126,21 +127,22 @@ fn component_cycle<'a>(
     first_cycle(alloc, graph, order, names)
 }
 
-/// No component reaches itself.
-fn refuse_component_cycle(alloc: Global, program: &Program, names: &Names) -> Result<(), Refusal>
-    requires { names.now ≡ component_names program.now }
-    ensures { Answers (refused_name (λ x. Refusal.ComponentCycle x) (component_cycles program.now)) result }
+/// No component reaches itself; the order in which they are finished.
+fn refuse_component_cycle(alloc: Global, program: &Index) -> Result<Order, Refusal>
+    ensures answers { Answers (refused_name (λ x. Refusal.ComponentCycle x) (component_cycles program.now)) result }
+    ensures order { IfOk result (λ o. IsFinished (places program.now) o) }
 {
     let graph = places_of(alloc, program)?;
     let order = component_order(alloc, program, &graph)?;
-    match component_cycle(alloc, program, &graph, &order, names.items())? {
-        None => Ok(()),
+    let names = program.listing().components.items();
+    match component_cycle(alloc, program, &graph, &order, names)? {
+        None => Ok(order),
         Some(name) => Err(Refusal::ComponentCycle(told(alloc, name)?)),
     }
 }
 
 /// There is a root without parameters.
-fn refuse_root(program: &Program) -> Result<(), Refusal>
+fn refuse_root(program: &Index) -> Result<(), Refusal>
     ensures { Answers (refused_root program.now) result }
 {
     if is_rooted(program) {
@@ -176,97 +178,122 @@ fn number_over(what: Count, found: u64) -> Option<u64>
 }
 
 /// The root waits where the reads of this component alone count.
-fn waits_for(alloc: Global, program: &Program, name: &str) -> Result<bool, AllocError>
+fn waits_for(alloc: Global, program: &Index, order: &Order, name: &str) -> Result<bool, AllocError>
+    requires { IsFinished (places program.now) order.now }
     ensures { IfOk result (λ b. b ≡ root_waits_for program.now name.now) }
 {
     let counted = Counted::One(Name::new(alloc, name)?);
-    let figures = root_figures(alloc, program, &counted, nesting_levels(program))?;
+    let figures = root_figures(alloc, program, &counted, order)?;
     Ok(figures.waits)
 }
 
 /// The first of these components for whose resources the root waits.
 fn first_outside<'a>(
     alloc: Global,
-    program: &Program,
+    program: &Index,
+    order: &Order,
     names: &'a [Name],
 ) -> Result<Option<&'a str>, AllocError>
+    requires { IsFinished (places program.now) order.now }
     ensures { IfOk result (λ o. MatchOption o (first (filter (root_waits_for program.now) names.now) ≡ None) (λ x. first (filter (root_waits_for program.now) names.now) ≡ Some x.now)) }
 {
     for name in names {
-        if waits_for(alloc, program, name.text())? {
+        if waits_for(alloc, program, order, name.text())? {
             return Ok(Some(name.text()));
         }
     }
     Ok(None)
 }
 
-/// The first component for whose resources the root waits, where there is a root.
+/// The first component for whose resources the root waits, where there is a root, and where it waits with all reads counted.
 fn outside_use<'a>(
     alloc: Global,
-    program: &Program,
-    names: &'a Names,
+    program: &Index,
+    order: &Order,
+    names: &'a [Name],
+    waits: bool,
 ) -> Result<Option<&'a str>, AllocError>
-    requires { names.now ≡ component_names program.now }
+    requires order { IsFinished (places program.now) order.now }
+    requires names { names.now ≡ component_names program.now }
+    requires waits { waits ≡ (body_by (figures Counted.All) (nesting_levels program.now) program.now (component_number program.now root_name)).waits }
     ensures { IfOk result (λ o. MatchOption o (first (outside_uses program.now) ≡ None) (λ x. first (outside_uses program.now) ≡ Some x.now)) }
 {
-    if component_named(program, "App").is_none() {
+    if program.component_named("App").is_none() {
         return Ok(None);
     }
-    let figures = root_figures(alloc, program, &Counted::All, nesting_levels(program))?;
-    if !figures.waits {
+    if !waits {
         return Ok(None);
     }
-    first_outside(alloc, program, names.items())
+    first_outside(alloc, program, order, names)
 }
 
 /// The root waits for no component.
-fn refuse_outside_use(alloc: Global, program: &Program, names: &Names) -> Result<(), Refusal>
-    requires { names.now ≡ component_names program.now }
+fn refuse_outside_use(
+    alloc: Global,
+    program: &Index,
+    order: &Order,
+    waits: bool,
+) -> Result<(), Refusal>
+    requires order { IsFinished (places program.now) order.now }
+    requires waits { waits ≡ (body_by (figures Counted.All) (nesting_levels program.now) program.now (component_number program.now root_name)).waits }
     ensures { Answers (refused_name (λ x. Refusal.UseOutside x) (outside_uses program.now)) result }
 {
-    match outside_use(alloc, program, names)? {
+    match outside_use(
+        alloc,
+        program,
+        order,
+        program.listing().components.items(),
+        waits,
+    )? {
         None => Ok(()),
         Some(name) => Err(Refusal::UseOutside(told(alloc, name)?)),
     }
 }
 
 /// The checks of names.
-fn refuse_names(
-    alloc: Global,
-    program: &Program,
-    listing: &Listing,
-    mentions: &[Mention],
-) -> Result<(), Refusal>
-    requires listed { IsListed program.now listing.now }
-    requires mentioned { mentions.now ≡ all_mentions program.now }
+fn refuse_names(alloc: Global, program: &Index, mentions: &[Mention]) -> Result<(), Refusal>
+    requires { mentions.now ≡ all_mentions program.now }
     ensures { Answers (first_some (name_refusals program.now)) result }
 {
     refuse_repeat(alloc, mentions)?;
-    refuse_unknown(alloc, listing, mentions)?;
+    refuse_unknown(alloc, program.listing(), mentions)?;
     refuse_misfit(alloc, program, mentions)
 }
 
+/// How functions are finished, and the figures of the root.
+#[derive(Drop)]
+struct Ways {
+    calls: Order,
+    root: Figures,
+}
+
 /// The checks of ways: cycles, waits and the root.
-fn refuse_ways(alloc: Global, program: &Program, listing: &Listing) -> Result<(), Refusal>
-    requires { IsListed program.now listing.now }
-    ensures { Answers (first_some (way_refusals program.now)) result }
+fn refuse_ways(alloc: Global, program: &Index) -> Result<Ways, Refusal>
+    ensures answers { Answers (first_some (way_refusals program.now)) result }
+    ensures calls { IfOk result (λ w. IsFinished (calls program.now) w.calls) }
+    ensures root { IfOk result (λ w. w.root ≡ body_by (figures Counted.All) (nesting_levels program.now) program.now (component_number program.now root_name)) }
 {
-    refuse_function_cycle(alloc, program, &listing.functions)?;
-    refuse_component_cycle(alloc, program, &listing.components)?;
-    refuse_outside_use(alloc, program, &listing.components)?;
-    refuse_root(program)
+    let calls = refuse_function_cycle(alloc, program)?;
+    let places = refuse_component_cycle(alloc, program)?;
+    let root = root_figures(alloc, program, &Counted::All, &places)?;
+    refuse_outside_use(alloc, program, &places, root.waits)?;
+    refuse_root(program)?;
+    Ok(Ways { calls, root })
+}
+
+/// A tree of few declarations is within its depth.
+fn refuse_depth(program: &Index, depth: u64) -> Result<(), Refusal>
+    requires few { length program.now.declarations ≤ 256 }
+    requires depth { length program.now.declarations ≤ 256 → depth ≡ depth_bound program.now }
+    ensures { Answers (refused_count program.now Count.Depth) result }
+{
+    refuse_count(Count::Depth, number_over(Count::Depth, depth))
 }
 
 /// The checks of counts in the order of the text.
-fn refuse_counts(
-    program: &Program,
-    mentions: &[Mention],
-    resources: usize,
-    depth: u64,
-) -> Result<(), Refusal>
+fn refuse_counts(program: &Index, mentions: &[Mention], depth: u64) -> Result<(), Refusal>
     requires mentioned { mentions.now ≡ all_mentions program.now }
-    requires resources { resources ≡ length (all_resources program.now) }
-    requires depth { depth ≡ depth_bound program.now }
+    requires depth { length program.now.declarations ≤ 256 → depth ≡ depth_bound program.now }
     ensures { Answers (first_some (count_refusals program.now)) result }
 {
     refuse_count(Count::Name, first_over(Count::Name, mentions))?;
@@ -284,9 +311,9 @@ fn refuse_counts(
         first_over(Count::Dependencies, mentions),
     )?;
     refuse_count(Count::List, first_over(Count::List, mentions))?;
-    let resources = resources as u64;
+    let resources = program.listing().resources.len() as u64;
     refuse_count(Count::Resources, number_over(Count::Resources, resources))?;
-    refuse_count(Count::Depth, number_over(Count::Depth, depth))
+    refuse_depth(program, depth)
 }
 
 /// The node bound is within its limit.
@@ -301,43 +328,59 @@ fn refuse_nodes(bound: u64) -> Result<(), Refusal>
 }
 
 /// The cost of each declaration is within its limit.
-fn refuse_cost(alloc: Global, program: &Program) -> Result<(), Refusal>
+fn refuse_cost(alloc: Global, program: &Index, order: &Order) -> Result<(), Refusal>
+    requires { IsFinished (calls program.now) order.now }
     ensures { Answers (option_map (λ n. Refusal.Cost n) (cost_over program.now)) result }
 {
-    match cost_over(alloc, program)? {
+    match cost_over(alloc, program, order)? {
         None => Ok(()),
         Some(found) => Err(Refusal::Cost(found)),
     }
 }
 
 /// The checks of sizes.
-fn refuse_sizes(alloc: Global, program: &Program, bound: u64) -> Result<(), Refusal>
-    requires { bound ≡ node_bound program.now }
+fn refuse_sizes(alloc: Global, program: &Index, order: &Order, bound: u64) -> Result<(), Refusal>
+    requires order { IsFinished (calls program.now) order.now }
+    requires bound { bound ≡ node_bound program.now }
     ensures { Answers (first_some (size_refusals program.now)) result }
 {
     refuse_nodes(bound)?;
-    refuse_cost(alloc, program)
+    refuse_cost(alloc, program, order)
+}
+
+/// The most nodes and levels of a tree, the root with them.
+#[derive(Clone, Copy)]
+struct Bounds {
+    nodes: u64,
+    depth: u64,
 }
 
 /// All checks, in their order.
 #[tactic(auto, unfolding(crate::specs::Refusals::refusal_of))]
-fn refuse(
-    alloc: Global,
-    program: &Program,
-    listing: &Listing,
-    bound: u64,
-    depth: u64,
-) -> Result<(), Refusal>
-    requires listed { IsListed program.now listing.now }
-    requires bound { bound ≡ node_bound program.now }
-    requires depth { depth ≡ depth_bound program.now }
-    ensures { Answers (refusal_of program.now) result }
+fn refuse(alloc: Global, program: &Index) -> Result<Bounds, Refusal>
+    ensures answers { Answers (refusal_of program.now) result }
+    ensures nodes { IfOk result (λ b. b.nodes ≡ node_bound program.now) }
+    ensures depth { IfOk result (λ b. b.depth ≡ depth_bound program.now) }
 {
-    let walk = mentions_of(alloc, program)?;
-    refuse_names(alloc, program, listing, walk.mentions())?;
-    refuse_ways(alloc, program, listing)?;
-    refuse_counts(program, walk.mentions(), listing.resources.len(), depth)?;
-    refuse_sizes(alloc, program, bound)
+    let walk = mentions_of(alloc, program.program())?;
+    refuse_names(alloc, program, walk.mentions())?;
+    let ways = refuse_ways(alloc, program)?;
+    let nodes = held_sum(1, ways.root.own);
+    let depth = held_sum(1, ways.root.levels);
+    refuse_counts(program, walk.mentions(), depth)?;
+    refuse_sizes(alloc, program, &ways.calls, nodes)?;
+    Ok(Bounds { nodes, depth })
+}
+
+/// All checks of a program whose names are listed.
+fn refuse_listed(alloc: Global, program: &Program, listing: &Listing) -> Result<Bounds, Refusal>
+    requires { IsListed program.now listing.now }
+    ensures answers { Answers (refusal_of program.now) result }
+    ensures nodes { IfOk result (λ b. b.nodes ≡ node_bound program.now) }
+    ensures depth { IfOk result (λ b. b.depth ≡ depth_bound program.now) }
+{
+    let index = Index::new(alloc, program, listing)?;
+    refuse(alloc, &index)
 }
 
 /// The program, where it meets every check.
@@ -351,9 +394,6 @@ pub fn check(alloc: Global, program: Program) -> Result<Checked, Refusal>
     ensures answers { Answers (refusal_of program) result }
 {
     let listing = names_of(alloc, &program)?;
-    let figures = root_figures(alloc, &program, &Counted::All, 256)?;
-    let bound = held_sum(1, figures.own);
-    let depth = held_sum(1, figures.levels);
-    refuse(alloc, &program, &listing, bound, depth)?;
-    Ok(accept(program, listing, bound, depth))
+    let bounds = refuse_listed(alloc, &program, &listing)?;
+    Ok(accept(program, listing, bounds.nodes, bounds.depth))
 }

@@ -1,16 +1,16 @@
 // The checks of names and counts.
 ghost use Rattle.std.specs.Prelude.{◌≡◌, MatchOption, IfOk, Some, None, find, filter_map, is_some};
 ghost use Rattle.std.specs.List.{list_all};
+ghost use Rattle.rx_mentions.specs.Mentions.{given_names};
 ghost use Rattle.rx_rules.specs.Names.{prop_names, has_name, function_named, component_named};
 ghost use Rattle.rx_check.specs.Limits.{limit_of};
 ghost use Rattle.rx_check.specs.Checks.{unless, repeat_in, unknown_among, misfit_in, is_children, fits, element_fits, takes_arguments, is_rooted, measure_in, same_count, count_in, name_length_in, text_length_in};
 ghost use Rattle.rx_figures.specs.Costs.{first_over};
 ghost use Rattle.rx_order.specs.Graphs.{first};
 
-use rx_ast::{Component, ParameterKind, Program};
-use rx_base::Name;
-use rx_mentions::{Count, Mention};
-use rx_names::{Listing, Names, component_named, function_named};
+use rx_ast::{Attribute, Component, ParameterKind};
+use rx_mentions::{Count, Mention, MentionKind, names_given};
+use rx_names::{Index, Listing, Names};
 use std::alloc::{AllocError, Global};
 
 /// The name, unless it is as it must be.
@@ -21,13 +21,13 @@ fn unless(ok: bool, name: &str) -> Option<&str>
 }
 
 /// The first name that is introduced where it stands already.
-pub fn first_repeat(mentions: &[Mention]) -> Option<&str>
+pub fn first_repeat<'a>(mentions: &[Mention<'a>]) -> Option<&'a str>
     ensures { MatchOption result (first (filter_map repeat_in mentions.now) ≡ None) (λ x. first (filter_map repeat_in mentions.now) ≡ Some x.now) }
 {
     for mention in mentions {
-        if let Mention::Introduced { name, again } = mention {
+        if let MentionKind::Introduced { name, again } = &mention.kind {
             if *again {
-                return Some(name.text());
+                return Some(*name);
             }
         }
     }
@@ -35,10 +35,10 @@ pub fn first_repeat(mentions: &[Mention]) -> Option<&str>
 }
 
 /// A function takes so many arguments.
-fn takes_arguments(program: &Program, function: &Name, arguments: usize) -> bool
+fn takes_arguments(program: &Index, function: &str, arguments: usize) -> bool
     ensures { result ≡ takes_arguments program.now function.now arguments }
 {
-    match function_named(program, function) {
+    match program.function_named(function) {
         None => false,
         Some(function) => function.parameters().len() == arguments,
     }
@@ -99,45 +99,43 @@ fn fits(
 /// An element of a component has what the component takes.
 fn element_fits(
     alloc: Global,
-    program: &Program,
-    component: &Name,
-    attributes: &Names,
+    program: &Index,
+    component: &str,
+    attributes: &[Attribute],
     filled: bool,
 ) -> Result<bool, AllocError>
-    ensures { IfOk result (λ b. b ≡ element_fits program.now component.now attributes.now filled) }
+    ensures { IfOk result (λ b. b ≡ element_fits program.now component.now (given_names attributes.now) filled) }
 {
-    match component_named(program, component.text()) {
+    let attributes = names_given(alloc, attributes)?;
+    match program.component_named(component) {
         None => Ok(false),
-        Some(component) => fits(alloc, attributes, filled, component),
+        Some(component) => fits(alloc, &attributes, filled, component),
     }
 }
 
 /// The name that fails the check of arity in a mention.
 fn misfit<'a>(
     alloc: Global,
-    program: &Program,
-    mention: &'a Mention,
+    program: &Index,
+    mention: &Mention<'a>,
 ) -> Result<Option<&'a str>, AllocError>
     ensures { IfOk result (λ o. MatchOption o (misfit_in program.now mention.now ≡ None) (λ x. misfit_in program.now mention.now ≡ Some x.now)) }
 {
-    match mention {
-        Mention::Call {
+    match &mention.kind {
+        MentionKind::Call {
             function,
             arguments,
-        } => Ok(unless(
-            takes_arguments(program, function, *arguments),
-            function.text(),
-        )),
-        Mention::Reduction(function) => {
-            Ok(unless(takes_arguments(program, function, 2), function.text()))
+        } => Ok(unless(takes_arguments(program, *function, *arguments), *function)),
+        MentionKind::Reduction(function) => {
+            Ok(unless(takes_arguments(program, *function, 2), *function))
         }
-        Mention::Element {
+        MentionKind::Element {
             component,
             attributes,
             filled,
         } => {
-            let fit = element_fits(alloc, program, component, attributes, *filled)?;
-            Ok(unless(fit, component.text()))
+            let fit = element_fits(alloc, program, *component, *attributes, *filled)?;
+            Ok(unless(fit, *component))
         }
         _ => Ok(None),
     }
@@ -146,8 +144,8 @@ fn misfit<'a>(
 /// The first function or component that is given another number of parts than it takes.
 pub fn first_misfit<'a>(
     alloc: Global,
-    program: &Program,
-    mentions: &'a [Mention],
+    program: &Index,
+    mentions: &[Mention<'a>],
 ) -> Result<Option<&'a str>, AllocError>
     ensures { IfOk result (λ o. MatchOption o (first (filter_map (misfit_in program.now) mentions.now) ≡ None) (λ x. first (filter_map (misfit_in program.now) mentions.now) ≡ Some x.now)) }
 {
@@ -160,10 +158,10 @@ pub fn first_misfit<'a>(
 }
 
 /// The component `App` is there and has no parameters.
-pub fn is_rooted(program: &Program) -> bool
+pub fn is_rooted(program: &Index) -> bool
     ensures { result ≡ is_rooted program.now }
 {
-    match component_named(program, "App") {
+    match program.component_named("App") {
         None => false,
         Some(component) => component.parameters().len() == 0,
     }
@@ -173,30 +171,31 @@ pub fn is_rooted(program: &Program) -> bool
 fn name_length(mention: &Mention) -> Option<u64>
     ensures { result ≡ name_length_in mention.now }
 {
-    let name = match mention {
-        Mention::Introduced { name, .. }
-        | Mention::Variable { name, .. }
-        | Mention::Call { function: name, .. }
-        | Mention::Reduction(name)
-        | Mention::Context(name)
-        | Mention::Element {
+    let name = match &mention.kind {
+        MentionKind::Introduced { name, .. }
+        | MentionKind::Variable { name, .. }
+        | MentionKind::Call { function: name, .. }
+        | MentionKind::Reduction(name)
+        | MentionKind::Context(name)
+        | MentionKind::Element {
             component: name,
             ..
         }
-        | Mention::Host(name)
-        | Mention::Resource(name) => name,
-        Mention::Children { .. } | Mention::Quoted(_) | Mention::Counted { .. } => return None,
+        | MentionKind::Host(name)
+        | MentionKind::Resource(name) => *name,
+        MentionKind::Children { .. } | MentionKind::Quoted(_) | MentionKind::Counted { .. } =>
+            return None,
     };
-    Some(name.text().len() as u64)
+    Some(name.len() as u64)
 }
 
 /// The bytes between the quotes.
 fn text_length(mention: &Mention) -> Option<u64>
     ensures { result ≡ text_length_in mention.now }
 {
-    match mention {
-        Mention::Resource(name) => Some(name.text().len() as u64),
-        Mention::Quoted(length) => Some(*length as u64),
+    match &mention.kind {
+        MentionKind::Resource(name) => Some(name.len() as u64),
+        MentionKind::Quoted(length) => Some(*length as u64),
         _ => None,
     }
 }
@@ -205,8 +204,8 @@ fn text_length(mention: &Mention) -> Option<u64>
 fn count_of(what: Count, mention: &Mention) -> Option<u64>
     ensures { result ≡ count_in what mention.now }
 {
-    match mention {
-        Mention::Counted { what: other, found } if is_same(what, *other) => Some(*found),
+    match &mention.kind {
+        MentionKind::Counted { what: other, found } if is_same(what, *other) => Some(*found),
         _ => None,
     }
 }
@@ -268,28 +267,28 @@ pub fn first_over(what: Count, mentions: &[Mention]) -> Option<u64>
 }
 
 /// The name that is not known as what it stands for in a mention.
-fn unknown<'a>(listing: &Listing, mention: &'a Mention) -> Option<&'a str>
+fn unknown<'a>(listing: &Listing, mention: &Mention<'a>) -> Option<&'a str>
     ensures { MatchOption result
         (unknown_among listing.now.functions listing.now.components listing.now.contexts mention.now ≡ None)
         (λ x. unknown_among listing.now.functions listing.now.components listing.now.contexts mention.now ≡ Some x.now) }
 {
-    match mention {
-        Mention::Variable { name, known } => unless(*known, name.text()),
-        Mention::Children { known } => unless(*known, "children"),
-        Mention::Call { function: name, .. } | Mention::Reduction(name) => {
-            unless(listing.functions.contains(name.text()), name.text())
+    match &mention.kind {
+        MentionKind::Variable { name, known } => unless(*known, *name),
+        MentionKind::Children { known } => unless(*known, "children"),
+        MentionKind::Call { function: name, .. } | MentionKind::Reduction(name) => {
+            unless(listing.functions.contains(*name), *name)
         }
-        Mention::Context(name) => unless(listing.contexts.contains(name.text()), name.text()),
-        Mention::Element {
+        MentionKind::Context(name) => unless(listing.contexts.contains(*name), *name),
+        MentionKind::Element {
             component: name,
             ..
-        } => unless(listing.components.contains(name.text()), name.text()),
+        } => unless(listing.components.contains(*name), *name),
         _ => None,
     }
 }
 
 /// The first name that is not known as what it stands for.
-pub fn first_unknown<'a>(listing: &Listing, mentions: &'a [Mention]) -> Option<&'a str>
+pub fn first_unknown<'a>(listing: &Listing, mentions: &[Mention<'a>]) -> Option<&'a str>
     ensures { MatchOption result
         (first (filter_map (unknown_among listing.now.functions listing.now.components listing.now.contexts) mentions.now) ≡ None)
         (λ x. first (filter_map (unknown_among listing.now.functions listing.now.components listing.now.contexts) mentions.now) ≡ Some x.now) }

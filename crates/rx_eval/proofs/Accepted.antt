@@ -11,8 +11,8 @@ use Rattle.rx_rules.specs.Keys.{carries_key}
 use Rattle.rx_mentions.specs.Mentions.{Scope, no_scope, bound, slot_mentions, slots_mentions, attributes_mentions, taken_first, first_key_mentions, last_key_mentions, expr_mentions, parameters_mentions, statements_mentions, after_statement, component_scope, component_mentions, function_mentions, declarations_mentions, mentions}
 use Rattle.rx_check.specs.Checks.{measure_in}
 use Rattle.rx_check.specs.Accepted.{IsAccepted}
-use Rattle.rx_mentions.specs.declared.mention.Mention.{Mention}
-use Rattle.rx_mentions.specs.declared.mention.Mention.TheVariants as mention
+use Rattle.rx_mentions.specs.Mention.{Mention}
+use Rattle.rx_mentions.specs.Mention as mention
 use Rattle.rx_mentions.specs.declared.count.Count.TheVariants as count
 use Rattle.rx_eval.specs.Loops.{HasShortLoops, HaveShortLoops}
 

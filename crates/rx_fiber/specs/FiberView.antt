@@ -1,6 +1,6 @@
 -- A fiber of the code as plain data.
 use Rattle.rx_fiber.specs.Fibers as fibers
-use Rattle.rx_fiber.specs.Fibers.{completed_stage}
+use Rattle.rx_fiber.specs.Fibers.{completed_stage, numbered_stage}
 use Rattle.rx_elem.specs.Trees.{of_boundary}
 use Rattle.rx_node.specs.MarkView.{mark_seen}
 use Rattle.rx_fiber.specs.declared.stage.Stage.{Stage}
@@ -21,6 +21,7 @@ abbrev pub changed_stage : StageChange → fibers.Stage → fibers.Stage
 changed_stage change.Complete s = completed_stage s
 changed_stage change.Try s = fibers.trying
 changed_stage (change.Hide a) s = fibers.begun (of_boundary (boundary.Hidden a))
+changed_stage (change.Number n) s = numbered_stage n s
 
 -- a fiber whose stage is changed
 abbrev pub changed : StageChange → fibers.Fiber → fibers.Fiber

@@ -1,9 +1,9 @@
 -- What a fiber holds beside its links.
-use Rattle.std.specs.Prelude.{ℕ}
+use Rattle.std.specs.Prelude.{ℕ, Some}
 use Rattle.rx_susp.specs.declared.boundary.BoundaryState.TheVariants.{Shown}
 use Rattle.rx_base.specs.Awaits.{Awaits}
 use Rattle.rx_elem.specs.Elements.{Element}
-use Rattle.rx_elem.specs.Trees.{Mark, of_boundary}
+use Rattle.rx_elem.specs.Trees.{Mark, of_instance, of_host, of_boundary, plain}
 
 -- how far a fiber has come
 pub data Stage : Type 0 where
@@ -32,3 +32,17 @@ completed_stage (fallback a) = fallback a
 -- the fiber of a node that is completed
 abbrev pub completed : Fiber → Fiber
 completed v = record v { stage = completed_stage v.stage }
+
+-- the mark of an instance or a host with this number
+abbrev pub with_number : ℕ → Mark → Mark
+with_number n (of_instance i) = of_instance (record i { number = Some n })
+with_number n (of_host h) = of_host (Some n)
+with_number n (of_boundary b) = of_boundary b
+with_number n plain = plain
+
+-- an instance or a host gets this number, and nothing else changes
+abbrev pub numbered_stage : ℕ → Stage → Stage
+numbered_stage n waiting = waiting
+numbered_stage n (begun m) = begun (with_number n m)
+numbered_stage n trying = trying
+numbered_stage n (fallback a) = fallback a

@@ -78,6 +78,7 @@ impl Fiber {
             StageChange::Hide(awaits) => {
                 self.stage = Stage::Begun(Mark::Boundary(BoundaryState::Hidden(awaits)));
             }
+            StageChange::Number(number) => self.stage.give_number(number),
         }
     }
 }

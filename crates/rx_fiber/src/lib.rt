@@ -8,5 +8,5 @@ mod stage;
 mod tests;
 
 pub use fiber::Fiber;
-pub use old::{OldChildren, old_children, old_fallback, old_primary};
+pub use old::{OldChildren, hides, is_fallback, old_children, old_fallback, old_primary};
 pub use stage::{Stage, StageChange};

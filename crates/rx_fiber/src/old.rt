@@ -13,13 +13,15 @@ use rx_links::{FiberId, FiberTree};
 use rx_node::Mark;
 use std::alloc::{AllocError, Global};
 
-fn is_fallback(stage: &Stage) -> bool
+/// Whether a fiber of this stage is that of the fallback of the boundary right before it.
+pub fn is_fallback(stage: &Stage) -> bool
     ensures { result ≡ is_fallback (stage_seen stage.now) }
 {
     matches!(stage, Stage::Fallback(_))
 }
 
-fn hides(stage: &Stage) -> bool
+/// Whether a fiber of this stage is that of a boundary that hides its children.
+pub fn hides(stage: &Stage) -> bool
     ensures { result ≡ hides_in (stage_seen stage.now) }
 {
     match stage {

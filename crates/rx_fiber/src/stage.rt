@@ -1,4 +1,8 @@
 // How far a fiber has come.
+ghost use Rattle.std.specs.Prelude.{◌≡◌};
+ghost use Rattle.rx_fiber.specs.Fibers.{numbered_stage};
+ghost use Rattle.rx_fiber.specs.FiberView.{stage_seen};
+
 use rx_base::Awaits;
 use rx_node::Mark;
 
@@ -24,4 +28,19 @@ pub enum StageChange {
     Try,
     /// A boundary hides its children, which wait for these resources.
     Hide(Awaits),
+    /// An instance or a host gets this number, by which later commits know it.
+    Number(u64),
+}
+
+impl Stage {
+    /// The mark of an instance or a host gets this number; nothing else changes.
+    pub(crate) fn give_number(&mut self, number: u64)
+        ensures { stage_seen self.new ≡ numbered_stage number (stage_seen self.old) }
+    {
+        match self {
+            Stage::Begun(Mark::Instance(instance)) => instance.number = Some(number),
+            Stage::Begun(Mark::Host(host)) => *host = Some(number),
+            _ => {}
+        }
+    }
 }

@@ -4,3 +4,5 @@ pub mod Rounds
 pub mod Figured
 pub mod Alone
 pub mod Same
+pub mod Agree
+pub mod Ordered

@@ -1,5 +1,5 @@
 -- What the expressions of a declaration cost at most.
-use Rattle.std.specs.Prelude.{ℕ, zero, suc, ◌+◌, ◌*◌, List, [], ◌∷◌, Option, Some, None, nat_lt, find, length, map, slice_get, slice_index}
+use Rattle.std.specs.Prelude.{◌≡◌, ◌≤◌, true, ℕ, zero, suc, ◌+◌, ◌*◌, List, [], ◌∷◌, Option, Some, None, nat_lt, find, length, map, slice_get, slice_index}
 use Rattle.rx_ast.specs.Syntax.{Program, Function, Line, Component, functions, Expr, Links, Exprs, exprs_of, Attribute, key, computed, literal, KeyPlace, unkeyed, key_first, key_last, Slot, Slots, body_slots, Statement, state, reducer, context, use_resource, constant, effect, Declaration, of_context, of_function, of_component}
 use Rattle.rx_ast.specs.Syntax as syntax
 use Rattle.rx_ast.specs.SlotView.{key_place_of}
@@ -7,6 +7,7 @@ use Rattle.rx_ast.specs.declared.slot.Tag.{Tag}
 use Rattle.rx_ast.specs.declared.slot.Tag.TheVariants as tag
 use Rattle.rx_rules.specs.Names.{function_number}
 use Rattle.rx_rules.specs.Bounds.{held}
+use Rattle.rx_order.specs.Graphs.{is_among}
 
 -- a sum, held
 abbrev pub held_sum : ℕ → ℕ → ℕ
@@ -146,3 +147,7 @@ cost_round p table = map (body_cost (slice_index table) p) (functions p)
 unfoldable pub cost_rounds : ℕ → Program → List ℕ → List ℕ
 cost_rounds zero p table = table
 cost_rounds (suc n) p table = cost_rounds n p (cost_round p table)
+
+-- the table has the costs of each of these functions, where calls nest deep enough for them all
+abbrev pub AreCosts : Program → List ℕ → (numbers : List ℕ) → Type 0
+AreCosts p costs numbers = (f depth : ℕ) → is_among numbers f ≡ true → length numbers ≤ depth → function_cost depth p f ≡ slice_index costs f

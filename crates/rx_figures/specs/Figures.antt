@@ -1,10 +1,11 @@
 -- What is computed of a slot: its nodes, levels and waits side by side, each sum and product held.
-use Rattle.std.specs.Prelude.{ℕ, zero, suc, max, Bool, true, false, ◌&&◌, ◌||◌, bytes_eq, List, map, length, slice_index_or, Some}
+use Rattle.std.specs.Prelude.{◌≡◌, ◌≤◌, ℕ, zero, suc, max, Bool, true, false, ◌&&◌, ◌||◌, bytes_eq, List, map, length, slice_index_or, Some}
 use Rattle.rx_ast.specs.Syntax.{Component, Program, components}
-use Rattle.rx_rules.specs.Bounds.{component_levels, Column, slot_by, body_if, reads_resource}
+use Rattle.rx_rules.specs.Bounds.{component_levels, Column, slot_by, body_if, body_by, reads_resource}
 use Rattle.rx_ast.specs.declared.slot.Tag.{Tag}
 use Rattle.rx_ast.specs.declared.slot.Tag.TheVariants as tag
 use Rattle.rx_rules.specs.Names.{component_number}
+use Rattle.rx_order.specs.Graphs.{is_among}
 use Rattle.rx_figures.specs.Costs.{held_sum, held_product}
 use Rattle.rx_figures.specs.declared.figures.Figures.{Figures}
 use Rattle.rx_figures.specs.declared.figures.Counted.{Counted}
@@ -118,3 +119,7 @@ round_of counted p table = map (λ c. body_if (figures counted) (known_in table)
 unfoldable pub rounds : Counted → ℕ → Program → List Figures → List Figures
 rounds counted zero p table = table
 rounds counted (suc n) p table = rounds counted n p (round_of counted p table)
+
+-- the table has the figures of each of these components, where components nest deep enough for them all
+abbrev pub AreFigures : Counted → Program → List Figures → (numbers : List ℕ) → Type 0
+AreFigures counted p table numbers = (c depth : ℕ) → is_among numbers c ≡ true → length numbers ≤ depth → body_by (figures counted) depth p c ≡ known_in table c

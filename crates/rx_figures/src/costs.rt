@@ -1,22 +1,22 @@
 // What expressions cost.
-ghost use Rattle.std.specs.Prelude.{◌≡◌, [], bytes_eq, IfOk, length, slice_index, map};
-ghost use Rattle.std.specs.List.{position_from};
+ghost use Rattle.std.specs.Prelude.{◌≡◌, ℕ, List, [], ◌∷◌, ◌++◌, true, IfOk, length, slice_index, map};
+ghost use Rattle.std.specs.List.{list_all};
 ghost use Rattle.rx_ast.specs.Syntax.{exprs_of, slots_of, body_slots, functions};
 ghost use Rattle.rx_ast.specs.ExprView.{links_of};
 ghost use Rattle.rx_ast.specs.SlotView.{key_place_of};
-ghost use Rattle.rx_rules.specs.Names.{function_number};
-ghost use Rattle.rx_names.specs.Listed.{function_names};
-ghost use Rattle.rx_figures.specs.Costs.{first_over, cost_over};
-ghost use Rattle.rx_figures.specs.Costs.{cost_limit};
+ghost use Rattle.rx_order.specs.Graphs.{next_of, is_among, IsFinished};
+ghost use Rattle.rx_mentions.specs.Ways.{calls};
+ghost use Rattle.rx_figures.specs.Costs.{AreCosts, function_cost, cost_limit, cost_over, first_over};
 ghost use Rattle.rx_figures.specs.Costs.{expr_cost, links_cost, exprs_cost, lines_cost, body_cost, attribute_cost, attributes_cost, key_cost, slot_cost, slots_cost, tag_cost, statement_cost, statements_cost, cost_from, cost_round, cost_rounds};
 
 use crate::held::{held_product, held_sum};
 use rx_ast::{
     Attribute, AttributeKind, Body, BodyKind, Child, ChildKind, Content, Declaration,
-    DeclarationKind, Element, Expr, ExprKind, Fragment, Function, KeyPlace, Line, Link, Program,
-    Slot, SlotKind, Statement, StatementKind, Tag,
+    DeclarationKind, Element, Expr, ExprKind, Fragment, Function, KeyPlace, Line, Link, Slot,
+    SlotKind, Statement, StatementKind, Tag,
 };
-use rx_names::{function_count, function_number};
+use rx_names::Index;
+use rx_order::Order;
 use std::alloc::{AllocError, Global};
 
 /// The greatest cost of a declaration.
@@ -34,7 +34,7 @@ fn known(costs: &[u64], function: usize) -> u64
 
 /// The cost of an expression.
 #[cycle(expr_cost)]
-fn expr(program: &Program, costs: &[u64], expr: &Expr) -> u64
+fn expr(program: &Index, costs: &[u64], expr: &Expr) -> u64
     ensures { result ≡ expr_cost (slice_index costs.now) program.now expr.now }
 {
     match &expr.kind {
@@ -62,7 +62,7 @@ fn expr(program: &Program, costs: &[u64], expr: &Expr) -> u64
             function,
             arguments,
         } => {
-            let own = known(costs, function_number(program, function.text()));
+            let own = known(costs, program.function_number(function.text()));
             held_sum(1, held_sum(exprs(program, costs, arguments), own))
         }
     }
@@ -70,7 +70,7 @@ fn expr(program: &Program, costs: &[u64], expr: &Expr) -> u64
 
 /// The cost of operators with the operands behind them.
 #[cycle(expr_cost)]
-fn links(program: &Program, costs: &[u64], links: &[Link]) -> u64
+fn links(program: &Index, costs: &[u64], links: &[Link]) -> u64
     ensures { result ≡ links_cost (slice_index costs.now) program.now (links_of links.now) }
 {
     let mut at = links.len();
@@ -84,7 +84,7 @@ fn links(program: &Program, costs: &[u64], links: &[Link]) -> u64
 
 /// The cost of each expression.
 #[cycle(expr_cost)]
-fn exprs(program: &Program, costs: &[u64], exprs: &[Expr]) -> u64
+fn exprs(program: &Index, costs: &[u64], exprs: &[Expr]) -> u64
     ensures { result ≡ exprs_cost (slice_index costs.now) program.now (exprs_of exprs.now) }
 {
     let mut at = exprs.len();
@@ -97,7 +97,7 @@ fn exprs(program: &Program, costs: &[u64], exprs: &[Expr]) -> u64
 }
 
 /// The cost of a function's lines.
-fn lines(program: &Program, costs: &[u64], lines: &[Line]) -> u64
+fn lines(program: &Index, costs: &[u64], lines: &[Line]) -> u64
     ensures { result ≡ lines_cost (slice_index costs.now) program.now lines.now }
 {
     let mut at = lines.len();
@@ -110,7 +110,7 @@ fn lines(program: &Program, costs: &[u64], lines: &[Line]) -> u64
 }
 
 /// The cost of what a function computes.
-fn function(program: &Program, costs: &[u64], function: &Function) -> u64
+fn function(program: &Index, costs: &[u64], function: &Function) -> u64
     ensures { result ≡ body_cost (slice_index costs.now) program.now function.now }
 {
     let before = lines(program, costs, function.lines());
@@ -118,7 +118,7 @@ fn function(program: &Program, costs: &[u64], function: &Function) -> u64
 }
 
 /// The cost of an attribute.
-fn attribute(program: &Program, costs: &[u64], attribute: &Attribute) -> u64
+fn attribute(program: &Index, costs: &[u64], attribute: &Attribute) -> u64
     ensures { result ≡ attribute_cost (slice_index costs.now) program.now attribute.now }
 {
     match &attribute.kind {
@@ -130,7 +130,7 @@ fn attribute(program: &Program, costs: &[u64], attribute: &Attribute) -> u64
 }
 
 /// The cost of attributes.
-fn attributes(program: &Program, costs: &[u64], attributes: &[Attribute]) -> u64
+fn attributes(program: &Index, costs: &[u64], attributes: &[Attribute]) -> u64
     ensures { result ≡ attributes_cost (slice_index costs.now) program.now attributes.now }
 {
     let mut at = attributes.len();
@@ -143,7 +143,7 @@ fn attributes(program: &Program, costs: &[u64], attributes: &[Attribute]) -> u64
 }
 
 /// The cost of a key.
-fn key(program: &Program, costs: &[u64], place: &KeyPlace) -> u64
+fn key(program: &Index, costs: &[u64], place: &KeyPlace) -> u64
     ensures { result ≡ key_cost (slice_index costs.now) program.now (key_place_of place.now) }
 {
     match place {
@@ -154,7 +154,7 @@ fn key(program: &Program, costs: &[u64], place: &KeyPlace) -> u64
 
 /// The cost of what an opening tag is given.
 #[cycle(slot_cost)]
-fn tag(program: &Program, costs: &[u64], tag: &Tag) -> u64
+fn tag(program: &Index, costs: &[u64], tag: &Tag) -> u64
     ensures { result ≡ tag_cost (slice_index costs.now) program.now tag.now }
 {
     match tag {
@@ -186,7 +186,7 @@ fn tag(program: &Program, costs: &[u64], tag: &Tag) -> u64
 
 /// The cost of an element.
 #[cycle(slot_cost)]
-fn element(program: &Program, costs: &[u64], element: &Element) -> u64
+fn element(program: &Index, costs: &[u64], element: &Element) -> u64
     ensures { result ≡ slot_cost (slice_index costs.now) program.now element.now }
 {
     let given = tag(program, costs, &element.tag);
@@ -198,7 +198,7 @@ fn element(program: &Program, costs: &[u64], element: &Element) -> u64
 
 /// The cost of a slot.
 #[cycle(slot_cost)]
-fn slot(program: &Program, costs: &[u64], slot: &Slot) -> u64
+fn slot(program: &Index, costs: &[u64], slot: &Slot) -> u64
     ensures { result ≡ slot_cost (slice_index costs.now) program.now slot.now }
 {
     match &slot.kind {
@@ -225,7 +225,7 @@ fn slot(program: &Program, costs: &[u64], slot: &Slot) -> u64
 
 /// The cost of a place of a child list.
 #[cycle(slot_cost)]
-fn child(program: &Program, costs: &[u64], child: &Child) -> u64
+fn child(program: &Index, costs: &[u64], child: &Child) -> u64
     ensures { result ≡ slot_cost (slice_index costs.now) program.now child.now }
 {
     match &child.kind {
@@ -236,7 +236,7 @@ fn child(program: &Program, costs: &[u64], child: &Child) -> u64
 
 /// The cost of a child list.
 #[cycle(slot_cost)]
-fn slots(program: &Program, costs: &[u64], children: &[Child]) -> u64
+fn slots(program: &Index, costs: &[u64], children: &[Child]) -> u64
     ensures { result ≡ slots_cost (slice_index costs.now) program.now (slots_of children.now) }
 {
     let mut at = children.len();
@@ -249,14 +249,14 @@ fn slots(program: &Program, costs: &[u64], children: &[Child]) -> u64
 }
 
 /// The cost of a fragment.
-fn fragment(program: &Program, costs: &[u64], fragment: &Fragment) -> u64
+fn fragment(program: &Index, costs: &[u64], fragment: &Fragment) -> u64
     ensures { result ≡ slots_cost (slice_index costs.now) program.now fragment.now }
 {
     slots(program, costs, fragment.children())
 }
 
 /// The cost of what a component returns.
-fn body(program: &Program, costs: &[u64], body: &Body) -> u64
+fn body(program: &Index, costs: &[u64], body: &Body) -> u64
     ensures { result ≡ slots_cost (slice_index costs.now) program.now (body_slots body.now) }
 {
     match &body.kind {
@@ -266,7 +266,7 @@ fn body(program: &Program, costs: &[u64], body: &Body) -> u64
 }
 
 /// The cost of a statement.
-fn statement(program: &Program, costs: &[u64], statement: &Statement) -> u64
+fn statement(program: &Index, costs: &[u64], statement: &Statement) -> u64
     ensures { result ≡ statement_cost (slice_index costs.now) program.now statement.now }
 {
     match &statement.kind {
@@ -280,7 +280,7 @@ fn statement(program: &Program, costs: &[u64], statement: &Statement) -> u64
 }
 
 /// The cost of statements.
-fn statements(program: &Program, costs: &[u64], statements: &[Statement]) -> u64
+fn statements(program: &Index, costs: &[u64], statements: &[Statement]) -> u64
     ensures { result ≡ statements_cost (slice_index costs.now) program.now statements.now }
 {
     let mut at = statements.len();
@@ -293,7 +293,7 @@ fn statements(program: &Program, costs: &[u64], statements: &[Statement]) -> u64
 }
 
 /// The cost of a declaration.
-fn declaration(program: &Program, costs: &[u64], declaration: &Declaration) -> u64
+fn declaration(program: &Index, costs: &[u64], declaration: &Declaration) -> u64
     ensures { result ≡ cost_from (slice_index costs.now) program.now declaration.now }
 {
     match &declaration.kind {
@@ -307,7 +307,7 @@ fn declaration(program: &Program, costs: &[u64], declaration: &Declaration) -> u
 }
 
 /// One round over all functions, from what was known before.
-fn round(alloc: Global, program: &Program, costs: &[u64]) -> Result<Vec<u64>, AllocError>
+fn round(alloc: Global, program: &Index, costs: &[u64]) -> Result<Vec<u64>, AllocError>
     ensures { IfOk result (λ t. t.items ≡ cost_round program.now costs.now) }
 {
     let mut next = Vec::new(alloc);
@@ -320,7 +320,7 @@ fn round(alloc: Global, program: &Program, costs: &[u64]) -> Result<Vec<u64>, Al
 }
 
 /// Rounds until nothing changes, and at most so many.
-fn settled(alloc: Global, program: &Program, most: usize) -> Result<Vec<u64>, AllocError>
+fn settled(alloc: Global, program: &Index, most: usize) -> Result<Vec<u64>, AllocError>
     ensures { IfOk result (λ t. t.items ≡ cost_rounds most program.now []) }
 {
     let mut table: Vec<u64> = Vec::new(alloc);
@@ -337,7 +337,7 @@ fn settled(alloc: Global, program: &Program, most: usize) -> Result<Vec<u64>, Al
 }
 
 /// The first cost of these declarations that is over the limit.
-fn first_over(program: &Program, costs: &[u64]) -> Option<u64>
+fn first_over(program: &Index, costs: &[u64]) -> Option<u64>
     ensures { result ≡ first_over cost_limit (map (cost_from (slice_index costs.now) program.now) program.now.declarations) }
 {
     for inner in program.declarations() {
@@ -349,10 +349,59 @@ fn first_over(program: &Program, costs: &[u64]) -> Option<u64>
     None
 }
 
-/// The first cost of a declaration that is over the limit.
-pub fn cost_over(alloc: Global, program: &Program) -> Result<Option<u64>, AllocError>
+/// Puts the cost of one function more into the table, from those of the functions that it calls.
+fn finish(program: &Index, costs: &mut Vec<u64>, number: usize)
+    requires { length costs.old.items ≡ length (functions program.now) }
+    ensures sized { length costs.new.items ≡ length costs.old.items }
+    ensures more { (done : List ℕ) → AreCosts program.now costs.old.items done
+        → list_all (is_among done) (next_of (calls program.now) number) ≡ true → AreCosts program.now costs.new.items (done ++ number ∷ []) }
+{
+    match program.function(number) {
+        None => {}
+        Some(inner) => {
+            let found = function(program, costs.as_slice(), inner);
+            costs[number] = found;
+        }
+    }
+}
+
+/// The costs of these functions, each from those of the functions that it calls, which are finished before it.
+fn in_order(alloc: Global, program: &Index, order: &Order) -> Result<Vec<u64>, AllocError>
+    requires { IsFinished (calls program.now) order.now }
+    ensures costs { IfOk result (λ t. AreCosts program.now t.items order.now) }
+    ensures sized { IfOk result (λ t. length t.items ≡ length (functions program.now)) }
+{
+    let mut costs = vec![in alloc; 0; program.function_count()]?;
+    for number in order.numbers() {
+        finish(program, &mut costs, *number);
+    }
+    Ok(costs)
+}
+
+/// The costs of all functions. In an order in which functions are finished each is looked at once; where not all are finished
+/// in the order, rounds over all functions are made.
+fn costs_of(alloc: Global, program: &Index, order: &Order) -> Result<Vec<u64>, AllocError>
+    requires { IsFinished (calls program.now) order.now }
+    ensures { IfOk result (λ t. function_cost (length (functions program.now)) program.now ≡ slice_index t.items) }
+{
+    let count = program.function_count();
+    if order.is_whole(count) {
+        let finished = in_order(alloc, program, order)?;
+        return Ok(finished);
+    }
+    let table = settled(alloc, program, count)?;
+    Ok(table)
+}
+
+/// The first cost of a declaration that is over the limit, with an order in which functions are finished.
+///
+/// # Errors
+///
+/// Want of memory alone.
+pub fn cost_over(alloc: Global, program: &Index, order: &Order) -> Result<Option<u64>, AllocError>
+    requires { IsFinished (calls program.now) order.now }
     ensures { IfOk result (λ o. o ≡ cost_over program.now) }
 {
-    let costs = settled(alloc, program, function_count(program))?;
+    let costs = costs_of(alloc, program, order)?;
     Ok(first_over(program, &costs))
 }

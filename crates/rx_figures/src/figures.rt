@@ -1,19 +1,21 @@
 // Nodes, levels and waits of slots.
-ghost use Rattle.std.specs.Prelude.{◌≡◌, [], bytes_eq, IfOk, Some, IsTrue, length};
-ghost use Rattle.std.specs.List.{position_from};
+ghost use Rattle.std.specs.Prelude.{◌≡◌, ℕ, List, [], ◌∷◌, ◌++◌, true, IfOk, Some, IsTrue, length};
 ghost use Rattle.rx_ast.specs.Syntax.{slots_of, body_slots, components};
-ghost use Rattle.rx_rules.specs.Names.{component_names, component_number, root_name};
+ghost use Rattle.rx_rules.specs.Names.{component_number, root_name};
 ghost use Rattle.rx_rules.specs.Bounds.{body_by, slot_by, slots_by, body_if, reads_resource};
-ghost use Rattle.rx_figures.specs.Figures.{nesting_levels};
-ghost use Rattle.rx_figures.specs.Figures.{counts_reads, no_figures, text_figures, children_figures, beside_figures, around_figures, repeated_figures, boundary_figures, component_figures, figures, known_in, tag_figures, round_of, rounds};
+ghost use Rattle.std.specs.List.{list_all};
+ghost use Rattle.rx_order.specs.Graphs.{next_of, is_among, IsFinished};
+ghost use Rattle.rx_mentions.specs.Ways.{places};
+ghost use Rattle.rx_figures.specs.Figures.{nesting_levels, counts_reads, no_figures, text_figures, children_figures, beside_figures, around_figures, repeated_figures, boundary_figures, component_figures, figures, known_in, tag_figures, round_of, rounds, AreFigures};
 
 use crate::held::{held_product, held_sum};
 use rx_ast::{
-    Body, BodyKind, Child, ChildKind, Component, Content, DeclarationKind, Element, Fragment,
-    Program, Slot, SlotKind, StatementKind, Tag,
+    Body, BodyKind, Child, ChildKind, Component, Content, DeclarationKind, Element, Fragment, Slot,
+    SlotKind, StatementKind, Tag,
 };
 use rx_base::Name;
-use rx_names::{component_count, component_number};
+use rx_names::Index;
+use rx_order::Order;
 use std::alloc::{AllocError, Global};
 
 /// The components whose reads count.
@@ -155,19 +157,13 @@ fn known(table: &[Figures], component: usize) -> Figures
 
 /// The figures of an element, from those of its children.
 #[cycle(figures)]
-fn tag(
-    program: &Program,
-    counted: &Counted,
-    table: &[Figures],
-    tag: &Tag,
-    inner: Figures,
-) -> Figures
+fn tag(program: &Index, counted: &Counted, table: &[Figures], tag: &Tag, inner: Figures) -> Figures
     ensures { result ≡ tag_figures counted.now table.now program.now tag.now inner }
 {
     match tag {
         Tag::Host { .. } | Tag::Provider { .. } => around(inner),
         Tag::Component { name, .. } => {
-            filled(known(table, component_number(program, name.text())), inner)
+            filled(known(table, program.component_number(name.text())), inner)
         }
         Tag::Suspense { fallback, .. } => boundary(inner, slot(program, counted, table, fallback)),
     }
@@ -175,7 +171,7 @@ fn tag(
 
 /// The figures of an element.
 #[cycle(figures)]
-fn element(program: &Program, counted: &Counted, table: &[Figures], element: &Element) -> Figures
+fn element(program: &Index, counted: &Counted, table: &[Figures], element: &Element) -> Figures
     ensures { result ≡ slot_by (figures counted.now) (known_in table.now) program.now element.now }
 {
     match &element.content {
@@ -189,7 +185,7 @@ fn element(program: &Program, counted: &Counted, table: &[Figures], element: &El
 
 /// The figures of a slot.
 #[cycle(figures)]
-fn slot(program: &Program, counted: &Counted, table: &[Figures], slot: &Slot) -> Figures
+fn slot(program: &Index, counted: &Counted, table: &[Figures], slot: &Slot) -> Figures
     ensures { result ≡ slot_by (figures counted.now) (known_in table.now) program.now slot.now }
 {
     match &slot.kind {
@@ -213,7 +209,7 @@ fn slot(program: &Program, counted: &Counted, table: &[Figures], slot: &Slot) ->
 
 /// The figures of a place of a child list.
 #[cycle(figures)]
-fn child(program: &Program, counted: &Counted, table: &[Figures], child: &Child) -> Figures
+fn child(program: &Index, counted: &Counted, table: &[Figures], child: &Child) -> Figures
     ensures { result ≡ slot_by (figures counted.now) (known_in table.now) program.now child.now }
 {
     match &child.kind {
@@ -224,7 +220,7 @@ fn child(program: &Program, counted: &Counted, table: &[Figures], child: &Child)
 
 /// The figures of a child list.
 #[cycle(figures)]
-fn slots(program: &Program, counted: &Counted, table: &[Figures], children: &[Child]) -> Figures
+fn slots(program: &Index, counted: &Counted, table: &[Figures], children: &[Child]) -> Figures
     ensures { result ≡ slots_by (figures counted.now) (known_in table.now) program.now (slots_of children.now) }
 {
     let mut at = children.len();
@@ -237,14 +233,14 @@ fn slots(program: &Program, counted: &Counted, table: &[Figures], children: &[Ch
 }
 
 /// The figures of a fragment.
-fn fragment(program: &Program, counted: &Counted, table: &[Figures], fragment: &Fragment) -> Figures
+fn fragment(program: &Index, counted: &Counted, table: &[Figures], fragment: &Fragment) -> Figures
     ensures { result ≡ slots_by (figures counted.now) (known_in table.now) program.now fragment.now }
 {
     slots(program, counted, table, fragment.children())
 }
 
 /// The figures of what a component returns.
-fn body(program: &Program, counted: &Counted, table: &[Figures], body: &Body) -> Figures
+fn body(program: &Index, counted: &Counted, table: &[Figures], body: &Body) -> Figures
     ensures { result ≡ slots_by (figures counted.now) (known_in table.now) program.now (body_slots body.now) }
 {
     match &body.kind {
@@ -282,7 +278,7 @@ fn counts_reads(counted: &Counted, component: &Component) -> bool
 
 /// The figures of a component's body.
 fn component(
-    program: &Program,
+    program: &Index,
     counted: &Counted,
     table: &[Figures],
     component: &Component,
@@ -303,7 +299,7 @@ fn component(
 /// One round over all components, from what was known before.
 fn round(
     alloc: Global,
-    program: &Program,
+    program: &Index,
     counted: &Counted,
     table: &[Figures],
 ) -> Result<Vec<Figures>, AllocError>
@@ -353,7 +349,7 @@ fn are_same(a: &[Figures], b: &[Figures]) -> bool
 /// Rounds until nothing changes, and at most so many.
 fn settled(
     alloc: Global,
-    program: &Program,
+    program: &Index,
     counted: &Counted,
     most: usize,
 ) -> Result<Vec<Figures>, AllocError>
@@ -373,22 +369,66 @@ fn settled(
 }
 
 /// How deep components may nest.
-pub fn nesting_levels(program: &Program) -> usize
+fn nesting_levels(program: &Index) -> usize
     ensures { result ≡ nesting_levels program.now }
 {
-    let count = component_count(program);
+    let count = program.component_count();
     if count < 256 { 256 } else { count }
 }
 
-/// The figures of the root's body, where components nest at most so deep.
+/// Puts the figures of one component more into the table, from those of the components that its body places.
+fn finish(program: &Index, counted: &Counted, table: &mut Vec<Figures>, number: usize)
+    requires { length table.old.items ≡ length (components program.now) }
+    ensures sized { length table.new.items ≡ length table.old.items }
+    ensures more { (done : List ℕ) → AreFigures counted.now program.now table.old.items done
+        → list_all (is_among done) (next_of (places program.now) number) ≡ true → AreFigures counted.now program.now table.new.items (done ++ number ∷ []) }
+{
+    match program.component(number) {
+        None => {}
+        Some(inner) => {
+            let found = component(program, counted, table.as_slice(), inner);
+            table[number] = found;
+        }
+    }
+}
+
+/// The figures of these components, each from those of the components that its body places, which are finished before it.
+fn in_order(
+    alloc: Global,
+    program: &Index,
+    counted: &Counted,
+    order: &Order,
+) -> Result<Vec<Figures>, AllocError>
+    requires { IsFinished (places program.now) order.now }
+    ensures { IfOk result (λ t. AreFigures counted.now program.now t.items order.now) }
+{
+    let mut table = vec![in alloc; nothing(); program.component_count()]?;
+    for number in order.numbers() {
+        finish(program, counted, &mut table, *number);
+    }
+    Ok(table)
+}
+
+/// The figures of the root's body. In an order in which components are finished each is looked at once; where the root is not
+/// finished in the order, rounds over all components are made.
+///
+/// # Errors
+///
+/// Want of memory alone.
 pub fn root_figures(
     alloc: Global,
-    program: &Program,
+    program: &Index,
     counted: &Counted,
-    most: usize,
+    order: &Order,
 ) -> Result<Figures, AllocError>
-    ensures { IfOk result (λ f. f ≡ body_by (figures counted.now) most program.now (component_number program.now root_name)) }
+    requires { IsFinished (places program.now) order.now }
+    ensures { IfOk result (λ f. f ≡ body_by (figures counted.now) (nesting_levels program.now) program.now (component_number program.now root_name)) }
 {
-    let table = settled(alloc, program, counted, most)?;
-    Ok(known(&table, component_number(program, "App")))
+    let root = program.component_number("App");
+    if order.has(root) {
+        let finished = in_order(alloc, program, counted, order)?;
+        return Ok(known(&finished, root));
+    }
+    let table = settled(alloc, program, counted, nesting_levels(program))?;
+    Ok(known(&table, root))
 }

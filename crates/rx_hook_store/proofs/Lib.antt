@@ -1,2 +1,7 @@
 pub mod Rendering
 pub mod Stores
+pub mod Dispatching
+pub mod Sending
+pub mod Committed
+pub mod Numbered
+pub mod Staying

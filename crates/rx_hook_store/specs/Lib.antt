@@ -1,3 +1,5 @@
 pub mod Store
 pub mod Gives
 pub mod Rendered
+pub mod Changing
+pub mod Commits

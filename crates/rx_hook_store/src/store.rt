@@ -1,19 +1,29 @@
 // The hooks of the mounted instances.
-ghost use Rattle.std.specs.Prelude.{◌≡◌, ℕ, ℤ, false, nat_eq, List, None, OnOk, OnErr, IfOk, IsSome};
+ghost use Rattle.std.specs.Prelude.{◌≡◌, ◌+◌, ◌<◌, ◌≤◌, ℕ, ℤ, false, nat_eq, List, Some, None, OnOk, OnErr, IfOk, IsSome, IsSomeAnd, if◌then◌else◌, length, map, slice_get};
 ghost use Rattle.rx_ast.specs.Syntax.{Program};
+ghost use Rattle.rx_base.specs.declared.cut.Cut.{Cut};
+ghost use Rattle.rx_lane.specs.Lanes.{Lanes};
+ghost use Rattle.rx_elem.specs.Spots.{Mounted, mounted};
+ghost use Rattle.rx_queue.specs.Journal.{hook};
+ghost use Rattle.rx_queue.specs.History.{Answers, committed_value};
+ghost use Rattle.rx_hooks.specs.declared.hook.Hook.{Hook};
+ghost use Rattle.rx_hooks.specs.Hooks.{HookHistory, HooksStandFor, changed_at, committed_hook, owed_hook};
 ghost use Rattle.rx_meaning.specs.Expressions.{answers_of};
 ghost use Rattle.rx_meaning.specs.Fresh.{Sight, hook_values};
 ghost use Rattle.rx_meaning.specs.Settled.{DoneBefore};
-ghost use Rattle.rx_model.specs.State.{State, opening};
+ghost use Rattle.rx_model.specs.State.{State, committed_values, linked_lanes, opening};
+ghost use Rattle.rx_model.specs.Accepting.{dispatched_for, lane_of};
 ghost use Rattle.rx_model.specs.HooksOf.{KeepsAllHooks};
 ghost use Rattle.rx_hook_store.specs.Store.{kept_hooks};
 ghost use Rattle.rx_hook_store.specs.Gives.{GivesValues};
 ghost use Rattle.rx_hook_store.specs.Rendered.{IsRendered, KeepsInstance, RendersHooks};
+ghost use Rattle.rx_hook_store.specs.Changing.{ChangesHooks, dispatched_hook, lanes_linked};
 
-use rx_base::{Cut, Ints};
+use rx_base::{Cut, Int, Ints};
 use rx_hooks::Hooks;
 use rx_lane::Lanes;
-use rx_queue::Fold;
+use rx_queue::{Fold, Update};
+use rx_step::LaneWord;
 use std::alloc::{AllocError, Global};
 use std::collections::HashMap;
 use std::marker::Model;
@@ -32,6 +42,30 @@ impl Model for HookStore {
     ghost Value = { Kept };
 
     ghost view = { λ s. record { entries = s.hooks.entries; spare = spare s.hooks } };
+}
+
+// Sends an update to a hook, and links the lane of a transition.
+fn send(
+    hooks: &mut Hooks,
+    place: u32,
+    word: LaneWord,
+    update: Update,
+    pending: Lanes,
+) -> Result<Option<Lanes>, AllocError>
+    requires { place < length hooks.old }
+    ensures ok { OnOk result ((answers : Answers) (histories : List HookHistory) → HooksStandFor answers hooks.old histories
+        → HooksStandFor answers hooks.new (changed_at place (dispatched_hook word update pending) histories)) }
+    ensures err { OnErr result (hooks.new ≡ hooks.old) }
+    ensures linked { IfOk result (λ lanes. (answers : Answers) (histories : List HookHistory) (history : HookHistory)
+        → HooksStandFor answers hooks.old histories → slice_get histories place ≡ Some history
+        → lanes ≡ lanes_linked word update pending history.linked) }
+{
+    let lane = update.lane;
+    hooks.push(place, update)?;
+    match word {
+        LaneWord::Transition => Ok(Some(hooks.transition(place, lane, pending))),
+        LaneWord::Sync | LaneWord::Input | LaneWord::Default => Ok(None),
+    }
 }
 
 impl HookStore {
@@ -82,5 +116,98 @@ impl HookStore {
     {
         let hooks = self.hooks.get_mut(&instance).unwrap();
         hooks.render_values(alloc, fold, lanes, cut)
+    }
+
+    /// Sends an update to a hook of an instance, by its place from 0. A transition also links the update's lane with those
+    /// lanes of the hook that are still pending, and gives all of them: React renders the transitions of one queue together
+    /// (react.dev, useTransition). An `Err` changes nothing.
+    ///
+    /// # Errors
+    ///
+    /// Want of memory alone.
+    pub fn dispatch(
+        &mut self,
+        instance: u64,
+        place: u32,
+        word: LaneWord,
+        update: Update,
+        pending: Lanes,
+    ) -> Result<Option<Lanes>, AllocError>
+        requires { IsSomeAnd (kept_hooks self.old instance) (λ hooks. place < length hooks) }
+        ensures ok { OnOk result (ChangesHooks (changed_at place (dispatched_hook word update pending)) instance (kept_hooks self.old) (kept_hooks self.new)) }
+        ensures err { OnErr result ((n : ℕ) → kept_hooks self.new n ≡ kept_hooks self.old n) }
+        ensures spare { self.new.spare ≡ self.old.spare }
+        ensures linked { IfOk result (λ lanes. (answers : Answers) (hooks : List Hook) (histories : List HookHistory) (history : HookHistory)
+            → kept_hooks self.old instance ≡ Some hooks → HooksStandFor answers hooks histories → slice_get histories place ≡ Some history
+            → lanes ≡ lanes_linked word update pending history.linked) }
+
+        // What is kept stands for the machine's state after the dispatch, where this is the next update that it accepts.
+        ensures states { OnOk result ((p : Program) (s : State) → update.number ≡ length s.journal.updates → update.lane ≡ lane_of s word → pending ≡ s.schedule.pending
+            → KeepsAllHooks p s (kept_hooks self.old) → KeepsAllHooks p (dispatched_for s word (hook instance place) update.op) (kept_hooks self.new)) }
+        ensures links { IfOk result (λ lanes. (p : Program) (s : State) (initials : List ℤ) → KeepsInstance p s (kept_hooks self.old) instance initials
+            → lanes ≡ lanes_linked word update pending (linked_lanes s.linked (hook instance place))) }
+
+        // What a render in progress has rendered, whose cut the update lies behind, stays so.
+        ensures rendered { OnOk result ((p : Program) (s : State) (lanes : Lanes) (cut : Cut) (k : ℕ) (initials : List ℤ) → update.number ≡ length s.journal.updates
+            → update.lane ≡ lane_of s word → pending ≡ s.schedule.pending → cut.updates ≤ update.number → IsRendered p s lanes cut (kept_hooks self.old) k initials
+            → IsRendered p (dispatched_for s word (hook instance place) update.op) lanes cut (kept_hooks self.new) k initials) }
+    {
+        let hooks = self.hooks.get_mut(&instance).unwrap();
+        send(hooks, place, word, update, pending)
+    }
+
+    /// The committed value of a hook of an instance, by its place from 0.
+    pub fn committed(&self, instance: u64, place: u32) -> Int
+        requires { IsSomeAnd (kept_hooks self.now instance) (λ hooks. place < length hooks) }
+        ensures value { (answers : Answers) (hooks : List Hook) (histories : List HookHistory) (history : HookHistory) → kept_hooks self.now instance ≡ Some hooks
+            → HooksStandFor answers hooks histories → slice_get histories place ≡ Some history → result ≡ committed_value answers history.updates }
+        ensures states { (p : Program) (s : State) (k : ℕ) (m : Mounted) → KeepsAllHooks p s (kept_hooks self.now) → slice_get (mounted s.tree) k ≡ Some m
+            → m.number ≡ instance → slice_get (committed_values p s.journal m) place ≡ Some result }
+    {
+        self.hooks.get(&instance).unwrap().committed(place)
+    }
+
+    /// Makes room for so many instances more.
+    pub fn reserve(&mut self, more: u64) -> Result<(), AllocError>
+        ensures room { OnOk result (more ≤ self.new.spare) }
+        ensures same { (n : ℕ) → kept_hooks self.new n ≡ kept_hooks self.old n }
+        ensures kept { self.old.spare ≤ self.new.spare }
+    {
+        self.hooks.reserve(more as usize)
+    }
+
+    /// Commits what was rendered last of an instance's hooks, at a commit that shows it.
+    pub fn commit_instance(&mut self, instance: u64)
+        requires { IsSome (kept_hooks self.old instance) }
+        ensures changes { ChangesHooks (map committed_hook) instance (kept_hooks self.old) (kept_hooks self.new) }
+        ensures spare { self.new.spare ≡ self.old.spare }
+    {
+        self.hooks.get_mut(&instance).unwrap().commit();
+    }
+
+    /// Marks what a commit for these lanes at this cut owes to an instance that it keeps hidden.
+    pub fn owe_instance(&mut self, instance: u64, lanes: Lanes, cut: Cut)
+        requires { IsSome (kept_hooks self.old instance) }
+        ensures changes { ChangesHooks (map (owed_hook lanes cut)) instance (kept_hooks self.old) (kept_hooks self.new) }
+        ensures spare { self.new.spare ≡ self.old.spare }
+    {
+        self.hooks.get_mut(&instance).unwrap().mark_owed(lanes, cut);
+    }
+
+    /// Keeps the hooks of an instance, which is new or loses those that it had.
+    pub fn insert(&mut self, instance: u64, hooks: Hooks)
+        requires { 1 ≤ self.old.spare }
+        ensures kept { (n : ℕ) → kept_hooks self.new n ≡ (if nat_eq instance n then Some hooks else kept_hooks self.old n) }
+        ensures spare { self.old.spare ≤ self.new.spare + 1 }
+    {
+        let _ = self.hooks.insert(instance, hooks);
+    }
+
+    /// Drops the hooks of an instance, if there are any.
+    pub fn remove(&mut self, instance: u64)
+        ensures gone { (n : ℕ) → kept_hooks self.new n ≡ (if nat_eq instance n then None else kept_hooks self.old n) }
+        ensures spare { self.old.spare ≤ self.new.spare }
+    {
+        let _ = self.hooks.remove(&instance);
     }
 }

@@ -1,10 +1,10 @@
 -- What stands in a list, and where the mentions of a declaration stand.
-use Rattle.std.proofs.Common.{◌≡◌, ◌≤◌, ◌⊎◌, inl, inr, Bool, true, false, List, [], ◌∷◌, ◌++◌, Option, Some, None, refl, sym, subst, ap, ◌∙◌, arith}
-use Rattle.std.specs.Prelude.{ℕ, zero, suc, nat_lt, find, filter_map, slice_get}
+use Rattle.std.proofs.Common.{◌≡◌, ◌⊎◌, inl, inr, List, [], ◌∷◌, ◌++◌, Option, Some, None, refl, sym, subst, ap, ◌∙◌}
+use Rattle.std.specs.Prelude.{ℕ, zero, suc, filter_map, slice_get}
 use Rattle.std.specs.List.{cons_option}
 use Rattle.rx_base.specs.Values.{Name}
 use Rattle.rx_ast.specs.Syntax.{Program, Declaration, of_context, of_function, of_component, as_component, as_function, components, functions, Component, Function}
-use Rattle.rx_mentions.specs.declared.mention.Mention.{Mention}
+use Rattle.rx_mentions.specs.Mention.{Mention}
 use Rattle.rx_mentions.specs.Mentions.{mentions, declarations_mentions, component_mentions, function_mentions}
 
 -- it stands in the list

@@ -1,3 +1,5 @@
+pub mod Mention
+pub mod MentionView
 pub mod Mentions
 pub mod Tags
 pub mod Ways

@@ -6,8 +6,8 @@ use Rattle.rx_ast.specs.Syntax as syntax
 use Rattle.rx_rules.specs.Names.{has_name}
 use Rattle.rx_rules.specs.Keys.{carries_key}
 use Rattle.rx_mentions.specs.declared.count.Count.TheVariants as count
-use Rattle.rx_mentions.specs.declared.mention.Mention.{Mention}
-use Rattle.rx_mentions.specs.declared.mention.Mention.TheVariants as mention
+use Rattle.rx_mentions.specs.Mention.{Mention}
+use Rattle.rx_mentions.specs.Mention as mention
 
 -- the name of a key among attributes
 abbrev pub key_name : Name

@@ -1,12 +1,12 @@
 -- What the opening tag of an element mentions.
-use Rattle.std.specs.Prelude.{Bool, false, List, [], ◌∷◌, ◌++◌, length}
+use Rattle.std.specs.Prelude.{Bool, false, List, ◌∷◌, ◌++◌, length}
 use Rattle.rx_ast.specs.SlotView.{key_place_of}
 use Rattle.rx_ast.specs.declared.slot.Tag.{Tag}
 use Rattle.rx_ast.specs.declared.slot.Tag.TheVariants as tag
 use Rattle.rx_mentions.specs.Mentions.{Scope, expr_mentions, attributes_mentions, given_names, first_key_mentions, last_key_mentions, taken_first, slot_mentions}
 use Rattle.rx_mentions.specs.declared.count.Count.TheVariants as count
-use Rattle.rx_mentions.specs.declared.mention.Mention.{Mention}
-use Rattle.rx_mentions.specs.declared.mention.Mention.TheVariants as mention
+use Rattle.rx_mentions.specs.Mention.{Mention}
+use Rattle.rx_mentions.specs.Mention as mention
 
 -- what the opening tag of an element mentions, which is filled or not
 abbrev pub tag_mentions : Scope → (second filled : Bool) → Tag → List Mention

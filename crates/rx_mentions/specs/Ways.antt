@@ -1,12 +1,12 @@
 -- To which functions a function leads, and to which components a component.
-use Rattle.std.specs.Prelude.{List, map, filter_map, Option, Some, None}
+use Rattle.std.specs.Prelude.{map, filter_map, Option, Some, None}
 use Rattle.rx_base.specs.Values.{Name}
 use Rattle.rx_ast.specs.Syntax.{Program, functions, components}
 use Rattle.rx_rules.specs.Names.{function_number, component_number}
 use Rattle.rx_order.specs.Graphs.{Graph}
 use Rattle.rx_mentions.specs.Mentions.{function_mentions, component_mentions}
-use Rattle.rx_mentions.specs.declared.mention.Mention.{Mention}
-use Rattle.rx_mentions.specs.declared.mention.Mention.TheVariants as mention
+use Rattle.rx_mentions.specs.Mention.{Mention}
+use Rattle.rx_mentions.specs.Mention as mention
 
 -- the function that is called
 abbrev pub called_in : Mention → Option Name

@@ -1,10 +1,11 @@
 // The mentions of declarations.
 ghost use Rattle.std.specs.Prelude.{◌≡◌, false, List, [], ◌∷◌, ◌++◌, OnOk, IfOk, length, fold, flat_map};
 ghost use Rattle.rx_ast.specs.Syntax.{body_slots};
+ghost use Rattle.rx_mentions.specs.Mention as mention;
 ghost use Rattle.rx_mentions.specs.Mentions.{bound, after_parameter, after_line, after_statement, parameter_name, expr_mentions, slots_mentions, names_mentions, lines_mentions, function_mentions, parameters_mentions, pair_mentions, statement_mentions, statements_mentions, component_mentions, declaration_mentions, declarations_mentions, mentions};
 
 use crate::count::Count;
-use crate::mention::Mention;
+use crate::mention::MentionKind;
 use crate::scope::Scope;
 use crate::walk::Walk;
 use rx_ast::{
@@ -25,9 +26,13 @@ fn name_of(parameter: &Parameter) -> &str
     }
 }
 
-impl Walk {
+impl<'a> Walk<'a> {
     /// Notes what parameters of a component mention, and binds them.
-    fn parameters(&mut self, scope: &mut Scope, parameters: &[Parameter]) -> Result<(), AllocError>
+    fn parameters(
+        &mut self,
+        scope: &mut Scope,
+        parameters: &'a [Parameter],
+    ) -> Result<(), AllocError>
         ensures mentions { OnOk result (self.new ≡ self.old ++ parameters_mentions scope.old parameters.now) }
         ensures scope { OnOk result (scope.new ≡ fold after_parameter scope.old parameters.now) }
     {
@@ -39,7 +44,7 @@ impl Walk {
     }
 
     /// Notes what parameters of a function mention, and binds them.
-    fn names(&mut self, scope: &mut Scope, names: &[Name]) -> Result<(), AllocError>
+    fn names(&mut self, scope: &mut Scope, names: &'a [Name]) -> Result<(), AllocError>
         ensures mentions { OnOk result (self.new ≡ self.old ++ names_mentions scope.old names.now) }
         ensures scope { OnOk result (scope.new ≡ fold bound scope.old names.now) }
     {
@@ -51,7 +56,7 @@ impl Walk {
     }
 
     /// Notes what lines of a function mention, and binds their names.
-    fn lines(&mut self, scope: &mut Scope, lines: &[Line]) -> Result<(), AllocError>
+    fn lines(&mut self, scope: &mut Scope, lines: &'a [Line]) -> Result<(), AllocError>
         ensures mentions { OnOk result (self.new ≡ self.old ++ lines_mentions scope.old lines.now) }
         ensures scope { OnOk result (scope.new ≡ fold after_line scope.old lines.now) }
     {
@@ -64,7 +69,7 @@ impl Walk {
     }
 
     /// Notes what a function mentions behind its name.
-    fn function(&mut self, function: &Function) -> Result<(), AllocError>
+    fn function(&mut self, function: &'a Function) -> Result<(), AllocError>
         ensures { OnOk result (self.new ≡ self.old ++ function_mentions function.now) }
     {
         let mut scope = Scope::new(self.alloc);
@@ -76,33 +81,31 @@ impl Walk {
     }
 
     /// Notes the two names of a hook.
-    fn pair(&mut self, scope: &Scope, name: &Name, setter: &Name) -> Result<(), AllocError>
+    fn pair(&mut self, scope: &Scope, name: &'a Name, setter: &'a Name) -> Result<(), AllocError>
         ensures { OnOk result (self.new ≡ self.old ++ pair_mentions scope.now name.now setter.now) }
     {
         self.introduced(scope.names(), name.text())?;
         let again = scope.names().contains(setter.text()) || setter.text() == name.text();
-        let name = Name::new(self.alloc, setter.text())?;
-        self.note(Mention::Introduced { name, again })
+        let name = setter.text();
+        self.note(MentionKind::Introduced { name, again })
     }
 
     /// Notes a function that reduces a state.
-    fn reduction(&mut self, function: &Name) -> Result<(), AllocError>
-        ensures { OnOk result (self.new ≡ self.old ++ Mention.Reduction function.now ∷ []) }
+    fn reduction(&mut self, function: &'a Name) -> Result<(), AllocError>
+        ensures { OnOk result (self.new ≡ self.old ++ mention.Reduction function.now ∷ []) }
     {
-        let function = Name::new(self.alloc, function.text())?;
-        self.note(Mention::Reduction(function))
+        self.note(MentionKind::Reduction(function.text()))
     }
 
     /// Notes a resource.
-    fn resource(&mut self, name: &Name) -> Result<(), AllocError>
-        ensures { OnOk result (self.new ≡ self.old ++ Mention.Resource name.now ∷ []) }
+    fn resource(&mut self, name: &'a Name) -> Result<(), AllocError>
+        ensures { OnOk result (self.new ≡ self.old ++ mention.Resource name.now ∷ []) }
     {
-        let name = Name::new(self.alloc, name.text())?;
-        self.note(Mention::Resource(name))
+        self.note(MentionKind::Resource(name.text()))
     }
 
     /// Notes what the values of an effect mention.
-    fn dependencies(&mut self, scope: &Names, values: &[Expr]) -> Result<(), AllocError>
+    fn dependencies(&mut self, scope: &Names, values: &'a [Expr]) -> Result<(), AllocError>
         ensures { OnOk result (self.new ≡ self.old ++ flat_map (expr_mentions scope.now) values.now) }
     {
         for value in values {
@@ -112,7 +115,7 @@ impl Walk {
     }
 
     /// Notes what a statement mentions.
-    fn statement(&mut self, scope: &Scope, statement: &Statement) -> Result<(), AllocError>
+    fn statement(&mut self, scope: &Scope, statement: &'a Statement) -> Result<(), AllocError>
         ensures { OnOk result (self.new ≡ self.old ++ statement_mentions scope.now statement.now) }
     {
         match &statement.kind {
@@ -159,7 +162,11 @@ impl Walk {
     }
 
     /// Notes what statements mention, and binds their names.
-    fn statements(&mut self, scope: &mut Scope, statements: &[Statement]) -> Result<(), AllocError>
+    fn statements(
+        &mut self,
+        scope: &mut Scope,
+        statements: &'a [Statement],
+    ) -> Result<(), AllocError>
         ensures mentions { OnOk result (self.new ≡ self.old ++ statements_mentions scope.old statements.now) }
         ensures scope { OnOk result (scope.new ≡ fold after_statement scope.old statements.now) }
     {
@@ -171,14 +178,14 @@ impl Walk {
     }
 
     /// Notes what a fragment mentions.
-    fn fragment(&mut self, scope: &mut Scope, fragment: &Fragment) -> Result<(), AllocError>
+    fn fragment(&mut self, scope: &mut Scope, fragment: &'a Fragment) -> Result<(), AllocError>
         ensures { OnOk result (self.new ≡ self.old ++ slots_mentions scope.old false fragment.now) }
     {
         self.children(scope, fragment.children())
     }
 
     /// Notes what a body mentions.
-    fn body(&mut self, scope: &mut Scope, body: &Body) -> Result<(), AllocError>
+    fn body(&mut self, scope: &mut Scope, body: &'a Body) -> Result<(), AllocError>
         ensures { OnOk result (self.new ≡ self.old ++ slots_mentions scope.old false (body_slots body.now)) }
     {
         match &body.kind {
@@ -190,7 +197,7 @@ impl Walk {
     }
 
     /// Notes what a component mentions behind its name.
-    fn component(&mut self, component: &Component) -> Result<(), AllocError>
+    fn component(&mut self, component: &'a Component) -> Result<(), AllocError>
         ensures { OnOk result (self.new ≡ self.old ++ component_mentions component.now) }
     {
         let mut scope = Scope::new(self.alloc);
@@ -202,7 +209,7 @@ impl Walk {
     }
 
     /// Notes what a declaration mentions behind its name.
-    fn declaration(&mut self, declaration: &Declaration) -> Result<(), AllocError>
+    fn declaration(&mut self, declaration: &'a Declaration) -> Result<(), AllocError>
         ensures { OnOk result (self.new ≡ self.old ++ declaration_mentions declaration.now) }
     {
         match &declaration.kind {
@@ -213,7 +220,7 @@ impl Walk {
     }
 
     /// Notes what declarations mention.
-    fn declarations(&mut self, declarations: &[Declaration]) -> Result<(), AllocError>
+    fn declarations(&mut self, declarations: &'a [Declaration]) -> Result<(), AllocError>
         ensures { OnOk result (self.new ≡ self.old ++ declarations_mentions [] declarations.now) }
     {
         let mut taken = Names::new(self.alloc);
@@ -233,7 +240,7 @@ impl Walk {
 ///
 /// Want of memory alone.
 #[tactic(auto, unfolding(crate::specs::Mentions::mentions))]
-pub fn mentions_of(alloc: Global, program: &Program) -> Result<Walk, AllocError>
+pub fn mentions_of<'a>(alloc: Global, program: &'a Program) -> Result<Walk<'a>, AllocError>
     ensures { IfOk result (λ w. w ≡ mentions program.now) }
 {
     let mut walk = Walk::new(alloc);
@@ -246,7 +253,10 @@ pub fn mentions_of(alloc: Global, program: &Program) -> Result<Walk, AllocError>
 /// # Errors
 ///
 /// Want of memory alone.
-pub fn function_mentions_of(alloc: Global, function: &Function) -> Result<Walk, AllocError>
+pub fn function_mentions_of<'a>(
+    alloc: Global,
+    function: &'a Function,
+) -> Result<Walk<'a>, AllocError>
     ensures { IfOk result (λ w. w ≡ function_mentions function.now) }
 {
     let mut walk = Walk::new(alloc);
@@ -259,7 +269,10 @@ pub fn function_mentions_of(alloc: Global, function: &Function) -> Result<Walk, 
 /// # Errors
 ///
 /// Want of memory alone.
-pub fn component_mentions_of(alloc: Global, component: &Component) -> Result<Walk, AllocError>
+pub fn component_mentions_of<'a>(
+    alloc: Global,
+    component: &'a Component,
+) -> Result<Walk<'a>, AllocError>
     ensures { IfOk result (λ w. w ≡ component_mentions component.now) }
 {
     let mut walk = Walk::new(alloc);

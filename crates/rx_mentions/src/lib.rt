@@ -12,5 +12,5 @@ mod walk;
 pub use bodies::{component_mentions_of, function_mentions_of, mentions_of};
 pub use count::Count;
 pub use leading::{calls_of, places_of};
-pub use mention::Mention;
+pub use mention::{Mention, MentionKind, names_given};
 pub use walk::Walk;

@@ -1,45 +1,56 @@
 // What a program mentions.
+ghost use Rattle.std.specs.Prelude.{◌≡◌, IfOk};
+ghost use Rattle.rx_mentions.specs.Mentions.{given_names};
 
 use crate::count::Count;
-use rx_base::Name;
+use rx_ast::{Attribute, AttributeKind};
 use rx_names::Names;
+use std::alloc::{AllocError, Global};
+use std::marker::Model;
 
-/// What a program mentions in a place of its text, with what the checks ask of it.
-#[derive(Debug, Drop)]
-pub enum Mention {
+/// What a program mentions in a place of its text, with what the checks ask of it. It borrows the program.
+#[derive(Drop)]
+pub struct Mention<'a> {
+    /// What it is, with its parts.
+    pub kind: MentionKind<'a>,
+}
+
+/// What a mention is, with its parts.
+#[derive(Drop)]
+pub enum MentionKind<'a> {
     /// A name is introduced; `again` where it may not be introduced there, since it stands already.
     Introduced {
-        name: Name,
+        name: &'a str,
         again: bool,
     },
     /// A variable; `known` where the name stands for a value there.
     Variable {
-        name: Name,
+        name: &'a str,
         known: bool,
     },
     /// A call of a function.
     Call {
-        function: Name,
+        function: &'a str,
         arguments: usize,
     },
     /// A function that reduces a hook's state (react.dev, useReducer).
-    Reduction(Name),
+    Reduction(&'a str),
     /// A context that is read or provided.
-    Context(Name),
-    /// An element of a component: its attributes without `key`, and whether it holds a child.
+    Context(&'a str),
+    /// An element of a component: its attributes, and whether it holds a child.
     Element {
-        component: Name,
-        attributes: Names,
+        component: &'a str,
+        attributes: &'a [Attribute],
         filled: bool,
     },
     /// An element of the host.
-    Host(Name),
+    Host(&'a str),
     /// `children`; `known` where it is a parameter.
     Children {
         known: bool,
     },
     /// A resource that is used.
-    Resource(Name),
+    Resource(&'a str),
     /// A text of so many bytes between quotes.
     Quoted(usize),
     /// So many of a thing.
@@ -47,4 +58,34 @@ pub enum Mention {
         what: Count,
         found: u64,
     },
+}
+
+impl<'a> Model for Mention<'a> {
+    ghost use Rattle.rx_mentions.specs.Mention as plain;
+
+    ghost Value = { plain.Mention };
+
+    ghost use Rattle.rx_mentions.specs.MentionView.{mention_of};
+
+    ghost view = { λ m. mention_of m.kind };
+}
+
+/// The names of attributes, `key` aside.
+///
+/// # Errors
+///
+/// Want of memory alone.
+pub fn names_given(alloc: Global, attributes: &[Attribute]) -> Result<Names, AllocError>
+    ensures { IfOk result (λ names. names ≡ given_names attributes.now) }
+{
+    let mut names = Names::new(alloc);
+    for attribute in attributes {
+        match &attribute.kind {
+            AttributeKind::Key(_) => {}
+            AttributeKind::Computed { name, .. } | AttributeKind::Literal { name, .. } => {
+                names.push(alloc, name.text())?
+            }
+        }
+    }
+    Ok(names)
 }

@@ -1,5 +1,5 @@
 // What is bound at a place of a body.
-ghost use Rattle.std.specs.Prelude.{◌≡◌, OnOk, length, take};
+ghost use Rattle.std.specs.Prelude.{◌≡◌, ◌-◌, OnOk, length, take};
 
 use rx_ast::{Parameter, ParameterKind, Statement, StatementKind};
 use rx_base::Name;
@@ -66,12 +66,12 @@ impl Scope {
         self.names.push(self.alloc, name)
     }
 
-    /// Leaves what was bound behind so many values and names.
-    pub fn leave(&mut self, values: usize, names: usize)
-        ensures { self.new ≡ record { values = take values self.old.values; names = take names self.old.names } }
+    /// Leaves the name that was bound last, with its value.
+    pub fn leave(&mut self)
+        ensures { self.new ≡ record { values = take (length self.old.values - 1) self.old.values; names = take (length self.old.names - 1) self.old.names } }
     {
-        self.values.truncate(values);
-        self.names.truncate(names);
+        self.values.pop();
+        self.names.pop();
     }
 
     /// Binds a parameter.

@@ -4,11 +4,12 @@ ghost use Rattle.rx_ast.specs.Syntax.{slots_of, repeated};
 ghost use Rattle.rx_ast.specs.SlotView.{key_place_of};
 ghost use Rattle.rx_rules.specs.Names.{has_name};
 ghost use Rattle.rx_rules.specs.Keys.{carries_key};
+ghost use Rattle.rx_mentions.specs.Mention as mention;
 ghost use Rattle.rx_mentions.specs.Mentions.{children_name, attributes_mentions, given_names, key_mentions, first_key_mentions, last_key_mentions, taken_first, is_filled, slot_mentions, slots_mentions};
 ghost use Rattle.rx_mentions.specs.Tags.{tag_mentions};
 
 use crate::count::Count;
-use crate::mention::Mention;
+use crate::mention::MentionKind;
 use crate::scope::Scope;
 use crate::walk::Walk;
 use rx_ast::{
@@ -68,29 +69,13 @@ fn child_carries_key(child: &Child) -> bool
     }
 }
 
-/// The names of attributes, `key` aside.
-fn names_given(alloc: Global, attributes: &[Attribute]) -> Result<Names, AllocError>
-    ensures { IfOk result (λ names. names ≡ given_names attributes.now) }
-{
-    let mut names = Names::new(alloc);
-    for attribute in attributes {
-        match &attribute.kind {
-            AttributeKind::Key(_) => {}
-            AttributeKind::Computed { name, .. } | AttributeKind::Literal { name, .. } => {
-                names.push(alloc, name.text())?
-            }
-        }
-    }
-    Ok(names)
-}
-
-impl Walk {
+impl<'a> Walk<'a> {
     /// Notes what attributes mention, where these names stand already.
     fn attributes(
         &mut self,
         scope: &Names,
         mut taken: Names,
-        attributes: &[Attribute],
+        attributes: &'a [Attribute],
     ) -> Result<(), AllocError>
         ensures { OnOk result (self.new ≡ self.old ++ attributes_mentions scope.now taken attributes.now) }
     {
@@ -132,10 +117,10 @@ impl Walk {
         &mut self,
         scope: &Names,
         second: bool,
-        attributes: &[Attribute],
+        attributes: &'a [Attribute],
     ) -> Result<(), AllocError>
         ensures { OnOk result
-            (self.new ≡ self.old ++ Mention.Counted Count.Attributes (length attributes.now) ∷ attributes_mentions scope.now (taken_first second) attributes.now) }
+            (self.new ≡ self.old ++ mention.Counted Count.Attributes (length attributes.now) ∷ attributes_mentions scope.now (taken_first second) attributes.now) }
     {
         self.counted(Count::Attributes, attributes.len())?;
         let taken = self.taken_first(second)?;
@@ -143,19 +128,23 @@ impl Walk {
     }
 
     /// Notes a key.
-    fn key(&mut self, scope: &Names, second: bool, value: &Expr) -> Result<(), AllocError>
+    fn key(&mut self, scope: &Names, second: bool, value: &'a Expr) -> Result<(), AllocError>
         ensures { OnOk result (self.new ≡ self.old ++ key_mentions scope.now second value.now) }
     {
-        let name = Name::new(self.alloc, "key")?;
-        self.note(Mention::Introduced {
-            name,
+        self.note(MentionKind::Introduced {
+            name: "key",
             again: second,
         })?;
         self.expr(scope, value)
     }
 
     /// Notes a key that stands before what else is given.
-    fn key_first(&mut self, scope: &Names, second: bool, place: &KeyPlace) -> Result<(), AllocError>
+    fn key_first(
+        &mut self,
+        scope: &Names,
+        second: bool,
+        place: &'a KeyPlace,
+    ) -> Result<(), AllocError>
         ensures { OnOk result (self.new ≡ self.old ++ first_key_mentions scope.now second (key_place_of place.now)) }
     {
         match place {
@@ -165,7 +154,12 @@ impl Walk {
     }
 
     /// Notes a key that stands behind what else is given.
-    fn key_last(&mut self, scope: &Names, second: bool, place: &KeyPlace) -> Result<(), AllocError>
+    fn key_last(
+        &mut self,
+        scope: &Names,
+        second: bool,
+        place: &'a KeyPlace,
+    ) -> Result<(), AllocError>
         ensures { OnOk result (self.new ≡ self.old ++ last_key_mentions scope.now second (key_place_of place.now)) }
     {
         match place {
@@ -175,34 +169,30 @@ impl Walk {
     }
 
     /// Notes an element of the host.
-    fn host(&mut self, name: &Name) -> Result<(), AllocError>
-        ensures { OnOk result (self.new ≡ self.old ++ Mention.Host name.now ∷ []) }
+    fn host(&mut self, name: &'a Name) -> Result<(), AllocError>
+        ensures { OnOk result (self.new ≡ self.old ++ mention.Host name.now ∷ []) }
     {
-        let name = Name::new(self.alloc, name.text())?;
-        self.note(Mention::Host(name))
+        self.note(MentionKind::Host(name.text()))
     }
 
     /// Notes a context.
-    pub(crate) fn context(&mut self, name: &Name) -> Result<(), AllocError>
-        ensures { OnOk result (self.new ≡ self.old ++ Mention.Context name.now ∷ []) }
+    pub(crate) fn context(&mut self, name: &'a Name) -> Result<(), AllocError>
+        ensures { OnOk result (self.new ≡ self.old ++ mention.Context name.now ∷ []) }
     {
-        let name = Name::new(self.alloc, name.text())?;
-        self.note(Mention::Context(name))
+        self.note(MentionKind::Context(name.text()))
     }
 
     /// Notes an element of a component.
     fn placed(
         &mut self,
-        name: &Name,
-        attributes: &[Attribute],
+        name: &'a Name,
+        attributes: &'a [Attribute],
         filled: bool,
     ) -> Result<(), AllocError>
-        ensures { OnOk result (self.new ≡ self.old ++ Mention.Element name.now (given_names attributes.now) filled ∷ []) }
+        ensures { OnOk result (self.new ≡ self.old ++ mention.Element name.now (given_names attributes.now) filled ∷ []) }
     {
-        let component = Name::new(self.alloc, name.text())?;
-        let attributes = names_given(self.alloc, attributes)?;
-        self.note(Mention::Element {
-            component,
+        self.note(MentionKind::Element {
+            component: name.text(),
             attributes,
             filled,
         })
@@ -210,10 +200,10 @@ impl Walk {
 
     /// Notes `children`.
     fn given(&mut self, scope: &Scope) -> Result<(), AllocError>
-        ensures { OnOk result (self.new ≡ self.old ++ Mention.Children (has_name scope.now.names children_name) ∷ []) }
+        ensures { OnOk result (self.new ≡ self.old ++ mention.Children (has_name scope.now.names children_name) ∷ []) }
     {
         let known = scope.names().contains("children");
-        self.note(Mention::Children { known })
+        self.note(MentionKind::Children { known })
     }
 
     /// Notes what an opening tag mentions.
@@ -223,7 +213,7 @@ impl Walk {
         scope: &mut Scope,
         second: bool,
         filled: bool,
-        tag: &Tag,
+        tag: &'a Tag,
     ) -> Result<(), AllocError>
         ensures mentions { OnOk result (self.new ≡ self.old ++ tag_mentions scope.old second filled tag.now) }
         ensures scope { OnOk result (scope.new ≡ scope.old) }
@@ -261,7 +251,7 @@ impl Walk {
         &mut self,
         scope: &mut Scope,
         second: bool,
-        element: &Element,
+        element: &'a Element,
     ) -> Result<(), AllocError>
         ensures mentions { OnOk result (self.new ≡ self.old ++ slot_mentions scope.old second element.now) }
         ensures scope { OnOk result (scope.new ≡ scope.old) }
@@ -277,27 +267,30 @@ impl Walk {
 
     /// Notes what a repetition mentions.
     #[cycle(slot)]
-    fn repetition(&mut self, scope: &mut Scope, repetition: &For) -> Result<(), AllocError>
+    fn repetition(&mut self, scope: &mut Scope, repetition: &'a For) -> Result<(), AllocError>
         ensures mentions { OnOk result (self.new ≡ self.old ++ slot_mentions scope.old false (repeated repetition.now.index repetition.now.bound repetition.now.limit repetition.now.item)) }
         ensures scope { OnOk result (scope.new ≡ scope.old) }
     {
         self.introduced(scope.names(), repetition.index.text())?;
         self.expr(scope.values(), &repetition.bound)?;
-        self.note(Mention::Counted {
+        self.note(MentionKind::Counted {
             what: Count::List,
             found: repetition.limit,
         })?;
-        let values = scope.values().len();
-        let names = scope.names().len();
         scope.bind(&repetition.index)?;
         self.slot(scope, false, &repetition.item)?;
-        scope.leave(values, names);
+        scope.leave();
         Ok(())
     }
 
     /// Notes what a slot mentions.
     #[cycle(slot)]
-    pub fn slot(&mut self, scope: &mut Scope, second: bool, slot: &Slot) -> Result<(), AllocError>
+    pub fn slot(
+        &mut self,
+        scope: &mut Scope,
+        second: bool,
+        slot: &'a Slot,
+    ) -> Result<(), AllocError>
         ensures mentions { OnOk result (self.new ≡ self.old ++ slot_mentions scope.old second slot.now) }
         ensures scope { OnOk result (scope.new ≡ scope.old) }
     {
@@ -324,7 +317,7 @@ impl Walk {
 
     /// Notes what a place of a child list mentions.
     #[cycle(slot)]
-    fn child(&mut self, scope: &mut Scope, second: bool, child: &Child) -> Result<(), AllocError>
+    fn child(&mut self, scope: &mut Scope, second: bool, child: &'a Child) -> Result<(), AllocError>
         ensures mentions { OnOk result (self.new ≡ self.old ++ slot_mentions scope.old second child.now) }
         ensures scope { OnOk result (scope.new ≡ scope.old) }
     {
@@ -336,7 +329,7 @@ impl Walk {
 
     /// Notes what a child list mentions.
     #[cycle(slot)]
-    pub fn children(&mut self, scope: &mut Scope, children: &[Child]) -> Result<(), AllocError>
+    pub fn children(&mut self, scope: &mut Scope, children: &'a [Child]) -> Result<(), AllocError>
         ensures mentions { OnOk result (self.new ≡ self.old ++ slots_mentions scope.old false (slots_of children.now)) }
         ensures scope { OnOk result (scope.new ≡ scope.old) }
     {

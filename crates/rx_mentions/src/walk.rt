@@ -3,35 +3,37 @@ ghost use Rattle.std.specs.Prelude.{◌≡◌, List, [], ◌∷◌, ◌++◌, On
 ghost use Rattle.rx_ast.specs.Syntax.{exprs, exprs_of};
 ghost use Rattle.rx_ast.specs.ExprView.{links_of};
 ghost use Rattle.rx_rules.specs.Names.{has_name};
+ghost use Rattle.rx_mentions.specs.Mention as mention;
+ghost use Rattle.rx_mentions.specs.MentionView.{mention_of};
 ghost use Rattle.rx_mentions.specs.Mentions.{introduced, expr_mentions, links_mentions, exprs_mentions};
 
 use crate::count::Count;
-use crate::mention::Mention;
+use crate::mention::{Mention, MentionKind};
 use rx_ast::{Expr, ExprKind, Link};
 use rx_base::Name;
 use rx_names::Names;
 use std::alloc::{AllocError, Global};
 use std::marker::Model;
 
-/// The mentions so far.
+/// The mentions so far. They borrow the program.
 #[derive(Drop)]
-pub struct Walk {
+pub struct Walk<'a> {
     pub(crate) alloc: Global,
-    mentions: Vec<Mention>,
+    mentions: Vec<Mention<'a>>,
 }
 
-impl Model for Walk {
+impl<'a> Model for Walk<'a> {
     ghost use Rattle.std.specs.Prelude.{List};
-    ghost use Rattle.rx_mentions.specs.declared.mention.Mention.{Mention};
+    ghost use Rattle.rx_mentions.specs.Mention as plain;
 
-    ghost Value = { List Mention };
+    ghost Value = { List plain.Mention };
 
     ghost view = { λ w. w.mentions.items };
 }
 
-impl Walk {
+impl<'a> Walk<'a> {
     /// No mention yet.
-    pub fn new(alloc: Global) -> Walk
+    pub fn new(alloc: Global) -> Walk<'a>
         ensures { result ≡ [] }
     {
         Walk {
@@ -41,74 +43,73 @@ impl Walk {
     }
 
     /// The mentions in order.
-    pub fn mentions(&self) -> &[Mention]
+    pub fn mentions(&self) -> &[Mention<'a>]
         ensures { result.now ≡ self.now }
     {
         &self.mentions
     }
 
     /// Notes a mention.
-    pub fn note(&mut self, mention: Mention) -> Result<(), AllocError>
-        ensures { OnOk result (self.new ≡ self.old ++ mention ∷ []) }
+    pub fn note(&mut self, kind: MentionKind<'a>) -> Result<(), AllocError>
+        ensures { OnOk result (self.new ≡ self.old ++ mention_of kind.entry ∷ []) }
     {
-        self.mentions.push(mention)?;
+        self.mentions.push(Mention { kind })?;
         Ok(())
     }
 
     /// Notes a name that is introduced where these stand already.
-    pub fn introduced(&mut self, taken: &Names, name: &str) -> Result<(), AllocError>
+    pub fn introduced(&mut self, taken: &Names, name: &'a str) -> Result<(), AllocError>
         ensures { OnOk result (self.new ≡ self.old ++ introduced taken.now name.now ∷ []) }
     {
         let again = taken.contains(name);
-        let name = Name::new(self.alloc, name)?;
-        self.note(Mention::Introduced { name, again })
+        self.note(MentionKind::Introduced { name, again })
     }
 
     /// Notes a count.
     pub fn counted(&mut self, what: Count, found: usize) -> Result<(), AllocError>
-        ensures { OnOk result (self.new ≡ self.old ++ Mention.Counted what found ∷ []) }
+        ensures { OnOk result (self.new ≡ self.old ++ mention.Counted what found ∷ []) }
     {
         let found = found as u64;
-        self.note(Mention::Counted { what, found })
+        self.note(MentionKind::Counted { what, found })
     }
 
     /// Notes a text.
-    pub fn quoted(&mut self, text: &Name) -> Result<(), AllocError>
-        ensures { OnOk result (self.new ≡ self.old ++ Mention.Quoted (length text.now) ∷ []) }
+    pub fn quoted(&mut self, text: &'a Name) -> Result<(), AllocError>
+        ensures { OnOk result (self.new ≡ self.old ++ mention.Quoted (length text.now) ∷ []) }
     {
-        self.note(Mention::Quoted(text.text().len()))
+        self.note(MentionKind::Quoted(text.text().len()))
     }
 
     /// Notes a variable.
-    fn variable(&mut self, scope: &Names, name: &Name) -> Result<(), AllocError>
-        ensures { OnOk result (self.new ≡ self.old ++ Mention.Variable name.now (has_name scope.now name.now) ∷ []) }
+    fn variable(&mut self, scope: &Names, name: &'a Name) -> Result<(), AllocError>
+        ensures { OnOk result (self.new ≡ self.old ++ mention.Variable name.now (has_name scope.now name.now) ∷ []) }
     {
-        let known = scope.contains(name.text());
-        let name = Name::new(self.alloc, name.text())?;
-        self.note(Mention::Variable { name, known })
+        let name = name.text();
+        let known = scope.contains(name);
+        self.note(MentionKind::Variable { name, known })
     }
 
     /// Notes a call with so many arguments.
-    fn call(&mut self, function: &Name, arguments: usize) -> Result<(), AllocError>
-        ensures { OnOk result (self.new ≡ self.old ++ Mention.Call function.now arguments ∷ []) }
+    fn call(&mut self, function: &'a Name, arguments: usize) -> Result<(), AllocError>
+        ensures { OnOk result (self.new ≡ self.old ++ mention.Call function.now arguments ∷ []) }
     {
-        let function = Name::new(self.alloc, function.text())?;
-        self.note(Mention::Call {
+        let function = function.text();
+        self.note(MentionKind::Call {
             function,
             arguments,
         })
     }
 
     /// Notes a call with these arguments.
-    fn call_of(&mut self, function: &Name, arguments: &[Expr]) -> Result<(), AllocError>
-        ensures { OnOk result (self.new ≡ self.old ++ Mention.Call function.now (length (exprs (exprs_of arguments.now))) ∷ []) }
+    fn call_of(&mut self, function: &'a Name, arguments: &'a [Expr]) -> Result<(), AllocError>
+        ensures { OnOk result (self.new ≡ self.old ++ mention.Call function.now (length (exprs (exprs_of arguments.now))) ∷ []) }
     {
         self.call(function, arguments.len())
     }
 
     /// Notes what an expression mentions, where these names stand for values.
     #[cycle(expr)]
-    pub fn expr(&mut self, scope: &Names, expr: &Expr) -> Result<(), AllocError>
+    pub fn expr(&mut self, scope: &Names, expr: &'a Expr) -> Result<(), AllocError>
         ensures { OnOk result (self.new ≡ self.old ++ expr_mentions scope.now expr.now) }
     {
         match &expr.kind {
@@ -141,7 +142,7 @@ impl Walk {
 
     /// Notes what the operands of a chain behind its first mention.
     #[cycle(expr)]
-    fn links(&mut self, scope: &Names, links: &[Link]) -> Result<(), AllocError>
+    fn links(&mut self, scope: &Names, links: &'a [Link]) -> Result<(), AllocError>
         ensures { OnOk result (self.new ≡ self.old ++ links_mentions scope.now (links_of links.now)) }
     {
         for link in links {
@@ -152,7 +153,7 @@ impl Walk {
 
     /// Notes what expressions mention.
     #[cycle(expr)]
-    fn exprs(&mut self, scope: &Names, exprs: &[Expr]) -> Result<(), AllocError>
+    fn exprs(&mut self, scope: &Names, exprs: &'a [Expr]) -> Result<(), AllocError>
         ensures { OnOk result (self.new ≡ self.old ++ exprs_mentions scope.now (exprs_of exprs.now)) }
     {
         for expr in exprs {

@@ -1,24 +1,31 @@
 // Names in order.
-ghost use Rattle.std.specs.Prelude.{◌≡◌, List, [], ◌∷◌, ◌++◌, OnOk, OnErr, bytes_eq, position, length, take};
+ghost use Rattle.std.specs.Prelude.{◌≡◌, ◌-◌, List, [], ◌∷◌, ◌++◌, OnOk, OnErr, bytes_eq, position, length, take};
 ghost use Rattle.rx_rules.specs.Names.{has_name};
 
+use indexmap::IndexMap;
 use rx_base::Name;
 use std::alloc::{AllocError, Global};
 use std::marker::Model;
 
-/// Names in order. Contracts see them as the list of their bytes.
+/// Names in order, each found by its text. Contracts see them as the list of their bytes.
 #[derive(Debug, Drop)]
 pub struct Names {
     items: Vec<Name>,
+    /// The first place of each name.
+    places: IndexMap<String, usize>,
 }
 
 impl Model for Names {
-    ghost use Rattle.std.specs.Prelude.{List};
+    ghost use Rattle.std.specs.Prelude.{◌≡◌, ℕ, List, bytes_eq};
+    ghost use Rattle.std.specs.List.{position_from};
+    ghost use Rattle.std.specs.HashMap.{get_by_text};
     ghost use Rattle.rx_base.specs.Values.{Name as Bytes};
 
     ghost Value = { List Bytes };
 
     ghost view = { λ n. n.items.items };
+
+    ghost invariant = { λ n. (x : List ℕ) → get_by_text n.places x ≡ position_from (bytes_eq x) 0 n.items.items };
 }
 
 impl Names {
@@ -28,6 +35,7 @@ impl Names {
     {
         Names {
             items: Vec::new(alloc),
+            places: IndexMap::new(alloc),
         }
     }
 
@@ -42,14 +50,14 @@ impl Names {
     pub fn position(&self, name: &str) -> Option<usize>
         ensures { result ≡ position (bytes_eq name.now) self.now }
     {
-        self.items.iter().position(|item| name == item.text())
+        self.places.get(name).copied()
     }
 
     /// Whether a name is one of them.
     pub fn contains(&self, name: &str) -> bool
         ensures { result ≡ has_name self.now name.now }
     {
-        self.items.iter().any(|item| name == item.text())
+        self.places.contains_key(name)
     }
 
     /// Puts a name behind the others.
@@ -61,9 +69,27 @@ impl Names {
         ensures ok { OnOk result (self.new ≡ self.old ++ name.now ∷ []) }
         ensures err { OnErr result (self.new ≡ self.old) }
     {
-        let name = Name::new(alloc, name)?;
-        self.items.push(name)?;
+        let place = self.items.len();
+        let item = Name::new(alloc, name)?;
+        let key = String::from_str(alloc, name)?;
+        self.places.reserve(1)?;
+        self.items.push(item)?;
+        if !self.places.contains_key(name) {
+            self.places.insert(key, place).unwrap();
+        }
         Ok(())
+    }
+
+    /// Takes the last name away, where there is one.
+    pub fn pop(&mut self)
+        ensures { self.new ≡ take (length self.old - 1) self.old }
+    {
+        if let Some(name) = self.items.pop() {
+            let text = name.text();
+            if self.places.get(text).copied() == Some(self.items.len()) {
+                self.places.swap_remove(text);
+            }
+        }
     }
 
     /// How many there are.
@@ -71,12 +97,5 @@ impl Names {
         ensures { result ≡ length self.now }
     {
         self.items.len()
-    }
-
-    /// Keeps so many from the front.
-    pub fn truncate(&mut self, kept: usize)
-        ensures { self.new ≡ take kept self.old }
-    {
-        self.items.truncate(kept);
     }
 }

@@ -1,8 +1,9 @@
 // What a node has beside its element and its children.
-ghost use Rattle.std.specs.Prelude.{◌≡◌, IfOk};
+ghost use Rattle.std.specs.Prelude.{◌≡◌, IfOk, option_and_then};
+ghost use Rattle.rx_elem.specs.Trees.{instance_in, effects_in, is_host, is_hidden, is_shown, boundary_in, awaits_in};
 ghost use Rattle.rx_node.specs.MarkView.{instance_seen, mark_seen};
 
-use rx_base::Ints;
+use rx_base::{Awaits, Ints};
 use rx_elem::{ContextRead, EffectRecord};
 use rx_susp::BoundaryState;
 use std::alloc::AllocError;
@@ -65,6 +66,73 @@ impl Mark {
             Mark::Host(number) => Ok(Mark::Host(*number)),
             Mark::Boundary(state) => Ok(Mark::Boundary(*state)),
             Mark::Plain => Ok(Mark::Plain),
+        }
+    }
+
+    /// True of a host or a text.
+    pub fn is_host(&self) -> bool
+        ensures { result ≡ is_host (mark_seen self.now) }
+    {
+        matches!(self, Mark::Host(_))
+    }
+
+    /// True of a boundary that is hidden.
+    pub fn is_hidden(&self) -> bool
+        ensures { result ≡ is_hidden (mark_seen self.now) }
+    {
+        match self {
+            Mark::Boundary(state) => state.hides(),
+            Mark::Instance(_) | Mark::Host(_) | Mark::Plain => false,
+        }
+    }
+
+    /// True of a boundary that is shown.
+    pub fn is_shown(&self) -> bool
+        ensures { result ≡ is_shown (mark_seen self.now) }
+    {
+        match self {
+            Mark::Boundary(state) => !state.hides(),
+            Mark::Instance(_) | Mark::Host(_) | Mark::Plain => false,
+        }
+    }
+
+    /// The number of an instance, from its first commit on; of anything else, nothing.
+    pub fn instance_number(&self) -> Option<u64>
+        ensures { result ≡ option_and_then (λ i. i.number) (instance_in (mark_seen self.now)) }
+    {
+        match self {
+            Mark::Instance(instance) => instance.number,
+            Mark::Host(_) | Mark::Boundary(_) | Mark::Plain => None,
+        }
+    }
+
+    /// The effects of an instance, in statement order; of anything else, none.
+    pub fn effects(&self) -> &[EffectRecord]
+        ensures { result.now ≡ effects_in (mark_seen self.now) }
+    {
+        match self {
+            Mark::Instance(instance) => &instance.effects,
+            Mark::Host(_) | Mark::Boundary(_) | Mark::Plain => &[],
+        }
+    }
+
+    /// The state of a boundary; of anything else, nothing.
+    pub fn boundary(&self) -> Option<BoundaryState>
+        ensures { result ≡ boundary_in (mark_seen self.now) }
+    {
+        match self {
+            Mark::Boundary(state) => Some(*state),
+            Mark::Instance(_) | Mark::Host(_) | Mark::Plain => None,
+        }
+    }
+
+    /// What a hidden boundary waits for; of anything else, nothing.
+    pub fn awaits(&self) -> Awaits
+        ensures { result ≡ awaits_in (mark_seen self.now) }
+    {
+        match self {
+            Mark::Boundary(state) => state.awaits(),
+            Mark::Instance(_) | Mark::Host(_) | Mark::Plain => Awaits::none(),
         }
     }
 }

@@ -11,7 +11,6 @@ use std::rc::Rc;
 
 /// A node of a finished tree, with all below it. Whoever holds it has a handle: what is in it stands once. Contracts see it
 /// as plain data.
-#[derive(Drop)]
 #[cycle(node)]
 pub struct Node {
     parts: Rc<Parts>,
@@ -44,6 +43,14 @@ impl Model for Node {
     ghost use Rattle.rx_node.specs.NodeFalls.{height_falls};
 
     ghost size_decreases = { λ a h. height_falls a.parts.value };
+}
+
+impl Drop for Node {
+    #[cycle(node)]
+    fn drop(self) {
+        let Node { parts } = self;
+        drop(parts);
+    }
 }
 
 impl Node {

@@ -1,4 +1,1 @@
 pub mod Faults
-pub mod Jsx
-pub mod Parts
-pub mod Results

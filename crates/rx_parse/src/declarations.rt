@@ -4,19 +4,19 @@ ghost use Rattle.rx_lex.specs.Tokens.{kinds};
 ghost use Rattle.rx_lex.specs.declared.token.Sign.TheVariants as sign;
 ghost use Rattle.rx_grammar.specs.Steps.{next, is_mark, all_of, taken, as_lower};
 ghost use Rattle.rx_grammar.specs.Reading.{behind_comma, list_to, default_at, context_at, answer_at, function_at, parameter_at, parameters_at, result_at, component_at, declaration_at, is_declaration, declarations_at};
-ghost use Rattle.rx_parse.specs.Results.{Gives, in_front};
+ghost use Rattle.rx_expression.specs.Results.{Gives, in_front};
 
-use crate::beside::{beside, closed};
-use crate::bodies::body;
-use crate::expressions::expr;
-use crate::fault::Fault;
 use crate::statements::{lines, statements};
-use crate::steps::{
-    expect, expect_word, lower, next_is, next_is_lower, next_is_word, number, upper,
-};
 use rx_ast::{Body, Component, Context, Declaration, Expr, Function, Parameter};
 use rx_base::Name;
+use rx_expression::beside::{beside, closed};
+use rx_expression::expressions::expr;
+use rx_expression::fault::Fault;
+use rx_expression::steps::{
+    expect, expect_word, lower, next_is, next_is_lower, next_is_word, number, upper,
+};
 use rx_lex::{Keyword, Sign, Token};
+use rx_slots::body;
 use std::alloc::Global;
 
 /// The number of a context's default, with whether `-` stands before it.

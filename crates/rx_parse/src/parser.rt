@@ -4,15 +4,15 @@ ghost use Rattle.rx_lex.specs.Tokens.{kinds};
 ghost use Rattle.rx_ast.specs.Syntax.{Program};
 ghost use Rattle.rx_print.specs.Levels.{HasTokens};
 ghost use Rattle.rx_grammar.specs.Reading.{program_at};
-ghost use Rattle.rx_parse.specs.Results.{Gives};
+ghost use Rattle.rx_expression.specs.Results.{Gives};
 ghost use Rattle.rx_parse.specs.Faults.{IsEnded, IsFault};
 
-use crate::beside::closed;
 use crate::declarations::declarations;
 use crate::error::ParseError;
-use crate::fault::Fault;
-use crate::steps::expect_end;
 use rx_ast::Program;
+use rx_expression::beside::closed;
+use rx_expression::fault::Fault;
+use rx_expression::steps::expect_end;
 use rx_lex::Token;
 use std::alloc::Global;
 

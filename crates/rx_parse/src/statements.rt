@@ -3,14 +3,16 @@ ghost use Rattle.std.specs.Prelude.{◌≡◌};
 ghost use Rattle.rx_lex.specs.Tokens.{kinds};
 ghost use Rattle.rx_grammar.specs.Steps.{next};
 ghost use Rattle.rx_grammar.specs.Reading.{argument_at, hook_at, pair_at, value_statement, const_at, effect_at, statement_at, is_statement, statements_at, function_line, lines_at};
-ghost use Rattle.rx_parse.specs.Results.{Gives};
+ghost use Rattle.rx_expression.specs.Results.{Gives};
 
-use crate::beside::closed;
-use crate::expressions::{expr, exprs};
-use crate::fault::Fault;
-use crate::steps::{expect, expect_word, lower, next_is, next_is_word, resource, text, upper};
 use rx_ast::{Expr, Line, Statement};
 use rx_base::Name;
+use rx_expression::beside::closed;
+use rx_expression::expressions::{expr, exprs};
+use rx_expression::fault::Fault;
+use rx_expression::steps::{
+    expect, expect_word, lower, next_is, next_is_word, resource, text, upper,
+};
 use rx_lex::{Keyword, Sign, Token};
 use std::alloc::Global;
 

@@ -1,5 +1,5 @@
 -- The defaults of the contexts, declaration by declaration.
-use Rattle.std.specs.Prelude.{◌≡◌, ℕ, suc, ◌+◌, ◌<◌, List, [], ◌∷◌, ◌++◌, ℤ, Option, Some, None, filter_map, map, length, refl}
+use Rattle.std.specs.Prelude.{◌≡◌, ℕ, suc, ◌+◌, ◌<◌, List, [], ◌∷◌, ◌++◌, ℤ, Some, None, filter_map, map, length, refl}
 use Rattle.std.proofs.Common.{sym, ap, ◌∙◌, append_assoc, add-one, drop, drop-cons, get_or}
 use Rattle.rx_ast.specs.Syntax.{Program, Declaration, Context, as_context}
 use Rattle.rx_meaning.specs.Fresh.{default_of}

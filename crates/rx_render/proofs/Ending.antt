@@ -1,14 +1,13 @@
 -- The end of a render, and the units before it.
-use Rattle.std.specs.Prelude.{◌≡◌, ℕ, ◌<◌, Option, Some, None, false, refl}
-use Rattle.std.proofs.Common.{sym, ap, ◌∙◌, subst, arith}
+use Rattle.std.specs.Prelude.{◌≡◌, ℕ, ◌<◌, Option, Some, refl}
+use Rattle.std.proofs.Common.{◌∙◌, arith}
 use Rattle.rx_ast.specs.Syntax.{Program}
 use Rattle.rx_ctx.specs.Contexts.{Stack}
 use Rattle.rx_elem.specs.Trees.{Node}
 use Rattle.rx_links.specs.Drafts.{Trees, grafted}
-use Rattle.rx_meaning.specs.Fresh.{Sight, Place, fresh, made, waits}
+use Rattle.rx_meaning.specs.Fresh.{Sight, fresh, made, waits}
 use Rattle.rx_meaning.specs.Cursor.{Cursor, ended}
 use Rattle.rx_meaning.specs.Rest.{gives}
-use Rattle.rx_meaning.specs.Counts.{each_unit, whole}
 use Rattle.rx_model.specs.State.{State, Progress}
 use Rattle.rx_model.specs.Committing.{sight_of}
 use Rattle.rx_model.specs.Laws.{IsBounded}
@@ -16,12 +15,12 @@ use Rattle.rx_model.specs.Turns.{unit_bound}
 use Rattle.rx_model.proofs.NeverWaits.{app_never_waits}
 use Rattle.rx_fiber.specs.Fibers.{Fiber}
 use Rattle.rx_fiber.specs.Reading.{IsTreeOf}
-use Rattle.rx_fiber.specs.Standing.{StandsAt, over}
+use Rattle.rx_fiber.specs.Standing.{over}
 use Rattle.render_laws.specs.InProgress.{InProgress}
 use Rattle.render_laws.proofs.GoingLaws.{holds_unfinished, holds_last}
 use Rattle.render_laws.proofs.Bounded.{units_within}
 use Rattle.rx_render.specs.declared.at.At.{At}
-use Rattle.rx_render.specs.declared.at.At.TheVariants.{Begins, Completes, Over}
+use Rattle.rx_render.specs.declared.at.At.TheVariants.{Over}
 use Rattle.rx_render.specs.Rendering.{Rendering, IfLeft, ComesTo, to_place, to_end, to_tree, to_wait}
 use Rattle.rx_render.specs.Renders.{Renders}
 

@@ -1,14 +1,14 @@
 -- Each old node that a render comes to has instances of the old tree alone.
-use Rattle.std.specs.Prelude.{◌≡◌, ◌⊎◌, ℕ, zero, suc, List, [], ◌∷◌, ◌++◌, filter_map, Option, Some, None, option_and_then, slice_get, refl}
-use Rattle.std.proofs.Common.{sym, ap, ◌∙◌, subst, inl, inr}
+use Rattle.std.specs.Prelude.{◌≡◌, ◌⊎◌, ℕ, zero, suc, List, [], ◌∷◌, ◌++◌, Option, Some, None, option_and_then, slice_get, refl}
+use Rattle.std.proofs.Common.{ap, subst, inl, inr}
 use Rattle.std.proofs.lemmas.List.Elements.{filter_map-append}
-use Rattle.rx_elem.specs.Trees.{Instance, Mark, of_instance, of_host, of_boundary, plain, Node, node, Forest, none, vacant, child, instance_in}
-use Rattle.rx_elem.specs.Spots.{Around, at_root, Spot, spots, spots_in, around_children, tree_spots, Mounted, mounted_as, mounted_in, mounted_at, mounted}
+use Rattle.rx_elem.specs.Trees.{Instance, Mark, Node, node, Forest, none, vacant, child, instance_in}
+use Rattle.rx_elem.specs.Spots.{Around, at_root, Spot, spots, spots_in, around_children, Mounted, mounted_as, mounted_in, mounted_at, mounted}
 use Rattle.rx_meaning.specs.Fresh.{Sight}
 use Rattle.rx_meaning.specs.Cursor.{Cursor, start, unit}
 use Rattle.render_laws.specs.OldNodes.{AllHave, OldHas, CursorHas}
 use Rattle.render_laws.proofs.Descent.{GoesDown, unit_has, start_has}
-use Rattle.rx_render.specs.Mounting.{IsMountedIn, IfMounted, HasInstances, HasInstancesIn}
+use Rattle.rx_render.specs.Mounting.{IsMountedIn, HasInstances, HasInstancesIn}
 
 -- an instance is among some
 abbrev Among : List Mounted → Mounted → Type 0

@@ -1,9 +1,8 @@
 -- A render that starts is in progress.
-use Rattle.std.specs.Prelude.{◌≡◌, ℕ, ℤ, List, [], Option, Some, None, true, refl}
+use Rattle.std.specs.Prelude.{◌≡◌, ℕ, ℤ, List, [], Option, true, refl}
 use Rattle.std.proofs.Common.{sym, ap, ◌∙◌, subst}
 use Rattle.rx_base.specs.declared.cut.Cut.{Cut}
 use Rattle.rx_lane.specs.Lanes.{Lanes}
-use Rattle.rx_ast.specs.Syntax.{Program}
 use Rattle.rx_ctx.specs.Contexts as contexts
 use Rattle.rx_ctx.specs.Contexts.{Stack}
 use Rattle.rx_check.specs.Checks.{is_rooted, unknowns}
@@ -12,18 +11,17 @@ use Rattle.rx_elem.specs.Trees.{Node}
 use Rattle.rx_lists.specs.Shapes.{first}
 use Rattle.rx_lists.specs.Shapes as shapes
 use Rattle.rx_links.specs.Drafts.{Trees, taken, made}
-use Rattle.rx_meaning.specs.Fresh.{Sight, Contexts, default_contexts, root_element, depth_limit}
-use Rattle.rx_meaning.specs.Cursor.{Cursor, start}
-use Rattle.rx_model.specs.State.{State, Progress}
+use Rattle.rx_meaning.specs.Fresh.{Sight, default_contexts, root_element}
+use Rattle.rx_meaning.specs.Cursor.{start}
+use Rattle.rx_model.specs.State.{State}
 use Rattle.rx_model.specs.Committing.{sight_of, starting}
 use Rattle.rx_model.specs.HooksOf.{KeepsAllHooks}
 use Rattle.rx_model.specs.Laws.{IsBounded}
 use Rattle.rx_fiber.specs.Fibers.{Fiber, waiting}
 use Rattle.rx_fiber.specs.Reading.{IsTreeOf}
 use Rattle.rx_fiber.specs.Surround.{IsWaiting}
-use Rattle.rx_fiber.specs.Standing.{StandsAt}
 use Rattle.rx_fiber.proofs.Starting.{starts}
-use Rattle.rx_hook_store.specs.Store.{Kept, kept_hooks}
+use Rattle.rx_hook_store.specs.Store.{kept_hooks}
 use Rattle.render_laws.proofs.GoingLaws.{start_holds}
 use Rattle.draw_laws.specs.Cursors.{CursorDrawn}
 use Rattle.rx_render.specs.declared.at.At.TheVariants.{Begins, Over}

@@ -1,6 +1,5 @@
 -- How many contexts have a value at the places that a render has yet to come to.
-use Rattle.std.specs.Prelude.{◌≡◌, ℕ, List, [], ◌∷◌, Option, length}
-use Rattle.rx_elem.specs.Trees.{Node}
+use Rattle.std.specs.Prelude.{◌≡◌, ℕ, List, [], ◌∷◌, length}
 use Rattle.rx_meaning.specs.Cursor.{Open, around, trying, falling, Frame, Cursor, at_place, at_end, ended}
 
 -- so many have one in the fallback that an open boundary may come to

@@ -1,9 +1,9 @@
 -- Which render of the machine is in progress.
-use Rattle.std.specs.Prelude.{◌≡◌, ℕ, ◌≤◌, ◌++◌, List, [], ℤ, Option, length}
+use Rattle.std.specs.Prelude.{◌≡◌, ◌≤◌, ◌++◌, List, [], ℤ, Option, length}
 use Rattle.rx_base.specs.declared.cut.Cut.{Cut}
 use Rattle.rx_lane.specs.Lanes.{Lanes}
 use Rattle.rx_ast.specs.Syntax.{Program, contexts}
-use Rattle.rx_check.specs.Checks.{unknowns, is_rooted}
+use Rattle.rx_check.specs.Checks.{unknowns}
 use Rattle.rx_queue.specs.Journal.{Posted, Resolution, cut_now}
 use Rattle.rx_meaning.specs.Fresh.{resources_seen}
 use Rattle.rx_meaning.specs.Cursor.{Cursor}

@@ -49,5 +49,8 @@ pub(crate) fn root_element(alloc: Global, checked: &Checked) -> Result<Element, 
 {
     let number = checked.component("App").unwrap_or(0);
     let props = Ints::new(Vec::new(alloc));
-    Element::new(alloc, ElementKind::Comp(number, None, props, Vec::new(alloc)))
+    Element::new(
+        alloc,
+        ElementKind::Comp(number, None, props, Vec::new(alloc)),
+    )
 }

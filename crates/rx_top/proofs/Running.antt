@@ -10,7 +10,7 @@ use Rattle.small_model.specs.State.{State}
 use Rattle.small_model.specs.Kept.{IsKept}
 use Rattle.std.proofs.lemmas.Grind.{flat_map-append}
 use Rattle.small_model.specs.Report.{Line, line_bytes, report_bytes}
-use Rattle.small_model.specs.Machine.{RunTo, StepTo, Does, silent}
+use Rattle.small_model.specs.Machine.{RunTo, StepTo}
 use Rattle.rx_top.specs.Outcome.{BeginsRun, WritesRun}
 
 -- the bytes of lines, one after another

@@ -1,27 +1,32 @@
 -- What clap finds among valid words, and what is made of it.
-use Rattle.std.proofs.Common.{◌≡◌, ◌∙◌, sym, ap, ap₂, refl, Bool, true, false, cond, List, [], ◌∷◌, Option, Some, None, option_map, codes, bytes_eq, subst}
+use Rattle.std.proofs.Common.{◌≡◌, ◌∙◌, sym, ap, refl, Bool, true, false, cond, List, [], ◌∷◌, Option, Some, None, codes, bytes_eq, subst}
 use Rattle.std.proofs.lemmas.Slice.Eq.{bytes_eq-Decides}
 use Rattle.rx_base.specs.Values.{Text}
-use Rattle.clap.specs.Words.{App, first_of, is_simple, matches_of, takes}
+use Rattle.clap.specs.Words.{first_of, is_simple, matches_of, takes}
 use Rattle.clap.proofs.OnLiterals.{clap_on_literals}
 use Rattle.rx_top.specs.declared.words.Task.{Task}
 use Rattle.rx_top.specs.Words.{command_line, spelled, task_named, task_of}
 
--- the word `run` alone
-abbrev run_alone : List Text
-run_alone = codes "run" ∷ []
+-- one word
+abbrev alone : Text → List Text
+alone w = w ∷ []
 
 pub line_is_simple : is_simple command_line ≡ true
 unfolding clap_on_literals
 line_is_simple = refl
 
-run_found : first_of (codes "command") (matches_of command_line run_alone) ≡ Some (codes "run")
-unfolding clap_on_literals
-run_found = refl
+-- the command is found in this word, which is taken
+record IsTaken (w : Text) : Type 0 where
+  found : first_of (codes "command") (matches_of command_line (alone w)) ≡ Some w
+  taken : takes command_line (alone w) ≡ true
 
-run_taken : takes command_line run_alone ≡ true
+run_taken : IsTaken (codes "run")
 unfolding clap_on_literals
-run_taken = refl
+run_taken = record { found = refl; taken = refl }
+
+check_taken : IsTaken (codes "check")
+unfolding clap_on_literals
+check_taken = record { found = refl; taken = refl }
 
 same : (a b : Text) → bytes_eq a b ≡ true → a ≡ b
 same a b is = (bytes_eq-Decides a b).0 is
@@ -29,22 +34,26 @@ same a b is = (bytes_eq-Decides a b).0 is
 bytes-self : (a : Text) → bytes_eq a a ≡ true
 bytes-self a = (bytes_eq-Decides a a).1 refl
 
--- a word that names a task is `run`
-named-run : (w : Text) (task : Task) → task_named w ≡ Some task → w ≡ codes "run"
-named-run w task is = by_test (bytes_eq w (codes "run")) refl where
-  by_test : (b : Bool) → bytes_eq w (codes "run") ≡ b → w ≡ codes "run"
-  by_test true e = same w (codes "run") e
-  by_test false e = let none : ◌≡◌ {A = Option Task} None (Some task) = rw e at is in cc
+-- a word that names a task is taken
+named-taken : (w : Text) (task : Task) → task_named w ≡ Some task → IsTaken w
+named-taken w task is = by_run (bytes_eq w (codes "run")) refl where
+  by_check : bytes_eq w (codes "run") ≡ false → (b : Bool) → bytes_eq w (codes "check") ≡ b → IsTaken w
+  by_check not true e = subst IsTaken (sym (same w (codes "check") e)) check_taken
+  by_check not false e = let none : ◌≡◌ {A = Option Task} None (Some task) = rw (not, e) at is in cc
+
+  by_run : (b : Bool) → bytes_eq w (codes "run") ≡ b → IsTaken w
+  by_run true e = subst IsTaken (sym (same w (codes "run") e)) run_taken
+  by_run false e = by_check e (bytes_eq w (codes "check")) refl
 
 -- valid words are taken
 pub valid-taken : (words : List Text) (task : Task) → task_of words ≡ Some task → takes command_line words ≡ true
 valid-taken [] task is = cc
-valid-taken (w ∷ []) task is = rw (named-run w task is) run_taken
+valid-taken (w ∷ []) task is = (named-taken w task is).taken
 valid-taken (w ∷ v ∷ words) task is = cc
 
 -- of valid words the command is found
-valid-found : (w : Text) (task : Task) → task_named w ≡ Some task → first_of (codes "command") (matches_of command_line (w ∷ [])) ≡ Some w
-valid-found w task is = rw (named-run w task is) run_found
+pub valid-found : (w : Text) (task : Task) → task_named w ≡ Some task → first_of (codes "command") (matches_of command_line (w ∷ [])) ≡ Some w
+valid-found w task is = (named-taken w task is).found
 
 by_same : (same_word : Bool) (f w : Text) → bytes_eq w f ≡ same_word → task_named w ≡ None → cond same_word (task_named f) None ≡ None
 by_same false f w e none = refl

@@ -1,16 +1,23 @@
 -- What the top call answers and writes, for the words and the input.
-use Rattle.std.specs.Prelude.{ℕ, ◌≡◌, ◌+◌, ◌<◌, ◌≤◌, ◌⊎◌, List, [], ◌∷◌, ◌++◌, length, true, false, codes, decimal, Option, Ok, Err}
+use Rattle.std.specs.Prelude.{ℕ, ◌≡◌, ◌+◌, ◌<◌, ◌≤◌, ◌⊎◌, List, [], ◌∷◌, ◌++◌, length, true, false, codes, decimal, Option, Some, Ok, Err}
 use Rattle.std.specs.Io.KnownBytes.{Appends, Keeps, Consumes, IsAtEnd}
 use Rattle.rx_base.specs.Values.{Text}
+use Rattle.rx_ast.specs.Syntax as whole
+use Rattle.rx_rules.specs.Bounds.{node_bound, depth_bound}
+use Rattle.rx_step.specs.declared.step.Step as step
+use Rattle.rx_script.specs.Input.{input_of}
+use Rattle.rx_accept.specs.Lines.{then_number}
+use Rattle.rx_accept.specs.Judgements.{IsJudged, accepted, program_refused, script_refused}
 use Rattle.small_model.specs.declared.script.Step.{Step}
 use Rattle.small_model.specs.Syntax.{Program}
 use Rattle.small_model.specs.Accepted.{IsSmallProgram}
 use Rattle.small_model.specs.Lines.{steps_of}
-use Rattle.small_model.specs.Input.{input_of}
 use Rattle.small_model.specs.State.{State}
 use Rattle.small_model.specs.Report.{Line, report_bytes}
 use Rattle.small_model.specs.Machine.{RunTo, Reports}
-use Rattle.rx_top.specs.Words.{is_valid}
+use Rattle.rx_top.specs.Words.{is_valid, task_of}
+use Rattle.rx_top.specs.declared.words.Task.{Task}
+use Rattle.rx_top.specs.declared.words.Task.TheVariants.{Run, Check}
 use Rattle.rx_top.specs.declared.status.Status.{Status}
 use Rattle.rx_top.specs.declared.status.Status.TheVariants.{Done, Usage, ReadFault, WriteFault, TooLong, ProgramRefused, ScriptRefused, OutOfMemory}
 
@@ -26,50 +33,84 @@ too_long_line = codes "input over 1048576 bytes\n"
 abbrev pub program_line : Text
 program_line = codes "program refused 19\n"
 
--- the line for a script whose first bad line has this number
+-- the line for a script in which this line is the first that small programs have not
 abbrev pub script_line : ℕ → Text
 script_line number = codes "script refused 19 line " ++ decimal number ++ 10 ∷ []
+
+-- the line for what is accepted: the most nodes and levels that a tree of the program has, and how many steps there are
+abbrev pub accepted_line : (nodes levels steps : ℕ) → Text
+accepted_line nodes levels steps =
+    codes "accepted nodes" ++ then_number nodes ++ codes " depth" ++ then_number levels ++ codes " steps" ++ then_number steps ++ 10 ∷ []
 
 -- the most bytes that an input has
 abbrev pub limit : ℕ
 limit = 1048576
 
--- the text is that of no small program
-abbrev pub IsRefused : Text → Type 0
-IsRefused text = (p : Program) → IsSmallProgram text p → ⊥
+-- the input is accepted, with its program and its steps
+pub record IsAccepted (input : List ℕ) : Type 0 where
+  pub program : whole.Program
+  pub steps : List step.Step
+  pub judged : IsJudged input (accepted program steps)
 
--- the input holds this small program, and behind it a script whose first bad line has this number
+-- the text is that of no small program
+abbrev pub IsNotSmall : Text → Type 0
+IsNotSmall text = (p : Program) → IsSmallProgram text p → ⊥
+
+-- the input holds this small program, and behind it a script in which this line is the first that small programs have not
 pub record RefusesScript (input : List ℕ) (number : ℕ) : Type 0 where
   pub program : Program
   pub small : IsSmallProgram (input_of input).program program
   pub bad : steps_of program (input_of input).script ≡ Err number
 
--- the input holds a small program, and behind it a script of steps
-pub record IsAccepted (input : List ℕ) : Type 0 where
+-- the input holds a small program, and behind it a script of its steps
+pub record IsSmall (input : List ℕ) : Type 0 where
   pub program : Program
   pub steps : List Step
   pub small : IsSmallProgram (input_of input).program program
   pub script : steps_of program (input_of input).script ≡ Ok steps
 
--- the status that is due for an input that isn't too long
-abbrev pub IsDueFor : List ℕ → Status → Type 0
-IsDueFor input ProgramRefused = IsRefused (input_of input).program
-IsDueFor input ScriptRefused = (number : ℕ) × RefusesScript input number
-IsDueFor input Done = IsAccepted input
-IsDueFor input _ = ⊥
+-- the program of the input is refused with this line, or its script is
+abbrev pub IsRefused : List ℕ → Status → Text → Type 0
+IsRefused input ProgramRefused line = IsJudged input (program_refused line)
+IsRefused input ScriptRefused line = IsJudged input (script_refused line)
+IsRefused input _ line = ⊥
+
+-- The input is accepted, and yet only small programs run: its program is not small, or its script has a line that is no step of small programs.
+abbrev pub IsTooMuch : List ℕ → Status → Text → Type 0
+IsTooMuch input ProgramRefused line = IsAccepted input × IsNotSmall (input_of input).program × (line ≡ program_line)
+IsTooMuch input ScriptRefused line = IsAccepted input × (number : ℕ) × RefusesScript input number × (line ≡ script_line number)
+IsTooMuch input _ line = ⊥
+
+-- how a task refuses an input: `run` also what is too much
+abbrev pub Refuses : Task → List ℕ → Status → Text → Type 0
+Refuses Check input due line = IsRefused input due line
+Refuses Run input due line = IsRefused input due line ⊎ IsTooMuch input due line
+
+-- what a task does: `check` all that is accepted, `run` of that what is small
+abbrev pub IsDoable : Task → List ℕ → Type 0
+IsDoable Check input = IsAccepted input
+IsDoable Run input = IsAccepted input × IsSmall input
+
+-- the status that is due for a task and an input that isn't too long
+abbrev pub IsDueFor : Task → List ℕ → Status → Type 0
+IsDueFor task input Done = IsDoable task input
+IsDueFor task input due = (line : Text) × Refuses task input due line
 
 -- the status that is due for the words and the input
 abbrev pub IsDue : List Text → List ℕ → Status → Type 0
 IsDue words input Usage = is_valid words ≡ false
 IsDue words input TooLong = (is_valid words ≡ true) × (limit < length input)
-IsDue words input due = (is_valid words ≡ true) × (length input ≤ limit) × IsDueFor input due
+IsDue words input due = (task : Task) × (task_of words ≡ Some task) × (length input ≤ limit) × IsDueFor task input due
 
--- what is written for an input that isn't too long, and how many bodies are evaluated for it
-abbrev pub IsOutput : List ℕ → Status → List ℕ → ℕ → Type 0
-IsOutput input ProgramRefused text bodies = IsRefused (input_of input).program × (text ≡ program_line) × (bodies ≡ 0)
-IsOutput input ScriptRefused text bodies = (number : ℕ) × RefusesScript input number × (text ≡ script_line number) × (bodies ≡ 0)
-IsOutput input Done text bodies = (accepted : IsAccepted input) × Reports accepted.program accepted.steps text bodies
-IsOutput input _ text bodies = ⊥
+-- what a task writes where it is done, and how many bodies are evaluated for it: `check` one line, `run` the report of a run
+abbrev pub IsWork : Task → List ℕ → List ℕ → ℕ → Type 0
+IsWork Check input text bodies = (a : IsAccepted input) × (text ≡ accepted_line (node_bound a.program) (depth_bound a.program) (length a.steps)) × (bodies ≡ 0)
+IsWork Run input text bodies = IsAccepted input × (s : IsSmall input) × Reports s.program s.steps text bodies
+
+-- what is written for a task and an input that isn't too long, and how many bodies are evaluated for it
+abbrev pub IsOutput : Task → List ℕ → Status → List ℕ → ℕ → Type 0
+IsOutput task input Done text bodies = IsWork task input text bodies
+IsOutput task input due text bodies = Refuses task input due text × (bodies ≡ 0)
 
 -- the answer is the status that is due, or a read fault, a write fault or want of memory
 abbrev pub Gives : Status → Status → Type 0
@@ -105,16 +146,16 @@ Reads old new P = (input : List ℕ) × Consumes old new input × P input
 abbrev pub ReadsAll : Option (List ℕ) → Option (List ℕ) → (List ℕ → Type 0) → Type 0
 ReadsAll old new P = (input : List ℕ) × Consumes old new input × IsAtEnd new × P input
 
--- some output of this input
-abbrev pub IsSomeOutput : List ℕ → List ℕ → ℕ → Type 0
-IsSomeOutput input text bodies = (due : Status) × IsOutput input due text bodies
+-- some output of this task and this input
+abbrev pub IsSomeOutput : Task → List ℕ → List ℕ → ℕ → Type 0
+IsSomeOutput task input text bodies = (due : Status) × IsOutput task input due text bodies
 
 -- The output that is due for the words and what was read, of which a beginning was written: the line for words that
 -- aren't valid; for those that are, the line for an input that is too long, or the output of the whole input.
 abbrev pub IsBegun : List Text → Option (List ℕ) → Option (List ℕ) → List ℕ → ℕ → Type 0
 IsBegun words old new text bodies = ((is_valid words ≡ false) × (text ≡ usage_line))
     ⊎ ((is_valid words ≡ true) × Reads old new (λ input. length input ≡ limit + 1) × (text ≡ too_long_line))
-    ⊎ ((is_valid words ≡ true) × ReadsAll old new (λ input. (length input ≤ limit) × IsSomeOutput input text bodies))
+    ⊎ ((task : Task) × (task_of words ≡ Some task) × ReadsAll old new (λ input. (length input ≤ limit) × IsSomeOutput task input text bodies))
 
 -- what was written begins the lines of a run of these steps
 abbrev pub BeginsRun : Program → State → List Step → Option (List ℕ) → Option (List ℕ) → Type 0

@@ -1,11 +1,11 @@
 -- The words of the command line, and what they ask for.
-use Rattle.std.specs.Prelude.{Bool, true, false, List, [], ◌∷◌, map, Option, Some, None, is_some, codes, bytes_eq, if◌then◌else◌}
+use Rattle.std.specs.Prelude.{Bool, true, List, [], ◌∷◌, map, Option, Some, None, is_some, codes, bytes_eq, if◌then◌else◌}
 use Rattle.std.specs.Borrow.{Bor}
 use Rattle.rx_base.specs.Values.{Text}
 use Rattle.clap.specs.Words.{App, new_app, new_rule, with_rule}
 use Rattle.clap.specs.Simple.{on_top}
 use Rattle.rx_top.specs.declared.words.Task.{Task}
-use Rattle.rx_top.specs.declared.words.Task.TheVariants.{Run}
+use Rattle.rx_top.specs.declared.words.Task.TheVariants.{Run, Check}
 
 -- the texts of the words
 abbrev pub texts : List (Bor Text) → List Text
@@ -13,9 +13,9 @@ texts words = map (λ word. word.now) words
 
 -- the task of a command
 abbrev pub task_named : Text → Option Task
-task_named command = if bytes_eq command (codes "run") then Some Run else None
+task_named command = if bytes_eq command (codes "run") then Some Run else if bytes_eq command (codes "check") then Some Check else None
 
--- what the words ask for, if they are valid: `run` alone
+-- what the words ask for, if they are valid: `run` alone, or `check` alone
 abbrev pub task_of : List Text → Option Task
 task_of [] = None
 task_of (word ∷ []) = task_named word

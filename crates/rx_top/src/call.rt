@@ -1,15 +1,16 @@
 // The top call.
-ghost use Rattle.std.specs.Prelude.{◌≡◌, ◌≢◌, ◌⊎◌, ◌≤◌, ◌+◌, List, ℕ, length, false, true, IfSome};
+ghost use Rattle.std.specs.Prelude.{◌≡◌, ◌≢◌, ◌⊎◌, ◌≤◌, ◌+◌, List, ℕ, length, false, true, Some, IfSome};
 ghost use Rattle.std.specs.Io.KnownBytes.{Appends};
 ghost use Rattle.rx_io.specs.Causes.{Rose};
 ghost use Rattle.rx_top.specs.declared.status.Status.{Status};
 ghost use Rattle.rx_io.specs.Whole.{AppendsPrefix};
-ghost use Rattle.rx_top.specs.Words.{is_valid, texts};
+ghost use Rattle.rx_top.specs.declared.words.Task.{Task};
+ghost use Rattle.rx_top.specs.Words.{is_valid, task_of, texts};
 ghost use Rattle.rx_top.specs.Outcome.{limit, usage_line, too_long_line, IsDue, IsOutput, IsBegun, Gives, Reads, ReadsAll, Writes, WritesPart, WritesSome};
 
-use crate::answer::run_input;
+use crate::answer::answer;
 use crate::status::Status;
-use crate::words::{Task, read_words};
+use crate::words::read_words;
 use rx_base::Steps;
 use rx_io::{ReadError, Sink, Source, read_all, write_all};
 use std::alloc::Global;
@@ -38,8 +39,9 @@ fn refuse_words<K: Sink>(out: &mut K) -> Status
 /// Does all that the program does: takes the words behind the program's name, reads the source, writes to the sink,
 /// and says how it ended.
 ///
-/// The words are valid where they are `run` alone. The source is read to its end, or until more than 1,048,576 bytes
-/// were taken. It holds a small program, a line `---`, and a script; the report of a run of the script is written.
+/// The words are valid where they are `run` alone or `check` alone. The source is read to its end, or until more than
+/// 1,048,576 bytes were taken. It holds a program, a line `---`, and a script. Both commands refuse what is not accepted;
+/// `check` tells the bounds of what is accepted, and `run` writes the report of a run of the script, if all is small.
 pub fn top<S: Source, K: Sink, L: Ledger>(
     alloc: Global,
     words: &[&str],
@@ -47,11 +49,12 @@ pub fn top<S: Source, K: Sink, L: Ledger>(
     out: &mut K,
     steps: &mut Steps<L>,
 ) -> Status
-    // 0: all was read, and what was written is the report of a run of the fresh machine: of the program in it, on the
-    // steps of the script in it. The steps rose by the bodies that this run evaluates.
-    ensures done { result ≡ Status.Done → (is_valid (texts words.now) ≡ true)
+    // 0: all was read, it is accepted, and what was written is the task's work: for `check` the one line of its bounds;
+    // for `run` the report of a run of the fresh machine, of the program in it, on the steps of the script in it. The
+    // steps rose by the bodies that this run evaluates, and in `check` by none.
+    ensures done { result ≡ Status.Done → (task : Task) × (task_of (texts words.now) ≡ Some task)
         × ReadsAll (S.left src.old) (S.left src.new) (λ input. (length input ≤ limit)
-        × Writes (K.written out.old) (K.written out.new) steps.old steps.new (IsOutput input Status.Done)) }
+        × Writes (K.written out.old) (K.written out.new) steps.old steps.new (IsOutput task input Status.Done)) }
 
     // 2: the words aren't valid, and no body was evaluated.
     ensures usage { result ≡ Status.Usage → (is_valid (texts words.now) ≡ false)
@@ -75,13 +78,13 @@ pub fn top<S: Source, K: Sink, L: Ledger>(
     // However it ends, at most one byte more was taken than may be.
     ensures taken { Reads (S.left src.old) (S.left src.new) (λ input. length input ≤ limit + 1) }
 
-    // 6 and 7: all was read, and it is refused.
-    ensures program_refused { result ≡ Status.ProgramRefused → (is_valid (texts words.now) ≡ true)
+    // 6 and 7: all was read, and it is refused: its program, or its script where its program is accepted.
+    ensures program_refused { result ≡ Status.ProgramRefused → (task : Task) × (task_of (texts words.now) ≡ Some task)
         × ReadsAll (S.left src.old) (S.left src.new) (λ input. (length input ≤ limit)
-        × Writes (K.written out.old) (K.written out.new) steps.old steps.new (IsOutput input Status.ProgramRefused)) }
-    ensures script_refused { result ≡ Status.ScriptRefused → (is_valid (texts words.now) ≡ true)
+        × Writes (K.written out.old) (K.written out.new) steps.old steps.new (IsOutput task input Status.ProgramRefused)) }
+    ensures script_refused { result ≡ Status.ScriptRefused → (task : Task) × (task_of (texts words.now) ≡ Some task)
         × ReadsAll (S.left src.old) (S.left src.new) (λ input. (length input ≤ limit)
-        × Writes (K.written out.old) (K.written out.new) steps.old steps.new (IsOutput input Status.ScriptRefused)) }
+        × Writes (K.written out.old) (K.written out.new) steps.old steps.new (IsOutput task input Status.ScriptRefused)) }
 
     // 8: what was written begins the output.
     ensures memory { result ≡ Status.OutOfMemory → WritesSome (K.written out.old) (K.written out.new)
@@ -95,13 +98,13 @@ pub fn top<S: Source, K: Sink, L: Ledger>(
         → ¬ (Rose (S.faults src.old) (S.faults src.new)) → ¬ (Rose (K.faults out.old) (K.faults out.new))
         → (result ≡ Status.Done) ⊎ (result ≡ Status.OutOfMemory)) }
 {
-    match read_words(alloc, words) {
-        Ok(Some(Task::Run)) => {}
+    let task = match read_words(alloc, words) {
+        Ok(Some(task)) => task,
         Ok(None) => return refuse_words(out),
         Err(_) => return Status::OutOfMemory,
-    }
+    };
     match read_all(alloc, src, LIMIT) {
-        Ok(input) => run_input(alloc, &input, out, steps),
+        Ok(input) => answer(alloc, task, &input, out, steps),
         Err(ReadError::Failed) => Status::ReadFault,
         Err(ReadError::OutOfMemory) => Status::OutOfMemory,
         Err(ReadError::TooLong) => match write_all(out, b"input over 1048576 bytes\n") {

@@ -3,6 +3,7 @@
 
 mod answer;
 mod call;
+mod lines;
 mod run;
 mod status;
 mod words;
@@ -10,5 +11,7 @@ mod words;
 pub use call::top;
 pub use status::Status;
 
+#[cfg(test)]
+mod cases;
 #[cfg(test)]
 mod tests;

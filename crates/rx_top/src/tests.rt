@@ -2,6 +2,8 @@
 ghost use Rattle.std.specs.Prelude.{◌≡◌};
 
 use super::*;
+use crate::cases::{CASES, ONE_FUNCTION, WAITING};
+use itoa::Buffer;
 use rx_base::Steps;
 use rx_io::{MemSink, MemSource};
 use std::alloc::{AllocError, Global};
@@ -25,7 +27,7 @@ const TWO_COUNTERS: &str =
 const STATES: &str =
     "commit 1 Default\ncommit 2 Sync\nstate\n  [1] App\n  [2] Counter n=1\n  [3] Counter n=7\nend quiet\n";
 
-const ROWS: [Row<'static>; 12] = [
+const ROWS: [Row<'static>; 14] = [
     // Two counters: the second is set.
     Row {
         words: &["run"],
@@ -85,21 +87,40 @@ const ROWS: [Row<'static>; 12] = [
         status: 2,
         output: "usage: fiber_run run [--counts] [--ops] | check | gen N\n",
     },
-    // A program that is not small.
+    // A program that is accepted and not small.
     Row {
         words: &["run"],
-        program: "function app(s, a) { return s * 10 + a; } function App() { const [s, setS] = useState(0); return <p>{s}</p>; }",
-        script: "jump",
+        program: ONE_FUNCTION,
+        script: "flush",
         failing_reads: &[],
         failing_writes: &[],
         status: 6,
         output: "program refused 19\n",
     },
-    // The first bad line of a script.
+    // What is not accepted is refused before what is not small: a bad line of a script, and before it a program.
+    Row {
+        words: &["run"],
+        program: ONE_FUNCTION,
+        script: "jump",
+        failing_reads: &[],
+        failing_writes: &[],
+        status: 7,
+        output: "script refused 14 line 1\n",
+    },
+    Row {
+        words: &["run"],
+        program: "function App() { return <p>{x}</p>; }",
+        script: "jump",
+        failing_reads: &[],
+        failing_writes: &[],
+        status: 6,
+        output: "program refused 5 x\n",
+    },
+    // The first line of a script that small programs have not.
     Row {
         words: &["run"],
         program: TWO_COUNTERS,
-        script: "flush\ntree\nset sync App n 1",
+        script: "flush\ntree\nset sync App/Counter n 1",
         failing_reads: &[],
         failing_writes: &[],
         status: 7,
@@ -191,17 +212,101 @@ fn each_row_has_its_status_and_output(rt: HostRuntime) -> Result<(), Fail> {
     Ok(())
 }
 
+/// A piece of a program for this number.
+fn push_piece(program: &mut String, text: &str, number: u64) -> Result<(), AllocError> {
+    let mut buffer = Buffer::new();
+    for c in text.chars() {
+        match c {
+            '#' => program.push_str(buffer.format(number))?,
+            '~' => program.push_str(buffer.format(number.saturating_sub(1)))?,
+            _ => program.push(c)?,
+        }
+    }
+    Ok(())
+}
+
+/// The program of these pieces.
+fn program_of(alloc: Global, pieces: &[(&str, u64, u64)]) -> Result<String, AllocError> {
+    let mut program = String::new(alloc);
+    for (text, first, last) in pieces {
+        for number in *first..last.saturating_add(1) {
+            push_piece(&mut program, text, number)?;
+        }
+    }
+    Ok(program)
+}
+
+/// What `check` answers to a program and a script.
+fn checked(alloc: Global, program: &[u8], script: &[u8]) -> Result<(u8, Vec<u8>), AllocError> {
+    let mut input = Vec::from_slice(alloc, program)?;
+    input.extend_from_slice(b"\n---\n")?;
+    input.extend_from_slice(script)?;
+    let mut src = MemSource::new(alloc, &input, &[])?;
+    answer::<Brand>(alloc, &["check"], &mut src, &[], Blank::new(1))
+}
+
 #[test]
-fn a_byte_of_no_character_is_refused(rt: HostRuntime) -> Result<(), Fail> {
+fn each_input_is_judged(rt: HostRuntime) -> Result<(), Fail> {
     let alloc = rt.alloc();
-    for input in [
-        b"\xff".as_slice(),
-        b"function App() { return <p/>; } // \xff",
+    for (i, case) in CASES.iter().enumerate() {
+        let program = program_of(alloc, case.pieces)?;
+        let found = checked(alloc, program.as_bytes(), case.script.as_bytes())?;
+        assert_eq!(rt; found.0, case.status, "case {i}");
+        assert_eq!(rt; found.1.as_slice(), case.output.as_bytes(), "case {i}");
+    }
+    Ok(())
+}
+
+#[test]
+fn each_beginning_of_a_program_is_refused(rt: HostRuntime) -> Result<(), Fail> {
+    let alloc = rt.alloc();
+    let whole = WAITING.as_bytes();
+    for n in 0..whole.len() {
+        let found = checked(alloc, &whole[..n], b"flush")?;
+        let line = found.1.as_slice();
+        let known = line.starts_with(b"program refused 2 at ")
+            || line.starts_with(b"program refused 3 at ")
+            || line == b"program refused 10\n".as_slice();
+        assert_eq!(rt; found.0, 6, "of {n} bytes");
+        assert!(rt; known, "of {n} bytes");
+    }
+    Ok(())
+}
+
+#[test]
+fn a_byte_of_no_character_has_a_place(rt: HostRuntime) -> Result<(), Fail> {
+    let alloc = rt.alloc();
+    for (program, script, status, output) in [
+        (
+            b"\xff".as_slice(),
+            b"".as_slice(),
+            6,
+            "program refused 2 at 0\n",
+        ),
+        (b"\x00", b"", 6, "program refused 2 at 0\n"),
+        (b"& // \xff", b"", 6, "program refused 2 at 5\n"),
+        (
+            b"// \xe2\x82\xac \xe2\x82",
+            b"",
+            6,
+            "program refused 2 at 7\n",
+        ),
+        (
+            ONE_FUNCTION.as_bytes(),
+            b"\xff",
+            7,
+            "script refused 14 line 1\n",
+        ),
+        (
+            ONE_FUNCTION.as_bytes(),
+            b"# \xff",
+            0,
+            "accepted nodes 3 depth 3 steps 0\n",
+        ),
     ] {
-        let mut src = MemSource::new(alloc, input, &[])?;
-        let found = answer::<Brand>(alloc, &["run"], &mut src, &[], Blank::new(1))?;
-        assert_eq!(rt; found.0, 6);
-        assert_eq!(rt; found.1.as_slice(), b"program refused 19\n".as_slice());
+        let found = checked(alloc, program, script)?;
+        assert_eq!(rt; found.0, status);
+        assert_eq!(rt; found.1.as_slice(), output.as_bytes());
     }
     Ok(())
 }
@@ -210,7 +315,7 @@ fn a_byte_of_no_character_is_refused(rt: HostRuntime) -> Result<(), Fail> {
 fn an_input_that_is_too_long_is_refused(rt: HostRuntime) -> Result<(), Fail> {
     let alloc = rt.alloc();
     for (count, status, output) in [
-        (1_048_576, 6, "program refused 19\n"),
+        (1_048_576, 6, "program refused 10\n"),
         (1_048_577, 5, "input over 1048576 bytes\n"),
     ] {
         let spaces = vec![in alloc; b' '; count]?;

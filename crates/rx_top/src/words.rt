@@ -12,6 +12,8 @@ use std::alloc::{AllocError, Global};
 pub(crate) enum Task {
     /// Runs a script.
     Run,
+    /// Checks a program and a script.
+    Check,
 }
 
 /// The command line: one word, without help or version.
@@ -30,6 +32,8 @@ fn task_of(command: &str) -> Option<Task>
 {
     if command == "run" {
         Some(Task::Run)
+    } else if command == "check" {
+        Some(Task::Check)
     } else {
         None
     }

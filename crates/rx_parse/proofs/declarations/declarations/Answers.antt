@@ -1,7 +1,7 @@
 use Rattle.std.proofs.Common.{sym, ◌∙◌}
 use Rattle.rx_lex.specs.Tokens.{kinds}
 use Rattle.rx_grammar.proofs.Declarations.{declarations_loop}
-use Rattle.rx_parse.proofs.Turns.{turned, smaller}
+use Rattle.rx_expression.proofs.Turns.{turned, smaller}
 use Rattle.rx_parse.proofs.declarations.declarations.Goals as goal
 
 pub loop-alloc-smaller : goal.loop-alloc-smaller

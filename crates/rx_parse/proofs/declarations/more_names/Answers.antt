@@ -3,7 +3,7 @@ use Rattle.rx_lex.specs.Tokens.{kinds}
 use Rattle.rx_grammar.specs.Steps.{taken, as_lower, ◌>>=◌}
 use Rattle.rx_grammar.specs.Reading.{behind_comma}
 use Rattle.rx_grammar.proofs.Declarations.{names_loop}
-use Rattle.rx_parse.proofs.Turns.{turned, smaller}
+use Rattle.rx_expression.proofs.Turns.{turned, smaller}
 use Rattle.rx_parse.proofs.declarations.more_names.Goals as goal
 
 pub loop-alloc-smaller : goal.loop-alloc-smaller

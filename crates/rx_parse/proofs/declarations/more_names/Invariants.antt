@@ -3,7 +3,7 @@ use Rattle.rx_lex.specs.Tokens.{kinds}
 use Rattle.rx_lex.specs.declared.token.Sign.TheVariants as sign
 use Rattle.rx_grammar.specs.Steps.{is_mark, all_of, taken, as_lower}
 use Rattle.rx_grammar.specs.Reading.{behind_comma}
-use Rattle.rx_parse.specs.Results.{in_front}
+use Rattle.rx_expression.specs.Results.{in_front}
 use Rattle.rx_parse.proofs.declarations.more_names.Given as goal
 
 abbrev pub invariant-loop-alloc : goal.invariant-loop-alloc

@@ -2,7 +2,7 @@ use Rattle.std.proofs.Common.{◌≡◌, Err, subst, arith}
 use Rattle.rx_lex.specs.Tokens.{kinds}
 use Rattle.rx_print.specs.Levels.{level_limit}
 use Rattle.rx_grammar.specs.Reading.{program_at}
-use Rattle.rx_parse.specs.Results.{Fails}
+use Rattle.rx_expression.specs.Results.{Fails}
 use Rattle.rx_parse.proofs.Top.{found_has, fault_in, same_program, none_has}
 use Rattle.rx_parse.proofs.parser.parse.Goals as goal
 

@@ -1,7 +1,7 @@
 use Rattle.std.proofs.Common.{◌≡◌, length}
 use Rattle.rx_lex.specs.Tokens.{kinds}
 use Rattle.rx_grammar.specs.Reading.{lines_at}
-use Rattle.rx_parse.specs.Results.{in_front}
+use Rattle.rx_expression.specs.Results.{in_front}
 use Rattle.rx_parse.proofs.statements.lines.Given as goal
 
 abbrev pub invariant-loop-alloc : goal.invariant-loop-alloc

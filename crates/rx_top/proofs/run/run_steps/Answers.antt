@@ -1,9 +1,8 @@
-use Rattle.std.proofs.Common.{arith, rules, ◌≡◌, ◌+◌, List, length, drop, subst, get_or, sym, ◌∙◌, refl, ap, ◌∷◌}
+use Rattle.std.proofs.Common.{arith, ◌≡◌, ◌+◌, List, drop, subst, sym, ◌∙◌, refl, ap, ◌∷◌}
 use Rattle.std.proofs.lemmas.List.{drop_more, drop_all}
 use Rattle.std.proofs.lemmas.Result.{err_from_is_err_and}
 use Rattle.small_model.specs.declared.script.Step.{Step}
-use Rattle.small_model.specs.Kept.{IsKept}
-use Rattle.rx_top.proofs.Running.{SoFar, Stepped, Progress, so_far-starts, so_far-next, so_far-begins, so_far-part, so_far-ends}
+use Rattle.rx_top.proofs.Running.{SoFar, Progress, so_far-starts, so_far-next, so_far-begins, so_far-part, so_far-ends}
 use Rattle.rx_top.proofs.run.run_steps.Goals as goal
 
 pub script-init : goal.script-init

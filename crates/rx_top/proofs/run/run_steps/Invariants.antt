@@ -1,4 +1,4 @@
-use Rattle.std.proofs.Common.{◌≡◌, ◌+◌, ◌*◌, ◌≤◌, length, drop}
+use Rattle.std.proofs.Common.{◌≡◌, ◌+◌, ◌*◌, ◌≤◌, drop}
 use Rattle.small_model.specs.Kept.{IsKept}
 use Rattle.rx_top.proofs.Running.{SoFar}
 use Rattle.rx_top.proofs.run.run_steps.Given as goal

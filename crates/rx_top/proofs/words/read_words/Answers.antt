@@ -1,8 +1,8 @@
 use Rattle.std.proofs.Common.{◌≡◌, ◌∙◌, ap, codes, false, true, option_map, sym}
 use Rattle.clap.proofs.WalkLemmas.{first_value-rows}
-use Rattle.clap.specs.Words.{App, app_of, first_of, found_of, is_simple, kind_of, matches_of, takes}
+use Rattle.clap.specs.Words.{App, first_of, found_of, is_simple, matches_of, takes}
 use Rattle.clap.specs.declared.error.kind.ErrorKind.TheVariants as kind
-use Rattle.rx_top.specs.Words.{command_line, texts}
+use Rattle.rx_top.specs.Words.{texts}
 use Rattle.rx_top.proofs.Spelling.{line_is_simple, refused-none, spelled-is}
 use Rattle.rx_top.proofs.words.read_words.Goals as goal
 

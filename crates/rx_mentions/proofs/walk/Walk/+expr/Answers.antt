@@ -1,9 +1,8 @@
-use Rattle.std.proofs.Common.{◌≤◌, arith, length}
-use Rattle.std.proofs.lemmas.Grind.{common_steps}
+use Rattle.std.proofs.Common.{◌≤◌, arith}
 use Rattle.rx_ast.specs.Syntax.{exprs_of}
 use Rattle.rx_ast.specs.Depth.{expr_depth, links_depth, exprs_depth}
 use Rattle.rx_ast.specs.ExprView.{links_of}
-use Rattle.rx_mentions.proofs.Depths.{expr_depth-get_or, operand_depth-get_or, length_exprs_of}
+use Rattle.rx_mentions.proofs.Depths.{expr_depth-get_or, operand_depth-get_or}
 use Rattle.rx_mentions.proofs.walk.Walk.+expr.Goals as goal
 
 pub exprs-expr-requires : goal.exprs-expr-requires

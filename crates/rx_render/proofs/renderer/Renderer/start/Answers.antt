@@ -1,4 +1,4 @@
-use Rattle.std.proofs.Common.{◌≡◌, ◌∙◌, subst}
+use Rattle.std.proofs.Common.{◌∙◌, subst}
 use Rattle.rx_model.specs.Laws.{IsBounded}
 use Rattle.rx_render.proofs.Starting.{root_stands, start_rendering, start_renders}
 use Rattle.rx_render.proofs.renderer.Renderer.start.Goals as goal

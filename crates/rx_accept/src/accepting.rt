@@ -1,0 +1,47 @@
+// From the bytes of an input to what is accepted.
+ghost use Rattle.std.specs.Prelude.{◌≡◌, ◌<◌, ◌^◌, length, IfOk};
+ghost use Rattle.rx_accept.specs.Judgements.{IsJudged, Judgement, accepted_steps, judgement_of};
+
+use crate::laws::judgement_is_one;
+use crate::lines::{program_line, script_line};
+use crate::program::read_program;
+use crate::verdict::Verdict;
+use rx_script::{read_script, split_input};
+use std::alloc::{AllocError, Global};
+
+/// The verdict on an input.
+fn judge(alloc: Global, input: &[u8]) -> Result<Verdict, AllocError>
+    requires { length input.now < 2 ^ 32 }
+    ensures judged { IfOk result (λ v. IsJudged input.now (judgement_of v)) }
+    ensures few { IfOk result (λ v. length (accepted_steps (judgement_of v)) < 2 ^ 32) }
+{
+    let (text, script) = split_input(input);
+    let checked = match read_program(alloc, text) {
+        Ok(checked) => checked,
+        Err(cause) => return Ok(Verdict::ProgramRefused(program_line(alloc, &cause)?)),
+    };
+    match read_script(alloc, &checked, script) {
+        Ok(steps) => Ok(Verdict::Accepted { checked, steps }),
+        Err(error) => Ok(Verdict::ScriptRefused(script_line(alloc, error)?)),
+    }
+}
+
+/// What an input is: a program, a line `---`, and a script, or a program alone.
+///
+/// The program is judged first: its bytes, its tokens, its grammar, and its checks in their order; then the lines of
+/// the script.
+///
+/// # Errors
+///
+/// Want of memory alone.
+pub fn accept(alloc: Global, input: &[u8]) -> Result<Verdict, AllocError>
+    requires { length input.now < 2 ^ 32 }
+    // The verdict is right,
+    ensures judged { IfOk result (λ v. IsJudged input.now (judgement_of v)) }
+    // and no other one is.
+    ensures only { IfOk result (λ v. (j : Judgement) → IsJudged input.now j → j ≡ judgement_of v) }
+    ensures few { IfOk result (λ v. length (accepted_steps (judgement_of v)) < 2 ^ 32) }
+{
+    judgement_is_one();
+    judge(alloc, input)
+}

@@ -1,0 +1,4 @@
+pub mod Exits
+pub mod Lines
+pub mod Texts
+pub mod Turns

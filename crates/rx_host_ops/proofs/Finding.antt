@@ -1,0 +1,47 @@
+-- Where the host of a number stands.
+use Rattle.std.proofs.Common.{◌≡◌, ℕ, suc, ◌+◌, Bool, true, false, ◌||◌, cond, List, [], ◌∷◌, Option, Some, None, is_some, slice_get, refl, sym, ap, ◌∙◌, arith}
+use Rattle.std.proofs.lemmas.Option.{slice_get_past, slice_get-get_or}
+use Rattle.std.specs.Borrow.{Bor}
+use Rattle.std.specs.List.{find, list_any, position_from}
+use Rattle.std.specs.Option.{option_copied}
+use Rattle.std.specs.Slice.{IsItemAt}
+
+-- the first place at which a test passes has what is found
+pub found_at : {X : Type 0} (t : X → Bool) (k : ℕ) (xs : List X) (i : ℕ) → position_from t k xs ≡ Some i → (j : ℕ) × (i ≡ k + j) × (find t xs ≡ slice_get xs j)
+found_at t k [] i e = absurd (cc)
+found_at {X} t k (x ∷ xs) i e = go (λ f. found_at t (k + 1) xs i f) (t x) e
+  where
+    go : (position_from t (k + 1) xs ≡ Some i → (j : ℕ) × (i ≡ k + 1 + j) × (find t xs ≡ slice_get xs j))
+        → (b : Bool) → cond b (Some k) (position_from t (k + 1) xs) ≡ Some i → (j : ℕ) × (i ≡ k + j) × (cond b (Some x) (find t xs) ≡ slice_get (x ∷ xs) j)
+    go next true e = let same : k ≡ i = cc in (0, omega arith, refl)
+    go next false e = let r = next e in (suc r.0, omega (arith, r.1), r.2)
+
+-- where a test passes nowhere nothing is found
+pub found_nowhere : {X : Type 0} (t : X → Bool) (k : ℕ) (xs : List X) → position_from t k xs ≡ None → find t xs ≡ None
+found_nowhere t k [] e = refl
+found_nowhere {X} t k (x ∷ xs) e = go (λ f. found_nowhere t (k + 1) xs f) (t x) e
+  where
+    go : (position_from t (k + 1) xs ≡ None → find t xs ≡ None) → (b : Bool) → cond b (Some k) (position_from t (k + 1) xs) ≡ None → cond b (Some x) (find t xs) ≡ None
+    go next true e = absurd (cc)
+    go next false e = next e
+
+-- a test passes somewhere where it passes for any
+pub is_some-position_from : {X : Type 0} (t : X → Bool) (k : ℕ) (xs : List X) → is_some (position_from t k xs) ≡ list_any t xs
+is_some-position_from t k [] = refl
+is_some-position_from {X} t k (x ∷ xs) = go (is_some-position_from t (k + 1) xs) (t x)
+  where
+    go : is_some (position_from t (k + 1) xs) ≡ list_any t xs → (b : Bool) → is_some (cond b (Some k) (position_from t (k + 1) xs)) ≡ (b || list_any t xs)
+    go next true = refl
+    go next false = next
+
+-- the element there is what is found
+pub found_is : {X : Type 0} (t : X → Bool) (xs : List X) (i : ℕ) → position_from t 0 xs ≡ Some i → slice_get xs i ≡ find t xs
+found_is t xs i e =
+    let r = found_at t 0 xs i e in
+    let same : i ≡ r.0 = omega (arith, r.1) in
+    ap (slice_get xs) same ∙ sym r.2
+
+-- what a slice lends at a place is the element there
+pub lent_is : {X : Type 0} (xs : List X) (i : ℕ) (r : Option (Bor X)) → IsItemAt xs i r → option_copied r ≡ slice_get xs i
+lent_is xs i None h = sym (slice_get_past xs i h.3)
+lent_is xs i (Some x) h = sym (slice_get-get_or xs i x.now h.3.0 ∙ ap Some (sym h.1))

@@ -1,0 +1,6 @@
+mod Lists
+mod Parts
+mod Sorting
+mod Finding
+mod Behind
+mod Joining

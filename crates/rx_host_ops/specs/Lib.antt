@@ -1,0 +1,4 @@
+pub mod HostView
+pub mod Tables
+pub mod Attrs
+pub mod Each

@@ -1,0 +1,16 @@
+//! The hosts of a tree, and the operations that make those of a new tree out of those of the old one.
+#![tactic(auto)]
+
+mod attrs;
+mod between;
+mod content;
+mod host;
+mod known;
+mod placing;
+mod reading;
+#[cfg(test)]
+mod tests;
+
+pub use between::ops_between;
+pub use host::Host;
+pub use reading::hosts;

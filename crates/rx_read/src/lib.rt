@@ -1,0 +1,12 @@
+//! A finished tree of fibers: read as a plain tree, and numbered.
+#![tactic(auto)]
+
+mod laws;
+mod numbering;
+mod reading;
+#[cfg(test)]
+mod tests;
+
+pub use laws::current_trees_have_numbers;
+pub use numbering::{Numbers, number_made};
+pub use reading::{read_current, read_in_progress};

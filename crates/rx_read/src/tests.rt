@@ -1,0 +1,28 @@
+// A tree that is numbered, and read in progress and current.
+use super::*;
+use rx_elem::{Element, ElementKind};
+use rx_fiber::{Fiber, Stage};
+use rx_links::FiberTree;
+use rx_node::Mark;
+use std::alloc::AllocError;
+
+#[test]
+fn numbers_and_reads_a_tree(rt: HostRuntime) -> Result<(), AllocError> {
+    let alloc = rt.alloc();
+    let mut tree = FiberTree::new(alloc);
+    let element = Element::new(alloc, ElementKind::List(Vec::new(alloc)))?;
+    tree.start(Fiber::new(0, element, Stage::Begun(Mark::Host(None))))?;
+    let next = Numbers {
+        instance: 3,
+        host: 5,
+    };
+    let next = number_made(&mut tree, next);
+    assert_eq!(rt; next.instance, 3);
+    assert_eq!(rt; next.host, 6);
+    let read = read_in_progress(alloc, &tree)?;
+    assert!(rt; matches!(read.mark(), Mark::Host(Some(5))));
+    tree.swap();
+    let current = read_current(alloc, &tree)?;
+    assert!(rt; current.is_some());
+    Ok(())
+}

@@ -1,0 +1,2 @@
+pub mod Jsx
+pub mod Parts

@@ -1,0 +1,4 @@
+mod Lists
+mod Counting
+mod Waiting
+mod Mounting

@@ -1,0 +1,16 @@
+//! What can be read of a committed tree: its instances, what its boundaries wait for, and how much there is of it.
+#![tactic(auto)]
+
+mod around;
+mod boundaries;
+mod counts;
+mod instance;
+mod listing;
+#[cfg(test)]
+mod tests;
+
+pub use around::Around;
+pub use boundaries::awaited;
+pub use counts::{hidden_count, node_count};
+pub use instance::Mounted;
+pub use listing::mounted;

@@ -1,0 +1,46 @@
+// The lines that stand for themselves: what is accepted, and what small programs have not.
+ghost use Rattle.std.specs.Prelude.{◌≡◌, ◌++◌, IfOk, OnOk};
+ghost use Rattle.rx_accept.specs.Lines.{then_number};
+ghost use Rattle.rx_top.specs.Outcome.{accepted_line as accepted_line_of, script_line};
+
+use itoa::Buffer;
+use std::alloc::{AllocError, Global};
+
+/// A word and a number behind a line.
+fn push_counted(line: &mut Vec<u8>, word: &str, number: u64) -> Result<(), AllocError>
+    ensures { OnOk result (line.new.items ≡ line.old.items ++ (word.now ++ then_number number)) }
+{
+    let mut buffer = Buffer::new();
+    line.extend_from_slice(word.as_bytes())?;
+    line.push(b' ')?;
+    line.extend_from_slice(buffer.format(number).as_bytes())?;
+    Ok(())
+}
+
+/// The line for what is accepted: the most nodes and levels that a tree has, and how many steps there are.
+pub(crate) fn accepted_line(
+    alloc: Global,
+    nodes: u64,
+    levels: u64,
+    steps: u64,
+) -> Result<Vec<u8>, AllocError>
+    ensures { IfOk result (λ line. line.items ≡ accepted_line_of nodes levels steps) }
+{
+    let mut line = Vec::new(alloc);
+    push_counted(&mut line, "accepted nodes", nodes)?;
+    push_counted(&mut line, " depth", levels)?;
+    push_counted(&mut line, " steps", steps)?;
+    line.push(b'\n')?;
+    Ok(line)
+}
+
+/// The line for a script in which this line is the first that small programs have not.
+pub(crate) fn bad_line(alloc: Global, number: u64) -> Result<Vec<u8>, AllocError>
+    ensures { IfOk result (λ line. line.items ≡ script_line number) }
+{
+    let mut buffer = Buffer::new();
+    let mut line = Vec::from_slice(alloc, b"script refused 19 line ")?;
+    line.extend_from_slice(buffer.format(number).as_bytes())?;
+    line.extend_from_slice(b"\n")?;
+    Ok(line)
+}
