@@ -10,8 +10,8 @@ use Rattle.rx_rules.specs.Keys.{carries_key}
 use Rattle.rx_rules.specs.Names.{component_at, component_names, component_number, has_name, prop_names}
 use Rattle.rx_names.specs.Listed.{context_names}
 use Rattle.rx_mentions.specs.Mentions.{Scope, after_statement, attributes_mentions, bound, component_scope, expr_mentions, first_key_mentions, given_names, is_filled, last_key_mentions, mentions, no_scope, parameters_mentions, slot_mentions, slots_mentions, statements_mentions, taken_first}
-use Rattle.rx_mentions.specs.declared.mention.Mention.{Mention}
-use Rattle.rx_mentions.specs.declared.mention.Mention.TheVariants as mention
+use Rattle.rx_mentions.specs.Mention.{Mention}
+use Rattle.rx_mentions.specs.Mention as mention
 use Rattle.rx_mentions.specs.declared.count.Count.TheVariants as count
 use Rattle.rx_mentions.proofs.Among.{IsIn, IsIn-left, IsIn-right, component-mentioned}
 use Rattle.rx_check.specs.Checks.{unknowns}

@@ -10,8 +10,8 @@ use Rattle.rx_ast.specs.Syntax.{Component, Context, Parameter, Program, componen
 use Rattle.rx_rules.specs.Names.{component_at, component_named, component_names, component_number, context_number, has_name, integer_in, place_among, prop_names, root_name}
 use Rattle.rx_names.specs.Listed.{context_names}
 use Rattle.rx_mentions.specs.Mentions.{mentions}
-use Rattle.rx_mentions.specs.declared.mention.Mention.{Mention}
-use Rattle.rx_mentions.specs.declared.mention.Mention.TheVariants as mention
+use Rattle.rx_mentions.specs.Mention.{Mention}
+use Rattle.rx_mentions.specs.Mention as mention
 use Rattle.rx_mentions.proofs.Among.{IsIn, IsIn-filter_map}
 use Rattle.rx_check.specs.Checks.{is_rooted, unknown_in, unknowns, unless}
 use Rattle.rx_meaning.specs.Fresh.{root_element}

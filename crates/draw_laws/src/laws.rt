@@ -1,18 +1,20 @@
 // Laws of what a render draws.
-ghost use Rattle.std.specs.Prelude.{◌≡◌, ℕ, suc, ℤ, List, [], Option, Some, true};
+ghost use Rattle.std.specs.Prelude.{◌≡◌, ℕ, suc, ℤ, Bool, List, [], Option, Some, true};
 ghost use Rattle.rx_base.specs.Awaits.{Awaits};
 ghost use Rattle.rx_ast.specs.Syntax.{Component, Program};
 ghost use Rattle.rx_rules.specs.Names.{component_at};
 ghost use Rattle.rx_check.specs.Checks.{unknowns, is_rooted};
 ghost use Rattle.rx_elem.specs.Elements.{Element, Elements, gathered, listed};
-ghost use Rattle.rx_elem.specs.Trees.{Node};
+ghost use Rattle.rx_elem.specs.Trees.{Instance, Node};
+ghost use Rattle.rx_elem.specs.Numbers.{Numbers, numbered};
 ghost use Rattle.rx_elem.specs.declared.effect.EffectRecord.{EffectRecord};
 ghost use Rattle.rx_elem.specs.declared.effect.ContextRead.{ContextRead};
 ghost use Rattle.rx_meaning.specs.Body.{Inputs, body_of, ready};
-ghost use Rattle.rx_meaning.specs.Fresh.{Sight, Contexts, Part, root_element, shape_of, two_lists};
-ghost use Rattle.rx_meaning.specs.Cursor.{Frame, Cursor, at_place, falling, arrive, open_part, start, unit};
+ghost use Rattle.rx_meaning.specs.Fresh.{Sight, Contexts, Part, made, old_instance, root_element, shape_of, two_lists};
+ghost use Rattle.rx_meaning.specs.Cursor.{Frame, Cursor, at_place, ended, falling, arrive, open_part, start, unit};
 ghost use Rattle.draw_laws.specs.Drawn.{IsDrawn, AreDrawn};
 ghost use Rattle.draw_laws.specs.Cursors.{CursorDrawn};
+ghost use Rattle.draw_laws.specs.Made.{BeginsMeeting, EachMounted, InstancesMade, IsNewOrMeets, MountedMeets, Passes, TreeMade};
 
 /// Where each name of a program is known, the elements of a body that is ready fit the program, if the children that it
 /// is given do; and so does the root's element.
@@ -36,4 +38,35 @@ pub fn cursors_are_drawn()
         → CursorDrawn s.program (at_place (suc n) fs cs e o) → CursorDrawn s.program (open_part n fs (falling e o a) f) }
     ensures place { (p : Program) (n : ℕ) (fs : List Frame) (cs : Contexts) (e : Element) (o : Option Node)
         → CursorDrawn p (at_place n fs cs e o) → IsDrawn p e }
+{}
+
+/// What holds of the instances that a render has made: a test of each visible one that had a number before, and another
+/// of each one that a hidden boundary keeps. It holds at the start where each mounted instance passes the second test; a
+/// unit keeps it that begins no component's place, or one whose old instance passes the first; the old instance of each
+/// place passes the second. At the end each instance
+/// of the new tree passes its test, but for the new ones once they have their numbers.
+pub fn instances_are_made()
+    ensures start { (shown kept : ℕ → List ℤ → Bool) (s : Sight) (old : Option Node)
+        → EachMounted (λ m. Passes kept m.number m.initials) old → InstancesMade (Passes shown) (Passes kept) (start s old) }
+    ensures unit { (shown kept : ℕ → List ℤ → Bool) (s : Sight) (c : Cursor) → BeginsMeeting (Passes shown) c
+        → InstancesMade (Passes shown) (Passes kept) c → InstancesMade (Passes shown) (Passes kept) (unit s c) }
+    ensures takes_over { (shown kept : ℕ → List ℤ → Bool) (n : ℕ) (fs : List Frame) (cs : Contexts) (e : Element) (o : Node)
+        → TreeMade (Passes shown) (Passes kept) o → InstancesMade (Passes shown) (Passes kept) (at_place n fs cs e (Some o))
+        → InstancesMade (Passes shown) (Passes kept) (arrive n fs (Some o)) }
+    ensures skips_attempt { (shown kept : ℕ → List ℤ → Bool) (s : Sight) (n : ℕ) (fs : List Frame) (cs : Contexts) (e : Element)
+        (o : Option Node) (q f : Part) (a : Awaits) → shape_of s cs e o ≡ two_lists q f
+        → InstancesMade (Passes shown) (Passes kept) (at_place (suc n) fs cs e o)
+        → InstancesMade (Passes shown) (Passes kept) (open_part n fs (falling e o a) f) }
+    ensures place { (shown kept : ℕ → List ℤ → Bool) (n : ℕ) (fs : List Frame) (cs : Contexts) (e : Element) (o : Option Node)
+        (i : Instance) (k : ℕ) → InstancesMade (Passes shown) (Passes kept) (at_place n fs cs e o) → old_instance o ≡ Some i
+        → i.number ≡ Some k → Passes kept k i.initials }
+    ensures more { (shown kept seen held : ℕ → List ℤ → Bool) (c : Cursor)
+        → ((n : ℕ) (xs : List ℤ) → Passes shown n xs → Passes seen n xs)
+        → ((n : ℕ) (xs : List ℤ) → Passes kept n xs → Passes held n xs)
+        → InstancesMade (Passes shown) (Passes kept) c → InstancesMade (Passes seen) (Passes held) c }
+    ensures last { (shown kept : ℕ → List ℤ → Bool) (n : Node) → InstancesMade (Passes shown) (Passes kept) (ended (made n))
+        → EachMounted (MountedMeets (Passes shown) (Passes kept)) (Some n) }
+    ensures numbered { (shown kept : ℕ → List ℤ → Bool) (n : Node) (next : Numbers)
+        → InstancesMade (Passes shown) (Passes kept) (ended (made n))
+        → EachMounted (IsNewOrMeets next.instance (Passes shown) (Passes kept)) (Some (numbered next n).1) }
 {}

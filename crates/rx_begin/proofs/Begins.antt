@@ -76,17 +76,23 @@ props_given p (elements.comp b k ps kids) c props es d f =
 
 module _ (p : Program) (kept : ℕ → Option (List Hook)) (t : Trees Fiber) (st : Stack) (q : ℕ) (knows : KnowsPlaces t) (at_it : IsAtPlace p kept t st q) where
   pub place_kept : IfSome (number_in (option_and_then instance_in (mark_at t.current (old_of t.draft q)))) (λ n. IsSome (kept n))
-  place_kept = elim at_it [ stands {n = n} {fs = fs} {cs = cs} {e = e} {old = old} at there drawn keeps ↦
-      subst (λ i. IfSome (number_in i) (λ n. IsSome (kept n))) (sym (old_instance_is t.current (old_of t.draft q) old (old_at t st q n fs cs e old knows at))) (kept_if kept (old_instance old) keeps) ]
+  place_kept = elim at_it [
+    | stands {n = n} {fs = fs} {cs = cs} {e = e} {old = old} at there drawn keeps ↦
+        subst (λ i. IfSome (number_in i) (λ n. IsSome (kept n))) (sym (old_instance_is t.current (old_of t.draft q) old (old_at t st q n fs cs e old knows at))) (kept_if kept (old_instance old) keeps)
+  ]
 
   module _ (v : Fiber) (element : Element) (value : Some v ≡ made_value_of t.draft q) (is : element ≡ v.element) where
     pub place_drawn : IsDrawn p element
-    place_drawn = elim at_it [ stands {n = n} {fs = fs} {cs = cs} {e = e} {old = old} at there drawn keeps ↦
-        subst (IsDrawn p) (sym (is ∙ element_at t st q n fs cs e old knows at v value)) drawn ]
+    place_drawn = elim at_it [
+      | stands {n = n} {fs = fs} {cs = cs} {e = e} {old = old} at there drawn keeps ↦
+          subst (IsDrawn p) (sym (is ∙ element_at t st q n fs cs e old knows at v value)) drawn
+    ]
 
     pub place_there : is_null element ≡ false
-    place_there = elim at_it [ stands {n = n} {fs = fs} {cs = cs} {e = e} {old = old} at there drawn keeps ↦
-        subst (λ x. is_null x ≡ false) (sym (is ∙ element_at t st q n fs cs e old knows at v value)) there ]
+    place_there = elim at_it [
+      | stands {n = n} {fs = fs} {cs = cs} {e = e} {old = old} at there drawn keeps ↦
+          subst (λ x. is_null x ≡ false) (sym (is ∙ element_at t st q n fs cs e old knows at v value)) there
+    ]
 
     pub place_context : length (values_at st) ≡ length (syntax.contexts p) → IfSome (given_context element) (λ c. c < length (values_at st))
     place_context same = context_given p element (length (values_at st)) place_drawn same

@@ -1,5 +1,5 @@
 -- What a place leaves that is begun, by its element.
-use Rattle.std.specs.Prelude.{◌≡◌, ℕ, ℤ, suc, ◌+◌, false, true, List, [], ◌∷◌, Option, Some, None, Result, Ok, Err, IfOk, option_and_then, option_map, slice_set, length}
+use Rattle.std.specs.Prelude.{◌≡◌, ℕ, ℤ, suc, false, true, List, [], ◌∷◌, Option, Some, None, Result, Ok, Err, IfOk, option_and_then, slice_set}
 use Rattle.std.proofs.Common.{refl, sym, ap, ◌∙◌, subst}
 use Rattle.rx_base.specs.Values.{Text, Name}
 use Rattle.rx_rules.specs.Names.{component_at}
@@ -11,10 +11,9 @@ use Rattle.rx_elem.specs.Elements as elements
 use Rattle.rx_elem.specs.Trees.{Node, Mark, of_host, plain, host_number, is_hidden, children_if, fallback_if}
 use Rattle.rx_elem.specs.Trees as trees
 use Rattle.rx_lists.specs.Shapes as shapes
-use Rattle.rx_links.specs.Drafts.{Draft, taken, made, Trees, Makes, old_of}
-use Rattle.rx_links.specs.Places.{Around, placed}
+use Rattle.rx_links.specs.Drafts.{taken, Trees, old_of}
 use Rattle.rx_links.specs.Readers.{list_from, IsLinked, made_value_of, made_value_in}
-use Rattle.rx_meaning.specs.Fresh.{Sight, Contexts, Part, part, Shape, waiting, one_list, two_lists, shape_of, shape_of_component, old_host}
+use Rattle.rx_meaning.specs.Fresh.{Sight, Contexts, Part, part, one_list, two_lists, shape_of, shape_of_component, old_host}
 use Rattle.rx_meaning.specs.Cursor.{Open, around, trying, Frame, at_place, is_null}
 use Rattle.rx_fiber.specs.Fibers.{Fiber, Stage, begun}
 use Rattle.rx_fiber.specs.Fibers as stage
@@ -24,14 +23,13 @@ use Rattle.rx_fiber.specs.Surround.{fallback_in, is_boundary}
 use Rattle.rx_fiber.specs.Standing.{given_in, IsStack, opened, StandsAt, begins}
 use Rattle.rx_fiber.proofs.Stacking.{pushed, unchanged}
 use Rattle.rx_begin.specs.Nodes.{IsBareAt, HasOpened, mark_at, parts_in, begun_stage, begun_children, begun_stack}
-use Rattle.rx_begin.specs.Bodies.{IsOpened, HasShape, waits, opens}
+use Rattle.rx_begin.specs.Bodies.{HasShape, waits, opens}
 use Rattle.rx_begin.specs.Beginning.{HasBegun}
 use Rattle.rx_begin.specs.declared.node.Begun.{Begun}
-use Rattle.rx_begin.specs.declared.node.Begun.TheVariants.{Suspended}
 use Rattle.rx_begin.proofs.Lists.{same_parts}
 use Rattle.rx_begin.proofs.Making.{KnowsPlaces}
 use Rattle.rx_begin.proofs.Marks.{old_host_is}
-use Rattle.rx_begin.proofs.Opened.{begun_one, begun_trying, begun_waiting, of_old}
+use Rattle.rx_begin.proofs.Starts.{begun_one, begun_trying, begun_waiting, of_old}
 
 pub if_ok : {A E : Type 0} (r : Result A E) (P Q : A → Type 0) → ((a : A) → P a → Q a) → IfOk r P → IfOk r Q
 if_ok (Ok a) P Q f h = f a h

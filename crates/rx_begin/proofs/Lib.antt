@@ -3,7 +3,9 @@ pub mod Making
 pub mod Matched
 pub mod Nodes
 pub mod Marks
-pub mod Opened
+pub mod Starts
 pub mod ByElement
 pub mod Bodies
 pub mod Begins
+pub mod Beside
+pub mod Falling

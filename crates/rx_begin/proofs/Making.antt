@@ -1,19 +1,19 @@
 -- The fibers of a list are made one by one, from the last to the first.
-use Rattle.std.specs.Prelude.{◌≡◌, ℕ, zero, suc, ◌<◌, ◌≤◌, true, false, not, List, [], ◌∷◌, length, drop, slice_get, Option, Some, None, IfSome}
+use Rattle.std.specs.Prelude.{◌≡◌, ℕ, zero, suc, ◌<◌, ◌≤◌, not, List, [], ◌∷◌, length, drop, slice_get, Option, Some, None, IfSome}
 use Rattle.std.proofs.Common.{refl, sym, ap, ◌∙◌, subst, arith, get_or}
 use Rattle.std.proofs.lemmas.List.{drop_all, get_or_default}
 use Rattle.std.proofs.lemmas.Option.{slice_get-get_or}
 use Rattle.std.proofs.Math.Seq.{drop-cons}
 use Rattle.rx_elem.specs.Elements.{Element, is_present}
 use Rattle.rx_elem.specs.Elements as elements
-use Rattle.rx_lists.specs.Shapes.{Shape, IsTop}
+use Rattle.rx_lists.specs.Shapes.{IsTop}
 use Rattle.rx_lists.specs.Shapes as shapes
-use Rattle.rx_links.specs.Drafts.{Draft, taken, made, Trees, IsMadeList, IsTopUnused, IsOpen, IsUnused, old_of, old_kids, kids_under, grown}
+use Rattle.rx_links.specs.Drafts.{Draft, taken, made, Trees, IsMadeList, IsTopUnused, IsOpen, IsUnused, old_kids, kids_under}
 use Rattle.rx_links.specs.Places.{Around, placed, IsAt}
 use Rattle.rx_meaning.specs.Cursor.{is_null}
 use Rattle.rx_fiber.specs.Fibers.{Fiber, waiting}
 use Rattle.rx_fiber.specs.Surround.{IsWaiting}
-use Rattle.rx_begin.specs.Children.{AreMade, no_more, gap, next, AreApart, HasRoomFor, HasAdded, one, HasMadeFrom}
+use Rattle.rx_begin.specs.Children.{AreMade, no_more, gap, next, HasRoomFor, HasAdded, one, HasMadeFrom}
 use Rattle.rx_begin.specs.Children as children
 
 -- what each made fiber is to the two trees

@@ -1,10 +1,10 @@
 -- What the current fiber of a node tells of it.
 use Rattle.std.specs.Prelude.{◌≡◌, ℕ, Option, Some, None, option_and_then, option_map}
-use Rattle.std.proofs.Common.{refl, sym, ap, ◌∙◌}
-use Rattle.rx_elem.specs.Trees.{Node, Mark, mark_of, host_number, instance_in}
+use Rattle.std.proofs.Common.{refl, ap, ◌∙◌}
+use Rattle.rx_elem.specs.Trees.{Node, mark_of, host_number, instance_in}
 use Rattle.rx_lists.specs.Shapes.{Shape}
 use Rattle.rx_links.specs.Drafts.{list_at}
-use Rattle.rx_links.specs.Readers.{value_of, value_in}
+use Rattle.rx_links.specs.Readers.{value_in}
 use Rattle.rx_meaning.specs.Fresh.{old_instance, old_host}
 use Rattle.rx_fiber.specs.Fibers.{Fiber}
 use Rattle.rx_fiber.specs.Reading.{IsFor, whole, alone, beside, IsOld, new, of, next}

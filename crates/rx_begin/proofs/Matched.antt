@@ -1,11 +1,11 @@
 -- The old fibers of new children are those of the old list, each for one child.
-use Rattle.std.specs.Prelude.{◌≡◌, ℕ, zero, suc, ◌&&◌, true, false, Bool, List, [], ◌∷◌, ◌++◌, length, map, position, slice_get, get_or, Option, Some, None, IfSome, option_and_then}
+use Rattle.std.specs.Prelude.{◌≡◌, ℕ, zero, suc, List, [], ◌∷◌, ◌++◌, length, map, position, slice_get, get_or, Option, Some, None, IfSome, option_and_then}
 use Rattle.std.specs.List.{zip}
 use Rattle.std.proofs.Common.{refl, sym, ap, ◌∙◌, subst}
 use Rattle.std.proofs.lemmas.List.{length-map}
 use Rattle.std.proofs.lemmas.List.Quantifiers.{position-Some}
-use Rattle.rx_elem.specs.Elements.{Element, key_of}
-use Rattle.rx_elem.specs.Identity.{Child, identities, identities_after, identity_after, identified, is_same_child, old_places}
+use Rattle.rx_elem.specs.Elements.{Element}
+use Rattle.rx_elem.specs.Identity.{Child, identities, identities_after, identified, is_same_child, old_places}
 use Rattle.rx_keys.proofs.Distinct.{both, same_identity_is, children_distinct}
 use Rattle.rx_lists.specs.Shapes.{Shape, Holds, IsTop, IsTree}
 use Rattle.rx_links.specs.Drafts.{Trees}

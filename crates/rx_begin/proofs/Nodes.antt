@@ -1,19 +1,18 @@
 -- A fiber is begun over the children that were made for it.
-use Rattle.std.specs.Prelude.{◌≡◌, ℕ, List, [], ◌∷◌, drop, Option, Some, None, IfSome}
-use Rattle.std.proofs.Common.{refl, sym, ap, ◌∙◌, subst}
+use Rattle.std.specs.Prelude.{◌≡◌, ℕ, List, Option}
+use Rattle.std.proofs.Common.{refl, ap, ◌∙◌, subst}
 use Rattle.rx_elem.specs.Elements.{Element}
-use Rattle.rx_lists.specs.Shapes.{Shape, Holds, IsTop}
+use Rattle.rx_lists.specs.Shapes.{IsTop}
 use Rattle.rx_lists.specs.Shapes as shapes
-use Rattle.rx_links.specs.Drafts.{Draft, taken, made, Trees, Makes, entry, old_of, kids_under, IsMadeList}
+use Rattle.rx_links.specs.Drafts.{Draft, taken, made, Trees, Makes, entry, old_of, IsMadeList}
 use Rattle.rx_links.specs.Places.{Around, placed, IsAt}
-use Rattle.rx_links.specs.Readers.{list_from, IsLinked, made_value_of, made_value_in, made_kids_of, made_kids_in}
+use Rattle.rx_links.specs.Readers.{list_from, IsLinked, made_value_in, made_kids_of, made_kids_in}
 use Rattle.rx_fiber.specs.Fibers.{Fiber, Stage}
 use Rattle.rx_fiber.specs.OldLists.{primary_list}
 use Rattle.rx_fiber.proofs.OldTops.{primary_top}
-use Rattle.rx_begin.specs.Children.{AreMade, HasMadeFrom}
+use Rattle.rx_begin.specs.Children.{HasMadeFrom}
 use Rattle.rx_begin.specs.Nodes.{IsBareAt, IsBareBeside, HasStage, HasList, HasOpened, begun_over, begun_from}
 use Rattle.rx_begin.specs.declared.node.Begun.{Begun}
-use Rattle.rx_begin.specs.declared.node.Begun.TheVariants.{Child, Leaf}
 use Rattle.rx_begin.proofs.Making.{KnowsPlaces, made_list}
 
 -- the first of the children that are made tells where the render comes

@@ -8,7 +8,7 @@ use Rattle.rx_elem.specs.Trees.{Node}
 use Rattle.rx_hooks.specs.declared.hook.Hook.{Hook}
 use Rattle.rx_links.specs.Drafts.{Trees}
 use Rattle.rx_meaning.specs.Fresh.{Sight, Contexts, waiting, shape_of, old_instance}
-use Rattle.rx_meaning.specs.Cursor.{Open, Frame, Cursor, at_place, at_end, ended, is_null, unit, unwind}
+use Rattle.rx_meaning.specs.Cursor.{Frame, Cursor, at_place, at_end, ended, is_null, unit, unwind}
 use Rattle.rx_fiber.specs.Fibers.{Fiber}
 use Rattle.rx_fiber.specs.Standing.{StandsAt}
 use Rattle.rx_fiber.specs.Unwound.{IsWithin}

@@ -1,5 +1,5 @@
 -- What stands at a place once its fiber is begun.
-use Rattle.std.specs.Prelude.{◌≡◌, ℕ, false, List, Option}
+use Rattle.std.specs.Prelude.{◌≡◌, ℕ, false, Option}
 use Rattle.rx_elem.specs.Trees.{Node, Mark, children_if, is_hidden}
 use Rattle.rx_links.specs.Drafts.{Trees, old_of}
 use Rattle.rx_links.specs.Readers.{list_from}

@@ -1,7 +1,7 @@
 -- The fibers that are made for a list of children.
 use Rattle.std.specs.Prelude.{◌≡◌, ℕ, suc, true, false, List, [], ◌∷◌, Option, Some, slice_get, drop}
 use Rattle.rx_elem.specs.Elements.{Element}
-use Rattle.rx_lists.specs.Shapes.{Shape, IsTop}
+use Rattle.rx_lists.specs.Shapes.{IsTop}
 use Rattle.rx_lists.specs.Shapes as shapes
 use Rattle.rx_links.specs.Drafts.{Draft, taken, made, Trees, grown, kids_under}
 use Rattle.rx_links.specs.Places.{Around, placed}

@@ -4,3 +4,4 @@ pub mod PartsView
 pub mod Scenes
 pub mod Bodies
 pub mod Beginning
+pub mod Opening

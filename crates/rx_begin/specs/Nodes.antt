@@ -13,7 +13,7 @@ use Rattle.rx_links.specs.Readers.{list_from, value_of, made_value_of}
 use Rattle.rx_fiber.specs.Fibers.{Stage, Fiber, waiting, begun, trying, fallback}
 use Rattle.rx_begin.specs.Children.{AreMade}
 use Rattle.rx_begin.specs.declared.node.Begun.{Begun}
-use Rattle.rx_begin.specs.declared.node.Begun.TheVariants.{Child, Leaf, Suspended}
+use Rattle.rx_begin.specs.declared.node.Begun.TheVariants.{Child, Leaf}
 
 -- a made fiber that has no children yet
 pub record IsBareAt (t : Trees Fiber) (p : ℕ) : Type 0 where

@@ -1,8 +1,8 @@
 -- What a render sees, and which hooks give it the values that it sees.
 use Rattle.std.specs.Prelude.{◌≡◌, ℕ, List, Option, Some, IsSome, option_and_then}
-use Rattle.rx_elem.specs.Trees.{Node, Instance}
+use Rattle.rx_elem.specs.Trees.{Instance}
 use Rattle.rx_hooks.specs.declared.hook.Hook.{Hook}
-use Rattle.rx_meaning.specs.Fresh.{Sight, resources_seen, old_instance}
+use Rattle.rx_meaning.specs.Fresh.{Sight, resources_seen}
 use Rattle.rx_hook_store.specs.Gives.{GivesValues}
 use Rattle.rx_begin.specs.declared.scene.Scene.{Scene}
 

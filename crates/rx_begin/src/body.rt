@@ -1,9 +1,7 @@
 // A component's place begins with its body.
-ghost use Rattle.std.specs.Prelude.{◌≡◌, ◌+◌, ℕ, ℤ, List, Option, Some, length, IfOk, IfSome, OnOk, IsSome, option_map, option_and_then};
+ghost use Rattle.std.specs.Prelude.{◌≡◌, ◌+◌, ◌≤◌, ℕ, ℤ, List, Option, Some, length, IfOk, IfSome, OnOk, IsSome, option_map, option_and_then};
 ghost use Rattle.std.specs.Option.{option_copied};
-ghost use Rattle.rx_ast.specs.Syntax.{Program};
 ghost use Rattle.rx_rules.specs.Names.{component_at, prop_names};
-ghost use Rattle.rx_ctx.specs.Contexts.{values_at};
 ghost use Rattle.rx_elem.specs.Elements.{Elements, listed};
 ghost use Rattle.rx_elem.specs.Trees as trees;
 ghost use Rattle.rx_elem.specs.Trees.{Node, instance_in};
@@ -110,11 +108,21 @@ fn body_at<L: Ledger>(
     ensures body { IfOk result (λ b. (s : Sight) (old : Option trees.Instance) (kids : Elements) → IsSceneOf scene.now s → number_in old ≡ number → GivesHooks s (kept_hooks hooks.old) old → listed kids ≡ children.now
         → option_map (λ d. body_of s.program d (inputs_at s contexts.now props.now kids old)) (component_at s.program component) ≡ Some (body_seen b)) }
     ensures once { OnOk result (steps.new ≡ steps.old + 1) }
+    ensures rises { steps.old ≤ steps.new }
     ensures still { (s : Sight) (k : ℕ) (initials : List ℤ) → IsSceneOf scene.now s → GivesValues s (kept_hooks hooks.old) k initials → GivesValues s (kept_hooks hooks.new) k initials }
     ensures states { (st : State) → DoneBefore scene.now.cut st.journal.updates → KeepsAllHooks scene.now.checked.now st (kept_hooks hooks.old) → KeepsAllHooks scene.now.checked.now st (kept_hooks hooks.new) }
 {
     let values = values_of(alloc, scene, number, hooks)?;
-    evaluate(alloc, scene, component, props, children, slice_of(&values), contexts, steps)
+    evaluate(
+        alloc,
+        scene,
+        component,
+        props,
+        children,
+        slice_of(&values),
+        contexts,
+        steps,
+    )
 }
 
 // An instance keeps its number and its initial values (react.dev, State as a Snapshot).
@@ -205,12 +213,15 @@ pub(crate) fn begin_component<L: Ledger>(
         → listed kids ≡ children.now → HasShape (shape_of_component s contexts.now component props.now kids old (component_at s.program component)) contexts.now old tree.old tree.new at b) }
     ensures current { tree.new.current ≡ tree.old.current }
     ensures once { OnOk result (steps.new ≡ steps.old + 1) }
+    ensures rises { steps.old ≤ steps.new }
     ensures still { (s : Sight) (k : ℕ) (initials : List ℤ) → IsSceneOf scene.now s → GivesValues s (kept_hooks hooks.old) k initials → GivesValues s (kept_hooks hooks.new) k initials }
     ensures states { (st : State) → DoneBefore scene.now.cut st.journal.updates → KeepsAllHooks scene.now.checked.now st (kept_hooks hooks.old) → KeepsAllHooks scene.now.checked.now st (kept_hooks hooks.new) }
 {
     tree.place_facts();
     let old = old_instance(tree, tree.alternate(at))?;
     let number = number_of(&old);
-    let body = body_at(alloc, scene, component, props, children, number, hooks, contexts, steps)?;
+    let body = body_at(
+        alloc, scene, component, props, children, number, hooks, contexts, steps,
+    )?;
     open_body(alloc, tree, at, component, old, body)
 }

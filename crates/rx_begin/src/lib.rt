@@ -6,8 +6,10 @@ mod body;
 mod children;
 mod kind;
 mod node;
+mod opening;
 mod scene;
 
 pub use beginning::begin;
 pub use node::Begun;
+pub use opening::{Opened, open_fallback};
 pub use scene::Scene;

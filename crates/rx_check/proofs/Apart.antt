@@ -1,12 +1,11 @@
 -- In a program that is accepted, at most one place of a child list carries a key.
-use Rattle.std.proofs.Common.{◌≡◌, ◌≤◌, ◌+◌, ◌⊎◌, inl, inr, Bool, true, false, ◌||◌, List, [], ◌∷◌, ◌++◌, Some, None, refl, sym, ap, subst, ◌∙◌, arith}
-use Rattle.std.specs.Prelude.{ℕ, cond, is_some, filter_map, bytes_eq, fold}
-use Rattle.std.specs.List.{list_any}
+use Rattle.std.proofs.Common.{◌≡◌, ◌≤◌, ◌+◌, ◌⊎◌, inl, inr, Bool, true, false, ◌||◌, List, [], ◌∷◌, ◌++◌, refl, sym, ap, subst, arith}
+use Rattle.std.specs.Prelude.{ℕ, cond, is_some, fold}
 use Rattle.std.proofs.lemmas.List.Folds.{list_any-append}
 use Rattle.rx_base.specs.Values.{Name}
 use Rattle.rx_ast.specs.Syntax.{Program, Component, Slot, Slots, body_slots, Attribute, key, computed, literal, key_of, KeyPlace, unkeyed, key_first, key_last, key_in}
 use Rattle.rx_ast.specs.Syntax as syntax
-use Rattle.rx_rules.specs.Names.{has_name, component_at}
+use Rattle.rx_rules.specs.Names.{has_name}
 use Rattle.rx_rules.specs.Keys.{carries_key, keyed_places, SlotKeysApart, SlotsKeysApart, KeysApart}
 use Rattle.rx_mentions.specs.Mentions.{Scope, bound, key_name, expr_mentions, attributes_mentions, first_key_mentions, last_key_mentions, taken_first, slot_mentions, slots_mentions, statements_mentions, parameters_mentions, component_mentions, component_scope, after_statement, no_scope, mentions}
 use Rattle.rx_check.specs.Checks.{repeat_in, repeats}

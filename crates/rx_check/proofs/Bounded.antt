@@ -1,11 +1,11 @@
 -- What the laws of the machine ask of a program that is accepted.
-use Rattle.std.proofs.Common.{◌≡◌, ◌≤◌, ◌⊎◌, inl, inr, Bool, true, false, List, [], ◌∷◌, Option, Some, None, refl, sym, ap, subst, ◌∙◌, arith, length}
-use Rattle.std.specs.Prelude.{ℕ, max, cond, is_some, nat_eq, nat_lt, filter, filter_map, option_map, slice_get, unwrap_or, position, bytes_eq}
+use Rattle.std.proofs.Common.{◌≡◌, ◌≤◌, true, false, [], Option, Some, None, refl, sym, arith, length}
+use Rattle.std.specs.Prelude.{is_some, nat_eq, filter}
 use Rattle.std.specs.Option.{option_map_or}
-use Rattle.rx_ast.specs.Syntax.{Program, Component, components}
+use Rattle.rx_ast.specs.Syntax.{Program, Component}
 use Rattle.rx_rules.specs.Names.{component_named, component_names, component_number, root_name}
-use Rattle.rx_rules.specs.Bounds.{component_levels, root_by, body_by, may_wait, root_waits, depth_bound}
-use Rattle.rx_check.specs.Checks.{is_rooted, root_waits_for, outside_uses}
+use Rattle.rx_rules.specs.Bounds.{component_levels, root_waits, depth_bound}
+use Rattle.rx_check.specs.Checks.{root_waits_for}
 use Rattle.rx_figures.specs.Figures.{nesting_levels}
 use Rattle.rx_check.specs.Accepted.{IsAccepted}
 use Rattle.rx_mentions.specs.declared.count.Count.TheVariants as count

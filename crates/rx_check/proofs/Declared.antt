@@ -1,13 +1,13 @@
 -- In a program that is accepted, each context that a component reads is declared.
-use Rattle.std.proofs.Common.{◌≡◌, ◌<◌, inl, inr, Bool, true, false, List, [], ◌∷◌, ◌++◌, Some, None, refl, sym, ap, subst, ◌∙◌, arith, length, map}
+use Rattle.std.proofs.Common.{◌≡◌, ◌<◌, inl, inr, Bool, true, false, List, [], ◌∷◌, Some, None, refl, sym, subst, arith, length}
 use Rattle.std.proofs.lemmas.List.{length-map}
-use Rattle.std.specs.Prelude.{ℕ, suc, nat_lt, cond, fold, position, unwrap_or, bytes_eq}
+use Rattle.std.specs.Prelude.{ℕ, nat_lt, cond, unwrap_or, bytes_eq}
 use Rattle.std.specs.List.{position_or_len}
 use Rattle.rx_base.specs.Values.{Name}
-use Rattle.rx_ast.specs.Syntax.{Program, Component, Statement, state, reducer, context, use_resource, constant, effect, contexts, body_slots}
-use Rattle.rx_rules.specs.Names.{has_name, place_among, context_number, component_at}
+use Rattle.rx_ast.specs.Syntax.{Program, Statement, state, reducer, context, use_resource, constant, effect, contexts}
+use Rattle.rx_rules.specs.Names.{has_name, place_among, context_number}
 use Rattle.rx_rules.specs.Reads.{IsDeclared, AllDeclared, ReadsDeclared}
-use Rattle.rx_mentions.specs.Mentions.{Scope, no_scope, statement_mentions, statements_mentions, after_statement, parameters_mentions, component_scope, component_mentions, slots_mentions, mentions}
+use Rattle.rx_mentions.specs.Mentions.{Scope, no_scope, statement_mentions, statements_mentions, after_statement, parameters_mentions, component_scope, mentions}
 use Rattle.rx_names.specs.Listed.{context_names}
 use Rattle.rx_check.specs.Checks.{unknown_in, unknowns}
 use Rattle.rx_check.specs.Accepted.{IsAccepted}

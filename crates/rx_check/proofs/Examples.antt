@@ -1,5 +1,5 @@
 -- Two programs on which readings of the checks differ.
-use Rattle.std.proofs.Common.{◌≡◌, true, false, List, [], ◌∷◌, Some, None, refl}
+use Rattle.std.proofs.Common.{◌≡◌, true, List, [], ◌∷◌, Some, None, refl}
 use Rattle.std.specs.Prelude.{codes}
 use Rattle.rx_ast.specs.Syntax as syntax
 use Rattle.rx_ast.specs.Syntax.{Program, Component, Parameter, Statement, Slot}

@@ -1,5 +1,5 @@
 // All checks of a program, in their order.
-ghost use Rattle.std.specs.Prelude.{◌≡◌, ◌≤◌, ◌⊎◌, [], ◌∷◌, IfOk, MatchOption, MatchResult, Some, None, option_map, filter, filter_map, length};
+ghost use Rattle.std.specs.Prelude.{◌≡◌, ◌≤◌, ◌⊎◌, [], ◌∷◌, IfOk, MatchOption, MatchResult, Some, None, option_map, option_and_then, filter_map, length, slice_get};
 ghost use Rattle.rx_rules.specs.Names.{component_names, component_number, root_name};
 ghost use Rattle.rx_rules.specs.Bounds.{body_by, node_bound, node_limit, depth_bound};
 ghost use Rattle.rx_names.specs.Listed.{IsListed, function_names};
@@ -9,7 +9,7 @@ ghost use Rattle.rx_mentions.specs.Ways.{calls, places};
 ghost use Rattle.rx_figures.specs.Figures.{figures, nesting_levels};
 ghost use Rattle.rx_figures.specs.Costs.{cost_over, first_over as over};
 ghost use Rattle.rx_check.specs.Limits.{limit_of};
-ghost use Rattle.rx_check.specs.Checks.{repeat_in, unknown_among, misfit_in, function_cycles, component_cycles, root_waits_for, outside_uses};
+ghost use Rattle.rx_check.specs.Checks.{repeat_in, unknown_among, misfit_in, function_cycles, component_cycles, outside_uses};
 ghost use Rattle.rx_check.specs.Refusals.{first_some, refused_name, refused_count, refused_root, name_refusals, way_refusals, count_refusals, size_refusals, refusal_of};
 ghost use Rattle.rx_check.specs.Answers.{Answers};
 
@@ -18,7 +18,7 @@ use crate::checks::{first_misfit, first_over, first_repeat, first_unknown, is_ro
 use crate::refusal::Refusal;
 use rx_ast::Program;
 use rx_base::Name;
-use rx_figures::{Counted, Figures, cost_over, held_sum, root_figures};
+use rx_figures::{Figures, cost_over, held_sum, root_figures};
 use rx_mentions::{Count, Mention, calls_of, mentions_of, places_of};
 use rx_names::{Index, Listing, names_of};
 use rx_order::{Order, Row, finishing_order, first_cycle};
@@ -177,74 +177,38 @@ fn number_over(what: Count, found: u64) -> Option<u64>
     }
 }
 
-/// The root waits where the reads of this component alone count.
-fn waits_for(alloc: Global, program: &Index, order: &Order, name: &str) -> Result<bool, AllocError>
-    requires { IsFinished (places program.now) order.now }
-    ensures { IfOk result (λ b. b ≡ root_waits_for program.now name.now) }
+/// The name at a place, where there is one.
+fn name_at<'a>(names: &'a [Name], place: Option<usize>) -> Option<&'a str>
+    ensures { MatchOption result (option_and_then (slice_get names.now) place ≡ None) (λ x. option_and_then (slice_get names.now) place ≡ Some x.now) }
 {
-    let counted = Counted::One(Name::new(alloc, name)?);
-    let figures = root_figures(alloc, program, &counted, order)?;
-    Ok(figures.waits)
-}
-
-/// The first of these components for whose resources the root waits.
-fn first_outside<'a>(
-    alloc: Global,
-    program: &Index,
-    order: &Order,
-    names: &'a [Name],
-) -> Result<Option<&'a str>, AllocError>
-    requires { IsFinished (places program.now) order.now }
-    ensures { IfOk result (λ o. MatchOption o (first (filter (root_waits_for program.now) names.now) ≡ None) (λ x. first (filter (root_waits_for program.now) names.now) ≡ Some x.now)) }
-{
-    for name in names {
-        if waits_for(alloc, program, order, name.text())? {
-            return Ok(Some(name.text()));
-        }
+    match place {
+        None => None,
+        Some(place) => match names.get(place) {
+            None => None,
+            Some(name) => Some(name.text()),
+        },
     }
-    Ok(None)
 }
 
-/// The first component for whose resources the root waits, where there is a root, and where it waits with all reads counted.
-fn outside_use<'a>(
-    alloc: Global,
-    program: &Index,
-    order: &Order,
-    names: &'a [Name],
-    waits: bool,
-) -> Result<Option<&'a str>, AllocError>
-    requires order { IsFinished (places program.now) order.now }
+/// The first component for whose resources the root waits, where there is a root.
+fn outside_use<'a>(program: &Index, names: &'a [Name], waits: Option<usize>) -> Option<&'a str>
     requires names { names.now ≡ component_names program.now }
-    requires waits { waits ≡ (body_by (figures Counted.All) (nesting_levels program.now) program.now (component_number program.now root_name)).waits }
-    ensures { IfOk result (λ o. MatchOption o (first (outside_uses program.now) ≡ None) (λ x. first (outside_uses program.now) ≡ Some x.now)) }
+    requires waits { waits ≡ (body_by (figures program.now) (nesting_levels program.now) program.now (component_number program.now root_name)).waits }
+    ensures { MatchOption result (first (outside_uses program.now) ≡ None) (λ x. first (outside_uses program.now) ≡ Some x.now) }
 {
-    if program.component_named("App").is_none() {
-        return Ok(None);
+    match program.component_named("App") {
+        None => None,
+        Some(_) => name_at(names, waits),
     }
-    if !waits {
-        return Ok(None);
-    }
-    first_outside(alloc, program, order, names)
 }
 
 /// The root waits for no component.
-fn refuse_outside_use(
-    alloc: Global,
-    program: &Index,
-    order: &Order,
-    waits: bool,
-) -> Result<(), Refusal>
-    requires order { IsFinished (places program.now) order.now }
-    requires waits { waits ≡ (body_by (figures Counted.All) (nesting_levels program.now) program.now (component_number program.now root_name)).waits }
+fn refuse_outside_use(alloc: Global, program: &Index, waits: Option<usize>) -> Result<(), Refusal>
+    requires { waits ≡ (body_by (figures program.now) (nesting_levels program.now) program.now (component_number program.now root_name)).waits }
     ensures { Answers (refused_name (λ x. Refusal.UseOutside x) (outside_uses program.now)) result }
 {
-    match outside_use(
-        alloc,
-        program,
-        order,
-        program.listing().components.items(),
-        waits,
-    )? {
+    let names = program.listing().components.items();
+    match outside_use(program, names, waits) {
         None => Ok(()),
         Some(name) => Err(Refusal::UseOutside(told(alloc, name)?)),
     }
@@ -271,12 +235,12 @@ struct Ways {
 fn refuse_ways(alloc: Global, program: &Index) -> Result<Ways, Refusal>
     ensures answers { Answers (first_some (way_refusals program.now)) result }
     ensures calls { IfOk result (λ w. IsFinished (calls program.now) w.calls) }
-    ensures root { IfOk result (λ w. w.root ≡ body_by (figures Counted.All) (nesting_levels program.now) program.now (component_number program.now root_name)) }
+    ensures root { IfOk result (λ w. w.root ≡ body_by (figures program.now) (nesting_levels program.now) program.now (component_number program.now root_name)) }
 {
     let calls = refuse_function_cycle(alloc, program)?;
     let places = refuse_component_cycle(alloc, program)?;
-    let root = root_figures(alloc, program, &Counted::All, &places)?;
-    refuse_outside_use(alloc, program, &places, root.waits)?;
+    let root = root_figures(alloc, program, &places)?;
+    refuse_outside_use(alloc, program, root.waits)?;
     refuse_root(program)?;
     Ok(Ways { calls, root })
 }

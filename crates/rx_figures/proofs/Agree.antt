@@ -1,5 +1,5 @@
 -- What is computed of a body asks only for what the body mentions.
-use Rattle.std.proofs.Common.{◌≡◌, ◌⊎◌, inl, inr, Bool, true, false, ◌||◌, List, [], ◌∷◌, ◌++◌, refl, sym, ap, ◌∙◌}
+use Rattle.std.proofs.Common.{◌≡◌, inl, inr, Bool, false, ◌||◌, List, [], ◌∷◌, ◌++◌, refl, ap, ◌∙◌}
 use Rattle.std.specs.Prelude.{ℕ, fold, length}
 use Rattle.rx_base.specs.Values.{Name}
 use Rattle.rx_ast.specs.Syntax.{Program, Component, Function, Line, Slot, Slots, body_slots, Expr, Links, Exprs, exprs, KeyPlace}
@@ -7,7 +7,7 @@ use Rattle.rx_ast.specs.Syntax as syntax
 use Rattle.rx_rules.specs.Names.{component_number, function_number}
 use Rattle.rx_rules.specs.Keys.{carries_key}
 use Rattle.rx_rules.specs.Bounds.{Column, slot_by, slots_by}
-use Rattle.rx_mentions.specs.Mentions.{Scope, bound, introduced, expr_mentions, links_mentions, exprs_mentions, lines_mentions, after_line, names_mentions, no_scope, function_scope, function_mentions, attributes_mentions, taken_first, first_key_mentions, last_key_mentions, slot_mentions, slots_mentions, statements_mentions, parameters_mentions, component_mentions, component_scope, after_statement}
+use Rattle.rx_mentions.specs.Mentions.{Scope, bound, expr_mentions, links_mentions, exprs_mentions, lines_mentions, after_line, names_mentions, no_scope, function_scope, function_mentions, attributes_mentions, taken_first, first_key_mentions, last_key_mentions, slot_mentions, slots_mentions, statements_mentions, parameters_mentions, component_mentions, component_scope, after_statement}
 use Rattle.rx_mentions.specs.Mention.{Mention}
 use Rattle.rx_mentions.specs.Mention as mention
 use Rattle.rx_mentions.proofs.Among.{IsIn, IsIn-left, IsIn-right}

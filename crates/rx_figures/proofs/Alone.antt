@@ -1,15 +1,14 @@
 -- Where the root waits, it waits for one component alone.
-use Rattle.std.proofs.Common.{◌≡◌, ◌⊎◌, inl, inr, Bool, true, false, ◌&&◌, ◌||◌, List, [], ◌∷◌, Option, Some, None, refl, sym, ap, ◌∙◌, map}
-use Rattle.std.specs.Prelude.{ℕ, zero, suc, bytes_eq, filter, cond, slice_get}
+use Rattle.std.proofs.Common.{◌≡◌, ◌⊎◌, inl, inr, Bool, true, false, ◌&&◌, ◌||◌, List, [], ◌∷◌, Option, Some, None, refl, ap, ◌∙◌, map}
+use Rattle.std.specs.Prelude.{ℕ, zero, suc, bytes_eq, filter, slice_get}
 use Rattle.std.proofs.lemmas.Slice.Eq.{bytes_eq-Decides}
 use Rattle.rx_base.specs.Values.{Name}
 use Rattle.rx_ast.specs.Syntax.{Program, Component, components, Slot, Slots, body_slots}
 use Rattle.rx_ast.specs.Syntax as syntax
-use Rattle.rx_rules.specs.Names.{component_number, component_at, component_names, root_name}
-use Rattle.rx_rules.specs.Bounds.{slot_by, slots_by, body_if, body_by, Waits, may_wait, reads_resource, root_waits, component_levels}
-use Rattle.rx_figures.specs.Figures.{nesting_levels}
+use Rattle.rx_rules.specs.Names.{component_number, component_at, component_names}
+use Rattle.rx_rules.specs.Bounds.{slot_by, slots_by, body_if, body_by, Waits, may_wait, reads_resource}
 use Rattle.rx_mentions.proofs.Among.{IsIn}
-use Rattle.rx_figures.proofs.Along.{Along, slot-along, slots-along, body-along}
+use Rattle.rx_figures.proofs.Along.{Along, body-along}
 
 -- the test of one name
 abbrev only : Name → Component → Bool

@@ -1,17 +1,10 @@
 -- Columns of counts that go along with one another.
-use Rattle.std.proofs.Common.{◌≡◌, ◌≤◌, ◌+◌, ◌*◌, Bool, true, false, ◌&&◌, ◌||◌, List, [], ◌∷◌, Option, Some, None, refl, sym, ap, ◌∙◌, arith}
-use Rattle.std.specs.Prelude.{ℕ, zero, suc, max, min, bytes_eq, filter, cond}
-use Rattle.rx_base.specs.Values.{Name}
+use Rattle.std.proofs.Common.{Option, Some, None}
+use Rattle.std.specs.Prelude.{ℕ, zero, suc}
 use Rattle.rx_ast.specs.Syntax.{Program, Component, Slot, Slots, body_slots}
 use Rattle.rx_ast.specs.Syntax as syntax
-use Rattle.rx_rules.specs.Names.{component_number, component_at, root_name}
-use Rattle.rx_rules.specs.Bounds.{Column, slot_by, slots_by, body_if, body_by, component_levels, root_by, Size, nodes, levels, Waits, may_wait, held, reads_resource, node_bound, depth_bound}
-use Rattle.rx_figures.specs.Costs.{held_sum, held_product}
-use Rattle.rx_figures.specs.Figures.{figures, counts_reads, known_in}
-use Rattle.rx_figures.specs.Figures.{nesting_levels}
-use Rattle.rx_figures.specs.declared.figures.Counted.{Counted}
-use Rattle.rx_figures.specs.declared.figures.Counted.TheVariants as counted
-use Rattle.rx_figures.specs.declared.figures.Figures.{Figures}
+use Rattle.rx_rules.specs.Names.{component_number, component_at}
+use Rattle.rx_rules.specs.Bounds.{Column, slot_by, slots_by, body_if, body_by}
 
 -- what two columns give goes along, form by form
 pub record Along {A B : Type 0} (k : Column A) (l : Column B) (R : A → B → Type 0) : Type 0 where

@@ -1,14 +1,11 @@
--- What the figures of a body say of its nodes, levels and waits.
-use Rattle.std.proofs.Common.{◌≡◌, ◌+◌, ◌*◌, Bool, true, false, ◌&&◌, ◌||◌, not, List, [], ◌∷◌, None, refl, sym, ap, ◌∙◌, arith, zero-add}
-use Rattle.std.specs.Prelude.{ℕ, bytes_eq, filter, cond, is_some}
-use Rattle.rx_base.specs.Values.{Name}
-use Rattle.rx_ast.specs.Syntax.{Program, Component}
-use Rattle.rx_rules.specs.Names.{component_number, component_named, component_names, root_name}
-use Rattle.rx_rules.specs.Bounds.{body_by, component_levels, Size, nodes, levels, Waits, may_wait, held, reads_resource, node_bound, depth_bound}
+-- What the figures of a body say of its nodes and levels.
+use Rattle.std.proofs.Common.{◌≡◌, ◌+◌, ◌*◌, refl, ◌∙◌, arith, zero-add}
+use Rattle.std.specs.Prelude.{ℕ}
+use Rattle.rx_ast.specs.Syntax.{Program}
+use Rattle.rx_rules.specs.Names.{component_number, root_name}
+use Rattle.rx_rules.specs.Bounds.{body_by, component_levels, Size, nodes, levels, held, node_bound, depth_bound}
 use Rattle.rx_figures.specs.Costs.{held_sum}
-use Rattle.rx_figures.specs.Figures.{figures, counts_reads}
-use Rattle.rx_figures.specs.declared.figures.Counted.{Counted}
-use Rattle.rx_figures.specs.declared.figures.Counted.TheVariants as counted
+use Rattle.rx_figures.specs.Figures.{figures}
 use Rattle.rx_figures.specs.declared.figures.Figures.{Figures}
 use Rattle.rx_figures.proofs.HeldCounts.{held-sum, held-sum_right, held-max, held-product, held-product_right}
 use Rattle.rx_figures.proofs.Along.{Along, body-along}
@@ -27,8 +24,8 @@ component-own co cg ko = rw held-product (held-sum_right 1 _ ∙ go)
     go : held (1 + (held co + held (cg * ko))) ≡ held (1 + co + cg * ko)
     go = omega arith
 
-are-nodes : (k : Counted) → Along (figures k) nodes IsNodes
-are-nodes k = record {
+are-nodes : (q : Program) → Along (figures q) nodes IsNodes
+are-nodes q = record {
   at_nothing = (refl, refl);
   at_text = (refl, refl);
   at_children = (refl, refl);
@@ -44,11 +41,11 @@ are-nodes k = record {
 }
 
 -- the node bound from the figures of the root
-pub bound-figured : (k : Counted) (p : Program)
-    → held_sum 1 (body_by (figures k) component_levels p (component_number p root_name)).own ≡ node_bound p
+pub bound-figured : (p : Program)
+    → held_sum 1 (body_by (figures p) component_levels p (component_number p root_name)).own ≡ node_bound p
 unfolding node_bound
-bound-figured k p =
-    let h = body-along (figures k) nodes IsNodes (are-nodes k) component_levels p (component_number p root_name) in
+bound-figured p =
+    let h = body-along (figures p) nodes IsNodes (are-nodes p) component_levels p (component_number p root_name) in
     rw h.0 (held-sum_right 1 _)
 
 -- Levels
@@ -56,8 +53,8 @@ bound-figured k p =
 abbrev IsLevels : Figures → ℕ → Type 0
 IsLevels f d = f.levels ≡ held d
 
-are-levels : (k : Counted) → Along (figures k) levels IsLevels
-are-levels k = record {
+are-levels : (q : Program) → Along (figures q) levels IsLevels
+are-levels q = record {
   at_nothing = refl;
   at_text = refl;
   at_children = refl;
@@ -71,32 +68,9 @@ are-levels k = record {
 }
 
 -- the depth bound from the figures of the root
-pub depth-figured : (k : Counted) (p : Program)
-    → held_sum 1 (body_by (figures k) component_levels p (component_number p root_name)).levels ≡ depth_bound p
+pub depth-figured : (p : Program)
+    → held_sum 1 (body_by (figures p) component_levels p (component_number p root_name)).levels ≡ depth_bound p
 unfolding depth_bound
-depth-figured k p =
-    let h = body-along (figures k) levels IsLevels (are-levels k) component_levels p (component_number p root_name) in
+depth-figured p =
+    let h = body-along (figures p) levels IsLevels (are-levels p) component_levels p (component_number p root_name) in
     rw h (held-sum_right 1 _)
-
--- Waits
-
-abbrev IsWaits : Figures → Waits → Type 0
-IsWaits f w = (f.waits ≡ w.own) × (f.unguarded ≡ w.given)
-
-are-waits : (k : Counted) → Along (figures k) (may_wait (counts_reads k)) IsWaits
-are-waits k = record {
-  at_nothing = (refl, refl);
-  at_text = (refl, refl);
-  at_children = (refl, refl);
-  at_repeated = λ n a b h. h;
-  at_choice = λ a a' b b' h l. (rw (h.0, l.0) refl, rw (h.1, l.1) refl);
-  at_around = λ a b h. h;
-  at_boundary = λ a a' b b' h l. l;
-  at_component = λ a a' b b' h l. (rw (h.0, h.1, l.0) refl, rw (h.1, l.1) refl);
-  at_body = λ c a b h. (rw h.0 refl, h.1);
-  at_beside = λ a a' b b' h l. (rw (h.0, l.0) refl, rw (h.1, l.1) refl);
-}
-
--- whether the root waits, from its figures
-pub waits-figured : (k : Counted) (n : ℕ) (p : Program) (c : ℕ) → (body_by (figures k) n p c).waits ≡ (body_by (may_wait (counts_reads k)) n p c).own
-waits-figured k n p c = (body-along (figures k) (may_wait (counts_reads k)) IsWaits (are-waits k) n p c).0

@@ -1,6 +1,6 @@
 -- Counts that are held.
 use Rattle.std.proofs.Common.{◌≡◌, ◌≤◌, ◌<◌, ◌+◌, ◌*◌, ◌⊎◌, inl, inr, refl, sym, ap, ◌∙◌, arith}
-use Rattle.std.specs.Prelude.{ℕ, zero, suc, max, min}
+use Rattle.std.specs.Prelude.{ℕ, zero, suc, max}
 use Rattle.std.proofs.Math.Nat.{mul-zero, mul_comm, le-mul_of_pos_right}
 use Rattle.rx_rules.specs.Bounds.{held}
 

@@ -1,13 +1,13 @@
 -- What is computed in the order in which declarations are finished.
-use Rattle.std.proofs.Common.{◌≡◌, ◌<◌, ◌≤◌, ◌+◌, ◌⊎◌, ◌≢◌, inl, inr, Bool, true, false, ◌&&◌, ◌||◌, List, [], ◌∷◌, ◌++◌, Option, Some, None, refl, sym, ap, subst, ◌∙◌, arith, get_or, set, map, length, length-append, take, drop, add-one}
-use Rattle.std.specs.Prelude.{ℕ, zero, suc, nat_eq, filter_map, slice_get, slice_index, slice_index_or, unwrap_or, option_map}
+use Rattle.std.proofs.Common.{◌≡◌, ◌<◌, ◌≤◌, ◌+◌, ◌≢◌, inl, inr, Bool, true, false, List, [], ◌∷◌, ◌++◌, Option, Some, None, refl, sym, ap, subst, ◌∙◌, arith, get_or, set, map, length, length-append, take, drop, add-one}
+use Rattle.std.specs.Prelude.{ℕ, zero, suc, nat_eq, filter_map, slice_get, slice_index, unwrap_or, option_map}
 use Rattle.std.specs.List.{list_all}
 use Rattle.std.proofs.lemmas.List.{get_or-set_same, get_or-set_other}
 use Rattle.std.proofs.lemmas.Option.{slice_get-map, slice_get_within}
 use Rattle.rx_base.specs.Values.{Name}
-use Rattle.rx_ast.specs.Syntax.{Program, Component, Function, components, functions, body_slots}
+use Rattle.rx_ast.specs.Syntax.{Program, Component, Function, components, functions}
 use Rattle.rx_rules.specs.Names.{component_number, function_number, component_at}
-use Rattle.rx_rules.specs.Bounds.{body_by, body_if, slots_by}
+use Rattle.rx_rules.specs.Bounds.{body_by, body_if}
 use Rattle.std.proofs.Math.Seq.{take-suc}
 use Rattle.rx_order.specs.Graphs.{Graph, next_of, is_among, finishes}
 use Rattle.rx_order.proofs.Finishing.{or-cases, and-cases, same, itself, among-more, next-finished}
@@ -18,7 +18,6 @@ use Rattle.rx_mentions.specs.Mention as mention
 use Rattle.rx_mentions.proofs.Among.{IsIn, IsIn-filter_map}
 use Rattle.rx_figures.specs.Figures.{figures, no_figures, known_in, AreFigures}
 use Rattle.rx_figures.specs.Costs.{function_cost, body_cost, cost_if, AreCosts}
-use Rattle.rx_figures.specs.declared.figures.Counted.{Counted}
 use Rattle.rx_figures.specs.declared.figures.Figures.{Figures}
 use Rattle.rx_figures.proofs.Agree.{AgreePlaced, component-agree, AgreeCalled, function-agree}
 use Rattle.rx_order.proofs.Rounds.{together}
@@ -57,48 +56,48 @@ longer ns y m h = omega (arith, simp length-append at h)
 
 -- Components
 
-placed-agree : (k : Counted) (p : Program) (table : List Figures) (done : List ℕ) (x : ℕ) (c : Component) (m : ℕ) → AreFigures k p table done → length done ≤ m
-    → slice_get (components p) x ≡ Some c → list_all (is_among done) (next_of (places p) x) ≡ true → AgreePlaced p (body_by (figures k) m p) (known_in table) (component_mentions c)
-placed-agree k p table done x c m h l e r n attrs filled i =
+placed-agree : (p : Program) (table : List Figures) (done : List ℕ) (x : ℕ) (c : Component) (m : ℕ) → AreFigures p table done → length done ≤ m
+    → slice_get (components p) x ≡ Some c → list_all (is_among done) (next_of (places p) x) ≡ true → AgreePlaced p (body_by (figures p) m p) (known_in table) (component_mentions c)
+placed-agree p table done x c m h l e r n attrs filled i =
     let P : List ℕ → Type 0 = λ row. list_all (is_among done) row ≡ true in
     let row = subst P (row-of (λ d. map (component_number p) (filter_map placed_in (component_mentions d))) (components p) x c e) r in
     let there : IsIn n (filter_map placed_in (component_mentions c)) = IsIn-filter_map placed_in (mention.Element n attrs filled) n (component_mentions c) refl i in
     h (component_number p n) m (all-in (is_among done) (component_number p) (filter_map placed_in (component_mentions c)) n row there) l
 
 -- the figures of one component more, from those that its body places
-pub figures-more : (k : Counted) (p : Program) (table : List Figures) (done : List ℕ) (x : ℕ) (c : Component) (f : Figures) → AreFigures k p table done
+pub figures-more : (p : Program) (table : List Figures) (done : List ℕ) (x : ℕ) (c : Component) (f : Figures) → AreFigures p table done
     → list_all (is_among done) (next_of (places p) x) ≡ true → slice_get (components p) x ≡ Some c → x < length table
-    → f ≡ body_if (figures k) (known_in table) p (Some c) → AreFigures k p (set table x f) (done ++ x ∷ [])
+    → f ≡ body_if (figures p) (known_in table) p (Some c) → AreFigures p (set table x f) (done ++ x ∷ [])
 unfolding body_by
-figures-more k p table done x c f h r e b v d zero i l = absurd (omega (arith, longer done x 0 l))
-figures-more k p table done x c f h r e b v d (suc m) i l = go (nat_eq d x) refl
+figures-more p table done x c f h r e b v d zero i l = absurd (omega (arith, longer done x 0 l))
+figures-more p table done x c f h r e b v d (suc m) i l = go (nat_eq d x) refl
   where
     enough : length done + 1 ≤ suc m
     enough = longer done x (suc m) l
 
-    go : (t : Bool) → nat_eq d x ≡ t → body_if (figures k) (body_by (figures k) m p) p (component_at p d) ≡ known_in (set table x f) d
+    go : (t : Bool) → nat_eq d x ≡ t → body_if (figures p) (body_by (figures p) m p) p (component_at p d) ≡ known_in (set table x f) d
     go true q =
         let one : d ≡ x = same d x q in
-        let agree = component-agree (figures k) p (body_by (figures k) m p) (known_in table) c (placed-agree k p table done x c m h (omega (arith, enough)) e r) in
-        let here : body_if (figures k) (body_by (figures k) m p) p (Some c) ≡ body_if (figures k) (known_in table) p (Some c) = ap ((figures k).body c) agree in
-        ap (λ y. body_if (figures k) (body_by (figures k) m p) p (component_at p y)) one
-        ∙ (ap (λ o. body_if (figures k) (body_by (figures k) m p) p o) e
+        let agree = component-agree (figures p) p (body_by (figures p) m p) (known_in table) c (placed-agree p table done x c m h (omega (arith, enough)) e r) in
+        let here : body_if (figures p) (body_by (figures p) m p) p (Some c) ≡ body_if (figures p) (known_in table) p (Some c) = ap ((figures p).body c) agree in
+        ap (λ y. body_if (figures p) (body_by (figures p) m p) p (component_at p y)) one
+        ∙ (ap (λ o. body_if (figures p) (body_by (figures p) m p) p o) e
         ∙ (here ∙ (sym v ∙ (sym (get_or-set_same table x f no_figures b) ∙ ap (λ y. get_or (set table x f) y no_figures) (sym one)))))
     go false q = h d (suc m) (was-among done d x i q) (omega (arith, enough)) ∙ sym (get_or-set_other table x d f no_figures (other d x q))
 
 -- a number without a component
-pub figures-none : (k : Counted) (p : Program) (table : List Figures) (done : List ℕ) (x : ℕ) → AreFigures k p table done
-    → slice_get (components p) x ≡ None → length table ≡ length (components p) → AreFigures k p table (done ++ x ∷ [])
+pub figures-none : (p : Program) (table : List Figures) (done : List ℕ) (x : ℕ) → AreFigures p table done
+    → slice_get (components p) x ≡ None → length table ≡ length (components p) → AreFigures p table (done ++ x ∷ [])
 unfolding body_by
-figures-none k p table done x h e b d zero i l = absurd (omega (arith, longer done x 0 l))
-figures-none k p table done x h e b d (suc m) i l = go (nat_eq d x) refl
+figures-none p table done x h e b d zero i l = absurd (omega (arith, longer done x 0 l))
+figures-none p table done x h e b d (suc m) i l = go (nat_eq d x) refl
   where
-    go : (t : Bool) → nat_eq d x ≡ t → body_if (figures k) (body_by (figures k) m p) p (component_at p d) ≡ known_in table d
+    go : (t : Bool) → nat_eq d x ≡ t → body_if (figures p) (body_by (figures p) m p) p (component_at p d) ≡ known_in table d
     go true q =
         let one : d ≡ x = same d x q in
         let gone : length table ≤ x = omega (arith, ended (components p) x e, b) in
-        ap (λ y. body_if (figures k) (body_by (figures k) m p) p (component_at p y)) one
-        ∙ (ap (λ o. body_if (figures k) (body_by (figures k) m p) p o) e ∙ (sym (past table x no_figures gone) ∙ ap (λ y. get_or table y no_figures) (sym one)))
+        ap (λ y. body_if (figures p) (body_by (figures p) m p) p (component_at p y)) one
+        ∙ (ap (λ o. body_if (figures p) (body_by (figures p) m p) p o) e ∙ (sym (past table x no_figures gone) ∙ ap (λ y. get_or table y no_figures) (sym one)))
     go false q = h d (suc m) (was-among done d x i q) (omega (arith, longer done x (suc m) l))
 
 -- Functions

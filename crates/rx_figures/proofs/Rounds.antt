@@ -1,5 +1,5 @@
 -- Rounds over a table: what they give, and that they may end where nothing changes.
-use Rattle.std.proofs.Common.{◌≡◌, ◌<◌, ◌-◌, List, [], ◌∷◌, Option, Some, None, refl, sym, ap, ◌∙◌, arith}
+use Rattle.std.proofs.Common.{◌≡◌, ◌<◌, ◌-◌, List, [], Option, Some, None, refl, sym, ap, ◌∙◌, arith}
 use Rattle.std.specs.Prelude.{ℕ, zero, suc, slice_get, slice_index}
 use Rattle.std.specs.Option.{option_map_or}
 use Rattle.rx_ast.specs.Syntax.{Program, Component, Function, components, functions}
@@ -8,42 +8,41 @@ use Rattle.rx_rules.specs.Bounds.{body_by, body_if}
 use Rattle.rx_figures.specs.Figures.{figures, no_figures, known_in, round_of, rounds}
 use Rattle.rx_figures.specs.Costs.{function_cost, cost_if, body_cost, cost_round, cost_rounds}
 use Rattle.rx_order.proofs.Rounds.{together, get-map}
-use Rattle.rx_figures.specs.declared.figures.Counted.{Counted}
 use Rattle.rx_figures.specs.declared.figures.Figures.{Figures}
 
 -- Nodes, levels and waits
 
 -- a round more at the end
-rounds-after : (k : Counted) (n : ℕ) (p : Program) (t : List Figures) → rounds k n p (round_of k p t) ≡ round_of k p (rounds k n p t)
+rounds-after : (n : ℕ) (p : Program) (t : List Figures) → rounds n p (round_of p t) ≡ round_of p (rounds n p t)
 unfolding rounds
-rounds-after k zero p t = refl
-rounds-after k (suc n) p t = rounds-after k n p (round_of k p t)
+rounds-after zero p t = refl
+rounds-after (suc n) p t = rounds-after n p (round_of p t)
 
-body_if-known : (k : Counted) (b : ℕ → Figures) (p : Program) (o : Option Component)
-    → body_if (figures k) b p o ≡ option_map_or (λ c. body_if (figures k) b p (Some c)) o no_figures
-body_if-known k b p None = refl
-body_if-known k b p (Some c) = refl
+body_if-known : (b : ℕ → Figures) (p : Program) (o : Option Component)
+    → body_if (figures p) b p o ≡ option_map_or (λ c. body_if (figures p) b p (Some c)) o no_figures
+body_if-known b p None = refl
+body_if-known b p (Some c) = refl
 
 -- so many rounds give what is counted of bodies where components nest at most so deep
-pub body_by-rounds : (k : Counted) (n : ℕ) (p : Program) (c : ℕ) → body_by (figures k) n p c ≡ known_in (rounds k n p []) c
+pub body_by-rounds : (n : ℕ) (p : Program) (c : ℕ) → body_by (figures p) n p c ≡ known_in (rounds n p []) c
 unfolding body_by rounds
-body_by-rounds k zero p c = refl
-body_by-rounds k (suc n) p c =
-    ap (λ b. body_if (figures k) b p (component_at p c)) (together (body_by (figures k) n p) (known_in (rounds k n p [])) (body_by-rounds k n p))
-    ∙ (body_if-known k (known_in (rounds k n p [])) p (component_at p c)
-    ∙ (sym (get-map _ no_figures (components p) c) ∙ ap (λ t. known_in t c) (sym (rounds-after k n p []))))
+body_by-rounds zero p c = refl
+body_by-rounds (suc n) p c =
+    ap (λ b. body_if (figures p) b p (component_at p c)) (together (body_by (figures p) n p) (known_in (rounds n p [])) (body_by-rounds n p))
+    ∙ (body_if-known (known_in (rounds n p [])) p (component_at p c)
+    ∙ (sym (get-map _ no_figures (components p) c) ∙ ap (λ t. known_in t c) (sym (rounds-after n p []))))
 
 -- a table that a round leaves as it is stays so
-pub rounds-settled : (k : Counted) (n : ℕ) (p : Program) (t : List Figures) → round_of k p t ≡ t → rounds k n p t ≡ t
+pub rounds-settled : (n : ℕ) (p : Program) (t : List Figures) → round_of p t ≡ t → rounds n p t ≡ t
 unfolding rounds
-rounds-settled k zero p t h = refl
-rounds-settled k (suc n) p t h = ap (λ u. rounds k n p u) h ∙ rounds-settled k n p t h
+rounds-settled zero p t h = refl
+rounds-settled (suc n) p t h = ap (λ u. rounds n p u) h ∙ rounds-settled n p t h
 
 -- a round less is left
-pub rounds-step : (k : Counted) (n : ℕ) (p : Program) (t : List Figures) → 0 < n → rounds k n p t ≡ rounds k (n - 1) p (round_of k p t)
+pub rounds-step : (n : ℕ) (p : Program) (t : List Figures) → 0 < n → rounds n p t ≡ rounds (n - 1) p (round_of p t)
 unfolding rounds
-rounds-step k zero p t h = absurd (omega (arith, h))
-rounds-step k (suc n) p t h = let e : suc n - 1 ≡ n = omega arith in rw e refl
+rounds-step zero p t h = absurd (omega (arith, h))
+rounds-step (suc n) p t h = let e : suc n - 1 ≡ n = omega arith in rw e refl
 
 -- Costs
 

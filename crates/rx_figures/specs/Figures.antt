@@ -1,32 +1,35 @@
 -- What is computed of a slot: its nodes, levels and waits side by side, each sum and product held.
-use Rattle.std.specs.Prelude.{◌≡◌, ◌≤◌, ℕ, zero, suc, max, Bool, true, false, ◌&&◌, ◌||◌, bytes_eq, List, map, length, slice_index_or, Some}
+use Rattle.std.specs.Prelude.{◌≡◌, ◌≤◌, ℕ, zero, suc, min, max, true, false, ◌&&◌, ◌||◌, bytes_eq, cond, position, List, map, length, slice_index_or, Option, Some, None}
 use Rattle.rx_ast.specs.Syntax.{Component, Program, components}
 use Rattle.rx_rules.specs.Bounds.{component_levels, Column, slot_by, body_if, body_by, reads_resource}
 use Rattle.rx_ast.specs.declared.slot.Tag.{Tag}
 use Rattle.rx_ast.specs.declared.slot.Tag.TheVariants as tag
-use Rattle.rx_rules.specs.Names.{component_number}
+use Rattle.rx_rules.specs.Names.{component_names, component_number}
 use Rattle.rx_order.specs.Graphs.{is_among}
 use Rattle.rx_figures.specs.Costs.{held_sum, held_product}
 use Rattle.rx_figures.specs.declared.figures.Figures.{Figures}
-use Rattle.rx_figures.specs.declared.figures.Counted.{Counted}
-use Rattle.rx_figures.specs.declared.figures.Counted.TheVariants as counted
 
--- the reads of a component count
-abbrev pub counts_reads : Counted → Component → Bool
-counts_reads counted.All c = true
-counts_reads (counted.One name) c = bytes_eq c.name name
+-- the earlier of two numbers, where there are two
+abbrev pub earlier : Option ℕ → Option ℕ → Option ℕ
+earlier None b = b
+earlier (Some m) None = Some m
+earlier (Some m) (Some n) = Some (min m n)
+
+-- the number of a component, if it reads a resource
+abbrev pub reader_of : Program → Component → Option ℕ
+reader_of p c = cond (reads_resource c) (position (bytes_eq c.name) (component_names p)) None
 
 -- nothing
 abbrev pub no_figures : Figures
-no_figures = record { own = 0; given = 0; levels = 0; waits = false; unguarded = false }
+no_figures = record { own = 0; given = 0; levels = 0; waits = None; unguarded = false }
 
 -- a text
 abbrev pub text_figures : Figures
-text_figures = record { own = 1; given = 0; levels = 1; waits = false; unguarded = false }
+text_figures = record { own = 1; given = 0; levels = 1; waits = None; unguarded = false }
 
 -- the children that are given
 abbrev pub children_figures : Figures
-children_figures = record { own = 1; given = 1; levels = 1; waits = false; unguarded = true }
+children_figures = record { own = 1; given = 1; levels = 1; waits = None; unguarded = true }
 
 -- two places beside each other
 abbrev pub beside_figures : Figures → Figures → Figures
@@ -35,7 +38,7 @@ beside_figures a b =
       own = held_sum a.own b.own;
       given = held_sum a.given b.given;
       levels = max a.levels b.levels;
-      waits = a.waits || b.waits;
+      waits = earlier a.waits b.waits;
       unguarded = a.unguarded || b.unguarded;
     }
 
@@ -72,17 +75,17 @@ component_figures c k =
       own = held_sum 1 (held_sum c.own (held_product c.given k.own));
       given = held_product c.given k.given;
       levels = held_sum 1 (held_sum c.levels k.levels);
-      waits = c.waits || (c.unguarded && k.waits);
+      waits = earlier c.waits (cond c.unguarded k.waits None);
       unguarded = c.unguarded && k.unguarded;
     }
 
--- a body, of which the component may read a resource
-abbrev pub body_figures : Bool → Figures → Figures
-body_figures reads a = record { own = a.own; given = a.given; levels = a.levels; waits = reads || a.waits; unguarded = a.unguarded }
+-- a body, where the component of this number reads a resource
+abbrev pub body_figures : Option ℕ → Figures → Figures
+body_figures reader a = record { own = a.own; given = a.given; levels = a.levels; waits = earlier reader a.waits; unguarded = a.unguarded }
 
--- the column of all
-abbrev pub figures : Counted → Column Figures
-figures counted =
+-- the column of all, where the components of this program have the numbers
+abbrev pub figures : Program → Column Figures
+figures p =
     record {
       nothing = no_figures;
       text = text_figures;
@@ -92,7 +95,7 @@ figures counted =
       around = around_figures;
       boundary = boundary_figures;
       component = component_figures;
-      body = λ c a. body_figures (counts_reads counted c && reads_resource c) a;
+      body = λ c a. body_figures (reader_of p c) a;
       beside = beside_figures;
     }
 
@@ -105,21 +108,21 @@ abbrev pub known_in : List Figures → ℕ → Figures
 known_in table c = slice_index_or table c no_figures
 
 -- the figures of an element of this tag, from those of its children
-abbrev pub tag_figures : Counted → List Figures → Program → Tag → (inner : Figures) → Figures
-tag_figures counted table p (tag.Host x attrs) inner = around_figures inner
-tag_figures counted table p (tag.Component x attrs) inner = component_figures (known_in table (component_number p x)) inner
-tag_figures counted table p (tag.Suspense k f) inner = boundary_figures inner (slot_by (figures counted) (known_in table) p f.value)
-tag_figures counted table p (tag.Provider x k e) inner = around_figures inner
+abbrev pub tag_figures : List Figures → Program → Tag → (inner : Figures) → Figures
+tag_figures table p (tag.Host x attrs) inner = around_figures inner
+tag_figures table p (tag.Component x attrs) inner = component_figures (known_in table (component_number p x)) inner
+tag_figures table p (tag.Suspense k f) inner = boundary_figures inner (slot_by (figures p) (known_in table) p f.value)
+tag_figures table p (tag.Provider x k e) inner = around_figures inner
 
 -- one round over all components, from what was known before
-abbrev pub round_of : Counted → Program → List Figures → List Figures
-round_of counted p table = map (λ c. body_if (figures counted) (known_in table) p (Some c)) (components p)
+abbrev pub round_of : Program → List Figures → List Figures
+round_of p table = map (λ c. body_if (figures p) (known_in table) p (Some c)) (components p)
 
 -- so many rounds
-unfoldable pub rounds : Counted → ℕ → Program → List Figures → List Figures
-rounds counted zero p table = table
-rounds counted (suc n) p table = rounds counted n p (round_of counted p table)
+unfoldable pub rounds : ℕ → Program → List Figures → List Figures
+rounds zero p table = table
+rounds (suc n) p table = rounds n p (round_of p table)
 
 -- the table has the figures of each of these components, where components nest deep enough for them all
-abbrev pub AreFigures : Counted → Program → List Figures → (numbers : List ℕ) → Type 0
-AreFigures counted p table numbers = (c depth : ℕ) → is_among numbers c ≡ true → length numbers ≤ depth → body_by (figures counted) depth p c ≡ known_in table c
+abbrev pub AreFigures : Program → List Figures → (numbers : List ℕ) → Type 0
+AreFigures p table numbers = (c depth : ℕ) → is_among numbers c ≡ true → length numbers ≤ depth → body_by (figures p) depth p c ≡ known_in table c

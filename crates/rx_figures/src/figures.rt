@@ -1,30 +1,21 @@
 // Nodes, levels and waits of slots.
-ghost use Rattle.std.specs.Prelude.{◌≡◌, ℕ, List, [], ◌∷◌, ◌++◌, true, IfOk, Some, IsTrue, length};
+ghost use Rattle.std.specs.Prelude.{◌≡◌, ℕ, List, [], ◌∷◌, ◌++◌, true, IfOk, Some, None, IsTrue, cond, length};
 ghost use Rattle.rx_ast.specs.Syntax.{slots_of, body_slots, components};
 ghost use Rattle.rx_rules.specs.Names.{component_number, root_name};
 ghost use Rattle.rx_rules.specs.Bounds.{body_by, slot_by, slots_by, body_if, reads_resource};
 ghost use Rattle.std.specs.List.{list_all};
 ghost use Rattle.rx_order.specs.Graphs.{next_of, is_among, IsFinished};
 ghost use Rattle.rx_mentions.specs.Ways.{places};
-ghost use Rattle.rx_figures.specs.Figures.{nesting_levels, counts_reads, no_figures, text_figures, children_figures, beside_figures, around_figures, repeated_figures, boundary_figures, component_figures, figures, known_in, tag_figures, round_of, rounds, AreFigures};
+ghost use Rattle.rx_figures.specs.Figures.{nesting_levels, earlier, reader_of, no_figures, text_figures, children_figures, beside_figures, around_figures, repeated_figures, boundary_figures, component_figures, figures, known_in, tag_figures, round_of, rounds, AreFigures};
 
 use crate::held::{held_product, held_sum};
 use rx_ast::{
     Body, BodyKind, Child, ChildKind, Component, Content, DeclarationKind, Element, Fragment, Slot,
     SlotKind, StatementKind, Tag,
 };
-use rx_base::Name;
 use rx_names::Index;
 use rx_order::Order;
 use std::alloc::{AllocError, Global};
-
-/// The components whose reads count.
-#[derive(Debug, Drop)]
-pub enum Counted {
-    All,
-    /// Those of this name alone.
-    One(Name),
-}
 
 /// Nodes, levels and waits of a place.
 #[derive(Clone, Copy, Debug, PartialEq, Eq)]
@@ -35,8 +26,8 @@ pub struct Figures {
     pub given: u64,
     /// How deep its nodes nest.
     pub levels: u64,
-    /// It may wait.
-    pub waits: bool,
+    /// The number of the first component for whose resources it may wait.
+    pub waits: Option<usize>,
     /// It places the given children where their wait would be its own.
     pub unguarded: bool,
 }
@@ -49,7 +40,7 @@ fn nothing() -> Figures
         own: 0,
         given: 0,
         levels: 0,
-        waits: false,
+        waits: None,
         unguarded: false,
     }
 }
@@ -62,7 +53,7 @@ fn text() -> Figures
         own: 1,
         given: 0,
         levels: 1,
-        waits: false,
+        waits: None,
         unguarded: false,
     }
 }
@@ -75,9 +66,29 @@ fn given_children() -> Figures
         own: 1,
         given: 1,
         levels: 1,
-        waits: false,
+        waits: None,
         unguarded: true,
     }
+}
+
+/// The earlier of two numbers, where there are two.
+fn earlier(a: Option<usize>, b: Option<usize>) -> Option<usize>
+    ensures { result ≡ earlier a b }
+{
+    match a {
+        None => b,
+        Some(first) => match b {
+            None => a,
+            Some(second) => Some(first.min(second)),
+        },
+    }
+}
+
+/// What the children that are given wait for, where they stand so that their wait is the component's own.
+fn where_unguarded(unguarded: bool, waits: Option<usize>) -> Option<usize>
+    ensures { result ≡ cond unguarded waits None }
+{
+    if unguarded { waits } else { None }
 }
 
 /// Two places beside each other.
@@ -88,7 +99,7 @@ fn beside(a: Figures, b: Figures) -> Figures
         own: held_sum(a.own, b.own),
         given: held_sum(a.given, b.given),
         levels: a.levels.max(b.levels),
-        waits: a.waits || b.waits,
+        waits: earlier(a.waits, b.waits),
         unguarded: a.unguarded || b.unguarded,
     }
 }
@@ -140,7 +151,7 @@ fn filled(c: Figures, k: Figures) -> Figures
         own: held_sum(1, held_sum(c.own, held_product(c.given, k.own))),
         given: held_product(c.given, k.given),
         levels: held_sum(1, held_sum(c.levels, k.levels)),
-        waits: c.waits || (c.unguarded && k.waits),
+        waits: earlier(c.waits, where_unguarded(c.unguarded, k.waits)),
         unguarded: c.unguarded && k.unguarded,
     }
 }
@@ -157,36 +168,36 @@ fn known(table: &[Figures], component: usize) -> Figures
 
 /// The figures of an element, from those of its children.
 #[cycle(figures)]
-fn tag(program: &Index, counted: &Counted, table: &[Figures], tag: &Tag, inner: Figures) -> Figures
-    ensures { result ≡ tag_figures counted.now table.now program.now tag.now inner }
+fn tag(program: &Index, table: &[Figures], tag: &Tag, inner: Figures) -> Figures
+    ensures { result ≡ tag_figures table.now program.now tag.now inner }
 {
     match tag {
         Tag::Host { .. } | Tag::Provider { .. } => around(inner),
         Tag::Component { name, .. } => {
             filled(known(table, program.component_number(name.text())), inner)
         }
-        Tag::Suspense { fallback, .. } => boundary(inner, slot(program, counted, table, fallback)),
+        Tag::Suspense { fallback, .. } => boundary(inner, slot(program, table, fallback)),
     }
 }
 
 /// The figures of an element.
 #[cycle(figures)]
-fn element(program: &Index, counted: &Counted, table: &[Figures], element: &Element) -> Figures
-    ensures { result ≡ slot_by (figures counted.now) (known_in table.now) program.now element.now }
+fn element(program: &Index, table: &[Figures], element: &Element) -> Figures
+    ensures { result ≡ slot_by (figures program.now) (known_in table.now) program.now element.now }
 {
     match &element.content {
-        Content::AtOnce => tag(program, counted, table, &element.tag, nothing()),
+        Content::AtOnce => tag(program, table, &element.tag, nothing()),
         Content::Children(children) => {
-            let inner = slots(program, counted, table, children);
-            tag(program, counted, table, &element.tag, inner)
+            let inner = slots(program, table, children);
+            tag(program, table, &element.tag, inner)
         }
     }
 }
 
 /// The figures of a slot.
 #[cycle(figures)]
-fn slot(program: &Index, counted: &Counted, table: &[Figures], slot: &Slot) -> Figures
-    ensures { result ≡ slot_by (figures counted.now) (known_in table.now) program.now slot.now }
+fn slot(program: &Index, table: &[Figures], slot: &Slot) -> Figures
+    ensures { result ≡ slot_by (figures program.now) (known_in table.now) program.now slot.now }
 {
     match &slot.kind {
         SlotKind::Null => nothing(),
@@ -194,63 +205,59 @@ fn slot(program: &Index, counted: &Counted, table: &[Figures], slot: &Slot) -> F
         SlotKind::Children => given_children(),
         SlotKind::For(repetition) => repeated(
             repetition.limit,
-            self::slot(program, counted, table, &repetition.item),
+            self::slot(program, table, &repetition.item),
         ),
         SlotKind::Choice { first, second, .. } => {
-            let first = self::slot(program, counted, table, first);
-            let second = self::slot(program, counted, table, second);
+            let first = self::slot(program, table, first);
+            let second = self::slot(program, table, second);
             beside(first, second)
         }
-        SlotKind::Element(inner) | SlotKind::Enclosed(inner) => {
-            element(program, counted, table, inner)
-        }
+        SlotKind::Element(inner) | SlotKind::Enclosed(inner) => { element(program, table, inner) }
     }
 }
 
 /// The figures of a place of a child list.
 #[cycle(figures)]
-fn child(program: &Index, counted: &Counted, table: &[Figures], child: &Child) -> Figures
-    ensures { result ≡ slot_by (figures counted.now) (known_in table.now) program.now child.now }
+fn child(program: &Index, table: &[Figures], child: &Child) -> Figures
+    ensures { result ≡ slot_by (figures program.now) (known_in table.now) program.now child.now }
 {
     match &child.kind {
-        ChildKind::Element(inner) => element(program, counted, table, inner),
-        ChildKind::Braced(inner) => slot(program, counted, table, inner),
+        ChildKind::Element(inner) => element(program, table, inner),
+        ChildKind::Braced(inner) => slot(program, table, inner),
     }
 }
 
 /// The figures of a child list.
 #[cycle(figures)]
-fn slots(program: &Index, counted: &Counted, table: &[Figures], children: &[Child]) -> Figures
-    ensures { result ≡ slots_by (figures counted.now) (known_in table.now) program.now (slots_of children.now) }
+fn slots(program: &Index, table: &[Figures], children: &[Child]) -> Figures
+    ensures { result ≡ slots_by (figures program.now) (known_in table.now) program.now (slots_of children.now) }
 {
     let mut at = children.len();
     let mut sum = nothing();
     while at > 0 {
         at -= 1;
-        sum = beside(child(program, counted, table, &children[at]), sum);
+        sum = beside(child(program, table, &children[at]), sum);
     }
     sum
 }
 
 /// The figures of a fragment.
-fn fragment(program: &Index, counted: &Counted, table: &[Figures], fragment: &Fragment) -> Figures
-    ensures { result ≡ slots_by (figures counted.now) (known_in table.now) program.now fragment.now }
+fn fragment(program: &Index, table: &[Figures], fragment: &Fragment) -> Figures
+    ensures { result ≡ slots_by (figures program.now) (known_in table.now) program.now fragment.now }
 {
-    slots(program, counted, table, fragment.children())
+    slots(program, table, fragment.children())
 }
 
 /// The figures of what a component returns.
-fn body(program: &Index, counted: &Counted, table: &[Figures], body: &Body) -> Figures
-    ensures { result ≡ slots_by (figures counted.now) (known_in table.now) program.now (body_slots body.now) }
+fn body(program: &Index, table: &[Figures], body: &Body) -> Figures
+    ensures { result ≡ slots_by (figures program.now) (known_in table.now) program.now (body_slots body.now) }
 {
     match &body.kind {
         BodyKind::Slot(only) => {
-            let figures = slot(program, counted, table, only);
+            let figures = slot(program, table, only);
             beside(figures, nothing())
         }
-        BodyKind::Fragment(inner) | BodyKind::Enclosed(inner) => {
-            fragment(program, counted, table, inner)
-        }
+        BodyKind::Fragment(inner) | BodyKind::Enclosed(inner) => { fragment(program, table, inner) }
     }
 }
 
@@ -266,52 +273,59 @@ fn reads_resource(component: &Component) -> bool
     false
 }
 
-/// Whether the reads of a component count.
-fn counts_reads(counted: &Counted, component: &Component) -> bool
-    ensures { result ≡ counts_reads counted.now component.now }
+/// The number of a component, if it reads a resource.
+fn reader_of(program: &Index, component: &Component) -> Option<usize>
+    ensures { result ≡ reader_of program.now component.now }
 {
-    match counted {
-        Counted::All => true,
-        Counted::One(name) => component.name().text() == name.text(),
+    if reads_resource(component) {
+        program
+            .listing()
+            .components
+            .position(component.name().text())
+    } else {
+        None
     }
 }
 
 /// The figures of a component's body.
-fn component(
-    program: &Index,
-    counted: &Counted,
-    table: &[Figures],
-    component: &Component,
-) -> Figures
-    ensures { result ≡ body_if (figures counted.now) (known_in table.now) program.now (Some component.now) }
+fn component(program: &Index, table: &[Figures], component: &Component) -> Figures
+    ensures { result ≡ body_if (figures program.now) (known_in table.now) program.now (Some component.now) }
 {
-    let inner = body(program, counted, table, component.body());
-    let reads = counts_reads(counted, component) && reads_resource(component);
+    let inner = body(program, table, component.body());
+    let reader = reader_of(program, component);
     Figures {
         own: inner.own,
         given: inner.given,
         levels: inner.levels,
-        waits: reads || inner.waits,
+        waits: earlier(reader, inner.waits),
         unguarded: inner.unguarded,
     }
 }
 
 /// One round over all components, from what was known before.
-fn round(
-    alloc: Global,
-    program: &Index,
-    counted: &Counted,
-    table: &[Figures],
-) -> Result<Vec<Figures>, AllocError>
-    ensures { IfOk result (λ t. t.items ≡ round_of counted.now program.now table.now) }
+fn round(alloc: Global, program: &Index, table: &[Figures]) -> Result<Vec<Figures>, AllocError>
+    ensures { IfOk result (λ t. t.items ≡ round_of program.now table.now) }
 {
     let mut next = Vec::new(alloc);
     for declaration in program.declarations() {
         if let DeclarationKind::Component(inner) = &declaration.kind {
-            next.push(component(program, counted, table, inner))?;
+            next.push(component(program, table, inner))?;
         }
     }
     Ok(next)
+}
+
+/// Whether two numbers, where there are two, are the same.
+fn is_same_number(a: Option<usize>, b: Option<usize>) -> bool
+    ensures { IsTrue result → a ≡ b }
+{
+    match a {
+        None => b.is_none(),
+        Some(first) => match b {
+            None => false,
+            Some(second) => first == second,
+        },
+    }
 }
 
 /// Whether the figures are the same.
@@ -322,7 +336,7 @@ fn is_same(a: &Figures, b: &Figures) -> bool
     if a.own == b.own {
         if a.given == b.given {
             if a.levels == b.levels {
-                if a.waits == b.waits {
+                if is_same_number(a.waits, b.waits) {
                     return a.unguarded == b.unguarded;
                 }
             }
@@ -347,18 +361,13 @@ fn are_same(a: &[Figures], b: &[Figures]) -> bool
 }
 
 /// Rounds until nothing changes, and at most so many.
-fn settled(
-    alloc: Global,
-    program: &Index,
-    counted: &Counted,
-    most: usize,
-) -> Result<Vec<Figures>, AllocError>
-    ensures { IfOk result (λ t. t.items ≡ rounds counted.now most program.now []) }
+fn settled(alloc: Global, program: &Index, most: usize) -> Result<Vec<Figures>, AllocError>
+    ensures { IfOk result (λ t. t.items ≡ rounds most program.now []) }
 {
     let mut table: Vec<Figures> = Vec::new(alloc);
     let mut left = most;
     while left > 0 {
-        let next = round(alloc, program, counted, &table)?;
+        let next = round(alloc, program, &table)?;
         if are_same(&next, &table) {
             return Ok(table);
         }
@@ -377,34 +386,29 @@ fn nesting_levels(program: &Index) -> usize
 }
 
 /// Puts the figures of one component more into the table, from those of the components that its body places.
-fn finish(program: &Index, counted: &Counted, table: &mut Vec<Figures>, number: usize)
+fn finish(program: &Index, table: &mut Vec<Figures>, number: usize)
     requires { length table.old.items ≡ length (components program.now) }
     ensures sized { length table.new.items ≡ length table.old.items }
-    ensures more { (done : List ℕ) → AreFigures counted.now program.now table.old.items done
-        → list_all (is_among done) (next_of (places program.now) number) ≡ true → AreFigures counted.now program.now table.new.items (done ++ number ∷ []) }
+    ensures more { (done : List ℕ) → AreFigures program.now table.old.items done
+        → list_all (is_among done) (next_of (places program.now) number) ≡ true → AreFigures program.now table.new.items (done ++ number ∷ []) }
 {
     match program.component(number) {
         None => {}
         Some(inner) => {
-            let found = component(program, counted, table.as_slice(), inner);
+            let found = component(program, table.as_slice(), inner);
             table[number] = found;
         }
     }
 }
 
 /// The figures of these components, each from those of the components that its body places, which are finished before it.
-fn in_order(
-    alloc: Global,
-    program: &Index,
-    counted: &Counted,
-    order: &Order,
-) -> Result<Vec<Figures>, AllocError>
+fn in_order(alloc: Global, program: &Index, order: &Order) -> Result<Vec<Figures>, AllocError>
     requires { IsFinished (places program.now) order.now }
-    ensures { IfOk result (λ t. AreFigures counted.now program.now t.items order.now) }
+    ensures { IfOk result (λ t. AreFigures program.now t.items order.now) }
 {
     let mut table = vec![in alloc; nothing(); program.component_count()]?;
     for number in order.numbers() {
-        finish(program, counted, &mut table, *number);
+        finish(program, &mut table, *number);
     }
     Ok(table)
 }
@@ -415,20 +419,15 @@ fn in_order(
 /// # Errors
 ///
 /// Want of memory alone.
-pub fn root_figures(
-    alloc: Global,
-    program: &Index,
-    counted: &Counted,
-    order: &Order,
-) -> Result<Figures, AllocError>
+pub fn root_figures(alloc: Global, program: &Index, order: &Order) -> Result<Figures, AllocError>
     requires { IsFinished (places program.now) order.now }
-    ensures { IfOk result (λ f. f ≡ body_by (figures counted.now) (nesting_levels program.now) program.now (component_number program.now root_name)) }
+    ensures { IfOk result (λ f. f ≡ body_by (figures program.now) (nesting_levels program.now) program.now (component_number program.now root_name)) }
 {
     let root = program.component_number("App");
     if order.has(root) {
-        let finished = in_order(alloc, program, counted, order)?;
+        let finished = in_order(alloc, program, order)?;
         return Ok(known(&finished, root));
     }
-    let table = settled(alloc, program, counted, nesting_levels(program))?;
+    let table = settled(alloc, program, nesting_levels(program))?;
     Ok(known(&table, root))
 }

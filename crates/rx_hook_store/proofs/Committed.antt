@@ -1,25 +1,31 @@
 -- After a commit what is kept stands for the machine's state.
-use Rattle.std.proofs.Common.{◌≡◌, ℕ, ℤ, zero, suc, ◌≤◌, Bool, true, false, not, ◌||◌, cond, nat_eq, Option, Some, List, [], ◌∷◌, map, filter, slice_get, refl, sym, subst, arith}
+use Rattle.std.proofs.Common.{◌≡◌, ℕ, ℤ, zero, suc, ◌≤◌, Bool, true, false, not, ◌&&◌, ◌||◌, cond, if◌then◌else◌, nat_eq, Option, Some, List, [], ◌∷◌, map, filter, slice_get, refl, sym, ap, ◌∙◌, subst, arith}
 use Rattle.std.specs.List.{list_any}
 use Rattle.std.proofs.lemmas.Bool.Decides.{nat_tests}
+use Rattle.rx_lane.specs.Lanes.{has}
 use Rattle.rx_ast.specs.Syntax.{Program}
 use Rattle.rx_elem.specs.Numbers.{Numbers}
 use Rattle.rx_elem.specs.Trees.{Node}
 use Rattle.rx_elem.specs.Spots.{Mounted, kept_instances, mounted, numbers_of, visible_instances}
-use Rattle.rx_queue.specs.Journal.{Posted, hook, marked_update, same_target}
+use Rattle.rx_queue.specs.declared.entry.Standing.{Standing}
+use Rattle.rx_queue.specs.declared.entry.Standing.TheVariants.{Done, Open, Owed}
+use Rattle.rx_queue.specs.History.{stands_done}
+use Rattle.rx_queue.specs.Journal.{Posted, belongs_to, hook, is_before, is_included, marked_update, same_target}
 use Rattle.rx_queue.proofs.Bridging.{committed_agrees, owed_agrees}
 use Rattle.rx_hooks.specs.declared.hook.Hook.{Hook}
 use Rattle.rx_hooks.specs.Hooks.{HookHistory, HooksStandFor, committed_hook, owed_hook, rendered}
 use Rattle.rx_hooks.specs.Hooks as hooks_of
 use Rattle.rx_meaning.specs.Expressions.{answers_of}
 use Rattle.rx_meaning.specs.Settled.{HasOwnNumbers, TargetsBelow, includes}
+use Rattle.rx_meaning.specs.Touched.{has_update}
 use Rattle.rx_model.specs.State.{Progress, State}
 use Rattle.rx_model.specs.Committing.{committed_state}
 use Rattle.rx_model.specs.HooksOf.{AreHooksFrom, KeepsAllHooks}
 use Rattle.commit_laws.proofs.OwnNumbers.{own_numbers_apart}
+use Rattle.commit_laws.proofs.Settling.{target_has}
 use Rattle.rx_hook_store.specs.Rendered.{KeepsInstance}
 use Rattle.rx_hook_store.specs.Changing.{HooksChange}
-use Rattle.rx_hook_store.specs.Commits.{LinksBelow, SettlesHooks, hidden, made, shown}
+use Rattle.rx_hook_store.specs.Commits.{LinksBelow, SettlesHooks, hidden, made, shown, untouched}
 use Rattle.rx_hook_store.proofs.Stores.{KeptBy, all-keep}
 
 -- ---- which instances are shown
@@ -51,7 +57,11 @@ not_hidden false e = refl
 
 -- ---- hooks after a commit
 
-module _ (s : State) (g : Progress) (fixed : Numbers × Node) (n : ℕ) where
+or_false_parts : (a b : Bool) → (a || b) ≡ false → (a ≡ false) × (b ≡ false)
+or_false_parts true b e = absurd (cc e)
+or_false_parts false b e = (refl, e)
+
+module _ (program : Program) (s : State) (g : Progress) (fixed : Numbers × Node) (n : ℕ) where
   abbrev after : State
   after = committed_state s g fixed
 
@@ -87,6 +97,66 @@ module _ (s : State) (g : Progress) (fixed : Numbers × Node) (n : ℕ) where
       linked_is = are.0.linked_is;
     },
     hooks_hidden is_out is_in (suc k) xs hs are.1,
+  )
+
+  -- an update of an instance that isn't touched stands as before
+  update_left : (u : Posted) (k : ℕ) → same_target (hook n k) u.target ≡ true → includes kept n ≡ false → (is_included g.lanes g.cut u && (not (stands_done u.standing) && belongs_to (n ∷ []) u.target)) ≡ false
+      → marked_update g.lanes g.cut visible kept u ≡ u
+  update_left u k same is_out calm = ap (λ (x : Standing). let v : Posted = record { target = u.target; update = u.update; standing = x } in v)
+      (by_tests u.standing (is_included g.lanes g.cut u) (belongs_to visible u.target) (is_before g.cut u) (has g.lanes u.update.lane) (belongs_to kept u.target) (belongs_to (n ∷ []) u.target)
+      (target_has kept n k u.target false is_out same) (target_has (n ∷ []) n k u.target true (itself n) same) calm)
+    where
+      itself : (i : ℕ) → includes (i ∷ []) i ≡ true
+      itself i = let e : nat_eq i i ≡ true = grind (arith, nat_tests) in rw e refl
+
+      by_tests : (x : Standing) (a b c d e f : Bool) → e ≡ false → f ≡ true → (a && (not (stands_done x) && f)) ≡ false
+          → (if a && b then Done else (if c && (not (stands_done x) && (d && e)) then Owed else x)) ≡ x
+      by_tests x a b c d true f out one calm = cc
+      by_tests x a b c d false false out one calm = cc
+      by_tests Done true true c d false true out one calm = refl
+      by_tests Done true false true true false true out one calm = refl
+      by_tests Done true false true false false true out one calm = refl
+      by_tests Done true false false d false true out one calm = refl
+      by_tests Open true b c d false true out one calm = cc
+      by_tests Owed true b c d false true out one calm = cc
+      by_tests Done false b true d false true out one calm = refl
+      by_tests Done false b false d false true out one calm = refl
+      by_tests Open false b true true false true out one calm = refl
+      by_tests Open false b true false false true out one calm = refl
+      by_tests Open false b false d false true out one calm = refl
+      by_tests Owed false b true true false true out one calm = refl
+      by_tests Owed false b true false false true out one calm = refl
+      by_tests Owed false b false d false true out one calm = refl
+
+  updates_left : (k : ℕ) (us : List Posted) → includes kept n ≡ false
+      → list_any (λ (u : Posted). is_included g.lanes g.cut u && (not (stands_done u.standing) && belongs_to (n ∷ []) u.target)) us ≡ false
+      → filter (λ (u : Posted). same_target (hook n k) u.target) (map (marked_update g.lanes g.cut visible kept) us) ≡ filter (λ (u : Posted). same_target (hook n k) u.target) us
+  updates_left k [] is_out calm = refl
+  updates_left k (u ∷ us) is_out calm =
+      let parts = or_false_parts (is_included g.lanes g.cut u && (not (stands_done u.standing) && belongs_to (n ∷ []) u.target)) _ calm in
+      go (same_target (hook n k) u.target) refl parts.0 (updates_left k us is_out parts.1)
+    where
+      go : (b : Bool) → same_target (hook n k) u.target ≡ b → (is_included g.lanes g.cut u && (not (stands_done u.standing) && belongs_to (n ∷ []) u.target)) ≡ false
+          → filter (λ (u : Posted). same_target (hook n k) u.target) (map (marked_update g.lanes g.cut visible kept) us) ≡ filter (λ (u : Posted). same_target (hook n k) u.target) us
+          → cond b (marked_update g.lanes g.cut visible kept u ∷ filter (λ (u : Posted). same_target (hook n k) u.target) (map (marked_update g.lanes g.cut visible kept) us))
+          (filter (λ (u : Posted). same_target (hook n k) u.target) (map (marked_update g.lanes g.cut visible kept) us))
+          ≡ cond b (u ∷ filter (λ (u : Posted). same_target (hook n k) u.target) us) (filter (λ (u : Posted). same_target (hook n k) u.target) us)
+      go true same one rest = ap (λ (v : Posted). v ∷ filter (λ (u : Posted). same_target (hook n k) u.target) (map (marked_update g.lanes g.cut visible kept) us)) (update_left u k same is_out one)
+          ∙ ap (λ (vs : List Posted). u ∷ vs) rest
+      go false same one rest = rest
+
+  -- the hooks of an instance that isn't touched stay
+  hooks_left : includes kept n ≡ false → has_update (record { program = program; journal = s.journal; lanes = g.lanes; cut = g.cut }) (n ∷ []) ≡ false
+      → (k : ℕ) (xs : List ℤ) (hs : List HookHistory) → AreHooksFrom s n k xs hs → AreHooksFrom after n k xs hs
+  hooks_left is_out calm k [] [] are = tt
+  hooks_left is_out calm k [] (h ∷ hs) are = absurd are
+  hooks_left is_out calm k (x ∷ xs) [] are = absurd are
+  hooks_left is_out calm k (x ∷ xs) (h ∷ hs) are = (
+    record {
+      history_is = record { initial_is = are.0.history_is.initial_is; updates_are = are.0.history_is.updates_are ∙ sym (updates_left k s.journal.updates is_out calm) };
+      linked_is = are.0.linked_is;
+    },
+    hooks_left is_out calm (suc k) xs hs are.1,
   )
 
   none_yet : (k : ℕ) (us : List Posted) → s.numbers.instance ≤ n → TargetsBelow s.numbers.instance us
@@ -134,17 +204,27 @@ committed_keeps p s g fixed old new below links own settles = all-keep p (commit
         let is_in : includes (visible_instances (Some fixed.1)) m.number ≡ true = passes_in (λ (m : Mounted). m.visible) (mounted (Some fixed.1)) k m at visible in
         let is_out : includes (kept_instances (Some fixed.1)) m.number ≡ false = not_both _ _ (apart m.number) is_in in
         changed (map committed_hook) p (committed_state s g fixed) new m.number m.initials (old m.number) c is.hooks (map (rendered g.lanes g.cut) is.histories) is.kept_is is.stand
-        (hooks_shown s g fixed m.number is_in is_out 0 m.initials is.histories is.are_of)
+        (hooks_shown p s g fixed m.number is_in is_out 0 m.initials is.histories is.are_of)
     go k m at (hidden visible is c) =
         let is_in : includes (kept_instances (Some fixed.1)) m.number ≡ true =
         passes_in (λ (m : Mounted). not m.visible) (mounted (Some fixed.1)) k m at (not_hidden m.visible visible) in
         changed (map (owed_hook g.lanes g.cut)) p (committed_state s g fixed) new m.number m.initials (old m.number) c is.hooks is.histories is.kept_is is.stand
-        (hooks_hidden s g fixed m.number (apart m.number is_in) is_in 0 m.initials is.histories is.are_of)
+        (hooks_hidden p s g fixed m.number (apart m.number is_in) is_in 0 m.initials is.histories is.are_of)
+    go k m at (untouched visible is calm same) =
+        let is_in : includes (visible_instances (Some fixed.1)) m.number ≡ true = passes_in (λ (m : Mounted). m.visible) (mounted (Some fixed.1)) k m at visible in
+        let is_out : includes (kept_instances (Some fixed.1)) m.number ≡ false = not_both _ _ (apart m.number) is_in in
+        record {
+          hooks = is.hooks;
+          kept_is = same ∙ is.kept_is;
+          histories = is.histories;
+          stand = is.stand;
+          are_of = hooks_left p s g fixed m.number is_out calm 0 m.initials is.histories is.are_of;
+        }
     go k m at (made new_one are) =
         record {
           hooks = are.hooks;
           kept_is = are.is;
           histories = map hooks_of.mounted m.initials;
           stand = are.stand (answers_of p);
-          are_of = hooks_made s g fixed m.number new_one below links 0 m.initials;
+          are_of = hooks_made p s g fixed m.number new_one below links 0 m.initials;
         }

@@ -6,11 +6,12 @@ mod between;
 mod content;
 mod host;
 mod known;
+mod placed;
 mod placing;
 mod reading;
 #[cfg(test)]
 mod tests;
 
-pub use between::ops_between;
 pub use host::Host;
+pub use placed::host_ops;
 pub use reading::hosts;

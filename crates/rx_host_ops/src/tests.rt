@@ -1,6 +1,7 @@
 // A text that changes, below an element that loses an attribute.
-use super::{hosts, ops_between};
+use super::{host_ops, hosts};
 use rx_base::{Int, Name, Str};
+use rx_compare::compare_trees;
 use rx_elem::{Attr, AttrValue, Element, ElementKind};
 use rx_node::{Mark, Node};
 use std::alloc::{AllocError, Global};
@@ -40,7 +41,8 @@ fn changes_a_text_and_an_attribute(rt: HostRuntime) -> Result<(), Fail> {
     let before = hosts(alloc, Some(&old))?;
     let after = hosts(alloc, Some(&new))?;
     assert_eq!(rt; before.len(), 2);
-    let ops = ops_between(alloc, &before, &after, &[])?;
+    let compared = compare_trees(alloc, Some(&old), &new)?;
+    let ops = host_ops(alloc, &before, &after, &compared)?;
     assert_eq!(rt; ops.len(), 2);
     Ok(())
 }

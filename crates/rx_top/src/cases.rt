@@ -484,3 +484,71 @@ pub(crate) const CASES: [Case<'static>; 51] = [
         output: "script refused 16 line 1\n",
     },
 ];
+
+/// Programs in which two places could be refused, or none is, and the line that `check` answers.
+pub(crate) const ORDERS: [(&str, &str); 15] = [
+    // A name twice on an element, and a second key of a list: which stands first.
+    (
+        "function Z({p, children}) { return <p><i key={1}/><b a={1} a={2} key={2}/></p>; } function App() { return null; }",
+        "program refused 4 a\n",
+    ),
+    (
+        "function Z({p, children}) { return <p><i key={1}/><b key={2} a={1} a={2}/></p>; } function App() { return null; }",
+        "program refused 4 key\n",
+    ),
+    (
+        "function Z({p, children}) { return <p><i key={1}/><Suspense fallback={<b a={1} a={2}/>} key={2}></Suspense></p>; } function App() { return null; }",
+        "program refused 4 a\n",
+    ),
+    // A list has keys of its own, and a choice is one place with all its branches.
+    (
+        "function Z({p, children}) { return <p><i key={1}/>{for (i < 2, 2) <b key={i}/>}</p>; } function App() { return null; }",
+        "accepted nodes 1 depth 1 steps 0\n",
+    ),
+    (
+        "function Z({p, children}) { return <p>{p ? <i key={1}/> : <b key={2}/>}<u/></p>; } function App() { return null; }",
+        "accepted nodes 1 depth 1 steps 0\n",
+    ),
+    (
+        "function Z({p, children}) { return <p><i key={1}/>{p ? null : p ? null : <b key={2}/>}</p>; } function App() { return null; }",
+        "program refused 4 key\n",
+    ),
+    (
+        "function Z({p, children}) { return <p>{p ? null : p ? null : <i key={1}/>}<b key={2}/></p>; } function App() { return null; }",
+        "program refused 4 key\n",
+    ),
+    // What is unknown stands before what it is given.
+    (
+        "function Z({a}) { return <p>{children}{b}</p>; } function App() { return null; }",
+        "program refused 5 children\n",
+    ),
+    (
+        "function Z() { const [s, t] = useReducer(ff, gg); return null; } function App() { return null; }",
+        "program refused 5 ff\n",
+    ),
+    (
+        "function Z({p, children}) { return <K.Provider value={q}></K.Provider>; } function App() { return null; }",
+        "program refused 5 K\n",
+    ),
+    (
+        "function Z({p, children}) { return <p>{for (i < 1, 2) 1}{i}</p>; } function App() { return null; }",
+        "program refused 5 i\n",
+    ),
+    (
+        "function Z({p, children}) { return ff(gg); } function App() { return null; }",
+        "program refused 5 ff\n",
+    ),
+    (
+        "function f(a) { return a; } function Y({q}) { return null; } function Z() { return <Y q={f(1, 2)} r={1}/>; } function App() { return null; }",
+        "program refused 6 Y\n",
+    ),
+    // Children that a component drops wait nowhere; those that it shows beside a boundary do.
+    (
+        "function W() { const u = use(\"r\"); return null; } function H({children}) { return null; } function F({children}) { return <H>{children}</H>; } function App() { return <F><W/></F>; }",
+        "accepted nodes 3 depth 5 steps 0\n",
+    ),
+    (
+        "function W() { const u = use(\"r\"); return null; } function F({children}) { return <Suspense fallback={children}><p/></Suspense>; } function App() { return <F><W/></F>; }",
+        "program refused 9 W\n",
+    ),
+];

@@ -2,7 +2,7 @@
 ghost use Rattle.std.specs.Prelude.{◌≡◌};
 
 use super::*;
-use crate::cases::{CASES, ONE_FUNCTION, WAITING};
+use crate::cases::{CASES, ONE_FUNCTION, ORDERS, WAITING};
 use itoa::Buffer;
 use rx_base::Steps;
 use rx_io::{MemSink, MemSource};
@@ -253,6 +253,16 @@ fn each_input_is_judged(rt: HostRuntime) -> Result<(), Fail> {
         let found = checked(alloc, program.as_bytes(), case.script.as_bytes())?;
         assert_eq!(rt; found.0, case.status, "case {i}");
         assert_eq!(rt; found.1.as_slice(), case.output.as_bytes(), "case {i}");
+    }
+    Ok(())
+}
+
+#[test]
+fn the_first_place_decides(rt: HostRuntime) -> Result<(), Fail> {
+    let alloc = rt.alloc();
+    for (i, (program, output)) in ORDERS.iter().enumerate() {
+        let found = checked(alloc, program.as_bytes(), b"")?;
+        assert_eq!(rt; found.1.as_slice(), output.as_bytes(), "program {i}");
     }
     Ok(())
 }

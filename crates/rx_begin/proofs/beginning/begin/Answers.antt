@@ -2,7 +2,7 @@ use Rattle.std.proofs.Common.{sym, ap, refl, ◌∙◌}
 use Rattle.rx_begin.specs.PartsView.{parts_seen}
 use Rattle.std.specs.Prelude.{option_map}
 use Rattle.rx_begin.proofs.ByElement.{if_ok}
-use Rattle.rx_begin.proofs.Begins.{on_ok, any_ok, if_ok_too, place_bare, place_kept, place_there, place_context, place_props, begins_body, begins_other, counts_none, counts_one, made_at}
+use Rattle.rx_begin.proofs.Begins.{on_ok, any_ok, if_ok_too, place_kept, place_there, place_context, place_props, begins_body, begins_other, counts_none, counts_one, made_at}
 use Rattle.rx_begin.proofs.beginning.begin.Goals as goal
 
 pub begin_component-requires-clause-kept : goal.begin_component-requires-clause-kept

@@ -1,6 +1,5 @@
 use Rattle.std.proofs.Common.{sym, ap, ◌∙◌}
 use Rattle.rx_links.specs.Drafts.{old_of}
-use Rattle.rx_fiber.specs.Reading.{IsOld}
 use Rattle.rx_begin.specs.Scenes.{number_in}
 use Rattle.rx_begin.proofs.Nodes.{bare_made}
 use Rattle.rx_begin.proofs.Bodies.{evaluated, instance_at}

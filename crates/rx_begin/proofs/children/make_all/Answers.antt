@@ -1,4 +1,4 @@
-use Rattle.std.proofs.Common.{◌≡◌, ◌<◌, ◌≤◌, ◌-◌, suc, length, refl, sym, ap, ◌∙◌, arith, subst}
+use Rattle.std.proofs.Common.{◌-◌, refl, arith}
 use Rattle.rx_begin.proofs.Making.{none_yet, place_open, place_top, place_unused, place_more}
 use Rattle.rx_begin.proofs.children.make_all.Goals as goal
 

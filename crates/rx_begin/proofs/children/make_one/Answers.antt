@@ -1,4 +1,4 @@
-use Rattle.std.proofs.Common.{refl, ap, ◌∙◌, sym, not}
+use Rattle.std.proofs.Common.{ap, ◌∙◌, sym, not}
 use Rattle.rx_begin.specs.Children.{one}
 use Rattle.rx_begin.proofs.Making.{null_absent, is_fiber}
 use Rattle.rx_begin.proofs.children.make_one.Goals as goal

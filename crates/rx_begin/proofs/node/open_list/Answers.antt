@@ -1,4 +1,4 @@
-use Rattle.std.proofs.Common.{inr, ◌∙◌}
+use Rattle.std.proofs.Common.{inr}
 use Rattle.rx_links.specs.Readers.{list_from}
 use Rattle.rx_fiber.specs.FiberView.{stage_seen}
 use Rattle.rx_fiber.specs.OldLists.{matched}

@@ -1,6 +1,21 @@
-use Rattle.std.proofs.Common.{sym, ◌∙◌}
-use Rattle.rx_check.proofs.Outside.{none-first}
+use Rattle.std.proofs.Common.{◌≡◌, Option, Some, None, true, sym, ap, subst, ◌∙◌}
+use Rattle.std.specs.Prelude.{MatchOption, is_some, slice_get}
+use Rattle.std.specs.Option.{option_and_then}
+use Rattle.rx_base.specs.Values.{Name}
+use Rattle.rx_rules.specs.Names.{component_named, root_name}
+use Rattle.rx_order.specs.Graphs.{first}
+use Rattle.rx_check.specs.Checks.{outside_uses}
+use Rattle.rx_check.proofs.Outside.{first-outside, none-outside}
 use Rattle.rx_check.proofs.checking.outside_use.Goals as goal
 
-pub returns-then-not-waits : goal.returns-then-not-waits
-returns-then-not-waits c = none-first c.args.program.now (sym c.requires.waits ∙ c.if-not-waits.true)
+pub returns-in-None : goal.returns-in-None
+returns-in-None c = none-outside c.args.program.now (ap is_some c.in-None.ensures)
+
+pub returns-in-Some : goal.returns-in-Some
+returns-in-Some c =
+    let p = c.args.program.now in
+    let rooted : is_some (component_named p root_name) ≡ true = ap is_some c.in-Some.ensures in
+    let same : first (outside_uses p) ≡ option_and_then (slice_get c.args.names.now) c.args.waits =
+    first-outside p c.args.waits c.requires.waits rooted ∙ ap (λ ns. option_and_then (slice_get ns) c.args.waits) (sym c.requires.names) in
+    let P : Option Name → Type 0 = λ o. MatchOption c.name_at.result (o ≡ None) (λ x. o ≡ Some x.now) in
+    subst P (sym same) c.name_at.ensures

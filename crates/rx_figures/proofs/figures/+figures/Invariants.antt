@@ -26,7 +26,7 @@ abbrev pub invariant-slots-loop-at : goal.invariant-slots-loop-at
 invariant-slots-loop-at l =
     record {
       within : l.at ≤ length l.children;
-      total : l.sum ≡ slots_by (figures l.counted) (known_in l.table) l.program (slots_of (drop l.at l.children));
+      total : l.sum ≡ slots_by (figures l.program) (known_in l.table) l.program (slots_of (drop l.at l.children));
     }
 
 abbrev pub decreases-slots-loop-at : goal.decreases-slots-loop-at

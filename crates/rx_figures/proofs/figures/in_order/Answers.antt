@@ -11,6 +11,6 @@ loop-number-preserved c =
     let i = c.loop-number.number-index in
     record {
       sized = c.finish.ensures.sized ∙ c.loop-number.invariant.sized;
-      right = passed-more (places p) (AreFigures c.args.counted.now p c.loop-number.table.items) (AreFigures c.args.counted.now p c.finish.new.table.items) items i 0 c.loop-number-test.true c.loop-number.invariant.left c.finish.ensures.more c.loop-number.invariant.right;
+      right = passed-more (places p) (AreFigures p c.loop-number.table.items) (AreFigures p c.finish.new.table.items) items i 0 c.loop-number-test.true c.loop-number.invariant.left c.finish.ensures.more c.loop-number.invariant.right;
       left = left-more (places p) items i 0 c.loop-number-test.true c.loop-number.invariant.left;
     }

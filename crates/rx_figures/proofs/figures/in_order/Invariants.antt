@@ -10,6 +10,6 @@ abbrev pub invariant-loop-number : goal.invariant-loop-number
 invariant-loop-number l =
     record {
       sized : length l.table.items ≡ length (components l.program);
-      right : AreFigures l.counted l.program l.table.items (take l.number-index l.number-items);
+      right : AreFigures l.program l.table.items (take l.number-index l.number-items);
       left : finishes (places l.program) (take l.number-index l.number-items) (drop l.number-index l.number-items) ≡ true;
     }

@@ -8,4 +8,4 @@ use Rattle.rx_figures.proofs.figures.round.Given as goal
 -- what is computed and what is left make the whole
 abbrev pub invariant-loop-declaration : goal.invariant-loop-declaration
 invariant-loop-declaration l =
-    l.next.items ++ map (λ c. body_if (figures l.counted) (known_in l.table) l.program (Some c)) (filter_map as_component (drop l.declaration-index l.declaration-items)) ≡ round_of l.counted l.program l.table
+    l.next.items ++ map (λ c. body_if (figures l.program) (known_in l.table) l.program (Some c)) (filter_map as_component (drop l.declaration-index l.declaration-items)) ≡ round_of l.program l.table

@@ -13,8 +13,7 @@ use Rattle.rx_links.specs.Drafts.{Draft, taken, made, Trees, old_of}
 use Rattle.rx_links.specs.Places.{Around, placed}
 use Rattle.rx_links.specs.Readers.{list_from, IsLinked}
 use Rattle.rx_meaning.specs.Fresh.{Sight, Contexts, Part, part, one_list, two_lists, waiting, shape_of}
-use Rattle.rx_meaning.specs.Fresh as fresh
-use Rattle.rx_meaning.specs.Cursor.{Open, around, trying, Frame, Cursor, at_place, at_end, ended, come_to, open_part, unwind, unit}
+use Rattle.rx_meaning.specs.Cursor.{Open, around, trying, Frame, Cursor, at_place, come_to, open_part, unit}
 use Rattle.rx_meaning.specs.Cursor as cursor
 use Rattle.rx_meaning.specs.Touched.{children_with_old}
 use Rattle.rx_fiber.specs.Fibers.{Fiber, begun}

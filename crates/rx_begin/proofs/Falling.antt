@@ -1,0 +1,271 @@
+-- A boundary's fallback opens, alone or beside what the boundary keeps.
+use Rattle.std.specs.Prelude.{◌≡◌, ℕ, true, false, List, [], ◌∷◌, Option, Some, None, IfSome, is_some}
+use Rattle.std.proofs.Common.{refl, sym, ap, ◌∙◌, subst}
+use Rattle.rx_base.specs.Awaits.{Awaits}
+use Rattle.rx_ctx.specs.Contexts.{Stack, values_at}
+use Rattle.rx_elem.specs.Elements.{Element}
+use Rattle.rx_elem.specs.Elements as elements
+use Rattle.rx_elem.specs.Trees.{Node, children_if, fallback_if, of_boundary}
+use Rattle.rx_elem.specs.Compare.{old_nodes}
+use Rattle.rx_susp.specs.declared.boundary.BoundaryState.TheVariants.{Hidden}
+use Rattle.rx_lists.specs.Shapes.{Shape, none, fiber, first, Holds, IsTop}
+use Rattle.rx_links.specs.Drafts.{Draft, taken, made, Trees, Makes, entry, old_of, kids_under, IsBare, IsMadeList, old_kids, Fits, taking, valued, inserted}
+use Rattle.rx_links.specs.Places.{Around, after, placed, IsAt}
+use Rattle.rx_links.specs.Readers.{list_from, old_list, IsLinked, made_value_of, made_value_in, made_kids_of, made_kids_in}
+use Rattle.rx_meaning.specs.Fresh.{Part, part}
+use Rattle.rx_meaning.specs.Cursor.{Cursor, Frame, falling, open_part}
+use Rattle.rx_meaning.specs.Touched.{children_with_old}
+use Rattle.rx_fiber.specs.Fibers.{Fiber, begun, fallback}
+use Rattle.rx_fiber.specs.FiberView.{changed}
+use Rattle.rx_fiber.specs.declared.stage.StageChange.TheVariants as change
+use Rattle.rx_fiber.specs.OldLists.{primary_list, fallback_list, matched}
+use Rattle.rx_fiber.specs.Reading.{has_node}
+use Rattle.rx_fiber.specs.Surround.{AreNext, IsAround, fallback_in, is_boundary}
+use Rattle.rx_fiber.specs.Standing.{given_in, IsStack, opened, StandsAt}
+use Rattle.rx_fiber.specs.Unwound.{IsLeftAt}
+use Rattle.rx_fiber.proofs.Coming.{come_at}
+use Rattle.rx_fiber.proofs.Matching.{matched_old}
+use Rattle.rx_fiber.proofs.OldLists.{primary_is, fallback_is, kept_is, has_node_is}
+use Rattle.rx_fiber.proofs.Opening.{falls_alone, falls_beside}
+use Rattle.rx_fiber.proofs.Stacking.{unchanged}
+use Rattle.rx_begin.specs.Children.{AreMade, HasMadeFrom}
+use Rattle.rx_begin.specs.Nodes.{IsBareAt, IsBareBeside, HasList}
+use Rattle.rx_begin.specs.Opening.{IsLeft, left, KeepsNode, HasOpenedAs, opened_at, fallback_behind, HasKept, HasFallback}
+use Rattle.rx_begin.specs.declared.opening.Opened.{Opened}
+use Rattle.rx_begin.proofs.Making.{KnowsPlaces, made_list}
+use Rattle.rx_begin.proofs.Beside.{alone_tops, beside_tops, sibling_top}
+use Rattle.rx_begin.proofs.Starts.{nexts, leads}
+
+boundary_gives : (e : Element) → is_boundary e ≡ true → given_in e ≡ None
+boundary_gives elements.null h = refl
+boundary_gives (elements.text t) h = refl
+boundary_gives (elements.host n k attrs es) h = refl
+boundary_gives (elements.comp c k ps es) h = refl
+boundary_gives (elements.list es) h = refl
+boundary_gives (elements.boundary k f es) h = refl
+boundary_gives (elements.provider c k x es) h = cc
+
+has_fallen : (t : Trees Fiber) (st : Stack) (q levels : ℕ) (fs : List Frame) (e : Element) (old : Option Node) (a : Awaits) (list : Part) (d : Draft Fiber) → IsMadeList d
+    → StandsAt t st (Some (come_at d q)) (open_part levels fs (falling e old a) list) → AreNext t.current 0 (children_with_old list) d
+    → HasOpenedAs t st (open_part levels fs (falling e old a) list) (opened_at (entry d) q)
+has_fallen t st q levels fs e old a list (taken s) is at more =
+    subst (λ f. HasOpenedAs t st (open_part levels fs (falling e old a) list) (opened_at f q)) (sym (ap first is))
+    (at, leads t.current 0 levels fs (falling e old a) list.contexts [] (children_with_old list) (taken s) more)
+has_fallen t st q levels fs e old a list (made id v o ks rs) is at more =
+    (at, leads t.current 0 levels fs (falling e old a) list.contexts [] (children_with_old list) (made id v o ks rs) more)
+
+module _ (t : Trees Fiber) (st : Stack) (p : ℕ) (a : Awaits) (c : Cursor) (l : IsLeftAt t st p (taken none) a c) (linked : IsLinked t.current) where
+  abbrev its_list : Part
+  its_list = part (values_at st) (fallback_in l.value.element ∷ []) (fallback_if l.node)
+
+  abbrev its_olds : List (Option ℕ)
+  its_olds = matched (fallback_list (list_from t.current l.old)) (fallback_in l.value.element ∷ [])
+
+  kids_next : (new : Trees Fiber) (d : Draft Fiber) → new.current ≡ t.current → AreMade 0 (fallback_in l.value.element ∷ []) its_olds d → AreNext new.current 0 (children_with_old its_list) d
+  kids_next new d same are =
+      subst (λ k. AreNext k 0 (children_with_old its_list) d) (sym same)
+      (nexts t.current 0 (fallback_in l.value.element ∷ []) its_olds (old_nodes (fallback_if l.node) (fallback_in l.value.element ∷ [])) d are
+      (matched_old t.current linked (fallback_if l.node) (fallback_list (list_from t.current l.old)) (fallback_is t.current linked l.old l.node l.was) (fallback_in l.value.element ∷ [])))
+
+  surrounds_new : (new : Trees Fiber) → new.current ≡ t.current → IsAround new.current l.around l.value.place l.rest l.frames
+  surrounds_new new same = subst (λ k. IsAround k l.around l.value.place l.rest l.frames) (sym same) l.surrounds
+
+  stack_new : IsStack st ((falling l.value.element l.node a, values_at st) ∷ opened l.frames)
+  stack_new = unchanged st (falling l.value.element l.node a) (opened l.frames) (boundary_gives l.value.element l.boundary) l.stack
+
+  opens_so : (new : Trees Fiber) (f : Opened) → HasOpenedAs new st (open_part l.levels l.frames (falling l.value.element l.node a) its_list) f → HasOpenedAs new st c f
+  opens_so new f h = subst (λ x. HasOpenedAs new st x f) (sym l.opens) h
+
+  -- a boundary that keeps nothing has its fallback as its children
+  pub left_alone : (new : Trees Fiber) (es : List Element) (os : List (Option ℕ)) (link : Option ℕ) → HasList t new p (begun (of_boundary (Hidden a))) es os link
+      → es ≡ fallback_in l.value.element ∷ [] → os ≡ its_olds → has_node (children_if l.node) ≡ false → HasOpenedAs new st c (opened_at link p)
+  left_alone new es os link done es_are os_are gone =
+      let are : AreMade 0 (fallback_in l.value.element ∷ []) its_olds done.kids = subst (λ x. AreMade 0 x its_olds done.kids) es_are (subst (λ x. AreMade 0 es x done.kids) os_are done.are) in
+      let next = kids_next new done.kids done.current are in
+      subst (λ x. HasOpenedAs new st c (opened_at x p)) (sym done.first_is)
+      (opens_so new (opened_at (entry done.kids) p)
+      (has_fallen new st p l.levels l.frames l.value.element l.node a its_list done.kids (made_list 0 (fallback_in l.value.element ∷ []) its_olds done.kids are)
+      (falls_alone new st l.around p l.levels (record l.value { stage = begun (of_boundary (Hidden a)) }) l.old done.kids l.rest l.frames l.value.element l.node a its_list
+      (done.stands l.around l.value l.old l.rest l.here) refl refl gone next (surrounds_new new done.current) stack_new)
+      next))
+
+  -- one that keeps something has it in a fiber of its own
+  pub left_beside : (u w new : Trees Fiber) (r : Option ℕ) (q : ℕ) (es : List Element) (os : List (Option ℕ)) (link : Option ℕ) → HasKept t u p a → u.current ≡ t.current → (put : HasFallback u w p r a q)
+      → (done : HasMadeFrom 0 w new q es os) → es ≡ fallback_in l.value.element ∷ [] → os ≡ its_olds → link ≡ entry done.kids → has_node (children_if l.node) ≡ true → HasOpenedAs new st c (opened_at link q)
+  left_beside u w new r q es os link kept same put done es_are os_are link_is some =
+      let are : AreMade 0 (fallback_in l.value.element ∷ []) its_olds done.kids = subst (λ x. AreMade 0 x its_olds done.kids) es_are (subst (λ x. AreMade 0 es x done.kids) os_are done.are) in
+      let current : new.current ≡ t.current = done.current ∙ (put.current ∙ same) in
+      let next = kids_next new done.kids current are in
+      let v : Fiber = record l.value { stage = begun (of_boundary (Hidden a)) } in
+      let keeps : Shape Fiber = kids_under t.current l.old in
+      let (element, there) = put.stands l.around v l.old (taken keeps) l.rest (kept l.around l.value l.old l.rest l.here) in
+      subst (λ x. HasOpenedAs new st c (opened_at x q)) (sym link_is)
+      (opens_so new (opened_at (entry done.kids) q)
+      (has_fallen new st q l.levels l.frames l.value.element l.node a its_list done.kids (made_list 0 (fallback_in l.value.element ∷ []) its_olds done.kids are)
+      (falls_beside new st l.around p q l.levels v put.value l.old r keeps done.kids l.rest l.frames l.value.element l.node a its_list
+      (done.stands (after p v l.old (taken keeps) l.around) put.value r l.rest there)
+      (record {
+        of = record { at = refl; element = refl; stage = refl };
+        element = element;
+        stage = put.stage;
+        keeps = some;
+        are = kept_is t.current linked l.old l.node l.was some;
+      })
+      next (surrounds_new new current) stack_new)
+      next))
+
+  -- it keeps something where its old primary list has a fiber
+  pub keeps_by : (link : Option ℕ) → list_from t.current link ≡ primary_list (list_from t.current l.old) → has_node (children_if l.node) ≡ is_some (first (list_from t.current link))
+  keeps_by link e =
+      let h = primary_is t.current linked l.old l.node l.was in
+      has_node_is 0 (children_if l.node) (primary_list (list_from t.current l.old)) h.are ∙ ap (λ s. is_some (first s)) (sym e)
+
+  pub here_bare : IsBareAt t p
+  here_bare = record { around = l.around; value = l.value; old = l.old; rest = l.rest; here = l.here }
+
+pub left_bare : (t : Trees Fiber) (p : ℕ) (a : Awaits) → IsLeft t p a → IsBareAt t p
+left_bare t p a (left l) = record { around = l.around; value = l.value; old = l.old; rest = l.rest; here = l.here }
+
+-- the fiber that it was made for
+module _ (t : Trees Fiber) (st : Stack) (p : ℕ) (a : Awaits) (c : Cursor) (l : IsLeftAt t st p (taken none) a c) (knows : KnowsPlaces t) where
+  left_at : IsAt t l.around p l.value l.old (taken none) l.rest
+  left_at = knows l.around p l.value l.old (taken none) l.rest l.here
+
+  pub left_old : (o : Option ℕ) → o ≡ old_of t.draft p → o ≡ l.old
+  left_old o e = e ∙ left_at.old
+
+  pub left_element : (v : Fiber) → Some v ≡ made_value_of t.draft p → v.element ≡ l.value.element
+  left_element v e =
+      let f : made_value_of t.draft p ≡ Some l.value = ap made_value_in left_at.list in
+      let same : v ≡ l.value = cc in
+      ap (λ u. u.element) same
+
+-- a boundary that keeps nothing has room for its fallback's list
+pub room_alone : (t : Trees Fiber) (p : ℕ) (a : Awaits) (o first : Option ℕ) → IsLeft t p a → KeepsNode t p a false → KnowsPlaces t → IsLinked t.current → o ≡ old_of t.draft p
+    → list_from t.current first ≡ fallback_list (list_from t.current o) → IsBareBeside t p first
+room_alone t p a o first (left {st = st} {c = c} l) gone knows linked e list = record {
+  around = l.around;
+  value = l.value;
+  old = l.old;
+  rest = l.rest;
+  here = l.here;
+  tops = λ j h.
+      alone_tops t.current linked l.old l.node j l.was (gone st c l)
+      (subst (λ q. IsTop (fallback_list (list_from t.current q)) j) (left_old t st p a c l knows o e) (subst (λ s. IsTop s j) list h));
+}
+
+-- what is taken over and hidden
+module _ (t u : Trees Fiber) (p : ℕ) (knows : KnowsPlaces t) (took : u ≡ record t { draft = taking p (old_kids t p) t.draft }) where
+  took_so : (k : Around Fiber) (v : Fiber) (o : Option ℕ) (rs : Draft Fiber) → t.draft ≡ placed k (made p v o (taken none) rs)
+      → u.draft ≡ placed k (made p v o (taken (kids_under t.current o)) rs)
+  took_so k v o rs e =
+      let at = knows k p v o (taken none) rs e in
+      ap (λ x. x.draft) took
+      ∙ (at.kids (λ ks. taken (old_kids t p)) ∙ ap (λ q. placed k (made p v o (taken (kids_under t.current q)) rs)) at.old)
+
+  pub took_made : IsBareAt t p → KnowsPlaces u → Makes u.draft p
+  took_made b knows_u = (knows_u b.around p b.value b.old (taken (kids_under t.current b.old)) b.rest (took_so b.around b.value b.old b.rest b.here)).makes
+
+  pub kept_so : (new : Trees Fiber) (a : Awaits) → KnowsPlaces u → new ≡ record u { draft = valued p (changed (change.Hide a)) u.draft } → HasKept t new p a
+  kept_so new a knows_u hid k v o rs e =
+      ap (λ x. x.draft) hid ∙ (knows_u k p v o (taken (kids_under t.current o)) rs (took_so k v o rs e)).value (changed (change.Hide a))
+
+pub bare_is : (t : Trees Fiber) (p : ℕ) → KnowsPlaces t → IsBareAt t p → IsBare t.draft p
+bare_is t p knows b = (knows b.around p b.value b.old (taken none) b.rest b.here).bare refl
+
+-- the fallback's fiber stands right behind
+pub put_so : (t new : Trees Fiber) (p id : ℕ) (w : Fiber) (old : Option ℕ) (a : Awaits) (v : Fiber) → KnowsPlaces t → new ≡ record t { draft = inserted p id w old t.draft }
+    → w.stage ≡ fallback a → Some v ≡ made_value_of t.draft p → w.element ≡ v.element → HasFallback t new p old a id
+put_so t new p id w old a v knows is stage value element = record {
+  value = w;
+  stage = stage;
+  stands = λ k u o ks rs e.
+      let at = knows k p u o ks rs e in
+      let f : made_value_of t.draft p ≡ Some u = ap made_value_in at.list in
+      let same : v ≡ u = cc in
+      (element ∙ ap (λ x. x.element) same, ap (λ x. x.draft) is ∙ at.rest (λ rs. made id w old (taken none) rs));
+  current = ap (λ x. x.current) is;
+}
+
+-- a boundary that keeps something: what is asked where its fallback's fiber is put
+module _ (t u : Trees Fiber) (p : ℕ) (a : Awaits) (o : Option ℕ) (is_left : IsLeft t p a) (knows : KnowsPlaces t) (same_old : o ≡ old_of t.draft p) (kept : HasKept t u p a)
+    (same : u.current ≡ t.current) where
+  pub kept_made : KnowsPlaces u → Makes u.draft p
+  kept_made knows_u = elim is_left [
+    | left l ↦
+        (knows_u l.around p (record l.value { stage = begun (of_boundary (Hidden a)) }) l.old (taken (kids_under t.current l.old)) l.rest (kept l.around l.value l.old l.rest l.here)).makes
+  ]
+
+  pub held_old : IfSome o (Holds u.current)
+  held_old = elim is_left [
+    | left l ↦
+        subst (λ q. IfSome q (Holds u.current)) (sym (left_old t _ p a _ l knows o same_old))
+        (subst (λ k. IfSome l.old (Holds k)) (sym same) (left_at t _ p a _ l knows).old_held)
+  ]
+
+  pub kept_sibling : (r : Option ℕ) → KnowsPlaces u → Fits u → IsLinked u.current → r ≡ fallback_behind (list_from t.current o) → IfSome r (IsTop (old_list u p))
+  kept_sibling r knows_u fits linked e = elim is_left [
+    | left l ↦
+        sibling_top u fits linked knows_u l.around p (record l.value { stage = begun (of_boundary (Hidden a)) }) l.old r (taken (kids_under t.current l.old)) l.rest
+        (kept l.around l.value l.old l.rest l.here) (e ∙ (ap (λ k. fallback_behind (list_from k o)) (sym same) ∙ ap (λ q. fallback_behind (list_from u.current q)) (left_old t _ p a _ l knows o same_old)))
+  ]
+
+  -- the fallback's fiber has room for its list
+  pub room_beside : (w : Trees Fiber) (r first : Option ℕ) (q : ℕ) → KeepsNode t p a true → IsLinked t.current → r ≡ fallback_behind (list_from t.current o) → HasFallback u w p r a q
+      → list_from t.current first ≡ fallback_list (list_from t.current o) → IsBareBeside w q first
+  room_beside w r first q keeps linked e put list = elim is_left [
+    | left l ↦ (
+        let current : w.current ≡ t.current = put.current ∙ same in
+        let behind : r ≡ fallback_behind (list_from t.current l.old) =
+        e ∙ ap (λ x. fallback_behind (list_from t.current x)) (left_old t _ p a _ l knows o same_old) in
+        let v : Fiber = record l.value { stage = begun (of_boundary (Hidden a)) } in
+        record {
+          around = after p v l.old (taken (kids_under t.current l.old)) l.around;
+          value = put.value;
+          old = r;
+          rest = l.rest;
+          here = (put.stands l.around v l.old (taken (kids_under t.current l.old)) l.rest (kept l.around l.value l.old l.rest l.here)).1;
+          tops = λ j h.
+              subst (λ k. IsTop (kids_under k r) j) (sym current)
+              (beside_tops t.current linked l.old r l.node j l.was (keeps _ _ l) behind
+              (subst (λ x. IsTop (fallback_list (list_from t.current x)) j) (left_old t _ p a _ l knows o same_old)
+              (subst (λ s. IsTop s j) list (subst (λ k. IsTop (list_from k first) j) current h))));
+        })
+  ]
+
+-- the old fibers of the fallback's list are those of the definition
+pub same_olds : (t u : Trees Fiber) (st : Stack) (p : ℕ) (a : Awaits) (c : Cursor) (l : IsLeftAt t st p (taken none) a c) (first o : Option ℕ) (es : List Element)
+    → list_from t.current first ≡ fallback_list (list_from t.current o) → o ≡ l.old → u.current ≡ t.current → es ≡ fallback_in l.value.element ∷ []
+    → matched (list_from u.current first) es ≡ matched (fallback_list (list_from t.current l.old)) (fallback_in l.value.element ∷ [])
+same_olds t u st p a c l first o es list same current es_are =
+    ap (λ x. matched x es) (ap (λ k. list_from k first) current ∙ (list ∙ ap (λ q. fallback_list (list_from t.current q)) same))
+    ∙ ap (λ x. matched (fallback_list (list_from t.current l.old)) x) es_are
+
+-- a list that was made for a fiber that had none
+module _ (t new : Trees Fiber) (p : ℕ) (first : Option ℕ) (es : List Element) (os : List (Option ℕ)) (beside : IsBareBeside t p first) (done : HasMadeFrom 0 t new p es os)
+    (knows : KnowsPlaces new) where
+  new_at : IsAt new beside.around p beside.value beside.old done.kids beside.rest
+  new_at = knows beside.around p beside.value beside.old done.kids beside.rest (done.stands beside.around beside.value beside.old beside.rest beside.here)
+
+  pub new_made : Makes new.draft p
+  new_made = new_at.makes
+
+  pub new_link : (link : Option ℕ) → link ≡ entry (made_kids_of new.draft p) → link ≡ entry done.kids
+  new_link link e = e ∙ ap entry (ap made_kids_in new_at.list)
+
+pub left_held : (t : Trees Fiber) (p : ℕ) (a : Awaits) (o : Option ℕ) → IsLeft t p a → KnowsPlaces t → o ≡ old_of t.draft p → IfSome o (Holds t.current)
+left_held t p a o (left {st = st} {c = c} l) knows e = subst (λ q. IfSome q (Holds t.current)) (sym (left_old t st p a c l knows o e)) (left_at t st p a c l knows).old_held
+
+-- a boundary keeps something where its old primary list has a fiber
+pub keeps_none : (t : Trees Fiber) (p : ℕ) (a : Awaits) (o link : Option ℕ) → IsLinked t.current → KnowsPlaces t → o ≡ old_of t.draft p
+    → list_from t.current link ≡ primary_list (list_from t.current o) → link ≡ None → KeepsNode t p a false
+keeps_none t p a o link linked knows e list is st c l =
+    keeps_by t st p a c l linked link (list ∙ ap (λ q. primary_list (list_from t.current q)) (left_old t st p a c l knows o e))
+    ∙ ap (λ q. is_some (first (list_from t.current q))) is
+
+pub keeps_some : (t : Trees Fiber) (p : ℕ) (a : Awaits) (o link : Option ℕ) (i : ℕ) → IsLinked t.current → KnowsPlaces t → o ≡ old_of t.draft p
+    → list_from t.current link ≡ primary_list (list_from t.current o) → link ≡ Some i → IfSome link (Holds t.current) → KeepsNode t p a true
+keeps_some t p a o link i linked knows e list is held st c l =
+    let (v, _, here) = linked.list i (subst (λ q. IfSome q (Holds t.current)) is held) in
+    keeps_by t st p a c l linked link (list ∙ ap (λ q. primary_list (list_from t.current q)) (left_old t st p a c l knows o e))
+    ∙ (ap (λ q. is_some (first (list_from t.current q))) is ∙ ap (λ s. is_some (first s)) here)

@@ -1,0 +1,56 @@
+-- A boundary opens its fallback.
+use Rattle.std.specs.Prelude.{◌≡◌, ℕ, Bool, Option, Some, None, if◌then◌else◌}
+use Rattle.rx_base.specs.Awaits.{Awaits}
+use Rattle.rx_ctx.specs.Contexts.{Stack}
+use Rattle.rx_elem.specs.Trees.{of_boundary, children_if}
+use Rattle.rx_susp.specs.declared.boundary.BoundaryState.TheVariants.{Hidden}
+use Rattle.rx_lists.specs.Shapes.{Shape, first}
+use Rattle.rx_lists.specs.Shapes as shapes
+use Rattle.rx_links.specs.Drafts.{Draft, taken, made, Trees, kids_under}
+use Rattle.rx_links.specs.Places.{Around, placed}
+use Rattle.rx_meaning.specs.Cursor.{Cursor}
+use Rattle.rx_fiber.specs.Fibers.{Fiber, begun, fallback}
+use Rattle.rx_fiber.specs.OldLists.{begins_fallback}
+use Rattle.rx_fiber.specs.Reading.{has_node}
+use Rattle.rx_fiber.specs.Standing.{StandsAt}
+use Rattle.rx_fiber.specs.Unwound.{IsLeftAt}
+use Rattle.rx_begin.specs.Beginning.{IsPlace, IsEnd}
+use Rattle.rx_begin.specs.declared.opening.Opened.{Opened}
+use Rattle.rx_begin.specs.declared.opening.Opened.TheVariants.{First, Empty}
+
+-- a wait has stopped at the boundary of this fiber, whose children it dropped
+pub data IsLeft (t : Trees Fiber) (p : ℕ) (a : Awaits) : Type 0 where
+  left : {st : Stack} {c : Cursor} → IsLeftAt t st p (taken shapes.none) a c → IsLeft t p a
+
+-- what the boundary keeps has a node, or none
+abbrev pub KeepsNode : Trees Fiber → ℕ → Awaits → Bool → Type 0
+KeepsNode t p a b = (st : Stack) (c : Cursor) → (l : IsLeftAt t st p (taken shapes.none) a c) → has_node (children_if l.node) ≡ b
+
+-- where the render comes, by the fiber whose list it is and the first of the list
+abbrev pub opened_at : (first : Option ℕ) → ℕ → Opened
+opened_at None q = Empty q
+opened_at (Some id) q = First id
+
+-- the render stands at the fallback, or where it is null at the end of its list
+abbrev pub HasOpenedAs : Trees Fiber → Stack → Cursor → Opened → Type 0
+HasOpenedAs t st c (First id) = StandsAt t st (Some id) c × IsPlace c
+HasOpenedAs t st c (Empty id) = StandsAt t st (Some id) c × IsEnd c
+
+-- the fiber of a fallback right behind the first of a list
+abbrev pub fallback_behind : Shape Fiber → Option ℕ
+fallback_behind shapes.none = None
+fallback_behind (shapes.fiber id v ks rs) = if begins_fallback rs then first rs else None
+
+-- a fiber that had no children keeps those of the one that it was made for, and hides them
+abbrev pub HasKept : (before after : Trees Fiber) → (p : ℕ) → Awaits → Type 0
+HasKept t new p a =
+    (k : Around Fiber) (v : Fiber) (o : Option ℕ) (rs : Draft Fiber) → t.draft ≡ placed k (made p v o (taken shapes.none) rs)
+    → new.draft ≡ placed k (made p (record v { stage = begun (of_boundary (Hidden a)) }) o (taken (kids_under t.current o)) rs)
+
+-- a fiber of a fallback stands right behind that of its boundary
+pub record HasFallback (before after : Trees Fiber) (p : ℕ) (old : Option ℕ) (a : Awaits) (id : ℕ) : Type 0 where
+  pub value : Fiber
+  pub stage : value.stage ≡ fallback a
+  pub stands : (k : Around Fiber) (v : Fiber) (o : Option ℕ) (ks rs : Draft Fiber) → before.draft ≡ placed k (made p v o ks rs)
+      → (value.element ≡ v.element) × (after.draft ≡ placed k (made p v o ks (made id value old (taken shapes.none) rs)))
+  pub current : after.current ≡ before.current

@@ -1,0 +1,191 @@
+// The fallback of a boundary opens.
+ghost use Rattle.std.specs.Prelude.{◌≡◌, ◌∷◌, [], true, false, IfOk, IfSome};
+ghost use Rattle.rx_ctx.specs.Contexts.{Stack};
+ghost use Rattle.rx_lists.specs.Shapes.{Holds, IsTop, none};
+ghost use Rattle.rx_links.specs.Drafts.{taken, Makes, IsUnused};
+ghost use Rattle.rx_links.specs.Readers.{list_from, old_list};
+ghost use Rattle.rx_meaning.specs.Cursor.{Cursor};
+ghost use Rattle.rx_fiber.specs.Surround.{fallback_in};
+ghost use Rattle.rx_fiber.specs.Unwound.{IsLeftAt};
+ghost use Rattle.rx_begin.specs.Nodes.{IsBareAt};
+ghost use Rattle.rx_begin.specs.Opening.{IsLeft, KeepsNode, HasOpenedAs, fallback_behind, opened_at, HasKept, HasFallback};
+
+use crate::children::make_children;
+use crate::node::open_list;
+use rx_base::Awaits;
+use rx_elem::{Element, ElementKind};
+use rx_fiber::{Fiber, Stage, StageChange, old_fallback, old_primary};
+use rx_links::{FiberId, FiberTree};
+use rx_node::Mark;
+use rx_susp::BoundaryState;
+use std::alloc::{AllocError, Global};
+
+/// Where a render comes to where a boundary opens its fallback.
+#[derive(Clone, Copy)]
+pub enum Opened {
+    /// The fallback's fiber, which begins next.
+    First(FiberId),
+    /// The fallback is `null`: the node of this fiber is completed next.
+    Empty(FiberId),
+}
+
+// The fallback of a boundary, as a list.
+fn fallback_list(alloc: Global, element: &Element) -> Result<Vec<Element>, AllocError>
+    ensures { IfOk result (λ es. es.items ≡ fallback_in element.now ∷ []) }
+{
+    let fallback = match element.kind() {
+        ElementKind::Boundary(_, fallback, _) => fallback.copy()?,
+        _ => Element::new(alloc, ElementKind::Null)?,
+    };
+    let mut list = Vec::new(alloc);
+    list.push(fallback)?;
+    Ok(list)
+}
+
+// The fiber of an old boundary's fallback that stands right behind the boundary's own.
+fn old_beside(tree: &FiberTree<Fiber>, old: Option<FiberId>) -> Option<FiberId>
+    requires { IfSome old (Holds tree.now.current) }
+    ensures held { IfSome result (Holds tree.now.current) }
+    ensures is { result ≡ fallback_behind (list_from tree.now.current old) }
+{
+    tree.facts();
+    let behind = tree.next_sibling(old?)?;
+    match tree.value(behind).stage() {
+        Stage::Fallback(_) => Some(behind),
+        _ => None,
+    }
+}
+
+// No fiber is made for it yet, as none is before its boundary opens its fallback.
+fn unused(tree: &FiberTree<Fiber>, old: Option<FiberId>) -> Result<Option<FiberId>, AllocError>
+    requires { IfSome old (Holds tree.now.current) }
+    ensures same { IfOk result (λ r. r ≡ old) }
+    ensures unused { IfOk result (λ r. IfSome r (IsUnused tree.now.draft)) }
+{
+    match old {
+        None => Ok(None),
+        Some(id) => match tree.alternate(id) {
+            None => Ok(Some(id)),
+            Some(_) => Err(AllocError),
+        },
+    }
+}
+
+// A boundary's fiber takes over what the boundary keeps, and hides it.
+fn keep_primary(tree: &mut FiberTree<Fiber>, at: FiberId, awaits: Awaits)
+    requires { IsBareAt tree.old at }
+    ensures kept { HasKept tree.old tree.new at awaits }
+    ensures current { tree.new.current ≡ tree.old.current }
+{
+    tree.place_facts();
+    tree.take_over(at);
+    tree.place_facts();
+    tree.mark_made(at, &StageChange::Hide(awaits));
+}
+
+// Puts the fiber of a fallback right behind that of its boundary.
+fn put_fallback(
+    tree: &mut FiberTree<Fiber>,
+    at: FiberId,
+    awaits: Awaits,
+    old: Option<FiberId>,
+) -> Result<FiberId, AllocError>
+    requires made { Makes tree.old.draft at }
+    requires old_sibling { IfSome old (IsTop (old_list tree.old at)) }
+    requires unused { IfSome old (IsUnused tree.old.draft) }
+    ensures put { IfOk result (λ id. HasFallback tree.old tree.new at old awaits id) }
+    ensures current { tree.new.current ≡ tree.old.current }
+{
+    tree.place_facts();
+    let fiber = tree.value(at);
+    let element = fiber.element().copy()?;
+    let place = fiber.place();
+    tree.child_behind(at, old, Fiber::new(place, element, Stage::Fallback(awaits)))
+}
+
+fn opened_at(first: Option<FiberId>, at: FiberId) -> Opened
+    ensures { result ≡ opened_at first at }
+{
+    match first {
+        Some(id) => Opened::First(id),
+        None => Opened::Empty(at),
+    }
+}
+
+// A boundary that keeps nothing opens its fallback in its own fiber.
+fn fall_alone(
+    alloc: Global,
+    tree: &mut FiberTree<Fiber>,
+    at: FiberId,
+    awaits: Awaits,
+    fallback: &[Element],
+) -> Result<Opened, AllocError>
+    requires bare { IsBareAt tree.old at }
+    requires left { IsLeft tree.old at awaits }
+    requires gone { KeepsNode tree.old at awaits false }
+    ensures opened { IfOk result (λ f. (st : Stack) (c : Cursor) → (l : IsLeftAt tree.old st at (taken none) awaits c) → fallback.now ≡ fallback_in l.value.element ∷ [] → HasOpenedAs tree.new st c f) }
+    ensures current { tree.new.current ≡ tree.old.current }
+{
+    tree.place_facts();
+    tree.facts();
+    let first_old = old_fallback(tree, tree.alternate(at));
+    let stage = Stage::Begun(Mark::Boundary(BoundaryState::Hidden(awaits)));
+    let first = open_list(alloc, tree, at, stage, fallback, first_old)?;
+    Ok(opened_at(first, at))
+}
+
+// A boundary that keeps something opens its fallback in a fiber of its own.
+fn fall_beside(
+    alloc: Global,
+    tree: &mut FiberTree<Fiber>,
+    at: FiberId,
+    awaits: Awaits,
+    fallback: &[Element],
+) -> Result<Opened, AllocError>
+    requires bare { IsBareAt tree.old at }
+    requires left { IsLeft tree.old at awaits }
+    requires keeps { KeepsNode tree.old at awaits true }
+    ensures opened { IfOk result (λ f. (st : Stack) (c : Cursor) → (l : IsLeftAt tree.old st at (taken none) awaits c) → fallback.now ≡ fallback_in l.value.element ∷ [] → HasOpenedAs tree.new st c f) }
+    ensures current { tree.new.current ≡ tree.old.current }
+{
+    tree.place_facts();
+    tree.facts();
+    let first_old = old_fallback(tree, tree.alternate(at));
+    let behind = old_beside(tree, tree.alternate(at));
+    keep_primary(tree, at, awaits);
+    tree.place_facts();
+    tree.facts();
+    let beside = unused(tree, behind)?;
+    let id = put_fallback(tree, at, awaits, beside)?;
+    tree.place_facts();
+    make_children(alloc, tree, id, fallback, first_old)?;
+    tree.place_facts();
+    Ok(opened_at(tree.first_child(id), id))
+}
+
+/// Opens the fallback of a boundary whose children wait for these resources, where a wait has stopped at it (react.dev,
+/// Suspense). What the boundary showed before is kept: its fiber takes that over as it stands, and the fallback gets a fiber
+/// right behind it. Where there is nothing to keep, the fallback stands below the boundary's own fiber. The current tree stays
+/// as it is.
+///
+/// # Errors
+///
+/// Want of memory alone. Then the render is to be given up.
+pub fn open_fallback(
+    alloc: Global,
+    tree: &mut FiberTree<Fiber>,
+    at: FiberId,
+    awaits: Awaits,
+) -> Result<Opened, AllocError>
+    requires { IsLeft tree.old at awaits }
+    ensures opened { IfOk result (λ f. (st : Stack) (c : Cursor) → IsLeftAt tree.old st at (taken none) awaits c → HasOpenedAs tree.new st c f) }
+    ensures current { tree.new.current ≡ tree.old.current }
+{
+    tree.place_facts();
+    tree.facts();
+    let fallback = fallback_list(alloc, tree.value(at).element())?;
+    match old_primary(tree, tree.alternate(at)) {
+        None => fall_alone(alloc, tree, at, awaits, &fallback),
+        Some(_) => fall_beside(alloc, tree, at, awaits, &fallback),
+    }
+}

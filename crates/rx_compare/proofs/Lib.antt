@@ -1,0 +1,4 @@
+pub mod Places
+pub mod Onto
+pub mod Comparing
+pub mod Hiding

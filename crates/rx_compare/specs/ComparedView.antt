@@ -1,0 +1,18 @@
+-- Changes of the code as plain data.
+use Rattle.rx_elem.specs.Spots as spots
+use Rattle.rx_elem.specs.Compare as trees
+use Rattle.rx_compare.specs.declared.around.Around.{Around}
+use Rattle.rx_compare.specs.declared.compared.Change.{Change}
+use Rattle.rx_compare.specs.declared.compared.Gone.{Gone}
+
+-- what surrounds a place
+abbrev pub around_seen : Around → spots.Around
+around_seen a = record { visible = a.visible; owner = a.owner; host = a.host; concealed = a.concealed }
+
+-- a node beside its past
+abbrev pub change_seen : Change → trees.Change
+change_seen c = record { old = c.old; new = c.new; was_visible = c.was_visible; around = around_seen c.around; displaced = c.displaced }
+
+-- an old child that is gone
+abbrev pub gone_seen : Gone → trees.Gone
+gone_seen g = record { node = g.node; was_visible = g.was_visible }

@@ -1,0 +1,15 @@
+//! A new tree beside the old one: what each node was before, which nodes moved, and which are gone.
+#![tactic(auto)]
+
+mod around;
+mod compare;
+mod compared;
+mod lists;
+mod outcome;
+#[cfg(test)]
+mod tests;
+
+pub use around::Around;
+pub use compare::compare_trees;
+pub use compared::{Change, Compared, Gone};
+pub use outcome::{Outcome, outcome_of};
