@@ -35,9 +35,9 @@ pub returns-in-Suspended-clause-comes : goal.returns-in-Suspended-clause-comes
 returns-in-Suspended-clause-comes g c =
     if_ok c.suspend.result
     (λ a comes s sees.
-        waits_advances s (kept_hooks c.args.hooks.now) c.args.tree.now c.args.contexts.now c.begin.new.tree c.begin.new.contexts c.args.id c.in-Suspended.resource c.suspend.new.tree c.suspend.new.contexts a
-        (subst (BeginsPlace s (kept_hooks c.args.hooks.now) c.args.tree.now c.args.contexts.now c.begin.new.tree c.begin.new.contexts c.args.id) c.in-Suspended.is (c.in_ok-child.ensures.begun s sees))
-        comes)
+    waits_advances s (kept_hooks c.args.hooks.now) c.args.tree.now c.args.contexts.now c.begin.new.tree c.begin.new.contexts c.args.id c.in-Suspended.resource c.suspend.new.tree c.suspend.new.contexts a
+    (subst (BeginsPlace s (kept_hooks c.args.hooks.now) c.args.tree.now c.args.contexts.now c.begin.new.tree c.begin.new.contexts c.args.id) c.in-Suspended.is (c.in_ok-child.ensures.begun s sees))
+    comes)
     c.suspend.ensures.comes
 
 pub returns-in-Suspended-clause-ticks : goal.returns-in-Suspended-clause-ticks
