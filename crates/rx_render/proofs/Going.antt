@@ -304,6 +304,10 @@ stepped inside t hooks st next evaluated current counted knows keeps advances =
       advances = advances;
     }
 
+-- few units are left of a rendering
+pub few_left : (v : Rendering) → IsRendering v → left_of v < 2 ^ 64
+few_left v is = let a = is.bounded.small in let b = units_most v.at (unit_bound v.program) v.units in omega (arith, a, b)
+
 -- a rendering that is over is one
 pub over_rendering : (old new : Rendering) → IsRendering old → new.program ≡ old.program → new.at ≡ Over → IsRendering new
 over_rendering old new is same over =

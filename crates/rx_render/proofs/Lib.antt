@@ -6,3 +6,4 @@ pub mod Starting
 pub mod Ending
 pub mod Advancing
 pub mod Going
+pub mod First

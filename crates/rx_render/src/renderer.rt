@@ -1,10 +1,12 @@
 // A render in progress.
-ghost use Rattle.std.specs.Prelude.{◌≡◌, ◌+◌, ◌<◌, ◌≤◌, IfOk, OnOk, OnErr};
+ghost use Rattle.std.specs.Prelude.{◌≡◌, ◌+◌, ◌<◌, ◌≤◌, ◌^◌, [], IfOk, OnOk, OnErr};
 ghost use Rattle.rx_loop.specs.Ends.{MatchUnit};
 ghost use Rattle.rx_lists.specs.Shapes.{none};
 ghost use Rattle.rx_links.specs.Drafts.{taken};
 ghost use Rattle.rx_model.specs.State.{State, opening};
 ghost use Rattle.rx_model.specs.Committing.{starting};
+ghost use Rattle.rx_check.specs.Checks.{unknowns};
+ghost use Rattle.rx_model.specs.Laws.{IsBounded};
 ghost use Rattle.rx_model.specs.HooksOf.{KeepsAllHooks};
 ghost use Rattle.rx_hook_store.specs.Store.{kept_hooks};
 ghost use Rattle.rx_render.specs.declared.at.At.TheVariants.{Over};
@@ -93,6 +95,15 @@ impl Renderer {
             units: 0,
             bodies: 0,
         })
+    }
+
+    /// What always holds: the program is accepted, and few units are left.
+    pub fn facts(&self)
+        ensures known { unknowns self.now.program ≡ [] }
+        ensures bounded { IsBounded self.now.program }
+        ensures few { left_of self.now < 2 ^ 64 }
+    {
+        let _ = &self.units;
     }
 
     /// Discards what is in progress. The current tree and the hooks stay.
