@@ -1,0 +1,67 @@
+use Rattle.std.proofs.Common.{◌+◌, refl, ◌∙◌}
+use Rattle.rx_render.specs.declared.at.At.TheVariants.{Over}
+use Rattle.rx_render.specs.contracts.renderer.Renderer.{the_view}
+use Rattle.rx_render.proofs.Advancing.{on_err}
+use Rattle.rx_render.proofs.Going.{stepped, over_rendering, inside_made, inside_ready, units_fit, bodies_fit, breaks, steps_on, steps_to, falls, last, ticks}
+use Rattle.rx_render.proofs.renderer.Renderer.try_unit.Goals as goal
+
+pub bodies_next-evaluated-requires : goal.bodies_next-evaluated-requires
+bodies_next-evaluated-requires g c = inside_made c.args.self.now (the_view c.self.inside) c.self.view_is c.self.invariant c.requires c.place_facts.ensures
+
+pub advance-requires : goal.advance-requires
+advance-requires g c =
+    inside_ready c.args.self.now (the_view c.self.inside) c.self.view_is c.self.invariant c.requires c.cursors_are_drawn.ensures.place _
+    (λ s sees. record { program = sees.program; resources = c.deref.ensures.value ∙ sees.resources; lanes = sees.lanes; cut = sees.cut }) refl
+
+pub invariant_of-self : goal.invariant_of-self
+invariant_of-self g c = over_rendering (the_view c.self.inside) _ c.self.invariant refl refl
+
+pub invariant_of-self-2 : goal.invariant_of-self-2
+invariant_of-self-2 g c =
+    steps_to c.args.self.now (the_view c.self.inside) c.self.view_is c.self.invariant c.requires
+    (record (the_view c.self.inside) { trees = c.advance.new.tree; hooks = c.advance.new.hooks; contexts = c.advance.new.contexts; at = c.in_ok-next.next; units = c.self.inside.units + 1; bodies = c.self.inside.bodies + c.bodies_next-evaluated.result })
+    c.bodies_next-evaluated.result (stepped (the_view c.self.inside) c.advance.new.tree c.advance.new.hooks c.advance.new.contexts c.in_ok-next.next c.bodies_next-evaluated.result c.in_ok-next.ensures.current
+    c.bodies_next-evaluated.ensures c.place_facts.ensures c.in_ok-next.ensures.states
+    (λ s sees. c.in_ok-next.ensures.comes s (record { program = sees.program; resources = c.deref.ensures.value ∙ sees.resources; lanes = sees.lanes; cut = sees.cut }))) c.cursors_are_drawn.ensures.unit c.cursors_are_drawn.ensures.place
+
+pub returns-clause-falls : goal.returns-clause-falls
+returns-clause-falls g c =
+    falls c.args.self.now (the_view c.self.inside) c.self.view_is c.self.invariant c.requires
+    (record (the_view c.self.inside) { trees = c.advance.new.tree; hooks = c.advance.new.hooks; contexts = c.advance.new.contexts; at = c.in_ok-next.next; units = c.self.inside.units + 1; bodies = c.self.inside.bodies + c.bodies_next-evaluated.result })
+    c.bodies_next-evaluated.result (stepped (the_view c.self.inside) c.advance.new.tree c.advance.new.hooks c.advance.new.contexts c.in_ok-next.next c.bodies_next-evaluated.result c.in_ok-next.ensures.current
+    c.bodies_next-evaluated.ensures c.place_facts.ensures c.in_ok-next.ensures.states
+    (λ s sees. c.in_ok-next.ensures.comes s (record { program = sees.program; resources = c.deref.ensures.value ∙ sees.resources; lanes = sees.lanes; cut = sees.cut }))) c.cursors_are_drawn.ensures.unit c.cursors_are_drawn.ensures.place
+
+pub returns-clause-last : goal.returns-clause-last
+returns-clause-last g c =
+    last c.args.self.now (the_view c.self.inside) c.self.view_is c.self.invariant c.requires
+    (record (the_view c.self.inside) { trees = c.advance.new.tree; hooks = c.advance.new.hooks; contexts = c.advance.new.contexts; at = c.in_ok-next.next; units = c.self.inside.units + 1; bodies = c.self.inside.bodies + c.bodies_next-evaluated.result })
+    c.bodies_next-evaluated.result (stepped (the_view c.self.inside) c.advance.new.tree c.advance.new.hooks c.advance.new.contexts c.in_ok-next.next c.bodies_next-evaluated.result c.in_ok-next.ensures.current
+    c.bodies_next-evaluated.ensures c.place_facts.ensures c.in_ok-next.ensures.states
+    (λ s sees. c.in_ok-next.ensures.comes s (record { program = sees.program; resources = c.deref.ensures.value ∙ sees.resources; lanes = sees.lanes; cut = sees.cut }))) c.cursors_are_drawn.ensures.unit c.cursors_are_drawn.ensures.place
+    c.unit_before.result c.unit_before.ensures
+
+pub returns-clause-ticks : goal.returns-clause-ticks
+returns-clause-ticks g c =
+    ticks c.args.self.now (the_view c.self.inside) c.self.view_is c.self.invariant c.requires
+    (record (the_view c.self.inside) { trees = c.advance.new.tree; hooks = c.advance.new.hooks; contexts = c.advance.new.contexts; at = c.in_ok-next.next; units = c.self.inside.units + 1; bodies = c.self.inside.bodies + c.bodies_next-evaluated.result })
+    c.bodies_next-evaluated.result (stepped (the_view c.self.inside) c.advance.new.tree c.advance.new.hooks c.advance.new.contexts c.in_ok-next.next c.bodies_next-evaluated.result c.in_ok-next.ensures.current
+    c.bodies_next-evaluated.ensures c.place_facts.ensures c.in_ok-next.ensures.states
+    (λ s sees. c.in_ok-next.ensures.comes s (record { program = sees.program; resources = c.deref.ensures.value ∙ sees.resources; lanes = sees.lanes; cut = sees.cut }))) c.cursors_are_drawn.ensures.unit c.cursors_are_drawn.ensures.place
+    c.args.steps.now c.advance.new.steps
+    (λ s d sees. c.in_ok-next.ensures.ticks s d (record { program = sees.program; resources = c.deref.ensures.value ∙ sees.resources; lanes = sees.lanes; cut = sees.cut }))
+
+pub returns-clause-onward : goal.returns-clause-onward
+returns-clause-onward g c =
+    steps_on c.args.self.now (the_view c.self.inside) c.self.view_is c.self.invariant c.requires
+    (record (the_view c.self.inside) { trees = c.advance.new.tree; hooks = c.advance.new.hooks; contexts = c.advance.new.contexts; at = c.in_ok-next.next; units = c.self.inside.units + 1; bodies = c.self.inside.bodies + c.bodies_next-evaluated.result })
+    c.bodies_next-evaluated.result (stepped (the_view c.self.inside) c.advance.new.tree c.advance.new.hooks c.advance.new.contexts c.in_ok-next.next c.bodies_next-evaluated.result c.in_ok-next.ensures.current
+    c.bodies_next-evaluated.ensures c.place_facts.ensures c.in_ok-next.ensures.states
+    (λ s sees. c.in_ok-next.ensures.comes s (record { program = sees.program; resources = c.deref.ensures.value ∙ sees.resources; lanes = sees.lanes; cut = sees.cut }))) c.cursors_are_drawn.ensures.unit c.cursors_are_drawn.ensures.place
+
+pub returns-in_err-next-clause-stopped : goal.returns-in_err-next-clause-stopped
+returns-in_err-next-clause-stopped g c =
+    on_err c.from_residual.result
+    (breaks c.args.self.now (the_view c.self.inside) c.self.view_is c.self.invariant c.requires
+    (record (the_view c.self.inside) { trees = c.advance.new.tree; hooks = c.advance.new.hooks; contexts = c.advance.new.contexts; at = Over }) refl c.in_err-next.ensures.current refl
+    c.in_err-next.ensures.states)

@@ -1,0 +1,71 @@
+// A first render, by example.
+ghost use Rattle.std.specs.Prelude.{◌≡◌};
+
+use super::Renderer;
+use rx_ast::{Body, Component, Declaration, Element, Program, Slot, Tag};
+use rx_base::{Cut, Name, Steps};
+use rx_check::{Checked, check};
+use rx_lane::{Lane, Lanes};
+use rx_loop::{Driven, drive};
+use std::alloc::{AllocError, Global};
+use std::marker::Brand;
+use std::sync::ledger::{Blank, Ledger};
+use std::test::Fail;
+
+// `function App() { return <p/>; }`
+fn paragraph(alloc: Global) -> Result<Program, AllocError> {
+    let element = Element::ended(Tag::Host {
+        name: Name::new(alloc, "p")?,
+        attributes: Vec::new(alloc),
+    });
+    let app = Component::new(
+        Name::new(alloc, "App")?,
+        false,
+        Vec::new(alloc),
+        Vec::new(alloc),
+        Body::slot(Slot::element(element)),
+    );
+    let mut declarations = Vec::new(alloc);
+    declarations.push(Declaration::component(app))?;
+    Ok(Program::new(declarations))
+}
+
+// A first render in slices of three units: what the first slice came to, and the second if there was one.
+fn render_in_slices<L: Ledger>(
+    alloc: Global,
+    checked: Checked,
+    blank: Blank,
+) -> Result<Option<[Driven; 2]>, AllocError>
+    requires name { blank.name ≡ L.name }
+    requires parts { blank.parts ≡ L.parts }
+    requires one { blank.parts ≡ 1 }
+{
+    let mut steps: Steps<L> = Steps::new(blank);
+    if !checked.resources().is_empty() {
+        return Ok(None);
+    }
+    let mut renderer = Renderer::new(alloc, checked)?;
+    let cut = Cut {
+        updates: 0,
+        resolutions: 0,
+    };
+    renderer.start(Lanes::one(Lane::Default), cut, Vec::new(alloc))?;
+    renderer.facts();
+    let first = drive(&mut renderer, 3, true, &mut steps)?;
+    let Driven::Yielded { .. } = first else {
+        return Ok(None);
+    };
+    let second = drive(&mut renderer, 3, true, &mut steps)?;
+    Ok(Some([first, second]))
+}
+
+#[test]
+fn a_render_goes_on_where_it_yielded(rt: HostRuntime) -> Result<(), Fail> {
+    let program = paragraph(rt.alloc())?;
+    let checked = check(rt.alloc(), program)?;
+    let slices = render_in_slices::<Brand>(rt.alloc(), checked, Blank::new(1))?;
+    let first = Driven::Yielded { used: 3 };
+    let second = Driven::Finished { used: 1 };
+    assert_eq!(rt; slices, Some([first, second]));
+    Ok(())
+}
