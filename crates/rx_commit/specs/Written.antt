@@ -23,14 +23,13 @@ pub record GoesOn (old new : Written) : Type 0 where
 abbrev pub passive_lines : Passive → List Line
 passive_lines passive = map logged (passive_log passive)
 
--- the lines of a commit of a tree after another one: its own, the operations on the tree of hosts, and the layout effects
-abbrev pub own_lines : (number : ℕ) → Lanes → Counts → (old : Option Node) → (new : Node) → List Line
-own_lines number lanes counts old new =
-    committed number lanes counts new
-    ∷ (map operated (host_ops old new) ++ map logged (layout_log (compare_trees old new)))
+-- the lines of the passive effects that a commit runs itself: all of them, where it has the lane Sync
+abbrev pub sync_lines : Lanes → Passive → List Line
+sync_lines lanes passive = if has lanes lane.Sync then passive_lines passive else []
 
--- the same, and the passive effects of a commit with the lane Sync, which runs them itself
+-- the lines of a commit of a tree after another one: its own, the operations on the tree of hosts, the layout effects, and the passive effects that it runs itself
 abbrev pub lines_of : (number : ℕ) → Lanes → Counts → (old : Option Node) → (new : Node) → List Line
 lines_of number lanes counts old new =
-    own_lines number lanes counts old new
-    ++ (if has lanes lane.Sync then passive_lines (passive_of (compare_trees old new)) else [])
+    (committed number lanes counts new
+    ∷ (map operated (host_ops old new) ++ map logged (layout_log (compare_trees old new))))
+    ++ sync_lines lanes (passive_of (compare_trees old new))

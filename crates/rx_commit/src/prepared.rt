@@ -1,11 +1,12 @@
 // A commit that is prepared.
-ghost use Rattle.std.specs.Prelude.{◌≡◌, Option, IfOk, OnErr, OnOk};
+ghost use Rattle.std.specs.Prelude.{◌≡◌, ◌∷◌, ◌++◌, Option, IfOk, OnErr, OnOk, map};
 ghost use Rattle.std.specs.Option.{option_copied};
 ghost use Rattle.rx_elem.specs.Trees.{Node};
 ghost use Rattle.rx_lane.specs.Lanes.{has, lanes_where};
+ghost use Rattle.rx_lines.specs.Lines.{committed, logged, operated};
 ghost use Rattle.end_laws.specs.Trimmed.{trimmed, trimmed_if};
 ghost use Rattle.rx_commit.specs.Shown.{Prepares};
-ghost use Rattle.rx_commit.specs.Written.{GoesOn, lines_of, with_lines};
+ghost use Rattle.rx_commit.specs.Written.{GoesOn, lines_of, sync_lines, with_lines};
 
 use crate::writing::{add_effects, add_ops, add_passive, cut_back};
 use rx_compare::compare_trees;
@@ -34,6 +35,11 @@ impl Model for Prepared {
     ghost use Rattle.rx_log.specs.PassiveView.{passive_seen};
 
     ghost Value = { shown.Prepared };
+
+    ghost use Rattle.std.specs.Coded.{codes};
+    ghost use Rattle.rx_node.specs.NodeCode.{node_code};
+
+    ghost coded = { Prim.hlevel (codes, node_code) };
 
     ghost view = { λ p. record { tree = p.tree; ops = p.ops.items; layout = p.layout.items; passive = passive_seen p.passive } };
 }
@@ -92,9 +98,32 @@ impl Prepared {
         ensures written { (old : Option Node) (new : Node) → Prepares old new self.now → OnOk result (log.new ≡ with_lines log.old (lines_of number (lanes_where (has lanes)) (record { units = units; bodies = bodies }) old new)) }
         ensures goes_on { GoesOn log.old log.new }
     {
+        self.write_own(log, number, lanes, units, bodies)?;
+        self.write_sync(log, lanes)
+    }
+
+    // Its line, the operations, and the layout effects.
+    fn write_own(
+        &self,
+        log: &mut Report,
+        number: u64,
+        lanes: Lanes,
+        units: u64,
+        bodies: u64,
+    ) -> Result<(), AllocError>
+        ensures written { (new : Node) → OnOk result (log.new ≡ with_lines log.old (committed number (lanes_where (has lanes)) (record { units = units; bodies = bodies }) new ∷ (map operated self.now.ops ++ map logged self.now.layout))) }
+        ensures goes_on { GoesOn log.old log.new }
+    {
         log.commit_line(number, lanes, units, bodies)?;
         add_ops(log, &self.ops)?;
-        add_effects(log, &self.layout)?;
+        add_effects(log, &self.layout)
+    }
+
+    // The passive effects, where the commit runs them itself.
+    fn write_sync(&self, log: &mut Report, lanes: Lanes) -> Result<(), AllocError>
+        ensures written { OnOk result (log.new ≡ with_lines log.old (sync_lines lanes self.now.passive)) }
+        ensures goes_on { GoesOn log.old log.new }
+    {
         if lanes.has(Lane::Sync) {
             return add_passive(log, &self.passive);
         }

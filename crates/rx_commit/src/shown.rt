@@ -44,6 +44,11 @@ impl Model for Shown {
 
     ghost Value = { shown.Shown };
 
+    ghost use Rattle.std.specs.Coded.{codes};
+    ghost use Rattle.rx_node.specs.NodeCode.{node_code};
+
+    ghost coded = { Prim.hlevel (codes, node_code) };
+
     ghost view = { λ s. record { tree = s.tree; hosts = s.hosts; passive = passive_seen s.passive } };
 }
 
@@ -75,7 +80,7 @@ impl Shown {
 
     /// The committed tree, without the vacant places at the ends of its lists.
     pub fn tree(&self) -> Option<&node::Node>
-        ensures { option_copied result.entry ≡ self.now.tree }
+        ensures { option_copied result ≡ self.now.tree }
     {
         self.tree.as_ref()
     }
