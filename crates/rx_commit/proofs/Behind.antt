@@ -37,6 +37,10 @@ with_lines-cons r l ls = with_lines-append r (l ∷ []) ls ∙ ap (λ (w : Writt
 pub goes_on-same : (old new : Written) → new ≡ old → GoesOn old new
 goes_on-same old new e = record { options = ap (λ w. w.options) e; more = []; bytes = ap (λ w. w.bytes) e ∙ sym (append-nil old.bytes) }
 
+-- a report with a line behind its own went on
+pub goes_on-line : (old new : Written) (l : Line) → new ≡ with_line old l → GoesOn old new
+goes_on-line old new l e = record { options = ap (λ w. w.options) e; more = line_bytes old.options l; bytes = ap (λ w. w.bytes) e }
+
 -- a report with lines behind its own went on
 pub goes_on-lines : (old new : Written) (ls : List Line) → new ≡ with_lines old ls → GoesOn old new
 goes_on-lines old new ls e = record { options = ap (λ w. w.options) e; more = report_bytes old.options ls; bytes = ap (λ w. w.bytes) e }

@@ -47,17 +47,17 @@ passive-trimmed old new o n e f =
 -- the operations of a commit can be made in the forest of the old tree
 pub made-here : (old : Option Node) (new : Node) (f : HostForest) (ops : List HostOp) → f ≡ forest_of (hosts old) → ops ≡ host_ops old new
     → IsCommit old new → TextsAreLeaves new → CanBeReplayed f ops
-made-here old new f ops e g commit leaves =
+made-here old new f ops e g is_commit leaves =
     subst (λ (h : HostForest). CanBeReplayed h ops) (sym e)
-    (subst (CanBeReplayed (forest_of (hosts old))) (sym g) (commit_made old new commit leaves))
+    (subst (CanBeReplayed (forest_of (hosts old))) (sym g) (commit_made old new is_commit leaves))
 
 -- and what they make of it is the forest of the new tree
 pub committed-here : (old : Option Node) (new : Node) (f g : HostForest) (ops : List HostOp) → f ≡ forest_of (hosts old) → ops ≡ host_ops old new
     → IsCommit old new → Replays f ops g → g ≡ forest_of (hosts (Some new))
-committed-here old new f g ops e is commit made =
+committed-here old new f g ops e is is_commit made =
     replays_once (forest_of (hosts old)) (host_ops old new) g (forest_of (hosts (Some new)))
     (subst (λ (xs : List HostOp). Replays (forest_of (hosts old)) xs g) is (subst (λ (h : HostForest). Replays h ops g) e made))
-    (commit_replays old new commit)
+    (commit_replays old new is_commit)
 
 -- a render of a tree is committed or deferred as that of the trimmed tree
 outcome-if : (new : Node) (x : Option Awaits) (b : Bool) (waits : Awaits) → outcome_as (trimmed new) x ≡ trimmed_outcome (if b then defer waits else commit new)

@@ -1,6 +1,7 @@
 -- The lines of a prepared commit.
-use Rattle.std.proofs.Common.{◌≡◌, ℕ, List, [], ◌∷◌, ◌++◌, Option, sym, ap, ◌∙◌}
+use Rattle.std.proofs.Common.{◌≡◌, ℕ, Bool, false, List, [], ◌∷◌, ◌++◌, Option, sym, ap, ◌∙◌}
 use Rattle.std.specs.Prelude.{map, if◌then◌else◌}
+use Rattle.std.proofs.lemmas.List.{map-append}
 use Rattle.rx_lane.specs.declared.lane.Lane.TheVariants as lane
 use Rattle.rx_lane.specs.Lanes.{Lanes, has, lanes_where}
 use Rattle.rx_lane.specs.SetLaws.{has-lanes_where}
@@ -13,20 +14,35 @@ use Rattle.rx_forest.specs.HostOps.{host_ops}
 use Rattle.rx_lines.specs.Lines.{Counts, Line, Written, committed, operated, logged, with_line}
 use Rattle.rx_commit.specs.Shown.{Prepared, Prepares}
 use Rattle.rx_commit.specs.Written.{GoesOn, passive_lines, sync_lines, lines_of, with_lines}
-use Rattle.rx_commit.proofs.Behind.{with_lines-append, with_lines-cons}
+use Rattle.rx_commit.proofs.Behind.{with_lines-nil, with_lines-append, with_lines-cons}
 
 -- a set of lanes made anew has the lane Sync where the set has it
 pub sync-anew : (lanes : Lanes) (passive : Passive) → sync_lines lanes passive ≡ sync_lines (lanes_where (has lanes)) passive
 sync-anew lanes passive = ap (λ b. if b then passive_lines passive else []) (sym (has-lanes_where (has lanes) lane.Sync))
 
--- a line, and then two lists of lines
-pub three-parts : (r a b c : Written) (l : Line) (xs ys : List Line) → a ≡ with_line r l → b ≡ with_lines a xs → c ≡ with_lines b ys
-    → c ≡ with_lines r (l ∷ (xs ++ ys))
-three-parts r a b c l xs ys e f g =
+-- a commit without the lane Sync runs no passive effect itself
+pub sync-none : (lanes : Lanes) (passive : Passive) (r : Written) → has lanes lane.Sync ≡ false → r ≡ with_lines r (sync_lines lanes passive)
+sync-none lanes passive r e = sym (with_lines-nil r) ∙ ap (λ b. with_lines r (if b then passive_lines passive else [])) (sym e)
+
+-- effects that are destroyed, and then effects that are created
+pub passive-parts : (r a b : Written) (ds es xs ys : List LogLine) → xs ≡ ds → ys ≡ es → a ≡ with_lines r (map logged xs) → b ≡ with_lines a (map logged ys)
+    → b ≡ with_lines r (map logged (ds ++ es))
+passive-parts r a b ds es xs ys d e f g =
     g
-    ∙ ap (λ (w : Written). with_lines w ys) (f ∙ ap (λ (w : Written). with_lines w xs) e)
-    ∙ sym (with_lines-append (with_line r l) xs ys)
-    ∙ sym (with_lines-cons r l (xs ++ ys))
+    ∙ ap (λ (ls : List LogLine). with_lines a (map logged ls)) e
+    ∙ ap (λ (w : Written). with_lines w (map logged es)) (f ∙ ap (λ (ls : List LogLine). with_lines r (map logged ls)) d)
+    ∙ sym (with_lines-append r (map logged ds) (map logged es))
+    ∙ ap (with_lines r) (sym (map-append logged ds es))
+
+-- a line, then operations, and then effects
+pub own-parts : (r a b c : Written) (l : Line) (ops xs : List HostOp) (log ys : List LogLine) → xs ≡ ops → ys ≡ log → a ≡ with_line r l
+    → b ≡ with_lines a (map operated xs) → c ≡ with_lines b (map logged ys) → c ≡ with_lines r (l ∷ (map operated ops ++ map logged log))
+own-parts r a b c l ops xs log ys d e f g h =
+    h
+    ∙ ap (λ (ls : List LogLine). with_lines b (map logged ls)) e
+    ∙ ap (λ (w : Written). with_lines w (map logged log)) (g ∙ ap (λ (os : List HostOp). with_lines a (map operated os)) d ∙ ap (λ (w : Written). with_lines w (map operated ops)) f)
+    ∙ sym (with_lines-append (with_line r l) (map operated ops) (map logged log))
+    ∙ sym (with_lines-cons r l (map operated ops ++ map logged log))
 
 -- the lines of a prepared commit are those of the commit that it prepares
 pub prepared-lines : (number : ℕ) (lanes : Lanes) (counts : Counts) (old : Option Node) (new : Node) (x : Prepared) → Prepares old new x

@@ -102,7 +102,7 @@ impl Shown {
         if !lanes.only_transitions() {
             return Ok(None);
         }
-        let compared = compare_trees(alloc, self.tree.as_ref(), new)?;
+        let compared = compare_trees(alloc, self.tree(), new)?;
         match outcome_of(lanes, &compared) {
             Outcome::Commit => Ok(None),
             Outcome::Defer(awaits) => Ok(Some(awaits)),
@@ -122,7 +122,7 @@ impl Shown {
         ensures passive { self.new.passive ≡ self.old.passive }
         ensures same { (tree : Option Node) (passive : effects.Passive) → Shows tree passive self.old → Shows tree passive self.new }
     {
-        let prepared = Prepared::new(alloc, self.tree.as_ref(), new)?;
+        let prepared = Prepared::new(alloc, self.tree(), new)?;
         self.hosts.reserve(prepared.ops.len() as u64)?;
         Ok(prepared)
     }
