@@ -8,7 +8,9 @@ use Rattle.rx_commit.proofs.prepared.Prepared.write_own.Goals as goal
 
 pub returns-in_err-add_ops-clause-goes_on : goal.returns-in_err-add_ops-clause-goes_on
 returns-in_err-add_ops-clause-goes_on c =
-    goes_on-again _ _ _ (goes_on-line c.args.log.now c.commit_line.new.self _ (c.in_ok-commit_line.ensures.written c.self.inside.tree)) c.in_err-add_ops.ensures.goes_on
+    goes_on-again _ _ _ (goes_on-line c.args.log.now c.commit_line.new.self
+    (committed c.args.number (lanes_where (has c.args.lanes)) (record { units = c.args.units; bodies = c.args.bodies }) c.self.inside.tree)
+    (c.in_ok-commit_line.ensures.written c.self.inside.tree)) c.in_err-add_ops.ensures.goes_on
 
 pub returns-clause-written : goal.returns-clause-written
 returns-clause-written c = λ new.
@@ -22,5 +24,7 @@ returns-clause-written c = λ new.
 
 pub returns-clause-goes_on : goal.returns-clause-goes_on
 returns-clause-goes_on c =
-    goes_on-again _ _ _ (goes_on-line c.args.log.now c.commit_line.new.self _ (c.in_ok-commit_line.ensures.written c.self.inside.tree))
+    goes_on-again _ _ _ (goes_on-line c.args.log.now c.commit_line.new.self
+    (committed c.args.number (lanes_where (has c.args.lanes)) (record { units = c.args.units; bodies = c.args.bodies }) c.self.inside.tree)
+    (c.in_ok-commit_line.ensures.written c.self.inside.tree))
     (goes_on-again _ _ _ c.in_ok-add_ops.ensures.goes_on c.add_effects.ensures.goes_on)
