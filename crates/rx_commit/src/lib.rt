@@ -3,6 +3,8 @@
 
 mod prepared;
 mod shown;
+#[cfg(test)]
+mod tests;
 mod writing;
 
 pub use prepared::Prepared;
