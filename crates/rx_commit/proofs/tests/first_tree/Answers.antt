@@ -3,7 +3,7 @@ use Rattle.std.specs.Prelude.{codes}
 use Rattle.std.proofs.lemmas.Result.{IfOk-weaker}
 use Rattle.rx_elem.specs.Elements.{Element}
 use Rattle.rx_elem.specs.Elements as elements
-use Rattle.rx_elem.specs.Trees.{Instance, Mark, Node, Forest, node, none, child, forest, of_host, of_instance}
+use Rattle.rx_elem.specs.Trees.{Instance, Node, node, none, child, forest, of_host, of_instance}
 use Rattle.rx_node.specs.MarkView.{instance_seen}
 use Rattle.host_laws.specs.Commits.{IsCommit}
 use Rattle.rx_commit.proofs.tests.first_tree.Goals as goal
@@ -43,8 +43,8 @@ returns-clause-commit c =
     let zs : List (Option Node) = c.new-5.result.items in
     IfOk-weaker c.new-6.result (λ (n : Node). n ≡ node e (of_instance i) (forest ys) (forest zs)) (IsCommit None)
     (λ n is.
-      subst (IsCommit None)
-      (sym (is_first e i n c.in_ok-paragraph.field-0 c.new-children.result.items ys zs is
-        c.in_ok-paragraph.ensures c.new-children.ensures.items c.in_ok-push.ensures.items c.new-5.ensures.items))
-      (is_commit e i))
+    subst (IsCommit None)
+    (sym (is_first e i n c.in_ok-paragraph.field-0 c.new-children.result.items ys zs is
+    c.in_ok-paragraph.ensures c.new-children.ensures.items c.in_ok-push.ensures.items c.new-5.ensures.items))
+    (is_commit e i))
     c.new-6.ensures
