@@ -1,0 +1,2 @@
+//! What a commit does with the hooks of the instances.
+#![tactic(auto)]
