@@ -1,5 +1,5 @@
 -- A render that is repeated leaves what is kept as it was.
-use Rattle.std.proofs.Common.{◌≡◌, ℕ, ℤ, ◌+◌, ◌<◌, nat_eq, false, Option, Some, IsSome, List, map, slice_get, refl, sym, ap, ◌∙◌, subst, below_more}
+use Rattle.std.proofs.Common.{◌≡◌, ℕ, ℤ, ◌+◌, ◌<◌, Some, IsSome, List, map, slice_get, refl, sym, ap, ◌∙◌, subst, below_more}
 use Rattle.rx_base.specs.declared.cut.Cut.{Cut}
 use Rattle.rx_lane.specs.Lanes.{Lanes}
 use Rattle.rx_ast.specs.Syntax.{Program}
@@ -11,7 +11,7 @@ use Rattle.rx_meaning.specs.Settled.{DoneBefore}
 use Rattle.rx_model.specs.State.{State}
 use Rattle.rx_hook_store.specs.Rendered.{IsRendered, KeepsInstance, RendersHooks}
 use Rattle.rx_hook_store.proofs.Rendering.{above-journal, hooks-rendered}
-use Rattle.rx_hook_store.proofs.Stores.{KeptBy, by_number, keeps-same}
+use Rattle.rx_hook_store.proofs.Stores.{KeptBy, by_number, keeps-same, rendered-same}
 use Rattle.rx_settle.specs.Passes.{KeepsOn, RendersShown}
 
 -- hooks that are rendered stand for the state as before
@@ -36,6 +36,15 @@ module _ (p : Program) (lanes : Lanes) (cut : Cut) (i : ℕ) (old new : KeptBy) 
   pub rendered_keeps_on : ((s : State) (n : ℕ) (initials : List ℤ) → DoneBefore cut s.journal.updates → IsRendered p s lanes cut old n initials → IsRendered p s lanes cut new n initials)
       → KeepsOn p lanes cut old new
   rendered_keeps_on stays = record { there = is_there; keeps = still_keeps; stays = stays }
+
+-- hooks that are all as before go on
+same_goes_on : (p : Program) (lanes : Lanes) (cut : Cut) (old new : KeptBy) → ((n : ℕ) → new n ≡ old n) → KeepsOn p lanes cut old new
+same_goes_on p lanes cut old new same =
+    record {
+      there = λ n h. subst IsSome (sym (same n)) h;
+      keeps = λ s n initials done h. keeps-same p s n old new initials (same n) h;
+      stays = λ s n initials done h. rendered-same p s lanes cut n old new initials (same n) h;
+    }
 
 -- ---- one instance after the other
 
@@ -64,3 +73,12 @@ module _ (p : Program) (lanes : Lanes) (cut : Cut) (first : ℕ) (old now new : 
             let same : m ≡ x = cc in
             subst (λ (y : Mounted). RendersShown p lanes cut first now new y) same one visible below s done (so_far.goes_on.keeps s x.number x.initials done keeps));
       }
+
+-- ---- where all is as before at first
+
+module _ (p : Program) (lanes : Lanes) (cut : Cut) (first : ℕ) (old now new : KeptBy) (same : (n : ℕ) → now n ≡ old n) where
+  pub goes_on_before : KeepsOn p lanes cut now new → KeepsOn p lanes cut old new
+  goes_on_before h = goes_further p lanes cut first old now new (same_goes_on p lanes cut old now same) h
+
+  pub renders_before : (m : Mounted) → RendersShown p lanes cut first now new m → RendersShown p lanes cut first old new m
+  renders_before m h visible below s done keeps = h visible below s done (keeps-same p s m.number old now m.initials (same m.number) keeps)

@@ -1,9 +1,7 @@
 -- The hooks of new instances.
-use Rattle.std.proofs.Common.{◌≡◌, ◌⊎◌, inl, inr, ℕ, zero, suc, ◌+◌, ◌<◌, ◌≤◌, Bool, true, false, cond, nat_eq, nat_lt, ◌||◌, Option, Some, None, List, [], ◌∷◌, ◌++◌, length, map, slice_get, refl, sym, ap, ◌∙◌, subst, below_more, arith}
-use Rattle.std.specs.List.{list_any}
+use Rattle.std.proofs.Common.{◌≡◌, ◌⊎◌, inl, inr, ℕ, zero, suc, ◌+◌, ◌<◌, ◌≤◌, Bool, true, false, cond, nat_eq, nat_lt, ◌||◌, Some, List, [], ◌∷◌, ◌++◌, slice_get, refl, sym, ap, ◌∙◌, subst, below_more, arith}
 use Rattle.std.proofs.lemmas.Bool.Decides.{nat_tests}
 use Rattle.rx_elem.specs.Spots.{Mounted}
-use Rattle.rx_hooks.specs.declared.hook.Hook.{Hook}
 use Rattle.rx_hook_store.proofs.Stores.{KeptBy, same_number}
 use Rattle.rx_settle.specs.declared.made.NewHooks.{NewHooks}
 use Rattle.rx_settle.specs.Made.{AreHooksFor, AreMadeFor, AreOfNew, HasMade, has_number, kept_with}

@@ -1,6 +1,6 @@
 -- Each instance of a new tree is new, or the old tree has it.
 use Rattle.std.specs.Prelude.{◌≡◌, ◌≤◌, ◌⊎◌, ℕ, zero, suc, ℤ, List, Bool, true, false, Option, Some, refl}
-use Rattle.std.proofs.Common.{inl, inr, sym, ap, ◌∙◌, subst}
+use Rattle.std.proofs.Common.{inl, inr, ap, ◌∙◌, subst}
 use Rattle.rx_elem.specs.Numbers.{Numbers, numbered}
 use Rattle.rx_elem.specs.Spots.{Mounted}
 use Rattle.rx_elem.specs.Trees.{Node}

@@ -1,5 +1,5 @@
 -- A commit that settles the hooks of each instance of its tree.
-use Rattle.std.proofs.Common.{◌≡◌, ◌⊎◌, inl, inr, ℕ, zero, suc, ◌+◌, ◌<◌, ◌≤◌, Bool, true, false, cond, nat_eq, nat_lt, ◌||◌, Option, Some, None, IsSome, List, [], ◌∷◌, length, map, slice_get, refl, sym, ap, ◌∙◌, subst, arith}
+use Rattle.std.proofs.Common.{◌≡◌, ◌⊎◌, inl, inr, ℕ, zero, suc, ◌<◌, ◌≤◌, Bool, true, false, nat_eq, nat_lt, ◌||◌, Option, Some, IsSome, List, [], ◌∷◌, length, map, slice_get, refl, sym, ap, ◌∙◌, subst, arith}
 use Rattle.std.proofs.lemmas.Bool.Decides.{nat_tests}
 use Rattle.std.proofs.lemmas.Option.{slice_get_within}
 use Rattle.rx_base.specs.declared.cut.Cut.{Cut}
@@ -25,7 +25,7 @@ use Rattle.commit_laws.proofs.OwnNumbers.{numbers_stay_own}
 use Rattle.run_laws.proofs.AlongRuns.{reached_carries}
 use Rattle.end_laws.proofs.Read.{mounted_same}
 use Rattle.rx_settle.specs.declared.made.NewHooks.{NewHooks}
-use Rattle.rx_settle.specs.Made.{AreMadeFor, AreOfNew, kept_with}
+use Rattle.rx_settle.specs.Made.{AreMadeFor, kept_with}
 use Rattle.rx_settle.specs.Passes.{AllSettled, AreApart, AreKept, AreSettled, KeepsOn, RendersShown, has_instance}
 use Rattle.rx_settle.specs.Settling.{IsSettlingOf}
 use Rattle.rx_settle.proofs.Apart.{own_apart}

@@ -71,8 +71,6 @@ pub fn settle_hooks(
     let made = mount_new(alloc, &instances, first)?;
     store.reserve(made.len() as u64)?;
     render_shown(alloc, store, checked, &instances, first, lanes, cut)?;
-    settle_all(
-        store, &instances, &before, &known, made, first, lanes, cut,
-    );
+    settle_all(store, &instances, &before, &known, made, first, lanes, cut);
     Ok(())
 }
