@@ -31,13 +31,16 @@ rendered_first =
 abbrev pub first_render : Lanes → Progress
 first_render lanes = record { lanes = lanes; cut = record { updates = 0; resolutions = 0 }; units = 0; bodies = 0 }
 
+-- what is accepted is bounded
 runnable_bounded : (p : Program) → IsRunnable p → IsBounded p
 runnable_bounded p h = record { rooted = h.rooted; ready = h.ready; shallow = h.shallow; small = h.small; apart = h.keys_apart; declared = h.reads_declared }
 
+-- the first render gives it
 gives_first : (lanes : Lanes) → fresh (sight_of counter opening (first_render lanes)) None ≡ made rendered_first
 unfolding fresh rendered body_of
 gives_first lanes = refl
 
+-- the machine's start and this render are at hand
 pub is_first : (p : Program) (kept : KeptBy) (new : Node) (lanes : Lanes) (cut : Cut) → p ≡ counter → IsRunnable p → KeepsAllHooks p opening kept → new ≡ first_tree
     → cut ≡ record { updates = 0; resolutions = 0 } → IsSettlingOf p kept None new 1 lanes cut opening (first_render lanes) rendered_first
 is_first p kept new lanes cut is runnable keeps tree at =
@@ -55,11 +58,13 @@ is_first p kept new lanes cut is runnable keeps tree at =
       cut_is = at;
     }
 
+-- so the hooks can be settled
 pub first_settles : (p : Program) (kept : KeptBy) (new : Node) (lanes : Lanes) (cut : Cut) → p ≡ counter → IsRunnable p → KeepsAllHooks p opening kept → new ≡ first_tree
     → cut ≡ record { updates = 0; resolutions = 0 } → CanSettle p kept None new 1 lanes cut
 first_settles p kept new lanes cut is runnable keeps tree at =
     record { state = opening; progress = first_render lanes; rendered = rendered_first; is = is_first p kept new lanes cut is runnable keeps tree at }
 
+-- after that the hook of the first instance is kept
 pub first_kept : (p : Program) (lanes : Lanes) (kept : KeptBy) → KeepsAllHooks p (committed_state opening (first_render lanes) (numbered opening.numbers rendered_first)) kept
     → IsSomeAnd (kept 1) (λ (hooks : List Hook). 0 < length hooks)
 first_kept p lanes kept keeps =

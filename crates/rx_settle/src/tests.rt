@@ -56,6 +56,7 @@ fn first_tree(alloc: Global) -> Result<Node, AllocError>
 fn a_new_instance_has_its_hooks(rt: HostRuntime) -> Result<(), Fail> {
     let alloc = rt.alloc();
     let checked = check(alloc, counter(alloc)?)?;
+    // What is known of a program that is accepted.
     let _program = checked.program();
     let tree = first_tree(alloc)?;
     let mut store = HookStore::new(alloc);
