@@ -180,21 +180,25 @@ sent_renders : (v : Rendering) (hooks : Kept) (w : LaneWord) (u : Update) (pendi
 sent_renders v hooks w u pending place i keeps p st g number lane same r =
     renders_later p st (dispatched_for st w (hook i place) u.op) g v hooks r (dispatch_later g st w (hook i place) u.op r.past.updates) (keeps p st number lane same r.keeps)
 
--- it is where memory ran out
-unsent_renders : (v : Rendering) (hooks : Kept) → ((n : ℕ) → kept_hooks hooks n ≡ kept_hooks v.hooks n) → (p : Program) (st : State) (g : Progress) → Renders p st g v
-    → Renders p st g (with_hooks v hooks)
-unsent_renders v hooks same p st g r =
+-- it is with hooks that stand for the same state
+pub with_kept : (v : Rendering) (hooks : Kept) (p : Program) (st : State) (g : Progress) → KeepsAllHooks p st (kept_hooks hooks) → Renders p st g v → Renders p st g (with_hooks v hooks)
+with_kept v hooks p st g keeps r =
     record {
       program = r.program;
       resources = r.resources;
       lanes = r.lanes;
       cut = r.cut;
       current = r.current;
-      keeps = all_stay st st refl refl p (kept_hooks v.hooks) (kept_hooks hooks) refl same r.keeps;
+      keeps = keeps;
       done = r.done;
       past = r.past;
       come = record { cursor = r.come.cursor; comes = r.come.comes; goes = r.come.goes; drawn = r.come.drawn; seen = r.come.seen; olds = r.come.olds };
     }
+
+-- so it is where memory ran out
+unsent_renders : (v : Rendering) (hooks : Kept) → ((n : ℕ) → kept_hooks hooks n ≡ kept_hooks v.hooks n) → (p : Program) (st : State) (g : Progress) → Renders p st g v
+    → Renders p st g (with_hooks v hooks)
+unsent_renders v hooks same p st g r = with_kept v hooks p st g (all_stay st st refl refl p (kept_hooks v.hooks) (kept_hooks hooks) refl same r.keeps) r
 
 -- From the value that was opened
 
