@@ -1,5 +1,5 @@
 -- A dispatch changes nothing of a render whose cut it lies behind.
-use Rattle.std.specs.Prelude.{◌≡◌, ℕ, zero, suc, ◌≤◌, ◌<◌, Bool, true, false, ◌&&◌, cond, nat_lt, List, [], ◌∷◌, ◌++◌, filter, fold, length, ℤ, Option, Result, Ok, Err, OnOk, OnErr, refl}
+use Rattle.std.specs.Prelude.{◌≡◌, ℕ, zero, suc, ◌≤◌, ◌<◌, Bool, true, false, ◌&&◌, cond, nat_lt, List, [], ◌∷◌, ◌++◌, filter, fold, length, ℤ, Result, Ok, Err, OnOk, OnErr, refl}
 use Rattle.std.specs.List.{AllByRecursion}
 use Rattle.std.proofs.Common.{sym, ap, ◌∙◌, subst, arith}
 use Rattle.std.proofs.lemmas.Bool.Decides.{nat_tests}
@@ -12,17 +12,16 @@ use Rattle.rx_ast.specs.Syntax.{Program}
 use Rattle.rx_step.specs.declared.step.LaneWord.{LaneWord}
 use Rattle.rx_step.specs.declared.step.LaneWord.TheVariants as word
 use Rattle.rx_queue.specs.declared.entry.Entry.{Entry}
-use Rattle.rx_queue.specs.declared.entry.Standing.TheVariants.{Open}
 use Rattle.rx_queue.specs.declared.update.Op.{Op}
 use Rattle.rx_queue.specs.declared.update.Update.{Update}
 use Rattle.rx_queue.specs.History.{Answers, applied, is_done, is_included, new_entry, pushed, state_of}
 use Rattle.rx_queue.specs.History as history
-use Rattle.rx_queue.specs.Journal.{Journal, Posted, Target, hook}
+use Rattle.rx_queue.specs.Journal.{Journal, Target, hook}
 use Rattle.rx_hooks.specs.Hooks.{AllAboveDone, HookHistory, changed_at, states_of}
 use Rattle.rx_meaning.specs.Expressions.{answers_of}
 use Rattle.rx_meaning.specs.Fresh.{Sight}
 use Rattle.rx_model.specs.State.{State, Progress}
-use Rattle.rx_model.specs.Accepting.{accepted, dispatched_for, in_event, lane_of, next_update}
+use Rattle.rx_model.specs.Accepting.{dispatched_for, in_event, lane_of, next_update}
 use Rattle.rx_model.specs.HooksOf.{KeepsAllHooks}
 use Rattle.rx_hook_store.specs.Store.{Kept, kept_hooks}
 use Rattle.rx_hook_store.specs.Changing.{ChangesHooks, dispatched_hook}

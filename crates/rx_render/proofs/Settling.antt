@@ -1,5 +1,5 @@
 -- The hooks of a finished tree are settled.
-use Rattle.std.specs.Prelude.{◌≡◌, ℕ, false, List, Option, None, Some, slice_get, Result, OnOk, OnErr}
+use Rattle.std.specs.Prelude.{◌≡◌, ℕ, Option, Result, OnOk, OnErr}
 use Rattle.std.proofs.Common.{sym, subst}
 use Rattle.std.proofs.lemmas.Result.{on_err_weaker}
 use Rattle.rx_ast.specs.Syntax.{Program}
