@@ -6,4 +6,7 @@ pub mod Starting
 pub mod Ending
 pub mod Advancing
 pub mod Going
+pub mod Sending
+pub mod Settling
+pub mod Sizes
 pub mod First
