@@ -2,8 +2,10 @@
 ghost use Rattle.std.specs.Prelude.{◌≡◌};
 ghost use Rattle.rx_model.specs.Accepting.{op_of};
 ghost use Rattle.rx_model.specs.State.{reducer_named};
+ghost use Rattle.rx_names.specs.Listed.{function_names};
 ghost use Rattle.rx_rules.specs.Names.{function_number};
 ghost use Rattle.rx_step.specs.Steps.{hook_name, path_of, word_of};
+ghost use Rattle.rx_instances.specs.Kinds.{function_in};
 
 use rx_base::Name;
 use rx_check::{Checked, HookKind};
@@ -48,14 +50,22 @@ fn function_number(checked: &Checked, name: &str) -> u32
     checked.function(name).unwrap_or(0)
 }
 
+// The number of the function of a hook that was found; where it has none, that of no name.
+fn function_in(checked: &Checked, found: Option<HookKind>) -> u32
+    ensures { result ≡ function_in (function_names checked.now) found }
+{
+    match found {
+        Some(HookKind::Reducer { function, .. }) => function,
+        Some(HookKind::State { .. }) => function_number(checked, ""),
+        None => function_number(checked, ""),
+    }
+}
+
 // The number of the function of a component's reducer, by the name of its hook.
 fn reducer_number(checked: &Checked, component: u32, name: &Name) -> u32
     ensures { result ≡ function_number checked.now (reducer_named checked.now component name.now) }
 {
-    match checked.hook(component, name.text()) {
-        Some(HookKind::Reducer { function, .. }) => function,
-        Some(HookKind::State { .. }) | None => function_number(checked, ""),
-    }
+    function_in(checked, checked.hook(component, name.text()))
 }
 
 /// What a dispatch does to the state of its hook, in an instance of this component (react.dev, useState and useReducer).

@@ -23,20 +23,17 @@ fn values_of(
     checked: &Checked,
     hooks: &HookStore,
     instance: &Mounted,
-    count: u32,
+    most: u32,
 ) -> Result<Vec<Int>, AllocError>
     requires { (s : State) × KeepsOne checked.now s (kept_hooks hooks.now) instance.now }
     ensures { IfOk result (λ values. (s : State) → KeepsOne checked.now s (kept_hooks hooks.now) instance.now
-        → values.items ≡ take count (committed_values checked.now s.journal instance.now)) }
+        → values.items ≡ take most (committed_values checked.now s.journal instance.now)) }
 {
     hooks_are_there();
-    let initials = instance.initials().as_slice();
+    let count = instance.initials().as_slice().len().min(most as usize);
     let mut values = Vec::new(alloc);
     'reading: for place in 0..count {
-        if place as usize >= initials.len() {
-            break;
-        }
-        values.push(hooks.committed(instance.number(), place))?;
+        values.push(hooks.committed(instance.number(), place as u32))?;
     }
     Ok(values)
 }
