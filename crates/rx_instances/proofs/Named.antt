@@ -1,7 +1,7 @@
 -- The hooks of a component by their names.
-use Rattle.std.proofs.Common.{◌≡◌, ℕ, ◌+◌, ◌<◌, ◌≤◌, Bool, true, false, cond, List, [], ◌∷◌, Option, Some, None, length, map, refl, sym, ap, ◌∙◌, arith}
-use Rattle.std.specs.Prelude.{option_map, option_and_then, unwrap_or, find, filter_map, bytes_eq, nat_lt, slice_get}
-use Rattle.std.specs.List.{position_from, position_or_len, cons_option}
+use Rattle.std.proofs.Common.{◌≡◌, ℕ, ◌+◌, ◌^◌, ◌<◌, ◌≤◌, Bool, true, false, cond, List, [], ◌∷◌, Option, Some, None, length, map, IfOk, Vec, Global, refl, sym, ap, ◌∙◌, arith}
+use Rattle.std.specs.Prelude.{Result, Ok, Err, option_map, option_and_then, unwrap_or, find, bytes_eq, nat_lt}
+use Rattle.std.specs.List.{position_from, position_or_len}
 use Rattle.std.specs.Option.{option_map_or}
 use Rattle.std.proofs.lemmas.Bool.Decides.{nat_tests}
 use Rattle.std.proofs.lemmas.Iterator.Adapters.{position_from-zero}
@@ -16,7 +16,7 @@ use Rattle.rx_check.specs.Tables.{hook_among, hook_named, kind_of}
 use Rattle.rx_check.specs.declared.hook.HookKind.TheVariants as kind
 use Rattle.rx_check.proofs.Limited.{few-statements, fewer}
 use Rattle.rx_instances.specs.Kinds.{function_in, number_in}
-use Rattle.rx_model.specs.State.{hook_number, hooks_at, reducer_named}
+use Rattle.rx_model.specs.State.{hook_number, reducer_named}
 
 number_of_kind : (fs : List Name) (n : ℕ) (r : Option Name) → number_in (option_map_or (λ f. kind.Reducer n (place_among fs f)) r (kind.State n)) ≡ n
 number_of_kind fs n None = refl
@@ -92,3 +92,8 @@ place-below (n ∷ ns) x h = go (nat_lt (position_or_len (bytes_eq x) (n ∷ ns)
 -- a component has few hooks
 pub few-hooks : (p : Program) → IsAccepted p → (i : ℕ) (c : Component) → component_at p i ≡ Some c → length (hook_names c) ≤ 64
 few-hooks p a i c is = omega (arith, length-map (hooks_of c) (λ h. h.name), fewer hook_in c.statements, few-statements p a i c is)
+
+-- so do their names, once they are listed
+pub few-names : {E : Type 0} (r : Result (Vec Name Global) E) (names : List Name) → IfOk r (λ v. v.items ≡ names) → length names ≤ 64 → IfOk r (λ v. length v.items < 2 ^ 32)
+few-names (Ok v) names is few = rw is (omega (arith, few))
+few-names (Err e) names is few = tt

@@ -1,4 +1,4 @@
-use Rattle.std.proofs.Common.{ℕ, ap, ◌∙◌}
+use Rattle.std.proofs.Common.{ap, ◌∙◌}
 use Rattle.rx_base.specs.Values.{Name}
 use Rattle.rx_names.specs.Listed.{function_names}
 use Rattle.rx_check.specs.Tables.{hook_named}

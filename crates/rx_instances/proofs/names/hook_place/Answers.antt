@@ -1,8 +1,8 @@
-use Rattle.std.proofs.Common.{◌≡◌, ◌<◌, Some, None, ap, sym, ◌∙◌, subst, length, ℕ}
+use Rattle.std.proofs.Common.{◌<◌, ap, sym, ◌∙◌, subst, length, ℕ}
 use Rattle.std.specs.Prelude.{option_map, unwrap_or}
 use Rattle.rx_base.specs.Values.{Name}
 use Rattle.rx_check.specs.Tables.{hook_named}
-use Rattle.rx_model.specs.State.{hook_number, hooks_at}
+use Rattle.rx_model.specs.State.{hooks_at}
 use Rattle.rx_instances.specs.Kinds.{number_in}
 use Rattle.rx_instances.proofs.Named.{number-named, place-below}
 use Rattle.rx_instances.proofs.names.hook_place.Goals as goal
