@@ -3,8 +3,8 @@ use Rattle.std.specs.Prelude.{filter, slice_get}
 use Rattle.rx_elem.specs.Spots.{Mounted}
 use Rattle.rx_model.specs.State.{is_step}
 use Rattle.rx_instances.proofs.Walks.{count-here, count-next, count-skip, count-end}
-use Rattle.rx_instances.proofs.find.step_to.Goals as goal
-use Rattle.rx_instances.proofs.find.step_to.Goals.{then-is_step+else-left-eq0, else-is_step}
+use Rattle.rx_instances.proofs.find.walk_to.Goals as goal
+use Rattle.rx_instances.proofs.find.walk_to.Goals.{then-is_step+else-left-eq0, else-is_step}
 
 pub counting-init : goal.counting-init
 counting-init c = refl
