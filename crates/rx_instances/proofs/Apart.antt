@@ -1,7 +1,7 @@
 -- In a program that is accepted, no two components have one name.
-use Rattle.std.proofs.Common.{◌≡◌, ℕ, zero, suc, ◌+◌, ◌<◌, ◌≤◌, Bool, true, false, not, ◌||◌, cond, List, [], ◌∷◌, ◌++◌, Option, Some, None, nat_eq, nat_lt, length, get_or, map, refl, sym, ap, ◌∙◌, arith}
+use Rattle.std.proofs.Common.{◌≡◌, ℕ, zero, suc, ◌<◌, Bool, true, false, not, ◌||◌, cond, List, [], ◌∷◌, ◌++◌, Option, Some, None, nat_eq, nat_lt, length, get_or, map, refl, sym, ap, ◌∙◌, arith}
 use Rattle.std.specs.Prelude.{IfSome, slice_get, filter_map, position, bytes_eq, option_map}
-use Rattle.std.specs.List.{cons_option, list_any, position_or_len}
+use Rattle.std.specs.List.{cons_option, position_or_len}
 use Rattle.std.specs.Option.{option_map_or}
 use Rattle.std.proofs.lemmas.Bool.Decides.{nat_tests, Decides-eqb}
 use Rattle.std.proofs.lemmas.List.Elements.{filter_map-append}
@@ -15,7 +15,7 @@ use Rattle.rx_rules.specs.Names.{component_at, component_names, has_name}
 use Rattle.rx_mentions.specs.Mention.{Mention}
 use Rattle.rx_mentions.specs.Mentions.{declaration_mentions, declarations_mentions, introduced, mentions}
 use Rattle.rx_check.specs.Accepted.{IsAccepted}
-use Rattle.rx_check.specs.Checks.{repeat_in, repeats}
+use Rattle.rx_check.specs.Checks.{repeat_in}
 use Rattle.rx_model.specs.State.{name_of}
 
 -- the names of the components among declarations

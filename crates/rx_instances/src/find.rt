@@ -38,7 +38,8 @@ fn walk_to<'a>(
     None
 }
 
-// The number of the one component that has a name. Of an empty name it tells none: what has no component has it.
+// The number of the one component that has a name: no two components of a program that is accepted have one name. Of an
+// empty name it tells none, since an instance of no component has it.
 fn component_of(checked: &Checked, name: &Name) -> Option<u32>
     ensures { IfSome result (λ number. (c : ℕ) → bytes_eq (state.name_of checked.now c) name.now ≡ nat_eq c number) }
 {
@@ -50,14 +51,9 @@ fn component_of(checked: &Checked, name: &Name) -> Option<u32>
 }
 
 impl Instances {
-    // The instance that a part of a path leads to. One by one are only those looked for that no component has the name of,
-    // and a script that is accepted names no such.
-    fn step_to(
-        &self,
-        checked: &Checked,
-        owner: Option<u64>,
-        part: &(Name, u64),
-    ) -> Option<&Mounted>
+    // The instance that a part of a path leads to. Only a name that no component has is looked for one by one, and no script
+    // that is accepted has one.
+    fn step_to(&self, checked: &Checked, owner: Option<u64>, part: &(Name, u64)) -> Option<&Mounted>
         ensures { option_copied result ≡ state.step_to checked.now self.now owner part.now }
     {
         let (name, number) = part;
@@ -68,7 +64,8 @@ impl Instances {
     }
 
     /// The instance that a path leads to: from the root, each part names the so-many-th instance of a component right below
-    /// the one before, counted from 0 in tree order. It takes time in proportion to the path, whatever the size of the tree.
+    /// the one before, counted from 0 in tree order. Where each part names a component, it takes time in proportion to the
+    /// path, however large the tree is.
     pub fn find(&self, checked: &Checked, path: &[(Name, u64)]) -> Option<&Mounted>
         ensures { option_copied result ≡ state.find_from checked.now self.now None path.now }
     {

@@ -63,20 +63,15 @@ impl Instances {
         Ok(Instances { all, places })
     }
 
-    /// The instances in tree order.
-    pub fn all(&self) -> &[Mounted]
+    // The instances in tree order.
+    pub(crate) fn all(&self) -> &[Mounted]
         ensures { result.now ≡ self.now }
     {
         &self.all
     }
 
     // The so-many-th instance of a component right below an instance.
-    pub(crate) fn child(
-        &self,
-        owner: Option<u64>,
-        component: u32,
-        number: u64,
-    ) -> Option<&Mounted>
+    pub(crate) fn child(&self, owner: Option<u64>, component: u32, number: u64) -> Option<&Mounted>
         ensures { option_copied result ≡ slice_get (filter (is_child owner component) self.now) number }
     {
         match self.places.get(&(owner, component, number)).copied() {

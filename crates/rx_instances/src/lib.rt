@@ -7,6 +7,8 @@ mod find;
 mod instances;
 mod names;
 mod show;
+#[cfg(test)]
+mod tests;
 
 pub use dispatch::{dispatch_hook, dispatch_op, dispatch_path, dispatch_word};
 pub use instances::Instances;

@@ -78,8 +78,8 @@ fn show_these(
     Ok(())
 }
 
-/// The lines that show the hooks of all instances of a committed tree, in tree order, each with its committed value (react.dev,
-/// State as a Snapshot). An `Err` leaves the report as it was.
+/// The lines that show the hooks of all instances of a committed tree, in tree order, each hook with its committed value
+/// (react.dev, State as a Snapshot). An `Err` leaves the report as it was.
 ///
 /// # Errors
 ///

@@ -1,4 +1,4 @@
-use Rattle.std.proofs.Common.{◌≡◌, ◌<◌, ap, ◌∙◌, length, arith, sym}
+use Rattle.std.proofs.Common.{◌<◌, ap, ◌∙◌, length, arith}
 use Rattle.std.specs.Prelude.{position, bytes_eq}
 use Rattle.std.proofs.lemmas.Bool.Decides.{nat_tests}
 use Rattle.rx_base.specs.Values.{Name}

@@ -1,7 +1,7 @@
-use Rattle.std.proofs.Common.{◌≡◌, ℕ, ◌<◌, ◌++◌, ◌∷◌, [], List, ℤ, min, ap, sym, ◌∙◌, length, arith}
+use Rattle.std.proofs.Common.{◌≡◌, ℕ, ◌<◌, min, ap, sym, ◌∙◌, length, arith}
 use Rattle.rx_hook_store.specs.Store.{kept_hooks}
 use Rattle.rx_model.specs.State.{committed_values}
-use Rattle.rx_instances.proofs.Showing.{length-committed, one-more, take-least}
+use Rattle.rx_instances.proofs.Showing.{length-committed, next-value, take-least}
 use Rattle.rx_instances.proofs.show.values_of.Goals as goal
 
 pub committed-requires : goal.committed-requires
@@ -18,9 +18,8 @@ pub reading-preserved : goal.reading-preserved
 reading-preserved c = λ s k.
     let p = c.args.checked.now in
     let m = c.args.instance.now in
-    c.in_ok-push.ensures.items
-    ∙ ap (λ (xs : List ℤ). xs ++ c.committed.result ∷ []) (c.reading.invariant s k)
-    ∙ sym (one-more (committed_values p s.journal m) c.reading.place c.committed.result (c.committed.ensures.states p s k.place m k.keeps k.is_there (sym c.number.ensures)))
+    let told = c.committed.ensures.states p s k.place m k.keeps k.is_there (sym c.number.ensures) in
+    next-value (committed_values p s.journal m) c.reading.place c.committed.result c.reading.values.items c.push.new.self.items told (c.reading.invariant s k) c.in_ok-push.ensures.items
 
 pub returns : goal.returns
 returns c = λ s k.

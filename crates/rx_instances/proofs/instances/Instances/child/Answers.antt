@@ -1,5 +1,5 @@
-use Rattle.std.proofs.Common.{◌≡◌, List, Option, ℕ, Some, None, filter, ap, sym, ◌∙◌}
-use Rattle.std.specs.Prelude.{slice_get, option_copied, option_and_then}
+use Rattle.std.proofs.Common.{◌≡◌, List, Some, None, filter, ap, sym, ◌∙◌}
+use Rattle.std.specs.Prelude.{slice_get, option_copied}
 use Rattle.rx_elem.specs.Spots.{Mounted}
 use Rattle.rx_instances.specs.Placed.{is_child, places_from}
 use Rattle.rx_instances.proofs.Placing.{copied-at, one-found}
