@@ -1,11 +1,12 @@
-// A dispatch is looked up, and hooks are shown.
+// An instance is looked up, and hooks are shown.
 use super::*;
 use rx_ast::{Body, Component, Declaration, Expr, Program, Slot, Statement};
 use rx_base::{Int, Ints, Name};
 use rx_check::check;
 use rx_elem::{Element, ElementKind};
+use rx_hook_store::HookStore;
 use rx_node::{Instance, Mark, Node};
-use rx_queue::Op;
+use rx_report::Report;
 use rx_step::{Dispatch, LaneWord, Path};
 use std::alloc::{AllocError, Global};
 use std::rc::Rc;
@@ -41,23 +42,35 @@ fn counted(alloc: Global) -> Result<Node, AllocError> {
     Node::new(alloc, element, mark, Vec::new(alloc), Vec::new(alloc))
 }
 
-#[test]
-fn a_dispatch_is_for_a_hook(rt: HostRuntime) -> Result<(), Fail> {
-    let alloc = rt.alloc();
-    let program = counter(alloc)?;
-    let checked = check(alloc, program)?;
-    let tree = counted(alloc)?;
-    let instances = Instances::new(alloc, Some(&tree))?;
+// `set n = 7` of the counter.
+fn set_seven(alloc: Global) -> Result<Dispatch, AllocError> {
     let mut parts = Vec::new(alloc);
     parts.push((Name::new(alloc, "App")?, 0))?;
     let name = Name::new(alloc, "n")?;
-    let dispatch = Dispatch::Set(LaneWord::Sync, Path { parts }, name, Int::of(7));
+    Ok(Dispatch::Set(LaneWord::Sync, Path { parts }, name, Int::of(7)))
+}
+
+fn instances(alloc: Global) -> Result<Instances, AllocError> {
+    let tree = counted(alloc)?;
+    Instances::new(alloc, Some(&tree))
+}
+
+#[test]
+fn a_path_leads_to_an_instance(rt: HostRuntime) -> Result<(), Fail> {
+    let checked = check(rt.alloc(), counter(rt.alloc())?)?;
+    let instances = instances(rt.alloc())?;
+    let dispatch = set_seven(rt.alloc())?;
     let found = instances.find(&checked, dispatch_path(&dispatch));
     assert_eq!(rt; found.map(|m| m.number()), Some(1));
-    let place = hook_place(&checked, 0, dispatch_hook(&dispatch));
-    assert_eq!(rt; place, 0);
-    let op = dispatch_op(&checked, 0, &dispatch);
-    assert_eq!(rt; op, Op::Set(Int::of(7)));
-    assert_eq!(rt; dispatch_word(&dispatch), LaneWord::Sync);
+    Ok(())
+}
+
+#[test]
+fn no_hooks_at_the_start(rt: HostRuntime) -> Result<(), Fail> {
+    let checked = check(rt.alloc(), counter(rt.alloc())?)?;
+    let hooks = HookStore::new(rt.alloc());
+    let mut report = Report::new(rt.alloc(), false, false);
+    show_hooks(rt.alloc(), &mut report, &checked, None, &hooks)?;
+    assert!(rt; report.bytes() == b"state\n".as_slice());
     Ok(())
 }
