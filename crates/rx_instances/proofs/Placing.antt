@@ -6,7 +6,7 @@ use Rattle.std.proofs.lemmas.List.{length-take, take_more}
 use Rattle.std.proofs.lemmas.Bool.Decides.{Decides-eqb, nat_tests}
 use Rattle.std.proofs.lemmas.Option.{slice_get-get_or, slice_get_past}
 use Rattle.rx_elem.specs.Spots.{Mounted}
-use Rattle.rx_instances.specs.Placed.{is_child, places_from, same_group, same_spot}
+use Rattle.rx_instances.specs.Placed.{is_child, places_from, same_group, same_key}
 
 -- the place of one instance, if it passes
 abbrev pub own_place : Bool → ℕ → List ℕ
@@ -138,13 +138,13 @@ counted-next counts after all k m o c before h e owner component so_far is now =
 -- the next instance of a list is found
 pub placed-next : (counts : Option ℕ → ℕ → Option ℕ) (places after : Option ℕ → ℕ → ℕ → Option ℕ) (all : List Mounted) (k : ℕ) (m : Mounted) (o : Option ℕ) (c before : ℕ)
     → k < length all → m ≡ get_or all k m → o ≡ m.owner → c ≡ m.component → Counted counts (take k all) → before ≡ unwrap_or (counts o c) 0 → Placed places (take k all)
-    → ((p : Option ℕ) (q n : ℕ) → after p q n ≡ cond (same_spot (o, c, before) (p, q, n)) (Some k) (places p q n)) → Placed after (take (k + 1) all)
+    → ((p : Option ℕ) (q n : ℕ) → after p q n ≡ cond (same_key (o, c, before) (p, q, n)) (Some k) (places p q n)) → Placed after (take (k + 1) all)
 placed-next counts places after all k m o c before h e owner component so_far is found now =
     let size : k ≡ length (take k all) = omega (arith, length-take k all, h) in
     subst (Placed after) (back all k m h e)
     (placed-more counts places after (take k all) m before so_far (is ∙ ap (λ x. unwrap_or (counts x c) 0) owner ∙ ap (λ x. unwrap_or (counts m.owner x) 0) component) found
-    (λ p q n. now p q n ∙ ap (λ x. cond (same_spot (x, c, before) (p, q, n)) (Some k) (places p q n)) owner
-    ∙ ap (λ x. cond (same_spot (m.owner, x, before) (p, q, n)) (Some k) (places p q n)) component
+    (λ p q n. now p q n ∙ ap (λ x. cond (same_key (x, c, before) (p, q, n)) (Some k) (places p q n)) owner
+    ∙ ap (λ x. cond (same_key (m.owner, x, before) (p, q, n)) (Some k) (places p q n)) component
     ∙ ap (λ i. cond (is_child p q m && nat_eq before n) (Some i) (places p q n)) size))
 
 -- no more of a group are counted than there are

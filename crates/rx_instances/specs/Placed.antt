@@ -7,12 +7,12 @@ use Rattle.std.specs.declared.hash.BuildHasherDefault.{BuildHasherDefault}
 use Rattle.rx_elem.specs.Spots.{Mounted}
 
 -- what an instance is found by: the instance right above it, its component, and how many before it have both
-abbrev pub Spot : Type 0
-Spot = Option ℕ × ℕ × ℕ
+abbrev pub Key : Type 0
+Key = Option ℕ × ℕ × ℕ
 
--- two of these are one
-abbrev pub same_spot : Spot → Spot → Bool
-same_spot a b = (option_eq nat_eq a.0 b.0 && nat_eq a.1 b.1) && nat_eq a.2 b.2
+-- two such keys are one
+abbrev pub same_key : Key → Key → Bool
+same_key a b = (option_eq nat_eq a.0 b.0 && nat_eq a.1 b.1) && nat_eq a.2 b.2
 
 -- two instances have one instance right above them and one component
 abbrev pub same_group : Option ℕ × ℕ → Option ℕ × ℕ → Bool
@@ -29,9 +29,9 @@ places_from test k (m ∷ ms) = if test m then k ∷ places_from test (k + 1) ms
 
 -- the places of instances
 abbrev pub Places : Type 0
-Places = HashMap Spot ℕ (BuildHasherDefault FoldHasher)
+Places = HashMap Key ℕ (BuildHasherDefault FoldHasher)
 
 -- each of these instances is found where it stands
 abbrev pub FindsAll : List Mounted → Places → Type 0
 FindsAll all places =
-    (owner : Option ℕ) (component n : ℕ) → get same_spot places (owner, component, n) ≡ slice_get (places_from (is_child owner component) 0 all) n
+    (owner : Option ℕ) (component n : ℕ) → get same_key places (owner, component, n) ≡ slice_get (places_from (is_child owner component) 0 all) n

@@ -1,6 +1,6 @@
 use Rattle.std.proofs.Common.{◌≡◌, ◌≤◌, ℕ, Option, unwrap_or, ap, ◌∙◌, arith}
 use Rattle.std.specs.HashMap.{get}
-use Rattle.rx_instances.specs.Placed.{same_group, same_spot}
+use Rattle.rx_instances.specs.Placed.{same_group, same_key}
 use Rattle.rx_instances.proofs.Placing.{counted-next, few-before, placed-next}
 use Rattle.rx_instances.proofs.instances.places_of.Goals as goal
 
@@ -23,7 +23,7 @@ placing-preserved c =
       counted-next counts (λ o k. get same_group c.insert.new.self (o, k)) all c.placing.place m c.owner-owner.result c.component-component.result c.unwrap_or-before.result
           c.placing-test.true c.index-all-place.is c.owner-owner.ensures c.component-component.ensures c.placing.invariant.0 before
           (λ o k. c.in_ok-insert.ensures.updates.0 (o, k)),
-      placed-next counts (λ o k n. get same_spot c.placing.places (o, k, n)) (λ o k n. get same_spot c.insert-in-placing.new.self (o, k, n)) all c.placing.place m
+      placed-next counts (λ o k n. get same_key c.placing.places (o, k, n)) (λ o k n. get same_key c.insert-in-placing.new.self (o, k, n)) all c.placing.place m
           c.owner-owner.result c.component-component.result c.unwrap_or-before.result
           c.placing-test.true c.index-all-place.is c.owner-owner.ensures c.component-component.ensures c.placing.invariant.0 before c.placing.invariant.1
           (λ o k n. c.in_ok-insert-2.ensures.updates.0 (o, k, n)),
