@@ -1,0 +1,1 @@
+// Turns of rendering.
