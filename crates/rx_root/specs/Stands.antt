@@ -35,8 +35,8 @@ abbrev pub HasProgress : Program → State → Option Progress → Rooted → Ty
 HasProgress p s None v = IsIdle v.rendering
 HasProgress p s (Some g) v = GoesOnWith p s g v
 
--- A root stands for a state of the machine that a run comes to.
-pub record Stands (p : Program) (s : State) (v : Rooted) : Type 0 where
+-- A root stands for a state of the machine that a run comes to, with this render in progress, if there is one, in place of the state's own.
+pub record StandsWith (p : Program) (s : State) (progress : Option Progress) (v : Rooted) : Type 0 where
   pub reached : IsReached p s
   pub program : v.rendering.program ≡ p
   pub current : IsTreeOf s.tree v.rendering.trees.current
@@ -55,7 +55,11 @@ pub record Stands (p : Program) (s : State) (v : Rooted) : Type 0 where
   -- only resources of the program have values
   pub reach : AreWithinReach s.journal
   pub instances : IfSome v.instances (λ ms. ms ≡ mounted s.tree)
-  pub progress : HasProgress p s s.progress v
+  pub progress : HasProgress p s progress v
+
+-- a root stands for a state of the machine that a run comes to, with its render
+abbrev pub Stands : Program → State → Rooted → Type 0
+Stands p s v = StandsWith p s s.progress v
 
 -- the numbers of a root leave room for so many steps more
 pub record HasRoomFor (steps : ℕ) (v : Rooted) : Type 0 where
