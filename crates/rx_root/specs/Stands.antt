@@ -1,11 +1,12 @@
 -- Which state of the machine a root stands for.
-use Rattle.std.specs.Prelude.{◌≡◌, ℕ, ◌+◌, ◌*◌, ◌<◌, ◌^◌, Option, Some, None, IfSome, length}
+use Rattle.std.specs.Prelude.{◌≡◌, ℕ, ◌+◌, ◌*◌, ◌<◌, ◌≤◌, ◌^◌, Option, Some, None, IfSome, length}
 use Rattle.rx_lane.specs.declared.lane.Lane.{Lane}
 use Rattle.rx_lane.specs.Lanes.{has}
 use Rattle.rx_ast.specs.Syntax.{Program}
 use Rattle.rx_rules.specs.Bounds.{node_limit}
+use Rattle.rx_rules.specs.Names.{resources}
 use Rattle.rx_elem.specs.Spots.{mounted}
-use Rattle.rx_queue.specs.Journal.{has_later}
+use Rattle.rx_queue.specs.Journal.{Journal, has_later, resolved_now}
 use Rattle.rx_model.specs.State.{State, Progress}
 use Rattle.rx_model.specs.HooksOf.{KeepsAllHooks}
 use Rattle.rx_model.specs.Laws.{IsReached}
@@ -15,7 +16,6 @@ use Rattle.rx_fiber.specs.Reading.{IsTreeOf}
 use Rattle.rx_read.specs.Numbering.{IsAllNumbered}
 use Rattle.rx_hook_store.specs.Store.{kept_hooks}
 use Rattle.rx_hook_store.specs.Commits.{LinksBelow}
-use Rattle.rx_spots.specs.Waits.{AreWithinReach}
 use Rattle.rx_commit.specs.Shown.{Shows}
 use Rattle.rx_render.specs.Rendering.{IsIdle, IfLeft}
 use Rattle.rx_render.specs.Renders.{Renders}
@@ -35,6 +35,10 @@ abbrev pub HasProgress : Program → State → Option Progress → Rooted → Ty
 HasProgress p s None v = IsIdle v.rendering
 HasProgress p s (Some g) v = GoesOnWith p s g v
 
+-- only resources of the program have values
+abbrev pub AreDeclared : Program → Journal → Type 0
+AreDeclared p j = (r : ℕ) → length (resources p) ≤ r → resolved_now j r ≡ None
+
 -- A root stands for a state of the machine that a run comes to, with this render in progress, if there is one, in place of the state's own.
 pub record StandsWith (p : Program) (s : State) (progress : Option Progress) (v : Rooted) : Type 0 where
   pub reached : IsReached p s
@@ -52,8 +56,7 @@ pub record StandsWith (p : Program) (s : State) (progress : Option Progress) (v 
   pub now : v.now ≡ s.now
   pub event : v.event ≡ s.event
   pub numbers : v.numbers ≡ s.numbers
-  -- only resources of the program have values
-  pub reach : AreWithinReach s.journal
+  pub declared : AreDeclared p s.journal
   pub instances : IfSome v.instances (λ ms. ms ≡ mounted s.tree)
   pub progress : HasProgress p s progress v
 
