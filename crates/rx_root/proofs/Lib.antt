@@ -1,0 +1,4 @@
+pub mod TurnReached
+pub mod FlushEnds
+pub mod AttributesOnce
+pub mod NumbersGrow
