@@ -1,3 +1,4 @@
+pub mod Reached
 pub mod TurnReached
 pub mod FlushEnds
 pub mod AttributesOnce

@@ -5,7 +5,6 @@ use Rattle.rx_lane.specs.declared.lane.Lane.{Lane}
 use Rattle.rx_lane.specs.declared.lane.Lane.TheVariants as lane
 use Rattle.rx_lane.specs.Lanes.{has}
 use Rattle.rx_ast.specs.Syntax.{Program}
-use Rattle.rx_step.specs.declared.step.Step.{Step}
 use Rattle.rx_step.specs.declared.step.Step.TheVariants as step
 use Rattle.rx_sched.specs.declared.choice.Choice.{Choice}
 use Rattle.rx_sched.specs.declared.choice.Choice.TheVariants as choice
@@ -13,31 +12,13 @@ use Rattle.rx_sched.specs.Schedule.{is_sliced}
 use Rattle.rx_elem.specs.Numbers.{numbered}
 use Rattle.rx_meaning.specs.Outcome.{Outcome, commit, defer, outcome}
 use Rattle.rx_lines.specs.Lines.{Counts}
-use Rattle.rx_model.specs.State.{State, Progress, opening}
+use Rattle.rx_model.specs.State.{State, Progress}
 use Rattle.rx_model.specs.Stretch.{Stretch, silent, followed_by}
 use Rattle.rx_model.specs.Accepting.{between_events}
 use Rattle.rx_model.specs.Committing.{passive_run, starting, committed_state, ended_by}
 use Rattle.rx_model.specs.Turns.{unit_bound, Finishes, GoesOn, Continues, TurnBy, Turn, choice_of}
-use Rattle.rx_model.specs.Machine.{StepTo, RunTo}
 use Rattle.rx_model.specs.Laws.{IsReached}
-
--- a run goes on by a step
-run_then : (p : Program) (s : State) (xs : List Step) (r : Stretch) (x : Step) (q : Stretch) → RunTo p s xs r → StepTo p r.after x q
-    → (w : Stretch) × RunTo p s (xs ++ x ∷ []) w × (w.after ≡ q.after)
-run_then p s [] r x q h onward =
-    let here : StepTo p s x q = subst (λ (y : Stretch). StepTo p y.after x q) h onward in
-    (followed_by q (silent q.after), (q, silent q.after, here, refl, refl), refl)
-run_then p s (y ∷ ys) r x q h onward =
-    let there : StepTo p h.1.after x q = subst (λ (z : Stretch). StepTo p z.after x q) h.4 onward in
-    let rest = run_then p h.0.after ys h.1 x q h.3 there in
-    (followed_by h.0 rest.0, (h.0, rest.0, h.2, rest.1, refl), rest.2)
-
--- the state after a step is one that a run comes to, where the state before is
-pub reached_step : (p : Program) (s : State) (x : Step) (q : Stretch) → IsReached p s → StepTo p s x q → IsReached p q.after
-reached_step p s x q h onward =
-    let there : StepTo p h.1.after x q = subst (λ (t : State). StepTo p t x q) (sym h.3) onward in
-    let run = run_then p opening h.0 h.1 x q h.2 there in
-    (h.0 ++ x ∷ [], run.0, run.1, run.2)
+use Rattle.rx_root.proofs.Reached.{step_reached}
 
 -- a render that is finished at once is finished in a slice of so many units as a render takes at most
 finishes_within : (p : Program) (s : State) (g : Progress) (slice : Option ℕ) (r : Stretch) → IfSome slice (λ n. unit_bound p ≤ n) → Finishes p s g None r → Finishes p s g slice r
@@ -83,9 +64,9 @@ pub same_between : (s : State) → s.event ≡ None → s ≡ between_events s
 same_between s h = ap (λ (e : Option Lane). record s { event = e }) h
 
 work_reached : (p : Program) (s : State) (budget : Option ℕ) (r : Stretch) → IsReached p s → Turn p (between_events s) budget r → IsReached p r.after
-work_reached p s (Some n) r h t = reached_step p s (step.Work n) r h t
+work_reached p s (Some n) r h t = step_reached p s (step.Work n) r h t
 work_reached p s None r h t =
-    reached_step p s (step.Work (unit_bound p)) r h (turn_within p (between_events s) (choice_of (between_events s)) r t)
+    step_reached p s (step.Work (unit_bound p)) r h (turn_within p (between_events s) (choice_of (between_events s)) r t)
 
 -- the state after a turn is one that a run comes to, where the state before is
 pub reached_turn : (p : Program) (s : State) (budget : Option ℕ) (r : Stretch) → IsReached p s → s.event ≡ None → Turn p s budget r → IsReached p r.after
@@ -95,7 +76,7 @@ reached_turn p s budget r h none t = work_reached p s budget r h (subst (λ (u :
 pub reached_passive : (p : Program) (s : State) → IsReached p s → s.event ≡ None → IsReached p (passive_run s).after
 reached_passive p s h none =
     subst (λ (u : State). IsReached p (passive_run u).after) (sym (same_between s none))
-    (reached_step p s step.Passive (passive_run (between_events s)) h refl)
+    (step_reached p s step.Passive (passive_run (between_events s)) h refl)
 
 -- No turn changes which event goes on
 
