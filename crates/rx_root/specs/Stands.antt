@@ -9,6 +9,7 @@ use Rattle.rx_elem.specs.Spots.{mounted}
 use Rattle.rx_queue.specs.Journal.{Journal, has_later, resolved_now}
 use Rattle.rx_model.specs.State.{State, Progress}
 use Rattle.rx_model.specs.HooksOf.{KeepsAllHooks}
+use Rattle.rx_model.specs.Kept.{IsSet}
 use Rattle.rx_model.specs.Laws.{IsReached}
 use Rattle.rx_model.specs.Machine.{flush_limit}
 use Rattle.run_laws.specs.Carried.{values_now}
@@ -28,6 +29,7 @@ pub record GoesOnWith (p : Program) (s : State) (g : Progress) (v : Rooted) : Ty
   pub bodies : v.rendering.bodies ≡ g.bodies
   -- some unit is left
   pub left : IfLeft v.rendering.at ⊥ → ⊥
+  pub lanes_are_set : IsSet g.lanes
   pub later : (l : Lane) → has v.later l ≡ has_later g.cut s.journal l
 
 -- a root has the render that the machine has in progress, if there is one
