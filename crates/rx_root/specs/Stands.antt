@@ -41,8 +41,8 @@ HasProgress p s (Some g) v = GoesOnWith p s g v
 abbrev pub AreDeclared : Program → Journal → Type 0
 AreDeclared p j = (r : ℕ) → length (resources p) ≤ r → resolved_now j r ≡ None
 
--- A root stands for a state of the machine that a run comes to, with this render in progress, if there is one, in place of the state's own.
-pub record StandsWith (p : Program) (s : State) (progress : Option Progress) (v : Rooted) : Type 0 where
+-- A root stands for a state of the machine that a run comes to, where this is asked of its render.
+pub record StandsBy (p : Program) (s : State) (asks : Rooted → Type 0) (v : Rooted) : Type 0 where
   pub reached : IsReached p s
   pub program : v.rendering.program ≡ p
   pub current : IsTreeOf s.tree v.rendering.trees.current
@@ -60,7 +60,11 @@ pub record StandsWith (p : Program) (s : State) (progress : Option Progress) (v 
   pub numbers : v.numbers ≡ s.numbers
   pub declared : AreDeclared p s.journal
   pub instances : IfSome v.instances (λ ms. ms ≡ mounted s.tree)
-  pub progress : HasProgress p s progress v
+  pub progress : asks v
+
+-- a root stands for a state, with this render in progress, if there is one, in place of the state's own
+abbrev pub StandsWith : Program → State → Option Progress → Rooted → Type 0
+StandsWith p s progress v = StandsBy p s (HasProgress p s progress) v
 
 -- a root stands for a state of the machine that a run comes to, with its render
 abbrev pub Stands : Program → State → Rooted → Type 0
