@@ -3,3 +3,7 @@ pub mod TurnReached
 pub mod FlushEnds
 pub mod AttributesOnce
 pub mod NumbersGrow
+pub mod TurnStands
+pub mod CommitStands
+pub mod ResolvedSince
+pub mod DriveEnds

@@ -1,5 +1,7 @@
 -- Turns of a root, by the turns of the machine.
-use Rattle.std.specs.Prelude.{◌≡◌, ℕ, ◌+◌, ◌*◌, ◌<◌, ◌≤◌, ◌^◌, Option, Some, None, if◌then◌else◌}
+use Rattle.std.specs.Prelude.{◌≡◌, ℕ, ◌+◌, ◌*◌, ◌<◌, ◌≤◌, ◌^◌, Bool, not, ◌&&◌, List, [], ℤ, Option, Some, None, is_some, slice_index_or, if◌then◌else◌}
+use Rattle.rx_base.specs.Awaits.{Awaits}
+use Rattle.rx_base.specs.Awaits.{has as has_resource}
 use Rattle.rx_lane.specs.declared.lane.Lane.{Lane}
 use Rattle.rx_lane.specs.declared.lane.Lane.TheVariants as lane
 use Rattle.rx_lane.specs.Lanes.{Lanes, has}
@@ -12,8 +14,8 @@ use Rattle.rx_effect.specs.EffectLog.{Passive, no_passive}
 use Rattle.rx_lines.specs.Lines.{Counts, Written}
 use Rattle.rx_model.specs.State.{State, Progress}
 use Rattle.rx_model.specs.Stretch.{Stretch}
-use Rattle.rx_model.specs.Committing.{sight_of}
-use Rattle.rx_model.specs.Turns.{GoesOn}
+use Rattle.rx_model.specs.Committing.{sight_of, bodies_since, ended}
+use Rattle.rx_model.specs.Turns.{Finishes, Yields, GoesOn}
 use Rattle.rx_model.specs.Machine.{Flushes}
 use Rattle.rx_model.specs.Kept.{IsSet}
 use Rattle.rx_model.specs.Laws.{IsReached}
@@ -63,6 +65,25 @@ LeadsOn p s g budget = (r : Stretch) → GoesOn p s g budget r → IsReached p r
 -- the passive effects that a commit leaves pending: none, where it has the lane Sync
 abbrev pub passive_left : Lanes → Passive → Passive
 passive_left lanes passive = if has lanes lane.Sync then no_passive else passive
+
+-- one of these resources has a value by now, and had none before
+abbrev pub is_news : (values seen : List (Option ℤ)) → Awaits → (resource : ℕ) → Bool
+is_news values seen waits r = has_resource waits r && (is_some (slice_index_or values r None) && not (is_some (slice_index_or seen r None)))
+
+-- A render in progress is finished within its slice: the root is at its end, and its bodies are counted.
+pub record HasFinished (p : Program) (s : State) (g : Progress) (slice : Option ℕ) (v : Rooted) (steps counted : ℕ) : Type 0 where
+  pub tree : Node
+  pub finishes : Finishes p s g slice (ended s g (counts_of v) tree)
+  pub stands : StandsBy p s (IsAtEndOf p s g tree) v
+  pub bodies : counted ≡ steps + bodies_since g (counts_of v)
+
+-- A render in progress has used up its slice: the root stands for a state with what is left of it, and its bodies are counted.
+pub record HasYielded (p : Program) (s : State) (g : Progress) (slice : Option ℕ) (v : Rooted) (steps counted : ℕ) : Type 0 where
+  pub stretch : Stretch
+  pub yields : Yields p s g slice stretch
+  pub stands : IsReached p stretch.after → Stands p stretch.after v
+  pub silently : stretch.lines ≡ []
+  pub bodies : counted ≡ steps + stretch.bodies
 
 -- so many renders at most are left to finish until nothing is to be rendered
 abbrev pub CanFlush : (limit : ℕ) → Program → State → Type 0
