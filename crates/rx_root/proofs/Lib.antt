@@ -7,3 +7,6 @@ pub mod TurnStands
 pub mod CommitStands
 pub mod ResolvedSince
 pub mod DriveEnds
+pub mod CommitReady
+pub mod TurnLines
+pub mod TurnRoom
