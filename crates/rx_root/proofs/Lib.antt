@@ -10,3 +10,4 @@ pub mod DriveEnds
 pub mod CommitReady
 pub mod TurnLines
 pub mod TurnRoom
+pub mod TurnsTaken
