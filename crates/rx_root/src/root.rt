@@ -37,8 +37,14 @@ pub struct Root {
 impl Model for Root {
     ghost use Rattle.rx_root.specs.Rooted.{Rooted};
     ghost use Rattle.rx_read.specs.NumbersView.{numbers_seen};
+    ghost use Rattle.std.specs.Coded.{codes};
+    ghost use Rattle.rx_ast.specs.ProgramCodes.{program_code};
+    ghost use Rattle.rx_node.specs.NodeCode.{node_code};
+    ghost use Rattle.rx_render.specs.TreesCode.{fiber_trees_code};
 
     ghost Value = { Rooted };
+
+    ghost coded = { Prim.hlevel (codes, program_code, node_code, fiber_trees_code) };
 
     ghost view = { λ r. record { rendering = r.renderer; shown = r.shown; schedule = r.lanes; commits = r.commits; updates = r.updates; resolutions = r.resolutions; values = r.values.items; now = r.now; event = r.event; numbers = numbers_seen r.numbers; later = r.later; instances = r.instances } };
 }
