@@ -47,8 +47,8 @@ fn has_news(values: &[Option<Int>], seen: &[Option<Int>], waits: &Awaits) -> boo
 impl Root {
     // What holds of the program: it meets every check.
     fn facts(&self)
-        ensures accepted { IsAccepted self.now.rendering.program }
-        ensures bounded { IsBounded self.now.rendering.program }
+        ensures accepted { IsAccepted self.entry.now.rendering.program }
+        ensures bounded { IsBounded self.entry.now.rendering.program }
     {
         self.renderer.facts();
         self.renderer.checked().program();
@@ -56,7 +56,7 @@ impl Root {
 
     // The lanes of the render in progress, if there is one.
     fn lanes_in_progress(&self) -> Option<Lanes>
-        ensures { (p : syntax.Program) (s : State) → Stands p s self.now → result ≡ option_map (λ g. g.lanes) s.progress }
+        ensures { (p : syntax.Program) (s : State) → Stands p s self.entry.now → result ≡ option_map (λ g. g.lanes) s.progress }
     {
         if self.renderer.is_over() {
             None
@@ -67,14 +67,14 @@ impl Root {
 
     // What a turn does.
     fn choice(&self) -> Choice
-        ensures { (p : syntax.Program) (s : State) → Stands p s self.now → result ≡ choice_of s }
+        ensures { (p : syntax.Program) (s : State) → Stands p s self.entry.now → result ≡ choice_of s }
     {
         self.lanes.next(self.lanes_in_progress())
     }
 
     // The slice of a turn with this budget: it counts only where the render in progress is cut into slices.
     fn slice(&self, budget: Option<u64>) -> Option<u64>
-        ensures slice { (p : syntax.Program) (s : State) (g : Progress) → StandsWith p s (Some g) self.now → result ≡ slice_of s g budget }
+        ensures slice { (p : syntax.Program) (s : State) (g : Progress) → StandsWith p s (Some g) self.entry.now → result ≡ slice_of s g budget }
         ensures positive { IfSome budget (λ n. 0 < n) → IfSome result (λ n. 0 < n) }
     {
         let units = budget?;
@@ -126,7 +126,7 @@ impl Root {
     // Whether one of these resources got its value since the render in progress began.
     fn is_resolved_since(&self, waits: &Awaits) -> bool
         requires { KnowsSinceSome self.now }
-        ensures { (p : syntax.Program) (s : State) (g : Progress) → KnowsSince p s g self.now → result ≡ resolved_since g.cut s.journal waits.now }
+        ensures { (p : syntax.Program) (s : State) (g : Progress) → KnowsSince p s g self.entry.now → result ≡ resolved_since g.cut s.journal waits.now }
     {
         self.facts();
         has_news(&self.values, self.renderer.resources(), waits)
@@ -135,7 +135,7 @@ impl Root {
     // What a finished render waits for, where it is deferred: only transitions may be (react.dev, useTransition).
     fn deferral(&self) -> Result<Option<Awaits>, AllocError>
         requires { IsAtSomeEnd self.now }
-        ensures { IfOk result (λ waits. (p : syntax.Program) (s : State) (g : Progress) (tree : trees.Node) → StandsAtEnd p s g tree self.now → outcome_as tree waits ≡ outcome g.lanes s.tree tree) }
+        ensures { IfOk result (λ waits. (p : syntax.Program) (s : State) (g : Progress) (tree : trees.Node) → StandsAtEnd p s g tree self.entry.now → outcome_as tree waits ≡ outcome g.lanes s.tree tree) }
     {
         let lanes = self.renderer.lanes();
         if !lanes.only_transitions() {
@@ -164,7 +164,7 @@ impl Root {
     // something to retry.
     fn still(&self, tree: &Node) -> Lanes
         requires { KnowsSinceSome self.now }
-        ensures { (p : syntax.Program) (s : State) (g : Progress) (next : trees.Node) → KnowsSince p s g self.now → tree.now ≡ trimmed next
+        ensures { (p : syntax.Program) (s : State) (g : Progress) (next : trees.Node) → KnowsSince p s g self.entry.now → tree.now ≡ trimmed next
             → result ≡ still_pending g.lanes g.cut s.journal next }
     {
         self.facts();

@@ -1,0 +1,1 @@
+use Rattle.rx_root.proofs.root.Root.start.Goals as goal
