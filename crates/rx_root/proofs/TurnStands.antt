@@ -22,6 +22,7 @@ use Rattle.run_laws.proofs.Carrying.{all_accounted, done_before}
 use Rattle.rx_fiber.specs.Reading.{IsTreeOf}
 use Rattle.rx_hook_store.specs.Store.{kept_hooks}
 use Rattle.rx_hook_store.proofs.Staying.{all_stay}
+use Rattle.rx_commit.specs.Shown.{Shown}
 use Rattle.rx_render.specs.declared.at.At.{At}
 use Rattle.rx_render.specs.declared.at.At.TheVariants.{Begins, Completes, Over}
 use Rattle.rx_render.specs.Rendering.{Rendering, IfLeft, units_left, left_of}
@@ -130,3 +131,15 @@ started_stands p s v lanes w h reached set program current hooks renders units b
         later = no_later p s h.reached;
       };
     }
+
+-- the same, by parts that are equal to these
+pub started_as : (p : Program) (s : State) (v : Rooted) (lanes : Lanes) (w : Rendering) (shown : Shown) (later : Lanes) → Stands p s v → IsReached p (passive_run s).after → IsSet lanes
+    → w.program ≡ v.rendering.program → w.trees.current ≡ v.rendering.trees.current → w.hooks ≡ v.rendering.hooks
+    → Renders v.rendering.program (passive_run s).after (starting s lanes) w → w.units ≡ 0 → w.bodies ≡ 0 → 0 < left_of w
+    → shown ≡ record v.shown { passive = no_passive } → later ≡ no_lanes
+    → StandsWith p (passive_run s).after (Some (starting s lanes)) (record v { rendering = w; shown = shown; later = later })
+started_as p s v lanes w shown later h reached set program current hooks renders units bodies left is_shown is_later =
+    let on = subst (λ (q : Program). Renders q (passive_run s).after (starting s lanes) w) h.program renders in
+    subst (λ (ls : Lanes). StandsWith p (passive_run s).after (Some (starting s lanes)) (record v { rendering = w; shown = shown; later = ls })) (sym is_later)
+    (subst (λ (x : Shown). StandsWith p (passive_run s).after (Some (starting s lanes)) (record v { rendering = w; shown = x; later = no_lanes })) (sym is_shown)
+    (started_stands p s v lanes w h reached set program current hooks on units bodies left))

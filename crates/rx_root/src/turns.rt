@@ -26,7 +26,7 @@ use rx_node::Node;
 use rx_report::Report;
 use rx_sched::Choice;
 use rx_spots::awaited;
-use std::alloc::AllocError;
+use std::alloc::{AllocError, Global};
 use std::sync::ledger::Ledger;
 
 // Whether one of these resources has a value by now, and had none before.
@@ -42,6 +42,13 @@ fn has_news(values: &[Option<Int>], seen: &[Option<Int>], waits: &Awaits) -> boo
         }
     }
     false
+}
+
+// The same values, for a render that starts.
+fn copied(alloc: Global, values: &[Option<Int>]) -> Result<Vec<Option<Int>>, AllocError>
+    ensures { IfOk result (λ v. v.items ≡ values.now) }
+{
+    values.iter().copied().collect(alloc)
 }
 
 impl Root {
@@ -95,7 +102,7 @@ impl Root {
         ensures rest { self.new ≡ record self.old { rendering = self.new.rendering; shown = self.new.shown; later = self.new.later } }
     {
         self.shown.flush_passive(log)?;
-        let values = self.values.to_vec(self.alloc)?;
+        let values = copied(self.alloc, &self.values)?;
         let cut = Cut {
             updates: self.updates,
             resolutions: self.resolutions,
