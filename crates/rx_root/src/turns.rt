@@ -8,7 +8,7 @@ ghost use Rattle.rx_queue.specs.Journal.{resolved_since};
 ghost use Rattle.rx_loop.specs.Ends.{MatchDriven};
 ghost use Rattle.rx_meaning.specs.Outcome.{outcome, still_pending};
 ghost use Rattle.rx_model.specs.State.{State, Progress};
-ghost use Rattle.rx_model.specs.Committing.{passive_run, starting, deferred_as};
+ghost use Rattle.rx_model.specs.Committing.{passive_run, starting, schedule_deferred, deferred_as};
 ghost use Rattle.rx_model.specs.Turns.{slice_of, choice_of};
 ghost use Rattle.rx_model.specs.Kept.{IsSet};
 ghost use Rattle.rx_model.specs.Laws.{IsBounded, IsReached};
@@ -152,6 +152,17 @@ impl Root {
         self.shown.outcome(self.alloc, &tree, lanes)
     }
 
+    // Suspends the lanes of a deferred render, unless something that it waits for has its value by now.
+    fn suspend(&mut self, waits: &Awaits)
+        requires { KnowsSinceSome self.old }
+        ensures { (p : syntax.Program) (s : State) (g : Progress) → KnowsSince p s g self.old → self.old.schedule ≡ s.schedule → self.old.now ≡ s.now
+            → self.new ≡ record self.old { schedule = schedule_deferred s g waits.now } }
+    {
+        if !self.is_resolved_since(waits) {
+            self.lanes.deferred(self.renderer.lanes(), waits, self.now);
+        }
+    }
+
     // Defers a finished render until what it waits for has a value.
     fn defer(&mut self, waits: Awaits, log: &mut Report) -> Result<(), AllocError>
         requires { IsAtSomeEnd self.old }
@@ -160,9 +171,7 @@ impl Root {
     {
         let lanes = self.renderer.lanes();
         log.defer_line(lanes, self.renderer.units(), self.renderer.bodies())?;
-        if !self.is_resolved_since(&waits) {
-            self.lanes.deferred(lanes, &waits, self.now);
-        }
+        self.suspend(&waits);
         self.renderer.discard();
         Ok(())
     }
