@@ -23,6 +23,9 @@ use Rattle.rx_model.specs.Laws.{IsReached}
 use Rattle.run_laws.specs.Carried.{values_now}
 use Rattle.rx_links.specs.Drafts.{grafted}
 use Rattle.rx_fiber.specs.Reading.{IsTreeOf}
+use Rattle.end_laws.specs.Trimmed.{trimmed}
+use Rattle.host_laws.specs.Commits.{IsCommit, TextsAreLeaves}
+use Rattle.rx_commit.specs.Shown.{Shown, Shows}
 use Rattle.rx_commit.specs.Written.{with_lines}
 use Rattle.rx_render.specs.declared.at.At.TheVariants.{Over}
 use Rattle.rx_render.specs.Renders.{Renders}
@@ -140,6 +143,20 @@ pub record LeavesRoom (turns : ℕ) (old new : Rooted) : Type 0 where
   pub room : (more : ℕ) → HasRoomForTurns (turns + more) old → HasRoomForTurns more new
   pub updates : new.updates ≡ old.updates
   pub resolutions : new.resolutions ≡ old.resolutions
+
+-- What is shown is that of an old tree and its passive effects; the tree that is to be shown now is the new one, without the vacant places at the ends of its lists, and related to the old one as a commit relates them.
+pub record CanFollow (tree : Node) (old : Option Node) (passive : Passive) (new : Node) (v : Shown) : Type 0 where
+  pub shows : Shows old passive v
+  pub tree_is : tree ≡ trimmed new
+  pub commits : IsCommit old new
+  pub leaves : TextsAreLeaves new
+
+-- some new tree can follow
+pub record CanShow (tree : Node) (v : Shown) : Type 0 where
+  pub old : Option Node
+  pub passive : Passive
+  pub new : Node
+  pub follows : CanFollow tree old passive new v
 
 -- so many renders at most are left to finish until nothing is to be rendered
 abbrev pub CanFlush : (limit : ℕ) → Program → State → Type 0

@@ -1,9 +1,13 @@
 // Turns of rendering.
-ghost use Rattle.std.specs.Prelude.{◌≡◌, ℕ, ◌+◌, ◌<◌, ◌≤◌, ◌^◌, true, false, Some, None, option_map, IfOk, IfSome, OnErr, OnOk, length};
+ghost use Rattle.std.specs.Prelude.{◌≡◌, ℕ, ◌+◌, ◌<◌, ◌≤◌, ◌^◌, true, false, Option, Some, None, option_map, IfOk, IfSome, OnErr, OnOk, length};
 ghost use Rattle.rx_ast.specs.Syntax as syntax;
 ghost use Rattle.rx_check.specs.Accepted.{IsAccepted};
 ghost use Rattle.rx_elem.specs.Trees as trees;
 ghost use Rattle.rx_elem.specs.Numbers.{numbered};
+ghost use Rattle.rx_elem.specs.Compare.{compare_trees};
+ghost use Rattle.rx_effect.specs.EffectLog as effects;
+ghost use Rattle.rx_effect.specs.EffectLog.{passive_of};
+ghost use Rattle.rx_lane.specs.Lanes.{has, lanes_where};
 ghost use Rattle.rx_queue.specs.Journal.{resolved_since};
 ghost use Rattle.rx_loop.specs.Ends.{MatchDriven};
 ghost use Rattle.rx_meaning.specs.Outcome.{outcome, still_pending};
@@ -13,13 +17,14 @@ ghost use Rattle.rx_model.specs.Turns.{slice_of, choice_of};
 ghost use Rattle.rx_model.specs.Kept.{IsSet};
 ghost use Rattle.rx_model.specs.Laws.{IsBounded, IsReached};
 ghost use Rattle.end_laws.specs.Trimmed.{trimmed};
-ghost use Rattle.rx_commit.specs.Shown.{outcome_as};
-ghost use Rattle.rx_commit.specs.Written.{passive_lines, with_lines};
+ghost use Rattle.rx_commit.specs.Shown.{Shows, outcome_as};
+ghost use Rattle.rx_commit.specs.Written.{lines_of, passive_lines, with_lines};
 ghost use Rattle.rx_root.specs.Stands.{Stands, StandsWith};
-ghost use Rattle.rx_root.specs.Turning.{HasDone, HasFinished, HasNumbered, HasRoomForTurns, HasSomeProgress, HasYielded, IsAtSomeEnd, KnowsSince, KnowsSinceSome, StandsAtEnd, StandsBetween, counts_of, is_news};
+ghost use Rattle.rx_root.specs.Turning.{CanFollow, CanShow, HasDone, HasFinished, HasNumbered, HasRoomForTurns, HasSomeProgress, HasYielded, IsAtSomeEnd, KnowsSince, KnowsSinceSome, StandsAtEnd, StandsBetween, counts_of, is_news, passive_left};
 
 use crate::root::Root;
 use rx_base::{Awaits, Cut, Int, Steps};
+use rx_commit::Shown;
 use rx_lane::{Lane, Lanes};
 use rx_loop::{Driven, drive};
 use rx_node::Node;
@@ -49,6 +54,15 @@ fn copied(alloc: Global, values: &[Option<Int>]) -> Result<Vec<Option<Int>>, All
     ensures { IfOk result (λ v. v.items ≡ values.now) }
 {
     values.iter().copied().collect(alloc)
+}
+
+// A commit with the lane Sync has run its passive effects itself (react.dev, flushSync).
+fn end_passive_of(shown: &mut Shown, lanes: Lanes)
+    ensures { (tree : Option trees.Node) (passive : effects.Passive) → Shows tree passive shown.old → Shows tree (passive_left lanes passive) shown.new }
+{
+    if lanes.has(Lane::Sync) {
+        shown.end_passive();
+    }
 }
 
 impl Root {
@@ -203,5 +217,31 @@ impl Root {
         self.facts();
         self.numbers = self.renderer.number(self.numbers);
         self.renderer.finished()
+    }
+
+    // Shows the committed tree in place of the one before, and writes what its commit does.
+    fn show(&mut self, tree: Node, log: &mut Report) -> Result<(), AllocError>
+        requires room { self.old.commits + 1 < 2 ^ 64 }
+        requires can_show { CanShow tree self.old.shown }
+        ensures shown { OnOk result ((old : Option trees.Node) (passive : effects.Passive) (new : trees.Node) → CanFollow tree old passive new self.old.shown
+            → Shows (Some new) (passive_left self.old.rendering.lanes (passive_of (compare_trees old new))) self.new.shown) }
+        ensures written { OnOk result ((old : Option trees.Node) (passive : effects.Passive) (new : trees.Node) → CanFollow tree old passive new self.old.shown
+            → log.new ≡ with_lines log.old (lines_of (self.old.commits + 1) (lanes_where (has self.old.rendering.lanes)) (counts_of self.old) old new)) }
+        ensures rest { OnOk result (self.new ≡ record self.old { shown = self.new.shown; commits = self.old.commits + 1; instances = None }) }
+    {
+        let lanes = self.renderer.lanes();
+        let prepared = self.shown.prepare(self.alloc, tree)?;
+        prepared.write(
+            log,
+            self.commits + 1,
+            lanes,
+            self.renderer.units(),
+            self.renderer.bodies(),
+        )?;
+        self.shown.commit(prepared);
+        end_passive_of(&mut self.shown, lanes);
+        self.commits += 1;
+        self.instances = None;
+        Ok(())
     }
 }
