@@ -12,7 +12,7 @@ ghost use Rattle.rx_queue.specs.Journal.{resolved_since};
 ghost use Rattle.rx_loop.specs.Ends.{MatchDriven};
 ghost use Rattle.rx_meaning.specs.Outcome.{outcome, still_pending};
 ghost use Rattle.rx_model.specs.State.{State, Progress};
-ghost use Rattle.rx_model.specs.Committing.{passive_run, starting, schedule_deferred, deferred_as};
+ghost use Rattle.rx_model.specs.Committing.{passive_run, starting, committed_as, schedule_deferred, deferred_as};
 ghost use Rattle.rx_model.specs.Turns.{slice_of, choice_of};
 ghost use Rattle.rx_model.specs.Kept.{IsSet};
 ghost use Rattle.rx_model.specs.Laws.{IsBounded, IsReached};
@@ -242,6 +242,26 @@ impl Root {
         end_passive_of(&mut self.shown, lanes);
         self.commits += 1;
         self.instances = None;
+        Ok(())
+    }
+
+    // Commits a finished render (react.dev, Render and Commit).
+    fn commit(&mut self, log: &mut Report) -> Result<(), AllocError>
+        requires end { IsAtSomeEnd self.old }
+        requires room { HasRoomForTurns 1 self.old }
+        ensures { OnOk result ((p : syntax.Program) (s : State) (g : Progress) (tree : trees.Node) → StandsAtEnd p s g tree self.old
+            → IsReached p (committed_as s g (counts_of self.old) (numbered s.numbers tree)).after
+            → HasDone p (committed_as s g (counts_of self.old) (numbered s.numbers tree)) self.new log.old log.new) }
+    {
+        self.facts();
+        let first = self.numbers.instance;
+        let lanes = self.renderer.lanes();
+        let tree = self.number()?;
+        let still = self.still(&tree);
+        self.renderer.settle(self.shown.tree(), &tree, first)?;
+        self.show(tree, log)?;
+        self.renderer.commit();
+        self.lanes.finished(lanes, still, self.now);
         Ok(())
     }
 }
