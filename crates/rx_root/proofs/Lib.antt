@@ -11,3 +11,4 @@ pub mod CommitReady
 pub mod TurnLines
 pub mod TurnRoom
 pub mod TurnsTaken
+pub mod FlushSteps
