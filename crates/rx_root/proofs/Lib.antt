@@ -1,0 +1,14 @@
+pub mod Reached
+pub mod TurnReached
+pub mod FlushEnds
+pub mod AttributesOnce
+pub mod NumbersGrow
+pub mod TurnStands
+pub mod CommitStands
+pub mod ResolvedSince
+pub mod DriveEnds
+pub mod CommitReady
+pub mod TurnLines
+pub mod TurnRoom
+pub mod TurnsTaken
+pub mod FlushSteps
