@@ -1,3 +1,4 @@
 pub mod Reached
 pub mod HookCounts
 pub mod Paths
+pub mod Standing

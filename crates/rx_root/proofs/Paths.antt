@@ -30,13 +30,13 @@ use Rattle.rx_script.specs.Words.{lines_of, words_of}
 use Rattle.rx_elem.specs.Spots.{Mounted}
 use Rattle.rx_model.specs.State.{find_from, hooks_at, is_step, name_of, step_to}
 use Rattle.host_laws.proofs.IdentityLaws.{both, position_of_one}
-use Rattle.rx_root.specs.CanTake.{AllCanTake, CanTake}
+use Rattle.rx_root.specs.Taking.{AllCanTake, CanTake}
 use Rattle.rx_root.proofs.HookCounts.{HasHooks}
 
 -- ---- scripts
 
 good_can : (p : Program) (s : Step) (a b : Bool) → has_targets p s ≡ a → in_bounds s ≡ b → (x : Step) → cond a (cond b (good s) (bad out_of_range)) (bad unknown_target) ≡ good x → CanTake p x
-good_can p s true true t i x is = let same : s ≡ x = cc in subst (CanTake p) same (record { targets = t; bounds = i })
+good_can p s true true t i x is = let same : s ≡ x = cc in subst (CanTake p) same (t, i)
 good_can p s true false t i x is = cc
 good_can p s false b t i x is = cc
 
@@ -293,6 +293,6 @@ reducer_some (Some k) is = (k, refl)
 
 -- a dispatch that can be taken names a hook of the component that its path ends at
 pub dispatch_hook : (p : Program) (d : Dispatch) → CanTake p (step.Dispatch d) → (k : HookKind) × (hook_at p (path_of d) (hook_name d) ≡ Some k)
-dispatch_hook p (Set word path name x) can = state_some (hook_at p path name) can.targets
-dispatch_hook p (Call word path name f x) can = state_some (hook_at p path name) (both (is_state (hook_at p path name)) _ can.targets).0
-dispatch_hook p (Send word path name x) can = reducer_some (hook_at p path name) can.targets
+dispatch_hook p (Set word path name x) can = state_some (hook_at p path name) can.0
+dispatch_hook p (Call word path name f x) can = state_some (hook_at p path name) (both (is_state (hook_at p path name)) _ can.0).0
+dispatch_hook p (Send word path name x) can = reducer_some (hook_at p path name) can.0
