@@ -22,7 +22,7 @@ use Rattle.render_laws.proofs.Bounded.{units_within}
 use Rattle.rx_render.specs.declared.at.At.{At}
 use Rattle.rx_render.specs.declared.at.At.TheVariants.{Over}
 use Rattle.rx_render.specs.Rendering.{Rendering, IfLeft, ComesTo, to_place, to_end, to_tree, to_wait}
-use Rattle.rx_render.specs.Renders.{Renders}
+use Rattle.rx_render.specs.Renders.{HasCome, Renders}
 
 -- an end that is in progress is no wait
 no_wait : (p : Program) → IsBounded p → (s : Sight) (old : Option Node) → s.program ≡ p → (units bodies : ℕ) (a : _) → InProgress s old units bodies (ended (waits a)) → ⊥
@@ -45,7 +45,7 @@ ends_as p bounded s old same units bodies t st _ _ (to_wait {a = a}) e g = absur
 
 pub renders_end : (p : Program) → IsBounded p → (st : State) (g : Progress) (v : Rendering) → Renders p st g v → v.at ≡ Over
     → Ends v.trees (sight_of p st g) st.tree v.units v.bodies
-renders_end p bounded st g v r e = ends_as p bounded (sight_of p st g) st.tree refl v.units v.bodies v.trees v.contexts v.at r.cursor r.comes e r.goes
+renders_end p bounded st g v r e = ends_as p bounded (sight_of p st g) st.tree refl v.units v.bodies v.trees v.contexts v.at r.come.cursor r.come.comes e r.come.goes
 
 bounded_as : (s : Sight) (old : Option Node) → IsBounded s.program → (units bodies : ℕ) (t : Trees Fiber) (st : Stack) (at : At) (c : Cursor)
     → ComesTo t st at c → InProgress s old units bodies c → IfLeft at (units < unit_bound s.program)
@@ -54,5 +54,9 @@ bounded_as s old b units bodies t st _ _ (to_end h) g = omega (arith, holds_unfi
 bounded_as s old b units bodies t st _ _ (to_tree h) g = tt
 bounded_as s old b units bodies t st _ _ to_wait g = tt
 
+-- where a unit is left fewer were taken than the bound
+pub come_bounded : (s : Sight) (old : Option Node) (v : Rendering) → IsBounded s.program → HasCome s old v → IfLeft v.at (v.units < unit_bound s.program)
+come_bounded s old v bounded h = bounded_as s old bounded v.units v.bodies v.trees v.contexts v.at h.cursor h.comes h.goes
+
 pub renders_bounded : (p : Program) → IsBounded p → (st : State) (g : Progress) (v : Rendering) → Renders p st g v → IfLeft v.at (v.units < unit_bound p)
-renders_bounded p bounded st g v r = bounded_as (sight_of p st g) st.tree bounded v.units v.bodies v.trees v.contexts v.at r.cursor r.comes r.goes
+renders_bounded p bounded st g v r = come_bounded (sight_of p st g) st.tree v bounded r.come

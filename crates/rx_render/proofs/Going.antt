@@ -19,8 +19,9 @@ use Rattle.rx_links.specs.Drafts.{Draft, taken, made, Trees, Makes}
 use Rattle.rx_links.specs.Places.{Around, placed, IsAt}
 use Rattle.rx_links.specs.Readers.{made_value_of}
 use Rattle.rx_meaning.specs.Body.{Body, wait, ready, body_of}
-use Rattle.rx_meaning.specs.Fresh.{Sight, Contexts, inputs_at, old_instance, resources_seen, shape_of, shape_of_body}
-use Rattle.rx_meaning.specs.Cursor.{Open, Frame, Cursor, at_place, at_end, ended, is_null, is_over, unit, HasLevel}
+use Rattle.rx_meaning.specs.Fresh.{Sight, Contexts, inputs_at, old_instance, shape_of, shape_of_body}
+use Rattle.rx_meaning.specs.Cursor.{Open, Frame, Cursor, at_place, at_end, ended, is_null, unit, HasLevel}
+use Rattle.rx_meaning.specs.Cursor as cursors
 use Rattle.rx_meaning.specs.Counts.{each_body, next_counts, begins_as, one_if_component}
 use Rattle.rx_meaning.specs.Settled.{DoneBefore}
 use Rattle.rx_model.specs.State.{State, Progress}
@@ -49,13 +50,13 @@ use Rattle.rx_render.specs.declared.at.At.TheVariants.{Begins, Completes, Over}
 use Rattle.rx_render.specs.Mounting.{IfMounted, HasInstances}
 use Rattle.rx_render.specs.ContextLists.{CursorHasContexts}
 use Rattle.rx_render.specs.Rendering.{Rendering, IfLeft, units_left, left_of, ComesTo, to_place, to_end, to_tree, to_wait}
-use Rattle.rx_render.specs.Renders.{Renders, IsUnderWay, IsRendering}
+use Rattle.rx_render.specs.Renders.{Sees, GivesAll, HasCome, Renders, IsUnderWay, IsRendering}
 use Rattle.rx_render.specs.Turning.{KeepsHooks, GoesOn, BreaksOff, GivesUp}
-use Rattle.rx_render.specs.LastUnit.{unit_before}
+use Rattle.rx_render.specs.LastUnit.{unit_before, is_over}
 use Rattle.rx_render.specs.Advancing.{IsMadeAt, bodies_next, CanBegin, IsReadyAt, GivesAt, Advances}
 use Rattle.rx_render.proofs.Contexts.{unit_sees}
 use Rattle.rx_render.proofs.Instances.{unit_instances}
-use Rattle.rx_render.proofs.Ending.{renders_bounded}
+use Rattle.rx_render.proofs.Ending.{come_bounded}
 
 -- what a cursor is drawn by after a unit
 abbrev pub DrawsUnit : Type 0
@@ -72,7 +73,7 @@ is_left (Begins id) bound units h a = a
 is_left (Completes id) bound units h a = a
 is_left Over bound units h a = absurd (omega (arith, h))
 
-left_busy : (t : Trees Fiber) (st : Stack) (at : At) (c : Cursor) (bound units : ℕ) → ComesTo t st at c → 0 < units_left at bound units → is_over c ≡ false
+left_busy : (t : Trees Fiber) (st : Stack) (at : At) (c : Cursor) (bound units : ℕ) → ComesTo t st at c → 0 < units_left at bound units → cursors.is_over c ≡ false
 left_busy t st _ _ bound units (to_place h) l = refl
 left_busy t st _ _ bound units (to_end h) l = refl
 left_busy t st _ _ bound units (to_tree h) l = absurd (omega (arith, l))
@@ -122,32 +123,29 @@ counts_next s t st _ _ knows draws drawn level to_wait = refl
 
 -- The hooks of old instances
 
-gives_node : (p : Program) (st : State) (g : Progress) (kept : ℕ → Option (List Hook)) → KeepsAllHooks p st kept → DoneBefore g.cut st.journal.updates
-    → (x : Node) → HasInstances st.tree x → GivesHooks (sight_of p st g) kept (instance_in (mark_of x))
-gives_node p st g kept keeps done (node e m ns fs) h i n is number =
+gives_node : (s : Sight) (tree : Option Node) (kept : ℕ → Option (List Hook)) → GivesAll s tree kept → (x : Node) → HasInstances tree x → GivesHooks s kept (instance_in (mark_of x))
+gives_node s tree kept gives (node e m ns fs) h i n is number =
     let w = h.0 i n is number in
-    subst (λ k. GivesValues (sight_of p st g) kept k i.initials) w.is_numbered
-    (subst (λ xs. GivesValues (sight_of p st g) kept w.instance.number xs) w.is_initially
-    (keeps-give p st g kept w.instance.number w.instance.initials done (each-keeps p st kept keeps w.place w.instance w.there)))
+    subst (λ k. GivesValues s kept k i.initials) w.is_numbered (subst (λ xs. GivesValues s kept w.instance.number xs) w.is_initially (gives w.place w.instance w.there))
 
-gives_at : (p : Program) (st : State) (g : Progress) (kept : ℕ → Option (List Hook)) → KeepsAllHooks p st kept → DoneBefore g.cut st.journal.updates
-    → (c : Cursor) → CursorHas (HasInstances st.tree) c → GivesAt (sight_of p st g) kept c
-gives_at p st g kept keeps done (at_place n fs cs e None) h = λ i m is number. absurd (let f : ⊥ = cc in f)
-gives_at p st g kept keeps done (at_place n fs cs e (Some x)) h = gives_node p st g kept keeps done x h.0
-gives_at p st g kept keeps done (at_end n fs o d) h = tt
-gives_at p st g kept keeps done (ended x) h = tt
+gives_at : (s : Sight) (tree : Option Node) (kept : ℕ → Option (List Hook)) → GivesAll s tree kept → (c : Cursor) → CursorHas (HasInstances tree) c → GivesAt s kept c
+gives_at s tree kept gives (at_place n fs cs e None) h = λ i m is number. absurd (let f : ⊥ = cc in f)
+gives_at s tree kept gives (at_place n fs cs e (Some x)) h = gives_node s tree kept gives x h.0
+gives_at s tree kept gives (at_end n fs o d) h = tt
+gives_at s tree kept gives (ended x) h = tt
 
 -- A unit
 
--- a rendering sees what a render sees
-pub record Sees (v : Rendering) (s : Sight) : Type 0 where
-  pub program : s.program ≡ v.program
-  pub resources : v.resources ≡ resources_seen s
-  pub lanes : s.lanes ≡ v.lanes
-  pub cut : s.cut ≡ v.cut
-
-pub renders_sees : (p : Program) (st : State) (g : Progress) (v : Rendering) → Renders p st g v → Sees v (sight_of p st g)
+renders_sees : (p : Program) (st : State) (g : Progress) (v : Rendering) → Renders p st g v → Sees v (sight_of p st g)
 renders_sees p st g v r = record { program = sym r.program; resources = r.resources; lanes = sym r.lanes; cut = sym r.cut }
+
+renders_give : (p : Program) (st : State) (g : Progress) (v : Rendering) → Renders p st g v → GivesAll (sight_of p st g) st.tree (kept_hooks v.hooks)
+renders_give p st g v r k m at = keeps-give p st g (kept_hooks v.hooks) m.number m.initials r.done (each-keeps p st (kept_hooks v.hooks) r.keeps k m at)
+
+-- where a render is in progress one is under way
+pub renders_under_way : (st : State) (g : Progress) (v : Rendering) → Renders v.program st g v → IsUnderWay v
+renders_under_way st g v r =
+    record { sight = sight_of v.program st g; tree = st.tree; sees = renders_sees v.program st g v r; gives = renders_give v.program st g v r; come = r.come }
 
 -- what a unit makes of a rendering
 pub record Stepped (old new : Rendering) (evaluated : ℕ) : Type 0 where
@@ -161,33 +159,51 @@ pub record Stepped (old new : Rendering) (evaluated : ℕ) : Type 0 where
   pub evaluates : evaluated ≡ bodies_next old.trees.draft old.at
   pub knows : KnowsPlaces old.trees
   pub keeps : (st : State) → DoneBefore old.cut st.journal.updates → KeepsAllHooks old.program st (kept_hooks old.hooks) → KeepsAllHooks old.program st (kept_hooks new.hooks)
+  pub still : (s : Sight) (k : ℕ) (initials : List ℤ) → Sees old s → GivesValues s (kept_hooks old.hooks) k initials → GivesValues s (kept_hooks new.hooks) k initials
   pub advances : (s : Sight) → Sees old s → Advances s (kept_hooks old.hooks) old.trees old.contexts old.at new.trees new.contexts new.at
 
 module _ (old new : Rendering) (evaluated : ℕ) (step : Stepped old new evaluated) (draws : DrawsUnit) (places : DrawsPlace) (known : unknowns old.program ≡ []) (left : 0 < left_of old) where
+  step_comes : (s : Sight) (tree : Option Node) → Sees old s → GivesAll s tree (kept_hooks old.hooks) → HasCome s tree old → HasCome s tree new
+  step_comes s tree sees gives come =
+      let c = come.cursor in
+      let busy : cursors.is_over c ≡ false = left_busy old.trees old.contexts old.at c (unit_bound old.program) old.units come.comes left in
+      let level : HasLevel c = fit_has_level s.program c come.goes.fits come.goes.stands in
+      let counted : bodies_next old.trees.draft old.at ≡ next_counts each_body s c = counts_next s old.trees old.contexts old.at c step.knows places come.drawn level come.comes in
+      record {
+        cursor = unit s c;
+        comes = step.advances s sees c come.comes level (gives_at s tree (kept_hooks old.hooks) gives c come.olds);
+        goes = rw (step.units, step.bodies) (unit_holds s tree old.units old.bodies c come.goes busy evaluated (omega (arith, step.evaluates, counted)));
+        drawn = draws s c (subst (λ q. unknowns q ≡ []) (sym sees.program) known) come.drawn;
+        seen = unit_sees (length (contexts s.program)) s c come.seen;
+        olds = unit_instances tree s c come.olds;
+      }
+
+  step_sees : (s : Sight) → Sees old s → Sees new s
+  step_sees s sees =
+      record {
+        program = sees.program ∙ sym step.program;
+        resources = step.resources ∙ sees.resources;
+        lanes = sees.lanes ∙ sym step.lanes;
+        cut = sees.cut ∙ sym step.cut;
+      }
+
+  step_keeps : (p : Program) → old.program ≡ p → (st : State) (g : Progress) → Renders p st g old → KeepsAllHooks p st (kept_hooks new.hooks)
+  step_keeps p same st g r =
+      let done : DoneBefore old.cut st.journal.updates = subst (λ k. DoneBefore k st.journal.updates) (sym r.cut) r.done in
+      subst (λ q. KeepsAllHooks q st (kept_hooks new.hooks)) same (step.keeps st done (subst (λ q. KeepsAllHooks q st (kept_hooks old.hooks)) (sym same) r.keeps))
+
   step_renders : (p : Program) → old.program ≡ p → (st : State) (g : Progress) → Renders p st g old → Renders p st g new
   step_renders p same st g r =
-      let s = sight_of p st g in
-      let c = r.cursor in
-      let busy : is_over c ≡ false = left_busy old.trees old.contexts old.at c (unit_bound old.program) old.units r.comes left in
-      let level : HasLevel c = fit_has_level p c r.goes.fits r.goes.stands in
-      let counted : bodies_next old.trees.draft old.at ≡ next_counts each_body s c = counts_next s old.trees old.contexts old.at c step.knows places r.drawn level r.comes in
-      let done : DoneBefore old.cut st.journal.updates = subst (λ k. DoneBefore k st.journal.updates) (sym r.cut) r.done in
-      let keeps : KeepsAllHooks p st (kept_hooks new.hooks) =
-      subst (λ q. KeepsAllHooks q st (kept_hooks new.hooks)) same (step.keeps st done (subst (λ q. KeepsAllHooks q st (kept_hooks old.hooks)) (sym same) r.keeps)) in
       record {
         program = step.program ∙ r.program;
         resources = step.resources ∙ r.resources;
         lanes = step.lanes ∙ r.lanes;
         cut = step.cut ∙ r.cut;
         current = subst (IsTreeOf st.tree) (sym step.current) r.current;
-        keeps = keeps;
+        keeps = step_keeps p same st g r;
         done = r.done;
-        cursor = unit s c;
-        comes = step.advances s (renders_sees p st g old r) c r.comes level (gives_at p st g (kept_hooks old.hooks) r.keeps r.done c r.olds);
-        goes = rw (step.units, step.bodies) (unit_holds s st.tree old.units old.bodies c r.goes busy evaluated (omega (arith, step.evaluates, counted)));
-        drawn = draws s c (subst (λ q. unknowns q ≡ []) same known) r.drawn;
-        seen = unit_sees (length (contexts p)) s c r.seen;
-        olds = unit_instances st.tree s c r.olds;
+        past = r.past;
+        come = step_comes (sight_of p st g) st.tree (renders_sees p st g old r) (renders_give p st g old r) r.come;
       }
 
   pub step_goes_on : GoesOn old new
@@ -202,33 +218,41 @@ module _ (old new : Rendering) (evaluated : ℕ) (step : Stepped old new evaluat
         renders = λ st g r. subst (λ p. Renders p st g new) (sym step.program) (step_renders old.program refl st g r);
       }
 
+  pub step_way : IsUnderWay old → IsUnderWay new
+  step_way way =
+      record {
+        sight = way.sight;
+        tree = way.tree;
+        sees = step_sees way.sight way.sees;
+        gives = λ k m at. step.still way.sight m.number m.initials way.sees (way.gives k m at);
+        come = step_comes way.sight way.tree way.sees way.gives way.come;
+      }
+
+if_left : (at : At) {A : Type 0} → A → IfLeft at A
+if_left (Begins id) a = a
+if_left (Completes id) a = a
+if_left Over a = tt
+
 -- a rendering that a render is in progress of is one
 pub step_rendering : (old new : Rendering) (evaluated : ℕ) → Stepped old new evaluated → DrawsUnit → DrawsPlace → IsRendering old → 0 < left_of old → IsRendering new
 step_rendering old new evaluated step draws places is left =
-    let way = is_left old.at (unit_bound old.program) old.units left is.under_way in
-    let on = step_goes_on old new evaluated step draws places is.known left in
     record {
       known = subst (λ p. unknowns p ≡ []) (sym step.program) is.known;
       bounded = subst IsBounded (sym step.program) is.bounded;
-      under_way = if_left new.at (record { state = way.state; progress = way.progress; renders = on.renders way.state way.progress way.renders });
+      under_way = if_left new.at (step_way old new evaluated step draws places is.known left (is_left old.at (unit_bound old.program) old.units left is.under_way));
     }
-  where
-    if_left : (at : At) → {A : Type 0} → A → IfLeft at A
-    if_left (Begins id) a = a
-    if_left (Completes id) a = a
-    if_left Over a = tt
 
 -- What a unit needs
 
-ready_as : (p : Program) (st : State) (g : Progress) (v : Rendering) → Renders p st g v → DrawsPlace → (scene : Scene) → ((s : Sight) → Sees v s → IsSceneOf scene s) → scene.checked.now ≡ p
-    → (at : At) (c : Cursor) → ComesTo v.trees v.contexts at c → InProgress (sight_of p st g) st.tree v.units v.bodies c → CursorDrawn p c → CursorHasContexts (length (contexts p)) c
-    → CursorHas (HasInstances st.tree) c → is_over c ≡ false → IsReadyAt scene (kept_hooks v.hooks) v.trees v.contexts at
-ready_as p st g v r draws scene sees same _ _ (to_place {levels = zero} {fs = fs} {cs = cs} {e = e} {old = old} h) goes drawn seen olds busy =
-    absurd (let l : HasLevel (at_place zero fs cs e old) = fit_has_level p (at_place zero fs cs e old) goes.fits goes.stands in omega (arith, l))
-ready_as p st g v r draws scene sees same _ _ (to_place {id = id} {levels = suc n} {fs = fs} {cs = cs} {e = e} {old = old} h) goes drawn seen olds busy =
+ready_as : (s : Sight) (tree : Option Node) (v : Rendering) → Sees v s → GivesAll s tree (kept_hooks v.hooks) → DrawsPlace → (scene : Scene) → IsSceneOf scene s → scene.checked.now ≡ s.program
+    → (at : At) (c : Cursor) → ComesTo v.trees v.contexts at c → InProgress s tree v.units v.bodies c → CursorDrawn s.program c → CursorHasContexts (length (contexts s.program)) c
+    → CursorHas (HasInstances tree) c → cursors.is_over c ≡ false → IsReadyAt scene (kept_hooks v.hooks) v.trees v.contexts at
+ready_as s tree v see gives draws scene sees same _ _ (to_place {levels = zero} {fs = fs} {cs = cs} {e = e} {old = old} h) goes drawn seen olds busy =
+    absurd (let l : HasLevel (at_place zero fs cs e old) = fit_has_level s.program (at_place zero fs cs e old) goes.fits goes.stands in omega (arith, l))
+ready_as s tree v see gives draws scene sees same _ _ (to_place {id = id} {levels = suc n} {fs = fs} {cs = cs} {e = e} {old = old} h) goes drawn seen olds busy =
     record {
-      sight = sight_of p st g;
-      sees = sees (sight_of p st g) (renders_sees p st g v r);
+      sight = s;
+      sees = sees;
       levels = n;
       frames = fs;
       contexts_are = cs;
@@ -236,35 +260,37 @@ ready_as p st g v r draws scene sees same _ _ (to_place {id = id} {levels = suc 
       old = old;
       stands = h;
       there = goes.stands;
-      drawn = subst (λ q. IsDrawn q e) (sym same) (draws p (suc n) fs cs e old drawn);
-      gives = gives_at p st g (kept_hooks v.hooks) r.keeps r.done (at_place (suc n) fs cs e old) olds;
+      drawn = subst (λ q. IsDrawn q e) (sym same) (draws s.program (suc n) fs cs e old drawn);
+      gives = gives_at s tree (kept_hooks v.hooks) gives (at_place (suc n) fs cs e old) olds;
       each = values_are h ∙ (seen.0 ∙ ap (λ q. length (contexts q)) (sym same));
     }
   where
     values_are : StandsAt v.trees v.contexts (Some id) (at_place (suc n) fs cs e old) → length (values_at v.contexts) ≡ length cs
     values_are (begins here waits was around values stack) = ap length values
-ready_as p st g v r draws scene sees same _ _ (to_end h) goes drawn seen olds busy = ends h
-ready_as p st g v r draws scene sees same _ _ (to_tree h) goes drawn seen olds busy = absurd (let f : ⊥ = cc in f)
-ready_as p st g v r draws scene sees same _ _ to_wait goes drawn seen olds busy = absurd (let f : ⊥ = cc in f)
+ready_as s tree v see gives draws scene sees same _ _ (to_end h) goes drawn seen olds busy = ends h
+ready_as s tree v see gives draws scene sees same _ _ (to_tree h) goes drawn seen olds busy = absurd (let f : ⊥ = cc in f)
+ready_as s tree v see gives draws scene sees same _ _ to_wait goes drawn seen olds busy = absurd (let f : ⊥ = cc in f)
 
 module _ (v : Rendering) (is : IsRendering v) (left : 0 < left_of v) where
-  abbrev way : IsUnderWay v
+  abbrev pub way : IsUnderWay v
   way = is_left v.at (unit_bound v.program) v.units left is.under_way
 
   pub unit_made : KnowsPlaces v.trees → IsMadeAt v.trees.draft v.at
-  unit_made knows = made_at v.trees v.contexts v.at way.renders.cursor knows way.renders.comes
+  unit_made knows = made_at v.trees v.contexts v.at way.come.cursor knows way.come.comes
 
   pub unit_ready : DrawsPlace → (scene : Scene) → ((s : Sight) → Sees v s → IsSceneOf scene s) → scene.checked.now ≡ v.program → IsReadyAt scene (kept_hooks v.hooks) v.trees v.contexts v.at
   unit_ready draws scene sees same =
-      let r = way.renders in
-      ready_as v.program way.state way.progress v r draws scene sees same v.at r.cursor r.comes r.goes r.drawn r.seen r.olds
-      (left_busy v.trees v.contexts v.at r.cursor (unit_bound v.program) v.units r.comes left)
+      let come = way.come in
+      ready_as way.sight way.tree v way.sees way.gives draws scene (sees way.sight way.sees) (same ∙ sym way.sees.program) v.at come.cursor come.comes come.goes come.drawn come.seen come.olds
+      (left_busy v.trees v.contexts v.at come.cursor (unit_bound v.program) v.units come.comes left)
 
   pub unit_below : v.units < unit_bound v.program
-  unit_below = is_left v.at (unit_bound v.program) v.units left (renders_bounded v.program is.bounded way.state way.progress v way.renders)
+  unit_below =
+      subst (λ p. v.units < unit_bound p) way.sees.program
+      (is_left v.at (unit_bound v.program) v.units left (come_bounded way.sight way.tree v (subst IsBounded (sym way.sees.program) is.bounded) way.come))
 
   pub bodies_below : v.bodies ≤ v.units
-  bodies_below = let h = way.renders.goes.fewer in omega (arith, h)
+  bodies_below = let h = way.come.goes.fewer in omega (arith, h)
 
 -- What a unit leaves, from the value that was opened
 
@@ -287,9 +313,10 @@ units_last Over bound units h = refl
 pub stepped : (inside : Rendering) (t : Trees Fiber) (hooks : Kept) (st : Stack) (next : At) (evaluated : ℕ) → t.current ≡ inside.trees.current
     → evaluated ≡ bodies_next inside.trees.draft inside.at → KnowsPlaces inside.trees
     → ((st : State) → DoneBefore inside.cut st.journal.updates → KeepsAllHooks inside.program st (kept_hooks inside.hooks) → KeepsAllHooks inside.program st (kept_hooks hooks))
+    → ((s : Sight) (k : ℕ) (initials : List ℤ) → Sees inside s → GivesValues s (kept_hooks inside.hooks) k initials → GivesValues s (kept_hooks hooks) k initials)
     → ((s : Sight) → Sees inside s → Advances s (kept_hooks inside.hooks) inside.trees inside.contexts inside.at t st next)
     → Stepped inside (record inside { trees = t; hooks = hooks; contexts = st; at = next; units = inside.units + 1; bodies = inside.bodies + evaluated }) evaluated
-stepped inside t hooks st next evaluated current counted knows keeps advances =
+stepped inside t hooks st next evaluated current counted knows keeps still advances =
     record {
       program = refl;
       current = current;
@@ -301,12 +328,35 @@ stepped inside t hooks st next evaluated current counted knows keeps advances =
       evaluates = counted;
       knows = knows;
       keeps = keeps;
+      still = still;
       advances = advances;
     }
 
 -- few units are left of a rendering
 pub few_left : (v : Rendering) → IsRendering v → left_of v < 2 ^ 64
 few_left v is = let a = is.bounded.small in let b = units_most v.at (unit_bound v.program) v.units in omega (arith, a, b)
+
+pub over_at : (at : At) → is_over at ≡ true → at ≡ Over
+over_at (Begins id) e = absurd (let f : ⊥ = cc in f)
+over_at (Completes id) e = absurd (let f : ⊥ = cc in f)
+over_at Over e = refl
+
+some_units : (at : At) (bound units : ℕ) → units < bound → is_over at ≡ false → 0 < units_left at bound units
+some_units (Begins id) bound units h e = omega (arith, h)
+some_units (Completes id) bound units h e = omega (arith, h)
+some_units Over bound units h e = absurd (let f : ⊥ = cc in f)
+
+if_busy : (at : At) {A : Type 0} → IfLeft at A → is_over at ≡ false → A
+if_busy (Begins id) a e = a
+if_busy (Completes id) a e = a
+if_busy Over a e = absurd (let f : ⊥ = cc in f)
+
+-- units are left where it is not over
+pub some_left : (v : Rendering) → IsRendering v → is_over v.at ≡ false → 0 < left_of v
+some_left v is e =
+    let way = if_busy v.at is.under_way e in
+    some_units v.at (unit_bound v.program) v.units
+    (subst (λ p. v.units < unit_bound p) way.sees.program (if_busy v.at (come_bounded way.sight way.tree v (subst IsBounded (sym way.sees.program) is.bounded) way.come) e)) e
 
 -- a rendering that is over is one
 pub over_rendering : (old new : Rendering) → IsRendering old → new.program ≡ old.program → new.at ≡ Over → IsRendering new
@@ -391,11 +441,10 @@ module _ (value inside : Rendering) (same : inside ≡ value) (is : IsRendering 
         → after + value.bodies ≡ before + new.bodies
     ticks before after f =
         let way = is_left inside.at (unit_bound inside.program) inside.units inside_left is.under_way in
-        let r = way.renders in
-        let s = sight_of inside.program way.state way.progress in
-        let level : HasLevel r.cursor = fit_has_level inside.program r.cursor r.goes.fits r.goes.stands in
-        let a = f s r.cursor (renders_sees inside.program way.state way.progress inside r) r.comes level in
-        let b = counts_next s inside.trees inside.contexts inside.at r.cursor step.knows places r.drawn level r.comes in
+        let come = way.come in
+        let level : HasLevel come.cursor = fit_has_level way.sight.program come.cursor come.goes.fits come.goes.stands in
+        let a = f way.sight come.cursor way.sees come.comes level in
+        let b = counts_next way.sight inside.trees inside.contexts inside.at come.cursor step.knows places come.drawn level come.comes in
         let c : value.bodies ≡ inside.bodies = ap (λ v. v.bodies) (sym same) in
         omega (arith, a, b, c, step.evaluates, step.bodies)
 

@@ -6,4 +6,6 @@ pub mod Starting
 pub mod Ending
 pub mod Advancing
 pub mod Going
+pub mod Sending
+pub mod Sizes
 pub mod First

@@ -1,6 +1,6 @@
 -- A render that starts is in progress.
 use Rattle.std.specs.Prelude.{◌≡◌, ℕ, ℤ, List, [], Option, true, refl}
-use Rattle.std.proofs.Common.{sym, ap, ◌∙◌, subst}
+use Rattle.std.proofs.Common.{sym, ap, ◌∙◌, subst, arith}
 use Rattle.rx_base.specs.declared.cut.Cut.{Cut}
 use Rattle.rx_lane.specs.Lanes.{Lanes}
 use Rattle.rx_ctx.specs.Contexts as contexts
@@ -29,6 +29,7 @@ use Rattle.rx_render.specs.Rendering.{Rendering, IfLeft, ComesTo, to_place}
 use Rattle.rx_render.specs.Renders.{Renders, IsStartOf, CanStart, IsUnderWay, IsRendering}
 use Rattle.rx_render.proofs.Contexts.{start_sees}
 use Rattle.rx_render.proofs.Instances.{start_instances}
+use Rattle.rx_render.proofs.Going.{renders_under_way}
 
 -- what a cursor at its start is drawn by
 abbrev pub DrawsStart : Type 0
@@ -70,12 +71,15 @@ start_renders lanes cut resources old new r draws bounded st is =
       current = tree;
       keeps = subst (λ k. KeepsAllHooks old.program st (kept_hooks k)) (sym r.hooks) is.keeps;
       done = rw (← is.cut_is) is.done;
-      cursor = start s st.tree;
-      comes = rw (r.at, r.contexts_are) (comes_to_start s st.tree new.trees r.id r.value tree r.waits r.here);
-      goes = rw (r.units, r.bodies) (start_holds s st.tree bounded.shallow);
-      drawn = draws s st.tree bounded.rooted;
-      seen = start_sees s st.tree;
-      olds = start_instances s st.tree;
+      past = record { updates = omega arith; resolutions = omega arith };
+      come = record {
+        cursor = start s st.tree;
+        comes = rw (r.at, r.contexts_are) (comes_to_start s st.tree new.trees r.id r.value tree r.waits r.here);
+        goes = rw (r.units, r.bodies) (start_holds s st.tree bounded.shallow);
+        drawn = draws s st.tree bounded.rooted;
+        seen = start_sees s st.tree;
+        olds = start_instances s st.tree;
+      };
     }
 
 -- what a start leaves, by what it makes
@@ -119,10 +123,8 @@ start_rendering lanes cut resources old new id r draws known bounded can =
     record {
       known = known;
       bounded = bounded;
-      under_way = subst (λ a. IfLeft a (IsUnderWay new)) (sym r.at) (record {
-        state = can.state;
-        progress = starting can.state lanes;
-        renders = subst (λ p. Renders p can.state (starting can.state lanes) new) (sym r.program)
-            (start_renders lanes cut resources old new r draws (subst IsBounded r.program bounded) can.state can.is);
-      });
+      under_way = subst (λ a. IfLeft a (IsUnderWay new)) (sym r.at)
+          (renders_under_way can.state (starting can.state lanes) new
+          (subst (λ p. Renders p can.state (starting can.state lanes) new) (sym r.program)
+          (start_renders lanes cut resources old new r draws (subst IsBounded r.program bounded) can.state can.is)));
     }

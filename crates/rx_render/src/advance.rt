@@ -121,6 +121,7 @@ fn begin_place<L: Ledger>(
     ensures comes { IfOk result (λ a. (s : Sight) → IsSceneOf scene.now s → Advances s (kept_hooks hooks.old) tree.old contexts.old (At.Begins id) tree.new contexts.new a) }
     ensures ticks { OnOk result ((s : Sight) (c : Cursor) → IsSceneOf scene.now s → ComesTo tree.old contexts.old (At.Begins id) c → HasLevel c → steps.new ≡ steps.old + next_counts each_body s c) }
     ensures current { tree.new.current ≡ tree.old.current }
+    ensures still { (s : Sight) (k : ℕ) (initials : List ℤ) → IsSceneOf scene.now s → GivesValues s (kept_hooks hooks.old) k initials → GivesValues s (kept_hooks hooks.new) k initials }
     ensures states { (st : State) → DoneBefore scene.now.cut st.journal.updates → KeepsAllHooks scene.now.checked.now st (kept_hooks hooks.old) → KeepsAllHooks scene.now.checked.now st (kept_hooks hooks.new) }
     ensures rises { steps.old ≤ steps.new }
 {
@@ -150,6 +151,7 @@ pub(crate) fn advance<L: Ledger>(
     ensures comes { IfOk result (λ a. (s : Sight) → IsSceneOf scene.now s → Advances s (kept_hooks hooks.old) tree.old contexts.old at tree.new contexts.new a) }
     ensures ticks { OnOk result ((s : Sight) (c : Cursor) → IsSceneOf scene.now s → ComesTo tree.old contexts.old at c → HasLevel c → steps.new ≡ steps.old + next_counts each_body s c) }
     ensures current { tree.new.current ≡ tree.old.current }
+    ensures still { (s : Sight) (k : ℕ) (initials : List ℤ) → IsSceneOf scene.now s → GivesValues s (kept_hooks hooks.old) k initials → GivesValues s (kept_hooks hooks.new) k initials }
     ensures states { (st : State) → DoneBefore scene.now.cut st.journal.updates → KeepsAllHooks scene.now.checked.now st (kept_hooks hooks.old) → KeepsAllHooks scene.now.checked.now st (kept_hooks hooks.new) }
     ensures rises { steps.old ≤ steps.new }
 {

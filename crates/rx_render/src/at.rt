@@ -1,6 +1,6 @@
 // What the next unit of a render does.
 ghost use Rattle.std.specs.Prelude.{◌≡◌};
-ghost use Rattle.rx_render.specs.LastUnit.{unit_before};
+ghost use Rattle.rx_render.specs.LastUnit.{unit_before, is_over};
 
 use rx_links::FiberId;
 use rx_loop::Unit;
@@ -24,4 +24,11 @@ pub(crate) fn unit_before(at: &At) -> Unit
         At::Over => Unit::Last,
         _ => Unit::More,
     }
+}
+
+// Whether no unit is left.
+pub(crate) fn is_over(at: &At) -> bool
+    ensures { result ≡ is_over at.now }
+{
+    matches!(at, At::Over)
 }

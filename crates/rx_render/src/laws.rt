@@ -1,10 +1,11 @@
 // Laws of renders in progress.
-ghost use Rattle.std.specs.Prelude.{◌≡◌, ◌<◌, Some};
+ghost use Rattle.std.specs.Prelude.{◌≡◌, ◌<◌, ℕ, ℤ, Some};
 ghost use Rattle.rx_ast.specs.Syntax.{Program};
 ghost use Rattle.rx_elem.specs.Trees.{Node};
 ghost use Rattle.rx_links.specs.Drafts.{grafted};
 ghost use Rattle.rx_meaning.specs.Fresh.{fresh, made};
 ghost use Rattle.rx_model.specs.State.{State, Progress};
+ghost use Rattle.rx_model.specs.Accepting.{with_value};
 ghost use Rattle.rx_model.specs.Committing.{sight_of};
 ghost use Rattle.rx_model.specs.HooksOf.{KeepsAllHooks};
 ghost use Rattle.rx_model.specs.Laws.{IsBounded};
@@ -19,6 +20,15 @@ ghost use Rattle.rx_render.specs.Renders.{Renders, IsLater, with_hooks};
 pub fn later_renders()
     ensures { (p : Program) (st later : State) (g : Progress) (v : Rendering) (hooks : Kept) → Renders p st g v → IsLater g st later
         → KeepsAllHooks p later (kept_hooks hooks) → Renders p later g (with_hooks v hooks) }
+{}
+
+/// Whatever leaves the journal, the committed tree and the links leaves a render in progress: the end of an event, a later
+/// time. So does another count of its units and bodies, and a resource that gets its value, which the render doesn't see.
+pub fn renders_stay()
+    ensures same { (p : Program) (st later : State) (g : Progress) (v : Rendering) → Renders p st g v → later.journal ≡ st.journal → later.tree ≡ st.tree
+        → later.linked ≡ st.linked → Renders p later g v }
+    ensures counted { (p : Program) (st : State) (g h : Progress) (v : Rendering) → Renders p st g v → h.lanes ≡ g.lanes → h.cut ≡ g.cut → Renders p st h v }
+    ensures resolved { (p : Program) (st : State) (g : Progress) (v : Rendering) (resource : ℕ) (value : ℤ) → Renders p st g v → Renders p (with_value st resource value) g v }
 {}
 
 /// Where no unit is left, the tree in progress is that of the node that fresh rendering gives, and there were fewer bodies

@@ -10,5 +10,5 @@ mod roots;
 mod tests;
 
 pub use at::At;
-pub use laws::{later_renders, renders_are_bounded, renders_end};
+pub use laws::{later_renders, renders_are_bounded, renders_end, renders_stay};
 pub use renderer::Renderer;

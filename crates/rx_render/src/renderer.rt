@@ -1,22 +1,36 @@
 // A render in progress.
-ghost use Rattle.std.specs.Prelude.{◌≡◌, ◌+◌, ◌<◌, ◌≤◌, ◌^◌, [], IfOk, OnOk, OnErr};
+ghost use Rattle.std.specs.Prelude.{◌≡◌, ◌+◌, ◌<◌, ◌≤◌, ◌^◌, ℕ, ℤ, true, false, List, [], Option, Some, length, IfOk, OnOk, OnErr, IsSomeAnd};
+ghost use Rattle.rx_ast.specs.Syntax.{Program};
+ghost use Rattle.rx_check.specs.Checks.{unknowns};
+ghost use Rattle.rx_elem.specs.Numbers.{numbered};
+ghost use Rattle.rx_elem.specs.Spots.{node_count};
+ghost use Rattle.rx_elem.specs.Trees as trees;
 ghost use Rattle.rx_loop.specs.Ends.{MatchUnit};
 ghost use Rattle.rx_lists.specs.Shapes.{none};
-ghost use Rattle.rx_links.specs.Drafts.{taken};
-ghost use Rattle.rx_model.specs.State.{State, opening};
+ghost use Rattle.rx_links.specs.Drafts.{taken, grafted};
+ghost use Rattle.rx_queue.specs.Journal.{hook};
+ghost use Rattle.rx_hooks.specs.Hooks.{changed_at};
+ghost use Rattle.rx_model.specs.State.{State, Progress, linked_lanes, opening};
+ghost use Rattle.rx_model.specs.Accepting.{dispatched_for, lane_of};
 ghost use Rattle.rx_model.specs.Committing.{starting};
-ghost use Rattle.rx_check.specs.Checks.{unknowns};
 ghost use Rattle.rx_model.specs.Laws.{IsBounded};
 ghost use Rattle.rx_model.specs.HooksOf.{KeepsAllHooks};
+ghost use Rattle.rx_fiber.specs.Reading.{IsTreeOf};
+ghost use Rattle.end_laws.specs.Trimmed.{trimmed};
+ghost use Rattle.rx_read.specs.NumbersView.{numbers_seen};
+ghost use Rattle.rx_read.specs.Numbering.{numbered_draft, IsAllNumbered};
 ghost use Rattle.rx_hook_store.specs.Store.{kept_hooks};
+ghost use Rattle.rx_hook_store.specs.Changing.{ChangesHooks, dispatched_hook, lanes_linked};
+ghost use Rattle.rx_hook_store.specs.Rendered.{IsRendered, KeepsInstance};
 ghost use Rattle.rx_render.specs.declared.at.At.TheVariants.{Over};
-ghost use Rattle.rx_render.specs.Rendering.{IsIdle, left_of};
-ghost use Rattle.rx_render.specs.Renders.{CanStart, IsStartOf, Renders};
+ghost use Rattle.rx_render.specs.LastUnit.{is_over};
+ghost use Rattle.rx_render.specs.Rendering.{IsIdle, IfLeft, left_of};
+ghost use Rattle.rx_render.specs.Renders.{CanStart, IsStartOf, Renders, with_hooks};
 ghost use Rattle.rx_render.specs.Turning.{GoesOn, GivesUp, BreaksOff};
 ghost use Rattle.rx_render.specs.TurningLaws.{goes_on_same, goes_on_join, gives_up_after};
 
 use crate::advance::{advance, bodies_next};
-use crate::at::{At, unit_before};
+use crate::at::{At, is_over, unit_before};
 use crate::roots::{default_contexts, root_element};
 use draw_laws::cursors_are_drawn;
 use rx_base::{Cut, Int, Steps};
@@ -28,6 +42,10 @@ use rx_hook_store::HookStore;
 use rx_lane::Lanes;
 use rx_links::FiberTree;
 use rx_loop::{Unit, Units};
+use rx_node::Node;
+use rx_queue::Update;
+use rx_read::{Numbers, number_made, read_in_progress};
+use rx_step::LaneWord;
 use std::alloc::{AllocError, Global};
 use std::marker::Model;
 use std::sync::ledger::Ledger;
@@ -106,6 +124,64 @@ impl Renderer {
         let _ = &self.units;
     }
 
+    /// The program.
+    pub fn checked(&self) -> &Checked
+        ensures { result.now ≡ self.now.program }
+    {
+        &self.checked
+    }
+
+    /// The hooks of the mounted instances.
+    pub fn hooks(&self) -> &HookStore
+        ensures { result.now ≡ self.now.hooks }
+    {
+        &self.hooks
+    }
+
+    /// Whether no unit is left: nothing is in progress, or the tree in progress is finished.
+    pub fn is_over(&self) -> bool
+        ensures value { result ≡ is_over self.now.at }
+        ensures over { result ≡ true → self.now.at ≡ Over }
+        ensures left { result ≡ false → 0 < left_of self.now }
+    {
+        is_over(&self.at)
+    }
+
+    /// The lanes of the render that started last.
+    pub fn lanes(&self) -> Lanes
+        ensures { result ≡ self.now.lanes }
+    {
+        self.lanes
+    }
+
+    /// The cut of the render that started last: what it sees of the journal.
+    pub fn cut(&self) -> Cut
+        ensures { result ≡ self.now.cut }
+    {
+        self.cut
+    }
+
+    /// The values of the resources that it sees, by their numbers.
+    pub fn resources(&self) -> &[Option<Int>]
+        ensures { result.now ≡ self.now.resources }
+    {
+        &self.resources
+    }
+
+    /// How many units it has taken so far.
+    pub fn units(&self) -> u64
+        ensures { result ≡ self.now.units }
+    {
+        self.units
+    }
+
+    /// How many bodies it has evaluated so far.
+    pub fn bodies(&self) -> u64
+        ensures { result ≡ self.now.bodies }
+    {
+        self.bodies
+    }
+
     /// Discards what is in progress. The current tree and the hooks stay.
     pub fn discard(&mut self)
         ensures { self.new ≡ record self.old { trees = record self.old.trees { draft = taken none }; at = Over } }
@@ -150,6 +226,81 @@ impl Renderer {
         self.units = 0;
         self.bodies = 0;
         Ok(())
+    }
+
+    /// The finished tree as a plain tree, without the vacant places at the ends of its lists, of which fibers do not tell.
+    ///
+    /// # Errors
+    ///
+    /// Want of memory alone.
+    pub fn finished(&self) -> Result<Node, AllocError>
+        requires { (x : trees.Node) × IsTreeOf (Some x) (grafted self.now.trees.draft) }
+        ensures { IfOk result (λ n. (x : trees.Node) → IsTreeOf (Some x) (grafted self.now.trees.draft) → n ≡ trimmed x) }
+    {
+        read_in_progress(self.alloc, &self.fibers)
+    }
+
+    /// Gives each instance and each host of the finished tree that is new its number, in tree order, as its commit begins.
+    /// Returns the numbers that come next.
+    pub fn number(&mut self, next: Numbers) -> Numbers
+        requires over { self.old.at ≡ Over }
+        requires instances { next.instance < 2 ^ 62 }
+        requires hosts { next.host < 2 ^ 62 }
+        requires few { (x : trees.Node) × IsTreeOf (Some x) (grafted self.old.trees.draft) × (node_count (Some x) < 2 ^ 32) }
+        ensures draft { self.new ≡ record self.old { trees = record self.old.trees { draft = (numbered_draft (numbers_seen next) self.old.trees.draft).1 } } }
+        ensures next { numbers_seen result ≡ (numbered_draft (numbers_seen next) self.old.trees.draft).0 }
+        ensures tree { (x : trees.Node) → IsTreeOf (Some x) (grafted self.old.trees.draft) → IsAllNumbered self.old.trees
+            → IsTreeOf (Some (numbered (numbers_seen next) x).1) (grafted self.new.trees.draft) }
+        ensures numbers { (x : trees.Node) → IsTreeOf (Some x) (grafted self.old.trees.draft) → IsAllNumbered self.old.trees → numbers_seen result ≡ (numbered (numbers_seen next) x).0 }
+    {
+        number_made(&mut self.fibers, next)
+    }
+
+    /// The finished tree becomes the current one, and nothing is in progress (react.dev, Render and Commit).
+    pub fn commit(&mut self)
+        ensures { self.new ≡ record self.old { trees = record { current = grafted self.old.trees.draft; draft = taken none }; at = Over } }
+    {
+        self.fibers.swap();
+        self.at = At::Over;
+    }
+
+    /// Sends an update to a hook of an instance, by its place from 0; the update lies behind the cut of a render in progress.
+    /// A transition also links the update's lane with those lanes of the hook that are still pending, and gives all of them
+    /// (react.dev, useTransition). An `Err` changes nothing of what the hooks stand for.
+    ///
+    /// # Errors
+    ///
+    /// Want of memory alone.
+    pub fn dispatch(
+        &mut self,
+        instance: u64,
+        place: u32,
+        word: LaneWord,
+        update: Update,
+        pending: Lanes,
+    ) -> Result<Option<Lanes>, AllocError>
+        requires hook { IsSomeAnd (kept_hooks self.old.hooks instance) (λ hooks. place < length hooks) }
+        requires behind { IfLeft self.old.at (self.old.cut.updates ≤ update.number) }
+        ensures same { self.new ≡ with_hooks self.old self.new.hooks }
+        ensures ok { OnOk result (ChangesHooks (changed_at place (dispatched_hook word update pending)) instance (kept_hooks self.old.hooks) (kept_hooks self.new.hooks)) }
+        ensures err { OnErr result ((n : ℕ) → kept_hooks self.new.hooks n ≡ kept_hooks self.old.hooks n) }
+        ensures spare { self.new.hooks.spare ≡ self.old.hooks.spare }
+
+        // What is kept stands for the machine's state after the dispatch, where this is the next update that it accepts.
+        ensures states { OnOk result ((p : Program) (s : State) → update.number ≡ length s.journal.updates → update.lane ≡ lane_of s word → pending ≡ s.schedule.pending
+            → KeepsAllHooks p s (kept_hooks self.old.hooks) → KeepsAllHooks p (dispatched_for s word (hook instance place) update.op) (kept_hooks self.new.hooks)) }
+        ensures links { IfOk result (λ lanes. (p : Program) (s : State) (initials : List ℤ) → KeepsInstance p s (kept_hooks self.old.hooks) instance initials
+            → lanes ≡ lanes_linked word update pending (linked_lanes s.linked (hook instance place))) }
+        ensures rendered { OnOk result ((p : Program) (s : State) (lanes : Lanes) (cut : Cut) (k : ℕ) (initials : List ℤ) → update.number ≡ length s.journal.updates
+            → update.lane ≡ lane_of s word → pending ≡ s.schedule.pending → cut.updates ≤ update.number → IsRendered p s lanes cut (kept_hooks self.old.hooks) k initials
+            → IsRendered p (dispatched_for s word (hook instance place) update.op) lanes cut (kept_hooks self.new.hooks) k initials) }
+
+        // A render that is in progress still is.
+        ensures renders { OnOk result ((p : Program) (s : State) (g : Progress) → update.number ≡ length s.journal.updates → update.lane ≡ lane_of s word → pending ≡ s.schedule.pending
+            → Renders p s g self.old → Renders p (dispatched_for s word (hook instance place) update.op) g self.new) }
+        ensures stays { OnErr result ((p : Program) (s : State) (g : Progress) → Renders p s g self.old → Renders p s g self.new) }
+    {
+        self.hooks.dispatch(instance, place, word, update, pending)
     }
 
     // Does one unit. Where memory runs out no unit is left.

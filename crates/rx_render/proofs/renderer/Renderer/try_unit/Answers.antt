@@ -22,6 +22,7 @@ invariant_of-self-2 g c =
     (record (the_view c.self.inside) { trees = c.advance.new.tree; hooks = c.advance.new.hooks; contexts = c.advance.new.contexts; at = c.in_ok-next.next; units = c.self.inside.units + 1; bodies = c.self.inside.bodies + c.bodies_next-evaluated.result })
     c.bodies_next-evaluated.result (stepped (the_view c.self.inside) c.advance.new.tree c.advance.new.hooks c.advance.new.contexts c.in_ok-next.next c.bodies_next-evaluated.result c.in_ok-next.ensures.current
     c.bodies_next-evaluated.ensures c.place_facts.ensures c.in_ok-next.ensures.states
+    (λ s k initials sees. c.in_ok-next.ensures.still s k initials (record { program = sees.program; resources = c.deref.ensures.value ∙ sees.resources; lanes = sees.lanes; cut = sees.cut }))
     (λ s sees. c.in_ok-next.ensures.comes s (record { program = sees.program; resources = c.deref.ensures.value ∙ sees.resources; lanes = sees.lanes; cut = sees.cut }))) c.cursors_are_drawn.ensures.unit c.cursors_are_drawn.ensures.place
 
 pub returns-clause-falls : goal.returns-clause-falls
@@ -30,6 +31,7 @@ returns-clause-falls g c =
     (record (the_view c.self.inside) { trees = c.advance.new.tree; hooks = c.advance.new.hooks; contexts = c.advance.new.contexts; at = c.in_ok-next.next; units = c.self.inside.units + 1; bodies = c.self.inside.bodies + c.bodies_next-evaluated.result })
     c.bodies_next-evaluated.result (stepped (the_view c.self.inside) c.advance.new.tree c.advance.new.hooks c.advance.new.contexts c.in_ok-next.next c.bodies_next-evaluated.result c.in_ok-next.ensures.current
     c.bodies_next-evaluated.ensures c.place_facts.ensures c.in_ok-next.ensures.states
+    (λ s k initials sees. c.in_ok-next.ensures.still s k initials (record { program = sees.program; resources = c.deref.ensures.value ∙ sees.resources; lanes = sees.lanes; cut = sees.cut }))
     (λ s sees. c.in_ok-next.ensures.comes s (record { program = sees.program; resources = c.deref.ensures.value ∙ sees.resources; lanes = sees.lanes; cut = sees.cut }))) c.cursors_are_drawn.ensures.unit c.cursors_are_drawn.ensures.place
 
 pub returns-clause-last : goal.returns-clause-last
@@ -38,6 +40,7 @@ returns-clause-last g c =
     (record (the_view c.self.inside) { trees = c.advance.new.tree; hooks = c.advance.new.hooks; contexts = c.advance.new.contexts; at = c.in_ok-next.next; units = c.self.inside.units + 1; bodies = c.self.inside.bodies + c.bodies_next-evaluated.result })
     c.bodies_next-evaluated.result (stepped (the_view c.self.inside) c.advance.new.tree c.advance.new.hooks c.advance.new.contexts c.in_ok-next.next c.bodies_next-evaluated.result c.in_ok-next.ensures.current
     c.bodies_next-evaluated.ensures c.place_facts.ensures c.in_ok-next.ensures.states
+    (λ s k initials sees. c.in_ok-next.ensures.still s k initials (record { program = sees.program; resources = c.deref.ensures.value ∙ sees.resources; lanes = sees.lanes; cut = sees.cut }))
     (λ s sees. c.in_ok-next.ensures.comes s (record { program = sees.program; resources = c.deref.ensures.value ∙ sees.resources; lanes = sees.lanes; cut = sees.cut }))) c.cursors_are_drawn.ensures.unit c.cursors_are_drawn.ensures.place
     c.unit_before.result c.unit_before.ensures
 
@@ -47,6 +50,7 @@ returns-clause-ticks g c =
     (record (the_view c.self.inside) { trees = c.advance.new.tree; hooks = c.advance.new.hooks; contexts = c.advance.new.contexts; at = c.in_ok-next.next; units = c.self.inside.units + 1; bodies = c.self.inside.bodies + c.bodies_next-evaluated.result })
     c.bodies_next-evaluated.result (stepped (the_view c.self.inside) c.advance.new.tree c.advance.new.hooks c.advance.new.contexts c.in_ok-next.next c.bodies_next-evaluated.result c.in_ok-next.ensures.current
     c.bodies_next-evaluated.ensures c.place_facts.ensures c.in_ok-next.ensures.states
+    (λ s k initials sees. c.in_ok-next.ensures.still s k initials (record { program = sees.program; resources = c.deref.ensures.value ∙ sees.resources; lanes = sees.lanes; cut = sees.cut }))
     (λ s sees. c.in_ok-next.ensures.comes s (record { program = sees.program; resources = c.deref.ensures.value ∙ sees.resources; lanes = sees.lanes; cut = sees.cut }))) c.cursors_are_drawn.ensures.unit c.cursors_are_drawn.ensures.place
     c.args.steps.now c.advance.new.steps
     (λ s d sees. c.in_ok-next.ensures.ticks s d (record { program = sees.program; resources = c.deref.ensures.value ∙ sees.resources; lanes = sees.lanes; cut = sees.cut }))
@@ -57,6 +61,7 @@ returns-clause-onward g c =
     (record (the_view c.self.inside) { trees = c.advance.new.tree; hooks = c.advance.new.hooks; contexts = c.advance.new.contexts; at = c.in_ok-next.next; units = c.self.inside.units + 1; bodies = c.self.inside.bodies + c.bodies_next-evaluated.result })
     c.bodies_next-evaluated.result (stepped (the_view c.self.inside) c.advance.new.tree c.advance.new.hooks c.advance.new.contexts c.in_ok-next.next c.bodies_next-evaluated.result c.in_ok-next.ensures.current
     c.bodies_next-evaluated.ensures c.place_facts.ensures c.in_ok-next.ensures.states
+    (λ s k initials sees. c.in_ok-next.ensures.still s k initials (record { program = sees.program; resources = c.deref.ensures.value ∙ sees.resources; lanes = sees.lanes; cut = sees.cut }))
     (λ s sees. c.in_ok-next.ensures.comes s (record { program = sees.program; resources = c.deref.ensures.value ∙ sees.resources; lanes = sees.lanes; cut = sees.cut }))) c.cursors_are_drawn.ensures.unit c.cursors_are_drawn.ensures.place
 
 pub returns-in_err-next-clause-stopped : goal.returns-in_err-next-clause-stopped
