@@ -1,0 +1,6 @@
+mod Mounting
+mod Again
+mod Kept
+mod Making
+mod Apart
+mod Whole
