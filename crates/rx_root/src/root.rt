@@ -15,7 +15,7 @@ use rx_commit::Shown;
 use rx_hook_store::links_are_below;
 use rx_instances::Instances;
 use rx_lane::{Lane, Lanes};
-use rx_read::{Numbers, current_trees_have_numbers};
+use rx_read::Numbers;
 use rx_render::Renderer;
 use rx_report::Report;
 use rx_sched::RootLanes;
@@ -67,7 +67,7 @@ fn no_values(alloc: Global, checked: &Checked) -> Result<Vec<Option<Int>>, Alloc
     ensures { IfOk result (λ v. v.items ≡ values_now checked.now opening.journal) }
 {
     let mut values = Vec::new(alloc);
-    for _name in checked.resources() {
+    'resources: for _name in checked.resources() {
         values.push(None)?;
     }
     Ok(values)
@@ -84,7 +84,6 @@ impl Root {
         ensures program { IfOk result (λ r. r.rendering.program ≡ checked) }
     {
         links_are_below();
-        current_trees_have_numbers();
         let values = no_values(alloc, &checked)?;
         let renderer = Renderer::new(alloc, checked)?;
         Ok(Root {
@@ -109,42 +108,46 @@ impl Root {
 
     /// The lanes that have something to render.
     pub fn pending(&self) -> Lanes
-        ensures { (s : State) → Stands self.now.rendering.program s self.now → result ≡ s.schedule.pending }
+        ensures { (s : State) → Stands self.entry.now.rendering.program s self.entry.now → result ≡ s.schedule.pending }
     {
         self.lanes.pending()
     }
 
     /// How many boundaries of the committed tree hide their children behind their fallbacks (react.dev, Suspense).
     pub fn hidden_count(&self) -> u32
-        ensures { (s : State) → Stands self.now.rendering.program s self.now → result ≡ hidden_in s.tree }
+        ensures { (s : State) → Stands self.entry.now.rendering.program s self.entry.now → result ≡ hidden_in s.tree }
     {
+        self.renderer.facts();
+        ends_are_not_read();
         spots::hidden_count(self.shown.tree())
     }
 
     /// How many nodes the committed tree has.
     pub fn nodes(&self) -> u64
-        ensures { (s : State) → Stands self.now.rendering.program s self.now → result ≡ node_count s.tree }
+        ensures { (s : State) → Stands self.entry.now.rendering.program s self.entry.now → result ≡ node_count s.tree }
     {
+        self.renderer.facts();
+        ends_are_not_read();
         spots::node_count(self.shown.tree())
     }
 
     /// True where no lane is pending and no boundary is hidden.
     pub fn is_quiet(&self) -> bool
-        ensures { (s : State) → Stands self.now.rendering.program s self.now → result ≡ machine.is_quiet s }
+        ensures { (s : State) → Stands self.entry.now.rendering.program s self.entry.now → result ≡ machine.is_quiet s }
     {
         self.pending().is_none() && self.hidden_count() == 0
     }
 
     /// How many commits there were.
     pub fn commits(&self) -> u64
-        ensures { result ≡ self.now.commits }
+        ensures { result ≡ self.entry.now.commits }
     {
         self.commits
     }
 
     /// How many updates were accepted.
     pub fn updates(&self) -> u64
-        ensures { result ≡ self.now.updates }
+        ensures { result ≡ self.entry.now.updates }
     {
         self.updates
     }
@@ -155,9 +158,10 @@ impl Root {
     ///
     /// Want of memory alone; the report is then as it was.
     pub fn end_line(&self, log: &mut Report) -> Result<(), AllocError>
-        ensures ok { OnOk result ((s : State) → Stands self.now.rendering.program s self.now → log.new ≡ with_lines log.old (machine.end_line s ∷ [])) }
+        ensures ok { OnOk result ((s : State) → Stands self.entry.now.rendering.program s self.entry.now → log.new ≡ with_lines log.old (machine.end_line s ∷ [])) }
         ensures err { OnErr result (log.new ≡ log.old) }
     {
+        self.renderer.facts();
         log.end_line(self.pending(), self.hidden_count())
     }
 }
