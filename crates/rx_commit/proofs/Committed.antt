@@ -19,7 +19,7 @@ use Rattle.end_laws.proofs.Compared.{trees_same}
 use Rattle.end_laws.proofs.Logs.{layout_same, passive_same}
 use Rattle.end_laws.proofs.Outcomes.{ops_same, outcome_same}
 use Rattle.end_laws.specs.Outcomes.{trimmed_outcome}
-use Rattle.rx_meaning.specs.Outcome.{Outcome, commit, defer, all_awaits, newly_hidden, outcome, outcome_by}
+use Rattle.rx_meaning.specs.Outcome.{commit, defer, all_awaits, newly_hidden, outcome, outcome_by}
 use Rattle.rx_commit.specs.Shown.{outcome_as}
 
 -- the operations of trimmed trees

@@ -1,5 +1,5 @@
 -- The lines of a prepared commit.
-use Rattle.std.proofs.Common.{◌≡◌, ℕ, Bool, false, List, [], ◌∷◌, ◌++◌, Option, sym, ap, ◌∙◌}
+use Rattle.std.proofs.Common.{◌≡◌, ℕ, false, List, [], ◌∷◌, ◌++◌, Option, sym, ap, ◌∙◌}
 use Rattle.std.specs.Prelude.{map, if◌then◌else◌}
 use Rattle.std.proofs.lemmas.List.{map-append}
 use Rattle.rx_lane.specs.declared.lane.Lane.TheVariants as lane
@@ -8,12 +8,12 @@ use Rattle.rx_lane.specs.SetLaws.{has-lanes_where}
 use Rattle.rx_elem.specs.Trees.{Node}
 use Rattle.rx_elem.specs.Compare.{compare_trees}
 use Rattle.rx_effect.specs.declared.log.LogLine.{LogLine}
-use Rattle.rx_effect.specs.EffectLog.{Passive, layout_log, passive_of}
+use Rattle.rx_effect.specs.EffectLog.{Passive, layout_log}
 use Rattle.rx_forest.specs.declared.op.HostOp.{HostOp}
 use Rattle.rx_forest.specs.HostOps.{host_ops}
 use Rattle.rx_lines.specs.Lines.{Counts, Line, Written, committed, operated, logged, with_line}
 use Rattle.rx_commit.specs.Shown.{Prepared, Prepares}
-use Rattle.rx_commit.specs.Written.{GoesOn, passive_lines, sync_lines, lines_of, with_lines}
+use Rattle.rx_commit.specs.Written.{passive_lines, sync_lines, lines_of, with_lines}
 use Rattle.rx_commit.proofs.Behind.{with_lines-nil, with_lines-append, with_lines-cons}
 
 -- a set of lanes made anew has the lane Sync where the set has it

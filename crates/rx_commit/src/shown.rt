@@ -1,5 +1,5 @@
 // What is shown.
-ghost use Rattle.std.specs.Prelude.{◌≡◌, ◌≤◌, length, List, Option, Some, None, IfOk, OnErr, OnOk};
+ghost use Rattle.std.specs.Prelude.{◌≡◌, ◌≤◌, length, Option, Some, None, IfOk, OnErr, OnOk};
 ghost use Rattle.std.specs.Option.{option_copied};
 ghost use Rattle.rx_elem.specs.Trees.{Node};
 ghost use Rattle.rx_elem.specs.Compare.{compare_trees};

@@ -1,6 +1,5 @@
 // Lines behind those that a report has.
 ghost use Rattle.std.specs.Prelude.{◌≡◌, take, OnErr, OnOk, map};
-ghost use Rattle.rx_effect.specs.EffectLog.{no_passive};
 ghost use Rattle.rx_lines.specs.Lines.{logged, operated};
 ghost use Rattle.rx_log.specs.PassiveView.{passive_seen};
 ghost use Rattle.rx_commit.specs.Written.{GoesOn, passive_lines, with_lines};

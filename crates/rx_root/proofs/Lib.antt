@@ -4,3 +4,15 @@ pub mod Paths
 pub mod Standing
 pub mod Opening
 pub mod Lines
+pub mod TurnReached
+pub mod FlushEnds
+pub mod AttributesOnce
+pub mod NumbersGrow
+pub mod TurnStands
+pub mod CommitStands
+pub mod ResolvedSince
+pub mod DriveEnds
+pub mod CommitReady
+pub mod TurnLines
+pub mod TurnRoom
+pub mod TurnsTaken

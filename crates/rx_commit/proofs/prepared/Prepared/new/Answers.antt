@@ -1,4 +1,4 @@
-use Rattle.std.proofs.Common.{◌≡◌, ◌∙◌, ap}
+use Rattle.std.proofs.Common.{◌∙◌, ap}
 use Rattle.std.specs.Option.{option_copied}
 use Rattle.rx_effect.specs.EffectLog.{layout_log, passive_of}
 use Rattle.rx_commit.proofs.Committed.{ops-trimmed, layout-trimmed, passive-trimmed}

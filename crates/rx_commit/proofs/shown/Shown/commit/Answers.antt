@@ -1,4 +1,4 @@
-use Rattle.std.proofs.Common.{◌≡◌, ◌∙◌, Some, ap}
+use Rattle.std.proofs.Common.{◌∙◌, Some, ap}
 use Rattle.rx_host.specs.Kept.{forest_kept}
 use Rattle.rx_commit.proofs.Committed.{committed-here}
 use Rattle.rx_commit.proofs.shown.Shown.commit.Goals as goal

@@ -1,4 +1,4 @@
-use Rattle.std.proofs.Common.{◌≡◌, ◌∙◌, Option, Some, None, ap}
+use Rattle.std.proofs.Common.{◌∙◌, Option, Some, None, ap}
 use Rattle.rx_elem.specs.Trees.{Node}
 use Rattle.rx_elem.specs.Compare.{compare_trees}
 use Rattle.rx_commit.proofs.Committed.{outcome-trimmed}

@@ -1,9 +1,6 @@
-use Rattle.std.proofs.Common.{◌≡◌, ◌∙◌, ap, arith}
+use Rattle.std.proofs.Common.{◌∙◌, ap, arith}
 use Rattle.std.proofs.lemmas.Grind.{common_steps}
-use Rattle.rx_forest.specs.Forests.{forest_of}
-use Rattle.rx_forest.specs.Hosts.{hosts}
 use Rattle.rx_host.specs.Kept.{forest_kept}
-use Rattle.rx_commit.specs.Shown.{Prepares}
 use Rattle.rx_commit.proofs.Committed.{made-here}
 use Rattle.rx_commit.proofs.shown.Shown.prepare.Goals as goal
 
