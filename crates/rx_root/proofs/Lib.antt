@@ -16,3 +16,5 @@ pub mod CommitReady
 pub mod TurnLines
 pub mod TurnRoom
 pub mod TurnsTaken
+pub mod TakeBack
+pub mod Sending

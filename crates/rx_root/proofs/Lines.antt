@@ -1,23 +1,32 @@
--- What is read of a root, and the lines that its steps write.
+-- What is read of a root.
 use Rattle.std.proofs.Common.{◌≡◌, ℕ, suc, ◌+◌, ◌<◌, ◌≤◌, Bool, true, false, cond, List, [], ◌∷◌, ◌++◌, length, append-nil, refl, sym, ap, ◌∙◌, arith}
-use Rattle.std.specs.Prelude.{filter}
+use Rattle.std.specs.Prelude.{Option, Some, None, Result, Ok, Err, OnOk, filter}
 use Rattle.rx_lane.specs.Lanes.{has, lanes_where}
 use Rattle.rx_ast.specs.Syntax.{Program}
 use Rattle.rx_rules.specs.Bounds.{node_limit}
 use Rattle.rx_elem.specs.Spots.{hidden_count, node_count, spot_mark, tree_spots}
-use Rattle.rx_elem.specs.Trees.{is_hidden}
-use Rattle.rx_lines.specs.Lines.{Line, Options, Written, last_line, line_bytes, report_bytes, with_line}
+use Rattle.rx_elem.specs.Numbers.{Numbers, numbered}
+use Rattle.rx_elem.specs.Trees.{Node, is_hidden}
+use Rattle.rx_forest.specs.Hosts.{hosts}
+use Rattle.rx_report.specs.TreeOrder.{AreInTreeOrder, nothing}
+use Rattle.rx_check.specs.Accepted.{IsAccepted}
+use Rattle.host_laws.specs.Commits.{IsCommit}
+use Rattle.replay_laws.specs.Committed.{IsCommitted, none_yet, one_more}
+use Rattle.replay_laws.proofs.Committing.{renders_commit}
+use Rattle.replay_laws.proofs.Reached.{reached_committed}
+use Rattle.rx_root.proofs.AttributesOnce.{attributes_apart}
+use Rattle.rx_lines.specs.Lines.{last_line}
 use Rattle.rx_model.specs.State.{State, end_line}
-use Rattle.rx_model.specs.Stretch.{silent, writes}
-use Rattle.rx_model.specs.Machine.{StepTo}
 use Rattle.rx_model.specs.Laws.{IsBounded, IsReached}
-use Rattle.rx_step.specs.declared.step.Step.{Step}
 use Rattle.run_laws.proofs.KeptFacts.{kept_facts}
 use Rattle.run_laws.proofs.RunTrees.{reached_bounded}
-use Rattle.rx_commit.specs.Written.{with_lines}
-use Rattle.rx_root.specs.Rooted.{Rooted}
-use Rattle.rx_root.specs.Stands.{Stands}
-use Rattle.rx_root.specs.Taking.{Takes}
+
+-- ---- results
+
+-- what holds where a call succeeds, whatever it is about
+pub ok_each : {A E S : Type 0} (r : Result A E) (H P : S → Type 0) → ((s : S) → H s → OnOk r (P s)) → OnOk r ((s : S) → H s → P s)
+ok_each (Ok a) H P f = f
+ok_each (Err e) H P f = tt
 
 -- ---- counts
 
@@ -37,29 +46,24 @@ few_nodes p bounded s reached = omega (arith, (reached_bounded p bounded s reach
 pub few_hidden : (p : Program) → IsBounded p → (s : State) → IsReached p s → hidden_count s.tree ≤ node_limit
 few_hidden p bounded s reached = omega (arith, fewer_pass (λ x. is_hidden (spot_mark x)) (tree_spots s.tree), few_nodes p bounded s reached)
 
--- ---- lines
+-- ---- hosts in tree order
 
--- one line more
-pub one_line : (r : Written) (l : Line) → with_line r l ≡ with_lines r (l ∷ [])
-unfolding report_bytes
-one_line r l = ap (λ b. record { options = r.options; bytes = r.bytes ++ b }) (sym (append-nil (line_bytes r.options l)))
+-- the hosts of what a commit leaves are in tree order
+abbrev EachInOrder : Type 0
+EachInOrder = (old : Option Node) (new : Node) → IsCommit old new → AreInTreeOrder (hosts (Some new))
 
--- no line more
-pub no_line : (r : Written) → r ≡ with_lines r []
-unfolding report_bytes
-no_line r = ap (λ b. record { options = r.options; bytes = b }) (sym (append-nil r.bytes))
+-- the hosts of the committed tree of a state that is reached are in tree order
+committed_order : (p : Program) → IsBounded p → IsAccepted p → EachInOrder → (next : Numbers) (tree : Option Node) → IsCommitted p next tree → AreInTreeOrder (hosts tree)
+committed_order p bounded accepted orders _ _ (none_yet next h) = record { order = nothing; distinct = tt; above = refl; by_name = tt }
+committed_order p bounded accepted orders _ _ (one_more s next old n same h gives) =
+    orders old (numbered next n).1 (renders_commit p bounded (attributes_apart p accepted) s next old n same h gives).0
+
+pub tree_order : (p : Program) → IsBounded p → IsAccepted p → EachInOrder → (s : State) → IsReached p s → AreInTreeOrder (hosts s.tree)
+tree_order p bounded accepted orders s reached = committed_order p bounded accepted orders s.numbers s.tree (reached_committed p s reached)
+
+-- ---- the last line
 
 -- the last line of a report
 pub last_line_is : (p : Program) → IsBounded p → (s : State) → IsReached p s → last_line (lanes_where (has s.schedule.pending)) (hidden_count s.tree) ≡ end_line s
 last_line_is p bounded s reached = ap (λ ls. last_line ls (hidden_count s.tree)) (sym (kept_facts p bounded s reached).pending_are_set)
 
--- ---- steps
-
--- a step that writes these lines is taken
-pub takes_lines : (p : Program) (s : State) (x : Step) (v : Rooted) (before after : Written) (lines : List Line) (t : State) (n : ℕ) → StepTo p s x (writes lines t) → Stands p t v
-    → after ≡ with_lines before lines → Takes p s x v before after n n
-takes_lines p s x v before after lines t n step stands are = (writes lines t, step, stands, are, omega arith)
-
--- a step that writes none
-pub takes_none : (p : Program) (s : State) (x : Step) (v : Rooted) (before : Written) (t : State) (n : ℕ) → StepTo p s x (silent t) → Stands p t v → Takes p s x v before before n n
-takes_none p s x v before t n step stands = takes_lines p s x v before before [] t n step stands (no_line before)

@@ -230,6 +230,11 @@ find_led p all owner part (q ∷ parts) m is = go (step_to p all owner part) (λ
     go None later is = cc
     go (Some x) later is = later x is
 
+-- it is one of those
+pub found_there : (p : Program) (all : List Mounted) (path : Path) (m : Mounted) → find_from p all None path ≡ Some m → (k : ℕ) × (slice_get all k ≡ Some m)
+found_there p all [] m is = cc
+found_there p all (part ∷ parts) m is = let found = find_led p all None part parts m is in (found.place, found.there)
+
 -- ---- hooks
 
 among_named : (fs : List Name) (name : Name) (n : ℕ) (hs : List StateHook) (k : HookKind) → hook_among fs name n hs ≡ Some k → has_name (map (λ h. h.name) hs) name ≡ true
