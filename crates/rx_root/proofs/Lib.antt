@@ -18,3 +18,4 @@ pub mod TurnRoom
 pub mod TurnsTaken
 pub mod TakeBack
 pub mod Sending
+pub mod Taken

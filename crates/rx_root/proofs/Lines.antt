@@ -1,6 +1,6 @@
 -- What is read of a root.
 use Rattle.std.proofs.Common.{◌≡◌, ℕ, suc, ◌+◌, ◌<◌, ◌≤◌, Bool, true, false, cond, List, [], ◌∷◌, ◌++◌, length, append-nil, refl, sym, ap, ◌∙◌, arith}
-use Rattle.std.specs.Prelude.{Option, Some, None, Result, Ok, Err, OnOk, filter}
+use Rattle.std.specs.Prelude.{Option, Some, None, Result, Ok, Err, OnErr, OnOk, filter}
 use Rattle.rx_lane.specs.Lanes.{has, lanes_where}
 use Rattle.rx_ast.specs.Syntax.{Program}
 use Rattle.rx_rules.specs.Bounds.{node_limit}
@@ -27,6 +27,11 @@ use Rattle.run_laws.proofs.RunTrees.{reached_bounded}
 pub ok_each : {A E S : Type 0} (r : Result A E) (H P : S → Type 0) → ((s : S) → H s → OnOk r (P s)) → OnOk r ((s : S) → H s → P s)
 ok_each (Ok a) H P f = f
 ok_each (Err e) H P f = tt
+
+-- what holds where a call fails holds of what follows from it
+pub on_err : {A E : Type 0} (r : Result A E) (P Q : Type 0) → (P → Q) → OnErr r P → OnErr r Q
+on_err (Ok a) P Q f h = tt
+on_err (Err e) P Q f h = f h
 
 -- ---- counts
 

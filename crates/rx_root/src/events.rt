@@ -8,25 +8,30 @@ ghost use Rattle.rx_forest.specs.Hosts.{hosts};
 ghost use Rattle.rx_lines.specs.Lines.{tree_lines};
 ghost use Rattle.rx_queue.specs.Journal.{hook};
 ghost use Rattle.rx_sched.specs.Deadlines.{later};
-ghost use Rattle.rx_sched.specs.Schedule.{Schedule};
+ghost use Rattle.rx_sched.specs.Schedule.{Schedule, after_resolution};
+ghost use Rattle.rx_meaning.specs.Outcome.{is_awaited};
 ghost use Rattle.rx_model.specs.State.{State, state_lines};
 ghost use Rattle.rx_model.specs.Accepting.{dispatched_for, lane_of as lane_in, with_value};
 ghost use Rattle.rx_model.specs.Laws.{IsReached};
+ghost use Rattle.rx_model.specs.Machine.{StepTo};
 ghost use Rattle.rx_hook_store.specs.Store.{kept_hooks};
 ghost use Rattle.rx_commit.specs.Written.{passive_lines, with_lines};
 ghost use Rattle.rx_render.specs.Rendering.{IfLeft};
 ghost use Rattle.rx_step.specs.declared.step.Step.TheVariants as step;
 ghost use Rattle.rx_root.specs.Stands.{Stands};
+ghost use Rattle.rx_root.specs.Turning.{Takes};
 ghost use Rattle.rx_root.specs.Taking.{CanTake, IsTargetOf, claimed_by, root_accepted};
 
 use crate::root::Root;
 use end_laws::ends_are_not_read;
+use rx_base::{Int, Name};
 use rx_hook_store::{hooks_are_there, links_are_below};
-use rx_instances::{Instances, dispatch_hook, dispatch_op, dispatch_path, hook_place, show_hooks};
+use rx_instances::{Instances, dispatch_hook, dispatch_op, dispatch_path, dispatch_word, hook_place, show_hooks};
 use rx_lane::{Lane, Lanes};
 use rx_queue::{Op, Update};
 use rx_report::{Report, a_commit_is_in_tree_order};
 use rx_sched::RootLanes;
+use rx_spots::awaited;
 use rx_step::{Dispatch, LaneWord};
 use std::alloc::AllocError;
 
@@ -229,6 +234,101 @@ impl Root {
             Err(error) => {
                 self.forget_lane(word);
                 Err(error)
+            }
+        }
+    }
+
+    /// Sends an update to the hook that a dispatch is for (react.dev, useState and useReducer), or writes that there is no such
+    /// instance. An `Err` changes nothing of what the root stands for.
+    ///
+    /// # Errors
+    ///
+    /// Want of memory alone.
+    pub(crate) fn dispatch(&mut self, dispatch: &Dispatch, log: &mut Report) -> Result<(), AllocError>
+        requires stands { (s : State) × Stands self.old.rendering.program s self.old }
+        requires fits { CanTake self.old.rendering.program (step.Dispatch dispatch.now) }
+        requires room { self.old.updates < 2 ^ 62 }
+        ensures ok { OnOk result ((s : State) (n : ℕ) → Stands self.old.rendering.program s self.old
+            → Takes self.old.rendering.program (StepTo self.old.rendering.program s (step.Dispatch dispatch.now)) self.new log.old log.new n n) }
+        ensures err { OnErr result ((s : State) → Stands self.old.rendering.program s self.old → Stands self.old.rendering.program s self.new) }
+        ensures unchanged { OnErr result (log.new ≡ log.old) }
+        ensures same { self.new ≡ record self.old { rendering = self.new.rendering; schedule = self.new.schedule; updates = self.new.updates; event = self.new.event; later = self.new.later; instances = self.new.instances } }
+        ensures program { self.new.rendering.program ≡ self.old.rendering.program }
+        ensures one { self.new.updates ≤ self.old.updates + 1 }
+    {
+        hooks_are_there();
+        self.list_instances()?;
+        match self.target(dispatch) {
+            None => log.no_instance_line(dispatch_path(dispatch)),
+            Some(sent) => self.send(dispatch_word(dispatch), sent),
+        }
+    }
+
+    // The number of a resource.
+    fn resource(&self, name: &Name) -> u32
+        ensures number { result ≡ resource_number self.entry.now.rendering.program name.now }
+        ensures below { is_some (position (bytes_eq name.now) (resources self.entry.now.rendering.program)) ≡ true → result < length (resources self.entry.now.rendering.program) }
+    {
+        self.renderer
+            .checked()
+            .resource(name.text())
+            .unwrap_or(0)
+    }
+
+    // True where a visible boundary waits for a resource.
+    fn is_awaited(&self, resource: u32) -> bool
+        ensures { (s : State) → Stands self.entry.now.rendering.program s self.entry.now → resource < length (resources self.entry.now.rendering.program) → result ≡ is_awaited s.tree resource }
+    {
+        ends_are_not_read();
+        self.renderer.checked().program();
+        awaited(self.shown.tree()).has(resource)
+    }
+
+    // A resource gets its value, for which a visible boundary may wait.
+    fn give(&mut self, resource: u32, value: Int, waits: bool)
+        requires within { resource < length self.old.values }
+        requires room { self.old.resolutions < 2 ^ 62 }
+        ensures { self.new ≡ record self.old { schedule = after_resolution self.old.schedule resource waits self.old.now; resolutions = self.old.resolutions + 1; values = slice_set self.old.values resource (Some value) } }
+    {
+        self.lanes.resolved(resource, waits, self.now);
+        self.values[resource as usize] = Some(value);
+        self.resolutions += 1;
+    }
+
+    /// Gives a resource its value (react.dev, use), or writes the one that it has already; and an event ends. An `Err` changes
+    /// nothing.
+    ///
+    /// # Errors
+    ///
+    /// Want of memory alone.
+    pub(crate) fn resolve(
+        &mut self,
+        name: &Name,
+        value: Int,
+        log: &mut Report,
+    ) -> Result<(), AllocError>
+        requires stands { (s : State) × Stands self.old.rendering.program s self.old }
+        requires fits { is_some (position (bytes_eq name.now) (resources self.old.rendering.program)) ≡ true }
+        requires room { self.old.resolutions < 2 ^ 62 }
+        ensures ok { OnOk result ((s : State) (n : ℕ) → Stands self.old.rendering.program s self.old
+            → Takes self.old.rendering.program (StepTo self.old.rendering.program s (step.Resolve name.now value)) self.new log.old log.new n n) }
+        ensures err { OnErr result (self.new ≡ self.old) }
+        ensures unchanged { OnErr result (log.new ≡ log.old) }
+        ensures same { self.new ≡ record self.old { schedule = self.new.schedule; resolutions = self.new.resolutions; values = self.new.values; event = self.new.event } }
+        ensures one { self.new.resolutions ≤ self.old.resolutions + 1 }
+    {
+        let number = self.resource(name);
+        match self.values[number as usize] {
+            Some(known) => {
+                log.already_line(name, known)?;
+                self.end_event();
+                Ok(())
+            }
+            None => {
+                let waits = self.is_awaited(number);
+                self.give(number, value, waits);
+                self.end_event();
+                Ok(())
             }
         }
     }
