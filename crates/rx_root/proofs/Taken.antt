@@ -19,7 +19,7 @@ use Rattle.rx_step.specs.declared.step.Step.{Step}
 use Rattle.rx_step.specs.declared.step.Step.TheVariants as step
 use Rattle.rx_step.specs.Steps.{path_of, word_of}
 use Rattle.rx_model.specs.State.{State, hook_number, instance_found, state_lines}
-use Rattle.rx_model.specs.Stretch.{silent, writes}
+use Rattle.rx_model.specs.Stretch.{Stretch, silent, writes}
 use Rattle.rx_model.specs.Accepting.{between_events, dispatched, dispatched_for, dispatched_to, op_of, resolved, resolved_as, target_of, with_value}
 use Rattle.rx_model.specs.Committing.{passive_run}
 use Rattle.rx_model.specs.Machine.{StepTo}
@@ -159,3 +159,11 @@ sent_reached p s d sent reached is = step_reached p s (step.Dispatch d) (silent 
 pub sent_taken : (p : Program) (s : State) (d : Dispatch) (sent : Sent) (v : Rooted) (log : Written) (n : ℕ) → IsFor p s d sent → Stands p (state_sent s d sent) v
     → Takes p (StepTo p s (step.Dispatch d)) v log log n n
 sent_taken p s d sent v log n is h = silent_taken p s (step.Dispatch d) v log (state_sent s d sent) n (sent_step p s d sent is) h
+
+-- ---- any step
+
+-- what is said of a step that is taken, whichever it is
+pub taken_as : (p : Program) (s : State) (x y : Step) (v : Rooted) (log new : Written) (n m : ℕ) → y ≡ x → Takes p (StepTo p s x) v log new n m
+    → (r : Stretch) × StepTo p s y r × Stands p r.after v × (new ≡ with_lines log r.lines) × (m ≡ n + r.bodies)
+taken_as p s x y v log new n m same t =
+    (t.stretch, subst (λ (z : Step). StepTo p s z t.stretch) (sym same) t.asked, t.done.stands, t.done.written, t.bodies)

@@ -2,7 +2,9 @@
 #![tactic(auto)]
 
 mod events;
+mod laws;
 mod root;
 mod turns;
 
+pub use laws::steps_can_be_taken;
 pub use root::Root;
