@@ -1,26 +1,25 @@
 -- Each instance of a tree of a program has a value at mount for each hook of its component.
-use Rattle.std.proofs.Common.{◌≡◌, ℕ, ℤ, zero, suc, ◌+◌, Bool, true, false, ◌&&◌, Option, Some, None, List, [], ◌∷◌, ◌++◌, length, map, get_or, refl, sym, ap, ◌∙◌, subst, arith}
+use Rattle.std.proofs.Common.{◌≡◌, ℕ, ℤ, zero, suc, ◌+◌, true, Option, Some, None, List, [], ◌∷◌, ◌++◌, length, map, get_or, refl, sym, ap, ◌∙◌, subst, arith}
 use Rattle.std.specs.Prelude.{filter_map, nat_eq, option_and_then, position, slice_get, slice_set}
 use Rattle.std.specs.List.{cons_option, zip}
 use Rattle.std.specs.Option.{option_flatten, option_map, option_map_or}
 use Rattle.std.proofs.lemmas.Bool.Decides.{nat_tests}
-use Rattle.std.proofs.lemmas.List.{length-append, length-map}
+use Rattle.std.proofs.lemmas.List.{length-append}
 use Rattle.std.proofs.lemmas.List.Quantifiers.{position-Some}
 use Rattle.rx_ast.specs.Syntax.{Component, Program, Statement, body_slots, constant, context, effect, reducer, state, use_resource}
-use Rattle.rx_rules.specs.Names.{component_at, hook_in, hook_names, hooks_of}
+use Rattle.rx_rules.specs.Names.{component_at, hook_in, hooks_of}
 use Rattle.rx_elem.specs.Compare.{node_at, old_nodes}
 use Rattle.rx_elem.specs.Elements.{Element, Elements, Kind, kind_of, listed, of_comp, same_kind}
 use Rattle.rx_elem.specs.Elements as elements
 use Rattle.rx_elem.specs.Identity.{Child, identified, identities_after, is_same_child, same_identity}
 use Rattle.rx_elem.specs.Numbers.{Numbers, numbered, numbered_host, numbered_in, numbered_instance, numbered_mark}
 use Rattle.rx_elem.specs.Spots.{Around, Mounted, Spot, around_children, at_root, mounted, mounted_as, mounted_in, spot_mark, spots, spots_in}
-use Rattle.rx_elem.specs.Trees.{Forest, Instance, Mark, Node, child, children_if, element_of, elements_in, fallback_if, instance_in, mark_of, node, none, of_boundary, of_host, of_instance, places, plain, vacant}
+use Rattle.rx_elem.specs.Trees.{Forest, Instance, Mark, Node, child, children_if, element_of, elements_in, fallback_if, instance_in, node, none, of_boundary, of_host, of_instance, places, plain, vacant}
 use Rattle.rx_elem.specs.declared.effect.ContextRead.{ContextRead}
 use Rattle.rx_elem.specs.declared.effect.EffectRecord.{EffectRecord}
 use Rattle.rx_elem.proofs.Equality.{same_kind-self}
 use Rattle.rx_meaning.specs.Body.{Body, Frame, Inputs, Taken, and_then, body_of, finished, opening_frame, ready, stopped_at, take_all, take_one, taken, wait, with_hook, with_resource}
-use Rattle.rx_meaning.specs.Fresh.{Contexts, IsTree, Part, Place, Places, Shape, Sight, absent, all_made, before, default_contexts, depth_limit, empty, fresh, given, inputs_at, instance_after, made, none_yet, old_host, old_instance, one_list, one_waits, over, over_boundary, part, place, place_of, render_all, render_list, render_part, rendered, root_element, shape_of, shape_of_body, shape_of_component, two_lists, waiting, waits}
-use Rattle.rx_model.specs.State.{hooks_at}
+use Rattle.rx_meaning.specs.Fresh.{Contexts, IsTree, Part, Place, Places, Sight, all_made, before, default_contexts, depth_limit, empty, fresh, given, inputs_at, instance_after, made, none_yet, old_host, old_instance, one_waits, over, over_boundary, part, place, place_of, render_all, render_part, rendered, root_element, shape_of, shape_of_body, shape_of_component, waits}
 use Rattle.host_laws.proofs.IdentityLaws.{both}
 use Rattle.commit_laws.proofs.QuietTree.{root_stays}
 

@@ -1,6 +1,6 @@
 -- What is read of a root.
-use Rattle.std.proofs.Common.{◌≡◌, ℕ, suc, ◌+◌, ◌<◌, ◌≤◌, Bool, true, false, cond, List, [], ◌∷◌, ◌++◌, length, append-nil, refl, sym, ap, ◌∙◌, arith}
-use Rattle.std.specs.Prelude.{Option, Some, None, Result, Ok, Err, OnErr, OnOk, filter}
+use Rattle.std.proofs.Common.{◌≡◌, ◌≤◌, Bool, true, false, cond, List, [], ◌∷◌, length, refl, sym, ap, arith}
+use Rattle.std.specs.Prelude.{Option, Some, Result, Ok, Err, OnErr, OnOk, filter}
 use Rattle.rx_lane.specs.Lanes.{has, lanes_where}
 use Rattle.rx_ast.specs.Syntax.{Program}
 use Rattle.rx_rules.specs.Bounds.{node_limit}
@@ -76,4 +76,3 @@ tree_order p bounded accepted orders s reached = committed_order p bounded accep
 -- the last line of a report
 pub last_line_is : (p : Program) → IsBounded p → (s : State) → IsReached p s → last_line (lanes_where (has s.schedule.pending)) (hidden_count s.tree) ≡ end_line s
 last_line_is p bounded s reached = ap (λ ls. last_line ls (hidden_count s.tree)) (sym (kept_facts p bounded s reached).pending_are_set)
-

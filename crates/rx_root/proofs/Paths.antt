@@ -1,6 +1,6 @@
 -- Steps of a script can be taken, and the instance that the path of a dispatch leads to has the hook of the dispatch.
-use Rattle.std.proofs.Common.{◌≡◌, ◌⊎◌, inl, inr, ℕ, zero, suc, ◌+◌, Bool, true, false, ◌&&◌, ◌||◌, cond, nat_eq, Option, Some, None, Result, Ok, Err, List, [], ◌∷◌, ◌++◌, length, refl, sym, ap, ◌∙◌, subst, arith}
-use Rattle.std.specs.Prelude.{bytes_eq, filter, filter_map, is_some, map, option_and_then, position, slice_get}
+use Rattle.std.proofs.Common.{◌≡◌, inl, inr, ℕ, zero, suc, ◌+◌, Bool, true, false, ◌||◌, cond, nat_eq, Option, Some, None, Result, Ok, Err, List, [], ◌∷◌, ◌++◌, length, refl, sym, ap, ◌∙◌, subst}
+use Rattle.std.specs.Prelude.{bytes_eq, filter, filter_map, map, option_and_then, position, slice_get}
 use Rattle.std.specs.List.{list_any}
 use Rattle.std.specs.Option.{option_eq, option_map, option_map_or}
 use Rattle.std.proofs.lemmas.List.{length-map}
@@ -19,13 +19,12 @@ use Rattle.rx_check.specs.Accepted.{IsAccepted}
 use Rattle.rx_check.specs.Checks.{repeat_in, repeats}
 use Rattle.rx_check.specs.Tables.{hook_among, hook_named, kind_of}
 use Rattle.rx_check.specs.declared.hook.HookKind.{HookKind}
-use Rattle.rx_check.specs.declared.hook.HookKind.TheVariants as kind
 use Rattle.rx_step.specs.Steps.{Path, hook_name, path_of}
 use Rattle.rx_step.specs.declared.step.Dispatch.{Dispatch}
 use Rattle.rx_step.specs.declared.step.Dispatch.TheVariants.{Set, Call, Send}
 use Rattle.rx_step.specs.declared.step.Step.{Step}
 use Rattle.rx_step.specs.declared.step.Step.TheVariants as step
-use Rattle.rx_script.specs.Lines.{BadStep, Fault, Line, bad, form_of, formed, good, has_targets, hook_at, in_bounds, is_comment, is_reducer, is_state, line_of, meant, out_of_range, silent, steps_from, steps_of, target_from, target_of, unknown_target, with_line}
+use Rattle.rx_script.specs.Lines.{BadStep, Line, bad, form_of, formed, good, has_targets, hook_at, in_bounds, is_comment, is_reducer, is_state, line_of, meant, out_of_range, silent, steps_from, steps_of, target_from, target_of, unknown_target, with_line}
 use Rattle.rx_script.specs.Words.{lines_of, words_of}
 use Rattle.rx_elem.specs.Spots.{Mounted}
 use Rattle.rx_model.specs.State.{find_from, hooks_at, is_step, name_of, step_to}

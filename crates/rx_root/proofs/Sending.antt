@@ -1,6 +1,6 @@
 -- What a root stands for after a dispatch.
-use Rattle.std.proofs.Common.{◌≡◌, ℕ, ◌+◌, ◌<◌, ◌≤◌, Bool, true, List, [], ◌∷◌, length, refl, sym, ap, ◌∙◌, subst, arith, Option, Some, None}
-use Rattle.std.specs.Prelude.{IfSome, is_none, slice_get, if◌then◌else◌}
+use Rattle.std.proofs.Common.{◌≡◌, ℕ, ◌+◌, ◌<◌, ◌≤◌, true, List, length, refl, sym, ap, ◌∙◌, subst, arith, Option, Some, None}
+use Rattle.std.specs.Prelude.{is_none, slice_get, if◌then◌else◌}
 use Rattle.rx_lane.specs.declared.lane.Lane.{Lane}
 use Rattle.rx_lane.specs.Lanes.{Lanes, one, union}
 use Rattle.rx_ast.specs.Syntax.{Program}
@@ -9,7 +9,7 @@ use Rattle.rx_check.specs.Accepted.{IsAccepted}
 use Rattle.rx_elem.specs.Spots.{Mounted, mounted}
 use Rattle.rx_queue.specs.declared.update.Op.{Op}
 use Rattle.rx_queue.specs.declared.update.Update.{Update}
-use Rattle.rx_queue.specs.Journal.{Target, hook}
+use Rattle.rx_queue.specs.Journal.{hook}
 use Rattle.rx_sched.specs.Schedule.{Schedule, after_update, claimed, linked as linked_lanes_of}
 use Rattle.rx_hooks.specs.Hooks.{links_with}
 use Rattle.rx_step.specs.declared.step.Dispatch.{Dispatch}
@@ -18,7 +18,7 @@ use Rattle.rx_step.specs.declared.step.LaneWord.TheVariants as word
 use Rattle.rx_step.specs.declared.step.Step.TheVariants as step
 use Rattle.rx_step.specs.Steps.{hook_name, path_of}
 use Rattle.rx_model.specs.State.{Progress, State, find_from, hook_number, hooks_at, linked_lanes}
-use Rattle.rx_model.specs.Accepting.{accepted, claimed_if_first, dispatched_for, in_event, lane_of, next_update, op_of, with_linked}
+use Rattle.rx_model.specs.Accepting.{accepted, claimed_if_first, dispatched_for, lane_of, next_update, op_of, with_linked}
 use Rattle.rx_model.specs.HooksOf.{KeepsAllHooks}
 use Rattle.rx_model.specs.Laws.{IsBounded, IsReached}
 use Rattle.run_laws.proofs.AlongRuns.{reached_carries}

@@ -21,7 +21,6 @@ use Rattle.rx_model.specs.State.{Linked, Progress, State}
 use Rattle.rx_model.specs.Accepting.{accepted, with_value}
 use Rattle.rx_model.specs.HooksOf.{KeepsAllHooks}
 use Rattle.rx_model.specs.Laws.{IsReached}
-use Rattle.run_laws.specs.Carried.{values_now}
 use Rattle.run_laws.proofs.Keeping.{now_stays}
 use Rattle.rx_fiber.specs.Reading.{IsTreeOf}
 use Rattle.rx_read.specs.Numbering.{IsAllNumbered}
@@ -29,11 +28,11 @@ use Rattle.rx_hook_store.specs.Store.{kept_hooks}
 use Rattle.rx_hook_store.specs.Commits.{LinksBelow}
 use Rattle.rx_hook_store.proofs.Staying.{all_stay}
 use Rattle.rx_commit.specs.Shown.{Shown, Shows}
-use Rattle.rx_render.specs.Rendering.{IfLeft, IsIdle, Rendering}
+use Rattle.rx_render.specs.Rendering.{IfLeft, Rendering}
 use Rattle.rx_render.specs.Renders.{Renders, with_hooks}
 use Rattle.rx_render.proofs.Later.{renders_resolved, renders_same}
 use Rattle.rx_root.specs.Rooted.{Rooted}
-use Rattle.rx_root.specs.Stands.{GoesOnWith, HasProgress, Stands}
+use Rattle.rx_root.specs.Stands.{HasProgress, Stands}
 
 -- ---- the clock, the event and the passive effects
 

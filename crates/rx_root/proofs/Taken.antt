@@ -1,12 +1,10 @@
 -- Steps that render nothing are taken.
-use Rattle.std.proofs.Common.{◌≡◌, ℕ, ℤ, zero, suc, ◌+◌, ◌<◌, ◌≤◌, Option, Some, None, List, [], ◌∷◌, length, map, refl, sym, ap, ◌∙◌, subst, arith}
+use Rattle.std.proofs.Common.{◌≡◌, ℕ, ℤ, zero, suc, ◌+◌, ◌<◌, Option, Some, None, List, [], ◌∷◌, length, map, refl, sym, ap, ◌∙◌, subst, arith}
 use Rattle.std.specs.Prelude.{slice_get, slice_set}
 use Rattle.std.specs.List.{range_with_len}
 use Rattle.rx_base.specs.Values.{Name}
-use Rattle.rx_lane.specs.declared.lane.Lane.{Lane}
 use Rattle.rx_ast.specs.Syntax.{Program}
 use Rattle.rx_rules.specs.Names.{resource_number, resources}
-use Rattle.rx_elem.specs.Spots.{Mounted}
 use Rattle.rx_queue.specs.Journal.{hook, resolved_now}
 use Rattle.rx_sched.specs.Deadlines.{later}
 use Rattle.rx_sched.specs.Schedule.{after_resolution}
@@ -18,14 +16,12 @@ use Rattle.rx_step.specs.declared.step.Dispatch.{Dispatch}
 use Rattle.rx_step.specs.declared.step.Step.{Step}
 use Rattle.rx_step.specs.declared.step.Step.TheVariants as step
 use Rattle.rx_step.specs.Steps.{path_of, word_of}
-use Rattle.rx_model.specs.State.{State, hook_number, instance_found, state_lines}
+use Rattle.rx_model.specs.State.{State, instance_found, state_lines}
 use Rattle.rx_model.specs.Stretch.{Stretch, silent, writes}
-use Rattle.rx_model.specs.Accepting.{between_events, dispatched, dispatched_for, dispatched_to, op_of, resolved, resolved_as, target_of, with_value}
+use Rattle.rx_model.specs.Accepting.{between_events, dispatched_for, dispatched_to, resolved_as, with_value}
 use Rattle.rx_model.specs.Committing.{passive_run}
 use Rattle.rx_model.specs.Machine.{StepTo}
 use Rattle.rx_model.specs.Laws.{IsReached}
-use Rattle.run_laws.specs.Carried.{values_now}
-use Rattle.rx_commit.specs.Shown.{Shown, Shows}
 use Rattle.rx_commit.specs.Written.{passive_lines, with_lines}
 use Rattle.rx_root.specs.declared.events.Sent.{Sent}
 use Rattle.rx_root.specs.Rooted.{Rooted}
@@ -51,12 +47,12 @@ silent_taken p s x v log t n step stands = writes_taken p s x v log log [] t n s
 event_reached : (p : Program) (s : State) → IsReached p s → IsReached p (between_events s)
 event_reached p s reached = step_reached p s step.Event (silent (between_events s)) reached refl
 
-between : (p : Program) (s : State) (v : Rooted) → Stands p s v → Stands p (between_events s) (record v { event = None })
-between p s v h = stands_at p s s.now None s.passive v v.now v.shown h.now h.shows (event_reached p s h.reached) h
+pub between_stands : (p : Program) (s : State) (v : Rooted) → Stands p s v → Stands p (between_events s) (record v { event = None })
+between_stands p s v h = stands_at p s s.now None s.passive v v.now v.shown h.now h.shows (event_reached p s h.reached) h
 
 pub event_taken : (p : Program) (s : State) (v new : Rooted) (log : Written) (n : ℕ) → Stands p s v → new ≡ record v { event = None } → Takes p (StepTo p s step.Event) new log log n n
 event_taken p s v new log n h is =
-    silent_taken p s step.Event new log (between_events s) n refl (subst (λ (r : Rooted). Stands p (between_events s) r) (sym is) (between p s v h))
+    silent_taken p s step.Event new log (between_events s) n refl (subst (λ (r : Rooted). Stands p (between_events s) r) (sym is) (between_stands p s v h))
 
 pub tick_taken : (p : Program) (s : State) (time : ℕ) (v new : Rooted) (log : Written) (n : ℕ) → Stands p s v → new ≡ record v { now = later v.now time; event = None }
     → Takes p (StepTo p s (step.Tick time)) new log log n n
@@ -82,12 +78,12 @@ passive_taken p s v new log written n h is are =
 pub state_taken : (p : Program) (s : State) (v new : Rooted) (log written : Written) (n : ℕ) → Stands p s v → new ≡ record v { event = None } → written ≡ with_lines log (state_lines p s)
     → Takes p (StepTo p s step.State) new log written n n
 state_taken p s v new log written n h is are =
-    writes_taken p s step.State new log written (state_lines p s) (between_events s) n refl (subst (λ (r : Rooted). Stands p (between_events s) r) (sym is) (between p s v h)) are
+    writes_taken p s step.State new log written (state_lines p s) (between_events s) n refl (subst (λ (r : Rooted). Stands p (between_events s) r) (sym is) (between_stands p s v h)) are
 
 pub tree_taken : (p : Program) (s : State) (v new : Rooted) (log written : Written) (n : ℕ) → Stands p s v → new ≡ record v { event = None } → written ≡ with_lines log (tree_lines (hosts s.tree))
     → Takes p (StepTo p s step.Tree) new log written n n
 tree_taken p s v new log written n h is are =
-    writes_taken p s step.Tree new log written (tree_lines (hosts s.tree)) (between_events s) n refl (subst (λ (r : Rooted). Stands p (between_events s) r) (sym is) (between p s v h)) are
+    writes_taken p s step.Tree new log written (tree_lines (hosts s.tree)) (between_events s) n refl (subst (λ (r : Rooted). Stands p (between_events s) r) (sym is) (between_stands p s v h)) are
 
 -- ---- resolutions
 
@@ -116,7 +112,7 @@ pub already_taken : (p : Program) (s : State) (name : Name) (x known : ℤ) (v n
 already_taken p s name x known v new log written n h has is are =
     writes_taken p s (step.Resolve name x) new log written (already name known ∷ []) (between_events s) n
     (sym (ap (resolved_as p (between_events s) name x) has))
-    (subst (λ (r : Rooted). Stands p (between_events s) r) (sym is) (between p s v h)) (are ∙ with_one log (already name known))
+    (subst (λ (r : Rooted). Stands p (between_events s) r) (sym is) (between_stands p s v h)) (are ∙ with_one log (already name known))
 
 -- a resolution of one that has none
 pub resolved_taken : (p : Program) (s : State) (name : Name) (x : ℤ) (v new : Rooted) (log : Written) (n : ℕ) → Stands p s v
@@ -134,7 +130,7 @@ resolved_taken p s name x v new log n h none within is =
     let goes : StepTo p s (step.Resolve name x) (silent t) = sym (ap (resolved_as p (between_events s) name x) none) in
     silent_taken p s (step.Resolve name x) new log t n goes
     (subst (λ (q : Rooted). Stands p t q) (sym is)
-    (stands_resolved p (between_events s) r x (record v { event = None }) none within (step_reached p s (step.Resolve name x) (silent t) h.reached goes) (between p s v h)))
+    (stands_resolved p (between_events s) r x (record v { event = None }) none within (step_reached p s (step.Resolve name x) (silent t) h.reached goes) (between_stands p s v h)))
 
 -- ---- dispatches
 

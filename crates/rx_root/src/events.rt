@@ -11,7 +11,7 @@ ghost use Rattle.rx_sched.specs.Deadlines.{later};
 ghost use Rattle.rx_sched.specs.Schedule.{Schedule, after_resolution};
 ghost use Rattle.rx_meaning.specs.Outcome.{is_awaited};
 ghost use Rattle.rx_model.specs.State.{State, state_lines};
-ghost use Rattle.rx_model.specs.Accepting.{dispatched_for, lane_of as lane_in, with_value};
+ghost use Rattle.rx_model.specs.Accepting.{dispatched_for, lane_of as lane_in};
 ghost use Rattle.rx_model.specs.Laws.{IsReached};
 ghost use Rattle.rx_model.specs.Machine.{StepTo};
 ghost use Rattle.rx_hook_store.specs.Store.{kept_hooks};
@@ -26,7 +26,9 @@ use crate::root::Root;
 use end_laws::ends_are_not_read;
 use rx_base::{Int, Name};
 use rx_hook_store::{hooks_are_there, links_are_below};
-use rx_instances::{Instances, dispatch_hook, dispatch_op, dispatch_path, dispatch_word, hook_place, show_hooks};
+use rx_instances::{
+    Instances, dispatch_hook, dispatch_op, dispatch_path, dispatch_word, hook_place, show_hooks,
+};
 use rx_lane::{Lane, Lanes};
 use rx_queue::{Op, Update};
 use rx_report::{Report, a_commit_is_in_tree_order};
@@ -244,7 +246,11 @@ impl Root {
     /// # Errors
     ///
     /// Want of memory alone.
-    pub(crate) fn dispatch(&mut self, dispatch: &Dispatch, log: &mut Report) -> Result<(), AllocError>
+    pub(crate) fn dispatch(
+        &mut self,
+        dispatch: &Dispatch,
+        log: &mut Report,
+    ) -> Result<(), AllocError>
         requires stands { (s : State) × Stands self.old.rendering.program s self.old }
         requires fits { CanTake self.old.rendering.program (step.Dispatch dispatch.now) }
         requires room { self.old.updates < 2 ^ 62 }
@@ -269,10 +275,7 @@ impl Root {
         ensures number { result ≡ resource_number self.entry.now.rendering.program name.now }
         ensures below { is_some (position (bytes_eq name.now) (resources self.entry.now.rendering.program)) ≡ true → result < length (resources self.entry.now.rendering.program) }
     {
-        self.renderer
-            .checked()
-            .resource(name.text())
-            .unwrap_or(0)
+        self.renderer.checked().resource(name.text()).unwrap_or(0)
     }
 
     // True where a visible boundary waits for a resource.

@@ -1,7 +1,6 @@
 // The machine: a program, and its state between two steps.
-ghost use Rattle.std.specs.Prelude.{◌≡◌, ◌∷◌, [], IfOk, OnErr, OnOk, IsTrue};
+ghost use Rattle.std.specs.Prelude.{◌≡◌, ◌∷◌, [], IfOk, OnErr, OnOk};
 ghost use Rattle.rx_elem.specs.Spots.{hidden_count as hidden_in, node_count};
-ghost use Rattle.rx_lines.specs.Lines.{report_bytes};
 ghost use Rattle.rx_model.specs.State as machine;
 ghost use Rattle.rx_model.specs.State.{State, opening};
 ghost use Rattle.run_laws.specs.Carried.{values_now};

@@ -1,21 +1,20 @@
-use Rattle.std.proofs.Common.{◌≡◌, ℕ, ◌<◌, ◌∙◌, ap, sym, subst, length, List, Option, Some, None, arith}
+use Rattle.std.proofs.Common.{◌≡◌, ℕ, ◌<◌, ◌∙◌, ap, sym, subst, length, List, None}
 use Rattle.std.specs.Option.{IsSomeAnd}
 use Rattle.rx_ast.specs.Syntax.{Program}
-use Rattle.rx_elem.specs.Spots.{Mounted, mounted}
 use Rattle.rx_hooks.specs.declared.hook.Hook.{Hook}
 use Rattle.rx_lines.specs.Lines.{no_instance, with_line}
 use Rattle.rx_queue.specs.Journal.{hook}
 use Rattle.rx_step.specs.declared.step.LaneWord.{LaneWord}
 use Rattle.rx_step.specs.declared.step.Step.TheVariants as step
-use Rattle.rx_step.specs.Steps.{Path, path_of, word_of}
-use Rattle.rx_model.specs.State.{State, instance_found}
+use Rattle.rx_step.specs.Steps.{Path, path_of}
+use Rattle.rx_model.specs.State.{instance_found}
 use Rattle.rx_model.specs.Accepting.{dispatched_for}
 use Rattle.rx_model.specs.Laws.{IsReached}
 use Rattle.rx_begin.proofs.Begins.{on_ok}
 use Rattle.rx_hook_store.specs.Store.{kept_hooks}
 use Rattle.rx_root.specs.Rooted.{Rooted}
 use Rattle.rx_root.specs.Stands.{Stands}
-use Rattle.rx_root.specs.Taking.{CanTake, IsFor, IsTargetOf}
+use Rattle.rx_root.specs.Taking.{CanTake, IsFor}
 use Rattle.rx_root.proofs.Lines.{on_err}
 use Rattle.rx_root.proofs.Taken.{refused_taken, sent_reached, sent_taken}
 use Rattle.rx_root.proofs.root.Root.dispatch.Goals as goal

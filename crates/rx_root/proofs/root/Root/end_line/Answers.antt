@@ -1,6 +1,5 @@
 use Rattle.std.proofs.Common.{◌≡◌, ℕ, ◌∷◌, [], ◌∙◌, ap, subst}
 use Rattle.rx_lane.specs.Lanes.{Lanes, has, lanes_where}
-use Rattle.rx_elem.specs.Spots.{hidden_count}
 use Rattle.rx_lines.specs.Lines.{Line, last_line}
 use Rattle.rx_model.specs.State.{end_line}
 use Rattle.rx_model.specs.Laws.{IsBounded}

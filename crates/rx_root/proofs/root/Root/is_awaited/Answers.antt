@@ -1,11 +1,9 @@
-use Rattle.std.proofs.Common.{◌≡◌, ◌<◌, ◌∙◌, ap, subst, length, arith}
+use Rattle.std.proofs.Common.{◌<◌, ◌∙◌, ap, subst, arith}
 use Rattle.std.specs.Option.{option_copied}
 use Rattle.rx_base.specs.Awaits.{Awaits, has, resource_limit}
 use Rattle.rx_base.specs.AwaitsLaws.{has-awaits_where}
-use Rattle.rx_rules.specs.Names.{resources}
 use Rattle.rx_check.specs.Accepted.{IsAccepted}
 use Rattle.rx_check.proofs.Limited.{few-resources}
-use Rattle.rx_elem.specs.Trees.{Node}
 use Rattle.rx_meaning.specs.Outcome.{is_awaited}
 use Rattle.rx_root.specs.Rooted.{Rooted}
 use Rattle.rx_root.proofs.root.Root.is_awaited.Goals as goal

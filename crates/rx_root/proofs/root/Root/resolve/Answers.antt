@@ -1,13 +1,11 @@
 use Rattle.std.specs.Prelude.{slice_set}
-use Rattle.std.proofs.Common.{◌≡◌, ◌+◌, ℕ, ℤ, ◌<◌, ◌∙◌, ap, sym, subst, get_or, length, Option, Some, None, arith}
+use Rattle.std.proofs.Common.{◌≡◌, ◌+◌, ℕ, ◌<◌, ◌∙◌, ap, sym, subst, get_or, length, Some, None, arith}
 use Rattle.std.proofs.lemmas.Option.{get_or_from_slice_get}
 use Rattle.rx_rules.specs.Names.{resource_number, resources}
 use Rattle.rx_queue.specs.Journal.{resolved_now}
 use Rattle.rx_sched.specs.Schedule.{after_resolution}
 use Rattle.rx_meaning.specs.Outcome.{is_awaited}
-use Rattle.rx_model.specs.State.{State}
 use Rattle.rx_root.specs.Rooted.{Rooted}
-use Rattle.rx_root.specs.Stands.{Stands}
 use Rattle.rx_root.proofs.Taken.{already_taken, resolved_taken, value_kept, values_length}
 use Rattle.rx_root.proofs.root.Root.resolve.Goals as goal
 

@@ -1,11 +1,11 @@
-use Rattle.std.proofs.Common.{◌≡◌, ◌<◌, ◌∙◌, ap, sym, subst, ℕ, Option, Some, length, refl}
+use Rattle.std.proofs.Common.{◌≡◌, ◌<◌, ◌∙◌, ap, sym, subst, ℕ, Option, length, refl}
 use Rattle.rx_lane.specs.declared.lane.Lane.{Lane}
 use Rattle.rx_lane.specs.Lanes.{Lanes}
 use Rattle.rx_queue.specs.declared.update.Update.{Update}
 use Rattle.rx_queue.specs.Journal.{hook}
 use Rattle.rx_sched.specs.Schedule.{Schedule}
-use Rattle.rx_model.specs.State.{Progress, linked_lanes}
-use Rattle.rx_model.specs.Accepting.{dispatched_for, lane_of}
+use Rattle.rx_model.specs.State.{linked_lanes}
+use Rattle.rx_model.specs.Accepting.{lane_of}
 use Rattle.rx_model.specs.HooksOf.{KeepsAllHooks}
 use Rattle.rx_model.specs.Laws.{IsBounded}
 use Rattle.rx_hook_store.specs.Store.{kept_hooks}

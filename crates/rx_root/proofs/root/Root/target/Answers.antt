@@ -1,13 +1,12 @@
 use Rattle.std.proofs.Common.{◌≡◌, ◌∙◌, ap, sym, subst, ℕ, ◌<◌, true, length, List, Option, Some, None}
 use Rattle.std.specs.Prelude.{IfSome}
-use Rattle.std.specs.Borrow.{Bor}
 use Rattle.std.specs.Option.{option_copied}
 use Rattle.rx_ast.specs.Syntax.{Program}
 use Rattle.rx_base.specs.Values.{Name}
 use Rattle.rx_check.specs.Accepted.{IsAccepted}
 use Rattle.rx_elem.specs.Spots.{Mounted, mounted}
 use Rattle.rx_rules.specs.Names.{has_name}
-use Rattle.rx_step.specs.Steps.{Path, hook_name, path_of}
+use Rattle.rx_step.specs.Steps.{hook_name, path_of}
 use Rattle.rx_model.specs.State.{find_from, hook_number, hooks_at}
 use Rattle.rx_model.specs.Accepting.{op_of}
 use Rattle.rx_root.specs.Rooted.{Rooted}

@@ -1,8 +1,7 @@
-use Rattle.std.proofs.Common.{◌≡◌, ◌∙◌, ap, sym, subst}
-use Rattle.rx_ast.specs.Syntax.{Program}
+use Rattle.std.proofs.Common.{◌∙◌, ap, sym, subst}
 use Rattle.rx_check.specs.Accepted.{IsAccepted}
 use Rattle.rx_model.specs.Laws.{IsBounded}
-use Rattle.rx_commit.specs.Shown.{Shown, Shows}
+use Rattle.rx_commit.specs.Shown.{Shows}
 use Rattle.rx_root.specs.Rooted.{Rooted}
 use Rattle.rx_root.proofs.Lines.{ok_each, tree_order}
 use Rattle.rx_root.proofs.root.Root.tree.Goals as goal
