@@ -1,5 +1,5 @@
 -- Where a unit of each kind comes to.
-use Rattle.std.specs.Prelude.{◌≡◌, ℕ, zero, suc, ◌+◌, ◌<◌, ◌≤◌, Bool, true, false, List, [], ◌∷◌, filter, nat_eq, ℤ, Option, Some, None, Result, Ok, Err, IfOk, OnOk, OnErr, refl}
+use Rattle.std.specs.Prelude.{◌≡◌, ℕ, zero, suc, ◌+◌, ◌≤◌, false, List, [], filter, nat_eq, ℤ, Option, Some, None, Result, Ok, Err, IfOk, OnOk, OnErr, refl}
 use Rattle.std.specs.List.{range_with_len}
 use Rattle.std.proofs.Common.{sym, ap, ◌∙◌, subst, arith, add-one}
 use Rattle.rx_base.specs.Awaits.{Awaits, one, nothing, awaits_where}
@@ -13,15 +13,15 @@ use Rattle.rx_hooks.specs.declared.hook.Hook.{Hook}
 use Rattle.rx_lists.specs.Shapes as shapes
 use Rattle.rx_links.specs.Drafts.{Draft, Trees, taken}
 use Rattle.rx_links.specs.Readers.{made_value_of}
-use Rattle.rx_meaning.specs.Fresh.{Sight, Contexts, waits, old_instance}
+use Rattle.rx_meaning.specs.Fresh.{Sight, Contexts, old_instance}
 use Rattle.rx_meaning.specs.Cursor.{Open, Frame, Cursor, at_place, at_end, ended, unit, unwind, HasLevel}
 use Rattle.rx_meaning.specs.Counts.{each_body, next_counts, one_if_component}
 use Rattle.rx_fiber.specs.Fibers.{Fiber}
 use Rattle.rx_fiber.specs.Standing.{StandsAt}
 use Rattle.rx_fiber.specs.Unwound.{IsWithin, IsLeftAt}
-use Rattle.rx_complete.specs.Ends.{IsAtEnd, ends, IsOpenBelow, lies, fiber_in, LeadsTo, to_sibling, to_parent, to_none}
+use Rattle.rx_complete.specs.Ends.{IsOpenBelow, lies, fiber_in, LeadsTo, to_sibling, to_parent, to_none}
 use Rattle.rx_complete.specs.declared.completing.Next.{Next}
-use Rattle.rx_begin.specs.Beginning.{IsAtPlace, stands, IsPlace, IsEnd, HasBegun, BeginsPlace}
+use Rattle.rx_begin.specs.Beginning.{IsAtPlace, stands, IsPlace, IsEnd, BeginsPlace}
 use Rattle.rx_begin.specs.Scenes.{IsSceneOf, KeepsHooks, GivesHooks}
 use Rattle.rx_begin.specs.declared.scene.Scene.{Scene}
 use Rattle.rx_begin.specs.Opening.{HasOpenedAs, IsLeft, left}
@@ -29,9 +29,9 @@ use Rattle.rx_begin.specs.declared.node.Begun.TheVariants.{Child, Leaf, Suspende
 use Rattle.rx_begin.specs.declared.opening.Opened.{Opened}
 use Rattle.rx_begin.specs.declared.opening.Opened.TheVariants.{First, Empty}
 use Rattle.rx_render.specs.declared.at.At.{At}
-use Rattle.rx_render.specs.declared.at.At.TheVariants.{Begins, Completes, Over}
-use Rattle.rx_render.specs.Rendering.{ComesTo, to_place, to_end, to_tree, to_wait}
-use Rattle.rx_render.specs.Advancing.{bodies_next, at_after, at_opened, CanBegin, GivesAt, Advances}
+use Rattle.rx_render.specs.declared.at.At.TheVariants.{Begins, Completes}
+use Rattle.rx_render.specs.Rendering.{ComesTo, to_place, to_end, to_tree}
+use Rattle.rx_render.specs.Advancing.{bodies_next, at_after, at_opened, CanBegin, Advances}
 
 -- A wait for a number that is no resource's
 

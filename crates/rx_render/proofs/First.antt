@@ -1,9 +1,8 @@
 -- The first render of a program without resources can start.
-use Rattle.std.specs.Prelude.{◌≡◌, ℕ, ℤ, List, [], Option, None, length, refl}
-use Rattle.std.proofs.Common.{sym, ap, ◌∙◌, subst}
+use Rattle.std.specs.Prelude.{◌≡◌, ℤ, List, [], Option, None, refl}
+use Rattle.std.proofs.Common.{sym, subst}
 use Rattle.rx_base.specs.declared.cut.Cut.{Cut}
 use Rattle.rx_lane.specs.Lanes.{Lanes}
-use Rattle.rx_ast.specs.Syntax.{Program}
 use Rattle.rx_rules.specs.Names.{resources}
 use Rattle.rx_lists.specs.Shapes.{none}
 use Rattle.rx_model.specs.State.{opening}

@@ -1,9 +1,7 @@
 -- A unit keeps a render in progress.
-use Rattle.std.specs.Prelude.{◌≡◌, ℕ, zero, suc, ◌+◌, ◌-◌, ◌<◌, ◌≤◌, Bool, true, false, List, [], ◌∷◌, ℤ, Option, Some, None, option_map, length, IsSome, refl, ◌^◌}
+use Rattle.std.specs.Prelude.{◌≡◌, ℕ, zero, suc, ◌+◌, ◌-◌, ◌<◌, ◌≤◌, true, false, List, [], ℤ, Option, Some, None, option_map, length, refl, ◌^◌}
 use Rattle.std.specs.Option.{option_map_or}
 use Rattle.std.proofs.Common.{sym, ap, ◌∙◌, subst, arith, add-one}
-use Rattle.rx_base.specs.declared.cut.Cut.{Cut}
-use Rattle.rx_lane.specs.Lanes.{Lanes}
 use Rattle.rx_ast.specs.Syntax.{Program, Component, contexts}
 use Rattle.rx_rules.specs.Names.{component_at, prop_names}
 use Rattle.rx_check.specs.Checks.{unknowns}
@@ -12,11 +10,10 @@ use Rattle.rx_loop.specs.declared.work.Unit as work
 use Rattle.rx_ctx.specs.Contexts.{Stack, values_at}
 use Rattle.rx_elem.specs.Elements.{Element}
 use Rattle.rx_elem.specs.Elements as elements
-use Rattle.rx_elem.specs.Trees.{Node, node, mark_of, Instance, instance_in}
+use Rattle.rx_elem.specs.Trees.{Node, node, mark_of, instance_in}
 use Rattle.rx_hooks.specs.declared.hook.Hook.{Hook}
 use Rattle.rx_lists.specs.Shapes as shapes
-use Rattle.rx_links.specs.Drafts.{Draft, taken, made, Trees, Makes}
-use Rattle.rx_links.specs.Places.{Around, placed, IsAt}
+use Rattle.rx_links.specs.Drafts.{Draft, taken, Trees, Makes}
 use Rattle.rx_links.specs.Readers.{made_value_of}
 use Rattle.rx_meaning.specs.Body.{Body, wait, ready, body_of}
 use Rattle.rx_meaning.specs.Fresh.{Sight, Contexts, inputs_at, old_instance, shape_of, shape_of_body}
@@ -31,7 +28,7 @@ use Rattle.rx_model.specs.Laws.{IsBounded}
 use Rattle.rx_model.specs.Turns.{unit_bound}
 use Rattle.rx_fiber.specs.Fibers.{Fiber}
 use Rattle.rx_fiber.specs.Reading.{IsTreeOf}
-use Rattle.rx_fiber.specs.Standing.{StandsAt, begins, completes}
+use Rattle.rx_fiber.specs.Standing.{StandsAt, begins}
 use Rattle.rx_complete.specs.Ends.{ends}
 use Rattle.rx_complete.proofs.Completed.{KnowsPlaces}
 use Rattle.rx_hook_store.specs.Store.{Kept, kept_hooks}
@@ -47,13 +44,13 @@ use Rattle.rx_begin.specs.Scenes.{IsSceneOf, GivesHooks}
 use Rattle.rx_begin.specs.declared.scene.Scene.{Scene}
 use Rattle.rx_render.specs.declared.at.At.{At}
 use Rattle.rx_render.specs.declared.at.At.TheVariants.{Begins, Completes, Over}
-use Rattle.rx_render.specs.Mounting.{IfMounted, HasInstances}
+use Rattle.rx_render.specs.Mounting.{HasInstances}
 use Rattle.rx_render.specs.ContextLists.{CursorHasContexts}
 use Rattle.rx_render.specs.Rendering.{Rendering, IfLeft, units_left, left_of, ComesTo, to_place, to_end, to_tree, to_wait}
 use Rattle.rx_render.specs.Renders.{Sees, GivesAll, HasCome, Renders, IsUnderWay, IsRendering}
-use Rattle.rx_render.specs.Turning.{KeepsHooks, GoesOn, BreaksOff, GivesUp}
+use Rattle.rx_render.specs.Turning.{GoesOn, BreaksOff, GivesUp}
 use Rattle.rx_render.specs.LastUnit.{unit_before, is_over}
-use Rattle.rx_render.specs.Advancing.{IsMadeAt, bodies_next, CanBegin, IsReadyAt, GivesAt, Advances}
+use Rattle.rx_render.specs.Advancing.{IsMadeAt, bodies_next, IsReadyAt, GivesAt, Advances}
 use Rattle.rx_render.proofs.Contexts.{unit_sees}
 use Rattle.rx_render.proofs.Instances.{unit_instances}
 use Rattle.rx_render.proofs.Ending.{come_bounded}

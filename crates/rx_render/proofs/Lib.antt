@@ -7,5 +7,6 @@ pub mod Ending
 pub mod Advancing
 pub mod Going
 pub mod Sending
+pub mod Settling
 pub mod Sizes
 pub mod First

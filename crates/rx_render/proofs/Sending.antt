@@ -1,5 +1,5 @@
 -- A dispatch changes nothing of a render whose cut it lies behind.
-use Rattle.std.specs.Prelude.{◌≡◌, ℕ, zero, suc, ◌≤◌, ◌<◌, Bool, true, false, ◌&&◌, cond, nat_lt, List, [], ◌∷◌, ◌++◌, filter, fold, length, ℤ, Option, Result, Ok, Err, OnOk, OnErr, refl}
+use Rattle.std.specs.Prelude.{◌≡◌, ℕ, zero, suc, ◌≤◌, ◌<◌, Bool, true, false, ◌&&◌, cond, nat_lt, List, [], ◌∷◌, ◌++◌, filter, fold, length, ℤ, Result, Ok, Err, OnOk, OnErr, refl}
 use Rattle.std.specs.List.{AllByRecursion}
 use Rattle.std.proofs.Common.{sym, ap, ◌∙◌, subst, arith}
 use Rattle.std.proofs.lemmas.Bool.Decides.{nat_tests}
@@ -12,17 +12,16 @@ use Rattle.rx_ast.specs.Syntax.{Program}
 use Rattle.rx_step.specs.declared.step.LaneWord.{LaneWord}
 use Rattle.rx_step.specs.declared.step.LaneWord.TheVariants as word
 use Rattle.rx_queue.specs.declared.entry.Entry.{Entry}
-use Rattle.rx_queue.specs.declared.entry.Standing.TheVariants.{Open}
 use Rattle.rx_queue.specs.declared.update.Op.{Op}
 use Rattle.rx_queue.specs.declared.update.Update.{Update}
 use Rattle.rx_queue.specs.History.{Answers, applied, is_done, is_included, new_entry, pushed, state_of}
 use Rattle.rx_queue.specs.History as history
-use Rattle.rx_queue.specs.Journal.{Journal, Posted, Target, hook}
+use Rattle.rx_queue.specs.Journal.{Journal, Target, hook}
 use Rattle.rx_hooks.specs.Hooks.{AllAboveDone, HookHistory, changed_at, states_of}
 use Rattle.rx_meaning.specs.Expressions.{answers_of}
 use Rattle.rx_meaning.specs.Fresh.{Sight}
 use Rattle.rx_model.specs.State.{State, Progress}
-use Rattle.rx_model.specs.Accepting.{accepted, dispatched_for, in_event, lane_of, next_update}
+use Rattle.rx_model.specs.Accepting.{dispatched_for, in_event, lane_of, next_update}
 use Rattle.rx_model.specs.HooksOf.{KeepsAllHooks}
 use Rattle.rx_hook_store.specs.Store.{Kept, kept_hooks}
 use Rattle.rx_hook_store.specs.Changing.{ChangesHooks, dispatched_hook}
@@ -180,21 +179,25 @@ sent_renders : (v : Rendering) (hooks : Kept) (w : LaneWord) (u : Update) (pendi
 sent_renders v hooks w u pending place i keeps p st g number lane same r =
     renders_later p st (dispatched_for st w (hook i place) u.op) g v hooks r (dispatch_later g st w (hook i place) u.op r.past.updates) (keeps p st number lane same r.keeps)
 
--- it is where memory ran out
-unsent_renders : (v : Rendering) (hooks : Kept) → ((n : ℕ) → kept_hooks hooks n ≡ kept_hooks v.hooks n) → (p : Program) (st : State) (g : Progress) → Renders p st g v
-    → Renders p st g (with_hooks v hooks)
-unsent_renders v hooks same p st g r =
+-- it is with hooks that stand for the same state
+pub with_kept : (v : Rendering) (hooks : Kept) (p : Program) (st : State) (g : Progress) → KeepsAllHooks p st (kept_hooks hooks) → Renders p st g v → Renders p st g (with_hooks v hooks)
+with_kept v hooks p st g keeps r =
     record {
       program = r.program;
       resources = r.resources;
       lanes = r.lanes;
       cut = r.cut;
       current = r.current;
-      keeps = all_stay st st refl refl p (kept_hooks v.hooks) (kept_hooks hooks) refl same r.keeps;
+      keeps = keeps;
       done = r.done;
       past = r.past;
       come = record { cursor = r.come.cursor; comes = r.come.comes; goes = r.come.goes; drawn = r.come.drawn; seen = r.come.seen; olds = r.come.olds };
     }
+
+-- so it is where memory ran out
+unsent_renders : (v : Rendering) (hooks : Kept) → ((n : ℕ) → kept_hooks hooks n ≡ kept_hooks v.hooks n) → (p : Program) (st : State) (g : Progress) → Renders p st g v
+    → Renders p st g (with_hooks v hooks)
+unsent_renders v hooks same p st g r = with_kept v hooks p st g (all_stay st st refl refl p (kept_hooks v.hooks) (kept_hooks hooks) refl same r.keeps) r
 
 -- From the value that was opened
 

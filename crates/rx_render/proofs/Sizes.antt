@@ -1,10 +1,10 @@
 -- How many fibers a tree has.
-use Rattle.std.specs.Prelude.{◌≡◌, ℕ, suc, ◌+◌, ◌*◌, ◌^◌, ◌≤◌, ◌<◌, ◌++◌, List, Option, Some, length, refl}
-use Rattle.std.proofs.Common.{ap, arith}
+use Rattle.std.specs.Prelude.{ℕ, suc, ◌+◌, ◌*◌, ◌^◌, ◌≤◌, ◌<◌, Some, length}
+use Rattle.std.proofs.Common.{arith}
 use Rattle.std.proofs.lemmas.List.{length-append}
-use Rattle.rx_elem.specs.Trees.{Mark, Node, node, Forest, none, vacant, child}
-use Rattle.rx_elem.specs.Spots.{Around, Spot, at_root, around_children, spots, spots_in, node_count}
-use Rattle.rx_lists.specs.Shapes.{Shape, fiber, size}
+use Rattle.rx_elem.specs.Trees.{Node, Forest, none}
+use Rattle.rx_elem.specs.Spots.{Around, at_root, around_children, spots, spots_in, node_count}
+use Rattle.rx_lists.specs.Shapes.{Shape, size}
 use Rattle.rx_links.specs.Drafts.{Draft, taken, made, grafted, made_size}
 use Rattle.rx_fiber.specs.Fibers.{Fiber}
 use Rattle.rx_fiber.specs.Reading.{AreFor, no_more, gap, next, IsFor, whole, alone, beside, IsTreeOf}

@@ -1,7 +1,5 @@
 -- What stays along a render, and what is left of one that is given up.
 use Rattle.std.specs.Prelude.{◌≡◌}
-use Rattle.rx_lists.specs.Shapes as shapes
-use Rattle.rx_links.specs.Drafts.{taken}
 use Rattle.rx_meaning.specs.Settled.{DoneBefore}
 use Rattle.rx_model.specs.State.{State, Progress}
 use Rattle.rx_model.specs.HooksOf.{KeepsAllHooks}

@@ -1,11 +1,8 @@
 -- What stays along a render stays over several units.
 use Rattle.std.specs.Prelude.{◌≡◌, refl}
 use Rattle.std.proofs.Common.{sym, ◌∙◌, subst}
-use Rattle.rx_queue.specs.Journal.{Posted}
 use Rattle.rx_meaning.specs.Settled.{DoneBefore}
-use Rattle.rx_model.specs.State.{State, Progress}
 use Rattle.rx_render.specs.Rendering.{Rendering}
-use Rattle.rx_render.specs.Renders.{Renders}
 use Rattle.rx_render.specs.Turning.{KeepsHooks, GoesOn, GivesUp}
 
 -- a rendering goes on as it is

@@ -1,9 +1,10 @@
 // A render in progress.
-ghost use Rattle.std.specs.Prelude.{◌≡◌, ◌+◌, ◌<◌, ◌≤◌, ◌^◌, ℕ, ℤ, true, false, List, [], Option, Some, length, IfOk, OnOk, OnErr, IsSomeAnd};
+ghost use Rattle.std.specs.Prelude.{◌≡◌, ◌+◌, ◌<◌, ◌≤◌, ◌^◌, ℕ, ℤ, true, false, List, [], Option, None, Some, length, slice_get, IfOk, OnOk, OnErr, IsSomeAnd};
+ghost use Rattle.std.specs.Option.{option_copied};
 ghost use Rattle.rx_ast.specs.Syntax.{Program};
 ghost use Rattle.rx_check.specs.Checks.{unknowns};
 ghost use Rattle.rx_elem.specs.Numbers.{numbered};
-ghost use Rattle.rx_elem.specs.Spots.{node_count};
+ghost use Rattle.rx_elem.specs.Spots.{Mounted, mounted, node_count};
 ghost use Rattle.rx_elem.specs.Trees as trees;
 ghost use Rattle.rx_loop.specs.Ends.{MatchUnit};
 ghost use Rattle.rx_lists.specs.Shapes.{none};
@@ -12,7 +13,8 @@ ghost use Rattle.rx_queue.specs.Journal.{hook};
 ghost use Rattle.rx_hooks.specs.Hooks.{changed_at};
 ghost use Rattle.rx_model.specs.State.{State, Progress, linked_lanes, opening};
 ghost use Rattle.rx_model.specs.Accepting.{dispatched_for, lane_of};
-ghost use Rattle.rx_model.specs.Committing.{starting};
+ghost use Rattle.rx_meaning.specs.Settled.{DoneBefore};
+ghost use Rattle.rx_model.specs.Committing.{committed_state, starting};
 ghost use Rattle.rx_model.specs.Laws.{IsBounded};
 ghost use Rattle.rx_model.specs.HooksOf.{KeepsAllHooks};
 ghost use Rattle.rx_fiber.specs.Reading.{IsTreeOf};
@@ -22,6 +24,8 @@ ghost use Rattle.rx_read.specs.Numbering.{numbered_draft, IsAllNumbered};
 ghost use Rattle.rx_hook_store.specs.Store.{kept_hooks};
 ghost use Rattle.rx_hook_store.specs.Changing.{ChangesHooks, dispatched_hook, lanes_linked};
 ghost use Rattle.rx_hook_store.specs.Rendered.{IsRendered, KeepsInstance};
+ghost use Rattle.rx_settle.specs.Passes.{has_instance};
+ghost use Rattle.rx_settle.specs.Settling.{CanSettle, IsSettlingOf};
 ghost use Rattle.rx_render.specs.declared.at.At.TheVariants.{Over};
 ghost use Rattle.rx_render.specs.LastUnit.{is_over};
 ghost use Rattle.rx_render.specs.Rendering.{IsIdle, IfLeft, left_of};
@@ -45,6 +49,7 @@ use rx_loop::{Unit, Units};
 use rx_node::Node;
 use rx_queue::Update;
 use rx_read::{Numbers, number_made, read_in_progress};
+use rx_settle::settle_hooks;
 use rx_step::LaneWord;
 use std::alloc::{AllocError, Global};
 use std::marker::Model;
@@ -254,6 +259,39 @@ impl Renderer {
         ensures numbers { (x : trees.Node) → IsTreeOf (Some x) (grafted self.old.trees.draft) → IsAllNumbered self.old.trees → numbers_seen result ≡ (numbered (numbers_seen next) x).0 }
     {
         number_made(&mut self.fibers, next)
+    }
+
+    /// Settles the hooks of each instance of the finished tree at its commit (react.dev, State as a Snapshot): `old` is the
+    /// current tree and `new` the finished one with its numbers, as plain trees, and new instances have numbers from the first on.
+    ///
+    /// # Errors
+    ///
+    /// Want of memory alone. The hooks then stand for whatever they stood for, and the render is still finished.
+    pub fn settle(&mut self, old: Option<&Node>, new: &Node, first: u64) -> Result<(), AllocError>
+        requires over { self.old.at ≡ Over }
+        requires at_hand { CanSettle self.old.program (kept_hooks self.old.hooks) (option_copied old) new.now first self.old.lanes self.old.cut }
+        ensures same { self.new ≡ with_hooks self.old self.new.hooks }
+
+        // What is kept stands for the machine's state after the commit.
+        ensures settled { OnOk result ((s : State) (g : Progress) (x : trees.Node)
+            → IsSettlingOf self.old.program (kept_hooks self.old.hooks) (option_copied old.entry) new.now first self.old.lanes self.old.cut s g x
+            → KeepsAllHooks self.old.program (committed_state s g (numbered s.numbers x)) (kept_hooks self.new.hooks)) }
+        ensures gone { OnOk result ((k : ℕ) (m : Mounted) → slice_get (mounted (option_copied old.entry)) k ≡ Some m
+            → has_instance (mounted (Some new.now)) m.number ≡ false → kept_hooks self.new.hooks m.number ≡ None) }
+        ensures err { OnErr result ((s : State) → DoneBefore self.old.cut s.journal.updates → KeepsAllHooks self.old.program s (kept_hooks self.old.hooks)
+            → KeepsAllHooks self.old.program s (kept_hooks self.new.hooks)) }
+        ensures stays { OnErr result ((p : Program) (s : State) (g : Progress) → Renders p s g self.old → Renders p s g self.new) }
+    {
+        settle_hooks(
+            self.alloc,
+            &mut self.hooks,
+            &self.checked,
+            old,
+            new,
+            first,
+            self.lanes,
+            self.cut,
+        )
     }
 
     /// The finished tree becomes the current one, and nothing is in progress (react.dev, Render and Commit).

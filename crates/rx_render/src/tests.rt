@@ -1,5 +1,7 @@
 // A first render, by example.
-ghost use Rattle.std.specs.Prelude.{◌≡◌};
+ghost use Rattle.std.specs.Prelude.{◌≡◌, ◌<◌, ◌^◌, [], IfOk};
+ghost use Rattle.rx_rules.specs.Names.{resources};
+ghost use Rattle.rx_render.specs.Rendering.{left_of};
 
 use super::Renderer;
 use rx_ast::{Body, Component, Declaration, Element, Program, Slot, Tag};
@@ -30,7 +32,39 @@ fn paragraph(alloc: Global) -> Result<Program, AllocError> {
     Ok(Program::new(declarations))
 }
 
-// A first render in slices of three units: what the first slice came to, and the second if there was one.
+// A first render of a program that reads no resources, at its start.
+fn first_render(alloc: Global, checked: Checked) -> Result<Renderer, AllocError>
+    requires { resources checked ≡ [] }
+    ensures left { IfOk result (λ r. 0 < left_of r) }
+    ensures few { IfOk result (λ r. left_of r < 2 ^ 64) }
+{
+    let mut renderer = Renderer::new(alloc, checked)?;
+    let cut = Cut {
+        updates: 0,
+        resolutions: 0,
+    };
+    renderer.start(Lanes::one(Lane::Default), cut, Vec::new(alloc))?;
+    renderer.facts();
+    Ok(renderer)
+}
+
+// Two slices of three units: what the first came to, and the second if there was one.
+fn two_slices<L: Ledger>(
+    renderer: &mut Renderer,
+    steps: &mut Steps<L>,
+) -> Result<Option<[Driven; 2]>, AllocError>
+    requires left { 0 < left_of renderer.old }
+    requires few { left_of renderer.old < 2 ^ 64 }
+{
+    let first = drive(renderer, 3, true, steps)?;
+    let Driven::Yielded { .. } = first else {
+        return Ok(None);
+    };
+    let second = drive(renderer, 3, true, steps)?;
+    Ok(Some([first, second]))
+}
+
+// The slices of a first render.
 fn render_in_slices<L: Ledger>(
     alloc: Global,
     checked: Checked,
@@ -44,19 +78,8 @@ fn render_in_slices<L: Ledger>(
     if !checked.resources().is_empty() {
         return Ok(None);
     }
-    let mut renderer = Renderer::new(alloc, checked)?;
-    let cut = Cut {
-        updates: 0,
-        resolutions: 0,
-    };
-    renderer.start(Lanes::one(Lane::Default), cut, Vec::new(alloc))?;
-    renderer.facts();
-    let first = drive(&mut renderer, 3, true, &mut steps)?;
-    let Driven::Yielded { .. } = first else {
-        return Ok(None);
-    };
-    let second = drive(&mut renderer, 3, true, &mut steps)?;
-    Ok(Some([first, second]))
+    let mut renderer = first_render(alloc, checked)?;
+    two_slices(&mut renderer, &mut steps)
 }
 
 #[test]

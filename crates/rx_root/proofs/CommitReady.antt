@@ -1,5 +1,5 @@
 -- What the end of a render needs, and which lanes it leaves pending.
-use Rattle.std.proofs.Common.{◌≡◌, ℕ, ◌≤◌, Bool, true, false, cond, List, [], ◌∷◌, refl, sym, ap, ◌∙◌, subst, arith, Option, Some, None}
+use Rattle.std.proofs.Common.{◌≡◌, ℕ, ◌<◌, ◌≤◌, ◌^◌, Bool, true, false, cond, List, [], ◌∷◌, refl, sym, ap, ◌∙◌, subst, arith, Option, Some, None}
 use Rattle.std.specs.Prelude.{◌&&◌}
 use Rattle.std.specs.List.{list_any}
 use Rattle.rx_base.specs.Awaits.{Awaits, resource_limit}
@@ -28,7 +28,9 @@ use Rattle.replay_laws.proofs.Committing.{renders_commit}
 use Rattle.replay_laws.proofs.Reached.{reached_committed}
 use Rattle.run_laws.proofs.RunTrees.{renders_bounded}
 use Rattle.rx_spots.specs.Waits.{AreWithinReach}
+use Rattle.rx_root.specs.Rooted.{Rooted}
 use Rattle.rx_root.specs.Stands.{AreDeclared}
+use Rattle.rx_root.specs.Turning.{StandsAtEnd}
 use Rattle.rx_root.proofs.AttributesOnce.{attributes_apart}
 
 -- the tree of a render is related to the committed one as a commit relates them, once it has its numbers
@@ -67,3 +69,7 @@ still_as s g tree later waits same e =
     ap (λ (ls : Lanes). union ls (cond waits (one Retry) no_lanes))
     (lanes_agree (λ l. has g.lanes l && has later l) (λ l. has g.lanes l && has_later g.cut s.journal l) (λ l. ap (λ b. has g.lanes l && b) (same l)))
     ∙ ap (λ (b : Bool). union (lanes_where (λ l. has g.lanes l && has_later g.cut s.journal l)) (cond b (one Retry) no_lanes)) e
+
+-- at the end of a render there are few nodes to number
+pub few_at_end : (p : Program) (s : State) (g : Progress) (tree : Node) (v : Rooted) → IsBounded v.rendering.program → StandsAtEnd p s g tree v → node_count (Some tree) < 2 ^ 32
+few_at_end p s g tree v bounded h = omega (arith, few_nodes p (subst IsBounded h.program bounded) s g tree h.reached h.progress.gives)

@@ -1,9 +1,12 @@
 -- How the units of a turn end: the render is finished, or its slice is used up.
 use Rattle.std.proofs.Common.{◌≡◌, ℕ, ◌+◌, ◌-◌, ◌<◌, ◌≤◌, Bool, true, false, [], refl, sym, ap, ◌∙◌, subst, arith, Option, Some, None}
-use Rattle.std.specs.Prelude.{IfSome, is_some, unwrap_or}
+use Rattle.std.specs.Prelude.{IfSome, IfOk, OnOk, Result, Ok, Err, is_some, unwrap_or}
 use Rattle.rx_ast.specs.Syntax.{Program}
 use Rattle.rx_elem.specs.Trees.{Node}
 use Rattle.rx_sched.specs.Schedule.{Schedule}
+use Rattle.rx_loop.specs.declared.turn.Driven.{Driven}
+use Rattle.rx_loop.specs.declared.turn.Driven.TheVariants.{Finished, Yielded}
+use Rattle.rx_loop.specs.Ends.{MatchDriven}
 use Rattle.rx_model.specs.State.{State, Progress}
 use Rattle.rx_model.specs.Stretch.{Stretch}
 use Rattle.rx_model.specs.HooksOf.{KeepsAllHooks}
@@ -173,3 +176,44 @@ module _ (p : Program) (bounded : IsBounded p) (s : State) (g : Progress) (slice
         silently = refl;
         bodies = counted_are;
       }
+
+-- some unit is left of a render in progress
+pub some_left : (p : Program) (s : State) (g : Progress) (v : Rooted) → IsBounded v.rendering.program → StandsWith p s (Some g) v → 0 < left_of v.rendering
+some_left p s g v bounded h =
+    let w = v.rendering in
+    let few = renders_bounded p (subst IsBounded h.program bounded) s g w h.progress.renders in
+    let left : 0 < units_left w.at (unit_bound p) w.units = left_before w.at (unit_bound p) w.units few h.progress.left in
+    subst (λ (q : Program). 0 < units_left w.at (unit_bound q) w.units) (sym h.program) left
+
+-- what the driver promises of the units of a turn, by how it ended
+abbrev Ends : Rendering → Rendering → (budget : ℕ) → (sliced : Bool) → Driven → Type 0
+Ends x y budget sliced d =
+    MatchDriven d (λ used. (left_of y ≡ 0) × (used ≤ left_of x) × (sliced ≡ true → used ≤ budget))
+    (λ used. (0 < left_of y) × (used + left_of y ≤ left_of x) × (sliced ≡ true) × (used ≡ budget))
+
+-- the same of both ends
+abbrev Both : Driven → (ℕ → Type 0) → Type 0
+Both d A = MatchDriven d A A
+
+-- so a turn ends in one of two ways
+pub driven_as : {E : Type 0} (r : Result Driven E) (before v : Rooted) (w : Rendering) (slice : Option ℕ) (budget : ℕ) (sliced : Bool) (steps counted : ℕ) → v ≡ before
+    → IsBounded v.rendering.program
+    → budget ≡ unwrap_or slice 1 → sliced ≡ is_some slice → IfOk r (Ends v.rendering w budget sliced) → IfOk r (λ d. Both d (λ used. w.units ≡ v.rendering.units + used))
+    → IfOk r (λ d. Both d (λ used. 0 < used)) → IfOk r (λ d. Both d (λ used. w.bodies ≤ v.rendering.bodies + used))
+    → OnOk r (counted + v.rendering.bodies ≡ steps + w.bodies) → OnOk r (GoesOn v.rendering w) → steps ≤ counted
+    → IfOk r (λ d. MatchDriven d
+      (λ used. (p : Program) (s : State) (g : Progress) → StandsWith p s (Some g) before → HasFinished p s g slice (record v { rendering = w }) steps counted)
+      (λ used. (p : Program) (s : State) (g : Progress) → StandsWith p s (Some g) before → HasYielded p s g slice (record v { rendering = w }) steps counted))
+driven_as (Ok (Finished n)) before v w slice budget sliced steps counted same bounded is_budget is_sliced ends units some each ticks onward rises =
+    λ p s g i.
+    let h = subst (λ (x : Rooted). StandsWith p s (Some g) x) (sym same) i in
+    finished_as p (subst IsBounded h.program bounded) s g slice v w n steps counted
+    (record { stands = h; onward = onward; units = units; some = some; each = each; ticks = ticks; rises = rises }) ends.0
+    (λ is. subst (λ (b : ℕ). n ≤ b) is_budget (ends.2 (is_sliced ∙ is)))
+driven_as (Ok (Yielded n)) before v w slice budget sliced steps counted same bounded is_budget is_sliced ends units some each ticks onward rises =
+    λ p s g i.
+    let h = subst (λ (x : Rooted). StandsWith p s (Some g) x) (sym same) i in
+    yielded_as p (subst IsBounded h.program bounded) s g slice v w n steps counted
+    (record { stands = h; onward = onward; units = units; some = some; each = each; ticks = ticks; rises = rises }) ends.0
+    (sym is_sliced ∙ ends.2) (ends.3 ∙ is_budget)
+driven_as (Err e) before v w slice budget sliced steps counted same bounded is_budget is_sliced ends units some each ticks onward rises = tt

@@ -1,5 +1,5 @@
 -- Whether a resource that is waited for got its value after a cut, by the values that are known now and those before.
-use Rattle.std.proofs.Common.{◌≡◌, ◌⊎◌, inl, inr, ℕ, ◌+◌, ◌<◌, ◌≤◌, Bool, true, false, ◌||◌, List, [], ◌∷◌, length, map, refl, sym, ap, ◌∙◌, subst, arith, Option, Some, None}
+use Rattle.std.proofs.Common.{◌≡◌, ◌⊎◌, inl, inr, ℕ, ◌+◌, ◌<◌, ◌≤◌, ◌^◌, Bool, true, false, ◌||◌, List, [], ◌∷◌, length, map, refl, sym, ap, ◌∙◌, subst, arith, Option, Some, None}
 use Rattle.std.specs.Prelude.{ℤ, not, ◌&&◌, is_some, nat_eq, slice_index_or}
 use Rattle.std.specs.List.{list_any, range_with_len}
 use Rattle.std.proofs.lemmas.Bool.Decides.{nat_tests}
@@ -9,6 +9,8 @@ use Rattle.rx_base.specs.Awaits.{Awaits, has}
 use Rattle.rx_base.specs.declared.cut.Cut.{Cut}
 use Rattle.rx_ast.specs.Syntax.{Program}
 use Rattle.rx_rules.specs.Names.{resources}
+use Rattle.rx_check.specs.Accepted.{IsAccepted}
+use Rattle.rx_check.proofs.Limited.{few-resources}
 use Rattle.rx_queue.specs.Journal.{Journal, resolved_by, resolved_now, resolved_since}
 use Rattle.rx_meaning.specs.Fresh.{resources_seen}
 use Rattle.rx_model.specs.State.{State, Progress}
@@ -114,3 +116,25 @@ news_since p s g waits b declared some none = same_test b (resolved_since g.cut 
             let not_there = none f h.0 within in
             let yes : is_news (values_now p s.journal) (resources_seen (sight_of p s g)) waits h.0 ≡ true = news_at p s g waits h.0 within ∙ rw (h.1, h.2) refl in
             absurd (let k : false ≡ true = sym not_there ∙ yes in cc)
+
+-- there are few values
+pub few_values : (p : Program) (j : Journal) (values : List (Option ℤ)) → IsAccepted p → values ≡ values_now p j → length values < 2 ^ 32
+few_values p j values accepted e =
+    let long : length values ≡ length (resources p) = ap (λ (xs : List (Option ℤ)). length xs) e ∙ values_length p j in
+    omega (arith, long, few-resources p accepted)
+
+-- the same, by lists that are these values
+pub news_is : (p : Program) (s : State) (g : Progress) (waits : Awaits) (values seen : List (Option ℤ)) (b : Bool) → values ≡ values_now p s.journal
+    → seen ≡ resources_seen (sight_of p s g) → AreDeclared p s.journal
+    → (b ≡ true → (r : ℕ) × (r < length values) × (is_news values seen waits r ≡ true))
+    → (b ≡ false → (r : ℕ) → r < length values → is_news values seen waits r ≡ false) → b ≡ resolved_since g.cut s.journal waits
+news_is p s g waits values seen b e f declared some none =
+    let long : length values ≡ length (resources p) = ap (λ (xs : List (Option ℤ)). length xs) e ∙ values_length p s.journal in
+    news_since p s g waits b declared
+    (λ h. let t = some h in (t.0, omega (arith, t.1, long), sym (same t.0) ∙ t.2))
+    (λ h r few. sym (same r) ∙ none h r (omega (arith, few, long)))
+  where
+    same : (r : ℕ) → is_news values seen waits r ≡ is_news (values_now p s.journal) (resources_seen (sight_of p s g)) waits r
+    same r =
+        ap (λ (xs : List (Option ℤ)). is_news xs seen waits r) e
+        ∙ ap (λ (xs : List (Option ℤ)). is_news (values_now p s.journal) xs waits r) f

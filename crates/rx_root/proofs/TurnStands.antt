@@ -3,17 +3,20 @@ use Rattle.std.proofs.Common.{◌≡◌, ℕ, ◌+◌, ◌<◌, ◌≤◌, Bool,
 use Rattle.std.specs.Prelude.{◌&&◌, nat_le}
 use Rattle.std.specs.List.{list_any, AllByRecursion}
 use Rattle.std.proofs.lemmas.Bool.Decides.{nat_tests}
+use Rattle.rx_base.specs.Awaits.{Awaits}
 use Rattle.rx_base.specs.declared.cut.Cut.{Cut}
 use Rattle.rx_lane.specs.declared.lane.Lane.{Lane}
-use Rattle.rx_lane.specs.Lanes.{Lanes, has, same_lane, no_lanes}
+use Rattle.rx_lane.specs.Lanes.{Lanes, has, lanes_where, same_lane, no_lanes}
 use Rattle.rx_ast.specs.Syntax.{Program}
+use Rattle.rx_elem.specs.Trees.{Node}
 use Rattle.rx_queue.specs.Journal.{Posted, cut_now, has_later}
 use Rattle.rx_sched.specs.Schedule.{Schedule}
 use Rattle.rx_meaning.specs.Settled.{DoneBefore}
 use Rattle.rx_effect.specs.EffectLog.{no_passive}
+use Rattle.rx_lines.specs.Lines.{Counts, Written, deferred, with_line}
 use Rattle.rx_model.specs.State.{State, Progress}
 use Rattle.rx_model.specs.HooksOf.{KeepsAllHooks}
-use Rattle.rx_model.specs.Committing.{passive_run, starting}
+use Rattle.rx_model.specs.Committing.{passive_run, starting, schedule_deferred, deferred_as}
 use Rattle.rx_model.specs.Kept.{IsSet}
 use Rattle.rx_model.specs.Laws.{IsBounded, IsReached}
 use Rattle.rx_model.proofs.Reached.{reached-can}
@@ -22,12 +25,18 @@ use Rattle.run_laws.proofs.Carrying.{all_accounted, done_before}
 use Rattle.rx_fiber.specs.Reading.{IsTreeOf}
 use Rattle.rx_hook_store.specs.Store.{kept_hooks}
 use Rattle.rx_hook_store.proofs.Staying.{all_stay}
+use Rattle.rx_lists.specs.Shapes as shapes
+use Rattle.rx_links.specs.Drafts.{taken}
+use Rattle.rx_commit.specs.Shown.{Shown}
+use Rattle.rx_commit.specs.Written.{with_lines}
 use Rattle.rx_render.specs.declared.at.At.{At}
 use Rattle.rx_render.specs.declared.at.At.TheVariants.{Begins, Completes, Over}
 use Rattle.rx_render.specs.Rendering.{Rendering, IfLeft, units_left, left_of}
 use Rattle.rx_render.specs.Renders.{Renders, IsStartOf}
 use Rattle.rx_root.specs.Rooted.{Rooted}
 use Rattle.rx_root.specs.Stands.{HasProgress, StandsBy, StandsWith, Stands}
+use Rattle.rx_root.specs.Turning.{IsAtEndOf, StandsAtEnd, KnowsSince}
+use Rattle.rx_root.proofs.TurnLines.{with_one}
 
 -- where the schedule and the rendering change, and another render is in progress, or none
 pub moved_stands : (p : Program) (s : State) (asks : Rooted → Type 0) (v : Rooted) (schedule : Schedule) (progress : Option Progress) (w : Rendering)
@@ -130,3 +139,52 @@ started_stands p s v lanes w h reached set program current hooks renders units b
         later = no_later p s h.reached;
       };
     }
+
+-- the same, by parts that are equal to these
+pub started_as : (p : Program) (s : State) (v : Rooted) (lanes : Lanes) (w : Rendering) (shown : Shown) (later : Lanes) → Stands p s v → IsReached p (passive_run s).after → IsSet lanes
+    → w.program ≡ v.rendering.program → w.trees.current ≡ v.rendering.trees.current → w.hooks ≡ v.rendering.hooks
+    → Renders v.rendering.program (passive_run s).after (starting s lanes) w → w.units ≡ 0 → w.bodies ≡ 0 → 0 < left_of w
+    → shown ≡ record v.shown { passive = no_passive } → later ≡ no_lanes
+    → StandsWith p (passive_run s).after (Some (starting s lanes)) (record v { rendering = w; shown = shown; later = later })
+started_as p s v lanes w shown later h reached set program current hooks renders units bodies left is_shown is_later =
+    let on = subst (λ (q : Program). Renders q (passive_run s).after (starting s lanes) w) h.program renders in
+    subst (λ (ls : Lanes). StandsWith p (passive_run s).after (Some (starting s lanes)) (record v { rendering = w; shown = shown; later = ls })) (sym is_later)
+    (subst (λ (x : Shown). StandsWith p (passive_run s).after (Some (starting s lanes)) (record v { rendering = w; shown = x; later = no_lanes })) (sym is_shown)
+    (started_stands p s v lanes w h reached set program current hooks on units bodies left))
+
+-- what is known at the end of a render of the time since it began
+pub knows_at_end : (p : Program) (s : State) (g : Progress) (tree : Node) (v : Rooted) → StandsAtEnd p s g tree v → KnowsSince p s g v
+knows_at_end p s g tree v h =
+    record {
+      program = h.program;
+      values = h.values;
+      seen = h.progress.renders.resources;
+      lanes = h.progress.renders.lanes;
+      declared = h.declared;
+      later = h.progress.later;
+    }
+
+-- a rendering whose render is discarded
+abbrev pub discarded : Rendering → Rendering
+discarded w = record w { trees = record w.trees { draft = taken shapes.none }; at = Over }
+
+-- a render is deferred
+pub deferred_stands : (p : Program) (s : State) (g : Progress) (counts : Counts) (tree : Node) (waits : Awaits) (v x : Rooted) (w : Rendering) → StandsAtEnd p s g tree v
+    → IsReached p (deferred_as s g counts waits).after → x ≡ record v { schedule = schedule_deferred s g waits } → w ≡ discarded x.rendering
+    → Stands p (deferred_as s g counts waits).after (record x { rendering = w })
+deferred_stands p s g counts tree waits v x w h reached is_suspended is_discarded =
+    subst (λ (y : Rendering). Stands p (deferred_as s g counts waits).after (record x { rendering = y })) (sym is_discarded)
+    (subst (λ (y : Rooted). Stands p (deferred_as s g counts waits).after (record y { rendering = discarded y.rendering })) (sym is_suspended)
+    (moved_stands p s (IsAtEndOf p s g tree) v (schedule_deferred s g waits) None (discarded v.rendering) h reached refl refl h.keeps (record { over = refl; empty = refl })))
+
+-- and its line is written
+pub deferred_written : (log new : Written) (lanes : Lanes) (units bodies : ℕ) (g : Progress) (counts : Counts)
+    → new ≡ with_line log (deferred (lanes_where (has lanes)) (record { units = units; bodies = bodies })) → lanes ≡ g.lanes → IsSet g.lanes → units ≡ counts.units → bodies ≡ counts.bodies
+    → new ≡ with_lines log (deferred g.lanes counts ∷ [])
+deferred_written log new lanes units bodies g counts e same set is_units is_bodies =
+    e
+    ∙ ap (λ (ls : Lanes). with_line log (deferred (lanes_where (has ls)) (record { units = units; bodies = bodies }))) same
+    ∙ ap (λ (ls : Lanes). with_line log (deferred ls (record { units = units; bodies = bodies }))) (sym set)
+    ∙ ap (λ (n : ℕ). with_line log (deferred g.lanes (record { units = n; bodies = bodies }))) is_units
+    ∙ ap (λ (n : ℕ). with_line log (deferred g.lanes (record { units = counts.units; bodies = n }))) is_bodies
+    ∙ with_one log (deferred g.lanes counts)

@@ -8,8 +8,9 @@ use Rattle.rx_lane.specs.Lanes.{Lanes, has}
 use Rattle.rx_ast.specs.Syntax.{Program}
 use Rattle.rx_rules.specs.Bounds.{node_limit}
 use Rattle.rx_elem.specs.Trees.{Node}
+use Rattle.rx_elem.specs.Numbers.{numbered}
 use Rattle.rx_queue.specs.Journal.{has_later}
-use Rattle.rx_meaning.specs.Fresh.{fresh, made}
+use Rattle.rx_meaning.specs.Fresh.{fresh, made, resources_seen}
 use Rattle.rx_effect.specs.EffectLog.{Passive, no_passive}
 use Rattle.rx_lines.specs.Lines.{Counts, Written}
 use Rattle.rx_model.specs.State.{State, Progress}
@@ -19,13 +20,17 @@ use Rattle.rx_model.specs.Turns.{Finishes, Yields, GoesOn}
 use Rattle.rx_model.specs.Machine.{Flushes}
 use Rattle.rx_model.specs.Kept.{IsSet}
 use Rattle.rx_model.specs.Laws.{IsReached}
+use Rattle.run_laws.specs.Carried.{values_now}
 use Rattle.rx_links.specs.Drafts.{grafted}
 use Rattle.rx_fiber.specs.Reading.{IsTreeOf}
+use Rattle.end_laws.specs.Trimmed.{trimmed}
+use Rattle.host_laws.specs.Commits.{IsCommit, TextsAreLeaves}
+use Rattle.rx_commit.specs.Shown.{Shown, Shows}
 use Rattle.rx_commit.specs.Written.{with_lines}
 use Rattle.rx_render.specs.declared.at.At.TheVariants.{Over}
 use Rattle.rx_render.specs.Renders.{Renders}
 use Rattle.rx_root.specs.Rooted.{Rooted}
-use Rattle.rx_root.specs.Stands.{StandsBy, Stands}
+use Rattle.rx_root.specs.Stands.{AreDeclared, StandsBy, StandsWith, Stands}
 
 -- the numbers of a root leave room for so many turns more, each with one commit at most
 pub record HasRoomForTurns (turns : ℕ) (v : Rooted) : Type 0 where
@@ -45,6 +50,54 @@ pub record IsAtEndOf (p : Program) (s : State) (g : Progress) (tree : Node) (v :
   pub gives : fresh (sight_of p s g) s.tree ≡ made tree
   pub lanes_are_set : IsSet g.lanes
   pub later : (l : Lane) → has v.later l ≡ has_later g.cut s.journal l
+
+-- a root stands at the end of a render of the machine, from a state that a run comes to
+abbrev pub StandsAtEnd : Program → State → Progress → (tree : Node) → Rooted → Type 0
+StandsAtEnd p s g tree v = StandsBy p s (IsAtEndOf p s g tree) v
+
+-- it stands at some end
+pub record IsAtSomeEnd (v : Rooted) : Type 0 where
+  pub program : Program
+  pub state : State
+  pub progress : Progress
+  pub tree : Node
+  pub stands : StandsAtEnd program state progress tree v
+
+-- it stands for some state, with a render in progress
+pub record HasSomeProgress (v : Rooted) : Type 0 where
+  pub program : Program
+  pub state : State
+  pub progress : Progress
+  pub stands : StandsWith program state (Some progress) v
+
+-- it stands for some state between two events
+pub record StandsBetween (v : Rooted) : Type 0 where
+  pub program : Program
+  pub state : State
+  pub stands : Stands program state v
+  pub between : state.event ≡ None
+
+-- what a root knows of the time since a render began: the values that resources have now and those that the render sees, and the lanes of the updates since its cut
+pub record KnowsSince (p : Program) (s : State) (g : Progress) (v : Rooted) : Type 0 where
+  pub program : v.rendering.program ≡ p
+  pub values : v.values ≡ values_now p s.journal
+  pub seen : v.rendering.resources ≡ resources_seen (sight_of p s g)
+  pub lanes : v.rendering.lanes ≡ g.lanes
+  pub declared : AreDeclared p s.journal
+  pub later : (l : Lane) → has v.later l ≡ has_later g.cut s.journal l
+
+-- it knows so of some render
+pub record KnowsSinceSome (v : Rooted) : Type 0 where
+  pub program : Program
+  pub state : State
+  pub progress : Progress
+  pub knows : KnowsSince program state progress v
+
+-- the new nodes of the tree at the end of a render have their numbers
+pub record HasNumbered (p : Program) (s : State) (g : Progress) (tree : Node) (old new : Rooted) : Type 0 where
+  pub there : IsTreeOf (Some (numbered s.numbers tree).1) (grafted new.rendering.trees.draft)
+  pub next : new.numbers ≡ (numbered s.numbers tree).0
+  pub rest : new ≡ record old { numbers = new.numbers; rendering = record old.rendering { trees = record old.rendering.trees { draft = new.rendering.trees.draft } } }
 
 -- a stretch of the machine is done: the root stands for the state after it, and its lines are written
 pub record HasDone (p : Program) (r : Stretch) (v : Rooted) (log new : Written) : Type 0 where
@@ -84,6 +137,26 @@ pub record HasYielded (p : Program) (s : State) (g : Progress) (slice : Option �
   pub stands : IsReached p stretch.after → Stands p stretch.after v
   pub silently : stretch.lines ≡ []
   pub bodies : counted ≡ steps + stretch.bodies
+
+-- after so many turns at most there is room for those that follow, and nothing was accepted
+pub record LeavesRoom (turns : ℕ) (old new : Rooted) : Type 0 where
+  pub room : (more : ℕ) → HasRoomForTurns (turns + more) old → HasRoomForTurns more new
+  pub updates : new.updates ≡ old.updates
+  pub resolutions : new.resolutions ≡ old.resolutions
+
+-- What is shown is that of an old tree and its passive effects; the tree that is to be shown now is the new one, without the vacant places at the ends of its lists, and related to the old one as a commit relates them.
+pub record CanFollow (tree : Node) (old : Option Node) (passive : Passive) (new : Node) (v : Shown) : Type 0 where
+  pub shows : Shows old passive v
+  pub tree_is : tree ≡ trimmed new
+  pub commits : IsCommit old new
+  pub leaves : TextsAreLeaves new
+
+-- some new tree can follow
+pub record CanShow (tree : Node) (v : Shown) : Type 0 where
+  pub old : Option Node
+  pub passive : Passive
+  pub new : Node
+  pub follows : CanFollow tree old passive new v
 
 -- so many renders at most are left to finish until nothing is to be rendered
 abbrev pub CanFlush : (limit : ℕ) → Program → State → Type 0

@@ -33,6 +33,7 @@ module _ (p : Program) (lanes : Lanes) (cut : Cut) (i : ℕ) (old new : KeptBy) 
             are_of = hooks-rendered s n 0 initials lanes cut g.histories g.are_of;
           }
 
+  -- so a render goes on what is kept
   pub rendered_keeps_on : ((s : State) (n : ℕ) (initials : List ℤ) → DoneBefore cut s.journal.updates → IsRendered p s lanes cut old n initials → IsRendered p s lanes cut new n initials)
       → KeepsOn p lanes cut old new
   rendered_keeps_on stays = record { there = is_there; keeps = still_keeps; stays = stays }
@@ -54,6 +55,7 @@ pub record RenderedSoFar (p : Program) (lanes : Lanes) (cut : Cut) (first : ℕ)
   pub rendered : (k : ℕ) → k < count → (m : Mounted) → slice_get ms k ≡ Some m → RendersShown p lanes cut first old new m
 
 module _ (p : Program) (lanes : Lanes) (cut : Cut) (first : ℕ) (old now new : KeptBy) where
+  -- one render after the other
   goes_further : KeepsOn p lanes cut old now → KeepsOn p lanes cut now new → KeepsOn p lanes cut old new
   goes_further a b =
       record {
@@ -62,6 +64,7 @@ module _ (p : Program) (lanes : Lanes) (cut : Cut) (first : ℕ) (old now new : 
         stays = λ s n initials done h. b.stays s n initials done (a.stays s n initials done h);
       }
 
+  -- one instance more is rendered
   pub render_more : (ms : List Mounted) (i : ℕ) (m : Mounted) → slice_get ms i ≡ Some m → RenderedSoFar p lanes cut first old now ms i → KeepsOn p lanes cut now new
       → RendersShown p lanes cut first now new m → RenderedSoFar p lanes cut first old new ms (i + 1)
   render_more ms i m at so_far further one =

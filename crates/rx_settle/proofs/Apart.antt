@@ -22,6 +22,7 @@ one_listed n a (of_host h) ms = omega arith
 one_listed n a (of_boundary b) ms = omega arith
 one_listed n a plain ms = omega arith
 
+-- the instances at some spots have each number as often as the spots
 all_listed : (n : ℕ) (xs : List Spot) → occurs n (numbers_of (filter_map mounted_in xs)) ≡ spot_times n xs
 all_listed n [] = refl
 all_listed n (x ∷ xs) = omega (arith, one_listed n x.around (spot_mark x) (filter_map mounted_in xs), all_listed n xs)
@@ -34,6 +35,7 @@ more_of : (b : Bool) (n k : ℕ) → k ≤ n → k ≤ cond b 1 0 + n
 more_of true n k le = omega arith
 more_of false n k le = omega arith
 
+-- an instance's number occurs, and that of two instances twice
 occurs_once : (ms : List Mounted) (k : ℕ) (a : Mounted) (n : ℕ) → slice_get ms k ≡ Some a → nat_eq n a.number ≡ true → 1 ≤ occurs n (numbers_of ms)
 occurs_once [] k a n at e = cc
 occurs_once (x ∷ ms) zero a n at e =
@@ -51,6 +53,7 @@ occurs_twice (x ∷ ms) zero (suc k) a b n lt here there e f =
 occurs_twice (x ∷ ms) (suc j) zero a b n lt here there e f = absurd (omega arith)
 occurs_twice (x ∷ ms) (suc j) (suc k) a b n lt here there e f = more_of (nat_eq n x.number) (occurs n (numbers_of ms)) 2 (occurs_twice ms j k a b n (omega arith) here there e f)
 
+-- so no two of them have one number
 pub own_apart : (next : ℕ) (x : Node) → HasOwnNumbers next (Some x) → AreApart (mounted (Some x))
 own_apart next x own j k a b lt here there = go (nat_eq a.number b.number) refl
   where

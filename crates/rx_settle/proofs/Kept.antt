@@ -33,10 +33,12 @@ module _ (lanes : Lanes) (cut : Cut) (first : ℕ) where
         hidden = λ below visible. subst (λ (o : Option (List Hook)). HooksChange (map (owed_hook lanes cut)) o (new m.number)) same (h.hidden below visible);
       }
 
+  -- two numbers differ either way
   other_way : (a b : ℕ) → nat_eq a b ≡ false → nat_eq b a ≡ false
   other_way a b e = grind (arith, nat_tests)
 
   module _ (ms : List Mounted) (apart : AreApart ms) (old now new : KeptBy) (i : ℕ) (m : Mounted) (at : slice_get ms i ≡ Some m) where
+    -- one instance more is settled
     pub settle_more : SettledSoFar lanes cut first old now ms i → AreSettled lanes cut first now new m → ((n : ℕ) → nat_eq m.number n ≡ false → new n ≡ now n)
         → SettledSoFar lanes cut first old new ms (i + 1)
     settle_more so_far one others =
@@ -50,6 +52,7 @@ module _ (lanes : Lanes) (cut : Cut) (first : ℕ) where
           others = λ k x le there. others x.number (apart i k m x (omega arith) at there) ∙ so_far.others k x (omega arith) there;
         }
 
+    -- hooks are still kept of the next instance
     pub still_kept : AreKept first old ms → SettledSoFar lanes cut first old now ms i → m.number < first → IsSome (now m.number)
     still_kept kept so_far below = subst IsSome (sym (so_far.others i m (omega arith) at)) (kept i m at below)
 
@@ -60,6 +63,7 @@ pub record GoneSoFar (known : ℕ → Bool) (old new : KeptBy) (ms : List Mounte
   pub kept : (n : ℕ) → known n ≡ true → new n ≡ old n
   pub gone : (k : ℕ) → k < count → (m : Mounted) → slice_get ms k ≡ Some m → known m.number ≡ false → new m.number ≡ None
 
+-- one instance more is gone, or is known
 pub remove_more : (known : ℕ → Bool) (old now new : KeptBy) (ms : List Mounted) (i : ℕ) (m : Mounted) → slice_get ms i ≡ Some m → GoneSoFar known old now ms i
     → ((n : ℕ) → known n ≡ true → new n ≡ now n) → (known m.number ≡ false → new m.number ≡ None) → ((n : ℕ) → now n ≡ None → new n ≡ None)
     → GoneSoFar known old new ms (i + 1)

@@ -4,3 +4,4 @@ mod Kept
 mod Making
 mod Apart
 mod Whole
+mod First

@@ -27,6 +27,7 @@ or_right : (a b : Bool) → b ≡ true → (a || b) ≡ true
 or_right true b e = refl
 or_right false b e = e
 
+-- numbers stay where hooks are added
 number_stays : (xs : List NewHooks) (x : NewHooks) (n : ℕ) → has_number xs n ≡ true → has_number (xs ++ x ∷ []) n ≡ true
 number_stays [] x n e = cc
 number_stays (y ∷ xs) x n e = go (nat_eq y.number n) (number_stays xs x n) e
@@ -35,6 +36,7 @@ number_stays (y ∷ xs) x n e = go (nat_eq y.number n) (number_stays xs x n) e
     go true more h = refl
     go false more h = more h
 
+-- and the number of the hooks that are added comes
 number_added : (xs : List NewHooks) (x : NewHooks) (n : ℕ) → x.number ≡ n → has_number (xs ++ x ∷ []) n ≡ true
 number_added [] x n e = let same : nat_eq x.number n ≡ true = grind (arith, nat_tests) in or_left (nat_eq x.number n) false same
 number_added (y ∷ xs) x n e = or_right (nat_eq y.number n) (has_number (xs ++ x ∷ []) n) (number_added xs x n e)
@@ -74,6 +76,7 @@ module _ (first : ℕ) (ms : List Mounted) (old new : List NewHooks) (i : ℕ) (
       all_of y (inl h) = so_far.all_new h.0 y h.1
       all_of y (inr same) = record { place = i; instance = m; there = at; is_new = le; are_for = subst (λ (z : NewHooks). AreHooksFor m z) same are }
 
+  -- one instance more has its hooks, if it is new
   pub make_more : AreMadeFor first ms (i + 1) new
   make_more = go (below_or_not m.number first)
     where
@@ -117,6 +120,7 @@ pub record IsFound (xs : List NewHooks) (kept : KeptBy) (n : ℕ) : Type 0 where
   pub number_is : hooks.number ≡ n
   pub kept_is : kept_with xs kept n ≡ Some hooks.hooks
 
+-- hooks of a number are found where some have it
 pub found : (xs : List NewHooks) (kept : KeptBy) (n : ℕ) → has_number xs n ≡ true → IsFound xs kept n
 found [] kept n has = absurd (let f : ⊥ = cc in f)
 found (x ∷ xs) kept n has = go (nat_eq x.number n) refl has (found xs kept n)

@@ -20,6 +20,7 @@ module _ (R : ℕ → List ℤ → Type 0) where
   begins_meeting (at_end n fs o done) h = tt
   begins_meeting (ended p) h = tt
 
+  -- it holds after so many units, and so of a whole render
   after_makes : (k : ℕ) (s : Sight) (old : Option Node) → InstancesMade R R (after zero s old) → InstancesMade R R (after k s old)
   after_makes zero s old h = h
   after_makes (suc k) s old h = let so_far = after_makes k s old h in unit_makes R R s (after k s old) (begins_meeting (after k s old) so_far) so_far
@@ -37,6 +38,7 @@ module _ (R : ℕ → List ℤ → Type 0) where
       go true is = h.where_visible is
       go false is = h.where_hidden is
 
+  -- or the instance is new
   new_or_meets : (next : ℕ) (m : Mounted) → IsNewOrMeets next R R m → (next ≤ m.number) ⊎ R m.number m.initials
   new_or_meets next m (inl new) = inl new
   new_or_meets next m (inr h) = inr (either_meets m h)

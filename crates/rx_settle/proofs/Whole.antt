@@ -68,15 +68,18 @@ has_itself (x ∷ ms) (suc k) m at = go (nat_eq m.number x.number) (has_itself m
 module _ (lanes : Lanes) (cut : Cut) (first : ℕ) (ms : List Mounted) (xs : List NewHooks) (known : ℕ → Bool) (old settled inserted new : KeptBy) (apart : AreApart ms)
     (are_made : AreMadeFor first ms (length ms) xs) (settles : (k : ℕ) (m : Mounted) → slice_get ms k ≡ Some m → AreSettled lanes cut first old settled m)
     (inserts : (n : ℕ) → inserted n ≡ kept_with xs settled n) (removes : (n : ℕ) → known n ≡ true → new n ≡ inserted n) (knows : (n : ℕ) → known n ≡ has_instance ms n) where
+  -- what is kept of an instance of the tree is not removed
   still_there : (k : ℕ) (m : Mounted) → slice_get ms k ≡ Some m → new m.number ≡ kept_with xs settled m.number
   still_there k m at = removes m.number (knows m.number ∙ has_itself ms k m at) ∙ inserts m.number
 
+  -- of one that is not new it is what was settled
   not_new : (k : ℕ) (m : Mounted) → slice_get ms k ≡ Some m → m.number < first → new m.number ≡ settled m.number
   not_new k m at below = still_there k m at ∙ old_stays first xs settled m.number each_new below
     where
       each_new : (j : ℕ) (x : NewHooks) → slice_get xs j ≡ Some x → first ≤ x.number
       each_new j x there = let of_new = are_made.all_new j x there in let number = of_new.are_for.number_is in let le = of_new.is_new in omega arith
 
+  -- of a new one it is what was made for it
   its_own : (k : ℕ) (m : Mounted) → slice_get ms k ≡ Some m → IsFound xs settled m.number → AreMounted m.initials (new m.number)
   its_own k m at f =
       let of_new = are_made.all_new f.place f.hooks f.there in
@@ -128,9 +131,11 @@ module _ (p : Program) (kept : KeptBy) (old : Option Node) (new : Node) (first :
   new_or_kept : (k : ℕ) (m : Mounted) → slice_get (mounted (Some fixed.1)) k ≡ Some m → (s.numbers.instance ≤ m.number) ⊎ KeepsInstance p s kept m.number m.initials
   new_or_kept = new_or_old (KeepsInstance p s kept) (sight_of p s g) s.tree x s.numbers (each-keeps p s kept h.keeps) h.gives
 
+  -- no two instances of the tree have one number
   pub instances_apart : AreApart (mounted (Some new))
   instances_apart = subst AreApart (sym instances_are) (own_apart fixed.0.instance fixed.1 own_numbers)
 
+  -- hooks are kept of each one that is not new
   pub instances_kept : AreKept first kept (mounted (Some new))
   instances_kept k m at below = go (new_or_kept k m (subst (λ (ms : List Mounted). slice_get ms k ≡ Some m) instances_are at))
     where
@@ -139,6 +144,7 @@ module _ (p : Program) (kept : KeptBy) (old : Option Node) (new : Node) (first :
       go (inr keeps) = there_is p s kept m.number m.initials keeps
 
   module _ (rendered last : KeptBy) (q : TwoPasses p kept rendered last g.lanes g.cut s.numbers.instance (mounted (Some fixed.1))) where
+    -- the commit finds the hooks of each instance settled
     each_settles : (k : ℕ) (m : Mounted) → slice_get (mounted (Some fixed.1)) k ≡ Some m → SettlesHooks p s g rendered last m
     each_settles k m at = go (new_or_kept k m at)
       where

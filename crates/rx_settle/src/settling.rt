@@ -39,8 +39,8 @@ fn numbers_of(alloc: Global, instances: &[Mounted]) -> Result<HashSet<u64>, Allo
 /// Settles the hooks of each instance of a tree at its commit (react.dev, State as a Snapshot). Updates that its render
 /// included are done in a visible instance; a kept one is owed them; a new instance, one with a number from the first on,
 /// has its hooks at their initial values; and those of an instance that is gone are dropped (react.dev, Preserving and
-/// Resetting State). The hooks of visible instances are folded once more for the render's lanes at its cut: the commit
-/// takes over what the render folded, and an instance that the render took over untouched is folded here for the first time.
+/// Resetting State). The render keeps no note of what it folded, so the hooks of each visible instance are folded once more,
+/// for its lanes at its cut, and give the same.
 ///
 /// # Errors
 ///

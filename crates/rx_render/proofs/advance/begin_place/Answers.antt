@@ -1,7 +1,6 @@
 use Rattle.std.proofs.Common.{subst}
 use Rattle.rx_hook_store.specs.Store.{kept_hooks}
 use Rattle.rx_begin.specs.Beginning.{BeginsPlace}
-use Rattle.rx_begin.specs.Scenes.{IsSceneOf}
 use Rattle.rx_render.proofs.Advancing.{can_begin, waits_below, child_advances, leaf_advances, waits_advances, begins_ticks, if_ok, on_ok}
 use Rattle.rx_render.proofs.advance.begin_place.Goals as goal
 

@@ -1,4 +1,4 @@
-use Rattle.std.proofs.Common.{◌≡◌, false, ◌<◌, sym, ap, ◌∙◌, subst}
+use Rattle.std.proofs.Common.{◌<◌, sym, ap, ◌∙◌, subst}
 use Rattle.rx_render.specs.LastUnit.{is_over}
 use Rattle.rx_render.specs.Rendering.{left_of}
 use Rattle.rx_render.specs.contracts.renderer.Renderer.{the_view}

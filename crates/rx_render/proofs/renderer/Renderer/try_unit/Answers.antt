@@ -12,7 +12,7 @@ use Rattle.rx_render.specs.Rendering.{Rendering}
 use Rattle.rx_render.specs.Advancing.{bodies_next}
 use Rattle.rx_render.specs.contracts.renderer.Renderer.{the_view}
 use Rattle.rx_render.proofs.Advancing.{on_err}
-use Rattle.rx_render.proofs.Going.{stepped, over_rendering, inside_made, inside_ready, units_fit, bodies_fit, breaks, steps_on, steps_to, falls, last, ticks}
+use Rattle.rx_render.proofs.Going.{stepped, over_rendering, inside_made, inside_ready, breaks, steps_on, steps_to, falls, last, ticks}
 use Rattle.rx_render.proofs.renderer.Renderer.try_unit.Goals as goal
 
 pub bodies_next-evaluated-requires : goal.bodies_next-evaluated-requires
