@@ -19,3 +19,4 @@ pub mod TurnsTaken
 pub mod TakeBack
 pub mod Sending
 pub mod Taken
+pub mod FlushSteps

@@ -1,6 +1,6 @@
 -- The turns that a root takes are turns of the machine.
 use Rattle.std.proofs.Common.{◌≡◌, ◌≢◌, inl, inr, ℕ, zero, suc, ◌+◌, ◌≤◌, Bool, true, false, cond, List, [], ◌∷◌, ◌++◌, refl, sym, ap, ◌∙◌, subst, arith, add-zero, add_assoc, Option, Some, None}
-use Rattle.std.specs.Prelude.{option_map}
+use Rattle.std.specs.Prelude.{OnOk, Result, Ok, Err, option_map}
 use Rattle.rx_lane.specs.declared.lane.Lane.{Lane}
 use Rattle.rx_lane.specs.declared.lane.Lane.TheVariants as lane
 use Rattle.rx_lane.specs.Lanes.{Lanes, has}
@@ -191,3 +191,15 @@ pub sync_turn : (p : Program) (s : State) (v : Rooted) (log new : Written) (step
 sync_turn p s v log new steps counted e h =
     subst (λ (b : Bool). Takes p (FlushSync b p s) v log new steps counted) (sym e)
     (record { stretch = h.stretch; asked = h.asked; done = h.done; bodies = h.bodies })
+
+-- What a call promises on its Ok
+
+pub on_ok : {T E : Type 0} (r : Result T E) (A B : Type 0) → (A → B) → OnOk r A → OnOk r B
+on_ok (Ok x) A B f h = f h
+on_ok (Err e) A B f h = tt
+
+-- an end of a render that becomes of it so
+pub ended_as : (p : Program) (s : State) (g : Progress) (counts : Counts) (tree : Node) (o : Outcome) (v : Rooted) (log new : Written) → o ≡ outcome g.lanes s.tree tree
+    → (IsReached p (ended_by s g counts o).after → HasDone p (ended_by s g counts o) v log new) → IsReached p (ended s g counts tree).after → HasDone p (ended s g counts tree) v log new
+ended_as p s g counts tree o v log new e done =
+    subst (λ (x : Outcome). IsReached p (ended_by s g counts x).after → HasDone p (ended_by s g counts x) v log new) e done

@@ -161,3 +161,15 @@ pub record CanShow (tree : Node) (v : Shown) : Type 0 where
 -- so many renders at most are left to finish until nothing is to be rendered
 abbrev pub CanFlush : (limit : ℕ) → Program → State → Type 0
 CanFlush limit p s = (n : ℕ) × (n ≤ limit) × (r : Stretch) × Flushes n p s r
+
+-- so many renders at most are finished, and then nothing is left to render
+abbrev pub FlushWithin : (limit : ℕ) → Program → State → Stretch → Type 0
+FlushWithin limit p s r = (n : ℕ) × (n ≤ limit) × Flushes n p s r
+
+-- it stands for some state between two events, from which so many renders at most are left to finish
+pub record FlushesFrom (limit : ℕ) (v : Rooted) : Type 0 where
+  pub program : Program
+  pub state : State
+  pub stands : Stands program state v
+  pub between : state.event ≡ None
+  pub ends : CanFlush limit program state

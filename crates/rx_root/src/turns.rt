@@ -7,20 +7,23 @@ ghost use Rattle.rx_elem.specs.Numbers.{numbered};
 ghost use Rattle.rx_elem.specs.Compare.{compare_trees};
 ghost use Rattle.rx_effect.specs.EffectLog as effects;
 ghost use Rattle.rx_effect.specs.EffectLog.{passive_of};
+ghost use Rattle.rx_lane.specs.declared.lane.Lane.TheVariants as lane;
 ghost use Rattle.rx_lane.specs.Lanes.{has, lanes_where};
 ghost use Rattle.rx_queue.specs.Journal.{resolved_since};
 ghost use Rattle.rx_loop.specs.Ends.{MatchDriven};
 ghost use Rattle.rx_meaning.specs.Outcome.{outcome, still_pending};
 ghost use Rattle.rx_model.specs.State.{State, Progress};
-ghost use Rattle.rx_model.specs.Committing.{passive_run, starting, committed_as, schedule_deferred, deferred_as};
-ghost use Rattle.rx_model.specs.Turns.{slice_of, choice_of};
+ghost use Rattle.rx_model.specs.Committing.{passive_run, starting, committed_as, schedule_deferred, deferred_as, ended};
+ghost use Rattle.rx_model.specs.Turns.{slice_of, choice_of, GoesOn, Turn};
+ghost use Rattle.rx_model.specs.Machine.{Flush, FlushSync, flush_limit};
 ghost use Rattle.rx_model.specs.Kept.{IsSet};
 ghost use Rattle.rx_model.specs.Laws.{IsBounded, IsReached};
 ghost use Rattle.end_laws.specs.Trimmed.{trimmed};
 ghost use Rattle.rx_commit.specs.Shown.{Shows, outcome_as};
 ghost use Rattle.rx_commit.specs.Written.{lines_of, passive_lines, with_lines};
+ghost use Rattle.rx_render.specs.Rendering.{IsIdle};
 ghost use Rattle.rx_root.specs.Stands.{Stands, StandsWith};
-ghost use Rattle.rx_root.specs.Turning.{CanFollow, CanShow, HasDone, HasFinished, HasNumbered, HasRoomForTurns, HasSomeProgress, HasYielded, IsAtSomeEnd, KnowsSince, KnowsSinceSome, StandsAtEnd, StandsBetween, counts_of, is_news, passive_left};
+ghost use Rattle.rx_root.specs.Turning.{CanFollow, CanShow, FlushWithin, FlushesFrom, HasDone, HasFinished, HasNumbered, HasRoomForTurns, HasSomeProgress, HasYielded, IsAtSomeEnd, KnowsSince, KnowsSinceSome, LeadsOn, LeavesRoom, StandsAtEnd, StandsBetween, Takes, counts_of, is_news, passive_left};
 
 use crate::root::Root;
 use rx_base::{Awaits, Cut, Int, Steps};
@@ -33,6 +36,9 @@ use rx_sched::Choice;
 use rx_spots::awaited;
 use std::alloc::{AllocError, Global};
 use std::sync::ledger::Ledger;
+
+// No flush finishes more renders.
+const FLUSH_LIMIT: u64 = 24;
 
 // Whether one of these resources has a value by now, and had none before.
 fn has_news(values: &[Option<Int>], seen: &[Option<Int>], waits: &Awaits) -> bool
@@ -262,6 +268,178 @@ impl Root {
         self.show(tree, log)?;
         self.renderer.commit();
         self.lanes.finished(lanes, still, self.now);
+        Ok(())
+    }
+
+    // Ends a finished render: it is committed, or deferred.
+    fn finish(&mut self, log: &mut Report) -> Result<(), AllocError>
+        requires end { IsAtSomeEnd self.old }
+        requires room { HasRoomForTurns 1 self.old }
+        ensures { OnOk result ((p : syntax.Program) (s : State) (g : Progress) (tree : trees.Node) → StandsAtEnd p s g tree self.old
+            → IsReached p (ended s g (counts_of self.old) tree).after → HasDone p (ended s g (counts_of self.old) tree) self.new log.old log.new) }
+    {
+        match self.deferral()? {
+            None => self.commit(log),
+            Some(waits) => self.defer(waits, log),
+        }
+    }
+
+    // Goes on with the render in progress, to its end or to the end of its slice.
+    fn go_on<L: Ledger>(
+        &mut self,
+        budget: Option<u64>,
+        log: &mut Report,
+        steps: &mut Steps<L>,
+    ) -> Result<(), AllocError>
+        requires goes_on { HasSomeProgress self.old }
+        requires room { HasRoomForTurns 1 self.old }
+        requires positive { IfSome budget (λ n. 0 < n) }
+        ensures takes { OnOk result ((p : syntax.Program) (s : State) (g : Progress) → StandsWith p s (Some g) self.old → LeadsOn p s g budget
+            → Takes p (GoesOn p s g budget) self.new log.old log.new steps.old steps.new) }
+        ensures rises { steps.old ≤ steps.new }
+    {
+        let slice = self.slice(budget);
+        match self.drive(slice, steps)? {
+            Driven::Finished { used: _ } => self.finish(log),
+            Driven::Yielded { used: _ } => Ok(()),
+        }
+    }
+
+    // One turn, which may leave a render in progress where memory is wanting.
+    fn try_turn<L: Ledger>(
+        &mut self,
+        budget: Option<u64>,
+        log: &mut Report,
+        steps: &mut Steps<L>,
+    ) -> Result<(), AllocError>
+        requires stands { StandsBetween self.old }
+        requires room { HasRoomForTurns 1 self.old }
+        requires positive { IfSome budget (λ n. 0 < n) }
+        ensures takes { OnOk result ((p : syntax.Program) (s : State) → Stands p s self.old → s.event ≡ None → Takes p (Turn p s budget) self.new log.old log.new steps.old steps.new) }
+        ensures rises { steps.old ≤ steps.new }
+    {
+        match self.choice() {
+            Choice::None => Ok(()),
+            Choice::Keep => self.go_on(budget, log, steps),
+            Choice::Start(lanes) => {
+                self.start(lanes, log)?;
+                self.go_on(budget, log, steps)
+            }
+        }
+    }
+
+    // One turn: what is most urgent is rendered, and committed where it is finished (react.dev, Render and Commit). With a
+    // budget it may yield, where it renders transitions or retries and none has waited too long.
+    fn turn<L: Ledger>(
+        &mut self,
+        budget: Option<u64>,
+        log: &mut Report,
+        steps: &mut Steps<L>,
+    ) -> Result<(), AllocError>
+        requires stands { StandsBetween self.old }
+        requires room { HasRoomForTurns 1 self.old }
+        requires positive { IfSome budget (λ n. 0 < n) }
+        ensures takes { OnOk result ((p : syntax.Program) (s : State) → Stands p s self.old → s.event ≡ None → Takes p (Turn p s budget) self.new log.old log.new steps.old steps.new) }
+        ensures idle { OnErr result (IsIdle self.new.rendering) }
+        ensures leaves { OnOk result (LeavesRoom 1 self.old self.new) }
+        ensures rises { steps.old ≤ steps.new }
+    {
+        self.facts();
+        match self.try_turn(budget, log, steps) {
+            Ok(()) => Ok(()),
+            Err(error) => {
+                self.renderer.discard();
+                Err(error)
+            }
+        }
+    }
+
+    /// One turn with a budget of so many units, which counts only where what is rendered is cut into slices (react.dev,
+    /// startTransition).
+    ///
+    /// # Errors
+    ///
+    /// Want of memory alone. Then nothing is in progress.
+    pub(crate) fn work<L: Ledger>(
+        &mut self,
+        units: u64,
+        log: &mut Report,
+        steps: &mut Steps<L>,
+    ) -> Result<(), AllocError>
+        requires stands { StandsBetween self.old }
+        requires room { HasRoomForTurns 1 self.old }
+        requires positive { 0 < units }
+        ensures takes { OnOk result ((p : syntax.Program) (s : State) → Stands p s self.old → s.event ≡ None → Takes p (Turn p s (Some units)) self.new log.old log.new steps.old steps.new) }
+        ensures idle { OnErr result (IsIdle self.new.rendering) }
+        ensures leaves { OnOk result (LeavesRoom 1 self.old self.new) }
+        ensures rises { steps.old ≤ steps.new }
+    {
+        self.turn(Some(units), log, steps)
+    }
+
+    // Takes turns that aren't sliced until nothing is left to render, so many at most.
+    fn finish_renders<L: Ledger>(
+        &mut self,
+        limit: u64,
+        log: &mut Report,
+        steps: &mut Steps<L>,
+    ) -> Result<(), AllocError>
+        requires flushes { FlushesFrom limit self.old }
+        requires room { HasRoomForTurns limit self.old }
+        ensures takes { OnOk result ((p : syntax.Program) (s : State) → Stands p s self.old → s.event ≡ None → Takes p (FlushWithin limit p s) self.new log.old log.new steps.old steps.new) }
+        ensures idle { OnErr result (IsIdle self.new.rendering) }
+        ensures leaves { OnOk result (LeavesRoom limit self.old self.new) }
+        ensures rises { steps.old ≤ steps.new }
+    {
+        if let Choice::None = self.choice() {
+            return Ok(());
+        }
+        self.turn(None, log, steps)?;
+        self.finish_renders(limit - 1, log, steps)
+    }
+
+    /// Takes turns that aren't sliced until nothing is left to render.
+    ///
+    /// # Errors
+    ///
+    /// Want of memory alone. Then nothing is in progress.
+    pub(crate) fn flush<L: Ledger>(
+        &mut self,
+        log: &mut Report,
+        steps: &mut Steps<L>,
+    ) -> Result<(), AllocError>
+        requires stands { StandsBetween self.old }
+        requires room { HasRoomForTurns flush_limit self.old }
+        ensures takes { OnOk result ((p : syntax.Program) (s : State) → Stands p s self.old → s.event ≡ None → Takes p (Flush p s) self.new log.old log.new steps.old steps.new) }
+        ensures idle { OnErr result (IsIdle self.new.rendering) }
+        ensures leaves { OnOk result (LeavesRoom flush_limit self.old self.new) }
+        ensures rises { steps.old ≤ steps.new }
+    {
+        self.facts();
+        self.finish_renders(FLUSH_LIMIT, log, steps)
+    }
+
+    /// One turn that isn't sliced, where Sync is pending (react.dev, flushSync).
+    ///
+    /// # Errors
+    ///
+    /// Want of memory alone. Then nothing is in progress.
+    pub(crate) fn flush_sync<L: Ledger>(
+        &mut self,
+        log: &mut Report,
+        steps: &mut Steps<L>,
+    ) -> Result<(), AllocError>
+        requires stands { StandsBetween self.old }
+        requires room { HasRoomForTurns 1 self.old }
+        ensures takes { OnOk result ((p : syntax.Program) (s : State) → Stands p s self.old → s.event ≡ None
+            → Takes p (FlushSync (has s.schedule.pending lane.Sync) p s) self.new log.old log.new steps.old steps.new) }
+        ensures idle { OnErr result (IsIdle self.new.rendering) }
+        ensures leaves { OnOk result (LeavesRoom 1 self.old self.new) }
+        ensures rises { steps.old ≤ steps.new }
+    {
+        if self.lanes.pending().has(Lane::Sync) {
+            return self.turn(None, log, steps);
+        }
         Ok(())
     }
 }
