@@ -20,3 +20,4 @@ pub mod TakeBack
 pub mod Sending
 pub mod Taken
 pub mod FlushSteps
+pub mod StepRoom

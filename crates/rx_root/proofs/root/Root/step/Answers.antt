@@ -25,21 +25,21 @@ returns-in-Tick-clause-ok g c s h =
 
 pub returns-in-Work-clause-ok : goal.returns-in-Work-clause-ok
 returns-in-Work-clause-ok g c =
-    on_ok c.work.result _ _
-    (λ f s h. taken_as c.args.self.now.rendering.program s (step.Work c.in-Work.budget) c.args.step.now c.work.new.self c.args.log.now c.work.new.log c.args.steps.now c.work.new.steps c.in-Work.is (f s h))
-    c.work.ensures.ok
+    on_ok c.take_work.result _ _
+    (λ f s h. taken_as c.args.self.now.rendering.program s (step.Work c.in-Work.budget) c.args.step.now c.take_work.new.self c.args.log.now c.take_work.new.log c.args.steps.now c.take_work.new.steps c.in-Work.is (f s h))
+    c.take_work.ensures.ok
 
 pub returns-in-Flush-clause-ok : goal.returns-in-Flush-clause-ok
 returns-in-Flush-clause-ok g c =
-    on_ok c.flush.result _ _
-    (λ f s h. taken_as c.args.self.now.rendering.program s step.Flush c.args.step.now c.flush.new.self c.args.log.now c.flush.new.log c.args.steps.now c.flush.new.steps c.in-Flush.is (f s h))
-    c.flush.ensures.ok
+    on_ok c.take_flush.result _ _
+    (λ f s h. taken_as c.args.self.now.rendering.program s step.Flush c.args.step.now c.take_flush.new.self c.args.log.now c.take_flush.new.log c.args.steps.now c.take_flush.new.steps c.in-Flush.is (f s h))
+    c.take_flush.ensures.ok
 
 pub returns-in-FlushSync-clause-ok : goal.returns-in-FlushSync-clause-ok
 returns-in-FlushSync-clause-ok g c =
-    on_ok c.flush_sync.result _ _
-    (λ f s h. taken_as c.args.self.now.rendering.program s step.FlushSync c.args.step.now c.flush_sync.new.self c.args.log.now c.flush_sync.new.log c.args.steps.now c.flush_sync.new.steps c.in-FlushSync.is (f s h))
-    c.flush_sync.ensures.ok
+    on_ok c.take_flush_sync.result _ _
+    (λ f s h. taken_as c.args.self.now.rendering.program s step.FlushSync c.args.step.now c.take_flush_sync.new.self c.args.log.now c.take_flush_sync.new.log c.args.steps.now c.take_flush_sync.new.steps c.in-FlushSync.is (f s h))
+    c.take_flush_sync.ensures.ok
 
 pub returns-in-Passive-clause-ok : goal.returns-in-Passive-clause-ok
 returns-in-Passive-clause-ok g c =
