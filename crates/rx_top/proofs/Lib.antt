@@ -1,3 +1,4 @@
-pub mod Running
-pub mod Reports
-pub mod Spelling
+pub mod Stretches
+pub mod Reported
+pub mod Fitting
+pub mod Due

@@ -1,0 +1,6 @@
+//! A stub.
+#![tactic(auto)]
+
+mod root;
+
+pub use root::Root;
