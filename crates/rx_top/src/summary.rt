@@ -1,5 +1,5 @@
 // A generated run, summed up.
-ghost use Rattle.std.specs.Prelude.{◌≡◌, ◌≤◌, ◌+◌, ◌<◌, ◌^◌, length, IfOk, OnOk, ℕ};
+ghost use Rattle.std.specs.Prelude.{◌≡◌, ◌≤◌, ◌+◌, ◌<◌, ◌^◌, length, drop, IfOk, OnOk, ℕ};
 ghost use Rattle.std.specs.Io.KnownBytes.{Keeps};
 ghost use Rattle.rx_io.specs.Causes.{Rose};
 ghost use Rattle.rx_model.specs.State.{State, opening};
@@ -61,8 +61,15 @@ fn run_silently<L: Ledger>(
     }
 }
 
-// How many bytes the head of the lines of all hosts has.
-const HEAD: usize = 5;
+/// What stands behind the head of the lines of all hosts.
+fn behind_head(lines: &[u8]) -> &[u8]
+    ensures { result.now ≡ drop 5 lines.now }
+{
+    match lines {
+        [_, _, _, _, _, rest @ ..] => rest,
+        _ => &[],
+    }
+}
 
 /// The line that sums up a run, where it stands.
 fn sum_up<L: Ledger>(
@@ -75,12 +82,11 @@ fn sum_up<L: Ledger>(
     requires stands { (s : State) × Stands root.old.rendering.program s root.old }
     requires room { HasRoomFor 1 root.old }
     requires options { log.old.options ≡ plain }
-    ensures line { IfOk result (λ line. (s : State) → Stands root.old.rendering.program s root.old → line ≡ summary_of rounds s) }
-    ensures quiet { IfOk result (λ line. steps.new ≡ steps.old) }
+    ensures { IfOk result (λ line. ((s : State) → Stands root.old.rendering.program s root.old → line ≡ summary_of rounds s) × (steps.new ≡ steps.old)) }
 {
     log.cut(0);
     root.step(&Step::Tree, log, steps)?;
-    let tree = &log.bytes()[HEAD..];
+    let tree = behind_head(log.bytes());
     summary(
         alloc,
         rounds,
