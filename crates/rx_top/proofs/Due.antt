@@ -1,5 +1,5 @@
 -- What is due for an input, and what is written for it.
-use Rattle.std.proofs.Common.{◌≡◌, ◌∙◌, ℕ, ◌+◌, ◌<◌, ◌≤◌, ◌⊎◌, inl, inr, sym, ap, refl, Bool, true, false, List, ◌++◌, append-nil, Option, Some, None, IfSome, is_some, length, subst, arith}
+use Rattle.std.proofs.Common.{◌≡◌, ◌∙◌, ℕ, ◌≤◌, ◌⊎◌, inl, inr, sym, ap, refl, Bool, true, false, List, ◌++◌, append-nil, Option, Some, None, IfSome, length, subst, arith}
 use Rattle.std.specs.Io.KnownBytes.{Appends, Consumes, IsAtEnd}
 use Rattle.rx_base.specs.Values.{Text}
 use Rattle.rx_io.specs.Whole.{AppendsPrefix}
@@ -13,10 +13,10 @@ use Rattle.rx_words.specs.declared.task.Task.{Task}
 use Rattle.rx_words.specs.declared.task.Task.TheVariants.{Read, Gen}
 use Rattle.rx_words.specs.declared.task.Reading.{Reading}
 use Rattle.rx_words.specs.declared.task.Reading.TheVariants.{Run, Check}
-use Rattle.rx_words.specs.Words.{is_valid, reads_input, task_of}
+use Rattle.rx_words.specs.Words.{task_of}
 use Rattle.rx_top.specs.declared.status.Status.{Status}
 use Rattle.rx_top.specs.declared.status.Status.TheVariants.{Done, Usage, ReadFault, WriteFault, TooLong, ProgramRefused, ScriptRefused, OutOfMemory}
-use Rattle.rx_top.specs.Outcome.{accepted_line, IsAccepted, IsRefused, IsDueFor, IsDueTo, IsDue, IsWork, IsOutput, IsSomeOutput, IsSummary, IsTextFor, IsBegun, IsAnswer, Gives, limit, Writes, WritesPart, WritesSome}
+use Rattle.rx_top.specs.Outcome.{accepted_line, IsAccepted, IsRefused, IsDueFor, IsDueTo, IsDue, IsWork, IsOutput, IsSomeOutput, IsTextFor, IsBegun, IsAnswer, Gives, limit, Writes, WritesPart, WritesSome}
 
 -- an input is this, and nothing else
 abbrev pub IsAlone : List ℕ → Judgement → Type 0

@@ -11,6 +11,5 @@ mod summary;
 pub use call::top;
 pub use status::Status;
 
-
 #[cfg(test)]
 mod tests;

@@ -136,11 +136,7 @@ fn summarize_accepted<L: Ledger>(
 }
 
 /// The line that sums up the generated run of so many rounds, and the bodies that it evaluates.
-fn summarize<L: Ledger>(
-    alloc: Global,
-    rounds: u32,
-    steps: &mut Steps<L>,
-) -> Result<Str, AllocError>
+fn summarize<L: Ledger>(alloc: Global, rounds: u32, steps: &mut Steps<L>) -> Result<Str, AllocError>
     requires { rounds ≤ most_rounds }
     ensures { IfOk result (λ line. (bodies : ℕ) × IsSummary rounds line bodies × (steps.new ≡ steps.old + bodies)) }
 {

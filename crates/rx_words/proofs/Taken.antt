@@ -1,5 +1,5 @@
 -- What clap finds among valid words.
-use Rattle.std.proofs.Common.{◌≡◌, ◌∙◌, ℕ, zero, suc, ◌<◌, ◌+◌, ◌-◌, sym, ap, ap₂, refl, option_map, Bool, true, false, List, [], ◌∷◌, Option, Some, codes, subst, arith}
+use Rattle.std.proofs.Common.{◌≡◌, ◌∙◌, ℕ, zero, suc, ◌<◌, ◌+◌, ◌-◌, sym, ap, ap₂, refl, option_map, Bool, true, false, List, [], ◌∷◌, Option, Some, None, IfSome, codes, subst, arith}
 use Rattle.rx_base.specs.Values.{Text}
 use Rattle.clap.specs.Words.{first_of, one_of, is_simple, matches_of, takes}
 use Rattle.clap.proofs.OnLiterals.{clap_on_literals}
@@ -9,7 +9,7 @@ use Rattle.rx_words.specs.declared.task.Reading.TheVariants.{Run, Check}
 use Rattle.std.specs.Str.Parse.{IsNumeral}
 use Rattle.std.proofs.lemmas.Fmt.{decimal_is_IsNumeral}
 use Rattle.std.proofs.lemmas.Str.Parse.{digit_from_value}
-use Rattle.rx_words.specs.Words.{rounds_of, task_of}
+use Rattle.rx_words.specs.Words.{rounds_of, task_of, HasRounds}
 use Rattle.rx_words.proofs.Decimals.{rounds-is}
 use Rattle.rx_words.proofs.Valid.{each_valid}
 use Rattle.rx_words.specs.CommandLine.{command_line, task_found}
@@ -95,3 +95,11 @@ gen_found word n is =
 -- valid words are taken, and their task is found
 pub valid-found : (words : List Text) (task : Task) → task_of words ≡ Some task → IsFound words task
 valid-found = each_valid IsFound run_found counts_found ops_found both_found both_found_turned check_found gen_found
+
+-- and a number of rounds that they ask for is from 1 to 1,000
+valid-rounds : (words : List Text) (task : Task) → task_of words ≡ Some task → HasRounds task
+valid-rounds = each_valid (λ words task. HasRounds task) tt tt tt tt tt tt (λ word n is. let rounds = rounds-is word n is in (rounds.1, rounds.2))
+
+pub asked-rounds : (words : List Text) (asked : Option Task) → asked ≡ task_of words → IfSome asked HasRounds
+asked-rounds words None is = tt
+asked-rounds words (Some task) is = valid-rounds words task (sym is)

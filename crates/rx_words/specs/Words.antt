@@ -1,5 +1,5 @@
 -- The words of the command line, and what they ask for.
-use Rattle.std.specs.Prelude.{ℕ, Bool, true, false, not, ◌&&◌, ◌||◌, List, [], ◌∷◌, map, Option, Some, None, is_some, option_map, codes, bytes_eq, decimal, nat_eq, nat_le, if◌then◌else◌}
+use Rattle.std.specs.Prelude.{ℕ, ◌≤◌, Bool, true, false, not, ◌&&◌, ◌||◌, List, [], ◌∷◌, map, Option, Some, None, is_some, option_map, codes, bytes_eq, decimal, nat_eq, nat_le, if◌then◌else◌}
 use Rattle.std.specs.Option.{option_eq}
 use Rattle.std.specs.Str.Parse.{digits_value}
 use Rattle.std.specs.Borrow.{Bor}
@@ -59,6 +59,11 @@ task_of (command ∷ words) =
 -- the words are valid
 abbrev pub is_valid : List Text → Bool
 is_valid words = is_some (task_of words)
+
+-- a number of rounds is from 1 to 1,000
+abbrev pub HasRounds : Task → Type 0
+HasRounds (Read reading) = Unit {0}
+HasRounds (Gen n) = (1 ≤ n) × (n ≤ most_rounds)
 
 -- a task that reads an input
 abbrev pub reads : Option Task → Bool

@@ -1,7 +1,7 @@
 // Reading the words: clap first, and then the words must be the spelling of what it found.
-ghost use Rattle.std.specs.Prelude.{◌≡◌, false, option_map, IfOk};
+ghost use Rattle.std.specs.Prelude.{◌≡◌, false, option_map, IfOk, IfSome};
 ghost use Rattle.clap.specs.Words.{app_of, rule_of};
-ghost use Rattle.rx_words.specs.Words.{spelled, task_of, texts};
+ghost use Rattle.rx_words.specs.Words.{spelled, task_of, texts, HasRounds};
 ghost use Rattle.rx_words.specs.CommandLine.{command_line as command_line_of, flag_rule, task_found as task_of_found};
 
 use crate::rounds::rounds_of;
@@ -67,7 +67,8 @@ fn if_spelled(task: Option<Task>, words: &[&str]) -> Option<Task>
 ///
 /// Want of memory alone.
 pub fn read_words<'a>(alloc: Global, words: &'a [&'a str]) -> Result<Option<Task>, AllocError>
-    ensures { IfOk result (λ task. task ≡ task_of (texts words.now)) }
+    ensures task { IfOk result (λ task. task ≡ task_of (texts words.now)) }
+    ensures rounds { IfOk result (λ task. IfSome task HasRounds) }
 {
     match command_line(alloc)?.try_get_matches_from(words) {
         Ok(matches) => {

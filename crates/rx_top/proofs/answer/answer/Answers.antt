@@ -1,9 +1,7 @@
-use Rattle.std.proofs.Common.{◌≡◌, length, subst, sym}
 use Rattle.rx_script.specs.Input.{input_of}
 use Rattle.rx_accept.specs.Judgements.{IsJudged, accepted, program_refused, script_refused}
-use Rattle.rx_root.specs.Taking.{AllCanTake}
 use Rattle.rx_top.specs.declared.status.Status.TheVariants.{Done, ProgramRefused, ScriptRefused}
-use Rattle.rx_top.specs.Outcome.{IsAccepted, IsDueFor, IsOutput, IsSomeOutput}
+use Rattle.rx_top.specs.Outcome.{IsAccepted}
 use Rattle.rx_top.proofs.Fitting.{steps-fit}
 use Rattle.rx_top.proofs.Due.{IsAlone, answer-is, due-accepted, due-refused_program, due-refused_script, program-done, program-part, script-done, script-part, work-done, work-part, work-some}
 use Rattle.rx_top.proofs.answer.answer.Goals as goal

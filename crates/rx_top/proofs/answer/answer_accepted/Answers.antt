@@ -1,4 +1,4 @@
-use Rattle.std.proofs.Common.{◌≡◌, ap, refl, arith, length}
+use Rattle.std.proofs.Common.{ap, refl, arith, length}
 use Rattle.rx_rules.specs.Bounds.{node_bound, depth_bound}
 use Rattle.rx_lines.specs.Lines.{Written}
 use Rattle.rx_top.specs.declared.status.Status.TheVariants.{Done}

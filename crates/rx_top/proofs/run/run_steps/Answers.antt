@@ -1,10 +1,10 @@
-use Rattle.std.proofs.Common.{arith, ◌≡◌, ◌+◌, ◌≤◌, suc, ℕ, List, drop, length, subst, sym, ◌∙◌, refl, ap, ◌∷◌}
+use Rattle.std.proofs.Common.{arith, ◌≡◌, ◌+◌, List, drop, length, subst, sym, ◌∙◌, refl, ap, ◌∷◌}
 use Rattle.std.proofs.lemmas.List.{drop_more, drop_all}
 use Rattle.std.proofs.lemmas.Result.{err_from_is_err_and}
 use Rattle.rx_step.specs.declared.step.Step.{Step}
 use Rattle.rx_lines.specs.Lines.{Written}
 use Rattle.rx_root.specs.Stands.{Stands, HasRoomFor}
-use Rattle.rx_root.specs.Taking.{CanTake, AllCanTake}
+use Rattle.rx_root.specs.Taking.{AllCanTake}
 use Rattle.rx_top.proofs.Stretches.{SoFar, Onward, stepped, room-fewer, so_far-starts, so_far-next, so_far-begins, so_far-part, so_far-ends}
 use Rattle.rx_top.proofs.run.run_steps.Goals as goal
 
@@ -36,8 +36,8 @@ script-preserved g c =
     c.script.invariant.program c.in_ok-step.ensures.ok c.cut.ensures c.script.invariant.options c.bytes.ensures in
     record {
       so_far = λ s stands.
-      let so_far = subst (λ (l : List Step). SoFar c.args.root.now.rendering.program c.args.log.now.options s c.args.script.now (g.K.Sink.written c.args.out.now) (g.K.Sink.written c.script.out) c.args.steps.now c.script.steps c.script.root l) here (c.script.invariant.so_far s stands) in
-      so_far-next c.args.root.now.rendering.program c.args.log.now.options s c.args.script.now _ c.step-item.result _ _ _ c.bytes.result.now _ _ _ c.script.root c.step.new.self so_far taken c.in_ok-write_all.ensures.ok;
+          let so_far = subst (λ (l : List Step). SoFar c.args.root.now.rendering.program c.args.log.now.options s c.args.script.now (g.K.Sink.written c.args.out.now) (g.K.Sink.written c.script.out) c.args.steps.now c.script.steps c.script.root l) here (c.script.invariant.so_far s stands) in
+          so_far-next c.args.root.now.rendering.program c.args.log.now.options s c.args.script.now _ c.step-item.result _ _ _ c.bytes.result.now _ _ _ c.script.root c.step.new.self so_far taken c.in_ok-write_all.ensures.ok;
       program = c.in_ok-step.ensures.program ∙ c.script.invariant.program;
       options =
           let base = c.script.invariant.so_far c.requires.stands.0 c.requires.stands.1 in
@@ -45,9 +45,9 @@ script-preserved g c =
           ap (λ (w : Written). w.options) r.3 ∙ ap (λ (w : Written). w.options) c.cut.ensures ∙ c.script.invariant.options;
       fits = (subst (AllCanTake c.args.root.now.rendering.program) here c.script.invariant.fits).1;
       room = λ k room.
-      let all = c.script.invariant.room k room in
-      c.in_ok-step.ensures.left (length (drop (c.script.step-index + 1) c.args.script.now) + k)
-      (subst (λ n. HasRoomFor n c.script.root) (ap (λ (l : List Step). length l + k) here ∙ omega arith) all);
+          let all = c.script.invariant.room k room in
+          c.in_ok-step.ensures.left (length (drop (c.script.step-index + 1) c.args.script.now) + k)
+          (subst (λ n. HasRoomFor n c.script.root) (ap (λ (l : List Step). length l + k) here ∙ omega arith) all);
       later = omega (arith, c.script.invariant.later, c.write_all.ensures.cause.later);
     }
 

@@ -1,4 +1,4 @@
-use Rattle.std.proofs.Common.{◌≡◌, ◌≤◌, ◌+◌, ◌^◌, ◌∙◌, length, ap, arith, subst, sym}
+use Rattle.std.proofs.Common.{◌+◌, length, arith, subst, sym}
 use Rattle.std.proofs.lemmas.Result.{IfOk-weaker}
 use Rattle.rx_model.specs.State.{opening}
 use Rattle.rx_root.specs.Stands.{Stands}

@@ -1,8 +1,7 @@
-use Rattle.std.proofs.Common.{◌≡◌, ◌∙◌, ◌<◌, ◌^◌, ap, length, refl, subst, sym}
+use Rattle.std.proofs.Common.{◌∙◌, ◌<◌, ◌^◌, length, refl, subst, sym}
 use Rattle.std.proofs.lemmas.Result.{IfOk-weaker}
 use Rattle.rx_script.specs.Input.{input_of}
 use Rattle.rx_accept.specs.Judgements.{IsJudged, accepted, judgement_of}
-use Rattle.rx_top.specs.Outcome.{generated_input}
 use Rattle.rx_top.proofs.Fitting.{steps-fit}
 use Rattle.rx_top.proofs.Sizes.{generated-size}
 use Rattle.rx_top.proofs.summary.summarize.Goals as goal

@@ -4,12 +4,12 @@ use Rattle.clap.specs.Words.{App, first_of, one_of, found_of, is_simple, matches
 use Rattle.clap.specs.declared.error.kind.ErrorKind.TheVariants as kind
 use Rattle.rx_words.specs.Words.{texts}
 use Rattle.rx_words.specs.CommandLine.{task_found}
-use Rattle.rx_words.proofs.Taken.{line_is_simple, valid-found}
+use Rattle.rx_words.proofs.Taken.{asked-rounds, line_is_simple, valid-found}
 use Rattle.rx_words.proofs.Spelled.{refused-none, spelled-is}
 use Rattle.rx_words.proofs.reading.read_words.Goals as goal
 
-pub returns-in-Ok : goal.returns-in-Ok
-returns-in-Ok c =
+pub returns-in-Ok-clause-task : goal.returns-in-Ok-clause-task
+returns-in-Ok-clause-task c =
     let app = c.in_ok-command_line.ensures in
     let rows = (c.in-Ok.ensures.matches (ap is_simple app ∙ line_is_simple)).0 ∙ ap (λ (a : App). matches_of a (texts c.args.words.now)) app in
     let command = c.get_str.ensures ∙ first_value-rows (found_of c.in-Ok.matches) (codes "command") ∙ ap (first_of (codes "command")) rows in
@@ -23,8 +23,11 @@ returns-in-Ok c =
     ((λ e. c.get_flag.ensures.value (counts ∙ e)), (λ e. c.get_flag.ensures.other (counts ∙ e)))
     ((λ e. c.get_flag-in-Ok.ensures.value (ops ∙ e)), (λ e. c.get_flag-in-Ok.ensures.other (ops ∙ e))))
 
-pub returns-in-Err-2 : goal.returns-in-Err-2
-returns-in-Err-2 c =
+pub returns-in-Ok-clause-rounds : goal.returns-in-Ok-clause-rounds
+returns-in-Ok-clause-rounds c = asked-rounds (texts c.args.words.now) c.if_spelled.result (returns-in-Ok-clause-task c)
+
+pub returns-in-Err-2-clause-task : goal.returns-in-Err-2-clause-task
+returns-in-Err-2-clause-task c =
     let app = c.in_ok-command_line.ensures in
     refused-none (texts c.args.words.now) (λ task asked.
     let taken = (valid-found (texts c.args.words.now) task asked).taken in
