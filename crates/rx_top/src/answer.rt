@@ -20,7 +20,7 @@ use rx_base::Steps;
 use rx_check::Checked;
 use rx_io::{Sink, write_all};
 use rx_report::Report;
-use rx_root::Root;
+use rx_root::{Root, steps_can_be_taken};
 use rx_step::Step;
 use rx_words::Reading;
 use std::alloc::Global;
@@ -167,6 +167,7 @@ pub(crate) fn answer<K: Sink, L: Ledger>(
     ensures memory_part { result ≡ Status.OutOfMemory → WritesSome (K.written out.old) (K.written out.new) (IsSomeOutput reading input.now) }
     ensures cause { result ≡ Status.WriteFault → Rose (K.faults out.old) (K.faults out.new) }
 {
+    steps_can_be_taken();
     match accept(alloc, input) {
         Ok(
             Verdict::Accepted {

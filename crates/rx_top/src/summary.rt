@@ -22,7 +22,7 @@ use rx_check::Checked;
 use rx_gen::{generate, summary};
 use rx_io::{Sink, SureSink};
 use rx_report::Report;
-use rx_root::Root;
+use rx_root::{Root, steps_can_be_taken};
 use rx_step::Step;
 use std::alloc::{AllocError, Global};
 use std::sync::ledger::Ledger;
@@ -140,6 +140,7 @@ fn summarize<L: Ledger>(alloc: Global, rounds: u32, steps: &mut Steps<L>) -> Res
     requires { rounds ≤ most_rounds }
     ensures { IfOk result (λ line. (bodies : ℕ) × IsSummary rounds line bodies × (steps.new ≡ steps.old + bodies)) }
 {
+    steps_can_be_taken();
     let input = input_of(alloc, rounds)?;
     match accept(alloc, &input)? {
         Verdict::Accepted {

@@ -2,14 +2,13 @@ use Rattle.rx_script.specs.Input.{input_of}
 use Rattle.rx_accept.specs.Judgements.{IsJudged, accepted, program_refused, script_refused}
 use Rattle.rx_top.specs.declared.status.Status.TheVariants.{Done, ProgramRefused, ScriptRefused}
 use Rattle.rx_top.specs.Outcome.{IsAccepted}
-use Rattle.rx_top.proofs.Fitting.{steps-fit}
 use Rattle.rx_top.proofs.Due.{IsAlone, answer-is, due-accepted, due-refused_program, due-refused_script, program-done, program-part, script-done, script-part, work-done, work-part, work-some}
 use Rattle.rx_top.proofs.answer.answer.Goals as goal
 
 pub answer_accepted-requires-clause-fits : goal.answer_accepted-requires-clause-fits
 answer_accepted-requires-clause-fits g c =
     let judged : IsJudged c.args.input.now (accepted c.in-Ok-Accepted.checked c.in-Ok-Accepted.found.items) = rw c.in-Ok-Accepted.field-0-is at c.in-Ok-Accepted.ensures.judged in
-    rw c.deref.ensures.value (steps-fit c.in-Ok-Accepted.checked (input_of c.args.input.now).script c.in-Ok-Accepted.found.items judged.1)
+    rw c.deref.ensures.value (c.steps_can_be_taken.ensures.script c.in-Ok-Accepted.checked (input_of c.args.input.now).script c.in-Ok-Accepted.found.items judged.1)
 
 pub returns-in-Ok-Accepted-clause-gives : goal.returns-in-Ok-Accepted-clause-gives
 returns-in-Ok-Accepted-clause-gives g c due d =

@@ -2,7 +2,6 @@ use Rattle.std.proofs.Common.{◌∙◌, ◌<◌, ◌^◌, length, refl, subst, 
 use Rattle.std.proofs.lemmas.Result.{IfOk-weaker}
 use Rattle.rx_script.specs.Input.{input_of}
 use Rattle.rx_accept.specs.Judgements.{IsJudged, accepted, judgement_of}
-use Rattle.rx_top.proofs.Fitting.{steps-fit}
 use Rattle.rx_top.proofs.Sizes.{generated-size}
 use Rattle.rx_top.proofs.summary.summarize.Goals as goal
 
@@ -14,7 +13,7 @@ pub summarize_accepted-requires-clause-fits : goal.summarize_accepted-requires-c
 summarize_accepted-requires-clause-fits g c =
     let judged : IsJudged c.deref.result.now (accepted c.in-Accepted.checked c.in-Accepted.script.items) =
     subst (λ v. IsJudged c.deref.result.now (judgement_of v)) c.in-Accepted.is c.in_ok-checked.ensures.judged in
-    rw c.deref-in-Accepted.ensures.value (steps-fit c.in-Accepted.checked (input_of c.deref.result.now).script c.in-Accepted.script.items judged.1)
+    rw c.deref-in-Accepted.ensures.value (c.steps_can_be_taken.ensures.script c.in-Accepted.checked (input_of c.deref.result.now).script c.in-Accepted.script.items judged.1)
 
 pub returns-in-Accepted : goal.returns-in-Accepted
 returns-in-Accepted g c =
