@@ -348,6 +348,7 @@ impl Renderer {
         ensures last { IfOk result (λ u. MatchUnit u (left_of self.new ≡ 0) (0 < left_of self.new)) }
         ensures counts { OnOk result (self.new.units ≡ self.old.units + 1) }
         ensures ticks { OnOk result (steps.new + self.old.bodies ≡ steps.old + self.new.bodies) }
+        ensures each { OnOk result (self.new.bodies ≤ self.old.bodies + 1) }
         ensures onward { OnOk result (GoesOn self.old self.new) }
         ensures stopped { OnErr result (BreaksOff self.old self.new) }
         ensures rises { steps.old ≤ steps.new }

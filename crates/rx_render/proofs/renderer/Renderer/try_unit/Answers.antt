@@ -1,5 +1,15 @@
-use Rattle.std.proofs.Common.{◌+◌, refl, ◌∙◌}
-use Rattle.rx_render.specs.declared.at.At.TheVariants.{Over}
+use Rattle.std.proofs.Common.{◌+◌, ◌≤◌, refl, ap, ◌∙◌, arith, Option, Some, None}
+use Rattle.std.specs.Option.{option_map_or}
+use Rattle.rx_elem.specs.Elements.{Element}
+use Rattle.rx_elem.specs.Elements as elements
+use Rattle.rx_links.specs.Drafts.{Draft}
+use Rattle.rx_links.specs.Readers.{made_value_of}
+use Rattle.rx_meaning.specs.Counts.{one_if_component}
+use Rattle.rx_fiber.specs.Fibers.{Fiber}
+use Rattle.rx_render.specs.declared.at.At.{At}
+use Rattle.rx_render.specs.declared.at.At.TheVariants.{Begins, Completes, Over}
+use Rattle.rx_render.specs.Rendering.{Rendering}
+use Rattle.rx_render.specs.Advancing.{bodies_next}
 use Rattle.rx_render.specs.contracts.renderer.Renderer.{the_view}
 use Rattle.rx_render.proofs.Advancing.{on_err}
 use Rattle.rx_render.proofs.Going.{stepped, over_rendering, inside_made, inside_ready, breaks, steps_on, steps_to, falls, last, ticks}
@@ -54,6 +64,29 @@ returns-clause-ticks g c =
     (λ s sees. c.in_ok-next.ensures.comes s (record { program = sees.program; resources = c.deref.ensures.value ∙ sees.resources; lanes = sees.lanes; cut = sees.cut }))) c.cursors_are_drawn.ensures.unit c.cursors_are_drawn.ensures.place
     c.args.steps.now c.advance.new.steps
     (λ s d sees. c.in_ok-next.ensures.ticks s d (record { program = sees.program; resources = c.deref.ensures.value ∙ sees.resources; lanes = sees.lanes; cut = sees.cut }))
+
+-- a unit evaluates one body at most
+component_once : (e : Element) → one_if_component e ≤ 1
+component_once elements.null = omega arith
+component_once (elements.text t) = omega arith
+component_once (elements.host n k attrs es) = omega arith
+component_once (elements.comp c k ps es) = omega arith
+component_once (elements.list es) = omega arith
+component_once (elements.boundary k f es) = omega arith
+component_once (elements.provider c k x es) = omega arith
+
+value_once : (v : Option Fiber) → option_map_or (λ v. one_if_component v.element) v 0 ≤ 1
+value_once None = omega arith
+value_once (Some v) = component_once v.element
+
+next_once : (d : Draft Fiber) (at : At) → bodies_next d at ≤ 1
+next_once d (Begins id) = value_once (made_value_of d id)
+next_once d (Completes id) = omega arith
+next_once d Over = omega arith
+
+pub returns-clause-each : goal.returns-clause-each
+returns-clause-each g c =
+    omega (arith, next_once c.self.inside.fibers.draft c.self.inside.at, c.bodies_next-evaluated.ensures, ap (λ (v : Rendering). v.bodies) c.self.view_is)
 
 pub returns-clause-onward : goal.returns-clause-onward
 returns-clause-onward g c =
