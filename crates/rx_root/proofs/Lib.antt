@@ -1,4 +1,9 @@
 pub mod Reached
+pub mod HookCounts
+pub mod Paths
+pub mod Standing
+pub mod Opening
+pub mod Lines
 pub mod TurnReached
 pub mod FlushEnds
 pub mod AttributesOnce
@@ -11,4 +16,8 @@ pub mod CommitReady
 pub mod TurnLines
 pub mod TurnRoom
 pub mod TurnsTaken
+pub mod TakeBack
+pub mod Sending
+pub mod Taken
 pub mod FlushSteps
+pub mod StepRoom

@@ -2,7 +2,12 @@
 #![tactic(auto)]
 
 mod events;
+mod laws;
 mod root;
+mod step;
+#[cfg(test)]
+mod tests;
 mod turns;
 
+pub use laws::steps_can_be_taken;
 pub use root::Root;
