@@ -137,7 +137,7 @@ run_holds p s (x ∷ xs) r t h =
     same_holds p r (followed_by t.0 t.1) t.4 (run_holds p t.0.after xs t.1 t.3 (step_holds p s x t.0 t.2 h))
 
 -- each state that can be reached has what commits left
-reached_committed : (p : Program) (s : State) → IsReached p s → IsCommitted p s.numbers s.tree
+pub reached_committed : (p : Program) (s : State) → IsReached p s → IsCommitted p s.numbers s.tree
 reached_committed p s t = subst (λ (x : State). Holds p x) t.3 (run_holds p opening t.0 t.1 t.2 (none_yet opening.numbers (omega arith)))
 
 -- so the operations of a commit replay there

@@ -36,6 +36,10 @@ pub fn drive<U: Units, L: Ledger>(
     ensures counts { IfOk result (λ d. MatchDriven d
         (λ used. U.done units.new ≡ U.done units.old + used)
         (λ used. U.done units.new ≡ U.done units.old + used)) }
+    ensures used { IfOk result (λ d. MatchDriven d (λ used. 0 < used) (λ used. 0 < used)) }
+    ensures each { IfOk result (λ d. MatchDriven d
+        (λ used. U.bodies units.new ≤ U.bodies units.old + used)
+        (λ used. U.bodies units.new ≤ U.bodies units.old + used)) }
     ensures ticks { OnOk result (steps.new + U.bodies units.old ≡ steps.old + U.bodies units.new) }
     ensures onward { OnOk result (U.goes_on units.old units.new) }
 

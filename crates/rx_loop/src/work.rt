@@ -33,7 +33,7 @@ pub trait Units {
     /// What holds between a moment of the work and the moment after memory ran out.
     ghost gives_up: { Self → Self → Type 0 };
 
-    /// Does one unit, and counts the bodies that it evaluates.
+    /// Does one unit, and counts the body that it evaluates, if it evaluates one.
     ///
     /// # Errors
     ///
@@ -44,6 +44,7 @@ pub trait Units {
         ensures last { IfOk result (λ u. MatchUnit u (left self.new ≡ 0) (0 < left self.new)) }
         ensures counts { OnOk result (done self.new ≡ done self.old + 1) }
         ensures ticks { OnOk result (steps.new + bodies self.old ≡ steps.old + bodies self.new) }
+        ensures each { OnOk result (bodies self.new ≤ bodies self.old + 1) }
         ensures onward { OnOk result (goes_on self.old self.new) }
         ensures given_up { OnErr result (gives_up self.old self.new) }
         ensures rises { steps.old ≤ steps.new };

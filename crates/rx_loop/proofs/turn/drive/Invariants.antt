@@ -11,6 +11,7 @@ invariant-driving g l =
     × g.U.Units.goes_on l.initial.units l.units
     × (l.steps + g.U.Units.bodies l.initial.units ≡ l.initial.steps + g.U.Units.bodies l.units)
     × (l.initial.steps ≤ l.steps)
+    × (g.U.Units.bodies l.units ≤ g.U.Units.bodies l.initial.units + l.used)
 
 abbrev pub decreases-driving : goal.decreases-driving
 decreases-driving g l = g.U.Units.left l.units

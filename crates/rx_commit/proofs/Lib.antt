@@ -1,0 +1,3 @@
+pub mod Behind
+pub mod Committed
+pub mod Lines

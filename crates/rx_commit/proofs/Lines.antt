@@ -1,0 +1,65 @@
+-- The lines of a prepared commit.
+use Rattle.std.proofs.Common.{◌≡◌, ℕ, false, List, [], ◌∷◌, ◌++◌, Option, sym, ap, ◌∙◌}
+use Rattle.std.specs.Prelude.{map, if◌then◌else◌}
+use Rattle.std.proofs.lemmas.List.{map-append}
+use Rattle.rx_lane.specs.declared.lane.Lane.TheVariants as lane
+use Rattle.rx_lane.specs.Lanes.{Lanes, has, lanes_where}
+use Rattle.rx_lane.specs.SetLaws.{has-lanes_where}
+use Rattle.rx_elem.specs.Trees.{Node}
+use Rattle.rx_elem.specs.Compare.{compare_trees}
+use Rattle.rx_effect.specs.declared.log.LogLine.{LogLine}
+use Rattle.rx_effect.specs.EffectLog.{Passive, layout_log}
+use Rattle.rx_forest.specs.declared.op.HostOp.{HostOp}
+use Rattle.rx_forest.specs.HostOps.{host_ops}
+use Rattle.rx_lines.specs.Lines.{Counts, Line, Written, committed, operated, logged, with_line}
+use Rattle.rx_commit.specs.Shown.{Prepared, Prepares}
+use Rattle.rx_commit.specs.Written.{passive_lines, sync_lines, lines_of, with_lines}
+use Rattle.rx_commit.proofs.Behind.{with_lines-nil, with_lines-append, with_lines-cons}
+
+-- a set of lanes made anew has the lane Sync where the set has it
+pub sync-anew : (lanes : Lanes) (passive : Passive) → sync_lines lanes passive ≡ sync_lines (lanes_where (has lanes)) passive
+sync-anew lanes passive = ap (λ b. if b then passive_lines passive else []) (sym (has-lanes_where (has lanes) lane.Sync))
+
+-- a commit without the lane Sync runs no passive effect itself
+pub sync-none : (lanes : Lanes) (passive : Passive) (r : Written) → has lanes lane.Sync ≡ false → r ≡ with_lines r (sync_lines lanes passive)
+sync-none lanes passive r e = sym (with_lines-nil r) ∙ ap (λ b. with_lines r (if b then passive_lines passive else [])) (sym e)
+
+-- effects that are destroyed, and then effects that are created
+pub passive-parts : (r a b : Written) (ds es xs ys : List LogLine) → xs ≡ ds → ys ≡ es → a ≡ with_lines r (map logged xs) → b ≡ with_lines a (map logged ys)
+    → b ≡ with_lines r (map logged (ds ++ es))
+passive-parts r a b ds es xs ys d e f g =
+    g
+    ∙ ap (λ (ls : List LogLine). with_lines a (map logged ls)) e
+    ∙ ap (λ (w : Written). with_lines w (map logged es)) (f ∙ ap (λ (ls : List LogLine). with_lines r (map logged ls)) d)
+    ∙ sym (with_lines-append r (map logged ds) (map logged es))
+    ∙ ap (with_lines r) (sym (map-append logged ds es))
+
+-- a line, then operations, and then effects
+pub own-parts : (r a b c : Written) (l : Line) (ops xs : List HostOp) (log ys : List LogLine) → xs ≡ ops → ys ≡ log → a ≡ with_line r l
+    → b ≡ with_lines a (map operated xs) → c ≡ with_lines b (map logged ys) → c ≡ with_lines r (l ∷ (map operated ops ++ map logged log))
+own-parts r a b c l ops xs log ys d e f g h =
+    h
+    ∙ ap (λ (ls : List LogLine). with_lines b (map logged ls)) e
+    ∙ ap (λ (w : Written). with_lines w (map logged log)) (g ∙ ap (λ (os : List HostOp). with_lines a (map operated os)) d ∙ ap (λ (w : Written). with_lines w (map operated ops)) f)
+    ∙ sym (with_lines-append (with_line r l) (map operated ops) (map logged log))
+    ∙ sym (with_lines-cons r l (map operated ops ++ map logged log))
+
+-- the lines of a prepared commit are those of the commit that it prepares
+pub prepared-lines : (number : ℕ) (lanes : Lanes) (counts : Counts) (old : Option Node) (new : Node) (x : Prepared) → Prepares old new x
+    → (committed number lanes counts new ∷ (map operated x.ops ++ map logged x.layout)) ++ sync_lines lanes x.passive ≡ lines_of number lanes counts old new
+prepared-lines number lanes counts old new x is =
+    ap (λ (ops : List HostOp). (committed number lanes counts new ∷ (map operated ops ++ map logged x.layout)) ++ sync_lines lanes x.passive) is.ops_are
+    ∙ ap (λ (log : List LogLine). (committed number lanes counts new ∷ (map operated (host_ops old new) ++ map logged log)) ++ sync_lines lanes x.passive) is.layout_is
+    ∙ ap (λ (p : Passive). (committed number lanes counts new ∷ (map operated (host_ops old new) ++ map logged (layout_log (compare_trees old new)))) ++ sync_lines lanes p) is.passive_is
+
+-- its own lines, and those of the passive effects that it runs itself, are all its lines
+pub commit-lines : (number : ℕ) (lanes : Lanes) (counts : Counts) (old : Option Node) (new : Node) (x : Prepared) (r a b : Written) → Prepares old new x
+    → a ≡ with_lines r (committed number (lanes_where (has lanes)) counts new ∷ (map operated x.ops ++ map logged x.layout)) → b ≡ with_lines a (sync_lines lanes x.passive)
+    → b ≡ with_lines r (lines_of number (lanes_where (has lanes)) counts old new)
+commit-lines number lanes counts old new x r a b is own sync =
+    let first : List Line = committed number (lanes_where (has lanes)) counts new ∷ (map operated x.ops ++ map logged x.layout) in
+    sync
+    ∙ ap (λ (w : Written). with_lines w (sync_lines lanes x.passive)) own
+    ∙ sym (with_lines-append r first (sync_lines lanes x.passive))
+    ∙ ap (λ (ls : List Line). with_lines r (first ++ ls)) (sync-anew lanes x.passive)
+    ∙ ap (with_lines r) (prepared-lines number (lanes_where (has lanes)) counts old new x is)

@@ -1,0 +1,11 @@
+//! What is shown of a committed tree, and a commit as one change of it.
+#![tactic(auto)]
+
+mod prepared;
+mod shown;
+#[cfg(test)]
+mod tests;
+mod writing;
+
+pub use prepared::Prepared;
+pub use shown::Shown;

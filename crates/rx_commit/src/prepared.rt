@@ -1,0 +1,132 @@
+// A commit that is prepared.
+ghost use Rattle.std.specs.Prelude.{◌≡◌, ◌∷◌, ◌++◌, Option, IfOk, OnErr, OnOk, map};
+ghost use Rattle.std.specs.Option.{option_copied};
+ghost use Rattle.rx_elem.specs.Trees.{Node};
+ghost use Rattle.rx_lane.specs.Lanes.{has, lanes_where};
+ghost use Rattle.rx_lines.specs.Lines.{committed, logged, operated};
+ghost use Rattle.end_laws.specs.Trimmed.{trimmed, trimmed_if};
+ghost use Rattle.rx_commit.specs.Shown.{Prepares};
+ghost use Rattle.rx_commit.specs.Written.{GoesOn, lines_of, sync_lines, with_lines};
+
+use crate::writing::{add_effects, add_ops, add_passive, cut_back};
+use rx_compare::compare_trees;
+use rx_effect::LogLine;
+use rx_forest::HostOp;
+use rx_host_ops::{host_ops, hosts};
+use rx_lane::{Lane, Lanes};
+use rx_log::{Passive, layout_log, passive_effects};
+use rx_node as node;
+use rx_report::Report;
+use std::alloc::{AllocError, Global};
+use std::marker::Model;
+
+/// What a commit does, all of it prepared (react.dev, Render and Commit): the tree that it shows, the operations on its hosts,
+/// the layout effects, and the passive effects that it leaves pending.
+#[derive(Drop)]
+pub struct Prepared {
+    pub(crate) tree: node::Node,
+    pub(crate) ops: Vec<HostOp>,
+    layout: Vec<LogLine>,
+    pub(crate) passive: Passive,
+}
+
+impl Model for Prepared {
+    ghost use Rattle.rx_commit.specs.Shown as shown;
+    ghost use Rattle.rx_log.specs.PassiveView.{passive_seen};
+
+    ghost Value = { shown.Prepared };
+
+    ghost use Rattle.std.specs.Coded.{codes};
+    ghost use Rattle.rx_node.specs.NodeCode.{node_code};
+
+    ghost coded = { Prim.hlevel (codes, node_code) };
+
+    ghost view = { λ p. record { tree = p.tree; ops = p.ops.items; layout = p.layout.items; passive = passive_seen p.passive } };
+}
+
+impl Prepared {
+    // The commit of a tree after the one that is shown.
+    pub(crate) fn new(
+        alloc: Global,
+        old: Option<&node::Node>,
+        new: node::Node,
+    ) -> Result<Prepared, AllocError>
+        ensures { IfOk result (λ x. (tree : Option Node) (next : Node) → option_copied old.entry ≡ trimmed_if tree → new ≡ trimmed next → Prepares tree next x) }
+    {
+        let compared = compare_trees(alloc, old, &new)?;
+        let before = hosts(alloc, old)?;
+        let after = hosts(alloc, Some(&new))?;
+        Ok(Prepared {
+            ops: host_ops(alloc, &before, &after, &compared)?,
+            layout: layout_log(alloc, &compared)?,
+            passive: passive_effects(alloc, &compared)?,
+            tree: new,
+        })
+    }
+
+    /// Writes what the commit does: its own line with its number, from 1, its lanes and its counts, then the operations and
+    /// the layout effects. A commit with the lane Sync runs its passive effects itself, and they come behind.
+    ///
+    /// # Errors
+    ///
+    /// Want of memory alone; the report is then as it was.
+    pub fn write(
+        &self,
+        log: &mut Report,
+        number: u64,
+        lanes: Lanes,
+        units: u64,
+        bodies: u64,
+    ) -> Result<(), AllocError>
+        ensures written { (old : Option Node) (new : Node) → Prepares old new self.now → OnOk result (log.new ≡ with_lines log.old (lines_of number (lanes_where (has lanes)) (record { units = units; bodies = bodies }) old new)) }
+        ensures unchanged { OnErr result (log.new ≡ log.old) }
+    {
+        let len = log.len();
+        let written = self.write_all(log, number, lanes, units, bodies);
+        cut_back(log, len, written)
+    }
+
+    // The same, without taking back what was written where memory is wanting.
+    fn write_all(
+        &self,
+        log: &mut Report,
+        number: u64,
+        lanes: Lanes,
+        units: u64,
+        bodies: u64,
+    ) -> Result<(), AllocError>
+        ensures written { (old : Option Node) (new : Node) → Prepares old new self.now → OnOk result (log.new ≡ with_lines log.old (lines_of number (lanes_where (has lanes)) (record { units = units; bodies = bodies }) old new)) }
+        ensures goes_on { GoesOn log.old log.new }
+    {
+        self.write_own(log, number, lanes, units, bodies)?;
+        self.write_sync(log, lanes)
+    }
+
+    // Its line, the operations, and the layout effects.
+    fn write_own(
+        &self,
+        log: &mut Report,
+        number: u64,
+        lanes: Lanes,
+        units: u64,
+        bodies: u64,
+    ) -> Result<(), AllocError>
+        ensures written { (new : Node) → OnOk result (log.new ≡ with_lines log.old (committed number (lanes_where (has lanes)) (record { units = units; bodies = bodies }) new ∷ (map operated self.now.ops ++ map logged self.now.layout))) }
+        ensures goes_on { GoesOn log.old log.new }
+    {
+        log.commit_line(number, lanes, units, bodies)?;
+        add_ops(log, &self.ops)?;
+        add_effects(log, &self.layout)
+    }
+
+    // The passive effects, where the commit runs them itself.
+    fn write_sync(&self, log: &mut Report, lanes: Lanes) -> Result<(), AllocError>
+        ensures written { OnOk result (log.new ≡ with_lines log.old (sync_lines lanes self.now.passive)) }
+        ensures goes_on { GoesOn log.old log.new }
+    {
+        if lanes.has(Lane::Sync) {
+            return add_passive(log, &self.passive);
+        }
+        Ok(())
+    }
+}

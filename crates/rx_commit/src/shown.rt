@@ -1,0 +1,186 @@
+// What is shown.
+ghost use Rattle.std.specs.Prelude.{◌≡◌, ◌≤◌, length, Option, Some, None, IfOk, OnErr, OnOk};
+ghost use Rattle.std.specs.Option.{option_copied};
+ghost use Rattle.rx_elem.specs.Trees.{Node};
+ghost use Rattle.rx_elem.specs.Compare.{compare_trees};
+ghost use Rattle.rx_effect.specs.EffectLog as effects;
+ghost use Rattle.rx_effect.specs.EffectLog.{no_passive, passive_of};
+ghost use Rattle.rx_forest.specs.Forests.{CanBeReplayed, Replays, forest_of};
+ghost use Rattle.rx_forest.specs.Hosts.{hosts};
+ghost use Rattle.rx_host.specs.Kept.{forest_kept};
+ghost use Rattle.rx_lines.specs.Lines.{tree_lines};
+ghost use Rattle.rx_meaning.specs.Outcome.{outcome};
+ghost use Rattle.rx_report.specs.TreeOrder.{AreInTreeOrder};
+ghost use Rattle.end_laws.specs.Trimmed.{trimmed, trimmed_if};
+ghost use Rattle.host_laws.specs.Commits.{IsCommit, TextsAreLeaves};
+ghost use Rattle.rx_commit.specs.Shown.{CanCommit, Prepares, Shows, outcome_as};
+ghost use Rattle.rx_commit.specs.Written.{passive_lines, with_lines};
+
+use crate::prepared::Prepared;
+use crate::writing::{add_passive, cut_back};
+use rx_base::Awaits;
+use rx_compare::{Outcome, compare_trees, outcome_of};
+use rx_forest::HostOp;
+use rx_host::HostTree;
+use rx_lane::Lanes;
+use rx_log::Passive;
+use rx_node as node;
+use rx_report::Report;
+use std::alloc::{AllocError, Global};
+use std::marker::Model;
+
+/// What is shown: the committed tree, its hosts, and the passive effects that are pending (react.dev, Render and Commit).
+/// Contracts see the tree as plain data, the hosts as a forest with room for more, and the effects as lists.
+#[derive(Drop)]
+pub struct Shown {
+    tree: Option<node::Node>,
+    hosts: HostTree,
+    passive: Passive,
+}
+
+impl Model for Shown {
+    ghost use Rattle.rx_commit.specs.Shown as shown;
+    ghost use Rattle.rx_log.specs.PassiveView.{passive_seen};
+
+    ghost Value = { shown.Shown };
+
+    ghost use Rattle.std.specs.Coded.{codes};
+    ghost use Rattle.rx_node.specs.NodeCode.{node_code};
+
+    ghost coded = { Prim.hlevel (codes, node_code) };
+
+    ghost view = { λ s. record { tree = s.tree; hosts = s.hosts; passive = passive_seen s.passive } };
+}
+
+// Does what these operations say, one after another, for which there is room.
+fn apply_all(hosts: &mut HostTree, ops: Vec<HostOp>)
+    requires room { length ops.items ≤ hosts.old.spare }
+    requires can_be_made { CanBeReplayed (forest_kept hosts.old) ops.items }
+    ensures { Replays (forest_kept hosts.old) ops.items (forest_kept hosts.new) }
+{
+    'ops: for op in ops {
+        hosts.apply(op);
+    }
+}
+
+impl Shown {
+    /// Nothing: no tree, and no effect is pending.
+    pub fn new(alloc: Global) -> Shown
+        ensures { Shows None no_passive result }
+    {
+        Shown {
+            tree: None,
+            hosts: HostTree::new(alloc),
+            passive: Passive {
+                destroyed: Vec::new(alloc),
+                created: Vec::new(alloc),
+            },
+        }
+    }
+
+    /// The committed tree, without the vacant places at the ends of its lists.
+    pub fn tree(&self) -> Option<&node::Node>
+        ensures { option_copied result ≡ self.now.tree }
+    {
+        self.tree.as_ref()
+    }
+
+    /// What becomes of a finished render with these lanes: `None` where it is committed, and else the resources that it waits
+    /// for. Only where all lanes are transitions may it be deferred, and only there are the trees compared.
+    ///
+    /// # Errors
+    ///
+    /// Want of memory alone.
+    pub fn outcome(
+        &self,
+        alloc: Global,
+        new: &node::Node,
+        lanes: Lanes,
+    ) -> Result<Option<Awaits>, AllocError>
+        ensures { IfOk result (λ awaits. (tree : Option Node) (next : Node) → self.now.tree ≡ trimmed_if tree → new.now ≡ trimmed next → outcome_as next awaits ≡ outcome lanes tree next) }
+    {
+        if !lanes.only_transitions() {
+            return Ok(None);
+        }
+        let compared = compare_trees(alloc, self.tree(), new)?;
+        match outcome_of(lanes, &compared) {
+            Outcome::Commit => Ok(None),
+            Outcome::Defer(awaits) => Ok(Some(awaits)),
+        }
+    }
+
+    /// Prepares the commit of a tree: it takes all the memory that the commit needs, and shows nothing of it.
+    ///
+    /// # Errors
+    ///
+    /// Want of memory alone.
+    pub fn prepare(&mut self, alloc: Global, new: node::Node) -> Result<Prepared, AllocError>
+        ensures prepares { IfOk result (λ x. (tree : Option Node) (next : Node) → self.old.tree ≡ trimmed_if tree → new ≡ trimmed next → Prepares tree next x) }
+        ensures ready { IfOk result (λ x. (tree : Option Node) (passive : effects.Passive) (next : Node) → Shows tree passive self.old → new ≡ trimmed next → IsCommit tree next → TextsAreLeaves next → CanCommit self.new x) }
+        ensures tree { self.new.tree ≡ self.old.tree }
+        ensures hosts { forest_kept self.new.hosts ≡ forest_kept self.old.hosts }
+        ensures passive { self.new.passive ≡ self.old.passive }
+        ensures same { (tree : Option Node) (passive : effects.Passive) → Shows tree passive self.old → Shows tree passive self.new }
+    {
+        let prepared = Prepared::new(alloc, self.tree(), new)?;
+        self.hosts.reserve(prepared.ops.len() as u64)?;
+        Ok(prepared)
+    }
+
+    /// Commits: what is shown is that of the new tree, and its passive effects are pending. It takes no memory and cannot fail.
+    pub fn commit(&mut self, prepared: Prepared)
+        requires { CanCommit self.old prepared }
+        ensures { (tree : Option Node) (next : Node) → forest_kept self.old.hosts ≡ forest_of (hosts tree) → IsCommit tree next → Prepares tree next prepared → Shows (Some next) (passive_of (compare_trees tree next)) self.new }
+    {
+        apply_all(&mut self.hosts, prepared.ops);
+        self.tree = Some(prepared.tree);
+        self.passive = prepared.passive;
+    }
+
+    /// Runs the pending passive effects: they are written, destructions before creations (react.dev, useEffect), and none is
+    /// pending any more.
+    ///
+    /// # Errors
+    ///
+    /// Want of memory alone; the report and what is shown are then as they were.
+    pub fn flush_passive(&mut self, log: &mut Report) -> Result<(), AllocError>
+        ensures written { OnOk result (log.new ≡ with_lines log.old (passive_lines self.old.passive)) }
+        ensures ended { OnOk result (self.new ≡ record self.old { passive = no_passive }) }
+        ensures unchanged { OnErr result (log.new ≡ log.old) }
+        ensures same { OnErr result (self.new ≡ self.old) }
+    {
+        self.write_passive(log)?;
+        self.end_passive();
+        Ok(())
+    }
+
+    // Writes the pending passive effects.
+    fn write_passive(&self, log: &mut Report) -> Result<(), AllocError>
+        ensures written { OnOk result (log.new ≡ with_lines log.old (passive_lines self.now.passive)) }
+        ensures unchanged { OnErr result (log.new ≡ log.old) }
+    {
+        let len = log.len();
+        let written = add_passive(log, &self.passive);
+        cut_back(log, len, written)
+    }
+
+    /// No passive effect is pending any more: they have run.
+    pub fn end_passive(&mut self)
+        ensures { self.new ≡ record self.old { passive = no_passive } }
+    {
+        self.passive.destroyed.clear();
+        self.passive.created.clear();
+    }
+
+    /// Writes the tree of hosts.
+    ///
+    /// # Errors
+    ///
+    /// Want of memory alone; the report is then as it was.
+    pub fn write_tree(&self, log: &mut Report) -> Result<(), AllocError>
+        ensures written { (tree : Option Node) (passive : effects.Passive) → Shows tree passive self.now → AreInTreeOrder (hosts tree) → OnOk result (log.new ≡ with_lines log.old (tree_lines (hosts tree))) }
+        ensures unchanged { OnErr result (log.new ≡ log.old) }
+    {
+        log.tree_lines(&self.hosts)
+    }
+}

@@ -1,0 +1,58 @@
+// Lines behind those that a report has.
+ghost use Rattle.std.specs.Prelude.{◌≡◌, take, OnErr, OnOk, map};
+ghost use Rattle.rx_lines.specs.Lines.{logged, operated};
+ghost use Rattle.rx_log.specs.PassiveView.{passive_seen};
+ghost use Rattle.rx_commit.specs.Written.{GoesOn, passive_lines, with_lines};
+
+use rx_effect::LogLine;
+use rx_forest::HostOp;
+use rx_log::Passive;
+use rx_report::Report;
+use std::alloc::AllocError;
+
+// The operations, one after another.
+pub(crate) fn add_ops(log: &mut Report, ops: &[HostOp]) -> Result<(), AllocError>
+    ensures written { OnOk result (log.new ≡ with_lines log.old (map operated ops.now)) }
+    ensures goes_on { GoesOn log.old log.new }
+{
+    'ops: for op in ops {
+        log.op_line(op)?;
+    }
+    Ok(())
+}
+
+// The effects, one after another.
+pub(crate) fn add_effects(log: &mut Report, lines: &[LogLine]) -> Result<(), AllocError>
+    ensures written { OnOk result (log.new ≡ with_lines log.old (map logged lines.now)) }
+    ensures goes_on { GoesOn log.old log.new }
+{
+    'effects: for line in lines {
+        log.log_line(line)?;
+    }
+    Ok(())
+}
+
+// Passive effects that run.
+pub(crate) fn add_passive(log: &mut Report, passive: &Passive) -> Result<(), AllocError>
+    ensures written { OnOk result (log.new ≡ with_lines log.old (passive_lines (passive_seen passive.now))) }
+    ensures goes_on { GoesOn log.old log.new }
+{
+    add_effects(log, &passive.destroyed)?;
+    add_effects(log, &passive.created)
+}
+
+// Takes back what was written behind so many bytes, where memory was wanting for the rest of it.
+pub(crate) fn cut_back(
+    log: &mut Report,
+    len: u64,
+    written: Result<(), AllocError>,
+) -> Result<(), AllocError>
+    ensures same { result ≡ written }
+    ensures kept { OnOk result (log.new ≡ log.old) }
+    ensures cut { OnErr result (log.new ≡ record { options = log.old.options; bytes = take len log.old.bytes }) }
+{
+    if written.is_err() {
+        log.cut(len);
+    }
+    written
+}

@@ -1,0 +1,17 @@
+-- What is read of a hook that was found by its name.
+use Rattle.std.specs.Prelude.{ℕ, List, [], Option, Some, None}
+use Rattle.rx_base.specs.Values.{Name}
+use Rattle.rx_rules.specs.Names.{place_among}
+use Rattle.rx_check.specs.declared.hook.HookKind.{HookKind}
+use Rattle.rx_check.specs.declared.hook.HookKind.TheVariants as kind
+
+-- the number of a hook among those of its component
+abbrev pub number_in : HookKind → ℕ
+number_in (kind.State n) = n
+number_in (kind.Reducer n f) = n
+
+-- the function of a hook that was found; where it has none, that of no name
+abbrev pub function_in : (functions : List Name) → Option HookKind → ℕ
+function_in fs None = place_among fs []
+function_in fs (Some (kind.State n)) = place_among fs []
+function_in fs (Some (kind.Reducer n f)) = f

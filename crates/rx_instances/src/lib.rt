@@ -1,0 +1,13 @@
+//! The instances of a committed tree: the one that a path leads to, what a dispatch does to its hook, and the lines that show
+//! the hooks of all.
+#![tactic(auto)]
+
+mod dispatch;
+mod find;
+mod names;
+mod show;
+
+pub use dispatch::{dispatch_hook, dispatch_op, dispatch_path, dispatch_word};
+pub use find::Instances;
+pub use names::hook_place;
+pub use show::show_hooks;

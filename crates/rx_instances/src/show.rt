@@ -1,0 +1,106 @@
+// The hooks of all instances, with their committed values.
+ghost use Rattle.std.specs.Prelude.{◌≡◌, ◌<◌, ◌^◌, ◌++◌, ◌∷◌, OnOk, OnErr, IfOk, length, map, take};
+ghost use Rattle.std.specs.Option.{option_copied};
+ghost use Rattle.rx_elem.specs.Spots.{mounted};
+ghost use Rattle.rx_hook_store.specs.Store.{kept_hooks};
+ghost use Rattle.rx_lines.specs.Lines as report;
+ghost use Rattle.rx_model.specs.HooksOf.{KeepsAllHooks};
+ghost use Rattle.rx_model.specs.State.{State, committed_values, state_line, state_lines};
+ghost use Rattle.rx_instances.specs.Shown.{GoesOn, KeepsOne, KeepsThese, with_lines};
+
+use crate::names::{hooks_at, name_of};
+use rx_base::{Int, Name};
+use rx_check::Checked;
+use rx_hook_store::{HookStore, hooks_are_there};
+use rx_node::Node;
+use rx_report::Report;
+use rx_spots::{Mounted, mounted};
+use std::alloc::{AllocError, Global};
+
+// The committed values of the first hooks of an instance: so many, or all where there are fewer.
+fn values_of(
+    alloc: Global,
+    checked: &Checked,
+    hooks: &HookStore,
+    instance: &Mounted,
+    most: u32,
+) -> Result<Vec<Int>, AllocError>
+    requires { (s : State) × KeepsOne checked.now s (kept_hooks hooks.now) instance.now }
+    ensures { IfOk result (λ values. (s : State) → KeepsOne checked.now s (kept_hooks hooks.now) instance.now
+        → values.items ≡ take most (committed_values checked.now s.journal instance.now)) }
+{
+    hooks_are_there();
+    let count = instance.initials().as_slice().len().min(most as usize);
+    let mut values = Vec::new(alloc);
+    'reading: for place in 0..count {
+        values.push(hooks.committed(instance.number(), place as u32))?;
+    }
+    Ok(values)
+}
+
+// The line of an instance. An `Err` leaves the report as it was.
+fn show_one(
+    alloc: Global,
+    log: &mut Report,
+    checked: &Checked,
+    hooks: &HookStore,
+    instance: &Mounted,
+) -> Result<(), AllocError>
+    requires { (s : State) × KeepsOne checked.now s (kept_hooks hooks.now) instance.now }
+    ensures ok { OnOk result ((s : State) → KeepsOne checked.now s (kept_hooks hooks.now) instance.now
+        → log.new ≡ report.with_line log.old (state_line checked.now s.journal instance.now)) }
+    ensures err { OnErr result (log.new ≡ log.old) }
+{
+    let name = Name::new(alloc, name_of(checked, instance.component()))?;
+    let names = hooks_at(alloc, checked, instance.component())?;
+    let values = values_of(alloc, checked, hooks, instance, names.len() as u32)?;
+    let hidden = !instance.is_visible();
+    log.state_line(instance.number(), &name, &names, &values, hidden)
+}
+
+// The lines of all instances. An `Err` leaves some of them.
+fn show_these(
+    alloc: Global,
+    log: &mut Report,
+    checked: &Checked,
+    hooks: &HookStore,
+    all: &[Mounted],
+) -> Result<(), AllocError>
+    requires { (s : State) × KeepsThese checked.now s (kept_hooks hooks.now) all.now }
+    ensures ok { OnOk result ((s : State) → KeepsThese checked.now s (kept_hooks hooks.now) all.now
+        → log.new ≡ with_lines log.old (report.state_head ∷ map (state_line checked.now s.journal) all.now)) }
+    ensures err { OnErr result (GoesOn log.old log.new) }
+{
+    log.state_head()?;
+    'showing: for instance in all {
+        show_one(alloc, log, checked, hooks, instance)?;
+    }
+    Ok(())
+}
+
+/// The lines that show the hooks of all instances of a committed tree, in tree order, each with its committed value (react.dev,
+/// State as a Snapshot). An `Err` leaves the report as it was.
+///
+/// # Errors
+///
+/// Want of memory alone.
+pub fn show_hooks(
+    alloc: Global,
+    log: &mut Report,
+    checked: &Checked,
+    tree: Option<&Node>,
+    hooks: &HookStore,
+) -> Result<(), AllocError>
+    requires { (s : State) × ((mounted (option_copied tree) ≡ mounted s.tree) × KeepsAllHooks checked.now s (kept_hooks hooks.now)) }
+    ensures ok { OnOk result ((s : State) → mounted (option_copied tree.entry) ≡ mounted s.tree → KeepsAllHooks checked.now s (kept_hooks hooks.now)
+        → log.new ≡ record log.old { bytes = log.old.bytes ++ report.report_bytes log.old.options (state_lines checked.now s) }) }
+    ensures err { OnErr result (log.new ≡ log.old) }
+{
+    let len = log.len();
+    let all = mounted(alloc, tree)?;
+    let shown = show_these(alloc, log, checked, hooks, &all);
+    if shown.is_err() {
+        log.cut(len);
+    }
+    shown
+}

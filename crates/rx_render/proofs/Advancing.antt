@@ -1,0 +1,159 @@
+-- Where a unit of each kind comes to.
+use Rattle.std.specs.Prelude.{◌≡◌, ℕ, zero, suc, ◌+◌, ◌≤◌, false, List, [], filter, nat_eq, ℤ, Option, Some, None, Result, Ok, Err, IfOk, OnOk, OnErr, refl}
+use Rattle.std.specs.List.{range_with_len}
+use Rattle.std.proofs.Common.{sym, ap, ◌∙◌, subst, arith, add-one}
+use Rattle.rx_base.specs.Awaits.{Awaits, one, nothing, awaits_where}
+use Rattle.rx_ctx.specs.Contexts.{Stack}
+use Rattle.rx_elem.specs.Elements.{Element}
+use Rattle.rx_elem.specs.ElementView.{element_seen}
+use Rattle.rx_elem.specs.declared.element.ElementKind.{ElementKind}
+use Rattle.rx_elem.specs.declared.element.ElementKind.TheVariants as kind
+use Rattle.rx_elem.specs.Trees.{Node, Instance}
+use Rattle.rx_hooks.specs.declared.hook.Hook.{Hook}
+use Rattle.rx_lists.specs.Shapes as shapes
+use Rattle.rx_links.specs.Drafts.{Draft, Trees, taken}
+use Rattle.rx_links.specs.Readers.{made_value_of}
+use Rattle.rx_meaning.specs.Fresh.{Sight, Contexts, old_instance}
+use Rattle.rx_meaning.specs.Cursor.{Open, Frame, Cursor, at_place, at_end, ended, unit, unwind, HasLevel}
+use Rattle.rx_meaning.specs.Counts.{each_body, next_counts, one_if_component}
+use Rattle.rx_fiber.specs.Fibers.{Fiber}
+use Rattle.rx_fiber.specs.Standing.{StandsAt}
+use Rattle.rx_fiber.specs.Unwound.{IsWithin, IsLeftAt}
+use Rattle.rx_complete.specs.Ends.{IsOpenBelow, lies, fiber_in, LeadsTo, to_sibling, to_parent, to_none}
+use Rattle.rx_complete.specs.declared.completing.Next.{Next}
+use Rattle.rx_begin.specs.Beginning.{IsAtPlace, stands, IsPlace, IsEnd, BeginsPlace}
+use Rattle.rx_begin.specs.Scenes.{IsSceneOf, KeepsHooks, GivesHooks}
+use Rattle.rx_begin.specs.declared.scene.Scene.{Scene}
+use Rattle.rx_begin.specs.Opening.{HasOpenedAs, IsLeft, left}
+use Rattle.rx_begin.specs.declared.node.Begun.TheVariants.{Child, Leaf, Suspended}
+use Rattle.rx_begin.specs.declared.opening.Opened.{Opened}
+use Rattle.rx_begin.specs.declared.opening.Opened.TheVariants.{First, Empty}
+use Rattle.rx_render.specs.declared.at.At.{At}
+use Rattle.rx_render.specs.declared.at.At.TheVariants.{Begins, Completes}
+use Rattle.rx_render.specs.Rendering.{ComesTo, to_place, to_end, to_tree}
+use Rattle.rx_render.specs.Advancing.{bodies_next, at_after, at_opened, CanBegin, Advances}
+
+-- A wait for a number that is no resource's
+
+none_are : (r a n : ℕ) → a + n ≤ r → filter (nat_eq r) (range_with_len a n) ≡ []
+none_are r a zero h = refl
+none_are r a (suc n) h =
+    let e : nat_eq r a ≡ false = grind (arith, h) in
+    rw (e, add-one) (none_are r (suc a) n (omega (arith, h)))
+
+-- it is a wait for nothing
+pub one_beyond : (r : ℕ) → 64 ≤ r → nothing ≡ one r
+unfolding awaits_where
+one_beyond r h = sym (none_are r 0 64 (omega (arith, h)))
+
+-- Where a fiber is
+
+pub place_comes : (t : Trees Fiber) (st : Stack) (id : ℕ) (c : Cursor) → StandsAt t st (Some id) c → IsPlace c → ComesTo t st (Begins id) c
+place_comes t st id (at_place levels fs cs e old) h p = to_place h
+place_comes t st id (at_end levels fs o done) h p = absurd p
+place_comes t st id (ended x) h p = absurd p
+
+pub end_comes : (t : Trees Fiber) (st : Stack) (id : ℕ) (c : Cursor) → StandsAt t st (Some id) c → IsEnd c → ComesTo t st (Completes id) c
+end_comes t st id (at_place levels fs cs e old) h p = absurd p
+end_comes t st id (at_end levels fs o done) h p = to_end h
+end_comes t st id (ended x) h p = absurd p
+
+-- After a node that is completed
+
+pub leads_comes : (t : Trees Fiber) (st : Stack) (r : Next) (c : Cursor) → LeadsTo r c → StandsAt t st (fiber_in r) c → ComesTo t st (at_after r) c
+leads_comes t st _ _ to_sibling h = to_place h
+leads_comes t st _ _ to_parent h = to_end h
+leads_comes t st _ _ to_none h = to_tree h
+
+-- After a fallback that is opened
+
+pub opened_comes : (t : Trees Fiber) (st : Stack) (o : Opened) (c : Cursor) → HasOpenedAs t st c o → ComesTo t st (at_opened o) c
+opened_comes t st (First id) c h = place_comes t st id c h.0 h.1
+opened_comes t st (Empty id) c h = end_comes t st id c h.0 h.1
+
+-- the wait has stopped at the boundary
+pub stopped : (t new : Trees Fiber) (st st' : Stack) (p q : ℕ) (a b : Awaits) → IsOpenBelow t st p
+    → ((levels : ℕ) (fs : List Frame) → IsWithin t st p fs → IsLeftAt new st' q (taken shapes.none) b (unwind levels fs a)) → IsLeft new q b
+stopped t new st st' p q a b (lies {fs = fs} w) f = left (f 0 fs w)
+
+-- After a place that begins
+
+module _ (s : Sight) (kept : ℕ → Option (List Hook)) (t : Trees Fiber) (st : Stack) (new : Trees Fiber) (st' : Stack) (id : ℕ) where
+  pub child_advances : (child : ℕ) → BeginsPlace s kept t st new st' id (Child child) → Advances s kept t st (Begins id) new st' (Begins child)
+  child_advances child begins _ (to_place {levels = zero} h) level gives = absurd (omega (arith, level))
+  child_advances child begins _ (to_place {levels = suc n} {fs = fs} {cs = cs} {e = e} {old = old} h) level gives =
+      let b = begins n fs cs e old h gives in place_comes new st' child _ b.0 b.1
+
+  pub leaf_advances : BeginsPlace s kept t st new st' id Leaf → Advances s kept t st (Begins id) new st' (Completes id)
+  leaf_advances begins _ (to_place {levels = zero} h) level gives = absurd (omega (arith, level))
+  leaf_advances begins _ (to_place {levels = suc n} {fs = fs} {cs = cs} {e = e} {old = old} h) level gives =
+      let b = begins n fs cs e old h gives in end_comes new st' id _ b.0 b.1
+
+  pub waits_advances : (r : ℕ) (last : Trees Fiber) (st'' : Stack) (a : At) → BeginsPlace s kept t st new st' id (Suspended r)
+      → ((levels : ℕ) (fs : List Frame) → IsWithin new st' id fs → ComesTo last st'' a (unwind levels fs (one r))) → Advances s kept t st (Begins id) last st'' a
+  waits_advances r last st'' a begins comes _ (to_place {levels = zero} h) level gives = absurd (omega (arith, level))
+  waits_advances r last st'' a begins comes _ (to_place {levels = suc n} {fs = fs} {cs = cs} {e = e} {old = old} h) level gives =
+      let b = begins n fs cs e old h gives in subst (ComesTo last st'' a) (sym b.1) (comes (suc n) fs b.4)
+
+-- hooks that give values are kept
+keeps_given : (s : Sight) (kept : ℕ → Option (List Hook)) (old : Option Instance) → GivesHooks s kept old → KeepsHooks kept old
+keeps_given s kept None gives n e = absurd (let f : ⊥ = cc in f)
+keeps_given s kept (Some i) gives n e = let g = gives i n refl e in rw g.kept_is refl
+
+-- a place of which the next unit begins can be begun
+pub can_begin : (scene : Scene) (kept : ℕ → Option (List Hook)) (t : Trees Fiber) (st : Stack) (id : ℕ) → CanBegin scene kept t st id → IsAtPlace scene.checked.now kept t st id
+can_begin scene kept t st id can = stands can.stands can.there can.drawn (keeps_given can.sight kept (old_instance can.old) can.gives)
+
+-- where a body waits, its fiber lies below open nodes
+pub waits_below : (scene : Scene) (kept : ℕ → Option (List Hook)) (t : Trees Fiber) (st : Stack) (new : Trees Fiber) (st' : Stack) (id r : ℕ) → CanBegin scene kept t st id
+    → ((s : Sight) → IsSceneOf scene s → BeginsPlace s kept t st new st' id (Suspended r)) → IsOpenBelow new st' id
+waits_below scene kept t st new st' id r can begins =
+    let b = begins can.sight can.sees can.levels can.frames can.contexts_are can.element can.old can.stands can.gives in lies b.4
+
+-- the bodies of a unit that begins a place
+pub begins_ticks : (s : Sight) (t : Trees Fiber) (st : Stack) (id before after : ℕ)
+    → ((n : ℕ) (fs : List Frame) (cs : Contexts) (e : Element) (old : Option Node) → StandsAt t st (Some id) (at_place (suc n) fs cs e old) → after ≡ before + next_counts each_body s (at_place (suc n) fs cs e old))
+    → (c : Cursor) → ComesTo t st (Begins id) c → HasLevel c → after ≡ before + next_counts each_body s c
+begins_ticks s t st id before after f _ (to_place {levels = zero} h) level = absurd (omega (arith, level))
+begins_ticks s t st id before after f _ (to_place {levels = suc n} {fs = fs} {cs = cs} {e = e} {old = old} h) level = f n fs cs e old h
+
+-- a node is completed
+pub end_advances : (s : Sight) (kept : ℕ → Option (List Hook)) (t : Trees Fiber) (st : Stack) (new : Trees Fiber) (st' : Stack) (id : ℕ) (a : At)
+    → ((levels : ℕ) (fs : List Frame) (o : Open) (done : List (Option Node)) → StandsAt t st (Some id) (at_end levels fs o done) → ComesTo new st' a (unit s (at_end levels fs o done)))
+    → Advances s kept t st (Completes id) new st' a
+end_advances s kept t st new st' id a f _ (to_end {levels = levels} {fs = fs} {o = o} {done = done} h) level gives = f levels fs o done h
+
+pub end_ticks : (s : Sight) (t : Trees Fiber) (st : Stack) (id steps : ℕ) (c : Cursor) → ComesTo t st (Completes id) c → steps ≡ steps + next_counts each_body s c
+end_ticks s t st id steps _ (to_end h) = omega arith
+
+-- How many bodies, by what is in an element
+
+-- an element of no component has no body
+pub no_component : (k : ElementKind) → ((a : ℕ) (b : Option ℤ) (xs : List ℤ) (es : _) → k ≡ kind.Comp a b xs es → ⊥) → 0 ≡ one_if_component (element_seen k)
+no_component kind.Null n = refl
+no_component (kind.Text t) n = refl
+no_component (kind.Host t k attrs es) n = refl
+no_component (kind.Comp a b xs es) n = absurd (n a b xs es refl)
+no_component (kind.List es) n = refl
+no_component (kind.Boundary k f es) n = refl
+no_component (kind.Provider a k x es) n = refl
+
+pub counts_is : (d : Draft Fiber) (at : At) (id : ℕ) (v : Fiber) (k : ElementKind) (n : ℕ) → at ≡ Begins id → Some v ≡ made_value_of d id → element_seen k ≡ v.element
+    → n ≡ one_if_component (element_seen k) → n ≡ bodies_next d at
+counts_is d at id v k n is value element count =
+    let b : bodies_next d (Begins id) ≡ one_if_component v.element = rw (← value) refl in
+    count ∙ (ap one_if_component element ∙ (sym b ∙ ap (bodies_next d) (sym is)))
+
+-- Results
+
+pub if_ok : {A E : Type 0} {P Q : A → Type 0} (r : Result A E) → ((a : A) → P a → Q a) → IfOk r P → IfOk r Q
+if_ok (Ok a) f h = f a h
+if_ok (Err e) f h = tt
+
+pub on_ok : {A E : Type 0} {P : Type 0} (r : Result A E) → P → OnOk r P
+on_ok (Ok a) h = h
+on_ok (Err e) h = tt
+
+pub on_err : {A E : Type 0} {P : Type 0} (r : Result A E) → P → OnErr r P
+on_err (Ok a) h = tt
+on_err (Err e) h = h

@@ -1,0 +1,450 @@
+-- A unit keeps a render in progress.
+use Rattle.std.specs.Prelude.{◌≡◌, ℕ, zero, suc, ◌+◌, ◌-◌, ◌<◌, ◌≤◌, true, false, List, [], ℤ, Option, Some, None, option_map, length, refl, ◌^◌}
+use Rattle.std.specs.Option.{option_map_or}
+use Rattle.std.proofs.Common.{sym, ap, ◌∙◌, subst, arith, add-one}
+use Rattle.rx_ast.specs.Syntax.{Program, Component, contexts}
+use Rattle.rx_rules.specs.Names.{component_at, prop_names}
+use Rattle.rx_check.specs.Checks.{unknowns}
+use Rattle.rx_loop.specs.Ends.{MatchUnit}
+use Rattle.rx_loop.specs.declared.work.Unit as work
+use Rattle.rx_ctx.specs.Contexts.{Stack, values_at}
+use Rattle.rx_elem.specs.Elements.{Element}
+use Rattle.rx_elem.specs.Elements as elements
+use Rattle.rx_elem.specs.Trees.{Node, node, mark_of, instance_in}
+use Rattle.rx_hooks.specs.declared.hook.Hook.{Hook}
+use Rattle.rx_lists.specs.Shapes as shapes
+use Rattle.rx_links.specs.Drafts.{Draft, taken, Trees, Makes}
+use Rattle.rx_links.specs.Readers.{made_value_of}
+use Rattle.rx_meaning.specs.Body.{Body, wait, ready, body_of}
+use Rattle.rx_meaning.specs.Fresh.{Sight, Contexts, inputs_at, old_instance, shape_of, shape_of_body}
+use Rattle.rx_meaning.specs.Cursor.{Open, Frame, Cursor, at_place, at_end, ended, is_null, unit, HasLevel}
+use Rattle.rx_meaning.specs.Cursor as cursors
+use Rattle.rx_meaning.specs.Counts.{each_body, next_counts, begins_as, one_if_component}
+use Rattle.rx_meaning.specs.Settled.{DoneBefore}
+use Rattle.rx_model.specs.State.{State, Progress}
+use Rattle.rx_model.specs.Committing.{sight_of}
+use Rattle.rx_model.specs.HooksOf.{KeepsAllHooks}
+use Rattle.rx_model.specs.Laws.{IsBounded}
+use Rattle.rx_model.specs.Turns.{unit_bound}
+use Rattle.rx_fiber.specs.Fibers.{Fiber}
+use Rattle.rx_fiber.specs.Reading.{IsTreeOf}
+use Rattle.rx_fiber.specs.Standing.{StandsAt, begins}
+use Rattle.rx_complete.specs.Ends.{ends}
+use Rattle.rx_complete.proofs.Completed.{KnowsPlaces}
+use Rattle.rx_hook_store.specs.Store.{Kept, kept_hooks}
+use Rattle.rx_hook_store.specs.Gives.{GivesValues}
+use Rattle.rx_hook_store.proofs.Stores.{each-keeps, keeps-give}
+use Rattle.render_laws.specs.InProgress.{InProgress}
+use Rattle.render_laws.specs.OldNodes.{CursorHas}
+use Rattle.render_laws.proofs.GoingLaws.{unit_holds}
+use Rattle.render_laws.proofs.LevelLaw.{fit_has_level}
+use Rattle.draw_laws.specs.Drawn.{IsDrawn}
+use Rattle.draw_laws.specs.Cursors.{CursorDrawn}
+use Rattle.rx_begin.specs.Scenes.{IsSceneOf, GivesHooks}
+use Rattle.rx_begin.specs.declared.scene.Scene.{Scene}
+use Rattle.rx_render.specs.declared.at.At.{At}
+use Rattle.rx_render.specs.declared.at.At.TheVariants.{Begins, Completes, Over}
+use Rattle.rx_render.specs.Mounting.{HasInstances}
+use Rattle.rx_render.specs.ContextLists.{CursorHasContexts}
+use Rattle.rx_render.specs.Rendering.{Rendering, IfLeft, units_left, left_of, ComesTo, to_place, to_end, to_tree, to_wait}
+use Rattle.rx_render.specs.Renders.{Sees, GivesAll, HasCome, Renders, IsUnderWay, IsRendering}
+use Rattle.rx_render.specs.Turning.{GoesOn, BreaksOff, GivesUp}
+use Rattle.rx_render.specs.LastUnit.{unit_before, is_over}
+use Rattle.rx_render.specs.Advancing.{IsMadeAt, bodies_next, IsReadyAt, GivesAt, Advances}
+use Rattle.rx_render.proofs.Contexts.{unit_sees}
+use Rattle.rx_render.proofs.Instances.{unit_instances}
+use Rattle.rx_render.proofs.Ending.{come_bounded}
+
+-- what a cursor is drawn by after a unit
+abbrev pub DrawsUnit : Type 0
+DrawsUnit = (s : Sight) (c : Cursor) → unknowns s.program ≡ [] → CursorDrawn s.program c → CursorDrawn s.program (unit s c)
+
+-- the element of a place is drawn
+abbrev pub DrawsPlace : Type 0
+DrawsPlace = (p : Program) (n : ℕ) (fs : List Frame) (cs : Contexts) (e : Element) (o : Option Node) → CursorDrawn p (at_place n fs cs e o) → IsDrawn p e
+
+-- Where a unit is left
+
+pub is_left : (at : At) (bound units : ℕ) → 0 < units_left at bound units → {A : Type 0} → IfLeft at A → A
+is_left (Begins id) bound units h a = a
+is_left (Completes id) bound units h a = a
+is_left Over bound units h a = absurd (omega (arith, h))
+
+left_busy : (t : Trees Fiber) (st : Stack) (at : At) (c : Cursor) (bound units : ℕ) → ComesTo t st at c → 0 < units_left at bound units → cursors.is_over c ≡ false
+left_busy t st _ _ bound units (to_place h) l = refl
+left_busy t st _ _ bound units (to_end h) l = refl
+left_busy t st _ _ bound units (to_tree h) l = absurd (omega (arith, l))
+left_busy t st _ _ bound units to_wait l = absurd (omega (arith, l))
+
+-- The bodies of a unit
+
+body_counts : (cs : Contexts) (e : Element) (c : ℕ) (old : Option Node) (b : Body) → begins_as each_body cs e old (shape_of_body cs c old b) ≡ one_if_component e
+body_counts cs e c old (wait r) = refl
+body_counts cs e c old (ready es effects initials reads) = refl
+
+place_counts : (s : Sight) (cs : Contexts) (e : Element) (old : Option Node) → IsDrawn s.program e → begins_as each_body cs e old (shape_of s cs e old) ≡ one_if_component e
+place_counts s cs elements.null old d = refl
+place_counts s cs (elements.text t) old d = refl
+place_counts s cs (elements.host name key attrs es) old d = refl
+place_counts s cs (elements.comp c key props given) old d = go (component_at s.program c) refl d.0
+  where
+    go : (x : Option Component) → component_at s.program c ≡ x → option_map (λ y. length (prop_names y)) x ≡ Some (length props)
+        → begins_as each_body cs (elements.comp c key props given) old (shape_of s cs (elements.comp c key props given) old) ≡ 1
+    go None e h = absurd (let f : ⊥ = cc in f)
+    go (Some y) e h = rw e (body_counts cs (elements.comp c key props given) c old (body_of s.program y (inputs_at s cs props given (old_instance old))))
+place_counts s cs (elements.list es) old d = refl
+place_counts s cs (elements.boundary key f es) old d = refl
+place_counts s cs (elements.provider c key x es) old d = refl
+
+-- the value of the fiber whose place begins
+begins_value : (t : Trees Fiber) (st : Stack) (id levels : ℕ) (fs : List Frame) (cs : Contexts) (e : Element) (old : Option Node) → KnowsPlaces t
+    → StandsAt t st (Some id) (at_place levels fs cs e old) → (v : Fiber) × (made_value_of t.draft id ≡ Some v) × (v.element ≡ e) × Makes t.draft id
+begins_value t st id levels fs cs e old knows (begins {v = v} {o = o} {rs = rs} {k = k} here waits was around values stack) =
+    let at = knows k id v o _ rs here in (v, (let l = at.list in rw l refl), waits.element, at.makes)
+
+pub made_at : (t : Trees Fiber) (st : Stack) (at : At) (c : Cursor) → KnowsPlaces t → ComesTo t st at c → IsMadeAt t.draft at
+made_at t st _ _ knows (to_place {id = id} {levels = n} {fs = fs} {cs = cs} {e = e} {old = old} h) = (begins_value t st id n fs cs e old knows h).3
+made_at t st _ _ knows (to_end h) = tt
+made_at t st _ _ knows (to_tree h) = tt
+made_at t st _ _ knows to_wait = tt
+
+counts_next : (s : Sight) (t : Trees Fiber) (st : Stack) (at : At) (c : Cursor) → KnowsPlaces t → DrawsPlace → CursorDrawn s.program c → HasLevel c → ComesTo t st at c
+    → bodies_next t.draft at ≡ next_counts each_body s c
+counts_next s t st _ _ knows draws drawn level (to_place {levels = zero} h) = absurd (omega (arith, level))
+counts_next s t st _ _ knows draws drawn level (to_place {id = id} {levels = suc n} {fs = fs} {cs = cs} {e = e} {old = old} h) =
+    let (v, value, element, makes) = begins_value t st id (suc n) fs cs e old knows h in
+    rw value (ap one_if_component element ∙ sym (place_counts s cs e old (draws s.program (suc n) fs cs e old drawn)))
+counts_next s t st _ _ knows draws drawn level (to_end h) = refl
+counts_next s t st _ _ knows draws drawn level (to_tree h) = refl
+counts_next s t st _ _ knows draws drawn level to_wait = refl
+
+-- The hooks of old instances
+
+gives_node : (s : Sight) (tree : Option Node) (kept : ℕ → Option (List Hook)) → GivesAll s tree kept → (x : Node) → HasInstances tree x → GivesHooks s kept (instance_in (mark_of x))
+gives_node s tree kept gives (node e m ns fs) h i n is number =
+    let w = h.0 i n is number in
+    subst (λ k. GivesValues s kept k i.initials) w.is_numbered (subst (λ xs. GivesValues s kept w.instance.number xs) w.is_initially (gives w.place w.instance w.there))
+
+gives_at : (s : Sight) (tree : Option Node) (kept : ℕ → Option (List Hook)) → GivesAll s tree kept → (c : Cursor) → CursorHas (HasInstances tree) c → GivesAt s kept c
+gives_at s tree kept gives (at_place n fs cs e None) h = λ i m is number. absurd (let f : ⊥ = cc in f)
+gives_at s tree kept gives (at_place n fs cs e (Some x)) h = gives_node s tree kept gives x h.0
+gives_at s tree kept gives (at_end n fs o d) h = tt
+gives_at s tree kept gives (ended x) h = tt
+
+-- A unit
+
+renders_sees : (p : Program) (st : State) (g : Progress) (v : Rendering) → Renders p st g v → Sees v (sight_of p st g)
+renders_sees p st g v r = record { program = sym r.program; resources = r.resources; lanes = sym r.lanes; cut = sym r.cut }
+
+renders_give : (p : Program) (st : State) (g : Progress) (v : Rendering) → Renders p st g v → GivesAll (sight_of p st g) st.tree (kept_hooks v.hooks)
+renders_give p st g v r k m at = keeps-give p st g (kept_hooks v.hooks) m.number m.initials r.done (each-keeps p st (kept_hooks v.hooks) r.keeps k m at)
+
+-- where a render is in progress one is under way
+pub renders_under_way : (st : State) (g : Progress) (v : Rendering) → Renders v.program st g v → IsUnderWay v
+renders_under_way st g v r =
+    record { sight = sight_of v.program st g; tree = st.tree; sees = renders_sees v.program st g v r; gives = renders_give v.program st g v r; come = r.come }
+
+-- what a unit makes of a rendering
+pub record Stepped (old new : Rendering) (evaluated : ℕ) : Type 0 where
+  pub program : new.program ≡ old.program
+  pub current : new.trees.current ≡ old.trees.current
+  pub lanes : new.lanes ≡ old.lanes
+  pub cut : new.cut ≡ old.cut
+  pub resources : new.resources ≡ old.resources
+  pub units : new.units ≡ suc old.units
+  pub bodies : new.bodies ≡ old.bodies + evaluated
+  pub evaluates : evaluated ≡ bodies_next old.trees.draft old.at
+  pub knows : KnowsPlaces old.trees
+  pub keeps : (st : State) → DoneBefore old.cut st.journal.updates → KeepsAllHooks old.program st (kept_hooks old.hooks) → KeepsAllHooks old.program st (kept_hooks new.hooks)
+  pub still : (s : Sight) (k : ℕ) (initials : List ℤ) → Sees old s → GivesValues s (kept_hooks old.hooks) k initials → GivesValues s (kept_hooks new.hooks) k initials
+  pub advances : (s : Sight) → Sees old s → Advances s (kept_hooks old.hooks) old.trees old.contexts old.at new.trees new.contexts new.at
+
+module _ (old new : Rendering) (evaluated : ℕ) (step : Stepped old new evaluated) (draws : DrawsUnit) (places : DrawsPlace) (known : unknowns old.program ≡ []) (left : 0 < left_of old) where
+  step_comes : (s : Sight) (tree : Option Node) → Sees old s → GivesAll s tree (kept_hooks old.hooks) → HasCome s tree old → HasCome s tree new
+  step_comes s tree sees gives come =
+      let c = come.cursor in
+      let busy : cursors.is_over c ≡ false = left_busy old.trees old.contexts old.at c (unit_bound old.program) old.units come.comes left in
+      let level : HasLevel c = fit_has_level s.program c come.goes.fits come.goes.stands in
+      let counted : bodies_next old.trees.draft old.at ≡ next_counts each_body s c = counts_next s old.trees old.contexts old.at c step.knows places come.drawn level come.comes in
+      record {
+        cursor = unit s c;
+        comes = step.advances s sees c come.comes level (gives_at s tree (kept_hooks old.hooks) gives c come.olds);
+        goes = rw (step.units, step.bodies) (unit_holds s tree old.units old.bodies c come.goes busy evaluated (omega (arith, step.evaluates, counted)));
+        drawn = draws s c (subst (λ q. unknowns q ≡ []) (sym sees.program) known) come.drawn;
+        seen = unit_sees (length (contexts s.program)) s c come.seen;
+        olds = unit_instances tree s c come.olds;
+      }
+
+  step_sees : (s : Sight) → Sees old s → Sees new s
+  step_sees s sees =
+      record {
+        program = sees.program ∙ sym step.program;
+        resources = step.resources ∙ sees.resources;
+        lanes = sees.lanes ∙ sym step.lanes;
+        cut = sees.cut ∙ sym step.cut;
+      }
+
+  step_keeps : (p : Program) → old.program ≡ p → (st : State) (g : Progress) → Renders p st g old → KeepsAllHooks p st (kept_hooks new.hooks)
+  step_keeps p same st g r =
+      let done : DoneBefore old.cut st.journal.updates = subst (λ k. DoneBefore k st.journal.updates) (sym r.cut) r.done in
+      subst (λ q. KeepsAllHooks q st (kept_hooks new.hooks)) same (step.keeps st done (subst (λ q. KeepsAllHooks q st (kept_hooks old.hooks)) (sym same) r.keeps))
+
+  step_renders : (p : Program) → old.program ≡ p → (st : State) (g : Progress) → Renders p st g old → Renders p st g new
+  step_renders p same st g r =
+      record {
+        program = step.program ∙ r.program;
+        resources = step.resources ∙ r.resources;
+        lanes = step.lanes ∙ r.lanes;
+        cut = step.cut ∙ r.cut;
+        current = subst (IsTreeOf st.tree) (sym step.current) r.current;
+        keeps = step_keeps p same st g r;
+        done = r.done;
+        past = r.past;
+        come = step_comes (sight_of p st g) st.tree (renders_sees p st g old r) (renders_give p st g old r) r.come;
+      }
+
+  pub step_goes_on : GoesOn old new
+  step_goes_on =
+      record {
+        program = step.program;
+        current = step.current;
+        lanes = step.lanes;
+        cut = step.cut;
+        resources = step.resources;
+        keeps = λ st done h. subst (λ p. KeepsAllHooks p st (kept_hooks new.hooks)) (sym step.program) (step.keeps st done h);
+        renders = λ st g r. subst (λ p. Renders p st g new) (sym step.program) (step_renders old.program refl st g r);
+      }
+
+  pub step_way : IsUnderWay old → IsUnderWay new
+  step_way way =
+      record {
+        sight = way.sight;
+        tree = way.tree;
+        sees = step_sees way.sight way.sees;
+        gives = λ k m at. step.still way.sight m.number m.initials way.sees (way.gives k m at);
+        come = step_comes way.sight way.tree way.sees way.gives way.come;
+      }
+
+if_left : (at : At) {A : Type 0} → A → IfLeft at A
+if_left (Begins id) a = a
+if_left (Completes id) a = a
+if_left Over a = tt
+
+-- a rendering that a render is in progress of is one
+pub step_rendering : (old new : Rendering) (evaluated : ℕ) → Stepped old new evaluated → DrawsUnit → DrawsPlace → IsRendering old → 0 < left_of old → IsRendering new
+step_rendering old new evaluated step draws places is left =
+    record {
+      known = subst (λ p. unknowns p ≡ []) (sym step.program) is.known;
+      bounded = subst IsBounded (sym step.program) is.bounded;
+      under_way = if_left new.at (step_way old new evaluated step draws places is.known left (is_left old.at (unit_bound old.program) old.units left is.under_way));
+    }
+
+-- What a unit needs
+
+ready_as : (s : Sight) (tree : Option Node) (v : Rendering) → Sees v s → GivesAll s tree (kept_hooks v.hooks) → DrawsPlace → (scene : Scene) → IsSceneOf scene s → scene.checked.now ≡ s.program
+    → (at : At) (c : Cursor) → ComesTo v.trees v.contexts at c → InProgress s tree v.units v.bodies c → CursorDrawn s.program c → CursorHasContexts (length (contexts s.program)) c
+    → CursorHas (HasInstances tree) c → cursors.is_over c ≡ false → IsReadyAt scene (kept_hooks v.hooks) v.trees v.contexts at
+ready_as s tree v see gives draws scene sees same _ _ (to_place {levels = zero} {fs = fs} {cs = cs} {e = e} {old = old} h) goes drawn seen olds busy =
+    absurd (let l : HasLevel (at_place zero fs cs e old) = fit_has_level s.program (at_place zero fs cs e old) goes.fits goes.stands in omega (arith, l))
+ready_as s tree v see gives draws scene sees same _ _ (to_place {id = id} {levels = suc n} {fs = fs} {cs = cs} {e = e} {old = old} h) goes drawn seen olds busy =
+    record {
+      sight = s;
+      sees = sees;
+      levels = n;
+      frames = fs;
+      contexts_are = cs;
+      element = e;
+      old = old;
+      stands = h;
+      there = goes.stands;
+      drawn = subst (λ q. IsDrawn q e) (sym same) (draws s.program (suc n) fs cs e old drawn);
+      gives = gives_at s tree (kept_hooks v.hooks) gives (at_place (suc n) fs cs e old) olds;
+      each = values_are h ∙ (seen.0 ∙ ap (λ q. length (contexts q)) (sym same));
+    }
+  where
+    values_are : StandsAt v.trees v.contexts (Some id) (at_place (suc n) fs cs e old) → length (values_at v.contexts) ≡ length cs
+    values_are (begins here waits was around values stack) = ap length values
+ready_as s tree v see gives draws scene sees same _ _ (to_end h) goes drawn seen olds busy = ends h
+ready_as s tree v see gives draws scene sees same _ _ (to_tree h) goes drawn seen olds busy = absurd (let f : ⊥ = cc in f)
+ready_as s tree v see gives draws scene sees same _ _ to_wait goes drawn seen olds busy = absurd (let f : ⊥ = cc in f)
+
+module _ (v : Rendering) (is : IsRendering v) (left : 0 < left_of v) where
+  abbrev pub way : IsUnderWay v
+  way = is_left v.at (unit_bound v.program) v.units left is.under_way
+
+  pub unit_made : KnowsPlaces v.trees → IsMadeAt v.trees.draft v.at
+  unit_made knows = made_at v.trees v.contexts v.at way.come.cursor knows way.come.comes
+
+  pub unit_ready : DrawsPlace → (scene : Scene) → ((s : Sight) → Sees v s → IsSceneOf scene s) → scene.checked.now ≡ v.program → IsReadyAt scene (kept_hooks v.hooks) v.trees v.contexts v.at
+  unit_ready draws scene sees same =
+      let come = way.come in
+      ready_as way.sight way.tree v way.sees way.gives draws scene (sees way.sight way.sees) (same ∙ sym way.sees.program) v.at come.cursor come.comes come.goes come.drawn come.seen come.olds
+      (left_busy v.trees v.contexts v.at come.cursor (unit_bound v.program) v.units come.comes left)
+
+  pub unit_below : v.units < unit_bound v.program
+  unit_below =
+      subst (λ p. v.units < unit_bound p) way.sees.program
+      (is_left v.at (unit_bound v.program) v.units left (come_bounded way.sight way.tree v (subst IsBounded (sym way.sees.program) is.bounded) way.come))
+
+  pub bodies_below : v.bodies ≤ v.units
+  bodies_below = let h = way.come.goes.fewer in omega (arith, h)
+
+-- What a unit leaves, from the value that was opened
+
+units_of : (at : At) (bound units : ℕ) → 0 < units_left at bound units → units_left at bound units ≡ suc bound - units
+units_of (Begins id) bound units h = refl
+units_of (Completes id) bound units h = refl
+units_of Over bound units h = absurd (omega (arith, h))
+
+units_most : (at : At) (bound units : ℕ) → units_left at bound units ≤ suc bound - units
+units_most (Begins id) bound units = omega arith
+units_most (Completes id) bound units = omega arith
+units_most Over bound units = omega arith
+
+units_last : (at : At) (bound units : ℕ) → units < bound → MatchUnit (unit_before at) (units_left at bound (suc units) ≡ 0) (0 < units_left at bound (suc units))
+units_last (Begins id) bound units h = omega (arith, h)
+units_last (Completes id) bound units h = omega (arith, h)
+units_last Over bound units h = refl
+
+-- what a unit makes, by what it leaves
+pub stepped : (inside : Rendering) (t : Trees Fiber) (hooks : Kept) (st : Stack) (next : At) (evaluated : ℕ) → t.current ≡ inside.trees.current
+    → evaluated ≡ bodies_next inside.trees.draft inside.at → KnowsPlaces inside.trees
+    → ((st : State) → DoneBefore inside.cut st.journal.updates → KeepsAllHooks inside.program st (kept_hooks inside.hooks) → KeepsAllHooks inside.program st (kept_hooks hooks))
+    → ((s : Sight) (k : ℕ) (initials : List ℤ) → Sees inside s → GivesValues s (kept_hooks inside.hooks) k initials → GivesValues s (kept_hooks hooks) k initials)
+    → ((s : Sight) → Sees inside s → Advances s (kept_hooks inside.hooks) inside.trees inside.contexts inside.at t st next)
+    → Stepped inside (record inside { trees = t; hooks = hooks; contexts = st; at = next; units = inside.units + 1; bodies = inside.bodies + evaluated }) evaluated
+stepped inside t hooks st next evaluated current counted knows keeps still advances =
+    record {
+      program = refl;
+      current = current;
+      lanes = refl;
+      cut = refl;
+      resources = refl;
+      units = add-one inside.units;
+      bodies = refl;
+      evaluates = counted;
+      knows = knows;
+      keeps = keeps;
+      still = still;
+      advances = advances;
+    }
+
+-- few units are left of a rendering
+pub few_left : (v : Rendering) → IsRendering v → left_of v < 2 ^ 64
+few_left v is = let a = is.bounded.small in let b = units_most v.at (unit_bound v.program) v.units in omega (arith, a, b)
+
+pub over_at : (at : At) → is_over at ≡ true → at ≡ Over
+over_at (Begins id) e = absurd (let f : ⊥ = cc in f)
+over_at (Completes id) e = absurd (let f : ⊥ = cc in f)
+over_at Over e = refl
+
+some_units : (at : At) (bound units : ℕ) → units < bound → is_over at ≡ false → 0 < units_left at bound units
+some_units (Begins id) bound units h e = omega (arith, h)
+some_units (Completes id) bound units h e = omega (arith, h)
+some_units Over bound units h e = absurd (let f : ⊥ = cc in f)
+
+if_busy : (at : At) {A : Type 0} → IfLeft at A → is_over at ≡ false → A
+if_busy (Begins id) a e = a
+if_busy (Completes id) a e = a
+if_busy Over a e = absurd (let f : ⊥ = cc in f)
+
+-- units are left where it is not over
+pub some_left : (v : Rendering) → IsRendering v → is_over v.at ≡ false → 0 < left_of v
+some_left v is e =
+    let way = if_busy v.at is.under_way e in
+    some_units v.at (unit_bound v.program) v.units
+    (subst (λ p. v.units < unit_bound p) way.sees.program (if_busy v.at (come_bounded way.sight way.tree v (subst IsBounded (sym way.sees.program) is.bounded) way.come) e)) e
+
+-- a rendering that is over is one
+pub over_rendering : (old new : Rendering) → IsRendering old → new.program ≡ old.program → new.at ≡ Over → IsRendering new
+over_rendering old new is same over =
+    record {
+      known = subst (λ p. unknowns p ≡ []) (sym same) is.known;
+      bounded = subst IsBounded (sym same) is.bounded;
+      under_way = subst (λ a. IfLeft a (IsUnderWay new)) (sym over) tt;
+    }
+
+module _ (value inside : Rendering) (same : inside ≡ value) (is : IsRendering inside) (left : 0 < left_of value) where
+  abbrev pub inside_left : 0 < left_of inside
+  inside_left = subst (λ v. 0 < left_of v) (sym same) left
+
+  pub inside_made : KnowsPlaces inside.trees → IsMadeAt inside.trees.draft inside.at
+  inside_made = unit_made inside is inside_left
+
+  pub inside_ready : DrawsPlace → (scene : Scene) → ((s : Sight) → Sees inside s → IsSceneOf scene s) → scene.checked.now ≡ inside.program
+      → IsReadyAt scene (kept_hooks inside.hooks) inside.trees inside.contexts inside.at
+  inside_ready = unit_ready inside is inside_left
+
+  pub units_fit : inside.units + 1 < 2 ^ 64
+  units_fit = let a = unit_below inside is inside_left in let b = is.bounded.small in omega (arith, a, b)
+
+  bodies_one : (d : Draft Fiber) (at : At) → bodies_next d at ≤ 1
+  bodies_one d (Begins id) = one_at (made_value_of d id)
+    where
+      one_of : (e : Element) → one_if_component e ≤ 1
+      one_of elements.null = omega arith
+      one_of (elements.text t) = omega arith
+      one_of (elements.host n k attrs es) = omega arith
+      one_of (elements.comp c k ps es) = omega arith
+      one_of (elements.list es) = omega arith
+      one_of (elements.boundary k f es) = omega arith
+      one_of (elements.provider c k x es) = omega arith
+
+      one_at : (v : Option Fiber) → option_map_or (λ u. one_if_component u.element) v 0 ≤ 1
+      one_at None = omega arith
+      one_at (Some v) = one_of v.element
+  bodies_one d (Completes id) = omega arith
+  bodies_one d Over = omega arith
+
+  pub bodies_fit : (evaluated : ℕ) → evaluated ≡ bodies_next inside.trees.draft inside.at → inside.bodies + evaluated < 2 ^ 64
+  bodies_fit evaluated e =
+      let a = unit_below inside is inside_left in
+      let b = is.bounded.small in
+      let c = bodies_below inside is inside_left in
+      let d = bodies_one inside.trees.draft inside.at in
+      omega (arith, a, b, c, d, e)
+
+  -- what broke off
+  pub breaks : (new : Rendering) → new.program ≡ inside.program → new.trees.current ≡ inside.trees.current → new.at ≡ Over
+      → ((st : State) → DoneBefore inside.cut st.journal.updates → KeepsAllHooks inside.program st (kept_hooks inside.hooks) → KeepsAllHooks inside.program st (kept_hooks new.hooks))
+      → BreaksOff value new
+  breaks new program current over keeps =
+      subst (λ v. BreaksOff v new) same
+      (record { program = program; current = current; keeps = λ st done h. subst (λ p. KeepsAllHooks p st (kept_hooks new.hooks)) (sym program) (keeps st done h); over = over })
+
+  module _ (new : Rendering) (evaluated : ℕ) (step : Stepped inside new evaluated) (draws : DrawsUnit) (places : DrawsPlace) where
+    pub steps_on : GoesOn value new
+    steps_on = subst (λ v. GoesOn v new) same (step_goes_on inside new evaluated step draws places is.known inside_left)
+
+    pub steps_to : IsRendering new
+    steps_to = step_rendering inside new evaluated step draws places is inside_left
+
+    abbrev left_is : left_of value ≡ suc (unit_bound inside.program) - inside.units
+    left_is = subst (λ v. left_of v ≡ suc (unit_bound inside.program) - inside.units) same (units_of inside.at (unit_bound inside.program) inside.units inside_left)
+
+    abbrev new_left : left_of new ≡ units_left new.at (unit_bound inside.program) (suc inside.units)
+    new_left = ap (λ p. units_left new.at (unit_bound p) new.units) step.program ∙ ap (units_left new.at (unit_bound inside.program)) step.units
+
+    pub falls : left_of new < left_of value
+    falls =
+        let a = unit_below inside is inside_left in
+        let b = units_most new.at (unit_bound inside.program) (suc inside.units) in
+        omega (arith, left_is, new_left, a, b)
+
+    pub last : (u : work.Unit) → u ≡ unit_before new.at → MatchUnit u (left_of new ≡ 0) (0 < left_of new)
+    last u e = rw (e, new_left) (units_last new.at (unit_bound inside.program) inside.units (unit_below inside is inside_left))
+
+    pub ticks : (before after : ℕ) → ((s : Sight) (c : Cursor) → Sees inside s → ComesTo inside.trees inside.contexts inside.at c → HasLevel c → after ≡ before + next_counts each_body s c)
+        → after + value.bodies ≡ before + new.bodies
+    ticks before after f =
+        let way = is_left inside.at (unit_bound inside.program) inside.units inside_left is.under_way in
+        let come = way.come in
+        let level : HasLevel come.cursor = fit_has_level way.sight.program come.cursor come.goes.fits come.goes.stands in
+        let a = f way.sight come.cursor way.sees come.comes level in
+        let b = counts_next way.sight inside.trees inside.contexts inside.at come.cursor step.knows places come.drawn level come.comes in
+        let c : value.bodies ≡ inside.bodies = ap (λ v. v.bodies) (sym same) in
+        omega (arith, a, b, c, step.evaluates, step.bodies)
+
+-- what broke off and is discarded is given up
+pub given_up : (x m n : Rendering) → BreaksOff x m → n ≡ record m { trees = record m.trees { draft = taken shapes.none }; at = Over } → GivesUp x n
+given_up x m n b e = subst (GivesUp x) (sym e) (record { program = b.program; current = b.current; keeps = b.keeps; idle = record { over = refl; empty = refl } })

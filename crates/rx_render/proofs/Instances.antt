@@ -1,0 +1,94 @@
+-- Each old node that a render comes to has instances of the old tree alone.
+use Rattle.std.specs.Prelude.{◌≡◌, ◌⊎◌, ℕ, zero, suc, List, [], ◌∷◌, ◌++◌, Option, Some, None, option_and_then, slice_get, refl}
+use Rattle.std.proofs.Common.{ap, subst, inl, inr}
+use Rattle.std.proofs.lemmas.List.Elements.{filter_map-append}
+use Rattle.rx_elem.specs.Trees.{Instance, Mark, Node, node, Forest, none, vacant, child, instance_in}
+use Rattle.rx_elem.specs.Spots.{Around, at_root, Spot, spots, spots_in, around_children, Mounted, mounted_as, mounted_in, mounted_at, mounted}
+use Rattle.rx_meaning.specs.Fresh.{Sight}
+use Rattle.rx_meaning.specs.Cursor.{Cursor, start, unit}
+use Rattle.render_laws.specs.OldNodes.{AllHave, OldHas, CursorHas}
+use Rattle.render_laws.proofs.Descent.{GoesDown, unit_has, start_has}
+use Rattle.rx_render.specs.Mounting.{IsMountedIn, HasInstances, HasInstancesIn}
+
+-- an instance is among some
+abbrev Among : List Mounted → Mounted → Type 0
+Among [] m = ⊥
+Among (x ∷ xs) m = (x ≡ m) ⊎ Among xs m
+
+-- it stands at a place of them
+abbrev Stands : List Mounted → Mounted → Type 0
+Stands xs m = (k : ℕ) × (slice_get xs k ≡ Some m)
+
+among_stands : (xs : List Mounted) (m : Mounted) → Among xs m → Stands xs m
+among_stands [] m h = absurd h
+among_stands (x ∷ xs) m (inl e) = (zero, ap Some e)
+among_stands (x ∷ xs) m (inr h) = let (k, e) = among_stands xs m h in (suc k, e)
+
+-- some instances are among others
+abbrev Within : List Mounted → List Mounted → Type 0
+Within all xs = (m : Mounted) → Among xs m → Among all m
+
+left_within : (all xs ys : List Mounted) → Within all (xs ++ ys) → Within all xs
+left_within all [] ys w m h = absurd h
+left_within all (x ∷ xs) ys w m (inl e) = w m (inl e)
+left_within all (x ∷ xs) ys w m (inr h) = left_within all xs ys (λ n i. w n (inr i)) m h
+
+right_within : (all xs ys : List Mounted) → Within all (xs ++ ys) → Within all ys
+right_within all [] ys w m h = w m h
+right_within all (x ∷ xs) ys w m h = right_within all xs ys (λ n i. w n (inr i)) m h
+
+spots_left : (all : List Mounted) (xs ys : List Spot) → Within all (mounted_at (xs ++ ys)) → Within all (mounted_at xs)
+spots_left all xs ys w = left_within all (mounted_at xs) (mounted_at ys) (subst (Within all) (filter_map-append mounted_in xs ys) w)
+
+spots_right : (all : List Mounted) (xs ys : List Spot) → Within all (mounted_at (xs ++ ys)) → Within all (mounted_at ys)
+spots_right all xs ys w = right_within all (mounted_at xs) (mounted_at ys) (subst (Within all) (filter_map-append mounted_in xs ys) w)
+
+first_among : (xs : List Spot) (x : Spot) (m : Mounted) → mounted_in x ≡ Some m → Among (mounted_at (x ∷ xs)) m
+first_among xs x m e = rw e (inl refl)
+
+-- the instance at a spot
+spot_mounted : (a : Around) (m : Mark) (x : Node) (i : Instance) (n : ℕ) → instance_in m ≡ Some i → i.number ≡ Some n
+    → option_and_then (mounted_as a) (instance_in m) ≡ Some (record { number = n; component = i.component; initials = i.initials; owner = a.owner; visible = a.visible })
+spot_mounted a m x i n e f = rw (e, f) refl
+
+module _ (tree : Option Node) where
+  abbrev all : List Mounted
+  all = mounted tree
+
+  stands_mounted : (m : Mounted) → Among all m → IsMountedIn tree m.number m.initials
+  stands_mounted m h = let (k, e) = among_stands all m h in record { place = k; instance = m; there = e; is_numbered = refl; is_initially = refl }
+
+  mutual
+    node_within : (a : Around) (x : Node) → Within all (mounted_at (spots a x)) → HasInstances tree x
+    node_within a (node e m ns fs) w =
+        let spot : Spot = record { at = node e m ns fs; around = a } in
+        let rest : Within all (mounted_at (spots_in (around_children a m) ns ++ spots_in a fs)) = spots_right all (spot ∷ []) (spots_in (around_children a m) ns ++ spots_in a fs) w in (
+          (λ i n has number.
+              stands_mounted (record { number = n; component = i.component; initials = i.initials; owner = a.owner; visible = a.visible })
+              (w _ (first_among (spots_in (around_children a m) ns ++ spots_in a fs) spot _ (spot_mounted a m (node e m ns fs) i n has number)))),
+          list_within (around_children a m) ns (spots_left all (spots_in (around_children a m) ns) (spots_in a fs) rest),
+          list_within a fs (spots_right all (spots_in (around_children a m) ns) (spots_in a fs) rest),
+        )
+
+    list_within : (a : Around) (ns : Forest) → Within all (mounted_at (spots_in a ns)) → HasInstancesIn tree ns
+    list_within a none w = tt
+    list_within a (vacant ns) w = list_within a ns w
+    list_within a (child x ns) w = (node_within a x (spots_left all (spots a x) (spots_in a ns) w), list_within a ns (spots_right all (spots a x) (spots_in a ns) w))
+
+  all_have : (ns : Forest) → HasInstancesIn tree ns → AllHave (HasInstances tree) ns
+  all_have none h = tt
+  all_have (vacant ns) h = all_have ns h
+  all_have (child x ns) h = (h.0, all_have ns h.1)
+
+  goes_down : GoesDown (HasInstances tree)
+  goes_down (node e m ns fs) h = (all_have ns h.1, all_have fs h.2)
+
+  pub unit_instances : (s : Sight) (c : Cursor) → CursorHas (HasInstances tree) c → CursorHas (HasInstances tree) (unit s c)
+  unit_instances s c h = unit_has (HasInstances tree) goes_down s c h
+
+tree_instances : (tree : Option Node) → OldHas (HasInstances tree) tree
+tree_instances None = tt
+tree_instances (Some x) = node_within (Some x) at_root x (λ m h. h)
+
+pub start_instances : (s : Sight) (tree : Option Node) → CursorHas (HasInstances tree) (start s tree)
+start_instances s tree = start_has (HasInstances tree) (goes_down tree) s tree (tree_instances tree)

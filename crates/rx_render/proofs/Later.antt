@@ -1,0 +1,120 @@
+-- What changes nothing of a render in progress: a longer journal, and whatever leaves the journal, the tree and the links.
+use Rattle.std.specs.Prelude.{◌≡◌, ℤ, ℕ, ◌≤◌, true, false, List, [], ◌∷◌, ◌++◌, Option, length, refl}
+use Rattle.std.proofs.Common.{sym, ap, ◌∙◌, subst, arith}
+use Rattle.std.proofs.lemmas.List.{append-nil, length-append}
+use Rattle.rx_base.specs.declared.cut.Cut.{Cut}
+use Rattle.rx_ast.specs.Syntax.{Program}
+use Rattle.rx_elem.specs.Trees.{Node}
+use Rattle.rx_queue.specs.Journal.{Journal, Posted}
+use Rattle.rx_meaning.specs.Fresh.{Sight, resources_seen}
+use Rattle.rx_meaning.specs.Again.{AllOpen}
+use Rattle.rx_meaning.specs.Settled.{DoneBefore}
+use Rattle.rx_model.specs.State.{State, Progress}
+use Rattle.rx_model.specs.Accepting.{with_value}
+use Rattle.rx_model.specs.Committing.{sight_of}
+use Rattle.rx_model.specs.HooksOf.{KeepsAllHooks}
+use Rattle.rx_fiber.specs.Reading.{IsTreeOf}
+use Rattle.rx_hook_store.specs.Store.{Kept, kept_hooks}
+use Rattle.rx_hook_store.proofs.Staying.{all_stay}
+use Rattle.render_laws.specs.SameSight.{SeesSame}
+use Rattle.render_laws.proofs.LaterEntries.{holds_later, longer_sees_same}
+use Rattle.rx_render.specs.Rendering.{Rendering}
+use Rattle.rx_render.specs.Renders.{HasCome, IsPast, Renders, IsLater, with_hooks}
+
+-- A longer journal
+
+done_longer : (cut : Cut) (us new : List Posted) → AllOpen new → DoneBefore cut us → DoneBefore cut (us ++ new)
+done_longer cut [] new opened h = open_before new opened
+  where
+    open_before : (us : List Posted) → AllOpen us → DoneBefore cut us
+    open_before [] h = tt
+    open_before (u ∷ us) h = ((λ d. let e : false ≡ true = sym h.0 ∙ d in cc), open_before us h.2)
+done_longer cut (u ∷ us) new opened h = (h.0, done_longer cut us new opened h.1)
+
+more_are : {A : Type 0} (n : ℕ) (xs ys : List A) → n ≤ length xs → n ≤ length (xs ++ ys)
+more_are n xs ys h = let e = length-append xs ys in omega (arith, e, h)
+
+past_longer : (cut : Cut) (g : Progress) (st later : State) → IsLater g st later → IsPast cut st.journal → IsPast cut later.journal
+past_longer cut g st later l h =
+    record {
+      updates = subst (λ us. cut.updates ≤ length us) (sym l.updates) (more_are cut.updates st.journal.updates l.new h.updates);
+      resolutions = subst (λ xs. cut.resolutions ≤ length xs) (sym l.resolutions) (more_are cut.resolutions st.journal.resolutions l.more h.resolutions);
+    }
+
+-- the sight of the later state sees the same
+later_sees : (p : Program) (g : Progress) (st later : State) → IsPast g.cut st.journal → IsLater g st later → SeesSame (sight_of p st g) later.journal
+later_sees p g st later past l =
+    let journal : record { updates = st.journal.updates ++ l.new; resolutions = st.journal.resolutions ++ l.more } ≡ later.journal = rw (← l.updates, ← l.resolutions) refl in
+    subst (SeesSame (sight_of p st g)) journal (longer_sees_same (sight_of p st g) l.new l.more l.after past.resolutions)
+
+-- it has come as far
+come_later : (s : Sight) (j : Journal) → SeesSame s j → (tree : Option Node) (v : Rendering) (hooks : Kept) → HasCome s tree v → HasCome (record s { journal = j }) tree (with_hooks v hooks)
+come_later s j same tree v hooks h =
+    record { cursor = h.cursor; comes = h.comes; goes = holds_later s j same tree v.units v.bodies h.cursor h.goes; drawn = h.drawn; seen = h.seen; olds = h.olds }
+
+pub renders_later : (p : Program) (st later : State) (g : Progress) (v : Rendering) (hooks : Kept) → Renders p st g v → IsLater g st later
+    → KeepsAllHooks p later (kept_hooks hooks) → Renders p later g (with_hooks v hooks)
+renders_later p st later g v hooks r l keeps =
+    let same = later_sees p g st later r.past l in
+    record {
+      program = r.program;
+      resources = r.resources ∙ same.resources;
+      lanes = r.lanes;
+      cut = r.cut;
+      current = subst (λ t. IsTreeOf t v.trees.current) (sym l.tree) r.current;
+      keeps = keeps;
+      done = subst (DoneBefore g.cut) (sym l.updates) (done_longer g.cut st.journal.updates l.new l.opened r.done);
+      past = past_longer g.cut g st later l r.past;
+      come = subst (λ t. HasCome (sight_of p later g) t (with_hooks v hooks)) (sym l.tree) (come_later (sight_of p st g) later.journal same st.tree v hooks r.come);
+    }
+
+-- a resource gets its value
+pub renders_resolved : (p : Program) (st : State) (g : Progress) (v : Rendering) (resource : ℕ) (x : ℤ) → Renders p st g v → Renders p (with_value st resource x) g v
+renders_resolved p st g v resource x r =
+    renders_later p st (with_value st resource x) g v v.hooks r
+    (record {
+      tree = refl;
+      new = [];
+      more = record { resource = resource; value = x } ∷ [];
+      updates = sym (append-nil st.journal.updates);
+      resolutions = refl;
+      after = tt;
+      opened = tt;
+    })
+    (all_stay st (with_value st resource x) refl refl p (kept_hooks v.hooks) (kept_hooks v.hooks) refl (λ n. refl) r.keeps)
+
+-- The same journal
+
+module _ (p : Program) (st later : State) (g : Progress) (v : Rendering) (journal : later.journal ≡ st.journal) (tree : later.tree ≡ st.tree) (linked : later.linked ≡ st.linked) where
+  sight : sight_of p st g ≡ sight_of p later g
+  sight = λ i. record { program = p; journal = sym journal i; lanes = g.lanes; cut = g.cut }
+
+  pub renders_same : Renders p st g v → Renders p later g v
+  renders_same r =
+      record {
+        program = r.program;
+        resources = subst (λ s. v.resources ≡ resources_seen s) sight r.resources;
+        lanes = r.lanes;
+        cut = r.cut;
+        current = subst (λ t. IsTreeOf t v.trees.current) (sym tree) r.current;
+        keeps = all_stay st later (ap (λ j. j.updates) journal) linked p (kept_hooks v.hooks) (kept_hooks v.hooks) tree (λ n. refl) r.keeps;
+        done = subst (λ j. DoneBefore g.cut j.updates) (sym journal) r.done;
+        past = subst (IsPast g.cut) (sym journal) r.past;
+        come = subst (λ t. HasCome (sight_of p later g) t v) (sym tree) (subst (λ s. HasCome s st.tree v) sight r.come);
+      }
+
+-- a render in progress is told by its lanes and its cut
+pub renders_as : (p : Program) (st : State) (g h : Progress) (v : Rendering) → h.lanes ≡ g.lanes → h.cut ≡ g.cut → Renders p st g v → Renders p st h v
+renders_as p st g h v lanes cut r =
+    let sight : sight_of p st g ≡ sight_of p st h = (λ i. record { program = p; journal = st.journal; lanes = sym lanes i; cut = sym cut i }) in
+    record {
+      program = r.program;
+      resources = subst (λ s. v.resources ≡ resources_seen s) sight r.resources;
+      lanes = r.lanes ∙ sym lanes;
+      cut = r.cut ∙ sym cut;
+      current = r.current;
+      keeps = r.keeps;
+      done = subst (λ c. DoneBefore c st.journal.updates) (sym cut) r.done;
+      past = subst (λ c. IsPast c st.journal) (sym cut) r.past;
+      come = subst (λ s. HasCome s st.tree v) sight r.come;
+    }

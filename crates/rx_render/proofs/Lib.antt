@@ -1,0 +1,12 @@
+pub mod Defaults
+pub mod Contexts
+pub mod Instances
+pub mod Later
+pub mod Starting
+pub mod Ending
+pub mod Advancing
+pub mod Going
+pub mod Sending
+pub mod Settling
+pub mod Sizes
+pub mod First

@@ -1,0 +1,130 @@
+-- A render that starts is in progress.
+use Rattle.std.specs.Prelude.{◌≡◌, ℕ, ℤ, List, [], Option, true, refl}
+use Rattle.std.proofs.Common.{sym, ap, ◌∙◌, subst, arith}
+use Rattle.rx_base.specs.declared.cut.Cut.{Cut}
+use Rattle.rx_lane.specs.Lanes.{Lanes}
+use Rattle.rx_ctx.specs.Contexts as contexts
+use Rattle.rx_ctx.specs.Contexts.{Stack}
+use Rattle.rx_check.specs.Checks.{is_rooted, unknowns}
+use Rattle.rx_elem.specs.Elements.{Element}
+use Rattle.rx_elem.specs.Trees.{Node}
+use Rattle.rx_lists.specs.Shapes.{first}
+use Rattle.rx_lists.specs.Shapes as shapes
+use Rattle.rx_links.specs.Drafts.{Trees, taken, made}
+use Rattle.rx_meaning.specs.Fresh.{Sight, default_contexts, root_element}
+use Rattle.rx_meaning.specs.Cursor.{start}
+use Rattle.rx_model.specs.State.{State}
+use Rattle.rx_model.specs.Committing.{sight_of, starting}
+use Rattle.rx_model.specs.HooksOf.{KeepsAllHooks}
+use Rattle.rx_model.specs.Laws.{IsBounded}
+use Rattle.rx_fiber.specs.Fibers.{Fiber, waiting}
+use Rattle.rx_fiber.specs.Reading.{IsTreeOf}
+use Rattle.rx_fiber.specs.Surround.{IsWaiting}
+use Rattle.rx_fiber.proofs.Starting.{starts}
+use Rattle.rx_hook_store.specs.Store.{kept_hooks}
+use Rattle.render_laws.proofs.GoingLaws.{start_holds}
+use Rattle.draw_laws.specs.Cursors.{CursorDrawn}
+use Rattle.rx_render.specs.declared.at.At.TheVariants.{Begins, Over}
+use Rattle.rx_render.specs.Rendering.{Rendering, IfLeft, ComesTo, to_place}
+use Rattle.rx_render.specs.Renders.{Renders, IsStartOf, CanStart, IsUnderWay, IsRendering}
+use Rattle.rx_render.proofs.Contexts.{start_sees}
+use Rattle.rx_render.proofs.Instances.{start_instances}
+use Rattle.rx_render.proofs.Going.{renders_under_way}
+
+-- what a cursor at its start is drawn by
+abbrev pub DrawsStart : Type 0
+DrawsStart = (s : Sight) (old : Option Node) → is_rooted s.program ≡ true → CursorDrawn s.program (start s old)
+
+comes_to_start : (s : Sight) (old : Option Node) (t : Trees Fiber) (id : ℕ) (v : Fiber)
+    → IsTreeOf old t.current → IsWaiting v 0 (root_element s.program) → t.draft ≡ made id v (first t.current) (taken shapes.none) (taken shapes.none)
+    → ComesTo t (contexts.opening (default_contexts s.program)) (Begins id) (start s old)
+unfolding start
+comes_to_start s old t id v tree waits here = to_place (starts s old t id v tree waits here)
+
+-- a rendering whose root waits for its first unit
+pub record StandsAtRoot (lanes : Lanes) (cut : Cut) (resources : List (Option ℤ)) (old new : Rendering) : Type 0 where
+  pub program : new.program ≡ old.program
+  pub current : new.trees.current ≡ old.trees.current
+  pub hooks : new.hooks ≡ old.hooks
+  pub lanes_are : new.lanes ≡ lanes
+  pub cut_is : new.cut ≡ cut
+  pub resources_are : new.resources ≡ resources
+  pub units : new.units ≡ 0
+  pub bodies : new.bodies ≡ 0
+  pub id : ℕ
+  pub value : Fiber
+  pub waits : IsWaiting value 0 (root_element old.program)
+  pub here : new.trees.draft ≡ made id value (first new.trees.current) (taken shapes.none) (taken shapes.none)
+  pub at : new.at ≡ Begins id
+  pub contexts_are : new.contexts ≡ contexts.opening (default_contexts old.program)
+
+pub start_renders : (lanes : Lanes) (cut : Cut) (resources : List (Option ℤ)) (old new : Rendering) → StandsAtRoot lanes cut resources old new → DrawsStart → IsBounded old.program
+    → (st : State) → IsStartOf st lanes cut resources old → Renders old.program st (starting st lanes) new
+start_renders lanes cut resources old new r draws bounded st is =
+    let s = sight_of old.program st (starting st lanes) in
+    let tree : IsTreeOf st.tree new.trees.current = subst (IsTreeOf st.tree) (sym r.current) is.current in
+    record {
+      program = r.program;
+      resources = r.resources_are ∙ is.resources_are;
+      lanes = r.lanes_are;
+      cut = r.cut_is ∙ is.cut_is;
+      current = tree;
+      keeps = subst (λ k. KeepsAllHooks old.program st (kept_hooks k)) (sym r.hooks) is.keeps;
+      done = rw (← is.cut_is) is.done;
+      past = record { updates = omega arith; resolutions = omega arith };
+      come = record {
+        cursor = start s st.tree;
+        comes = rw (r.at, r.contexts_are) (comes_to_start s st.tree new.trees r.id r.value tree r.waits r.here);
+        goes = rw (r.units, r.bodies) (start_holds s st.tree bounded.shallow);
+        drawn = draws s st.tree bounded.rooted;
+        seen = start_sees s st.tree;
+        olds = start_instances s st.tree;
+      };
+    }
+
+-- what a start leaves, by what it makes
+module _ (lanes : Lanes) (cut : Cut) (resources : List (Option ℤ)) (old inside : Rendering) (t : Trees Fiber) (id : ℕ) (st : Stack) where
+  abbrev pub started : Rendering
+  started = record inside { trees = t; contexts = st; resources = resources; lanes = lanes; cut = cut; at = Begins id; units = 0; bodies = 0 }
+
+  pub root_stands : inside ≡ record old { trees = record old.trees { draft = taken shapes.none }; at = Over } → (v : Fiber) (root : Element) (given defaults : List ℤ)
+      → t ≡ record inside.trees { draft = made id v (first inside.trees.current) (taken shapes.none) (taken shapes.none) }
+      → v ≡ record { place = 0; element = root; stage = waiting } → root ≡ root_element inside.program
+      → st ≡ contexts.opening given → given ≡ defaults → defaults ≡ default_contexts inside.program
+      → StandsAtRoot lanes cut resources old started
+  root_stands was v root given defaults grown value element stack same all =
+      let program : inside.program ≡ old.program = ap (λ r. r.program) was in
+      let kept : t.current ≡ inside.trees.current = ap (λ u. u.current) grown in
+      record {
+        program = program;
+        current = kept ∙ ap (λ r. r.trees.current) was;
+        hooks = ap (λ r. r.hooks) was;
+        lanes_are = refl;
+        cut_is = refl;
+        resources_are = refl;
+        units = refl;
+        bodies = refl;
+        id = id;
+        value = v;
+        waits = record {
+          at = ap (λ u. u.place) value;
+          element = ap (λ u. u.element) value ∙ (element ∙ ap root_element program);
+          stage = ap (λ u. u.stage) value;
+        };
+        here = ap (λ u. u.draft) grown ∙ ap (λ c. made id v (first c) (taken shapes.none) (taken shapes.none)) (sym kept);
+        at = refl;
+        contexts_are = stack ∙ ap contexts.opening (same ∙ (all ∙ ap default_contexts program));
+      }
+
+-- a rendering that has started is one
+pub start_rendering : (lanes : Lanes) (cut : Cut) (resources : List (Option ℤ)) (old new : Rendering) (id : ℕ) → StandsAtRoot lanes cut resources old new → DrawsStart
+    → unknowns new.program ≡ [] → IsBounded new.program → CanStart lanes cut resources old → IsRendering new
+start_rendering lanes cut resources old new id r draws known bounded can =
+    record {
+      known = known;
+      bounded = bounded;
+      under_way = subst (λ a. IfLeft a (IsUnderWay new)) (sym r.at)
+          (renders_under_way can.state (starting can.state lanes) new
+          (subst (λ p. Renders p can.state (starting can.state lanes) new) (sym r.program)
+          (start_renders lanes cut resources old new r draws (subst IsBounded r.program bounded) can.state can.is)));
+    }

@@ -1,0 +1,9 @@
+pub mod Mounting
+pub mod ContextLists
+pub mod TreesCode
+pub mod Rendering
+pub mod Renders
+pub mod Turning
+pub mod TurningLaws
+pub mod Advancing
+pub mod LastUnit

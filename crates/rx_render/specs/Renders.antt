@@ -1,0 +1,108 @@
+-- Which render of the machine is in progress.
+use Rattle.std.specs.Prelude.{◌≡◌, ℕ, ◌≤◌, ◌++◌, List, [], ℤ, Option, Some, length, slice_get}
+use Rattle.rx_base.specs.declared.cut.Cut.{Cut}
+use Rattle.rx_lane.specs.Lanes.{Lanes}
+use Rattle.rx_ast.specs.Syntax.{Program, contexts}
+use Rattle.rx_check.specs.Checks.{unknowns}
+use Rattle.rx_elem.specs.Trees.{Node}
+use Rattle.rx_elem.specs.Spots.{Mounted, mounted}
+use Rattle.rx_hooks.specs.declared.hook.Hook.{Hook}
+use Rattle.rx_queue.specs.Journal.{Journal, Posted, Resolution, cut_now}
+use Rattle.rx_meaning.specs.Fresh.{Sight, resources_seen}
+use Rattle.rx_meaning.specs.Cursor.{Cursor}
+use Rattle.rx_meaning.specs.Again.{AllOpen}
+use Rattle.rx_meaning.specs.Settled.{DoneBefore}
+use Rattle.rx_model.specs.State.{State, Progress}
+use Rattle.rx_model.specs.Committing.{sight_of, starting}
+use Rattle.rx_model.specs.HooksOf.{KeepsAllHooks}
+use Rattle.rx_model.specs.Laws.{IsBounded}
+use Rattle.rx_fiber.specs.Reading.{IsTreeOf}
+use Rattle.rx_hook_store.specs.Store.{Kept, kept_hooks}
+use Rattle.rx_hook_store.specs.Gives.{GivesValues}
+use Rattle.render_laws.specs.InProgress.{InProgress}
+use Rattle.render_laws.specs.OldNodes.{CursorHas}
+use Rattle.render_laws.specs.SameSight.{AllAfter}
+use Rattle.draw_laws.specs.Cursors.{CursorDrawn}
+use Rattle.rx_render.specs.Mounting.{HasInstances}
+use Rattle.rx_render.specs.ContextLists.{CursorHasContexts}
+use Rattle.rx_render.specs.Rendering.{Rendering, IfLeft, ComesTo}
+
+-- a rendering sees what a render sees
+pub record Sees (v : Rendering) (s : Sight) : Type 0 where
+  pub program : s.program ≡ v.program
+  pub resources : v.resources ≡ resources_seen s
+  pub lanes : s.lanes ≡ v.lanes
+  pub cut : s.cut ≡ v.cut
+
+-- hooks give a render the values of each instance of this tree
+abbrev pub GivesAll : Sight → Option Node → (kept : ℕ → Option (List Hook)) → Type 0
+GivesAll s tree kept = (k : ℕ) (m : Mounted) → slice_get (mounted tree) k ≡ Some m → GivesValues s kept m.number m.initials
+
+-- A rendering stands where the render that sees this over this tree stands after so many units.
+pub record HasCome (s : Sight) (tree : Option Node) (v : Rendering) : Type 0 where
+  pub cursor : Cursor
+  pub comes : ComesTo v.trees v.contexts v.at cursor
+  pub goes : InProgress s tree v.units v.bodies cursor
+  -- what is still to come fits the program, has a value for each context, and has the instances of the tree alone
+  pub drawn : CursorDrawn s.program cursor
+  pub seen : CursorHasContexts (length (contexts s.program)) cursor
+  pub olds : CursorHas (HasInstances tree) cursor
+
+-- a cut has nothing before it that has yet to come
+pub record IsPast (cut : Cut) (j : Journal) : Type 0 where
+  pub updates : cut.updates ≤ length j.updates
+  pub resolutions : cut.resolutions ≤ length j.resolutions
+
+-- The machine's state and its render in progress, by lanes and cut, are those of a rendering: it sees what the render sees, over the committed tree and the hooks of its instances, and stands where the render stands after so many units.
+pub record Renders (p : Program) (st : State) (g : Progress) (v : Rendering) : Type 0 where
+  pub program : v.program ≡ p
+  pub resources : v.resources ≡ resources_seen (sight_of p st g)
+  pub lanes : v.lanes ≡ g.lanes
+  pub cut : v.cut ≡ g.cut
+  pub current : IsTreeOf st.tree v.trees.current
+  pub keeps : KeepsAllHooks p st (kept_hooks v.hooks)
+  -- what is done lies before the cut, and the cut before what has yet to come
+  pub done : DoneBefore g.cut st.journal.updates
+  pub past : IsPast g.cut st.journal
+  pub come : HasCome (sight_of p st g) st.tree v
+
+-- a render is under way: whatever it is over, hooks give it the values of the instances there
+pub record IsUnderWay (v : Rendering) : Type 0 where
+  pub sight : Sight
+  pub tree : Option Node
+  pub sees : Sees v sight
+  pub gives : GivesAll sight tree (kept_hooks v.hooks)
+  pub come : HasCome sight tree v
+
+-- what holds of each rendering: its program is accepted, and where a unit is left a render is under way
+pub record IsRendering (v : Rendering) : Type 0 where
+  pub known : unknowns v.program ≡ []
+  pub bounded : IsBounded v.program
+  pub under_way : IfLeft v.at (IsUnderWay v)
+
+-- what a render that starts now needs: the current tree is the committed one, the hooks are those of its instances, the cut has all before it, and the resources are what it sees
+pub record IsStartOf (st : State) (lanes : Lanes) (cut : Cut) (resources : List (Option ℤ)) (v : Rendering) : Type 0 where
+  pub current : IsTreeOf st.tree v.trees.current
+  pub keeps : KeepsAllHooks v.program st (kept_hooks v.hooks)
+  pub done : DoneBefore cut st.journal.updates
+  pub cut_is : cut ≡ cut_now st.journal
+  pub resources_are : resources ≡ resources_seen (sight_of v.program st (starting st lanes))
+
+-- a render can start
+pub record CanStart (lanes : Lanes) (cut : Cut) (resources : List (Option ℤ)) (v : Rendering) : Type 0 where
+  pub state : State
+  pub is : IsStartOf state lanes cut resources v
+
+-- The machine's state is one that follows within a render: the same tree, and a journal with more updates, after its cut, and more resolutions.
+pub record IsLater (g : Progress) (st later : State) : Type 0 where
+  pub tree : later.tree ≡ st.tree
+  pub new : List Posted
+  pub more : List Resolution
+  pub updates : later.journal.updates ≡ st.journal.updates ++ new
+  pub resolutions : later.journal.resolutions ≡ st.journal.resolutions ++ more
+  pub after : AllAfter g.cut.updates new
+  pub opened : AllOpen new
+
+-- the same rendering, with hooks that are kept since
+abbrev pub with_hooks : Rendering → Kept → Rendering
+with_hooks v hooks = record v { hooks = hooks }

@@ -1,0 +1,163 @@
+// One unit of a render, over its parts.
+ghost use Rattle.std.specs.Prelude.{◌≡◌, ◌+◌, ◌≤◌, ℕ, ℤ, List, Option, Some, IfOk, OnOk};
+ghost use Rattle.rx_base.specs.Awaits.{one};
+ghost use Rattle.rx_elem.specs.Trees.{Node};
+ghost use Rattle.rx_meaning.specs.Fresh.{Sight};
+ghost use Rattle.rx_meaning.specs.Cursor.{Open, Frame, Cursor, at_end, unit, unwind, HasLevel};
+ghost use Rattle.rx_meaning.specs.Counts.{each_body, next_counts};
+ghost use Rattle.rx_meaning.specs.Settled.{DoneBefore};
+ghost use Rattle.rx_model.specs.State.{State};
+ghost use Rattle.rx_model.specs.HooksOf.{KeepsAllHooks};
+ghost use Rattle.rx_fiber.specs.Standing.{StandsAt};
+ghost use Rattle.rx_fiber.specs.Unwound.{IsWithin};
+ghost use Rattle.rx_complete.specs.Ends.{IsAtEnd, IsOpenBelow};
+ghost use Rattle.rx_hook_store.specs.Store.{kept_hooks};
+ghost use Rattle.rx_hook_store.specs.Gives.{GivesValues};
+ghost use Rattle.rx_begin.specs.Scenes.{IsSceneOf};
+ghost use Rattle.rx_render.specs.Rendering.{ComesTo};
+ghost use Rattle.rx_render.specs.Advancing.{IsMadeAt, bodies_next, at_after, at_opened, CanBegin, IsReadyAt, Advances};
+
+use crate::at::At;
+use rx_base::{Awaits, Steps};
+use rx_begin::{Begun, Opened, Scene, begin, open_fallback};
+use rx_complete::{Next, complete, unwind_to_boundary};
+use rx_ctx::ContextStack;
+use rx_elem::ElementKind;
+use rx_fiber::Fiber;
+use rx_hook_store::HookStore;
+use rx_links::{FiberId, FiberTree};
+use std::alloc::{AllocError, Global};
+use std::sync::ledger::Ledger;
+
+// The least number that is no resource's.
+const RESOURCE_LIMIT: u32 = 64;
+
+// A wait for one resource: no program that is accepted names another.
+fn awaits_for(resource: u32) -> Awaits
+    ensures { result ≡ one resource }
+{
+    if resource < RESOURCE_LIMIT {
+        Awaits::one(resource)
+    } else {
+        Awaits::none()
+    }
+}
+
+// How many bodies the next unit evaluates.
+pub(crate) fn bodies_next(tree: &FiberTree<Fiber>, at: &At) -> u64
+    requires { IsMadeAt tree.now.draft at.now }
+    ensures { result ≡ bodies_next tree.now.draft at.now }
+{
+    match at {
+        At::Begins(id) => match tree.value(*id).element().kind() {
+            ElementKind::Comp(_, _, _, _) => 1,
+            _ => 0,
+        },
+        _ => 0,
+    }
+}
+
+fn at_after(next: Next) -> At
+    ensures { result ≡ at_after next }
+{
+    match next {
+        Next::Sibling(id) => At::Begins(id),
+        Next::Parent(id) => At::Completes(id),
+        Next::Done => At::Over,
+    }
+}
+
+fn at_opened(opened: Opened) -> At
+    ensures { result ≡ at_opened opened }
+{
+    match opened {
+        Opened::First(id) => At::Begins(id),
+        Opened::Empty(id) => At::Completes(id),
+    }
+}
+
+// Completes the node of a fiber.
+fn complete_node(tree: &mut FiberTree<Fiber>, id: FiberId, contexts: &mut ContextStack) -> At
+    requires { IsAtEnd tree.old contexts.old id }
+    ensures comes { (s : Sight) (levels : ℕ) (fs : List Frame) (o : Open) (done : List (Option Node)) → StandsAt tree.old contexts.old (Some id) (at_end levels fs o done) → ComesTo tree.new contexts.new result (unit s (at_end levels fs o done)) }
+    ensures current { tree.new.current ≡ tree.old.current }
+{
+    at_after(complete(tree, id, contexts))
+}
+
+// A place waits: what is tried around it is given up, and the fallback of the nearest boundary opens.
+fn suspend(
+    alloc: Global,
+    tree: &mut FiberTree<Fiber>,
+    id: FiberId,
+    contexts: &mut ContextStack,
+    resource: u32,
+) -> Result<At, AllocError>
+    requires { IsOpenBelow tree.old contexts.old id }
+    ensures comes { IfOk result (λ a. (levels : ℕ) (fs : List Frame) → IsWithin tree.old contexts.old id fs → ComesTo tree.new contexts.new a (unwind levels fs (one resource))) }
+    ensures current { tree.new.current ≡ tree.old.current }
+{
+    let mut awaits = awaits_for(resource);
+    match unwind_to_boundary(tree, id, contexts, &mut awaits) {
+        None => Ok(At::Over),
+        Some(boundary) => {
+            let opened = open_fallback(alloc, tree, boundary, awaits)?;
+            Ok(at_opened(opened))
+        }
+    }
+}
+
+// Begins the place of a fiber.
+fn begin_place<L: Ledger>(
+    alloc: Global,
+    tree: &mut FiberTree<Fiber>,
+    id: FiberId,
+    scene: &Scene,
+    hooks: &mut HookStore,
+    contexts: &mut ContextStack,
+    steps: &mut Steps<L>,
+) -> Result<At, AllocError>
+    requires { CanBegin scene.now (kept_hooks hooks.old) tree.old contexts.old id }
+    ensures comes { IfOk result (λ a. (s : Sight) → IsSceneOf scene.now s → Advances s (kept_hooks hooks.old) tree.old contexts.old (At.Begins id) tree.new contexts.new a) }
+    ensures ticks { OnOk result ((s : Sight) (c : Cursor) → IsSceneOf scene.now s → ComesTo tree.old contexts.old (At.Begins id) c → HasLevel c → steps.new ≡ steps.old + next_counts each_body s c) }
+    ensures current { tree.new.current ≡ tree.old.current }
+    ensures still { (s : Sight) (k : ℕ) (initials : List ℤ) → IsSceneOf scene.now s → GivesValues s (kept_hooks hooks.old) k initials → GivesValues s (kept_hooks hooks.new) k initials }
+    ensures states { (st : State) → DoneBefore scene.now.cut st.journal.updates → KeepsAllHooks scene.now.checked.now st (kept_hooks hooks.old) → KeepsAllHooks scene.now.checked.now st (kept_hooks hooks.new) }
+    ensures rises { steps.old ≤ steps.new }
+{
+    match begin(alloc, tree, id, scene, hooks, contexts, steps)? {
+        Begun::Child(child) => Ok(At::Begins(child)),
+        Begun::Leaf => Ok(At::Completes(id)),
+        Begun::Suspended(resource) => suspend(alloc, tree, id, contexts, resource),
+    }
+}
+
+/// Begins the place of a fiber, or completes its node, as one unit of a render. Where its body waits, what is tried around it
+/// is given up, and the fallback of the nearest boundary opens within the same unit (react.dev, Suspense).
+///
+/// # Errors
+///
+/// Want of memory alone. Then the render is to be given up.
+pub(crate) fn advance<L: Ledger>(
+    alloc: Global,
+    tree: &mut FiberTree<Fiber>,
+    at: At,
+    scene: &Scene,
+    hooks: &mut HookStore,
+    contexts: &mut ContextStack,
+    steps: &mut Steps<L>,
+) -> Result<At, AllocError>
+    requires { IsReadyAt scene.now (kept_hooks hooks.old) tree.old contexts.old at }
+    ensures comes { IfOk result (λ a. (s : Sight) → IsSceneOf scene.now s → Advances s (kept_hooks hooks.old) tree.old contexts.old at tree.new contexts.new a) }
+    ensures ticks { OnOk result ((s : Sight) (c : Cursor) → IsSceneOf scene.now s → ComesTo tree.old contexts.old at c → HasLevel c → steps.new ≡ steps.old + next_counts each_body s c) }
+    ensures current { tree.new.current ≡ tree.old.current }
+    ensures still { (s : Sight) (k : ℕ) (initials : List ℤ) → IsSceneOf scene.now s → GivesValues s (kept_hooks hooks.old) k initials → GivesValues s (kept_hooks hooks.new) k initials }
+    ensures states { (st : State) → DoneBefore scene.now.cut st.journal.updates → KeepsAllHooks scene.now.checked.now st (kept_hooks hooks.old) → KeepsAllHooks scene.now.checked.now st (kept_hooks hooks.new) }
+    ensures rises { steps.old ≤ steps.new }
+{
+    match at {
+        At::Begins(id) => begin_place(alloc, tree, id, scene, hooks, contexts, steps),
+        At::Completes(id) => Ok(complete_node(tree, id, contexts)),
+        At::Over => unreachable!(),
+    }
+}

@@ -1,0 +1,410 @@
+// A render in progress.
+ghost use Rattle.std.specs.Prelude.{◌≡◌, ◌+◌, ◌<◌, ◌≤◌, ◌^◌, ℕ, ℤ, true, false, List, [], Option, None, Some, length, slice_get, IfOk, OnOk, OnErr, IsSomeAnd};
+ghost use Rattle.std.specs.Option.{option_copied};
+ghost use Rattle.rx_ast.specs.Syntax.{Program};
+ghost use Rattle.rx_check.specs.Checks.{unknowns};
+ghost use Rattle.rx_elem.specs.Numbers.{numbered};
+ghost use Rattle.rx_elem.specs.Spots.{Mounted, mounted, node_count};
+ghost use Rattle.rx_elem.specs.Trees as trees;
+ghost use Rattle.rx_loop.specs.Ends.{MatchUnit};
+ghost use Rattle.rx_lists.specs.Shapes.{none};
+ghost use Rattle.rx_links.specs.Drafts.{taken, grafted};
+ghost use Rattle.rx_queue.specs.Journal.{hook};
+ghost use Rattle.rx_hooks.specs.Hooks.{changed_at};
+ghost use Rattle.rx_model.specs.State.{State, Progress, linked_lanes, opening};
+ghost use Rattle.rx_model.specs.Accepting.{dispatched_for, lane_of};
+ghost use Rattle.rx_meaning.specs.Settled.{DoneBefore};
+ghost use Rattle.rx_model.specs.Committing.{committed_state, starting};
+ghost use Rattle.rx_model.specs.Laws.{IsBounded};
+ghost use Rattle.rx_model.specs.HooksOf.{KeepsAllHooks};
+ghost use Rattle.rx_fiber.specs.Reading.{IsTreeOf};
+ghost use Rattle.end_laws.specs.Trimmed.{trimmed};
+ghost use Rattle.rx_read.specs.NumbersView.{numbers_seen};
+ghost use Rattle.rx_read.specs.Numbering.{numbered_draft, IsAllNumbered};
+ghost use Rattle.rx_hook_store.specs.Store.{kept_hooks};
+ghost use Rattle.rx_hook_store.specs.Changing.{ChangesHooks, dispatched_hook, lanes_linked};
+ghost use Rattle.rx_hook_store.specs.Rendered.{IsRendered, KeepsInstance};
+ghost use Rattle.rx_settle.specs.Passes.{has_instance};
+ghost use Rattle.rx_settle.specs.Settling.{CanSettle, IsSettlingOf};
+ghost use Rattle.rx_render.specs.declared.at.At.TheVariants.{Over};
+ghost use Rattle.rx_render.specs.LastUnit.{is_over};
+ghost use Rattle.rx_render.specs.Rendering.{IsIdle, IfLeft, left_of};
+ghost use Rattle.rx_render.specs.Renders.{CanStart, IsStartOf, Renders, with_hooks};
+ghost use Rattle.rx_render.specs.Turning.{GoesOn, GivesUp, BreaksOff};
+ghost use Rattle.rx_render.specs.TurningLaws.{goes_on_same, goes_on_join, gives_up_after};
+
+use crate::advance::{advance, bodies_next};
+use crate::at::{At, is_over, unit_before};
+use crate::roots::{default_contexts, root_element};
+use draw_laws::cursors_are_drawn;
+use rx_base::{Cut, Int, Steps};
+use rx_begin::Scene;
+use rx_check::Checked;
+use rx_ctx::ContextStack;
+use rx_fiber::{Fiber, Stage};
+use rx_hook_store::HookStore;
+use rx_lane::Lanes;
+use rx_links::FiberTree;
+use rx_loop::{Unit, Units};
+use rx_node::Node;
+use rx_queue::Update;
+use rx_read::{Numbers, number_made, read_in_progress};
+use rx_settle::settle_hooks;
+use rx_step::LaneWord;
+use std::alloc::{AllocError, Global};
+use std::marker::Model;
+use std::sync::ledger::Ledger;
+
+/// The two trees of a root and its hooks, with the render that is in progress: what it sees, where it stands, and how many
+/// units and bodies it has taken (react.dev, Render and Commit).
+#[derive(Drop)]
+pub struct Renderer {
+    alloc: Global,
+    checked: Checked,
+    fibers: FiberTree<Fiber>,
+    hooks: HookStore,
+    contexts: ContextStack,
+    resources: Vec<Option<Int>>,
+    lanes: Lanes,
+    cut: Cut,
+    at: At,
+    units: u64,
+    bodies: u64,
+}
+
+impl Model for Renderer {
+    ghost use Rattle.rx_render.specs.Rendering.{Rendering};
+    ghost use Rattle.rx_render.specs.Renders.{IsRendering};
+    ghost use Rattle.std.specs.Coded.{codes};
+    ghost use Rattle.rx_ast.specs.ProgramCodes.{program_code};
+    ghost use Rattle.rx_render.specs.TreesCode.{fiber_trees_code};
+
+    ghost Value = { Rendering };
+
+    ghost coded = { Prim.hlevel (codes, program_code, fiber_trees_code) };
+
+    ghost view = { λ r. record { program = r.checked; trees = r.fibers; hooks = r.hooks; contexts = r.contexts; resources = r.resources.items; lanes = r.lanes; cut = r.cut; at = r.at; units = r.units; bodies = r.bodies } };
+
+    ghost invariant = { λ r. IsRendering (record { program = r.checked; trees = r.fibers; hooks = r.hooks; contexts = r.contexts; resources = r.resources.items; lanes = r.lanes; cut = r.cut; at = r.at; units = r.units; bodies = r.bodies }) };
+}
+
+impl Renderer {
+    /// A program before its first render: no trees, no hooks, nothing in progress.
+    ///
+    /// # Errors
+    ///
+    /// Want of memory alone.
+    pub fn new(alloc: Global, checked: Checked) -> Result<Renderer, AllocError>
+        ensures program { IfOk result (λ r. r.program ≡ checked) }
+        ensures current { IfOk result (λ r. r.trees.current ≡ none) }
+        ensures hooks { IfOk result (λ r. KeepsAllHooks r.program opening (kept_hooks r.hooks)) }
+        ensures idle { IfOk result (λ r. IsIdle r) }
+    {
+        checked.program();
+        let contexts = ContextStack::new(alloc, &[])?;
+        Ok(Renderer {
+            alloc,
+            checked,
+            fibers: FiberTree::new(alloc),
+            hooks: HookStore::new(alloc),
+            contexts,
+            resources: Vec::new(alloc),
+            lanes: Lanes::none(),
+            cut: Cut {
+                updates: 0,
+                resolutions: 0,
+            },
+            at: At::Over,
+            units: 0,
+            bodies: 0,
+        })
+    }
+
+    /// What always holds: the program is accepted, and few units are left.
+    pub fn facts(&self)
+        ensures known { unknowns self.now.program ≡ [] }
+        ensures bounded { IsBounded self.now.program }
+        ensures few { left_of self.now < 2 ^ 64 }
+    {
+        let _ = &self.units;
+    }
+
+    /// The program.
+    pub fn checked(&self) -> &Checked
+        ensures { result.now ≡ self.now.program }
+    {
+        &self.checked
+    }
+
+    /// The hooks of the mounted instances.
+    pub fn hooks(&self) -> &HookStore
+        ensures { result.now ≡ self.now.hooks }
+    {
+        &self.hooks
+    }
+
+    /// Whether no unit is left: nothing is in progress, or the tree in progress is finished.
+    pub fn is_over(&self) -> bool
+        ensures value { result ≡ is_over self.now.at }
+        ensures over { result ≡ true → self.now.at ≡ Over }
+        ensures left { result ≡ false → 0 < left_of self.now }
+    {
+        is_over(&self.at)
+    }
+
+    /// The lanes of the render that started last.
+    pub fn lanes(&self) -> Lanes
+        ensures { result ≡ self.now.lanes }
+    {
+        self.lanes
+    }
+
+    /// The cut of the render that started last: what it sees of the journal.
+    pub fn cut(&self) -> Cut
+        ensures { result ≡ self.now.cut }
+    {
+        self.cut
+    }
+
+    /// The values of the resources that it sees, by their numbers.
+    pub fn resources(&self) -> &[Option<Int>]
+        ensures { result.now ≡ self.now.resources }
+    {
+        &self.resources
+    }
+
+    /// How many units it has taken so far.
+    pub fn units(&self) -> u64
+        ensures { result ≡ self.now.units }
+    {
+        self.units
+    }
+
+    /// How many bodies it has evaluated so far.
+    pub fn bodies(&self) -> u64
+        ensures { result ≡ self.now.bodies }
+    {
+        self.bodies
+    }
+
+    /// Discards what is in progress. The current tree and the hooks stay.
+    pub fn discard(&mut self)
+        ensures { self.new ≡ record self.old { trees = record self.old.trees { draft = taken none }; at = Over } }
+    {
+        self.fibers.discard();
+        self.at = At::Over;
+    }
+
+    /// Discards what is in progress, and starts a render with these lanes at this cut, which sees these values of the
+    /// resources, by their numbers: the next unit begins the root.
+    ///
+    /// # Errors
+    ///
+    /// Want of memory alone. Then nothing is in progress.
+    pub fn start(
+        &mut self,
+        lanes: Lanes,
+        cut: Cut,
+        resources: Vec<Option<Int>>,
+    ) -> Result<(), AllocError>
+        requires { CanStart lanes cut resources.items self.old }
+        ensures started { OnOk result ((st : State) → IsStartOf st lanes cut resources.items self.old → Renders self.old.program st (starting st lanes) self.new) }
+        ensures units { OnOk result (self.new.units ≡ 0) }
+        ensures bodies { OnOk result (self.new.bodies ≡ 0) }
+        ensures left { OnOk result (0 < left_of self.new) }
+        ensures program { self.new.program ≡ self.old.program }
+        ensures current { self.new.trees.current ≡ self.old.trees.current }
+        ensures hooks { self.new.hooks ≡ self.old.hooks }
+        ensures idle { OnErr result (IsIdle self.new) }
+    {
+        self.discard();
+        let defaults = default_contexts(self.alloc, &self.checked)?;
+        let contexts = ContextStack::new(self.alloc, &defaults)?;
+        let root = root_element(self.alloc, &self.checked)?;
+        let id = self.fibers.start(Fiber::new(0, root, Stage::Waiting))?;
+        cursors_are_drawn();
+        self.contexts = contexts;
+        self.resources = resources;
+        self.lanes = lanes;
+        self.cut = cut;
+        self.at = At::Begins(id);
+        self.units = 0;
+        self.bodies = 0;
+        Ok(())
+    }
+
+    /// The finished tree as a plain tree, without the vacant places at the ends of its lists, of which fibers do not tell.
+    ///
+    /// # Errors
+    ///
+    /// Want of memory alone.
+    pub fn finished(&self) -> Result<Node, AllocError>
+        requires { (x : trees.Node) × IsTreeOf (Some x) (grafted self.now.trees.draft) }
+        ensures { IfOk result (λ n. (x : trees.Node) → IsTreeOf (Some x) (grafted self.now.trees.draft) → n ≡ trimmed x) }
+    {
+        read_in_progress(self.alloc, &self.fibers)
+    }
+
+    /// Gives each instance and each host of the finished tree that is new its number, in tree order, as its commit begins.
+    /// Returns the numbers that come next.
+    pub fn number(&mut self, next: Numbers) -> Numbers
+        requires over { self.old.at ≡ Over }
+        requires instances { next.instance < 2 ^ 62 }
+        requires hosts { next.host < 2 ^ 62 }
+        requires few { (x : trees.Node) × IsTreeOf (Some x) (grafted self.old.trees.draft) × (node_count (Some x) < 2 ^ 32) }
+        ensures draft { self.new ≡ record self.old { trees = record self.old.trees { draft = (numbered_draft (numbers_seen next) self.old.trees.draft).1 } } }
+        ensures next { numbers_seen result ≡ (numbered_draft (numbers_seen next) self.old.trees.draft).0 }
+        ensures tree { (x : trees.Node) → IsTreeOf (Some x) (grafted self.old.trees.draft) → IsAllNumbered self.old.trees
+            → IsTreeOf (Some (numbered (numbers_seen next) x).1) (grafted self.new.trees.draft) }
+        ensures numbers { (x : trees.Node) → IsTreeOf (Some x) (grafted self.old.trees.draft) → IsAllNumbered self.old.trees → numbers_seen result ≡ (numbered (numbers_seen next) x).0 }
+    {
+        number_made(&mut self.fibers, next)
+    }
+
+    /// Settles the hooks of each instance of the finished tree at its commit (react.dev, State as a Snapshot): `old` is the
+    /// current tree and `new` the finished one with its numbers, as plain trees, and new instances have numbers from the first on.
+    ///
+    /// # Errors
+    ///
+    /// Want of memory alone. The hooks then stand for whatever they stood for, and the render is still finished.
+    pub fn settle(&mut self, old: Option<&Node>, new: &Node, first: u64) -> Result<(), AllocError>
+        requires over { self.old.at ≡ Over }
+        requires at_hand { CanSettle self.old.program (kept_hooks self.old.hooks) (option_copied old) new.now first self.old.lanes self.old.cut }
+        ensures same { self.new ≡ with_hooks self.old self.new.hooks }
+
+        // What is kept stands for the machine's state after the commit.
+        ensures settled { OnOk result ((s : State) (g : Progress) (x : trees.Node)
+            → IsSettlingOf self.old.program (kept_hooks self.old.hooks) (option_copied old.entry) new.now first self.old.lanes self.old.cut s g x
+            → KeepsAllHooks self.old.program (committed_state s g (numbered s.numbers x)) (kept_hooks self.new.hooks)) }
+        ensures gone { OnOk result ((k : ℕ) (m : Mounted) → slice_get (mounted (option_copied old.entry)) k ≡ Some m
+            → has_instance (mounted (Some new.now)) m.number ≡ false → kept_hooks self.new.hooks m.number ≡ None) }
+        ensures err { OnErr result ((s : State) → DoneBefore self.old.cut s.journal.updates → KeepsAllHooks self.old.program s (kept_hooks self.old.hooks)
+            → KeepsAllHooks self.old.program s (kept_hooks self.new.hooks)) }
+        ensures stays { OnErr result ((p : Program) (s : State) (g : Progress) → Renders p s g self.old → Renders p s g self.new) }
+    {
+        settle_hooks(
+            self.alloc,
+            &mut self.hooks,
+            &self.checked,
+            old,
+            new,
+            first,
+            self.lanes,
+            self.cut,
+        )
+    }
+
+    /// The finished tree becomes the current one, and nothing is in progress (react.dev, Render and Commit).
+    pub fn commit(&mut self)
+        ensures { self.new ≡ record self.old { trees = record { current = grafted self.old.trees.draft; draft = taken none }; at = Over } }
+    {
+        self.fibers.swap();
+        self.at = At::Over;
+    }
+
+    /// Sends an update to a hook of an instance, by its place from 0; the update lies behind the cut of a render in progress.
+    /// A transition also links the update's lane with those lanes of the hook that are still pending, and gives all of them
+    /// (react.dev, useTransition). An `Err` changes nothing of what the hooks stand for.
+    ///
+    /// # Errors
+    ///
+    /// Want of memory alone.
+    pub fn dispatch(
+        &mut self,
+        instance: u64,
+        place: u32,
+        word: LaneWord,
+        update: Update,
+        pending: Lanes,
+    ) -> Result<Option<Lanes>, AllocError>
+        requires hook { IsSomeAnd (kept_hooks self.old.hooks instance) (λ hooks. place < length hooks) }
+        requires behind { IfLeft self.old.at (self.old.cut.updates ≤ update.number) }
+        ensures same { self.new ≡ with_hooks self.old self.new.hooks }
+        ensures ok { OnOk result (ChangesHooks (changed_at place (dispatched_hook word update pending)) instance (kept_hooks self.old.hooks) (kept_hooks self.new.hooks)) }
+        ensures err { OnErr result ((n : ℕ) → kept_hooks self.new.hooks n ≡ kept_hooks self.old.hooks n) }
+        ensures spare { self.new.hooks.spare ≡ self.old.hooks.spare }
+
+        // What is kept stands for the machine's state after the dispatch, where this is the next update that it accepts.
+        ensures states { OnOk result ((p : Program) (s : State) → update.number ≡ length s.journal.updates → update.lane ≡ lane_of s word → pending ≡ s.schedule.pending
+            → KeepsAllHooks p s (kept_hooks self.old.hooks) → KeepsAllHooks p (dispatched_for s word (hook instance place) update.op) (kept_hooks self.new.hooks)) }
+        ensures links { IfOk result (λ lanes. (p : Program) (s : State) (initials : List ℤ) → KeepsInstance p s (kept_hooks self.old.hooks) instance initials
+            → lanes ≡ lanes_linked word update pending (linked_lanes s.linked (hook instance place))) }
+        ensures rendered { OnOk result ((p : Program) (s : State) (lanes : Lanes) (cut : Cut) (k : ℕ) (initials : List ℤ) → update.number ≡ length s.journal.updates
+            → update.lane ≡ lane_of s word → pending ≡ s.schedule.pending → cut.updates ≤ update.number → IsRendered p s lanes cut (kept_hooks self.old.hooks) k initials
+            → IsRendered p (dispatched_for s word (hook instance place) update.op) lanes cut (kept_hooks self.new.hooks) k initials) }
+
+        // A render that is in progress still is.
+        ensures renders { OnOk result ((p : Program) (s : State) (g : Progress) → update.number ≡ length s.journal.updates → update.lane ≡ lane_of s word → pending ≡ s.schedule.pending
+            → Renders p s g self.old → Renders p (dispatched_for s word (hook instance place) update.op) g self.new) }
+        ensures stays { OnErr result ((p : Program) (s : State) (g : Progress) → Renders p s g self.old → Renders p s g self.new) }
+    {
+        self.hooks.dispatch(instance, place, word, update, pending)
+    }
+
+    // Does one unit. Where memory runs out no unit is left.
+    fn try_unit<L: Ledger>(&mut self, steps: &mut Steps<L>) -> Result<Unit, AllocError>
+        requires { 0 < left_of self.old }
+        ensures falls { OnOk result (left_of self.new < left_of self.old) }
+        ensures last { IfOk result (λ u. MatchUnit u (left_of self.new ≡ 0) (0 < left_of self.new)) }
+        ensures counts { OnOk result (self.new.units ≡ self.old.units + 1) }
+        ensures ticks { OnOk result (steps.new + self.old.bodies ≡ steps.old + self.new.bodies) }
+        ensures each { OnOk result (self.new.bodies ≤ self.old.bodies + 1) }
+        ensures onward { OnOk result (GoesOn self.old self.new) }
+        ensures stopped { OnErr result (BreaksOff self.old self.new) }
+        ensures rises { steps.old ≤ steps.new }
+    {
+        cursors_are_drawn();
+        self.fibers.place_facts();
+        let evaluated = bodies_next(&self.fibers, &self.at);
+        let at = self.at;
+        self.at = At::Over;
+        let scene = Scene {
+            checked: &self.checked,
+            resources: &self.resources,
+            lanes: self.lanes,
+            cut: self.cut,
+        };
+        let next = advance(
+            self.alloc,
+            &mut self.fibers,
+            at,
+            &scene,
+            &mut self.hooks,
+            &mut self.contexts,
+            steps,
+        )?;
+        self.at = next;
+        self.units += 1;
+        self.bodies += evaluated;
+        Ok(unit_before(&self.at))
+    }
+}
+
+/// A unit begins the place of a fiber or completes its node. Where memory runs out the render is given up.
+impl Units for Renderer {
+    ghost left = { left_of };
+
+    ghost done = { λ v. v.units };
+
+    ghost bodies = { λ v. v.bodies };
+
+    ghost goes_on = { GoesOn };
+
+    ghost gives_up = { GivesUp };
+
+    fn unit<L: Ledger>(&mut self, steps: &mut Steps<L>) -> Result<Unit, AllocError> {
+        match self.try_unit(steps) {
+            Ok(unit) => Ok(unit),
+            Err(error) => {
+                self.discard();
+                Err(error)
+            }
+        }
+    }
+
+    ghost starts = { goes_on_same };
+
+    ghost joins = { goes_on_join };
+
+    ghost breaks_off = { gives_up_after };
+}

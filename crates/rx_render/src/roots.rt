@@ -1,0 +1,56 @@
+// What a render begins with.
+ghost use Rattle.std.specs.Prelude.{◌≡◌, IfOk};
+ghost use Rattle.rx_ast.specs.Syntax as syntax;
+ghost use Rattle.rx_meaning.specs.Fresh.{default_of, default_contexts, root_element};
+
+use rx_ast::{Context, DeclarationKind};
+use rx_base::{Int, Ints};
+use rx_check::Checked;
+use rx_elem::{Element, ElementKind};
+use std::alloc::{AllocError, Global};
+
+// The default of a context.
+fn default_of(context: &Context) -> Int
+    ensures { (p : syntax.Program) → result ≡ default_of p context.now }
+{
+    let residue = context.number() % (1 << 32);
+    let value = Int::of(residue as i64);
+    if context.is_negative() {
+        value.neg()
+    } else {
+        value
+    }
+}
+
+/// The values of the contexts where no provider stands above, by their numbers (react.dev, createContext).
+///
+/// # Errors
+///
+/// Want of memory alone.
+pub(crate) fn default_contexts(alloc: Global, checked: &Checked) -> Result<Vec<Int>, AllocError>
+    ensures { IfOk result (λ v. v.items ≡ default_contexts checked.now) }
+{
+    let mut values = Vec::new(alloc);
+    for declaration in checked.program().declarations() {
+        if let DeclarationKind::Context(context) = &declaration.kind {
+            values.push(default_of(context))?;
+        }
+    }
+    Ok(values)
+}
+
+/// The element of the root: the component `App`, without props.
+///
+/// # Errors
+///
+/// Want of memory alone.
+pub(crate) fn root_element(alloc: Global, checked: &Checked) -> Result<Element, AllocError>
+    ensures { IfOk result (λ e. e ≡ root_element checked.now) }
+{
+    let number = checked.component("App").unwrap_or(0);
+    let props = Ints::new(Vec::new(alloc));
+    Element::new(
+        alloc,
+        ElementKind::Comp(number, None, props, Vec::new(alloc)),
+    )
+}

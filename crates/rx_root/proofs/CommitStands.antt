@@ -1,0 +1,234 @@
+-- A root stands for the state after a commit.
+use Rattle.std.proofs.Common.{◌≡◌, ℕ, ◌+◌, Bool, true, false, cond, List, [], ◌∷◌, ◌++◌, length, map, refl, sym, ap, ◌∙◌, subst, Option, Some, None}
+use Rattle.std.proofs.lemmas.List.{length-map}
+use Rattle.rx_lane.specs.declared.lane.Lane.TheVariants as lane
+use Rattle.rx_lane.specs.Lanes.{Lanes, has, lanes_where}
+use Rattle.rx_ast.specs.Syntax.{Program}
+use Rattle.rx_elem.specs.Trees.{Node}
+use Rattle.rx_elem.specs.Numbers.{Numbers, numbered}
+use Rattle.rx_elem.specs.Compare.{compare_trees}
+use Rattle.rx_check.specs.Accepted.{IsAccepted}
+use Rattle.rx_sched.specs.Schedule.{Schedule, after_commit}
+use Rattle.rx_meaning.specs.Outcome.{still_pending}
+use Rattle.rx_effect.specs.EffectLog.{Passive, no_passive, passive_of}
+use Rattle.rx_lines.specs.Lines.{Line, Counts, Written}
+use Rattle.rx_model.specs.State.{State, Progress}
+use Rattle.rx_model.specs.Stretch.{Stretch, silent}
+use Rattle.rx_model.specs.HooksOf.{KeepsAllHooks}
+use Rattle.rx_model.specs.Committing.{passive_run, commit_lines, committed_state, committed_as}
+use Rattle.rx_model.specs.Laws.{IsBounded, IsReached}
+use Rattle.commit_laws.proofs.HiddenLaw.{numbering_numbers}
+use Rattle.end_laws.specs.Trimmed.{trimmed}
+use Rattle.rx_lists.specs.Shapes as shapes
+use Rattle.rx_links.specs.Drafts.{grafted, taken}
+use Rattle.rx_fiber.specs.Reading.{IsTreeOf}
+use Rattle.rx_read.specs.Numbering.{IsAllNumbered}
+use Rattle.rx_hook_store.specs.Store.{kept_hooks}
+use Rattle.rx_hook_store.proofs.Staying.{all_stay}
+use Rattle.rx_hook_store.proofs.Numbered.{links_committed}
+use Rattle.rx_commit.specs.Shown.{Shown, Shows}
+use Rattle.rx_commit.specs.Written.{passive_lines, lines_of, with_lines}
+use Rattle.rx_settle.specs.Settling.{IsSettlingOf}
+use Rattle.rx_render.specs.declared.at.At.TheVariants.{Over}
+use Rattle.rx_render.specs.Rendering.{Rendering, IsIdle}
+use Rattle.rx_render.specs.Renders.{with_hooks}
+use Rattle.rx_root.specs.Rooted.{Rooted}
+use Rattle.rx_root.specs.Stands.{StandsBy, Stands}
+use Rattle.rx_root.specs.Turning.{IsAtEndOf, StandsAtEnd, KnowsSince, HasNumbered, CanFollow, counts_of, passive_left}
+use Rattle.rx_root.proofs.CommitReady.{is_commit}
+
+-- a root after a commit of a tree whose new nodes have their numbers
+abbrev pub after_commit_of : State → Progress → Node → Rendering → Shown → Rooted → Rooted
+after_commit_of s g tree w shown v =
+    record v {
+      rendering = w;
+      shown = shown;
+      schedule = after_commit v.schedule g.lanes (still_pending g.lanes g.cut s.journal (numbered s.numbers tree).1) v.now;
+      commits = v.commits + 1;
+      numbers = (numbered s.numbers tree).0;
+      instances = None;
+    }
+
+-- what the parts of a root promise of a commit
+pub record IsCommitted (p : Program) (s : State) (g : Progress) (tree : Node) (w : Rendering) : Type 0 where
+  pub program : w.program ≡ p
+  pub current : IsTreeOf (Some (numbered s.numbers tree).1) w.trees.current
+  pub numbered_all : IsAllNumbered w.trees
+  pub keeps : KeepsAllHooks p (committed_state s g (numbered s.numbers tree)) (kept_hooks w.hooks)
+  pub idle : IsIdle w
+
+-- the state after a commit, with these passive effects pending
+committed_with : (p : Program) (s : State) (asks : Rooted → Type 0) (g : Progress) (tree : Node) (passive : Passive) (v : Rooted) (w : Rendering) (shown : Shown)
+    → StandsBy p s asks v → IsReached p (record (committed_state s g (numbered s.numbers tree)) { passive = passive }) → IsCommitted p s g tree w
+    → Shows (Some (numbered s.numbers tree).1) passive shown
+    → Stands p (record (committed_state s g (numbered s.numbers tree)) { passive = passive }) (after_commit_of s g tree w shown v)
+committed_with p s asks g tree passive v w shown h reached c shows =
+    let st : State = committed_state s g (numbered s.numbers tree) in
+    record {
+      reached = reached;
+      program = c.program;
+      current = c.current;
+      numbered = c.numbered_all;
+      keeps = all_stay st (record st { passive = passive }) refl refl p (kept_hooks w.hooks) (kept_hooks w.hooks) refl (λ n. refl) c.keeps;
+      below = links_committed s g tree h.below;
+      shows = shows;
+      schedule = rw (h.schedule, h.now) refl;
+      commits = rw h.commits refl;
+      updates = h.updates ∙ sym (length-map s.journal.updates _);
+      resolutions = h.resolutions;
+      values = h.values;
+      now = h.now;
+      event = h.event;
+      numbers = refl;
+      declared = h.declared;
+      instances = tt;
+      progress = c.idle;
+    }
+
+-- a commit, with its passive effects where it runs them itself
+pub committed_stands : (p : Program) (s : State) (asks : Rooted → Type 0) (g : Progress) (counts : Counts) (tree : Node) (v : Rooted) (w : Rendering) (shown : Shown)
+    → StandsBy p s asks v → IsReached p (committed_as s g counts (numbered s.numbers tree)).after → IsCommitted p s g tree w
+    → Shows (Some (numbered s.numbers tree).1) (passive_left g.lanes (passive_of (compare_trees s.tree (numbered s.numbers tree).1))) shown
+    → Stands p (committed_as s g counts (numbered s.numbers tree)).after (after_commit_of s g tree w shown v)
+committed_stands p s asks g counts tree v w shown h reached c shows = by_sync (has g.lanes lane.Sync) reached shows
+  where
+    st : State
+    st = committed_state s g (numbered s.numbers tree)
+
+    by_sync : (b : Bool) → IsReached p (cond b (passive_run st) (silent st)).after → Shows (Some (numbered s.numbers tree).1) (cond b no_passive st.passive) shown
+        → Stands p (cond b (passive_run st) (silent st)).after (after_commit_of s g tree w shown v)
+    by_sync true reached shows = committed_with p s asks g tree no_passive v w shown h reached c shows
+    by_sync false reached shows = committed_with p s asks g tree st.passive v w shown h reached c shows
+
+-- the lines of a commit, with those of its passive effects where it runs them itself
+pub committed_lines : (s : State) (g : Progress) (counts : Counts) (tree : Node)
+    → lines_of (s.commits + 1) g.lanes counts s.tree (numbered s.numbers tree).1 ≡ (committed_as s g counts (numbered s.numbers tree)).lines
+committed_lines s g counts tree = by_sync (has g.lanes lane.Sync)
+  where
+    st : State
+    st = committed_state s g (numbered s.numbers tree)
+
+    own : List Line
+    own = commit_lines s g counts (numbered s.numbers tree).1
+
+    by_sync : (b : Bool) → own ++ cond b (passive_lines st.passive) [] ≡ own ++ (cond b (passive_run st) (silent st)).lines
+    by_sync true = refl
+    by_sync false = refl
+
+-- The steps of a commit
+
+module _ (p : Program) (s : State) (g : Progress) (tree : Node) (v x : Rooted) (h : StandsAtEnd p s g tree v) (n : HasNumbered p s g tree v x) where
+  -- numbers change nothing of what is known
+  pub numbered_knows : KnowsSince p s g x
+  numbered_knows = subst (λ (y : Rooted). KnowsSince p s g y) (sym n.rest) (record {
+    program = h.program;
+    values = h.values;
+    seen = h.progress.renders.resources;
+    lanes = h.progress.renders.lanes;
+    declared = h.declared;
+    later = h.progress.later;
+  })
+
+  pub numbered_over : x.rendering.at ≡ Over
+  numbered_over = ap (λ (y : Rooted). y.rendering.at) n.rest ∙ h.progress.over
+
+  -- the hooks can be settled
+  pub settling_of : IsBounded p → (old : Option Node) (new : Node) (first : ℕ) → old ≡ x.shown.tree → new ≡ trimmed (numbered s.numbers tree).1 → first ≡ v.numbers.instance
+      → IsSettlingOf x.rendering.program (kept_hooks x.rendering.hooks) old new first x.rendering.lanes x.rendering.cut s g tree
+  settling_of bounded old new first is_old is_new is_first =
+      subst (λ (q : Program). IsSettlingOf q (kept_hooks x.rendering.hooks) old new first x.rendering.lanes x.rendering.cut s g tree) (sym numbered_knows.program) (record {
+        bounded = bounded;
+        reached = h.reached;
+        gives = h.progress.gives;
+        done = h.progress.renders.done;
+        links = h.below;
+        keeps = subst (λ (y : Rooted). KeepsAllHooks p s (kept_hooks y.rendering.hooks)) (sym n.rest) h.keeps;
+        old_is = is_old ∙ ap (λ (y : Rooted). y.shown.tree) n.rest ∙ h.shows.tree_is;
+        new_is = is_new;
+        first_is = is_first ∙ ap (λ (m : Numbers). m.instance) h.numbers;
+        lanes_are = numbered_knows.lanes;
+        cut_is = ap (λ (y : Rooted). y.rendering.cut) n.rest ∙ h.progress.renders.cut;
+      })
+
+  -- and the tree can be shown
+  pub follows_of : IsBounded p → IsAccepted p → (new : Node) → new ≡ trimmed (numbered s.numbers tree).1 → CanFollow new s.tree s.passive (numbered s.numbers tree).1 x.shown
+  follows_of bounded accepted new is_new =
+      let commits = is_commit p bounded accepted s g tree h.reached h.progress.gives in
+      record {
+        shows = subst (λ (y : Rooted). Shows s.tree s.passive y.shown) (sym n.rest) h.shows;
+        tree_is = is_new;
+        commits = commits.0;
+        leaves = commits.1;
+      }
+
+-- what the parts of a root did at a commit, once its new nodes had their numbers: its hooks are settled, the tree is shown, it is the current one, and its lanes are finished
+pub record HasCommitted (s : State) (g : Progress) (tree : Node) (x : Rooted) (w : Rendering) (shown : Shown) (y : Rooted) (last : Rendering) (schedule : Schedule) : Type 0 where
+  pub settled : w ≡ with_hooks x.rendering w.hooks
+  pub is_shown : y ≡ record x { rendering = w; shown = shown; commits = x.commits + 1; instances = None }
+  pub is_last : last ≡ record y.rendering { trees = record { current = grafted y.rendering.trees.draft; draft = taken shapes.none }; at = Over }
+  pub lanes : Lanes
+  pub still : Lanes
+  pub is_schedule : schedule ≡ after_commit y.schedule lanes still y.now
+  pub lanes_are : lanes ≡ g.lanes
+  pub still_is : still ≡ still_pending g.lanes g.cut s.journal (numbered s.numbers tree).1
+
+module _ (p : Program) (s : State) (g : Progress) (tree : Node) (v x : Rooted) (h : StandsAtEnd p s g tree v) (n : HasNumbered p s g tree v x) (w : Rendering) (shown : Shown) (y : Rooted)
+    (last : Rendering) (schedule : Schedule) (c : HasCommitted s g tree x w shown y last schedule) where
+  -- the rendering at the end
+  last_is : last ≡ record (with_hooks x.rendering w.hooks) { trees = record { current = grafted x.rendering.trees.draft; draft = taken shapes.none }; at = Over }
+  last_is =
+      c.is_last
+      ∙ ap (λ (z : Rooted). record z.rendering { trees = record { current = grafted z.rendering.trees.draft; draft = taken shapes.none }; at = Over }) c.is_shown
+      ∙ ap (λ (z : Rendering). record z { trees = record { current = grafted z.trees.draft; draft = taken shapes.none }; at = Over }) c.settled
+
+  last_committed : KeepsAllHooks x.rendering.program (committed_state s g (numbered s.numbers tree)) (kept_hooks w.hooks) → IsCommitted p s g tree last
+  last_committed keeps =
+      subst (λ (z : Rendering). IsCommitted p s g tree z) (sym last_is) (record {
+        program = ap (λ (z : Rooted). z.rendering.program) n.rest ∙ h.program;
+        current = n.there;
+        numbered_all = (Some (numbered s.numbers tree).1, n.there, numbering_numbers s.numbers tree);
+        keeps = subst (λ (q : Program). KeepsAllHooks q (committed_state s g (numbered s.numbers tree)) (kept_hooks w.hooks)) (ap (λ (z : Rooted). z.rendering.program) n.rest ∙ h.program) keeps;
+        idle = record { over = refl; empty = refl };
+      })
+
+  schedule_is : schedule ≡ after_commit v.schedule g.lanes (still_pending g.lanes g.cut s.journal (numbered s.numbers tree).1) v.now
+  schedule_is =
+      c.is_schedule
+      ∙ ap (λ (z : Rooted). after_commit z.schedule c.lanes c.still z.now) (c.is_shown ∙ ap (λ (z : Rooted). record z { rendering = w; shown = shown; commits = z.commits + 1; instances = None }) n.rest)
+      ∙ ap (λ (ls : Lanes). after_commit v.schedule ls c.still v.now) c.lanes_are
+      ∙ ap (λ (ls : Lanes). after_commit v.schedule g.lanes ls v.now) c.still_is
+
+  root_is : record y { rendering = last; schedule = schedule } ≡ after_commit_of s g tree last shown v
+  root_is =
+      ap (λ (z : Rooted). record z { rendering = last; schedule = schedule })
+      (c.is_shown ∙ ap (λ (z : Rooted). record z { rendering = w; shown = shown; commits = z.commits + 1; instances = None }) n.rest)
+      ∙ ap (λ (m : Numbers). record v { rendering = last; shown = shown; schedule = schedule; commits = v.commits + 1; numbers = m; instances = None }) n.next
+      ∙ ap (λ (sch : Schedule). record v { rendering = last; shown = shown; schedule = sch; commits = v.commits + 1; numbers = (numbered s.numbers tree).0; instances = None }) schedule_is
+
+  -- so the root stands for the state after the commit
+  pub commit_stands : (counts : Counts) → IsReached p (committed_as s g counts (numbered s.numbers tree)).after
+      → KeepsAllHooks x.rendering.program (committed_state s g (numbered s.numbers tree)) (kept_hooks w.hooks)
+      → Shows (Some (numbered s.numbers tree).1) (passive_left w.lanes (passive_of (compare_trees s.tree (numbered s.numbers tree).1))) shown
+      → Stands p (committed_as s g counts (numbered s.numbers tree)).after (record y { rendering = last; schedule = schedule })
+  commit_stands counts reached keeps shows =
+      let lanes : w.lanes ≡ g.lanes = ap (λ (z : Rendering). z.lanes) c.settled ∙ ap (λ (z : Rooted). z.rendering.lanes) n.rest ∙ h.progress.renders.lanes in
+      let shows_it =
+          subst (λ (ls : Lanes). Shows (Some (numbered s.numbers tree).1) (passive_left ls (passive_of (compare_trees s.tree (numbered s.numbers tree).1))) shown) lanes shows in
+      subst (λ (z : Rooted). Stands p (committed_as s g counts (numbered s.numbers tree)).after z) (sym root_is)
+      (committed_stands p s (IsAtEndOf p s g tree) g counts tree v last shown h reached (last_committed keeps) shows_it)
+
+  -- and its lines are written
+  pub commit_written : (log new : Written)
+      → new ≡ with_lines log (lines_of (x.commits + 1) (lanes_where (has w.lanes)) (record { units = w.units; bodies = w.bodies }) s.tree (numbered s.numbers tree).1)
+      → new ≡ with_lines log (committed_as s g (counts_of v) (numbered s.numbers tree)).lines
+  commit_written log new e =
+      let lanes : w.lanes ≡ g.lanes = ap (λ (z : Rendering). z.lanes) c.settled ∙ ap (λ (z : Rooted). z.rendering.lanes) n.rest ∙ h.progress.renders.lanes in
+      let set : lanes_where (has w.lanes) ≡ g.lanes = ap (λ (ls : Lanes). lanes_where (has ls)) lanes ∙ sym h.progress.lanes_are_set in
+      let commits : x.commits ≡ s.commits = ap (λ (z : Rooted). z.commits) n.rest ∙ h.commits in
+      let counts : record { units = w.units; bodies = w.bodies } ≡ counts_of v =
+          ap (λ (z : Rendering). record { units = z.units; bodies = z.bodies }) c.settled ∙ ap (λ (z : Rooted). record { units = z.rendering.units; bodies = z.rendering.bodies }) n.rest in
+      e
+      ∙ ap (λ (k : ℕ). with_lines log (lines_of (k + 1) (lanes_where (has w.lanes)) (record { units = w.units; bodies = w.bodies }) s.tree (numbered s.numbers tree).1)) commits
+      ∙ ap (λ (ls : Lanes). with_lines log (lines_of (s.commits + 1) ls (record { units = w.units; bodies = w.bodies }) s.tree (numbered s.numbers tree).1)) set
+      ∙ ap (λ (k : Counts). with_lines log (lines_of (s.commits + 1) g.lanes k s.tree (numbered s.numbers tree).1)) counts
+      ∙ ap (λ (ls : List Line). with_lines log ls) (committed_lines s g (counts_of v) tree)

@@ -1,0 +1,192 @@
+-- What a root stands for after a dispatch.
+use Rattle.std.proofs.Common.{◌≡◌, ℕ, ◌+◌, ◌<◌, ◌≤◌, true, List, length, refl, sym, ap, ◌∙◌, subst, arith, Option, Some, None}
+use Rattle.std.specs.Prelude.{is_none, slice_get, if◌then◌else◌}
+use Rattle.rx_lane.specs.declared.lane.Lane.{Lane}
+use Rattle.rx_lane.specs.Lanes.{Lanes, one, union}
+use Rattle.rx_ast.specs.Syntax.{Program}
+use Rattle.rx_rules.specs.Names.{has_name}
+use Rattle.rx_check.specs.Accepted.{IsAccepted}
+use Rattle.rx_elem.specs.Spots.{Mounted, mounted}
+use Rattle.rx_queue.specs.declared.update.Op.{Op}
+use Rattle.rx_queue.specs.declared.update.Update.{Update}
+use Rattle.rx_queue.specs.Journal.{hook}
+use Rattle.rx_sched.specs.Schedule.{Schedule, after_update, claimed, linked as linked_lanes_of}
+use Rattle.rx_hooks.specs.Hooks.{links_with}
+use Rattle.rx_step.specs.declared.step.Dispatch.{Dispatch}
+use Rattle.rx_step.specs.declared.step.LaneWord.{LaneWord}
+use Rattle.rx_step.specs.declared.step.LaneWord.TheVariants as word
+use Rattle.rx_step.specs.declared.step.Step.TheVariants as step
+use Rattle.rx_step.specs.Steps.{hook_name, path_of}
+use Rattle.rx_model.specs.State.{Progress, State, find_from, hook_number, hooks_at, linked_lanes}
+use Rattle.rx_model.specs.Accepting.{accepted, claimed_if_first, dispatched_for, lane_of, next_update, op_of, with_linked}
+use Rattle.rx_model.specs.HooksOf.{KeepsAllHooks}
+use Rattle.rx_model.specs.Laws.{IsBounded, IsReached}
+use Rattle.run_laws.proofs.AlongRuns.{reached_carries}
+use Rattle.run_laws.proofs.RunTrees.{reached_tree}
+use Rattle.rx_fiber.specs.Reading.{IsTreeOf}
+use Rattle.rx_read.specs.Numbering.{IsAllNumbered}
+use Rattle.rx_hook_store.specs.Store.{kept_hooks}
+use Rattle.rx_hook_store.specs.Changing.{lanes_linked}
+use Rattle.rx_hook_store.specs.Commits.{LinksBelow}
+use Rattle.rx_hook_store.proofs.Numbered.{mounted_below}
+use Rattle.rx_hook_store.proofs.Staying.{all_stay}
+use Rattle.rx_render.specs.declared.at.At.{At}
+use Rattle.rx_render.specs.declared.at.At.TheVariants.{Begins, Completes, Over}
+use Rattle.rx_render.specs.Rendering.{IfLeft, Rendering}
+use Rattle.rx_render.specs.Renders.{Renders, with_hooks}
+use Rattle.rx_root.specs.declared.events.Sent.{Sent}
+use Rattle.rx_root.specs.Rooted.{Rooted}
+use Rattle.rx_root.specs.Stands.{HasProgress, Stands}
+use Rattle.rx_root.specs.Taking.{CanTake, IsFor, claimed_by, root_accepted}
+use Rattle.rx_root.proofs.HookCounts.{mounted_hooks}
+use Rattle.rx_root.proofs.Paths.{dispatch_hook, found_hook, found_there}
+use Rattle.rx_root.proofs.Standing.{stands_after}
+
+-- ---- where a dispatch goes
+
+-- the instance that was found is the one that the dispatch is for, by its hook
+pub is_for : (p : Program) (s : State) (v : Rooted) (d : Dispatch) (all : List Mounted) (m : Mounted) (sent : Sent) → IsAccepted p → Stands p s v → CanTake p (step.Dispatch d)
+    → all ≡ mounted s.tree → find_from p all None (path_of d) ≡ Some m → sent.instance ≡ m.number → sent.place ≡ hook_number p m.component (hook_name d)
+    → (has_name (hooks_at p m.component) (hook_name d) ≡ true → sent.place < length (hooks_at p m.component)) → sent.op ≡ op_of p m.component d → IsFor p s d sent
+is_for p s v d all m sent accepted h can listed found number place below op =
+    let here : find_from p (mounted s.tree) None (path_of d) ≡ Some m = subst (λ (xs : List Mounted). find_from p xs None (path_of d) ≡ Some m) listed found in
+    let there = found_there p (mounted s.tree) (path_of d) m here in
+    let named = dispatch_hook p d can in
+    let has = found_hook p accepted (mounted s.tree) (mounted_hooks p s.tree (reached_tree p s h.reached)) (path_of d) (hook_name d) named.0 named.1 m here in
+    record {
+      place_in_tree = there.0;
+      instance = m;
+      there = there.1;
+      found = here;
+      number = number;
+      hook = place;
+      below = omega (arith, below has.named, has.each);
+      op = op;
+    }
+
+-- an update that comes now lies behind the cut of a render in progress
+pub lies_behind : (p : Program) (s : State) (v : Rooted) → Stands p s v → IfLeft v.rendering.at (v.rendering.cut.updates ≤ v.updates)
+lies_behind p s v h = go s.progress h.progress
+  where
+    left : (at : At) (n m : ℕ) → n ≤ m → IfLeft at (n ≤ m)
+    left (Begins id) n m le = le
+    left (Completes id) n m le = le
+    left Over n m le = tt
+
+    over : (at : At) (n m : ℕ) → at ≡ Over → IfLeft at (n ≤ m)
+    over at n m is = subst (λ a. IfLeft a (n ≤ m)) (sym is) tt
+
+    go : (x : Option Progress) → HasProgress p s x v → IfLeft v.rendering.at (v.rendering.cut.updates ≤ v.updates)
+    go None idle = over v.rendering.at v.rendering.cut.updates v.updates idle.over
+    go (Some g) on =
+        let cut = ap (λ k. k.updates) on.renders.cut in
+        let past = on.renders.past.updates in
+        let updates = h.updates in
+        left v.rendering.at v.rendering.cut.updates v.updates (omega (arith, cut, past, updates))
+
+-- the number of a mounted instance was given before the next one
+pub number_below : (p : Program) → IsBounded p → (s : State) → IsReached p s → (k : ℕ) (m : Mounted) → slice_get (mounted s.tree) k ≡ Some m → m.number < s.numbers.instance
+number_below p bounded s reached k m at =
+    let carried = reached_carries p bounded.shallow bounded.declared s reached in mounted_below s.numbers.instance s.tree k m carried.2.sound.own_numbers at
+
+-- ---- after it
+
+-- the root after an update that links nothing
+plain_root : (v : Rooted) (rd : Rendering) (lanes : Option Lanes) (lane l : Lane) (sc : Schedule) (ev : Option Lane) → lanes ≡ None → lane ≡ l → v.schedule ≡ sc → v.event ≡ ev
+    → root_accepted lanes lane (record v { rendering = rd })
+    ≡ record v { rendering = rd; schedule = after_update sc l v.now; updates = v.updates + 1; event = ev; later = union v.later (one l) }
+plain_root v rd lanes lane l sc ev none is schedule event =
+    ap (λ (x : Option Lanes). root_accepted x lane (record v { rendering = rd })) none
+    ∙ (λ i. record v { rendering = rd; schedule = after_update (schedule i) (is i) v.now; updates = v.updates + 1; event = event i; later = union v.later (one (is i)) })
+
+-- the root after a transition
+transition_root : (v : Rooted) (rd : Rendering) (lanes : Option Lanes) (ls : Lanes) (lane l : Lane) (sc : Schedule) (ev : Option Lane) → lanes ≡ Some ls → lane ≡ l → v.schedule ≡ sc
+    → v.event ≡ ev
+    → root_accepted lanes lane (record v { rendering = rd; schedule = claimed_by word.Transition v.event v.schedule })
+    ≡ record v { rendering = rd; schedule = after_update (linked_lanes_of (if is_none ev then claimed sc else sc) ls) l v.now; updates = v.updates + 1; event = Some l; later = union v.later (one l) }
+transition_root v rd lanes ls lane l sc ev some is schedule event =
+    ap (λ (x : Option Lanes). root_accepted x lane (record v { rendering = rd; schedule = claimed_by word.Transition v.event v.schedule })) some
+    ∙ (λ i. record v { rendering = rd; schedule = after_update (linked_lanes_of (if is_none (event i) then claimed (schedule i) else schedule i) ls) (is i) v.now; updates = v.updates + 1; event = Some (is i); later = union v.later (one (is i)) })
+
+module _ (p : Program) (s : State) (v : Rooted) (i k : ℕ) (o : Op) (rd : Rendering) (lanes : Option Lanes) (lane : Lane) (new : Rooted) (h : Stands p s v)
+    (same : rd ≡ with_hooks v.rendering rd.hooks) where
+  -- an update that links nothing
+  plain : (l : Lane) → lane ≡ l → lanes ≡ None → KeepsAllHooks p (accepted s (next_update s.journal (hook i k) o l)) (kept_hooks rd.hooks)
+      → ((g : Progress) → Renders p s g v.rendering → Renders p (accepted s (next_update s.journal (hook i k) o l)) g rd)
+      → LinksBelow (accepted s (next_update s.journal (hook i k) o l)) → IsReached p (accepted s (next_update s.journal (hook i k) o l))
+      → new ≡ root_accepted lanes lane (record v { rendering = rd }) → Stands p (accepted s (next_update s.journal (hook i k) o l)) new
+  plain l lane_is none keeps goes below reached is =
+      subst (λ (r : Rooted). Stands p (accepted s (next_update s.journal (hook i k) o l)) r)
+      (sym (is ∙ plain_root v rd lanes lane l s.schedule s.event none lane_is h.schedule h.event))
+      (stands_after p s s.schedule s.linked s.event (next_update s.journal (hook i k) o l) v rd v.instances same refl goes keeps below h.instances reached h)
+
+  -- a transition
+  transition : lane ≡ lane_of s word.Transition → lanes ≡ Some (links_with lane v.schedule.pending (linked_lanes s.linked (hook i k)))
+      → KeepsAllHooks p (dispatched_for s word.Transition (hook i k) o) (kept_hooks rd.hooks)
+      → ((g : Progress) → Renders p s g v.rendering → Renders p (dispatched_for s word.Transition (hook i k) o) g rd) → LinksBelow (dispatched_for s word.Transition (hook i k) o)
+      → IsReached p (dispatched_for s word.Transition (hook i k) o)
+      → new ≡ root_accepted lanes lane (record v { rendering = rd; schedule = claimed_by word.Transition v.event v.schedule })
+      → Stands p (dispatched_for s word.Transition (hook i k) o) new
+  transition lane_is some keeps goes below reached is =
+      let l = lane_of s word.Transition in
+      let ls : Lanes = links_with l s.schedule.pending (linked_lanes s.linked (hook i k)) in
+      let linked_is : lanes ≡ Some ls = some ∙ (λ j. Some (links_with (lane_is j) (h.schedule j).pending (linked_lanes s.linked (hook i k)))) in
+      subst (λ (r : Rooted). Stands p (dispatched_for s word.Transition (hook i k) o) r)
+      (sym (is ∙ transition_root v rd lanes ls lane l s.schedule s.event linked_is lane_is h.schedule h.event))
+      (stands_after p s (linked_lanes_of (claimed_if_first s) ls) (with_linked s.linked (hook i k) ls) (Some l) (next_update s.journal (hook i k) o l) v rd v.instances same refl
+      goes keeps below h.instances reached h)
+
+  -- the root stands for the state after the dispatch
+  pub sent_stands : (w : LaneWord) (u : Update) → lane ≡ lane_of s w → u.lane ≡ lane → lanes ≡ lanes_linked w u v.schedule.pending (linked_lanes s.linked (hook i k))
+      → KeepsAllHooks p (dispatched_for s w (hook i k) o) (kept_hooks rd.hooks)
+      → ((g : Progress) → Renders p s g v.rendering → Renders p (dispatched_for s w (hook i k) o) g rd) → LinksBelow (dispatched_for s w (hook i k) o)
+      → IsReached p (dispatched_for s w (hook i k) o) → new ≡ root_accepted lanes lane (record v { rendering = rd; schedule = claimed_by w v.event v.schedule })
+      → Stands p (dispatched_for s w (hook i k) o) new
+  sent_stands word.Sync u lane_is has lanes_are keeps goes below reached is = plain (lane_of s word.Sync) lane_is lanes_are keeps goes below reached is
+  sent_stands word.Input u lane_is has lanes_are keeps goes below reached is = plain (lane_of s word.Input) lane_is lanes_are keeps goes below reached is
+  sent_stands word.Default u lane_is has lanes_are keeps goes below reached is = plain (lane_of s word.Default) lane_is lanes_are keeps goes below reached is
+  sent_stands word.Transition u lane_is has lanes_are keeps goes below reached is =
+      transition lane_is (lanes_are ∙ ap (λ (l : Lane). Some (links_with l v.schedule.pending (linked_lanes s.linked (hook i k)))) has) keeps goes below reached is
+
+-- ---- where memory runs out
+
+unsent_progress : (p : Program) (s : State) (v : Rooted) (rd : Rendering) → rd ≡ with_hooks v.rendering rd.hooks → ((g : Progress) → Renders p s g v.rendering → Renders p s g rd)
+    → (x : Option Progress) → HasProgress p s x v → HasProgress p s x (record v { rendering = rd })
+unsent_progress p s v rd same goes None h =
+    record { over = ap (λ (r : Rendering). r.at) same ∙ h.over; empty = ap (λ (r : Rendering). r.trees.draft) same ∙ h.empty }
+unsent_progress p s v rd same goes (Some g) h =
+    record {
+      renders = goes g h.renders;
+      units = ap (λ (r : Rendering). r.units) same ∙ h.units;
+      bodies = ap (λ (r : Rendering). r.bodies) same ∙ h.bodies;
+      left = subst (λ at. IfLeft at ⊥ → ⊥) (sym (ap (λ (r : Rendering). r.at) same)) h.left;
+      lanes_are_set = h.lanes_are_set;
+      later = h.later;
+    }
+
+-- hooks that stand for the same leave all else
+pub unsent_stands : (p : Program) (s : State) (v : Rooted) (rd : Rendering) (new : Rooted) → Stands p s v → rd ≡ with_hooks v.rendering rd.hooks
+    → ((n : ℕ) → kept_hooks rd.hooks n ≡ kept_hooks v.rendering.hooks n) → ((g : Progress) → Renders p s g v.rendering → Renders p s g rd) → new ≡ record v { rendering = rd }
+    → Stands p s new
+unsent_stands p s v rd new h same kept goes is =
+    subst (λ (r : Rooted). Stands p s r) (sym is)
+    (record {
+      reached = h.reached;
+      program = ap (λ (r : Rendering). r.program) same ∙ h.program;
+      current = subst (λ (r : Rendering). IsTreeOf s.tree r.trees.current) (sym same) h.current;
+      numbered = subst (λ (r : Rendering). IsAllNumbered r.trees) (sym same) h.numbered;
+      keeps = all_stay s s refl refl p (kept_hooks v.rendering.hooks) (kept_hooks rd.hooks) refl kept h.keeps;
+      below = h.below;
+      shows = h.shows;
+      schedule = h.schedule;
+      commits = h.commits;
+      updates = h.updates;
+      resolutions = h.resolutions;
+      values = h.values;
+      now = h.now;
+      event = h.event;
+      numbers = h.numbers;
+      declared = h.declared;
+      instances = h.instances;
+      progress = unsent_progress p s v rd same goes s.progress h.progress;
+    })

@@ -1,0 +1,250 @@
+-- What a root stands for after a step that renders nothing.
+use Rattle.std.proofs.Common.{◌≡◌, ℕ, ℤ, zero, suc, ◌+◌, ◌<◌, ◌≤◌, Bool, true, false, ◌&&◌, ◌||◌, cond, nat_eq, nat_le, Option, Some, None, List, [], ◌∷◌, ◌++◌, length, map, refl, sym, ap, ◌∙◌, subst, arith}
+use Rattle.std.specs.Prelude.{IfSome, find, slice_set, take}
+use Rattle.std.specs.List.{list_any, range_with_len}
+use Rattle.std.specs.Option.{option_map}
+use Rattle.std.proofs.lemmas.Bool.Decides.{nat_tests}
+use Rattle.std.proofs.lemmas.List.{length-append}
+use Rattle.std.proofs.lemmas.List.Folds.{list_any-append}
+use Rattle.rx_base.specs.declared.cut.Cut.{Cut}
+use Rattle.rx_lane.specs.declared.lane.Lane.{Lane}
+use Rattle.rx_lane.specs.Lanes.{Lanes, has, one, same_lane, union}
+use Rattle.rx_lane.specs.SetLaws.{has-lanes_where}
+use Rattle.rx_ast.specs.Syntax.{Program}
+use Rattle.rx_rules.specs.Names.{resources}
+use Rattle.rx_elem.specs.Spots.{Mounted, mounted}
+use Rattle.rx_queue.specs.Journal.{Journal, Posted, Resolution, has_later, resolved_now}
+use Rattle.rx_sched.specs.Schedule.{Schedule, after_resolution, after_update}
+use Rattle.rx_meaning.specs.Outcome.{is_awaited}
+use Rattle.rx_effect.specs.EffectLog.{Passive}
+use Rattle.rx_model.specs.State.{Linked, Progress, State}
+use Rattle.rx_model.specs.Accepting.{accepted, with_value}
+use Rattle.rx_model.specs.HooksOf.{KeepsAllHooks}
+use Rattle.rx_model.specs.Laws.{IsReached}
+use Rattle.run_laws.proofs.Keeping.{now_stays}
+use Rattle.rx_fiber.specs.Reading.{IsTreeOf}
+use Rattle.rx_read.specs.Numbering.{IsAllNumbered}
+use Rattle.rx_hook_store.specs.Store.{kept_hooks}
+use Rattle.rx_hook_store.specs.Commits.{LinksBelow}
+use Rattle.rx_hook_store.proofs.Staying.{all_stay}
+use Rattle.rx_commit.specs.Shown.{Shown, Shows}
+use Rattle.rx_render.specs.Rendering.{IfLeft, Rendering}
+use Rattle.rx_render.specs.Renders.{Renders, with_hooks}
+use Rattle.rx_render.proofs.Later.{renders_resolved, renders_same}
+use Rattle.rx_root.specs.Rooted.{Rooted}
+use Rattle.rx_root.specs.Stands.{HasProgress, Stands}
+
+-- ---- the clock, the event and the passive effects
+
+-- a state with this time, this event and these passive effects
+abbrev pub at_time : State → ℕ → Option Lane → Passive → State
+at_time s now event passive = record s { now = now; event = event; passive = passive }
+
+progress_stays : (p : Program) (s : State) (now : ℕ) (event : Option Lane) (passive : Passive) (v : Rooted) (clock : ℕ) (shown : Shown) (x : Option Progress)
+    → HasProgress p s x v → HasProgress p (at_time s now event passive) x (record v { now = clock; event = event; shown = shown })
+progress_stays p s now event passive v clock shown None h = h
+progress_stays p s now event passive v clock shown (Some g) h =
+    record {
+      renders = renders_same p s (at_time s now event passive) g v.rendering refl refl refl h.renders;
+      units = h.units;
+      bodies = h.bodies;
+      left = h.left;
+      lanes_are_set = h.lanes_are_set;
+      later = h.later;
+    }
+
+-- another time, event or passive effects leave all else
+pub stands_at : (p : Program) (s : State) (now : ℕ) (event : Option Lane) (passive : Passive) (v : Rooted) (clock : ℕ) (shown : Shown) → clock ≡ now → Shows s.tree passive shown
+    → IsReached p (at_time s now event passive) → Stands p s v → Stands p (at_time s now event passive) (record v { now = clock; event = event; shown = shown })
+stands_at p s now event passive v clock shown time shows reached h =
+    record {
+      reached = reached;
+      program = h.program;
+      current = h.current;
+      numbered = h.numbered;
+      keeps = all_stay s (at_time s now event passive) refl refl p (kept_hooks v.rendering.hooks) (kept_hooks v.rendering.hooks) refl (λ n. refl) h.keeps;
+      below = h.below;
+      shows = shows;
+      schedule = h.schedule;
+      commits = h.commits;
+      updates = h.updates;
+      resolutions = h.resolutions;
+      values = h.values;
+      now = time;
+      event = refl;
+      numbers = h.numbers;
+      declared = h.declared;
+      instances = h.instances;
+      progress = progress_stays p s now event passive v clock shown s.progress h.progress;
+    }
+
+-- ---- updates
+
+or_nothing : (b : Bool) → (b || false) ≡ b
+or_nothing true = refl
+or_nothing false = refl
+
+-- the lanes of the updates since the cut, with one update more behind it
+later_more : (cut : Cut) (j : Journal) (u : Posted) (a : Lanes) (l : Lane) → has a l ≡ has_later cut j l → nat_le cut.updates u.update.number ≡ true
+    → has (union a (one u.update.lane)) l ≡ has_later cut (record j { updates = j.updates ++ u ∷ [] }) l
+later_more cut j u a l before behind =
+    let test : Posted → Bool = λ w. nat_le cut.updates w.update.number && same_lane w.update.lane l in
+    let both : has (union a (one u.update.lane)) l ≡ (has a l || has (one u.update.lane) l) = has-lanes_where _ l in
+    let own : has (one u.update.lane) l ≡ same_lane u.update.lane l = has-lanes_where _ l in
+    let last : list_any test (u ∷ []) ≡ same_lane u.update.lane l =
+    ap (λ b. (b && same_lane u.update.lane l) || false) behind ∙ or_nothing (same_lane u.update.lane l) in
+    both ∙ (ap (λ b. b || has (one u.update.lane) l) before ∙ (ap (λ b. list_any test j.updates || b) (own ∙ sym last) ∙ sym (list_any-append test j.updates (u ∷ []))))
+
+module _ (p : Program) (s : State) (sc : Schedule) (ln : List Linked) (ev : Option Lane) (u : Posted) (v : Rooted) (rd : Rendering) (ms : Option (List Mounted)) where
+  -- the state after the update
+  abbrev state_after : State
+  state_after = accepted (record s { schedule = sc; linked = ln; event = ev }) u
+
+  -- the root after the update
+  abbrev root_after : Rooted
+  root_after =
+      record v {
+        rendering = rd;
+        schedule = after_update sc u.update.lane v.now;
+        updates = v.updates + 1;
+        event = ev;
+        later = union v.later (one u.update.lane);
+        instances = ms;
+      }
+
+  progress_after : rd ≡ with_hooks v.rendering rd.hooks → u.update.number ≡ length s.journal.updates → ((g : Progress) → Renders p s g v.rendering → Renders p state_after g rd)
+      → (x : Option Progress) → HasProgress p s x v → HasProgress p state_after x root_after
+  progress_after same number goes None h =
+      record { over = ap (λ (r : Rendering). r.at) same ∙ h.over; empty = ap (λ (r : Rendering). r.trees.draft) same ∙ h.empty }
+  progress_after same number goes (Some g) h =
+      let past = h.renders.past.updates in
+      let behind : nat_le g.cut.updates u.update.number ≡ true = grind (arith, nat_tests, past, number) in
+      record {
+        renders = goes g h.renders;
+        units = ap (λ (r : Rendering). r.units) same ∙ h.units;
+        bodies = ap (λ (r : Rendering). r.bodies) same ∙ h.bodies;
+        left = subst (λ at. IfLeft at ⊥ → ⊥) (sym (ap (λ (r : Rendering). r.at) same)) h.left;
+        lanes_are_set = h.lanes_are_set;
+        later = λ l. later_more g.cut s.journal u v.later l (h.later l) behind;
+      }
+
+  -- an update is accepted
+  pub stands_after : rd ≡ with_hooks v.rendering rd.hooks → u.update.number ≡ length s.journal.updates → ((g : Progress) → Renders p s g v.rendering → Renders p state_after g rd)
+      → KeepsAllHooks p state_after (kept_hooks rd.hooks) → LinksBelow state_after → IfSome ms (λ xs. xs ≡ mounted s.tree) → IsReached p state_after
+      → Stands p s v → Stands p state_after root_after
+  stands_after same number goes keeps below listed reached h =
+      record {
+        reached = reached;
+        program = ap (λ (r : Rendering). r.program) same ∙ h.program;
+        current = subst (λ (r : Rendering). IsTreeOf s.tree r.trees.current) (sym same) h.current;
+        numbered = subst (λ (r : Rendering). IsAllNumbered r.trees) (sym same) h.numbered;
+        keeps = keeps;
+        below = below;
+        shows = h.shows;
+        schedule = ap (after_update sc u.update.lane) h.now;
+        commits = h.commits;
+        updates = ap (λ n. n + 1) h.updates ∙ sym (length-append s.journal.updates (u ∷ []));
+        resolutions = h.resolutions;
+        values = h.values;
+        now = h.now;
+        event = refl;
+        numbers = h.numbers;
+        declared = h.declared;
+        instances = listed;
+        progress = progress_after same number goes s.progress h.progress;
+      }
+
+-- ---- resolutions
+
+find_later : (test : Resolution → Bool) (xs : List Resolution) (x : Resolution) → test x ≡ true → option_map (λ (y : Resolution). y.value) (find test xs) ≡ None
+    → option_map (λ (y : Resolution). y.value) (find test (xs ++ x ∷ [])) ≡ Some x.value
+find_later test [] x passes none = rw passes refl
+find_later test (y ∷ ys) x passes none = go (test y) none (find_later test ys x passes)
+  where
+    go : (b : Bool) → option_map (λ (y : Resolution). y.value) (cond b (Some y) (find test ys)) ≡ None
+        → (option_map (λ (y : Resolution). y.value) (find test ys) ≡ None → option_map (λ (y : Resolution). y.value) (find test (ys ++ x ∷ [])) ≡ Some x.value)
+        → option_map (λ (y : Resolution). y.value) (cond b (Some y) (find test (ys ++ x ∷ []))) ≡ Some x.value
+    go true e later = cc
+    go false e later = later e
+
+take_all : (xs : List Resolution) → take (length xs) xs ≡ xs
+take_all [] = refl
+take_all (x ∷ xs) = ap (λ ys. x ∷ ys) (take_all xs)
+
+now_is : (j : Journal) (r : ℕ) → resolved_now j r ≡ option_map (λ (x : Resolution). x.value) (find (λ x. nat_eq x.resource r) j.resolutions)
+now_is j r = ap (λ (xs : List Resolution). option_map (λ (x : Resolution). x.value) (find (λ x. nat_eq x.resource r) xs)) (take_all j.resolutions)
+
+-- a resource without a value has that of its resolution
+now_resolved : (us : List Posted) (xs : List Resolution) (x : Resolution) → resolved_now (record { updates = us; resolutions = xs }) x.resource ≡ None
+    → resolved_now (record { updates = us; resolutions = xs ++ x ∷ [] }) x.resource ≡ Some x.value
+now_resolved us xs x none =
+    now_is (record { updates = us; resolutions = xs ++ x ∷ [] }) x.resource
+    ∙ find_later (λ y. nat_eq y.resource x.resource) xs x (grind (arith, nat_tests)) (sym (now_is (record { updates = us; resolutions = xs }) x.resource) ∙ none)
+
+map_alike : (f g : ℕ → Option ℤ) (k n : ℕ) → ((q : ℕ) → k ≤ q → g q ≡ f q) → map f (range_with_len k n) ≡ map g (range_with_len k n)
+map_alike f g k zero same = refl
+map_alike f g k (suc n) same = rw (same k (omega arith), map_alike f g (k + 1) n (λ q le. same q (omega arith))) refl
+
+-- the values of resources, where one of them gets one
+values_set : (f g : ℕ → Option ℤ) (y : Option ℤ) (k n r : ℕ) → ((q : ℕ) → nat_eq (k + r) q ≡ false → g q ≡ f q) → g (k + r) ≡ y
+    → slice_set (map f (range_with_len k n)) r y ≡ map g (range_with_len k n)
+values_set f g y k zero r others here = refl
+values_set f g y k (suc n) zero others here =
+    let at : k + 0 ≡ k = omega arith in
+    let first : y ≡ g k = sym here ∙ ap g at in
+    rw (first, map_alike f g (k + 1) n (λ q le. others q (grind (arith, nat_tests)))) refl
+values_set f g y k (suc n) (suc r) others here =
+    let at : (k + 1) + r ≡ k + suc r = omega arith in
+    let first : g k ≡ f k = others k (grind (arith, nat_tests)) in
+    rw (sym first, values_set f g y (k + 1) n r (λ q no. others q (rw (← at) no)) (ap g at ∙ here)) refl
+
+module _ (p : Program) (s : State) (r : ℕ) (x : ℤ) (v : Rooted) where
+  -- the root after the resolution
+  abbrev root_resolved : Rooted
+  root_resolved =
+      record v {
+        schedule = after_resolution v.schedule r (is_awaited s.tree r) v.now;
+        resolutions = v.resolutions + 1;
+        values = slice_set v.values r (Some x);
+      }
+
+  progress_resolved : (g : Option Progress) → HasProgress p s g v → HasProgress p (with_value s r x) g root_resolved
+  progress_resolved None h = h
+  progress_resolved (Some g) h =
+      record {
+        renders = renders_resolved p s g v.rendering r x h.renders;
+        units = h.units;
+        bodies = h.bodies;
+        left = h.left;
+        lanes_are_set = h.lanes_are_set;
+        later = h.later;
+      }
+
+  -- a resource gets its value
+  pub stands_resolved : resolved_now s.journal r ≡ None → r < length (resources p) → IsReached p (with_value s r x) → Stands p s v → Stands p (with_value s r x) root_resolved
+  stands_resolved none within reached h =
+      let last : Resolution = record { resource = r; value = x } in
+      record {
+        reached = reached;
+        program = h.program;
+        current = h.current;
+        numbered = h.numbered;
+        keeps = all_stay s (with_value s r x) refl refl p (kept_hooks v.rendering.hooks) (kept_hooks v.rendering.hooks) refl (λ n. refl) h.keeps;
+        below = h.below;
+        shows = h.shows;
+        schedule = ap (λ (sc : Schedule). after_resolution sc r (is_awaited s.tree r) v.now) h.schedule ∙ ap (after_resolution s.schedule r (is_awaited s.tree r)) h.now;
+        commits = h.commits;
+        updates = h.updates;
+        resolutions = ap (λ n. n + 1) h.resolutions ∙ sym (length-append s.journal.resolutions (last ∷ []));
+        values =
+            ap (λ (xs : List (Option ℤ)). slice_set xs r (Some x)) h.values
+            ∙ values_set (resolved_now s.journal) (resolved_now (with_value s r x).journal) (Some x) 0 (length (resources p)) r
+            (λ q no. let zero_more : 0 + r ≡ r = omega arith in now_stays s.journal.updates s.journal.resolutions last q (rw zero_more at no))
+            (let zero_more : 0 + r ≡ r = omega arith in rw zero_more (now_resolved s.journal.updates s.journal.resolutions last none));
+        now = h.now;
+        event = h.event;
+        numbers = h.numbers;
+        declared = λ q late. now_stays s.journal.updates s.journal.resolutions last q (grind (arith, nat_tests)) ∙ h.declared q late;
+        instances = h.instances;
+        progress = progress_resolved s.progress h.progress;
+      }

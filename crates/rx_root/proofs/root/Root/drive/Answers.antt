@@ -1,0 +1,18 @@
+use Rattle.std.proofs.Common.{sym, subst, Some}
+use Rattle.rx_root.specs.Rooted.{Rooted}
+use Rattle.rx_root.specs.Stands.{StandsWith}
+use Rattle.rx_root.specs.contracts.root.Root.{the_view}
+use Rattle.rx_root.proofs.DriveEnds.{some_left, driven_as}
+use Rattle.rx_root.proofs.root.Root.drive.Goals as goal
+
+pub drive-requires-clause-some : goal.drive-requires-clause-some
+drive-requires-clause-some g c =
+    let is = c.requires.goes_on in
+    some_left is.program is.state is.progress (the_view c.self.inside) c.facts.ensures.bounded
+    (subst (λ (v : Rooted). StandsWith is.program is.state (Some is.progress) v) (sym c.self.view_is) is.stands)
+
+pub returns-clause-ends : goal.returns-clause-ends
+returns-clause-ends g c =
+    driven_as c.drive.result c.args.self.now (the_view c.self.inside) c.drive.new.units c.args.slice c.unwrap_or.result c.is_some.result c.args.steps.now c.drive.new.steps c.self.view_is
+    c.facts.ensures.bounded c.unwrap_or.ensures c.is_some.ensures c.drive.ensures.ends c.drive.ensures.counts c.drive.ensures.used c.drive.ensures.each c.drive.ensures.ticks
+    c.drive.ensures.onward c.drive.ensures.rises

@@ -1,0 +1,38 @@
+use Rattle.std.proofs.Common.{List, Option, Some, sym, ap, ◌∙◌, subst}
+use Rattle.std.specs.Prelude.{ℤ}
+use Rattle.rx_lane.specs.Lanes.{Lanes, no_lanes}
+use Rattle.rx_effect.specs.EffectLog.{no_passive}
+use Rattle.rx_model.specs.State.{State}
+use Rattle.rx_model.specs.Committing.{passive_run, starting}
+use Rattle.rx_commit.specs.Shown.{Shown}
+use Rattle.rx_render.specs.Renders.{IsStartOf}
+use Rattle.rx_root.specs.Rooted.{Rooted}
+use Rattle.rx_root.specs.Stands.{Stands, StandsWith}
+use Rattle.rx_root.specs.contracts.root.Root.{the_view}
+use Rattle.rx_root.proofs.TurnReached.{reached_passive}
+use Rattle.rx_root.proofs.TurnStands.{can_start, started_as}
+use Rattle.rx_root.proofs.root.Root.start.Goals as goal
+
+pub start-requires : goal.start-requires
+start-requires c =
+    let p = c.requires.program in
+    let s = c.requires.state in
+    let h = subst (λ (v : Rooted). Stands p s v) (sym c.self.view_is) c.requires.stands in
+    let is = can_start p s (the_view c.self.inside) c.args.lanes h (reached_passive p s c.requires.stands.reached c.requires.between) in
+    record {
+      state = (passive_run s).after;
+      is = subst (λ (values : List (Option ℤ)). IsStartOf (passive_run s).after c.args.lanes (record { updates = c.self.inside.updates; resolutions = c.self.inside.resolutions }) values c.self.inside.renderer)
+      (sym (c.in_ok-values.ensures ∙ c.deref.ensures.value)) is;
+    }
+
+pub returns-clause-starts : goal.returns-clause-starts
+returns-clause-starts c p s i none set =
+    let v = the_view c.self.inside in
+    let h = subst (λ (x : Rooted). Stands p s x) (sym c.self.view_is) i in
+    let reached = reached_passive p s h.reached none in
+    let is =
+        subst (λ (values : List (Option ℤ)). IsStartOf (passive_run s).after c.args.lanes (record { updates = c.self.inside.updates; resolutions = c.self.inside.resolutions }) values c.self.inside.renderer)
+        (sym (c.in_ok-values.ensures ∙ c.deref.ensures.value)) (can_start p s v c.args.lanes h reached) in
+    let on = c.in_ok-start.ensures in
+    started_as p s v c.args.lanes c.start.new.self c.flush_passive.new.self c.none-self-inside.result h reached set on.program on.current on.hooks (on.started (passive_run s).after is) on.units on.bodies
+    on.left c.in_ok-flush_passive.ensures.ended c.none-self-inside.ensures

@@ -1,0 +1,64 @@
+use Rattle.rx_step.specs.declared.step.Step.TheVariants as step
+use Rattle.rx_begin.proofs.Begins.{on_ok}
+use Rattle.rx_root.proofs.Lines.{on_ok_both}
+use Rattle.rx_root.proofs.Taken.{event_taken, passive_taken, state_taken, taken_as, tick_taken, tree_taken}
+use Rattle.rx_root.proofs.root.Root.step.Goals as goal
+
+pub returns-in-Dispatch-clause-ok : goal.returns-in-Dispatch-clause-ok
+returns-in-Dispatch-clause-ok g c =
+    on_ok c.dispatch.result _ _
+    (λ f s h. taken_as c.args.self.now.rendering.program s (step.Dispatch c.in-Dispatch.dispatch) c.args.step.now c.dispatch.new.self c.args.log.now c.dispatch.new.log c.args.steps.now c.args.steps.now c.in-Dispatch.is
+    (f s c.args.steps.now h))
+    c.dispatch.ensures.ok
+
+pub returns-in-Resolve-clause-ok : goal.returns-in-Resolve-clause-ok
+returns-in-Resolve-clause-ok g c =
+    on_ok c.resolve.result _ _
+    (λ f s h. taken_as c.args.self.now.rendering.program s (step.Resolve c.in-Resolve.name c.in-Resolve.value) c.args.step.now c.resolve.new.self c.args.log.now c.resolve.new.log c.args.steps.now c.args.steps.now c.in-Resolve.is
+    (f s c.args.steps.now h))
+    c.resolve.ensures.ok
+
+pub returns-in-Tick-clause-ok : goal.returns-in-Tick-clause-ok
+returns-in-Tick-clause-ok g c s h =
+    taken_as c.args.self.now.rendering.program s (step.Tick c.in-Tick.time) c.args.step.now c.tick.new.self c.args.log.now c.args.log.now c.args.steps.now c.args.steps.now c.in-Tick.is
+    (tick_taken c.args.self.now.rendering.program s c.in-Tick.time c.args.self.now c.tick.new.self c.args.log.now c.args.steps.now h c.tick.ensures)
+
+pub returns-in-Work-clause-ok : goal.returns-in-Work-clause-ok
+returns-in-Work-clause-ok g c =
+    on_ok c.take_work.result _ _
+    (λ f s h. taken_as c.args.self.now.rendering.program s (step.Work c.in-Work.budget) c.args.step.now c.take_work.new.self c.args.log.now c.take_work.new.log c.args.steps.now c.take_work.new.steps c.in-Work.is (f s h))
+    c.take_work.ensures.ok
+
+pub returns-in-Flush-clause-ok : goal.returns-in-Flush-clause-ok
+returns-in-Flush-clause-ok g c =
+    on_ok c.take_flush.result _ _
+    (λ f s h. taken_as c.args.self.now.rendering.program s step.Flush c.args.step.now c.take_flush.new.self c.args.log.now c.take_flush.new.log c.args.steps.now c.take_flush.new.steps c.in-Flush.is (f s h))
+    c.take_flush.ensures.ok
+
+pub returns-in-FlushSync-clause-ok : goal.returns-in-FlushSync-clause-ok
+returns-in-FlushSync-clause-ok g c =
+    on_ok c.take_flush_sync.result _ _
+    (λ f s h. taken_as c.args.self.now.rendering.program s step.FlushSync c.args.step.now c.take_flush_sync.new.self c.args.log.now c.take_flush_sync.new.log c.args.steps.now c.take_flush_sync.new.steps c.in-FlushSync.is (f s h))
+    c.take_flush_sync.ensures.ok
+
+pub returns-in-Passive-clause-ok : goal.returns-in-Passive-clause-ok
+returns-in-Passive-clause-ok g c =
+    on_ok_both c.passive.result _ _ _
+    (λ is are s h. taken_as c.args.self.now.rendering.program s step.Passive c.args.step.now c.passive.new.self c.args.log.now c.passive.new.log c.args.steps.now c.args.steps.now c.in-Passive.is
+    (passive_taken c.args.self.now.rendering.program s c.args.self.now c.passive.new.self c.args.log.now c.passive.new.log c.args.steps.now h is are))
+    c.passive.ensures.ran c.passive.ensures.written
+
+pub returns-in-Event-clause-ok : goal.returns-in-Event-clause-ok
+returns-in-Event-clause-ok g c s h =
+    taken_as c.args.self.now.rendering.program s step.Event c.args.step.now c.end_event.new.self c.args.log.now c.args.log.now c.args.steps.now c.args.steps.now c.in-Event.is
+    (event_taken c.args.self.now.rendering.program s c.args.self.now c.end_event.new.self c.args.log.now c.args.steps.now h c.end_event.ensures)
+
+pub returns-in_ok-states-in-State-clause-ok : goal.returns-in_ok-states-in-State-clause-ok
+returns-in_ok-states-in-State-clause-ok g c s h =
+    taken_as c.args.self.now.rendering.program s step.State c.args.step.now c.end_event-in-State.new.self c.args.log.now c.states.new.log c.args.steps.now c.args.steps.now c.in-State.is
+    (state_taken c.args.self.now.rendering.program s c.args.self.now c.end_event-in-State.new.self c.args.log.now c.states.new.log c.args.steps.now h c.end_event-in-State.ensures (c.in_ok-states-in-State.ensures.ok s h))
+
+pub returns-in_ok-tree-in-Tree-clause-ok : goal.returns-in_ok-tree-in-Tree-clause-ok
+returns-in_ok-tree-in-Tree-clause-ok g c s h =
+    taken_as c.args.self.now.rendering.program s step.Tree c.args.step.now c.end_event-in-Tree.new.self c.args.log.now c.tree.new.log c.args.steps.now c.args.steps.now c.in-Tree.is
+    (tree_taken c.args.self.now.rendering.program s c.args.self.now c.end_event-in-Tree.new.self c.args.log.now c.tree.new.log c.args.steps.now h c.end_event-in-Tree.ensures (c.in_ok-tree-in-Tree.ensures.ok s h))

@@ -1,0 +1,4 @@
+pub mod Rooted
+pub mod Stands
+pub mod Turning
+pub mod Taking

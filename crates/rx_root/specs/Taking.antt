@@ -1,0 +1,72 @@
+-- Steps that a root takes, and what they do to it.
+use Rattle.std.specs.Prelude.{◌≡◌, ℕ, ◌+◌, ◌<◌, true, List, Option, Some, None, is_none, length, slice_get, if◌then◌else◌}
+use Rattle.std.specs.List.{AllByRecursion}
+use Rattle.rx_lane.specs.declared.lane.Lane.{Lane}
+use Rattle.rx_lane.specs.Lanes.{Lanes, one, union}
+use Rattle.rx_ast.specs.Syntax.{Program}
+use Rattle.rx_elem.specs.Spots.{Mounted, mounted}
+use Rattle.rx_sched.specs.Schedule.{Schedule, after_update, claimed, linked}
+use Rattle.rx_step.specs.declared.step.Dispatch.{Dispatch}
+use Rattle.rx_step.specs.declared.step.LaneWord.{LaneWord}
+use Rattle.rx_step.specs.declared.step.LaneWord.TheVariants as word
+use Rattle.rx_step.specs.declared.step.Step.{Step}
+use Rattle.rx_step.specs.declared.step.Step.TheVariants as step
+use Rattle.rx_step.specs.Steps.{hook_name, path_of}
+use Rattle.rx_script.specs.Lines.{has_targets, in_bounds}
+use Rattle.rx_model.specs.State.{State, hook_number, instance_found}
+use Rattle.rx_model.specs.Accepting.{op_of}
+use Rattle.rx_root.specs.declared.events.Sent.{Sent}
+use Rattle.rx_root.specs.Rooted.{Rooted}
+
+-- a root can take a step: all that it names is there, and its numbers are in their bounds
+abbrev pub CanTake : Program → Step → Type 0
+CanTake p x = (has_targets p x ≡ true) × (in_bounds x ≡ true)
+
+-- each of the steps can be taken
+abbrev pub AllCanTake : Program → List Step → Type 0
+AllCanTake p steps = AllByRecursion (CanTake p) steps
+
+-- a step renders nothing
+abbrev pub IsAside : Step → Type 0
+IsAside (step.Dispatch d) = Unit {0}
+IsAside (step.Resolve name x) = Unit {0}
+IsAside (step.Tick n) = Unit {0}
+IsAside (step.Work n) = ⊥
+IsAside step.Flush = ⊥
+IsAside step.FlushSync = ⊥
+IsAside step.Passive = Unit {0}
+IsAside step.Event = Unit {0}
+IsAside step.State = Unit {0}
+IsAside step.Tree = Unit {0}
+
+-- ---- dispatches
+
+-- an instance of the committed tree is the one that a dispatch is for: this is its hook, one of those that the instance has, and what the dispatch does to it
+pub record IsFor (p : Program) (s : State) (d : Dispatch) (sent : Sent) : Type 0 where
+  pub place_in_tree : ℕ
+  pub instance : Mounted
+  pub there : slice_get (mounted s.tree) place_in_tree ≡ Some instance
+  pub found : instance_found p s.tree (path_of d) ≡ Some instance
+  pub number : sent.instance ≡ instance.number
+  pub hook : sent.place ≡ hook_number p instance.component (hook_name d)
+  pub below : sent.place < length instance.initials
+  pub op : sent.op ≡ op_of p instance.component d
+
+-- what a dispatch is for, or there is no such instance
+abbrev pub IsTargetOf : Program → State → Dispatch → Option Sent → Type 0
+IsTargetOf p s d None = instance_found p s.tree (path_of d) ≡ None
+IsTargetOf p s d (Some sent) = IsFor p s d sent
+
+-- the first transition of an event claims its lane
+abbrev pub claimed_by : LaneWord → (event : Option Lane) → Schedule → Schedule
+claimed_by word.Sync event s = s
+claimed_by word.Input event s = s
+claimed_by word.Default event s = s
+claimed_by word.Transition event s = if is_none event then claimed s else s
+
+-- a root after an update with this lane, which links lanes of its hook where it is a transition
+abbrev pub root_accepted : Option Lanes → Lane → Rooted → Rooted
+root_accepted None l v =
+    record v { schedule = after_update v.schedule l v.now; updates = v.updates + 1; later = union v.later (one l) }
+root_accepted (Some lanes) l v =
+    record v { schedule = after_update (linked v.schedule lanes) l v.now; updates = v.updates + 1; event = Some l; later = union v.later (one l) }

@@ -1,0 +1,175 @@
+-- Turns of a root, by the turns of the machine.
+use Rattle.std.specs.Prelude.{◌≡◌, ℕ, ◌+◌, ◌*◌, ◌<◌, ◌≤◌, ◌^◌, Bool, not, ◌&&◌, List, [], ℤ, Option, Some, None, is_some, slice_index_or, if◌then◌else◌}
+use Rattle.rx_base.specs.Awaits.{Awaits}
+use Rattle.rx_base.specs.Awaits.{has as has_resource}
+use Rattle.rx_lane.specs.declared.lane.Lane.{Lane}
+use Rattle.rx_lane.specs.declared.lane.Lane.TheVariants as lane
+use Rattle.rx_lane.specs.Lanes.{Lanes, has}
+use Rattle.rx_ast.specs.Syntax.{Program}
+use Rattle.rx_rules.specs.Bounds.{node_limit}
+use Rattle.rx_elem.specs.Trees.{Node}
+use Rattle.rx_elem.specs.Numbers.{numbered}
+use Rattle.rx_queue.specs.Journal.{has_later}
+use Rattle.rx_meaning.specs.Fresh.{fresh, made, resources_seen}
+use Rattle.rx_effect.specs.EffectLog.{Passive, no_passive}
+use Rattle.rx_lines.specs.Lines.{Counts, Written}
+use Rattle.rx_model.specs.State.{State, Progress}
+use Rattle.rx_model.specs.Stretch.{Stretch}
+use Rattle.rx_model.specs.Committing.{sight_of, bodies_since, ended}
+use Rattle.rx_model.specs.Turns.{Finishes, Yields, GoesOn}
+use Rattle.rx_model.specs.Machine.{Flushes}
+use Rattle.rx_model.specs.Kept.{IsSet}
+use Rattle.rx_model.specs.Laws.{IsReached}
+use Rattle.run_laws.specs.Carried.{values_now}
+use Rattle.rx_links.specs.Drafts.{grafted}
+use Rattle.rx_fiber.specs.Reading.{IsTreeOf}
+use Rattle.end_laws.specs.Trimmed.{trimmed}
+use Rattle.host_laws.specs.Commits.{IsCommit, TextsAreLeaves}
+use Rattle.rx_commit.specs.Shown.{Shown, Shows}
+use Rattle.rx_commit.specs.Written.{with_lines}
+use Rattle.rx_render.specs.declared.at.At.TheVariants.{Over}
+use Rattle.rx_render.specs.Renders.{Renders}
+use Rattle.rx_root.specs.Rooted.{Rooted}
+use Rattle.rx_root.specs.Stands.{AreDeclared, StandsBy, StandsWith, Stands}
+
+-- the numbers of a root leave room for so many turns more, each with one commit at most
+pub record HasRoomForTurns (turns : ℕ) (v : Rooted) : Type 0 where
+  pub commits : v.commits + turns < 2 ^ 62
+  pub instances : v.numbers.instance + node_limit * turns < 2 ^ 62
+  pub hosts : v.numbers.host + node_limit * turns < 2 ^ 62
+
+-- the units and bodies of the render of a root
+abbrev pub counts_of : Rooted → Counts
+counts_of v = record { units = v.rendering.units; bodies = v.rendering.bodies }
+
+-- a root is at the end of a render of the machine, whose tree this is
+pub record IsAtEndOf (p : Program) (s : State) (g : Progress) (tree : Node) (v : Rooted) : Type 0 where
+  pub renders : Renders p s g v.rendering
+  pub over : v.rendering.at ≡ Over
+  pub there : IsTreeOf (Some tree) (grafted v.rendering.trees.draft)
+  pub gives : fresh (sight_of p s g) s.tree ≡ made tree
+  pub lanes_are_set : IsSet g.lanes
+  pub later : (l : Lane) → has v.later l ≡ has_later g.cut s.journal l
+
+-- a root stands at the end of a render of the machine, from a state that a run comes to
+abbrev pub StandsAtEnd : Program → State → Progress → (tree : Node) → Rooted → Type 0
+StandsAtEnd p s g tree v = StandsBy p s (IsAtEndOf p s g tree) v
+
+-- it stands at some end
+pub record IsAtSomeEnd (v : Rooted) : Type 0 where
+  pub program : Program
+  pub state : State
+  pub progress : Progress
+  pub tree : Node
+  pub stands : StandsAtEnd program state progress tree v
+
+-- it stands for some state, with a render in progress
+pub record HasSomeProgress (v : Rooted) : Type 0 where
+  pub program : Program
+  pub state : State
+  pub progress : Progress
+  pub stands : StandsWith program state (Some progress) v
+
+-- it stands for some state between two events
+pub record StandsBetween (v : Rooted) : Type 0 where
+  pub program : Program
+  pub state : State
+  pub stands : Stands program state v
+  pub between : state.event ≡ None
+
+-- what a root knows of the time since a render began: the values that resources have now and those that the render sees, and the lanes of the updates since its cut
+pub record KnowsSince (p : Program) (s : State) (g : Progress) (v : Rooted) : Type 0 where
+  pub program : v.rendering.program ≡ p
+  pub values : v.values ≡ values_now p s.journal
+  pub seen : v.rendering.resources ≡ resources_seen (sight_of p s g)
+  pub lanes : v.rendering.lanes ≡ g.lanes
+  pub declared : AreDeclared p s.journal
+  pub later : (l : Lane) → has v.later l ≡ has_later g.cut s.journal l
+
+-- it knows so of some render
+pub record KnowsSinceSome (v : Rooted) : Type 0 where
+  pub program : Program
+  pub state : State
+  pub progress : Progress
+  pub knows : KnowsSince program state progress v
+
+-- the new nodes of the tree at the end of a render have their numbers
+pub record HasNumbered (p : Program) (s : State) (g : Progress) (tree : Node) (old new : Rooted) : Type 0 where
+  pub there : IsTreeOf (Some (numbered s.numbers tree).1) (grafted new.rendering.trees.draft)
+  pub next : new.numbers ≡ (numbered s.numbers tree).0
+  pub rest : new ≡ record old { numbers = new.numbers; rendering = record old.rendering { trees = record old.rendering.trees { draft = new.rendering.trees.draft } } }
+
+-- a stretch of the machine is done: the root stands for the state after it, and its lines are written
+pub record HasDone (p : Program) (r : Stretch) (v : Rooted) (log new : Written) : Type 0 where
+  pub stands : Stands p r.after v
+  pub written : new ≡ with_lines log r.lines
+
+-- a stretch of which this holds is done, and its bodies are counted
+pub record Takes (p : Program) (asks : Stretch → Type 0) (v : Rooted) (log new : Written) (steps counted : ℕ) : Type 0 where
+  pub stretch : Stretch
+  pub asked : asks stretch
+  pub done : HasDone p stretch v log new
+  pub bodies : counted ≡ steps + stretch.bodies
+
+-- each stretch in which a render goes on ends in a state that a run comes to
+abbrev pub LeadsOn : Program → State → Progress → (budget : Option ℕ) → Type 0
+LeadsOn p s g budget = (r : Stretch) → GoesOn p s g budget r → IsReached p r.after
+
+-- the passive effects that a commit leaves pending: none, where it has the lane Sync
+abbrev pub passive_left : Lanes → Passive → Passive
+passive_left lanes passive = if has lanes lane.Sync then no_passive else passive
+
+-- one of these resources has a value by now, and had none before
+abbrev pub is_news : (values seen : List (Option ℤ)) → Awaits → (resource : ℕ) → Bool
+is_news values seen waits r = has_resource waits r && (is_some (slice_index_or values r None) && not (is_some (slice_index_or seen r None)))
+
+-- A render in progress is finished within its slice: the root is at its end, and its bodies are counted.
+pub record HasFinished (p : Program) (s : State) (g : Progress) (slice : Option ℕ) (v : Rooted) (steps counted : ℕ) : Type 0 where
+  pub tree : Node
+  pub finishes : Finishes p s g slice (ended s g (counts_of v) tree)
+  pub stands : StandsBy p s (IsAtEndOf p s g tree) v
+  pub bodies : counted ≡ steps + bodies_since g (counts_of v)
+
+-- A render in progress has used up its slice: the root stands for a state with what is left of it, and its bodies are counted.
+pub record HasYielded (p : Program) (s : State) (g : Progress) (slice : Option ℕ) (v : Rooted) (steps counted : ℕ) : Type 0 where
+  pub stretch : Stretch
+  pub yields : Yields p s g slice stretch
+  pub stands : IsReached p stretch.after → Stands p stretch.after v
+  pub silently : stretch.lines ≡ []
+  pub bodies : counted ≡ steps + stretch.bodies
+
+-- after so many turns at most there is room for those that follow, and nothing was accepted
+pub record LeavesRoom (turns : ℕ) (old new : Rooted) : Type 0 where
+  pub room : (more : ℕ) → HasRoomForTurns (turns + more) old → HasRoomForTurns more new
+  pub updates : new.updates ≡ old.updates
+  pub resolutions : new.resolutions ≡ old.resolutions
+
+-- What is shown is that of an old tree and its passive effects; the tree that is to be shown now is the new one, without the vacant places at the ends of its lists, and related to the old one as a commit relates them.
+pub record CanFollow (tree : Node) (old : Option Node) (passive : Passive) (new : Node) (v : Shown) : Type 0 where
+  pub shows : Shows old passive v
+  pub tree_is : tree ≡ trimmed new
+  pub commits : IsCommit old new
+  pub leaves : TextsAreLeaves new
+
+-- some new tree can follow
+pub record CanShow (tree : Node) (v : Shown) : Type 0 where
+  pub old : Option Node
+  pub passive : Passive
+  pub new : Node
+  pub follows : CanFollow tree old passive new v
+
+-- so many renders at most are left to finish until nothing is to be rendered
+abbrev pub CanFlush : (limit : ℕ) → Program → State → Type 0
+CanFlush limit p s = (n : ℕ) × (n ≤ limit) × (r : Stretch) × Flushes n p s r
+
+-- so many renders at most are finished, and then nothing is left to render
+abbrev pub FlushWithin : (limit : ℕ) → Program → State → Stretch → Type 0
+FlushWithin limit p s r = (n : ℕ) × (n ≤ limit) × Flushes n p s r
+
+-- it stands for some state between two events, from which so many renders at most are left to finish
+pub record FlushesFrom (limit : ℕ) (v : Rooted) : Type 0 where
+  pub program : Program
+  pub state : State
+  pub stands : Stands program state v
+  pub between : state.event ≡ None
+  pub ends : CanFlush limit program state

@@ -1,0 +1,338 @@
+// What happens outside of renders: dispatches, resolutions, the clock, passive effects, and what is printed.
+ghost use Rattle.std.specs.Prelude.{◌≡◌, ◌+◌, ◌<◌, ◌≤◌, ◌^◌, ℕ, true, Some, None, IfOk, IsSome, IsSomeAnd, IsTrue, OnErr, OnOk, bytes_eq, is_some, length, position, slice_get, slice_set};
+ghost use Rattle.rx_lane.specs.Lanes.{is_transition};
+ghost use Rattle.rx_rules.specs.Names.{resource_number, resources};
+ghost use Rattle.rx_elem.specs.Spots.{Mounted, mounted};
+ghost use Rattle.rx_effect.specs.EffectLog.{no_passive};
+ghost use Rattle.rx_forest.specs.Hosts.{hosts};
+ghost use Rattle.rx_lines.specs.Lines.{tree_lines};
+ghost use Rattle.rx_queue.specs.Journal.{hook};
+ghost use Rattle.rx_sched.specs.Deadlines.{later};
+ghost use Rattle.rx_sched.specs.Schedule.{Schedule, after_resolution};
+ghost use Rattle.rx_meaning.specs.Outcome.{is_awaited};
+ghost use Rattle.rx_model.specs.State.{State, state_lines};
+ghost use Rattle.rx_model.specs.Accepting.{dispatched_for, lane_of as lane_in};
+ghost use Rattle.rx_model.specs.Laws.{IsReached};
+ghost use Rattle.rx_model.specs.Machine.{StepTo};
+ghost use Rattle.rx_hook_store.specs.Store.{kept_hooks};
+ghost use Rattle.rx_commit.specs.Written.{passive_lines, with_lines};
+ghost use Rattle.rx_render.specs.Rendering.{IfLeft};
+ghost use Rattle.rx_step.specs.declared.step.Step.TheVariants as step;
+ghost use Rattle.rx_root.specs.Stands.{Stands};
+ghost use Rattle.rx_root.specs.Turning.{Takes};
+ghost use Rattle.rx_root.specs.Taking.{CanTake, IsTargetOf, claimed_by, root_accepted};
+
+use crate::root::Root;
+use end_laws::ends_are_not_read;
+use rx_base::{Int, Name};
+use rx_hook_store::{hooks_are_there, links_are_below};
+use rx_instances::{
+    Instances, dispatch_hook, dispatch_op, dispatch_path, dispatch_word, hook_place, show_hooks,
+};
+use rx_lane::{Lane, Lanes};
+use rx_queue::{Op, Update};
+use rx_report::{Report, a_commit_is_in_tree_order};
+use rx_sched::RootLanes;
+use rx_spots::awaited;
+use rx_step::{Dispatch, LaneWord};
+use std::alloc::AllocError;
+
+/// What is sent to a hook of an instance, by its place from 0.
+#[derive(Clone, Copy)]
+pub(crate) struct Sent {
+    instance: u64,
+    place: u32,
+    op: Op,
+}
+
+// An event takes back the claim of its lane: fifteen claims later it is that lane's turn again.
+fn take_back(lanes: &mut RootLanes)
+    ensures { (s : Schedule) → IsTrue (is_transition s.next_transition) → lanes.old ≡ claimed_by LaneWord.Transition None s → lanes.new ≡ s }
+{
+    'claims: for _claim in 0..15u32 {
+        lanes.claim_transition();
+    }
+}
+
+impl Root {
+    /// Time passes, and an event ends.
+    pub(crate) fn tick(&mut self, time: u64)
+        ensures { self.new ≡ record self.old { now = later self.old.now time; event = None } }
+    {
+        self.now = self.now.saturating_add(time);
+        self.event = None;
+    }
+
+    /// An event ends.
+    pub(crate) fn end_event(&mut self)
+        ensures { self.new ≡ record self.old { event = None } }
+    {
+        self.event = None;
+    }
+
+    /// Runs the passive effects that are pending (react.dev, useEffect), and an event ends. An `Err` changes nothing.
+    ///
+    /// # Errors
+    ///
+    /// Want of memory alone.
+    pub(crate) fn passive(&mut self, log: &mut Report) -> Result<(), AllocError>
+        ensures ran { OnOk result (self.new ≡ record self.old { shown = record self.old.shown { passive = no_passive }; event = None }) }
+        ensures written { OnOk result (log.new ≡ with_lines log.old (passive_lines self.old.shown.passive)) }
+        ensures same { OnErr result (self.new ≡ self.old) }
+        ensures unchanged { OnErr result (log.new ≡ log.old) }
+    {
+        self.shown.flush_passive(log)?;
+        self.event = None;
+        Ok(())
+    }
+
+    /// Writes the hooks of all instances, with their committed values (react.dev, State as a Snapshot). An `Err` leaves the
+    /// report as it was.
+    ///
+    /// # Errors
+    ///
+    /// Want of memory alone.
+    pub(crate) fn states(&self, log: &mut Report) -> Result<(), AllocError>
+        requires { (s : State) × Stands self.now.rendering.program s self.now }
+        ensures ok { OnOk result ((s : State) → Stands self.entry.now.rendering.program s self.entry.now → log.new ≡ with_lines log.old (state_lines self.entry.now.rendering.program s)) }
+        ensures err { OnErr result (log.new ≡ log.old) }
+    {
+        ends_are_not_read();
+        show_hooks(
+            self.alloc,
+            log,
+            self.renderer.checked(),
+            self.shown.tree(),
+            self.renderer.hooks(),
+        )
+    }
+
+    /// Writes the tree of hosts. An `Err` leaves the report as it was.
+    ///
+    /// # Errors
+    ///
+    /// Want of memory alone.
+    pub(crate) fn tree(&self, log: &mut Report) -> Result<(), AllocError>
+        ensures ok { OnOk result ((s : State) → Stands self.entry.now.rendering.program s self.entry.now → log.new ≡ with_lines log.old (tree_lines (hosts s.tree))) }
+        ensures err { OnErr result (log.new ≡ log.old) }
+    {
+        self.renderer.facts();
+        self.renderer.checked().program();
+        a_commit_is_in_tree_order();
+        self.shown.write_tree(log)
+    }
+
+    // The instances of the committed tree.
+    fn instances(&self) -> Result<Instances, AllocError>
+        ensures { IfOk result (λ all. (s : State) → Stands self.entry.now.rendering.program s self.entry.now → all ≡ mounted s.tree) }
+    {
+        ends_are_not_read();
+        Instances::new(self.alloc, self.shown.tree())
+    }
+
+    // Lists the instances of the committed tree, unless they are listed since the last commit.
+    fn list_instances(&mut self) -> Result<(), AllocError>
+        ensures listed { OnOk result (IsSome self.new.instances) }
+        ensures same { self.new ≡ record self.old { instances = self.new.instances } }
+        ensures stands { (s : State) → Stands self.old.rendering.program s self.old → Stands self.old.rendering.program s self.new }
+    {
+        if self.instances.is_none() {
+            self.instances = Some(self.instances()?);
+        }
+        Ok(())
+    }
+
+    // The hook that a dispatch is for, and what the dispatch does to it, if its path leads to an instance.
+    fn target(&self, dispatch: &Dispatch) -> Option<Sent>
+        requires { IsSome self.now.instances }
+        ensures { (s : State) → Stands self.entry.now.rendering.program s self.entry.now → CanTake self.entry.now.rendering.program (step.Dispatch dispatch.now)
+            → IsTargetOf self.entry.now.rendering.program s dispatch.now result }
+    {
+        let checked = self.renderer.checked();
+        checked.program();
+        let all = self.instances.as_ref().unwrap();
+        let instance = all.find(checked, dispatch_path(dispatch))?;
+        let component = instance.component();
+        Some(Sent {
+            instance: instance.number(),
+            place: hook_place(checked, component, dispatch_hook(dispatch)),
+            op: dispatch_op(checked, component, dispatch),
+        })
+    }
+
+    // The lane of a dispatch: the first transition of an event claims the next transition lane.
+    fn lane(&mut self, word: LaneWord) -> Lane
+        ensures lane { (s : State) → self.old.schedule ≡ s.schedule → self.old.event ≡ s.event → result ≡ lane_in s word }
+        ensures claims { self.new ≡ record self.old { schedule = claimed_by word self.old.event self.old.schedule } }
+        ensures transition { word ≡ LaneWord.Transition → self.old.event ≡ None → IsTrue (is_transition self.old.schedule.next_transition) }
+    {
+        match word {
+            LaneWord::Sync => Lane::Sync,
+            LaneWord::Input => Lane::Input,
+            LaneWord::Default => Lane::Default,
+            LaneWord::Transition => match self.event {
+                Some(lane) => lane,
+                None => self.lanes.claim_transition(),
+            },
+        }
+    }
+
+    // An update with this lane is accepted, and links these lanes where it is a transition.
+    fn accept(&mut self, lane: Lane, linked: Option<Lanes>)
+        requires { self.old.updates < 2 ^ 62 }
+        ensures { self.new ≡ root_accepted linked lane self.old }
+    {
+        if let Some(lanes) = linked {
+            self.lanes.link(lanes);
+            self.event = Some(lane);
+        }
+        self.lanes.updated(lane, self.now);
+        self.updates += 1;
+        self.later = self.later.union(Lanes::one(lane));
+    }
+
+    // An event takes back the claim of its lane, where it claimed one.
+    fn forget_lane(&mut self, word: LaneWord)
+        ensures { (schedule : Schedule) → (word ≡ LaneWord.Transition → self.old.event ≡ None → IsTrue (is_transition schedule.next_transition))
+            → self.old.schedule ≡ claimed_by word self.old.event schedule → self.new ≡ record self.old { schedule = schedule } }
+    {
+        if word == LaneWord::Transition && self.event.is_none() {
+            take_back(&mut self.lanes);
+        }
+    }
+
+    // Sends an update to a hook, which the event's lane or another lane of this word is for. An `Err` changes nothing of what
+    // the root stands for.
+    fn send(&mut self, word: LaneWord, sent: Sent) -> Result<(), AllocError>
+        requires hook { IsSomeAnd (kept_hooks self.old.rendering.hooks sent.instance) (λ hooks. sent.place < length hooks) }
+        requires behind { IfLeft self.old.rendering.at (self.old.rendering.cut.updates ≤ self.old.updates) }
+        requires room { self.old.updates < 2 ^ 62 }
+        ensures ok { OnOk result ((s : State) (k : ℕ) (m : Mounted) → Stands self.old.rendering.program s self.old → slice_get (mounted s.tree) k ≡ Some m → m.number ≡ sent.instance
+            → IsReached self.old.rendering.program (dispatched_for s word (hook sent.instance sent.place) sent.op)
+            → Stands self.old.rendering.program (dispatched_for s word (hook sent.instance sent.place) sent.op) self.new) }
+        ensures err { OnErr result ((s : State) → Stands self.old.rendering.program s self.old → Stands self.old.rendering.program s self.new) }
+        ensures same { self.new ≡ record self.old { rendering = self.new.rendering; schedule = self.new.schedule; updates = self.new.updates; event = self.new.event; later = self.new.later } }
+        ensures program { self.new.rendering.program ≡ self.old.rendering.program }
+        ensures one { self.new.updates ≤ self.old.updates + 1 }
+    {
+        hooks_are_there();
+        links_are_below();
+        self.renderer.facts();
+        let pending = self.lanes.pending();
+        let lane = self.lane(word);
+        let update = Update {
+            number: self.updates,
+            op: sent.op,
+            lane,
+        };
+        match self
+            .renderer
+            .dispatch(sent.instance, sent.place, word, update, pending)
+        {
+            Ok(linked) => {
+                self.accept(lane, linked);
+                Ok(())
+            }
+            Err(error) => {
+                self.forget_lane(word);
+                Err(error)
+            }
+        }
+    }
+
+    /// Sends an update to the hook that a dispatch is for (react.dev, useState and useReducer), or writes that there is no such
+    /// instance. An `Err` changes nothing of what the root stands for.
+    ///
+    /// # Errors
+    ///
+    /// Want of memory alone.
+    pub(crate) fn dispatch(
+        &mut self,
+        dispatch: &Dispatch,
+        log: &mut Report,
+    ) -> Result<(), AllocError>
+        requires stands { (s : State) × Stands self.old.rendering.program s self.old }
+        requires fits { CanTake self.old.rendering.program (step.Dispatch dispatch.now) }
+        requires room { self.old.updates < 2 ^ 62 }
+        ensures ok { OnOk result ((s : State) (n : ℕ) → Stands self.old.rendering.program s self.old
+            → Takes self.old.rendering.program (StepTo self.old.rendering.program s (step.Dispatch dispatch.now)) self.new log.old log.new n n) }
+        ensures err { OnErr result ((s : State) → Stands self.old.rendering.program s self.old → Stands self.old.rendering.program s self.new) }
+        ensures unchanged { OnErr result (log.new ≡ log.old) }
+        ensures same { self.new ≡ record self.old { rendering = self.new.rendering; schedule = self.new.schedule; updates = self.new.updates; event = self.new.event; later = self.new.later; instances = self.new.instances } }
+        ensures program { self.new.rendering.program ≡ self.old.rendering.program }
+        ensures one { self.new.updates ≤ self.old.updates + 1 }
+    {
+        hooks_are_there();
+        self.list_instances()?;
+        match self.target(dispatch) {
+            None => log.no_instance_line(dispatch_path(dispatch)),
+            Some(sent) => self.send(dispatch_word(dispatch), sent),
+        }
+    }
+
+    // The number of a resource.
+    fn resource(&self, name: &Name) -> u32
+        ensures number { result ≡ resource_number self.entry.now.rendering.program name.now }
+        ensures below { is_some (position (bytes_eq name.now) (resources self.entry.now.rendering.program)) ≡ true → result < length (resources self.entry.now.rendering.program) }
+    {
+        self.renderer.checked().resource(name.text()).unwrap_or(0)
+    }
+
+    // True where a visible boundary waits for a resource.
+    fn is_awaited(&self, resource: u32) -> bool
+        ensures { (s : State) → Stands self.entry.now.rendering.program s self.entry.now → resource < length (resources self.entry.now.rendering.program) → result ≡ is_awaited s.tree resource }
+    {
+        ends_are_not_read();
+        self.renderer.checked().program();
+        awaited(self.shown.tree()).has(resource)
+    }
+
+    // A resource gets its value, for which a visible boundary may wait.
+    fn give(&mut self, resource: u32, value: Int, waits: bool)
+        requires within { resource < length self.old.values }
+        requires room { self.old.resolutions < 2 ^ 62 }
+        ensures { self.new ≡ record self.old { schedule = after_resolution self.old.schedule resource waits self.old.now; resolutions = self.old.resolutions + 1; values = slice_set self.old.values resource (Some value) } }
+    {
+        self.lanes.resolved(resource, waits, self.now);
+        self.values[resource as usize] = Some(value);
+        self.resolutions += 1;
+    }
+
+    /// Gives a resource its value (react.dev, use), or writes the one that it has already; and an event ends. An `Err` changes
+    /// nothing.
+    ///
+    /// # Errors
+    ///
+    /// Want of memory alone.
+    pub(crate) fn resolve(
+        &mut self,
+        name: &Name,
+        value: Int,
+        log: &mut Report,
+    ) -> Result<(), AllocError>
+        requires stands { (s : State) × Stands self.old.rendering.program s self.old }
+        requires fits { is_some (position (bytes_eq name.now) (resources self.old.rendering.program)) ≡ true }
+        requires room { self.old.resolutions < 2 ^ 62 }
+        ensures ok { OnOk result ((s : State) (n : ℕ) → Stands self.old.rendering.program s self.old
+            → Takes self.old.rendering.program (StepTo self.old.rendering.program s (step.Resolve name.now value)) self.new log.old log.new n n) }
+        ensures err { OnErr result (self.new ≡ self.old) }
+        ensures unchanged { OnErr result (log.new ≡ log.old) }
+        ensures same { self.new ≡ record self.old { schedule = self.new.schedule; resolutions = self.new.resolutions; values = self.new.values; event = self.new.event } }
+        ensures one { self.new.resolutions ≤ self.old.resolutions + 1 }
+    {
+        let number = self.resource(name);
+        match self.values[number as usize] {
+            Some(known) => {
+                log.already_line(name, known)?;
+                self.end_event();
+                Ok(())
+            }
+            None => {
+                let waits = self.is_awaited(number);
+                self.give(number, value, waits);
+                self.end_event();
+                Ok(())
+            }
+        }
+    }
+}

@@ -1,0 +1,166 @@
+// The machine: a program, and its state between two steps.
+ghost use Rattle.std.specs.Prelude.{◌≡◌, ◌∷◌, [], IfOk, OnErr, OnOk};
+ghost use Rattle.rx_elem.specs.Spots.{hidden_count as hidden_in, node_count};
+ghost use Rattle.rx_model.specs.State as machine;
+ghost use Rattle.rx_model.specs.State.{State, opening};
+ghost use Rattle.run_laws.specs.Carried.{values_now};
+ghost use Rattle.rx_commit.specs.Written.{with_lines};
+ghost use Rattle.rx_root.specs.Stands.{Stands};
+
+use end_laws::ends_are_not_read;
+use rx_base::Int;
+use rx_check::Checked;
+use rx_commit::Shown;
+use rx_hook_store::links_are_below;
+use rx_instances::Instances;
+use rx_lane::{Lane, Lanes};
+use rx_read::Numbers;
+use rx_render::Renderer;
+use rx_report::Report;
+use rx_sched::RootLanes;
+use rx_spots as spots;
+use std::alloc::{AllocError, Global};
+use std::marker::Model;
+
+/// A root (react.dev, createRoot): a program with its committed tree, the hooks of its instances, what is pending, and the
+/// render in progress, if there is one.
+#[derive(Drop)]
+pub struct Root {
+    pub(crate) alloc: Global,
+    pub(crate) renderer: Renderer,
+    pub(crate) shown: Shown,
+    pub(crate) lanes: RootLanes,
+    pub(crate) commits: u64,
+    pub(crate) updates: u64,
+    pub(crate) resolutions: u64,
+    // The values of the resources, by their numbers.
+    pub(crate) values: Vec<Option<Int>>,
+    pub(crate) now: u64,
+    // The transition lane of the event that goes on.
+    pub(crate) event: Option<Lane>,
+    // The numbers of the next new instance and the next new host.
+    pub(crate) numbers: Numbers,
+    // The lanes of the updates since the render in progress began.
+    pub(crate) later: Lanes,
+    // The instances of the committed tree, once a dispatch has asked for them.
+    pub(crate) instances: Option<Instances>,
+}
+
+impl Model for Root {
+    ghost use Rattle.rx_root.specs.Rooted.{Rooted};
+    ghost use Rattle.rx_read.specs.NumbersView.{numbers_seen};
+    ghost use Rattle.std.specs.Coded.{codes};
+    ghost use Rattle.rx_ast.specs.ProgramCodes.{program_code};
+    ghost use Rattle.rx_node.specs.NodeCode.{node_code};
+    ghost use Rattle.rx_render.specs.TreesCode.{fiber_trees_code};
+
+    ghost Value = { Rooted };
+
+    ghost coded = { Prim.hlevel (codes, program_code, node_code, fiber_trees_code) };
+
+    ghost view = { λ r. record { rendering = r.renderer; shown = r.shown; schedule = r.lanes; commits = r.commits; updates = r.updates; resolutions = r.resolutions; values = r.values.items; now = r.now; event = r.event; numbers = numbers_seen r.numbers; later = r.later; instances = r.instances } };
+}
+
+// No resource of a program has a value.
+fn no_values(alloc: Global, checked: &Checked) -> Result<Vec<Option<Int>>, AllocError>
+    ensures { IfOk result (λ v. v.items ≡ values_now checked.now opening.journal) }
+{
+    let mut values = Vec::new(alloc);
+    'resources: for _name in checked.resources() {
+        values.push(None)?;
+    }
+    Ok(values)
+}
+
+impl Root {
+    /// A root before its first render (react.dev, createRoot): there is no tree, and `Default` is pending.
+    ///
+    /// # Errors
+    ///
+    /// Want of memory alone.
+    pub fn new(alloc: Global, checked: Checked) -> Result<Root, AllocError>
+        ensures stands { IfOk result (λ r. Stands checked opening r) }
+        ensures program { IfOk result (λ r. r.rendering.program ≡ checked) }
+    {
+        links_are_below();
+        let values = no_values(alloc, &checked)?;
+        let renderer = Renderer::new(alloc, checked)?;
+        Ok(Root {
+            alloc,
+            renderer,
+            shown: Shown::new(alloc),
+            lanes: RootLanes::new(),
+            commits: 0,
+            updates: 0,
+            resolutions: 0,
+            values,
+            now: 0,
+            event: None,
+            numbers: Numbers {
+                instance: 1,
+                host: 1,
+            },
+            later: Lanes::none(),
+            instances: None,
+        })
+    }
+
+    /// The lanes that have something to render.
+    pub fn pending(&self) -> Lanes
+        ensures { (s : State) → Stands self.entry.now.rendering.program s self.entry.now → result ≡ s.schedule.pending }
+    {
+        self.lanes.pending()
+    }
+
+    /// How many boundaries of the committed tree hide their children behind their fallbacks (react.dev, Suspense).
+    pub fn hidden_count(&self) -> u32
+        ensures { (s : State) → Stands self.entry.now.rendering.program s self.entry.now → result ≡ hidden_in s.tree }
+    {
+        self.renderer.facts();
+        ends_are_not_read();
+        spots::hidden_count(self.shown.tree())
+    }
+
+    /// How many nodes the committed tree has.
+    pub fn nodes(&self) -> u64
+        ensures { (s : State) → Stands self.entry.now.rendering.program s self.entry.now → result ≡ node_count s.tree }
+    {
+        self.renderer.facts();
+        ends_are_not_read();
+        spots::node_count(self.shown.tree())
+    }
+
+    /// True where no lane is pending and no boundary is hidden.
+    pub fn is_quiet(&self) -> bool
+        ensures { (s : State) → Stands self.entry.now.rendering.program s self.entry.now → result ≡ machine.is_quiet s }
+    {
+        self.pending().is_none() && self.hidden_count() == 0
+    }
+
+    /// How many commits there were.
+    pub fn commits(&self) -> u64
+        ensures { result ≡ self.entry.now.commits }
+    {
+        self.commits
+    }
+
+    /// How many updates were accepted.
+    pub fn updates(&self) -> u64
+        ensures { result ≡ self.entry.now.updates }
+    {
+        self.updates
+    }
+
+    /// Writes the last line of a report, by what is pending and hidden.
+    ///
+    /// # Errors
+    ///
+    /// Want of memory alone; the report is then as it was.
+    pub fn end_line(&self, log: &mut Report) -> Result<(), AllocError>
+        ensures ok { OnOk result ((s : State) → Stands self.entry.now.rendering.program s self.entry.now → log.new ≡ with_lines log.old (machine.end_line s ∷ [])) }
+        ensures err { OnErr result (log.new ≡ log.old) }
+    {
+        self.renderer.facts();
+        log.end_line(self.pending(), self.hidden_count())
+    }
+}

@@ -1,0 +1,445 @@
+// Turns of rendering.
+ghost use Rattle.std.specs.Prelude.{◌≡◌, ℕ, ◌+◌, ◌<◌, ◌≤◌, ◌^◌, true, false, Option, Some, None, option_map, IfOk, IfSome, OnErr, OnOk, length};
+ghost use Rattle.rx_ast.specs.Syntax as syntax;
+ghost use Rattle.rx_check.specs.Accepted.{IsAccepted};
+ghost use Rattle.rx_elem.specs.Trees as trees;
+ghost use Rattle.rx_elem.specs.Numbers.{numbered};
+ghost use Rattle.rx_elem.specs.Compare.{compare_trees};
+ghost use Rattle.rx_effect.specs.EffectLog as effects;
+ghost use Rattle.rx_effect.specs.EffectLog.{passive_of};
+ghost use Rattle.rx_lane.specs.declared.lane.Lane.TheVariants as lane;
+ghost use Rattle.rx_lane.specs.Lanes.{has, lanes_where};
+ghost use Rattle.rx_queue.specs.Journal.{resolved_since};
+ghost use Rattle.rx_loop.specs.Ends.{MatchDriven};
+ghost use Rattle.rx_meaning.specs.Outcome.{outcome, still_pending};
+ghost use Rattle.rx_model.specs.State.{State, Progress};
+ghost use Rattle.rx_model.specs.Committing.{passive_run, starting, committed_as, schedule_deferred, deferred_as, ended};
+ghost use Rattle.rx_model.specs.Turns.{slice_of, choice_of, GoesOn, Turn};
+ghost use Rattle.rx_model.specs.Machine.{Flush, FlushSync, flush_limit};
+ghost use Rattle.rx_model.specs.Kept.{IsSet};
+ghost use Rattle.rx_model.specs.Laws.{IsBounded, IsReached};
+ghost use Rattle.end_laws.specs.Trimmed.{trimmed};
+ghost use Rattle.rx_commit.specs.Shown.{Shows, outcome_as};
+ghost use Rattle.rx_commit.specs.Written.{lines_of, passive_lines, with_lines};
+ghost use Rattle.rx_render.specs.Rendering.{IsIdle};
+ghost use Rattle.rx_root.specs.Stands.{Stands, StandsWith};
+ghost use Rattle.rx_root.specs.Turning.{CanFollow, CanShow, FlushWithin, FlushesFrom, HasDone, HasFinished, HasNumbered, HasRoomForTurns, HasSomeProgress, HasYielded, IsAtSomeEnd, KnowsSince, KnowsSinceSome, LeadsOn, LeavesRoom, StandsAtEnd, StandsBetween, Takes, counts_of, is_news, passive_left};
+
+use crate::root::Root;
+use rx_base::{Awaits, Cut, Int, Steps};
+use rx_commit::Shown;
+use rx_lane::{Lane, Lanes};
+use rx_loop::{Driven, drive};
+use rx_node::Node;
+use rx_report::Report;
+use rx_sched::Choice;
+use rx_spots::awaited;
+use std::alloc::{AllocError, Global};
+use std::sync::ledger::Ledger;
+
+// No flush finishes more renders.
+const FLUSH_LIMIT: u64 = 24;
+
+// Whether one of these resources has a value by now, and had none before.
+fn has_news(values: &[Option<Int>], seen: &[Option<Int>], waits: &Awaits) -> bool
+    requires same { length seen.now ≡ length values.now }
+    requires few { length values.now < 2 ^ 32 }
+    ensures some { result ≡ true → (r : ℕ) × (r < length values.now) × (is_news values.now seen.now waits.now r ≡ true) }
+    ensures none { result ≡ false → (r : ℕ) → r < length values.now → is_news values.now seen.now waits.now r ≡ false }
+{
+    for resource in 0..values.len() {
+        if waits.has(resource as u32) && values[resource].is_some() && seen[resource].is_none() {
+            return true;
+        }
+    }
+    false
+}
+
+// The same values, for a render that starts.
+fn copied(alloc: Global, values: &[Option<Int>]) -> Result<Vec<Option<Int>>, AllocError>
+    ensures { IfOk result (λ v. v.items ≡ values.now) }
+{
+    values.iter().copied().collect(alloc)
+}
+
+// A commit with the lane Sync has run its passive effects itself (react.dev, flushSync).
+fn end_passive_of(shown: &mut Shown, lanes: Lanes)
+    ensures { (tree : Option trees.Node) (passive : effects.Passive) → Shows tree passive shown.old → Shows tree (passive_left lanes passive) shown.new }
+{
+    if lanes.has(Lane::Sync) {
+        shown.end_passive();
+    }
+}
+
+impl Root {
+    // What holds of the program: it meets every check.
+    fn facts(&self)
+        ensures accepted { IsAccepted self.entry.now.rendering.program }
+        ensures bounded { IsBounded self.entry.now.rendering.program }
+    {
+        self.renderer.facts();
+        self.renderer.checked().program();
+    }
+
+    // The lanes of the render in progress, if there is one.
+    fn lanes_in_progress(&self) -> Option<Lanes>
+        ensures { (p : syntax.Program) (s : State) → Stands p s self.entry.now → result ≡ option_map (λ g. g.lanes) s.progress }
+    {
+        if self.renderer.is_over() {
+            None
+        } else {
+            Some(self.renderer.lanes())
+        }
+    }
+
+    // What a turn does.
+    fn choice(&self) -> Choice
+        ensures { (p : syntax.Program) (s : State) → Stands p s self.entry.now → result ≡ choice_of s }
+    {
+        self.lanes.next(self.lanes_in_progress())
+    }
+
+    // The slice of a turn with this budget: it counts only where the render in progress is cut into slices.
+    fn slice(&self, budget: Option<u64>) -> Option<u64>
+        ensures slice { (p : syntax.Program) (s : State) (g : Progress) → StandsWith p s (Some g) self.entry.now → result ≡ slice_of s g budget }
+        ensures positive { IfSome budget (λ n. 0 < n) → IfSome result (λ n. 0 < n) }
+    {
+        let units = budget?;
+        if self.lanes.sliced(self.renderer.lanes(), self.now) {
+            Some(units)
+        } else {
+            None
+        }
+    }
+
+    // Begins a render with these lanes; one that was in progress is discarded. Pending passive effects run first
+    // (react.dev, useEffect).
+    fn start(&mut self, lanes: Lanes, log: &mut Report) -> Result<(), AllocError>
+        requires { StandsBetween self.old }
+        ensures starts { OnOk result ((p : syntax.Program) (s : State) → Stands p s self.old → s.event ≡ None → IsSet lanes
+            → StandsWith p (passive_run s).after (Some (starting s lanes)) self.new) }
+        ensures written { OnOk result (log.new ≡ with_lines log.old (passive_lines self.old.shown.passive)) }
+        ensures rest { self.new ≡ record self.old { rendering = self.new.rendering; shown = self.new.shown; later = self.new.later } }
+    {
+        self.shown.flush_passive(log)?;
+        let values = copied(self.alloc, &self.values)?;
+        let cut = Cut {
+            updates: self.updates,
+            resolutions: self.resolutions,
+        };
+        self.renderer.start(lanes, cut, values)?;
+        self.later = Lanes::none();
+        Ok(())
+    }
+
+    // Drives the render in progress to its end, or to the end of the slice.
+    fn drive<L: Ledger>(
+        &mut self,
+        slice: Option<u64>,
+        steps: &mut Steps<L>,
+    ) -> Result<Driven, AllocError>
+        requires goes_on { HasSomeProgress self.old }
+        requires positive { IfSome slice (λ n. 0 < n) }
+        ensures ends { IfOk result (λ d. MatchDriven d
+            (λ used. (p : syntax.Program) (s : State) (g : Progress) → StandsWith p s (Some g) self.old → HasFinished p s g slice self.new steps.old steps.new)
+            (λ used. (p : syntax.Program) (s : State) (g : Progress) → StandsWith p s (Some g) self.old → HasYielded p s g slice self.new steps.old steps.new)) }
+        ensures rest { self.new ≡ record self.old { rendering = self.new.rendering } }
+        ensures rises { steps.old ≤ steps.new }
+    {
+        self.renderer.facts();
+        drive(&mut self.renderer, slice.unwrap_or(1), slice.is_some(), steps)
+    }
+
+    // Whether one of these resources got its value since the render in progress began.
+    fn is_resolved_since(&self, waits: &Awaits) -> bool
+        requires { KnowsSinceSome self.now }
+        ensures { (p : syntax.Program) (s : State) (g : Progress) → KnowsSince p s g self.entry.now → result ≡ resolved_since g.cut s.journal waits.now }
+    {
+        self.facts();
+        has_news(&self.values, self.renderer.resources(), waits)
+    }
+
+    // What a finished render waits for, where it is deferred: only transitions may be (react.dev, useTransition).
+    fn deferral(&self) -> Result<Option<Awaits>, AllocError>
+        requires { IsAtSomeEnd self.now }
+        ensures { IfOk result (λ waits. (p : syntax.Program) (s : State) (g : Progress) (tree : trees.Node) → StandsAtEnd p s g tree self.entry.now → outcome_as tree waits ≡ outcome g.lanes s.tree tree) }
+    {
+        let lanes = self.renderer.lanes();
+        if !lanes.only_transitions() {
+            return Ok(None);
+        }
+        let tree = self.renderer.finished()?;
+        self.shown.outcome(self.alloc, &tree, lanes)
+    }
+
+    // Suspends the lanes of a deferred render, unless something that it waits for has its value by now.
+    fn suspend(&mut self, waits: &Awaits)
+        requires { KnowsSinceSome self.old }
+        ensures { (p : syntax.Program) (s : State) (g : Progress) → KnowsSince p s g self.old → self.old.schedule ≡ s.schedule → self.old.now ≡ s.now
+            → self.new ≡ record self.old { schedule = schedule_deferred s g waits.now } }
+    {
+        if !self.is_resolved_since(waits) {
+            self.lanes.deferred(self.renderer.lanes(), waits, self.now);
+        }
+    }
+
+    // Defers a finished render until what it waits for has a value.
+    fn defer(&mut self, waits: Awaits, log: &mut Report) -> Result<(), AllocError>
+        requires { IsAtSomeEnd self.old }
+        ensures { OnOk result ((p : syntax.Program) (s : State) (g : Progress) (tree : trees.Node) → StandsAtEnd p s g tree self.old
+            → IsReached p (deferred_as s g (counts_of self.old) waits).after → HasDone p (deferred_as s g (counts_of self.old) waits) self.new log.old log.new) }
+    {
+        let lanes = self.renderer.lanes();
+        log.defer_line(lanes, self.renderer.units(), self.renderer.bodies())?;
+        self.suspend(&waits);
+        self.renderer.discard();
+        Ok(())
+    }
+
+    // The lanes that are pending again after the commit of this tree: those of later updates, and Retry where there is
+    // something to retry.
+    fn still(&self, tree: &Node) -> Lanes
+        requires { KnowsSinceSome self.now }
+        ensures { (p : syntax.Program) (s : State) (g : Progress) (next : trees.Node) → KnowsSince p s g self.entry.now → tree.now ≡ trimmed next
+            → result ≡ still_pending g.lanes g.cut s.journal next }
+    {
+        self.facts();
+        let later = self.renderer.lanes().intersection(self.later);
+        let retry = if self.is_resolved_since(&awaited(Some(tree))) {
+            Lanes::one(Lane::Retry)
+        } else {
+            Lanes::none()
+        };
+        later.union(retry)
+    }
+
+    // The finished tree, with numbers for what is new in it.
+    fn number(&mut self) -> Result<Node, AllocError>
+        requires end { IsAtSomeEnd self.old }
+        requires room { HasRoomForTurns 1 self.old }
+        ensures tree { IfOk result (λ n. (p : syntax.Program) (s : State) (g : Progress) (tree : trees.Node) → StandsAtEnd p s g tree self.old → n ≡ trimmed (numbered s.numbers tree).1) }
+        ensures numbers { OnOk result ((p : syntax.Program) (s : State) (g : Progress) (tree : trees.Node) → StandsAtEnd p s g tree self.old → HasNumbered p s g tree self.old self.new) }
+    {
+        self.facts();
+        self.numbers = self.renderer.number(self.numbers);
+        self.renderer.finished()
+    }
+
+    // Shows the committed tree in place of the one before, and writes what its commit does.
+    fn show(&mut self, tree: Node, log: &mut Report) -> Result<(), AllocError>
+        requires room { self.old.commits + 1 < 2 ^ 64 }
+        requires can_show { CanShow tree self.old.shown }
+        ensures shown { OnOk result ((old : Option trees.Node) (passive : effects.Passive) (new : trees.Node) → CanFollow tree old passive new self.old.shown
+            → Shows (Some new) (passive_left self.old.rendering.lanes (passive_of (compare_trees old new))) self.new.shown) }
+        ensures written { OnOk result ((old : Option trees.Node) (passive : effects.Passive) (new : trees.Node) → CanFollow tree old passive new self.old.shown
+            → log.new ≡ with_lines log.old (lines_of (self.old.commits + 1) (lanes_where (has self.old.rendering.lanes)) (counts_of self.old) old new)) }
+        ensures rest { OnOk result (self.new ≡ record self.old { shown = self.new.shown; commits = self.old.commits + 1; instances = None }) }
+    {
+        let lanes = self.renderer.lanes();
+        let prepared = self.shown.prepare(self.alloc, tree)?;
+        prepared.write(
+            log,
+            self.commits + 1,
+            lanes,
+            self.renderer.units(),
+            self.renderer.bodies(),
+        )?;
+        self.shown.commit(prepared);
+        end_passive_of(&mut self.shown, lanes);
+        self.commits += 1;
+        self.instances = None;
+        Ok(())
+    }
+
+    // Commits a finished render (react.dev, Render and Commit).
+    fn commit(&mut self, log: &mut Report) -> Result<(), AllocError>
+        requires end { IsAtSomeEnd self.old }
+        requires room { HasRoomForTurns 1 self.old }
+        ensures { OnOk result ((p : syntax.Program) (s : State) (g : Progress) (tree : trees.Node) → StandsAtEnd p s g tree self.old
+            → IsReached p (committed_as s g (counts_of self.old) (numbered s.numbers tree)).after
+            → HasDone p (committed_as s g (counts_of self.old) (numbered s.numbers tree)) self.new log.old log.new) }
+    {
+        self.facts();
+        let first = self.numbers.instance;
+        let lanes = self.renderer.lanes();
+        let tree = self.number()?;
+        let still = self.still(&tree);
+        self.renderer.settle(self.shown.tree(), &tree, first)?;
+        self.show(tree, log)?;
+        self.renderer.commit();
+        self.lanes.finished(lanes, still, self.now);
+        Ok(())
+    }
+
+    // Ends a finished render: it is committed, or deferred.
+    fn finish(&mut self, log: &mut Report) -> Result<(), AllocError>
+        requires end { IsAtSomeEnd self.old }
+        requires room { HasRoomForTurns 1 self.old }
+        ensures { OnOk result ((p : syntax.Program) (s : State) (g : Progress) (tree : trees.Node) → StandsAtEnd p s g tree self.old
+            → IsReached p (ended s g (counts_of self.old) tree).after → HasDone p (ended s g (counts_of self.old) tree) self.new log.old log.new) }
+    {
+        match self.deferral()? {
+            None => self.commit(log),
+            Some(waits) => self.defer(waits, log),
+        }
+    }
+
+    // Goes on with the render in progress, to its end or to the end of its slice.
+    fn go_on<L: Ledger>(
+        &mut self,
+        budget: Option<u64>,
+        log: &mut Report,
+        steps: &mut Steps<L>,
+    ) -> Result<(), AllocError>
+        requires goes_on { HasSomeProgress self.old }
+        requires room { HasRoomForTurns 1 self.old }
+        requires positive { IfSome budget (λ n. 0 < n) }
+        ensures takes { OnOk result ((p : syntax.Program) (s : State) (g : Progress) → StandsWith p s (Some g) self.old → LeadsOn p s g budget
+            → Takes p (GoesOn p s g budget) self.new log.old log.new steps.old steps.new) }
+        ensures rises { steps.old ≤ steps.new }
+    {
+        let slice = self.slice(budget);
+        match self.drive(slice, steps)? {
+            Driven::Finished { used: _ } => self.finish(log),
+            Driven::Yielded { used: _ } => Ok(()),
+        }
+    }
+
+    // One turn, which may leave a render in progress where memory is wanting.
+    fn try_turn<L: Ledger>(
+        &mut self,
+        budget: Option<u64>,
+        log: &mut Report,
+        steps: &mut Steps<L>,
+    ) -> Result<(), AllocError>
+        requires stands { StandsBetween self.old }
+        requires room { HasRoomForTurns 1 self.old }
+        requires positive { IfSome budget (λ n. 0 < n) }
+        ensures takes { OnOk result ((p : syntax.Program) (s : State) → Stands p s self.old → s.event ≡ None → Takes p (Turn p s budget) self.new log.old log.new steps.old steps.new) }
+        ensures rises { steps.old ≤ steps.new }
+    {
+        match self.choice() {
+            Choice::None => Ok(()),
+            Choice::Keep => self.go_on(budget, log, steps),
+            Choice::Start(lanes) => {
+                self.start(lanes, log)?;
+                self.go_on(budget, log, steps)
+            }
+        }
+    }
+
+    // One turn: what is most urgent is rendered, and committed where it is finished (react.dev, Render and Commit). With a
+    // budget it may yield, where it renders transitions or retries and none has waited too long.
+    fn turn<L: Ledger>(
+        &mut self,
+        budget: Option<u64>,
+        log: &mut Report,
+        steps: &mut Steps<L>,
+    ) -> Result<(), AllocError>
+        requires stands { StandsBetween self.old }
+        requires room { HasRoomForTurns 1 self.old }
+        requires positive { IfSome budget (λ n. 0 < n) }
+        ensures takes { OnOk result ((p : syntax.Program) (s : State) → Stands p s self.old → s.event ≡ None → Takes p (Turn p s budget) self.new log.old log.new steps.old steps.new) }
+        ensures idle { OnErr result (IsIdle self.new.rendering) }
+        ensures leaves { OnOk result (LeavesRoom 1 self.old self.new) }
+        ensures rises { steps.old ≤ steps.new }
+    {
+        self.facts();
+        match self.try_turn(budget, log, steps) {
+            Ok(()) => Ok(()),
+            Err(error) => {
+                self.renderer.discard();
+                Err(error)
+            }
+        }
+    }
+
+    /// One turn with a budget of so many units, which counts only where what is rendered is cut into slices (react.dev,
+    /// startTransition).
+    ///
+    /// # Errors
+    ///
+    /// Want of memory alone. Then nothing is in progress.
+    pub(crate) fn work<L: Ledger>(
+        &mut self,
+        units: u64,
+        log: &mut Report,
+        steps: &mut Steps<L>,
+    ) -> Result<(), AllocError>
+        requires stands { StandsBetween self.old }
+        requires room { HasRoomForTurns 1 self.old }
+        requires positive { 0 < units }
+        ensures takes { OnOk result ((p : syntax.Program) (s : State) → Stands p s self.old → s.event ≡ None → Takes p (Turn p s (Some units)) self.new log.old log.new steps.old steps.new) }
+        ensures idle { OnErr result (IsIdle self.new.rendering) }
+        ensures leaves { OnOk result (LeavesRoom 1 self.old self.new) }
+        ensures rises { steps.old ≤ steps.new }
+    {
+        self.turn(Some(units), log, steps)
+    }
+
+    // Takes turns that aren't sliced until nothing is left to render, so many at most.
+    fn finish_renders<L: Ledger>(
+        &mut self,
+        limit: u64,
+        log: &mut Report,
+        steps: &mut Steps<L>,
+    ) -> Result<(), AllocError>
+        requires flushes { FlushesFrom limit self.old }
+        requires room { HasRoomForTurns limit self.old }
+        ensures takes { OnOk result ((p : syntax.Program) (s : State) → Stands p s self.old → s.event ≡ None → Takes p (FlushWithin limit p s) self.new log.old log.new steps.old steps.new) }
+        ensures idle { OnErr result (IsIdle self.new.rendering) }
+        ensures leaves { OnOk result (LeavesRoom limit self.old self.new) }
+        ensures rises { steps.old ≤ steps.new }
+    {
+        if let Choice::None = self.choice() {
+            return Ok(());
+        }
+        self.turn(None, log, steps)?;
+        self.finish_renders(limit - 1, log, steps)
+    }
+
+    /// Takes turns that aren't sliced until nothing is left to render.
+    ///
+    /// # Errors
+    ///
+    /// Want of memory alone. Then nothing is in progress.
+    pub(crate) fn flush<L: Ledger>(
+        &mut self,
+        log: &mut Report,
+        steps: &mut Steps<L>,
+    ) -> Result<(), AllocError>
+        requires stands { StandsBetween self.old }
+        requires room { HasRoomForTurns flush_limit self.old }
+        ensures takes { OnOk result ((p : syntax.Program) (s : State) → Stands p s self.old → s.event ≡ None → Takes p (Flush p s) self.new log.old log.new steps.old steps.new) }
+        ensures idle { OnErr result (IsIdle self.new.rendering) }
+        ensures leaves { OnOk result (LeavesRoom flush_limit self.old self.new) }
+        ensures rises { steps.old ≤ steps.new }
+    {
+        self.facts();
+        self.finish_renders(FLUSH_LIMIT, log, steps)
+    }
+
+    /// One turn that isn't sliced, where Sync is pending (react.dev, flushSync).
+    ///
+    /// # Errors
+    ///
+    /// Want of memory alone. Then nothing is in progress.
+    pub(crate) fn flush_sync<L: Ledger>(
+        &mut self,
+        log: &mut Report,
+        steps: &mut Steps<L>,
+    ) -> Result<(), AllocError>
+        requires stands { StandsBetween self.old }
+        requires room { HasRoomForTurns 1 self.old }
+        ensures takes { OnOk result ((p : syntax.Program) (s : State) → Stands p s self.old → s.event ≡ None
+            → Takes p (FlushSync (has s.schedule.pending lane.Sync) p s) self.new log.old log.new steps.old steps.new) }
+        ensures idle { OnErr result (IsIdle self.new.rendering) }
+        ensures leaves { OnOk result (LeavesRoom 1 self.old self.new) }
+        ensures rises { steps.old ≤ steps.new }
+    {
+        if self.lanes.pending().has(Lane::Sync) {
+            return self.turn(None, log, steps);
+        }
+        Ok(())
+    }
+}

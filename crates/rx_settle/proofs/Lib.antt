@@ -1,0 +1,7 @@
+mod Mounting
+mod Again
+mod Kept
+mod Making
+mod Apart
+mod Whole
+mod First

@@ -1,0 +1,14 @@
+use Rattle.std.proofs.Common.{nat_eq, ◌∙◌}
+use Rattle.std.specs.HashSet.{contains}
+use Rattle.rx_hook_store.specs.Store.{kept_hooks}
+use Rattle.rx_settle.proofs.Whole.{all_settled}
+use Rattle.rx_settle.proofs.keeping.settle_all.Goals as goal
+
+pub returns-clause-settled : goal.returns-clause-settled
+returns-clause-settled c =
+    all_settled c.args.lanes c.args.cut c.args.first c.args.instances.now c.args.made.items (contains nat_eq c.args.known.now) (kept_hooks c.args.store.now)
+    (kept_hooks c.settle_each.new.store) (kept_hooks c.insert_all.new.store) (kept_hooks c.remove_gone.new.store)
+    c.requires.apart c.requires.made c.settle_each.ensures.settled c.insert_all.ensures c.remove_gone.ensures.kept c.requires.known
+
+pub returns-clause-gone : goal.returns-clause-gone
+returns-clause-gone c k m at none = c.remove_gone.ensures.gone k m at (c.requires.known m.number ∙ none)

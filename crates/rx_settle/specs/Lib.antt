@@ -1,0 +1,4 @@
+pub mod Settling
+pub mod Made
+pub mod Passes
+pub mod Example

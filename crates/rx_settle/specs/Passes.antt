@@ -1,0 +1,48 @@
+-- What a commit makes of the hooks that are kept, in its two passes over the instances of its tree.
+use Rattle.std.specs.Prelude.{◌≡◌, ◌<◌, ◌≤◌, ℕ, ℤ, Bool, true, false, nat_eq, List, map, Option, Some, IsSome, slice_get}
+use Rattle.std.specs.List.{list_any}
+use Rattle.rx_base.specs.declared.cut.Cut.{Cut}
+use Rattle.rx_lane.specs.Lanes.{Lanes}
+use Rattle.rx_ast.specs.Syntax.{Program}
+use Rattle.rx_elem.specs.Spots.{Mounted}
+use Rattle.rx_hooks.specs.declared.hook.Hook.{Hook}
+use Rattle.rx_hooks.specs.Hooks.{committed_hook, owed_hook}
+use Rattle.rx_meaning.specs.Settled.{DoneBefore}
+use Rattle.rx_model.specs.State.{State}
+use Rattle.rx_hook_store.specs.Changing.{HooksChange}
+use Rattle.rx_hook_store.specs.Commits.{AreMounted}
+use Rattle.rx_hook_store.specs.Rendered.{IsRendered, KeepsInstance}
+
+-- no two instances have one number
+abbrev pub AreApart : List Mounted → Type 0
+AreApart ms = (j k : ℕ) (a b : Mounted) → j < k → slice_get ms j ≡ Some a → slice_get ms k ≡ Some b → nat_eq a.number b.number ≡ false
+
+-- some instance of a list has this number
+abbrev pub has_instance : List Mounted → ℕ → Bool
+has_instance ms n = list_any (λ m. nat_eq n m.number) ms
+
+-- hooks are kept of each instance with a number below the first
+abbrev pub AreKept : (first : ℕ) → (kept : ℕ → Option (List Hook)) → List Mounted → Type 0
+AreKept first kept ms = (k : ℕ) (m : Mounted) → slice_get ms k ≡ Some m → m.number < first → IsSome (kept m.number)
+
+-- hooks that are kept stay, stand for the state as before, and stay rendered
+pub record KeepsOn (p : Program) (lanes : Lanes) (cut : Cut) (old new : ℕ → Option (List Hook)) : Type 0 where
+  pub there : (n : ℕ) → IsSome (old n) → IsSome (new n)
+  pub keeps : (s : State) (n : ℕ) (initials : List ℤ) → DoneBefore cut s.journal.updates → KeepsInstance p s old n initials → KeepsInstance p s new n initials
+  pub stays : (s : State) (n : ℕ) (initials : List ℤ) → DoneBefore cut s.journal.updates → IsRendered p s lanes cut old n initials → IsRendered p s lanes cut new n initials
+
+-- an instance that is visible and has a number below the first is rendered
+abbrev pub RendersShown : Program → (lanes : Lanes) → (cut : Cut) → (first : ℕ) → (old new : ℕ → Option (List Hook)) → Mounted → Type 0
+RendersShown p lanes cut first old new m =
+    m.visible ≡ true → m.number < first → (s : State) → DoneBefore cut s.journal.updates → KeepsInstance p s old m.number m.initials
+    → IsRendered p s lanes cut new m.number m.initials
+
+-- the hooks of an instance with a number below the first are committed where it is visible, and else owed what lies before the cut
+pub record AreSettled (lanes : Lanes) (cut : Cut) (first : ℕ) (old new : ℕ → Option (List Hook)) (m : Mounted) : Type 0 where
+  pub shown : m.number < first → m.visible ≡ true → HooksChange (map committed_hook) (old m.number) (new m.number)
+  pub hidden : m.number < first → m.visible ≡ false → HooksChange (map (owed_hook lanes cut)) (old m.number) (new m.number)
+
+-- so are those of each instance of a list, and those of a new one are as at its mount
+pub record AllSettled (lanes : Lanes) (cut : Cut) (first : ℕ) (old new : ℕ → Option (List Hook)) (ms : List Mounted) : Type 0 where
+  pub kept : (k : ℕ) (m : Mounted) → slice_get ms k ≡ Some m → AreSettled lanes cut first old new m
+  pub made : (k : ℕ) (m : Mounted) → slice_get ms k ≡ Some m → first ≤ m.number → AreMounted m.initials (new m.number)

@@ -1,0 +1,11 @@
+//! What a commit does with the hooks of the instances.
+#![tactic(auto)]
+
+mod keeping;
+mod made;
+mod rendering;
+mod settling;
+#[cfg(test)]
+mod tests;
+
+pub use settling::settle_hooks;

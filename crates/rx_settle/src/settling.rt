@@ -1,0 +1,76 @@
+// What a commit does with the hooks of the instances of its tree.
+ghost use Rattle.std.specs.Prelude.{◌≡◌, ℕ, false, nat_eq, IfOk, OnOk, OnErr, Some, None, slice_get};
+ghost use Rattle.std.specs.HashSet.{contains};
+ghost use Rattle.std.specs.Option.{option_copied};
+ghost use Rattle.rx_elem.specs.Numbers.{numbered};
+ghost use Rattle.rx_elem.specs.Spots as spots;
+ghost use Rattle.rx_elem.specs.Trees as trees;
+ghost use Rattle.rx_meaning.specs.Settled.{DoneBefore};
+ghost use Rattle.rx_model.specs.State.{Progress, State};
+ghost use Rattle.rx_model.specs.Committing.{committed_state};
+ghost use Rattle.rx_model.specs.HooksOf.{KeepsAllHooks};
+ghost use Rattle.rx_hook_store.specs.Store.{kept_hooks};
+ghost use Rattle.rx_settle.specs.Passes.{has_instance};
+ghost use Rattle.rx_settle.specs.Settling.{CanSettle, IsSettlingOf};
+
+use crate::keeping::settle_all;
+use crate::made::mount_new;
+use crate::rendering::render_shown;
+use rx_base::Cut;
+use rx_check::Checked;
+use rx_hook_store::HookStore;
+use rx_lane::Lanes;
+use rx_node::Node;
+use rx_spots::{Mounted, mounted};
+use std::alloc::{AllocError, Global};
+use std::collections::HashSet;
+
+// The numbers of instances, each found at once.
+fn numbers_of(alloc: Global, instances: &[Mounted]) -> Result<HashSet<u64>, AllocError>
+    ensures { IfOk result (λ known. (n : ℕ) → contains nat_eq known n ≡ has_instance instances.now n) }
+{
+    let mut known = HashSet::new(alloc);
+    'knowing: for instance in instances {
+        known.insert(instance.number())?;
+    }
+    Ok(known)
+}
+
+/// Settles the hooks of each instance of a tree at its commit (react.dev, State as a Snapshot). Updates that its render
+/// included are done in a visible instance; a kept one is owed them; a new instance, one with a number from the first on,
+/// has its hooks at their initial values; and those of an instance that is gone are dropped (react.dev, Preserving and
+/// Resetting State). The render keeps no note of what it folded, so the hooks of each visible instance are folded once more,
+/// for its lanes at its cut, and give the same.
+///
+/// # Errors
+///
+/// Want of memory alone. What is kept then stands for whatever state it stood for.
+pub fn settle_hooks(
+    alloc: Global,
+    store: &mut HookStore,
+    checked: &Checked,
+    old: Option<&Node>,
+    new: &Node,
+    first: u64,
+    lanes: Lanes,
+    cut: Cut,
+) -> Result<(), AllocError>
+    requires { CanSettle checked.now (kept_hooks store.old) (option_copied old) new.now first lanes cut }
+
+    // What is kept stands for the machine's state after the commit.
+    ensures settled { OnOk result ((s : State) (g : Progress) (x : trees.Node) → IsSettlingOf checked.now (kept_hooks store.old) (option_copied old.entry) new.now first lanes cut s g x
+        → KeepsAllHooks checked.now (committed_state s g (numbered s.numbers x)) (kept_hooks store.new)) }
+    ensures gone { OnOk result ((k : ℕ) (m : spots.Mounted) → slice_get (spots.mounted (option_copied old.entry)) k ≡ Some m
+        → has_instance (spots.mounted (Some new.now)) m.number ≡ false → kept_hooks store.new m.number ≡ None) }
+    ensures err { OnErr result ((s : State) → DoneBefore cut s.journal.updates → KeepsAllHooks checked.now s (kept_hooks store.old)
+        → KeepsAllHooks checked.now s (kept_hooks store.new)) }
+{
+    let instances = mounted(alloc, Some(new))?;
+    let before = mounted(alloc, old)?;
+    let known = numbers_of(alloc, &instances)?;
+    let made = mount_new(alloc, &instances, first)?;
+    store.reserve(made.len() as u64)?;
+    render_shown(alloc, store, checked, &instances, first, lanes, cut)?;
+    settle_all(store, &instances, &before, &known, made, first, lanes, cut);
+    Ok(())
+}
