@@ -86,3 +86,8 @@ pub flush_takes : (limit : ℕ) (p : Program) (s : State) (x w : Rooted) (log mi
 flush_takes limit p s x w log mid new steps between counted some_left some first rest =
     let sum : suc (limit - 1) ≡ limit = omega (arith, some_left) in
     subst (λ (n : ℕ). Takes p (FlushWithin n p s) w log new steps counted) sum (flush_more p s (limit - 1) x w log mid new steps between counted some first rest)
+
+-- room for some turns is room for one
+pub one_room : (limit : ℕ) (v : Rooted) → 1 ≤ limit → HasRoomForTurns limit v → HasRoomForTurns 1 v
+one_room limit v some room =
+    record { commits = omega (arith, some, room.commits); instances = omega (arith, some, room.instances); hosts = omega (arith, some, room.hosts) }
