@@ -48,8 +48,8 @@ fn refuse_words<K: Sink>(out: &mut K) -> Status
 ///
 /// For every accepted program and script, the bytes that `run` writes are the report of a run of the fresh machine, which
 /// at each finished render folds every hook's updates of the chosen lanes and of earlier commits and renders the whole tree
-/// anew; yields and discarded renders add nothing to tree or log. That each kept hook holds the in-order fold of its
-/// updates in a quiet end is a law of such runs, `run_laws::quiet_ends`.
+/// anew; yields and discarded renders add nothing to tree or log; and in a quiet end each kept hook holds the in-order fold
+/// of its updates.
 pub fn top<S: Source, K: Sink, L: Ledger>(
     alloc: Global,
     words: &[&str],
