@@ -9,6 +9,7 @@ ghost use Rattle.rx_commit.specs.Written.{with_lines};
 ghost use Rattle.rx_root.specs.Stands.{Stands};
 
 use end_laws::ends_are_not_read;
+use run_laws::quiet_ends;
 use rx_base::Int;
 use rx_check::Checked;
 use rx_commit::Shown;
@@ -19,7 +20,6 @@ use rx_read::Numbers;
 use rx_render::Renderer;
 use rx_report::Report;
 use rx_sched::RootLanes;
-use run_laws::quiet_ends;
 use rx_spots as spots;
 use std::alloc::{AllocError, Global};
 use std::marker::Model;

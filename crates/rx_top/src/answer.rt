@@ -14,6 +14,7 @@ ghost use Rattle.rx_top.specs.Outcome.{accepted_line as accepted_line_of, IsDueF
 use crate::lines::accepted_line;
 use crate::run::{RunError, run_steps};
 use crate::status::Status;
+use run_laws::quiet_ends;
 use rx_accept::{Verdict, accept};
 use rx_base::Steps;
 use rx_check::Checked;
@@ -22,7 +23,6 @@ use rx_report::Report;
 use rx_root::{Root, steps_can_be_taken};
 use rx_step::Step;
 use rx_words::Reading;
-use run_laws::quiet_ends;
 use std::alloc::Global;
 use std::sync::ledger::Ledger;
 
