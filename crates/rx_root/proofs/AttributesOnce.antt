@@ -1,6 +1,6 @@
 -- In a program that is accepted, no host has two attributes of one name.
 use Rattle.std.proofs.Common.{◌≡◌, inl, inr, Bool, true, false, ◌||◌, List, [], ◌∷◌, ◌++◌, length, refl, sym, ap, ◌∙◌, subst}
-use Rattle.std.specs.Prelude.{ℕ, fold, bytes_eq}
+use Rattle.std.specs.Prelude.{fold, bytes_eq}
 use Rattle.std.proofs.lemmas.List.Folds.{list_any-append}
 use Rattle.std.proofs.lemmas.Slice.Eq.{bytes_eq-Decides}
 use Rattle.rx_base.specs.Values.{Name}
@@ -99,9 +99,10 @@ mutual
   slot_once s second (syntax.comp n attrs w ss) h =
       slots_once s false ss (λ x i. h x (inr (inr (IsIn-right _ (attributes_mentions s.values (taken_first second) attrs) _ i))))
   slot_once s second (syntax.boundary k f w ss) h =
-      let first = left (first_key_mentions s.values second k ++ (slot_mentions s false f ++ last_key_mentions s.values second k)) (slots_mentions s false ss) h in
-      (slot_once s false f (left _ (last_key_mentions s.values second k) (right (first_key_mentions s.values second k) _ first)),
-      slots_once s false ss (right (first_key_mentions s.values second k ++ (slot_mentions s false f ++ last_key_mentions s.values second k)) (slots_mentions s false ss) h))
+      let first = left (first_key_mentions s.values second k ++ (slot_mentions s false f ++ last_key_mentions s.values second k)) (slots_mentions s false ss) h in (
+        slot_once s false f (left _ (last_key_mentions s.values second k) (right (first_key_mentions s.values second k) _ first)),
+        slots_once s false ss (right (first_key_mentions s.values second k ++ (slot_mentions s false f ++ last_key_mentions s.values second k)) (slots_mentions s false ss) h),
+      )
   slot_once s second (syntax.provider n k e w ss) h =
       slots_once s false ss (λ x i. h x (inr (IsIn-right _ (first_key_mentions s.values second k ++ (expr_mentions s.values e ++ last_key_mentions s.values second k)) _ i)))
   slot_once s second (syntax.enclosed b t) h = slot_once s second t h

@@ -1,14 +1,12 @@
 -- What the end of a render needs, and which lanes it leaves pending.
-use Rattle.std.proofs.Common.{◌≡◌, ℕ, ◌<◌, ◌≤◌, ◌^◌, Bool, true, false, cond, List, [], ◌∷◌, refl, sym, ap, ◌∙◌, subst, arith, Option, Some, None}
+use Rattle.std.proofs.Common.{◌≡◌, ◌<◌, ◌≤◌, ◌^◌, Bool, false, cond, List, [], ◌∷◌, refl, sym, ap, ◌∙◌, subst, arith, Option, Some}
 use Rattle.std.specs.Prelude.{◌&&◌}
 use Rattle.std.specs.List.{list_any}
-use Rattle.rx_base.specs.Awaits.{Awaits, resource_limit}
 use Rattle.rx_lane.specs.declared.lane.Lane.{Lane}
 use Rattle.rx_lane.specs.declared.lane.Lane.TheVariants.{Retry}
 use Rattle.rx_lane.specs.Lanes.{Lanes, has, no_lanes, one, union, intersection, lanes_where, only_transitions}
 use Rattle.rx_lane.specs.SetLaws.{lanes_agree}
 use Rattle.rx_ast.specs.Syntax.{Program}
-use Rattle.rx_rules.specs.Names.{resources}
 use Rattle.rx_rules.specs.Bounds.{node_bound, node_limit}
 use Rattle.rx_check.specs.Accepted.{IsAccepted}
 use Rattle.rx_check.proofs.Limited.{few-resources}
@@ -18,10 +16,9 @@ use Rattle.rx_elem.specs.Numbers.{numbered}
 use Rattle.rx_elem.specs.Spots.{node_count}
 use Rattle.rx_queue.specs.Journal.{has_later, resolved_since}
 use Rattle.rx_meaning.specs.Fresh.{fresh, made}
-use Rattle.rx_meaning.specs.Outcome.{commit, defer, outcome, outcome_by, all_awaits, newly_hidden, visible_awaits, still_pending}
+use Rattle.rx_meaning.specs.Outcome.{commit, outcome, outcome_by, newly_hidden, visible_awaits, still_pending}
 use Rattle.rx_model.specs.State.{State, Progress}
 use Rattle.rx_model.specs.Committing.{sight_of}
-use Rattle.rx_model.specs.Kept.{IsSet}
 use Rattle.rx_model.specs.Laws.{IsBounded, IsReached}
 use Rattle.host_laws.specs.Commits.{IsCommit, TextsAreLeaves}
 use Rattle.replay_laws.proofs.Committing.{renders_commit}

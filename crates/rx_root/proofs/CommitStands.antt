@@ -1,5 +1,5 @@
 -- A root stands for the state after a commit.
-use Rattle.std.proofs.Common.{◌≡◌, ℕ, ◌+◌, Bool, true, false, cond, List, [], ◌∷◌, ◌++◌, length, map, refl, sym, ap, ◌∙◌, subst, Option, Some, None}
+use Rattle.std.proofs.Common.{◌≡◌, ℕ, ◌+◌, Bool, true, false, cond, List, [], ◌++◌, refl, sym, ap, ◌∙◌, subst, Option, Some, None}
 use Rattle.std.proofs.lemmas.List.{length-map}
 use Rattle.rx_lane.specs.declared.lane.Lane.TheVariants as lane
 use Rattle.rx_lane.specs.Lanes.{Lanes, has, lanes_where}
@@ -13,7 +13,7 @@ use Rattle.rx_meaning.specs.Outcome.{still_pending}
 use Rattle.rx_effect.specs.EffectLog.{Passive, no_passive, passive_of}
 use Rattle.rx_lines.specs.Lines.{Line, Counts, Written}
 use Rattle.rx_model.specs.State.{State, Progress}
-use Rattle.rx_model.specs.Stretch.{Stretch, silent}
+use Rattle.rx_model.specs.Stretch.{silent}
 use Rattle.rx_model.specs.HooksOf.{KeepsAllHooks}
 use Rattle.rx_model.specs.Committing.{passive_run, commit_lines, committed_state, committed_as}
 use Rattle.rx_model.specs.Laws.{IsBounded, IsReached}
@@ -213,7 +213,7 @@ module _ (p : Program) (s : State) (g : Progress) (tree : Node) (v x : Rooted) (
   commit_stands counts reached keeps shows =
       let lanes : w.lanes ≡ g.lanes = ap (λ (z : Rendering). z.lanes) c.settled ∙ ap (λ (z : Rooted). z.rendering.lanes) n.rest ∙ h.progress.renders.lanes in
       let shows_it =
-          subst (λ (ls : Lanes). Shows (Some (numbered s.numbers tree).1) (passive_left ls (passive_of (compare_trees s.tree (numbered s.numbers tree).1))) shown) lanes shows in
+      subst (λ (ls : Lanes). Shows (Some (numbered s.numbers tree).1) (passive_left ls (passive_of (compare_trees s.tree (numbered s.numbers tree).1))) shown) lanes shows in
       subst (λ (z : Rooted). Stands p (committed_as s g counts (numbered s.numbers tree)).after z) (sym root_is)
       (committed_stands p s (IsAtEndOf p s g tree) g counts tree v last shown h reached (last_committed keeps) shows_it)
 
@@ -226,7 +226,7 @@ module _ (p : Program) (s : State) (g : Progress) (tree : Node) (v x : Rooted) (
       let set : lanes_where (has w.lanes) ≡ g.lanes = ap (λ (ls : Lanes). lanes_where (has ls)) lanes ∙ sym h.progress.lanes_are_set in
       let commits : x.commits ≡ s.commits = ap (λ (z : Rooted). z.commits) n.rest ∙ h.commits in
       let counts : record { units = w.units; bodies = w.bodies } ≡ counts_of v =
-          ap (λ (z : Rendering). record { units = z.units; bodies = z.bodies }) c.settled ∙ ap (λ (z : Rooted). record { units = z.rendering.units; bodies = z.rendering.bodies }) n.rest in
+      ap (λ (z : Rendering). record { units = z.units; bodies = z.bodies }) c.settled ∙ ap (λ (z : Rooted). record { units = z.rendering.units; bodies = z.rendering.bodies }) n.rest in
       e
       ∙ ap (λ (k : ℕ). with_lines log (lines_of (k + 1) (lanes_where (has w.lanes)) (record { units = w.units; bodies = w.bodies }) s.tree (numbered s.numbers tree).1)) commits
       ∙ ap (λ (ls : Lanes). with_lines log (lines_of (s.commits + 1) ls (record { units = w.units; bodies = w.bodies }) s.tree (numbered s.numbers tree).1)) set

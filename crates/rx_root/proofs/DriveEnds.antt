@@ -2,19 +2,15 @@
 use Rattle.std.proofs.Common.{◌≡◌, ℕ, ◌+◌, ◌-◌, ◌<◌, ◌≤◌, Bool, true, false, [], refl, sym, ap, ◌∙◌, subst, arith, Option, Some, None}
 use Rattle.std.specs.Prelude.{IfSome, IfOk, OnOk, Result, Ok, Err, is_some, unwrap_or}
 use Rattle.rx_ast.specs.Syntax.{Program}
-use Rattle.rx_elem.specs.Trees.{Node}
 use Rattle.rx_sched.specs.Schedule.{Schedule}
 use Rattle.rx_loop.specs.declared.turn.Driven.{Driven}
 use Rattle.rx_loop.specs.declared.turn.Driven.TheVariants.{Finished, Yielded}
 use Rattle.rx_loop.specs.Ends.{MatchDriven}
 use Rattle.rx_model.specs.State.{State, Progress}
-use Rattle.rx_model.specs.Stretch.{Stretch}
-use Rattle.rx_model.specs.HooksOf.{KeepsAllHooks}
-use Rattle.rx_model.specs.Committing.{sight_of, ended}
+use Rattle.rx_model.specs.Committing.{sight_of}
 use Rattle.rx_model.specs.Turns.{unit_bound, gone_on}
 use Rattle.rx_model.specs.Laws.{IsBounded, IsReached}
 use Rattle.run_laws.proofs.RenderBounds.{units_below}
-use Rattle.rx_meaning.specs.Counts.{each_unit, left, whole}
 use Rattle.rx_fiber.specs.Reading.{IsTreeOf}
 use Rattle.rx_render.specs.declared.at.At.{At}
 use Rattle.rx_render.specs.declared.at.At.TheVariants.{Begins, Completes, Over}
@@ -24,8 +20,8 @@ use Rattle.rx_render.specs.Turning.{GoesOn}
 use Rattle.rx_render.proofs.Later.{renders_as, renders_same}
 use Rattle.rx_render.proofs.Ending.{renders_end, renders_bounded}
 use Rattle.rx_root.specs.Rooted.{Rooted}
-use Rattle.rx_root.specs.Stands.{StandsBy, StandsWith, Stands}
-use Rattle.rx_root.specs.Turning.{counts_of, IsAtEndOf, HasFinished, HasYielded}
+use Rattle.rx_root.specs.Stands.{StandsWith, Stands}
+use Rattle.rx_root.specs.Turning.{HasFinished, HasYielded}
 use Rattle.rx_root.proofs.TurnStands.{moved_stands}
 
 -- a render in progress still is
@@ -202,8 +198,8 @@ pub driven_as : {E : Type 0} (r : Result Driven E) (before v : Rooted) (w : Rend
     → IfOk r (λ d. Both d (λ used. 0 < used)) → IfOk r (λ d. Both d (λ used. w.bodies ≤ v.rendering.bodies + used))
     → OnOk r (counted + v.rendering.bodies ≡ steps + w.bodies) → OnOk r (GoesOn v.rendering w) → steps ≤ counted
     → IfOk r (λ d. MatchDriven d
-      (λ used. (p : Program) (s : State) (g : Progress) → StandsWith p s (Some g) before → HasFinished p s g slice (record v { rendering = w }) steps counted)
-      (λ used. (p : Program) (s : State) (g : Progress) → StandsWith p s (Some g) before → HasYielded p s g slice (record v { rendering = w }) steps counted))
+    (λ used. (p : Program) (s : State) (g : Progress) → StandsWith p s (Some g) before → HasFinished p s g slice (record v { rendering = w }) steps counted)
+    (λ used. (p : Program) (s : State) (g : Progress) → StandsWith p s (Some g) before → HasYielded p s g slice (record v { rendering = w }) steps counted))
 driven_as (Ok (Finished n)) before v w slice budget sliced steps counted same bounded is_budget is_sliced ends units some each ticks onward rises =
     λ p s g i.
     let h = subst (λ (x : Rooted). StandsWith p s (Some g) x) (sym same) i in

@@ -1,5 +1,5 @@
 -- A flush ends: the turns that it takes come to the states of one that ends.
-use Rattle.std.proofs.Common.{◌≡◌, ◌≢◌, inl, inr, ℕ, zero, suc, ◌≤◌, List, [], ◌∷◌, refl, sym, ap, ◌∙◌, subst, arith, Option, Some, None}
+use Rattle.std.proofs.Common.{◌≡◌, ◌≢◌, inl, inr, ℕ, zero, suc, [], ◌∷◌, refl, sym, ap, ◌∙◌, subst, arith, Option, Some, None}
 use Rattle.rx_ast.specs.Syntax.{Program}
 use Rattle.rx_step.specs.declared.step.Step.TheVariants as step
 use Rattle.rx_sched.specs.declared.choice.Choice.{Choice}
@@ -9,8 +9,7 @@ use Rattle.rx_meaning.specs.Fresh.{made}
 use Rattle.rx_meaning.specs.Outcome.{Outcome, commit, defer, outcome}
 use Rattle.rx_lines.specs.Lines.{Counts}
 use Rattle.rx_model.specs.State.{State, Progress}
-use Rattle.rx_model.specs.Stretch.{Stretch, followed_by, silent}
-use Rattle.rx_model.specs.Accepting.{between_events}
+use Rattle.rx_model.specs.Stretch.{Stretch}
 use Rattle.rx_model.specs.Committing.{passive_run, starting, ended, ended_by}
 use Rattle.rx_model.specs.Turns.{Finishes, GoesOn, Continues, TurnBy, Turn, choice_of}
 use Rattle.rx_model.specs.Machine.{Flushes, flush_limit}

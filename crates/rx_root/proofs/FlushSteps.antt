@@ -1,5 +1,5 @@
 -- The turns of a flush, one after another, and the room that they leave.
-use Rattle.std.proofs.Common.{◌≡◌, ◌≢◌, ℕ, zero, suc, ◌+◌, ◌-◌, ◌<◌, ◌≤◌, length, refl, sym, ◌∙◌, subst, arith, Option, Some, None}
+use Rattle.std.proofs.Common.{◌≡◌, ◌≢◌, ℕ, zero, suc, ◌+◌, ◌-◌, ◌≤◌, refl, sym, ◌∙◌, subst, arith, Option, None}
 use Rattle.rx_ast.specs.Syntax.{Program}
 use Rattle.rx_sched.specs.declared.choice.Choice.TheVariants as choice
 use Rattle.rx_lines.specs.Lines.{Written}
@@ -9,7 +9,7 @@ use Rattle.rx_model.specs.Turns.{Turn, choice_of}
 use Rattle.rx_model.specs.Laws.{IsBounded}
 use Rattle.rx_root.specs.Rooted.{Rooted}
 use Rattle.rx_root.specs.Stands.{Stands}
-use Rattle.rx_root.specs.Turning.{HasRoomForTurns, LeavesRoom, CanFlush, FlushWithin, FlushesFrom, StandsBetween, Takes}
+use Rattle.rx_root.specs.Turning.{HasRoomForTurns, LeavesRoom, CanFlush, FlushWithin, FlushesFrom, Takes}
 use Rattle.rx_root.proofs.TurnReached.{reached_passive, turn_event}
 use Rattle.rx_root.proofs.FlushEnds.{flush_over, flush_on}
 use Rattle.rx_root.proofs.TurnRoom.{turn_grows, room_after}
@@ -24,8 +24,8 @@ turn_leaves p s budget v w log new steps counted bounded h none t =
     let grows = turn_grows p (subst IsBounded h.program bounded) s budget t.stretch h.reached (reached_passive p s h.reached none) t.asked in
     record {
       room = λ more room.
-      let same : 1 + more ≡ suc more = omega arith in
-      room_after p s t.stretch.after _ _ v w more h t.done.stands grows (subst (λ (n : ℕ). HasRoomForTurns n v) same room);
+          let same : 1 + more ≡ suc more = omega arith in
+          room_after p s t.stretch.after _ _ v w more h t.done.stands grows (subst (λ (n : ℕ). HasRoomForTurns n v) same room);
       updates = t.done.stands.updates ∙ grows.updates ∙ sym h.updates;
       resolutions = t.done.stands.resolutions ∙ grows.resolutions ∙ sym h.resolutions;
     }
@@ -44,8 +44,8 @@ pub leaves_more : (limit : ℕ) (v x w : Rooted) → 1 ≤ limit → LeavesRoom 
 leaves_more limit v x w some first rest =
     record {
       room = λ more room.
-      let sum : limit + more ≡ 1 + (limit - 1 + more) = omega (arith, some) in
-      rest.room more (first.room (limit - 1 + more) (subst (λ (n : ℕ). HasRoomForTurns n v) sum room));
+          let sum : limit + more ≡ 1 + (limit - 1 + more) = omega (arith, some) in
+          rest.room more (first.room (limit - 1 + more) (subst (λ (n : ℕ). HasRoomForTurns n v) sum room));
       updates = rest.updates ∙ first.updates;
       resolutions = rest.resolutions ∙ first.resolutions;
     }

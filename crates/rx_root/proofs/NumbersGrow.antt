@@ -1,5 +1,5 @@
 -- A commit gives no more numbers than its tree has nodes.
-use Rattle.std.proofs.Common.{◌≡◌, ℕ, ◌+◌, ◌≤◌, List, [], ◌∷◌, ◌++◌, length, refl, sym, arith, Option, Some, None}
+use Rattle.std.proofs.Common.{◌≡◌, ℕ, ◌+◌, ◌≤◌, ◌++◌, length, arith, Option, Some, None}
 use Rattle.std.proofs.lemmas.List.{length-append}
 use Rattle.rx_elem.specs.Trees.{Instance, Mark, of_instance, of_host, of_boundary, plain, Node, node, Forest, none, vacant, child}
 use Rattle.rx_elem.specs.Spots.{Around, around_children, at_root, spots, spots_in, node_count}

@@ -1,12 +1,11 @@
 -- Whether a resource that is waited for got its value after a cut, by the values that are known now and those before.
-use Rattle.std.proofs.Common.{◌≡◌, ◌⊎◌, inl, inr, ℕ, ◌+◌, ◌<◌, ◌≤◌, ◌^◌, Bool, true, false, ◌||◌, List, [], ◌∷◌, length, map, refl, sym, ap, ◌∙◌, subst, arith, Option, Some, None}
+use Rattle.std.proofs.Common.{◌≡◌, ◌⊎◌, inl, inr, ℕ, ◌<◌, ◌≤◌, ◌^◌, Bool, true, false, ◌||◌, List, [], ◌∷◌, length, refl, sym, ap, ◌∙◌, arith, Option, None}
 use Rattle.std.specs.Prelude.{ℤ, not, ◌&&◌, is_some, nat_eq, slice_index_or}
-use Rattle.std.specs.List.{list_any, range_with_len}
+use Rattle.std.specs.List.{list_any}
 use Rattle.std.proofs.lemmas.Bool.Decides.{nat_tests}
 use Rattle.std.proofs.lemmas.List.{length-map}
 use Rattle.std.proofs.lemmas.List.FromFn.{get_or-map-range_with_len, length-range_with_len}
 use Rattle.rx_base.specs.Awaits.{Awaits, has}
-use Rattle.rx_base.specs.declared.cut.Cut.{Cut}
 use Rattle.rx_ast.specs.Syntax.{Program}
 use Rattle.rx_rules.specs.Names.{resources}
 use Rattle.rx_check.specs.Accepted.{IsAccepted}
@@ -69,7 +68,7 @@ news_at : (p : Program) (s : State) (g : Progress) (waits : Awaits) (r : ℕ) �
 news_at p s g waits r few =
     let now : slice_index_or (values_now p s.journal) r None ≡ resolved_now s.journal r = get_or-map-range_with_len (resolved_now s.journal) 0 (length (resources p)) r r None few (omega arith) in
     let then : slice_index_or (resources_seen (sight_of p s g)) r None ≡ resolved_by g.cut s.journal r =
-        get_or-map-range_with_len (resolved_by g.cut s.journal) 0 (length (resources p)) r r None few (omega arith) in
+    get_or-map-range_with_len (resolved_by g.cut s.journal) 0 (length (resources p)) r r None few (omega arith) in
     rw (now, then) refl
 
 pub values_length : (p : Program) (j : Journal) → length (values_now p j) ≡ length (resources p)

@@ -78,6 +78,37 @@ stands_at p s now event passive v clock shown time shows reached h =
       progress = progress_stays p s now event passive v clock shown s.progress h.progress;
     }
 
+-- ---- the table of instances
+
+listed_progress : (p : Program) (s : State) (v : Rooted) (ms : Option (List Mounted)) (x : Option Progress) → HasProgress p s x v → HasProgress p s x (record v { instances = ms })
+listed_progress p s v ms None h = h
+listed_progress p s v ms (Some g) h =
+    record { renders = h.renders; units = h.units; bodies = h.bodies; left = h.left; lanes_are_set = h.lanes_are_set; later = h.later }
+
+-- the instances of the committed tree are listed
+pub stands_listed : (p : Program) (s : State) (v : Rooted) (ms : Option (List Mounted)) → IfSome ms (λ xs. xs ≡ mounted s.tree) → Stands p s v → Stands p s (record v { instances = ms })
+stands_listed p s v ms listed h =
+    record {
+      reached = h.reached;
+      program = h.program;
+      current = h.current;
+      numbered = h.numbered;
+      keeps = h.keeps;
+      below = h.below;
+      shows = h.shows;
+      schedule = h.schedule;
+      commits = h.commits;
+      updates = h.updates;
+      resolutions = h.resolutions;
+      values = h.values;
+      now = h.now;
+      event = h.event;
+      numbers = h.numbers;
+      declared = h.declared;
+      instances = listed;
+      progress = listed_progress p s v ms s.progress h.progress;
+    }
+
 -- ---- updates
 
 or_nothing : (b : Bool) → (b || false) ≡ b

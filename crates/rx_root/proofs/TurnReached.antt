@@ -1,5 +1,5 @@
 -- The state after a turn is one that a run comes to.
-use Rattle.std.proofs.Common.{◌≡◌, inl, inr, ℕ, ◌+◌, ◌≤◌, Bool, true, false, cond, List, [], ◌∷◌, ◌++◌, refl, sym, ap, ◌∙◌, subst, arith, Option, Some, None}
+use Rattle.std.proofs.Common.{◌≡◌, inl, inr, ℕ, ◌+◌, ◌≤◌, Bool, true, false, cond, refl, sym, ap, ◌∙◌, subst, arith, Option, Some, None}
 use Rattle.std.specs.Prelude.{IfSome}
 use Rattle.rx_lane.specs.declared.lane.Lane.{Lane}
 use Rattle.rx_lane.specs.declared.lane.Lane.TheVariants as lane
@@ -13,7 +13,7 @@ use Rattle.rx_elem.specs.Numbers.{numbered}
 use Rattle.rx_meaning.specs.Outcome.{Outcome, commit, defer, outcome}
 use Rattle.rx_lines.specs.Lines.{Counts}
 use Rattle.rx_model.specs.State.{State, Progress}
-use Rattle.rx_model.specs.Stretch.{Stretch, silent, followed_by}
+use Rattle.rx_model.specs.Stretch.{Stretch, silent}
 use Rattle.rx_model.specs.Accepting.{between_events}
 use Rattle.rx_model.specs.Committing.{passive_run, starting, committed_state, ended_by}
 use Rattle.rx_model.specs.Turns.{unit_bound, Finishes, GoesOn, Continues, TurnBy, Turn, choice_of}

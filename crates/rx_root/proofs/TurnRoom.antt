@@ -1,12 +1,12 @@
 -- A turn makes one commit at most, so the numbers of a root leave room for the turns that follow.
-use Rattle.std.proofs.Common.{◌≡◌, inl, inr, ℕ, suc, ◌+◌, ◌*◌, ◌<◌, ◌≤◌, Bool, true, false, cond, length, refl, sym, ap, ◌∙◌, subst, arith, Option, Some, None}
+use Rattle.std.proofs.Common.{◌≡◌, inl, inr, ℕ, suc, ◌+◌, ◌≤◌, Bool, true, false, cond, length, refl, sym, ap, ◌∙◌, subst, arith, Option, Some, None}
 use Rattle.std.proofs.lemmas.List.{length-map}
 use Rattle.rx_lane.specs.declared.lane.Lane.TheVariants as lane
-use Rattle.rx_lane.specs.Lanes.{Lanes, has, only_transitions}
+use Rattle.rx_lane.specs.Lanes.{has}
 use Rattle.rx_ast.specs.Syntax.{Program}
 use Rattle.rx_rules.specs.Bounds.{node_limit}
 use Rattle.rx_elem.specs.Trees.{Node}
-use Rattle.rx_elem.specs.Numbers.{Numbers, numbered}
+use Rattle.rx_elem.specs.Numbers.{numbered}
 use Rattle.rx_sched.specs.declared.choice.Choice.{Choice}
 use Rattle.rx_sched.specs.declared.choice.Choice.TheVariants as choice
 use Rattle.rx_sched.specs.Schedule.{Schedule}

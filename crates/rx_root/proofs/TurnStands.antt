@@ -1,5 +1,5 @@
 -- A root stands for the state after a slice, a deferral, and the start of a render.
-use Rattle.std.proofs.Common.{◌≡◌, ℕ, ◌+◌, ◌<◌, ◌≤◌, Bool, true, false, List, [], ◌∷◌, length, refl, sym, ap, ◌∙◌, subst, arith, Option, Some, None}
+use Rattle.std.proofs.Common.{◌≡◌, ℕ, ◌<◌, false, List, [], ◌∷◌, length, refl, sym, ap, ◌∙◌, subst, arith, Option, Some, None}
 use Rattle.std.specs.Prelude.{◌&&◌, nat_le}
 use Rattle.std.specs.List.{list_any, AllByRecursion}
 use Rattle.std.proofs.lemmas.Bool.Decides.{nat_tests}
@@ -18,7 +18,7 @@ use Rattle.rx_model.specs.State.{State, Progress}
 use Rattle.rx_model.specs.HooksOf.{KeepsAllHooks}
 use Rattle.rx_model.specs.Committing.{passive_run, starting, schedule_deferred, deferred_as}
 use Rattle.rx_model.specs.Kept.{IsSet}
-use Rattle.rx_model.specs.Laws.{IsBounded, IsReached}
+use Rattle.rx_model.specs.Laws.{IsReached}
 use Rattle.rx_model.proofs.Reached.{reached-can}
 use Rattle.run_laws.specs.Carried.{NumbersBelow}
 use Rattle.run_laws.proofs.Carrying.{all_accounted, done_before}

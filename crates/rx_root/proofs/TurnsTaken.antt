@@ -1,7 +1,6 @@
 -- The turns that a root takes are turns of the machine.
-use Rattle.std.proofs.Common.{◌≡◌, ◌≢◌, inl, inr, ℕ, zero, suc, ◌+◌, ◌≤◌, Bool, true, false, cond, List, [], ◌∷◌, ◌++◌, refl, sym, ap, ◌∙◌, subst, arith, add-zero, add_assoc, Option, Some, None}
+use Rattle.std.proofs.Common.{◌≡◌, ◌≢◌, inl, inr, ℕ, zero, suc, ◌+◌, ◌≤◌, Bool, true, false, cond, List, [], ◌∷◌, refl, sym, ap, ◌∙◌, subst, arith, add-zero, add_assoc, Option, Some, None}
 use Rattle.std.specs.Prelude.{OnOk, Result, Ok, Err, option_map}
-use Rattle.rx_lane.specs.declared.lane.Lane.{Lane}
 use Rattle.rx_lane.specs.declared.lane.Lane.TheVariants as lane
 use Rattle.rx_lane.specs.Lanes.{Lanes, has}
 use Rattle.rx_ast.specs.Syntax.{Program}
@@ -23,9 +22,9 @@ use Rattle.rx_model.specs.Kept.{IsSet}
 use Rattle.rx_model.specs.Laws.{IsReached}
 use Rattle.rx_commit.specs.Written.{passive_lines, with_lines}
 use Rattle.rx_root.specs.Rooted.{Rooted}
-use Rattle.rx_root.specs.Stands.{StandsBy, StandsWith, Stands}
-use Rattle.rx_root.specs.Turning.{counts_of, IsAtEndOf, HasDone, Takes, LeadsOn, HasFinished, HasYielded, CanFlush}
-use Rattle.rx_root.proofs.TurnReached.{reached_turn, reached_passive}
+use Rattle.rx_root.specs.Stands.{StandsWith, Stands}
+use Rattle.rx_root.specs.Turning.{counts_of, HasDone, Takes, LeadsOn, HasFinished, HasYielded}
+use Rattle.rx_root.proofs.TurnReached.{reached_turn}
 use Rattle.rx_root.proofs.TurnLines.{with_none, with_both}
 
 -- What a turn does

@@ -1,6 +1,5 @@
 -- A root, as contracts see it.
 use Rattle.std.specs.Prelude.{ℕ, List, ℤ, Option}
-use Rattle.rx_base.specs.declared.cut.Cut.{Cut}
 use Rattle.rx_lane.specs.declared.lane.Lane.{Lane}
 use Rattle.rx_lane.specs.Lanes.{Lanes}
 use Rattle.rx_elem.specs.Numbers.{Numbers}

@@ -5,8 +5,6 @@ mod events;
 mod laws;
 mod root;
 mod step;
-#[cfg(test)]
-mod tests;
 mod turns;
 
 pub use laws::steps_can_be_taken;

@@ -147,7 +147,12 @@ impl Root {
         ensures rises { steps.old ≤ steps.new }
     {
         self.renderer.facts();
-        drive(&mut self.renderer, slice.unwrap_or(1), slice.is_some(), steps)
+        drive(
+            &mut self.renderer,
+            slice.unwrap_or(1),
+            slice.is_some(),
+            steps,
+        )
     }
 
     // Whether one of these resources got its value since the render in progress began.

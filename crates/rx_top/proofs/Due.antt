@@ -7,7 +7,6 @@ use Rattle.rx_ast.specs.Syntax.{Program}
 use Rattle.rx_rules.specs.Bounds.{node_bound, depth_bound}
 use Rattle.rx_step.specs.declared.step.Step.{Step}
 use Rattle.rx_lines.specs.Lines.{Options}
-use Rattle.rx_model.specs.Machine.{Reports}
 use Rattle.rx_accept.specs.Judgements.{Judgement, accepted, program_refused, script_refused, IsJudged}
 use Rattle.rx_words.specs.declared.task.Task.{Task}
 use Rattle.rx_words.specs.declared.task.Task.TheVariants.{Read, Gen}
@@ -16,7 +15,7 @@ use Rattle.rx_words.specs.declared.task.Reading.TheVariants.{Run, Check}
 use Rattle.rx_words.specs.Words.{task_of}
 use Rattle.rx_top.specs.declared.status.Status.{Status}
 use Rattle.rx_top.specs.declared.status.Status.TheVariants.{Done, Usage, ReadFault, WriteFault, TooLong, ProgramRefused, ScriptRefused, OutOfMemory}
-use Rattle.rx_top.specs.Outcome.{accepted_line, IsAccepted, IsRefused, IsDueFor, IsDueTo, IsDue, IsWork, IsOutput, IsSomeOutput, IsTextFor, IsBegun, IsAnswer, Gives, limit, Writes, WritesPart, WritesSome}
+use Rattle.rx_top.specs.Outcome.{accepted_line, IsAccepted, IsRefused, IsDueFor, IsDueTo, IsDue, IsReport, IsWork, IsOutput, IsSomeOutput, IsTextFor, IsBegun, IsAnswer, Gives, limit, Writes, WritesPart, WritesSome}
 
 -- an input is this, and nothing else
 abbrev pub IsAlone : List ℕ → Judgement → Type 0
@@ -59,8 +58,8 @@ due-refused_script input line alone OutOfMemory d = absurd d.1
 
 -- what a run writes is the work of `run` with these options
 pub run-work : (counts ops : Bool) (reading : Reading) (p : Program) (steps : List Step) (o : Options) → reading ≡ Run counts ops → o ≡ record { counts = counts; ops = ops }
-    → (X : (List ℕ → ℕ → Type 0) → Type 0) → X (Reports p steps o) → X (IsWork reading p steps)
-run-work counts ops reading p steps o is shown X holds = subst (λ t. X (IsWork t p steps)) (sym is) (subst (λ q. X (Reports p steps q)) shown holds)
+    → (X : (List ℕ → ℕ → Type 0) → Type 0) → X (IsReport p steps o) → X (IsWork reading p steps)
+run-work counts ops reading p steps o is shown X holds = subst (λ t. X (IsWork t p steps)) (sym is) (subst (λ q. X (IsReport p steps q)) shown holds)
 
 -- the line of the bounds is the work of `check`
 pub check-work : (reading : Reading) (p : Program) (steps : List Step) (line : List ℕ) → reading ≡ Check → line ≡ accepted_line (node_bound p) (depth_bound p) (length steps)

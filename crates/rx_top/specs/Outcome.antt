@@ -1,5 +1,5 @@
 -- What the top call answers and writes, for the words and the input.
-use Rattle.std.specs.Prelude.{ℕ, ◌≡◌, ◌+◌, ◌<◌, ◌≤◌, ◌⊎◌, List, [], ◌∷◌, ◌++◌, length, true, false, codes, Option, Some, None, drop}
+use Rattle.std.specs.Prelude.{ℕ, ◌≡◌, ◌+◌, ◌<◌, ◌≤◌, ◌⊎◌, List, [], ◌∷◌, ◌++◌, length, true, false, codes, Option, Some, None, IsTrue, drop}
 use Rattle.std.specs.Io.KnownBytes.{Appends, Keeps, Consumes, IsAtEnd}
 use Rattle.rx_base.specs.Values.{Text}
 use Rattle.rx_ast.specs.Syntax.{Program}
@@ -10,9 +10,10 @@ use Rattle.rx_accept.specs.Judgements.{IsJudged, accepted, program_refused, scri
 use Rattle.rx_elem.specs.Spots.{node_count}
 use Rattle.rx_forest.specs.Hosts.{hosts}
 use Rattle.rx_lines.specs.Lines.{Options, tree_lines, report_bytes}
-use Rattle.rx_model.specs.State.{State, opening}
+use Rattle.rx_model.specs.State.{State, opening, is_quiet}
 use Rattle.rx_model.specs.Stretch.{Stretch}
 use Rattle.rx_model.specs.Machine.{RunTo, Reports}
+use Rattle.rx_model.specs.Laws.{ShowsEverything}
 use Rattle.rx_gen.specs.Generated.{program_text, script_text, summary_text}
 use Rattle.rx_words.specs.Words.{is_valid, reads_input, task_of}
 use Rattle.rx_words.specs.declared.task.Task.{Task}
@@ -68,10 +69,15 @@ IsDue words input Usage = is_valid words ≡ false
 IsDue words input TooLong = (reads_input words ≡ true) × (limit < length input)
 IsDue words input due = IsDueTo (task_of words) input due
 
+-- The bytes are the report of a run of the fresh machine, which evaluates so many bodies. Where its end is quiet, every hook and the whole tree show all updates.
+pub record IsReport (p : Program) (steps : List Step) (options : Options) (bytes : List ℕ) (bodies : ℕ) : Type 0 where
+  pub reports : Reports p steps options bytes bodies
+  pub quiet : IsTrue (is_quiet reports.run.whole.after) → ShowsEverything p reports.run.whole.after
+
 -- What is written for a program that is accepted and the steps of its script, and how many bodies are evaluated for it: `check` writes the one line of its bounds; `run` writes the report of a run of the fresh machine.
 abbrev pub IsWork : Reading → Program → List Step → List ℕ → ℕ → Type 0
 IsWork Check p steps text bodies = (text ≡ accepted_line (node_bound p) (depth_bound p) (length steps)) × (bodies ≡ 0)
-IsWork (Run counts ops) p steps text bodies = Reports p steps (record { counts = counts; ops = ops }) text bodies
+IsWork (Run counts ops) p steps text bodies = IsReport p steps (record { counts = counts; ops = ops }) text bodies
 
 -- what is written for an input that isn't too long, and how many bodies are evaluated for it
 abbrev pub IsOutput : Reading → List ℕ → Status → List ℕ → ℕ → Type 0

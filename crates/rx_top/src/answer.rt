@@ -6,15 +6,15 @@ ghost use Rattle.rx_io.specs.Whole.{AppendsPrefix};
 ghost use Rattle.rx_rules.specs.Bounds.{node_bound, depth_bound};
 ghost use Rattle.rx_model.specs.State.{opening};
 ghost use Rattle.rx_model.specs.Laws.{IsBounded};
-ghost use Rattle.rx_model.specs.Machine.{Reports};
 ghost use Rattle.rx_root.specs.Stands.{Stands};
 ghost use Rattle.rx_root.specs.Taking.{AllCanTake};
 ghost use Rattle.rx_top.specs.declared.status.Status.{Status};
-ghost use Rattle.rx_top.specs.Outcome.{accepted_line as accepted_line_of, IsDueFor, IsOutput, IsSomeOutput, IsWork, Gives, IsAnswer, Writes, WritesPart, WritesSome};
+ghost use Rattle.rx_top.specs.Outcome.{accepted_line as accepted_line_of, IsDueFor, IsOutput, IsReport, IsSomeOutput, IsWork, Gives, IsAnswer, Writes, WritesPart, WritesSome};
 
 use crate::lines::accepted_line;
 use crate::run::{RunError, run_steps};
 use crate::status::Status;
+use run_laws::quiet_ends;
 use rx_accept::{Verdict, accept};
 use rx_base::Steps;
 use rx_check::Checked;
@@ -63,11 +63,12 @@ fn run_root<K: Sink, L: Ledger>(
     requires few { length script.now < 2 ^ 32 }
     ensures gives { Gives Status.Done result }
     ensures no_read { result ≡ Status.ReadFault → ⊥ }
-    ensures done { result ≡ Status.Done → Writes (K.written out.old) (K.written out.new) steps.old steps.new (Reports root.old.rendering.program script.now log.old.options) }
-    ensures fault_part { result ≡ Status.WriteFault → WritesPart (K.written out.old) (K.written out.new) (Reports root.old.rendering.program script.now log.old.options) }
-    ensures memory_part { result ≡ Status.OutOfMemory → WritesPart (K.written out.old) (K.written out.new) (Reports root.old.rendering.program script.now log.old.options) }
+    ensures done { result ≡ Status.Done → Writes (K.written out.old) (K.written out.new) steps.old steps.new (IsReport root.old.rendering.program script.now log.old.options) }
+    ensures fault_part { result ≡ Status.WriteFault → WritesPart (K.written out.old) (K.written out.new) (IsReport root.old.rendering.program script.now log.old.options) }
+    ensures memory_part { result ≡ Status.OutOfMemory → WritesPart (K.written out.old) (K.written out.new) (IsReport root.old.rendering.program script.now log.old.options) }
     ensures cause { result ≡ Status.WriteFault → Rose (K.faults out.old) (K.faults out.new) }
 {
+    quiet_ends();
     match run_steps(root, script, log, out, steps) {
         Ok(()) => {}
         Err(RunError::Failed) => return Status::WriteFault,
@@ -97,9 +98,9 @@ fn run_program<K: Sink, L: Ledger>(
     requires few { length script.now < 2 ^ 32 }
     ensures gives { Gives Status.Done result }
     ensures no_read { result ≡ Status.ReadFault → ⊥ }
-    ensures done { result ≡ Status.Done → Writes (K.written out.old) (K.written out.new) steps.old steps.new (Reports checked script.now log.old.options) }
-    ensures fault_part { result ≡ Status.WriteFault → WritesPart (K.written out.old) (K.written out.new) (Reports checked script.now log.old.options) }
-    ensures memory_part { result ≡ Status.OutOfMemory → WritesSome (K.written out.old) (K.written out.new) (Reports checked script.now log.old.options) }
+    ensures done { result ≡ Status.Done → Writes (K.written out.old) (K.written out.new) steps.old steps.new (IsReport checked script.now log.old.options) }
+    ensures fault_part { result ≡ Status.WriteFault → WritesPart (K.written out.old) (K.written out.new) (IsReport checked script.now log.old.options) }
+    ensures memory_part { result ≡ Status.OutOfMemory → WritesSome (K.written out.old) (K.written out.new) (IsReport checked script.now log.old.options) }
     ensures cause { result ≡ Status.WriteFault → Rose (K.faults out.old) (K.faults out.new) }
 {
     program_is_bounded(&checked);

@@ -1,4 +1,4 @@
-use Rattle.std.proofs.Common.{◌≡◌, ◌≢◌, ◌≤◌, None, sym, ◌∙◌, arith}
+use Rattle.std.proofs.Common.{◌≢◌, ◌≤◌, None, sym, ◌∙◌, arith}
 use Rattle.rx_sched.specs.declared.choice.Choice.TheVariants as choice
 use Rattle.rx_model.specs.Turns.{choice_of}
 use Rattle.rx_root.proofs.TurnReached.{turn_event}
@@ -26,9 +26,13 @@ finish_renders-requires g t c κs within =
     let few : 1 ≤ c.args.limit = some_render c.args.limit f.program f.state f.ends some in
     let taken = c.in_ok-turn.ensures.takes f.program f.state f.stands f.between in (
       omega (arith, few, c.decreases),
-      (within,
-      (flushes_on c.args.limit c.args.self.now c.turn.new.self c.args.log.now c.turn.new.log c.args.steps.now c.turn.new.steps f some taken,
-      room_left c.args.limit c.args.self.now c.turn.new.self few c.in_ok-turn.ensures.leaves c.requires.room)),
+      (
+        within,
+        (
+          flushes_on c.args.limit c.args.self.now c.turn.new.self c.args.log.now c.turn.new.log c.args.steps.now c.turn.new.steps f some taken,
+          room_left c.args.limit c.args.self.now c.turn.new.self few c.in_ok-turn.ensures.leaves c.requires.room,
+        ),
+      ),
     )
 
 pub returns : goal.returns
@@ -38,13 +42,13 @@ returns g t c =
     let few : 1 ≤ c.args.limit = some_render c.args.limit f.program f.state f.ends some in
     record {
       takes = on_ok c.finish_renders.result _ _
-      (λ rest p s h none.
-      let turn = c.in_ok-turn.ensures.takes p s h none in
-      let busy : choice_of s ≢ choice.None = λ e. c.in_default.not-None (c.choice.ensures p s h ∙ e) in
-      flush_takes c.args.limit p s c.turn.new.self c.finish_renders.new.self c.args.log.now c.turn.new.log c.finish_renders.new.log c.args.steps.now c.turn.new.steps c.finish_renders.new.steps few busy
-      turn (rest p turn.stretch.after turn.done.stands (turn_event p s None turn.stretch none turn.asked))) c.finish_renders.ensures.takes;
+          (λ rest p s h none.
+          let turn = c.in_ok-turn.ensures.takes p s h none in
+          let busy : choice_of s ≢ choice.None = λ e. c.in_default.not-None (c.choice.ensures p s h ∙ e) in
+          flush_takes c.args.limit p s c.turn.new.self c.finish_renders.new.self c.args.log.now c.turn.new.log c.finish_renders.new.log c.args.steps.now c.turn.new.steps c.finish_renders.new.steps few busy
+          turn (rest p turn.stretch.after turn.done.stands (turn_event p s None turn.stretch none turn.asked))) c.finish_renders.ensures.takes;
       idle = c.finish_renders.ensures.idle;
       leaves = on_ok c.finish_renders.result _ _
-      (λ rest. leaves_more c.args.limit c.args.self.now c.turn.new.self c.finish_renders.new.self few c.in_ok-turn.ensures.leaves rest) c.finish_renders.ensures.leaves;
+          (λ rest. leaves_more c.args.limit c.args.self.now c.turn.new.self c.finish_renders.new.self few c.in_ok-turn.ensures.leaves rest) c.finish_renders.ensures.leaves;
       rises = omega (arith, c.turn.ensures.rises, c.finish_renders.ensures.rises);
     }

@@ -10,7 +10,7 @@ returns-in-Finished-clause-takes g c =
     on_ok c.finish.result _ _
     (λ done p s x h leads.
     let f =
-        subst (λ (slice : Option ℕ). HasFinished p s x slice c.drive.new.self c.args.steps.now c.drive.new.steps) (c.slice-slice.ensures.slice p s x h) (ends p s x h) in
+    subst (λ (slice : Option ℕ). HasFinished p s x slice c.drive.new.self c.args.steps.now c.drive.new.steps) (c.slice-slice.ensures.slice p s x h) (ends p s x h) in
     goes_finished p s x c.args.budget c.drive.new.self c.finish.new.self c.args.log.now c.finish.new.log c.args.steps.now c.drive.new.steps f
     (done p s x f.tree f.stands (leads (ended s x (counts_of c.drive.new.self) f.tree) (inl f.finishes)))) c.finish.ensures
 

@@ -1,7 +1,6 @@
 use Rattle.std.proofs.Common.{sym, subst}
 use Rattle.rx_root.specs.Rooted.{Rooted}
 use Rattle.rx_root.specs.Turning.{StandsAtEnd}
-use Rattle.rx_root.specs.contracts.root.Root.{the_view}
 use Rattle.rx_root.proofs.CommitReady.{few_at_end}
 use Rattle.rx_root.proofs.root.Root.number.Goals as goal
 

@@ -17,6 +17,6 @@ returns-clause-shown c old passive new f =
     let before = subst (λ (v : Rooted). Shows old passive v.shown) (sym c.self.view_is) f.shows in
     let lanes = c.lanes-lanes.ensures ∙ ap (λ (v : Rooted). v.rendering.lanes) c.self.view_is in
     let after =
-        c.commit.ensures old new (c.in_ok-prepared.ensures.hosts ∙ before.hosts_are) f.commits (c.in_ok-prepared.ensures.prepares old new before.tree_is f.tree_is) in
+    c.commit.ensures old new (c.in_ok-prepared.ensures.hosts ∙ before.hosts_are) f.commits (c.in_ok-prepared.ensures.prepares old new before.tree_is f.tree_is) in
     subst (λ (ls : Lanes). Shows (Some new) (passive_left ls (passive_of (compare_trees old new))) c.end_passive_of.new.shown) lanes
     (c.end_passive_of.ensures (Some new) (passive_of (compare_trees old new)) after)

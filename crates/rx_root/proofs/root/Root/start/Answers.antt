@@ -1,13 +1,9 @@
-use Rattle.std.proofs.Common.{List, Option, Some, sym, ap, ◌∙◌, subst}
+use Rattle.std.proofs.Common.{List, Option, sym, ◌∙◌, subst}
 use Rattle.std.specs.Prelude.{ℤ}
-use Rattle.rx_lane.specs.Lanes.{Lanes, no_lanes}
-use Rattle.rx_effect.specs.EffectLog.{no_passive}
-use Rattle.rx_model.specs.State.{State}
-use Rattle.rx_model.specs.Committing.{passive_run, starting}
-use Rattle.rx_commit.specs.Shown.{Shown}
+use Rattle.rx_model.specs.Committing.{passive_run}
 use Rattle.rx_render.specs.Renders.{IsStartOf}
 use Rattle.rx_root.specs.Rooted.{Rooted}
-use Rattle.rx_root.specs.Stands.{Stands, StandsWith}
+use Rattle.rx_root.specs.Stands.{Stands}
 use Rattle.rx_root.specs.contracts.root.Root.{the_view}
 use Rattle.rx_root.proofs.TurnReached.{reached_passive}
 use Rattle.rx_root.proofs.TurnStands.{can_start, started_as}
@@ -22,7 +18,7 @@ start-requires c =
     record {
       state = (passive_run s).after;
       is = subst (λ (values : List (Option ℤ)). IsStartOf (passive_run s).after c.args.lanes (record { updates = c.self.inside.updates; resolutions = c.self.inside.resolutions }) values c.self.inside.renderer)
-      (sym (c.in_ok-values.ensures ∙ c.deref.ensures.value)) is;
+          (sym (c.in_ok-values.ensures ∙ c.deref.ensures.value)) is;
     }
 
 pub returns-clause-starts : goal.returns-clause-starts
@@ -31,8 +27,8 @@ returns-clause-starts c p s i none set =
     let h = subst (λ (x : Rooted). Stands p s x) (sym c.self.view_is) i in
     let reached = reached_passive p s h.reached none in
     let is =
-        subst (λ (values : List (Option ℤ)). IsStartOf (passive_run s).after c.args.lanes (record { updates = c.self.inside.updates; resolutions = c.self.inside.resolutions }) values c.self.inside.renderer)
-        (sym (c.in_ok-values.ensures ∙ c.deref.ensures.value)) (can_start p s v c.args.lanes h reached) in
+    subst (λ (values : List (Option ℤ)). IsStartOf (passive_run s).after c.args.lanes (record { updates = c.self.inside.updates; resolutions = c.self.inside.resolutions }) values c.self.inside.renderer)
+    (sym (c.in_ok-values.ensures ∙ c.deref.ensures.value)) (can_start p s v c.args.lanes h reached) in
     let on = c.in_ok-start.ensures in
     started_as p s v c.args.lanes c.start.new.self c.flush_passive.new.self c.none-self-inside.result h reached set on.program on.current on.hooks (on.started (passive_run s).after is) on.units on.bodies
     on.left c.in_ok-flush_passive.ensures.ended c.none-self-inside.ensures

@@ -17,15 +17,15 @@ pub returns : goal.returns
 returns c p s g next k e =
     let accepted = subst IsAccepted k.program c.facts.ensures.accepted in
     let retry : c.if-is_resolved_since.retry ≡ cond c.is_resolved_since.result (one Retry) no_lanes =
-        elim c.if-is_resolved_since.branch [
-          | then-is_resolved_since w ↦ w.retry-is ∙ w.one-retry.ensures ∙ sym (ap (λ b. cond b (one Retry) no_lanes) w.if-is_resolved_since.true)
-          | else-is_resolved_since w ↦ w.retry-is ∙ w.none-retry.ensures ∙ sym (ap (λ b. cond b (one Retry) no_lanes) w.if-is_resolved_since.false)
-        ] in
+    elim c.if-is_resolved_since.branch [
+      | then-is_resolved_since w ↦ w.retry-is ∙ w.one-retry.ensures ∙ sym (ap (λ b. cond b (one Retry) no_lanes) w.if-is_resolved_since.true)
+      | else-is_resolved_since w ↦ w.retry-is ∙ w.none-retry.ensures ∙ sym (ap (λ b. cond b (one Retry) no_lanes) w.if-is_resolved_since.false)
+    ] in
     let lanes = c.lanes.ensures ∙ ap (λ (v : Rooted). v.rendering.lanes) c.self.view_is ∙ k.lanes in
     let waits : c.is_resolved_since.result ≡ list_any (resolved_since g.cut s.journal) (visible_awaits (Some next)) =
-        c.is_resolved_since.ensures p s g k ∙ c.awaited.ensures.resolved g.cut s.journal (within_reach p accepted s k.declared)
-        ∙ ap (λ (n : Node). list_any (resolved_since g.cut s.journal) (visible_awaits (Some n))) e
-        ∙ ap (λ (all : List Awaits). list_any (resolved_since g.cut s.journal) all) (visible_awaits_same (Some next)) in
+    c.is_resolved_since.ensures p s g k ∙ c.awaited.ensures.resolved g.cut s.journal (within_reach p accepted s k.declared)
+    ∙ ap (λ (n : Node). list_any (resolved_since g.cut s.journal) (visible_awaits (Some n))) e
+    ∙ ap (λ (all : List Awaits). list_any (resolved_since g.cut s.journal) all) (visible_awaits_same (Some next)) in
     c.union.ensures
     ∙ ap (λ (both : Lanes). union both c.if-is_resolved_since.retry)
     (c.intersection-later.ensures ∙ ap (λ (ls : Lanes). intersection ls c.self.inside.later) lanes ∙ ap (λ (v : Rooted). intersection g.lanes v.later) c.self.view_is)

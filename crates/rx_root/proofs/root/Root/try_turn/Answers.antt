@@ -1,6 +1,5 @@
-use Rattle.std.proofs.Common.{Some, sym, ap, ◌∙◌}
+use Rattle.std.proofs.Common.{sym, ap, ◌∙◌}
 use Rattle.rx_effect.specs.EffectLog.{Passive}
-use Rattle.rx_lines.specs.Lines.{Written}
 use Rattle.rx_model.specs.Committing.{passive_run, starting}
 use Rattle.rx_commit.specs.Written.{passive_lines, with_lines}
 use Rattle.rx_root.proofs.TurnsTaken.{keeps_some, start_is_set, stands_some, keep_leads, start_leads, on_ok, takes_none, takes_on, takes_start}
