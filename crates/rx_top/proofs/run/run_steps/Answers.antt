@@ -18,6 +18,11 @@ script-init g c = record {
   later = omega arith;
 }
 
+pub step-requires-clause-stands : goal.step-requires-clause-stands
+step-requires-clause-stands g c =
+    let base = c.script.invariant.so_far c.requires.stands.0 c.requires.stands.1 in
+    (base.0.after, subst (λ t. Stands t base.0.after c.script.root) (sym c.script.invariant.program) base.2)
+
 pub step-requires-clause-room : goal.step-requires-clause-room
 step-requires-clause-room g c =
     let here : drop c.script.step-index c.args.script.now ≡ c.step-item.result ∷ drop (c.script.step-index + 1) c.args.script.now =
