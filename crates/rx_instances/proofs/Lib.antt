@@ -1,3 +1,5 @@
-pub mod Walks
+pub mod Apart
 pub mod Named
+pub mod Placing
 pub mod Showing
+pub mod Walks

@@ -23,8 +23,11 @@ pub length-committed : (p : Program) (j : Journal) (m : Mounted) → length (com
 length-committed p j m = length-map (enumerate_from 0 m.initials) _ ∙ length-enumerate 0 m.initials
 
 -- one more of a list
-pub one-more : {A : Type 0} (xs : List A) (k : ℕ) (x : A) → slice_get xs k ≡ Some x → take (k + 1) xs ≡ take k xs ++ x ∷ []
-one-more xs k x is = take_more xs k x (slice_get_within xs k x is) ∙ ap (λ y. take k xs ++ y ∷ []) (get_or_from_slice_get xs k x x is)
+pub next-value : {A : Type 0} (xs : List A) (k : ℕ) (x : A) (before after : List A) → slice_get xs k ≡ Some x → before ≡ take k xs → after ≡ before ++ x ∷ []
+    → after ≡ take (k + 1) xs
+next-value xs k x before after is so_far more =
+    more ∙ ap (λ ys. ys ++ x ∷ []) so_far
+    ∙ sym (take_more xs k x (slice_get_within xs k x is) ∙ ap (λ y. take k xs ++ y ∷ []) (get_or_from_slice_get xs k x x is))
 
 -- so many of a list, or all
 pub take-least : {A : Type 0} (xs : List A) (k n : ℕ) → k ≡ min (length xs) n → take k xs ≡ take n xs

@@ -56,8 +56,7 @@ fn function_in(checked: &Checked, found: Option<HookKind>) -> u32
 {
     match found {
         Some(HookKind::Reducer { function, .. }) => function,
-        Some(HookKind::State { .. }) => function_number(checked, ""),
-        None => function_number(checked, ""),
+        Some(HookKind::State { .. }) | None => function_number(checked, ""),
     }
 }
 

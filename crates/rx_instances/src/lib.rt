@@ -4,10 +4,13 @@
 
 mod dispatch;
 mod find;
+mod instances;
 mod names;
 mod show;
+#[cfg(test)]
+mod tests;
 
 pub use dispatch::{dispatch_hook, dispatch_op, dispatch_path, dispatch_word};
-pub use find::Instances;
+pub use instances::Instances;
 pub use names::hook_place;
 pub use show::show_hooks;

@@ -1,8 +1,8 @@
-// What the names of a program stand for, by the numbers of their components.
+// The names of components and of their hooks.
 ghost use Rattle.std.specs.Prelude.{◌≡◌, ◌<◌, ◌^◌, IfOk, length, option_map, true};
-ghost use Rattle.rx_model.specs.State as state;
 ghost use Rattle.std.specs.Option.{option_copied};
 ghost use Rattle.rx_rules.specs.Names.{has_name, hook_in, hook_names};
+ghost use Rattle.rx_model.specs.State as state;
 ghost use Rattle.rx_instances.specs.Kinds.{number_in};
 
 use rx_ast::{Component, Statement, StatementKind};
@@ -20,6 +20,7 @@ pub(crate) fn name_of(checked: &Checked, component: u32) -> &str
     }
 }
 
+// The number of a hook among those of its component.
 fn number_in(kind: HookKind) -> u32
     ensures { result ≡ number_in kind }
 {
@@ -44,8 +45,7 @@ fn hook_name(statement: &Statement) -> Option<&Name>
     ensures { option_copied result ≡ option_map (λ h. h.name) (hook_in statement.now) }
 {
     match &statement.kind {
-        StatementKind::State { name, .. } => Some(name),
-        StatementKind::Reducer { name, .. } => Some(name),
+        StatementKind::State { name, .. } | StatementKind::Reducer { name, .. } => Some(name),
         _ => None,
     }
 }

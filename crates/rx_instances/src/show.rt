@@ -1,6 +1,7 @@
 // The hooks of all instances, with their committed values.
 ghost use Rattle.std.specs.Prelude.{◌≡◌, ◌<◌, ◌^◌, ◌++◌, ◌∷◌, OnOk, OnErr, IfOk, length, map, take};
 ghost use Rattle.std.specs.Option.{option_copied};
+ghost use Rattle.rx_ast.specs.Syntax.{Program};
 ghost use Rattle.rx_elem.specs.Spots.{mounted};
 ghost use Rattle.rx_hook_store.specs.Store.{kept_hooks};
 ghost use Rattle.rx_lines.specs.Lines as report;
@@ -20,14 +21,13 @@ use std::alloc::{AllocError, Global};
 // The committed values of the first hooks of an instance: so many, or all where there are fewer.
 fn values_of(
     alloc: Global,
-    checked: &Checked,
     hooks: &HookStore,
     instance: &Mounted,
     most: u32,
 ) -> Result<Vec<Int>, AllocError>
-    requires { (s : State) × KeepsOne checked.now s (kept_hooks hooks.now) instance.now }
-    ensures { IfOk result (λ values. (s : State) → KeepsOne checked.now s (kept_hooks hooks.now) instance.now
-        → values.items ≡ take most (committed_values checked.now s.journal instance.now)) }
+    requires { (p : Program) × ((s : State) × KeepsOne p s (kept_hooks hooks.now) instance.now) }
+    ensures { IfOk result (λ values. (p : Program) (s : State) → KeepsOne p s (kept_hooks hooks.now) instance.now
+        → values.items ≡ take most (committed_values p s.journal instance.now)) }
 {
     hooks_are_there();
     let count = instance.initials().as_slice().len().min(most as usize);
@@ -53,7 +53,7 @@ fn show_one(
 {
     let name = Name::new(alloc, name_of(checked, instance.component()))?;
     let names = hooks_at(alloc, checked, instance.component())?;
-    let values = values_of(alloc, checked, hooks, instance, names.len() as u32)?;
+    let values = values_of(alloc, hooks, instance, names.len() as u32)?;
     let hidden = !instance.is_visible();
     log.state_line(instance.number(), &name, &names, &values, hidden)
 }
@@ -78,8 +78,8 @@ fn show_these(
     Ok(())
 }
 
-/// The lines that show the hooks of all instances of a committed tree, in tree order, each with its committed value (react.dev,
-/// State as a Snapshot). An `Err` leaves the report as it was.
+/// The lines that show the hooks of all instances of a committed tree, in tree order, each hook with its committed value
+/// (react.dev, State as a Snapshot). An `Err` leaves the report as it was.
 ///
 /// # Errors
 ///

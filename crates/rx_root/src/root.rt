@@ -1,13 +1,15 @@
 // The machine: a program, and its state between two steps.
-ghost use Rattle.std.specs.Prelude.{◌≡◌, ◌∷◌, [], IfOk, OnErr, OnOk};
+ghost use Rattle.std.specs.Prelude.{◌≡◌, ◌∷◌, [], true, IfOk, OnErr, OnOk};
 ghost use Rattle.rx_elem.specs.Spots.{hidden_count as hidden_in, node_count};
 ghost use Rattle.rx_model.specs.State as machine;
 ghost use Rattle.rx_model.specs.State.{State, opening};
+ghost use Rattle.rx_model.specs.Laws.{ShowsEverything};
 ghost use Rattle.run_laws.specs.Carried.{values_now};
 ghost use Rattle.rx_commit.specs.Written.{with_lines};
 ghost use Rattle.rx_root.specs.Stands.{Stands};
 
 use end_laws::ends_are_not_read;
+use run_laws::quiet_ends;
 use rx_base::Int;
 use rx_check::Checked;
 use rx_commit::Shown;
@@ -130,10 +132,14 @@ impl Root {
         spots::node_count(self.shown.tree())
     }
 
-    /// True where no lane is pending and no boundary is hidden.
+    /// True where no lane is pending and no boundary is hidden. Then each hook holds all its updates in the order in which they
+    /// came, and the tree is what a render with all lanes would give.
     pub fn is_quiet(&self) -> bool
-        ensures { (s : State) → Stands self.entry.now.rendering.program s self.entry.now → result ≡ machine.is_quiet s }
+        ensures quiet { (s : State) → Stands self.entry.now.rendering.program s self.entry.now → result ≡ machine.is_quiet s }
+        ensures shows { (s : State) → Stands self.entry.now.rendering.program s self.entry.now → result ≡ true → ShowsEverything self.entry.now.rendering.program s }
     {
+        self.renderer.facts();
+        quiet_ends();
         self.pending().is_none() && self.hidden_count() == 0
     }
 

@@ -1,3 +1,5 @@
-pub mod Running
-pub mod Reports
-pub mod Spelling
+pub mod Stretches
+pub mod Reported
+pub mod Due
+pub mod Summed
+pub mod Sizes

@@ -1,3 +1,3 @@
 pub mod Codes
-pub mod Words
 pub mod Outcome
+pub mod Running

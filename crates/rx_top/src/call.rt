@@ -1,18 +1,20 @@
 // The top call.
-ghost use Rattle.std.specs.Prelude.{◌≡◌, ◌≢◌, ◌⊎◌, ◌≤◌, ◌+◌, List, ℕ, length, false, true, Some, IfSome};
+ghost use Rattle.std.specs.Prelude.{◌≡◌, ◌≢◌, ◌⊎◌, ◌≤◌, ◌+◌, ℕ, length, false, true, Some, IfSome};
 ghost use Rattle.std.specs.Io.KnownBytes.{Appends};
 ghost use Rattle.rx_io.specs.Causes.{Rose};
-ghost use Rattle.rx_top.specs.declared.status.Status.{Status};
 ghost use Rattle.rx_io.specs.Whole.{AppendsPrefix};
-ghost use Rattle.rx_top.specs.declared.words.Task.{Task};
-ghost use Rattle.rx_top.specs.Words.{is_valid, task_of, texts};
-ghost use Rattle.rx_top.specs.Outcome.{limit, usage_line, too_long_line, IsDue, IsOutput, IsBegun, Gives, Reads, ReadsAll, Writes, WritesPart, WritesSome};
+ghost use Rattle.rx_words.specs.declared.task.Task.{Task};
+ghost use Rattle.rx_words.specs.declared.task.Reading.{Reading};
+ghost use Rattle.rx_words.specs.Words.{is_valid, reads_input, task_of, texts};
+ghost use Rattle.rx_top.specs.declared.status.Status.{Status};
+ghost use Rattle.rx_top.specs.Outcome.{limit, usage_line, too_long_line, Answers, Does, IsDue, IsBegun, Gives, Reads, WritesPart, WritesSome};
 
 use crate::answer::answer;
 use crate::status::Status;
-use crate::words::read_words;
+use crate::summary::write_summary;
 use rx_base::Steps;
 use rx_io::{ReadError, Sink, Source, read_all, write_all};
+use rx_words::{Task, read_words};
 use std::alloc::Global;
 use std::sync::ledger::Ledger;
 
@@ -39,9 +41,15 @@ fn refuse_words<K: Sink>(out: &mut K) -> Status
 /// Does all that the program does: takes the words behind the program's name, reads the source, writes to the sink,
 /// and says how it ended.
 ///
-/// The words are valid where they are `run` alone or `check` alone. The source is read to its end, or until more than
-/// 1,048,576 bytes were taken. It holds a program, a line `---`, and a script. Both commands refuse what is not accepted;
-/// `check` tells the bounds of what is accepted, and `run` writes the report of a run of the script, if all is small.
+/// The words are valid where they are `run` with `--counts` and `--ops` each at most once, `check` alone, or `gen` with a
+/// number from 1 to 1,000. `run` and `check` read the source to its end, or until more than 1,048,576 bytes were taken. It
+/// holds a program, a line `---`, and a script. Both refuse what is not accepted; `check` tells the bounds of what is
+/// accepted, and `run` runs it. `gen` reads nothing, runs a generated program and script, and sums up their run.
+///
+/// For every accepted program and script, the bytes that `run` writes are the report of a run of the fresh machine, which
+/// at each finished render folds every hook's updates of the chosen lanes and of earlier commits and renders the whole tree
+/// anew; yields and discarded renders add nothing to tree or log; and in a quiet end each kept hook holds the in-order fold
+/// of its updates.
 pub fn top<S: Source, K: Sink, L: Ledger>(
     alloc: Global,
     words: &[&str],
@@ -49,19 +57,19 @@ pub fn top<S: Source, K: Sink, L: Ledger>(
     out: &mut K,
     steps: &mut Steps<L>,
 ) -> Status
-    // 0: all was read, it is accepted, and what was written is the task's work: for `check` the one line of its bounds;
-    // for `run` the report of a run of the fresh machine, of the program in it, on the steps of the script in it. The
-    // steps rose by the bodies that this run evaluates, and in `check` by none.
+    // 0: the task's work is done. For `run` and `check` all was read, it is accepted, and what was written is its output:
+    // for `check` the one line of its bounds; for `run` the report of a run of the fresh machine, of the program in it, on
+    // the steps of the script in it. For `gen` it is the line that sums up such a run of the generated program and script.
+    // The steps rose by the bodies that this run evaluates, and in `check` by none.
     ensures done { result ≡ Status.Done → (task : Task) × (task_of (texts words.now) ≡ Some task)
-        × ReadsAll (S.left src.old) (S.left src.new) (λ input. (length input ≤ limit)
-        × Writes (K.written out.old) (K.written out.new) steps.old steps.new (IsOutput task input Status.Done)) }
+        × Does task (S.left src.old) (S.left src.new) (K.written out.old) (K.written out.new) steps.old steps.new }
 
     // 2: the words aren't valid, and no body was evaluated.
     ensures usage { result ≡ Status.Usage → (is_valid (texts words.now) ≡ false)
         × Appends (K.written out.old) (K.written out.new) usage_line × (steps.new ≡ steps.old) }
 
-    // Where the words aren't valid, the source is not touched, and so it did not fail.
-    ensures untouched { is_valid (texts words.now) ≡ false → (src.new ≡ src.old) × (result ≢ Status.ReadFault) }
+    // Where the words aren't valid, or ask for a generated run, the source is not touched, and so it did not fail.
+    ensures untouched { reads_input (texts words.now) ≡ false → (src.new ≡ src.old) × (result ≢ Status.ReadFault) }
 
     // 3: the source failed, the sink was not touched, and no body was evaluated.
     ensures read_fault { result ≡ Status.ReadFault → Rose (S.faults src.old) (S.faults src.new) × (out.new ≡ out.old) × (steps.new ≡ steps.old) }
@@ -71,7 +79,7 @@ pub fn top<S: Source, K: Sink, L: Ledger>(
         × WritesPart (K.written out.old) (K.written out.new) (IsBegun (texts words.now) (S.left src.old) (S.left src.new)) }
 
     // 5: one byte more was taken than may be, and no body was evaluated.
-    ensures too_long { result ≡ Status.TooLong → (is_valid (texts words.now) ≡ true)
+    ensures too_long { result ≡ Status.TooLong → (reads_input (texts words.now) ≡ true)
         × Reads (S.left src.old) (S.left src.new) (λ input. length input ≡ limit + 1)
         × Appends (K.written out.old) (K.written out.new) too_long_line × (steps.new ≡ steps.old) }
 
@@ -79,12 +87,10 @@ pub fn top<S: Source, K: Sink, L: Ledger>(
     ensures taken { Reads (S.left src.old) (S.left src.new) (λ input. length input ≤ limit + 1) }
 
     // 6 and 7: all was read, and it is refused: its program, or its script where its program is accepted.
-    ensures program_refused { result ≡ Status.ProgramRefused → (task : Task) × (task_of (texts words.now) ≡ Some task)
-        × ReadsAll (S.left src.old) (S.left src.new) (λ input. (length input ≤ limit)
-        × Writes (K.written out.old) (K.written out.new) steps.old steps.new (IsOutput task input Status.ProgramRefused)) }
-    ensures script_refused { result ≡ Status.ScriptRefused → (task : Task) × (task_of (texts words.now) ≡ Some task)
-        × ReadsAll (S.left src.old) (S.left src.new) (λ input. (length input ≤ limit)
-        × Writes (K.written out.old) (K.written out.new) steps.old steps.new (IsOutput task input Status.ScriptRefused)) }
+    ensures program_refused { result ≡ Status.ProgramRefused → (reading : Reading) × (task_of (texts words.now) ≡ Some (Task.Read reading))
+        × Answers reading Status.ProgramRefused (S.left src.old) (S.left src.new) (K.written out.old) (K.written out.new) steps.old steps.new }
+    ensures script_refused { result ≡ Status.ScriptRefused → (reading : Reading) × (task_of (texts words.now) ≡ Some (Task.Read reading))
+        × Answers reading Status.ScriptRefused (S.left src.old) (S.left src.new) (K.written out.old) (K.written out.new) steps.old steps.new }
 
     // 8: what was written begins the output.
     ensures memory { result ≡ Status.OutOfMemory → WritesSome (K.written out.old) (K.written out.new)
@@ -92,6 +98,9 @@ pub fn top<S: Source, K: Sink, L: Ledger>(
 
     // The status is the one that is due for the words and the input, or 3, 4 or 8.
     ensures exact { IfSome (S.left src.old) (λ input. (due : Status) → IsDue (texts words.now) input due → Gives due result) }
+
+    // A generated run is done, whatever the source, or the status is 4 or 8.
+    ensures generated { (n : ℕ) → task_of (texts words.now) ≡ Some (Task.Gen n) → Gives Status.Done result }
 
     // With no new fault, what is accepted is done, or memory was wanting.
     ensures complete { IfSome (S.left src.old) (λ input. IsDue (texts words.now) input Status.Done
@@ -103,8 +112,12 @@ pub fn top<S: Source, K: Sink, L: Ledger>(
         Ok(None) => return refuse_words(out),
         Err(_) => return Status::OutOfMemory,
     };
+    let reading = match task {
+        Task::Read(reading) => reading,
+        Task::Gen(rounds) => return write_summary(alloc, rounds, out, steps),
+    };
     match read_all(alloc, src, LIMIT) {
-        Ok(input) => answer(alloc, task, &input, out, steps),
+        Ok(input) => answer(alloc, reading, &input, out, steps),
         Err(ReadError::Failed) => Status::ReadFault,
         Err(ReadError::OutOfMemory) => Status::OutOfMemory,
         Err(ReadError::TooLong) => match write_all(out, b"input over 1048576 bytes\n") {

@@ -6,12 +6,10 @@ mod call;
 mod lines;
 mod run;
 mod status;
-mod words;
+mod summary;
 
 pub use call::top;
 pub use status::Status;
 
-#[cfg(test)]
-mod cases;
 #[cfg(test)]
 mod tests;

@@ -1,7 +1,7 @@
-// The lines that stand for themselves: what is accepted, and what small programs have not.
+// The line of what is accepted.
 ghost use Rattle.std.specs.Prelude.{◌≡◌, ◌++◌, IfOk, OnOk};
 ghost use Rattle.rx_accept.specs.Lines.{then_number};
-ghost use Rattle.rx_top.specs.Outcome.{accepted_line as accepted_line_of, script_line};
+ghost use Rattle.rx_top.specs.Outcome.{accepted_line as accepted_line_of};
 
 use itoa::Buffer;
 use std::alloc::{AllocError, Global};
@@ -31,16 +31,5 @@ pub(crate) fn accepted_line(
     push_counted(&mut line, " depth", levels)?;
     push_counted(&mut line, " steps", steps)?;
     line.push(b'\n')?;
-    Ok(line)
-}
-
-/// The line for a script in which this line is the first that small programs have not.
-pub(crate) fn bad_line(alloc: Global, number: u64) -> Result<Vec<u8>, AllocError>
-    ensures { IfOk result (λ line. line.items ≡ script_line number) }
-{
-    let mut buffer = Buffer::new();
-    let mut line = Vec::from_slice(alloc, b"script refused 19 line ")?;
-    line.extend_from_slice(buffer.format(number).as_bytes())?;
-    line.extend_from_slice(b"\n")?;
     Ok(line)
 }

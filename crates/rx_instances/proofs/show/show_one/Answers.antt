@@ -14,6 +14,6 @@ returns-clause-ok c =
     let names : c.deref.result.now ≡ hooks_at p m.component = c.deref.ensures.value ∙ (c.in_ok-names.ensures.names ∙ ap (hooks_at p) c.component-2.ensures) in
     let most : c.len.result ≡ length c.deref.result.now = c.len.ensures ∙ sym c.deref.ensures.len in
     let values : (s : State) → KeepsOne p s kept m → c.deref-2.result.now ≡ take (length c.deref.result.now) (committed_values p s.journal m) =
-    λ s k. c.deref-2.ensures.value ∙ (c.in_ok-values.ensures s k ∙ ap (λ (n : ℕ). take n (committed_values p s.journal m)) most) in
+    λ s k. c.deref-2.ensures.value ∙ (c.in_ok-values.ensures p s k ∙ ap (λ (n : ℕ). take n (committed_values p s.journal m)) most) in
     written-line c.state_line.result p kept m c.args.log.now c.state_line.new.self c.number.result c.in_ok-name.name c.deref.result.now c.deref-2.result.now (not c.is_visible-hidden.result)
     c.number.ensures name names (ap not c.is_visible-hidden.ensures) values c.state_line.ensures.written

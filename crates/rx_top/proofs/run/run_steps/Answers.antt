@@ -1,55 +1,83 @@
-use Rattle.std.proofs.Common.{arith, ◌≡◌, ◌+◌, List, drop, subst, sym, ◌∙◌, refl, ap, ◌∷◌}
+use Rattle.std.proofs.Common.{arith, ◌≡◌, ◌+◌, List, drop, length, subst, sym, ◌∙◌, refl, ap, ◌∷◌}
 use Rattle.std.proofs.lemmas.List.{drop_more, drop_all}
 use Rattle.std.proofs.lemmas.Result.{err_from_is_err_and}
-use Rattle.small_model.specs.declared.script.Step.{Step}
-use Rattle.rx_top.proofs.Running.{SoFar, Progress, so_far-starts, so_far-next, so_far-begins, so_far-part, so_far-ends}
+use Rattle.rx_step.specs.declared.step.Step.{Step}
+use Rattle.rx_lines.specs.Lines.{Written}
+use Rattle.rx_root.specs.Stands.{Stands, HasRoomFor}
+use Rattle.rx_root.specs.Taking.{AllCanTake}
+use Rattle.rx_top.proofs.Stretches.{SoFar, Onward, stepped, room-fewer, so_far-starts, so_far-next, so_far-begins, so_far-part, so_far-ends}
 use Rattle.rx_top.proofs.run.run_steps.Goals as goal
 
 pub script-init : goal.script-init
 script-init g c = record {
-  so_far = so_far-starts c.args.root.now.program c.args.root.now.state c.args.script.now (g.K.Sink.written c.args.out.now) c.args.steps.now;
+  so_far = λ s stands. so_far-starts c.args.root.now.rendering.program c.args.log.now.options s c.args.script.now (g.K.Sink.written c.args.out.now) c.args.steps.now c.args.root.now stands;
   program = refl;
-  kept = c.requires.kept;
-  few = omega arith;
+  options = refl;
+  fits = c.requires.fits;
+  room = λ k room. room;
   later = omega arith;
 }
+
+pub step-requires-clause-room : goal.step-requires-clause-room
+step-requires-clause-room g c =
+    let here : drop c.script.step-index c.args.script.now ≡ c.step-item.result ∷ drop (c.script.step-index + 1) c.args.script.now =
+    drop_more c.args.script.now c.script.step-index c.step-item.result (omega arith)
+    ∙ ap (λ s. s ∷ drop (c.script.step-index + 1) c.args.script.now) (sym c.step-item.is) in
+    let left = ap (λ (l : List Step). length l) here in
+    let all = c.script.invariant.room 0 (subst (λ k. HasRoomFor k c.args.root.now) (omega arith) c.requires.room) in
+    room-fewer 1 (length (drop c.script.step-index c.args.script.now) + 0) c.script.root (omega (arith, left)) all
 
 pub script-preserved : goal.script-preserved
 script-preserved g c =
     let here : drop c.script.step-index c.args.script.now ≡ c.step-item.result ∷ drop (c.script.step-index + 1) c.args.script.now =
     drop_more c.args.script.now c.script.step-index c.step-item.result (omega arith)
     ∙ ap (λ s. s ∷ drop (c.script.step-index + 1) c.args.script.now) (sym c.step-item.is) in
-    let so_far = subst (λ (l : List Step). SoFar c.args.root.now.program c.args.root.now.state c.args.script.now (g.K.Sink.written c.args.out.now) (g.K.Sink.written c.script.out) c.args.steps.now c.script.steps c.script.root.state l) here c.script.invariant.so_far in
-    let stepped = rw c.script.invariant.program at c.in_ok-step.ensures.ok in
-    let wrote = rw c.deref.ensures.value at c.in_ok-write_all.ensures.ok in
+    let taken = stepped c.args.root.now.rendering.program c.script.root.rendering.program c.args.log.now.options c.step-item.result c.script.root c.step.new.self c.script.log c.cut.new.self c.step.new.log c.bytes.result.now c.script.steps c.step.new.steps
+    c.script.invariant.program c.in_ok-step.ensures.ok c.cut.ensures c.script.invariant.options c.bytes.ensures in
     record {
-      so_far = so_far-next c.args.root.now.program _ c.script.root.state _ _ _ c.step-item.result _ _ _ _ _ _ _ _ so_far stepped c.clear.ensures.items wrote;
+      so_far = λ s stands.
+          let so_far = subst (λ (l : List Step). SoFar c.args.root.now.rendering.program c.args.log.now.options s c.args.script.now (g.K.Sink.written c.args.out.now) (g.K.Sink.written c.script.out) c.args.steps.now c.script.steps c.script.root l) here (c.script.invariant.so_far s stands) in
+          so_far-next c.args.root.now.rendering.program c.args.log.now.options s c.args.script.now _ c.step-item.result _ _ _ c.bytes.result.now _ _ _ c.script.root c.step.new.self so_far taken c.in_ok-write_all.ensures.ok;
       program = c.in_ok-step.ensures.program ∙ c.script.invariant.program;
-      kept = c.in_ok-step.ensures.kept;
-      few = omega (arith, c.script.invariant.few, c.in_ok-step.ensures.commits);
+      options =
+          let base = c.script.invariant.so_far c.requires.stands.0 c.requires.stands.1 in
+          let r = c.in_ok-step.ensures.ok base.0.after (subst (λ t. Stands t base.0.after c.script.root) (sym c.script.invariant.program) base.2) in
+          ap (λ (w : Written). w.options) r.3 ∙ ap (λ (w : Written). w.options) c.cut.ensures ∙ c.script.invariant.options;
+      fits = (subst (AllCanTake c.args.root.now.rendering.program) here c.script.invariant.fits).1;
+      room = λ k room.
+          let all = c.script.invariant.room k room in
+          c.in_ok-step.ensures.left (length (drop (c.script.step-index + 1) c.args.script.now) + k)
+          (subst (λ n. HasRoomFor n c.script.root) (ap (λ (l : List Step). length l + k) here ∙ omega arith) all);
       later = omega (arith, c.script.invariant.later, c.write_all.ensures.cause.later);
     }
 
 pub returns-in_err-step-clause-err : goal.returns-in_err-step-clause-err
 returns-in_err-step-clause-err g c =
-    let law : Progress c.args.root.now.program = λ s kept left. c.goes_on.ensures c.args.root.now.program s left c.requires.root kept in
     let p = err_from_is_err_and c.from_residual.result c.from_residual.ensures.1 in
-    rw p.1 (so_far-begins c.args.root.now.program _ c.script.root.state _ _ _ _ _ _ law c.script.invariant.kept c.script.invariant.so_far)
+    rw p.1 (λ s stands.
+    let law : Onward c.args.root.now.rendering.program = c.progresses.ensures c.args.root.now.rendering.program c.requires.bounded in
+    so_far-begins c.args.root.now.rendering.program c.args.log.now.options s c.args.script.now _ _ _ _ _ c.script.root law (c.script.invariant.so_far s stands))
 
 pub returns-in_err-write_all-clause-err : goal.returns-in_err-write_all-clause-err
 returns-in_err-write_all-clause-err g c =
     let here : drop c.script.step-index c.args.script.now ≡ c.step-item.result ∷ drop (c.script.step-index + 1) c.args.script.now =
     drop_more c.args.script.now c.script.step-index c.step-item.result (omega arith)
     ∙ ap (λ s. s ∷ drop (c.script.step-index + 1) c.args.script.now) (sym c.step-item.is) in
-    let so_far = subst (λ (l : List Step). SoFar c.args.root.now.program c.args.root.now.state c.args.script.now (g.K.Sink.written c.args.out.now) (g.K.Sink.written c.script.out) c.args.steps.now c.script.steps c.script.root.state l) here c.script.invariant.so_far in
-    let stepped = rw c.script.invariant.program at c.in_ok-step.ensures.ok in
-    let law : Progress c.args.root.now.program = λ s kept left. c.goes_on.ensures c.args.root.now.program s left c.requires.root kept in
-    let wrote = rw c.deref.ensures.value at c.in_err-write_all.ensures.err in
+    let taken = stepped c.args.root.now.rendering.program c.script.root.rendering.program c.args.log.now.options c.step-item.result c.script.root c.step.new.self c.script.log c.cut.new.self c.step.new.log c.bytes.result.now c.script.steps c.step.new.steps
+    c.script.invariant.program c.in_ok-step.ensures.ok c.cut.ensures c.script.invariant.options c.bytes.ensures in
+    let law : Onward c.args.root.now.rendering.program = c.progresses.ensures c.args.root.now.rendering.program c.requires.bounded in
     let p = err_from_is_err_and c.from_residual-in_err-write_all.result c.from_residual-in_err-write_all.ensures.1 in
-    rw p.1 (so_far-part c.args.root.now.program _ c.script.root.state _ _ _ c.step-item.result _ _ _ _ _ _ _ _ law c.in_ok-step.ensures.kept so_far stepped c.clear.ensures.items wrote)
+    rw p.1 (λ s stands.
+    let so_far = subst (λ (l : List Step). SoFar c.args.root.now.rendering.program c.args.log.now.options s c.args.script.now (g.K.Sink.written c.args.out.now) (g.K.Sink.written c.script.out) c.args.steps.now c.script.steps c.script.root l) here (c.script.invariant.so_far s stands) in
+    so_far-part c.args.root.now.rendering.program c.args.log.now.options s c.args.script.now _ c.step-item.result _ _ _ c.bytes.result.now _ _ _ c.script.root c.step.new.self law so_far taken c.in_err-write_all.ensures.err)
 
 pub returns-clause-ok : goal.returns-clause-ok
-returns-clause-ok g c =
+returns-clause-ok g c = λ s stands.
     let none = drop_all c.script.step-index c.args.script.now c.script-test.false in
-    let so_far = subst (λ (l : List Step). SoFar c.args.root.now.program c.args.root.now.state c.args.script.now (g.K.Sink.written c.args.out.now) (g.K.Sink.written c.script.out) c.args.steps.now c.script.steps c.script.root.state l) none c.script.invariant.so_far in
-    so_far-ends c.args.root.now.program _ c.script.root.state _ _ _ _ _ so_far
+    let so_far = subst (λ (l : List Step). SoFar c.args.root.now.rendering.program c.args.log.now.options s c.args.script.now (g.K.Sink.written c.args.out.now) (g.K.Sink.written c.script.out) c.args.steps.now c.script.steps c.script.root l) none (c.script.invariant.so_far s stands) in
+    so_far-ends c.args.root.now.rendering.program c.args.log.now.options s c.args.script.now _ _ _ _ c.script.root so_far
+
+pub returns-clause-left : goal.returns-clause-left
+returns-clause-left g c = λ k room.
+    let none = drop_all c.script.step-index c.args.script.now c.script-test.false in
+    subst (λ n. HasRoomFor n c.script.root) (ap (λ (l : List Step). length l + k) none ∙ omega arith) (c.script.invariant.room k room)

@@ -1,0 +1,4 @@
+pub mod Decimals
+pub mod Valid
+pub mod Taken
+pub mod Spelled

@@ -1,4 +1,0 @@
-pub mod JournalLaws
-pub mod TreeLaws
-pub mod BodyLaws
-pub mod RenderLaws

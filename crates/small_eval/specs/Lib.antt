@@ -1,9 +1,0 @@
-pub mod Updates
-pub mod ElementCode
-pub mod ElementView
-pub mod ElementFalls
-pub mod NodeView
-pub mod NodeCode
-pub mod NodeFalls
-pub mod BodyView
-pub mod RenderView

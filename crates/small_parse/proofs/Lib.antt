@@ -1,9 +1,0 @@
-pub mod ReadTurns
-pub mod ReadSteps
-pub mod ReadSound
-pub mod ReadSlots
-pub mod ReadPrograms
-pub mod ReadComplete
-pub mod CheckTurns
-pub mod CheckSlots
-pub mod CheckLaws

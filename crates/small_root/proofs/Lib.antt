@@ -1,5 +1,0 @@
-pub mod Joins
-pub mod Finds
-pub mod Shows
-pub mod Flushing
-pub mod Commits

@@ -1,6 +1,0 @@
-use Rattle.std.proofs.Common.{◌≡◌, drop}
-use Rattle.small_model.specs.Lines.{target_from}
-use Rattle.small_script.proofs.line.target_behind.Given as goal
-
-abbrev pub invariant-parts : goal.invariant-parts
-invariant-parts l = target_from l.program l.root l.parts ≡ target_from l.program l.component (drop l.part-index l.parts)

@@ -1,6 +1,0 @@
-use Rattle.std.proofs.Common.{◌≡◌, ◌^◌, min, take}
-use Rattle.small_model.specs.Words.{value_of}
-use Rattle.small_script.proofs.words.natural.Given as goal
-
-abbrev pub invariant-loop-d : goal.invariant-loop-d
-invariant-loop-d l = l.value ≡ min (value_of (take l.d-index l.word)) (2 ^ 63)
