@@ -29,7 +29,7 @@ null_absent (elements.list es) = refl
 null_absent (elements.boundary k f es) = refl
 null_absent (elements.provider c k x es) = refl
 
-pub made_list : (n : ℕ) (es : List Element) (os : List (Option ℕ)) (d : Draft Fiber) → AreMade n es os d → IsMadeList d
+pub made_list : {c : Shape Fiber} (n : ℕ) (es : List Element) (os : List (Option ℕ)) (d : Draft Fiber) → AreMade c n es os d → IsMadeList d
 made_list n [] [] _ no_more = refl
 made_list n [] (o ∷ os) d are = elim are [ ]
 made_list n (e ∷ es) [] d are = elim are [ ]
@@ -37,7 +37,7 @@ made_list n (e ∷ es) (o ∷ os) d (gap null more) = made_list (suc n) es os d 
 made_list n (e ∷ es) (o ∷ os) (made _ _ _ _ d) (next there waits more) = made_list (suc n) es os d more
 
 -- none is made for a fiber that isn't among the old ones
-pub unused_top : (j n : ℕ) (es : List Element) (os : List (Option ℕ)) (d : Draft Fiber) → AreMade n es os d → ((i : ℕ) → slice_get os i ≡ Some (Some j) → ⊥) → IsTopUnused d j
+pub unused_top : {c : Shape Fiber} (j n : ℕ) (es : List Element) (os : List (Option ℕ)) (d : Draft Fiber) → AreMade c n es os d → ((i : ℕ) → slice_get os i ≡ Some (Some j) → ⊥) → IsTopUnused d j
 unused_top j n [] [] _ no_more h = tt
 unused_top j n [] (o ∷ os) d are h = elim are [ ]
 unused_top j n (e ∷ es) [] d are h = elim are [ ]
@@ -107,13 +107,15 @@ module _ (before t : Trees Fiber) (p n : ℕ) (es : List Element) (os : List (Op
 pub none_yet : (t : Trees Fiber) (p n : ℕ) (es : List Element) (os : List (Option ℕ)) → n ≡ length es → length os ≡ length es → HasMadeFrom n t t p es os
 none_yet t p n es os e f = record {
   kids = taken shapes.none;
-  are = subst (λ xs. AreMade n xs (drop n os) (taken shapes.none)) (sym (drop_all n es (omega arith))) (subst (λ xs. AreMade n [] xs (taken shapes.none)) (sym (drop_all n os (omega arith))) no_more);
+  are = subst (λ xs. AreMade t.current n xs (drop n os) (taken shapes.none)) (sym (drop_all n es (omega arith))) (subst (λ xs. AreMade t.current n [] xs (taken shapes.none)) (sym (drop_all n os (omega arith))) no_more);
   stands = λ k v o rs h. h;
   current = refl;
 }
 
-pub is_fiber : (v : Fiber) (n : ℕ) (e f : Element) → v ≡ record { place = n; element = f; stage = waiting } → f ≡ e → IsWaiting v n e
-is_fiber v n e f is same = record { at = ap (λ u. u.place) is; element = ap (λ u. u.element) is ∙ same; stage = ap (λ u. u.stage) is }
+pub is_fiber : (c : Shape Fiber) (o : Option ℕ) (v : Fiber) (n : ℕ) (e f : Element) (cloned : Bool) → v ≡ record { place = n; element = f; stage = waiting cloned } → f ≡ e
+    → (cloned ≡ true → IsElementOf c o e) → IsWaiting c o v n e
+is_fiber c o v n e f cloned is same clones =
+    record { at = ap (λ u. u.place) is; element = ap (λ u. u.element) is ∙ same; cloned = cloned; stage = ap (λ u. u.stage) is; same = clones }
 
 -- the same, where the code counts down
 module _ (before t : Trees Fiber) (p m n : ℕ) (es : List Element) (os : List (Option ℕ)) (room : HasRoomFor before p os) (made_so : HasMadeFrom m before t p es os) (knows : KnowsPlaces t)

@@ -8,6 +8,7 @@ use Rattle.rx_elem.specs.Trees.{Node}
 use Rattle.rx_hooks.specs.declared.hook.Hook.{Hook}
 use Rattle.rx_links.specs.Drafts.{Trees}
 use Rattle.rx_meaning.specs.Fresh.{Sight, Contexts, waiting, shape_of, old_instance}
+use Rattle.rx_meaning.specs.Settled.{IfSettled, known_by}
 use Rattle.rx_meaning.specs.Cursor.{Frame, Cursor, at_place, at_end, ended, is_null, unit, unwind}
 use Rattle.rx_fiber.specs.Fibers.{Fiber}
 use Rattle.rx_fiber.specs.Standing.{StandsAt}
@@ -46,8 +47,8 @@ HasBegun s t st new st' p n fs cs e old (Suspended r) =
     × (st' ≡ st)
     × IsWithin new st' p fs
 
--- the same, from each cursor at which the render may stand
+-- the same, from each cursor at which the render may stand, over an old node that is settled
 abbrev pub BeginsPlace : Sight → (kept : ℕ → Option (List Hook)) → (before : Trees Fiber) → Stack → (after : Trees Fiber) → Stack → (at : ℕ) → Begun → Type 0
 BeginsPlace s kept t st new st' p b =
     (n : ℕ) (fs : List Frame) (cs : Contexts) (e : Element) (old : Option Node)
-    → StandsAt t st (Some p) (at_place (suc n) fs cs e old) → GivesHooks s kept (old_instance old) → HasBegun s t st new st' p n fs cs e old b
+    → StandsAt t st (Some p) (at_place (suc n) fs cs e old) → GivesHooks s kept (old_instance old) → IfSettled s.program (known_by s) old → HasBegun s t st new st' p n fs cs e old b

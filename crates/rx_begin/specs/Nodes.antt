@@ -1,10 +1,11 @@
 -- What a fiber is begun with, and what its current fiber tells of before.
-use Rattle.std.specs.Prelude.{◌≡◌, ℕ, ℤ, List, [], Option, Some, None, option_and_then}
+use Rattle.std.specs.Prelude.{◌≡◌, ℕ, ℤ, Bool, false, not, ◌&&◌, List, [], Option, Some, None, option_and_then}
+use Rattle.std.specs.Option.{option_map_or}
 use Rattle.rx_ctx.specs.Contexts as contexts
 use Rattle.rx_ctx.specs.Contexts.{Stack}
 use Rattle.rx_elem.specs.Elements.{Element, listed}
 use Rattle.rx_elem.specs.Elements as elements
-use Rattle.rx_elem.specs.Trees.{Mark, of_host, plain}
+use Rattle.rx_elem.specs.Trees.{Mark, of_host, plain, is_hidden}
 use Rattle.rx_lists.specs.Shapes.{Shape, IsTop}
 use Rattle.rx_lists.specs.Shapes as shapes
 use Rattle.rx_links.specs.Drafts.{Draft, taken, made, Trees, entry, kids_under, valued}
@@ -49,7 +50,7 @@ begun_from (Some id) = Child id
 -- a made fiber that had no children has this stage and the children of these elements, and nothing else is changed
 pub record HasList (before after : Trees Fiber) (p : ℕ) (stage : Stage) (es : List Element) (os : List (Option ℕ)) (first : Option ℕ) : Type 0 where
   pub kids : Draft Fiber
-  pub are : AreMade 0 es os kids
+  pub are : AreMade before.current 0 es os kids
   pub stands : (k : Around Fiber) (v : Fiber) (o : Option ℕ) (rs : Draft Fiber)
       → before.draft ≡ placed k (made p v o (taken shapes.none) rs) → after.draft ≡ placed k (made p (record v { stage = stage }) o kids rs)
   pub current : after.current ≡ before.current
@@ -58,7 +59,7 @@ pub record HasList (before after : Trees Fiber) (p : ℕ) (stage : Stage) (es : 
 -- the same, with where the render comes from there
 pub record HasOpened (before after : Trees Fiber) (p : ℕ) (stage : Stage) (es : List Element) (os : List (Option ℕ)) (answer : Begun) : Type 0 where
   pub kids : Draft Fiber
-  pub are : AreMade 0 es os kids
+  pub are : AreMade before.current 0 es os kids
   pub stands : (k : Around Fiber) (v : Fiber) (o : Option ℕ) (rs : Draft Fiber)
       → before.draft ≡ placed k (made p v o (taken shapes.none) rs) → after.draft ≡ placed k (made p (record v { stage = stage }) o kids rs)
   pub current : after.current ≡ before.current
@@ -66,7 +67,7 @@ pub record HasOpened (before after : Trees Fiber) (p : ℕ) (stage : Stage) (es 
 
 -- the mark of a node that is begun
 abbrev pub begun_mark : Stage → Option Mark
-begun_mark waiting = None
+begun_mark (waiting c) = None
 begun_mark (begun m) = Some m
 begun_mark trying = None
 begun_mark (fallback a) = None
@@ -74,6 +75,10 @@ begun_mark (fallback a) = None
 -- the mark of an old node, by its current fiber
 abbrev pub mark_at : Shape Fiber → Option ℕ → Option Mark
 mark_at c o = option_and_then (λ v. begun_mark v.stage) (option_and_then (value_of c) o)
+
+-- a cloned place keeps its children, where its old node, with this mark, is no boundary that hides them
+abbrev pub keeps_children : (cloned : Bool) → Option Mark → Bool
+keeps_children cloned m = cloned && not (option_map_or is_hidden m false)
 
 -- the number, the props and the children of a component's element
 abbrev pub parts_in : Element → Option (ℕ × (List ℤ × List Element))
@@ -87,10 +92,10 @@ parts_in (elements.provider c k x es) = None
 
 -- how far the fiber of another element has come once it is begun, where a host of before has this number
 abbrev pub begun_stage : Element → (number : Option ℕ) → Stage
-begun_stage elements.null n = waiting
+begun_stage elements.null n = waiting false
 begun_stage (elements.text t) n = begun (of_host n)
 begun_stage (elements.host name k attrs es) n = begun (of_host n)
-begun_stage (elements.comp c k ps es) n = waiting
+begun_stage (elements.comp c k ps es) n = waiting false
 begun_stage (elements.list es) n = begun plain
 begun_stage (elements.boundary k f es) n = trying
 begun_stage (elements.provider c k x es) n = begun plain

@@ -1,13 +1,13 @@
 // A place begins.
-ghost use Rattle.std.specs.Prelude.{◌≡◌, ◌+◌, ◌<◌, ◌≤◌, suc, ℕ, ℤ, List, Option, Some, length, IfOk, IfSome, OnOk, option_and_then};
+ghost use Rattle.std.specs.Prelude.{◌≡◌, ◌+◌, ◌<◌, ◌≤◌, suc, ℕ, ℤ, true, false, List, Option, Some, length, IfOk, IfSome, OnOk, if◌then◌else◌, option_and_then};
 ghost use Rattle.rx_ast.specs.Syntax as syntax;
 ghost use Rattle.rx_ctx.specs.Contexts.{values_at};
 ghost use Rattle.rx_elem.specs.Elements as elements;
 ghost use Rattle.rx_elem.specs.Trees.{Node, host_number};
 ghost use Rattle.rx_links.specs.Drafts.{old_of};
 ghost use Rattle.rx_links.specs.Readers.{list_from};
-ghost use Rattle.rx_fiber.specs.OldLists.{matched, primary_list};
-ghost use Rattle.rx_begin.specs.Nodes.{IsBareAt, HasOpened, mark_at, begun_stage, begun_children, begun_stack, given_context};
+ghost use Rattle.rx_fiber.specs.OldLists.{matched, old_elements, old_fibers, primary_list};
+ghost use Rattle.rx_begin.specs.Nodes.{IsBareAt, HasOpened, mark_at, keeps_children, begun_stage, begun_children, begun_stack, given_context};
 ghost use Rattle.rx_meaning.specs.Fresh.{Sight, Contexts};
 ghost use Rattle.rx_meaning.specs.Cursor.{Frame, at_place};
 ghost use Rattle.rx_meaning.specs.Counts.{each_body, next_counts};
@@ -22,7 +22,7 @@ ghost use Rattle.rx_begin.specs.Beginning.{IsAtPlace, BeginsPlace};
 
 use crate::body::begin_component;
 use crate::kind::{begun_children, begun_stage, enter, parts_of};
-use crate::node::{Begun, old_host, open_node};
+use crate::node::{Begun, keep_node, keeps_children, old_host, open_node};
 use crate::scene::Scene;
 use rx_base::Steps;
 use rx_ctx::ContextStack;
@@ -39,11 +39,15 @@ fn begin_other(
     tree: &mut FiberTree<Fiber>,
     at: FiberId,
     element: &Element,
+    cloned: bool,
     contexts: &mut ContextStack,
 ) -> Result<Begun, AllocError>
     requires bare { IsBareAt tree.old at }
     requires context { IfSome (given_context element.now) (λ c. c < length (values_at contexts.old)) }
-    ensures opened { IfOk result (λ b. HasOpened tree.old tree.new at (begun_stage element.now (option_and_then host_number (mark_at tree.old.current (old_of tree.old.draft at)))) (begun_children element.now)
+    ensures kept { IfOk result (λ b. keeps_children cloned (mark_at tree.old.current (old_of tree.old.draft at)) ≡ true
+        → HasOpened tree.old tree.new at (begun_stage element.now (option_and_then host_number (mark_at tree.old.current (old_of tree.old.draft at))))
+        (old_elements (primary_list (list_from tree.old.current (old_of tree.old.draft at)))) (old_fibers (primary_list (list_from tree.old.current (old_of tree.old.draft at)))) b) }
+    ensures opened { IfOk result (λ b. keeps_children cloned (mark_at tree.old.current (old_of tree.old.draft at)) ≡ false → HasOpened tree.old tree.new at (begun_stage element.now (option_and_then host_number (mark_at tree.old.current (old_of tree.old.draft at)))) (begun_children element.now)
         (matched (primary_list (list_from tree.old.current (old_of tree.old.draft at))) (begun_children element.now)) b) }
     ensures stack { OnOk result (contexts.new ≡ begun_stack element.now contexts.old) }
     ensures current { tree.new.current ≡ tree.old.current }
@@ -52,12 +56,18 @@ fn begin_other(
     enter(element, contexts)?;
     let number = old_host(tree, tree.alternate(at));
     let stage = begun_stage(element, number);
-    open_node(alloc, tree, at, stage, begun_children(element))
+    if keeps_children(tree, tree.alternate(at), cloned) {
+        keep_node(alloc, tree, at, stage)
+    } else {
+        open_node(alloc, tree, at, stage, begun_children(element))
+    }
 }
 
 /// Begins the place of a fiber, as one unit of a render (react.dev, Render and Commit): a component's body is evaluated, once;
-/// a provider gives its value; the fibers of all children are made, each for the old child of its identity and type. The
-/// current tree stays as it is.
+/// a provider gives its value; the fibers of all children are made, each for the old child of its identity and type. Where the
+/// fiber is a clone, and its component has no cause to be rendered anew, the body is skipped, and the children are clones of the
+/// old ones (react.dev, useState: React skips the component). The current tree stays as it is. Also answered is whether a body
+/// was evaluated.
 ///
 /// # Errors
 ///
@@ -70,26 +80,30 @@ pub fn begin<L: Ledger>(
     hooks: &mut HookStore,
     contexts: &mut ContextStack,
     steps: &mut Steps<L>,
-) -> Result<Begun, AllocError>
+) -> Result<(Begun, bool), AllocError>
     requires place { IsAtPlace scene.now.checked.now (kept_hooks hooks.old) tree.old contexts.old at }
     requires contexts { length (values_at contexts.old) ≡ length (syntax.contexts scene.now.checked.now) }
-    ensures begun { IfOk result (λ b. (s : Sight) → IsSceneOf scene.now s → BeginsPlace s (kept_hooks hooks.old) tree.old contexts.old tree.new contexts.new at b) }
+    ensures begun { IfOk result (λ b. (s : Sight) → IsSceneOf scene.now s → BeginsPlace s (kept_hooks hooks.old) tree.old contexts.old tree.new contexts.new at b.0) }
     ensures current { tree.new.current ≡ tree.old.current }
-    ensures bodies { OnOk result ((s : Sight) (n : ℕ) (fs : List Frame) (cs : Contexts) (e : elements.Element) (old : Option Node) → IsSceneOf scene.now s → StandsAt tree.old contexts.old (Some at) (at_place (suc n) fs cs e old)
-        → steps.new ≡ steps.old + next_counts each_body s (at_place (suc n) fs cs e old)) }
+    ensures bodies { IfOk result (λ b. steps.new ≡ steps.old + (if b.1 then 1 else 0)) }
+    ensures few { IfOk result (λ b. (s : Sight) (n : ℕ) (fs : List Frame) (cs : Contexts) (e : elements.Element) (old : Option Node) → IsSceneOf scene.now s → StandsAt tree.old contexts.old (Some at) (at_place (suc n) fs cs e old)
+        → (if b.1 then 1 else 0) ≤ next_counts each_body s (at_place (suc n) fs cs e old)) }
     ensures rises { steps.old ≤ steps.new }
     ensures still { (s : Sight) (k : ℕ) (initials : List ℤ) → IsSceneOf scene.now s → GivesValues s (kept_hooks hooks.old) k initials → GivesValues s (kept_hooks hooks.new) k initials }
     ensures states { (st : State) → DoneBefore scene.now.cut st.journal.updates → KeepsAllHooks scene.now.checked.now st (kept_hooks hooks.old) → KeepsAllHooks scene.now.checked.now st (kept_hooks hooks.new) }
 {
     tree.place_facts();
     tree.facts();
-    let element = tree.value(at).element().copy()?;
+    let fiber = tree.value(at);
+    let cloned = fiber.is_cloned();
+    let element = fiber.element().copy()?;
     match parts_of(&element) {
         Some(parts) => begin_component(
             alloc,
             tree,
             at,
             scene,
+            cloned,
             parts.component,
             parts.props,
             parts.children,
@@ -97,6 +111,9 @@ pub fn begin<L: Ledger>(
             contexts.values(),
             steps,
         ),
-        None => begin_other(alloc, tree, at, &element, contexts),
+        None => {
+            let begun = begin_other(alloc, tree, at, &element, cloned, contexts)?;
+            Ok((begun, false))
+        }
     }
 }

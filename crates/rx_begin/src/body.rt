@@ -1,14 +1,16 @@
 // A component's place begins with its body.
-ghost use Rattle.std.specs.Prelude.{◌≡◌, ◌+◌, ◌≤◌, ℕ, ℤ, List, Option, Some, length, IfOk, IfSome, OnOk, IsSome, option_map, option_and_then};
+ghost use Rattle.std.specs.Prelude.{◌≡◌, ◌+◌, ◌≤◌, ℕ, ℤ, true, List, Option, Some, length, IfOk, IfSome, OnOk, IsSome, if◌then◌else◌, option_map, option_and_then};
 ghost use Rattle.std.specs.Option.{option_copied};
 ghost use Rattle.rx_rules.specs.Names.{component_at, prop_names};
-ghost use Rattle.rx_elem.specs.Elements.{Elements, listed};
+ghost use Rattle.rx_elem.specs.Elements.{Elements, Key, listed};
+ghost use Rattle.rx_elem.specs.Elements as elements;
 ghost use Rattle.rx_elem.specs.Trees as trees;
-ghost use Rattle.rx_elem.specs.Trees.{Node, instance_in};
+ghost use Rattle.rx_elem.specs.Trees.{Node, instance_in, of_instance};
 ghost use Rattle.rx_links.specs.Drafts.{old_of};
 ghost use Rattle.rx_meaning.specs.Body.{body_of};
 ghost use Rattle.rx_meaning.specs.Fresh.{Sight, Contexts, values_of, instance_after, inputs_at, old_instance, shape_of_body, shape_of_component};
-ghost use Rattle.rx_meaning.specs.Settled.{DoneBefore};
+ghost use Rattle.rx_meaning.specs.Settled.{DoneBefore, IfSettled, known_by, read_anew};
+ghost use Rattle.rx_meaning.specs.Touched.{is_read_anew};
 ghost use Rattle.rx_model.specs.State.{State};
 ghost use Rattle.rx_model.specs.HooksOf.{KeepsAllHooks};
 ghost use Rattle.rx_eval.specs.Given.{body_seen};
@@ -16,11 +18,14 @@ ghost use Rattle.rx_node.specs.MarkView.{instance_seen};
 ghost use Rattle.rx_fiber.specs.Reading.{IsOld};
 ghost use Rattle.rx_hook_store.specs.Store.{kept_hooks};
 ghost use Rattle.rx_hook_store.specs.Gives.{GivesValues};
-ghost use Rattle.rx_begin.specs.Nodes.{IsBareAt, mark_at};
-ghost use Rattle.rx_begin.specs.Scenes.{IsSceneOf, GivesHooks, number_in};
-ghost use Rattle.rx_begin.specs.Bodies.{HasShape};
+ghost use Rattle.rx_links.specs.Readers.{list_from};
+ghost use Rattle.rx_fiber.specs.Fibers.{begun};
+ghost use Rattle.rx_fiber.specs.OldLists.{primary_list, old_elements, old_fibers};
+ghost use Rattle.rx_begin.specs.Nodes.{IsBareAt, HasOpened, mark_at};
+ghost use Rattle.rx_begin.specs.Scenes.{IsSceneOf, IsCalmAt, GivesHooks, number_in};
+ghost use Rattle.rx_begin.specs.Bodies.{StoodIn, HasShape};
 
-use crate::node::{Begun, old_instance, open_node};
+use crate::node::{Begun, keep_node, old_instance, open_node};
 use crate::scene::Scene;
 use rx_base::{Int, Ints, Steps};
 use rx_elem::{ContextRead, EffectRecord, Element};
@@ -193,35 +198,102 @@ fn open_body(
     }
 }
 
-// A component's place begins: its body is evaluated, once.
+// Whether a context has another value than the one that was read.
+fn is_read_anew(read: &ContextRead, contexts: &[Int]) -> bool
+    ensures { result ≡ is_read_anew contexts.now read.now }
+{
+    match contexts.get(read.context as usize) {
+        Some(value) => !value.same(read.value),
+        None => true,
+    }
+}
+
+// Whether one of these contexts has another value than the one that was read.
+fn read_anew(reads: &[ContextRead], contexts: &[Int]) -> bool
+    ensures { result ≡ read_anew contexts.now reads.now }
+{
+    reads.iter().any(|read| is_read_anew(read, contexts))
+}
+
+// Whether an instance has no cause to be rendered anew: its hooks have no work, and the contexts that it read have the values
+// that it found.
+fn is_calm(
+    instance: &Option<Instance>,
+    scene: &Scene,
+    hooks: &HookStore,
+    contexts: &[Int],
+) -> bool
+    requires { IfSome (number_in (option_map instance_seen instance.now)) (λ n. IsSome (kept_hooks hooks.now n)) }
+    ensures { result ≡ true → (s : Sight) → IsSceneOf scene.now s → GivesHooks s (kept_hooks hooks.now) (option_map instance_seen instance.now)
+        → (i : trees.Instance) × (option_map instance_seen instance.now ≡ Some i) × IsCalmAt s contexts.now i }
+{
+    match instance {
+        Some(instance) => match instance.number {
+            Some(number) => {
+                !hooks.has_work(number, scene.lanes, scene.cut)
+                    && !read_anew(&instance.reads, contexts)
+            }
+            None => false,
+        },
+        None => false,
+    }
+}
+
+// A component's fiber is begun over clones of its children, as its old instance stands.
+fn keep_body(
+    alloc: Global,
+    tree: &mut FiberTree<Fiber>,
+    at: FiberId,
+    old: Option<Instance>,
+) -> Result<Begun, AllocError>
+    requires bare { IsBareAt tree.old at }
+    requires there { IsSome old }
+    ensures kept { IfOk result (λ b. (i : trees.Instance) → option_map instance_seen old ≡ Some i → HasOpened tree.old tree.new at (begun (of_instance i))
+        (old_elements (primary_list (list_from tree.old.current (old_of tree.old.draft at)))) (old_fibers (primary_list (list_from tree.old.current (old_of tree.old.draft at)))) b) }
+    ensures current { tree.new.current ≡ tree.old.current }
+{
+    match old {
+        Some(instance) => keep_node(alloc, tree, at, Stage::Begun(Mark::Instance(instance))),
+        None => unreachable!(),
+    }
+}
+
+// A component's place begins: its body is evaluated, once, unless it has no cause to be.
 pub(crate) fn begin_component<L: Ledger>(
     alloc: Global,
     tree: &mut FiberTree<Fiber>,
     at: FiberId,
     scene: &Scene,
+    cloned: bool,
     component: u32,
     props: &Ints,
     children: &[Element],
     hooks: &mut HookStore,
     contexts: &[Int],
     steps: &mut Steps<L>,
-) -> Result<Begun, AllocError>
+) -> Result<(Begun, bool), AllocError>
     requires bare { IsBareAt tree.old at }
     requires given { option_map (λ d. length (prop_names d)) (component_at scene.now.checked.now component) ≡ Some (length props.now) }
     requires kept { IfSome (number_in (option_and_then instance_in (mark_at tree.old.current (old_of tree.old.draft at)))) (λ n. IsSome (kept_hooks hooks.old n)) }
-    ensures evaluated { IfOk result (λ b. (s : Sight) (old : Option Node) (kids : Elements) → IsSceneOf scene.now s → IsOld tree.old.current (old_of tree.old.draft at) old → GivesHooks s (kept_hooks hooks.old) (old_instance old)
-        → listed kids ≡ children.now → HasShape (shape_of_component s contexts.now component props.now kids old (component_at s.program component)) contexts.now old tree.old tree.new at b) }
+    ensures evaluated { IfOk result (λ b. (s : Sight) (old : Option Node) (key : Key) (kids : Elements) → IsSceneOf scene.now s → IsOld tree.old.current (old_of tree.old.draft at) old → GivesHooks s (kept_hooks hooks.old) (old_instance old)
+        → IfSettled s.program (known_by s) old → (cloned ≡ true → StoodIn old (elements.comp component key props.now kids))
+        → listed kids ≡ children.now → HasShape (shape_of_component s contexts.now component props.now kids old (component_at s.program component)) contexts.now old tree.old tree.new at b.0) }
     ensures current { tree.new.current ≡ tree.old.current }
-    ensures once { OnOk result (steps.new ≡ steps.old + 1) }
+    ensures once { IfOk result (λ b. steps.new ≡ steps.old + (if b.1 then 1 else 0)) }
     ensures rises { steps.old ≤ steps.new }
     ensures still { (s : Sight) (k : ℕ) (initials : List ℤ) → IsSceneOf scene.now s → GivesValues s (kept_hooks hooks.old) k initials → GivesValues s (kept_hooks hooks.new) k initials }
     ensures states { (st : State) → DoneBefore scene.now.cut st.journal.updates → KeepsAllHooks scene.now.checked.now st (kept_hooks hooks.old) → KeepsAllHooks scene.now.checked.now st (kept_hooks hooks.new) }
 {
     tree.place_facts();
     let old = old_instance(tree, tree.alternate(at))?;
+    if cloned && is_calm(&old, scene, hooks, contexts) {
+        let begun = keep_body(alloc, tree, at, old)?;
+        return Ok((begun, false));
+    }
     let number = number_of(&old);
     let body = body_at(
         alloc, scene, component, props, children, number, hooks, contexts, steps,
     )?;
-    open_body(alloc, tree, at, component, old, body)
+    let begun = open_body(alloc, tree, at, component, old, body)?;
+    Ok((begun, true))
 }

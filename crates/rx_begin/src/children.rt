@@ -1,11 +1,11 @@
 // The fibers of a list of children.
-ghost use Rattle.std.specs.Prelude.{◌≡◌, ◌<◌, ◌^◌, length, map, slice_get, OnOk, IfOk, IfSome};
+ghost use Rattle.std.specs.Prelude.{◌≡◌, ◌<◌, ◌^◌, true, length, map, slice_get, OnOk, IfOk, IfSome};
 ghost use Rattle.std.specs.Option.{option_and_then, option_flatten};
 ghost use Rattle.rx_lists.specs.Shapes.{Holds, IsTop};
 ghost use Rattle.rx_links.specs.Drafts.{IsOpen, IsUnused, old_kids};
 ghost use Rattle.rx_links.specs.Readers.{list_from};
-ghost use Rattle.rx_fiber.specs.OldLists.{matched};
-ghost use Rattle.rx_begin.specs.Children.{HasRoomFor, HasAdded, HasMadeFrom};
+ghost use Rattle.rx_fiber.specs.OldLists.{matched, old_elements, old_fibers};
+ghost use Rattle.rx_begin.specs.Children.{IsClone, AreClones, HasRoomFor, HasAdded, HasMadeFrom};
 ghost use Rattle.rx_begin.specs.Nodes.{IsBareBeside};
 
 use rx_elem::Element;
@@ -66,37 +66,41 @@ fn match_fibers(
     fibers_at(alloc, &known.fibers, &matching.places)
 }
 
-// Makes the fiber of one child in front of those that are made; `null` has none.
+// Makes the fiber of one child in front of those that are made; `null` has none. A cloned one has the element of its old fiber.
 fn make_one(
     tree: &mut FiberTree<Fiber>,
     at: FiberId,
     place: u32,
     element: &Element,
     old: Option<FiberId>,
+    cloned: bool,
 ) -> Result<(), AllocError>
     requires open { IsOpen tree.old.draft at }
     requires old_child { IfSome old (IsTop (old_kids tree.old at)) }
     requires unused { IfSome old (IsUnused tree.old.draft) }
+    requires same { cloned ≡ true → IsClone tree.old.current element.now old }
     ensures added { OnOk result (HasAdded tree.old tree.new at place element.now old) }
     ensures current { tree.new.current ≡ tree.old.current }
 {
     if element.is_present() {
-        let fiber = Fiber::new(place, element.copy()?, Stage::Waiting);
+        let fiber = Fiber::new(place, element.copy()?, Stage::Waiting { cloned });
         tree.child(at, old, fiber)?;
     }
     Ok(())
 }
 
-// Makes the fibers of children from the last to the first, each for its old one.
+// Makes the fibers of children from the last to the first, each for its old one; where they are cloned, each with its element.
 fn make_all(
     tree: &mut FiberTree<Fiber>,
     at: FiberId,
     elements: &[Element],
     olds: &[Option<FiberId>],
+    cloned: bool,
 ) -> Result<(), AllocError>
     requires room { HasRoomFor tree.old at olds.now }
     requires few { length elements.now < 2 ^ 32 }
     requires same { length olds.now ≡ length elements.now }
+    requires clones { cloned ≡ true → AreClones tree.old.current elements.now olds.now }
     ensures made { OnOk result (HasMadeFrom 0 tree.old tree.new at elements.now olds.now) }
     ensures current { tree.new.current ≡ tree.old.current }
 {
@@ -104,7 +108,7 @@ fn make_all(
     'making: while place > 0 {
         place -= 1;
         tree.place_facts();
-        make_one(tree, at, place as u32, &elements[place], olds[place])?;
+        make_one(tree, at, place as u32, &elements[place], olds[place], cloned)?;
     }
     Ok(())
 }
@@ -130,5 +134,28 @@ pub(crate) fn make_children(
 {
     tree.facts();
     let olds = match_fibers(alloc, tree, elements, first_old)?;
-    make_all(tree, at, elements, &olds)
+    make_all(tree, at, elements, &olds, false)
+}
+
+/// Makes clones of the children of a current list below a made fiber that has none: each for its old fiber, at its place and with
+/// its element, so that nothing is matched. They are made from the last to the first.
+///
+/// # Errors
+///
+/// Want of memory alone, or more children than a list has places. What was made then stays below the fiber.
+pub(crate) fn clone_children(
+    alloc: Global,
+    tree: &mut FiberTree<Fiber>,
+    at: FiberId,
+    first_old: Option<FiberId>,
+) -> Result<(), AllocError>
+    requires held { IfSome first_old (Holds tree.old.current) }
+    requires beside { IsBareBeside tree.old at first_old }
+    ensures made { OnOk result (HasMadeFrom 0 tree.old tree.new at (old_elements (list_from tree.old.current first_old)) (old_fibers (list_from tree.old.current first_old))) }
+    ensures current { tree.new.current ≡ tree.old.current }
+{
+    tree.facts();
+    let known = old_children(alloc, tree, first_old)?;
+    count_places(&known.elements)?;
+    make_all(tree, at, &known.elements, &known.fibers, true)
 }

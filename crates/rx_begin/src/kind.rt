@@ -40,7 +40,7 @@ pub(crate) fn begun_stage(element: &Element, number: Option<u64>) -> Stage
     ensures { stage_seen result ≡ begun_stage element.now number }
 {
     match element.kind() {
-        ElementKind::Null | ElementKind::Comp(_, _, _, _) => Stage::Waiting,
+        ElementKind::Null | ElementKind::Comp(_, _, _, _) => Stage::Waiting { cloned: false },
         ElementKind::Text(_) | ElementKind::Host(_, _, _, _) => Stage::Begun(Mark::Host(number)),
         ElementKind::List(_) | ElementKind::Provider(_, _, _, _) => Stage::Begun(Mark::Plain),
         ElementKind::Boundary(_, _, _) => Stage::Trying,

@@ -6,10 +6,10 @@ ghost use Rattle.rx_links.specs.Drafts.{Makes, old_of};
 ghost use Rattle.rx_links.specs.Readers.{list_from};
 ghost use Rattle.rx_fiber.specs.FiberView.{stage_seen};
 ghost use Rattle.rx_node.specs.MarkView.{instance_seen, mark_seen};
-ghost use Rattle.rx_fiber.specs.OldLists.{matched, primary_list};
-ghost use Rattle.rx_begin.specs.Nodes.{IsBareAt, IsBareBeside, HasStage, HasList, HasOpened, begun_from, mark_at};
+ghost use Rattle.rx_fiber.specs.OldLists.{matched, old_elements, old_fibers, primary_list};
+ghost use Rattle.rx_begin.specs.Nodes.{IsBareAt, IsBareBeside, HasStage, HasList, HasOpened, begun_from, keeps_children, mark_at};
 
-use crate::children::make_children;
+use crate::children::{clone_children, make_children};
 use rx_elem::Element;
 use rx_fiber::{Fiber, Stage, old_primary};
 use rx_links::{FiberId, FiberTree};
@@ -35,6 +35,17 @@ fn old_mark(tree: &FiberTree<Fiber>, old: Option<FiberId>) -> Option<&Mark>
     match tree.value(old?).stage() {
         Stage::Begun(mark) => Some(mark),
         _ => None,
+    }
+}
+
+// Whether a place keeps the children of its old node: it is cloned, and no boundary that hides them.
+pub(crate) fn keeps_children(tree: &FiberTree<Fiber>, old: Option<FiberId>, cloned: bool) -> bool
+    requires { IfSome old (Holds tree.now.current) }
+    ensures { result ≡ keeps_children cloned (mark_at tree.now.current old) }
+{
+    match old_mark(tree, old) {
+        Some(mark) => cloned && !mark.is_hidden(),
+        None => cloned,
     }
 }
 
@@ -97,6 +108,26 @@ pub(crate) fn open_list(
     Ok(tree.first_child(at))
 }
 
+// A fiber is begun with this stage over clones of a list of the current tree.
+fn open_clones(
+    alloc: Global,
+    tree: &mut FiberTree<Fiber>,
+    at: FiberId,
+    stage: Stage,
+    first_old: Option<FiberId>,
+) -> Result<Option<FiberId>, AllocError>
+    requires held { IfSome first_old (Holds tree.old.current) }
+    requires beside { IsBareBeside tree.old at first_old }
+    ensures opened { IfOk result (λ first. HasList tree.old tree.new at (stage_seen stage) (old_elements (list_from tree.old.current first_old)) (old_fibers (list_from tree.old.current first_old)) first) }
+    ensures current { tree.new.current ≡ tree.old.current }
+{
+    clone_children(alloc, tree, at, first_old)?;
+    tree.place_facts();
+    set_stage(tree, at, stage)?;
+    tree.place_facts();
+    Ok(tree.first_child(at))
+}
+
 fn begun_from(first: Option<FiberId>) -> Begun
     ensures { result ≡ begun_from first }
 {
@@ -122,5 +153,24 @@ pub(crate) fn open_node(
     tree.facts();
     let first_old = old_primary(tree, tree.alternate(at));
     let first = open_list(alloc, tree, at, stage, elements, first_old)?;
+    Ok(begun_from(first))
+}
+
+// A fiber is begun over clones of the children of its old node.
+pub(crate) fn keep_node(
+    alloc: Global,
+    tree: &mut FiberTree<Fiber>,
+    at: FiberId,
+    stage: Stage,
+) -> Result<Begun, AllocError>
+    requires bare { IsBareAt tree.old at }
+    ensures opened { IfOk result (λ b. HasOpened tree.old tree.new at (stage_seen stage) (old_elements (primary_list (list_from tree.old.current (old_of tree.old.draft at))))
+        (old_fibers (primary_list (list_from tree.old.current (old_of tree.old.draft at)))) b) }
+    ensures current { tree.new.current ≡ tree.old.current }
+{
+    tree.place_facts();
+    tree.facts();
+    let first_old = old_primary(tree, tree.alternate(at));
+    let first = open_clones(alloc, tree, at, stage, first_old)?;
     Ok(begun_from(first))
 }

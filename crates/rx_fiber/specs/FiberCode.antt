@@ -1,6 +1,6 @@
 -- How the logic stores fibers.
-use Rattle.std.specs.Prelude.{◌≡◌, ℕ, List, Option, Some, None, ◌⊎◌, refl}
-use Rattle.std.specs.Coded.{Coded, code_by, coded×, coded⊎, coded_ℕ, coded_list, coded_option}
+use Rattle.std.specs.Prelude.{◌≡◌, ℕ, Bool, List, Option, Some, None, ◌⊎◌, refl}
+use Rattle.std.specs.Coded.{Coded, code_by, coded×, coded⊎, coded_ℕ, coded_bool, coded_list, coded_option}
 use Rattle.std.proofs.Common.{inl, inr}
 use Rattle.rx_base.specs.Awaits.{Awaits}
 use Rattle.rx_elem.specs.Elements.{Element}
@@ -13,28 +13,28 @@ abbrev numbers : Coded (List ℕ)
 numbers = coded_list coded_ℕ
 
 abbrev StageParts : Type 0
-StageParts = Option Mark ⊎ Option Awaits
+StageParts = (Bool ⊎ Mark) ⊎ Option Awaits
 
 abbrev of_stage : Stage → StageParts
-of_stage waiting = inl None
-of_stage (begun m) = inl (Some m)
+of_stage (waiting c) = inl (inl c)
+of_stage (begun m) = inl (inr m)
 of_stage trying = inr None
 of_stage (fallback a) = inr (Some a)
 
 abbrev to_stage : StageParts → Stage
-to_stage (inl None) = waiting
-to_stage (inl (Some m)) = begun m
+to_stage (inl (inl c)) = waiting c
+to_stage (inl (inr m)) = begun m
 to_stage (inr None) = trying
 to_stage (inr (Some a)) = fallback a
 
 abbrev stage_back : (s : Stage) → to_stage (of_stage s) ≡ s
-stage_back waiting = refl
+stage_back (waiting c) = refl
 stage_back (begun m) = refl
 stage_back trying = refl
 stage_back (fallback a) = refl
 
 abbrev stage_code : Coded Stage
-stage_code = code_by StageParts (coded⊎ (coded_option mark_code) (coded_option numbers)) of_stage to_stage stage_back
+stage_code = code_by StageParts (coded⊎ (coded⊎ coded_bool mark_code) (coded_option numbers)) of_stage to_stage stage_back
 
 -- a fiber as it is stored, from which it can be read back
 abbrev pub fiber_code : Coded Fiber

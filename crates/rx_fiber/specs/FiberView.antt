@@ -11,7 +11,7 @@ use Rattle.rx_fiber.specs.declared.stage.StageChange.TheVariants as change
 
 -- how far a fiber has come
 abbrev pub stage_seen : Stage → fibers.Stage
-stage_seen stage.Waiting = fibers.waiting
+stage_seen (stage.Waiting c) = fibers.waiting c
 stage_seen (stage.Begun m) = fibers.begun (mark_seen m)
 stage_seen stage.Trying = fibers.trying
 stage_seen (stage.Fallback a) = fibers.fallback a

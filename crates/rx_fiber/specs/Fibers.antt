@@ -1,5 +1,5 @@
 -- What a fiber holds beside its links.
-use Rattle.std.specs.Prelude.{ℕ, Some}
+use Rattle.std.specs.Prelude.{ℕ, Bool, false, Some}
 use Rattle.rx_susp.specs.declared.boundary.BoundaryState.TheVariants.{Shown}
 use Rattle.rx_base.specs.Awaits.{Awaits}
 use Rattle.rx_elem.specs.Elements.{Element}
@@ -7,14 +7,21 @@ use Rattle.rx_elem.specs.Trees.{Mark, of_instance, of_host, of_boundary, plain}
 
 -- how far a fiber has come
 pub data Stage : Type 0 where
-  -- it is made for a place that the render has not come to
-  waiting : Stage
+  -- it is made for a place that the render has not come to; it is cloned where its element is that of the current fiber for which it was made
+  waiting : (cloned : Bool) → Stage
   -- it is begun: a node with this mark, over its children
   begun : Mark → Stage
   -- a boundary whose children are tried
   trying : Stage
   -- the fallback of the boundary right before it, which keeps its primary content and waits for these
   fallback : Awaits → Stage
+
+-- it is made for a place that the render has not come to, and cloned
+abbrev pub is_cloned : Stage → Bool
+is_cloned (waiting c) = c
+is_cloned (begun m) = false
+is_cloned trying = false
+is_cloned (fallback a) = false
 
 -- a fiber: its place among the children of its parent, its element, and how far it has come
 pub record Fiber : Type 0 where
@@ -24,7 +31,7 @@ pub record Fiber : Type 0 where
 
 -- a node is completed: a boundary whose children were tried is shown, and nothing else changes
 abbrev pub completed_stage : Stage → Stage
-completed_stage waiting = waiting
+completed_stage (waiting c) = waiting c
 completed_stage (begun m) = begun m
 completed_stage trying = begun (of_boundary Shown)
 completed_stage (fallback a) = fallback a
@@ -42,7 +49,7 @@ with_number n plain = plain
 
 -- an instance or a host gets this number, and nothing else changes
 abbrev pub numbered_stage : ℕ → Stage → Stage
-numbered_stage n waiting = waiting
+numbered_stage n (waiting c) = waiting c
 numbered_stage n (begun m) = begun (with_number n m)
 numbered_stage n trying = trying
 numbered_stage n (fallback a) = fallback a

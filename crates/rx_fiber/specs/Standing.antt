@@ -44,7 +44,7 @@ opened fs = map (λ f. (f.node, f.contexts)) fs
 -- Where a render stands, with the fiber that it has come to: one that is waiting, whose place begins next; one whose list is done, and which is completed next; none where no unit is left.
 pub data StandsAt (t : Trees Fiber) (st : Stack) : (at : Option ℕ) → Cursor → Type 0 where
   begins : {levels n p : ℕ} {v : Fiber} {o : Option ℕ} {rs : Draft Fiber} {k : Around Fiber} {fs : List Frame} {cs : Contexts} {e : Element} {old : Option Node}
-      → t.draft ≡ placed k (made p v o (taken shapes.none) rs) → IsWaiting v n e → IsOld t.current o old → IsAround t.current k n rs fs
+      → t.draft ≡ placed k (made p v o (taken shapes.none) rs) → IsWaiting t.current o v n e → IsOld t.current o old → IsAround t.current k n rs fs
       → values_at st ≡ cs → IsStack st (opened fs) → StandsAt t st (Some p) (at_place levels fs cs e old)
   completes : {levels n q : ℕ} {k : Around Fiber} {fs : List Frame} {cs : Contexts} {x : Open} {done : List (Option Node)}
       → t.draft ≡ placed k (taken shapes.none) → AreDone k n done → IsListOf t.current k q x cs fs

@@ -1,5 +1,5 @@
 -- What surrounds the place that a render has come to, read from the fibers around it.
-use Rattle.std.specs.Prelude.{◌≡◌, ℕ, suc, Bool, true, false, List, [], ◌∷◌, ◌++◌, Option}
+use Rattle.std.specs.Prelude.{◌≡◌, ℕ, suc, Bool, true, false, List, [], ◌∷◌, ◌++◌, Option, Some, option_map, option_and_then}
 use Rattle.rx_base.specs.Awaits.{Awaits}
 use Rattle.rx_elem.specs.Elements.{Element}
 use Rattle.rx_elem.specs.Elements as elements
@@ -9,17 +9,24 @@ use Rattle.rx_lists.specs.Shapes.{Shape, fiber}
 use Rattle.rx_lists.specs.Shapes as shapes
 use Rattle.rx_links.specs.Drafts.{Draft, taken, made, grafted}
 use Rattle.rx_links.specs.Places.{Around, top, below, after}
+use Rattle.rx_links.specs.Readers.{value_of}
 use Rattle.rx_meaning.specs.Fresh.{Contexts, part}
 use Rattle.rx_meaning.specs.Cursor.{Open, around, trying, falling, Frame, is_null}
 use Rattle.rx_fiber.specs.Fibers.{Fiber, waiting, begun}
 use Rattle.rx_fiber.specs.Fibers as stage
 use Rattle.rx_fiber.specs.Reading.{has_node, IsOf, AreFor, IsOld}
 
--- the fiber of a place that the render has not come to
-pub record IsWaiting (v : Fiber) (place : ℕ) (e : Element) : Type 0 where
+-- this element stands in a current fiber
+abbrev pub IsElementOf : Shape Fiber → Option ℕ → Element → Type 0
+IsElementOf current o e = option_map (λ v. v.element) (option_and_then (value_of current) o) ≡ Some e
+
+-- the fiber of a place that the render has not come to, made for this current fiber, if for one, whose element it has where it is cloned
+pub record IsWaiting (current : Shape Fiber) (o : Option ℕ) (v : Fiber) (place : ℕ) (e : Element) : Type 0 where
   pub at : v.place ≡ place
   pub element : v.element ≡ e
-  pub stage : v.stage ≡ waiting
+  pub cloned : Bool
+  pub stage : v.stage ≡ waiting cloned
+  pub same : cloned ≡ true → IsElementOf current o e
 
 -- The children of a list that are still to begin, from a place on: each that isn't null has a fiber, made beside the current fiber of its old node.
 pub data AreNext (current : Shape Fiber) : (place : ℕ) → List (Element × Option Node) → Draft Fiber → Type 0 where
@@ -27,7 +34,7 @@ pub data AreNext (current : Shape Fiber) : (place : ℕ) → List (Element × Op
   gap : {n : ℕ} {x : Element × Option Node} {xs : List (Element × Option Node)} {d : Draft Fiber}
       → is_null x.0 ≡ true → AreNext current (suc n) xs d → AreNext current n (x ∷ xs) d
   next : {n id : ℕ} {v : Fiber} {o : Option ℕ} {x : Element × Option Node} {xs : List (Element × Option Node)} {d : Draft Fiber}
-      → is_null x.0 ≡ false → IsWaiting v n x.0 → IsOld current o x.1 → AreNext current (suc n) xs d
+      → is_null x.0 ≡ false → IsWaiting current o v n x.0 → IsOld current o x.1 → AreNext current (suc n) xs d
       → AreNext current n (x ∷ xs) (made id v o (taken shapes.none) d)
 
 -- a list of fibers behind the earlier siblings of a place

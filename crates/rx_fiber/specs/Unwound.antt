@@ -30,14 +30,14 @@ pub record IsWithin (t : Trees Fiber) (st : Stack) (p : ℕ) (fs : List Frame) :
 
 -- the fiber is that of a boundary that tries its children
 abbrev pub is_trying : Stage → Bool
-is_trying waiting = false
+is_trying (waiting c) = false
 is_trying (begun m) = false
 is_trying trying = true
 is_trying (fallback a) = false
 
 -- what is waited for outside of a fiber, where these are waited for below it: a fallback that waits passes on what its boundary waits for
 abbrev pub passed_on : Stage → Awaits → Awaits
-passed_on waiting a = a
+passed_on (waiting c) a = a
 passed_on (begun m) a = if is_hidden m then union (awaits_in m) a else a
 passed_on trying a = a
 passed_on (fallback b) a = union b a

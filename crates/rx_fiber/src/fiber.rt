@@ -1,6 +1,7 @@
 // A fiber's value.
 ghost use Rattle.std.specs.Prelude.{◌≡◌};
 ghost use Rattle.rx_fiber.specs.Fibers as fibers;
+ghost use Rattle.rx_fiber.specs.Fibers.{is_cloned};
 ghost use Rattle.rx_fiber.specs.FiberView.{stage_seen, changed};
 
 use crate::stage::{Stage, StageChange};
@@ -62,6 +63,16 @@ impl Fiber {
         ensures { stage_seen result.now ≡ self.now.stage }
     {
         &self.stage
+    }
+
+    /// Whether it waits with the element of the current fiber for which it was made.
+    pub fn is_cloned(&self) -> bool
+        ensures { result ≡ is_cloned self.now.stage }
+    {
+        match self.stage {
+            Stage::Waiting { cloned } => cloned,
+            _ => false,
+        }
     }
 
     /// Changes the stage.

@@ -9,8 +9,9 @@ use rx_node::Mark;
 /// How far a fiber has come in the render that made it.
 #[derive(Drop)]
 pub enum Stage {
-    /// It is made for a place that the render has not come to.
-    Waiting,
+    /// It is made for a place that the render has not come to. It is cloned where its element is that of the current fiber for
+    /// which it was made, so that nothing above asks for another.
+    Waiting { cloned: bool },
     /// It is begun: a node with this mark, over its children.
     Begun(Mark),
     /// A boundary whose children are tried.

@@ -22,7 +22,7 @@ mark_kept next (of_boundary b) e = refl
 mark_kept next plain e = refl
 
 stage_kept : (next : Numbers) (v : Fiber) (s : Stage) → s ≡ v.stage → stage_lacks s ≡ lack.Nothing → numbered_at next v s ≡ (next, v)
-stage_kept next v waiting q e = refl
+stage_kept next v (waiting c) q e = refl
 stage_kept next v (begun m) q e = ap (λ own. (own.0, record v { stage = begun own.1 })) (mark_kept next m e) ∙ ap (λ s. (next, record v { stage = s })) q
 stage_kept next v trying q e = refl
 stage_kept next v (fallback a) q e = refl
@@ -52,7 +52,7 @@ mark_instance next plain e = cc
 
 stage_instance : (next : Numbers) (v : Fiber) (s : Stage) → stage_lacks s ≡ lack.Instance
     → numbered_at next v s ≡ (past_instance next, record v { stage = numbered_stage next.instance s })
-stage_instance next v waiting e = cc
+stage_instance next v (waiting c) e = cc
 stage_instance next v (begun m) e = ap (λ own. (own.0, record v { stage = begun own.1 })) (mark_instance next m e)
 stage_instance next v trying e = cc
 stage_instance next v (fallback a) e = cc
@@ -76,7 +76,7 @@ mark_host next plain e = cc
 
 stage_host : (next : Numbers) (v : Fiber) (s : Stage) → stage_lacks s ≡ lack.Host
     → numbered_at next v s ≡ (past_host next, record v { stage = numbered_stage next.host s })
-stage_host next v waiting e = cc
+stage_host next v (waiting c) e = cc
 stage_host next v (begun m) e = ap (λ own. (own.0, record v { stage = begun own.1 })) (mark_host next m e)
 stage_host next v trying e = cc
 stage_host next v (fallback a) e = cc

@@ -34,7 +34,7 @@ mark_grows next (of_boundary b) = same 1 next
 mark_grows next plain = same 1 next
 
 stage_grows : (next : Numbers) (v : Fiber) (s : Stage) → Grows 1 next (numbered_at next v s).0
-stage_grows next v waiting = same 1 next
+stage_grows next v (waiting c) = same 1 next
 stage_grows next v (begun m) = mark_grows next m
 stage_grows next v trying = same 1 next
 stage_grows next v (fallback a) = same 1 next

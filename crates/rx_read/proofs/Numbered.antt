@@ -19,7 +19,7 @@ use Rattle.rx_read.proofs.Links.{IsKept, draft_kept}
 
 -- a fiber of this stage has its number
 abbrev HasNumber : Stage → Type 0
-HasNumber waiting = Unit {0}
+HasNumber (waiting c) = Unit {0}
 HasNumber (begun m) = IsNumbered m
 HasNumber trying = Unit {0}
 HasNumber (fallback a) = Unit {0}
@@ -53,7 +53,7 @@ fiber_same : (n : Numbers) (v : Fiber) → HasNumber v.stage → numbered_fiber 
 fiber_same n v h = by_stage v.stage refl h
   where
     by_stage : (s : Stage) → s ≡ v.stage → HasNumber s → numbered_at n v s ≡ (n, v)
-    by_stage waiting e h = refl
+    by_stage (waiting c) e h = refl
     by_stage (begun m) e h = ap (λ own. (own.0, record v { stage = begun own.1 })) (mark_same n m h) ∙ ap (λ s. (n, record v { stage = s })) e
     by_stage trying e h = refl
     by_stage (fallback a) e h = refl

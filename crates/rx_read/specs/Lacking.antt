@@ -19,7 +19,7 @@ mark_lacks plain = Nothing
 
 -- what a fiber of this stage lacks
 abbrev pub stage_lacks : Stage → Lack
-stage_lacks waiting = Nothing
+stage_lacks (waiting c) = Nothing
 stage_lacks (begun m) = mark_lacks m
 stage_lacks trying = Nothing
 stage_lacks (fallback a) = Nothing

@@ -11,7 +11,7 @@ use Rattle.rx_fiber.specs.Reading.{IsTreeOf}
 
 -- a fiber of this stage with its number: its own, or else the next one
 abbrev pub numbered_at : Numbers → Fiber → Stage → Numbers × Fiber
-numbered_at next v waiting = (next, v)
+numbered_at next v (waiting c) = (next, v)
 numbered_at next v (begun m) = let own = numbered_mark next m in (own.0, record v { stage = begun own.1 })
 numbered_at next v trying = (next, v)
 numbered_at next v (fallback a) = (next, v)

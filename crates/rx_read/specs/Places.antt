@@ -8,7 +8,7 @@ use Rattle.rx_fiber.specs.OldLists.{is_fallback, filled}
 
 -- the mark of the node that a fiber of this stage stands for, if it stands for one
 abbrev pub mark_in : Stage → Option Mark
-mark_in waiting = None
+mark_in (waiting c) = None
 mark_in (begun m) = Some m
 mark_in trying = None
 mark_in (fallback a) = None
