@@ -1,5 +1,6 @@
 pub mod Rendering
 pub mod Stores
+pub mod Working
 pub mod Dispatching
 pub mod Sending
 pub mod Committed

@@ -1,5 +1,5 @@
 -- What a render of hooks leaves as it was: their states, what is done, and whose they are.
-use Rattle.std.proofs.Common.{◌≡◌, ℕ, ℤ, suc, ◌<◌, Bool, true, false, cond, nat_lt, List, [], ◌∷◌, map, filter, fold, refl, sym, ap, ◌∙◌, subst, arith, add-one}
+use Rattle.std.proofs.Common.{◌≡◌, ℕ, ℤ, suc, ◌<◌, Bool, true, false, cond, nat_lt, List, [], ◌∷◌, map, filter, refl, sym, ap, ◌∙◌, subst, arith, add-one}
 use Rattle.std.specs.List.{AllByRecursion, enumerate_from}
 use Rattle.std.proofs.lemmas.Bool.Decides.{nat_tests}
 use Rattle.rx_base.specs.declared.cut.Cut.{Cut}
@@ -7,38 +7,41 @@ use Rattle.rx_lane.specs.Lanes.{Lanes}
 use Rattle.rx_queue.specs.declared.entry.Entry.{Entry}
 use Rattle.rx_queue.specs.History.{Answers, History, IsAboveDone, applied, is_done, noted, processed, stands_done}
 use Rattle.rx_queue.specs.History as history
-use Rattle.rx_queue.specs.Journal.{Posted, Target, hook, same_target, state_of, updates_of}
+use Rattle.rx_queue.specs.Journal.{Posted, Target, committed_value, hook, same_target, state_of, updates_of}
 use Rattle.rx_queue.specs.Bridge.{posted_as}
-use Rattle.rx_queue.proofs.Bridging.{states_agree}
+use Rattle.rx_queue.proofs.Bridging.{committed_values_agree, states_agree}
+use Rattle.rx_queue.proofs.Histories.{state_from-map}
 use Rattle.rx_hooks.specs.Hooks.{AllAboveDone, HookHistory, rendered, states_of}
 use Rattle.rx_meaning.specs.Settled.{DoneBefore}
 use Rattle.rx_model.specs.State.{State}
 use Rattle.rx_model.specs.HooksOf.{AreHooksFrom, IsHookOf}
+use Rattle.rx_hook_store.specs.Gives.{committed_of}
 
 -- ---- states
 
-fold_if : (answers : Answers) (b : Bool) (state : ℤ) (e : Entry) (es : List Entry)
-    → fold (λ now (e : Entry). applied answers now e.update.op) state (cond b (e ∷ es) es)
-    ≡ fold (λ now (e : Entry). applied answers now e.update.op) (cond b (applied answers state e.update.op) state) es
-fold_if answers true state e es = refl
-fold_if answers false state e es = refl
-
-state-noted : (answers : Answers) (lanes : Lanes) (cut : Cut) (state : ℤ) (es : List Entry)
-    → history.state_from answers (history.is_included lanes cut) state (map (noted lanes cut) es) ≡ history.state_from answers (history.is_included lanes cut) state es
-state-noted answers lanes cut state [] = refl
-state-noted answers lanes cut state (e ∷ es) =
-    let b = history.is_included lanes cut e in
-    fold_if answers b state (noted lanes cut e) (filter (history.is_included lanes cut) (map (noted lanes cut) es))
-    ∙ state-noted answers lanes cut (cond b (applied answers state e.update.op) state) es
-    ∙ sym (fold_if answers b state e (filter (history.is_included lanes cut) es))
+-- the state after the updates that pass a test is the same where what a render notes does not tell on it
+state-noted : (answers : Answers) (lanes : Lanes) (cut : Cut) (test : Entry → Bool) → ((e : Entry) → test (noted lanes cut e) ≡ test e) → (state : ℤ) (es : List Entry)
+    → history.state_from answers test state (map (noted lanes cut) es) ≡ history.state_from answers test state es
+state-noted answers lanes cut test same state es = state_from-map answers test test (noted lanes cut) (λ e. refl) state es (all es)
+  where
+    all : (es : List Entry) → AllByRecursion (λ (e : Entry). test (noted lanes cut e) ≡ test e) es
+    all [] = tt
+    all (e ∷ es) = (same e, all es)
 
 -- the states are the same after a render
 pub states-rendered : (answers : Answers) (lanes : Lanes) (cut : Cut) (hs : List HookHistory)
     → states_of answers lanes cut (map (rendered lanes cut) hs) ≡ states_of answers lanes cut hs
 states-rendered answers lanes cut [] = refl
 states-rendered answers lanes cut (h ∷ hs) =
-    ap (λ x. x ∷ states_of answers lanes cut (map (rendered lanes cut) hs)) (state-noted answers lanes cut h.updates.initial h.updates.entries)
+    ap (λ x. x ∷ states_of answers lanes cut (map (rendered lanes cut) hs)) (state-noted answers lanes cut (history.is_included lanes cut) (λ e. refl) h.updates.initial h.updates.entries)
     ∙ ap (λ xs. history.state_of answers lanes cut h.updates ∷ xs) (states-rendered answers lanes cut hs)
+
+-- so are the committed values
+pub committed-rendered : (answers : Answers) (lanes : Lanes) (cut : Cut) (hs : List HookHistory) → committed_of answers (map (rendered lanes cut) hs) ≡ committed_of answers hs
+committed-rendered answers lanes cut [] = refl
+committed-rendered answers lanes cut (h ∷ hs) =
+    ap (λ x. x ∷ committed_of answers (map (rendered lanes cut) hs)) (state-noted answers lanes cut is_done (λ e. refl) h.updates.initial h.updates.entries)
+    ∙ ap (λ xs. history.committed_value answers h.updates ∷ xs) (committed-rendered answers lanes cut hs)
 
 -- ---- what is done
 
@@ -131,3 +134,15 @@ states-journal answers lanes cut s i k (x ∷ xs) (h ∷ hs) are =
     ∙ ap (λ ys. state_of answers lanes cut x (updates_of (hook i k) s.journal) ∷ ys)
     (states-journal answers lanes cut s i (suc k) xs hs are.1
     ∙ ap (λ n. map (λ (h : ℕ × ℤ). state_of answers lanes cut h.1 (updates_of (hook i h.0) s.journal)) (enumerate_from n xs)) (sym (add-one k)))
+
+-- the committed values of an instance's hooks are those that the journal gives
+pub committed-journal : (answers : Answers) (s : State) (i k : ℕ) (xs : List ℤ) (hs : List HookHistory) → AreHooksFrom s i k xs hs
+    → committed_of answers hs ≡ map (λ (h : ℕ × ℤ). committed_value answers h.1 (updates_of (hook i h.0) s.journal)) (enumerate_from k xs)
+committed-journal answers s i k [] [] are = refl
+committed-journal answers s i k [] (h ∷ hs) are = absurd are
+committed-journal answers s i k (x ∷ xs) [] are = absurd are
+committed-journal answers s i k (x ∷ xs) (h ∷ hs) are =
+    ap (λ y. y ∷ committed_of answers hs) (committed_values_agree answers s.journal (hook i k) x h.updates are.0.history_is)
+    ∙ ap (λ ys. committed_value answers x (updates_of (hook i k) s.journal) ∷ ys)
+    (committed-journal answers s i (suc k) xs hs are.1
+    ∙ ap (λ n. map (λ (h : ℕ × ℤ). committed_value answers h.1 (updates_of (hook i h.0) s.journal)) (enumerate_from n xs)) (sym (add-one k)))

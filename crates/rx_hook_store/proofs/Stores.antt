@@ -18,7 +18,7 @@ use Rattle.rx_model.specs.HooksOf.{KeepsAllHooks}
 use Rattle.rx_elem.specs.Spots.{Mounted, mounted}
 use Rattle.rx_hook_store.specs.Gives.{GivesValues}
 use Rattle.rx_hook_store.specs.Rendered.{IsRendered, KeepsInstance, RendersHooks}
-use Rattle.rx_hook_store.proofs.Rendering.{above-journal, above-rendered, hooks-rendered, rendered-rendered, states-journal, states-rendered}
+use Rattle.rx_hook_store.proofs.Rendering.{above-journal, above-rendered, committed-journal, committed-rendered, hooks-rendered, rendered-rendered, states-journal, states-rendered}
 
 -- what is kept by instance
 abbrev pub KeptBy : Type 0
@@ -46,6 +46,7 @@ gives-same s k old new initials same g =
       stand = g.stand;
       above_done = g.above_done;
       values_are = g.values_are;
+      done_are = g.done_are;
     }
 
 pub keeps-same : (p : Program) (s : State) (k : ℕ) (old new : KeptBy) (initials : List ℤ) → new k ≡ old k → KeepsInstance p s old k initials → KeepsInstance p s new k initials
@@ -77,6 +78,7 @@ keeps-give p s g kept k initials done keeps =
       stand = keeps.stand;
       above_done = above-journal s k 0 initials g.cut keeps.histories done keeps.are_of;
       values_are = states-journal (answers_of p) g.lanes g.cut s k 0 initials keeps.histories keeps.are_of;
+      done_are = committed-journal (answers_of p) s k 0 initials keeps.histories keeps.are_of;
     }
 
 -- ---- a render
@@ -109,6 +111,7 @@ gives-rendered s i k old new initials r g = by_number i k here (λ other. gives-
           stand = renders (answers_of s.program) s.lanes s.cut i old new r k g.hooks g.histories same g.kept_is g.stand g.above_done;
           above_done = above-rendered s.lanes s.cut g.histories g.above_done;
           values_are = states-rendered (answers_of s.program) s.lanes s.cut g.histories ∙ g.values_are;
+          done_are = committed-rendered (answers_of s.program) s.lanes s.cut g.histories ∙ g.done_are;
         }
 
 module _ (p : Program) (s : State) (lanes : Lanes) (cut : Cut) (i : ℕ) (old new : KeptBy) (done : DoneBefore cut s.journal.updates) (r : RendersHooks (answers_of p) lanes cut i old new) where

@@ -10,19 +10,19 @@ ghost use Rattle.rx_hooks.specs.declared.hook.Hook.{Hook};
 ghost use Rattle.rx_hooks.specs.Hooks.{HookHistory, HooksStandFor, changed_at, committed_hook, owed_hook};
 ghost use Rattle.rx_meaning.specs.Expressions.{answers_of};
 ghost use Rattle.rx_meaning.specs.Fresh.{Sight, hook_values};
-ghost use Rattle.rx_meaning.specs.Settled.{DoneBefore};
+ghost use Rattle.rx_meaning.specs.Settled.{DoneBefore, done_values, known_by};
 ghost use Rattle.rx_model.specs.State.{State, committed_values, linked_lanes, opening};
 ghost use Rattle.rx_model.specs.Accepting.{dispatched_for, lane_of};
 ghost use Rattle.rx_model.specs.HooksOf.{KeepsAllHooks};
 ghost use Rattle.rx_hook_store.specs.Store.{kept_hooks};
-ghost use Rattle.rx_hook_store.specs.Gives.{GivesValues};
+ghost use Rattle.rx_hook_store.specs.Gives.{GivesValues, has_work_in};
 ghost use Rattle.rx_hook_store.specs.Rendered.{IsRendered, KeepsInstance, RendersHooks};
 ghost use Rattle.rx_hook_store.specs.Changing.{ChangesHooks, dispatched_hook, lanes_linked};
 
 use rx_base::{Cut, Int, Ints};
 use rx_hooks::Hooks;
 use rx_lane::Lanes;
-use rx_queue::{Fold, Update};
+use rx_queue::{Fold, Update, Work};
 use rx_step::LaneWord;
 use std::alloc::{AllocError, Global};
 use std::collections::HashMap;
@@ -165,6 +165,23 @@ impl HookStore {
             → m.number ≡ instance → slice_get (committed_values p s.journal m) place ≡ Some result }
     {
         self.hooks.get(&instance).unwrap().committed(place)
+    }
+
+    /// Whether a render for these lanes at this cut has work in the hooks of an instance: an included update of one of them
+    /// is not done (react.dev, useState: React skips a component without such).
+    pub fn has_work(&self, instance: u64, lanes: Lanes, cut: Cut) -> bool
+        requires { IsSome (kept_hooks self.now instance) }
+
+        // It has where an included update of a hook's history is not done.
+        ensures work { (answers : Answers) (hooks : List Hook) (histories : List HookHistory) → kept_hooks self.now instance ≡ Some hooks
+            → HooksStandFor answers hooks histories → result ≡ has_work_in lanes cut histories }
+
+        // Where there is none, the render sees the values that are committed.
+        ensures calm { (s : Sight) (initials : List ℤ) → s.lanes ≡ lanes → s.cut ≡ cut → GivesValues s (kept_hooks self.now) instance initials
+            → result ≡ false → hook_values s instance initials ≡ done_values s.program (known_by s) instance initials }
+    {
+        let hooks = self.hooks.get(&instance).unwrap();
+        hooks.work(lanes, cut) != Work::Nothing
     }
 
     /// Makes room for so many instances more.

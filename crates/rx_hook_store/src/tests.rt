@@ -51,6 +51,8 @@ fn a_dispatch_is_rendered(rt: HostRuntime) -> Result<(), Fail> {
         updates: 1,
         resolutions: 0,
     };
+    assert!(rt; store.has_work(7, lanes, cut));
+    assert!(rt; !store.has_work(7, Lanes::none(), cut));
     let values = store.render_values(rt.alloc(), 7, &Latest, lanes, cut)?;
     assert_eq!(rt; values.as_slice(), [Int::of(8)].as_slice());
     Ok(())

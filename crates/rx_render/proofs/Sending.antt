@@ -14,7 +14,7 @@ use Rattle.rx_step.specs.declared.step.LaneWord.TheVariants as word
 use Rattle.rx_queue.specs.declared.entry.Entry.{Entry}
 use Rattle.rx_queue.specs.declared.update.Op.{Op}
 use Rattle.rx_queue.specs.declared.update.Update.{Update}
-use Rattle.rx_queue.specs.History.{Answers, applied, is_done, is_included, new_entry, pushed, state_of}
+use Rattle.rx_queue.specs.History.{Answers, applied, committed_value, is_done, is_included, new_entry, pushed, state_of}
 use Rattle.rx_queue.specs.History as history
 use Rattle.rx_queue.specs.Journal.{Journal, Target, hook}
 use Rattle.rx_hooks.specs.Hooks.{AllAboveDone, HookHistory, changed_at, states_of}
@@ -25,7 +25,7 @@ use Rattle.rx_model.specs.Accepting.{dispatched_for, in_event, lane_of, next_upd
 use Rattle.rx_model.specs.HooksOf.{KeepsAllHooks}
 use Rattle.rx_hook_store.specs.Store.{Kept, kept_hooks}
 use Rattle.rx_hook_store.specs.Changing.{ChangesHooks, dispatched_hook}
-use Rattle.rx_hook_store.specs.Gives.{GivesValues}
+use Rattle.rx_hook_store.specs.Gives.{GivesValues, committed_of}
 use Rattle.rx_hook_store.proofs.Sending.{change_stands, is_after}
 use Rattle.rx_hook_store.proofs.Staying.{all_stay}
 use Rattle.rx_hook_store.proofs.Stores.{KeptBy, by_number, gives-same}
@@ -43,15 +43,18 @@ not_before lanes cut u late = go (nat_lt u.number cut.updates) (grind (arith, na
     go : (b : Bool) → b ≡ false → (b && has lanes u.lane) ≡ false
     go b e = rw e refl
 
-filter_sent : (lanes : Lanes) (cut : Cut) (u : Update) (es : List Entry) → cut.updates ≤ u.number
-    → filter (is_included lanes cut) (es ++ new_entry u ∷ []) ≡ filter (is_included lanes cut) es
-filter_sent lanes cut u [] late = ap (λ b. cond b (new_entry u ∷ []) []) (not_before lanes cut u late)
-filter_sent lanes cut u (e ∷ es) late = ap (λ fs. cond (is_included lanes cut e) (e ∷ fs) fs) (filter_sent lanes cut u es late)
+filter_sent : (test : Entry → Bool) (u : Update) (es : List Entry) → test (new_entry u) ≡ false → filter test (es ++ new_entry u ∷ []) ≡ filter test es
+filter_sent test u [] out = ap (λ b. cond b (new_entry u ∷ []) []) out
+filter_sent test u (e ∷ es) out = ap (λ fs. cond (test e) (e ∷ fs) fs) (filter_sent test u es out)
 
 -- the state of a hook that is sent an update behind the cut is as it was
 state_sent : (answers : Answers) (lanes : Lanes) (cut : Cut) (u : Update) (h : history.History) → cut.updates ≤ u.number
     → state_of answers lanes cut (pushed u h) ≡ state_of answers lanes cut h
-state_sent answers lanes cut u h late = ap (λ es. fold (λ now (e : Entry). applied answers now e.update.op) h.initial es) (filter_sent lanes cut u h.entries late)
+state_sent answers lanes cut u h late = ap (λ es. fold (λ now (e : Entry). applied answers now e.update.op) h.initial es) (filter_sent (is_included lanes cut) u h.entries (not_before lanes cut u late))
+
+-- so is its committed value, since the update is open
+value_sent : (answers : Answers) (u : Update) (h : history.History) → committed_value answers (pushed u h) ≡ committed_value answers h
+value_sent answers u h = ap (λ es. fold (λ now (e : Entry). applied answers now e.update.op) h.initial es) (filter_sent is_done u h.entries refl)
 
 -- the updates of a hook after a dispatch
 updates_sent : (w : LaneWord) (u : Update) (pending : Lanes) (h : HookHistory) → (dispatched_hook w u pending h).updates ≡ pushed u h.updates
@@ -67,6 +70,13 @@ states_sent answers lanes cut w u pending zero (h ∷ hs) late =
     ap (λ x. x ∷ states_of answers lanes cut hs) (ap (state_of answers lanes cut) (updates_sent w u pending h) ∙ state_sent answers lanes cut u h.updates late)
 states_sent answers lanes cut w u pending (suc place) (h ∷ hs) late =
     ap (λ xs. state_of answers lanes cut h.updates ∷ xs) (states_sent answers lanes cut w u pending place hs late)
+
+values_sent : (answers : Answers) (w : LaneWord) (u : Update) (pending : Lanes) (place : ℕ) (hs : List HookHistory)
+    → committed_of answers (changed_at place (dispatched_hook w u pending) hs) ≡ committed_of answers hs
+values_sent answers w u pending place [] = refl
+values_sent answers w u pending zero (h ∷ hs) =
+    ap (λ x. x ∷ committed_of answers hs) (ap (committed_value answers) (updates_sent w u pending h) ∙ value_sent answers u h.updates)
+values_sent answers w u pending (suc place) (h ∷ hs) = ap (λ xs. committed_value answers h.updates ∷ xs) (values_sent answers w u pending place hs)
 
 -- What is done
 
@@ -99,6 +109,7 @@ gives_changed s w u pending place i old new late c k initials g = by_number i k 
           stand = change_stands change i old new c (answers_of s.program) k g.hooks g.histories same g.kept_is g.stand;
           above_done = above_sent s.cut w u pending place g.histories g.above_done;
           values_are = states_sent (answers_of s.program) s.lanes s.cut w u pending place g.histories late ∙ g.values_are;
+          done_are = values_sent (answers_of s.program) w u pending place g.histories ∙ g.done_are;
         }
 
 -- A rendering
