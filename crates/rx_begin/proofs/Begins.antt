@@ -1,11 +1,11 @@
 -- What is asked where a place begins, and what it leaves.
-use Rattle.std.specs.Prelude.{◌≡◌, ℕ, ℤ, suc, ◌+◌, ◌<◌, false, List, Option, Some, None, Result, Ok, Err, IfOk, OnOk, IfSome, IsSome, length, option_and_then, option_map}
+use Rattle.std.specs.Prelude.{◌≡◌, ℕ, ℤ, suc, ◌+◌, ◌<◌, ◌≤◌, Bool, true, false, if◌then◌else◌, List, Option, Some, None, Result, Ok, Err, IfOk, OnOk, IfSome, IsSome, length, option_and_then, option_map}
 use Rattle.std.proofs.Common.{refl, sym, ap, ◌∙◌, subst, arith}
 use Rattle.rx_ast.specs.Syntax.{Program, Component}
 use Rattle.rx_ast.specs.Syntax as syntax
 use Rattle.rx_rules.specs.Names.{component_at, prop_names}
 use Rattle.rx_ctx.specs.Contexts.{Stack, values_at}
-use Rattle.rx_elem.specs.Elements.{Element, Elements, listed}
+use Rattle.rx_elem.specs.Elements.{Element, Elements, Key, listed}
 use Rattle.rx_elem.specs.Elements as elements
 use Rattle.rx_elem.specs.Trees.{Node, host_number, instance_in}
 use Rattle.rx_hooks.specs.declared.hook.Hook.{Hook}
@@ -15,14 +15,15 @@ use Rattle.rx_meaning.specs.Body.{Body, wait, ready, body_of}
 use Rattle.rx_meaning.specs.Counts.{each_body, begins_as, one_if_component, next_counts}
 use Rattle.rx_meaning.specs.Cursor.{Frame, at_place, is_null}
 use Rattle.rx_meaning.specs.Fresh.{Sight, Contexts, Shape, absent, waiting, one_list, two_lists, shape_of, shape_of_body, shape_of_component, inputs_at, old_instance}
-use Rattle.rx_fiber.specs.Fibers.{Fiber}
-use Rattle.rx_fiber.specs.OldLists.{primary_list, matched}
+use Rattle.rx_fiber.specs.Fibers.{Fiber, is_cloned}
+use Rattle.rx_meaning.specs.Settled.{IfSettled, known_by}
+use Rattle.rx_fiber.specs.OldLists.{primary_list, matched, old_elements, old_fibers}
 use Rattle.rx_fiber.specs.Reading.{IsOld}
 use Rattle.rx_fiber.specs.Standing.{StandsAt}
 use Rattle.draw_laws.specs.Drawn.{IsDrawn}
-use Rattle.rx_begin.specs.Nodes.{IsBareAt, HasOpened, mark_at, parts_in, begun_stage, begun_children, begun_stack, given_context}
+use Rattle.rx_begin.specs.Nodes.{IsBareAt, HasOpened, mark_at, keeps_children, parts_in, begun_stage, begun_children, begun_stack, given_context}
 use Rattle.rx_begin.specs.Scenes.{GivesHooks, number_in}
-use Rattle.rx_begin.specs.Bodies.{HasShape}
+use Rattle.rx_begin.specs.Bodies.{StoodIn, HasShape}
 use Rattle.rx_begin.specs.Beginning.{IsAtPlace, stands, BeginsPlace}
 use Rattle.rx_begin.specs.declared.node.Begun.{Begun}
 use Rattle.rx_begin.proofs.Lists.{same_parts}
@@ -30,7 +31,8 @@ use Rattle.rx_begin.proofs.Making.{KnowsPlaces}
 use Rattle.rx_begin.proofs.Nodes.{bare_made}
 use Rattle.rx_begin.proofs.Marks.{old_instance_is}
 use Rattle.rx_begin.proofs.Bodies.{kept_if}
-use Rattle.rx_begin.proofs.ByElement.{element_at, old_at, bare_at, other_begun, body_begun}
+use Rattle.rx_begin.proofs.ByElement.{element_at, old_at, bare_at, Opens, from_matched, from_clones, other_begun, body_begun}
+use Rattle.rx_begin.proofs.Keeping.{clone_stood, old_no_null, kept_children}
 
 pub on_ok : {A E : Type 0} (r : Result A E) (P Q : Type 0) → (P → Q) → OnOk r P → OnOk r Q
 on_ok (Ok a) P Q f h = f h
@@ -105,22 +107,42 @@ module _ (p : Program) (kept : ℕ → Option (List Hook)) (t : Trees Fiber) (st
 module _ (s : Sight) (kept : ℕ → Option (List Hook)) (t : Trees Fiber) (st : Stack) (new : Trees Fiber) (st' : Stack) (p : ℕ) (linked : IsLinked t.current) (knows : KnowsPlaces t) (v : Fiber) (element : Element)
     (value : Some v ≡ made_value_of t.draft p) (is : element ≡ v.element) (answer : Begun) where
   pub begins_body : (c : ℕ) (props : List ℤ) (es : List Element) (here : Contexts) → parts_in element ≡ Some (c, (props, es)) → here ≡ values_at st → st' ≡ st
-      → ((old : Option Node) (kids : Elements) → IsOld t.current (old_of t.draft p) old → GivesHooks s kept (old_instance old) → listed kids ≡ es
-      → HasShape (shape_of_component s here c props kids old (component_at s.program c)) here old t new p answer) → BeginsPlace s kept t st new st' p answer
-  begins_body c props es here parts same stacks has n fs cs e old at gives =
+      → ((old : Option Node) (key : Key) (kids : Elements) → IsOld t.current (old_of t.draft p) old → GivesHooks s kept (old_instance old) → IfSettled s.program (known_by s) old
+      → (is_cloned v.stage ≡ true → StoodIn old (elements.comp c key props kids)) → listed kids ≡ es → HasShape (shape_of_component s here c props kids old (component_at s.program c)) here old t new p answer) → BeginsPlace s kept t st new st' p answer
+  begins_body c props es here parts same stacks has n fs cs e old at gives settled =
       let x : element ≡ e = is ∙ element_at t st p n fs cs e old knows at v value in
-      body_begun s t st new st' p n fs cs e old linked knows at answer c props es here (ap parts_in (sym x) ∙ parts) same
-      (λ kids f. has old kids (old_at t st p n fs cs e old knows at) gives f) stacks
+      body_begun s t st new st' p n fs cs e old linked knows at answer (old_no_null s.program (known_by s) old settled) c props es here (ap parts_in (sym x) ∙ parts) same
+      (λ key kids f g.
+      has old key kids (old_at t st p n fs cs e old knows at) gives settled (λ cloned. subst (StoodIn old) (sym f) (clone_stood t st p n fs cs e old knows at v value cloned)) g)
+      stacks
 
-  pub begins_other : is_null element ≡ false → parts_in element ≡ None → st' ≡ begun_stack element st
-      → HasOpened t new p (begun_stage element (option_and_then host_number (mark_at t.current (old_of t.draft p)))) (begun_children element)
-      (matched (primary_list (list_from t.current (old_of t.draft p))) (begun_children element)) answer → BeginsPlace s kept t st new st' p answer
-  begins_other there none stacks done n fs cs e old at gives =
+  pub begins_other : (cloned : Bool) → cloned ≡ is_cloned v.stage → is_null element ≡ false → parts_in element ≡ None → st' ≡ begun_stack element st
+      → (keeps_children cloned (mark_at t.current (old_of t.draft p)) ≡ true
+      → HasOpened t new p (begun_stage element (option_and_then host_number (mark_at t.current (old_of t.draft p)))) (old_elements (primary_list (list_from t.current (old_of t.draft p))))
+      (old_fibers (primary_list (list_from t.current (old_of t.draft p)))) answer)
+      → (keeps_children cloned (mark_at t.current (old_of t.draft p)) ≡ false → HasOpened t new p (begun_stage element (option_and_then host_number (mark_at t.current (old_of t.draft p)))) (begun_children element)
+      (matched (primary_list (list_from t.current (old_of t.draft p))) (begun_children element)) answer) → BeginsPlace s kept t st new st' p answer
+  begins_other cloned cloned_is there none stacks kept_so done n fs cs e old at gives settled =
       let x : element ≡ e = is ∙ element_at t st p n fs cs e old knows at v value in
       let number : Option ℕ = option_and_then host_number (mark_at t.current (old_of t.draft p)) in
       other_begun s t st new st' p n fs cs e old linked knows at answer number (old_of t.draft p) (ap is_null (sym x) ∙ there) (ap parts_in (sym x) ∙ none) refl refl
-      (subst (λ y. HasOpened t new p (begun_stage y number) (begun_children y) (matched (primary_list (list_from t.current (old_of t.draft p))) (begun_children y)) answer) x done)
+      (by_kept x (keeps_children cloned (mark_at t.current (old_of t.draft p))) refl)
       (stacks ∙ ap (λ y. begun_stack y st) x)
+    where
+      by_kept : element ≡ e → (b : Bool) → keeps_children cloned (mark_at t.current (old_of t.draft p)) ≡ b
+          → Opens s t st new st' p n fs cs e old linked knows at answer (begun_stage e (option_and_then host_number (mark_at t.current (old_of t.draft p)))) (begun_children e)
+      by_kept x true h =
+          let number : Option ℕ = option_and_then host_number (mark_at t.current (old_of t.draft p)) in
+          from_clones s t st new st' p n fs cs e old linked knows at answer (begun_stage e number) (begun_children e) (old_no_null s.program (known_by s) old settled)
+          (kept_children s.program (known_by s) t.current (old_of t.draft p) old e cloned (old_at t st p n fs cs e old knows at) settled
+          (λ so. clone_stood t st p n fs cs e old knows at v value (sym cloned_is ∙ so)) (ap parts_in (sym x) ∙ none) h)
+          (subst (λ y.
+          HasOpened t new p (begun_stage y number) (old_elements (primary_list (list_from t.current (old_of t.draft p)))) (old_fibers (primary_list (list_from t.current (old_of t.draft p)))) answer) x
+          (kept_so h))
+      by_kept x false h =
+          let number : Option ℕ = option_and_then host_number (mark_at t.current (old_of t.draft p)) in
+          from_matched s t st new st' p n fs cs e old linked knows at answer (begun_stage e number) (begun_children e)
+          (subst (λ y. HasOpened t new p (begun_stage y number) (begun_children y) (matched (primary_list (list_from t.current (old_of t.draft p))) (begun_children y)) answer) x (done h))
 
 -- How many bodies are evaluated
 
@@ -162,17 +184,16 @@ one_counted s (elements.comp b k ps kids) cs old c props es m h f =
 
 module _ (t : Trees Fiber) (st : Stack) (p : ℕ) (knows : KnowsPlaces t) (v : Fiber) (element : Element) (value : Some v ≡ made_value_of t.draft p) (is : element ≡ v.element)
     (s : Sight) (n : ℕ) (fs : List Frame) (cs : Contexts) (e : Element) (old : Option Node) (at : StandsAt t st (Some p) (at_place (suc n) fs cs e old)) where
-  pub counts_none : (k l : ℕ) → parts_in element ≡ None → l ≡ k → l ≡ k + next_counts each_body s (at_place (suc n) fs cs e old)
-  counts_none k l none same =
-      let x : element ≡ e = is ∙ element_at t st p n fs cs e old knows at v value in
-      let z : begins_as each_body cs e old (shape_of s cs e old) ≡ 0 = none_counted e cs old (shape_of s cs e old) (no_body e (ap parts_in (sym x) ∙ none)) in
-      omega arith
-
-  pub counts_one : (checked : Program) (c : ℕ) (props : List ℤ) (es : List Element) (k l : ℕ) → s.program ≡ checked → parts_in element ≡ Some (c, (props, es))
-      → option_map (λ d. length (prop_names d)) (component_at checked c) ≡ Some (length props) → l ≡ k + 1 → l ≡ k + next_counts each_body s (at_place (suc n) fs cs e old)
-  counts_one checked c props es k l same parts given once =
+  -- no more than one body
+  pub counts_one : (checked : Program) (c : ℕ) (props : List ℤ) (es : List Element) (b : Bool) → s.program ≡ checked → parts_in element ≡ Some (c, (props, es))
+      → option_map (λ d. length (prop_names d)) (component_at checked c) ≡ Some (length props) → (if b then 1 else 0) ≤ next_counts each_body s (at_place (suc n) fs cs e old)
+  counts_one checked c props es b same parts given =
       let x : element ≡ e = is ∙ element_at t st p n fs cs e old knows at v value in
       let z : begins_as each_body cs e old (shape_of s cs e old) ≡ 1 =
       one_counted s e cs old c props es (length props) (ap parts_in (sym x) ∙ parts)
       (subst (λ q. option_map (λ d. length (prop_names d)) (component_at q c) ≡ Some (length props)) (sym same) given) in
-      omega arith
+      at_most b (next_counts each_body s (at_place (suc n) fs cs e old)) z
+    where
+      at_most : (b : Bool) (k : ℕ) → k ≡ 1 → (if b then 1 else 0) ≤ k
+      at_most true k h = omega arith
+      at_most false k h = omega arith

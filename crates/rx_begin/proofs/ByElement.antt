@@ -1,5 +1,6 @@
 -- What a place leaves that is begun, by its element.
 use Rattle.std.specs.Prelude.{◌≡◌, ℕ, ℤ, suc, false, true, List, [], ◌∷◌, Option, Some, None, Result, Ok, Err, IfOk, option_and_then, slice_set}
+use Rattle.std.specs.List.{zip}
 use Rattle.std.proofs.Common.{refl, sym, ap, ◌∙◌, subst}
 use Rattle.rx_base.specs.Values.{Text, Name}
 use Rattle.rx_rules.specs.Names.{component_at}
@@ -8,7 +9,9 @@ use Rattle.rx_ctx.specs.Contexts as contexts
 use Rattle.rx_elem.specs.declared.attr.Attr.{Attr}
 use Rattle.rx_elem.specs.Elements.{Element, Elements, Key, listed}
 use Rattle.rx_elem.specs.Elements as elements
-use Rattle.rx_elem.specs.Trees.{Node, Mark, of_host, plain, host_number, is_hidden, children_if, fallback_if}
+use Rattle.rx_elem.specs.Compare.{old_nodes}
+use Rattle.rx_elem.specs.Trees.{Node, Mark, of_host, plain, host_number, is_hidden, elements_in, children_if, fallback_if}
+use Rattle.rx_elem.proofs.SelfMatch.{NoNull}
 use Rattle.rx_elem.specs.Trees as trees
 use Rattle.rx_lists.specs.Shapes as shapes
 use Rattle.rx_links.specs.Drafts.{taken, Trees, old_of}
@@ -17,19 +20,21 @@ use Rattle.rx_meaning.specs.Fresh.{Sight, Contexts, Part, part, one_list, two_li
 use Rattle.rx_meaning.specs.Cursor.{Open, around, trying, Frame, at_place, is_null}
 use Rattle.rx_fiber.specs.Fibers.{Fiber, Stage, begun}
 use Rattle.rx_fiber.specs.Fibers as stage
-use Rattle.rx_fiber.specs.OldLists.{primary_list, matched}
+use Rattle.rx_fiber.specs.OldLists.{primary_list, matched, old_elements, old_fibers}
 use Rattle.rx_fiber.specs.Reading.{IsOld}
-use Rattle.rx_fiber.specs.Surround.{fallback_in, is_boundary}
+use Rattle.rx_fiber.specs.Surround.{AreNext, fallback_in, is_boundary}
+use Rattle.rx_fiber.proofs.OldLists.{primary_is}
 use Rattle.rx_fiber.specs.Standing.{given_in, IsStack, opened, StandsAt, begins}
 use Rattle.rx_fiber.proofs.Stacking.{pushed, unchanged}
 use Rattle.rx_begin.specs.Nodes.{IsBareAt, HasOpened, mark_at, parts_in, begun_stage, begun_children, begun_stack}
-use Rattle.rx_begin.specs.Bodies.{HasShape, waits, opens}
+use Rattle.rx_begin.specs.Bodies.{HasShape, waits, opens, keeps}
 use Rattle.rx_begin.specs.Beginning.{HasBegun}
 use Rattle.rx_begin.specs.declared.node.Begun.{Begun}
 use Rattle.rx_begin.proofs.Lists.{same_parts}
 use Rattle.rx_begin.proofs.Making.{KnowsPlaces}
 use Rattle.rx_begin.proofs.Marks.{old_host_is}
-use Rattle.rx_begin.proofs.Starts.{begun_one, begun_trying, begun_waiting, of_old}
+use Rattle.rx_begin.proofs.Starts.{nexts, olds_of, begun_one, begun_trying, begun_waiting}
+use Rattle.rx_begin.proofs.Cloning.{kept_next}
 
 pub if_ok : {A E : Type 0} (r : Result A E) (P Q : A → Type 0) → ((a : A) → P a → Q a) → IfOk r P → IfOk r Q
 if_ok (Ok a) P Q f h = f a h
@@ -61,8 +66,36 @@ around_stack st st' x xs e m cs given same values stack =
 
 module _ (s : Sight) (t : Trees Fiber) (st : Stack) (new : Trees Fiber) (st' : Stack) (p n : ℕ) (fs : List Frame) (cs : Contexts) (e : Element) (old : Option Node)
     (linked : IsLinked t.current) (knows : KnowsPlaces t) (at : StandsAt t st (Some p) (at_place (suc n) fs cs e old)) (answer : Begun) where
-  abbrev Opens : Stage → List Element → Type 0
-  Opens m es = HasOpened t new p m es (matched (primary_list (list_from t.current (old_of t.draft p))) es) answer
+  -- the fiber is begun with this stage, over the children of these elements
+  pub record Opens (m : Stage) (es : List Element) : Type 0 where
+    pub given : List Element
+    pub olds : List (Option ℕ)
+    pub opened : HasOpened t new p m given olds answer
+    pub nexts : AreNext t.current 0 (zip es (old_nodes (children_if old) es)) opened.kids
+
+  -- children that are matched with the old ones
+  pub from_matched : (m : Stage) (es : List Element) → HasOpened t new p m es (matched (primary_list (list_from t.current (old_of t.draft p))) es) answer → Opens m es
+  from_matched m es done = record {
+    given = es;
+    olds = matched (primary_list (list_from t.current (old_of t.draft p))) es;
+    opened = done;
+    nexts =
+        nexts t.current 0 es (matched (primary_list (list_from t.current (old_of t.draft p))) es) (old_nodes (children_if old) es) done.kids done.are
+        (olds_of s t st new st' p n fs cs e old linked knows (old_of t.draft p) es (old_at t st p n fs cs e old knows at));
+  }
+
+  -- clones of the old ones
+  pub from_clones : (m : Stage) (es : List Element) → NoNull (children_if old) → es ≡ elements_in (children_if old)
+      → HasOpened t new p m (old_elements (primary_list (list_from t.current (old_of t.draft p)))) (old_fibers (primary_list (list_from t.current (old_of t.draft p)))) answer → Opens m es
+  from_clones m es no_null same done = record {
+    given = old_elements (primary_list (list_from t.current (old_of t.draft p)));
+    olds = old_fibers (primary_list (list_from t.current (old_of t.draft p)));
+    opened = done;
+    nexts =
+        subst (λ xs. AreNext t.current 0 (zip xs (old_nodes (children_if old) xs)) done.kids) (sym same)
+        (kept_next t.current linked (children_if old) (primary_list (list_from t.current (old_of t.draft p)))
+        (primary_is t.current linked (old_of t.draft p) old (old_at t st p n fs cs e old knows at)) no_null done.kids done.are);
+  }
 
   again : (m l : Stage) (es xs : List Element) → m ≡ l → es ≡ xs → Opens m es → Opens l xs
   again m l es xs f g h = subst (λ q. Opens q xs) f (subst (λ ys. Opens m ys) g h)
@@ -71,8 +104,9 @@ module _ (s : Sight) (t : Trees Fiber) (st : Stack) (new : Trees Fiber) (st' : S
   plain_begun : (m : Mark) (l : Stage) (es : List Element) (list : Part) → shape_of s cs e old ≡ one_list m list → given_in e ≡ None → list.contexts ≡ cs → list.old ≡ children_if old
       → is_hidden m ≡ false → l ≡ begun m → es ≡ list.elements → Opens l es → st' ≡ st → HasBegun s t st new st' p n fs cs e old answer
   plain_begun m l es list shape given same was shown stage_is elements_are done stacks =
-      begun_one s t st new st' p n fs cs e old linked knows answer m list (again l (begun m) es list.elements stage_is elements_are done) at shape shown
-      (of_old s t st new st' p n fs cs e old linked knows list was)
+      let o = again l (begun m) es list.elements stage_is elements_are done in
+      begun_one s t st new st' p n fs cs e old linked knows answer m list o.given o.olds o.opened
+      (subst (λ ns. AreNext t.current 0 (zip list.elements (old_nodes ns list.elements)) o.opened.kids) (sym was) o.nexts) at shape shown
       (λ values stack. subst (λ c. IsStack st' ((around e m, c) ∷ opened fs)) (sym same) (around_stack st st' (around e m) (opened fs) e m cs given stacks values stack))
 
   host_mark : (number : Option ℕ) (o : Option ℕ) → number ≡ option_and_then host_number (mark_at t.current o) → o ≡ old_of t.draft p → begun (of_host number) ≡ begun (of_host (old_host old))
@@ -83,8 +117,8 @@ module _ (s : Sight) (t : Trees Fiber) (st : Stack) (new : Trees Fiber) (st' : S
   pub text_begun : (x : Text) (number o : Option ℕ) → elements.text x ≡ e → number ≡ option_and_then host_number (mark_at t.current o) → o ≡ old_of t.draft p → Opens (begun (of_host number)) []
       → st' ≡ st → HasBegun s t st new st' p n fs cs e old answer
   text_begun x number o is f g done stacks =
-      begun_one s t st new st' p n fs cs e old linked knows answer (of_host (old_host old)) (part cs [] trees.none)
-      (again (begun (of_host number)) (begun (of_host (old_host old))) [] [] (host_mark number o f g) refl done) at (shape is) refl (λ q was. tt)
+      let x = again (begun (of_host number)) (begun (of_host (old_host old))) [] [] (host_mark number o f g) refl done in
+      begun_one s t st new st' p n fs cs e old linked knows answer (of_host (old_host old)) (part cs [] trees.none) x.given x.olds x.opened x.nexts at (shape is) refl
       (λ values stack. around_stack st st' (around e (of_host (old_host old))) (opened fs) e (of_host (old_host old)) cs (given is) stacks values stack)
     where
       shape : elements.text x ≡ e → shape_of s cs e old ≡ one_list (of_host (old_host old)) (part cs [] trees.none)
@@ -110,8 +144,8 @@ module _ (s : Sight) (t : Trees Fiber) (st : Stack) (new : Trees Fiber) (st' : S
       → HasBegun s t st new st' p n fs cs e old answer
   provider_begun c key x es is done stacks =
       let list : Part = part (slice_set cs c x) (listed es) (children_if old) in
-      begun_one s t st new st' p n fs cs e old linked knows answer plain list (again (begun plain) (begun plain) (listed es) (listed es) refl refl done) at
-      (subst (λ y. shape_of s cs y old ≡ one_list plain list) is refl) refl (of_old s t st new st' p n fs cs e old linked knows list refl)
+      begun_one s t st new st' p n fs cs e old linked knows answer plain list done.given done.olds done.opened done.nexts at
+      (subst (λ y. shape_of s cs y old ≡ one_list plain list) is refl) refl
       (λ values stack.
       subst (λ q. IsStack q ((around e plain, slice_set cs c x) ∷ opened fs)) (sym stacks)
       (subst (λ l. IsStack (contexts.below c x st) ((around e plain, slice_set l c x) ∷ opened fs)) values
@@ -119,7 +153,7 @@ module _ (s : Sight) (t : Trees Fiber) (st : Stack) (new : Trees Fiber) (st' : S
 
   pub boundary_begun : (key : Key) (f : Element) (es : Elements) → elements.boundary key f es ≡ e → Opens stage.trying (listed es) → st' ≡ st → HasBegun s t st new st' p n fs cs e old answer
   boundary_begun key f es is done stacks =
-      begun_trying s t st new st' p n fs cs e old linked knows answer (listed es) (again stage.trying stage.trying (listed es) (listed es) refl refl done) at
+      begun_trying s t st new st' p n fs cs e old linked knows answer (listed es) done.given done.olds done.opened done.nexts at
       (subst (λ y. is_boundary y ≡ true) is refl)
       (subst (λ y. shape_of s cs y old ≡ two_lists (part cs (listed es) (children_if old)) (part cs (fallback_in y ∷ []) (fallback_if old))) is refl)
       (λ values stack.
@@ -127,9 +161,9 @@ module _ (s : Sight) (t : Trees Fiber) (st : Stack) (new : Trees Fiber) (st' : S
       subst (λ q. IsStack q ((x, cs) ∷ opened fs)) (sym stacks)
       (subst (λ l. IsStack st ((x, l) ∷ opened fs)) values (unchanged st x (opened fs) (subst (λ y. given_in y ≡ None) is refl) stack)))
 
-  pub comp_begun : (c : ℕ) (key : Key) (props : List ℤ) (kids : Elements) (contexts_here : Contexts) → elements.comp c key props kids ≡ e → contexts_here ≡ values_at st
+  pub comp_begun : NoNull (children_if old) → (c : ℕ) (key : Key) (props : List ℤ) (kids : Elements) (contexts_here : Contexts) → elements.comp c key props kids ≡ e → contexts_here ≡ values_at st
       → HasShape (shape_of_component s contexts_here c props kids old (component_at s.program c)) contexts_here old t new p answer → st' ≡ st → HasBegun s t st new st' p n fs cs e old answer
-  comp_begun c key props kids here is same has stacks = by_shape (subst (λ l. HasShape (shape_of_component s l c props kids old (component_at s.program c)) l old t new p answer) (same ∙ values_here t st p n fs cs e old at) has)
+  comp_begun no_null c key props kids here is same has stacks = by_shape (subst (λ l. HasShape (shape_of_component s l c props kids old (component_at s.program c)) l old t new p answer) (same ∙ values_here t st p n fs cs e old at) has)
     where
       shape_is : shape_of s cs e old ≡ shape_of_component s cs c props kids old (component_at s.program c)
       shape_is = subst (λ y. shape_of s cs y old ≡ shape_of_component s cs c props kids old (component_at s.program c)) is refl
@@ -138,7 +172,11 @@ module _ (s : Sight) (t : Trees Fiber) (st : Stack) (new : Trees Fiber) (st' : S
       by_shape (waits r shape trees_same answer_is) =
           subst (λ a. HasBegun s t st new st' p n fs cs e old a) (sym answer_is) (begun_waiting s t st new st' p n fs cs e old r at (shape_is ∙ shape) trees_same stacks)
       by_shape (opens o) =
-          plain_begun o.mark (begun o.mark) o.list.elements o.list (shape_is ∙ o.shape_is) (subst (λ y. given_in y ≡ None) is refl) o.contexts o.was o.shown refl refl o.opened stacks
+          plain_begun o.mark (begun o.mark) o.list.elements o.list (shape_is ∙ o.shape_is) (subst (λ y. given_in y ≡ None) is refl) o.contexts o.was o.shown refl refl
+          (from_matched (begun o.mark) o.list.elements o.opened) stacks
+      by_shape (keeps o) =
+          plain_begun o.mark (begun o.mark) (elements_in (children_if old)) (part cs (elements_in (children_if old)) (children_if old)) (shape_is ∙ o.shape_is) (subst (λ y. given_in y ≡ None) is refl) refl refl o.shown refl refl
+          (from_clones (begun o.mark) (elements_in (children_if old)) no_null refl o.opened) stacks
 
   -- a place of no component
   pub other_begun : (number o : Option ℕ) → is_null e ≡ false → parts_in e ≡ None → number ≡ option_and_then host_number (mark_at t.current o) → o ≡ old_of t.draft p
@@ -166,10 +204,10 @@ module _ (s : Sight) (t : Trees Fiber) (st : Stack) (new : Trees Fiber) (st' : S
           (stacks ∙ ap (λ z. begun_stack z st) (sym h))
 
   -- a component's place
-  pub body_begun : (c : ℕ) (props : List ℤ) (es : List Element) (here : Contexts) → parts_in e ≡ Some (c, (props, es)) → here ≡ values_at st
-      → ((kids : Elements) → listed kids ≡ es → HasShape (shape_of_component s here c props kids old (component_at s.program c)) here old t new p answer) → st' ≡ st
+  pub body_begun : NoNull (children_if old) → (c : ℕ) (props : List ℤ) (es : List Element) (here : Contexts) → parts_in e ≡ Some (c, (props, es)) → here ≡ values_at st
+      → ((key : Key) (kids : Elements) → elements.comp c key props kids ≡ e → listed kids ≡ es → HasShape (shape_of_component s here c props kids old (component_at s.program c)) here old t new p answer) → st' ≡ st
       → HasBegun s t st new st' p n fs cs e old answer
-  body_begun c props es here parts same has stacks = by_element e refl
+  body_begun no_null c props es here parts same has stacks = by_element e refl
     where
       none_here : (x : Element) → x ≡ e → parts_in x ≡ None → HasBegun s t st new st' p n fs cs e old answer
       none_here x h none = absurd (let q : parts_in x ≡ Some (c, (props, es)) = ap parts_in h ∙ parts in let r : ⊥ = cc in r)
@@ -183,4 +221,5 @@ module _ (s : Sight) (t : Trees Fiber) (st : Stack) (new : Trees Fiber) (st' : S
       by_element (elements.provider d key x kids) h = none_here (elements.provider d key x kids) h refl
       by_element (elements.comp d key others kids) h =
           let (q0, q1, q2) = same_parts d c others props (listed kids) es (ap parts_in h ∙ parts) in
-          comp_begun c key props kids here (subst (λ i. elements.comp i key props kids ≡ e) q0 (subst (λ ps. elements.comp d key ps kids ≡ e) q1 h)) same (has kids q2) stacks
+          let x : elements.comp c key props kids ≡ e = subst (λ i. elements.comp i key props kids ≡ e) q0 (subst (λ ps. elements.comp d key ps kids ≡ e) q1 h) in
+          comp_begun no_null c key props kids here x same (has key kids x q2) stacks

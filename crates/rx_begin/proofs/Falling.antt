@@ -61,7 +61,7 @@ module _ (t : Trees Fiber) (st : Stack) (p : ℕ) (a : Awaits) (c : Cursor) (l :
   abbrev its_olds : List (Option ℕ)
   its_olds = matched (fallback_list (list_from t.current l.old)) (fallback_in l.value.element ∷ [])
 
-  kids_next : (new : Trees Fiber) (d : Draft Fiber) → new.current ≡ t.current → AreMade 0 (fallback_in l.value.element ∷ []) its_olds d → AreNext new.current 0 (children_with_old its_list) d
+  kids_next : (new : Trees Fiber) (d : Draft Fiber) → new.current ≡ t.current → AreMade t.current 0 (fallback_in l.value.element ∷ []) its_olds d → AreNext new.current 0 (children_with_old its_list) d
   kids_next new d same are =
       subst (λ k. AreNext k 0 (children_with_old its_list) d) (sym same)
       (nexts t.current 0 (fallback_in l.value.element ∷ []) its_olds (old_nodes (fallback_if l.node) (fallback_in l.value.element ∷ [])) d are
@@ -80,7 +80,7 @@ module _ (t : Trees Fiber) (st : Stack) (p : ℕ) (a : Awaits) (c : Cursor) (l :
   pub left_alone : (new : Trees Fiber) (es : List Element) (os : List (Option ℕ)) (link : Option ℕ) → HasList t new p (begun (of_boundary (Hidden a))) es os link
       → es ≡ fallback_in l.value.element ∷ [] → os ≡ its_olds → has_node (children_if l.node) ≡ false → HasOpenedAs new st c (opened_at link p)
   left_alone new es os link done es_are os_are gone =
-      let are : AreMade 0 (fallback_in l.value.element ∷ []) its_olds done.kids = subst (λ x. AreMade 0 x its_olds done.kids) es_are (subst (λ x. AreMade 0 es x done.kids) os_are done.are) in
+      let are : AreMade t.current 0 (fallback_in l.value.element ∷ []) its_olds done.kids = subst (λ x. AreMade t.current 0 x its_olds done.kids) es_are (subst (λ x. AreMade t.current 0 es x done.kids) os_are done.are) in
       let next = kids_next new done.kids done.current are in
       subst (λ x. HasOpenedAs new st c (opened_at x p)) (sym done.first_is)
       (opens_so new (opened_at (entry done.kids) p)
@@ -93,7 +93,7 @@ module _ (t : Trees Fiber) (st : Stack) (p : ℕ) (a : Awaits) (c : Cursor) (l :
   pub left_beside : (u w new : Trees Fiber) (r : Option ℕ) (q : ℕ) (es : List Element) (os : List (Option ℕ)) (link : Option ℕ) → HasKept t u p a → u.current ≡ t.current → (put : HasFallback u w p r a q)
       → (done : HasMadeFrom 0 w new q es os) → es ≡ fallback_in l.value.element ∷ [] → os ≡ its_olds → link ≡ entry done.kids → has_node (children_if l.node) ≡ true → HasOpenedAs new st c (opened_at link q)
   left_beside u w new r q es os link kept same put done es_are os_are link_is some =
-      let are : AreMade 0 (fallback_in l.value.element ∷ []) its_olds done.kids = subst (λ x. AreMade 0 x its_olds done.kids) es_are (subst (λ x. AreMade 0 es x done.kids) os_are done.are) in
+      let are : AreMade t.current 0 (fallback_in l.value.element ∷ []) its_olds done.kids = subst (λ x. AreMade t.current 0 x its_olds done.kids) es_are (subst (λ x. AreMade t.current 0 es x done.kids) os_are (subst (λ k. AreMade k 0 es os done.kids) (put.current ∙ same) done.are)) in
       let current : new.current ≡ t.current = done.current ∙ (put.current ∙ same) in
       let next = kids_next new done.kids current are in
       let v : Fiber = record l.value { stage = begun (of_boundary (Hidden a)) } in

@@ -1,11 +1,13 @@
 pub mod Lists
 pub mod Making
 pub mod Matched
+pub mod Cloning
 pub mod Nodes
 pub mod Marks
 pub mod Starts
 pub mod ByElement
 pub mod Bodies
+pub mod Keeping
 pub mod Begins
 pub mod Beside
 pub mod Falling

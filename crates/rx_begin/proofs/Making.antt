@@ -1,19 +1,19 @@
 -- The fibers of a list are made one by one, from the last to the first.
-use Rattle.std.specs.Prelude.{◌≡◌, ℕ, zero, suc, ◌<◌, ◌≤◌, not, List, [], ◌∷◌, length, drop, slice_get, Option, Some, None, IfSome}
+use Rattle.std.specs.Prelude.{◌≡◌, ℕ, zero, suc, ◌<◌, ◌≤◌, Bool, true, not, List, [], ◌∷◌, length, drop, slice_get, Option, Some, None, IfSome}
 use Rattle.std.proofs.Common.{refl, sym, ap, ◌∙◌, subst, arith, get_or}
 use Rattle.std.proofs.lemmas.List.{drop_all, get_or_default}
 use Rattle.std.proofs.lemmas.Option.{slice_get-get_or}
 use Rattle.std.proofs.Math.Seq.{drop-cons}
 use Rattle.rx_elem.specs.Elements.{Element, is_present}
 use Rattle.rx_elem.specs.Elements as elements
-use Rattle.rx_lists.specs.Shapes.{IsTop}
+use Rattle.rx_lists.specs.Shapes.{Shape, IsTop}
 use Rattle.rx_lists.specs.Shapes as shapes
 use Rattle.rx_links.specs.Drafts.{Draft, taken, made, Trees, IsMadeList, IsTopUnused, IsOpen, IsUnused, old_kids, kids_under}
 use Rattle.rx_links.specs.Places.{Around, placed, IsAt}
 use Rattle.rx_meaning.specs.Cursor.{is_null}
 use Rattle.rx_fiber.specs.Fibers.{Fiber, waiting}
-use Rattle.rx_fiber.specs.Surround.{IsWaiting}
-use Rattle.rx_begin.specs.Children.{AreMade, no_more, gap, next, HasRoomFor, HasAdded, one, HasMadeFrom}
+use Rattle.rx_fiber.specs.Surround.{IsElementOf, IsWaiting}
+use Rattle.rx_begin.specs.Children.{AreMade, no_more, gap, next, IsClone, AreClones, HasRoomFor, HasAdded, one, HasMadeFrom}
 use Rattle.rx_begin.specs.Children as children
 
 -- what each made fiber is to the two trees
@@ -96,7 +96,7 @@ module _ (before t : Trees Fiber) (p n : ℕ) (es : List Element) (os : List (Op
   }
   one_more after within (one id v there waits same) = record {
     kids = made id v (get_or os n None) (taken shapes.none) made_so.kids;
-    are = rw (drop-cons es n elements.null within, drop-cons os n None inside) (next there waits made_so.are);
+    are = rw (drop-cons es n elements.null within, drop-cons os n None inside) (next there (subst (λ c. IsWaiting c (get_or os n None) v n (get_or es n elements.null)) made_so.current waits) made_so.are);
     stands = λ k w o rs e.
         ap (λ x. x.draft) same
         ∙ (knows k p w o made_so.kids rs (made_so.stands k w o rs e)).kids (λ ks. made id v (get_or os n None) (taken shapes.none) ks);
@@ -134,6 +134,11 @@ module _ (before t : Trees Fiber) (p m n : ℕ) (es : List Element) (os : List (
 
   pub place_unused : (o : Option ℕ) → o ≡ get_or os n o → IfSome o (IsUnused t.draft)
   place_unused o e = subst (λ x. IfSome x (IsUnused t.draft)) (sym (old_here o e)) (old_unused before t p n es os room from_next knows inside)
+
+  pub place_clone : n < length es → (e : Element) → e ≡ get_or es n e → (o : Option ℕ) → o ≡ get_or os n o → AreClones before.current es os → IsClone t.current e o
+  place_clone within e f o g clones =
+      subst (λ c. IsClone c e o) (sym from_next.current)
+      (subst (λ x. IsClone before.current x o) (sym (f ∙ get_or_default es n e elements.null within)) (subst (λ x. IsClone before.current (get_or es n elements.null) x) (sym (old_here o g)) (clones n)))
 
   pub place_more : n < length es → (e : Element) → e ≡ get_or es n e → (o : Option ℕ) → o ≡ get_or os n o → (after : Trees Fiber) → HasAdded t after p n e o
       → HasMadeFrom n before after p es os

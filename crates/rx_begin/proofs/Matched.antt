@@ -70,7 +70,7 @@ matched_apart s es tree i k j h l =
     let same : q ≡ p = fiber_once s q p j tree here there in
     places_apart (old_elements s) es i k p at (too ∙ ap (λ x. Some (Some x)) same)
 
-list_tree : (c : Shape Fiber) → IsLinked c → (o : Option ℕ) → IfSome o (Holds c) → IsTree (list_from c o)
+pub list_tree : (c : Shape Fiber) → IsLinked c → (o : Option ℕ) → IfSome o (Holds c) → IsTree (list_from c o)
 list_tree c linked None h = tt
 list_tree c linked (Some i) h = linked.once i h
 

@@ -37,7 +37,7 @@ use Rattle.rx_begin.specs.declared.node.Begun.TheVariants.{Child, Leaf, Suspende
 use Rattle.rx_begin.proofs.Making.{KnowsPlaces}
 
 -- the children that are made are those that begin next
-pub nexts : (c : Shape Fiber) (n : ℕ) (es : List Element) (os : List (Option ℕ)) (xs : List (Option Node)) (d : Draft Fiber) → AreMade n es os d → AreOld c os xs → AreNext c n (zip es xs) d
+pub nexts : (c : Shape Fiber) (n : ℕ) (es : List Element) (os : List (Option ℕ)) (xs : List (Option Node)) (d : Draft Fiber) → AreMade c n es os d → AreOld c os xs → AreNext c n (zip es xs) d
 nexts c n [] [] [] _ no_more olds = surround.no_more
 nexts c n [] [] (x ∷ xs) _ no_more olds = absurd olds
 nexts c n [] (o ∷ os) xs d are olds = elim are [ ]
@@ -82,33 +82,15 @@ module _ (s : Sight) (t : Trees Fiber) (st : Stack) (new : Trees Fiber) (st' : S
 
   module _ (linked : IsLinked t.current) (knows : KnowsPlaces t) where
     -- the old fibers of its children are those of their old nodes
-    olds_of : (o : Option ℕ) (es : List Element) → IsOld t.current o old → AreOld t.current (matched (primary_list (list_from t.current o)) es) (old_nodes (children_if old) es)
+    pub olds_of : (o : Option ℕ) (es : List Element) → IsOld t.current o old → AreOld t.current (matched (primary_list (list_from t.current o)) es) (old_nodes (children_if old) es)
     olds_of o es was = matched_old t.current linked (children_if old) (primary_list (list_from t.current o)) (primary_is t.current linked o old was) es
 
-    abbrev OldsOf : Part → Type 0
-    OldsOf list =
-        (o : Option ℕ) → IsOld t.current o old → AreOld t.current (matched (primary_list (list_from t.current o)) list.elements) (old_nodes list.old list.elements)
-
-    pub of_old : (list : Part) → list.old ≡ children_if old → OldsOf list
-    of_old list same o was = subst (λ l. AreOld t.current (matched (primary_list (list_from t.current o)) list.elements) (old_nodes l list.elements)) (sym same) (olds_of o list.elements was)
-
-    old_is : (k : Around Fiber) (v : Fiber) (o : Option ℕ) (rs : Draft Fiber) → t.draft ≡ placed k (made p v o (taken shapes.none) rs) → old_of t.draft p ≡ o
-    old_is k v o rs here = (knows k p v o (taken shapes.none) rs here).old
-
-    kids_next : (list : Part) (os : List (Option ℕ)) (d : Draft Fiber) → new.current ≡ t.current → AreMade 0 list.elements os d
-        → AreOld t.current os (old_nodes list.old list.elements) → AreNext new.current 0 (children_with_old list) d
-    kids_next list os d same are olds =
-        subst (λ c. AreNext c 0 (children_with_old list) d) (sym same) (nexts t.current 0 list.elements os (old_nodes list.old list.elements) d are olds)
-
     -- a node with one list
-    pub begun_one : (answer : Begun) (m : Mark) (list : Part)
-        → HasOpened t new p (begun m) list.elements (matched (primary_list (list_from t.current (old_of t.draft p))) list.elements) answer
-        → StandsAt t st (Some p) (at_place (suc n) fs cs e old) → shape_of s cs e old ≡ one_list m list → is_hidden m ≡ false → OldsOf list
+    pub begun_one : (answer : Begun) (m : Mark) (list : Part) (es : List Element) (os : List (Option ℕ)) → (done : HasOpened t new p (begun m) es os answer) → AreNext t.current 0 (children_with_old list) done.kids
+        → StandsAt t st (Some p) (at_place (suc n) fs cs e old) → shape_of s cs e old ≡ one_list m list → is_hidden m ≡ false
         → (values_at st ≡ cs → IsStack st (opened fs) → IsStack st' ((around e m, list.contexts) ∷ opened fs)) → HasBegun s t st new st' p n fs cs e old answer
-    begun_one answer m list done (begins {v = v} {o = o} {rs = rs} {k = k} here is was surrounds values stack) shape shown olds stacks =
-        let old_same = old_is k v o rs here in
-        let kids = kids_next list (matched (primary_list (list_from t.current (old_of t.draft p))) list.elements) done.kids done.current done.are
-        (subst (λ q. AreOld t.current (matched (primary_list (list_from t.current q)) list.elements) (old_nodes list.old list.elements)) (sym old_same) (olds o was)) in
+    begun_one answer m list es os done beside (begins {v = v} {o = o} {rs = rs} {k = k} here is was surrounds values stack) shape shown stacks =
+        let kids = subst (λ c. AreNext c 0 (children_with_old list) done.kids) (sym done.current) beside in
         let surrounds' : IsAround new.current k v.place rs fs =
         subst (λ c. IsAround c k v.place rs fs) (sym done.current) (subst (λ place. IsAround t.current k place rs fs) (sym is.at) surrounds) in
         comes_to answer (around e m) list done.kids done.answer_is (ap (cursor.begin n fs e old) shape)
@@ -116,17 +98,14 @@ module _ (s : Sight) (t : Trees Fiber) (st : Stack) (new : Trees Fiber) (st' : S
         kids
 
     -- a boundary
-    pub begun_trying : (answer : Begun) (es : List Element)
-        → HasOpened t new p stage.trying es (matched (primary_list (list_from t.current (old_of t.draft p))) es) answer
-        → StandsAt t st (Some p) (at_place (suc n) fs cs e old) → is_boundary e ≡ true
+    pub begun_trying : (answer : Begun) (es given : List Element) (os : List (Option ℕ)) → (done : HasOpened t new p stage.trying given os answer)
+        → AreNext t.current 0 (children_with_old (part cs es (children_if old))) done.kids → StandsAt t st (Some p) (at_place (suc n) fs cs e old) → is_boundary e ≡ true
         → shape_of s cs e old ≡ two_lists (part cs es (children_if old)) (part cs (fallback_in e ∷ []) (fallback_if old))
         → (values_at st ≡ cs → IsStack st (opened fs) → IsStack st' ((trying e old (part cs (fallback_in e ∷ []) (fallback_if old)), cs) ∷ opened fs))
         → HasBegun s t st new st' p n fs cs e old answer
-    begun_trying answer es done (begins {v = v} {o = o} {rs = rs} {k = k} here is was surrounds values stack) boundary shape stacks =
+    begun_trying answer es given os done beside (begins {v = v} {o = o} {rs = rs} {k = k} here is was surrounds values stack) boundary shape stacks =
         let list : Part = part cs es (children_if old) in
-        let old_same = old_is k v o rs here in
-        let kids = kids_next list (matched (primary_list (list_from t.current (old_of t.draft p))) es) done.kids done.current done.are
-        (subst (λ q. AreOld t.current (matched (primary_list (list_from t.current q)) es) (old_nodes (children_if old) es)) (sym old_same) (olds_of o es was)) in
+        let kids = subst (λ c. AreNext c 0 (children_with_old list) done.kids) (sym done.current) beside in
         let surrounds' : IsAround new.current k v.place rs fs =
         subst (λ c. IsAround c k v.place rs fs) (sym done.current) (subst (λ place. IsAround t.current k place rs fs) (sym is.at) surrounds) in
         let was' : IsOld new.current o old = subst (λ c. IsOld c o old) (sym done.current) was in

@@ -224,7 +224,8 @@ fn is_calm(
     contexts: &[Int],
 ) -> bool
     requires { IfSome (number_in (option_map instance_seen instance.now)) (λ n. IsSome (kept_hooks hooks.now n)) }
-    ensures { result ≡ true → (s : Sight) → IsSceneOf scene.now s → GivesHooks s (kept_hooks hooks.now) (option_map instance_seen instance.now)
+    ensures there { result ≡ true → IsSome instance.now }
+    ensures calm { result ≡ true → (s : Sight) → IsSceneOf scene.now s → GivesHooks s (kept_hooks hooks.now) (option_map instance_seen instance.now)
         → (i : trees.Instance) × (option_map instance_seen instance.now ≡ Some i) × IsCalmAt s contexts.now i }
 {
     match instance {

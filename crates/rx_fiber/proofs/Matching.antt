@@ -40,11 +40,11 @@ elements_are n (trees.child x ns) s (next {rest = rest} is a) =
           ∙ ap (λ l. l ++ filled m elements.null) (sym g)),
     )
 
-at_first : (c s : Shape Fiber) (id : ℕ) → IsListIn c s → first s ≡ Some id → list_at c id ≡ Some s
+pub at_first : (c s : Shape Fiber) (id : ℕ) → IsListIn c s → first s ≡ Some id → list_at c id ≡ Some s
 at_first c none id l f = cc
 at_first c (fiber jd v ks rs) id l f = let q : jd ≡ id = cc in subst (λ i. list_at c i ≡ Some (fiber jd v ks rs)) q (list_is c jd v ks rs l)
 
-rest_in : (c : Shape Fiber) → IsLinked c → (n : ℕ) (x : Node) (s rest : Shape Fiber) → IsFor n x s rest → IsListIn c s → IsListIn c rest
+pub rest_in : (c : Shape Fiber) → IsLinked c → (n : ℕ) (x : Node) (s rest : Shape Fiber) → IsFor n x s rest → IsListIn c s → IsListIn c rest
 rest_in c linked n _ _ rest (whole {id = id} {v = v} {ks = ks} is shown a) l = rest_listed c id v ks rest linked l
 rest_in c linked n _ _ rest (alone {id = id} {v = v} {ks = ks} is hidden gone a) l = rest_listed c id v ks rest linked l
 rest_in c linked n _ _ rest (beside {id = id} {jd = jd} {v = v} {w = w} {ks = ks} {ws = ws} is hidden some a s b) l =
@@ -97,7 +97,7 @@ module _ {A B : Type 0} (g : A) (h : B) (f : ℕ → Fiber → A) (k : ℕ → F
   length_choice true ls bs xs ys d e = d
   length_choice false ls bs xs ys d e = e
 
-  spread_length : (n : ℕ) (s : Shape Fiber) → length (spread g f n s) ≡ length (spread h k n s)
+  pub spread_length : (n : ℕ) (s : Shape Fiber) → length (spread g f n s) ≡ length (spread h k n s)
   spread_length n none = refl
   spread_length n (fiber id v ks rs) =
       length_choice (is_fallback v.stage) (spread g f n rs) _ (spread h k n rs) _ (spread_length n rs)

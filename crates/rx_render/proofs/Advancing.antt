@@ -5,17 +5,13 @@ use Rattle.std.proofs.Common.{sym, ap, ◌∙◌, subst, arith, add-one}
 use Rattle.rx_base.specs.Awaits.{Awaits, one, nothing, awaits_where}
 use Rattle.rx_ctx.specs.Contexts.{Stack}
 use Rattle.rx_elem.specs.Elements.{Element}
-use Rattle.rx_elem.specs.ElementView.{element_seen}
-use Rattle.rx_elem.specs.declared.element.ElementKind.{ElementKind}
-use Rattle.rx_elem.specs.declared.element.ElementKind.TheVariants as kind
 use Rattle.rx_elem.specs.Trees.{Node, Instance}
 use Rattle.rx_hooks.specs.declared.hook.Hook.{Hook}
 use Rattle.rx_lists.specs.Shapes as shapes
-use Rattle.rx_links.specs.Drafts.{Draft, Trees, taken}
-use Rattle.rx_links.specs.Readers.{made_value_of}
+use Rattle.rx_links.specs.Drafts.{Trees, taken}
 use Rattle.rx_meaning.specs.Fresh.{Sight, Contexts, old_instance}
 use Rattle.rx_meaning.specs.Cursor.{Open, Frame, Cursor, at_place, at_end, ended, unit, unwind, HasLevel}
-use Rattle.rx_meaning.specs.Counts.{each_body, next_counts, one_if_component}
+use Rattle.rx_meaning.specs.Counts.{each_body, next_counts}
 use Rattle.rx_fiber.specs.Fibers.{Fiber}
 use Rattle.rx_fiber.specs.Standing.{StandsAt}
 use Rattle.rx_fiber.specs.Unwound.{IsWithin, IsLeftAt}
@@ -31,7 +27,7 @@ use Rattle.rx_begin.specs.declared.opening.Opened.TheVariants.{First, Empty}
 use Rattle.rx_render.specs.declared.at.At.{At}
 use Rattle.rx_render.specs.declared.at.At.TheVariants.{Begins, Completes}
 use Rattle.rx_render.specs.Rendering.{ComesTo, to_place, to_end, to_tree}
-use Rattle.rx_render.specs.Advancing.{bodies_next, at_after, at_opened, CanBegin, Advances}
+use Rattle.rx_render.specs.Advancing.{at_after, at_opened, CanBegin, Advances}
 
 -- A wait for a number that is no resource's
 
@@ -82,18 +78,18 @@ module _ (s : Sight) (kept : ℕ → Option (List Hook)) (t : Trees Fiber) (st :
   pub child_advances : (child : ℕ) → BeginsPlace s kept t st new st' id (Child child) → Advances s kept t st (Begins id) new st' (Begins child)
   child_advances child begins _ (to_place {levels = zero} h) level gives = absurd (omega (arith, level))
   child_advances child begins _ (to_place {levels = suc n} {fs = fs} {cs = cs} {e = e} {old = old} h) level gives =
-      let b = begins n fs cs e old h gives in place_comes new st' child _ b.0 b.1
+      let b = begins n fs cs e old h gives.0 gives.1 in place_comes new st' child _ b.0 b.1
 
   pub leaf_advances : BeginsPlace s kept t st new st' id Leaf → Advances s kept t st (Begins id) new st' (Completes id)
   leaf_advances begins _ (to_place {levels = zero} h) level gives = absurd (omega (arith, level))
   leaf_advances begins _ (to_place {levels = suc n} {fs = fs} {cs = cs} {e = e} {old = old} h) level gives =
-      let b = begins n fs cs e old h gives in end_comes new st' id _ b.0 b.1
+      let b = begins n fs cs e old h gives.0 gives.1 in end_comes new st' id _ b.0 b.1
 
   pub waits_advances : (r : ℕ) (last : Trees Fiber) (st'' : Stack) (a : At) → BeginsPlace s kept t st new st' id (Suspended r)
       → ((levels : ℕ) (fs : List Frame) → IsWithin new st' id fs → ComesTo last st'' a (unwind levels fs (one r))) → Advances s kept t st (Begins id) last st'' a
   waits_advances r last st'' a begins comes _ (to_place {levels = zero} h) level gives = absurd (omega (arith, level))
   waits_advances r last st'' a begins comes _ (to_place {levels = suc n} {fs = fs} {cs = cs} {e = e} {old = old} h) level gives =
-      let b = begins n fs cs e old h gives in subst (ComesTo last st'' a) (sym b.1) (comes (suc n) fs b.4)
+      let b = begins n fs cs e old h gives.0 gives.1 in subst (ComesTo last st'' a) (sym b.1) (comes (suc n) fs b.4)
 
 -- hooks that give values are kept
 keeps_given : (s : Sight) (kept : ℕ → Option (List Hook)) (old : Option Instance) → GivesHooks s kept old → KeepsHooks kept old
@@ -108,41 +104,20 @@ can_begin scene kept t st id can = stands can.stands can.there can.drawn (keeps_
 pub waits_below : (scene : Scene) (kept : ℕ → Option (List Hook)) (t : Trees Fiber) (st : Stack) (new : Trees Fiber) (st' : Stack) (id r : ℕ) → CanBegin scene kept t st id
     → ((s : Sight) → IsSceneOf scene s → BeginsPlace s kept t st new st' id (Suspended r)) → IsOpenBelow new st' id
 waits_below scene kept t st new st' id r can begins =
-    let b = begins can.sight can.sees can.levels can.frames can.contexts_are can.element can.old can.stands can.gives in lies b.4
+    let b = begins can.sight can.sees can.levels can.frames can.contexts_are can.element can.old can.stands can.gives can.settled in lies b.4
 
--- the bodies of a unit that begins a place
-pub begins_ticks : (s : Sight) (t : Trees Fiber) (st : Stack) (id before after : ℕ)
-    → ((n : ℕ) (fs : List Frame) (cs : Contexts) (e : Element) (old : Option Node) → StandsAt t st (Some id) (at_place (suc n) fs cs e old) → after ≡ before + next_counts each_body s (at_place (suc n) fs cs e old))
-    → (c : Cursor) → ComesTo t st (Begins id) c → HasLevel c → after ≡ before + next_counts each_body s c
-begins_ticks s t st id before after f _ (to_place {levels = zero} h) level = absurd (omega (arith, level))
-begins_ticks s t st id before after f _ (to_place {levels = suc n} {fs = fs} {cs = cs} {e = e} {old = old} h) level = f n fs cs e old h
+-- the bodies of a unit that begins a place are few
+pub begins_few : (s : Sight) (t : Trees Fiber) (st : Stack) (id count : ℕ)
+    → ((n : ℕ) (fs : List Frame) (cs : Contexts) (e : Element) (old : Option Node) → StandsAt t st (Some id) (at_place (suc n) fs cs e old) → count ≤ next_counts each_body s (at_place (suc n) fs cs e old))
+    → (c : Cursor) → ComesTo t st (Begins id) c → HasLevel c → count ≤ next_counts each_body s c
+begins_few s t st id count f _ (to_place {levels = zero} h) level = absurd (omega (arith, level))
+begins_few s t st id count f _ (to_place {levels = suc n} {fs = fs} {cs = cs} {e = e} {old = old} h) level = f n fs cs e old h
 
 -- a node is completed
 pub end_advances : (s : Sight) (kept : ℕ → Option (List Hook)) (t : Trees Fiber) (st : Stack) (new : Trees Fiber) (st' : Stack) (id : ℕ) (a : At)
     → ((levels : ℕ) (fs : List Frame) (o : Open) (done : List (Option Node)) → StandsAt t st (Some id) (at_end levels fs o done) → ComesTo new st' a (unit s (at_end levels fs o done)))
     → Advances s kept t st (Completes id) new st' a
 end_advances s kept t st new st' id a f _ (to_end {levels = levels} {fs = fs} {o = o} {done = done} h) level gives = f levels fs o done h
-
-pub end_ticks : (s : Sight) (t : Trees Fiber) (st : Stack) (id steps : ℕ) (c : Cursor) → ComesTo t st (Completes id) c → steps ≡ steps + next_counts each_body s c
-end_ticks s t st id steps _ (to_end h) = omega arith
-
--- How many bodies, by what is in an element
-
--- an element of no component has no body
-pub no_component : (k : ElementKind) → ((a : ℕ) (b : Option ℤ) (xs : List ℤ) (es : _) → k ≡ kind.Comp a b xs es → ⊥) → 0 ≡ one_if_component (element_seen k)
-no_component kind.Null n = refl
-no_component (kind.Text t) n = refl
-no_component (kind.Host t k attrs es) n = refl
-no_component (kind.Comp a b xs es) n = absurd (n a b xs es refl)
-no_component (kind.List es) n = refl
-no_component (kind.Boundary k f es) n = refl
-no_component (kind.Provider a k x es) n = refl
-
-pub counts_is : (d : Draft Fiber) (at : At) (id : ℕ) (v : Fiber) (k : ElementKind) (n : ℕ) → at ≡ Begins id → Some v ≡ made_value_of d id → element_seen k ≡ v.element
-    → n ≡ one_if_component (element_seen k) → n ≡ bodies_next d at
-counts_is d at id v k n is value element count =
-    let b : bodies_next d (Begins id) ≡ one_if_component v.element = rw (← value) refl in
-    count ∙ (ap one_if_component element ∙ (sym b ∙ ap (bodies_next d) (sym is)))
 
 -- Results
 

@@ -20,7 +20,7 @@ use Rattle.rx_meaning.specs.Fresh.{Sight, Contexts, inputs_at, old_instance, sha
 use Rattle.rx_meaning.specs.Cursor.{Open, Frame, Cursor, at_place, at_end, ended, is_null, unit, HasLevel}
 use Rattle.rx_meaning.specs.Cursor as cursors
 use Rattle.rx_meaning.specs.Counts.{each_body, next_counts, begins_as, one_if_component}
-use Rattle.rx_meaning.specs.Settled.{DoneBefore}
+use Rattle.rx_meaning.specs.Settled.{DoneBefore, IfSettled, known_by}
 use Rattle.rx_model.specs.State.{State, Progress}
 use Rattle.rx_model.specs.Committing.{sight_of}
 use Rattle.rx_model.specs.HooksOf.{KeepsAllHooks}
@@ -44,15 +44,15 @@ use Rattle.rx_begin.specs.Scenes.{IsSceneOf, GivesHooks}
 use Rattle.rx_begin.specs.declared.scene.Scene.{Scene}
 use Rattle.rx_render.specs.declared.at.At.{At}
 use Rattle.rx_render.specs.declared.at.At.TheVariants.{Begins, Completes, Over}
-use Rattle.rx_render.specs.Mounting.{HasInstances}
+use Rattle.rx_render.specs.Mounting.{HasInstances, SettlesWith}
 use Rattle.rx_render.specs.ContextLists.{CursorHasContexts}
 use Rattle.rx_render.specs.Rendering.{Rendering, IfLeft, units_left, left_of, ComesTo, to_place, to_end, to_tree, to_wait}
 use Rattle.rx_render.specs.Renders.{Sees, GivesAll, HasCome, Renders, IsUnderWay, IsRendering}
 use Rattle.rx_render.specs.Turning.{GoesOn, BreaksOff, GivesUp}
 use Rattle.rx_render.specs.LastUnit.{unit_before, is_over}
-use Rattle.rx_render.specs.Advancing.{IsMadeAt, bodies_next, IsReadyAt, GivesAt, Advances}
+use Rattle.rx_render.specs.Advancing.{IsReadyAt, GivesAt, Advances}
 use Rattle.rx_render.proofs.Contexts.{unit_sees}
-use Rattle.rx_render.proofs.Instances.{unit_instances}
+use Rattle.rx_render.proofs.Instances.{unit_instances, unit_rests}
 use Rattle.rx_render.proofs.Ending.{come_bounded}
 
 -- what a cursor is drawn by after a unit
@@ -76,48 +76,6 @@ left_busy t st _ _ bound units (to_end h) l = refl
 left_busy t st _ _ bound units (to_tree h) l = absurd (omega (arith, l))
 left_busy t st _ _ bound units to_wait l = absurd (omega (arith, l))
 
--- The bodies of a unit
-
-body_counts : (cs : Contexts) (e : Element) (c : ℕ) (old : Option Node) (b : Body) → begins_as each_body cs e old (shape_of_body cs c old b) ≡ one_if_component e
-body_counts cs e c old (wait r) = refl
-body_counts cs e c old (ready es effects initials reads) = refl
-
-place_counts : (s : Sight) (cs : Contexts) (e : Element) (old : Option Node) → IsDrawn s.program e → begins_as each_body cs e old (shape_of s cs e old) ≡ one_if_component e
-place_counts s cs elements.null old d = refl
-place_counts s cs (elements.text t) old d = refl
-place_counts s cs (elements.host name key attrs es) old d = refl
-place_counts s cs (elements.comp c key props given) old d = go (component_at s.program c) refl d.0
-  where
-    go : (x : Option Component) → component_at s.program c ≡ x → option_map (λ y. length (prop_names y)) x ≡ Some (length props)
-        → begins_as each_body cs (elements.comp c key props given) old (shape_of s cs (elements.comp c key props given) old) ≡ 1
-    go None e h = absurd (let f : ⊥ = cc in f)
-    go (Some y) e h = rw e (body_counts cs (elements.comp c key props given) c old (body_of s.program y (inputs_at s cs props given (old_instance old))))
-place_counts s cs (elements.list es) old d = refl
-place_counts s cs (elements.boundary key f es) old d = refl
-place_counts s cs (elements.provider c key x es) old d = refl
-
--- the value of the fiber whose place begins
-begins_value : (t : Trees Fiber) (st : Stack) (id levels : ℕ) (fs : List Frame) (cs : Contexts) (e : Element) (old : Option Node) → KnowsPlaces t
-    → StandsAt t st (Some id) (at_place levels fs cs e old) → (v : Fiber) × (made_value_of t.draft id ≡ Some v) × (v.element ≡ e) × Makes t.draft id
-begins_value t st id levels fs cs e old knows (begins {v = v} {o = o} {rs = rs} {k = k} here waits was around values stack) =
-    let at = knows k id v o _ rs here in (v, (let l = at.list in rw l refl), waits.element, at.makes)
-
-pub made_at : (t : Trees Fiber) (st : Stack) (at : At) (c : Cursor) → KnowsPlaces t → ComesTo t st at c → IsMadeAt t.draft at
-made_at t st _ _ knows (to_place {id = id} {levels = n} {fs = fs} {cs = cs} {e = e} {old = old} h) = (begins_value t st id n fs cs e old knows h).3
-made_at t st _ _ knows (to_end h) = tt
-made_at t st _ _ knows (to_tree h) = tt
-made_at t st _ _ knows to_wait = tt
-
-counts_next : (s : Sight) (t : Trees Fiber) (st : Stack) (at : At) (c : Cursor) → KnowsPlaces t → DrawsPlace → CursorDrawn s.program c → HasLevel c → ComesTo t st at c
-    → bodies_next t.draft at ≡ next_counts each_body s c
-counts_next s t st _ _ knows draws drawn level (to_place {levels = zero} h) = absurd (omega (arith, level))
-counts_next s t st _ _ knows draws drawn level (to_place {id = id} {levels = suc n} {fs = fs} {cs = cs} {e = e} {old = old} h) =
-    let (v, value, element, makes) = begins_value t st id (suc n) fs cs e old knows h in
-    rw value (ap one_if_component element ∙ sym (place_counts s cs e old (draws s.program (suc n) fs cs e old drawn)))
-counts_next s t st _ _ knows draws drawn level (to_end h) = refl
-counts_next s t st _ _ knows draws drawn level (to_tree h) = refl
-counts_next s t st _ _ knows draws drawn level to_wait = refl
-
 -- The hooks of old instances
 
 gives_node : (s : Sight) (tree : Option Node) (kept : ℕ → Option (List Hook)) → GivesAll s tree kept → (x : Node) → HasInstances tree x → GivesHooks s kept (instance_in (mark_of x))
@@ -125,11 +83,12 @@ gives_node s tree kept gives (node e m ns fs) h i n is number =
     let w = h.0 i n is number in
     subst (λ k. GivesValues s kept k i.initials) w.is_numbered (subst (λ xs. GivesValues s kept w.instance.number xs) w.is_initially (gives w.place w.instance w.there))
 
-gives_at : (s : Sight) (tree : Option Node) (kept : ℕ → Option (List Hook)) → GivesAll s tree kept → (c : Cursor) → CursorHas (HasInstances tree) c → GivesAt s kept c
-gives_at s tree kept gives (at_place n fs cs e None) h = λ i m is number. absurd (let f : ⊥ = cc in f)
-gives_at s tree kept gives (at_place n fs cs e (Some x)) h = gives_node s tree kept gives x h.0
-gives_at s tree kept gives (at_end n fs o d) h = tt
-gives_at s tree kept gives (ended x) h = tt
+gives_at : (s : Sight) (tree : Option Node) (kept : ℕ → Option (List Hook)) → GivesAll s tree kept → IfSettled s.program (known_by s) tree → (c : Cursor) → CursorHas (HasInstances tree) c
+    → CursorHas (SettlesWith tree) c → GivesAt s kept c
+gives_at s tree kept gives settled (at_place n fs cs e None) h r = ((λ i m is number. absurd (let f : ⊥ = cc in f)), tt)
+gives_at s tree kept gives settled (at_place n fs cs e (Some x)) h r = (gives_node s tree kept gives x h.0, r.0 s.program (known_by s) settled)
+gives_at s tree kept gives settled (at_end n fs o d) h r = tt
+gives_at s tree kept gives settled (ended x) h r = tt
 
 -- A unit
 
@@ -142,7 +101,7 @@ renders_give p st g v r k m at = keeps-give p st g (kept_hooks v.hooks) m.number
 -- where a render is in progress one is under way
 pub renders_under_way : (st : State) (g : Progress) (v : Rendering) → Renders v.program st g v → IsUnderWay v
 renders_under_way st g v r =
-    record { sight = sight_of v.program st g; tree = st.tree; sees = renders_sees v.program st g v r; gives = renders_give v.program st g v r; come = r.come }
+    record { sight = sight_of v.program st g; tree = st.tree; sees = renders_sees v.program st g v r; gives = renders_give v.program st g v r; settled = r.settled; come = r.come }
 
 -- what a unit makes of a rendering
 pub record Stepped (old new : Rendering) (evaluated : ℕ) : Type 0 where
@@ -153,26 +112,25 @@ pub record Stepped (old new : Rendering) (evaluated : ℕ) : Type 0 where
   pub resources : new.resources ≡ old.resources
   pub units : new.units ≡ suc old.units
   pub bodies : new.bodies ≡ old.bodies + evaluated
-  pub evaluates : evaluated ≡ bodies_next old.trees.draft old.at
-  pub knows : KnowsPlaces old.trees
+  pub few : (s : Sight) (c : Cursor) → Sees old s → ComesTo old.trees old.contexts old.at c → HasLevel c → evaluated ≤ next_counts each_body s c
   pub keeps : (st : State) → DoneBefore old.cut st.journal.updates → KeepsAllHooks old.program st (kept_hooks old.hooks) → KeepsAllHooks old.program st (kept_hooks new.hooks)
   pub still : (s : Sight) (k : ℕ) (initials : List ℤ) → Sees old s → GivesValues s (kept_hooks old.hooks) k initials → GivesValues s (kept_hooks new.hooks) k initials
   pub advances : (s : Sight) → Sees old s → Advances s (kept_hooks old.hooks) old.trees old.contexts old.at new.trees new.contexts new.at
 
-module _ (old new : Rendering) (evaluated : ℕ) (step : Stepped old new evaluated) (draws : DrawsUnit) (places : DrawsPlace) (known : unknowns old.program ≡ []) (left : 0 < left_of old) where
-  step_comes : (s : Sight) (tree : Option Node) → Sees old s → GivesAll s tree (kept_hooks old.hooks) → HasCome s tree old → HasCome s tree new
-  step_comes s tree sees gives come =
+module _ (old new : Rendering) (evaluated : ℕ) (step : Stepped old new evaluated) (draws : DrawsUnit) (known : unknowns old.program ≡ []) (left : 0 < left_of old) where
+  step_comes : (s : Sight) (tree : Option Node) → Sees old s → GivesAll s tree (kept_hooks old.hooks) → IfSettled s.program (known_by s) tree → HasCome s tree old → HasCome s tree new
+  step_comes s tree sees gives settled come =
       let c = come.cursor in
       let busy : cursors.is_over c ≡ false = left_busy old.trees old.contexts old.at c (unit_bound old.program) old.units come.comes left in
       let level : HasLevel c = fit_has_level s.program c come.goes.fits come.goes.stands in
-      let counted : bodies_next old.trees.draft old.at ≡ next_counts each_body s c = counts_next s old.trees old.contexts old.at c step.knows places come.drawn level come.comes in
       record {
         cursor = unit s c;
-        comes = step.advances s sees c come.comes level (gives_at s tree (kept_hooks old.hooks) gives c come.olds);
-        goes = rw (step.units, step.bodies) (unit_holds s tree old.units old.bodies c come.goes busy evaluated (omega (arith, step.evaluates, counted)));
+        comes = step.advances s sees c come.comes level (gives_at s tree (kept_hooks old.hooks) gives settled c come.olds come.rests);
+        goes = rw (step.units, step.bodies) (unit_holds s tree old.units old.bodies c come.goes busy evaluated (step.few s c sees come.comes level));
         drawn = draws s c (subst (λ q. unknowns q ≡ []) (sym sees.program) known) come.drawn;
         seen = unit_sees (length (contexts s.program)) s c come.seen;
         olds = unit_instances tree s c come.olds;
+        rests = unit_rests tree s c come.rests;
       }
 
   step_sees : (s : Sight) → Sees old s → Sees new s
@@ -200,7 +158,8 @@ module _ (old new : Rendering) (evaluated : ℕ) (step : Stepped old new evaluat
         keeps = step_keeps p same st g r;
         done = r.done;
         past = r.past;
-        come = step_comes (sight_of p st g) st.tree (renders_sees p st g old r) (renders_give p st g old r) r.come;
+        settled = r.settled;
+        come = step_comes (sight_of p st g) st.tree (renders_sees p st g old r) (renders_give p st g old r) r.settled r.come;
       }
 
   pub step_goes_on : GoesOn old new
@@ -222,7 +181,8 @@ module _ (old new : Rendering) (evaluated : ℕ) (step : Stepped old new evaluat
         tree = way.tree;
         sees = step_sees way.sight way.sees;
         gives = λ k m at. step.still way.sight m.number m.initials way.sees (way.gives k m at);
-        come = step_comes way.sight way.tree way.sees way.gives way.come;
+        settled = way.settled;
+        come = step_comes way.sight way.tree way.sees way.gives way.settled way.come;
       }
 
 if_left : (at : At) {A : Type 0} → A → IfLeft at A
@@ -231,22 +191,22 @@ if_left (Completes id) a = a
 if_left Over a = tt
 
 -- a rendering that a render is in progress of is one
-pub step_rendering : (old new : Rendering) (evaluated : ℕ) → Stepped old new evaluated → DrawsUnit → DrawsPlace → IsRendering old → 0 < left_of old → IsRendering new
-step_rendering old new evaluated step draws places is left =
+pub step_rendering : (old new : Rendering) (evaluated : ℕ) → Stepped old new evaluated → DrawsUnit → IsRendering old → 0 < left_of old → IsRendering new
+step_rendering old new evaluated step draws is left =
     record {
       known = subst (λ p. unknowns p ≡ []) (sym step.program) is.known;
       bounded = subst IsBounded (sym step.program) is.bounded;
-      under_way = if_left new.at (step_way old new evaluated step draws places is.known left (is_left old.at (unit_bound old.program) old.units left is.under_way));
+      under_way = if_left new.at (step_way old new evaluated step draws is.known left (is_left old.at (unit_bound old.program) old.units left is.under_way));
     }
 
 -- What a unit needs
 
-ready_as : (s : Sight) (tree : Option Node) (v : Rendering) → Sees v s → GivesAll s tree (kept_hooks v.hooks) → DrawsPlace → (scene : Scene) → IsSceneOf scene s → scene.checked.now ≡ s.program
+ready_as : (s : Sight) (tree : Option Node) (v : Rendering) → Sees v s → GivesAll s tree (kept_hooks v.hooks) → IfSettled s.program (known_by s) tree → DrawsPlace → (scene : Scene) → IsSceneOf scene s → scene.checked.now ≡ s.program
     → (at : At) (c : Cursor) → ComesTo v.trees v.contexts at c → InProgress s tree v.units v.bodies c → CursorDrawn s.program c → CursorHasContexts (length (contexts s.program)) c
-    → CursorHas (HasInstances tree) c → cursors.is_over c ≡ false → IsReadyAt scene (kept_hooks v.hooks) v.trees v.contexts at
-ready_as s tree v see gives draws scene sees same _ _ (to_place {levels = zero} {fs = fs} {cs = cs} {e = e} {old = old} h) goes drawn seen olds busy =
+    → CursorHas (HasInstances tree) c → CursorHas (SettlesWith tree) c → cursors.is_over c ≡ false → IsReadyAt scene (kept_hooks v.hooks) v.trees v.contexts at
+ready_as s tree v see gives settled draws scene sees same _ _ (to_place {levels = zero} {fs = fs} {cs = cs} {e = e} {old = old} h) goes drawn seen olds rests busy =
     absurd (let l : HasLevel (at_place zero fs cs e old) = fit_has_level s.program (at_place zero fs cs e old) goes.fits goes.stands in omega (arith, l))
-ready_as s tree v see gives draws scene sees same _ _ (to_place {id = id} {levels = suc n} {fs = fs} {cs = cs} {e = e} {old = old} h) goes drawn seen olds busy =
+ready_as s tree v see gives settled draws scene sees same _ _ (to_place {id = id} {levels = suc n} {fs = fs} {cs = cs} {e = e} {old = old} h) goes drawn seen olds rests busy =
     record {
       sight = s;
       sees = sees;
@@ -258,27 +218,25 @@ ready_as s tree v see gives draws scene sees same _ _ (to_place {id = id} {level
       stands = h;
       there = goes.stands;
       drawn = subst (λ q. IsDrawn q e) (sym same) (draws s.program (suc n) fs cs e old drawn);
-      gives = gives_at s tree (kept_hooks v.hooks) gives (at_place (suc n) fs cs e old) olds;
+      gives = (gives_at s tree (kept_hooks v.hooks) gives settled (at_place (suc n) fs cs e old) olds rests).0;
+      settled = (gives_at s tree (kept_hooks v.hooks) gives settled (at_place (suc n) fs cs e old) olds rests).1;
       each = values_are h ∙ (seen.0 ∙ ap (λ q. length (contexts q)) (sym same));
     }
   where
     values_are : StandsAt v.trees v.contexts (Some id) (at_place (suc n) fs cs e old) → length (values_at v.contexts) ≡ length cs
     values_are (begins here waits was around values stack) = ap length values
-ready_as s tree v see gives draws scene sees same _ _ (to_end h) goes drawn seen olds busy = ends h
-ready_as s tree v see gives draws scene sees same _ _ (to_tree h) goes drawn seen olds busy = absurd (let f : ⊥ = cc in f)
-ready_as s tree v see gives draws scene sees same _ _ to_wait goes drawn seen olds busy = absurd (let f : ⊥ = cc in f)
+ready_as s tree v see gives settled draws scene sees same _ _ (to_end h) goes drawn seen olds rests busy = ends h
+ready_as s tree v see gives settled draws scene sees same _ _ (to_tree h) goes drawn seen olds rests busy = absurd (let f : ⊥ = cc in f)
+ready_as s tree v see gives settled draws scene sees same _ _ to_wait goes drawn seen olds rests busy = absurd (let f : ⊥ = cc in f)
 
 module _ (v : Rendering) (is : IsRendering v) (left : 0 < left_of v) where
   abbrev pub way : IsUnderWay v
   way = is_left v.at (unit_bound v.program) v.units left is.under_way
 
-  pub unit_made : KnowsPlaces v.trees → IsMadeAt v.trees.draft v.at
-  unit_made knows = made_at v.trees v.contexts v.at way.come.cursor knows way.come.comes
-
   pub unit_ready : DrawsPlace → (scene : Scene) → ((s : Sight) → Sees v s → IsSceneOf scene s) → scene.checked.now ≡ v.program → IsReadyAt scene (kept_hooks v.hooks) v.trees v.contexts v.at
   unit_ready draws scene sees same =
       let come = way.come in
-      ready_as way.sight way.tree v way.sees way.gives draws scene (sees way.sight way.sees) (same ∙ sym way.sees.program) v.at come.cursor come.comes come.goes come.drawn come.seen come.olds
+      ready_as way.sight way.tree v way.sees way.gives way.settled draws scene (sees way.sight way.sees) (same ∙ sym way.sees.program) v.at come.cursor come.comes come.goes come.drawn come.seen come.olds come.rests
       (left_busy v.trees v.contexts v.at come.cursor (unit_bound v.program) v.units come.comes left)
 
   pub unit_below : v.units < unit_bound v.program
@@ -308,12 +266,12 @@ units_last Over bound units h = refl
 
 -- what a unit makes, by what it leaves
 pub stepped : (inside : Rendering) (t : Trees Fiber) (hooks : Kept) (st : Stack) (next : At) (evaluated : ℕ) → t.current ≡ inside.trees.current
-    → evaluated ≡ bodies_next inside.trees.draft inside.at → KnowsPlaces inside.trees
+    → ((s : Sight) (c : Cursor) → Sees inside s → ComesTo inside.trees inside.contexts inside.at c → HasLevel c → evaluated ≤ next_counts each_body s c)
     → ((st : State) → DoneBefore inside.cut st.journal.updates → KeepsAllHooks inside.program st (kept_hooks inside.hooks) → KeepsAllHooks inside.program st (kept_hooks hooks))
     → ((s : Sight) (k : ℕ) (initials : List ℤ) → Sees inside s → GivesValues s (kept_hooks inside.hooks) k initials → GivesValues s (kept_hooks hooks) k initials)
     → ((s : Sight) → Sees inside s → Advances s (kept_hooks inside.hooks) inside.trees inside.contexts inside.at t st next)
     → Stepped inside (record inside { trees = t; hooks = hooks; contexts = st; at = next; units = inside.units + 1; bodies = inside.bodies + evaluated }) evaluated
-stepped inside t hooks st next evaluated current counted knows keeps still advances =
+stepped inside t hooks st next evaluated current few keeps still advances =
     record {
       program = refl;
       current = current;
@@ -322,8 +280,7 @@ stepped inside t hooks st next evaluated current counted knows keeps still advan
       resources = refl;
       units = add-one inside.units;
       bodies = refl;
-      evaluates = counted;
-      knows = knows;
+      few = few;
       keeps = keeps;
       still = still;
       advances = advances;
@@ -368,9 +325,6 @@ module _ (value inside : Rendering) (same : inside ≡ value) (is : IsRendering 
   abbrev pub inside_left : 0 < left_of inside
   inside_left = subst (λ v. 0 < left_of v) (sym same) left
 
-  pub inside_made : KnowsPlaces inside.trees → IsMadeAt inside.trees.draft inside.at
-  inside_made = unit_made inside is inside_left
-
   pub inside_ready : DrawsPlace → (scene : Scene) → ((s : Sight) → Sees inside s → IsSceneOf scene s) → scene.checked.now ≡ inside.program
       → IsReadyAt scene (kept_hooks inside.hooks) inside.trees inside.contexts inside.at
   inside_ready = unit_ready inside is inside_left
@@ -378,31 +332,9 @@ module _ (value inside : Rendering) (same : inside ≡ value) (is : IsRendering 
   pub units_fit : inside.units + 1 < 2 ^ 64
   units_fit = let a = unit_below inside is inside_left in let b = is.bounded.small in omega (arith, a, b)
 
-  bodies_one : (d : Draft Fiber) (at : At) → bodies_next d at ≤ 1
-  bodies_one d (Begins id) = one_at (made_value_of d id)
-    where
-      one_of : (e : Element) → one_if_component e ≤ 1
-      one_of elements.null = omega arith
-      one_of (elements.text t) = omega arith
-      one_of (elements.host n k attrs es) = omega arith
-      one_of (elements.comp c k ps es) = omega arith
-      one_of (elements.list es) = omega arith
-      one_of (elements.boundary k f es) = omega arith
-      one_of (elements.provider c k x es) = omega arith
-
-      one_at : (v : Option Fiber) → option_map_or (λ u. one_if_component u.element) v 0 ≤ 1
-      one_at None = omega arith
-      one_at (Some v) = one_of v.element
-  bodies_one d (Completes id) = omega arith
-  bodies_one d Over = omega arith
-
-  pub bodies_fit : (evaluated : ℕ) → evaluated ≡ bodies_next inside.trees.draft inside.at → inside.bodies + evaluated < 2 ^ 64
+  pub bodies_fit : (evaluated : ℕ) → evaluated ≤ 1 → inside.bodies + evaluated < 2 ^ 64
   bodies_fit evaluated e =
-      let a = unit_below inside is inside_left in
-      let b = is.bounded.small in
-      let c = bodies_below inside is inside_left in
-      let d = bodies_one inside.trees.draft inside.at in
-      omega (arith, a, b, c, d, e)
+      let a = unit_below inside is inside_left in let b = is.bounded.small in let c = bodies_below inside is inside_left in omega (arith, a, b, c, e)
 
   -- what broke off
   pub breaks : (new : Rendering) → new.program ≡ inside.program → new.trees.current ≡ inside.trees.current → new.at ≡ Over
@@ -412,12 +344,12 @@ module _ (value inside : Rendering) (same : inside ≡ value) (is : IsRendering 
       subst (λ v. BreaksOff v new) same
       (record { program = program; current = current; keeps = λ st done h. subst (λ p. KeepsAllHooks p st (kept_hooks new.hooks)) (sym program) (keeps st done h); over = over })
 
-  module _ (new : Rendering) (evaluated : ℕ) (step : Stepped inside new evaluated) (draws : DrawsUnit) (places : DrawsPlace) where
+  module _ (new : Rendering) (evaluated : ℕ) (step : Stepped inside new evaluated) (draws : DrawsUnit) where
     pub steps_on : GoesOn value new
-    steps_on = subst (λ v. GoesOn v new) same (step_goes_on inside new evaluated step draws places is.known inside_left)
+    steps_on = subst (λ v. GoesOn v new) same (step_goes_on inside new evaluated step draws is.known inside_left)
 
     pub steps_to : IsRendering new
-    steps_to = step_rendering inside new evaluated step draws places is inside_left
+    steps_to = step_rendering inside new evaluated step draws is inside_left
 
     abbrev left_is : left_of value ≡ suc (unit_bound inside.program) - inside.units
     left_is = subst (λ v. left_of v ≡ suc (unit_bound inside.program) - inside.units) same (units_of inside.at (unit_bound inside.program) inside.units inside_left)
@@ -434,16 +366,8 @@ module _ (value inside : Rendering) (same : inside ≡ value) (is : IsRendering 
     pub last : (u : work.Unit) → u ≡ unit_before new.at → MatchUnit u (left_of new ≡ 0) (0 < left_of new)
     last u e = rw (e, new_left) (units_last new.at (unit_bound inside.program) inside.units (unit_below inside is inside_left))
 
-    pub ticks : (before after : ℕ) → ((s : Sight) (c : Cursor) → Sees inside s → ComesTo inside.trees inside.contexts inside.at c → HasLevel c → after ≡ before + next_counts each_body s c)
-        → after + value.bodies ≡ before + new.bodies
-    ticks before after f =
-        let way = is_left inside.at (unit_bound inside.program) inside.units inside_left is.under_way in
-        let come = way.come in
-        let level : HasLevel come.cursor = fit_has_level way.sight.program come.cursor come.goes.fits come.goes.stands in
-        let a = f way.sight come.cursor way.sees come.comes level in
-        let b = counts_next way.sight inside.trees inside.contexts inside.at come.cursor step.knows places come.drawn level come.comes in
-        let c : value.bodies ≡ inside.bodies = ap (λ v. v.bodies) (sym same) in
-        omega (arith, a, b, c, step.evaluates, step.bodies)
+    pub ticks : (before after : ℕ) → after ≡ before + evaluated → after + value.bodies ≡ before + new.bodies
+    ticks before after f = let c : value.bodies ≡ inside.bodies = ap (λ v. v.bodies) (sym same) in omega (arith, f, c, step.bodies)
 
 -- what broke off and is discarded is given up
 pub given_up : (x m n : Rendering) → BreaksOff x m → n ≡ record m { trees = record m.trees { draft = taken shapes.none }; at = Over } → GivesUp x n

@@ -8,7 +8,9 @@ use Rattle.rx_meaning.specs.Fresh.{Sight}
 use Rattle.rx_meaning.specs.Cursor.{Cursor, start, unit}
 use Rattle.render_laws.specs.OldNodes.{AllHave, OldHas, CursorHas}
 use Rattle.render_laws.proofs.Descent.{GoesDown, unit_has, start_has}
-use Rattle.rx_render.specs.Mounting.{IsMountedIn, HasInstances, HasInstancesIn}
+use Rattle.rx_ast.specs.Syntax.{Program}
+use Rattle.rx_meaning.specs.Settled.{Known, AllSettled, IfSettled}
+use Rattle.rx_render.specs.Mounting.{IsMountedIn, HasInstances, HasInstancesIn, SettlesWith}
 
 -- an instance is among some
 abbrev Among : List Mounted → Mounted → Type 0
@@ -92,3 +94,24 @@ tree_instances (Some x) = node_within (Some x) at_root x (λ m h. h)
 
 pub start_instances : (s : Sight) (tree : Option Node) → CursorHas (HasInstances tree) (start s tree)
 start_instances s tree = start_has (HasInstances tree) (goes_down tree) s tree (tree_instances tree)
+
+-- So each is settled where the old tree is.
+
+module _ (tree : Option Node) where
+  all_settle : (ns : Forest) → ((p : Program) (k : Known) → IfSettled p k tree → AllSettled p k ns) → AllHave (SettlesWith tree) ns
+  all_settle none h = tt
+  all_settle (vacant ns) h = all_settle ns h
+  all_settle (child x ns) h = ((λ p k s. (h p k s).0), all_settle ns (λ p k s. (h p k s).1))
+
+  settles_down : GoesDown (SettlesWith tree)
+  settles_down (node e m ns fs) h = (all_settle ns (λ p k s. (h p k s).1), all_settle fs (λ p k s. (h p k s).2))
+
+  pub unit_rests : (s : Sight) (c : Cursor) → CursorHas (SettlesWith tree) c → CursorHas (SettlesWith tree) (unit s c)
+  unit_rests s c h = unit_has (SettlesWith tree) settles_down s c h
+
+tree_settles : (tree : Option Node) → OldHas (SettlesWith tree) tree
+tree_settles None = tt
+tree_settles (Some x) = λ p k s. s
+
+pub start_rests : (s : Sight) (tree : Option Node) → CursorHas (SettlesWith tree) (start s tree)
+start_rests s tree = start_has (SettlesWith tree) (settles_down tree) s tree (tree_settles tree)

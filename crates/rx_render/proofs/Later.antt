@@ -8,7 +8,7 @@ use Rattle.rx_elem.specs.Trees.{Node}
 use Rattle.rx_queue.specs.Journal.{Journal, Posted}
 use Rattle.rx_meaning.specs.Fresh.{Sight, resources_seen}
 use Rattle.rx_meaning.specs.Again.{AllOpen}
-use Rattle.rx_meaning.specs.Settled.{DoneBefore}
+use Rattle.rx_meaning.specs.Settled.{DoneBefore, IfSettled, known_by}
 use Rattle.rx_model.specs.State.{State, Progress}
 use Rattle.rx_model.specs.Accepting.{with_value}
 use Rattle.rx_model.specs.Committing.{sight_of}
@@ -18,6 +18,7 @@ use Rattle.rx_hook_store.specs.Store.{Kept, kept_hooks}
 use Rattle.rx_hook_store.proofs.Staying.{all_stay}
 use Rattle.render_laws.specs.SameSight.{SeesSame}
 use Rattle.render_laws.proofs.LaterEntries.{holds_later, longer_sees_same}
+use Rattle.rx_render.proofs.Settled.{settled_later}
 use Rattle.rx_render.specs.Rendering.{Rendering}
 use Rattle.rx_render.specs.Renders.{HasCome, IsPast, Renders, IsLater, with_hooks}
 
@@ -50,7 +51,7 @@ later_sees p g st later past l =
 -- it has come as far
 come_later : (s : Sight) (j : Journal) → SeesSame s j → (tree : Option Node) (v : Rendering) (hooks : Kept) → HasCome s tree v → HasCome (record s { journal = j }) tree (with_hooks v hooks)
 come_later s j same tree v hooks h =
-    record { cursor = h.cursor; comes = h.comes; goes = holds_later s j same tree v.units v.bodies h.cursor h.goes; drawn = h.drawn; seen = h.seen; olds = h.olds }
+    record { cursor = h.cursor; comes = h.comes; goes = holds_later s j same tree v.units v.bodies h.cursor h.goes; drawn = h.drawn; seen = h.seen; olds = h.olds; rests = h.rests }
 
 pub renders_later : (p : Program) (st later : State) (g : Progress) (v : Rendering) (hooks : Kept) → Renders p st g v → IsLater g st later
     → KeepsAllHooks p later (kept_hooks hooks) → Renders p later g (with_hooks v hooks)
@@ -65,6 +66,7 @@ renders_later p st later g v hooks r l keeps =
       keeps = keeps;
       done = subst (DoneBefore g.cut) (sym l.updates) (done_longer g.cut st.journal.updates l.new l.opened r.done);
       past = past_longer g.cut g st later l r.past;
+      settled = subst (IfSettled p (known_by (sight_of p later g))) (sym l.tree) (settled_later p (sight_of p st g) (sight_of p later g) l.new st.tree l.opened l.updates same.resources r.settled);
       come = subst (λ t. HasCome (sight_of p later g) t (with_hooks v hooks)) (sym l.tree) (come_later (sight_of p st g) later.journal same st.tree v hooks r.come);
     }
 
@@ -100,6 +102,7 @@ module _ (p : Program) (st later : State) (g : Progress) (v : Rendering) (journa
         keeps = all_stay st later (ap (λ j. j.updates) journal) linked p (kept_hooks v.hooks) (kept_hooks v.hooks) tree (λ n. refl) r.keeps;
         done = subst (λ j. DoneBefore g.cut j.updates) (sym journal) r.done;
         past = subst (IsPast g.cut) (sym journal) r.past;
+        settled = subst (IfSettled p (known_by (sight_of p later g))) (sym tree) (subst (λ s. IfSettled p (known_by s) st.tree) sight r.settled);
         come = subst (λ t. HasCome (sight_of p later g) t v) (sym tree) (subst (λ s. HasCome s st.tree v) sight r.come);
       }
 
@@ -116,5 +119,6 @@ renders_as p st g h v lanes cut r =
       keeps = r.keeps;
       done = subst (λ c. DoneBefore c st.journal.updates) (sym cut) r.done;
       past = subst (λ c. IsPast c st.journal) (sym cut) r.past;
+      settled = subst (λ s. IfSettled p (known_by s) st.tree) sight r.settled;
       come = subst (λ s. HasCome s st.tree v) sight r.come;
     }

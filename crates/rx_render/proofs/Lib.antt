@@ -1,6 +1,7 @@
 pub mod Defaults
 pub mod Contexts
 pub mod Instances
+pub mod Settled
 pub mod Later
 pub mod Starting
 pub mod Ending

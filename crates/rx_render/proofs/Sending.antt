@@ -142,7 +142,8 @@ sent_rendering result old hooks w u pending place i ok err later is =
           tree = way.tree;
           sees = record { program = way.sees.program; resources = way.sees.resources; lanes = way.sees.lanes; cut = way.sees.cut };
           gives = λ k m there. gives way.sight at m.number m.initials (way.gives k m there);
-          come = record { cursor = way.come.cursor; comes = way.come.comes; goes = way.come.goes; drawn = way.come.drawn; seen = way.come.seen; olds = way.come.olds };
+          settled = way.settled;
+          come = record { cursor = way.come.cursor; comes = way.come.comes; goes = way.come.goes; drawn = way.come.drawn; seen = way.come.seen; olds = way.come.olds; rests = way.come.rests };
         }
 
 -- A render of the machine
@@ -202,7 +203,8 @@ with_kept v hooks p st g keeps r =
       keeps = keeps;
       done = r.done;
       past = r.past;
-      come = record { cursor = r.come.cursor; comes = r.come.comes; goes = r.come.goes; drawn = r.come.drawn; seen = r.come.seen; olds = r.come.olds };
+      settled = r.settled;
+      come = record { cursor = r.come.cursor; comes = r.come.comes; goes = r.come.goes; drawn = r.come.drawn; seen = r.come.seen; olds = r.come.olds; rests = r.come.rests };
     }
 
 -- so it is where memory ran out

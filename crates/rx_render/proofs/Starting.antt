@@ -1,14 +1,15 @@
 -- A render that starts is in progress.
-use Rattle.std.specs.Prelude.{◌≡◌, ℕ, ℤ, List, [], Option, true, refl}
+use Rattle.std.specs.Prelude.{◌≡◌, ℕ, ℤ, Bool, List, [], Option, Some, None, IfSome, is_some, true, refl}
 use Rattle.std.proofs.Common.{sym, ap, ◌∙◌, subst, arith}
 use Rattle.rx_base.specs.declared.cut.Cut.{Cut}
 use Rattle.rx_lane.specs.Lanes.{Lanes}
+use Rattle.rx_ast.specs.Syntax.{Program}
 use Rattle.rx_ctx.specs.Contexts as contexts
 use Rattle.rx_ctx.specs.Contexts.{Stack}
 use Rattle.rx_check.specs.Checks.{is_rooted, unknowns}
 use Rattle.rx_elem.specs.Elements.{Element}
-use Rattle.rx_elem.specs.Trees.{Node}
-use Rattle.rx_lists.specs.Shapes.{first}
+use Rattle.rx_elem.specs.Trees.{Node, element_of}
+use Rattle.rx_lists.specs.Shapes.{Shape, first}
 use Rattle.rx_lists.specs.Shapes as shapes
 use Rattle.rx_links.specs.Drafts.{Trees, taken, made}
 use Rattle.rx_meaning.specs.Fresh.{Sight, default_contexts, root_element}
@@ -18,9 +19,10 @@ use Rattle.rx_model.specs.Committing.{sight_of, starting}
 use Rattle.rx_model.specs.HooksOf.{KeepsAllHooks}
 use Rattle.rx_model.specs.Laws.{IsBounded}
 use Rattle.rx_fiber.specs.Fibers.{Fiber, waiting}
-use Rattle.rx_fiber.specs.Reading.{IsTreeOf}
-use Rattle.rx_fiber.specs.Surround.{IsWaiting}
-use Rattle.rx_fiber.proofs.Starting.{starts}
+use Rattle.rx_fiber.specs.Reading.{IsTreeOf, IsOld, new, of, next}
+use Rattle.rx_fiber.specs.Surround.{IsElementOf, IsWaiting}
+use Rattle.rx_fiber.proofs.Starting.{starts, root_old}
+use Rattle.rx_begin.proofs.Keeping.{node_element}
 use Rattle.rx_hook_store.specs.Store.{kept_hooks}
 use Rattle.render_laws.proofs.GoingLaws.{start_holds}
 use Rattle.draw_laws.specs.Cursors.{CursorDrawn}
@@ -28,15 +30,30 @@ use Rattle.rx_render.specs.declared.at.At.TheVariants.{Begins, Over}
 use Rattle.rx_render.specs.Rendering.{Rendering, IfLeft, ComesTo, to_place}
 use Rattle.rx_render.specs.Renders.{Renders, IsStartOf, CanStart, IsUnderWay, IsRendering}
 use Rattle.rx_render.proofs.Contexts.{start_sees}
-use Rattle.rx_render.proofs.Instances.{start_instances}
+use Rattle.rx_render.proofs.Instances.{start_instances, start_rests}
 use Rattle.rx_render.proofs.Going.{renders_under_way}
 
 -- what a cursor at its start is drawn by
 abbrev pub DrawsStart : Type 0
 DrawsStart = (s : Sight) (old : Option Node) → is_rooted s.program ≡ true → CursorDrawn s.program (start s old)
 
+-- the root's fiber is a clone of that of a tree with the root's element
+root_same : (c : Shape Fiber) (o : Option ℕ) (old : Option Node) (e : Element) → IsOld c o old → IfSome old (λ x. element_of x ≡ e) → is_some o ≡ true → IsElementOf c o e
+root_same c _ _ e new rooted there = cc
+root_same c _ _ e (of {j = j} {n = n} {x = x} {s = s} here leads (next {rest = rest} is a)) rooted there = node_element c j n x s rest is here ∙ ap Some rooted
+
+root_waits : (p : Program) (c : Shape Fiber) (old : Option Node) (v : Fiber) (cloned : Bool) → IsTreeOf old c → IfSome old (λ x. element_of x ≡ root_element p) → v.place ≡ 0
+    → v.element ≡ root_element p → v.stage ≡ waiting cloned → (cloned ≡ true → is_some (first c) ≡ true) → IsWaiting c (first c) v 0 (root_element p)
+root_waits p c old v cloned tree rooted place element stage clones = record {
+  at = place;
+  element = element;
+  cloned = cloned;
+  stage = stage;
+  same = λ so. root_same c (first c) old (root_element p) (root_old c old tree) rooted (clones so);
+}
+
 comes_to_start : (s : Sight) (old : Option Node) (t : Trees Fiber) (id : ℕ) (v : Fiber)
-    → IsTreeOf old t.current → IsWaiting v 0 (root_element s.program) → t.draft ≡ made id v (first t.current) (taken shapes.none) (taken shapes.none)
+    → IsTreeOf old t.current → IsWaiting t.current (first t.current) v 0 (root_element s.program) → t.draft ≡ made id v (first t.current) (taken shapes.none) (taken shapes.none)
     → ComesTo t (contexts.opening (default_contexts s.program)) (Begins id) (start s old)
 unfolding start
 comes_to_start s old t id v tree waits here = to_place (starts s old t id v tree waits here)
@@ -53,7 +70,11 @@ pub record StandsAtRoot (lanes : Lanes) (cut : Cut) (resources : List (Option �
   pub bodies : new.bodies ≡ 0
   pub id : ℕ
   pub value : Fiber
-  pub waits : IsWaiting value 0 (root_element old.program)
+  pub cloned : Bool
+  pub place : value.place ≡ 0
+  pub element : value.element ≡ root_element old.program
+  pub stage : value.stage ≡ waiting cloned
+  pub clones : cloned ≡ true → is_some (first new.trees.current) ≡ true
   pub here : new.trees.draft ≡ made id value (first new.trees.current) (taken shapes.none) (taken shapes.none)
   pub at : new.at ≡ Begins id
   pub contexts_are : new.contexts ≡ contexts.opening (default_contexts old.program)
@@ -72,13 +93,15 @@ start_renders lanes cut resources old new r draws bounded st is =
       keeps = subst (λ k. KeepsAllHooks old.program st (kept_hooks k)) (sym r.hooks) is.keeps;
       done = rw (← is.cut_is) is.done;
       past = record { updates = omega arith; resolutions = omega arith };
+      settled = is.settled;
       come = record {
         cursor = start s st.tree;
-        comes = rw (r.at, r.contexts_are) (comes_to_start s st.tree new.trees r.id r.value tree r.waits r.here);
+        comes = rw (r.at, r.contexts_are) (comes_to_start s st.tree new.trees r.id r.value tree (root_waits old.program new.trees.current st.tree r.value r.cloned tree is.rooted r.place r.element r.stage r.clones) r.here);
         goes = rw (r.units, r.bodies) (start_holds s st.tree bounded.shallow);
         drawn = draws s st.tree bounded.rooted;
         seen = start_sees s st.tree;
         olds = start_instances s st.tree;
+        rests = start_rests s st.tree;
       };
     }
 
@@ -89,10 +112,10 @@ module _ (lanes : Lanes) (cut : Cut) (resources : List (Option ℤ)) (old inside
 
   pub root_stands : inside ≡ record old { trees = record old.trees { draft = taken shapes.none }; at = Over } → (v : Fiber) (root : Element) (given defaults : List ℤ)
       → t ≡ record inside.trees { draft = made id v (first inside.trees.current) (taken shapes.none) (taken shapes.none) }
-      → v ≡ record { place = 0; element = root; stage = waiting } → root ≡ root_element inside.program
+      → (cloned : Bool) → cloned ≡ is_some (first inside.trees.current) → v ≡ record { place = 0; element = root; stage = waiting cloned } → root ≡ root_element inside.program
       → st ≡ contexts.opening given → given ≡ defaults → defaults ≡ default_contexts inside.program
       → StandsAtRoot lanes cut resources old started
-  root_stands was v root given defaults grown value element stack same all =
+  root_stands was v root given defaults grown cloned cloned_is value element stack same all =
       let program : inside.program ≡ old.program = ap (λ r. r.program) was in
       let kept : t.current ≡ inside.trees.current = ap (λ u. u.current) grown in
       record {
@@ -106,11 +129,11 @@ module _ (lanes : Lanes) (cut : Cut) (resources : List (Option ℤ)) (old inside
         bodies = refl;
         id = id;
         value = v;
-        waits = record {
-          at = ap (λ u. u.place) value;
-          element = ap (λ u. u.element) value ∙ (element ∙ ap root_element program);
-          stage = ap (λ u. u.stage) value;
-        };
+        cloned = cloned;
+        place = ap (λ u. u.place) value;
+        element = ap (λ u. u.element) value ∙ (element ∙ ap root_element program);
+        stage = ap (λ u. u.stage) value;
+        clones = λ so. ap (λ c. is_some (first c)) kept ∙ (sym cloned_is ∙ so);
         here = ap (λ u. u.draft) grown ∙ ap (λ c. made id v (first c) (taken shapes.none) (taken shapes.none)) (sym kept);
         at = refl;
         contexts_are = stack ∙ ap contexts.opening (same ∙ (all ∙ ap default_contexts program));

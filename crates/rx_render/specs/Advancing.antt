@@ -1,16 +1,14 @@
 -- What a unit needs and what it leaves, by the parts of a rendering.
 use Rattle.std.specs.Prelude.{◌≡◌, ℕ, suc, false, List, Option, Some, length}
-use Rattle.std.specs.Option.{option_map_or}
 use Rattle.rx_ast.specs.Syntax.{contexts}
 use Rattle.rx_ctx.specs.Contexts.{Stack, values_at}
 use Rattle.rx_elem.specs.Elements.{Element}
 use Rattle.rx_elem.specs.Trees.{Node}
 use Rattle.rx_hooks.specs.declared.hook.Hook.{Hook}
-use Rattle.rx_links.specs.Drafts.{Draft, Trees, Makes}
-use Rattle.rx_links.specs.Readers.{made_value_of}
+use Rattle.rx_links.specs.Drafts.{Trees}
 use Rattle.rx_meaning.specs.Fresh.{Sight, Contexts, old_instance}
 use Rattle.rx_meaning.specs.Cursor.{Frame, Cursor, at_place, at_end, ended, is_null, unit, HasLevel}
-use Rattle.rx_meaning.specs.Counts.{one_if_component}
+use Rattle.rx_meaning.specs.Settled.{IfSettled, known_by}
 use Rattle.rx_fiber.specs.Fibers.{Fiber}
 use Rattle.rx_fiber.specs.Standing.{StandsAt}
 use Rattle.rx_complete.specs.Ends.{IsAtEnd}
@@ -25,18 +23,6 @@ use Rattle.rx_render.specs.declared.at.At.{At}
 use Rattle.rx_render.specs.declared.at.At.TheVariants.{Begins, Completes, Over}
 use Rattle.rx_render.specs.Rendering.{ComesTo}
 
--- the fiber whose place the next unit begins is a made one
-abbrev pub IsMadeAt : Draft Fiber → At → Type 0
-IsMadeAt d (Begins id) = Makes d id
-IsMadeAt d (Completes id) = Unit {0}
-IsMadeAt d Over = Unit {0}
-
--- how many bodies the next unit evaluates: one where it begins a component
-abbrev pub bodies_next : Draft Fiber → At → ℕ
-bodies_next d (Begins id) = option_map_or (λ v. one_if_component v.element) (made_value_of d id) 0
-bodies_next d (Completes id) = 0
-bodies_next d Over = 0
-
 -- what the next unit does after a node that is completed
 abbrev pub at_after : Next → At
 at_after (Sibling id) = Begins id
@@ -48,7 +34,7 @@ abbrev pub at_opened : Opened → At
 at_opened (First id) = Begins id
 at_opened (Empty id) = Completes id
 
--- The render stands at a place of this fiber, at which it sees this scene, and the hooks give it the values of its old instance: what stands there is an element that the program draws and for which there is a node.
+-- The render stands at a place of this fiber, at which it sees this scene, the hooks give it the values of its old instance, and the old node is settled: what stands there is an element that the program draws and for which there is a node.
 pub record CanBegin (scene : Scene) (kept : ℕ → Option (List Hook)) (t : Trees Fiber) (st : Stack) (q : ℕ) : Type 0 where
   pub sight : Sight
   pub sees : IsSceneOf scene sight
@@ -61,6 +47,7 @@ pub record CanBegin (scene : Scene) (kept : ℕ → Option (List Hook)) (t : Tre
   pub there : is_null element ≡ false
   pub drawn : IsDrawn scene.checked.now element
   pub gives : GivesHooks sight kept (old_instance old)
+  pub settled : IfSettled sight.program (known_by sight) old
   pub each : length (values_at st) ≡ length (contexts scene.checked.now)
 
 -- a unit can be done
@@ -69,9 +56,9 @@ IsReadyAt scene kept t st (Begins id) = CanBegin scene kept t st id
 IsReadyAt scene kept t st (Completes id) = IsAtEnd t st id
 IsReadyAt scene kept t st Over = ⊥
 
--- the hooks give the values of the old instance at the place of a cursor
+-- the hooks give the values of the old instance at the place of a cursor, and the old node is settled
 abbrev pub GivesAt : Sight → (kept : ℕ → Option (List Hook)) → Cursor → Type 0
-GivesAt s kept (at_place levels fs cs e old) = GivesHooks s kept (old_instance old)
+GivesAt s kept (at_place levels fs cs e old) = GivesHooks s kept (old_instance old) × IfSettled s.program (known_by s) old
 GivesAt s kept (at_end levels fs o done) = Unit {0}
 GivesAt s kept (ended p) = Unit {0}
 

@@ -2,6 +2,8 @@
 use Rattle.std.specs.Prelude.{◌≡◌, ℕ, ℤ, List, Option, Some, slice_get}
 use Rattle.rx_elem.specs.Trees.{Instance, Node, node, Forest, none, vacant, child, instance_in}
 use Rattle.rx_elem.specs.Spots.{Mounted, mounted}
+use Rattle.rx_ast.specs.Syntax.{Program}
+use Rattle.rx_meaning.specs.Settled.{Known, IsSettled, IfSettled}
 
 -- the tree has an instance of this number, with these initial values
 pub record IsMountedIn (tree : Option Node) (number : ℕ) (initials : List ℤ) : Type 0 where
@@ -25,3 +27,7 @@ abbrev mutual
   HasInstancesIn tree none = Unit {0}
   HasInstancesIn tree (vacant ns) = HasInstancesIn tree ns
   HasInstancesIn tree (child n ns) = HasInstances tree n × HasInstancesIn tree ns
+
+-- a node is settled where the tree is
+abbrev pub SettlesWith : Option Node → Node → Type 0
+SettlesWith tree x = (p : Program) (k : Known) → IfSettled p k tree → IsSettled p k x

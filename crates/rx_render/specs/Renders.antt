@@ -1,17 +1,17 @@
 -- Which render of the machine is in progress.
-use Rattle.std.specs.Prelude.{◌≡◌, ℕ, ◌≤◌, ◌++◌, List, [], ℤ, Option, Some, length, slice_get}
+use Rattle.std.specs.Prelude.{◌≡◌, ℕ, ◌≤◌, ◌++◌, List, [], ℤ, Option, Some, IfSome, length, slice_get}
 use Rattle.rx_base.specs.declared.cut.Cut.{Cut}
 use Rattle.rx_lane.specs.Lanes.{Lanes}
 use Rattle.rx_ast.specs.Syntax.{Program, contexts}
 use Rattle.rx_check.specs.Checks.{unknowns}
-use Rattle.rx_elem.specs.Trees.{Node}
+use Rattle.rx_elem.specs.Trees.{Node, element_of}
 use Rattle.rx_elem.specs.Spots.{Mounted, mounted}
 use Rattle.rx_hooks.specs.declared.hook.Hook.{Hook}
 use Rattle.rx_queue.specs.Journal.{Journal, Posted, Resolution, cut_now}
-use Rattle.rx_meaning.specs.Fresh.{Sight, resources_seen}
+use Rattle.rx_meaning.specs.Fresh.{Sight, resources_seen, root_element}
 use Rattle.rx_meaning.specs.Cursor.{Cursor}
 use Rattle.rx_meaning.specs.Again.{AllOpen}
-use Rattle.rx_meaning.specs.Settled.{DoneBefore}
+use Rattle.rx_meaning.specs.Settled.{DoneBefore, IfSettled, known_by}
 use Rattle.rx_model.specs.State.{State, Progress}
 use Rattle.rx_model.specs.Committing.{sight_of, starting}
 use Rattle.rx_model.specs.HooksOf.{KeepsAllHooks}
@@ -23,7 +23,7 @@ use Rattle.render_laws.specs.InProgress.{InProgress}
 use Rattle.render_laws.specs.OldNodes.{CursorHas}
 use Rattle.render_laws.specs.SameSight.{AllAfter}
 use Rattle.draw_laws.specs.Cursors.{CursorDrawn}
-use Rattle.rx_render.specs.Mounting.{HasInstances}
+use Rattle.rx_render.specs.Mounting.{HasInstances, SettlesWith}
 use Rattle.rx_render.specs.ContextLists.{CursorHasContexts}
 use Rattle.rx_render.specs.Rendering.{Rendering, IfLeft, ComesTo}
 
@@ -47,6 +47,8 @@ pub record HasCome (s : Sight) (tree : Option Node) (v : Rendering) : Type 0 whe
   pub drawn : CursorDrawn s.program cursor
   pub seen : CursorHasContexts (length (contexts s.program)) cursor
   pub olds : CursorHas (HasInstances tree) cursor
+  -- and each old node is settled where the tree is
+  pub rests : CursorHas (SettlesWith tree) cursor
 
 -- a cut has nothing before it that has yet to come
 pub record IsPast (cut : Cut) (j : Journal) : Type 0 where
@@ -64,14 +66,17 @@ pub record Renders (p : Program) (st : State) (g : Progress) (v : Rendering) : T
   -- what is done lies before the cut, and the cut before what has yet to come
   pub done : DoneBefore g.cut st.journal.updates
   pub past : IsPast g.cut st.journal
+  -- the committed tree has what bodies give for what is done
+  pub settled : IfSettled p (known_by (sight_of p st g)) st.tree
   pub come : HasCome (sight_of p st g) st.tree v
 
--- a render is under way: whatever it is over, hooks give it the values of the instances there
+-- a render is under way: whatever it is over is settled, and hooks give it the values of the instances there
 pub record IsUnderWay (v : Rendering) : Type 0 where
   pub sight : Sight
   pub tree : Option Node
   pub sees : Sees v sight
   pub gives : GivesAll sight tree (kept_hooks v.hooks)
+  pub settled : IfSettled sight.program (known_by sight) tree
   pub come : HasCome sight tree v
 
 -- what holds of each rendering: its program is accepted, and where a unit is left a render is under way
@@ -80,13 +85,15 @@ pub record IsRendering (v : Rendering) : Type 0 where
   pub bounded : IsBounded v.program
   pub under_way : IfLeft v.at (IsUnderWay v)
 
--- what a render that starts now needs: the current tree is the committed one, the hooks are those of its instances, the cut has all before it, and the resources are what it sees
+-- what a render that starts now needs: the current tree is the committed one, which is settled and has the root's element at its root, the hooks are those of its instances, the cut has all before it, and the resources are what it sees
 pub record IsStartOf (st : State) (lanes : Lanes) (cut : Cut) (resources : List (Option ℤ)) (v : Rendering) : Type 0 where
   pub current : IsTreeOf st.tree v.trees.current
   pub keeps : KeepsAllHooks v.program st (kept_hooks v.hooks)
   pub done : DoneBefore cut st.journal.updates
   pub cut_is : cut ≡ cut_now st.journal
   pub resources_are : resources ≡ resources_seen (sight_of v.program st (starting st lanes))
+  pub settled : IfSettled v.program (known_by (sight_of v.program st (starting st lanes))) st.tree
+  pub rooted : IfSome st.tree (λ x. element_of x ≡ root_element v.program)
 
 -- a render can start
 pub record CanStart (lanes : Lanes) (cut : Cut) (resources : List (Option ℤ)) (v : Rendering) : Type 0 where

@@ -1,5 +1,5 @@
 // One unit of a render, over its parts.
-ghost use Rattle.std.specs.Prelude.{◌≡◌, ◌+◌, ◌≤◌, ℕ, ℤ, List, Option, Some, IfOk, OnOk};
+ghost use Rattle.std.specs.Prelude.{◌≡◌, ◌+◌, ◌≤◌, ℕ, ℤ, List, Option, Some, IfOk, if◌then◌else◌};
 ghost use Rattle.rx_base.specs.Awaits.{one};
 ghost use Rattle.rx_elem.specs.Trees.{Node};
 ghost use Rattle.rx_meaning.specs.Fresh.{Sight};
@@ -15,14 +15,13 @@ ghost use Rattle.rx_hook_store.specs.Store.{kept_hooks};
 ghost use Rattle.rx_hook_store.specs.Gives.{GivesValues};
 ghost use Rattle.rx_begin.specs.Scenes.{IsSceneOf};
 ghost use Rattle.rx_render.specs.Rendering.{ComesTo};
-ghost use Rattle.rx_render.specs.Advancing.{IsMadeAt, bodies_next, at_after, at_opened, CanBegin, IsReadyAt, Advances};
+ghost use Rattle.rx_render.specs.Advancing.{at_after, at_opened, CanBegin, IsReadyAt, Advances};
 
 use crate::at::At;
 use rx_base::{Awaits, Steps};
 use rx_begin::{Begun, Opened, Scene, begin, open_fallback};
 use rx_complete::{Next, complete, unwind_to_boundary};
 use rx_ctx::ContextStack;
-use rx_elem::ElementKind;
 use rx_fiber::Fiber;
 use rx_hook_store::HookStore;
 use rx_links::{FiberId, FiberTree};
@@ -40,20 +39,6 @@ fn awaits_for(resource: u32) -> Awaits
         Awaits::one(resource)
     } else {
         Awaits::none()
-    }
-}
-
-// How many bodies the next unit evaluates.
-pub(crate) fn bodies_next(tree: &FiberTree<Fiber>, at: &At) -> u64
-    requires { IsMadeAt tree.now.draft at.now }
-    ensures { result ≡ bodies_next tree.now.draft at.now }
-{
-    match at {
-        At::Begins(id) => match tree.value(*id).element().kind() {
-            ElementKind::Comp(_, _, _, _) => 1,
-            _ => 0,
-        },
-        _ => 0,
     }
 }
 
@@ -116,24 +101,30 @@ fn begin_place<L: Ledger>(
     hooks: &mut HookStore,
     contexts: &mut ContextStack,
     steps: &mut Steps<L>,
-) -> Result<At, AllocError>
+) -> Result<(At, bool), AllocError>
     requires { CanBegin scene.now (kept_hooks hooks.old) tree.old contexts.old id }
-    ensures comes { IfOk result (λ a. (s : Sight) → IsSceneOf scene.now s → Advances s (kept_hooks hooks.old) tree.old contexts.old (At.Begins id) tree.new contexts.new a) }
-    ensures ticks { OnOk result ((s : Sight) (c : Cursor) → IsSceneOf scene.now s → ComesTo tree.old contexts.old (At.Begins id) c → HasLevel c → steps.new ≡ steps.old + next_counts each_body s c) }
+    ensures comes { IfOk result (λ a. (s : Sight) → IsSceneOf scene.now s → Advances s (kept_hooks hooks.old) tree.old contexts.old (At.Begins id) tree.new contexts.new a.0) }
+    ensures ticks { IfOk result (λ a. steps.new ≡ steps.old + (if a.1 then 1 else 0)) }
+    ensures few { IfOk result (λ a. (s : Sight) (c : Cursor) → IsSceneOf scene.now s → ComesTo tree.old contexts.old (At.Begins id) c → HasLevel c → (if a.1 then 1 else 0) ≤ next_counts each_body s c) }
     ensures current { tree.new.current ≡ tree.old.current }
     ensures still { (s : Sight) (k : ℕ) (initials : List ℤ) → IsSceneOf scene.now s → GivesValues s (kept_hooks hooks.old) k initials → GivesValues s (kept_hooks hooks.new) k initials }
     ensures states { (st : State) → DoneBefore scene.now.cut st.journal.updates → KeepsAllHooks scene.now.checked.now st (kept_hooks hooks.old) → KeepsAllHooks scene.now.checked.now st (kept_hooks hooks.new) }
     ensures rises { steps.old ≤ steps.new }
 {
-    match begin(alloc, tree, id, scene, hooks, contexts, steps)? {
-        Begun::Child(child) => Ok(At::Begins(child)),
-        Begun::Leaf => Ok(At::Completes(id)),
-        Begun::Suspended(resource) => suspend(alloc, tree, id, contexts, resource),
+    let (begun, evaluated) = begin(alloc, tree, id, scene, hooks, contexts, steps)?;
+    match begun {
+        Begun::Child(child) => Ok((At::Begins(child), evaluated)),
+        Begun::Leaf => Ok((At::Completes(id), evaluated)),
+        Begun::Suspended(resource) => {
+            let at = suspend(alloc, tree, id, contexts, resource)?;
+            Ok((at, evaluated))
+        }
     }
 }
 
 /// Begins the place of a fiber, or completes its node, as one unit of a render. Where its body waits, what is tried around it
-/// is given up, and the fallback of the nearest boundary opens within the same unit (react.dev, Suspense).
+/// is given up, and the fallback of the nearest boundary opens within the same unit (react.dev, Suspense). Also answered is whether
+/// a body was evaluated.
 ///
 /// # Errors
 ///
@@ -146,10 +137,11 @@ pub(crate) fn advance<L: Ledger>(
     hooks: &mut HookStore,
     contexts: &mut ContextStack,
     steps: &mut Steps<L>,
-) -> Result<At, AllocError>
+) -> Result<(At, bool), AllocError>
     requires { IsReadyAt scene.now (kept_hooks hooks.old) tree.old contexts.old at }
-    ensures comes { IfOk result (λ a. (s : Sight) → IsSceneOf scene.now s → Advances s (kept_hooks hooks.old) tree.old contexts.old at tree.new contexts.new a) }
-    ensures ticks { OnOk result ((s : Sight) (c : Cursor) → IsSceneOf scene.now s → ComesTo tree.old contexts.old at c → HasLevel c → steps.new ≡ steps.old + next_counts each_body s c) }
+    ensures comes { IfOk result (λ a. (s : Sight) → IsSceneOf scene.now s → Advances s (kept_hooks hooks.old) tree.old contexts.old at tree.new contexts.new a.0) }
+    ensures ticks { IfOk result (λ a. steps.new ≡ steps.old + (if a.1 then 1 else 0)) }
+    ensures few { IfOk result (λ a. (s : Sight) (c : Cursor) → IsSceneOf scene.now s → ComesTo tree.old contexts.old at c → HasLevel c → (if a.1 then 1 else 0) ≤ next_counts each_body s c) }
     ensures current { tree.new.current ≡ tree.old.current }
     ensures still { (s : Sight) (k : ℕ) (initials : List ℤ) → IsSceneOf scene.now s → GivesValues s (kept_hooks hooks.old) k initials → GivesValues s (kept_hooks hooks.new) k initials }
     ensures states { (st : State) → DoneBefore scene.now.cut st.journal.updates → KeepsAllHooks scene.now.checked.now st (kept_hooks hooks.old) → KeepsAllHooks scene.now.checked.now st (kept_hooks hooks.new) }
@@ -157,7 +149,7 @@ pub(crate) fn advance<L: Ledger>(
 {
     match at {
         At::Begins(id) => begin_place(alloc, tree, id, scene, hooks, contexts, steps),
-        At::Completes(id) => Ok(complete_node(tree, id, contexts)),
+        At::Completes(id) => Ok((complete_node(tree, id, contexts), false)),
         At::Over => unreachable!(),
     }
 }

@@ -1,5 +1,5 @@
 // A render in progress.
-ghost use Rattle.std.specs.Prelude.{◌≡◌, ◌+◌, ◌<◌, ◌≤◌, ◌^◌, ℕ, ℤ, true, false, List, [], Option, None, Some, length, slice_get, IfOk, OnOk, OnErr, IsSomeAnd};
+ghost use Rattle.std.specs.Prelude.{◌≡◌, ◌+◌, ◌<◌, ◌≤◌, ◌^◌, ℕ, ℤ, true, false, List, [], Option, None, Some, length, slice_get, IfOk, OnOk, OnErr, IsSomeAnd, if◌then◌else◌};
 ghost use Rattle.std.specs.Option.{option_copied};
 ghost use Rattle.rx_ast.specs.Syntax.{Program};
 ghost use Rattle.rx_check.specs.Checks.{unknowns};
@@ -33,7 +33,7 @@ ghost use Rattle.rx_render.specs.Renders.{CanStart, IsStartOf, Renders, with_hoo
 ghost use Rattle.rx_render.specs.Turning.{GoesOn, GivesUp, BreaksOff};
 ghost use Rattle.rx_render.specs.TurningLaws.{goes_on_same, goes_on_join, gives_up_after};
 
-use crate::advance::{advance, bodies_next};
+use crate::advance::advance;
 use crate::at::{At, is_over, unit_before};
 use crate::roots::{default_contexts, root_element};
 use draw_laws::cursors_are_drawn;
@@ -86,6 +86,13 @@ impl Model for Renderer {
     ghost view = { λ r. record { program = r.checked; trees = r.fibers; hooks = r.hooks; contexts = r.contexts; resources = r.resources.items; lanes = r.lanes; cut = r.cut; at = r.at; units = r.units; bodies = r.bodies } };
 
     ghost invariant = { λ r. IsRendering (record { program = r.checked; trees = r.fibers; hooks = r.hooks; contexts = r.contexts; resources = r.resources.items; lanes = r.lanes; cut = r.cut; at = r.at; units = r.units; bodies = r.bodies }) };
+}
+
+// How many bodies were evaluated.
+fn one_if(evaluated: bool) -> u64
+    ensures { result ≡ (if evaluated then 1 else 0) }
+{
+    if evaluated { 1 } else { 0 }
 }
 
 impl Renderer {
@@ -221,7 +228,8 @@ impl Renderer {
         let defaults = default_contexts(self.alloc, &self.checked)?;
         let contexts = ContextStack::new(self.alloc, &defaults)?;
         let root = root_element(self.alloc, &self.checked)?;
-        let id = self.fibers.start(Fiber::new(0, root, Stage::Waiting))?;
+        let cloned = self.fibers.current().is_some();
+        let id = self.fibers.start(Fiber::new(0, root, Stage::Waiting { cloned }))?;
         cursors_are_drawn();
         self.contexts = contexts;
         self.resources = resources;
@@ -354,8 +362,6 @@ impl Renderer {
         ensures rises { steps.old ≤ steps.new }
     {
         cursors_are_drawn();
-        self.fibers.place_facts();
-        let evaluated = bodies_next(&self.fibers, &self.at);
         let at = self.at;
         self.at = At::Over;
         let scene = Scene {
@@ -364,7 +370,7 @@ impl Renderer {
             lanes: self.lanes,
             cut: self.cut,
         };
-        let next = advance(
+        let (next, evaluated) = advance(
             self.alloc,
             &mut self.fibers,
             at,
@@ -375,7 +381,7 @@ impl Renderer {
         )?;
         self.at = next;
         self.units += 1;
-        self.bodies += evaluated;
+        self.bodies += one_if(evaluated);
         Ok(unit_before(&self.at))
     }
 }

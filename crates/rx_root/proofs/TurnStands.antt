@@ -1,6 +1,6 @@
 -- A root stands for the state after a slice, a deferral, and the start of a render.
 use Rattle.std.proofs.Common.{◌≡◌, ℕ, ◌<◌, false, List, [], ◌∷◌, length, refl, sym, ap, ◌∙◌, subst, arith, Option, Some, None}
-use Rattle.std.specs.Prelude.{◌&&◌, nat_le}
+use Rattle.std.specs.Prelude.{◌&&◌, nat_le, IfSome}
 use Rattle.std.specs.List.{list_any, AllByRecursion}
 use Rattle.std.proofs.lemmas.Bool.Decides.{nat_tests}
 use Rattle.rx_base.specs.Awaits.{Awaits}
@@ -8,7 +8,9 @@ use Rattle.rx_base.specs.declared.cut.Cut.{Cut}
 use Rattle.rx_lane.specs.declared.lane.Lane.{Lane}
 use Rattle.rx_lane.specs.Lanes.{Lanes, has, lanes_where, same_lane, no_lanes}
 use Rattle.rx_ast.specs.Syntax.{Program}
-use Rattle.rx_elem.specs.Trees.{Node}
+use Rattle.rx_elem.specs.Trees.{Node, element_of}
+use Rattle.rx_meaning.specs.Fresh.{root_element}
+use Rattle.commit_laws.proofs.Soundness.{resolution_keeps}
 use Rattle.rx_queue.specs.Journal.{Posted, cut_now, has_later}
 use Rattle.rx_sched.specs.Schedule.{Schedule}
 use Rattle.rx_meaning.specs.Settled.{DoneBefore}
@@ -18,9 +20,10 @@ use Rattle.rx_model.specs.State.{State, Progress}
 use Rattle.rx_model.specs.HooksOf.{KeepsAllHooks}
 use Rattle.rx_model.specs.Committing.{passive_run, starting, schedule_deferred, deferred_as}
 use Rattle.rx_model.specs.Kept.{IsSet}
-use Rattle.rx_model.specs.Laws.{IsReached}
+use Rattle.rx_model.specs.Laws.{IsBounded, IsReached}
 use Rattle.rx_model.proofs.Reached.{reached-can}
-use Rattle.run_laws.specs.Carried.{NumbersBelow}
+use Rattle.run_laws.specs.Carried.{IfRooted, NumbersBelow, values_now}
+use Rattle.run_laws.proofs.AlongRuns.{reached_carries}
 use Rattle.run_laws.proofs.Carrying.{all_accounted, done_before}
 use Rattle.rx_fiber.specs.Reading.{IsTreeOf}
 use Rattle.rx_hook_store.specs.Store.{kept_hooks}
@@ -88,10 +91,17 @@ done_now p s reached =
     done_before (cut_now s.journal) s.journal.updates
     (all_accounted (cut_now s.journal) s.journal.updates (numbers_below (length s.journal.updates) s.journal.updates (reached-can p s reached).below))
 
+rooted_so : (p : Program) (tree : Option Node) → IfRooted p tree → IfSome tree (λ x. element_of x ≡ root_element p)
+rooted_so p None h = tt
+rooted_so p (Some n) h = h
+
 -- what a render that starts now needs, once pending passive effects have run
-pub can_start : (p : Program) (s : State) (v : Rooted) (lanes : Lanes) → Stands p s v → IsReached p (passive_run s).after
+pub can_start : (p : Program) → IsBounded p → (s : State) (v : Rooted) (lanes : Lanes) → Stands p s v → IsReached p (passive_run s).after
     → IsStartOf (passive_run s).after lanes (record { updates = v.updates; resolutions = v.resolutions }) v.values v.rendering
-can_start p s v lanes h reached =
+can_start p bounded s v lanes h reached =
+    let after : State = (passive_run s).after in
+    let carried = reached_carries p bounded.shallow bounded.declared after reached in
+    let sound = resolution_keeps p s.journal.updates carried.0 (values_now p s.journal) after.numbers.instance s.tree carried.2.seen carried.2.sound in
     let cut : record { updates = v.updates; resolutions = v.resolutions } ≡ cut_now s.journal = rw (h.updates, h.resolutions) refl in
     record {
       current = h.current;
@@ -99,6 +109,8 @@ can_start p s v lanes h reached =
       done = subst (λ (c : Cut). DoneBefore c s.journal.updates) (sym cut) (done_now p (passive_run s).after reached);
       cut_is = cut;
       resources_are = rw h.program h.values;
+      settled = rw h.program sound.settled;
+      rooted = rw h.program (rooted_so p s.tree carried.2.rooted);
     }
 
 left_some : (at : At) (bound units : ℕ) → 0 < units_left at bound units → IfLeft at ⊥ → ⊥

@@ -121,6 +121,7 @@ impl Root {
         ensures written { OnOk result (log.new ≡ with_lines log.old (passive_lines self.old.shown.passive)) }
         ensures rest { self.new ≡ record self.old { rendering = self.new.rendering; shown = self.new.shown; later = self.new.later } }
     {
+        self.renderer.facts();
         self.shown.flush_passive(log)?;
         let values = copied(self.alloc, &self.values)?;
         let cut = Cut {

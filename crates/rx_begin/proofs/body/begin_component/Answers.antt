@@ -1,18 +1,35 @@
-use Rattle.std.proofs.Common.{sym, ap, ◌∙◌}
+use Rattle.std.specs.Prelude.{option_and_then}
+use Rattle.std.proofs.Common.{refl, sym, ap, ◌∙◌, subst}
+use Rattle.rx_elem.specs.Trees.{of_instance}
 use Rattle.rx_links.specs.Drafts.{old_of}
-use Rattle.rx_begin.specs.Scenes.{number_in}
+use Rattle.rx_begin.specs.Scenes.{GivesHooks, number_in}
+use Rattle.rx_begin.specs.Bodies.{keeps}
+use Rattle.rx_hook_store.specs.Store.{kept_hooks}
 use Rattle.rx_begin.proofs.Nodes.{bare_made}
 use Rattle.rx_begin.proofs.Bodies.{evaluated, instance_at}
-use Rattle.rx_begin.proofs.ByElement.{if_ok}
+use Rattle.rx_begin.proofs.Keeping.{calm_shape}
 use Rattle.rx_begin.proofs.body.begin_component.Goals as goal
 
-pub returns-clause-evaluated : goal.returns-clause-evaluated
-returns-clause-evaluated g c =
-    if_ok c.open_body.result _ _
-    (λ b opened s old kids is was gives same.
+pub keep_body-requires-clause-there : goal.keep_body-requires-clause-there
+keep_body-requires-clause-there g c = c.is_calm.ensures.there c.if-is_calm.true
+
+pub returns-then-is_calm-clause-evaluated : goal.returns-then-is_calm-clause-evaluated
+returns-then-is_calm-clause-evaluated g c s old key kids is was gives settled stood same =
     let instance = instance_at c.args.tree.now.current c.alternate.result (old_of c.args.tree.now.draft c.args.at) old _
     (c.alternate.ensures.made (bare_made c.args.tree.now c.args.at c.place_facts.ensures c.requires.bare)) was c.in_ok-old.ensures in
-    evaluated s c.args.contexts.now c.args.component c.args.props.now kids old _ c.args.tree.now c.open_body.new.tree c.args.at b
+    let (i, there, calm) = c.is_calm.ensures.calm c.if-is_calm.true s is (subst (GivesHooks s (kept_hooks c.args.hooks.now)) (sym instance) gives) in
+    keeps
+    (record {
+      mark = of_instance i;
+      shape_is = calm_shape s c.args.contexts.now c.args.component key c.args.props.now kids old i settled (stood c.if-cloned.true) (sym instance ∙ there) calm;
+      shown = refl;
+      opened = c.in_ok-begun.ensures.kept i there;
+    })
+
+pub returns-clause-evaluated : goal.returns-clause-evaluated
+returns-clause-evaluated g c s old key kids is was gives settled stood same =
+    let instance = instance_at c.args.tree.now.current c.alternate.result (old_of c.args.tree.now.draft c.args.at) old _
+    (c.alternate.ensures.made (bare_made c.args.tree.now c.args.at c.place_facts.ensures c.requires.bare)) was c.in_ok-old.ensures in
+    evaluated s c.args.contexts.now c.args.component c.args.props.now kids old _ c.args.tree.now c.open_body.new.tree c.args.at c.in_ok-begun-2.begun
     (c.in_ok-body.ensures.body s _ kids is (sym (c.number_of-number.ensures ∙ ap number_in instance)) gives same)
-    (opened c.args.contexts.now old instance))
-    c.open_body.ensures.opened
+    (c.in_ok-begun-2.ensures.opened c.args.contexts.now old instance)

@@ -1,0 +1,131 @@
+-- What keeps its old children: a clone, and a component without a cause.
+use Rattle.std.specs.Prelude.{◌≡◌, ℕ, ℤ, suc, Bool, true, false, not, ◌&&◌, List, [], Option, Some, None, option_and_then, option_map}
+use Rattle.std.specs.Option.{option_map_or}
+use Rattle.std.proofs.Common.{refl, sym, ap, ◌∙◌, subst, inl, inr}
+use Rattle.rx_ast.specs.Syntax.{Program, Component}
+use Rattle.rx_rules.specs.Names.{component_at}
+use Rattle.rx_ctx.specs.Contexts.{Stack}
+use Rattle.rx_susp.specs.declared.boundary.BoundaryState.TheVariants.{Hidden}
+use Rattle.rx_elem.specs.Elements.{Element, Elements, Key, listed}
+use Rattle.rx_elem.specs.Elements as elements
+use Rattle.rx_elem.specs.Trees.{Instance, Mark, of_instance, of_boundary, Node, node, Forest, none, element_of, elements_in, mark_of, children_if, is_hidden, instance_in}
+use Rattle.rx_elem.proofs.SelfMatch.{NoNull}
+use Rattle.rx_lists.specs.Shapes.{Shape}
+use Rattle.rx_lists.specs.Shapes as shapes
+use Rattle.rx_links.specs.Drafts.{taken, Trees, list_at, old_of}
+use Rattle.rx_links.specs.Readers.{value_in, list_from, made_value_of, made_value_in}
+use Rattle.rx_meaning.specs.Body.{body_of, ready}
+use Rattle.rx_meaning.specs.Cursor.{Frame, at_place}
+use Rattle.rx_meaning.specs.Fresh.{Sight, Contexts, Shape as Shape_of, one_list, part, hook_values, inputs_at, instance_after, old_instance, shape_of_body, shape_of_component}
+use Rattle.rx_meaning.specs.Settled.{Known, IsBodyOf, IsOwn, IsSettled, AllSettled, IfSettled, done_values, known_by}
+use Rattle.commit_laws.proofs.TakeOver.{settled_no_null}
+use Rattle.rx_fiber.specs.Fibers.{Fiber, is_cloned}
+use Rattle.rx_fiber.specs.Reading.{IsFor, whole, alone, beside, IsOld, new, of, next}
+use Rattle.rx_fiber.specs.OldLists.{primary_list, old_elements, old_fibers}
+use Rattle.rx_fiber.specs.Standing.{StandsAt, begins}
+use Rattle.rx_fiber.specs.Surround.{IsElementOf}
+use Rattle.rx_begin.specs.Nodes.{HasOpened, mark_at, keeps_children, parts_in, begun_children}
+use Rattle.rx_begin.specs.Scenes.{IsCalmAt}
+use Rattle.rx_begin.specs.Bodies.{StoodIn, HasShape, keeps}
+use Rattle.rx_begin.specs.declared.node.Begun.{Begun}
+use Rattle.rx_begin.proofs.Making.{KnowsPlaces}
+use Rattle.rx_begin.proofs.Marks.{mark_is}
+
+-- The element of an old node
+
+pub node_element : (c : Shape Fiber) (j n : ℕ) (x : Node) (s rest : Shape Fiber) → IsFor n x s rest → list_at c j ≡ Some s → option_map (λ v. v.element) (value_in (list_at c j)) ≡ Some (element_of x)
+node_element c j n _ _ rest (whole is shown a) here = ap (λ l. option_map (λ v. v.element) (value_in l)) here ∙ ap Some is.element
+node_element c j n _ _ rest (alone is hidden gone a) here = ap (λ l. option_map (λ v. v.element) (value_in l)) here ∙ ap Some is.element
+node_element c j n _ _ rest (beside is hidden some a s b) here = ap (λ l. option_map (λ v. v.element) (value_in l)) here ∙ ap Some is.element
+
+-- it is that of its current fiber
+pub stood_in : (c : Shape Fiber) (o : Option ℕ) (old : Option Node) (e : Element) → IsOld c o old → IsElementOf c o e → StoodIn old e
+stood_in c _ _ e new same = cc
+stood_in c _ _ e (of {j = j} {n = n} {x = x} {s = s} here leads (next {rest = rest} is a)) same = sym (node_element c j n x s rest is here) ∙ same
+
+-- a clone has the element of its old node
+pub clone_stood : (t : Trees Fiber) (st : Stack) (p n : ℕ) (fs : List Frame) (cs : Contexts) (e : Element) (old : Option Node) → KnowsPlaces t
+    → StandsAt t st (Some p) (at_place (suc n) fs cs e old) → (v : Fiber) → Some v ≡ made_value_of t.draft p → is_cloned v.stage ≡ true → StoodIn old e
+clone_stood t st p n fs cs e old knows (begins {v = v} {o = o} {rs = rs} {k = k} here is was surrounds values stack) w f cloned =
+    let l : made_value_of t.draft p ≡ Some v = ap made_value_in (knows k p v o (taken shapes.none) rs here).list in
+    let same : w ≡ v = cc in
+    let so : is.cloned ≡ true = sym (ap (λ u. is_cloned u.stage) same ∙ ap is_cloned is.stage) ∙ cloned in
+    stood_in t.current o old e was (is.same so)
+
+-- Its children
+
+pub old_no_null : (p : Program) (k : Known) (old : Option Node) → IfSettled p k old → NoNull (children_if old)
+old_no_null p k None h = tt
+old_no_null p k (Some (node e m ns fs)) h = settled_no_null p k ns h.1
+
+both_true : (a b : Bool) → a && b ≡ true → (a ≡ true) × (b ≡ true)
+both_true true true h = (refl, refl)
+both_true true false h = cc
+both_true false b h = cc
+
+pub shown_again : (b : Bool) → not b ≡ true → b ≡ false
+shown_again true h = cc
+shown_again false h = refl
+
+-- the children of a node of no component are those of its element
+own_children : (p : Program) (k : Known) (e : Element) (m : Mark) (ns fs : Forest) → IsOwn p k e m ns fs → parts_in e ≡ None → is_hidden m ≡ false → begun_children e ≡ elements_in ns
+own_children p k elements.null m ns fs own none_in shown = absurd own
+own_children p k (elements.text t) m ns fs own none_in shown = sym (ap elements_in own.2)
+own_children p k (elements.host n key attrs es) m ns fs own none_in shown = sym own.2
+own_children p k (elements.comp c key props given) m ns fs own none_in shown = absurd (let q : ⊥ = cc in q)
+own_children p k (elements.list es) m ns fs own none_in shown = sym own.1
+own_children p k (elements.boundary key f es) m ns fs (inl own) none_in shown = sym own.1
+own_children p k (elements.boundary key f es) m ns fs (inr own) none_in shown = absurd (let q : true ≡ false = sym (ap is_hidden own.1) ∙ shown in let r : ⊥ = cc in r)
+own_children p k (elements.provider c key x es) m ns fs own none_in shown = sym own.1
+
+-- so a place that keeps its children has those of its element
+pub kept_children : (p : Program) (k : Known) (c : Shape Fiber) (o : Option ℕ) (old : Option Node) (e : Element) (cloned : Bool) → IsOld c o old → IfSettled p k old → (cloned ≡ true → StoodIn old e)
+    → parts_in e ≡ None → keeps_children cloned (mark_at c o) ≡ true → begun_children e ≡ elements_in (children_if old)
+kept_children p k c o old e cloned is settled stood none_in kept =
+    let (so, shown) = both_true cloned (not (option_map_or is_hidden (mark_at c o) false)) kept in by_old old (mark_is c o old is) settled (stood so) (shown_again (option_map_or is_hidden (mark_at c o) false) shown)
+  where
+    by_old : (x : Option Node) → mark_at c o ≡ option_map mark_of x → IfSettled p k x → StoodIn x e → option_map_or is_hidden (mark_at c o) false ≡ false → begun_children e ≡ elements_in (children_if x)
+    by_old None mark h same shown = cc
+    by_old (Some (node f m ns fs)) mark h same shown =
+        let g : f ≡ e = cc in
+        let l : is_hidden m ≡ false = sym (ap (λ q. option_map_or is_hidden q false) mark) ∙ shown in
+        subst (λ y. begun_children y ≡ elements_in ns) g (own_children p k f m ns fs h.0 (ap parts_in g ∙ none_in) l)
+
+-- Components
+
+same_inputs : (s : Sight) (cs : Contexts) (d : Component) (props : List ℤ) (given : Elements) (i : Instance) (n : ℕ) (values : List ℤ) → i.number ≡ Some n → hook_values s n i.initials ≡ values
+    → inputs_at s cs props given (Some i) ≡ record { props = props; children = listed given; hooks = Some values; contexts = cs; resources = (known_by s).resources }
+same_inputs s cs d props given i n values number same = rw (number, same) refl
+
+same_instance : (c : ℕ) (i : Instance) (initials : List ℤ) → i.component ≡ c → instance_after c (Some i) initials i.reads i.effects ≡ i
+same_instance c i initials same = rw (sym same) refl
+
+body_shape : (s : Sight) (cs : Contexts) (c : ℕ) (key : Key) (props : List ℤ) (given : Elements) (i : Instance) (ns fs : Forest) (e : Element) → IsBodyOf s.program (known_by s) c props given i (elements_in ns) → IsCalmAt s cs i
+    → shape_of_component s cs c props given (Some (node e (of_instance i) ns fs)) (component_at s.program c) ≡ one_list (of_instance i) (part cs (elements_in ns) ns)
+body_shape s cs c key props given i ns fs e body calm =
+    let same_number : calm.number ≡ body.instance = (let f : Some calm.number ≡ Some body.instance = sym calm.is_numbered ∙ body.is_numbered in cc) in
+    let values : hook_values s body.instance i.initials ≡ done_values s.program (known_by s) body.instance i.initials =
+    subst (λ n. hook_values s n i.initials ≡ done_values s.program (known_by s) n i.initials) same_number calm.values in
+    let again : body_of s.program body.component (inputs_at s cs props given (Some i)) ≡ ready (elements_in ns) i.effects body.initials i.reads =
+    ap (body_of s.program body.component)
+    (same_inputs s cs body.component props given i body.instance (done_values s.program (known_by s) body.instance i.initials) body.is_numbered values)
+    ∙ body.gives cs calm.reads in
+    ap (shape_of_component s cs c props given (Some (node e (of_instance i) ns fs))) body.is_component
+    ∙ (ap (shape_of_body cs c (Some (node e (of_instance i) ns fs))) again
+    ∙ ap (λ j. one_list (of_instance j) (part cs (elements_in ns) ns)) (same_instance c i body.initials body.is_of))
+
+-- A component without a cause gives what its old node has.
+pub calm_shape : (s : Sight) (cs : Contexts) (c : ℕ) (key : Key) (props : List ℤ) (given : Elements) (old : Option Node) (i : Instance) → IfSettled s.program (known_by s) old
+    → StoodIn old (elements.comp c key props given) → old_instance old ≡ Some i → IsCalmAt s cs i
+    → shape_of_component s cs c props given old (component_at s.program c) ≡ one_list (of_instance i) (part cs (elements_in (children_if old)) (children_if old))
+calm_shape s cs c key props given None i settled same there calm = cc
+calm_shape s cs c key props given (Some (node e m ns fs)) i settled same there calm =
+    let f : e ≡ elements.comp c key props given = cc in by_element (subst (λ y. IsOwn s.program (known_by s) y m ns fs) f settled.0)
+  where
+    by_element : IsOwn s.program (known_by s) (elements.comp c key props given) m ns fs
+        → shape_of_component s cs c props given (Some (node e m ns fs)) (component_at s.program c) ≡ one_list (of_instance i) (part cs (elements_in ns) ns)
+    by_element own =
+        let j : own.0 ≡ i = (let f : Some own.0 ≡ Some i = sym (ap instance_in own.1) ∙ there in cc) in
+        let k : m ≡ of_instance i = own.1 ∙ ap of_instance j in
+        subst (λ x. shape_of_component s cs c props given (Some (node e x ns fs)) (component_at s.program c) ≡ one_list (of_instance i) (part cs (elements_in ns) ns)) (sym k)
+        (body_shape s cs c key props given i ns fs e (subst (λ x. IsBodyOf s.program (known_by s) c props given x (elements_in ns)) j own.2) calm)
