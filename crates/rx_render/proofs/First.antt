@@ -23,5 +23,7 @@ first_starts lanes cut values v current keeps no_resources at empty =
         done = tt;
         cut_is = at;
         resources_are = rw (empty, no_resources) refl;
+        settled = tt;
+        rooted = tt;
       };
     }

@@ -19,7 +19,8 @@ use Rattle.rx_model.specs.Committing.{sight_of, starting}
 use Rattle.rx_model.specs.HooksOf.{KeepsAllHooks}
 use Rattle.rx_model.specs.Laws.{IsBounded}
 use Rattle.rx_fiber.specs.Fibers.{Fiber, waiting}
-use Rattle.rx_fiber.specs.Reading.{IsTreeOf, IsOld, new, of, next}
+use Rattle.rx_fiber.specs.Reading.{IsTreeOf, IsOld, of, next}
+use Rattle.rx_fiber.specs.Reading as reading
 use Rattle.rx_fiber.specs.Surround.{IsElementOf, IsWaiting}
 use Rattle.rx_fiber.proofs.Starting.{starts, root_old}
 use Rattle.rx_begin.proofs.Keeping.{node_element}
@@ -39,7 +40,7 @@ DrawsStart = (s : Sight) (old : Option Node) → is_rooted s.program ≡ true �
 
 -- the root's fiber is a clone of that of a tree with the root's element
 root_same : (c : Shape Fiber) (o : Option ℕ) (old : Option Node) (e : Element) → IsOld c o old → IfSome old (λ x. element_of x ≡ e) → is_some o ≡ true → IsElementOf c o e
-root_same c _ _ e new rooted there = cc
+root_same c _ _ e reading.new rooted there = cc
 root_same c _ _ e (of {j = j} {n = n} {x = x} {s = s} here leads (next {rest = rest} is a)) rooted there = node_element c j n x s rest is here ∙ ap Some rooted
 
 root_waits : (p : Program) (c : Shape Fiber) (old : Option Node) (v : Fiber) (cloned : Bool) → IsTreeOf old c → IfSome old (λ x. element_of x ≡ root_element p) → v.place ≡ 0
