@@ -1,5 +1,5 @@
 -- What keeps its old children: a clone, and a component without a cause.
-use Rattle.std.specs.Prelude.{◌≡◌, ℕ, ℤ, suc, Bool, true, false, not, ◌&&◌, List, [], Option, Some, None, option_and_then, option_map}
+use Rattle.std.specs.Prelude.{◌≡◌, ℕ, ℤ, suc, Bool, true, false, not, ◌&&◌, List, [], Option, Some, None, IsSome, is_some, option_and_then, option_map}
 use Rattle.std.specs.Option.{option_map_or}
 use Rattle.std.proofs.Common.{refl, sym, ap, ◌∙◌, subst, inl, inr}
 use Rattle.rx_ast.specs.Syntax.{Program, Component}
@@ -17,7 +17,7 @@ use Rattle.rx_links.specs.Readers.{value_in, list_from, made_value_of, made_valu
 use Rattle.rx_meaning.specs.Body.{body_of, ready}
 use Rattle.rx_meaning.specs.Cursor.{Frame, at_place}
 use Rattle.rx_meaning.specs.Fresh.{Sight, Contexts, Shape as Shape_of, one_list, part, hook_values, inputs_at, instance_after, old_instance, shape_of_body, shape_of_component}
-use Rattle.rx_meaning.specs.Settled.{Known, IsBodyOf, IsOwn, IsSettled, AllSettled, IfSettled, done_values, known_by}
+use Rattle.rx_meaning.specs.Settled.{Known, IsBodyOf, IsOwn, IsSettled, AllSettled, IfSettled, done_values, known_by, read_anew}
 use Rattle.commit_laws.proofs.TakeOver.{settled_no_null}
 use Rattle.rx_fiber.specs.Fibers.{Fiber, is_cloned}
 use Rattle.rx_fiber.specs.Reading.{IsFor, whole, alone, beside, IsOld, new, of, next}
@@ -25,7 +25,14 @@ use Rattle.rx_fiber.specs.OldLists.{primary_list, old_elements, old_fibers}
 use Rattle.rx_fiber.specs.Standing.{StandsAt, begins}
 use Rattle.rx_fiber.specs.Surround.{IsElementOf}
 use Rattle.rx_begin.specs.Nodes.{HasOpened, mark_at, keeps_children, parts_in, begun_children}
-use Rattle.rx_begin.specs.Scenes.{IsCalmAt}
+use Rattle.rx_queue.specs.History.{Answers}
+use Rattle.rx_hooks.specs.declared.hook.Hook.{Hook}
+use Rattle.rx_hooks.specs.Hooks.{HookHistory, HooksStandFor}
+use Rattle.rx_hook_store.specs.Gives.{has_work_in}
+use Rattle.rx_node.specs.MarkView.{instance_seen}
+use Rattle.rx_node.specs.declared.mark.Instance as code
+use Rattle.rx_begin.specs.declared.scene.Scene.{Scene}
+use Rattle.rx_begin.specs.Scenes.{IsCalmAt, TellsCalm, number_in}
 use Rattle.rx_begin.specs.Bodies.{StoodIn, HasShape, keeps}
 use Rattle.rx_begin.specs.declared.node.Begun.{Begun}
 use Rattle.rx_begin.proofs.Making.{KnowsPlaces}
@@ -129,3 +136,43 @@ calm_shape s cs c key props given (Some (node e m ns fs)) i settled same there c
         let k : m ≡ of_instance i = own.1 ∙ ap of_instance j in
         subst (λ x. shape_of_component s cs c props given (Some (node e x ns fs)) (component_at s.program c) ≡ one_list (of_instance i) (part cs (elements_in ns) ns)) (sym k)
         (body_shape s cs c key props given i ns fs e (subst (λ x. IsBodyOf s.program (known_by s) c props given x (elements_in ns)) j own.2) calm)
+
+-- What is told of a cause
+
+pub work_decides : (work anew : Bool) → work ≡ true → not work ≡ (not work && not anew)
+work_decides work anew h = rw h refl
+
+-- from a number, by what the hooks and the reads tell
+pub calm_told : (kept : ℕ → Option (List Hook)) (scene : Scene) (cs : Contexts) (o : Option code.Instance) (i : code.Instance) (n : ℕ) (work anew calm : Bool) → o ≡ Some i → i.number ≡ Some n
+    → ((answers : Answers) (hooks : List Hook) (histories : List HookHistory) → kept n ≡ Some hooks → HooksStandFor answers hooks histories → work ≡ has_work_in scene.lanes scene.cut histories)
+    → anew ≡ read_anew cs (instance_seen i).reads → calm ≡ (not work && not anew) → TellsCalm scene kept cs (option_map instance_seen o) calm
+calm_told kept scene cs o i n work anew calm is number tells reads same =
+    let seen : option_map instance_seen o ≡ Some (instance_seen i) = ap (option_map instance_seen) is in
+    subst (λ x. TellsCalm scene kept cs x calm) (sym seen)
+    (record {
+      work = work;
+      tells = λ m answers hooks histories there have stand.
+          let q : n ≡ m = (let f : Some n ≡ Some m = sym number ∙ there in cc) in tells answers hooks histories (ap kept q ∙ have) stand;
+      is = same ∙ (ap (λ b. not work && not b) reads ∙ ap (λ x. is_some x && (not work && not (read_anew cs (instance_seen i).reads))) (sym number));
+    })
+
+-- without a number nothing is calm
+pub none_calm : (kept : ℕ → Option (List Hook)) (scene : Scene) (cs : Contexts) (o : Option Instance) → number_in o ≡ None → TellsCalm scene kept cs o false
+none_calm kept scene cs o gone = record {
+  work = true;
+  tells = λ n answers hooks histories there. absurd (let f : None ≡ Some n = sym gone ∙ there in let q : ⊥ = cc in q);
+  is = ap (λ x. is_some x && false) (sym gone);
+}
+
+-- What is told of the fiber whose place begins
+
+pub parts_here : (t : Trees Fiber) (q : ℕ) (w v : Fiber) (e : Element) (x : Option (ℕ × (List ℤ × List Element))) → Some w ≡ made_value_of t.draft q → Some v ≡ made_value_of t.draft q → e ≡ w.element
+    → parts_in e ≡ x → parts_in v.element ≡ x
+parts_here t q w v e x is here same parts = let so : w ≡ v = cc in ap (λ u. parts_in u.element) (sym so) ∙ (ap parts_in (sym same) ∙ parts)
+
+pub cloned_here : (t : Trees Fiber) (q : ℕ) (w v : Fiber) (cloned b : Bool) → Some w ≡ made_value_of t.draft q → Some v ≡ made_value_of t.draft q → cloned ≡ is_cloned w.stage → is_cloned v.stage ≡ b → cloned ≡ b
+cloned_here t q w v cloned b is here same told = let so : w ≡ v = cc in same ∙ (ap (λ u. is_cloned u.stage) so ∙ told)
+
+pub no_parts : (x : Option (ℕ × (List ℤ × List Element))) → x ≡ None → IsSome x → ⊥
+no_parts None e h = let q : ⊥ = cc in q
+no_parts (Some y) e h = let q : ⊥ = cc in q

@@ -1,13 +1,15 @@
 // A place begins.
-ghost use Rattle.std.specs.Prelude.{◌≡◌, ◌+◌, ◌<◌, ◌≤◌, suc, ℕ, ℤ, true, false, List, Option, Some, length, IfOk, IfSome, OnOk, if◌then◌else◌, option_and_then};
+ghost use Rattle.std.specs.Prelude.{◌≡◌, ◌+◌, ◌<◌, ◌≤◌, suc, ℕ, ℤ, true, false, not, List, Option, Some, None, length, IfOk, IsSome, IfSome, OnOk, if◌then◌else◌, option_and_then};
 ghost use Rattle.rx_ast.specs.Syntax as syntax;
 ghost use Rattle.rx_ctx.specs.Contexts.{values_at};
 ghost use Rattle.rx_elem.specs.Elements as elements;
-ghost use Rattle.rx_elem.specs.Trees.{Node, host_number};
+ghost use Rattle.rx_elem.specs.Trees.{Node, host_number, instance_in};
 ghost use Rattle.rx_links.specs.Drafts.{old_of};
-ghost use Rattle.rx_links.specs.Readers.{list_from};
+ghost use Rattle.rx_links.specs.Readers.{list_from, made_value_of};
+ghost use Rattle.rx_fiber.specs.Fibers as fibers;
+ghost use Rattle.rx_fiber.specs.Fibers.{is_cloned};
 ghost use Rattle.rx_fiber.specs.OldLists.{matched, old_elements, old_fibers, primary_list};
-ghost use Rattle.rx_begin.specs.Nodes.{IsBareAt, HasOpened, mark_at, keeps_children, begun_stage, begun_children, begun_stack, given_context};
+ghost use Rattle.rx_begin.specs.Nodes.{IsBareAt, HasOpened, mark_at, keeps_children, parts_in, begun_stage, begun_children, begun_stack, given_context};
 ghost use Rattle.rx_meaning.specs.Fresh.{Sight, Contexts};
 ghost use Rattle.rx_meaning.specs.Cursor.{Frame, at_place};
 ghost use Rattle.rx_meaning.specs.Counts.{each_body, next_counts};
@@ -17,7 +19,7 @@ ghost use Rattle.rx_model.specs.HooksOf.{KeepsAllHooks};
 ghost use Rattle.rx_fiber.specs.Standing.{StandsAt};
 ghost use Rattle.rx_hook_store.specs.Store.{kept_hooks};
 ghost use Rattle.rx_hook_store.specs.Gives.{GivesValues};
-ghost use Rattle.rx_begin.specs.Scenes.{IsSceneOf};
+ghost use Rattle.rx_begin.specs.Scenes.{IsSceneOf, TellsCalm};
 ghost use Rattle.rx_begin.specs.Beginning.{IsAtPlace, BeginsPlace};
 
 use crate::body::begin_component;
@@ -86,6 +88,11 @@ pub fn begin<L: Ledger>(
     ensures begun { IfOk result (λ b. (s : Sight) → IsSceneOf scene.now s → BeginsPlace s (kept_hooks hooks.old) tree.old contexts.old tree.new contexts.new at b.0) }
     ensures current { tree.new.current ≡ tree.old.current }
     ensures bodies { IfOk result (λ b. steps.new ≡ steps.old + (if b.1 then 1 else 0)) }
+    // A component's body is skipped exactly where its fiber is cloned and its old instance is calm; no other element has one.
+    ensures none { IfOk result (λ b. (v : fibers.Fiber) → Some v ≡ made_value_of tree.old.draft at → parts_in v.element ≡ None → b.1 ≡ false) }
+    ensures anew { IfOk result (λ b. (v : fibers.Fiber) → Some v ≡ made_value_of tree.old.draft at → IsSome (parts_in v.element) → is_cloned v.stage ≡ false → b.1 ≡ true) }
+    ensures exact { IfOk result (λ b. (v : fibers.Fiber) → Some v ≡ made_value_of tree.old.draft at → IsSome (parts_in v.element) → is_cloned v.stage ≡ true
+        → TellsCalm scene.now (kept_hooks hooks.old) (values_at contexts.old) (option_and_then instance_in (mark_at tree.old.current (old_of tree.old.draft at))) (not b.1)) }
     ensures few { IfOk result (λ b. (s : Sight) (n : ℕ) (fs : List Frame) (cs : Contexts) (e : elements.Element) (old : Option Node) → IsSceneOf scene.now s → StandsAt tree.old contexts.old (Some at) (at_place (suc n) fs cs e old)
         → (if b.1 then 1 else 0) ≤ next_counts each_body s (at_place (suc n) fs cs e old)) }
     ensures rises { steps.old ≤ steps.new }

@@ -1,5 +1,5 @@
 // A component's place begins with its body.
-ghost use Rattle.std.specs.Prelude.{◌≡◌, ◌+◌, ◌≤◌, ℕ, ℤ, true, List, Option, Some, length, IfOk, IfSome, OnOk, IsSome, if◌then◌else◌, option_map, option_and_then};
+ghost use Rattle.std.specs.Prelude.{◌≡◌, ◌+◌, ◌≤◌, ℕ, ℤ, true, false, not, List, Option, Some, length, IfOk, IfSome, OnOk, IsSome, if◌then◌else◌, option_map, option_and_then};
 ghost use Rattle.std.specs.Option.{option_copied};
 ghost use Rattle.rx_rules.specs.Names.{component_at, prop_names};
 ghost use Rattle.rx_elem.specs.Elements.{Elements, Key, listed};
@@ -22,7 +22,7 @@ ghost use Rattle.rx_links.specs.Readers.{list_from};
 ghost use Rattle.rx_fiber.specs.Fibers.{begun};
 ghost use Rattle.rx_fiber.specs.OldLists.{primary_list, old_elements, old_fibers};
 ghost use Rattle.rx_begin.specs.Nodes.{IsBareAt, HasOpened, mark_at};
-ghost use Rattle.rx_begin.specs.Scenes.{IsSceneOf, IsCalmAt, GivesHooks, number_in};
+ghost use Rattle.rx_begin.specs.Scenes.{IsSceneOf, IsCalmAt, TellsCalm, GivesHooks, number_in};
 ghost use Rattle.rx_begin.specs.Bodies.{StoodIn, HasShape};
 
 use crate::node::{Begun, keep_node, old_instance, open_node};
@@ -217,14 +217,10 @@ fn read_anew(reads: &[ContextRead], contexts: &[Int]) -> bool
 
 // Whether an instance has no cause to be rendered anew: its hooks have no work, and the contexts that it read have the values
 // that it found.
-fn is_calm(
-    instance: &Option<Instance>,
-    scene: &Scene,
-    hooks: &HookStore,
-    contexts: &[Int],
-) -> bool
+fn is_calm(instance: &Option<Instance>, scene: &Scene, hooks: &HookStore, contexts: &[Int]) -> bool
     requires { IfSome (number_in (option_map instance_seen instance.now)) (λ n. IsSome (kept_hooks hooks.now n)) }
     ensures there { result ≡ true → IsSome instance.now }
+    ensures exact { TellsCalm scene.now (kept_hooks hooks.now) contexts.now (option_map instance_seen instance.now) result }
     ensures calm { result ≡ true → (s : Sight) → IsSceneOf scene.now s → GivesHooks s (kept_hooks hooks.now) (option_map instance_seen instance.now)
         → (i : trees.Instance) × (option_map instance_seen instance.now ≡ Some i) × IsCalmAt s contexts.now i }
 {
@@ -237,6 +233,28 @@ fn is_calm(
             None => false,
         },
         None => false,
+    }
+}
+
+// Whether a body is skipped: the fiber is cloned, and its instance has no cause to be rendered anew.
+fn is_skipped(
+    cloned: bool,
+    instance: &Option<Instance>,
+    scene: &Scene,
+    hooks: &HookStore,
+    contexts: &[Int],
+) -> bool
+    requires { IfSome (number_in (option_map instance_seen instance.now)) (λ n. IsSome (kept_hooks hooks.now n)) }
+    ensures cloned { result ≡ true → cloned ≡ true }
+    ensures there { result ≡ true → IsSome instance.now }
+    ensures exact { cloned ≡ true → TellsCalm scene.now (kept_hooks hooks.now) contexts.now (option_map instance_seen instance.now) result }
+    ensures calm { result ≡ true → (s : Sight) → IsSceneOf scene.now s → GivesHooks s (kept_hooks hooks.now) (option_map instance_seen instance.now)
+        → (i : trees.Instance) × (option_map instance_seen instance.now ≡ Some i) × IsCalmAt s contexts.now i }
+{
+    if cloned {
+        is_calm(instance, scene, hooks, contexts)
+    } else {
+        false
     }
 }
 
@@ -281,13 +299,15 @@ pub(crate) fn begin_component<L: Ledger>(
         → listed kids ≡ children.now → HasShape (shape_of_component s contexts.now component props.now kids old (component_at s.program component)) contexts.now old tree.old tree.new at b.0) }
     ensures current { tree.new.current ≡ tree.old.current }
     ensures once { IfOk result (λ b. steps.new ≡ steps.old + (if b.1 then 1 else 0)) }
+    ensures anew { IfOk result (λ b. cloned ≡ false → b.1 ≡ true) }
+    ensures exact { IfOk result (λ b. cloned ≡ true → TellsCalm scene.now (kept_hooks hooks.old) contexts.now (option_and_then instance_in (mark_at tree.old.current (old_of tree.old.draft at))) (not b.1)) }
     ensures rises { steps.old ≤ steps.new }
     ensures still { (s : Sight) (k : ℕ) (initials : List ℤ) → IsSceneOf scene.now s → GivesValues s (kept_hooks hooks.old) k initials → GivesValues s (kept_hooks hooks.new) k initials }
     ensures states { (st : State) → DoneBefore scene.now.cut st.journal.updates → KeepsAllHooks scene.now.checked.now st (kept_hooks hooks.old) → KeepsAllHooks scene.now.checked.now st (kept_hooks hooks.new) }
 {
     tree.place_facts();
     let old = old_instance(tree, tree.alternate(at))?;
-    if cloned && is_calm(&old, scene, hooks, contexts) {
+    if is_skipped(cloned, &old, scene, hooks, contexts) {
         let begun = keep_body(alloc, tree, at, old)?;
         return Ok((begun, false));
     }

@@ -108,7 +108,14 @@ fn make_all(
     'making: while place > 0 {
         place -= 1;
         tree.place_facts();
-        make_one(tree, at, place as u32, &elements[place], olds[place], cloned)?;
+        make_one(
+            tree,
+            at,
+            place as u32,
+            &elements[place],
+            olds[place],
+            cloned,
+        )?;
     }
     Ok(())
 }

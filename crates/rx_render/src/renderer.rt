@@ -229,7 +229,9 @@ impl Renderer {
         let contexts = ContextStack::new(self.alloc, &defaults)?;
         let root = root_element(self.alloc, &self.checked)?;
         let cloned = self.fibers.current().is_some();
-        let id = self.fibers.start(Fiber::new(0, root, Stage::Waiting { cloned }))?;
+        let id = self
+            .fibers
+            .start(Fiber::new(0, root, Stage::Waiting { cloned }))?;
         cursors_are_drawn();
         self.contexts = contexts;
         self.resources = resources;

@@ -1,6 +1,12 @@
-use Rattle.std.proofs.Common.{sym, ap, refl, ◌∙◌}
+use Rattle.std.proofs.Common.{sym, ap, refl, ◌∙◌, subst}
 use Rattle.rx_begin.specs.PartsView.{parts_seen}
-use Rattle.std.specs.Prelude.{option_map}
+use Rattle.rx_elem.specs.Trees.{instance_in}
+use Rattle.rx_links.specs.Drafts.{old_of}
+use Rattle.rx_hook_store.specs.Store.{kept_hooks}
+use Rattle.rx_begin.specs.Nodes.{mark_at}
+use Rattle.rx_begin.specs.Scenes.{TellsCalm}
+use Rattle.rx_begin.proofs.Keeping.{parts_here, cloned_here, no_parts}
+use Rattle.std.specs.Prelude.{true, false, not, Some, None, option_map, option_and_then}
 use Rattle.rx_begin.proofs.ByElement.{if_ok}
 use Rattle.rx_begin.proofs.Begins.{place_kept, place_there, place_context, place_props, begins_body, begins_other, counts_one, made_at}
 use Rattle.rx_begin.proofs.beginning.begin.Goals as goal
@@ -53,3 +59,34 @@ returns-clause-begun g c s is =
     (place_there c.args.scene.now.checked.now _ c.args.tree.now c.args.contexts.now c.args.at c.place_facts.ensures c.requires.place c.value-fiber.result.now c.in_ok-element.element
     (c.value-fiber.ensures.made (made_at _ _ _ _ _ c.place_facts.ensures c.requires.place)) (c.in_ok-element.ensures ∙ c.element.ensures))
     (sym c.parts_of.ensures ∙ ap (option_map parts_seen) c.in-None.is) c.in_ok-begun-in-None.ensures.stack c.in_ok-begun-in-None.ensures.kept c.in_ok-begun-in-None.ensures.opened
+
+pub returns-in-Some-clause-none : goal.returns-in-Some-clause-none
+returns-in-Some-clause-none g c =
+    if_ok c.begin_component.result _ _
+    (λ b once v here none.
+    absurd
+    (let f = parts_here c.args.tree.now c.args.at c.value-fiber.result.now v c.in_ok-element.element _ (c.value-fiber.ensures.made (made_at _ _ _ _ _ c.place_facts.ensures c.requires.place)) here (c.in_ok-element.ensures ∙ c.element.ensures) (sym c.parts_of.ensures ∙ ap (option_map parts_seen) c.in-Some.is) in
+    let q : ⊥ = cc in q))
+    c.begin_component.ensures.once
+
+pub returns-in-Some-clause-anew : goal.returns-in-Some-clause-anew
+returns-in-Some-clause-anew g c =
+    if_ok c.begin_component.result _ _
+    (λ b anew v here some fresh. anew (cloned_here c.args.tree.now c.args.at c.value-fiber.result.now v c.is_cloned-cloned.result false (c.value-fiber.ensures.made (made_at _ _ _ _ _ c.place_facts.ensures c.requires.place)) here c.is_cloned-cloned.ensures fresh))
+    c.begin_component.ensures.anew
+
+pub returns-in-Some-clause-exact : goal.returns-in-Some-clause-exact
+returns-in-Some-clause-exact g c =
+    if_ok c.begin_component.result _ _
+    (λ b exact v here some so.
+    subst (λ cs. TellsCalm c.args.scene.now (kept_hooks c.args.hooks.now) cs (option_and_then instance_in (mark_at c.args.tree.now.current (old_of c.args.tree.now.draft c.args.at))) (not b.1)) c.values.ensures
+    (exact (cloned_here c.args.tree.now c.args.at c.value-fiber.result.now v c.is_cloned-cloned.result true (c.value-fiber.ensures.made (made_at _ _ _ _ _ c.place_facts.ensures c.requires.place)) here c.is_cloned-cloned.ensures so)))
+    c.begin_component.ensures.exact
+
+pub returns-clause-anew : goal.returns-clause-anew
+returns-clause-anew g c v here some fresh =
+    absurd (no_parts _ (parts_here c.args.tree.now c.args.at c.value-fiber.result.now v c.in_ok-element.element None (c.value-fiber.ensures.made (made_at _ _ _ _ _ c.place_facts.ensures c.requires.place)) here (c.in_ok-element.ensures ∙ c.element.ensures) (sym c.parts_of.ensures ∙ ap (option_map parts_seen) c.in-None.is)) some)
+
+pub returns-clause-exact : goal.returns-clause-exact
+returns-clause-exact g c v here some so =
+    absurd (no_parts _ (parts_here c.args.tree.now c.args.at c.value-fiber.result.now v c.in_ok-element.element None (c.value-fiber.ensures.made (made_at _ _ _ _ _ c.place_facts.ensures c.requires.place)) here (c.in_ok-element.ensures ∙ c.element.ensures) (sym c.parts_of.ensures ∙ ap (option_map parts_seen) c.in-None.is)) some)

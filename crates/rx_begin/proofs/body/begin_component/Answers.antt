@@ -11,17 +11,17 @@ use Rattle.rx_begin.proofs.Keeping.{calm_shape}
 use Rattle.rx_begin.proofs.body.begin_component.Goals as goal
 
 pub keep_body-requires-clause-there : goal.keep_body-requires-clause-there
-keep_body-requires-clause-there g c = c.is_calm.ensures.there c.if-is_calm.true
+keep_body-requires-clause-there g c = c.is_skipped.ensures.there c.if-is_skipped.true
 
-pub returns-then-is_calm-clause-evaluated : goal.returns-then-is_calm-clause-evaluated
-returns-then-is_calm-clause-evaluated g c s old key kids is was gives settled stood same =
+pub returns-then-is_skipped-clause-evaluated : goal.returns-then-is_skipped-clause-evaluated
+returns-then-is_skipped-clause-evaluated g c s old key kids is was gives settled stood same =
     let instance = instance_at c.args.tree.now.current c.alternate.result (old_of c.args.tree.now.draft c.args.at) old _
     (c.alternate.ensures.made (bare_made c.args.tree.now c.args.at c.place_facts.ensures c.requires.bare)) was c.in_ok-old.ensures in
-    let (i, there, calm) = c.is_calm.ensures.calm c.if-is_calm.true s is (subst (GivesHooks s (kept_hooks c.args.hooks.now)) (sym instance) gives) in
+    let (i, there, calm) = c.is_skipped.ensures.calm c.if-is_skipped.true s is (subst (GivesHooks s (kept_hooks c.args.hooks.now)) (sym instance) gives) in
     keeps
     (record {
       mark = of_instance i;
-      shape_is = calm_shape s c.args.contexts.now c.args.component key c.args.props.now kids old i settled (stood c.if-cloned.true) (sym instance ∙ there) calm;
+      shape_is = calm_shape s c.args.contexts.now c.args.component key c.args.props.now kids old i settled (stood (c.is_skipped.ensures.cloned c.if-is_skipped.true)) (sym instance ∙ there) calm;
       shown = refl;
       opened = c.in_ok-begun.ensures.kept i there;
     })
