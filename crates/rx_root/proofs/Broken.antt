@@ -4,6 +4,7 @@ use Rattle.std.specs.Prelude.{◌⊎◌, OnErr, OnOk, Result, Ok, Err}
 use Rattle.rx_ast.specs.Syntax.{Program}
 use Rattle.std.proofs.Math.Seq.{take-append_seam}
 use Rattle.rx_base.specs.Values.{Text}
+use Rattle.rx_elem.specs.Numbers.{Numbers}
 use Rattle.rx_elem.specs.Trees.{Node}
 use Rattle.rx_settle.specs.Settling.{CanSettle, IsSettlingOf}
 use Rattle.rx_lane.specs.declared.lane.Lane.TheVariants as lane
@@ -31,7 +32,7 @@ use Rattle.rx_render.specs.Renders.{with_hooks}
 use Rattle.rx_render.specs.Turning.{GoesOn, GivesUp, KeepsHooks}
 use Rattle.rx_render.specs.TurningLaws.{keeps_join}
 use Rattle.rx_root.specs.Rooted.{Rooted}
-use Rattle.rx_root.specs.Stands.{StandsBy, StandsButForRender, StandsWith, Stands}
+use Rattle.rx_root.specs.Stands.{HasRoomFor, StandsBy, StandsButForRender, StandsWith, Stands}
 use Rattle.rx_root.specs.Turning.{Breaks, GaveUp, HasBroken, HasDone, HasRoomForTurns, KeepsShown, LeavesRoom, StandsAtEnd, Takes}
 use Rattle.rx_root.specs.Breaking.{BreaksOff, BreaksOffWithin, HasBegun, TurnBreaksOff, TurnsBreakOff}
 use Rattle.rx_root.proofs.TurnLines.{with_none, with_both}
@@ -159,6 +160,14 @@ gave_up_but p s g v w h up =
     subst (λ (q : Program). KeepsAllHooks q s (kept_hooks w.rendering.hooks)) (up.program ∙ h.program) (up.keeps s done before) in
     subst (λ (z : Rooted). StandsButForRender p s z) (sym up.rest)
     (but_for p s _ v w.rendering w.shown h up.program up.current after (up.shows s.tree s.passive h.shows))
+
+-- a root whose hooks are settled, and that is about to show another tree
+pub prepared_rest : (v i w : Rooted) (shown : Shown) → i ≡ v → w ≡ record i { shown = shown; rendering = with_hooks i.rendering w.rendering.hooks }
+    → w ≡ record v { rendering = with_hooks v.rendering w.rendering.hooks; shown = w.shown }
+prepared_rest v i w shown same is =
+    let e : w.shown ≡ shown = ap (λ (z : Rooted). z.shown) is in
+    is ∙ ap (λ (y : Shown). record i { shown = y; rendering = with_hooks i.rendering w.rendering.hooks }) (sym e)
+    ∙ ap (λ (z : Rooted). record z { rendering = with_hooks z.rendering w.rendering.hooks; shown = w.shown }) same
 
 -- Settling hooks
 
@@ -289,9 +298,10 @@ begun_bodies s r (inl is) = ap (λ (x : Stretch). x.bodies) is
 begun_bodies s r (inr (lanes, e, is)) = ap (λ (x : Stretch). x.bodies) is
 
 -- so the turn breaks off
-pub turn_breaks : (p : Program) (s : State) (v : Rooted) (w : Rendering) (log new : Written) (steps counted : ℕ) → HasBroken p (λ r. (choice_of s ≢ choice.None) × HasBegun s r) v log new
+pub turn_breaks : (p : Program) (s : State) (x v : Rooted) (w : Rendering) (log new : Written) (steps counted : ℕ) → v ≡ x → HasBroken p (λ r. (choice_of s ≢ choice.None) × HasBegun s r) x log new
     → w ≡ discarded v.rendering → steps ≤ counted → Breaks p (TurnBreaksOff s) (record v { rendering = w }) log new steps counted
-turn_breaks p s v w log new steps counted b is rises =
+turn_breaks p s x v w log new steps counted same h is rises =
+    let b = subst (λ (z : Rooted). HasBroken p (λ r. (choice_of s ≢ choice.None) × HasBegun s r) z log new) (sym same) h in
     record {
       stretch = record b.stretch { after = without_render b.stretch.after };
       asked = record { some = b.asked.0; begun = b.stretch; has_begun = b.asked.1; stretch_is = refl };
@@ -381,3 +391,21 @@ pub either_program : {T E : Type 0} (r : Result T E) (p : Program) (s : State) (
     → w.rendering.program ≡ p
 either_program (Ok x) p s v w asks breaks log new steps counted h ok err = (ok s h).done.stands.program
 either_program (Err e) p s v w asks breaks log new steps counted h ok err = (err s h).done.stands.program
+
+-- what holds whichever way a call ends
+pub by_result : {T E : Type 0} (r : Result T E) (A : Type 0) → OnOk r A → OnErr r A → A
+by_result (Ok x) A ok err = ok
+by_result (Err e) A ok err = err
+
+-- room for one step more is room without it, where no number changed
+pub room_less : (v w : Rooted) → w.updates ≡ v.updates → w.resolutions ≡ v.resolutions → w.commits ≡ v.commits → w.numbers ≡ v.numbers → (k : ℕ) → HasRoomFor (suc k) v → HasRoomFor k w
+room_less v w updates resolutions commits numbers k h =
+    let instances : w.numbers.instance ≡ v.numbers.instance = ap (λ (m : Numbers). m.instance) numbers in
+    let hosts : w.numbers.host ≡ v.numbers.host = ap (λ (m : Numbers). m.host) numbers in
+    record {
+      updates = omega (arith, updates, h.updates);
+      resolutions = omega (arith, resolutions, h.resolutions);
+      commits = omega (arith, commits, h.commits);
+      instances = omega (arith, instances, h.instances);
+      hosts = omega (arith, hosts, h.hosts);
+    }

@@ -280,12 +280,7 @@ impl Root {
 
     // Prepares the commit of a finished tree, whose new instances have numbers from the first on: all of it that may fail, its
     // lines and its hooks too. An `Err` changes nothing of what the root stands for, nor the report.
-    fn prepare(
-        &mut self,
-        tree: Node,
-        first: u64,
-        log: &mut Report,
-    ) -> Result<Prepared, AllocError>
+    fn prepare(&mut self, tree: Node, first: u64, log: &mut Report) -> Result<Prepared, AllocError>
         requires room { self.old.commits + 1 < 2 ^ 64 }
         requires over { self.old.rendering.at ≡ Over }
         requires at_hand { CanSettle self.old.rendering.program (kept_hooks self.old.rendering.hooks) self.old.shown.tree tree first self.old.rendering.lanes self.old.rendering.cut }

@@ -1,11 +1,11 @@
-use Rattle.std.proofs.Common.{refl, sym, subst}
+use Rattle.std.proofs.Common.{refl, sym, ap, subst}
 use Rattle.rx_step.specs.declared.step.Step.TheVariants as step
 use Rattle.rx_begin.proofs.Begins.{on_ok}
 use Rattle.rx_root.proofs.Lines.{on_ok_both}
 use Rattle.rx_root.proofs.Taken.{event_taken, passive_taken, state_taken, taken_as, tick_taken, tree_taken}
 use Rattle.rx_root.specs.Rooted.{Rooted}
 use Rattle.rx_root.specs.Stands.{Stands}
-use Rattle.rx_root.proofs.Broken.{aside_broken, broken_as, either_program, on_err, on_err_both}
+use Rattle.rx_root.proofs.Broken.{aside_broken, broken_as, by_result, either_program, on_err, on_err_both, room_less}
 use Rattle.rx_root.proofs.root.Root.step.Goals as goal
 
 pub returns-in-Dispatch-clause-ok : goal.returns-in-Dispatch-clause-ok
@@ -125,3 +125,18 @@ returns-in_err-states-in-State-clause-broken g c s h =
 pub returns-in_err-tree-in-Tree-clause-broken : goal.returns-in_err-tree-in-Tree-clause-broken
 returns-in_err-tree-in-Tree-clause-broken g c s h =
     aside_broken c.args.self.now.rendering.program s step.Tree c.args.step.now c.args.self.now c.args.log.now c.tree.new.log c.args.steps.now c.in-Tree.is refl h c.in_err-tree-in-Tree.ensures.err
+
+pub returns-in-Passive-clause-program : goal.returns-in-Passive-clause-program
+returns-in-Passive-clause-program g c =
+    by_result c.passive.result _ (on_ok c.passive.result _ _ (ap (λ (v : Rooted). v.rendering.program)) c.passive.ensures.ran)
+    (on_err c.passive.result _ _ (ap (λ (v : Rooted). v.rendering.program)) c.passive.ensures.same)
+
+pub returns-in-Passive-clause-left : goal.returns-in-Passive-clause-left
+returns-in-Passive-clause-left g c =
+    by_result c.passive.result _
+    (on_ok c.passive.result _ _
+    (λ is. room_less c.args.self.now c.passive.new.self (ap (λ (v : Rooted). v.updates) is) (ap (λ (v : Rooted). v.resolutions) is) (ap (λ (v : Rooted). v.commits) is) (ap (λ (v : Rooted). v.numbers) is))
+    c.passive.ensures.ran)
+    (on_err c.passive.result _ _
+    (λ is. room_less c.args.self.now c.passive.new.self (ap (λ (v : Rooted). v.updates) is) (ap (λ (v : Rooted). v.resolutions) is) (ap (λ (v : Rooted). v.commits) is) (ap (λ (v : Rooted). v.numbers) is))
+    c.passive.ensures.same)

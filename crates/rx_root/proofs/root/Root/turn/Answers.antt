@@ -1,6 +1,3 @@
-use Rattle.std.proofs.Common.{sym, subst}
-use Rattle.rx_root.specs.Rooted.{Rooted}
-use Rattle.rx_root.specs.Turning.{HasBroken}
 use Rattle.rx_root.specs.contracts.root.Root.{the_view}
 use Rattle.rx_root.proofs.Broken.{broken_leaves, turn_breaks}
 use Rattle.rx_root.proofs.FlushSteps.{turn_leaves}
@@ -14,8 +11,8 @@ returns-in-Ok-clause-leaves g c =
 
 pub returns-in-Err-clause-breaks : goal.returns-in-Err-clause-breaks
 returns-in-Err-clause-breaks g c = λ p s h none.
-    let broken = subst (λ (v : Rooted). HasBroken p _ v c.args.log.now c.try_turn.new.log) (sym c.self.view_is) (c.in-Err.ensures.broken p s h none) in
-    turn_breaks p s (the_view c.self.inside) c.discard.new.self c.args.log.now c.try_turn.new.log c.args.steps.now c.try_turn.new.steps broken c.discard.ensures c.try_turn.ensures.rises
+    turn_breaks p s c.try_turn.new.self (the_view c.self.inside) c.discard.new.self c.args.log.now c.try_turn.new.log c.args.steps.now c.try_turn.new.steps c.self.view_is
+    (c.in-Err.ensures.broken p s h none) c.discard.ensures c.try_turn.ensures.rises
 
 pub returns-in-Err-clause-leaves : goal.returns-in-Err-clause-leaves
 returns-in-Err-clause-leaves g c =
