@@ -71,8 +71,8 @@ returns-in_err-settle-clause-gave_up c =
     unsettled_gave_up c.args.self.now (record i { shown = c.prepare.new.self }) c.settle.new.self (ap (λ (z : Rooted). record z { shown = c.prepare.new.self }) c.self.view_is)
     (λ tree passive h. c.in_ok-prepared.ensures.same tree passive (subst (λ (v : Rooted). Shows tree passive v.shown) (sym c.self.view_is) h)) c.in_err-settle.ensures.rest c.in_err-settle.ensures.keeps
 
-pub returns-in_err-prepare-clause-gave_up : goal.returns-in_err-prepare-clause-gave_up
-returns-in_err-prepare-clause-gave_up c =
+pub returns-in_err-prepared-clause-gave_up : goal.returns-in_err-prepared-clause-gave_up
+returns-in_err-prepared-clause-gave_up c =
     let i = the_view c.self.inside in
     unprepared_gave_up c.args.self.now (record i { shown = c.prepare.new.self }) (ap (λ (z : Rooted). record z { shown = c.prepare.new.self }) c.self.view_is)
     (λ tree passive h. c.in_err-prepared.ensures.same tree passive (subst (λ (v : Rooted). Shows tree passive v.shown) (sym c.self.view_is) h))

@@ -41,8 +41,8 @@ returns-in_err-flush_passive-clause-broken c p s i none =
     let h = subst (λ (x : Rooted). Stands p s x) (sym c.self.view_is) i in
     none_broken p s v _ c.args.log.now c.flush_passive.new.log h (ap (λ (x : Shown). record v { shown = x }) c.in_err-flush_passive.ensures.same) c.in_err-flush_passive.ensures.unchanged
 
-pub returns-in_err-copied-clause-broken : goal.returns-in_err-copied-clause-broken
-returns-in_err-copied-clause-broken c p s i none =
+pub returns-in_err-values-clause-broken : goal.returns-in_err-values-clause-broken
+returns-in_err-values-clause-broken c p s i none =
     let v = the_view c.self.inside in
     let h = subst (λ (x : Rooted). Stands p s x) (sym c.self.view_is) i in
     passive_broken p s v _ v.rendering c.flush_passive.new.self c.args.log.now c.flush_passive.new.log h none refl refl refl refl c.in_ok-flush_passive.ensures.ended c.in_ok-flush_passive.ensures.written

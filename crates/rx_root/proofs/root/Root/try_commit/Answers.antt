@@ -76,11 +76,11 @@ show-requires-clause-ready c =
           (subst IsAccepted e.stands.program c.facts.ensures.accepted) c.in_ok-tree.tree (c.in_ok-tree.ensures.tree e.program e.state e.progress e.tree e.stands));
     }
 
-pub returns-in_err-number-clause-gave_up : goal.returns-in_err-number-clause-gave_up
-returns-in_err-number-clause-gave_up c = numbered_gave_up c.args.self.now c.number.new.self c.number.new.self c.number.ensures.rest (gave_up_same c.number.new.self)
+pub returns-in_err-tree-clause-gave_up : goal.returns-in_err-tree-clause-gave_up
+returns-in_err-tree-clause-gave_up c = numbered_gave_up c.args.self.now c.number.new.self c.number.new.self c.number.ensures.rest (gave_up_same c.number.new.self)
 
-pub returns-in_err-prepare-clause-gave_up : goal.returns-in_err-prepare-clause-gave_up
-returns-in_err-prepare-clause-gave_up c = numbered_gave_up c.args.self.now c.number.new.self c.prepare.new.self c.in_ok-tree.ensures.rest c.in_err-prepared.ensures.gave_up
+pub returns-in_err-prepared-clause-gave_up : goal.returns-in_err-prepared-clause-gave_up
+returns-in_err-prepared-clause-gave_up c = numbered_gave_up c.args.self.now c.number.new.self c.prepare.new.self c.in_ok-tree.ensures.rest c.in_err-prepared.ensures.gave_up
 
 pub returns-clause-done : goal.returns-clause-done
 returns-clause-done c p s g tree h reached =
