@@ -39,6 +39,7 @@ use Rattle.rx_root.proofs.TurnLines.{with_none, with_both}
 use Rattle.rx_root.proofs.TurnReached.{reached_passive}
 use Rattle.rx_root.proofs.TurnRoom.{Grows, room_after}
 use Rattle.rx_root.proofs.TurnStands.{discarded, moved_stands}
+use Rattle.rx_root.proofs.TurnsTaken.{on_ok}
 
 -- what a call promises on its Err
 pub on_err : {T E : Type 0} (r : Result T E) (A B : Type 0) → (A → B) → OnErr r A → OnErr r B
@@ -48,6 +49,11 @@ on_err (Err e) A B f h = f h
 pub on_err_both : {T E : Type 0} (r : Result T E) (A B C : Type 0) → (A → B → C) → OnErr r A → OnErr r B → OnErr r C
 on_err_both (Ok x) A B C f h i = tt
 on_err_both (Err e) A B C f h i = f h i
+
+-- a call that ends with an Err promises it
+pub any_err : {T E : Type 0} (r : Result T E) (A : Type 0) → A → OnErr r A
+any_err (Ok x) A h = tt
+any_err (Err e) A h = h
 
 -- Giving up a render
 
@@ -194,6 +200,13 @@ pub settled_keeps : (v : Rooted) (x w : Rendering) → x ≡ v.rendering → w �
 settled_keeps v x w is same keeps =
     subst (λ (r : Rendering). KeepsHooks r w) is
     (λ st done h. subst (λ (q : Program). KeepsAllHooks q st (kept_hooks w.hooks)) (sym (ap (λ (r : Rendering). r.program) same)) (keeps st done h))
+
+-- what a call promises on its Ok or Err, another with the same result promises
+pub ok_as : {T E : Type 0} (q r : Result T E) (A B : Type 0) → q ≡ r → (A → B) → OnOk r A → OnOk q B
+ok_as q r A B e f h = subst (λ x. OnOk x B) (sym e) (on_ok r A B f h)
+
+pub err_as : {T E : Type 0} (q r : Result T E) (A B : Type 0) → q ≡ r → (A → B) → OnErr r A → OnErr q B
+err_as q r A B e f h = subst (λ x. OnErr x B) (sym e) (on_err r A B f h)
 
 -- a report whose new lines are taken back
 pub cut_again : (log mid : Written) (len : ℕ) (lines : List Line) → mid ≡ with_lines log lines → len ≡ length log.bytes → record { options = mid.options; bytes = take len mid.bytes } ≡ log

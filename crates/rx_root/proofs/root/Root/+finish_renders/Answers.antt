@@ -1,7 +1,7 @@
 use Rattle.std.proofs.Common.{◌≢◌, ◌≤◌, ◌-◌, None, sym, ◌∙◌, arith}
 use Rattle.rx_sched.specs.declared.choice.Choice.TheVariants as choice
 use Rattle.rx_model.specs.Turns.{choice_of}
-use Rattle.rx_root.proofs.Broken.{flush_breaks, flush_breaks_later, on_err}
+use Rattle.rx_root.proofs.Broken.{any_err, flush_breaks, flush_breaks_later, on_err}
 use Rattle.rx_root.proofs.TurnReached.{turn_event}
 use Rattle.rx_root.proofs.TurnsTaken.{on_ok, flush_none}
 use Rattle.rx_root.proofs.FlushSteps.{some_render, flushes_on, flush_takes, one_room, room_left, leaves_more, same_leaves}
@@ -37,10 +37,12 @@ finish_renders-requires g t c κs within =
     )
 
 pub returns-in_err-turn-clause-breaks : goal.returns-in_err-turn-clause-breaks
-returns-in_err-turn-clause-breaks g t c = λ p s h none.
+returns-in_err-turn-clause-breaks g t c =
+    any_err c.from_residual.result _
+    (λ p s h none.
     let f = c.requires.flushes in
     let some : choice_of f.state ≢ choice.None = λ e. c.in_default.not-None (c.choice.ensures f.program f.state f.stands ∙ e) in
-    flush_breaks p s c.args.limit c.turn.new.self c.args.log.now c.turn.new.log c.args.steps.now c.turn.new.steps (some_render c.args.limit f.program f.state f.ends some) (c.in_err-turn.ensures.breaks p s h none)
+    flush_breaks p s c.args.limit c.turn.new.self c.args.log.now c.turn.new.log c.args.steps.now c.turn.new.steps (some_render c.args.limit f.program f.state f.ends some) (c.in_err-turn.ensures.breaks p s h none))
 
 pub returns-in_err-turn-clause-leaves : goal.returns-in_err-turn-clause-leaves
 returns-in_err-turn-clause-leaves g t c =

@@ -4,7 +4,7 @@ use Rattle.rx_meaning.specs.Outcome.{commit, defer}
 use Rattle.rx_commit.specs.Shown.{outcome_as}
 use Rattle.rx_root.specs.Turning.{counts_of}
 use Rattle.rx_root.proofs.TurnsTaken.{on_ok, ended_as}
-use Rattle.rx_root.proofs.Broken.{gave_up_as, gave_up_same, on_err}
+use Rattle.rx_root.proofs.Broken.{any_err, gave_up_as, gave_up_same, on_err}
 use Rattle.rx_root.proofs.root.Root.finish.Goals as goal
 
 pub returns-in-None-clause-done : goal.returns-in-None-clause-done
@@ -25,4 +25,4 @@ pub returns-in-Some-clause-gave_up : goal.returns-in-Some-clause-gave_up
 returns-in-Some-clause-gave_up c = on_err c.defer.result _ _ (gave_up_as c.args.self.now c.defer.new.self) c.defer.ensures.same
 
 pub returns-in_err-deferral-clause-gave_up : goal.returns-in_err-deferral-clause-gave_up
-returns-in_err-deferral-clause-gave_up c = gave_up_same c.args.self.now
+returns-in_err-deferral-clause-gave_up c = any_err c.from_residual.result _ (gave_up_same c.args.self.now)

@@ -2,7 +2,7 @@ use Rattle.std.proofs.Common.{ℕ, Option, inl, subst}
 use Rattle.rx_model.specs.Committing.{ended}
 use Rattle.rx_root.specs.Turning.{counts_of, HasFinished, HasYielded}
 use Rattle.rx_root.proofs.TurnsTaken.{on_ok, goes_finished, goes_yielded}
-use Rattle.rx_root.proofs.Broken.{gave_up_after, gave_up_units, on_err}
+use Rattle.rx_root.proofs.Broken.{any_err, gave_up_after, gave_up_units, on_err}
 use Rattle.rx_root.proofs.root.Root.go_on.Goals as goal
 
 pub returns-in-Finished-clause-takes : goal.returns-in-Finished-clause-takes
@@ -27,4 +27,4 @@ returns-in-Finished-clause-gave_up g c =
     on_err c.finish.result _ _ (gave_up_after c.args.self.now c.drive.new.self c.finish.new.self c.drive.ensures.rest c.in_ok-drive.ensures.onward) c.finish.ensures.gave_up
 
 pub returns-in_err-drive-clause-gave_up : goal.returns-in_err-drive-clause-gave_up
-returns-in_err-drive-clause-gave_up g c = gave_up_units c.args.self.now c.drive.new.self c.drive.ensures.rest c.in_err-drive.ensures.given_up
+returns-in_err-drive-clause-gave_up g c = any_err c.from_residual.result _ (gave_up_units c.args.self.now c.drive.new.self c.drive.ensures.rest c.in_err-drive.ensures.given_up)

@@ -12,7 +12,7 @@ use Rattle.rx_commit.specs.Written.{lines_of, with_lines}
 use Rattle.rx_root.specs.Rooted.{Rooted}
 use Rattle.rx_root.specs.Turning.{counts_of}
 use Rattle.rx_root.specs.contracts.root.Root.{the_view}
-use Rattle.rx_root.proofs.Broken.{prepared_rest, settles_at, settling_at, unprepared_gave_up, unsettled_gave_up}
+use Rattle.rx_root.proofs.Broken.{any_err, prepared_rest, settles_at, settling_at, unprepared_gave_up, unsettled_gave_up}
 use Rattle.rx_root.proofs.root.Root.prepare.Goals as goal
 
 pub settle-requires-clause-room : goal.settle-requires-clause-room
@@ -68,11 +68,13 @@ returns-in_err-settle-clause-rest c = prepared_rest c.args.self.now (the_view c.
 pub returns-in_err-settle-clause-gave_up : goal.returns-in_err-settle-clause-gave_up
 returns-in_err-settle-clause-gave_up c =
     let i = the_view c.self.inside in
-    unsettled_gave_up c.args.self.now (record i { shown = c.prepare.new.self }) c.settle.new.self (ap (λ (z : Rooted). record z { shown = c.prepare.new.self }) c.self.view_is)
-    (λ tree passive h. c.in_ok-prepared.ensures.same tree passive (subst (λ (v : Rooted). Shows tree passive v.shown) (sym c.self.view_is) h)) c.in_err-settle.ensures.rest c.in_err-settle.ensures.keeps
+    any_err c.from_residual-in_err-settle.result _
+    (unsettled_gave_up c.args.self.now (record i { shown = c.prepare.new.self }) c.settle.new.self (ap (λ (z : Rooted). record z { shown = c.prepare.new.self }) c.self.view_is)
+    (λ tree passive h. c.in_ok-prepared.ensures.same tree passive (subst (λ (v : Rooted). Shows tree passive v.shown) (sym c.self.view_is) h)) c.in_err-settle.ensures.rest c.in_err-settle.ensures.keeps)
 
 pub returns-in_err-prepared-clause-gave_up : goal.returns-in_err-prepared-clause-gave_up
 returns-in_err-prepared-clause-gave_up c =
     let i = the_view c.self.inside in
-    unprepared_gave_up c.args.self.now (record i { shown = c.prepare.new.self }) (ap (λ (z : Rooted). record z { shown = c.prepare.new.self }) c.self.view_is)
-    (λ tree passive h. c.in_err-prepared.ensures.same tree passive (subst (λ (v : Rooted). Shows tree passive v.shown) (sym c.self.view_is) h))
+    any_err c.from_residual.result _
+    (unprepared_gave_up c.args.self.now (record i { shown = c.prepare.new.self }) (ap (λ (z : Rooted). record z { shown = c.prepare.new.self }) c.self.view_is)
+    (λ tree passive h. c.in_err-prepared.ensures.same tree passive (subst (λ (v : Rooted). Shows tree passive v.shown) (sym c.self.view_is) h)))

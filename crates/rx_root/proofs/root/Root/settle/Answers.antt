@@ -1,5 +1,4 @@
 use Rattle.std.proofs.Common.{ℕ, ◌+◌, Option, sym, ap, ◌∙◌, subst}
-use Rattle.std.specs.Prelude.{OnErr, OnOk}
 use Rattle.std.specs.Option.{option_copied}
 use Rattle.rx_lane.specs.Lanes.{Lanes, has, lanes_where}
 use Rattle.rx_ast.specs.Syntax.{Program}
@@ -11,7 +10,7 @@ use Rattle.rx_commit.specs.Written.{lines_of, with_lines}
 use Rattle.rx_root.specs.Rooted.{Rooted}
 use Rattle.rx_root.specs.Turning.{counts_of}
 use Rattle.rx_root.specs.contracts.root.Root.{the_view}
-use Rattle.rx_root.proofs.Broken.{cut_again, on_err, settled_keeps, settles_at, settling_at}
+use Rattle.rx_root.proofs.Broken.{cut_again, err_as, ok_as, on_err, settled_keeps, settles_at, settling_at}
 use Rattle.rx_root.proofs.TurnsTaken.{on_ok}
 use Rattle.rx_root.proofs.root.Root.settle.Goals as goal
 
@@ -24,13 +23,12 @@ settle-settled-requires-clause-at_hand c =
 
 pub returns-clause-settled : goal.returns-clause-settled
 returns-clause-settled c =
-    subst (λ r. OnOk r _) (sym c.cut_back.ensures.same)
-    (on_ok c.settle-settled.result _ _
+    ok_as c.cut_back.result c.settle-settled.result _ _ c.cut_back.ensures.same
     (λ settled s g x h.
     subst (λ (q : Program). KeepsAllHooks q (committed_state s g (numbered s.numbers x)) (kept_hooks c.settle-settled.new.self.hooks)) (ap (λ (v : Rooted). v.rendering.program) c.self.view_is)
     (settled s g x
     (settling_at c.args.self.now (the_view c.self.inside) (option_copied c.tree.result) c.tree-2.result.now c.args.prepared.now.tree c.args.first s g x c.self.view_is c.tree.ensures c.tree-2.ensures h)))
-    c.settle-settled.ensures.settled)
+    c.settle-settled.ensures.settled
 
 pub returns-clause-written : goal.returns-clause-written
 returns-clause-written c =
@@ -47,10 +45,9 @@ returns-clause-written c =
 
 pub returns-clause-keeps : goal.returns-clause-keeps
 returns-clause-keeps c =
-    subst (λ r. OnErr r _) (sym c.cut_back.ensures.same)
-    (on_err c.settle-settled.result _ _
+    err_as c.cut_back.result c.settle-settled.result _ _ c.cut_back.ensures.same
     (λ keeps. settled_keeps c.args.self.now (the_view c.self.inside).rendering c.settle-settled.new.self (ap (λ (v : Rooted). v.rendering) c.self.view_is) c.settle-settled.ensures.same keeps)
-    c.settle-settled.ensures.err)
+    c.settle-settled.ensures.err
 
 pub returns-clause-unchanged : goal.returns-clause-unchanged
 returns-clause-unchanged c =

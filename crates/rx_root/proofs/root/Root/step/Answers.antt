@@ -5,7 +5,7 @@ use Rattle.rx_root.proofs.Lines.{on_ok_both}
 use Rattle.rx_root.proofs.Taken.{event_taken, passive_taken, state_taken, taken_as, tick_taken, tree_taken}
 use Rattle.rx_root.specs.Rooted.{Rooted}
 use Rattle.rx_root.specs.Stands.{Stands}
-use Rattle.rx_root.proofs.Broken.{aside_broken, broken_as, by_result, either_program, on_err, on_err_both, room_less}
+use Rattle.rx_root.proofs.Broken.{any_err, aside_broken, broken_as, by_result, either_program, on_err, on_err_both, room_less}
 use Rattle.rx_root.proofs.root.Root.step.Goals as goal
 
 pub returns-in-Dispatch-clause-ok : goal.returns-in-Dispatch-clause-ok
@@ -119,12 +119,14 @@ returns-in-Passive-clause-broken g c =
     c.passive.ensures.same c.passive.ensures.unchanged
 
 pub returns-in_err-states-in-State-clause-broken : goal.returns-in_err-states-in-State-clause-broken
-returns-in_err-states-in-State-clause-broken g c s h =
-    aside_broken c.args.self.now.rendering.program s step.State c.args.step.now c.args.self.now c.args.log.now c.states.new.log c.args.steps.now c.in-State.is refl h c.in_err-states-in-State.ensures.err
+returns-in_err-states-in-State-clause-broken g c =
+    any_err c.from_residual.result _
+    (λ s h. aside_broken c.args.self.now.rendering.program s step.State c.args.step.now c.args.self.now c.args.log.now c.states.new.log c.args.steps.now c.in-State.is refl h c.in_err-states-in-State.ensures.err)
 
 pub returns-in_err-tree-in-Tree-clause-broken : goal.returns-in_err-tree-in-Tree-clause-broken
-returns-in_err-tree-in-Tree-clause-broken g c s h =
-    aside_broken c.args.self.now.rendering.program s step.Tree c.args.step.now c.args.self.now c.args.log.now c.tree.new.log c.args.steps.now c.in-Tree.is refl h c.in_err-tree-in-Tree.ensures.err
+returns-in_err-tree-in-Tree-clause-broken g c =
+    any_err c.from_residual-in_err-tree-in-Tree.result _
+    (λ s h. aside_broken c.args.self.now.rendering.program s step.Tree c.args.step.now c.args.self.now c.args.log.now c.tree.new.log c.args.steps.now c.in-Tree.is refl h c.in_err-tree-in-Tree.ensures.err)
 
 pub returns-in-Passive-clause-program : goal.returns-in-Passive-clause-program
 returns-in-Passive-clause-program g c =

@@ -1,4 +1,4 @@
-use Rattle.std.proofs.Common.{◌≡◌, refl, sym, ap, ◌∙◌, subst, arith, None}
+use Rattle.std.proofs.Common.{◌≡◌, ◌+◌, refl, sym, ap, ◌∙◌, subst, arith, None}
 use Rattle.rx_check.specs.Accepted.{IsAccepted}
 use Rattle.rx_elem.specs.Numbers.{numbered}
 use Rattle.rx_model.specs.Laws.{IsBounded}
@@ -6,7 +6,7 @@ use Rattle.rx_render.specs.Rendering.{Rendering}
 use Rattle.rx_root.specs.Rooted.{Rooted}
 use Rattle.rx_root.specs.Turning.{counts_of}
 use Rattle.rx_root.specs.contracts.root.Root.{the_view}
-use Rattle.rx_root.proofs.Broken.{gave_up_same, numbered_gave_up}
+use Rattle.rx_root.proofs.Broken.{any_err, gave_up_same, numbered_gave_up}
 use Rattle.rx_root.proofs.CommitStands.{numbered_knows, numbered_over, settling_of, follows_of, HasCommitted, commit_stands, commit_written}
 use Rattle.rx_root.proofs.root.Root.try_commit.Goals as goal
 
@@ -77,10 +77,10 @@ show-requires-clause-ready c =
     }
 
 pub returns-in_err-tree-clause-gave_up : goal.returns-in_err-tree-clause-gave_up
-returns-in_err-tree-clause-gave_up c = numbered_gave_up c.args.self.now c.number.new.self c.number.new.self c.number.ensures.rest (gave_up_same c.number.new.self)
+returns-in_err-tree-clause-gave_up c = any_err c.from_residual.result _ (numbered_gave_up c.args.self.now c.number.new.self c.number.new.self c.number.ensures.rest (gave_up_same c.number.new.self))
 
 pub returns-in_err-prepared-clause-gave_up : goal.returns-in_err-prepared-clause-gave_up
-returns-in_err-prepared-clause-gave_up c = numbered_gave_up c.args.self.now c.number.new.self c.prepare.new.self c.in_ok-tree.ensures.rest c.in_err-prepared.ensures.gave_up
+returns-in_err-prepared-clause-gave_up c = any_err c.from_residual-in_err-prepared.result _ (numbered_gave_up c.args.self.now c.number.new.self c.prepare.new.self c.in_ok-tree.ensures.rest c.in_err-prepared.ensures.gave_up)
 
 pub returns-clause-done : goal.returns-clause-done
 returns-clause-done c p s g tree h reached =

@@ -3,7 +3,7 @@ use Rattle.rx_effect.specs.EffectLog.{Passive}
 use Rattle.rx_model.specs.Committing.{passive_run, starting}
 use Rattle.rx_commit.specs.Written.{passive_lines, with_lines}
 use Rattle.rx_root.proofs.TurnsTaken.{keeps_some, start_is_set, stands_some, keep_leads, start_leads, on_ok, takes_none, takes_on, takes_start}
-use Rattle.rx_root.proofs.Broken.{kept_broken, on_err_both, start_broken, started_broken}
+use Rattle.rx_root.proofs.Broken.{any_err, kept_broken, on_err_both, start_broken, started_broken}
 use Rattle.rx_root.proofs.root.Root.try_turn.Goals as goal
 
 pub go_on-requires-clause-goes_on : goal.go_on-requires-clause-goes_on
@@ -56,8 +56,10 @@ returns-in-Keep-clause-broken g c =
     kept_broken p s k.0 c.args.self.now c.go_on.new.self c.args.log.now c.go_on.new.log e (stands_some p s k.0 c.args.self.now k.1 h) up same) c.go_on.ensures.gave_up c.go_on.ensures.unchanged
 
 pub returns-in_err-start-in-Start-clause-broken : goal.returns-in_err-start-in-Start-clause-broken
-returns-in_err-start-in-Start-clause-broken g c = λ p s h none.
-    start_broken p s c.in-Start.lanes c.start.new.self c.args.log.now c.start.new.log (sym (c.in-Start.ensures p s h)) (c.in_err-start-in-Start.ensures.broken p s h none)
+returns-in_err-start-in-Start-clause-broken g c =
+    any_err c.from_residual.result _
+    (λ p s h none.
+    start_broken p s c.in-Start.lanes c.start.new.self c.args.log.now c.start.new.log (sym (c.in-Start.ensures p s h)) (c.in_err-start-in-Start.ensures.broken p s h none))
 
 pub returns-in_ok-start-in-Start-clause-broken : goal.returns-in_ok-start-in-Start-clause-broken
 returns-in_ok-start-in-Start-clause-broken g c =
