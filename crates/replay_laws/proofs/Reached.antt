@@ -27,8 +27,8 @@ use Rattle.rx_model.specs.Stretch.{Stretch, silent, followed_by}
 use Rattle.rx_model.specs.Accepting.{in_event, dispatched_to, resolved_as, between_events}
 use Rattle.rx_model.specs.Committing.{passive_run, starting, sight_of, committed_state, ended_by}
 use Rattle.rx_model.specs.Turns.{GoesOn, Continues, TurnBy, choice_of}
-use Rattle.rx_model.specs.Machine.{Flushes, FlushSync, StepTo, RunTo}
-use Rattle.rx_model.specs.Laws.{IsReached}
+use Rattle.rx_model.specs.Machine.{Flushes, FlushSync, StepTo}
+use Rattle.rx_model.specs.Laws.{IsReached, IsReachedBy, MovesTo}
 use Rattle.rx_lines.specs.Lines.{Counts}
 use Rattle.host_laws.proofs.Replay.{commit_replays}
 use Rattle.host_laws.proofs.Replayable.{commit_made}
@@ -131,14 +131,17 @@ step_holds p s step.Event r t h = same_holds p r _ t h
 step_holds p s step.State r t h = same_holds p r _ t h
 step_holds p s step.Tree r t h = same_holds p r _ t h
 
-run_holds : (p : Program) (s : State) (steps : List Step) (r : Stretch) → RunTo p s steps r → Holds p s → Holds p r.after
-run_holds p s [] r t h = same_holds p r (silent s) t h
-run_holds p s (x ∷ xs) r t h =
-    same_holds p r (followed_by t.0 t.1) t.4 (run_holds p t.0.after xs t.1 t.3 (step_holds p s x t.0 t.2 h))
+move_holds : (p : Program) (s : State) (x : Option Step) (t : State) → MovesTo p s x t → Holds p s → Holds p t
+move_holds p s (Some x) t m h = subst (λ (u : State). Holds p u) (sym m.2) (step_holds p s x m.0 m.1 h)
+move_holds p s None t m h = subst (λ (u : State). Holds p u) (sym m) h
+
+moves_hold : (p : Program) (moves : List (Option Step)) (t : State) → IsReachedBy p moves t → Holds p t
+moves_hold p [] t m = subst (λ (u : State). Holds p u) (sym m) (none_yet opening.numbers (omega arith))
+moves_hold p (x ∷ before) t m = move_holds p m.0 x t m.2 (moves_hold p before m.0 m.1)
 
 -- each state that can be reached has what commits left
 pub reached_committed : (p : Program) (s : State) → IsReached p s → IsCommitted p s.numbers s.tree
-reached_committed p s t = subst (λ (x : State). Holds p x) t.3 (run_holds p opening t.0 t.1 t.2 (none_yet opening.numbers (omega arith)))
+reached_committed p s t = moves_hold p t.0 s t.1
 
 -- so the operations of a commit replay there
 pub replay_law : (p : Program) → ReplayLaw p

@@ -159,6 +159,7 @@ module _ (p : Program) (deep : depth_bound p ≤ depth_limit) (declared : ReadsD
         turns = λ s budget r t c. turn_keeps s (choice_of s) budget r t c;
         dispatches = dispatched_keeps;
         resolves = resolved_keeps;
+        discards = λ s c. (c.0, c.1, c.2, tt);
       }) s h
 
 -- So a render in progress stands on a settled tree.

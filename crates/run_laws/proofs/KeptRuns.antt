@@ -313,4 +313,5 @@ module _ (p : Program) (deep : depth_bound p ≤ depth_limit) (declared : ReadsD
         turns = λ s budget r t h. (turn_keeps p deep declared s (choice_of s) budget r t h.0, turn_kept s budget r t h.0 h.1);
         dispatches = λ s d x e h. (dispatched_keeps p deep declared s d x e h.0, dispatched_kept p s d x h.1);
         resolves = λ s name v x h. (resolved_keeps p deep declared s name v x h.0, resolved_kept p s name v x h.1);
+        discards = λ s h. ((h.0.0, h.0.1, h.0.2, tt), (h.1.0, h.1.1, h.1.2, h.1.3, h.1.4, tt));
       }) s t).1

@@ -103,6 +103,7 @@ reached_tree p s t =
       turns = λ s budget r t h. turn_holds p s (choice_of s) budget r t h;
       dispatches = λ s d m e h. subst (λ (o : Option Node). IsTree p o) (sym (dispatched_tree p s d m)) h;
       resolves = λ s name v x h. subst (λ (o : Option Node). IsTree p o) (sym (resolved_tree p s name v x)) h;
+      discards = λ s h. h;
     }) s t
 
 -- The root of such a tree is App's node

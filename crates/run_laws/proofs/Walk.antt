@@ -1,4 +1,4 @@
--- What turns, dispatches and resolutions keep holds in each state that can be reached.
+-- What turns, dispatches, resolutions and discarded renders keep holds in each state that can be reached.
 use Rattle.std.specs.Prelude.{◌≡◌, ℕ, zero, suc, ℤ, Bool, true, false, List, [], ◌∷◌, Option, None, Some, refl}
 use Rattle.std.proofs.Common.{sym, subst}
 use Rattle.rx_base.specs.Values.{Name}
@@ -18,8 +18,8 @@ use Rattle.rx_model.specs.Stretch.{Stretch, followed_by, silent}
 use Rattle.rx_model.specs.Accepting.{between_events, dispatched_to, resolved_as}
 use Rattle.rx_model.specs.Committing.{passive_run}
 use Rattle.rx_model.specs.Turns.{TurnBy, choice_of}
-use Rattle.rx_model.specs.Machine.{FlushSync, Flushes, RunTo, StepTo}
-use Rattle.rx_model.specs.Laws.{IsReached}
+use Rattle.rx_model.specs.Machine.{FlushSync, Flushes, StepTo}
+use Rattle.rx_model.specs.Laws.{IsReached, IsReachedBy, MovesTo, without_render}
 
 -- what a fact needs to hold all along: the start has it, and it is kept
 pub record IsKeptAlong (p : Program) (Holds : State → Type 0) : Type 0 where
@@ -30,6 +30,7 @@ pub record IsKeptAlong (p : Program) (Holds : State → Type 0) : Type 0 where
   pub turns : (s : State) (budget : Option ℕ) (r : Stretch) → TurnBy p s (choice_of s) budget r → Holds s → Holds r.after
   pub dispatches : (s : State) (d : Dispatch) (x : Option Mounted) → instance_found p s.tree (path_of d) ≡ x → Holds s → Holds (dispatched_to p s d x).after
   pub resolves : (s : State) (name : Name) (v : ℤ) (x : Option ℤ) → Holds s → Holds (resolved_as p s name v x).after
+  pub discards : (s : State) → Holds s → Holds (without_render s)
 
 -- a stretch that is another one ends in a state with this fact, where that does
 pub same_after : (Holds : State → Type 0) (r q : Stretch) → r ≡ q → Holds q.after → Holds r.after
@@ -57,9 +58,13 @@ module _ (p : Program) (Holds : State → Type 0) (kept : IsKeptAlong p Holds) w
   step_keeps s step.State r t h = same_after Holds r _ t (kept.between s h)
   step_keeps s step.Tree r t h = same_after Holds r _ t (kept.between s h)
 
-  run_keeps : (s : State) (steps : List Step) (r : Stretch) → RunTo p s steps r → Holds s → Holds r.after
-  run_keeps s [] r t h = same_after Holds r (silent s) t h
-  run_keeps s (x ∷ xs) r t h = same_after Holds r (followed_by t.0 t.1) t.4 (run_keeps t.0.after xs t.1 t.3 (step_keeps s x t.0 t.2 h))
+  move_keeps : (s : State) (x : Option Step) (t : State) → MovesTo p s x t → Holds s → Holds t
+  move_keeps s (Some x) t m h = subst Holds (sym m.2) (step_keeps s x m.0 m.1 h)
+  move_keeps s None t m h = subst Holds (sym m) (kept.discards s h)
+
+  moves_keep : (moves : List (Option Step)) (t : State) → IsReachedBy p moves t → Holds t
+  moves_keep [] t m = subst Holds (sym m) kept.starts
+  moves_keep (x ∷ before) t m = move_keeps m.0 x t m.2 (moves_keep before m.0 m.1)
 
   pub holds_along : (s : State) → IsReached p s → Holds s
-  holds_along s t = subst Holds t.3 (run_keeps opening t.0 t.1 t.2 kept.starts)
+  holds_along s t = moves_keep t.0 s t.1

@@ -9,3 +9,4 @@ mod writing;
 
 pub use prepared::Prepared;
 pub use shown::Shown;
+pub use writing::cut_back;

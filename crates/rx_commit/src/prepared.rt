@@ -64,6 +64,13 @@ impl Prepared {
         })
     }
 
+    /// The tree that it shows.
+    pub fn tree(&self) -> &node::Node
+        ensures { result.now ≡ self.now.tree }
+    {
+        &self.tree
+    }
+
     /// Writes what the commit does: its own line with its number, from 1, its lanes and its counts, then the operations and
     /// the layout effects. A commit with the lane Sync runs its passive effects itself, and they come behind.
     ///

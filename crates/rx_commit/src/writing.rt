@@ -41,8 +41,12 @@ pub(crate) fn add_passive(log: &mut Report, passive: &Passive) -> Result<(), All
     add_effects(log, &passive.created)
 }
 
-// Takes back what was written behind so many bytes, where memory was wanting for the rest of it.
-pub(crate) fn cut_back(
+/// Takes back what was written behind so many bytes, where memory was wanting for the rest of it.
+///
+/// # Errors
+///
+/// The one that is passed.
+pub fn cut_back(
     log: &mut Report,
     len: u64,
     written: Result<(), AllocError>,

@@ -17,9 +17,9 @@ use Rattle.rx_model.specs.Stretch.{Stretch, silent, followed_by}
 use Rattle.rx_model.specs.Accepting.{between_events}
 use Rattle.rx_model.specs.Committing.{passive_run, starting}
 use Rattle.rx_model.specs.Turns.{unit_bound, GoesOn, Continues, TurnBy, choice_of}
-use Rattle.rx_model.specs.Machine.{Flushes, FlushSync, StepTo, RunTo}
+use Rattle.rx_model.specs.Machine.{Flushes, FlushSync, StepTo}
 use Rattle.rx_model.specs.Kept.{CanGoOn}
-use Rattle.rx_model.specs.Laws.{AppNeverWaits, IsReached, Progresses}
+use Rattle.rx_model.specs.Laws.{AppNeverWaits, DiscardsReach, IsReached, IsReachedBy, MovesTo, Progresses, RunsReach, StartIsReached}
 use Rattle.rx_model.proofs.Progress.{ended-can, can-passive, can-between, dispatched-can, resolved-can, opening_can, goes_on_from}
 
 -- a stretch that is another one ends in a state that can go on, where that does
@@ -66,14 +66,35 @@ step-keeps p s step.Event r h can = same-can p r _ h (record { below = can.below
 step-keeps p s step.State r h can = same-can p r _ h (record { below = can.below; due = can.due })
 step-keeps p s step.Tree r h can = same-can p r _ h (record { below = can.below; due = can.due })
 
-run-keeps : (p : Program) (s : State) (steps : List Step) (r : Stretch) → RunTo p s steps r → CanGoOn p s → CanGoOn p r.after
-run-keeps p s [] r h can = same-can p r (silent s) h can
-run-keeps p s (x ∷ xs) r h can =
-    same-can p r (followed_by h.0 h.1) h.4 (run-keeps p h.0.after xs h.1 h.3 (step-keeps p s x h.0 h.2 can))
+move-keeps : (p : Program) (s : State) (x : Option Step) (t : State) → MovesTo p s x t → CanGoOn p s → CanGoOn p t
+move-keeps p s (Some x) t h can = subst (CanGoOn p) (sym h.2) (step-keeps p s x h.0 h.1 can)
+move-keeps p s None t h can = subst (CanGoOn p) (sym h) (record { below = can.below; due = tt })
+
+moves-keep : (p : Program) (moves : List (Option Step)) (t : State) → IsReachedBy p moves t → CanGoOn p t
+moves-keep p [] t h = subst (CanGoOn p) (sym h) (opening_can p)
+moves-keep p (x ∷ before) t h = move-keeps p h.0 x t h.2 (moves-keep p before h.0 h.1)
 
 -- each state that can be reached can go on
 pub reached-can : (p : Program) (s : State) → IsReached p s → CanGoOn p s
-reached-can p s h = subst (CanGoOn p) h.3 (run-keeps p opening h.0 h.1 h.2 (opening_can p))
+reached-can p s h = moves-keep p h.0 s h.1
+
+-- the start can be reached
+pub start-reached : (p : Program) → StartIsReached p
+start-reached p = ([], refl)
+
+-- after a step of a state that can be reached one can be reached
+pub step-reached : (p : Program) (s : State) (x : Step) (r : Stretch) → IsReached p s → StepTo p s x r → IsReached p r.after
+step-reached p s x r h step = (Some x ∷ h.0, (s, h.1, (r, step, refl)))
+
+-- and so after each run
+pub runs-reach : (p : Program) → RunsReach p
+runs-reach p s h [] r run = subst (λ (q : Stretch). IsReached p q.after) (sym run) h
+runs-reach p s h (x ∷ xs) r run =
+    subst (λ (q : Stretch). IsReached p q.after) (sym run.4) (runs-reach p run.0.after (step-reached p s x run.0 h run.2) xs run.1 run.3)
+
+-- and where a render is discarded
+pub discards-reach : (p : Program) → DiscardsReach p
+discards-reach p s h = (None ∷ h.0, (s, h.1, refl))
 
 -- so each list of steps has a run from there, where App never waits
 pub progresses : (p : Program) → AppNeverWaits p → Progresses p

@@ -217,18 +217,17 @@ module _ (p : Program) (s : State) (g : Progress) (tree : Node) (v x : Rooted) (
       subst (λ (z : Rooted). Stands p (committed_as s g counts (numbered s.numbers tree)).after z) (sym root_is)
       (committed_stands p s (IsAtEndOf p s g tree) g counts tree v last shown h reached (last_committed keeps) shows_it)
 
+module _ (p : Program) (s : State) (g : Progress) (tree : Node) (v x : Rooted) (h : StandsAtEnd p s g tree v) (n : HasNumbered p s g tree v x) where
   -- and its lines are written
-  pub commit_written : (log new : Written)
-      → new ≡ with_lines log (lines_of (x.commits + 1) (lanes_where (has w.lanes)) (record { units = w.units; bodies = w.bodies }) s.tree (numbered s.numbers tree).1)
+  pub commit_written : (log new : Written) → new ≡ with_lines log (lines_of (x.commits + 1) (lanes_where (has x.rendering.lanes)) (counts_of x) s.tree (numbered s.numbers tree).1)
       → new ≡ with_lines log (committed_as s g (counts_of v) (numbered s.numbers tree)).lines
   commit_written log new e =
-      let lanes : w.lanes ≡ g.lanes = ap (λ (z : Rendering). z.lanes) c.settled ∙ ap (λ (z : Rooted). z.rendering.lanes) n.rest ∙ h.progress.renders.lanes in
-      let set : lanes_where (has w.lanes) ≡ g.lanes = ap (λ (ls : Lanes). lanes_where (has ls)) lanes ∙ sym h.progress.lanes_are_set in
+      let lanes : x.rendering.lanes ≡ g.lanes = ap (λ (z : Rooted). z.rendering.lanes) n.rest ∙ h.progress.renders.lanes in
+      let set : lanes_where (has x.rendering.lanes) ≡ g.lanes = ap (λ (ls : Lanes). lanes_where (has ls)) lanes ∙ sym h.progress.lanes_are_set in
       let commits : x.commits ≡ s.commits = ap (λ (z : Rooted). z.commits) n.rest ∙ h.commits in
-      let counts : record { units = w.units; bodies = w.bodies } ≡ counts_of v =
-      ap (λ (z : Rendering). record { units = z.units; bodies = z.bodies }) c.settled ∙ ap (λ (z : Rooted). record { units = z.rendering.units; bodies = z.rendering.bodies }) n.rest in
+      let counts : counts_of x ≡ counts_of v = ap (λ (z : Rooted). counts_of z) n.rest in
       e
-      ∙ ap (λ (k : ℕ). with_lines log (lines_of (k + 1) (lanes_where (has w.lanes)) (record { units = w.units; bodies = w.bodies }) s.tree (numbered s.numbers tree).1)) commits
-      ∙ ap (λ (ls : Lanes). with_lines log (lines_of (s.commits + 1) ls (record { units = w.units; bodies = w.bodies }) s.tree (numbered s.numbers tree).1)) set
+      ∙ ap (λ (k : ℕ). with_lines log (lines_of (k + 1) (lanes_where (has x.rendering.lanes)) (counts_of x) s.tree (numbered s.numbers tree).1)) commits
+      ∙ ap (λ (ls : Lanes). with_lines log (lines_of (s.commits + 1) ls (counts_of x) s.tree (numbered s.numbers tree).1)) set
       ∙ ap (λ (k : Counts). with_lines log (lines_of (s.commits + 1) g.lanes k s.tree (numbered s.numbers tree).1)) counts
       ∙ ap (λ (ls : List Line). with_lines log ls) (committed_lines s g (counts_of v) tree)

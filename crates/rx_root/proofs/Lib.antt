@@ -1,4 +1,3 @@
-pub mod Reached
 pub mod HookCounts
 pub mod Paths
 pub mod Standing
@@ -21,3 +20,4 @@ pub mod Sending
 pub mod Taken
 pub mod FlushSteps
 pub mod StepRoom
+pub mod Broken

@@ -9,9 +9,9 @@ use Rattle.rx_lists.specs.Shapes.{Shape, none}
 use Rattle.rx_sched.specs.Schedule.{Schedule, opening_schedule}
 use Rattle.rx_effect.specs.EffectLog.{no_passive}
 use Rattle.rx_model.specs.State.{opening}
-use Rattle.rx_model.specs.Stretch.{silent}
 use Rattle.rx_model.specs.HooksOf.{KeepsAllHooks}
 use Rattle.rx_model.specs.Laws.{IsReached}
+use Rattle.rx_model.proofs.Reached.{start-reached}
 use Rattle.run_laws.specs.Carried.{values_now}
 use Rattle.rx_fiber.specs.Fibers.{Fiber}
 use Rattle.rx_fiber.specs.Reading.{IsTreeOf, gap, no_more}
@@ -35,7 +35,7 @@ no_tree : (current : Shape Fiber) → current ≡ none → IsTreeOf None current
 no_tree current same = subst (λ s. IsTreeOf None s) (sym same) (gap no_more)
 
 opening_reached : (p : Program) → IsReached p opening
-opening_reached p = ([], silent opening, refl, refl)
+opening_reached p = start-reached p
 
 -- a root before its first render
 abbrev pub opening_root : Rendering → Shown → Schedule → List (Option ℤ) → Lanes → Rooted

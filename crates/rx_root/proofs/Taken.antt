@@ -28,7 +28,7 @@ use Rattle.rx_root.specs.Rooted.{Rooted}
 use Rattle.rx_root.specs.Stands.{Stands}
 use Rattle.rx_root.specs.Taking.{IsFor}
 use Rattle.rx_root.specs.Turning.{Takes}
-use Rattle.rx_root.proofs.Reached.{step_reached}
+use Rattle.rx_model.proofs.Reached.{step-reached}
 use Rattle.rx_root.proofs.Standing.{at_time, stands_at, stands_resolved}
 use Rattle.rx_root.proofs.TurnLines.{with_none, with_one}
 
@@ -45,7 +45,7 @@ silent_taken p s x v log t n step stands = writes_taken p s x v log log [] t n s
 -- ---- the end of an event, and the steps that end one
 
 event_reached : (p : Program) (s : State) → IsReached p s → IsReached p (between_events s)
-event_reached p s reached = step_reached p s step.Event (silent (between_events s)) reached refl
+event_reached p s reached = step-reached p s step.Event (silent (between_events s)) reached refl
 
 pub between_stands : (p : Program) (s : State) (v : Rooted) → Stands p s v → Stands p (between_events s) (record v { event = None })
 between_stands p s v h = stands_at p s s.now None s.passive v v.now v.shown h.now h.shows (event_reached p s h.reached) h
@@ -61,7 +61,7 @@ tick_taken p s time v new log n h is =
     silent_taken p s (step.Tick time) new log t n refl
     (subst (λ (r : Rooted). Stands p t r) (sym is)
     (stands_at p s (later s.now time) None s.passive v (later v.now time) v.shown (ap (λ k. later k time) h.now) h.shows
-    (step_reached p s (step.Tick time) (silent t) h.reached refl) h))
+    (step-reached p s (step.Tick time) (silent t) h.reached refl) h))
 
 pub passive_taken : (p : Program) (s : State) (v new : Rooted) (log written : Written) (n : ℕ) → Stands p s v
     → new ≡ record v { shown = record v.shown { passive = no_passive }; event = None } → written ≡ with_lines log (passive_lines v.shown.passive)
@@ -72,7 +72,7 @@ passive_taken p s v new log written n h is are =
     (subst (λ (r : Rooted). Stands p t r) (sym is)
     (stands_at p s s.now None no_passive v v.now (record v.shown { passive = no_passive }) h.now
     (record { tree_is = h.shows.tree_is; hosts_are = h.shows.hosts_are; passive_is = refl })
-    (step_reached p s step.Passive (passive_run (between_events s)) h.reached refl) h))
+    (step-reached p s step.Passive (passive_run (between_events s)) h.reached refl) h))
     (are ∙ ap (λ (x : Passive). with_lines log (passive_lines x)) h.shows.passive_is)
 
 pub state_taken : (p : Program) (s : State) (v new : Rooted) (log written : Written) (n : ℕ) → Stands p s v → new ≡ record v { event = None } → written ≡ with_lines log (state_lines p s)
@@ -130,7 +130,7 @@ resolved_taken p s name x v new log n h none within is =
     let goes : StepTo p s (step.Resolve name x) (silent t) = sym (ap (resolved_as p (between_events s) name x) none) in
     silent_taken p s (step.Resolve name x) new log t n goes
     (subst (λ (q : Rooted). Stands p t q) (sym is)
-    (stands_resolved p (between_events s) r x (record v { event = None }) none within (step_reached p s (step.Resolve name x) (silent t) h.reached goes) (between_stands p s v h)))
+    (stands_resolved p (between_events s) r x (record v { event = None }) none within (step-reached p s (step.Resolve name x) (silent t) h.reached goes) (between_stands p s v h)))
 
 -- ---- dispatches
 
@@ -149,7 +149,7 @@ sent_step p s d sent is =
     sym (ap (dispatched_to p s d) is.found ∙ (λ i. silent (dispatched_for s (word_of d) (hook (sym is.number i) (sym is.hook i)) (sym is.op i))))
 
 pub sent_reached : (p : Program) (s : State) (d : Dispatch) (sent : Sent) → IsReached p s → IsFor p s d sent → IsReached p (state_sent s d sent)
-sent_reached p s d sent reached is = step_reached p s (step.Dispatch d) (silent (state_sent s d sent)) reached (sent_step p s d sent is)
+sent_reached p s d sent reached is = step-reached p s (step.Dispatch d) (silent (state_sent s d sent)) reached (sent_step p s d sent is)
 
 -- a dispatch to an instance that is there
 pub sent_taken : (p : Program) (s : State) (d : Dispatch) (sent : Sent) (v : Rooted) (log : Written) (n : ℕ) → IsFor p s d sent → Stands p (state_sent s d sent) v

@@ -18,7 +18,7 @@ use Rattle.rx_model.specs.Accepting.{between_events}
 use Rattle.rx_model.specs.Committing.{passive_run, starting, committed_state, ended_by}
 use Rattle.rx_model.specs.Turns.{unit_bound, Finishes, GoesOn, Continues, TurnBy, Turn, choice_of}
 use Rattle.rx_model.specs.Laws.{IsReached}
-use Rattle.rx_root.proofs.Reached.{step_reached}
+use Rattle.rx_model.proofs.Reached.{step-reached}
 
 -- a render that is finished at once is finished in a slice of so many units as a render takes at most
 finishes_within : (p : Program) (s : State) (g : Progress) (slice : Option ℕ) (r : Stretch) → IfSome slice (λ n. unit_bound p ≤ n) → Finishes p s g None r → Finishes p s g slice r
@@ -64,9 +64,9 @@ pub same_between : (s : State) → s.event ≡ None → s ≡ between_events s
 same_between s h = ap (λ (e : Option Lane). record s { event = e }) h
 
 work_reached : (p : Program) (s : State) (budget : Option ℕ) (r : Stretch) → IsReached p s → Turn p (between_events s) budget r → IsReached p r.after
-work_reached p s (Some n) r h t = step_reached p s (step.Work n) r h t
+work_reached p s (Some n) r h t = step-reached p s (step.Work n) r h t
 work_reached p s None r h t =
-    step_reached p s (step.Work (unit_bound p)) r h (turn_within p (between_events s) (choice_of (between_events s)) r t)
+    step-reached p s (step.Work (unit_bound p)) r h (turn_within p (between_events s) (choice_of (between_events s)) r t)
 
 -- the state after a turn is one that a run comes to, where the state before is
 pub reached_turn : (p : Program) (s : State) (budget : Option ℕ) (r : Stretch) → IsReached p s → s.event ≡ None → Turn p s budget r → IsReached p r.after
@@ -76,7 +76,7 @@ reached_turn p s budget r h none t = work_reached p s budget r h (subst (λ (u :
 pub reached_passive : (p : Program) (s : State) → IsReached p s → s.event ≡ None → IsReached p (passive_run s).after
 reached_passive p s h none =
     subst (λ (u : State). IsReached p (passive_run u).after) (sym (same_between s none))
-    (step_reached p s step.Passive (passive_run (between_events s)) h refl)
+    (step-reached p s step.Passive (passive_run (between_events s)) h refl)
 
 -- No turn changes which event goes on
 

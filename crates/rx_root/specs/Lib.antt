@@ -2,3 +2,4 @@ pub mod Rooted
 pub mod Stands
 pub mod Turning
 pub mod Taking
+pub mod Breaking

@@ -70,6 +70,10 @@ StandsWith p s progress v = StandsBy p s (HasProgress p s progress) v
 abbrev pub Stands : Program → State → Rooted → Type 0
 Stands p s v = StandsWith p s s.progress v
 
+-- A root stands for a state of the machine that a run comes to, but for its render: one that was in progress is given up.
+abbrev pub StandsButForRender : Program → State → Rooted → Type 0
+StandsButForRender p s v = StandsBy p s (λ w. Unit {0}) v
+
 -- the numbers of a root leave room for so many steps more
 pub record HasRoomFor (steps : ℕ) (v : Rooted) : Type 0 where
   pub updates : v.updates + steps < 2 ^ 62

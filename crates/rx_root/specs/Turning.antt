@@ -12,6 +12,9 @@ use Rattle.rx_elem.specs.Numbers.{numbered}
 use Rattle.rx_queue.specs.Journal.{has_later}
 use Rattle.rx_meaning.specs.Fresh.{fresh, made, resources_seen}
 use Rattle.rx_effect.specs.EffectLog.{Passive, no_passive}
+use Rattle.rx_forest.specs.Forests.{forest_of}
+use Rattle.rx_forest.specs.Hosts.{hosts}
+use Rattle.rx_host.specs.Kept.{forest_kept}
 use Rattle.rx_lines.specs.Lines.{Counts, Written}
 use Rattle.rx_model.specs.State.{State, Progress}
 use Rattle.rx_model.specs.Stretch.{Stretch}
@@ -25,12 +28,13 @@ use Rattle.rx_links.specs.Drafts.{grafted}
 use Rattle.rx_fiber.specs.Reading.{IsTreeOf}
 use Rattle.end_laws.specs.Trimmed.{trimmed}
 use Rattle.host_laws.specs.Commits.{IsCommit, TextsAreLeaves}
-use Rattle.rx_commit.specs.Shown.{Shown, Shows}
+use Rattle.rx_commit.specs.Shown.{CanCommit, Prepared, Prepares, Shown, Shows}
 use Rattle.rx_commit.specs.Written.{with_lines}
 use Rattle.rx_render.specs.declared.at.At.TheVariants.{Over}
 use Rattle.rx_render.specs.Renders.{Renders}
+use Rattle.rx_render.specs.Turning.{KeepsHooks}
 use Rattle.rx_root.specs.Rooted.{Rooted}
-use Rattle.rx_root.specs.Stands.{AreDeclared, StandsBy, StandsWith, Stands}
+use Rattle.rx_root.specs.Stands.{AreDeclared, StandsBy, StandsButForRender, StandsWith, Stands}
 
 -- the numbers of a root leave room for so many turns more, each with one commit at most
 pub record HasRoomForTurns (turns : ℕ) (v : Rooted) : Type 0 where
@@ -173,3 +177,42 @@ pub record FlushesFrom (limit : ℕ) (v : Rooted) : Type 0 where
   pub stands : Stands program state v
   pub between : state.event ≡ None
   pub ends : CanFlush limit program state
+
+-- A commit is prepared: what is shown is that of the old tree and can take it, it is that of the new tree, and the trees are related as a commit relates them.
+pub record IsPreparedFor (old : Option Node) (new : Node) (v : Shown) (x : Prepared) : Type 0 where
+  pub can_commit : CanCommit v x
+  pub prepares : Prepares old new x
+  pub hosts_are : forest_kept v.hosts ≡ forest_of (hosts old)
+  pub commits : IsCommit old new
+
+-- a commit is prepared for some trees
+pub record IsPrepared (v : Shown) (x : Prepared) : Type 0 where
+  pub old : Option Node
+  pub new : Node
+  pub is : IsPreparedFor old new v x
+
+-- what is shown of a tree and its passive effects still is
+abbrev pub KeepsShown : (before after : Shown) → Type 0
+KeepsShown v w = (tree : Option Node) (passive : Passive) → Shows tree passive v → Shows tree passive w
+
+-- A root gave up a render: the program and the current tree stay, hooks stand for what they stood for, the same is shown, and all else stays.
+pub record GaveUp (v w : Rooted) : Type 0 where
+  pub program : w.rendering.program ≡ v.rendering.program
+  pub current : w.rendering.trees.current ≡ v.rendering.trees.current
+  pub keeps : KeepsHooks v.rendering w.rendering
+  pub shows : KeepsShown v.shown w.shown
+  pub rest : w ≡ record v { rendering = w.rendering; shown = w.shown }
+
+-- A stretch of the machine is all that was done: the root stands for the state after it, but for a render, and its lines are written.
+pub record HasBroken (p : Program) (asks : Stretch → Type 0) (v : Rooted) (log new : Written) : Type 0 where
+  pub stretch : Stretch
+  pub asked : asks stretch
+  pub stands : StandsButForRender p stretch.after v
+  pub written : new ≡ with_lines log stretch.lines
+
+-- A stretch of which this holds is all that was done: the root stands for the state after it, its lines are written, and no more bodies belong to it than were counted.
+pub record Breaks (p : Program) (asks : Stretch → Type 0) (v : Rooted) (log new : Written) (steps counted : ℕ) : Type 0 where
+  pub stretch : Stretch
+  pub asked : asks stretch
+  pub done : HasDone p stretch v log new
+  pub bodies : steps + stretch.bodies ≤ counted

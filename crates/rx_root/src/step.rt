@@ -1,16 +1,17 @@
 // The steps of a script, one by one.
-ghost use Rattle.std.specs.Prelude.{◌≡◌, ◌+◌, ◌<◌, ◌≤◌, ℕ, suc, Some, OnErr, OnOk};
+ghost use Rattle.std.specs.Prelude.{◌≡◌, ◌+◌, ◌<◌, ◌≤◌, ℕ, suc, true, Some, OnErr, OnOk};
 ghost use Rattle.rx_lane.specs.declared.lane.Lane.TheVariants as lane;
 ghost use Rattle.rx_lane.specs.Lanes.{has};
 ghost use Rattle.rx_model.specs.State.{State};
 ghost use Rattle.rx_model.specs.Stretch.{Stretch};
 ghost use Rattle.rx_model.specs.Accepting.{between_events};
 ghost use Rattle.rx_model.specs.Turns.{Turn};
-ghost use Rattle.rx_model.specs.Machine.{Flush, FlushSync, StepTo};
+ghost use Rattle.rx_model.specs.Machine.{Flush, FlushSync, StepTo, flush_limit};
 ghost use Rattle.rx_commit.specs.Written.{with_lines};
 ghost use Rattle.rx_root.specs.Stands.{HasRoomFor, Stands};
 ghost use Rattle.rx_root.specs.Taking.{CanTake, IsAside};
-ghost use Rattle.rx_root.specs.Turning.{Takes};
+ghost use Rattle.rx_root.specs.Turning.{Breaks, Takes};
+ghost use Rattle.rx_root.specs.Breaking.{BreaksOff, BreaksOffWithin, TurnBreaksOff};
 
 use crate::root::Root;
 use rx_base::Steps;
@@ -32,8 +33,9 @@ impl Root {
         requires room { HasRoomFor 1 self.old }
         ensures ok { OnOk result ((s : State) → Stands self.old.rendering.program s self.old
             → Takes self.old.rendering.program (Turn self.old.rendering.program (between_events s) (Some units)) self.new log.old log.new steps.old steps.new) }
-        ensures program { OnOk result (self.new.rendering.program ≡ self.old.rendering.program) }
-        ensures left { OnOk result ((k : ℕ) → HasRoomFor (suc k) self.old → HasRoomFor k self.new) }
+        ensures breaks { OnErr result ((s : State) → Stands self.old.rendering.program s self.old
+            → Breaks self.old.rendering.program (TurnBreaksOff (between_events s)) self.new log.old log.new steps.old steps.new) }
+        ensures left { (k : ℕ) → HasRoomFor (suc k) self.old → HasRoomFor k self.new }
         ensures rises { steps.old ≤ steps.new }
     {
         self.end_event();
@@ -50,8 +52,9 @@ impl Root {
         requires room { HasRoomFor 1 self.old }
         ensures ok { OnOk result ((s : State) → Stands self.old.rendering.program s self.old
             → Takes self.old.rendering.program (Flush self.old.rendering.program (between_events s)) self.new log.old log.new steps.old steps.new) }
-        ensures program { OnOk result (self.new.rendering.program ≡ self.old.rendering.program) }
-        ensures left { OnOk result ((k : ℕ) → HasRoomFor (suc k) self.old → HasRoomFor k self.new) }
+        ensures breaks { OnErr result ((s : State) → Stands self.old.rendering.program s self.old
+            → Breaks self.old.rendering.program (BreaksOffWithin flush_limit self.old.rendering.program (between_events s)) self.new log.old log.new steps.old steps.new) }
+        ensures left { (k : ℕ) → HasRoomFor (suc k) self.old → HasRoomFor k self.new }
         ensures rises { steps.old ≤ steps.new }
     {
         self.end_event();
@@ -68,8 +71,9 @@ impl Root {
         requires room { HasRoomFor 1 self.old }
         ensures ok { OnOk result ((s : State) → Stands self.old.rendering.program s self.old
             → Takes self.old.rendering.program (FlushSync (has s.schedule.pending lane.Sync) self.old.rendering.program (between_events s)) self.new log.old log.new steps.old steps.new) }
-        ensures program { OnOk result (self.new.rendering.program ≡ self.old.rendering.program) }
-        ensures left { OnOk result ((k : ℕ) → HasRoomFor (suc k) self.old → HasRoomFor k self.new) }
+        ensures breaks { OnErr result ((s : State) → Stands self.old.rendering.program s self.old
+            → Breaks self.old.rendering.program (λ r. (has s.schedule.pending lane.Sync ≡ true) × TurnBreaksOff (between_events s) r) self.new log.old log.new steps.old steps.new) }
+        ensures left { (k : ℕ) → HasRoomFor (suc k) self.old → HasRoomFor k self.new }
         ensures rises { steps.old ≤ steps.new }
     {
         self.end_event();
@@ -77,8 +81,10 @@ impl Root {
     }
 
     /// Takes a step of a script: the root stands for the state of the machine after it, the report has its lines, and the
-    /// counter the bodies that it evaluated. An `Err` of a step that renders nothing changes nothing of what the root stands
-    /// for, nor the report; after one of a step that renders, nothing is promised of the root.
+    /// counter the bodies that it evaluated. After an `Err` of a step that renders, the root stands for the state after the
+    /// renders that the step finished and the passive effects that it ran, whose lines the report has, and no render is in
+    /// progress; so the step may be called again. An `Err` of any other step changes nothing of what the root stands for, nor
+    /// the report.
     ///
     /// # Errors
     ///
@@ -95,8 +101,11 @@ impl Root {
         ensures ok { OnOk result ((s : State) → Stands self.old.rendering.program s self.old
             → (r : Stretch) × StepTo self.old.rendering.program s step.now r × Stands self.old.rendering.program r.after self.new
             × (log.new ≡ with_lines log.old r.lines) × (steps.new ≡ steps.old + r.bodies)) }
-        ensures program { OnOk result (self.new.rendering.program ≡ self.old.rendering.program) }
-        ensures left { OnOk result ((k : ℕ) → HasRoomFor (suc k) self.old → HasRoomFor k self.new) }
+        ensures broken { OnErr result ((s : State) → Stands self.old.rendering.program s self.old
+            → (r : Stretch) × BreaksOff self.old.rendering.program s step.now r × Stands self.old.rendering.program r.after self.new
+            × (log.new ≡ with_lines log.old r.lines) × (steps.old + r.bodies ≤ steps.new)) }
+        ensures program { self.new.rendering.program ≡ self.old.rendering.program }
+        ensures left { (k : ℕ) → HasRoomFor (suc k) self.old → HasRoomFor k self.new }
         ensures stays { OnErr result (IsAside step.now → (s : State) → Stands self.old.rendering.program s self.old → Stands self.old.rendering.program s self.new) }
         ensures unchanged { OnErr result (IsAside step.now → log.new ≡ log.old) }
         ensures rises { steps.old ≤ steps.new }

@@ -1,5 +1,5 @@
 // Turns of rendering.
-ghost use Rattle.std.specs.Prelude.{◌≡◌, ℕ, ◌+◌, ◌<◌, ◌≤◌, ◌^◌, true, false, Option, Some, None, option_map, IfOk, IfSome, OnErr, OnOk, length};
+ghost use Rattle.std.specs.Prelude.{◌≡◌, ◌≢◌, ◌⊎◌, ℕ, ◌+◌, ◌<◌, ◌≤◌, ◌^◌, true, false, Option, Some, None, option_map, IfOk, IfSome, OnErr, OnOk, length};
 ghost use Rattle.rx_ast.specs.Syntax as syntax;
 ghost use Rattle.rx_check.specs.Accepted.{IsAccepted};
 ghost use Rattle.rx_elem.specs.Trees as trees;
@@ -13,21 +13,29 @@ ghost use Rattle.rx_queue.specs.Journal.{resolved_since};
 ghost use Rattle.rx_loop.specs.Ends.{MatchDriven};
 ghost use Rattle.rx_meaning.specs.Outcome.{outcome, still_pending};
 ghost use Rattle.rx_model.specs.State.{State, Progress};
-ghost use Rattle.rx_model.specs.Committing.{passive_run, starting, committed_as, schedule_deferred, deferred_as, ended};
+ghost use Rattle.rx_model.specs.Committing.{passive_run, starting, committed_as, committed_state, schedule_deferred, deferred_as, ended};
+ghost use Rattle.rx_model.specs.HooksOf.{KeepsAllHooks};
+ghost use Rattle.rx_model.specs.Stretch.{silent};
+ghost use Rattle.rx_sched.specs.declared.choice.Choice.TheVariants as choices;
+ghost use Rattle.rx_settle.specs.Settling.{CanSettle, IsSettlingOf};
+ghost use Rattle.rx_hook_store.specs.Store.{kept_hooks};
 ghost use Rattle.rx_model.specs.Turns.{slice_of, choice_of, GoesOn, Turn};
 ghost use Rattle.rx_model.specs.Machine.{Flush, FlushSync, flush_limit};
 ghost use Rattle.rx_model.specs.Kept.{IsSet};
 ghost use Rattle.rx_model.specs.Laws.{IsBounded, IsReached};
 ghost use Rattle.end_laws.specs.Trimmed.{trimmed};
-ghost use Rattle.rx_commit.specs.Shown.{Shows, outcome_as};
+ghost use Rattle.rx_commit.specs.Shown.{Prepares, Shows, outcome_as};
 ghost use Rattle.rx_commit.specs.Written.{lines_of, passive_lines, with_lines};
-ghost use Rattle.rx_render.specs.Rendering.{IsIdle};
+ghost use Rattle.rx_render.specs.declared.at.At.TheVariants.{Over};
+ghost use Rattle.rx_render.specs.Renders.{with_hooks};
+ghost use Rattle.rx_render.specs.Turning.{GoesOn as Onward, GivesUp, KeepsHooks};
+ghost use Rattle.rx_root.specs.Breaking.{BreaksOffWithin, HasBegun, TurnBreaksOff};
 ghost use Rattle.rx_root.specs.Stands.{Stands, StandsWith};
-ghost use Rattle.rx_root.specs.Turning.{CanFollow, CanShow, FlushWithin, FlushesFrom, HasDone, HasFinished, HasNumbered, HasRoomForTurns, HasSomeProgress, HasYielded, IsAtSomeEnd, KnowsSince, KnowsSinceSome, LeadsOn, LeavesRoom, StandsAtEnd, StandsBetween, Takes, counts_of, is_news, passive_left};
+ghost use Rattle.rx_root.specs.Turning.{Breaks, CanFollow, CanShow, FlushWithin, FlushesFrom, GaveUp, HasBroken, HasDone, HasFinished, HasNumbered, HasRoomForTurns, HasSomeProgress, HasYielded, IsAtSomeEnd, IsPrepared, IsPreparedFor, KnowsSince, KnowsSinceSome, LeadsOn, LeavesRoom, StandsAtEnd, StandsBetween, Takes, counts_of, is_news, passive_left};
 
 use crate::root::Root;
 use rx_base::{Awaits, Cut, Int, Steps};
-use rx_commit::Shown;
+use rx_commit::{Prepared, Shown, cut_back};
 use rx_lane::{Lane, Lanes};
 use rx_loop::{Driven, drive};
 use rx_node::Node;
@@ -120,6 +128,7 @@ impl Root {
             → StandsWith p (passive_run s).after (Some (starting s lanes)) self.new) }
         ensures written { OnOk result (log.new ≡ with_lines log.old (passive_lines self.old.shown.passive)) }
         ensures rest { self.new ≡ record self.old { rendering = self.new.rendering; shown = self.new.shown; later = self.new.later } }
+        ensures broken { OnErr result ((p : syntax.Program) (s : State) → Stands p s self.old → s.event ≡ None → HasBroken p (λ r. (r ≡ silent s) ⊎ (r ≡ passive_run s)) self.new log.old log.new) }
     {
         self.renderer.facts();
         self.shown.flush_passive(log)?;
@@ -145,6 +154,8 @@ impl Root {
             (λ used. (p : syntax.Program) (s : State) (g : Progress) → StandsWith p s (Some g) self.old → HasFinished p s g slice self.new steps.old steps.new)
             (λ used. (p : syntax.Program) (s : State) (g : Progress) → StandsWith p s (Some g) self.old → HasYielded p s g slice self.new steps.old steps.new)) }
         ensures rest { self.new ≡ record self.old { rendering = self.new.rendering } }
+        ensures onward { OnOk result (Onward self.old.rendering self.new.rendering) }
+        ensures given_up { OnErr result (GivesUp self.old.rendering self.new.rendering) }
         ensures rises { steps.old ≤ steps.new }
     {
         self.renderer.facts();
@@ -192,7 +203,9 @@ impl Root {
     // Defers a finished render until what it waits for has a value.
     fn defer(&mut self, waits: Awaits, log: &mut Report) -> Result<(), AllocError>
         requires { IsAtSomeEnd self.old }
-        ensures { OnOk result ((p : syntax.Program) (s : State) (g : Progress) (tree : trees.Node) → StandsAtEnd p s g tree self.old
+        ensures same { OnErr result (self.new ≡ self.old) }
+        ensures unchanged { OnErr result (log.new ≡ log.old) }
+        ensures done { OnOk result ((p : syntax.Program) (s : State) (g : Progress) (tree : trees.Node) → StandsAtEnd p s g tree self.old
             → IsReached p (deferred_as s g (counts_of self.old) waits).after → HasDone p (deferred_as s g (counts_of self.old) waits) self.new log.old log.new) }
     {
         let lanes = self.renderer.lanes();
@@ -225,64 +238,134 @@ impl Root {
         requires room { HasRoomForTurns 1 self.old }
         ensures tree { IfOk result (λ n. (p : syntax.Program) (s : State) (g : Progress) (tree : trees.Node) → StandsAtEnd p s g tree self.old → n ≡ trimmed (numbered s.numbers tree).1) }
         ensures numbers { OnOk result ((p : syntax.Program) (s : State) (g : Progress) (tree : trees.Node) → StandsAtEnd p s g tree self.old → HasNumbered p s g tree self.old self.new) }
+        ensures rest { self.new ≡ record self.old { numbers = self.new.numbers; rendering = record self.old.rendering { trees = record self.old.rendering.trees { draft = self.new.rendering.trees.draft } } } }
     {
         self.facts();
         self.numbers = self.renderer.number(self.numbers);
         self.renderer.finished()
     }
 
-    // Shows the committed tree in place of the one before, and writes what its commit does.
-    fn show(&mut self, tree: Node, log: &mut Report) -> Result<(), AllocError>
+    // Writes what a prepared commit does, and settles the hooks: an `Err` takes back what was written.
+    fn settle(
+        &mut self,
+        prepared: &Prepared,
+        first: u64,
+        log: &mut Report,
+    ) -> Result<(), AllocError>
         requires room { self.old.commits + 1 < 2 ^ 64 }
-        requires can_show { CanShow tree self.old.shown }
-        ensures shown { OnOk result ((old : Option trees.Node) (passive : effects.Passive) (new : trees.Node) → CanFollow tree old passive new self.old.shown
-            → Shows (Some new) (passive_left self.old.rendering.lanes (passive_of (compare_trees old new))) self.new.shown) }
-        ensures written { OnOk result ((old : Option trees.Node) (passive : effects.Passive) (new : trees.Node) → CanFollow tree old passive new self.old.shown
+        requires over { self.old.rendering.at ≡ Over }
+        requires prepares { (old : Option trees.Node) × (new : trees.Node) × Prepares old new prepared.now }
+        requires at_hand { CanSettle self.old.rendering.program (kept_hooks self.old.rendering.hooks) self.old.shown.tree prepared.now.tree first self.old.rendering.lanes self.old.rendering.cut }
+        ensures settled { OnOk result ((s : State) (g : Progress) (x : trees.Node)
+            → IsSettlingOf self.old.rendering.program (kept_hooks self.old.rendering.hooks) self.old.shown.tree prepared.now.tree first self.old.rendering.lanes self.old.rendering.cut s g x
+            → KeepsAllHooks self.old.rendering.program (committed_state s g (numbered s.numbers x)) (kept_hooks self.new.rendering.hooks)) }
+        ensures written { OnOk result ((old : Option trees.Node) (new : trees.Node) → Prepares old new prepared.now
             → log.new ≡ with_lines log.old (lines_of (self.old.commits + 1) (lanes_where (has self.old.rendering.lanes)) (counts_of self.old) old new)) }
-        ensures rest { OnOk result (self.new ≡ record self.old { shown = self.new.shown; commits = self.old.commits + 1; instances = None }) }
+        ensures rest { self.new ≡ record self.old { rendering = with_hooks self.old.rendering self.new.rendering.hooks } }
+        ensures keeps { OnErr result (KeepsHooks self.old.rendering self.new.rendering) }
+        ensures unchanged { OnErr result (log.new ≡ log.old) }
     {
-        let lanes = self.renderer.lanes();
-        let prepared = self.shown.prepare(self.alloc, tree)?;
+        let len = log.len();
         prepared.write(
             log,
             self.commits + 1,
-            lanes,
+            self.renderer.lanes(),
             self.renderer.units(),
             self.renderer.bodies(),
         )?;
-        self.shown.commit(prepared);
-        end_passive_of(&mut self.shown, lanes);
-        self.commits += 1;
-        self.instances = None;
-        Ok(())
+        let settled = self
+            .renderer
+            .settle(self.shown.tree(), prepared.tree(), first);
+        cut_back(log, len, settled)
     }
 
-    // Commits a finished render (react.dev, Render and Commit).
-    fn commit(&mut self, log: &mut Report) -> Result<(), AllocError>
+    // Prepares the commit of a finished tree, whose new instances have numbers from the first on: all of it that may fail, its
+    // lines and its hooks too. An `Err` changes nothing of what the root stands for, nor the report.
+    fn prepare(&mut self, tree: Node, first: u64, log: &mut Report) -> Result<Prepared, AllocError>
+        requires room { self.old.commits + 1 < 2 ^ 64 }
+        requires over { self.old.rendering.at ≡ Over }
+        requires at_hand { CanSettle self.old.rendering.program (kept_hooks self.old.rendering.hooks) self.old.shown.tree tree first self.old.rendering.lanes self.old.rendering.cut }
+        requires can_show { CanShow tree self.old.shown }
+        ensures ready { IfOk result (λ x. (old : Option trees.Node) (passive : effects.Passive) (new : trees.Node) → CanFollow tree old passive new self.old.shown → IsPreparedFor old new self.new.shown x) }
+        ensures settled { OnOk result ((s : State) (g : Progress) (x : trees.Node)
+            → IsSettlingOf self.old.rendering.program (kept_hooks self.old.rendering.hooks) self.old.shown.tree tree first self.old.rendering.lanes self.old.rendering.cut s g x
+            → KeepsAllHooks self.old.rendering.program (committed_state s g (numbered s.numbers x)) (kept_hooks self.new.rendering.hooks)) }
+        ensures written { OnOk result ((old : Option trees.Node) (passive : effects.Passive) (new : trees.Node) → CanFollow tree old passive new self.old.shown
+            → log.new ≡ with_lines log.old (lines_of (self.old.commits + 1) (lanes_where (has self.old.rendering.lanes)) (counts_of self.old) old new)) }
+        ensures rest { self.new ≡ record self.old { rendering = with_hooks self.old.rendering self.new.rendering.hooks; shown = self.new.shown } }
+        ensures gave_up { OnErr result (GaveUp self.old self.new) }
+        ensures unchanged { OnErr result (log.new ≡ log.old) }
+    {
+        let prepared = self.shown.prepare(self.alloc, tree)?;
+        self.settle(&prepared, first, log)?;
+        Ok(prepared)
+    }
+
+    // Shows the committed tree in place of the one before.
+    fn show(&mut self, prepared: Prepared)
+        requires room { self.old.commits + 1 < 2 ^ 64 }
+        requires ready { IsPrepared self.old.shown prepared }
+        ensures shown { (old : Option trees.Node) (new : trees.Node) → IsPreparedFor old new self.old.shown prepared
+            → Shows (Some new) (passive_left self.old.rendering.lanes (passive_of (compare_trees old new))) self.new.shown }
+        ensures rest { self.new ≡ record self.old { shown = self.new.shown; commits = self.old.commits + 1; instances = None } }
+    {
+        self.shown.commit(prepared);
+        end_passive_of(&mut self.shown, self.renderer.lanes());
+        self.commits += 1;
+        self.instances = None;
+    }
+
+    // Commits a finished render; where memory is wanting the next numbers are not what they were.
+    fn try_commit(&mut self, log: &mut Report) -> Result<(), AllocError>
         requires end { IsAtSomeEnd self.old }
         requires room { HasRoomForTurns 1 self.old }
-        ensures { OnOk result ((p : syntax.Program) (s : State) (g : Progress) (tree : trees.Node) → StandsAtEnd p s g tree self.old
+        ensures done { OnOk result ((p : syntax.Program) (s : State) (g : Progress) (tree : trees.Node) → StandsAtEnd p s g tree self.old
             → IsReached p (committed_as s g (counts_of self.old) (numbered s.numbers tree)).after
             → HasDone p (committed_as s g (counts_of self.old) (numbered s.numbers tree)) self.new log.old log.new) }
+        ensures gave_up { OnErr result (GaveUp self.old (record self.new { numbers = self.old.numbers })) }
+        ensures unchanged { OnErr result (log.new ≡ log.old) }
     {
         self.facts();
         let first = self.numbers.instance;
         let lanes = self.renderer.lanes();
         let tree = self.number()?;
         let still = self.still(&tree);
-        self.renderer.settle(self.shown.tree(), &tree, first)?;
-        self.show(tree, log)?;
+        let prepared = self.prepare(tree, first, log)?;
+        self.show(prepared);
         self.renderer.commit();
         self.lanes.finished(lanes, still, self.now);
         Ok(())
+    }
+
+    // Commits a finished render (react.dev, Render and Commit). An `Err` changes nothing of what the root stands for but for
+    // its render, nor the report.
+    fn commit(&mut self, log: &mut Report) -> Result<(), AllocError>
+        requires end { IsAtSomeEnd self.old }
+        requires room { HasRoomForTurns 1 self.old }
+        ensures done { OnOk result ((p : syntax.Program) (s : State) (g : Progress) (tree : trees.Node) → StandsAtEnd p s g tree self.old
+            → IsReached p (committed_as s g (counts_of self.old) (numbered s.numbers tree)).after
+            → HasDone p (committed_as s g (counts_of self.old) (numbered s.numbers tree)) self.new log.old log.new) }
+        ensures gave_up { OnErr result (GaveUp self.old self.new) }
+        ensures unchanged { OnErr result (log.new ≡ log.old) }
+    {
+        let numbers = self.numbers;
+        match self.try_commit(log) {
+            Ok(()) => Ok(()),
+            Err(error) => {
+                self.numbers = numbers;
+                Err(error)
+            }
+        }
     }
 
     // Ends a finished render: it is committed, or deferred.
     fn finish(&mut self, log: &mut Report) -> Result<(), AllocError>
         requires end { IsAtSomeEnd self.old }
         requires room { HasRoomForTurns 1 self.old }
-        ensures { OnOk result ((p : syntax.Program) (s : State) (g : Progress) (tree : trees.Node) → StandsAtEnd p s g tree self.old
+        ensures done { OnOk result ((p : syntax.Program) (s : State) (g : Progress) (tree : trees.Node) → StandsAtEnd p s g tree self.old
             → IsReached p (ended s g (counts_of self.old) tree).after → HasDone p (ended s g (counts_of self.old) tree) self.new log.old log.new) }
+        ensures gave_up { OnErr result (GaveUp self.old self.new) }
+        ensures unchanged { OnErr result (log.new ≡ log.old) }
     {
         match self.deferral()? {
             None => self.commit(log),
@@ -302,6 +385,8 @@ impl Root {
         requires positive { IfSome budget (λ n. 0 < n) }
         ensures takes { OnOk result ((p : syntax.Program) (s : State) (g : Progress) → StandsWith p s (Some g) self.old → LeadsOn p s g budget
             → Takes p (GoesOn p s g budget) self.new log.old log.new steps.old steps.new) }
+        ensures gave_up { OnErr result (GaveUp self.old self.new) }
+        ensures unchanged { OnErr result (log.new ≡ log.old) }
         ensures rises { steps.old ≤ steps.new }
     {
         let slice = self.slice(budget);
@@ -322,6 +407,7 @@ impl Root {
         requires room { HasRoomForTurns 1 self.old }
         requires positive { IfSome budget (λ n. 0 < n) }
         ensures takes { OnOk result ((p : syntax.Program) (s : State) → Stands p s self.old → s.event ≡ None → Takes p (Turn p s budget) self.new log.old log.new steps.old steps.new) }
+        ensures broken { OnErr result ((p : syntax.Program) (s : State) → Stands p s self.old → s.event ≡ None → HasBroken p (λ r. (choice_of s ≢ choices.None) × HasBegun s r) self.new log.old log.new) }
         ensures rises { steps.old ≤ steps.new }
     {
         match self.choice() {
@@ -346,8 +432,8 @@ impl Root {
         requires room { HasRoomForTurns 1 self.old }
         requires positive { IfSome budget (λ n. 0 < n) }
         ensures takes { OnOk result ((p : syntax.Program) (s : State) → Stands p s self.old → s.event ≡ None → Takes p (Turn p s budget) self.new log.old log.new steps.old steps.new) }
-        ensures idle { OnErr result (IsIdle self.new.rendering) }
-        ensures leaves { OnOk result (LeavesRoom 1 self.old self.new) }
+        ensures breaks { OnErr result ((p : syntax.Program) (s : State) → Stands p s self.old → s.event ≡ None → Breaks p (TurnBreaksOff s) self.new log.old log.new steps.old steps.new) }
+        ensures leaves { LeavesRoom 1 self.old self.new }
         ensures rises { steps.old ≤ steps.new }
     {
         self.facts();
@@ -365,7 +451,7 @@ impl Root {
     ///
     /// # Errors
     ///
-    /// Want of memory alone. Then nothing is in progress.
+    /// Want of memory alone. Then nothing is in progress, and what was finished stays.
     pub(crate) fn work<L: Ledger>(
         &mut self,
         units: u64,
@@ -376,8 +462,8 @@ impl Root {
         requires room { HasRoomForTurns 1 self.old }
         requires positive { 0 < units }
         ensures takes { OnOk result ((p : syntax.Program) (s : State) → Stands p s self.old → s.event ≡ None → Takes p (Turn p s (Some units)) self.new log.old log.new steps.old steps.new) }
-        ensures idle { OnErr result (IsIdle self.new.rendering) }
-        ensures leaves { OnOk result (LeavesRoom 1 self.old self.new) }
+        ensures breaks { OnErr result ((p : syntax.Program) (s : State) → Stands p s self.old → s.event ≡ None → Breaks p (TurnBreaksOff s) self.new log.old log.new steps.old steps.new) }
+        ensures leaves { LeavesRoom 1 self.old self.new }
         ensures rises { steps.old ≤ steps.new }
     {
         self.turn(Some(units), log, steps)
@@ -393,8 +479,8 @@ impl Root {
         requires flushes { FlushesFrom limit self.old }
         requires room { HasRoomForTurns limit self.old }
         ensures takes { OnOk result ((p : syntax.Program) (s : State) → Stands p s self.old → s.event ≡ None → Takes p (FlushWithin limit p s) self.new log.old log.new steps.old steps.new) }
-        ensures idle { OnErr result (IsIdle self.new.rendering) }
-        ensures leaves { OnOk result (LeavesRoom limit self.old self.new) }
+        ensures breaks { OnErr result ((p : syntax.Program) (s : State) → Stands p s self.old → s.event ≡ None → Breaks p (BreaksOffWithin limit p s) self.new log.old log.new steps.old steps.new) }
+        ensures leaves { LeavesRoom limit self.old self.new }
         ensures rises { steps.old ≤ steps.new }
     {
         if let Choice::None = self.choice() {
@@ -408,7 +494,7 @@ impl Root {
     ///
     /// # Errors
     ///
-    /// Want of memory alone. Then nothing is in progress.
+    /// Want of memory alone. Then nothing is in progress, and what was finished stays.
     pub(crate) fn flush<L: Ledger>(
         &mut self,
         log: &mut Report,
@@ -417,8 +503,8 @@ impl Root {
         requires stands { StandsBetween self.old }
         requires room { HasRoomForTurns flush_limit self.old }
         ensures takes { OnOk result ((p : syntax.Program) (s : State) → Stands p s self.old → s.event ≡ None → Takes p (Flush p s) self.new log.old log.new steps.old steps.new) }
-        ensures idle { OnErr result (IsIdle self.new.rendering) }
-        ensures leaves { OnOk result (LeavesRoom flush_limit self.old self.new) }
+        ensures breaks { OnErr result ((p : syntax.Program) (s : State) → Stands p s self.old → s.event ≡ None → Breaks p (BreaksOffWithin flush_limit p s) self.new log.old log.new steps.old steps.new) }
+        ensures leaves { LeavesRoom flush_limit self.old self.new }
         ensures rises { steps.old ≤ steps.new }
     {
         self.facts();
@@ -429,7 +515,7 @@ impl Root {
     ///
     /// # Errors
     ///
-    /// Want of memory alone. Then nothing is in progress.
+    /// Want of memory alone. Then nothing is in progress, and what was finished stays.
     pub(crate) fn flush_sync<L: Ledger>(
         &mut self,
         log: &mut Report,
@@ -439,8 +525,8 @@ impl Root {
         requires room { HasRoomForTurns 1 self.old }
         ensures takes { OnOk result ((p : syntax.Program) (s : State) → Stands p s self.old → s.event ≡ None
             → Takes p (FlushSync (has s.schedule.pending lane.Sync) p s) self.new log.old log.new steps.old steps.new) }
-        ensures idle { OnErr result (IsIdle self.new.rendering) }
-        ensures leaves { OnOk result (LeavesRoom 1 self.old self.new) }
+        ensures breaks { OnErr result ((p : syntax.Program) (s : State) → Stands p s self.old → s.event ≡ None → Breaks p (λ r. (has s.schedule.pending lane.Sync ≡ true) × TurnBreaksOff s r) self.new log.old log.new steps.old steps.new) }
+        ensures leaves { LeavesRoom 1 self.old self.new }
         ensures rises { steps.old ≤ steps.new }
     {
         if self.lanes.pending().has(Lane::Sync) {

@@ -12,7 +12,6 @@ use Rattle.rx_hooks.specs.declared.hook.Hook.{Hook}
 use Rattle.rx_meaning.specs.Body.{body_of}
 use Rattle.rx_meaning.specs.Fresh.{fresh, made, rendered}
 use Rattle.rx_model.specs.State.{Progress, opening}
-use Rattle.rx_model.specs.Stretch.{silent}
 use Rattle.rx_model.specs.Committing.{committed_state, sight_of}
 use Rattle.rx_model.specs.HooksOf.{KeepsAllHooks}
 use Rattle.rx_model.specs.Laws.{IsBounded}
@@ -46,7 +45,7 @@ pub is_first : (p : Program) (kept : KeptBy) (new : Node) (lanes : Lanes) (cut :
 is_first p kept new lanes cut is runnable keeps tree at =
     record {
       bounded = runnable_bounded p runnable;
-      reached = ([], silent opening, refl, refl);
+      reached = ([], refl);
       gives = subst (λ (q : Program). fresh (sight_of q opening (first_render lanes)) None ≡ made rendered_first) (sym is) (gives_first lanes);
       done = tt;
       links = λ k i le. refl;

@@ -21,7 +21,7 @@ struct Row<'a> {
 const TWO_COUNTERS: &str =
     "function Counter({start}) { const [n, setN] = useState(start); return <p>{n}</p>; } function App() { return <div><Counter start={1}/><Counter start={2}/></div>; }\n---\nflush\nset sync App/Counter@1 n 7\nflush\ntree\nstate\n";
 
-const ROWS: [Row<'static>; 7] = [
+const ROWS: [Row<'static>; 8] = [
     // Two counters: the second is set.
     Row {
         words: &["run"],
@@ -30,6 +30,15 @@ const ROWS: [Row<'static>; 7] = [
         failing_writes: &[],
         status: 0,
         output: "commit 1 Default\ncommit 2 Sync\ntree\n  div\n    p\n      \"1\"\n    p\n      \"7\"\nstate\n  [1] App\n  [2] Counter n=1\n  [3] Counter n=7\nend quiet\n",
+    },
+    // A transition yields after a unit, and an update of Sync comes first.
+    Row {
+        words: &["run"],
+        input: "function App() { const [v, setV] = useState(0); const [w, setW] = useState(0); return <p><b>{v}</b><i>{w}</i></p>; }\n---\nflush\nset transition App v 1\nwork 1\nset sync App w 7\nflushsync\nstate\nflush\nstate\n",
+        failing_reads: &[],
+        failing_writes: &[],
+        status: 0,
+        output: "commit 1 Default\ncommit 2 Sync\nstate\n  [1] App v=0 w=7\ncommit 3 T1\nstate\n  [1] App v=1 w=7\nend quiet\n",
     },
     // Operations on hosts are shown where they are asked for.
     Row {

@@ -5,8 +5,8 @@ use Rattle.rx_root.specs.contracts.root.Root.{the_view}
 use Rattle.rx_root.proofs.TurnStands.{knows_at_end, deferred_stands, deferred_written}
 use Rattle.rx_root.proofs.root.Root.defer.Goals as goal
 
-pub returns : goal.returns
-returns c p s g tree h reached =
+pub returns-clause-done : goal.returns-clause-done
+returns-clause-done c p s g tree h reached =
     let v = c.args.self.now in
     record {
       stands = deferred_stands p s g (counts_of v) tree c.args.waits v (the_view c.self-2.inside) c.discard.new.self h reached

@@ -1,4 +1,4 @@
-use Rattle.std.proofs.Common.{List, Option, sym, ◌∙◌, subst}
+use Rattle.std.proofs.Common.{List, Option, refl, sym, ap, ◌∙◌, subst}
 use Rattle.std.specs.Prelude.{ℤ}
 use Rattle.rx_model.specs.Committing.{passive_run}
 use Rattle.rx_model.specs.Laws.{IsBounded}
@@ -8,6 +8,8 @@ use Rattle.rx_root.specs.Stands.{Stands}
 use Rattle.rx_root.specs.contracts.root.Root.{the_view}
 use Rattle.rx_root.proofs.TurnReached.{reached_passive}
 use Rattle.rx_root.proofs.TurnStands.{can_start, started_as}
+use Rattle.rx_commit.specs.Shown.{Shown}
+use Rattle.rx_root.proofs.Broken.{any_err, none_broken, passive_broken}
 use Rattle.rx_root.proofs.root.Root.start.Goals as goal
 
 pub start-requires : goal.start-requires
@@ -33,3 +35,30 @@ returns-clause-starts c p s i none set =
     let on = c.in_ok-start.ensures in
     started_as p s v c.args.lanes c.start.new.self c.flush_passive.new.self c.none-self-inside.result h reached set on.program on.current on.hooks (on.started (passive_run s).after is) on.units on.bodies
     on.left c.in_ok-flush_passive.ensures.ended c.none-self-inside.ensures
+
+pub returns-in_err-flush_passive-clause-broken : goal.returns-in_err-flush_passive-clause-broken
+returns-in_err-flush_passive-clause-broken c =
+    any_err c.from_residual.result _
+    (λ p s i none.
+    let v = the_view c.self.inside in
+    let h = subst (λ (x : Rooted). Stands p s x) (sym c.self.view_is) i in
+    none_broken p s v _ c.args.log.now c.flush_passive.new.log h (ap (λ (x : Shown). record v { shown = x }) c.in_err-flush_passive.ensures.same) c.in_err-flush_passive.ensures.unchanged)
+
+pub returns-in_err-values-clause-broken : goal.returns-in_err-values-clause-broken
+returns-in_err-values-clause-broken c =
+    any_err c.from_residual-in_err-values.result _
+    (λ p s i none.
+    let v = the_view c.self.inside in
+    let h = subst (λ (x : Rooted). Stands p s x) (sym c.self.view_is) i in
+    passive_broken p s v _ v.rendering c.flush_passive.new.self c.args.log.now c.flush_passive.new.log h none refl refl refl refl c.in_ok-flush_passive.ensures.ended
+    c.in_ok-flush_passive.ensures.written)
+
+pub returns-in_err-start-clause-broken : goal.returns-in_err-start-clause-broken
+returns-in_err-start-clause-broken c =
+    any_err c.from_residual-in_err-start.result _
+    (λ p s i none.
+    let v = the_view c.self.inside in
+    let h = subst (λ (x : Rooted). Stands p s x) (sym c.self.view_is) i in
+    let on = c.in_err-start.ensures in
+    passive_broken p s v _ c.start.new.self c.flush_passive.new.self c.args.log.now c.flush_passive.new.log h none refl on.program on.current on.hooks c.in_ok-flush_passive.ensures.ended
+    c.in_ok-flush_passive.ensures.written)

@@ -2,6 +2,7 @@ use Rattle.std.proofs.Common.{◌≡◌, refl, ap, ◌∙◌, arith}
 use Rattle.rx_model.specs.Accepting.{between_events}
 use Rattle.rx_model.specs.Machine.{flush_limit}
 use Rattle.rx_begin.proofs.Begins.{on_ok}
+use Rattle.rx_root.proofs.Broken.{on_err}
 use Rattle.rx_root.proofs.StepRoom.{after_event, room_for_turns, room_left, stands_between}
 use Rattle.rx_root.proofs.root.Root.take_flush_sync.Goals as goal
 
@@ -16,14 +17,10 @@ returns-clause-ok g c =
     on_ok c.flush_sync.result _ _ (λ f s h. let p = c.args.self.now.rendering.program in f p (between_events s) (after_event p s c.args.self.now c.end_event.new.self h c.end_event.ensures) refl)
     c.flush_sync.ensures.takes
 
-pub returns-clause-program : goal.returns-clause-program
-returns-clause-program g c =
-    on_ok c.flush_sync.result _ _
-    (λ f. let p = c.args.self.now.rendering.program in
-    let s = c.requires.stands.0 in
-    (f p (between_events s) (after_event p s c.args.self.now c.end_event.new.self c.requires.stands.1 c.end_event.ensures) refl).done.stands.program)
-    c.flush_sync.ensures.takes
+pub returns-clause-breaks : goal.returns-clause-breaks
+returns-clause-breaks g c =
+    on_err c.flush_sync.result _ _ (λ f s h. let p = c.args.self.now.rendering.program in f p (between_events s) (after_event p s c.args.self.now c.end_event.new.self h c.end_event.ensures) refl)
+    c.flush_sync.ensures.breaks
 
 pub returns-clause-left : goal.returns-clause-left
-returns-clause-left g c =
-    on_ok c.flush_sync.result _ _ (room_left c.args.self.now c.end_event.new.self c.flush_sync.new.self 1 (omega arith) c.end_event.ensures) c.flush_sync.ensures.leaves
+returns-clause-left g c = room_left c.args.self.now c.end_event.new.self c.flush_sync.new.self 1 (omega arith) c.end_event.ensures c.flush_sync.ensures.leaves

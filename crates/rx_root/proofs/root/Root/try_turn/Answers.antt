@@ -3,6 +3,7 @@ use Rattle.rx_effect.specs.EffectLog.{Passive}
 use Rattle.rx_model.specs.Committing.{passive_run, starting}
 use Rattle.rx_commit.specs.Written.{passive_lines, with_lines}
 use Rattle.rx_root.proofs.TurnsTaken.{keeps_some, start_is_set, stands_some, keep_leads, start_leads, on_ok, takes_none, takes_on, takes_start}
+use Rattle.rx_root.proofs.Broken.{any_err, kept_broken, on_err_both, start_broken, started_broken}
 use Rattle.rx_root.proofs.root.Root.try_turn.Goals as goal
 
 pub go_on-requires-clause-goes_on : goal.go_on-requires-clause-goes_on
@@ -45,3 +46,28 @@ returns-in_ok-start-in-Start-clause-takes g c =
     (c.in_ok-start-in-Start.ensures.written ∙ ap (λ (q : Passive). with_lines c.args.log.now (passive_lines q)) h.shows.passive_is)
     (a p (passive_run s).after (starting s lanes) (c.in_ok-start-in-Start.ensures.starts p s h none (start_is_set s lanes e)) (start_leads p s lanes c.args.budget h.reached none e)))
     c.go_on-in-Start.ensures.takes
+
+pub returns-in-Keep-clause-broken : goal.returns-in-Keep-clause-broken
+returns-in-Keep-clause-broken g c =
+    on_err_both c.go_on.result _ _ _
+    (λ up same p s h none.
+    let e = sym (c.in-Keep.ensures p s h) in
+    let k = keeps_some s e in
+    kept_broken p s k.0 c.args.self.now c.go_on.new.self c.args.log.now c.go_on.new.log e (stands_some p s k.0 c.args.self.now k.1 h) up same) c.go_on.ensures.gave_up c.go_on.ensures.unchanged
+
+pub returns-in_err-start-in-Start-clause-broken : goal.returns-in_err-start-in-Start-clause-broken
+returns-in_err-start-in-Start-clause-broken g c =
+    any_err c.from_residual.result _
+    (λ p s h none.
+    start_broken p s c.in-Start.lanes c.start.new.self c.args.log.now c.start.new.log (sym (c.in-Start.ensures p s h)) (c.in_err-start-in-Start.ensures.broken p s h none))
+
+pub returns-in_ok-start-in-Start-clause-broken : goal.returns-in_ok-start-in-Start-clause-broken
+returns-in_ok-start-in-Start-clause-broken g c =
+    on_err_both c.go_on-in-Start.result _ _ _
+    (λ up same p s h none.
+    let lanes = c.in-Start.lanes in
+    let e = sym (c.in-Start.ensures p s h) in
+    started_broken p s lanes (starting s lanes) c.start.new.self c.go_on-in-Start.new.self c.args.log.now c.go_on-in-Start.new.log e
+    (c.in_ok-start-in-Start.ensures.starts p s h none (start_is_set s lanes e))
+    (same ∙ c.in_ok-start-in-Start.ensures.written ∙ ap (λ (q : Passive). with_lines c.args.log.now (passive_lines q)) h.shows.passive_is) up)
+    c.go_on-in-Start.ensures.gave_up c.go_on-in-Start.ensures.unchanged
