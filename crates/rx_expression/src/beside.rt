@@ -5,10 +5,7 @@ use crate::fault::Fault;
 use rx_lex::Rest;
 
 /// A part, with the tokens that are left where something stands behind it.
-pub fn closed<'a, T: Drop>(
-    part: T,
-    rest: Result<Rest<'a>, Fault>,
-) -> Result<(T, Rest<'a>), Fault>
+pub fn closed<'a, T: Drop>(part: T, rest: Result<Rest<'a>, Fault>) -> Result<(T, Rest<'a>), Fault>
     ensures ok { IfOk rest.entry (λ r. result ≡ Ok (part, r)) }
     ensures err { IfErr rest.entry (λ e. result ≡ Err e) }
 {

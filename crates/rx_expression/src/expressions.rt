@@ -185,11 +185,7 @@ fn choice<'a>(
 /// An expression with so many levels left.
 #[cycle(expr)]
 #[tactic(auto, unfolding(rx_grammar::specs::Reading::expr_with))]
-pub fn expr<'a>(
-    alloc: Global,
-    rest: Rest<'a>,
-    level: usize,
-) -> Result<(Expr, Rest<'a>), Fault>
+pub fn expr<'a>(alloc: Global, rest: Rest<'a>, level: usize) -> Result<(Expr, Rest<'a>), Fault>
     ensures { Gives (λ x. (x.0, kinds_of x.1)) result (expr_at level (kinds_of rest.entry)) }
 {
     let (test, rest) = line(alloc, rest, OR_LINE, level)?;

@@ -52,11 +52,7 @@ fn context<'a>(alloc: Global, rest: Rest<'a>) -> Result<(Declaration, Rest<'a>),
 }
 
 /// Further names, each behind a comma.
-fn more_names<'a>(
-    alloc: Global,
-    rest: Rest<'a>,
-    names: &mut Vec<Name>,
-) -> Result<Rest<'a>, Fault>
+fn more_names<'a>(alloc: Global, rest: Rest<'a>, names: &mut Vec<Name>) -> Result<Rest<'a>, Fault>
     ensures { Gives (λ x. (names.new.items, kinds_of x)) result (in_front names.old.items (all_of (is_mark sign.Comma) (behind_comma (taken as_lower)) (kinds_of rest.entry))) }
 {
     let mut rest = rest;
@@ -149,10 +145,7 @@ fn more_parameters<'a>(
 
 /// The parameters of a component in braces, up to and with `}`.
 #[tactic(auto, unfolding(rx_grammar::specs::Reading::list_to))]
-fn braced_parameters<'a>(
-    alloc: Global,
-    rest: Rest<'a>,
-) -> Result<(Vec<Parameter>, Rest<'a>), Fault>
+fn braced_parameters<'a>(alloc: Global, rest: Rest<'a>) -> Result<(Vec<Parameter>, Rest<'a>), Fault>
     ensures { Gives (λ x. (x.0.items, kinds_of x.1)) result (list_to sign.CloseBrace parameter_at (kinds_of rest.entry)) }
 {
     let mut parameters = Vec::new(alloc);
@@ -168,10 +161,7 @@ fn braced_parameters<'a>(
 
 /// The parameters of a component, up to and with `)`, and whether they stand in braces.
 #[tactic(auto, unfolding(rx_grammar::specs::Reading::parameters_at))]
-fn parameters<'a>(
-    alloc: Global,
-    rest: Rest<'a>,
-) -> Result<(bool, Vec<Parameter>, Rest<'a>), Fault>
+fn parameters<'a>(alloc: Global, rest: Rest<'a>) -> Result<(bool, Vec<Parameter>, Rest<'a>), Fault>
     ensures { Gives (λ x. ((x.0, x.1.items), kinds_of x.2)) result (parameters_at (kinds_of rest.entry)) }
 {
     if next_is(rest, Sign::CloseParen) {
@@ -185,11 +175,7 @@ fn parameters<'a>(
 }
 
 /// `return`, a body and `;}`.
-fn returned<'a>(
-    alloc: Global,
-    rest: Rest<'a>,
-    level: usize,
-) -> Result<(Body, Rest<'a>), Fault>
+fn returned<'a>(alloc: Global, rest: Rest<'a>, level: usize) -> Result<(Body, Rest<'a>), Fault>
     ensures { Gives (λ x. (x.0, kinds_of x.1)) result (result_at level (kinds_of rest.entry)) }
 {
     let rest = expect_word(rest, Keyword::Return)?;

@@ -22,11 +22,7 @@ const LEVELS: usize = 64;
 
 /// A program, and the end mark behind it.
 #[tactic(auto, unfolding(rx_grammar::specs::Reading::program_at))]
-fn program<'a>(
-    alloc: Global,
-    tokens: Rest<'a>,
-    level: usize,
-) -> Result<(Program, Rest<'a>), Fault>
+fn program<'a>(alloc: Global, tokens: Rest<'a>, level: usize) -> Result<(Program, Rest<'a>), Fault>
     ensures { Gives (λ x. (x.0, kinds_of x.1)) result (program_at level (kinds_of tokens.entry)) }
 {
     let (declarations, rest) = declarations(alloc, tokens, level)?;

@@ -17,11 +17,7 @@ use rx_lex::{Keyword, Rest, Sign};
 use std::alloc::Global;
 
 /// An expression, and the `);` behind it.
-fn argument<'a>(
-    alloc: Global,
-    rest: Rest<'a>,
-    level: usize,
-) -> Result<(Expr, Rest<'a>), Fault>
+fn argument<'a>(alloc: Global, rest: Rest<'a>, level: usize) -> Result<(Expr, Rest<'a>), Fault>
     ensures { Gives (λ x. (x.0, kinds_of x.1)) result (argument_at level (kinds_of rest.entry)) }
 {
     let (value, rest) = expr(alloc, rest, level)?;
@@ -56,11 +52,7 @@ fn hook<'a>(
 
 /// `[name, setter] =` and a hook.
 #[tactic(auto, unfolding(rx_grammar::specs::Reading::pair_at))]
-fn pair<'a>(
-    alloc: Global,
-    rest: Rest<'a>,
-    level: usize,
-) -> Result<(Statement, Rest<'a>), Fault>
+fn pair<'a>(alloc: Global, rest: Rest<'a>, level: usize) -> Result<(Statement, Rest<'a>), Fault>
     ensures { Gives (λ x. (x.0, kinds_of x.1)) result (pair_at level (kinds_of rest.entry)) }
 {
     let rest = expect(rest, Sign::OpenBracket)?;
@@ -105,11 +97,7 @@ fn named<'a>(
 
 /// A statement that begins with `const`.
 #[tactic(auto, unfolding(rx_grammar::specs::Reading::const_at))]
-fn constant<'a>(
-    alloc: Global,
-    rest: Rest<'a>,
-    level: usize,
-) -> Result<(Statement, Rest<'a>), Fault>
+fn constant<'a>(alloc: Global, rest: Rest<'a>, level: usize) -> Result<(Statement, Rest<'a>), Fault>
     ensures { Gives (λ x. (x.0, kinds_of x.1)) result (const_at level (kinds_of rest.entry)) }
 {
     let rest = expect_word(rest, Keyword::Const)?;
@@ -190,11 +178,7 @@ pub(crate) fn statements<'a>(
 
 /// A line of a function.
 #[tactic(auto, unfolding(rx_grammar::specs::Reading::function_line))]
-fn function_line<'a>(
-    alloc: Global,
-    rest: Rest<'a>,
-    level: usize,
-) -> Result<(Line, Rest<'a>), Fault>
+fn function_line<'a>(alloc: Global, rest: Rest<'a>, level: usize) -> Result<(Line, Rest<'a>), Fault>
     ensures { Gives (λ x. (x.0, kinds_of x.1)) result (function_line level (kinds_of rest.entry)) }
 {
     let rest = expect_word(rest, Keyword::Const)?;

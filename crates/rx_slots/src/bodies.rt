@@ -73,11 +73,7 @@ fn opened<'a>(alloc: Global, rest: Rest<'a>, level: usize) -> Result<(Jsx, Rest<
 }
 
 /// An element or a fragment in parentheses.
-fn enclosed<'a>(
-    alloc: Global,
-    rest: Rest<'a>,
-    level: usize,
-) -> Result<(Body, Rest<'a>), Fault>
+fn enclosed<'a>(alloc: Global, rest: Rest<'a>, level: usize) -> Result<(Body, Rest<'a>), Fault>
     ensures { Gives (λ x. (x.0, kinds_of x.1)) result (enclosed_body level (kinds_of rest.entry)) }
 {
     if level == 0 {
@@ -91,11 +87,7 @@ fn enclosed<'a>(
 
 /// What a component returns.
 #[tactic(auto, unfolding(rx_grammar::specs::Reading::body_at))]
-pub fn body<'a>(
-    alloc: Global,
-    rest: Rest<'a>,
-    level: usize,
-) -> Result<(Body, Rest<'a>), Fault>
+pub fn body<'a>(alloc: Global, rest: Rest<'a>, level: usize) -> Result<(Body, Rest<'a>), Fault>
     ensures { Gives (λ x. (x.0, kinds_of x.1)) result (body_at level (kinds_of rest.entry)) }
 {
     if next_is(rest, Sign::Less) {

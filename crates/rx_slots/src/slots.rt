@@ -23,11 +23,7 @@ use std::alloc::Global;
 
 /// A slot in braces.
 #[cycle(slot)]
-fn braced_slot<'a>(
-    alloc: Global,
-    rest: Rest<'a>,
-    level: usize,
-) -> Result<(Slot, Rest<'a>), Fault>
+fn braced_slot<'a>(alloc: Global, rest: Rest<'a>, level: usize) -> Result<(Slot, Rest<'a>), Fault>
     ensures { Gives (λ x. (x.0, kinds_of x.1)) result (braced_slot (slot_at level) (kinds_of rest.entry)) }
 {
     let rest = expect(rest, Sign::OpenBrace)?;
@@ -37,11 +33,7 @@ fn braced_slot<'a>(
 
 /// The fallback of a boundary.
 #[cycle(slot)]
-fn fallback<'a>(
-    alloc: Global,
-    rest: Rest<'a>,
-    level: usize,
-) -> Result<(Slot, Rest<'a>), Fault>
+fn fallback<'a>(alloc: Global, rest: Rest<'a>, level: usize) -> Result<(Slot, Rest<'a>), Fault>
     ensures { Gives (λ x. (x.0, kinds_of x.1)) result (fallback_at (slot_at level) (kinds_of rest.entry)) }
 {
     let rest = expect_lower(rest, "fallback")?;
@@ -166,11 +158,7 @@ pub(crate) fn behind_less<'a>(
 
 /// An element.
 #[cycle(slot)]
-fn element<'a>(
-    alloc: Global,
-    rest: Rest<'a>,
-    level: usize,
-) -> Result<(Element, Rest<'a>), Fault>
+fn element<'a>(alloc: Global, rest: Rest<'a>, level: usize) -> Result<(Element, Rest<'a>), Fault>
     ensures { Gives (λ x. (x.0, kinds_of x.1)) result (element_at (slot_inner level) (kinds_of rest.entry)) }
 {
     if level == 0 {
@@ -182,11 +170,7 @@ fn element<'a>(
 
 /// An element in parentheses.
 #[cycle(slot)]
-fn enclosed<'a>(
-    alloc: Global,
-    rest: Rest<'a>,
-    level: usize,
-) -> Result<(Slot, Rest<'a>), Fault>
+fn enclosed<'a>(alloc: Global, rest: Rest<'a>, level: usize) -> Result<(Slot, Rest<'a>), Fault>
     ensures { Gives (λ x. (x.0, kinds_of x.1)) result (enclosed_at (slot_inner level) (kinds_of rest.entry)) }
 {
     if level == 0 {
@@ -200,11 +184,7 @@ fn enclosed<'a>(
 
 /// `for (index < bound, limit) item`
 #[cycle(slot)]
-fn repeated<'a>(
-    alloc: Global,
-    rest: Rest<'a>,
-    level: usize,
-) -> Result<(Slot, Rest<'a>), Fault>
+fn repeated<'a>(alloc: Global, rest: Rest<'a>, level: usize) -> Result<(Slot, Rest<'a>), Fault>
     ensures { Gives (λ x. (x.0, kinds_of x.1)) result (repeated_at (slot_inner level) (kinds_of rest.entry)) }
 {
     if level == 0 {
@@ -217,11 +197,7 @@ fn repeated<'a>(
 
 /// The two sides of a choice behind its test.
 #[cycle(slot)]
-fn sides<'a>(
-    alloc: Global,
-    rest: Rest<'a>,
-    level: usize,
-) -> Result<(Slot, Slot, Rest<'a>), Fault>
+fn sides<'a>(alloc: Global, rest: Rest<'a>, level: usize) -> Result<(Slot, Slot, Rest<'a>), Fault>
     ensures { Gives (λ x. ((x.0, x.1), kinds_of x.2)) result (sides_at (slot_inner level) (kinds_of rest.entry)) }
 {
     if level == 0 {
