@@ -28,7 +28,10 @@ fn listed(rt: &HostRuntime, text: &str) -> Result<String, Fail> {
     match lex(rt.alloc(), text) {
         Ok(tokens) => {
             let mut rest = tokens.rest();
-            while let Some((span, behind)) = rest.split_first() {
+            for _ in 0..rest.len() {
+                let Some((span, behind)) = rest.split_first() else {
+                    break;
+                };
                 list(&mut line, rest, span)?;
                 rest = behind;
             }
