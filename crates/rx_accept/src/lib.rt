@@ -2,6 +2,8 @@
 #![tactic(auto)]
 
 mod accepting;
+#[cfg(test)]
+mod cases;
 mod cause;
 pub mod laws;
 mod lines;

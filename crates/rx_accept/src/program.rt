@@ -36,6 +36,7 @@ pub(crate) fn read_program(alloc: Global, text: &[u8]) -> Result<Checked, Cause>
         Err(ParseError::Syntax { at }) => return Err(Cause::NoProgram { at }),
         Err(ParseError::OutOfMemory) => return Err(Cause::OutOfMemory),
     };
+    drop(tokens);
     match check(alloc, program) {
         Ok(checked) => Ok(checked),
         Err(Refusal::OutOfMemory) => Err(Cause::OutOfMemory),

@@ -1,24 +1,20 @@
 -- One turn of a loop: what is read so far, in front of what is read from here on.
-use Rattle.std.proofs.Common.{◌≡◌, ◌<◌, Bool, true, cond, Option, Some, None, Ok, Err, List, [], ◌∷◌, ◌++◌, length, refl, sym, ap, ◌∙◌, append_assoc, append-nil, arith}
-use Rattle.std.proofs.lemmas.List.{length-map}
+use Rattle.std.proofs.Common.{◌≡◌, ◌<◌, Bool, true, cond, Option, Some, None, Ok, Err, List, [], ◌∷◌, ◌++◌, length, refl, sym, ap, ◌∙◌, append_assoc, append-nil}
 use Rattle.rx_lex.specs.declared.token.Kind.{Kind}
 use Rattle.rx_lex.specs.declared.token.Token.{Token}
-use Rattle.rx_lex.specs.Tokens.{kinds}
+use Rattle.rx_lex.specs.Spans.{kinds_of}
 use Rattle.rx_grammar.specs.Steps.{Read, ◌>>=◌, next, all_of, until_with, until_end}
 use Rattle.rx_grammar.proofs.Many.{Loop, EndLoop}
 use Rattle.rx_expression.specs.declared.fault.Fault.{Fault}
 use Rattle.rx_expression.specs.declared.fault.Fault.TheVariants.{Syntax, OutOfMemory}
 use Rattle.rx_expression.specs.Results.{Fails, in_front}
 
-pub kinds_len : (ts : List Token) → length (kinds ts) ≡ length ts
-kinds_len ts = length-map ts (λ t. t.kind)
-
 pub in_front-push : {A : Type 0} (xs : List A) (x : A) (read : Read (List A)) → in_front (xs ++ x ∷ []) read ≡ in_front xs (read >>= λ y. Ok (x ∷ y.0, y.1))
 in_front-push xs x (Ok y) = ap (λ l. Ok (l, y.1)) (append_assoc xs (x ∷ []) y.0)
 in_front-push xs x (Err e) = refl
 
-pub smaller : {A : Type 0} {f : Kind → Bool} {item : List Kind → Read A} → Loop f item → (rest after : List Token) (x : A) → item (kinds rest) ≡ Ok (x, kinds after) → length after < length rest
-smaller l rest after x h = let fewer = l.less (kinds rest) (x, kinds after) h in omega (arith, kinds_len rest, kinds_len after)
+pub smaller : {A : Type 0} {f : Kind → Bool} {item : List Kind → Read A} → Loop f item → (ts us : List Kind) (x : A) → item ts ≡ Ok (x, us) → length us < length ts
+smaller l ts us x h = l.less ts (x, us) h
 
 pub turned : {A : Type 0} {f : Kind → Bool} {item : List Kind → Read A} → Loop f item → (xs new : List A) (x : A) (ts us : List Kind) (whole : Read (List A)) → next f ts ≡ true → item ts ≡ Ok (x, us) → new ≡ xs ++ x ∷ [] → in_front xs (all_of f item ts) ≡ whole → in_front new (all_of f item us) ≡ whole
 turned {A} {f} {item} l xs new x ts us whole goes h pushed inv =
@@ -28,8 +24,8 @@ turned {A} {f} {item} l xs new x ts us whole goes h pushed inv =
     ∙ inv))
 
 -- One turn of the loop over children.
-pub end_smaller : {A : Type 0} {step : List Kind → Read (Option A)} {end : List Kind → Read (Unit {0})} → EndLoop step end → (rest after : List Token) (x : A) → step (kinds rest) ≡ Ok (Some x, kinds after) → length after < length rest
-end_smaller l rest after x h = let fewer = l.less (kinds rest) x (kinds after) h in omega (arith, kinds_len rest, kinds_len after)
+pub end_smaller : {A : Type 0} {step : List Kind → Read (Option A)} {end : List Kind → Read (Unit {0})} → EndLoop step end → (ts us : List Kind) (x : A) → step ts ≡ Ok (Some x, us) → length us < length ts
+end_smaller l ts us x h = l.less ts x us h
 
 pub end_turned : {A : Type 0} {step : List Kind → Read (Option A)} {end : List Kind → Read (Unit {0})} → EndLoop step end → (xs new : List A) (x : A) (ts us : List Kind) (whole : Read (List A)) → step ts ≡ Ok (Some x, us) → new ≡ xs ++ x ∷ [] → in_front xs (until_end step end ts) ≡ whole → in_front new (until_end step end us) ≡ whole
 end_turned {A} {step} {end} l xs new x ts us whole h pushed inv =

@@ -2,13 +2,10 @@
 ghost use Rattle.std.specs.Prelude.{◌≡◌, IfOk, IfErr, Ok, Err};
 
 use crate::fault::Fault;
-use rx_lex::Token;
+use rx_lex::Rest;
 
 /// A part, with the tokens that are left where something stands behind it.
-pub fn closed<'a, T: Drop>(
-    part: T,
-    rest: Result<&'a [Token], Fault>,
-) -> Result<(T, &'a [Token]), Fault>
+pub fn closed<'a, T: Drop>(part: T, rest: Result<Rest<'a>, Fault>) -> Result<(T, Rest<'a>), Fault>
     ensures ok { IfOk rest.entry (λ r. result ≡ Ok (part, r)) }
     ensures err { IfErr rest.entry (λ e. result ≡ Err e) }
 {
@@ -21,8 +18,8 @@ pub fn closed<'a, T: Drop>(
 /// A part and the one behind it, with the tokens that are left.
 pub fn beside<'a, T: Drop, U: Drop>(
     first: T,
-    second: Result<(U, &'a [Token]), Fault>,
-) -> Result<(T, U, &'a [Token]), Fault>
+    second: Result<(U, Rest<'a>), Fault>,
+) -> Result<(T, U, Rest<'a>), Fault>
     ensures ok { IfOk second.entry (λ x. result ≡ Ok (first, x.0, x.1)) }
     ensures err { IfErr second.entry (λ e. result ≡ Err e) }
 {

@@ -1,17 +1,18 @@
 // Expressions.
 ghost use Rattle.std.specs.Prelude.{◌≡◌, ◌<◌, ◌≤◌, suc};
-ghost use Rattle.rx_lex.specs.Tokens.{kinds};
+ghost use Rattle.rx_lex.specs.Spans.{kinds_of};
 ghost use Rattle.rx_lex.specs.declared.token.Sign.TheVariants as sign;
 ghost use Rattle.rx_grammar.specs.Steps.{is_mark, all_of};
 ghost use Rattle.rx_grammar.specs.Reading.{behind_comma, list_to, prefixed_at, group_at, call_at, named_at, is_operator, link_at, line_with, choice_at, inner_at, expr_at, operand_at};
 ghost use Rattle.rx_expression.specs.Results.{Gives, in_front};
 
 use crate::fault::Fault;
+use crate::lists::push;
 use crate::operators::{chain, next_is_operator, operator, prefix_sign};
 use crate::steps::{expect, lower, next_is, next_is_lower, number};
 use rx_ast::{Expr, Link, Prefix};
 use rx_base::Name;
-use rx_lex::{Sign, Token};
+use rx_lex::{Rest, Sign};
 use std::alloc::Global;
 
 /// The line of `||`, the loosest one with operators.
@@ -21,11 +22,11 @@ pub const OR_LINE: usize = 6;
 #[cycle(expr)]
 fn prefixed<'a>(
     alloc: Global,
-    rest: &'a [Token],
+    rest: Rest<'a>,
     level: usize,
     operator: Prefix,
-) -> Result<(Expr, &'a [Token]), Fault>
-    ensures { Gives (λ x. (x.0, kinds x.1.now)) result (prefixed_at (inner_at level) operator (kinds rest.now)) }
+) -> Result<(Expr, Rest<'a>), Fault>
+    ensures { Gives (λ x. (x.0, kinds_of x.1)) result (prefixed_at (inner_at level) operator (kinds_of rest.entry)) }
 {
     if level == 0 {
         return Err(Fault::Syntax(rest.len()));
@@ -37,8 +38,8 @@ fn prefixed<'a>(
 
 /// An expression in parentheses.
 #[cycle(expr)]
-fn group<'a>(alloc: Global, rest: &'a [Token], level: usize) -> Result<(Expr, &'a [Token]), Fault>
-    ensures { Gives (λ x. (x.0, kinds x.1.now)) result (group_at (inner_at level) (kinds rest.now)) }
+fn group<'a>(alloc: Global, rest: Rest<'a>, level: usize) -> Result<(Expr, Rest<'a>), Fault>
+    ensures { Gives (λ x. (x.0, kinds_of x.1)) result (group_at (inner_at level) (kinds_of rest.entry)) }
 {
     if level == 0 {
         return Err(Fault::Syntax(rest.len()));
@@ -54,10 +55,10 @@ fn group<'a>(alloc: Global, rest: &'a [Token], level: usize) -> Result<(Expr, &'
 fn call<'a>(
     alloc: Global,
     function: Name,
-    rest: &'a [Token],
+    rest: Rest<'a>,
     level: usize,
-) -> Result<(Expr, &'a [Token]), Fault>
-    ensures { Gives (λ x. (x.0, kinds x.1.now)) result (call_at (inner_at level) function (kinds rest.now)) }
+) -> Result<(Expr, Rest<'a>), Fault>
+    ensures { Gives (λ x. (x.0, kinds_of x.1)) result (call_at (inner_at level) function (kinds_of rest.entry)) }
 {
     if level == 0 {
         return Err(Fault::Syntax(rest.len()));
@@ -69,8 +70,8 @@ fn call<'a>(
 
 /// A variable or a call.
 #[cycle(expr)]
-fn named<'a>(alloc: Global, rest: &'a [Token], level: usize) -> Result<(Expr, &'a [Token]), Fault>
-    ensures { Gives (λ x. (x.0, kinds x.1.now)) result (named_at (inner_at level) (kinds rest.now)) }
+fn named<'a>(alloc: Global, rest: Rest<'a>, level: usize) -> Result<(Expr, Rest<'a>), Fault>
+    ensures { Gives (λ x. (x.0, kinds_of x.1)) result (named_at (inner_at level) (kinds_of rest.entry)) }
 {
     let (name, rest) = lower(alloc, rest)?;
     if next_is(rest, Sign::OpenParen) {
@@ -83,8 +84,8 @@ fn named<'a>(alloc: Global, rest: &'a [Token], level: usize) -> Result<(Expr, &'
 /// An operand.
 #[cycle(expr)]
 #[tactic(auto, unfolding(rx_grammar::specs::Reading::operand_with))]
-fn operand<'a>(alloc: Global, rest: &'a [Token], level: usize) -> Result<(Expr, &'a [Token]), Fault>
-    ensures { Gives (λ x. (x.0, kinds x.1.now)) result (operand_at level (kinds rest.now)) }
+fn operand<'a>(alloc: Global, rest: Rest<'a>, level: usize) -> Result<(Expr, Rest<'a>), Fault>
+    ensures { Gives (λ x. (x.0, kinds_of x.1)) result (operand_at level (kinds_of rest.entry)) }
 {
     if next_is(rest, Sign::Not) {
         return prefixed(alloc, rest, level, Prefix::Not);
@@ -106,12 +107,12 @@ fn operand<'a>(alloc: Global, rest: &'a [Token], level: usize) -> Result<(Expr, 
 #[cycle(expr)]
 fn link<'a>(
     alloc: Global,
-    rest: &'a [Token],
+    rest: Rest<'a>,
     below: usize,
     level: usize,
-) -> Result<(Link, &'a [Token]), Fault>
+) -> Result<(Link, Rest<'a>), Fault>
     requires { below < 6 }
-    ensures { Gives (λ x. (x.0, kinds x.1.now)) result (link_at (suc below) (line_with below (inner_at level)) (kinds rest.now)) }
+    ensures { Gives (λ x. (x.0, kinds_of x.1)) result (link_at (suc below) (line_with below (inner_at level)) (kinds_of rest.entry)) }
 {
     let (operator, rest) = operator(rest, below)?;
     let (operand, rest) = line(alloc, rest, below, level)?;
@@ -122,20 +123,21 @@ fn link<'a>(
 #[cycle(expr)]
 fn links<'a>(
     alloc: Global,
-    rest: &'a [Token],
+    rest: Rest<'a>,
     below: usize,
     level: usize,
-) -> Result<(Vec<Link>, &'a [Token]), Fault>
+) -> Result<(Vec<Link>, Rest<'a>), Fault>
     requires { below < 6 }
-    ensures { Gives (λ x. (x.0.items, kinds x.1.now)) result (all_of (is_operator (suc below)) (link_at (suc below) (line_with below (inner_at level))) (kinds rest.now)) }
+    ensures { Gives (λ x. (x.0.items, kinds_of x.1)) result (all_of (is_operator (suc below)) (link_at (suc below) (line_with below (inner_at level))) (kinds_of rest.entry)) }
 {
     let mut links = Vec::new(alloc);
     let mut rest = rest;
     while next_is_operator(rest, below) {
         let (link, after) = link(alloc, rest, below, level)?;
-        links.push(link)?;
+        push(&mut links, link)?;
         rest = after;
     }
+    links.shrink_to_fit();
     Ok((links, rest))
 }
 
@@ -144,12 +146,12 @@ fn links<'a>(
 #[tactic(auto, unfolding(rx_grammar::specs::Reading::line_with))]
 pub fn line<'a>(
     alloc: Global,
-    rest: &'a [Token],
+    rest: Rest<'a>,
     line: usize,
     level: usize,
-) -> Result<(Expr, &'a [Token]), Fault>
+) -> Result<(Expr, Rest<'a>), Fault>
     requires { line ≤ 6 }
-    ensures { Gives (λ x. (x.0, kinds x.1.now)) result (line_with line (inner_at level) (kinds rest.now)) }
+    ensures { Gives (λ x. (x.0, kinds_of x.1)) result (line_with line (inner_at level) (kinds_of rest.entry)) }
 {
     if line == 0 {
         return operand(alloc, rest, level);
@@ -165,10 +167,10 @@ pub fn line<'a>(
 fn choice<'a>(
     alloc: Global,
     test: Expr,
-    rest: &'a [Token],
+    rest: Rest<'a>,
     level: usize,
-) -> Result<(Expr, &'a [Token]), Fault>
-    ensures { Gives (λ x. (x.0, kinds x.1.now)) result (choice_at (inner_at level) test (kinds rest.now)) }
+) -> Result<(Expr, Rest<'a>), Fault>
+    ensures { Gives (λ x. (x.0, kinds_of x.1)) result (choice_at (inner_at level) test (kinds_of rest.entry)) }
 {
     if level == 0 {
         return Err(Fault::Syntax(rest.len()));
@@ -183,12 +185,8 @@ fn choice<'a>(
 /// An expression with so many levels left.
 #[cycle(expr)]
 #[tactic(auto, unfolding(rx_grammar::specs::Reading::expr_with))]
-pub fn expr<'a>(
-    alloc: Global,
-    rest: &'a [Token],
-    level: usize,
-) -> Result<(Expr, &'a [Token]), Fault>
-    ensures { Gives (λ x. (x.0, kinds x.1.now)) result (expr_at level (kinds rest.now)) }
+pub fn expr<'a>(alloc: Global, rest: Rest<'a>, level: usize) -> Result<(Expr, Rest<'a>), Fault>
+    ensures { Gives (λ x. (x.0, kinds_of x.1)) result (expr_at level (kinds_of rest.entry)) }
 {
     let (test, rest) = line(alloc, rest, OR_LINE, level)?;
     if next_is(rest, Sign::Question) {
@@ -202,17 +200,17 @@ pub fn expr<'a>(
 #[cycle(expr)]
 fn more_exprs<'a>(
     alloc: Global,
-    rest: &'a [Token],
+    rest: Rest<'a>,
     level: usize,
     exprs: &mut Vec<Expr>,
-) -> Result<&'a [Token], Fault>
-    ensures { Gives (λ x. (exprs.new.items, kinds x.now)) result (in_front exprs.old.items (all_of (is_mark sign.Comma) (behind_comma (expr_at level)) (kinds rest.now))) }
+) -> Result<Rest<'a>, Fault>
+    ensures { Gives (λ x. (exprs.new.items, kinds_of x)) result (in_front exprs.old.items (all_of (is_mark sign.Comma) (behind_comma (expr_at level)) (kinds_of rest.entry))) }
 {
     let mut rest = rest;
     while next_is(rest, Sign::Comma) {
         let behind = expect(rest, Sign::Comma)?;
         let (next, after) = expr(alloc, behind, level)?;
-        exprs.push(next)?;
+        push(exprs, next)?;
         rest = after;
     }
     Ok(rest)
@@ -223,19 +221,20 @@ fn more_exprs<'a>(
 #[tactic(auto, unfolding(rx_grammar::specs::Reading::list_to))]
 pub fn exprs<'a>(
     alloc: Global,
-    rest: &'a [Token],
+    rest: Rest<'a>,
     level: usize,
     close: Sign,
-) -> Result<(Vec<Expr>, &'a [Token]), Fault>
-    ensures { Gives (λ x. (x.0.items, kinds x.1.now)) result (list_to close (expr_at level) (kinds rest.now)) }
+) -> Result<(Vec<Expr>, Rest<'a>), Fault>
+    ensures { Gives (λ x. (x.0.items, kinds_of x.1)) result (list_to close (expr_at level) (kinds_of rest.entry)) }
 {
     let mut exprs = Vec::new(alloc);
     if next_is(rest, close) {
         return Ok((exprs, expect(rest, close)?));
     }
     let (first, rest) = expr(alloc, rest, level)?;
-    exprs.push(first)?;
+    push(&mut exprs, first)?;
     let rest = more_exprs(alloc, rest, level, &mut exprs)?;
     let rest = expect(rest, close)?;
+    exprs.shrink_to_fit();
     Ok((exprs, rest))
 }

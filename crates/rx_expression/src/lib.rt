@@ -1,8 +1,9 @@
-//! Reads expressions: the next token of a list, operators, and what stands between them.
+//! Reads expressions: the next token of a list, operators, and what stands between them. Lists of what is read.
 #![tactic(auto)]
 
 pub mod beside;
 pub mod expressions;
 pub mod fault;
+pub mod lists;
 mod operators;
 pub mod steps;

@@ -1,6 +1,6 @@
 // The operators of expressions.
-ghost use Rattle.std.specs.Prelude.{◌≡◌, ◌<◌, suc, MatchResult};
-ghost use Rattle.rx_lex.specs.Tokens.{kinds};
+ghost use Rattle.std.specs.Prelude.{◌≡◌, ◌<◌, suc, ℕ, List, MatchResult};
+ghost use Rattle.rx_lex.specs.Spans.{kinds_of, seen};
 ghost use Rattle.rx_print.specs.Printing.{prefix_sign};
 ghost use Rattle.rx_print.specs.Levels.{operator_line};
 ghost use Rattle.rx_grammar.specs.Steps.{next, taken};
@@ -9,7 +9,7 @@ ghost use Rattle.rx_expression.specs.Results.{Gives};
 
 use crate::fault::Fault;
 use rx_ast::{Expr, Link, Operator, Prefix};
-use rx_lex::{Kind, Sign, Token};
+use rx_lex::{Rest, Shape, Sign};
 use std::alloc::Global;
 
 /// The sign of an operator before its operand.
@@ -71,36 +71,36 @@ fn on_line(operator: Option<Operator>, below: usize) -> Option<Operator>
 }
 
 /// The operator that a token is, if its line is the one above this line.
-fn as_operator(kind: &Kind, below: usize) -> Option<Operator>
+fn as_operator(shape: Shape, below: usize) -> Option<Operator>
     requires { below < 6 }
-    ensures { result ≡ as_operator (suc below) kind.now }
+    ensures { (text : List ℕ) → result ≡ as_operator (suc below) (seen text shape) }
 {
-    match kind {
-        Kind::Mark(sign) => on_line(sign_operator(*sign), below),
+    match shape {
+        Shape::Mark(sign) => on_line(sign_operator(sign), below),
         _ => None,
     }
 }
 
 /// Whether the next token is an operator of the line above this line.
-pub(crate) fn next_is_operator(rest: &[Token], below: usize) -> bool
+pub(crate) fn next_is_operator(rest: Rest<'_>, below: usize) -> bool
     requires { below < 6 }
-    ensures { result ≡ next (is_operator (suc below)) (kinds rest.now) }
+    ensures { result ≡ next (is_operator (suc below)) (kinds_of rest.entry) }
 {
-    match rest.first() {
-        Some(token) => as_operator(&token.kind, below).is_some(),
+    match rest.split_first() {
+        Some((span, _)) => as_operator(span.shape, below).is_some(),
         None => false,
     }
 }
 
 /// An operator of the line above this line.
-pub(crate) fn operator(rest: &[Token], below: usize) -> Result<(Operator, &[Token]), Fault>
+pub(crate) fn operator(rest: Rest<'_>, below: usize) -> Result<(Operator, Rest<'_>), Fault>
     requires { below < 6 }
-    ensures { Gives (λ x. (x.0, kinds x.1.now)) result (taken (as_operator (suc below)) (kinds rest.now)) }
+    ensures { Gives (λ x. (x.0, kinds_of x.1)) result (taken (as_operator (suc below)) (kinds_of rest.entry)) }
 {
-    let Some((token, after)) = rest.split_first() else {
+    let Some((span, after)) = rest.split_first() else {
         return Err(Fault::Syntax(0));
     };
-    match as_operator(&token.kind, below) {
+    match as_operator(span.shape, below) {
         Some(found) => Ok((found, after)),
         None => Err(Fault::Syntax(rest.len())),
     }

@@ -1,23 +1,24 @@
 // The next token.
 ghost use Rattle.std.specs.Prelude.{◌≡◌, drop};
 ghost use Rattle.std.specs.List.{list_all};
-ghost use Rattle.rx_lex.specs.Tokens.{kinds, is_word_byte};
+ghost use Rattle.rx_lex.specs.Tokens.{is_word_byte};
+ghost use Rattle.rx_lex.specs.Spans.{kinds_of};
 ghost use Rattle.rx_grammar.specs.Steps.{next, taken, is_mark, is_word, is_lower, is_text, as_word, as_lower, as_upper, as_number, as_text, as_lower_name, as_upper_name, as_end};
 ghost use Rattle.rx_grammar.specs.Reading.{sign_at, is_resource, as_resource, next_two};
 ghost use Rattle.rx_expression.specs.Results.{Gives};
 
 use crate::fault::Fault;
 use rx_base::Name;
-use rx_lex::{Keyword, Kind, Sign, Token};
+use rx_lex::{Keyword, Rest, Shape, Sign};
 use std::alloc::Global;
 
 /// Whether the next token is this sign.
-pub fn next_is(rest: &[Token], sign: Sign) -> bool
-    ensures { result ≡ next (is_mark sign) (kinds rest.now) }
+pub fn next_is(rest: Rest<'_>, sign: Sign) -> bool
+    ensures { result ≡ next (is_mark sign) (kinds_of rest.entry) }
 {
-    match rest.first() {
-        Some(token) => match &token.kind {
-            Kind::Mark(found) => found.is(sign),
+    match rest.split_first() {
+        Some((span, _)) => match span.shape {
+            Shape::Mark(found) => found.is(sign),
             _ => false,
         },
         None => false,
@@ -25,12 +26,12 @@ pub fn next_is(rest: &[Token], sign: Sign) -> bool
 }
 
 /// Whether the next token is this reserved word.
-pub fn next_is_word(rest: &[Token], word: Keyword) -> bool
-    ensures { result ≡ next (is_word word) (kinds rest.now) }
+pub fn next_is_word(rest: Rest<'_>, word: Keyword) -> bool
+    ensures { result ≡ next (is_word word) (kinds_of rest.entry) }
 {
-    match rest.first() {
-        Some(token) => match &token.kind {
-            Kind::Word(found) => found.is(word),
+    match rest.split_first() {
+        Some((span, _)) => match span.shape {
+            Shape::Word(found) => found.is(word),
             _ => false,
         },
         None => false,
@@ -38,28 +39,28 @@ pub fn next_is_word(rest: &[Token], word: Keyword) -> bool
 }
 
 /// Whether the next token is a name that does not begin with a capital letter.
-pub fn next_is_lower(rest: &[Token]) -> bool
-    ensures { result ≡ next is_lower (kinds rest.now) }
+pub fn next_is_lower(rest: Rest<'_>) -> bool
+    ensures { result ≡ next is_lower (kinds_of rest.entry) }
 {
-    match rest.first() {
-        Some(token) => matches!(&token.kind, Kind::Lower(_)),
+    match rest.split_first() {
+        Some((span, _)) => matches!(span.shape, Shape::Lower(_)),
         None => false,
     }
 }
 
 /// Whether the next token is a string.
-pub fn next_is_text(rest: &[Token]) -> bool
-    ensures { result ≡ next is_text (kinds rest.now) }
+pub fn next_is_text(rest: Rest<'_>) -> bool
+    ensures { result ≡ next is_text (kinds_of rest.entry) }
 {
-    match rest.first() {
-        Some(token) => matches!(&token.kind, Kind::Text(_)),
+    match rest.split_first() {
+        Some((span, _)) => matches!(span.shape, Shape::Text(_)),
         None => false,
     }
 }
 
 /// What follows the next token.
-fn behind(rest: &[Token]) -> &[Token]
-    ensures { kinds result.now ≡ drop 1 (kinds rest.now) }
+fn behind(rest: Rest<'_>) -> Rest<'_>
+    ensures { kinds_of result ≡ drop 1 (kinds_of rest.entry) }
 {
     match rest.split_first() {
         Some((_, behind)) => behind,
@@ -68,112 +69,112 @@ fn behind(rest: &[Token]) -> &[Token]
 }
 
 /// Whether these two signs stand next.
-pub fn next_are(rest: &[Token], first: Sign, second: Sign) -> bool
-    ensures { result ≡ next_two first second (kinds rest.now) }
+pub fn next_are(rest: Rest<'_>, first: Sign, second: Sign) -> bool
+    ensures { result ≡ next_two first second (kinds_of rest.entry) }
 {
     next_is(rest, first) && next_is(behind(rest), second)
 }
 
 /// What follows the sign that is wanted.
-pub fn expect(rest: &[Token], sign: Sign) -> Result<&[Token], Fault>
-    ensures { Gives (λ r. (tt, kinds r.now)) result (sign_at sign (kinds rest.now)) }
+pub fn expect(rest: Rest<'_>, sign: Sign) -> Result<Rest<'_>, Fault>
+    ensures { Gives (λ r. (tt, kinds_of r)) result (sign_at sign (kinds_of rest.entry)) }
 {
-    let Some((token, after)) = rest.split_first() else {
+    let Some((span, after)) = rest.split_first() else {
         return Err(Fault::Syntax(0));
     };
-    match &token.kind {
-        Kind::Mark(found) if found.is(sign) => Ok(after),
+    match span.shape {
+        Shape::Mark(found) if found.is(sign) => Ok(after),
         _ => Err(Fault::Syntax(rest.len())),
     }
 }
 
 /// What follows the reserved word that is wanted.
-pub fn expect_word(rest: &[Token], word: Keyword) -> Result<&[Token], Fault>
-    ensures { Gives (λ r. (tt, kinds r.now)) result (taken (as_word word) (kinds rest.now)) }
+pub fn expect_word(rest: Rest<'_>, word: Keyword) -> Result<Rest<'_>, Fault>
+    ensures { Gives (λ r. (tt, kinds_of r)) result (taken (as_word word) (kinds_of rest.entry)) }
 {
-    let Some((token, after)) = rest.split_first() else {
+    let Some((span, after)) = rest.split_first() else {
         return Err(Fault::Syntax(0));
     };
-    match &token.kind {
-        Kind::Word(found) if found.is(word) => Ok(after),
+    match span.shape {
+        Shape::Word(found) if found.is(word) => Ok(after),
         _ => Err(Fault::Syntax(rest.len())),
     }
 }
 
 /// What follows the name that is wanted, which does not begin with a capital letter.
-pub fn expect_lower<'a>(rest: &'a [Token], name: &str) -> Result<&'a [Token], Fault>
-    ensures { Gives (λ r. (tt, kinds r.now)) result (taken (as_lower_name name.now) (kinds rest.now)) }
+pub fn expect_lower<'a>(rest: Rest<'a>, name: &str) -> Result<Rest<'a>, Fault>
+    ensures { Gives (λ r. (tt, kinds_of r)) result (taken (as_lower_name name.now) (kinds_of rest.entry)) }
 {
-    let Some((token, after)) = rest.split_first() else {
+    let Some((span, after)) = rest.split_first() else {
         return Err(Fault::Syntax(0));
     };
-    match &token.kind {
-        Kind::Lower(found) if found.text() == name => Ok(after),
+    match span.shape {
+        Shape::Lower(len) if rest.name(span.place, len) == name => Ok(after),
         _ => Err(Fault::Syntax(rest.len())),
     }
 }
 
 /// What follows the name that is wanted, which begins with a capital letter.
-pub fn expect_upper<'a>(rest: &'a [Token], name: &str) -> Result<&'a [Token], Fault>
-    ensures { Gives (λ r. (tt, kinds r.now)) result (taken (as_upper_name name.now) (kinds rest.now)) }
+pub fn expect_upper<'a>(rest: Rest<'a>, name: &str) -> Result<Rest<'a>, Fault>
+    ensures { Gives (λ r. (tt, kinds_of r)) result (taken (as_upper_name name.now) (kinds_of rest.entry)) }
 {
-    let Some((token, after)) = rest.split_first() else {
+    let Some((span, after)) = rest.split_first() else {
         return Err(Fault::Syntax(0));
     };
-    match &token.kind {
-        Kind::Upper(found) if found.text() == name => Ok(after),
+    match span.shape {
+        Shape::Upper(len) if rest.name(span.place, len) == name => Ok(after),
         _ => Err(Fault::Syntax(rest.len())),
     }
 }
 
 /// A name that does not begin with a capital letter.
-pub fn lower<'a>(alloc: Global, rest: &'a [Token]) -> Result<(Name, &'a [Token]), Fault>
-    ensures { Gives (λ x. (x.0, kinds x.1.now)) result (taken as_lower (kinds rest.now)) }
+pub fn lower<'a>(alloc: Global, rest: Rest<'a>) -> Result<(Name, Rest<'a>), Fault>
+    ensures { Gives (λ x. (x.0, kinds_of x.1)) result (taken as_lower (kinds_of rest.entry)) }
 {
-    let Some((token, after)) = rest.split_first() else {
+    let Some((span, after)) = rest.split_first() else {
         return Err(Fault::Syntax(0));
     };
-    match &token.kind {
-        Kind::Lower(name) => Ok((Name::new(alloc, name.text())?, after)),
+    match span.shape {
+        Shape::Lower(len) => Ok((Name::new(alloc, rest.name(span.place, len))?, after)),
         _ => Err(Fault::Syntax(rest.len())),
     }
 }
 
 /// A name that begins with a capital letter.
-pub fn upper<'a>(alloc: Global, rest: &'a [Token]) -> Result<(Name, &'a [Token]), Fault>
-    ensures { Gives (λ x. (x.0, kinds x.1.now)) result (taken as_upper (kinds rest.now)) }
+pub fn upper<'a>(alloc: Global, rest: Rest<'a>) -> Result<(Name, Rest<'a>), Fault>
+    ensures { Gives (λ x. (x.0, kinds_of x.1)) result (taken as_upper (kinds_of rest.entry)) }
 {
-    let Some((token, after)) = rest.split_first() else {
+    let Some((span, after)) = rest.split_first() else {
         return Err(Fault::Syntax(0));
     };
-    match &token.kind {
-        Kind::Upper(name) => Ok((Name::new(alloc, name.text())?, after)),
+    match span.shape {
+        Shape::Upper(len) => Ok((Name::new(alloc, rest.name(span.place, len))?, after)),
         _ => Err(Fault::Syntax(rest.len())),
     }
 }
 
 /// A string, as what stands between its quotes.
-pub fn text<'a>(alloc: Global, rest: &'a [Token]) -> Result<(Name, &'a [Token]), Fault>
-    ensures { Gives (λ x. (x.0, kinds x.1.now)) result (taken as_text (kinds rest.now)) }
+pub fn text<'a>(alloc: Global, rest: Rest<'a>) -> Result<(Name, Rest<'a>), Fault>
+    ensures { Gives (λ x. (x.0, kinds_of x.1)) result (taken as_text (kinds_of rest.entry)) }
 {
-    let Some((token, after)) = rest.split_first() else {
+    let Some((span, after)) = rest.split_first() else {
         return Err(Fault::Syntax(0));
     };
-    match &token.kind {
-        Kind::Text(text) => Ok((Name::new(alloc, text.text())?, after)),
+    match span.shape {
+        Shape::Text(len) => Ok((Name::new(alloc, rest.content(span.place, len))?, after)),
         _ => Err(Fault::Syntax(rest.len())),
     }
 }
 
 /// A number.
-pub fn number(rest: &[Token]) -> Result<(u64, &[Token]), Fault>
-    ensures { Gives (λ x. (x.0, kinds x.1.now)) result (taken as_number (kinds rest.now)) }
+pub fn number(rest: Rest<'_>) -> Result<(u64, Rest<'_>), Fault>
+    ensures { Gives (λ x. (x.0, kinds_of x.1)) result (taken as_number (kinds_of rest.entry)) }
 {
-    let Some((token, after)) = rest.split_first() else {
+    let Some((span, after)) = rest.split_first() else {
         return Err(Fault::Syntax(0));
     };
-    match &token.kind {
-        Kind::Number(number) => Ok((*number, after)),
+    match span.shape {
+        Shape::Number(number) => Ok((number as u64, after)),
         _ => Err(Fault::Syntax(rest.len())),
     }
 }
@@ -205,27 +206,33 @@ fn is_resource(text: &str) -> bool
 }
 
 /// The name of a resource, as what stands between the quotes.
-pub fn resource<'a>(alloc: Global, rest: &'a [Token]) -> Result<(Name, &'a [Token]), Fault>
-    ensures { Gives (λ x. (x.0, kinds x.1.now)) result (taken as_resource (kinds rest.now)) }
+pub fn resource<'a>(alloc: Global, rest: Rest<'a>) -> Result<(Name, Rest<'a>), Fault>
+    ensures { Gives (λ x. (x.0, kinds_of x.1)) result (taken as_resource (kinds_of rest.entry)) }
 {
-    let Some((token, after)) = rest.split_first() else {
+    let Some((span, after)) = rest.split_first() else {
         return Err(Fault::Syntax(0));
     };
-    match &token.kind {
-        Kind::Text(name) if is_resource(name.text()) => Ok((Name::new(alloc, name.text())?, after)),
+    match span.shape {
+        Shape::Text(len) => {
+            let content = rest.content(span.place, len);
+            if !is_resource(content) {
+                return Err(Fault::Syntax(rest.len()));
+            }
+            Ok((Name::new(alloc, content)?, after))
+        }
         _ => Err(Fault::Syntax(rest.len())),
     }
 }
 
 /// What follows the end mark.
-pub fn expect_end(rest: &[Token]) -> Result<&[Token], Fault>
-    ensures { Gives (λ r. (tt, kinds r.now)) result (taken as_end (kinds rest.now)) }
+pub fn expect_end(rest: Rest<'_>) -> Result<Rest<'_>, Fault>
+    ensures { Gives (λ r. (tt, kinds_of r)) result (taken as_end (kinds_of rest.entry)) }
 {
-    let Some((token, after)) = rest.split_first() else {
+    let Some((span, after)) = rest.split_first() else {
         return Err(Fault::Syntax(0));
     };
-    match &token.kind {
-        Kind::End => Ok(after),
+    match span.shape {
+        Shape::End => Ok(after),
         _ => Err(Fault::Syntax(rest.len())),
     }
 }

@@ -1,6 +1,7 @@
 -- Pieces that cover a text, one after another.
-use Rattle.std.proofs.Common.{◌≡◌, ◌≢◌, ℕ, ◌+◌, ◌-◌, ◌<◌, ◌≤◌, ◌^◌, Option, Result, Ok, Err, IfOk, List, [], ◌∷◌, ◌++◌, length, refl, sym, ap, ◌∙◌, subst, arith, length-append, append_assoc, append-nil}
+use Rattle.std.proofs.Common.{◌≡◌, ◌≢◌, ℕ, ◌+◌, ◌-◌, ◌<◌, ◌≤◌, ◌^◌, Option, Result, Ok, Err, IfOk, List, [], ◌∷◌, ◌++◌, length, drop, refl, sym, ap, ◌∙◌, subst, arith, length-append, append_assoc, append-nil}
 use Rattle.std.specs.List.{All}
+use Rattle.std.proofs.Math.Seq.{drop-append-add}
 use Rattle.std.proofs.lemmas.List.Elements.{All-nil, All-cons}
 use Rattle.rx_lex.specs.declared.token.Kind.{Kind}
 use Rattle.rx_lex.specs.declared.token.Kind.TheVariants.{Upper, Lower, Number, Text, Word, Mark, End}
@@ -33,6 +34,13 @@ covers_len : (greatest : ℕ) (ps : List Piece) (text rest : List ℕ) → Cover
 covers_len greatest [] text rest h = omega (arith, ap length h)
 covers_len greatest (p ∷ ps) text rest h = omega (arith, ap length h.1.written, length-append (piece_text p) h.0, covers_len greatest ps h.0 rest h.2)
 
+-- behind the pieces comes the rest
+covers_drop : (greatest : ℕ) (ps : List Piece) (text rest : List ℕ) → CoversTo greatest ps text rest → drop (pieces_len ps) text ≡ rest
+covers_drop greatest [] text rest h = h
+covers_drop greatest (p ∷ ps) text rest h =
+    let w = piece_text p in
+    ap (drop (length w + pieces_len ps)) h.1.written ∙ drop-append-add w h.0 (pieces_len ps) ∙ covers_drop greatest ps h.0 rest h.2
+
 -- the tokens with one more piece, behind the text so far
 tokens_more : (ps : List Piece) (at : ℕ) (p : Piece) → tokens_from at (ps ++ p ∷ []) ≡ tokens_from at ps ++ token_at (at + pieces_len ps) (kind_of p)
 tokens_more [] at p = append-nil (token_at at (kind_of p)) ∙ ap (λ n. token_at n (kind_of p)) (omega arith)
@@ -54,6 +62,11 @@ module _ {greatest : ℕ} {text : List ℕ} {ts : List Token} {rest : List ℕ} 
 
   place_is : 0 + pieces_len c.pieces ≡ length text - length rest
   place_is = omega (arith, covers_len greatest c.pieces text rest c.cover)
+
+  pub rest_is : drop (length text - length rest) text ≡ rest
+  rest_is =
+      let place : length text - length rest ≡ pieces_len c.pieces = omega (arith, covers_len greatest c.pieces text rest c.cover) in
+      ap (λ n. drop n text) place ∙ covers_drop greatest c.pieces text rest c.cover
 
   pub with_found : (p : Piece) (k : Option Kind) (after : List ℕ) → StandsFirst greatest p rest after → kind_of p ≡ k → Covered greatest text (ts ++ token_at (length text - length rest) k) after
   with_found p k after stands is = record {

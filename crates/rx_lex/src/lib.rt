@@ -6,6 +6,7 @@ mod gaps;
 pub mod laws;
 mod lexer;
 mod signs;
+mod spans;
 mod strings;
 #[cfg(test)]
 mod tests;
@@ -14,4 +15,5 @@ mod words;
 
 pub use error::LexError;
 pub use lexer::lex;
+pub use spans::{Rest, Shape, Span, Tokens};
 pub use token::{Keyword, Kind, Sign, Token};

@@ -2,20 +2,22 @@
 
 use crate::error::LexError;
 use crate::lexer::lex;
-use crate::token::{Keyword, Kind, Sign, Token};
+use crate::spans::{Rest, Shape, Span};
+use crate::token::{Keyword, Sign};
 use std::fmt::Write;
 use std::test::Fail;
 
-fn list(line: &mut String, token: &Token) -> Result<(), Fail> {
-    write!(line, " {}:", token.place)?;
-    match &token.kind {
-        Kind::Upper(name) => write!(line, "Upper-{}", name.text())?,
-        Kind::Lower(name) => write!(line, "Lower-{}", name.text())?,
-        Kind::Number(n) => write!(line, "{n}")?,
-        Kind::Text(content) => write!(line, "'{}'", content.text())?,
-        Kind::Word(keyword) => write!(line, "{keyword:?}")?,
-        Kind::Mark(sign) => write!(line, "{sign:?}")?,
-        Kind::End => write!(line, "End")?,
+fn list(line: &mut String, rest: Rest<'_>, span: Span) -> Result<(), Fail> {
+    let place = span.place;
+    write!(line, " {place}:")?;
+    match span.shape {
+        Shape::Upper(len) => write!(line, "Upper-{}", rest.name(place, len))?,
+        Shape::Lower(len) => write!(line, "Lower-{}", rest.name(place, len))?,
+        Shape::Number(n) => write!(line, "{n}")?,
+        Shape::Text(len) => write!(line, "'{}'", rest.content(place, len))?,
+        Shape::Word(keyword) => write!(line, "{keyword:?}")?,
+        Shape::Mark(sign) => write!(line, "{sign:?}")?,
+        Shape::End => write!(line, "End")?,
     }
     Ok(())
 }
@@ -25,8 +27,13 @@ fn listed(rt: &HostRuntime, text: &str) -> Result<String, Fail> {
     let mut line = String::new(rt.alloc());
     match lex(rt.alloc(), text) {
         Ok(tokens) => {
-            for token in tokens.iter() {
-                list(&mut line, token)?;
+            let mut rest = tokens.rest();
+            for _ in 0..rest.len() {
+                let Some((span, behind)) = rest.split_first() else {
+                    break;
+                };
+                list(&mut line, rest, span)?;
+                rest = behind;
             }
         }
         Err(LexError::Lex { at }) => write!(line, " none at {at}")?,

@@ -98,7 +98,8 @@ pub enum Kind {
     End,
 }
 
-/// A token, and the place of its first byte in the text, counted from 0.
+/// A token, and the place of its first byte in the text, counted from 0. Contracts speak of these; a list of tokens keeps
+/// a `Span` for each.
 #[derive(Debug, Drop)]
 pub struct Token {
     pub kind: Kind,

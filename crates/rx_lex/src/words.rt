@@ -1,16 +1,16 @@
 // Words: names, reserved words and numbers.
 
-ghost use Rattle.std.specs.Prelude.{◌≡◌, ◌≢◌, ◌<◌, ◌≤◌, ◌++◌, ℕ, IfSome, IfNone, IfOk, IfErr, length};
+ghost use Rattle.std.specs.Prelude.{◌≡◌, ◌≢◌, ◌<◌, ◌≤◌, ◌^◌, ◌++◌, ℕ, List, IfSome, IfNone, IfOk, IfErr, length};
 ghost use Rattle.std.specs.List.{prefix_len, list_all};
 ghost use Rattle.std.specs.Char.{is_ascii_digit};
 ghost use Rattle.std.specs.Fmt.{decimal};
 ghost use Rattle.rx_lex.specs.Tokens.{is_word_byte, keyword_text, spelling, IsRun, IsRunEnd, IsWordKind};
+ghost use Rattle.rx_lex.specs.Spans.{seen};
 ghost use Rattle.rx_lex.specs.declared.token.Keyword.{Keyword};
 ghost use Rattle.rx_lex.specs.declared.token.Kind.{Kind};
 
-use crate::token::{Keyword, Kind};
-use rx_base::Name;
-use std::alloc::{AllocError, Global};
+use crate::spans::Shape;
+use crate::token::Keyword;
 
 /// Why no token is answered.
 #[derive(Clone, Copy, Debug, PartialEq, Eq)]
@@ -19,13 +19,14 @@ pub(crate) enum Fault {
     OutOfMemory,
 }
 
-impl From<AllocError> for Fault {
-    ghost use Rattle.rx_lex.specs.declared.words.Fault.TheVariants.{OutOfMemory};
-
-    ghost from_gives = { λ _ e. e ≡ OutOfMemory };
-
-    fn from(_error: AllocError) -> Fault {
-        Fault::OutOfMemory
+/// A length or a place in 4 bytes. A text that is too long for that counts as want of memory.
+pub(crate) fn brief(n: usize) -> Result<u32, Fault>
+    ensures ok { IfOk result (λ m. m ≡ n) }
+    ensures err { IfErr result (λ e. e ≡ Fault.OutOfMemory) }
+{
+    match u32::try_from(n) {
+        Ok(n) => Ok(n),
+        Err(_) => Err(Fault::OutOfMemory),
     }
 }
 
@@ -107,26 +108,27 @@ fn number(word: &str, greatest: u64) -> Option<u64>
 }
 
 /// What a word is: a number, a reserved word or a name.
-pub(crate) fn word_kind(alloc: Global, word: &str, greatest: u64) -> Result<Kind, Fault>
+pub(crate) fn word_shape(word: &str, greatest: u64) -> Result<Shape, Fault>
     requires some { 0 < length word.now }
     requires run { IsRun is_word_byte word.now }
-    ensures found { IfOk result (λ k. (word.now ≡ spelling k) × IsWordKind greatest k) }
+    requires small { greatest < 2 ^ 32 }
+    ensures found { IfOk result (λ s. (after : List ℕ) → (word.now ≡ spelling (seen (word.now ++ after) s)) × IsWordKind greatest (seen (word.now ++ after) s)) }
     ensures none { IfErr result (λ e. e ≡ Fault.Uncovered → (k : Kind) → word.now ≡ spelling k → IsWordKind greatest k → ⊥) }
 {
     let first = word.as_bytes()[0];
     if first.is_ascii_digit() {
         return match number(word, greatest) {
-            Some(n) => Ok(Kind::Number(n)),
+            Some(n) => Ok(Shape::Number(n as u32)),
             None => Err(Fault::Uncovered),
         };
     }
     if let Some(keyword) = Keyword::from_text(word) {
-        return Ok(Kind::Word(keyword));
+        return Ok(Shape::Word(keyword));
     }
-    let name = Name::new(alloc, word)?;
+    let len = brief(word.len())?;
     if first.is_ascii_uppercase() {
-        Ok(Kind::Upper(name))
+        Ok(Shape::Upper(len))
     } else {
-        Ok(Kind::Lower(name))
+        Ok(Shape::Lower(len))
     }
 }

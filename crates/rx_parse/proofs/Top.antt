@@ -4,7 +4,9 @@ use Rattle.std.proofs.lemmas.List.{length-map, map-append}
 use Rattle.rx_lex.specs.declared.token.Kind.{Kind}
 use Rattle.rx_lex.specs.declared.token.Kind.TheVariants.{End}
 use Rattle.rx_lex.specs.declared.token.Token.{Token}
+use Rattle.rx_lex.specs.declared.spans.Rest.{Rest}
 use Rattle.rx_lex.specs.Tokens.{kinds, end_mark}
+use Rattle.rx_lex.specs.Spans.{kinds_of, tokens_left}
 use Rattle.rx_ast.specs.Syntax.{Program}
 use Rattle.rx_print.specs.Printing.{program_tokens}
 use Rattle.rx_print.specs.Levels.{HasTokens, BeginsProgram, level_limit}
@@ -41,6 +43,14 @@ all_free (k ∷ ks) h = (not_end k (All-head (λ k. k ≢ End) k ks h), all_free
 
 ended : (ts : List Token) (m : IsEnded ts) → kinds ts ≡ kinds m.0 ++ End ∷ []
 ended ts m = ap kinds m.3 ∙ map-append (λ x. x.kind) m.0 (end_mark m.1 ∷ [])
+
+-- how many tokens are left, by what they are
+pub left_len : (r : Rest) (ts : List Token) → tokens_left r ≡ ts → length (kinds_of r) ≡ length ts
+left_len r ts e = length-map (tokens_left r) (λ t. t.kind) ∙ ap length e
+
+-- what is read from what the tokens are
+pub read_of : {A : Type 0} (f : List Kind → A) (r : Rest) (ts : List Token) (x : A) → tokens_left r ≡ ts → f (kinds_of r) ≡ x → f (kinds ts) ≡ x
+read_of f r ts x e h = ap (λ l. f (kinds l)) (sym e) ∙ h
 
 pub found_has : (ts : List Token) (p : Program) (rest : List Kind) → IsEnded ts → program_at level_limit (kinds ts) ≡ Ok (p, rest) → HasTokens p (kinds ts)
 found_has ts p rest m h =

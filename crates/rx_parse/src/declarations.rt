@@ -1,6 +1,6 @@
 // Declarations.
 ghost use Rattle.std.specs.Prelude.{◌≡◌};
-ghost use Rattle.rx_lex.specs.Tokens.{kinds};
+ghost use Rattle.rx_lex.specs.Spans.{kinds_of};
 ghost use Rattle.rx_lex.specs.declared.token.Sign.TheVariants as sign;
 ghost use Rattle.rx_grammar.specs.Steps.{next, is_mark, all_of, taken, as_lower};
 ghost use Rattle.rx_grammar.specs.Reading.{behind_comma, list_to, default_at, context_at, answer_at, function_at, parameter_at, parameters_at, result_at, component_at, declaration_at, is_declaration, declarations_at};
@@ -15,13 +15,13 @@ use rx_expression::fault::Fault;
 use rx_expression::steps::{
     expect, expect_word, lower, next_is, next_is_lower, next_is_word, number, upper,
 };
-use rx_lex::{Keyword, Sign, Token};
+use rx_lex::{Keyword, Rest, Sign};
 use rx_slots::body;
 use std::alloc::Global;
 
 /// The number of a context's default, with whether `-` stands before it.
-fn default_number(rest: &[Token]) -> Result<((bool, u64), &[Token]), Fault>
-    ensures { Gives (λ x. (x.0, kinds x.1.now)) result (default_at (kinds rest.now)) }
+fn default_number(rest: Rest<'_>) -> Result<((bool, u64), Rest<'_>), Fault>
+    ensures { Gives (λ x. (x.0, kinds_of x.1)) result (default_at (kinds_of rest.entry)) }
 {
     if next_is(rest, Sign::Minus) {
         let rest = expect(rest, Sign::Minus)?;
@@ -34,8 +34,8 @@ fn default_number(rest: &[Token]) -> Result<((bool, u64), &[Token]), Fault>
 
 /// A context.
 #[tactic(auto, unfolding(rx_grammar::specs::Reading::context_at))]
-fn context<'a>(alloc: Global, rest: &'a [Token]) -> Result<(Declaration, &'a [Token]), Fault>
-    ensures { Gives (λ x. (x.0, kinds x.1.now)) result (context_at (kinds rest.now)) }
+fn context<'a>(alloc: Global, rest: Rest<'a>) -> Result<(Declaration, Rest<'a>), Fault>
+    ensures { Gives (λ x. (x.0, kinds_of x.1)) result (context_at (kinds_of rest.entry)) }
 {
     let rest = expect_word(rest, Keyword::Const)?;
     let (name, rest) = upper(alloc, rest)?;
@@ -52,12 +52,8 @@ fn context<'a>(alloc: Global, rest: &'a [Token]) -> Result<(Declaration, &'a [To
 }
 
 /// Further names, each behind a comma.
-fn more_names<'a>(
-    alloc: Global,
-    rest: &'a [Token],
-    names: &mut Vec<Name>,
-) -> Result<&'a [Token], Fault>
-    ensures { Gives (λ x. (names.new.items, kinds x.now)) result (in_front names.old.items (all_of (is_mark sign.Comma) (behind_comma (taken as_lower)) (kinds rest.now))) }
+fn more_names<'a>(alloc: Global, rest: Rest<'a>, names: &mut Vec<Name>) -> Result<Rest<'a>, Fault>
+    ensures { Gives (λ x. (names.new.items, kinds_of x)) result (in_front names.old.items (all_of (is_mark sign.Comma) (behind_comma (taken as_lower)) (kinds_of rest.entry))) }
 {
     let mut rest = rest;
     while next_is(rest, Sign::Comma) {
@@ -71,8 +67,8 @@ fn more_names<'a>(
 
 /// The parameters of a function, up to and with `)`.
 #[tactic(auto, unfolding(rx_grammar::specs::Reading::list_to))]
-fn names<'a>(alloc: Global, rest: &'a [Token]) -> Result<(Vec<Name>, &'a [Token]), Fault>
-    ensures { Gives (λ x. (x.0.items, kinds x.1.now)) result (list_to sign.CloseParen (taken as_lower) (kinds rest.now)) }
+fn names<'a>(alloc: Global, rest: Rest<'a>) -> Result<(Vec<Name>, Rest<'a>), Fault>
+    ensures { Gives (λ x. (x.0.items, kinds_of x.1)) result (list_to sign.CloseParen (taken as_lower) (kinds_of rest.entry)) }
 {
     let mut names = Vec::new(alloc);
     if next_is(rest, Sign::CloseParen) {
@@ -86,8 +82,8 @@ fn names<'a>(alloc: Global, rest: &'a [Token]) -> Result<(Vec<Name>, &'a [Token]
 }
 
 /// `return`, an expression and `;}`.
-fn answer<'a>(alloc: Global, rest: &'a [Token], level: usize) -> Result<(Expr, &'a [Token]), Fault>
-    ensures { Gives (λ x. (x.0, kinds x.1.now)) result (answer_at level (kinds rest.now)) }
+fn answer<'a>(alloc: Global, rest: Rest<'a>, level: usize) -> Result<(Expr, Rest<'a>), Fault>
+    ensures { Gives (λ x. (x.0, kinds_of x.1)) result (answer_at level (kinds_of rest.entry)) }
 {
     let rest = expect_word(rest, Keyword::Return)?;
     let (answer, rest) = expr(alloc, rest, level)?;
@@ -100,10 +96,10 @@ fn answer<'a>(alloc: Global, rest: &'a [Token], level: usize) -> Result<(Expr, &
 fn function<'a>(
     alloc: Global,
     name: Name,
-    rest: &'a [Token],
+    rest: Rest<'a>,
     level: usize,
-) -> Result<(Declaration, &'a [Token]), Fault>
-    ensures { Gives (λ x. (x.0, kinds x.1.now)) result (function_at level name (kinds rest.now)) }
+) -> Result<(Declaration, Rest<'a>), Fault>
+    ensures { Gives (λ x. (x.0, kinds_of x.1)) result (function_at level name (kinds_of rest.entry)) }
 {
     let rest = expect(rest, Sign::OpenParen)?;
     let (parameters, rest) = names(alloc, rest)?;
@@ -118,8 +114,8 @@ fn function<'a>(
 
 /// A parameter of a component.
 #[tactic(auto, unfolding(rx_grammar::specs::Reading::parameter_at))]
-fn parameter<'a>(alloc: Global, rest: &'a [Token]) -> Result<(Parameter, &'a [Token]), Fault>
-    ensures { Gives (λ x. (x.0, kinds x.1.now)) result (parameter_at (kinds rest.now)) }
+fn parameter<'a>(alloc: Global, rest: Rest<'a>) -> Result<(Parameter, Rest<'a>), Fault>
+    ensures { Gives (λ x. (x.0, kinds_of x.1)) result (parameter_at (kinds_of rest.entry)) }
 {
     if next_is_word(rest, Keyword::Children) {
         let rest = expect_word(rest, Keyword::Children)?;
@@ -132,10 +128,10 @@ fn parameter<'a>(alloc: Global, rest: &'a [Token]) -> Result<(Parameter, &'a [To
 /// Further parameters of a component, each behind a comma.
 fn more_parameters<'a>(
     alloc: Global,
-    rest: &'a [Token],
+    rest: Rest<'a>,
     parameters: &mut Vec<Parameter>,
-) -> Result<&'a [Token], Fault>
-    ensures { Gives (λ x. (parameters.new.items, kinds x.now)) result (in_front parameters.old.items (all_of (is_mark sign.Comma) (behind_comma parameter_at) (kinds rest.now))) }
+) -> Result<Rest<'a>, Fault>
+    ensures { Gives (λ x. (parameters.new.items, kinds_of x)) result (in_front parameters.old.items (all_of (is_mark sign.Comma) (behind_comma parameter_at) (kinds_of rest.entry))) }
 {
     let mut rest = rest;
     while next_is(rest, Sign::Comma) {
@@ -149,11 +145,8 @@ fn more_parameters<'a>(
 
 /// The parameters of a component in braces, up to and with `}`.
 #[tactic(auto, unfolding(rx_grammar::specs::Reading::list_to))]
-fn braced_parameters<'a>(
-    alloc: Global,
-    rest: &'a [Token],
-) -> Result<(Vec<Parameter>, &'a [Token]), Fault>
-    ensures { Gives (λ x. (x.0.items, kinds x.1.now)) result (list_to sign.CloseBrace parameter_at (kinds rest.now)) }
+fn braced_parameters<'a>(alloc: Global, rest: Rest<'a>) -> Result<(Vec<Parameter>, Rest<'a>), Fault>
+    ensures { Gives (λ x. (x.0.items, kinds_of x.1)) result (list_to sign.CloseBrace parameter_at (kinds_of rest.entry)) }
 {
     let mut parameters = Vec::new(alloc);
     if next_is(rest, Sign::CloseBrace) {
@@ -168,11 +161,8 @@ fn braced_parameters<'a>(
 
 /// The parameters of a component, up to and with `)`, and whether they stand in braces.
 #[tactic(auto, unfolding(rx_grammar::specs::Reading::parameters_at))]
-fn parameters<'a>(
-    alloc: Global,
-    rest: &'a [Token],
-) -> Result<(bool, Vec<Parameter>, &'a [Token]), Fault>
-    ensures { Gives (λ x. ((x.0, x.1.items), kinds x.2.now)) result (parameters_at (kinds rest.now)) }
+fn parameters<'a>(alloc: Global, rest: Rest<'a>) -> Result<(bool, Vec<Parameter>, Rest<'a>), Fault>
+    ensures { Gives (λ x. ((x.0, x.1.items), kinds_of x.2)) result (parameters_at (kinds_of rest.entry)) }
 {
     if next_is(rest, Sign::CloseParen) {
         let rest = expect(rest, Sign::CloseParen)?;
@@ -185,12 +175,8 @@ fn parameters<'a>(
 }
 
 /// `return`, a body and `;}`.
-fn returned<'a>(
-    alloc: Global,
-    rest: &'a [Token],
-    level: usize,
-) -> Result<(Body, &'a [Token]), Fault>
-    ensures { Gives (λ x. (x.0, kinds x.1.now)) result (result_at level (kinds rest.now)) }
+fn returned<'a>(alloc: Global, rest: Rest<'a>, level: usize) -> Result<(Body, Rest<'a>), Fault>
+    ensures { Gives (λ x. (x.0, kinds_of x.1)) result (result_at level (kinds_of rest.entry)) }
 {
     let rest = expect_word(rest, Keyword::Return)?;
     let (body, rest) = body(alloc, rest, level)?;
@@ -203,10 +189,10 @@ fn returned<'a>(
 fn component<'a>(
     alloc: Global,
     name: Name,
-    rest: &'a [Token],
+    rest: Rest<'a>,
     level: usize,
-) -> Result<(Declaration, &'a [Token]), Fault>
-    ensures { Gives (λ x. (x.0, kinds x.1.now)) result (component_at level name (kinds rest.now)) }
+) -> Result<(Declaration, Rest<'a>), Fault>
+    ensures { Gives (λ x. (x.0, kinds_of x.1)) result (component_at level name (kinds_of rest.entry)) }
 {
     let rest = expect(rest, Sign::OpenParen)?;
     let (braces, parameters, rest) = parameters(alloc, rest)?;
@@ -221,10 +207,10 @@ fn component<'a>(
 #[tactic(auto, unfolding(rx_grammar::specs::Reading::declaration_at))]
 fn declaration<'a>(
     alloc: Global,
-    rest: &'a [Token],
+    rest: Rest<'a>,
     level: usize,
-) -> Result<(Declaration, &'a [Token]), Fault>
-    ensures { Gives (λ x. (x.0, kinds x.1.now)) result (declaration_at level (kinds rest.now)) }
+) -> Result<(Declaration, Rest<'a>), Fault>
+    ensures { Gives (λ x. (x.0, kinds_of x.1)) result (declaration_at level (kinds_of rest.entry)) }
 {
     if next_is_word(rest, Keyword::Const) {
         return context(alloc, rest);
@@ -240,8 +226,8 @@ fn declaration<'a>(
 
 /// Whether the next token begins a declaration.
 #[tactic(auto, using(crate::proofs::Texts::declaration_next))]
-fn next_is_declaration(rest: &[Token]) -> bool
-    ensures { result ≡ next is_declaration (kinds rest.now) }
+fn next_is_declaration(rest: Rest<'_>) -> bool
+    ensures { result ≡ next is_declaration (kinds_of rest.entry) }
 {
     next_is_word(rest, Keyword::Const) || next_is_word(rest, Keyword::Function)
 }
@@ -249,10 +235,10 @@ fn next_is_declaration(rest: &[Token]) -> bool
 /// The declarations of a program.
 pub(crate) fn declarations<'a>(
     alloc: Global,
-    rest: &'a [Token],
+    rest: Rest<'a>,
     level: usize,
-) -> Result<(Vec<Declaration>, &'a [Token]), Fault>
-    ensures { Gives (λ x. (x.0.items, kinds x.1.now)) result (declarations_at level (kinds rest.now)) }
+) -> Result<(Vec<Declaration>, Rest<'a>), Fault>
+    ensures { Gives (λ x. (x.0.items, kinds_of x.1)) result (declarations_at level (kinds_of rest.entry)) }
 {
     let mut declarations = Vec::new(alloc);
     let mut rest = rest;

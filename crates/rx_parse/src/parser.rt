@@ -1,6 +1,7 @@
 // From tokens to a program.
 ghost use Rattle.std.specs.Prelude.{◌≡◌, List, IfOk, IfErr, MatchResult};
 ghost use Rattle.rx_lex.specs.Tokens.{kinds};
+ghost use Rattle.rx_lex.specs.Spans.{kinds_of, tokens_of};
 ghost use Rattle.rx_ast.specs.Syntax.{Program};
 ghost use Rattle.rx_print.specs.Levels.{HasTokens};
 ghost use Rattle.rx_grammar.specs.Reading.{program_at};
@@ -13,7 +14,7 @@ use rx_ast::Program;
 use rx_expression::beside::closed;
 use rx_expression::fault::Fault;
 use rx_expression::steps::expect_end;
-use rx_lex::Token;
+use rx_lex::{Rest, Tokens};
 use std::alloc::Global;
 
 /// How many levels may be open at one place.
@@ -21,12 +22,8 @@ const LEVELS: usize = 64;
 
 /// A program, and the end mark behind it.
 #[tactic(auto, unfolding(rx_grammar::specs::Reading::program_at))]
-fn program<'a>(
-    alloc: Global,
-    tokens: &'a [Token],
-    level: usize,
-) -> Result<(Program, &'a [Token]), Fault>
-    ensures { Gives (λ x. (x.0, kinds x.1.now)) result (program_at level (kinds tokens.now)) }
+fn program<'a>(alloc: Global, tokens: Rest<'a>, level: usize) -> Result<(Program, Rest<'a>), Fault>
+    ensures { Gives (λ x. (x.0, kinds_of x.1)) result (program_at level (kinds_of tokens.entry)) }
 {
     let (declarations, rest) = declarations(alloc, tokens, level)?;
     let (declarations, rest) = closed(declarations, expect_end(rest))?;
@@ -38,19 +35,20 @@ fn program<'a>(
 /// # Errors
 ///
 /// `Syntax` exactly where no program has the tokens, with the place of the first one up to and with which none begins; want of memory.
-pub fn parse(alloc: Global, tokens: &[Token]) -> Result<Program, ParseError>
-    requires { IsEnded tokens.now }
+pub fn parse(alloc: Global, tokens: &Tokens<'_>) -> Result<Program, ParseError>
+    requires { IsEnded (tokens_of tokens.now) }
     // The program that is answered has the tokens.
-    ensures found { IfOk result (λ p. HasTokens p (kinds tokens.now)) }
+    ensures found { IfOk result (λ p. HasTokens p (kinds (tokens_of tokens.now))) }
     // No other has them, and where one does it is answered, unless memory runs out.
-    ensures only { (p : Program) → HasTokens p (kinds tokens.now) → MatchResult result (λ q. q ≡ p) (λ e. e ≡ ParseError.OutOfMemory) }
+    ensures only { (p : Program) → HasTokens p (kinds (tokens_of tokens.now)) → MatchResult result (λ q. q ≡ p) (λ e. e ≡ ParseError.OutOfMemory) }
     // The place is that of the first token with which no program goes on.
-    ensures fault { IfErr result (λ e. IsFault e tokens.now) }
+    ensures fault { IfErr result (λ e. IsFault e (tokens_of tokens.now)) }
 {
-    match program(alloc, tokens, LEVELS) {
+    let rest = tokens.rest();
+    match program(alloc, rest, LEVELS) {
         Ok((found, _)) => Ok(found),
         Err(Fault::Syntax(left)) => Err(ParseError::Syntax {
-            at: tokens[tokens.len() - left].place,
+            at: tokens.place(rest.len() - left),
         }),
         Err(Fault::OutOfMemory) => Err(ParseError::OutOfMemory),
     }

@@ -1,6 +1,6 @@
 // Statements of a component's body, and lines of a function.
 ghost use Rattle.std.specs.Prelude.{◌≡◌};
-ghost use Rattle.rx_lex.specs.Tokens.{kinds};
+ghost use Rattle.rx_lex.specs.Spans.{kinds_of};
 ghost use Rattle.rx_grammar.specs.Steps.{next};
 ghost use Rattle.rx_grammar.specs.Reading.{argument_at, hook_at, pair_at, value_statement, const_at, effect_at, statement_at, is_statement, statements_at, function_line, lines_at};
 ghost use Rattle.rx_expression.specs.Results.{Gives};
@@ -13,16 +13,12 @@ use rx_expression::fault::Fault;
 use rx_expression::steps::{
     expect, expect_word, lower, next_is, next_is_word, resource, text, upper,
 };
-use rx_lex::{Keyword, Sign, Token};
+use rx_lex::{Keyword, Rest, Sign};
 use std::alloc::Global;
 
 /// An expression, and the `);` behind it.
-fn argument<'a>(
-    alloc: Global,
-    rest: &'a [Token],
-    level: usize,
-) -> Result<(Expr, &'a [Token]), Fault>
-    ensures { Gives (λ x. (x.0, kinds x.1.now)) result (argument_at level (kinds rest.now)) }
+fn argument<'a>(alloc: Global, rest: Rest<'a>, level: usize) -> Result<(Expr, Rest<'a>), Fault>
+    ensures { Gives (λ x. (x.0, kinds_of x.1)) result (argument_at level (kinds_of rest.entry)) }
 {
     let (value, rest) = expr(alloc, rest, level)?;
     let (value, rest) = closed(value, expect(rest, Sign::CloseParen))?;
@@ -35,10 +31,10 @@ fn hook<'a>(
     alloc: Global,
     name: Name,
     setter: Name,
-    rest: &'a [Token],
+    rest: Rest<'a>,
     level: usize,
-) -> Result<(Statement, &'a [Token]), Fault>
-    ensures { Gives (λ x. (x.0, kinds x.1.now)) result (hook_at level name setter (kinds rest.now)) }
+) -> Result<(Statement, Rest<'a>), Fault>
+    ensures { Gives (λ x. (x.0, kinds_of x.1)) result (hook_at level name setter (kinds_of rest.entry)) }
 {
     if next_is_word(rest, Keyword::UseState) {
         let rest = expect_word(rest, Keyword::UseState)?;
@@ -56,12 +52,8 @@ fn hook<'a>(
 
 /// `[name, setter] =` and a hook.
 #[tactic(auto, unfolding(rx_grammar::specs::Reading::pair_at))]
-fn pair<'a>(
-    alloc: Global,
-    rest: &'a [Token],
-    level: usize,
-) -> Result<(Statement, &'a [Token]), Fault>
-    ensures { Gives (λ x. (x.0, kinds x.1.now)) result (pair_at level (kinds rest.now)) }
+fn pair<'a>(alloc: Global, rest: Rest<'a>, level: usize) -> Result<(Statement, Rest<'a>), Fault>
+    ensures { Gives (λ x. (x.0, kinds_of x.1)) result (pair_at level (kinds_of rest.entry)) }
 {
     let rest = expect(rest, Sign::OpenBracket)?;
     let (name, rest) = lower(alloc, rest)?;
@@ -77,10 +69,10 @@ fn pair<'a>(
 fn named<'a>(
     alloc: Global,
     name: Name,
-    rest: &'a [Token],
+    rest: Rest<'a>,
     level: usize,
-) -> Result<(Statement, &'a [Token]), Fault>
-    ensures { Gives (λ x. (x.0, kinds x.1.now)) result (value_statement level name (kinds rest.now)) }
+) -> Result<(Statement, Rest<'a>), Fault>
+    ensures { Gives (λ x. (x.0, kinds_of x.1)) result (value_statement level name (kinds_of rest.entry)) }
 {
     if next_is_word(rest, Keyword::UseContext) {
         let rest = expect_word(rest, Keyword::UseContext)?;
@@ -105,12 +97,8 @@ fn named<'a>(
 
 /// A statement that begins with `const`.
 #[tactic(auto, unfolding(rx_grammar::specs::Reading::const_at))]
-fn constant<'a>(
-    alloc: Global,
-    rest: &'a [Token],
-    level: usize,
-) -> Result<(Statement, &'a [Token]), Fault>
-    ensures { Gives (λ x. (x.0, kinds x.1.now)) result (const_at level (kinds rest.now)) }
+fn constant<'a>(alloc: Global, rest: Rest<'a>, level: usize) -> Result<(Statement, Rest<'a>), Fault>
+    ensures { Gives (λ x. (x.0, kinds_of x.1)) result (const_at level (kinds_of rest.entry)) }
 {
     let rest = expect_word(rest, Keyword::Const)?;
     if next_is(rest, Sign::OpenBracket) {
@@ -126,10 +114,10 @@ fn constant<'a>(
 fn effect<'a>(
     alloc: Global,
     layout: bool,
-    rest: &'a [Token],
+    rest: Rest<'a>,
     level: usize,
-) -> Result<(Statement, &'a [Token]), Fault>
-    ensures { Gives (λ x. (x.0, kinds x.1.now)) result (effect_at level layout (kinds rest.now)) }
+) -> Result<(Statement, Rest<'a>), Fault>
+    ensures { Gives (λ x. (x.0, kinds_of x.1)) result (effect_at level layout (kinds_of rest.entry)) }
 {
     let rest = expect(rest, Sign::OpenParen)?;
     let (label, rest) = text(alloc, rest)?;
@@ -145,10 +133,10 @@ fn effect<'a>(
 #[tactic(auto, unfolding(rx_grammar::specs::Reading::statement_at))]
 fn statement<'a>(
     alloc: Global,
-    rest: &'a [Token],
+    rest: Rest<'a>,
     level: usize,
-) -> Result<(Statement, &'a [Token]), Fault>
-    ensures { Gives (λ x. (x.0, kinds x.1.now)) result (statement_at level (kinds rest.now)) }
+) -> Result<(Statement, Rest<'a>), Fault>
+    ensures { Gives (λ x. (x.0, kinds_of x.1)) result (statement_at level (kinds_of rest.entry)) }
 {
     if next_is_word(rest, Keyword::Const) {
         return constant(alloc, rest, level);
@@ -163,8 +151,8 @@ fn statement<'a>(
 
 /// Whether the next token begins a statement.
 #[tactic(auto, using(crate::proofs::Texts::statement_next))]
-fn next_is_statement(rest: &[Token]) -> bool
-    ensures { result ≡ next is_statement (kinds rest.now) }
+fn next_is_statement(rest: Rest<'_>) -> bool
+    ensures { result ≡ next is_statement (kinds_of rest.entry) }
 {
     next_is_word(rest, Keyword::Const)
         || (next_is_word(rest, Keyword::UseEffect) || next_is_word(rest, Keyword::UseLayoutEffect))
@@ -173,10 +161,10 @@ fn next_is_statement(rest: &[Token]) -> bool
 /// The statements before `return`.
 pub(crate) fn statements<'a>(
     alloc: Global,
-    rest: &'a [Token],
+    rest: Rest<'a>,
     level: usize,
-) -> Result<(Vec<Statement>, &'a [Token]), Fault>
-    ensures { Gives (λ x. (x.0.items, kinds x.1.now)) result (statements_at level (kinds rest.now)) }
+) -> Result<(Vec<Statement>, Rest<'a>), Fault>
+    ensures { Gives (λ x. (x.0.items, kinds_of x.1)) result (statements_at level (kinds_of rest.entry)) }
 {
     let mut statements = Vec::new(alloc);
     let mut rest = rest;
@@ -190,12 +178,8 @@ pub(crate) fn statements<'a>(
 
 /// A line of a function.
 #[tactic(auto, unfolding(rx_grammar::specs::Reading::function_line))]
-fn function_line<'a>(
-    alloc: Global,
-    rest: &'a [Token],
-    level: usize,
-) -> Result<(Line, &'a [Token]), Fault>
-    ensures { Gives (λ x. (x.0, kinds x.1.now)) result (function_line level (kinds rest.now)) }
+fn function_line<'a>(alloc: Global, rest: Rest<'a>, level: usize) -> Result<(Line, Rest<'a>), Fault>
+    ensures { Gives (λ x. (x.0, kinds_of x.1)) result (function_line level (kinds_of rest.entry)) }
 {
     let rest = expect_word(rest, Keyword::Const)?;
     let (name, rest) = lower(alloc, rest)?;
@@ -208,10 +192,10 @@ fn function_line<'a>(
 /// The lines of a function before `return`.
 pub(crate) fn lines<'a>(
     alloc: Global,
-    rest: &'a [Token],
+    rest: Rest<'a>,
     level: usize,
-) -> Result<(Vec<Line>, &'a [Token]), Fault>
-    ensures { Gives (λ x. (x.0.items, kinds x.1.now)) result (lines_at level (kinds rest.now)) }
+) -> Result<(Vec<Line>, Rest<'a>), Fault>
+    ensures { Gives (λ x. (x.0.items, kinds_of x.1)) result (lines_at level (kinds_of rest.entry)) }
 {
     let mut lines = Vec::new(alloc);
     let mut rest = rest;

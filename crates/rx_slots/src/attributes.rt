@@ -1,6 +1,6 @@
 // What an element is given in its opening tag.
 ghost use Rattle.std.specs.Prelude.{◌≡◌};
-ghost use Rattle.rx_lex.specs.Tokens.{kinds};
+ghost use Rattle.rx_lex.specs.Spans.{kinds_of};
 ghost use Rattle.rx_ast.specs.SlotView.{key_place_of};
 ghost use Rattle.rx_grammar.specs.Steps.{next};
 ghost use Rattle.rx_grammar.specs.Openings.{opening_of};
@@ -13,16 +13,17 @@ use rx_base::Name;
 use rx_expression::beside::{beside, closed};
 use rx_expression::expressions::expr;
 use rx_expression::fault::Fault;
+use rx_expression::lists::push;
 use rx_expression::steps::{
     expect, expect_lower, expect_word, lower, next_is, next_is_lower, next_is_text, next_is_word,
     text, upper,
 };
-use rx_lex::{Keyword, Sign, Token};
+use rx_lex::{Keyword, Rest, Sign};
 use std::alloc::Global;
 
 /// An expression in braces.
-fn braced<'a>(alloc: Global, rest: &'a [Token], level: usize) -> Result<(Expr, &'a [Token]), Fault>
-    ensures { Gives (λ x. (x.0, kinds x.1.now)) result (braced_at level (kinds rest.now)) }
+fn braced<'a>(alloc: Global, rest: Rest<'a>, level: usize) -> Result<(Expr, Rest<'a>), Fault>
+    ensures { Gives (λ x. (x.0, kinds_of x.1)) result (braced_at level (kinds_of rest.entry)) }
 {
     let rest = expect(rest, Sign::OpenBrace)?;
     let (value, rest) = expr(alloc, rest, level)?;
@@ -32,10 +33,10 @@ fn braced<'a>(alloc: Global, rest: &'a [Token], level: usize) -> Result<(Expr, &
 /// A key.
 pub(crate) fn key<'a>(
     alloc: Global,
-    rest: &'a [Token],
+    rest: Rest<'a>,
     level: usize,
-) -> Result<(Expr, &'a [Token]), Fault>
-    ensures { Gives (λ x. (x.0, kinds x.1.now)) result (key_at level (kinds rest.now)) }
+) -> Result<(Expr, Rest<'a>), Fault>
+    ensures { Gives (λ x. (x.0, kinds_of x.1)) result (key_at level (kinds_of rest.entry)) }
 {
     let rest = expect_word(rest, Keyword::Key)?;
     let rest = expect(rest, Sign::Equals)?;
@@ -46,11 +47,11 @@ pub(crate) fn key<'a>(
 fn given<'a>(
     alloc: Global,
     name: Name,
-    rest: &'a [Token],
+    rest: Rest<'a>,
     level: usize,
     host: bool,
-) -> Result<(Attribute, &'a [Token]), Fault>
-    ensures { Gives (λ x. (x.0, kinds x.1.now)) result (given_at host level name (kinds rest.now)) }
+) -> Result<(Attribute, Rest<'a>), Fault>
+    ensures { Gives (λ x. (x.0, kinds_of x.1)) result (given_at host level name (kinds_of rest.entry)) }
 {
     if host {
         if next_is_text(rest) {
@@ -66,11 +67,11 @@ fn given<'a>(
 #[tactic(auto, unfolding(rx_grammar::specs::Reading::attribute_at))]
 fn attribute<'a>(
     alloc: Global,
-    rest: &'a [Token],
+    rest: Rest<'a>,
     level: usize,
     host: bool,
-) -> Result<(Attribute, &'a [Token]), Fault>
-    ensures { Gives (λ x. (x.0, kinds x.1.now)) result (attribute_at host level (kinds rest.now)) }
+) -> Result<(Attribute, Rest<'a>), Fault>
+    ensures { Gives (λ x. (x.0, kinds_of x.1)) result (attribute_at host level (kinds_of rest.entry)) }
 {
     if next_is_word(rest, Keyword::Key) {
         let (value, rest) = key(alloc, rest, level)?;
@@ -83,8 +84,8 @@ fn attribute<'a>(
 
 /// Whether the next token begins an attribute.
 #[tactic(auto, using(crate::proofs::Texts::attribute_next))]
-fn next_is_attribute(rest: &[Token]) -> bool
-    ensures { result ≡ next is_attribute (kinds rest.now) }
+fn next_is_attribute(rest: Rest<'_>) -> bool
+    ensures { result ≡ next is_attribute (kinds_of rest.entry) }
 {
     next_is_word(rest, Keyword::Key) || next_is_lower(rest)
 }
@@ -92,29 +93,30 @@ fn next_is_attribute(rest: &[Token]) -> bool
 /// The attributes of an element of the host, where texts stand, or of a component.
 pub(crate) fn attributes<'a>(
     alloc: Global,
-    rest: &'a [Token],
+    rest: Rest<'a>,
     level: usize,
     host: bool,
-) -> Result<(Vec<Attribute>, &'a [Token]), Fault>
-    ensures { Gives (λ x. (x.0.items, kinds x.1.now)) result (attributes_at host level (kinds rest.now)) }
+) -> Result<(Vec<Attribute>, Rest<'a>), Fault>
+    ensures { Gives (λ x. (x.0.items, kinds_of x.1)) result (attributes_at host level (kinds_of rest.entry)) }
 {
     let mut attributes = Vec::new(alloc);
     let mut rest = rest;
     while next_is_attribute(rest) {
         let (attribute, after) = attribute(alloc, rest, level, host)?;
-        attributes.push(attribute)?;
+        push(&mut attributes, attribute)?;
         rest = after;
     }
+    attributes.shrink_to_fit();
     Ok((attributes, rest))
 }
 
 /// A key behind what else is given, or none.
 pub(crate) fn last_key<'a>(
     alloc: Global,
-    rest: &'a [Token],
+    rest: Rest<'a>,
     level: usize,
-) -> Result<(KeyPlace, &'a [Token]), Fault>
-    ensures { Gives (λ x. (key_place_of x.0, kinds x.1.now)) result (last_key_at level (kinds rest.now)) }
+) -> Result<(KeyPlace, Rest<'a>), Fault>
+    ensures { Gives (λ x. (key_place_of x.0, kinds_of x.1)) result (last_key_at level (kinds_of rest.entry)) }
 {
     if next_is_word(rest, Keyword::Key) {
         let (key, rest) = key(alloc, rest, level)?;
@@ -124,8 +126,8 @@ pub(crate) fn last_key<'a>(
 }
 
 /// The value of a provider.
-fn value<'a>(alloc: Global, rest: &'a [Token], level: usize) -> Result<(Expr, &'a [Token]), Fault>
-    ensures { Gives (λ x. (x.0, kinds x.1.now)) result (value_at level (kinds rest.now)) }
+fn value<'a>(alloc: Global, rest: Rest<'a>, level: usize) -> Result<(Expr, Rest<'a>), Fault>
+    ensures { Gives (λ x. (x.0, kinds_of x.1)) result (value_at level (kinds_of rest.entry)) }
 {
     let rest = expect_lower(rest, "value")?;
     let rest = expect(rest, Sign::Equals)?;
@@ -135,10 +137,10 @@ fn value<'a>(alloc: Global, rest: &'a [Token], level: usize) -> Result<(Expr, &'
 /// The value of a provider with its key in its place.
 fn keyed_value<'a>(
     alloc: Global,
-    rest: &'a [Token],
+    rest: Rest<'a>,
     level: usize,
-) -> Result<(KeyPlace, Expr, &'a [Token]), Fault>
-    ensures { Gives (λ x. ((key_place_of x.0, x.1), kinds x.2.now)) result (keyed_at level (value_at level) (kinds rest.now)) }
+) -> Result<(KeyPlace, Expr, Rest<'a>), Fault>
+    ensures { Gives (λ x. ((key_place_of x.0, x.1), kinds_of x.2)) result (keyed_at level (value_at level) (kinds_of rest.entry)) }
 {
     if next_is_word(rest, Keyword::Key) {
         let (key, rest) = key(alloc, rest, level)?;
@@ -154,10 +156,10 @@ fn keyed_value<'a>(
 fn provider<'a>(
     alloc: Global,
     context: Name,
-    rest: &'a [Token],
+    rest: Rest<'a>,
     level: usize,
-) -> Result<(Tag, &'a [Token]), Fault>
-    ensures { Gives (λ x. (opening_of x.0, kinds x.1.now)) result (provider_at level context (kinds rest.now)) }
+) -> Result<(Tag, Rest<'a>), Fault>
+    ensures { Gives (λ x. (opening_of x.0, kinds_of x.1)) result (provider_at level context (kinds_of rest.entry)) }
 {
     let rest = expect(rest, Sign::Dot)?;
     let rest = expect_word(rest, Keyword::Provider)?;
@@ -175,10 +177,10 @@ fn provider<'a>(
 /// The tag of an element of the host.
 pub(crate) fn host_tag<'a>(
     alloc: Global,
-    rest: &'a [Token],
+    rest: Rest<'a>,
     level: usize,
-) -> Result<(Tag, &'a [Token]), Fault>
-    ensures { Gives (λ x. (opening_of x.0, kinds x.1.now)) result (host_tag_at level (kinds rest.now)) }
+) -> Result<(Tag, Rest<'a>), Fault>
+    ensures { Gives (λ x. (opening_of x.0, kinds_of x.1)) result (host_tag_at level (kinds_of rest.entry)) }
 {
     let (name, rest) = lower(alloc, rest)?;
     let (attributes, rest) = attributes(alloc, rest, level, true)?;
@@ -188,10 +190,10 @@ pub(crate) fn host_tag<'a>(
 /// The tag of a component or a provider.
 pub(crate) fn upper_tag<'a>(
     alloc: Global,
-    rest: &'a [Token],
+    rest: Rest<'a>,
     level: usize,
-) -> Result<(Tag, &'a [Token]), Fault>
-    ensures { Gives (λ x. (opening_of x.0, kinds x.1.now)) result (upper_tag_at level (kinds rest.now)) }
+) -> Result<(Tag, Rest<'a>), Fault>
+    ensures { Gives (λ x. (opening_of x.0, kinds_of x.1)) result (upper_tag_at level (kinds_of rest.entry)) }
 {
     let (name, rest) = upper(alloc, rest)?;
     if next_is(rest, Sign::Dot) {

@@ -1,6 +1,6 @@
 // What a component returns.
 ghost use Rattle.std.specs.Prelude.{◌≡◌};
-ghost use Rattle.rx_lex.specs.Tokens.{kinds};
+ghost use Rattle.rx_lex.specs.Spans.{kinds_of};
 ghost use Rattle.rx_grammar.specs.Reading.{fragment_at, opened_body, enclosed_body_of, enclosed_body, body_at, slot_inner, children_at};
 ghost use Rattle.rx_slots.specs.Jsx.{alone};
 ghost use Rattle.rx_expression.specs.Results.{Gives};
@@ -10,7 +10,7 @@ use rx_ast::{Body, Child, Element, Fragment, Slot};
 use rx_expression::beside::closed;
 use rx_expression::fault::Fault;
 use rx_expression::steps::{expect, next_are, next_is};
-use rx_lex::{Sign, Token};
+use rx_lex::{Rest, Sign};
 use std::alloc::Global;
 
 /// What begins with `<`.
@@ -46,10 +46,10 @@ impl Jsx {
 /// The children of a fragment behind its `<`, with so many levels left in it.
 fn fragment<'a>(
     alloc: Global,
-    rest: &'a [Token],
+    rest: Rest<'a>,
     level: usize,
-) -> Result<(Vec<Child>, &'a [Token]), Fault>
-    ensures { Gives (λ x. (x.0.items, kinds x.1.now)) result (fragment_at (children_at level) (kinds rest.now)) }
+) -> Result<(Vec<Child>, Rest<'a>), Fault>
+    ensures { Gives (λ x. (x.0.items, kinds_of x.1)) result (fragment_at (children_at level) (kinds_of rest.entry)) }
 {
     let rest = expect(rest, Sign::Greater)?;
     let (children, rest) = children(alloc, rest, level)?;
@@ -57,8 +57,8 @@ fn fragment<'a>(
 }
 
 /// An element or a fragment.
-fn opened<'a>(alloc: Global, rest: &'a [Token], level: usize) -> Result<(Jsx, &'a [Token]), Fault>
-    ensures { Gives (λ x. (alone x.0, kinds x.1.now)) result (opened_body (slot_inner level) (kinds rest.now)) }
+fn opened<'a>(alloc: Global, rest: Rest<'a>, level: usize) -> Result<(Jsx, Rest<'a>), Fault>
+    ensures { Gives (λ x. (alone x.0, kinds_of x.1)) result (opened_body (slot_inner level) (kinds_of rest.entry)) }
 {
     if level == 0 {
         return Err(Fault::Syntax(rest.len()));
@@ -73,12 +73,8 @@ fn opened<'a>(alloc: Global, rest: &'a [Token], level: usize) -> Result<(Jsx, &'
 }
 
 /// An element or a fragment in parentheses.
-fn enclosed<'a>(
-    alloc: Global,
-    rest: &'a [Token],
-    level: usize,
-) -> Result<(Body, &'a [Token]), Fault>
-    ensures { Gives (λ x. (x.0, kinds x.1.now)) result (enclosed_body level (kinds rest.now)) }
+fn enclosed<'a>(alloc: Global, rest: Rest<'a>, level: usize) -> Result<(Body, Rest<'a>), Fault>
+    ensures { Gives (λ x. (x.0, kinds_of x.1)) result (enclosed_body level (kinds_of rest.entry)) }
 {
     if level == 0 {
         return Err(Fault::Syntax(rest.len()));
@@ -91,12 +87,8 @@ fn enclosed<'a>(
 
 /// What a component returns.
 #[tactic(auto, unfolding(rx_grammar::specs::Reading::body_at))]
-pub fn body<'a>(
-    alloc: Global,
-    rest: &'a [Token],
-    level: usize,
-) -> Result<(Body, &'a [Token]), Fault>
-    ensures { Gives (λ x. (x.0, kinds x.1.now)) result (body_at level (kinds rest.now)) }
+pub fn body<'a>(alloc: Global, rest: Rest<'a>, level: usize) -> Result<(Body, Rest<'a>), Fault>
+    ensures { Gives (λ x. (x.0, kinds_of x.1)) result (body_at level (kinds_of rest.entry)) }
 {
     if next_is(rest, Sign::Less) {
         let (opened, rest) = opened(alloc, rest, level)?;

@@ -1,6 +1,6 @@
 // Parts of slots that are put together, and how an element ends.
 ghost use Rattle.std.specs.Prelude.{◌≡◌, IfOk, IfErr, MatchResult, Err};
-ghost use Rattle.rx_lex.specs.Tokens.{kinds};
+ghost use Rattle.rx_lex.specs.Spans.{kinds_of};
 ghost use Rattle.rx_ast.specs.Syntax.{choice, slots_of};
 ghost use Rattle.rx_ast.specs.SlotView.{key_place_of};
 ghost use Rattle.rx_grammar.specs.Openings.{boundary_tag, opening_of};
@@ -12,7 +12,7 @@ use rx_ast::{Child, Element, Expr, KeyPlace, Slot, Tag};
 use rx_expression::beside::closed;
 use rx_expression::fault::Fault;
 use rx_expression::steps::{expect, expect_lower, expect_upper, expect_word};
-use rx_lex::{Keyword, Sign, Token};
+use rx_lex::{Keyword, Rest, Sign};
 use std::alloc::Global;
 
 /// The tag of a boundary.
@@ -27,8 +27,8 @@ pub(crate) fn boundary(alloc: Global, key: KeyPlace, fallback: Slot) -> Result<T
 pub(crate) fn choice<'a>(
     alloc: Global,
     test: Expr,
-    sides: Result<(Slot, Slot, &'a [Token]), Fault>,
-) -> Result<(Slot, &'a [Token]), Fault>
+    sides: Result<(Slot, Slot, Rest<'a>), Fault>,
+) -> Result<(Slot, Rest<'a>), Fault>
     ensures ok { IfOk sides.entry (λ x. MatchResult result (λ y. (y.0 ≡ choice test x.0 x.1) × (y.1 ≡ x.2)) (λ e. e ≡ Fault.OutOfMemory)) }
     ensures err { IfErr sides.entry (λ e. result ≡ Err e) }
 {
@@ -39,8 +39,8 @@ pub(crate) fn choice<'a>(
 }
 
 /// An element that ends at once, by `/>`.
-pub(crate) fn ended<'a>(tag: Tag, rest: &'a [Token]) -> Result<(Element, &'a [Token]), Fault>
-    ensures { Gives (λ x. (x.0, kinds x.1.now)) result (ended_at (opening_of tag) (kinds rest.now)) }
+pub(crate) fn ended<'a>(tag: Tag, rest: Rest<'a>) -> Result<(Element, Rest<'a>), Fault>
+    ensures { Gives (λ x. (x.0, kinds_of x.1)) result (ended_at (opening_of tag) (kinds_of rest.entry)) }
 {
     let (tag, rest) = closed(tag, expect(rest, Sign::Slash))?;
     let (tag, rest) = closed(tag, expect(rest, Sign::Greater))?;
@@ -48,8 +48,8 @@ pub(crate) fn ended<'a>(tag: Tag, rest: &'a [Token]) -> Result<(Element, &'a [To
 }
 
 /// What follows the name of the closing tag that is wanted.
-fn closing_name<'a>(tag: &Tag, rest: &'a [Token]) -> Result<&'a [Token], Fault>
-    ensures { Gives (λ r. (tt, kinds r.now)) result (closing_name_at (opening_of tag.now) (kinds rest.now)) }
+fn closing_name<'a>(tag: &Tag, rest: Rest<'a>) -> Result<Rest<'a>, Fault>
+    ensures { Gives (λ r. (tt, kinds_of r)) result (closing_name_at (opening_of tag.now) (kinds_of rest.entry)) }
 {
     match tag {
         Tag::Host { name, .. } => expect_lower(rest, name.text()),
@@ -67,9 +67,9 @@ fn closing_name<'a>(tag: &Tag, rest: &'a [Token]) -> Result<&'a [Token], Fault>
 pub(crate) fn filled<'a>(
     tag: Tag,
     children: Vec<Child>,
-    rest: &'a [Token],
-) -> Result<(Element, &'a [Token]), Fault>
-    ensures { Gives (λ x. (x.0, kinds x.1.now)) result (filled_at (opening_of tag) (slots_of children.items) (kinds rest.now)) }
+    rest: Rest<'a>,
+) -> Result<(Element, Rest<'a>), Fault>
+    ensures { Gives (λ x. (x.0, kinds_of x.1)) result (filled_at (opening_of tag) (slots_of children.items) (kinds_of rest.entry)) }
 {
     let name = closing_name(&tag, rest);
     let (filled, rest) = closed(Element::filled(tag, children), name)?;

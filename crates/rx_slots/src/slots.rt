@@ -1,5 +1,5 @@
 // Slots, elements and child lists.
-ghost use Rattle.rx_lex.specs.Tokens.{kinds};
+ghost use Rattle.rx_lex.specs.Spans.{kinds_of};
 ghost use Rattle.rx_ast.specs.SlotView.{key_place_of};
 ghost use Rattle.rx_grammar.specs.Openings.{opening_of};
 ghost use Rattle.rx_grammar.specs.Reading.{keyed_at, braced_slot, fallback_at, tag_at, end_or_element, child_at, element_at, enclosed_at, repeated_at, shown_at, plain_with, slot_with, slot_inner, slot_at, children_at, element_behind};
@@ -13,21 +13,18 @@ use rx_ast::{Child, Element, KeyPlace, Slot, Tag};
 use rx_expression::beside::{beside, closed};
 use rx_expression::expressions::{OR_LINE, line};
 use rx_expression::fault::Fault;
+use rx_expression::lists::push;
 use rx_expression::steps::{
     expect, expect_lower, expect_word, next_are, next_is, next_is_lower, next_is_text,
     next_is_word, text,
 };
-use rx_lex::{Keyword, Sign, Token};
+use rx_lex::{Keyword, Rest, Sign};
 use std::alloc::Global;
 
 /// A slot in braces.
 #[cycle(slot)]
-fn braced_slot<'a>(
-    alloc: Global,
-    rest: &'a [Token],
-    level: usize,
-) -> Result<(Slot, &'a [Token]), Fault>
-    ensures { Gives (λ x. (x.0, kinds x.1.now)) result (braced_slot (slot_at level) (kinds rest.now)) }
+fn braced_slot<'a>(alloc: Global, rest: Rest<'a>, level: usize) -> Result<(Slot, Rest<'a>), Fault>
+    ensures { Gives (λ x. (x.0, kinds_of x.1)) result (braced_slot (slot_at level) (kinds_of rest.entry)) }
 {
     let rest = expect(rest, Sign::OpenBrace)?;
     let (slot, rest) = slot(alloc, rest, level)?;
@@ -36,12 +33,8 @@ fn braced_slot<'a>(
 
 /// The fallback of a boundary.
 #[cycle(slot)]
-fn fallback<'a>(
-    alloc: Global,
-    rest: &'a [Token],
-    level: usize,
-) -> Result<(Slot, &'a [Token]), Fault>
-    ensures { Gives (λ x. (x.0, kinds x.1.now)) result (fallback_at (slot_at level) (kinds rest.now)) }
+fn fallback<'a>(alloc: Global, rest: Rest<'a>, level: usize) -> Result<(Slot, Rest<'a>), Fault>
+    ensures { Gives (λ x. (x.0, kinds_of x.1)) result (fallback_at (slot_at level) (kinds_of rest.entry)) }
 {
     let rest = expect_lower(rest, "fallback")?;
     let rest = expect(rest, Sign::Equals)?;
@@ -52,10 +45,10 @@ fn fallback<'a>(
 #[cycle(slot)]
 fn keyed_fallback<'a>(
     alloc: Global,
-    rest: &'a [Token],
+    rest: Rest<'a>,
     level: usize,
-) -> Result<(KeyPlace, Slot, &'a [Token]), Fault>
-    ensures { Gives (λ x. ((key_place_of x.0, x.1), kinds x.2.now)) result (keyed_at level (fallback_at (slot_at level)) (kinds rest.now)) }
+) -> Result<(KeyPlace, Slot, Rest<'a>), Fault>
+    ensures { Gives (λ x. ((key_place_of x.0, x.1), kinds_of x.2)) result (keyed_at level (fallback_at (slot_at level)) (kinds_of rest.entry)) }
 {
     if next_is_word(rest, Keyword::Key) {
         let (key, rest) = key(alloc, rest, level)?;
@@ -70,8 +63,8 @@ fn keyed_fallback<'a>(
 /// An opening tag behind its `<`.
 #[cycle(slot)]
 #[tactic(auto, unfolding(rx_grammar::specs::Reading::tag_at))]
-fn tag<'a>(alloc: Global, rest: &'a [Token], level: usize) -> Result<(Tag, &'a [Token]), Fault>
-    ensures { Gives (λ x. (opening_of x.0, kinds x.1.now)) result (tag_at (slot_at level) level (kinds rest.now)) }
+fn tag<'a>(alloc: Global, rest: Rest<'a>, level: usize) -> Result<(Tag, Rest<'a>), Fault>
+    ensures { Gives (λ x. (opening_of x.0, kinds_of x.1)) result (tag_at (slot_at level) level (kinds_of rest.entry)) }
 {
     if next_is_word(rest, Keyword::Suspense) {
         let rest = expect_word(rest, Keyword::Suspense)?;
@@ -88,10 +81,10 @@ fn tag<'a>(alloc: Global, rest: &'a [Token], level: usize) -> Result<(Tag, &'a [
 #[cycle(slot)]
 fn end_or_element<'a>(
     alloc: Global,
-    rest: &'a [Token],
+    rest: Rest<'a>,
     level: usize,
-) -> Result<(Option<Child>, &'a [Token]), Fault>
-    ensures { Gives (λ x. (x.0, kinds x.1.now)) result (end_or_element (slot_inner level) (kinds rest.now)) }
+) -> Result<(Option<Child>, Rest<'a>), Fault>
+    ensures { Gives (λ x. (x.0, kinds_of x.1)) result (end_or_element (slot_inner level) (kinds_of rest.entry)) }
 {
     if next_is(rest, Sign::Slash) {
         let rest = expect(rest, Sign::Slash)?;
@@ -109,10 +102,10 @@ fn end_or_element<'a>(
 #[tactic(auto, unfolding(rx_grammar::specs::Reading::child_at))]
 fn child<'a>(
     alloc: Global,
-    rest: &'a [Token],
+    rest: Rest<'a>,
     level: usize,
-) -> Result<(Option<Child>, &'a [Token]), Fault>
-    ensures { Gives (λ x. (x.0, kinds x.1.now)) result (child_at (slot_inner level) (slot_at level) (kinds rest.now)) }
+) -> Result<(Option<Child>, Rest<'a>), Fault>
+    ensures { Gives (λ x. (x.0, kinds_of x.1)) result (child_at (slot_inner level) (slot_at level) (kinds_of rest.entry)) }
 {
     if next_is(rest, Sign::OpenBrace) {
         let (slot, rest) = braced_slot(alloc, rest, level)?;
@@ -126,10 +119,10 @@ fn child<'a>(
 #[cycle(slot)]
 pub(crate) fn children<'a>(
     alloc: Global,
-    rest: &'a [Token],
+    rest: Rest<'a>,
     level: usize,
-) -> Result<(Vec<Child>, &'a [Token]), Fault>
-    ensures { Gives (λ x. (x.0.items, kinds x.1.now)) result (children_at level (kinds rest.now)) }
+) -> Result<(Vec<Child>, Rest<'a>), Fault>
+    ensures { Gives (λ x. (x.0.items, kinds_of x.1)) result (children_at level (kinds_of rest.entry)) }
 {
     let mut children = Vec::new(alloc);
     let mut rest = rest;
@@ -137,9 +130,10 @@ pub(crate) fn children<'a>(
         let (child, after) = child(alloc, rest, level)?;
         rest = after;
         let Some(child) = child else {
+            children.shrink_to_fit();
             return Ok((children, rest));
         };
-        children.push(child)?;
+        push(&mut children, child)?;
     }
 }
 
@@ -148,10 +142,10 @@ pub(crate) fn children<'a>(
 #[tactic(auto, unfolding(rx_grammar::specs::Reading::element_with, rx_grammar::specs::Reading::content_at))]
 pub(crate) fn behind_less<'a>(
     alloc: Global,
-    rest: &'a [Token],
+    rest: Rest<'a>,
     level: usize,
-) -> Result<(Element, &'a [Token]), Fault>
-    ensures { Gives (λ x. (x.0, kinds x.1.now)) result (element_behind level (kinds rest.now)) }
+) -> Result<(Element, Rest<'a>), Fault>
+    ensures { Gives (λ x. (x.0, kinds_of x.1)) result (element_behind level (kinds_of rest.entry)) }
 {
     let (tag, rest) = tag(alloc, rest, level)?;
     if next_is(rest, Sign::Slash) {
@@ -164,12 +158,8 @@ pub(crate) fn behind_less<'a>(
 
 /// An element.
 #[cycle(slot)]
-fn element<'a>(
-    alloc: Global,
-    rest: &'a [Token],
-    level: usize,
-) -> Result<(Element, &'a [Token]), Fault>
-    ensures { Gives (λ x. (x.0, kinds x.1.now)) result (element_at (slot_inner level) (kinds rest.now)) }
+fn element<'a>(alloc: Global, rest: Rest<'a>, level: usize) -> Result<(Element, Rest<'a>), Fault>
+    ensures { Gives (λ x. (x.0, kinds_of x.1)) result (element_at (slot_inner level) (kinds_of rest.entry)) }
 {
     if level == 0 {
         return Err(Fault::Syntax(rest.len()));
@@ -180,12 +170,8 @@ fn element<'a>(
 
 /// An element in parentheses.
 #[cycle(slot)]
-fn enclosed<'a>(
-    alloc: Global,
-    rest: &'a [Token],
-    level: usize,
-) -> Result<(Slot, &'a [Token]), Fault>
-    ensures { Gives (λ x. (x.0, kinds x.1.now)) result (enclosed_at (slot_inner level) (kinds rest.now)) }
+fn enclosed<'a>(alloc: Global, rest: Rest<'a>, level: usize) -> Result<(Slot, Rest<'a>), Fault>
+    ensures { Gives (λ x. (x.0, kinds_of x.1)) result (enclosed_at (slot_inner level) (kinds_of rest.entry)) }
 {
     if level == 0 {
         return Err(Fault::Syntax(rest.len()));
@@ -198,12 +184,8 @@ fn enclosed<'a>(
 
 /// `for (index < bound, limit) item`
 #[cycle(slot)]
-fn repeated<'a>(
-    alloc: Global,
-    rest: &'a [Token],
-    level: usize,
-) -> Result<(Slot, &'a [Token]), Fault>
-    ensures { Gives (λ x. (x.0, kinds x.1.now)) result (repeated_at (slot_inner level) (kinds rest.now)) }
+fn repeated<'a>(alloc: Global, rest: Rest<'a>, level: usize) -> Result<(Slot, Rest<'a>), Fault>
+    ensures { Gives (λ x. (x.0, kinds_of x.1)) result (repeated_at (slot_inner level) (kinds_of rest.entry)) }
 {
     if level == 0 {
         return Err(Fault::Syntax(rest.len()));
@@ -215,12 +197,8 @@ fn repeated<'a>(
 
 /// The two sides of a choice behind its test.
 #[cycle(slot)]
-fn sides<'a>(
-    alloc: Global,
-    rest: &'a [Token],
-    level: usize,
-) -> Result<(Slot, Slot, &'a [Token]), Fault>
-    ensures { Gives (λ x. ((x.0, x.1), kinds x.2.now)) result (sides_at (slot_inner level) (kinds rest.now)) }
+fn sides<'a>(alloc: Global, rest: Rest<'a>, level: usize) -> Result<(Slot, Slot, Rest<'a>), Fault>
+    ensures { Gives (λ x. ((x.0, x.1), kinds_of x.2)) result (sides_at (slot_inner level) (kinds_of rest.entry)) }
 {
     if level == 0 {
         return Err(Fault::Syntax(rest.len()));
@@ -233,8 +211,8 @@ fn sides<'a>(
 
 /// An integer, or a choice.
 #[cycle(slot)]
-fn shown<'a>(alloc: Global, rest: &'a [Token], level: usize) -> Result<(Slot, &'a [Token]), Fault>
-    ensures { Gives (λ x. (x.0, kinds x.1.now)) result (shown_at (slot_inner level) level (kinds rest.now)) }
+fn shown<'a>(alloc: Global, rest: Rest<'a>, level: usize) -> Result<(Slot, Rest<'a>), Fault>
+    ensures { Gives (λ x. (x.0, kinds_of x.1)) result (shown_at (slot_inner level) level (kinds_of rest.entry)) }
 {
     let (test, rest) = line(alloc, rest, OR_LINE, level)?;
     if next_is(rest, Sign::Question) {
@@ -248,10 +226,10 @@ fn shown<'a>(alloc: Global, rest: &'a [Token], level: usize) -> Result<(Slot, &'
 #[tactic(auto, unfolding(rx_grammar::specs::Reading::plain_with))]
 pub(crate) fn plain<'a>(
     alloc: Global,
-    rest: &'a [Token],
+    rest: Rest<'a>,
     level: usize,
-) -> Result<(Slot, &'a [Token]), Fault>
-    ensures { Gives (λ x. (x.0, kinds x.1.now)) result (plain_with (slot_inner level) level (kinds rest.now)) }
+) -> Result<(Slot, Rest<'a>), Fault>
+    ensures { Gives (λ x. (x.0, kinds_of x.1)) result (plain_with (slot_inner level) level (kinds_of rest.entry)) }
 {
     if next_is_word(rest, Keyword::Null) {
         let rest = expect_word(rest, Keyword::Null)?;
@@ -274,8 +252,8 @@ pub(crate) fn plain<'a>(
 /// A slot with so many levels left.
 #[cycle(slot)]
 #[tactic(auto, unfolding(rx_grammar::specs::Reading::slot_with))]
-fn slot<'a>(alloc: Global, rest: &'a [Token], level: usize) -> Result<(Slot, &'a [Token]), Fault>
-    ensures { Gives (λ x. (x.0, kinds x.1.now)) result (slot_at level (kinds rest.now)) }
+fn slot<'a>(alloc: Global, rest: Rest<'a>, level: usize) -> Result<(Slot, Rest<'a>), Fault>
+    ensures { Gives (λ x. (x.0, kinds_of x.1)) result (slot_at level (kinds_of rest.entry)) }
 {
     if next_is(rest, Sign::Less) {
         let (element, rest) = element(alloc, rest, level)?;

@@ -1,5 +1,5 @@
 use Rattle.std.proofs.Common.{◌≡◌, suc, ◌+◌, ◌*◌, length}
-use Rattle.rx_lex.specs.Tokens.{kinds}
+use Rattle.rx_lex.specs.Spans.{kinds_of}
 use Rattle.rx_lex.specs.declared.token.Sign.TheVariants as sign
 use Rattle.rx_grammar.specs.Steps.{is_mark, all_of}
 use Rattle.rx_grammar.specs.Reading.{behind_comma, is_operator, link_at, line_with, inner_at, expr_at}
@@ -44,16 +44,16 @@ decreases-exprs l = l.level * 100 + 50
 
 abbrev pub invariant-links-loop-alloc : goal.invariant-links-loop-alloc
 invariant-links-loop-alloc l =
-    in_front l.links.items (all_of (is_operator (suc l.below)) (link_at (suc l.below) (line_with l.below (inner_at l.level))) (kinds l.rest))
-    ≡ all_of (is_operator (suc l.below)) (link_at (suc l.below) (line_with l.below (inner_at l.level))) (kinds l.fn.rest)
+    in_front l.links.items (all_of (is_operator (suc l.below)) (link_at (suc l.below) (line_with l.below (inner_at l.level))) (kinds_of l.rest))
+    ≡ all_of (is_operator (suc l.below)) (link_at (suc l.below) (line_with l.below (inner_at l.level))) (kinds_of l.fn.rest)
 
 abbrev pub decreases-links-loop-alloc : goal.decreases-links-loop-alloc
-decreases-links-loop-alloc l = length l.rest
+decreases-links-loop-alloc l = length (kinds_of l.rest)
 
 abbrev pub invariant-more_exprs-loop-alloc : goal.invariant-more_exprs-loop-alloc
 invariant-more_exprs-loop-alloc l =
-    in_front l.exprs.items (all_of (is_mark sign.Comma) (behind_comma (expr_at l.level)) (kinds l.rest))
-    ≡ in_front l.fn.exprs.items (all_of (is_mark sign.Comma) (behind_comma (expr_at l.level)) (kinds l.fn.rest))
+    in_front l.exprs.items (all_of (is_mark sign.Comma) (behind_comma (expr_at l.level)) (kinds_of l.rest))
+    ≡ in_front l.fn.exprs.items (all_of (is_mark sign.Comma) (behind_comma (expr_at l.level)) (kinds_of l.fn.rest))
 
 abbrev pub decreases-more_exprs-loop-alloc : goal.decreases-more_exprs-loop-alloc
-decreases-more_exprs-loop-alloc l = length l.rest
+decreases-more_exprs-loop-alloc l = length (kinds_of l.rest)

@@ -1,6 +1,8 @@
-use Rattle.std.proofs.Common.{refl, subst, ◌≡◌, length, sym, ◌∙◌, arith, eqb-true}
+use Rattle.std.proofs.Common.{refl, ◌≡◌, Some, ◌++◌, length, sym, ap, ◌∙◌, arith, eqb-true, IsUtf8}
 use Rattle.rx_lex.specs.declared.token.Kind.TheVariants.{Text, Mark}
 use Rattle.rx_lex.specs.Tokens.{Between, Meant, StandsFirst}
+use Rattle.rx_lex.specs.Spans.{seen}
+use Rattle.rx_lex.proofs.Cuts.{cut_string}
 use Rattle.rx_lex.proofs.Fronts.{no_piece, no_empty_word, word_stands}
 use Rattle.rx_lex.proofs.lexer.front.Goals as goal
 
@@ -23,8 +25,10 @@ returns-in-Some-clause-found c =
 pub returns-in-Some-split_string-clause-found : goal.returns-in-Some-split_string-clause-found
 returns-in-Some-split_string-clause-found c =
     let string = c.in-Some-split_string.ensures.found in
-    let same : c.in_ok-new.field-0 ≡ c.in-Some-split_string.content.now = c.in_ok-new.ensures in
-    (Meant (Text c.in_ok-new.field-0), subst (λ s. StandsFirst c.args.greatest (Meant (Text s)) c.args.text.now c.in-Some-split_string.rest.now) (sym same) (record { written = string.0; whole = string.1 }), refl)
+    let content = c.in-Some-split_string.content.now in
+    let utf8 : IsUtf8 content = (let texts = rw c.in-Some-split_string.is at c.split_string.type_inv in assumption texts) in
+    let same : content ≡ _ = sym (cut_string content c.in-Some-split_string.rest.now c.args.text.now c.in_ok-len.len string.0 c.in_ok-len.ensures.ok utf8) in
+    (Meant (Text content), record { written = string.0; whole = string.1 }, ap (λ s. Some (Text s)) same)
 
 pub returns-in-Some-split_sign-clause-found : goal.returns-in-Some-split_sign-clause-found
 returns-in-Some-split_sign-clause-found c =
@@ -33,5 +37,8 @@ returns-in-Some-split_sign-clause-found c =
 
 pub returns-in-Ok-clause-found : goal.returns-in-Ok-clause-found
 returns-in-Ok-clause-found c =
-    let word = c.in-Ok.ensures.found in
-    word_stands c.in-Ok.kind c.args.text.now c.split_word.result.1.now c.split_word.result.0.now c.split_word.ensures.split word.0 word.1 c.split_word.ensures.end
+    let rest = c.split_word.result.1.now in
+    let w = c.split_word.result.0.now in
+    let word = c.in-Ok.ensures.found rest in
+    let stands = word_stands (seen (w ++ rest) c.in-Ok.shape) c.args.text.now rest w c.split_word.ensures.split word.0 word.1 c.split_word.ensures.end in
+    (stands.0, stands.1, stands.2 ∙ ap (λ bs. Some (seen bs c.in-Ok.shape)) (sym c.split_word.ensures.split))

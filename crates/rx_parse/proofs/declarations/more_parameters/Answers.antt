@@ -1,5 +1,5 @@
 use Rattle.std.proofs.Common.{◌≡◌, Ok, sym, ap, ◌∙◌}
-use Rattle.rx_lex.specs.Tokens.{kinds}
+use Rattle.rx_lex.specs.Spans.{kinds_of}
 use Rattle.rx_grammar.specs.Steps.{◌>>=◌}
 use Rattle.rx_grammar.specs.Reading.{behind_comma, parameter_at}
 use Rattle.rx_grammar.proofs.Declarations.{parameters_loop}
@@ -8,13 +8,13 @@ use Rattle.rx_parse.proofs.declarations.more_parameters.Goals as goal
 
 pub loop-alloc-smaller : goal.loop-alloc-smaller
 loop-alloc-smaller c =
-    let item : behind_comma (parameter_at) (kinds c.loop-alloc.rest.now) ≡ Ok (c.in_ok-next.next, kinds c.in_ok-next.after.now) =
+    let item : behind_comma (parameter_at) (kinds_of c.loop-alloc.rest) ≡ Ok (c.in_ok-next.next, kinds_of c.in_ok-next.after) =
     ap (λ r. r >>= λ s. parameter_at s.1) c.in_ok-behind.ensures ∙ c.in_ok-next.ensures in
-    smaller (parameters_loop) c.loop-alloc.rest.now c.in_ok-next.after.now c.in_ok-next.next item
+    smaller (parameters_loop) (kinds_of c.loop-alloc.rest) (kinds_of c.in_ok-next.after) c.in_ok-next.next item
 
 pub loop-alloc-preserved : goal.loop-alloc-preserved
 loop-alloc-preserved c =
-    let item : behind_comma (parameter_at) (kinds c.loop-alloc.rest.now) ≡ Ok (c.in_ok-next.next, kinds c.in_ok-next.after.now) =
+    let item : behind_comma (parameter_at) (kinds_of c.loop-alloc.rest) ≡ Ok (c.in_ok-next.next, kinds_of c.in_ok-next.after) =
     ap (λ r. r >>= λ s. parameter_at s.1) c.in_ok-behind.ensures ∙ c.in_ok-next.ensures in
-    turned (parameters_loop) c.loop-alloc.parameters.items _ c.in_ok-next.next (kinds c.loop-alloc.rest.now) (kinds c.in_ok-next.after.now) _
+    turned (parameters_loop) c.loop-alloc.parameters.items _ c.in_ok-next.next (kinds_of c.loop-alloc.rest) (kinds_of c.in_ok-next.after) _
     (sym c.next_is.ensures ∙ c.loop-alloc-test.true) item c.in_ok-push.ensures.items c.loop-alloc.invariant

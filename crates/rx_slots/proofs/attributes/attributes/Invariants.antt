@@ -1,11 +1,11 @@
 use Rattle.std.proofs.Common.{◌≡◌, length}
-use Rattle.rx_lex.specs.Tokens.{kinds}
+use Rattle.rx_lex.specs.Spans.{kinds_of}
 use Rattle.rx_grammar.specs.Reading.{attributes_at}
 use Rattle.rx_expression.specs.Results.{in_front}
 use Rattle.rx_slots.proofs.attributes.attributes.Given as goal
 
 abbrev pub invariant-loop-alloc : goal.invariant-loop-alloc
-invariant-loop-alloc l = in_front l.attributes.items (attributes_at l.host l.level (kinds l.rest)) ≡ attributes_at l.host l.level (kinds l.fn.rest)
+invariant-loop-alloc l = in_front l.attributes.items (attributes_at l.host l.level (kinds_of l.rest)) ≡ attributes_at l.host l.level (kinds_of l.fn.rest)
 
 abbrev pub decreases-loop-alloc : goal.decreases-loop-alloc
-decreases-loop-alloc l = length l.rest
+decreases-loop-alloc l = length (kinds_of l.rest)

@@ -1,5 +1,5 @@
 use Rattle.std.proofs.Common.{◌≡◌, ◌+◌, ◌*◌, length}
-use Rattle.rx_lex.specs.Tokens.{kinds}
+use Rattle.rx_lex.specs.Spans.{kinds_of}
 use Rattle.rx_grammar.specs.Reading.{children_at}
 use Rattle.rx_expression.specs.Results.{in_front}
 use Rattle.rx_slots.proofs.slots.+slot.Given as goal
@@ -50,7 +50,7 @@ abbrev pub decreases-slot : goal.decreases-slot
 decreases-slot l = l.level * 100 + 10
 
 abbrev pub invariant-children-loop-children : goal.invariant-children-loop-children
-invariant-children-loop-children l = in_front l.children.items (children_at l.level (kinds l.rest)) ≡ children_at l.level (kinds l.fn.rest)
+invariant-children-loop-children l = in_front l.children.items (children_at l.level (kinds_of l.rest)) ≡ children_at l.level (kinds_of l.fn.rest)
 
 abbrev pub decreases-children-loop-children : goal.decreases-children-loop-children
-decreases-children-loop-children l = length l.rest
+decreases-children-loop-children l = length (kinds_of l.rest)
