@@ -11,6 +11,7 @@ use Rattle.rx_model.specs.State.{State, opening, end_line}
 use Rattle.rx_model.specs.Stretch.{Stretch}
 use Rattle.rx_model.specs.Machine.{RunTo}
 use Rattle.rx_model.specs.Laws.{IsBounded, QuietLaw}
+use Rattle.rx_model.proofs.Reached.{runs-reach, start-reached}
 use Rattle.rx_root.specs.Rooted.{Rooted}
 use Rattle.rx_top.specs.Outcome.{IsReport, Writes, WritesPart}
 use Rattle.rx_top.specs.Running.{BeginsRun, WritesRun}
@@ -30,7 +31,7 @@ reports p bounded law o script r run text is =
         run = record { whole = r; runs = run; lines_are = refl; bodies_are = refl };
         bytes_are = is ∙ sym (report_bytes-append o r.lines (end_line r.after ∷ []));
       };
-      quiet = law bounded r.after (script, r, run, refl);
+      quiet = law bounded r.after (runs-reach p opening (start-reached p) script r run);
     }
 
 pub report-begins : (p : Program) → IsBounded p → QuietLaw p → (o : Options) (script : List Step) (w u : Option (List ℕ)) → BeginsRun p o opening script w u → WritesPart w u (IsReport p script o)
