@@ -1,2 +1,3 @@
 pub mod HiddenWaits
+pub mod WaitsAgain
 pub mod Quiet
