@@ -82,7 +82,7 @@ null_old c i = rw (absent_old (kind_of c.element)) (and_false (same_identity c.i
 -- The old places of new children
 
 -- null at the end of the old list is the old one of no child
-old_end : (old : List Element) (j : ℕ) (cs : List Child)
+pub old_end : (old : List Element) (j : ℕ) (cs : List Child)
     → map (λ c. position (is_same_child c) (identified (old ++ replicate j null))) cs ≡ map (λ c. position (is_same_child c) (identified old)) cs
 old_end old j [] = refl
 old_end old j (c ∷ cs) = rw (found_same (is_same_child c) (null_old c) old j, old_end old j cs) refl

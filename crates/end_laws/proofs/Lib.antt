@@ -3,6 +3,7 @@ pub mod Read
 pub mod Numbered
 pub mod Ends
 pub mod Pasts
+pub mod Rendered
 pub mod Compared
 pub mod Logs
 pub mod Outcomes

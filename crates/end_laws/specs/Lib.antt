@@ -1,2 +1,3 @@
 pub mod Trimmed
+pub mod Places
 pub mod Outcomes

@@ -1,8 +1,10 @@
 // Laws of the definitions: a tree and the same tree without the vacant places at the ends of its lists answer alike.
-ghost use Rattle.std.specs.Prelude.{◌≡◌, ℕ, Option, Some, length};
+ghost use Rattle.std.specs.Prelude.{◌≡◌, ℕ, List, Option, Some, length};
+ghost use Rattle.rx_base.specs.Awaits.{Awaits};
 ghost use Rattle.rx_base.specs.declared.cut.Cut.{Cut};
 ghost use Rattle.rx_lane.specs.Lanes.{Lanes};
-ghost use Rattle.rx_elem.specs.Trees.{Node};
+ghost use Rattle.rx_elem.specs.Elements.{Element};
+ghost use Rattle.rx_elem.specs.Trees.{Node, Forest};
 ghost use Rattle.rx_elem.specs.Spots.{node_count, hidden_count, mounted, visible_instances, kept_instances};
 ghost use Rattle.rx_elem.specs.Numbers.{Numbers, numbered};
 ghost use Rattle.rx_elem.specs.Compare.{compare_trees};
@@ -11,7 +13,10 @@ ghost use Rattle.rx_forest.specs.Hosts.{hosts};
 ghost use Rattle.rx_forest.specs.HostOps.{host_ops};
 ghost use Rattle.rx_queue.specs.Journal.{Journal};
 ghost use Rattle.rx_meaning.specs.Outcome.{newly_hidden, all_awaits, outcome, journal_after, visible_awaits, is_awaited, awaits_resolved, still_pending};
-ghost use Rattle.end_laws.specs.Trimmed.{trimmed, trimmed_if};
+ghost use Rattle.rx_meaning.specs.Again.{AllValuesAgree};
+ghost use Rattle.rx_meaning.specs.Fresh.{Sight, Contexts, rendered, render_part, part, one_waits};
+ghost use Rattle.end_laws.specs.Trimmed.{trimmed, trimmed_in, trimmed_if};
+ghost use Rattle.end_laws.specs.Places.{trimmed_place};
 ghost use Rattle.end_laws.specs.Outcomes.{trimmed_outcome};
 
 /// What is read out of one tree: its instances, hosts and hidden boundaries, and what a commit of it leaves in the
@@ -51,4 +56,16 @@ pub fn ends_are_not_compared()
         → all_awaits (newly_hidden (trimmed_if old) (trimmed new)) ≡ all_awaits (newly_hidden old new) }
     ensures outcome { (lanes : Lanes) (old : Option Node) (new : Node)
         → outcome lanes (trimmed_if old) (trimmed new) ≡ trimmed_outcome (outcome lanes old new) }
+{}
+
+/// What a render against an old tree gives: against the trimmed one it gives the same, trimmed. So children that wait do so
+/// for the same.
+pub fn ends_are_not_rendered()
+    ensures place { (n : ℕ) (s : Sight) (cs : Contexts) (e : Element) (old : Option Node)
+        → trimmed_place (rendered n s cs e (trimmed_if old)) ≡ trimmed_place (rendered n s cs e old) }
+    ensures waits { (n : ℕ) (s : Sight) (cs : Contexts) (es : List Element) (ns ms : Forest) (a : Awaits)
+        → trimmed_in ns ≡ trimmed_in ms → render_part (rendered n s) (part cs es ns) ≡ one_waits a
+        → render_part (rendered n s) (part cs es ms) ≡ one_waits a }
+    ensures values { (s t : Sight) (ns ms : Forest) → trimmed_in ns ≡ trimmed_in ms
+        → AllValuesAgree s t ns → AllValuesAgree s t ms }
 {}
