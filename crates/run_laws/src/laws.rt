@@ -1,15 +1,21 @@
 // Laws of runs.
-ghost use Rattle.std.specs.Prelude.{◌≡◌, ℕ, ◌+◌, ◌-◌, ◌<◌, ◌≤◌, [], false, IfSome, Option, Some, length};
+ghost use Rattle.std.specs.Prelude.{◌≡◌, ℕ, ◌+◌, ◌-◌, ◌<◌, ◌≤◌, ◌++◌, [], false, IfSome, List, Option, Some, length};
+ghost use Rattle.rx_base.specs.Awaits.{resource_limit};
+ghost use Rattle.rx_lane.specs.Lanes.{Lanes};
 ghost use Rattle.rx_ast.specs.Syntax.{Program, contexts};
-ghost use Rattle.rx_rules.specs.Bounds.{node_bound};
+ghost use Rattle.rx_rules.specs.Bounds.{depth_bound, node_bound};
+ghost use Rattle.rx_rules.specs.Names.{resources};
 ghost use Rattle.rx_rules.specs.Reads.{ReadsDeclared};
 ghost use Rattle.rx_elem.specs.Trees.{Node};
-ghost use Rattle.rx_meaning.specs.Fresh.{Sight, made};
+ghost use Rattle.rx_queue.specs.Journal.{Posted, Resolution};
+ghost use Rattle.rx_meaning.specs.Fresh.{Contexts, Sight, default_contexts, depth_limit, made};
 ghost use Rattle.rx_meaning.specs.Cursor.{Cursor, ended, is_over};
 ghost use Rattle.rx_meaning.specs.Counts.{each_unit, whole};
 ghost use Rattle.render_laws.specs.InProgress.{InProgress};
+ghost use Rattle.render_laws.specs.SameSight.{AllAfter};
+ghost use Rattle.commit_laws.specs.WaitsAgain.{IfWaitsAgain};
 ghost use Rattle.rx_model.specs.State.{State, Progress};
-ghost use Rattle.rx_model.specs.Committing.{sight_of};
+ghost use Rattle.rx_model.specs.Committing.{sight_of, starting};
 ghost use Rattle.rx_model.specs.Committing as committing;
 ghost use Rattle.rx_model.specs.Turns.{unit_bound, Finishes, Yields, gone_on};
 ghost use Rattle.rx_model.specs.Laws.{IsBounded, NodeBound, Always, KeptFacts, QuietLaw};
@@ -46,6 +52,21 @@ pub fn carried_along_runs()
     ensures carried { (p : Program) → Always p (IsCarried p) }
     ensures rests { (p : Program) → Always p (RestsOnSettled p) }
     ensures declared { (p : Program) → 0 < length (contexts p) → ReadsDeclared p }
+{}
+
+/// The hidden boundaries of the committed tree wait again in each render that starts now, in the one in progress, and
+/// over a longer journal.
+pub fn hidden_waits_are_kept()
+    ensures starts { (p : Program) → depth_bound p ≤ depth_limit → length (resources p) ≤ resource_limit
+        → (s : State) → IsCarried p s → (lanes : Lanes)
+        → IfWaitsAgain (sight_of p s (starting s lanes)) (default_contexts p) s.tree }
+    ensures in_progress { (p : Program) → depth_bound p ≤ depth_limit → length (resources p) ≤ resource_limit
+        → (s : State) → IsCarried p s → (g : Progress) → s.progress ≡ Some g
+        → IfWaitsAgain (sight_of p s g) (default_contexts p) s.tree }
+    ensures longer { (s : Sight) (new : List Posted) (more : List Resolution) → AllAfter s.cut.updates new
+        → s.cut.resolutions ≤ length s.journal.resolutions
+        → (cs : Contexts) (tree : Option Node) → IfWaitsAgain s cs tree
+        → IfWaitsAgain (record s { journal = record { updates = s.journal.updates ++ new; resolutions = s.journal.resolutions ++ more } }) cs tree }
 {}
 
 /// What each step keeps, in each state of each run: pending lanes are a set, updates are numbered as they came and none
