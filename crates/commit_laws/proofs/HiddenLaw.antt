@@ -306,7 +306,7 @@ mutual
   spots_in_numbers set a (child x ns) h =
       (spots_numbers set a x (first_in set (spots a x) (spots_in a ns) h), spots_in_numbers set a ns (last_in set (spots a x) (spots_in a ns) h))
 
-numbers_in_itself : (ns : Forest) → AllNumbersIn (instances_in ns) ns
+pub numbers_in_itself : (ns : Forest) → AllNumbersIn (instances_in ns) ns
 numbers_in_itself ns =
     spots_in_numbers (instances_in ns) at_root ns
     (spots_listed (instances_in ns) (spots_in at_root ns) (λ i h. ap (λ (l : List ℕ). includes l i) (all_mounted (spots_in at_root ns)) ∙ h))
@@ -334,7 +334,7 @@ module _ (s : Sight) (lanes : Lanes) (cut : Cut) (visible kept set : List ℕ) (
     values_agree (node e (of_boundary Shown) ns fs) h k l = (tt, all_values_agree ns h.1 k.1 l.1, all_values_agree fs h.2 k.2 l.2)
     values_agree (node e (of_boundary (Hidden a)) ns fs) h k l = (tt, all_values_agree ns h.1 k.1 l.1, all_values_agree fs h.2 k.2 l.2)
 
-    all_values_agree : (ns : Forest) → AllNumbered ns → AllSeen visible kept false ns → AllNumbersIn set ns → AllValuesAgree s later ns
+    pub all_values_agree : (ns : Forest) → AllNumbered ns → AllSeen visible kept false ns → AllNumbersIn set ns → AllValuesAgree s later ns
     all_values_agree none h k l = tt
     all_values_agree (vacant ns) h k l = all_values_agree ns h k l
     all_values_agree (child x ns) h k l = (values_agree x h.0 k.0 l.0, all_values_agree ns h.1 k.1 l.1)

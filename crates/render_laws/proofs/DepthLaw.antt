@@ -1,7 +1,8 @@
 -- No place of a render is met at the depth limit, so what a render gives doesn't depend on it.
-use Rattle.std.specs.Prelude.{◌≡◌, ℕ, zero, suc, ◌≤◌, List, [], ◌∷◌, Option, refl}
+use Rattle.std.specs.Prelude.{◌≡◌, ℕ, zero, suc, ◌≤◌, Bool, true, false, List, [], ◌∷◌, Option, nat_le, refl}
 use Rattle.std.specs.List.{zip}
 use Rattle.std.proofs.Common.{arith, sym, ◌∙◌}
+use Rattle.std.proofs.lemmas.Bool.Decides.{nat_tests}
 use Rattle.rx_ast.specs.Syntax.{Program}
 use Rattle.rx_rules.specs.Bounds.{depth_bound}
 use Rattle.rx_elem.specs.Elements.{Element, Elements, listed, gathered}
@@ -62,6 +63,14 @@ limits_agree (suc d) zero n s h k cs e old b = absurd (omega arith)
 limits_agree (suc d) (suc m) zero s h k cs e old b = absurd (omega arith)
 limits_agree (suc d) (suc m) (suc n) s h k cs e old b =
     shape_agrees d s.program (rendered m s) (rendered n s) (limits_agree d m n s (omega arith) (omega arith)) e old (shape_of s cs e old) (shape_fits d s cs e old b)
+
+-- any two limits at which the places of a list fit give the same of it
+pub part_limits_agree : (s : Sight) (t : Part) (m n : ℕ) → PartFits m s.program t → PartFits n s.program t → render_part (rendered m s) t ≡ render_part (rendered n s) t
+part_limits_agree s t m n a b = go (nat_le m n) refl
+  where
+    go : (x : Bool) → nat_le m n ≡ x → render_part (rendered m s) t ≡ render_part (rendered n s) t
+    go true e = let l : m ≤ n = grind (arith, nat_tests) in part_agrees m s.program (rendered m s) (rendered n s) (limits_agree m m n s (omega arith) l) t a
+    go false e = let l : n ≤ m = grind (arith, nat_tests) in part_agrees n s.program (rendered m s) (rendered n s) (limits_agree n m n s l (omega arith)) t b
 
 -- What the root gives doesn't depend on the depth limit: with any greater limit it is the same.
 pub limit_is_no_matter : (s : Sight) → depth_bound s.program ≤ depth_limit → (n : ℕ) → depth_limit ≤ n → (old : Option Node)

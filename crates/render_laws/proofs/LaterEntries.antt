@@ -25,7 +25,7 @@ module _ (s : Sight) (j : Journal) (same : SeesSame s j) where
   abbrev pub later : Sight
   later = record s { journal = j }
 
-  values_same : (i : Instance) → values_of s i ≡ values_of later i
+  pub values_same : (i : Instance) → values_of s i ≡ values_of later i
   values_same i = go i.number
     where
       go : (n : Option ℕ) → values_of s (record i { number = n }) ≡ values_of later (record i { number = n })
@@ -73,7 +73,7 @@ module _ (s : Sight) (j : Journal) (same : SeesSame s j) where
       λ i. count_shape w (λ ds f o. counted_same w n ds f o i) (λ ds f o. rendered_same n ds f o i) cs e old (shape_same cs e old i)
 
   -- how places are rendered and counted, as functions
-  renders_same : (n : ℕ) → rendered n s ≡ rendered n later
+  pub renders_same : (n : ℕ) → rendered n s ≡ rendered n later
   renders_same n = λ i cs e old. rendered_same n cs e old i
 
   counts_same : (w : Weights) (n : ℕ) → counted w n s ≡ counted w n later

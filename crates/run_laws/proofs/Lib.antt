@@ -4,6 +4,8 @@ pub mod RunTrees
 pub mod Turns
 pub mod Premises
 pub mod Carrying
+pub mod BodyFits
+pub mod WaitingAgain
 pub mod AlongRuns
 pub mod DueLanes
 pub mod Keeping
