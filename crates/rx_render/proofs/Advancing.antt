@@ -27,7 +27,7 @@ use Rattle.rx_begin.specs.declared.opening.Opened.TheVariants.{First, Empty}
 use Rattle.rx_render.specs.declared.at.At.{At}
 use Rattle.rx_render.specs.declared.at.At.TheVariants.{Begins, Completes}
 use Rattle.rx_render.specs.Rendering.{ComesTo, to_place, to_end, to_tree}
-use Rattle.rx_render.specs.Advancing.{at_after, at_opened, CanBegin, Advances}
+use Rattle.rx_render.specs.Advancing.{at_after, at_opened, by_unit, CanBegin, Advances}
 
 -- A wait for a number that is no resource's
 
@@ -78,18 +78,18 @@ module _ (s : Sight) (kept : ℕ → Option (List Hook)) (t : Trees Fiber) (st :
   pub child_advances : (child : ℕ) → BeginsPlace s kept t st new st' id (Child child) → Advances s kept t st (Begins id) new st' (Begins child)
   child_advances child begins _ (to_place {levels = zero} h) level gives = absurd (omega (arith, level))
   child_advances child begins _ (to_place {levels = suc n} {fs = fs} {cs = cs} {e = e} {old = old} h) level gives =
-      let b = begins n fs cs e old h gives.0 gives.1 in place_comes new st' child _ b.0 b.1
+      let b = begins n fs cs e old h gives.0 gives.1 in record { next = _; goes = by_unit; comes = place_comes new st' child _ b.0 b.1 }
 
   pub leaf_advances : BeginsPlace s kept t st new st' id Leaf → Advances s kept t st (Begins id) new st' (Completes id)
   leaf_advances begins _ (to_place {levels = zero} h) level gives = absurd (omega (arith, level))
   leaf_advances begins _ (to_place {levels = suc n} {fs = fs} {cs = cs} {e = e} {old = old} h) level gives =
-      let b = begins n fs cs e old h gives.0 gives.1 in end_comes new st' id _ b.0 b.1
+      let b = begins n fs cs e old h gives.0 gives.1 in record { next = _; goes = by_unit; comes = end_comes new st' id _ b.0 b.1 }
 
   pub waits_advances : (r : ℕ) (last : Trees Fiber) (st'' : Stack) (a : At) → BeginsPlace s kept t st new st' id (Suspended r)
       → ((levels : ℕ) (fs : List Frame) → IsWithin new st' id fs → ComesTo last st'' a (unwind levels fs (one r))) → Advances s kept t st (Begins id) last st'' a
   waits_advances r last st'' a begins comes _ (to_place {levels = zero} h) level gives = absurd (omega (arith, level))
   waits_advances r last st'' a begins comes _ (to_place {levels = suc n} {fs = fs} {cs = cs} {e = e} {old = old} h) level gives =
-      let b = begins n fs cs e old h gives.0 gives.1 in subst (ComesTo last st'' a) (sym b.1) (comes (suc n) fs b.4)
+      let b = begins n fs cs e old h gives.0 gives.1 in record { next = _; goes = by_unit; comes = subst (ComesTo last st'' a) (sym b.1) (comes (suc n) fs b.4) }
 
 -- hooks that give values are kept
 keeps_given : (s : Sight) (kept : ℕ → Option (List Hook)) (old : Option Instance) → GivesHooks s kept old → KeepsHooks kept old
@@ -117,7 +117,7 @@ begins_few s t st id count f _ (to_place {levels = suc n} {fs = fs} {cs = cs} {e
 pub end_advances : (s : Sight) (kept : ℕ → Option (List Hook)) (t : Trees Fiber) (st : Stack) (new : Trees Fiber) (st' : Stack) (id : ℕ) (a : At)
     → ((levels : ℕ) (fs : List Frame) (o : Open) (done : List (Option Node)) → StandsAt t st (Some id) (at_end levels fs o done) → ComesTo new st' a (unit s (at_end levels fs o done)))
     → Advances s kept t st (Completes id) new st' a
-end_advances s kept t st new st' id a f _ (to_end {levels = levels} {fs = fs} {o = o} {done = done} h) level gives = f levels fs o done h
+end_advances s kept t st new st' id a f _ (to_end {levels = levels} {fs = fs} {o = o} {done = done} h) level gives = record { next = _; goes = by_unit; comes = f levels fs o done h }
 
 -- Results
 

@@ -25,5 +25,6 @@ first_starts lanes cut values v current keeps no_resources at empty =
         resources_are = rw (empty, no_resources) refl;
         settled = tt;
         rooted = tt;
+        waits = tt;
       };
     }

@@ -16,7 +16,7 @@ use Rattle.rx_lists.specs.Shapes as shapes
 use Rattle.rx_links.specs.Drafts.{Draft, taken, Trees, Makes}
 use Rattle.rx_links.specs.Readers.{made_value_of}
 use Rattle.rx_meaning.specs.Body.{Body, wait, ready, body_of}
-use Rattle.rx_meaning.specs.Fresh.{Sight, Contexts, inputs_at, old_instance, shape_of, shape_of_body}
+use Rattle.rx_meaning.specs.Fresh.{Sight, Contexts, default_contexts, inputs_at, old_instance, shape_of, shape_of_body}
 use Rattle.rx_meaning.specs.Cursor.{Open, Frame, Cursor, at_place, at_end, ended, is_null, unit, HasLevel}
 use Rattle.rx_meaning.specs.Cursor as cursors
 use Rattle.rx_meaning.specs.Counts.{each_body, next_counts, begins_as, one_if_component}
@@ -29,14 +29,15 @@ use Rattle.rx_model.specs.Turns.{unit_bound}
 use Rattle.rx_fiber.specs.Fibers.{Fiber}
 use Rattle.rx_fiber.specs.Reading.{IsTreeOf}
 use Rattle.rx_fiber.specs.Standing.{StandsAt, begins}
+use Rattle.rx_fiber.specs.Surround.{given_along}
 use Rattle.rx_complete.specs.Ends.{ends}
 use Rattle.rx_complete.proofs.Completed.{KnowsPlaces}
 use Rattle.rx_hook_store.specs.Store.{Kept, kept_hooks}
 use Rattle.rx_hook_store.specs.Gives.{GivesValues}
 use Rattle.rx_hook_store.proofs.Stores.{each-keeps, keeps-give}
+use Rattle.commit_laws.specs.WaitsAgain.{IfWaitsAgain}
 use Rattle.render_laws.specs.InProgress.{InProgress}
 use Rattle.render_laws.specs.OldNodes.{CursorHas}
-use Rattle.render_laws.proofs.GoingLaws.{unit_holds}
 use Rattle.render_laws.proofs.LevelLaw.{fit_has_level}
 use Rattle.draw_laws.specs.Drawn.{IsDrawn}
 use Rattle.draw_laws.specs.Cursors.{CursorDrawn}
@@ -45,19 +46,15 @@ use Rattle.rx_begin.specs.declared.scene.Scene.{Scene}
 use Rattle.rx_render.specs.declared.at.At.{At}
 use Rattle.rx_render.specs.declared.at.At.TheVariants.{Begins, Completes, Over}
 use Rattle.rx_render.specs.Mounting.{HasInstances, SettlesWith}
-use Rattle.rx_render.specs.ContextLists.{CursorHasContexts}
+use Rattle.rx_render.specs.GivenContexts.{CursorGiven}
 use Rattle.rx_render.specs.Rendering.{Rendering, IfLeft, units_left, left_of, ComesTo, to_place, to_end, to_tree, to_wait}
 use Rattle.rx_render.specs.Renders.{Sees, GivesAll, HasCome, Renders, IsUnderWay, IsRendering}
 use Rattle.rx_render.specs.Turning.{GoesOn, BreaksOff, GivesUp}
 use Rattle.rx_render.specs.LastUnit.{unit_before, is_over}
 use Rattle.rx_render.specs.Advancing.{IsReadyAt, GivesAt, Advances}
-use Rattle.rx_render.proofs.Contexts.{unit_sees}
-use Rattle.rx_render.proofs.Instances.{unit_instances, unit_rests}
+use Rattle.rx_render.proofs.Contexts.{as_many, one_each}
+use Rattle.rx_render.proofs.Reaching.{DrawsOn, reaches}
 use Rattle.rx_render.proofs.Ending.{come_bounded}
-
--- what a cursor is drawn by after a unit
-abbrev pub DrawsUnit : Type 0
-DrawsUnit = (s : Sight) (c : Cursor) → unknowns s.program ≡ [] → CursorDrawn s.program c → CursorDrawn s.program (unit s c)
 
 -- the element of a place is drawn
 abbrev pub DrawsPlace : Type 0
@@ -101,7 +98,7 @@ renders_give p st g v r k m at = keeps-give p st g (kept_hooks v.hooks) m.number
 -- where a render is in progress one is under way
 pub renders_under_way : (st : State) (g : Progress) (v : Rendering) → Renders v.program st g v → IsUnderWay v
 renders_under_way st g v r =
-    record { sight = sight_of v.program st g; tree = st.tree; sees = renders_sees v.program st g v r; gives = renders_give v.program st g v r; settled = r.settled; come = r.come }
+    record { sight = sight_of v.program st g; tree = st.tree; sees = renders_sees v.program st g v r; gives = renders_give v.program st g v r; current = r.current; settled = r.settled; waits = r.waits; come = r.come }
 
 -- what a unit makes of a rendering
 pub record Stepped (old new : Rendering) (evaluated : ℕ) : Type 0 where
@@ -117,20 +114,24 @@ pub record Stepped (old new : Rendering) (evaluated : ℕ) : Type 0 where
   pub still : (s : Sight) (k : ℕ) (initials : List ℤ) → Sees old s → GivesValues s (kept_hooks old.hooks) k initials → GivesValues s (kept_hooks new.hooks) k initials
   pub advances : (s : Sight) → Sees old s → Advances s (kept_hooks old.hooks) old.trees old.contexts old.at new.trees new.contexts new.at
 
-module _ (old new : Rendering) (evaluated : ℕ) (step : Stepped old new evaluated) (draws : DrawsUnit) (known : unknowns old.program ≡ []) (left : 0 < left_of old) where
-  step_comes : (s : Sight) (tree : Option Node) → Sees old s → GivesAll s tree (kept_hooks old.hooks) → IfSettled s.program (known_by s) tree → HasCome s tree old → HasCome s tree new
-  step_comes s tree sees gives settled come =
+module _ (old new : Rendering) (evaluated : ℕ) (step : Stepped old new evaluated) (draws : DrawsOn) (known : unknowns old.program ≡ []) (left : 0 < left_of old) where
+  step_comes : (s : Sight) (tree : Option Node) → Sees old s → GivesAll s tree (kept_hooks old.hooks) → IsTreeOf tree old.trees.current → IfSettled s.program (known_by s) tree
+      → IfWaitsAgain s (default_contexts s.program) tree → HasCome s tree old → HasCome s tree new
+  step_comes s tree sees gives current settled waits come =
       let c = come.cursor in
       let busy : cursors.is_over c ≡ false = left_busy old.trees old.contexts old.at c (unit_bound old.program) old.units come.comes left in
       let level : HasLevel c = fit_has_level s.program c come.goes.fits come.goes.stands in
+      let next = step.advances s sees c come.comes level (gives_at s tree (kept_hooks old.hooks) gives settled c come.olds come.rests) in
+      let h = reaches s tree old.trees.current current waits draws (subst (λ q. unknowns q ≡ []) (sym sees.program) known) old.units old.bodies evaluated c next.next next.goes
+      (record { goes = come.goes; drawn = come.drawn; given = come.given; olds = come.olds; rests = come.rests; }) busy (step.few s c sees come.comes level) in
       record {
-        cursor = unit s c;
-        comes = step.advances s sees c come.comes level (gives_at s tree (kept_hooks old.hooks) gives settled c come.olds come.rests);
-        goes = rw (step.units, step.bodies) (unit_holds s tree old.units old.bodies c come.goes busy evaluated (step.few s c sees come.comes level));
-        drawn = draws s c (subst (λ q. unknowns q ≡ []) (sym sees.program) known) come.drawn;
-        seen = unit_sees (length (contexts s.program)) s c come.seen;
-        olds = unit_instances tree s c come.olds;
-        rests = unit_rests tree s c come.rests;
+        cursor = next.next;
+        comes = next.comes;
+        goes = rw (step.units, step.bodies) h.goes;
+        drawn = h.drawn;
+        given = h.given;
+        olds = h.olds;
+        rests = h.rests;
       }
 
   step_sees : (s : Sight) → Sees old s → Sees new s
@@ -159,7 +160,8 @@ module _ (old new : Rendering) (evaluated : ℕ) (step : Stepped old new evaluat
         done = r.done;
         past = r.past;
         settled = r.settled;
-        come = step_comes (sight_of p st g) st.tree (renders_sees p st g old r) (renders_give p st g old r) r.settled r.come;
+        waits = r.waits;
+        come = step_comes (sight_of p st g) st.tree (renders_sees p st g old r) (renders_give p st g old r) r.current r.settled r.waits r.come;
       }
 
   pub step_goes_on : GoesOn old new
@@ -181,8 +183,10 @@ module _ (old new : Rendering) (evaluated : ℕ) (step : Stepped old new evaluat
         tree = way.tree;
         sees = step_sees way.sight way.sees;
         gives = λ k m at. step.still way.sight m.number m.initials way.sees (way.gives k m at);
+        current = subst (IsTreeOf way.tree) (sym step.current) way.current;
         settled = way.settled;
-        come = step_comes way.sight way.tree way.sees way.gives way.settled way.come;
+        waits = way.waits;
+        come = step_comes way.sight way.tree way.sees way.gives way.current way.settled way.waits way.come;
       }
 
 if_left : (at : At) {A : Type 0} → A → IfLeft at A
@@ -191,7 +195,7 @@ if_left (Completes id) a = a
 if_left Over a = tt
 
 -- a rendering that a render is in progress of is one
-pub step_rendering : (old new : Rendering) (evaluated : ℕ) → Stepped old new evaluated → DrawsUnit → IsRendering old → 0 < left_of old → IsRendering new
+pub step_rendering : (old new : Rendering) (evaluated : ℕ) → Stepped old new evaluated → DrawsOn → IsRendering old → 0 < left_of old → IsRendering new
 step_rendering old new evaluated step draws is left =
     record {
       known = subst (λ p. unknowns p ≡ []) (sym step.program) is.known;
@@ -202,11 +206,11 @@ step_rendering old new evaluated step draws is left =
 -- What a unit needs
 
 ready_as : (s : Sight) (tree : Option Node) (v : Rendering) → Sees v s → GivesAll s tree (kept_hooks v.hooks) → IfSettled s.program (known_by s) tree → DrawsPlace → (scene : Scene) → IsSceneOf scene s → scene.checked.now ≡ s.program
-    → (at : At) (c : Cursor) → ComesTo v.trees v.contexts at c → InProgress s tree v.units v.bodies c → CursorDrawn s.program c → CursorHasContexts (length (contexts s.program)) c
+    → (at : At) (c : Cursor) → ComesTo v.trees v.contexts at c → InProgress s tree v.units v.bodies c → CursorDrawn s.program c → CursorGiven (default_contexts s.program) c
     → CursorHas (HasInstances tree) c → CursorHas (SettlesWith tree) c → cursors.is_over c ≡ false → IsReadyAt scene (kept_hooks v.hooks) v.trees v.contexts at
-ready_as s tree v see gives settled draws scene sees same _ _ (to_place {levels = zero} {fs = fs} {cs = cs} {e = e} {old = old} h) goes drawn seen olds rests busy =
+ready_as s tree v see gives settled draws scene sees same _ _ (to_place {levels = zero} {fs = fs} {cs = cs} {e = e} {old = old} h) goes drawn given olds rests busy =
     absurd (let l : HasLevel (at_place zero fs cs e old) = fit_has_level s.program (at_place zero fs cs e old) goes.fits goes.stands in omega (arith, l))
-ready_as s tree v see gives settled draws scene sees same _ _ (to_place {id = id} {levels = suc n} {fs = fs} {cs = cs} {e = e} {old = old} h) goes drawn seen olds rests busy =
+ready_as s tree v see gives settled draws scene sees same _ _ (to_place {id = id} {levels = suc n} {fs = fs} {cs = cs} {e = e} {old = old} h) goes drawn given olds rests busy =
     record {
       sight = s;
       sees = sees;
@@ -220,14 +224,14 @@ ready_as s tree v see gives settled draws scene sees same _ _ (to_place {id = id
       drawn = subst (λ q. IsDrawn q e) (sym same) (draws s.program (suc n) fs cs e old drawn);
       gives = (gives_at s tree (kept_hooks v.hooks) gives settled (at_place (suc n) fs cs e old) olds rests).0;
       settled = (gives_at s tree (kept_hooks v.hooks) gives settled (at_place (suc n) fs cs e old) olds rests).1;
-      each = values_are h ∙ (seen.0 ∙ ap (λ q. length (contexts q)) (sym same));
+      each = values_are h ∙ (ap length given.0 ∙ (as_many (default_contexts s.program) (given_along fs) ∙ (one_each s.program ∙ ap (λ q. length (contexts q)) (sym same))));
     }
   where
     values_are : StandsAt v.trees v.contexts (Some id) (at_place (suc n) fs cs e old) → length (values_at v.contexts) ≡ length cs
     values_are (begins here waits was around values stack) = ap length values
-ready_as s tree v see gives settled draws scene sees same _ _ (to_end h) goes drawn seen olds rests busy = ends h
-ready_as s tree v see gives settled draws scene sees same _ _ (to_tree h) goes drawn seen olds rests busy = absurd (let f : ⊥ = cc in f)
-ready_as s tree v see gives settled draws scene sees same _ _ to_wait goes drawn seen olds rests busy = absurd (let f : ⊥ = cc in f)
+ready_as s tree v see gives settled draws scene sees same _ _ (to_end h) goes drawn given olds rests busy = ends h
+ready_as s tree v see gives settled draws scene sees same _ _ (to_tree h) goes drawn given olds rests busy = absurd (let f : ⊥ = cc in f)
+ready_as s tree v see gives settled draws scene sees same _ _ to_wait goes drawn given olds rests busy = absurd (let f : ⊥ = cc in f)
 
 module _ (v : Rendering) (is : IsRendering v) (left : 0 < left_of v) where
   abbrev pub way : IsUnderWay v
@@ -236,7 +240,7 @@ module _ (v : Rendering) (is : IsRendering v) (left : 0 < left_of v) where
   pub unit_ready : DrawsPlace → (scene : Scene) → ((s : Sight) → Sees v s → IsSceneOf scene s) → scene.checked.now ≡ v.program → IsReadyAt scene (kept_hooks v.hooks) v.trees v.contexts v.at
   unit_ready draws scene sees same =
       let come = way.come in
-      ready_as way.sight way.tree v way.sees way.gives way.settled draws scene (sees way.sight way.sees) (same ∙ sym way.sees.program) v.at come.cursor come.comes come.goes come.drawn come.seen come.olds come.rests
+      ready_as way.sight way.tree v way.sees way.gives way.settled draws scene (sees way.sight way.sees) (same ∙ sym way.sees.program) v.at come.cursor come.comes come.goes come.drawn come.given come.olds come.rests
       (left_busy v.trees v.contexts v.at come.cursor (unit_bound v.program) v.units come.comes left)
 
   pub unit_below : v.units < unit_bound v.program
@@ -344,7 +348,7 @@ module _ (value inside : Rendering) (same : inside ≡ value) (is : IsRendering 
       subst (λ v. BreaksOff v new) same
       (record { program = program; current = current; keeps = λ st done h. subst (λ p. KeepsAllHooks p st (kept_hooks new.hooks)) (sym program) (keeps st done h); over = over })
 
-  module _ (new : Rendering) (evaluated : ℕ) (step : Stepped inside new evaluated) (draws : DrawsUnit) where
+  module _ (new : Rendering) (evaluated : ℕ) (step : Stepped inside new evaluated) (draws : DrawsOn) where
     pub steps_on : GoesOn value new
     steps_on = subst (λ v. GoesOn v new) same (step_goes_on inside new evaluated step draws is.known inside_left)
 

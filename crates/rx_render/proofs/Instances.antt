@@ -4,10 +4,12 @@ use Rattle.std.proofs.Common.{ap, subst, inl, inr}
 use Rattle.std.proofs.lemmas.List.Elements.{filter_map-append}
 use Rattle.rx_elem.specs.Trees.{Instance, Mark, Node, node, Forest, none, vacant, child, instance_in}
 use Rattle.rx_elem.specs.Spots.{Around, at_root, Spot, spots, spots_in, around_children, Mounted, mounted_as, mounted_in, mounted_at, mounted}
-use Rattle.rx_meaning.specs.Fresh.{Sight}
-use Rattle.rx_meaning.specs.Cursor.{Cursor, start, unit}
+use Rattle.rx_base.specs.Awaits.{Awaits}
+use Rattle.rx_elem.specs.Elements.{Element}
+use Rattle.rx_meaning.specs.Fresh.{Sight, Contexts, Part, two_lists, shape_of}
+use Rattle.rx_meaning.specs.Cursor.{Frame, falling, Cursor, at_place, open_part, start, unit}
 use Rattle.render_laws.specs.OldNodes.{AllHave, OldHas, CursorHas}
-use Rattle.render_laws.proofs.Descent.{GoesDown, unit_has, start_has}
+use Rattle.render_laws.proofs.Descent.{GoesDown, unit_has, attempt_has, start_has}
 use Rattle.rx_ast.specs.Syntax.{Program}
 use Rattle.rx_meaning.specs.Settled.{Known, AllSettled, IfSettled}
 use Rattle.rx_render.specs.Mounting.{IsMountedIn, HasInstances, HasInstancesIn, SettlesWith}
@@ -88,6 +90,10 @@ module _ (tree : Option Node) where
   pub unit_instances : (s : Sight) (c : Cursor) → CursorHas (HasInstances tree) c → CursorHas (HasInstances tree) (unit s c)
   unit_instances s c h = unit_has (HasInstances tree) goes_down s c h
 
+  pub attempt_instances : (n : ℕ) (fs : List Frame) (s : Sight) (cs : Contexts) (e : Element) (o : Option Node) (p f : Part) (a : Awaits) → shape_of s cs e o ≡ two_lists p f
+      → CursorHas (HasInstances tree) (at_place (suc n) fs cs e o) → CursorHas (HasInstances tree) (open_part n fs (falling e o a) f)
+  attempt_instances n fs s cs e o p f a shape h = attempt_has (HasInstances tree) goes_down n fs s cs e o p f a shape h
+
 tree_instances : (tree : Option Node) → OldHas (HasInstances tree) tree
 tree_instances None = tt
 tree_instances (Some x) = node_within (Some x) at_root x (λ m h. h)
@@ -108,6 +114,10 @@ module _ (tree : Option Node) where
 
   pub unit_rests : (s : Sight) (c : Cursor) → CursorHas (SettlesWith tree) c → CursorHas (SettlesWith tree) (unit s c)
   unit_rests s c h = unit_has (SettlesWith tree) settles_down s c h
+
+  pub attempt_rests : (n : ℕ) (fs : List Frame) (s : Sight) (cs : Contexts) (e : Element) (o : Option Node) (p f : Part) (a : Awaits) → shape_of s cs e o ≡ two_lists p f
+      → CursorHas (SettlesWith tree) (at_place (suc n) fs cs e o) → CursorHas (SettlesWith tree) (open_part n fs (falling e o a) f)
+  attempt_rests n fs s cs e o p f a shape h = attempt_has (SettlesWith tree) settles_down n fs s cs e o p f a shape h
 
 tree_settles : (tree : Option Node) → OldHas (SettlesWith tree) tree
 tree_settles None = tt

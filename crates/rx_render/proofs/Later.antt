@@ -6,7 +6,7 @@ use Rattle.rx_base.specs.declared.cut.Cut.{Cut}
 use Rattle.rx_ast.specs.Syntax.{Program}
 use Rattle.rx_elem.specs.Trees.{Node}
 use Rattle.rx_queue.specs.Journal.{Journal, Posted}
-use Rattle.rx_meaning.specs.Fresh.{Sight, resources_seen}
+use Rattle.rx_meaning.specs.Fresh.{Sight, default_contexts, resources_seen}
 use Rattle.rx_meaning.specs.Again.{AllOpen}
 use Rattle.rx_meaning.specs.Settled.{DoneBefore, IfSettled, known_by}
 use Rattle.rx_model.specs.State.{State, Progress}
@@ -16,8 +16,10 @@ use Rattle.rx_model.specs.HooksOf.{KeepsAllHooks}
 use Rattle.rx_fiber.specs.Reading.{IsTreeOf}
 use Rattle.rx_hook_store.specs.Store.{Kept, kept_hooks}
 use Rattle.rx_hook_store.proofs.Staying.{all_stay}
+use Rattle.commit_laws.specs.WaitsAgain.{without_lanes, IfWaitsAgain}
 use Rattle.render_laws.specs.SameSight.{SeesSame}
 use Rattle.render_laws.proofs.LaterEntries.{holds_later, longer_sees_same}
+use Rattle.run_laws.proofs.WaitingAgain.{later_waits_again}
 use Rattle.rx_render.proofs.Settled.{settled_later}
 use Rattle.rx_render.specs.Rendering.{Rendering}
 use Rattle.rx_render.specs.Renders.{HasCome, IsPast, Renders, IsLater, with_hooks}
@@ -48,10 +50,16 @@ later_sees p g st later past l =
     let journal : record { updates = st.journal.updates ++ l.new; resolutions = st.journal.resolutions ++ l.more } ≡ later.journal = rw (← l.updates, ← l.resolutions) refl in
     subst (SeesSame (sight_of p st g)) journal (longer_sees_same (sight_of p st g) l.new l.more l.after past.resolutions)
 
+-- so does it where no lanes are seen
+later_sees_without : (p : Program) (g : Progress) (st later : State) → IsPast g.cut st.journal → IsLater g st later → SeesSame (without_lanes (sight_of p st g)) later.journal
+later_sees_without p g st later past l =
+    let journal : record { updates = st.journal.updates ++ l.new; resolutions = st.journal.resolutions ++ l.more } ≡ later.journal = rw (← l.updates, ← l.resolutions) refl in
+    subst (SeesSame (without_lanes (sight_of p st g))) journal (longer_sees_same (without_lanes (sight_of p st g)) l.new l.more l.after past.resolutions)
+
 -- it has come as far
 come_later : (s : Sight) (j : Journal) → SeesSame s j → (tree : Option Node) (v : Rendering) (hooks : Kept) → HasCome s tree v → HasCome (record s { journal = j }) tree (with_hooks v hooks)
 come_later s j same tree v hooks h =
-    record { cursor = h.cursor; comes = h.comes; goes = holds_later s j same tree v.units v.bodies h.cursor h.goes; drawn = h.drawn; seen = h.seen; olds = h.olds; rests = h.rests }
+    record { cursor = h.cursor; comes = h.comes; goes = holds_later s j same tree v.units v.bodies h.cursor h.goes; drawn = h.drawn; given = h.given; olds = h.olds; rests = h.rests }
 
 pub renders_later : (p : Program) (st later : State) (g : Progress) (v : Rendering) (hooks : Kept) → Renders p st g v → IsLater g st later
     → KeepsAllHooks p later (kept_hooks hooks) → Renders p later g (with_hooks v hooks)
@@ -67,6 +75,8 @@ renders_later p st later g v hooks r l keeps =
       done = subst (DoneBefore g.cut) (sym l.updates) (done_longer g.cut st.journal.updates l.new l.opened r.done);
       past = past_longer g.cut g st later l r.past;
       settled = subst (IfSettled p (known_by (sight_of p later g))) (sym l.tree) (settled_later p (sight_of p st g) (sight_of p later g) l.new st.tree l.opened l.updates same.resources r.settled);
+      waits = subst (IfWaitsAgain (sight_of p later g) (default_contexts p)) (sym l.tree)
+      (later_waits_again (sight_of p st g) later.journal same (later_sees_without p g st later r.past l) (default_contexts p) st.tree r.waits);
       come = subst (λ t. HasCome (sight_of p later g) t (with_hooks v hooks)) (sym l.tree) (come_later (sight_of p st g) later.journal same st.tree v hooks r.come);
     }
 
@@ -103,6 +113,7 @@ module _ (p : Program) (st later : State) (g : Progress) (v : Rendering) (journa
         done = subst (λ j. DoneBefore g.cut j.updates) (sym journal) r.done;
         past = subst (IsPast g.cut) (sym journal) r.past;
         settled = subst (IfSettled p (known_by (sight_of p later g))) (sym tree) (subst (λ s. IfSettled p (known_by s) st.tree) sight r.settled);
+        waits = subst (IfWaitsAgain (sight_of p later g) (default_contexts p)) (sym tree) (subst (λ s. IfWaitsAgain s (default_contexts p) st.tree) sight r.waits);
         come = subst (λ t. HasCome (sight_of p later g) t v) (sym tree) (subst (λ s. HasCome s st.tree v) sight r.come);
       }
 
@@ -120,5 +131,6 @@ renders_as p st g h v lanes cut r =
       done = subst (λ c. DoneBefore c st.journal.updates) (sym cut) r.done;
       past = subst (λ c. IsPast c st.journal) (sym cut) r.past;
       settled = subst (λ s. IfSettled p (known_by s) st.tree) sight r.settled;
+      waits = subst (λ s. IfWaitsAgain s (default_contexts p) st.tree) sight r.waits;
       come = subst (λ s. HasCome s st.tree v) sight r.come;
     }

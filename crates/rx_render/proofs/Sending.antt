@@ -7,7 +7,7 @@ use Rattle.std.proofs.lemmas.List.{append-nil}
 use Rattle.std.proofs.lemmas.Result.{on_ok_weaker, on_err_weaker}
 use Rattle.rx_base.specs.declared.cut.Cut.{Cut}
 use Rattle.rx_lane.specs.declared.lane.Lane.{Lane}
-use Rattle.rx_lane.specs.Lanes.{Lanes, has}
+use Rattle.rx_lane.specs.Lanes.{Lanes, has, no_lanes}
 use Rattle.rx_ast.specs.Syntax.{Program}
 use Rattle.rx_step.specs.declared.step.LaneWord.{LaneWord}
 use Rattle.rx_step.specs.declared.step.LaneWord.TheVariants as word
@@ -109,6 +109,7 @@ gives_changed s w u pending place i old new late c k initials g = by_number i k 
           stand = change_stands change i old new c (answers_of s.program) k g.hooks g.histories same g.kept_is g.stand;
           above_done = above_sent s.cut w u pending place g.histories g.above_done;
           values_are = states_sent (answers_of s.program) s.lanes s.cut w u pending place g.histories late ∙ g.values_are;
+          without_are = states_sent (answers_of s.program) no_lanes s.cut w u pending place g.histories late ∙ g.without_are;
           done_are = values_sent (answers_of s.program) w u pending place g.histories ∙ g.done_are;
         }
 
@@ -142,8 +143,10 @@ sent_rendering result old hooks w u pending place i ok err later is =
           tree = way.tree;
           sees = record { program = way.sees.program; resources = way.sees.resources; lanes = way.sees.lanes; cut = way.sees.cut };
           gives = λ k m there. gives way.sight at m.number m.initials (way.gives k m there);
+          current = way.current;
           settled = way.settled;
-          come = record { cursor = way.come.cursor; comes = way.come.comes; goes = way.come.goes; drawn = way.come.drawn; seen = way.come.seen; olds = way.come.olds; rests = way.come.rests };
+          waits = way.waits;
+          come = record { cursor = way.come.cursor; comes = way.come.comes; goes = way.come.goes; drawn = way.come.drawn; given = way.come.given; olds = way.come.olds; rests = way.come.rests };
         }
 
 -- A render of the machine
@@ -204,7 +207,8 @@ with_kept v hooks p st g keeps r =
       done = r.done;
       past = r.past;
       settled = r.settled;
-      come = record { cursor = r.come.cursor; comes = r.come.comes; goes = r.come.goes; drawn = r.come.drawn; seen = r.come.seen; olds = r.come.olds; rests = r.come.rests };
+      waits = r.waits;
+      come = record { cursor = r.come.cursor; comes = r.come.comes; goes = r.come.goes; drawn = r.come.drawn; given = r.come.given; olds = r.come.olds; rests = r.come.rests };
     }
 
 -- so it is where memory ran out

@@ -21,6 +21,7 @@ use Rattle.rx_model.specs.Laws.{IsBounded}
 use Rattle.rx_fiber.specs.Fibers.{Fiber, waiting}
 use Rattle.rx_fiber.specs.Reading.{IsTreeOf, IsOld, of, next}
 use Rattle.rx_fiber.specs.Reading as reading
+use Rattle.rx_fiber.specs.Stood.{StoodAt, at_root}
 use Rattle.rx_fiber.specs.Surround.{IsElementOf, IsWaiting}
 use Rattle.rx_fiber.proofs.Starting.{starts, root_old}
 use Rattle.rx_begin.proofs.Keeping.{node_element}
@@ -30,7 +31,7 @@ use Rattle.draw_laws.specs.Cursors.{CursorDrawn}
 use Rattle.rx_render.specs.declared.at.At.TheVariants.{Begins, Over}
 use Rattle.rx_render.specs.Rendering.{Rendering, IfLeft, ComesTo, to_place}
 use Rattle.rx_render.specs.Renders.{Renders, IsStartOf, CanStart, IsUnderWay, IsRendering}
-use Rattle.rx_render.proofs.Contexts.{start_sees}
+use Rattle.rx_render.proofs.Contexts.{start_given}
 use Rattle.rx_render.proofs.Instances.{start_instances, start_rests}
 use Rattle.rx_render.proofs.Going.{renders_under_way}
 
@@ -43,18 +44,23 @@ root_same : (c : Shape Fiber) (o : Option ℕ) (old : Option Node) (e : Element)
 root_same c _ _ e reading.new rooted there = cc
 root_same c _ _ e (of {j = j} {n = n} {x = x} {s = s} here leads (next {rest = rest} is a)) rooted there = node_element c j n x s rest is here ∙ ap Some rooted
 
+-- it stands at the root
+root_stood : (c : Shape Fiber) (o : Option ℕ) → first c ≡ o → is_some o ≡ true → StoodAt c [] o
+root_stood c None e there = cc
+root_stood c (Some i) e there = at_root e
+
 root_waits : (p : Program) (c : Shape Fiber) (old : Option Node) (v : Fiber) (cloned : Bool) → IsTreeOf old c → IfSome old (λ x. element_of x ≡ root_element p) → v.place ≡ 0
-    → v.element ≡ root_element p → v.stage ≡ waiting cloned → (cloned ≡ true → is_some (first c) ≡ true) → IsWaiting c (first c) v 0 (root_element p)
+    → v.element ≡ root_element p → v.stage ≡ waiting cloned → (cloned ≡ true → is_some (first c) ≡ true) → IsWaiting c [] (first c) v 0 (root_element p)
 root_waits p c old v cloned tree rooted place element stage clones = record {
   at = place;
   element = element;
   cloned = cloned;
   stage = stage;
-  same = λ so. root_same c (first c) old (root_element p) (root_old c old tree) rooted (clones so);
+  same = λ so. (root_same c (first c) old (root_element p) (root_old c old tree) rooted (clones so), root_stood c (first c) refl (clones so));
 }
 
 comes_to_start : (s : Sight) (old : Option Node) (t : Trees Fiber) (id : ℕ) (v : Fiber)
-    → IsTreeOf old t.current → IsWaiting t.current (first t.current) v 0 (root_element s.program) → t.draft ≡ made id v (first t.current) (taken shapes.none) (taken shapes.none)
+    → IsTreeOf old t.current → IsWaiting t.current [] (first t.current) v 0 (root_element s.program) → t.draft ≡ made id v (first t.current) (taken shapes.none) (taken shapes.none)
     → ComesTo t (contexts.opening (default_contexts s.program)) (Begins id) (start s old)
 unfolding start
 comes_to_start s old t id v tree waits here = to_place (starts s old t id v tree waits here)
@@ -95,12 +101,13 @@ start_renders lanes cut resources old new r draws bounded st is =
       done = rw (← is.cut_is) is.done;
       past = record { updates = omega arith; resolutions = omega arith };
       settled = is.settled;
+      waits = is.waits;
       come = record {
         cursor = start s st.tree;
         comes = rw (r.at, r.contexts_are) (comes_to_start s st.tree new.trees r.id r.value tree (root_waits old.program new.trees.current st.tree r.value r.cloned tree is.rooted r.place r.element r.stage r.clones) r.here);
         goes = rw (r.units, r.bodies) (start_holds s st.tree bounded.shallow);
         drawn = draws s st.tree bounded.rooted;
-        seen = start_sees s st.tree;
+        given = start_given s st.tree;
         olds = start_instances s st.tree;
         rests = start_rests s st.tree;
       };

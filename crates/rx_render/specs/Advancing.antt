@@ -1,16 +1,25 @@
 -- What a unit needs and what it leaves, by the parts of a rendering.
-use Rattle.std.specs.Prelude.{◌≡◌, ℕ, suc, false, List, Option, Some, length}
+use Rattle.std.specs.Prelude.{◌≡◌, ℕ, suc, false, List, [], ◌∷◌, Option, Some, length}
+use Rattle.rx_base.specs.Awaits.{Awaits}
 use Rattle.rx_ast.specs.Syntax.{contexts}
 use Rattle.rx_ctx.specs.Contexts.{Stack, values_at}
-use Rattle.rx_elem.specs.Elements.{Element}
-use Rattle.rx_elem.specs.Trees.{Node}
+use Rattle.rx_susp.specs.declared.boundary.BoundaryState.TheVariants.{Hidden}
+use Rattle.rx_elem.specs.Elements.{Element, Elements, Key, boundary}
+use Rattle.rx_elem.specs.Trees.{Node, node, Forest, of_boundary}
 use Rattle.rx_hooks.specs.declared.hook.Hook.{Hook}
+use Rattle.rx_lists.specs.Shapes.{Shape}
 use Rattle.rx_links.specs.Drafts.{Trees}
-use Rattle.rx_meaning.specs.Fresh.{Sight, Contexts, old_instance}
-use Rattle.rx_meaning.specs.Cursor.{Frame, Cursor, at_place, at_end, ended, is_null, unit, HasLevel}
+use Rattle.rx_links.specs.Readers.{IsLinked}
+use Rattle.rx_meaning.specs.Again.{AllValuesAgree, AreUnresolved}
+use Rattle.rx_meaning.specs.Fresh.{Sight, Contexts, part, old_instance}
+use Rattle.rx_meaning.specs.Cursor.{Frame, falling, Cursor, at_place, at_end, ended, open_part, is_null, unit, HasLevel}
 use Rattle.rx_meaning.specs.Settled.{IfSettled, known_by}
+use Rattle.commit_laws.specs.WaitsAgain.{without_lanes}
 use Rattle.rx_fiber.specs.Fibers.{Fiber}
+use Rattle.rx_fiber.specs.Reading.{IsOld}
 use Rattle.rx_fiber.specs.Standing.{StandsAt}
+use Rattle.rx_fiber.specs.Stood.{StoodAt}
+use Rattle.rx_fiber.specs.Surround.{given_along}
 use Rattle.rx_complete.specs.Ends.{IsAtEnd}
 use Rattle.rx_complete.specs.declared.completing.Next.{Next}
 use Rattle.rx_complete.specs.declared.completing.Next.TheVariants.{Sibling, Parent, Done}
@@ -62,6 +71,21 @@ GivesAt s kept (at_place levels fs cs e old) = GivesHooks s kept (old_instance o
 GivesAt s kept (at_end levels fs o done) = Unit {0}
 GivesAt s kept (ended p) = Unit {0}
 
--- from each cursor that the parts may stand for, they come to that of the next unit
+-- Where a render comes in one unit: where the unit of its cursor comes, or past the attempt of a hidden boundary. That one stands as its current fiber does, nothing that it awaits has a value, and nothing is new for what it keeps.
+pub data Goes (s : Sight) (current : Shape Fiber) : (before after : Cursor) → Type 0 where
+  by_unit : {c : Cursor} → Goes s current c (unit s c)
+  past_attempt : {n : ℕ} {fs : List Frame} {cs : Contexts} {key : Key} {f : Element} {es : Elements} {a : Awaits} {ns kept : Forest} {o : Option ℕ}
+      → IsLinked current → StoodAt current (given_along fs) o → IsOld current o (Some (node (boundary key f es) (of_boundary (Hidden a)) ns kept))
+      → AreUnresolved s a → AllValuesAgree (without_lanes s) s ns
+      → Goes s current (at_place (suc n) fs cs (boundary key f es) (Some (node (boundary key f es) (of_boundary (Hidden a)) ns kept)))
+      (open_part n fs (falling (boundary key f es) (Some (node (boundary key f es) (of_boundary (Hidden a)) ns kept)) a) (part cs (f ∷ []) kept))
+
+-- what the parts come to from a cursor
+pub record ComesFrom (s : Sight) (before : Trees Fiber) (c : Cursor) (after : Trees Fiber) (st : Stack) (at : At) : Type 0 where
+  pub next : Cursor
+  pub goes : Goes s before.current c next
+  pub comes : ComesTo after st at next
+
+-- the same from each cursor that they may stand for
 abbrev pub Advances : Sight → (kept : ℕ → Option (List Hook)) → (before : Trees Fiber) → Stack → At → (after : Trees Fiber) → Stack → At → Type 0
-Advances s kept t st at new st' at' = (c : Cursor) → ComesTo t st at c → HasLevel c → GivesAt s kept c → ComesTo new st' at' (unit s c)
+Advances s kept t st at new st' at' = (c : Cursor) → ComesTo t st at c → HasLevel c → GivesAt s kept c → ComesFrom s t c new st' at'

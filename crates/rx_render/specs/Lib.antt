@@ -1,5 +1,5 @@
 pub mod Mounting
-pub mod ContextLists
+pub mod GivenContexts
 pub mod TreesCode
 pub mod Rendering
 pub mod Renders

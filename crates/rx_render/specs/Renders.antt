@@ -2,13 +2,13 @@
 use Rattle.std.specs.Prelude.{◌≡◌, ℕ, ◌≤◌, ◌++◌, List, [], ℤ, Option, Some, IfSome, length, slice_get}
 use Rattle.rx_base.specs.declared.cut.Cut.{Cut}
 use Rattle.rx_lane.specs.Lanes.{Lanes}
-use Rattle.rx_ast.specs.Syntax.{Program, contexts}
+use Rattle.rx_ast.specs.Syntax.{Program}
 use Rattle.rx_check.specs.Checks.{unknowns}
 use Rattle.rx_elem.specs.Trees.{Node, element_of}
 use Rattle.rx_elem.specs.Spots.{Mounted, mounted}
 use Rattle.rx_hooks.specs.declared.hook.Hook.{Hook}
 use Rattle.rx_queue.specs.Journal.{Journal, Posted, Resolution, cut_now}
-use Rattle.rx_meaning.specs.Fresh.{Sight, resources_seen, root_element}
+use Rattle.rx_meaning.specs.Fresh.{Sight, default_contexts, resources_seen, root_element}
 use Rattle.rx_meaning.specs.Cursor.{Cursor}
 use Rattle.rx_meaning.specs.Again.{AllOpen}
 use Rattle.rx_meaning.specs.Settled.{DoneBefore, IfSettled, known_by}
@@ -23,8 +23,9 @@ use Rattle.render_laws.specs.InProgress.{InProgress}
 use Rattle.render_laws.specs.OldNodes.{CursorHas}
 use Rattle.render_laws.specs.SameSight.{AllAfter}
 use Rattle.draw_laws.specs.Cursors.{CursorDrawn}
+use Rattle.commit_laws.specs.WaitsAgain.{IfWaitsAgain}
 use Rattle.rx_render.specs.Mounting.{HasInstances, SettlesWith}
-use Rattle.rx_render.specs.ContextLists.{CursorHasContexts}
+use Rattle.rx_render.specs.GivenContexts.{CursorGiven}
 use Rattle.rx_render.specs.Rendering.{Rendering, IfLeft, ComesTo}
 
 -- a rendering sees what a render sees
@@ -43,9 +44,9 @@ pub record HasCome (s : Sight) (tree : Option Node) (v : Rendering) : Type 0 whe
   pub cursor : Cursor
   pub comes : ComesTo v.trees v.contexts v.at cursor
   pub goes : InProgress s tree v.units v.bodies cursor
-  -- what is still to come fits the program, has a value for each context, and has the instances of the tree alone
+  -- what is still to come fits the program, has the values that the providers around it give, and has the instances of the tree alone
   pub drawn : CursorDrawn s.program cursor
-  pub seen : CursorHasContexts (length (contexts s.program)) cursor
+  pub given : CursorGiven (default_contexts s.program) cursor
   pub olds : CursorHas (HasInstances tree) cursor
   -- and each old node is settled where the tree is
   pub rests : CursorHas (SettlesWith tree) cursor
@@ -68,15 +69,19 @@ pub record Renders (p : Program) (st : State) (g : Progress) (v : Rendering) : T
   pub past : IsPast g.cut st.journal
   -- the committed tree has what bodies give for what is done
   pub settled : IfSettled p (known_by (sight_of p st g)) st.tree
+  -- and its hidden boundaries wait again
+  pub waits : IfWaitsAgain (sight_of p st g) (default_contexts p) st.tree
   pub come : HasCome (sight_of p st g) st.tree v
 
--- a render is under way: whatever it is over is settled, and hooks give it the values of the instances there
+-- a render is under way: what it is over is the current tree, which is settled and whose hidden boundaries wait again, and hooks give it the values of the instances there
 pub record IsUnderWay (v : Rendering) : Type 0 where
   pub sight : Sight
   pub tree : Option Node
   pub sees : Sees v sight
   pub gives : GivesAll sight tree (kept_hooks v.hooks)
+  pub current : IsTreeOf tree v.trees.current
   pub settled : IfSettled sight.program (known_by sight) tree
+  pub waits : IfWaitsAgain sight (default_contexts sight.program) tree
   pub come : HasCome sight tree v
 
 -- what holds of each rendering: its program is accepted, and where a unit is left a render is under way
@@ -85,7 +90,7 @@ pub record IsRendering (v : Rendering) : Type 0 where
   pub bounded : IsBounded v.program
   pub under_way : IfLeft v.at (IsUnderWay v)
 
--- what a render that starts now needs: the current tree is the committed one, which is settled and has the root's element at its root, the hooks are those of its instances, the cut has all before it, and the resources are what it sees
+-- what a render that starts now needs: the current tree is the committed one, which is settled, has the root's element at its root and hidden boundaries that wait again, the hooks are those of its instances, the cut has all before it, and the resources are what it sees
 pub record IsStartOf (st : State) (lanes : Lanes) (cut : Cut) (resources : List (Option ℤ)) (v : Rendering) : Type 0 where
   pub current : IsTreeOf st.tree v.trees.current
   pub keeps : KeepsAllHooks v.program st (kept_hooks v.hooks)
@@ -94,6 +99,7 @@ pub record IsStartOf (st : State) (lanes : Lanes) (cut : Cut) (resources : List 
   pub resources_are : resources ≡ resources_seen (sight_of v.program st (starting st lanes))
   pub settled : IfSettled v.program (known_by (sight_of v.program st (starting st lanes))) st.tree
   pub rooted : IfSome st.tree (λ x. element_of x ≡ root_element v.program)
+  pub waits : IfWaitsAgain (sight_of v.program st (starting st lanes)) (default_contexts v.program) st.tree
 
 -- a render can start
 pub record CanStart (lanes : Lanes) (cut : Cut) (resources : List (Option ℤ)) (v : Rendering) : Type 0 where

@@ -35,6 +35,9 @@ use Rattle.rx_commit.specs.Written.{with_lines}
 use Rattle.rx_render.specs.declared.at.At.{At}
 use Rattle.rx_render.specs.declared.at.At.TheVariants.{Begins, Completes, Over}
 use Rattle.rx_render.specs.Rendering.{Rendering, IfLeft, units_left, left_of}
+use Rattle.rx_check.specs.Accepted.{IsAccepted}
+use Rattle.rx_check.proofs.Limited.{few-resources}
+use Rattle.run_laws.proofs.WaitingAgain.{starting_waits_again}
 use Rattle.rx_render.specs.Renders.{Renders, IsStartOf}
 use Rattle.rx_root.specs.Rooted.{Rooted}
 use Rattle.rx_root.specs.Stands.{HasProgress, StandsBy, StandsWith, Stands}
@@ -96,9 +99,9 @@ rooted_so p None h = tt
 rooted_so p (Some n) h = h
 
 -- what a render that starts now needs, once pending passive effects have run
-pub can_start : (p : Program) → IsBounded p → (s : State) (v : Rooted) (lanes : Lanes) → Stands p s v → IsReached p (passive_run s).after
+pub can_start : (p : Program) → IsAccepted p → IsBounded p → (s : State) (v : Rooted) (lanes : Lanes) → Stands p s v → IsReached p (passive_run s).after
     → IsStartOf (passive_run s).after lanes (record { updates = v.updates; resolutions = v.resolutions }) v.values v.rendering
-can_start p bounded s v lanes h reached =
+can_start p accepted bounded s v lanes h reached =
     let after : State = (passive_run s).after in
     let carried = reached_carries p bounded.shallow bounded.declared after reached in
     let sound = resolution_keeps p s.journal.updates carried.0 (values_now p s.journal) after.numbers.instance s.tree carried.2.seen carried.2.sound in
@@ -111,6 +114,7 @@ can_start p bounded s v lanes h reached =
       resources_are = rw h.program h.values;
       settled = rw h.program sound.settled;
       rooted = rw h.program (rooted_so p s.tree carried.2.rooted);
+      waits = rw h.program (starting_waits_again p bounded.shallow (few-resources p accepted) after carried lanes);
     }
 
 left_some : (at : At) (bound units : ℕ) → 0 < units_left at bound units → IfLeft at ⊥ → ⊥

@@ -130,7 +130,7 @@ impl Root {
         ensures rest { self.new ≡ record self.old { rendering = self.new.rendering; shown = self.new.shown; later = self.new.later } }
         ensures broken { OnErr result ((p : syntax.Program) (s : State) → Stands p s self.old → s.event ≡ None → HasBroken p (λ r. (r ≡ silent s) ⊎ (r ≡ passive_run s)) self.new log.old log.new) }
     {
-        self.renderer.facts();
+        self.facts();
         self.shown.flush_passive(log)?;
         let values = copied(self.alloc, &self.values)?;
         let cut = Cut {

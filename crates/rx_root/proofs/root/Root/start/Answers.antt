@@ -1,6 +1,7 @@
 use Rattle.std.proofs.Common.{List, Option, refl, sym, ap, ◌∙◌, subst}
 use Rattle.std.specs.Prelude.{ℤ}
 use Rattle.rx_model.specs.Committing.{passive_run}
+use Rattle.rx_check.specs.Accepted.{IsAccepted}
 use Rattle.rx_model.specs.Laws.{IsBounded}
 use Rattle.rx_render.specs.Renders.{IsStartOf}
 use Rattle.rx_root.specs.Rooted.{Rooted}
@@ -17,7 +18,7 @@ start-requires c =
     let p = c.requires.program in
     let s = c.requires.state in
     let h = subst (λ (v : Rooted). Stands p s v) (sym c.self.view_is) c.requires.stands in
-    let is = can_start p (subst IsBounded h.program c.facts.ensures.bounded) s (the_view c.self.inside) c.args.lanes h (reached_passive p s c.requires.stands.reached c.requires.between) in
+    let is = can_start p (subst IsAccepted c.requires.stands.program c.facts.ensures.accepted) (subst IsBounded c.requires.stands.program c.facts.ensures.bounded) s (the_view c.self.inside) c.args.lanes h (reached_passive p s c.requires.stands.reached c.requires.between) in
     record {
       state = (passive_run s).after;
       is = subst (λ (values : List (Option ℤ)). IsStartOf (passive_run s).after c.args.lanes (record { updates = c.self.inside.updates; resolutions = c.self.inside.resolutions }) values c.self.inside.renderer)
@@ -31,7 +32,7 @@ returns-clause-starts c p s i none set =
     let reached = reached_passive p s h.reached none in
     let is =
     subst (λ (values : List (Option ℤ)). IsStartOf (passive_run s).after c.args.lanes (record { updates = c.self.inside.updates; resolutions = c.self.inside.resolutions }) values c.self.inside.renderer)
-    (sym (c.in_ok-values.ensures ∙ c.deref.ensures.value)) (can_start p (subst IsBounded h.program c.facts.ensures.bounded) s v c.args.lanes h reached) in
+    (sym (c.in_ok-values.ensures ∙ c.deref.ensures.value)) (can_start p (subst IsAccepted i.program c.facts.ensures.accepted) (subst IsBounded i.program c.facts.ensures.bounded) s v c.args.lanes h reached) in
     let on = c.in_ok-start.ensures in
     started_as p s v c.args.lanes c.start.new.self c.flush_passive.new.self c.none-self-inside.result h reached set on.program on.current on.hooks (on.started (passive_run s).after is) on.units on.bodies
     on.left c.in_ok-flush_passive.ensures.ended c.none-self-inside.ensures

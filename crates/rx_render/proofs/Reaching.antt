@@ -1,0 +1,87 @@
+-- What holds of a render in progress holds where it comes in one unit.
+use Rattle.std.specs.Prelude.{◌≡◌, ℕ, zero, suc, ◌+◌, ◌≤◌, false, List, [], ◌∷◌, Option, Some, refl}
+use Rattle.std.proofs.Common.{sym, ap, ◌∙◌, subst, arith}
+use Rattle.rx_check.specs.Checks.{unknowns}
+use Rattle.rx_base.specs.Awaits.{Awaits}
+use Rattle.rx_susp.specs.declared.boundary.BoundaryState.TheVariants.{Hidden}
+use Rattle.rx_elem.specs.Elements.{Element, Elements, Key, listed, boundary}
+use Rattle.rx_elem.specs.Trees.{Node, node, Forest, of_boundary}
+use Rattle.rx_lists.specs.Shapes.{Shape}
+use Rattle.rx_meaning.specs.Fresh.{Sight, Contexts, Part, part, two_lists, shape_of, render_part, rendered, one_waits, default_contexts}
+use Rattle.rx_meaning.specs.Levels.{PartFits}
+use Rattle.rx_meaning.specs.Cursor.{Frame, falling, Cursor, at_place, open_part, unit, is_over}
+use Rattle.rx_meaning.specs.Counts.{each_body, next_counts}
+use Rattle.rx_meaning.proofs.Depths.{shape_fits}
+use Rattle.commit_laws.specs.WaitsAgain.{IfWaitsAgain}
+use Rattle.render_laws.specs.InProgress.{InProgress}
+use Rattle.render_laws.specs.OldNodes.{CursorHas}
+use Rattle.render_laws.proofs.GoingLaws.{unit_holds, attempt_holds}
+use Rattle.draw_laws.specs.Cursors.{CursorDrawn}
+use Rattle.rx_fiber.specs.Fibers.{Fiber}
+use Rattle.rx_fiber.specs.Reading.{IsTreeOf}
+use Rattle.rx_fiber.specs.Surround.{given_along}
+use Rattle.rx_render.specs.Mounting.{HasInstances, SettlesWith}
+use Rattle.rx_render.specs.GivenContexts.{given_contexts, CursorGiven}
+use Rattle.rx_render.specs.Advancing.{Goes, by_unit, past_attempt}
+use Rattle.rx_render.proofs.Contexts.{unit_given, attempt_given}
+use Rattle.rx_render.proofs.Instances.{unit_instances, attempt_instances, unit_rests, attempt_rests}
+use Rattle.rx_render.proofs.Waiting.{waits_here}
+
+-- how a unit draws, and an attempt that is skipped
+pub record DrawsOn : Type 0 where
+  pub unit : (s : Sight) (c : Cursor) → unknowns s.program ≡ [] → CursorDrawn s.program c → CursorDrawn s.program (unit s c)
+  pub attempt : (s : Sight) (n : ℕ) (fs : List Frame) (cs : Contexts) (e : Element) (o : Option Node) (q f : Part) (a : Awaits) → unknowns s.program ≡ []
+      → shape_of s cs e o ≡ two_lists q f → CursorDrawn s.program (at_place (suc n) fs cs e o) → CursorDrawn s.program (open_part n fs (falling e o a) f)
+
+-- what holds at a cursor of a render over this tree, after so many units and bodies
+pub record Reaches (s : Sight) (tree : Option Node) (units bodies : ℕ) (c : Cursor) : Type 0 where
+  pub goes : InProgress s tree units bodies c
+  pub drawn : CursorDrawn s.program c
+  pub given : CursorGiven (default_contexts s.program) c
+  pub olds : CursorHas (HasInstances tree) c
+  pub rests : CursorHas (SettlesWith tree) c
+
+module _ (s : Sight) (tree : Option Node) (current : Shape Fiber) (is : IsTreeOf tree current) (waits : IfWaitsAgain s (default_contexts s.program) tree) (draws : DrawsOn) (known : unknowns s.program ≡ [])
+    (units bodies evaluated : ℕ) where
+  -- a unit of the cursor
+  unit_reaches : (c : Cursor) → Reaches s tree units bodies c → is_over c ≡ false → evaluated ≤ next_counts each_body s c → Reaches s tree (suc units) (bodies + evaluated) (unit s c)
+  unit_reaches c h busy few = record {
+    goes = unit_holds s tree units bodies c h.goes busy evaluated few;
+    drawn = draws.unit s c known h.drawn;
+    given = unit_given (default_contexts s.program) s c h.given;
+    olds = unit_instances tree s c h.olds;
+    rests = unit_rests tree s c h.rests;
+  }
+
+  -- an attempt that is skipped
+  module _ (n : ℕ) (fs : List Frame) (cs : Contexts) (key : Key) (f : Element) (es : Elements) (a : Awaits) (ns kept : Forest) where
+    abbrev old : Option Node
+    old = Some (node (boundary key f es) (of_boundary (Hidden a)) ns kept)
+
+    attempt_reaches : Reaches s tree units bodies (at_place (suc n) fs cs (boundary key f es) old) → evaluated ≤ 0 → render_part (rendered n s) (part cs (listed es) ns) ≡ one_waits a
+        → Reaches s tree (suc units) (bodies + evaluated) (open_part n fs (falling (boundary key f es) old a) (part cs (f ∷ []) kept))
+    attempt_reaches h few waited =
+        let same : bodies ≡ bodies + evaluated = omega (arith, few) in
+        record {
+          goes = subst (λ b. InProgress s tree (suc units) b (open_part n fs (falling (boundary key f es) old a) (part cs (f ∷ []) kept))) same
+              (attempt_holds s tree units bodies n fs cs (boundary key f es) old (part cs (listed es) ns) (part cs (f ∷ []) kept) a refl waited h.goes);
+          drawn = draws.attempt s n fs cs (boundary key f es) old (part cs (listed es) ns) (part cs (f ∷ []) kept) a known refl h.drawn;
+          given = attempt_given (default_contexts s.program) n fs s cs (boundary key f es) old (part cs (listed es) ns) (part cs (f ∷ []) kept) a refl h.given;
+          olds = attempt_instances tree n fs s cs (boundary key f es) old (part cs (listed es) ns) (part cs (f ∷ []) kept) a refl h.olds;
+          rests = attempt_rests tree n fs s cs (boundary key f es) old (part cs (listed es) ns) (part cs (f ∷ []) kept) a refl h.rests;
+        }
+
+    fits_below : InProgress s tree units bodies (at_place (suc n) fs cs (boundary key f es) old) → PartFits n s.program (part cs (listed es) ns)
+    fits_below h = (shape_fits n s cs (boundary key f es) old h.fits.0).0
+
+  -- so it is where the render comes in one unit
+  pub reaches : (c d : Cursor) → Goes s current c d → Reaches s tree units bodies c → is_over c ≡ false → evaluated ≤ next_counts each_body s c → Reaches s tree (suc units) (bodies + evaluated) d
+  reaches c _ by_unit h busy few = unit_reaches c h busy few
+  reaches _ _ (past_attempt {n = n} {fs = fs} {cs = cs} {key = key} {f = f} {es = es} {a = a} {ns = ns} {kept = kept} {o = o} linked stood was open agree) h busy few =
+      let base = default_contexts s.program in
+      let here : cs ≡ given_contexts base (given_along fs) = h.given.0 in
+      let fits = fits_below n fs cs key f es a ns kept h.goes in
+      let waited : render_part (rendered n s) (part cs (listed es) ns) ≡ one_waits a =
+      subst (λ l. render_part (rendered n s) (part l (listed es) ns) ≡ one_waits a) (sym here)
+      (waits_here current linked s base tree is waits (given_along fs) o key f es a ns kept stood was open agree n fits) in
+      attempt_reaches n fs cs key f es a ns kept h few waited
