@@ -27,7 +27,7 @@ unless ok x = cond ok None (Some x)
 -- a name that is introduced where it stands already
 abbrev pub repeat_in : Mention → Option Name
 repeat_in (mention.Introduced x again) = unless (not again) x
-repeat_in (mention.Variable x known) = None
+repeat_in (mention.Unknown x) = None
 repeat_in (mention.Call f n) = None
 repeat_in (mention.Reduction f) = None
 repeat_in (mention.Context c) = None
@@ -47,7 +47,7 @@ repeats p = filter_map repeat_in (mentions p)
 -- a name that is not known as what it stands for, where these are declared
 abbrev pub unknown_among : (functions components contexts : List Name) → Mention → Option Name
 unknown_among fs cs xs (mention.Introduced x again) = None
-unknown_among fs cs xs (mention.Variable x known) = unless known x
+unknown_among fs cs xs (mention.Unknown x) = Some x
 unknown_among fs cs xs (mention.Call f n) = unless (has_name fs f) f
 unknown_among fs cs xs (mention.Reduction f) = unless (has_name fs f) f
 unknown_among fs cs xs (mention.Context c) = unless (has_name xs c) c
@@ -89,7 +89,7 @@ element_fits p c attrs filled = option_map_or (fits attrs filled) (component_nam
 -- a function or a component that is given another number of parts than it takes
 abbrev pub misfit_in : Program → Mention → Option Name
 misfit_in p (mention.Introduced x again) = None
-misfit_in p (mention.Variable x known) = None
+misfit_in p (mention.Unknown x) = None
 misfit_in p (mention.Call f n) = unless (takes_arguments p f n) f
 misfit_in p (mention.Reduction f) = unless (takes_arguments p f 2) f
 misfit_in p (mention.Context c) = None
@@ -135,7 +135,7 @@ is_rooted p = option_map_or (λ c. nat_eq (length c.parameters) 0) (component_na
 -- the bytes of the name that is mentioned
 abbrev pub name_length_in : Mention → Option ℕ
 name_length_in (mention.Introduced x again) = Some (length x)
-name_length_in (mention.Variable x known) = Some (length x)
+name_length_in (mention.Unknown x) = Some (length x)
 name_length_in (mention.Call f n) = Some (length f)
 name_length_in (mention.Reduction f) = Some (length f)
 name_length_in (mention.Context c) = Some (length c)
@@ -149,7 +149,7 @@ name_length_in (mention.Counted w n) = None
 -- the bytes between the quotes
 abbrev pub text_length_in : Mention → Option ℕ
 text_length_in (mention.Introduced x again) = None
-text_length_in (mention.Variable x known) = None
+text_length_in (mention.Unknown x) = None
 text_length_in (mention.Call f n) = None
 text_length_in (mention.Reduction f) = None
 text_length_in (mention.Context c) = None
@@ -172,7 +172,7 @@ same_count _ _ = false
 -- how many are counted of this thing
 abbrev pub count_in : Count → Mention → Option ℕ
 count_in v (mention.Introduced x again) = None
-count_in v (mention.Variable x known) = None
+count_in v (mention.Unknown x) = None
 count_in v (mention.Call f n) = None
 count_in v (mention.Reduction f) = None
 count_in v (mention.Context c) = None

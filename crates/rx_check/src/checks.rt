@@ -25,7 +25,7 @@ pub fn first_repeat<'a>(mentions: &[Mention<'a>]) -> Option<&'a str>
     ensures { MatchOption result (first (filter_map repeat_in mentions.now) ≡ None) (λ x. first (filter_map repeat_in mentions.now) ≡ Some x.now) }
 {
     for mention in mentions {
-        if let MentionKind::Introduced { name, again } = &mention.kind {
+        if let MentionKind::Introduced { again, name } = &mention.kind {
             if *again {
                 return Some(*name);
             }
@@ -125,17 +125,22 @@ fn misfit<'a>(
         MentionKind::Call {
             function,
             arguments,
-        } => Ok(unless(takes_arguments(program, *function, *arguments), *function)),
+        } => {
+            let function = function.text();
+            Ok(unless(takes_arguments(program, function, *arguments), function))
+        }
         MentionKind::Reduction(function) => {
-            Ok(unless(takes_arguments(program, *function, 2), *function))
+            let function = function.text();
+            Ok(unless(takes_arguments(program, function, 2), function))
         }
         MentionKind::Element {
+            filled,
             component,
             attributes,
-            filled,
         } => {
-            let fit = element_fits(alloc, program, *component, *attributes, *filled)?;
-            Ok(unless(fit, *component))
+            let component = component.text();
+            let fit = element_fits(alloc, program, component, *attributes, *filled)?;
+            Ok(unless(fit, component))
         }
         _ => Ok(None),
     }
@@ -172,8 +177,8 @@ fn name_length(mention: &Mention) -> Option<u64>
     ensures { result ≡ name_length_in mention.now }
 {
     let name = match &mention.kind {
-        MentionKind::Introduced { name, .. }
-        | MentionKind::Variable { name, .. }
+        MentionKind::Introduced { name, .. } => *name,
+        MentionKind::Unknown(name)
         | MentionKind::Call { function: name, .. }
         | MentionKind::Reduction(name)
         | MentionKind::Context(name)
@@ -182,7 +187,7 @@ fn name_length(mention: &Mention) -> Option<u64>
             ..
         }
         | MentionKind::Host(name)
-        | MentionKind::Resource(name) => *name,
+        | MentionKind::Resource(name) => name.text(),
         MentionKind::Children { .. } | MentionKind::Quoted(_) | MentionKind::Counted { .. } =>
             return None,
     };
@@ -194,7 +199,7 @@ fn text_length(mention: &Mention) -> Option<u64>
     ensures { result ≡ text_length_in mention.now }
 {
     match &mention.kind {
-        MentionKind::Resource(name) => Some(name.len() as u64),
+        MentionKind::Resource(name) => Some(name.text().len() as u64),
         MentionKind::Quoted(length) => Some(*length as u64),
         _ => None,
     }
@@ -273,16 +278,16 @@ fn unknown<'a>(listing: &Listing, mention: &Mention<'a>) -> Option<&'a str>
         (λ x. unknown_among listing.now.functions listing.now.components listing.now.contexts mention.now ≡ Some x.now) }
 {
     match &mention.kind {
-        MentionKind::Variable { name, known } => unless(*known, *name),
+        MentionKind::Unknown(name) => Some(name.text()),
         MentionKind::Children { known } => unless(*known, "children"),
         MentionKind::Call { function: name, .. } | MentionKind::Reduction(name) => {
-            unless(listing.functions.contains(*name), *name)
+            unless(listing.functions.contains(name.text()), name.text())
         }
-        MentionKind::Context(name) => unless(listing.contexts.contains(*name), *name),
+        MentionKind::Context(name) => unless(listing.contexts.contains(name.text()), name.text()),
         MentionKind::Element {
             component: name,
             ..
-        } => unless(listing.components.contains(*name), *name),
+        } => unless(listing.components.contains(name.text()), name.text()),
         _ => None,
     }
 }

@@ -6,8 +6,8 @@ use Rattle.rx_mentions.specs.declared.count.Count.{Count}
 pub data Mention : Type 0 where
   -- a name is introduced, and whether it stands already where it may not be introduced again
   Introduced : Name → (again : Bool) → Mention
-  -- a variable, and whether the name stands for a value there
-  Variable : Name → (known : Bool) → Mention
+  -- a variable whose name stands for no value there
+  Unknown : Name → Mention
   -- a call of a function with so many arguments
   Call : (function : Name) → (arguments : ℕ) → Mention
   -- a function that reduces a hook's state

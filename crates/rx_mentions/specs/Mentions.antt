@@ -43,11 +43,15 @@ kept s x = record { values = s.values; names = s.names ++ x ∷ [] }
 abbrev pub introduced : List Name → Name → Mention
 introduced taken x = mention.Introduced x (has_name taken x)
 
+-- a variable's mention, where these names stand for values: there is one only where it is none of them
+abbrev pub variable_mentions : (scope : List Name) → Name → List Mention
+variable_mentions scope x = cond (has_name scope x) [] (mention.Unknown x ∷ [])
+
 -- an expression's mentions, where these names stand for values
 abbrev mutual
   pub expr_mentions : List Name → Expr → List Mention
   expr_mentions scope (syntax.number n) = []
-  expr_mentions scope (syntax.variable x) = mention.Variable x (has_name scope x) ∷ []
+  expr_mentions scope (syntax.variable x) = variable_mentions scope x
   expr_mentions scope (syntax.grouped e) = expr_mentions scope e
   expr_mentions scope (syntax.prefixed o e) = expr_mentions scope e
   expr_mentions scope (syntax.chain e ls) = expr_mentions scope e ++ links_mentions scope ls

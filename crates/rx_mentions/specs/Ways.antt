@@ -11,7 +11,7 @@ use Rattle.rx_mentions.specs.Mention as mention
 -- the function that is called
 abbrev pub called_in : Mention → Option Name
 called_in (mention.Introduced x again) = None
-called_in (mention.Variable x known) = None
+called_in (mention.Unknown x) = None
 called_in (mention.Call f n) = Some f
 called_in (mention.Reduction f) = None
 called_in (mention.Context c) = None
@@ -25,7 +25,7 @@ called_in (mention.Counted w n) = None
 -- the component whose element stands there
 abbrev pub placed_in : Mention → Option Name
 placed_in (mention.Introduced x again) = None
-placed_in (mention.Variable x known) = None
+placed_in (mention.Unknown x) = None
 placed_in (mention.Call f n) = None
 placed_in (mention.Reduction f) = None
 placed_in (mention.Context c) = None

@@ -87,21 +87,21 @@ impl<'a> Walk<'a> {
         self.introduced(scope.names(), name.text())?;
         let again = scope.names().contains(setter.text()) || setter.text() == name.text();
         let name = setter.text();
-        self.note(MentionKind::Introduced { name, again })
+        self.note(MentionKind::Introduced { again, name })
     }
 
     /// Notes a function that reduces a state.
     fn reduction(&mut self, function: &'a Name) -> Result<(), AllocError>
         ensures { OnOk result (self.new ≡ self.old ++ mention.Reduction function.now ∷ []) }
     {
-        self.note(MentionKind::Reduction(function.text()))
+        self.note(MentionKind::Reduction(function))
     }
 
     /// Notes a resource.
     fn resource(&mut self, name: &'a Name) -> Result<(), AllocError>
         ensures { OnOk result (self.new ≡ self.old ++ mention.Resource name.now ∷ []) }
     {
-        self.note(MentionKind::Resource(name.text()))
+        self.note(MentionKind::Resource(name))
     }
 
     /// Notes what the values of an effect mention.

@@ -17,7 +17,7 @@ fn called(alloc: Global, program: &Index, mentions: &[Mention]) -> Result<Row, A
     let mut items = Vec::new(alloc);
     for mention in mentions {
         if let MentionKind::Call { function, .. } = &mention.kind {
-            items.push(program.function_number(function))?;
+            items.push(program.function_number(function.text()))?;
         }
     }
     Ok(Row::new(items))
@@ -30,7 +30,7 @@ fn placed(alloc: Global, program: &Index, mentions: &[Mention]) -> Result<Row, A
     let mut items = Vec::new(alloc);
     for mention in mentions {
         if let MentionKind::Element { component, .. } = &mention.kind {
-            items.push(program.component_number(component))?;
+            items.push(program.component_number(component.text()))?;
         }
     }
     Ok(Row::new(items))

@@ -4,9 +4,11 @@ ghost use Rattle.rx_mentions.specs.Mentions.{given_names};
 
 use crate::count::Count;
 use rx_ast::{Attribute, AttributeKind};
+use rx_base::Name;
 use rx_names::Names;
 use std::alloc::{AllocError, Global};
 use std::marker::Model;
+use std::mem::size_of;
 
 /// What a program mentions in a place of its text, with what the checks ask of it. It borrows the program.
 #[derive(Drop)]
@@ -20,37 +22,34 @@ pub struct Mention<'a> {
 pub enum MentionKind<'a> {
     /// A name is introduced; `again` where it may not be introduced there, since it stands already.
     Introduced {
-        name: &'a str,
         again: bool,
-    },
-    /// A variable; `known` where the name stands for a value there.
-    Variable {
         name: &'a str,
-        known: bool,
     },
+    /// A variable whose name stands for no value there.
+    Unknown(&'a Name),
     /// A call of a function.
     Call {
-        function: &'a str,
+        function: &'a Name,
         arguments: usize,
     },
     /// A function that reduces a hook's state (react.dev, useReducer).
-    Reduction(&'a str),
+    Reduction(&'a Name),
     /// A context that is read or provided.
-    Context(&'a str),
-    /// An element of a component: its attributes, and whether it holds a child.
+    Context(&'a Name),
+    /// An element of a component: whether it holds a child, and its attributes.
     Element {
-        component: &'a str,
-        attributes: &'a [Attribute],
         filled: bool,
+        component: &'a Name,
+        attributes: &'a Vec<Attribute>,
     },
     /// An element of the host.
-    Host(&'a str),
+    Host(&'a Name),
     /// `children`; `known` where it is a parameter.
     Children {
         known: bool,
     },
     /// A resource that is used.
-    Resource(&'a str),
+    Resource(&'a Name),
     /// A text of so many bytes between quotes.
     Quoted(usize),
     /// So many of a thing.
@@ -59,6 +58,9 @@ pub enum MentionKind<'a> {
         found: u64,
     },
 }
+
+// There may be a mention for every few bytes of a text. Fields lie as they are written, so what is narrow stands first.
+const _: () = prove!(size_of::<Mention>() == 24);
 
 impl<'a> Model for Mention<'a> {
     ghost use Rattle.rx_mentions.specs.Mention as plain;

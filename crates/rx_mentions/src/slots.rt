@@ -132,8 +132,8 @@ impl<'a> Walk<'a> {
         ensures { OnOk result (self.new ≡ self.old ++ key_mentions scope.now second value.now) }
     {
         self.note(MentionKind::Introduced {
-            name: "key",
             again: second,
+            name: "key",
         })?;
         self.expr(scope, value)
     }
@@ -172,29 +172,29 @@ impl<'a> Walk<'a> {
     fn host(&mut self, name: &'a Name) -> Result<(), AllocError>
         ensures { OnOk result (self.new ≡ self.old ++ mention.Host name.now ∷ []) }
     {
-        self.note(MentionKind::Host(name.text()))
+        self.note(MentionKind::Host(name))
     }
 
     /// Notes a context.
     pub(crate) fn context(&mut self, name: &'a Name) -> Result<(), AllocError>
         ensures { OnOk result (self.new ≡ self.old ++ mention.Context name.now ∷ []) }
     {
-        self.note(MentionKind::Context(name.text()))
+        self.note(MentionKind::Context(name))
     }
 
     /// Notes an element of a component.
     fn placed(
         &mut self,
         name: &'a Name,
-        attributes: &'a [Attribute],
+        attributes: &'a Vec<Attribute>,
         filled: bool,
     ) -> Result<(), AllocError>
-        ensures { OnOk result (self.new ≡ self.old ++ mention.Element name.now (given_names attributes.now) filled ∷ []) }
+        ensures { OnOk result (self.new ≡ self.old ++ mention.Element name.now (given_names attributes.now.items) filled ∷ []) }
     {
         self.note(MentionKind::Element {
-            component: name.text(),
-            attributes,
             filled,
+            component: name,
+            attributes,
         })
     }
 

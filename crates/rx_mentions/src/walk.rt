@@ -2,10 +2,9 @@
 ghost use Rattle.std.specs.Prelude.{◌≡◌, List, [], ◌∷◌, ◌++◌, OnOk, length};
 ghost use Rattle.rx_ast.specs.Syntax.{exprs, exprs_of};
 ghost use Rattle.rx_ast.specs.ExprView.{links_of};
-ghost use Rattle.rx_rules.specs.Names.{has_name};
 ghost use Rattle.rx_mentions.specs.Mention as mention;
 ghost use Rattle.rx_mentions.specs.MentionView.{mention_of};
-ghost use Rattle.rx_mentions.specs.Mentions.{introduced, expr_mentions, links_mentions, exprs_mentions};
+ghost use Rattle.rx_mentions.specs.Mentions.{introduced, variable_mentions, expr_mentions, links_mentions, exprs_mentions};
 
 use crate::count::Count;
 use crate::mention::{Mention, MentionKind};
@@ -62,7 +61,7 @@ impl<'a> Walk<'a> {
         ensures { OnOk result (self.new ≡ self.old ++ introduced taken.now name.now ∷ []) }
     {
         let again = taken.contains(name);
-        self.note(MentionKind::Introduced { name, again })
+        self.note(MentionKind::Introduced { again, name })
     }
 
     /// Notes a count.
@@ -80,20 +79,21 @@ impl<'a> Walk<'a> {
         self.note(MentionKind::Quoted(text.text().len()))
     }
 
-    /// Notes a variable.
+    /// Notes a variable, unless its name stands for a value.
     fn variable(&mut self, scope: &Names, name: &'a Name) -> Result<(), AllocError>
-        ensures { OnOk result (self.new ≡ self.old ++ mention.Variable name.now (has_name scope.now name.now) ∷ []) }
+        ensures { OnOk result (self.new ≡ self.old ++ variable_mentions scope.now name.now) }
     {
-        let name = name.text();
-        let known = scope.contains(name);
-        self.note(MentionKind::Variable { name, known })
+        if scope.contains(name.text()) {
+            Ok(())
+        } else {
+            self.note(MentionKind::Unknown(name))
+        }
     }
 
     /// Notes a call with so many arguments.
     fn call(&mut self, function: &'a Name, arguments: usize) -> Result<(), AllocError>
         ensures { OnOk result (self.new ≡ self.old ++ mention.Call function.now arguments ∷ []) }
     {
-        let function = function.text();
         self.note(MentionKind::Call {
             function,
             arguments,
