@@ -11,3 +11,4 @@ pub mod Keeping
 pub mod Begins
 pub mod Beside
 pub mod Falling
+pub mod Still

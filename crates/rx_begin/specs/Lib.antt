@@ -5,3 +5,4 @@ pub mod Scenes
 pub mod Bodies
 pub mod Beginning
 pub mod Opening
+pub mod Hidden

@@ -4,6 +4,7 @@
 mod beginning;
 mod body;
 mod children;
+mod hidden;
 mod kind;
 mod node;
 mod opening;
