@@ -1,5 +1,5 @@
 -- What is asked where a place begins, and what it leaves.
-use Rattle.std.specs.Prelude.{◌≡◌, ℕ, ℤ, suc, ◌+◌, ◌<◌, ◌≤◌, Bool, true, false, if◌then◌else◌, List, Option, Some, None, Result, Ok, Err, IfOk, OnOk, IfSome, IsSome, length, option_and_then, option_map}
+use Rattle.std.specs.Prelude.{◌≡◌, ℕ, ℤ, suc, ◌<◌, ◌≤◌, Bool, true, false, if◌then◌else◌, List, Option, Some, None, Result, Ok, Err, IfOk, OnOk, IfSome, IsSome, length, option_and_then, option_map}
 use Rattle.std.proofs.Common.{refl, sym, ap, ◌∙◌, subst, arith}
 use Rattle.rx_ast.specs.Syntax.{Program, Component}
 use Rattle.rx_ast.specs.Syntax as syntax
@@ -108,19 +108,19 @@ module _ (s : Sight) (kept : ℕ → Option (List Hook)) (t : Trees Fiber) (st :
     (value : Some v ≡ made_value_of t.draft p) (is : element ≡ v.element) (answer : Begun) where
   pub begins_body : (c : ℕ) (props : List ℤ) (es : List Element) (here : Contexts) → parts_in element ≡ Some (c, (props, es)) → here ≡ values_at st → st' ≡ st
       → ((old : Option Node) (key : Key) (kids : Elements) → IsOld t.current (old_of t.draft p) old → GivesHooks s kept (old_instance old) → IfSettled s.program (known_by s) old
-      → (is_cloned v.stage ≡ true → StoodIn old (elements.comp c key props kids)) → listed kids ≡ es → HasShape (shape_of_component s here c props kids old (component_at s.program c)) here old t new p answer) → BeginsPlace s kept t st new st' p answer
+      → (is_cloned v.stage ≡ true → StoodIn old (elements.comp c key props kids)) → listed kids ≡ es → HasShape (is_cloned v.stage) (shape_of_component s here c props kids old (component_at s.program c)) here old t new p answer) → BeginsPlace s kept t st new st' p answer
   begins_body c props es here parts same stacks has n fs cs e old at gives settled =
       let x : element ≡ e = is ∙ element_at t st p n fs cs e old knows at v value in
-      body_begun s t st new st' p n fs cs e old linked knows at answer (old_no_null s.program (known_by s) old settled) c props es here (ap parts_in (sym x) ∙ parts) same
+      body_begun s t st new st' p n fs cs e old linked knows at answer (old_no_null s.program (known_by s) old settled) v value c props es here (ap parts_in (sym x) ∙ parts) same
       (λ key kids f g.
       has old key kids (old_at t st p n fs cs e old knows at) gives settled (λ cloned. subst (StoodIn old) (sym f) (clone_stood t st p n fs cs e old knows at v value cloned)) g)
       stacks
 
   pub begins_other : (cloned : Bool) → cloned ≡ is_cloned v.stage → is_null element ≡ false → parts_in element ≡ None → st' ≡ begun_stack element st
       → (keeps_children cloned (mark_at t.current (old_of t.draft p)) ≡ true
-      → HasOpened t new p (begun_stage element (option_and_then host_number (mark_at t.current (old_of t.draft p)))) (old_elements (primary_list (list_from t.current (old_of t.draft p))))
+      → HasOpened true t new p (begun_stage element (option_and_then host_number (mark_at t.current (old_of t.draft p)))) (old_elements (primary_list (list_from t.current (old_of t.draft p))))
       (old_fibers (primary_list (list_from t.current (old_of t.draft p)))) answer)
-      → (keeps_children cloned (mark_at t.current (old_of t.draft p)) ≡ false → HasOpened t new p (begun_stage element (option_and_then host_number (mark_at t.current (old_of t.draft p)))) (begun_children element)
+      → (keeps_children cloned (mark_at t.current (old_of t.draft p)) ≡ false → HasOpened false t new p (begun_stage element (option_and_then host_number (mark_at t.current (old_of t.draft p)))) (begun_children element)
       (matched (primary_list (list_from t.current (old_of t.draft p))) (begun_children element)) answer) → BeginsPlace s kept t st new st' p answer
   begins_other cloned cloned_is there none stacks kept_so done n fs cs e old at gives settled =
       let x : element ≡ e = is ∙ element_at t st p n fs cs e old knows at v value in
@@ -133,16 +133,16 @@ module _ (s : Sight) (kept : ℕ → Option (List Hook)) (t : Trees Fiber) (st :
           → Opens s t st new st' p n fs cs e old linked knows at answer (begun_stage e (option_and_then host_number (mark_at t.current (old_of t.draft p)))) (begun_children e)
       by_kept x true h =
           let number : Option ℕ = option_and_then host_number (mark_at t.current (old_of t.draft p)) in
-          from_clones s t st new st' p n fs cs e old linked knows at answer (begun_stage e number) (begun_children e) (old_no_null s.program (known_by s) old settled)
+          from_clones s t st new st' p n fs cs e old linked knows at answer (begun_stage e number) (begun_children e) v cloned value cloned_is h (old_no_null s.program (known_by s) old settled)
           (kept_children s.program (known_by s) t.current (old_of t.draft p) old e cloned (old_at t st p n fs cs e old knows at) settled
           (λ so. clone_stood t st p n fs cs e old knows at v value (sym cloned_is ∙ so)) (ap parts_in (sym x) ∙ none) h)
           (subst (λ y.
-          HasOpened t new p (begun_stage y number) (old_elements (primary_list (list_from t.current (old_of t.draft p)))) (old_fibers (primary_list (list_from t.current (old_of t.draft p)))) answer) x
+          HasOpened true t new p (begun_stage y number) (old_elements (primary_list (list_from t.current (old_of t.draft p)))) (old_fibers (primary_list (list_from t.current (old_of t.draft p)))) answer) x
           (kept_so h))
       by_kept x false h =
           let number : Option ℕ = option_and_then host_number (mark_at t.current (old_of t.draft p)) in
           from_matched s t st new st' p n fs cs e old linked knows at answer (begun_stage e number) (begun_children e)
-          (subst (λ y. HasOpened t new p (begun_stage y number) (begun_children y) (matched (primary_list (list_from t.current (old_of t.draft p))) (begun_children y)) answer) x (done h))
+          (subst (λ y. HasOpened false t new p (begun_stage y number) (begun_children y) (matched (primary_list (list_from t.current (old_of t.draft p))) (begun_children y)) answer) x (done h))
 
 -- How many bodies are evaluated
 

@@ -1,9 +1,11 @@
 pub mod Lists
 pub mod Making
 pub mod Matched
+pub mod Waiting
 pub mod Cloning
 pub mod Nodes
 pub mod Marks
+pub mod Standing
 pub mod Starts
 pub mod ByElement
 pub mod Bodies

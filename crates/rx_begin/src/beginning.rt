@@ -47,9 +47,9 @@ fn begin_other(
     requires bare { IsBareAt tree.old at }
     requires context { IfSome (given_context element.now) (λ c. c < length (values_at contexts.old)) }
     ensures kept { IfOk result (λ b. keeps_children cloned (mark_at tree.old.current (old_of tree.old.draft at)) ≡ true
-        → HasOpened tree.old tree.new at (begun_stage element.now (option_and_then host_number (mark_at tree.old.current (old_of tree.old.draft at))))
+        → HasOpened true tree.old tree.new at (begun_stage element.now (option_and_then host_number (mark_at tree.old.current (old_of tree.old.draft at))))
         (old_elements (primary_list (list_from tree.old.current (old_of tree.old.draft at)))) (old_fibers (primary_list (list_from tree.old.current (old_of tree.old.draft at)))) b) }
-    ensures opened { IfOk result (λ b. keeps_children cloned (mark_at tree.old.current (old_of tree.old.draft at)) ≡ false → HasOpened tree.old tree.new at (begun_stage element.now (option_and_then host_number (mark_at tree.old.current (old_of tree.old.draft at)))) (begun_children element.now)
+    ensures opened { IfOk result (λ b. keeps_children cloned (mark_at tree.old.current (old_of tree.old.draft at)) ≡ false → HasOpened false tree.old tree.new at (begun_stage element.now (option_and_then host_number (mark_at tree.old.current (old_of tree.old.draft at)))) (begun_children element.now)
         (matched (primary_list (list_from tree.old.current (old_of tree.old.draft at))) (begun_children element.now)) b) }
     ensures stack { OnOk result (contexts.new ≡ begun_stack element.now contexts.old) }
     ensures current { tree.new.current ≡ tree.old.current }

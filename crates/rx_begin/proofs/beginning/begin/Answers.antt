@@ -3,10 +3,13 @@ use Rattle.rx_begin.specs.PartsView.{parts_seen}
 use Rattle.rx_elem.specs.Trees.{instance_in}
 use Rattle.rx_links.specs.Drafts.{old_of}
 use Rattle.rx_hook_store.specs.Store.{kept_hooks}
+use Rattle.rx_rules.specs.Names.{component_at}
+use Rattle.rx_meaning.specs.Fresh.{shape_of_component}
+use Rattle.rx_begin.specs.Bodies.{HasShape}
 use Rattle.rx_begin.specs.Nodes.{mark_at}
 use Rattle.rx_begin.specs.Scenes.{TellsCalm}
 use Rattle.rx_begin.proofs.Keeping.{parts_here, cloned_here, no_parts}
-use Rattle.std.specs.Prelude.{true, false, not, Some, None, option_map, option_and_then}
+use Rattle.std.specs.Prelude.{true, false, not, None, option_map, option_and_then}
 use Rattle.rx_begin.proofs.ByElement.{if_ok}
 use Rattle.rx_begin.proofs.Begins.{place_kept, place_there, place_context, place_props, begins_body, begins_other, counts_one, made_at}
 use Rattle.rx_begin.proofs.beginning.begin.Goals as goal
@@ -32,7 +35,10 @@ returns-in-Some-clause-begun g c =
     begins_body s _ c.args.tree.now c.args.contexts.now c.begin_component.new.tree _ c.args.at c.facts.ensures.linked c.place_facts.ensures c.value-fiber.result.now c.in_ok-element.element
     (c.value-fiber.ensures.made (made_at _ _ _ _ _ c.place_facts.ensures c.requires.place)) (c.in_ok-element.ensures ∙ c.element.ensures) b.0 c.in-Some.parts.component c.in-Some.parts.props.now
     c.in-Some.parts.children.now c.values.result.now (sym c.parts_of.ensures ∙ ap (option_map parts_seen) c.in-Some.is) c.values.ensures refl
-    (λ old key kids was gives settled stood same. has s old key kids is was gives settled (λ cloned. stood (sym c.is_cloned-cloned.ensures ∙ cloned)) same))
+    (λ old key kids was gives settled stood same.
+    subst (λ cloned. HasShape cloned (shape_of_component s c.values.result.now c.in-Some.parts.component c.in-Some.parts.props.now kids old (component_at s.program c.in-Some.parts.component))
+    c.values.result.now old c.args.tree.now c.begin_component.new.tree c.args.at b.0) c.is_cloned-cloned.ensures
+    (has s old key kids is was gives settled (λ cloned. stood (sym c.is_cloned-cloned.ensures ∙ cloned)) same)))
     c.begin_component.ensures.evaluated
 
 pub returns-in-Some-clause-bodies : goal.returns-in-Some-clause-bodies

@@ -1,10 +1,10 @@
-use Rattle.std.proofs.Common.{ap, inr, sym, subst, ◌∙◌, ℕ, List, Option, IfSome}
+use Rattle.std.proofs.Common.{false, ap, inr, sym, subst, ◌∙◌, ℕ, List, Option, IfSome}
 use Rattle.rx_lists.specs.Shapes.{Holds}
 use Rattle.rx_links.specs.Readers.{list_from}
 use Rattle.rx_fiber.specs.OldLists.{matched}
 use Rattle.rx_begin.specs.Opening.{HasOpenedAs, fallback_behind}
 use Rattle.rx_begin.proofs.Nodes.{bare_made}
-use Rattle.rx_begin.proofs.Falling.{kept_made, kept_sibling, room_beside, left_beside, left_old, same_olds, new_made, new_link}
+use Rattle.rx_begin.proofs.Falling.{kept_made, kept_sibling, room_beside, left_beside, left_old, same_olds, matched_next, new_made, new_link}
 use Rattle.rx_begin.proofs.opening.fall_beside.Goals as goal
 
 pub unused-requires : goal.unused-requires
@@ -39,7 +39,7 @@ make_children-requires-clause-beside c =
 
 pub first_child-requires : goal.first_child-requires
 first_child-requires c =
-    inr (new_made c.put_fallback.new.tree c.make_children.new.tree c.in_ok-id.id c.old_fallback-first_old.result c.args.fallback.now
+    inr (new_made false c.put_fallback.new.tree c.make_children.new.tree c.in_ok-id.id c.old_fallback-first_old.result c.args.fallback.now
     (matched (list_from c.put_fallback.new.tree.current c.old_fallback-first_old.result) c.args.fallback.now)
     (room_beside c.args.tree.now c.keep_primary.new.tree c.args.at c.args.awaits c.alternate.result c.requires.left c.place_facts.ensures
     (c.alternate.ensures.made (bare_made c.args.tree.now c.args.at c.place_facts.ensures c.requires.bare)) c.keep_primary.ensures.kept c.keep_primary.ensures.current
@@ -58,16 +58,17 @@ returns-clause-opened c st d l e =
     (c.in_ok-beside.ensures.same ∙ (c.old_beside-behind.ensures.is ∙ ap (λ q. fallback_behind (list_from c.args.tree.now.current q))
     (c.alternate-2.ensures.made (bare_made c.args.tree.now c.args.at c.place_facts.ensures c.requires.bare)
     ∙ sym (c.alternate.ensures.made (bare_made c.args.tree.now c.args.at c.place_facts.ensures c.requires.bare))))) c.in_ok-id.ensures.put c.old_fallback-first_old.ensures.list in
-    let made = new_made c.put_fallback.new.tree c.make_children.new.tree c.in_ok-id.id c.old_fallback-first_old.result c.args.fallback.now os beside
+    let made = new_made false c.put_fallback.new.tree c.make_children.new.tree c.in_ok-id.id c.old_fallback-first_old.result c.args.fallback.now os beside
     c.in_ok-make_children.ensures.made c.place_facts-4.ensures in
     subst (λ f. HasOpenedAs c.make_children.new.tree st d f) (sym c.opened_at.ensures)
-    (left_beside c.args.tree.now st c.args.at c.args.awaits d l c.facts.ensures.linked c.keep_primary.new.tree c.put_fallback.new.tree
+    (left_beside c.args.tree.now st c.args.at c.args.awaits d l c.facts.ensures.linked false c.keep_primary.new.tree c.put_fallback.new.tree
     c.make_children.new.tree c.in_ok-beside.beside c.in_ok-id.id c.args.fallback.now os c.first_child.result
-    c.keep_primary.ensures.kept c.keep_primary.ensures.current c.in_ok-id.ensures.put c.in_ok-make_children.ensures.made e
+    c.keep_primary.ensures.kept c.keep_primary.ensures.current c.in_ok-id.ensures.put c.in_ok-make_children.ensures.made
+    (matched_next c.args.tree.now st c.args.at c.args.awaits d l c.facts.ensures.linked c.args.fallback.now os e
     (same_olds c.args.tree.now c.put_fallback.new.tree st c.args.at c.args.awaits d l c.old_fallback-first_old.result c.alternate.result c.args.fallback.now
     c.old_fallback-first_old.ensures.list
     (left_old c.args.tree.now st c.args.at c.args.awaits d l c.place_facts.ensures c.alternate.result (c.alternate.ensures.made (bare_made c.args.tree.now c.args.at c.place_facts.ensures c.requires.bare)))
-    (c.in_ok-id.ensures.current ∙ c.keep_primary.ensures.current) e)
-    (new_link c.put_fallback.new.tree c.make_children.new.tree c.in_ok-id.id c.old_fallback-first_old.result c.args.fallback.now os beside
+    (c.in_ok-id.ensures.current ∙ c.keep_primary.ensures.current) e))
+    (new_link false c.put_fallback.new.tree c.make_children.new.tree c.in_ok-id.id c.old_fallback-first_old.result c.args.fallback.now os beside
     c.in_ok-make_children.ensures.made c.place_facts-4.ensures c.first_child.result (c.first_child.ensures.made made))
     (c.requires.keeps st d l))
