@@ -13,4 +13,5 @@ pub mod Keeping
 pub mod Begins
 pub mod Beside
 pub mod Falling
+pub mod OldFallback
 pub mod Still

@@ -109,7 +109,7 @@ pub(crate) fn open_list(
 }
 
 // A fiber is begun with this stage over clones of a list of the current tree.
-fn open_clones(
+pub(crate) fn open_clones(
     alloc: Global,
     tree: &mut FiberTree<Fiber>,
     at: FiberId,
