@@ -27,7 +27,8 @@ use Rattle.rx_fiber.proofs.OldLists.{fallback_is}
 use Rattle.rx_fiber.proofs.Stood.{stood_in_fallback}
 use Rattle.rx_begin.specs.Bodies.{StoodIn}
 use Rattle.rx_begin.specs.Children.{AreMade}
-use Rattle.rx_begin.specs.Opening.{HasOldFallback, IsFallbackOf, given_elements, given_fibers}
+use Rattle.rx_begin.specs.Again.{HasOldFallback}
+use Rattle.rx_begin.specs.Opening.{IsFallbackOf, given_elements, given_fibers}
 use Rattle.rx_begin.proofs.Cloning.{kept_next}
 use Rattle.rx_begin.proofs.Falling.{BeginsNext, boundary_gives, matched_next}
 use Rattle.rx_begin.proofs.Keeping.{stood_in}

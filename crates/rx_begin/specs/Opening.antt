@@ -1,24 +1,22 @@
 -- A boundary opens its fallback.
-use Rattle.std.specs.Prelude.{◌≡◌, ℕ, ℤ, Bool, true, List, [], ◌∷◌, Option, Some, None, if◌then◌else◌}
-use Rattle.rx_ast.specs.Syntax.{Program}
+use Rattle.std.specs.Prelude.{◌≡◌, ℕ, ℤ, Bool, List, [], ◌∷◌, Option, Some, None, if◌then◌else◌}
 use Rattle.rx_base.specs.Awaits.{Awaits}
 use Rattle.rx_ctx.specs.Contexts.{Stack}
 use Rattle.rx_elem.specs.Elements.{Element}
-use Rattle.rx_elem.specs.Trees.{Node, of_boundary, children_if, was_hidden}
+use Rattle.rx_elem.specs.Trees.{Node, of_boundary, children_if}
 use Rattle.rx_susp.specs.declared.boundary.BoundaryState.TheVariants.{Hidden}
 use Rattle.rx_lists.specs.Shapes.{Shape, first}
 use Rattle.rx_lists.specs.Shapes as shapes
 use Rattle.rx_links.specs.Drafts.{Draft, taken, made, Trees, kids_under}
 use Rattle.rx_links.specs.Places.{Around, placed}
 use Rattle.rx_meaning.specs.Cursor.{Cursor}
-use Rattle.rx_meaning.specs.Settled.{Known, IfSettled}
 use Rattle.rx_fiber.specs.Fibers.{Fiber, begun, fallback}
 use Rattle.rx_fiber.specs.OldLists.{begins_fallback, matched, old_elements, old_fibers}
 use Rattle.rx_fiber.specs.Reading.{has_node}
-use Rattle.rx_fiber.specs.Stood.{StoodAt}
-use Rattle.rx_fiber.specs.Surround.{IsElementOf, fallback_in}
+use Rattle.rx_fiber.specs.Surround.{fallback_in}
 use Rattle.rx_fiber.specs.Standing.{StandsAt}
 use Rattle.rx_fiber.specs.Unwound.{IsLeftAt}
+use Rattle.rx_begin.specs.Again.{HasOldFallback}
 use Rattle.rx_begin.specs.Beginning.{IsPlace, IsEnd}
 use Rattle.rx_begin.specs.declared.opening.Opened.{Opened}
 use Rattle.rx_begin.specs.declared.opening.Opened.TheVariants.{First, Empty}
@@ -59,15 +57,6 @@ pub record HasFallback (before after : Trees Fiber) (p : ℕ) (old : Option ℕ)
   pub stands : (k : Around Fiber) (v : Fiber) (o : Option ℕ) (ks rs : Draft Fiber) → before.draft ≡ placed k (made p v o ks rs)
       → (value.element ≡ v.element) × (after.draft ≡ placed k (made p v o ks (made id value old (taken shapes.none) rs)))
   pub current : after.current ≡ before.current
-
--- The old node of a boundary, by its current fiber, is a hidden one with the boundary's element, and stands where these values are given. Its tree is settled, so what it shows was rendered from the element's own fallback.
-pub record HasOldFallback (current : Shape Fiber) (ws : List (ℕ × ℤ)) (o : Option ℕ) (old : Option Node) (e : Element) : Type 0 where
-  pub same : IsElementOf current o e
-  pub stood : StoodAt current ws o
-  pub hidden : was_hidden old ≡ true
-  pub program : Program
-  pub known : Known
-  pub settled : IfSettled program known old
 
 -- a fallback's list has these elements, which are the fallback of the boundary's element alone; where none are given, it has those of the old fallback
 abbrev pub IsFallbackOf : Shape Fiber → List (ℕ × ℤ) → Option ℕ → Option Node → Element → (given : Option (List Element)) → Type 0

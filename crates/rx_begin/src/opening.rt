@@ -11,7 +11,8 @@ ghost use Rattle.rx_fiber.specs.Surround.{fallback_in, given_along};
 ghost use Rattle.rx_fiber.specs.Unwound.{IsLeftAt};
 ghost use Rattle.rx_begin.specs.Children.{HasMadeFrom};
 ghost use Rattle.rx_begin.specs.Nodes.{IsBareAt, IsBareBeside, HasList};
-ghost use Rattle.rx_begin.specs.Opening.{IsLeft, KeepsNode, HasOpenedAs, fallback_behind, opened_at, HasKept, HasFallback, HasOldFallback, IsFallbackOf, given_elements, given_fibers};
+ghost use Rattle.rx_begin.specs.Again.{HasOldFallback};
+ghost use Rattle.rx_begin.specs.Opening.{IsLeft, KeepsNode, HasOpenedAs, fallback_behind, opened_at, HasKept, HasFallback, IsFallbackOf, given_elements, given_fibers};
 
 use crate::children::{clone_children, make_children};
 use crate::node::{open_clones, open_list};
