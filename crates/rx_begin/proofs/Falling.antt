@@ -38,7 +38,7 @@ use Rattle.rx_begin.proofs.Beside.{alone_tops, beside_tops, sibling_top}
 use Rattle.rx_begin.proofs.Starts.{nexts, leads}
 use Rattle.rx_begin.proofs.Waiting.{new_wait}
 
-boundary_gives : (e : Element) → is_boundary e ≡ true → given_in e ≡ None
+pub boundary_gives : (e : Element) → is_boundary e ≡ true → given_in e ≡ None
 boundary_gives elements.null h = refl
 boundary_gives (elements.text t) h = refl
 boundary_gives (elements.host n k attrs es) h = refl

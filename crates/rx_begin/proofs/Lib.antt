@@ -10,6 +10,9 @@ pub mod Starts
 pub mod ByElement
 pub mod Bodies
 pub mod Keeping
+pub mod Hiding
 pub mod Begins
 pub mod Beside
 pub mod Falling
+pub mod OldFallback
+pub mod Still

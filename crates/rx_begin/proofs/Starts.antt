@@ -31,6 +31,7 @@ use Rattle.rx_begin.specs.Nodes.{begun_over, HasOpened}
 use Rattle.rx_begin.specs.Beginning.{IsPlace, IsEnd, HasBegun}
 use Rattle.rx_begin.specs.declared.node.Begun.{Begun}
 use Rattle.rx_begin.specs.declared.node.Begun.TheVariants.{Child, Leaf, Suspended}
+use Rattle.rx_begin.specs.declared.node.Begun.TheVariants as answers
 use Rattle.rx_begin.proofs.Making.{KnowsPlaces}
 use Rattle.rx_begin.proofs.Waiting.{AreWaiting, no_more, gap, next}
 
@@ -49,6 +50,7 @@ abbrev pub Leads : Begun → Cursor → Type 0
 Leads (Child id) c = IsPlace c
 Leads Leaf c = IsEnd c
 Leads (Suspended r) c = ⊥
+Leads (answers.Hidden a) c = ⊥
 
 pub leads : (c : Shape Fiber) (ws : List (ℕ × ℤ)) (n levels : ℕ) (fs : List Frame) (x : Open) (cs : Contexts) (done : List (Option Node)) (xs : List (Element × Option Node)) (d : Draft Fiber)
     → AreNext c ws n xs d → Leads (begun_over d) (come_to levels fs x cs done xs)

@@ -10,6 +10,7 @@ ghost use Rattle.rx_fiber.specs.OldLists.{matched, old_elements, old_fibers, pri
 ghost use Rattle.rx_begin.specs.Nodes.{IsBareAt, IsBareBeside, HasStage, HasList, HasOpened, begun_from, keeps_children, mark_at};
 
 use crate::children::{clone_children, make_children};
+use rx_base::Awaits;
 use rx_elem::Element;
 use rx_fiber::{Fiber, Stage, old_primary};
 use rx_links::{FiberId, FiberTree};
@@ -25,6 +26,8 @@ pub enum Begun {
     Leaf,
     /// The body waits for a resource, by its number.
     Suspended(u32),
+    /// A boundary is hidden and waits still for these resources: its children are not tried, and its fallback opens next.
+    Hidden(Awaits),
 }
 
 // The mark of an old node, by its current fiber.
@@ -109,7 +112,7 @@ pub(crate) fn open_list(
 }
 
 // A fiber is begun with this stage over clones of a list of the current tree.
-fn open_clones(
+pub(crate) fn open_clones(
     alloc: Global,
     tree: &mut FiberTree<Fiber>,
     at: FiberId,
