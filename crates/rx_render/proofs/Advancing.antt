@@ -1,33 +1,42 @@
 -- Where a unit of each kind comes to.
-use Rattle.std.specs.Prelude.{◌≡◌, ℕ, zero, suc, ◌+◌, ◌≤◌, false, List, [], filter, nat_eq, ℤ, Option, Some, None, Result, Ok, Err, IfOk, OnOk, OnErr, refl}
+use Rattle.std.specs.Prelude.{◌≡◌, ℕ, zero, suc, ◌+◌, ◌≤◌, false, List, [], ◌∷◌, filter, nat_eq, ℤ, Option, Some, None, Result, Ok, Err, IfOk, OnOk, OnErr, refl}
 use Rattle.std.specs.List.{range_with_len}
 use Rattle.std.proofs.Common.{sym, ap, ◌∙◌, subst, arith, add-one}
 use Rattle.rx_base.specs.Awaits.{Awaits, one, nothing, awaits_where}
 use Rattle.rx_ctx.specs.Contexts.{Stack}
+use Rattle.rx_susp.specs.declared.boundary.BoundaryState.TheVariants.{Hidden}
 use Rattle.rx_elem.specs.Elements.{Element}
-use Rattle.rx_elem.specs.Trees.{Node, Instance}
+use Rattle.rx_elem.specs.Elements as elements
+use Rattle.rx_elem.specs.Trees.{Node, node, Forest, of_boundary, fallback_if, Instance, instance_in}
+use Rattle.rx_elem.specs.Trees as trees
 use Rattle.rx_hooks.specs.declared.hook.Hook.{Hook}
 use Rattle.rx_lists.specs.Shapes as shapes
-use Rattle.rx_links.specs.Drafts.{Trees, taken}
-use Rattle.rx_meaning.specs.Fresh.{Sight, Contexts, old_instance}
-use Rattle.rx_meaning.specs.Cursor.{Open, Frame, Cursor, at_place, at_end, ended, unit, unwind, HasLevel}
+use Rattle.rx_links.specs.Drafts.{Trees, taken, old_of}
+use Rattle.rx_links.specs.Readers.{IsLinked}
+use Rattle.rx_meaning.specs.Fresh.{Sight, Contexts, part}
+use Rattle.rx_meaning.specs.Cursor.{Open, falling, Frame, Cursor, at_place, at_end, ended, open_part, unit, unwind, HasLevel}
 use Rattle.rx_meaning.specs.Counts.{each_body, next_counts}
 use Rattle.rx_fiber.specs.Fibers.{Fiber}
+use Rattle.rx_fiber.specs.Reading.{IsOld}
 use Rattle.rx_fiber.specs.Standing.{StandsAt}
+use Rattle.rx_fiber.specs.Surround.{fallback_in, given_along}
 use Rattle.rx_fiber.specs.Unwound.{IsWithin, IsLeftAt}
 use Rattle.rx_complete.specs.Ends.{IsOpenBelow, lies, fiber_in, LeadsTo, to_sibling, to_parent, to_none}
 use Rattle.rx_complete.specs.declared.completing.Next.{Next}
-use Rattle.rx_begin.specs.Beginning.{IsAtPlace, stands, IsPlace, IsEnd, BeginsPlace}
+use Rattle.rx_begin.specs.Again.{HasOldFallback}
+use Rattle.rx_begin.specs.Beginning.{IsAtPlace, stands, IsPlace, IsEnd, IsHiddenAgain, BeginsPlace, KeepsHooksIf, GivesHooksIf}
+use Rattle.rx_begin.specs.Hidden.{ForEach, ForEachIn}
 use Rattle.rx_begin.specs.Scenes.{IsSceneOf, KeepsHooks, GivesHooks}
 use Rattle.rx_begin.specs.declared.scene.Scene.{Scene}
 use Rattle.rx_begin.specs.Opening.{HasOpenedAs, IsLeft, left}
 use Rattle.rx_begin.specs.declared.node.Begun.TheVariants.{Child, Leaf, Suspended}
+use Rattle.rx_begin.specs.declared.node.Begun.TheVariants as answers
 use Rattle.rx_begin.specs.declared.opening.Opened.{Opened}
 use Rattle.rx_begin.specs.declared.opening.Opened.TheVariants.{First, Empty}
 use Rattle.rx_render.specs.declared.at.At.{At}
 use Rattle.rx_render.specs.declared.at.At.TheVariants.{Begins, Completes}
 use Rattle.rx_render.specs.Rendering.{ComesTo, to_place, to_end, to_tree}
-use Rattle.rx_render.specs.Advancing.{at_after, at_opened, by_unit, CanBegin, Advances}
+use Rattle.rx_render.specs.Advancing.{at_after, at_opened, Goes, by_unit, past_attempt, CanBegin, Advances}
 
 -- A wait for a number that is no resource's
 
@@ -91,20 +100,56 @@ module _ (s : Sight) (kept : ℕ → Option (List Hook)) (t : Trees Fiber) (st :
   waits_advances r last st'' a begins comes _ (to_place {levels = suc n} {fs = fs} {cs = cs} {e = e} {old = old} h) level gives =
       let b = begins n fs cs e old h gives.0 gives.1 in record { next = _; goes = by_unit; comes = subst (ComesTo last st'' a) (sym b.1) (comes (suc n) fs b.4) }
 
+-- where a hidden boundary waits still, past its attempt
+module _ (s : Sight) (t new : Trees Fiber) (st' : Stack) (p n : ℕ) (fs : List Frame) (cs : Contexts) (e : Element) (old : Option Node) (a : Awaits) (linked : IsLinked t.current)
+    (h : IsHiddenAgain s t new st' p n fs cs e old a) where
+  hidden_old : IsOld t.current (old_of t.draft p) (Some (node (elements.boundary h.key h.fallback h.given) (of_boundary (Hidden a)) h.kept h.shown))
+  hidden_old = subst (IsOld t.current (old_of t.draft p)) (h.was ∙ ap (λ x. Some (node x (of_boundary (Hidden a)) h.kept h.shown)) h.boundary) h.old_is
+
+  hidden_goes : Goes s t.current (at_place (suc n) fs cs e old) (open_part n fs (falling e old a) (part cs (fallback_in e ∷ []) (fallback_if old)))
+  hidden_goes = rw (h.was, h.boundary) (past_attempt linked h.stood hidden_old h.unresolved h.agree)
+
+module _ (s : Sight) (kept : ℕ → Option (List Hook)) (t : Trees Fiber) (st : Stack) (new : Trees Fiber) (st' : Stack) (id : ℕ) where
+  pub hidden_advances : (a : Awaits) (last : Trees Fiber) (next : At) → IsLinked t.current → BeginsPlace s kept t st new st' id (answers.Hidden a)
+      → ((c : Cursor) → (l : IsLeftAt new st' id (taken shapes.none) a c) → HasOldFallback new.current (given_along l.frames) l.old l.node l.value.element → ComesTo last st' next c)
+      → Advances s kept t st (Begins id) last st' next
+  hidden_advances a last next linked begins comes _ (to_place {levels = zero} h) level gives = absurd (omega (arith, level))
+  hidden_advances a last next linked begins comes _ (to_place {levels = suc n} {fs = fs} {cs = cs} {e = e} {old = old} h) level gives =
+      let b = begins n fs cs e old h gives.0 gives.1 in record { next = _; goes = hidden_goes s t new st' id n fs cs e old a linked b; comes = comes _ b.left b.again }
+
 -- hooks that give values are kept
 keeps_given : (s : Sight) (kept : ℕ → Option (List Hook)) (old : Option Instance) → GivesHooks s kept old → KeepsHooks kept old
 keeps_given s kept None gives n e = absurd (let f : ⊥ = cc in f)
 keeps_given s kept (Some i) gives n e = let g = gives i n refl e in rw g.kept_is refl
 
+mutual
+  keeps_node : (s : Sight) (kept : ℕ → Option (List Hook)) (x : Node) → ForEach (GivesHooks s kept) x → ForEach (KeepsHooks kept) x
+  keeps_node s kept (node e m ns fs) h = (keeps_given s kept (instance_in m) h.0, keeps_list s kept ns h.1, keeps_list s kept fs h.2)
+
+  keeps_list : (s : Sight) (kept : ℕ → Option (List Hook)) (ns : Forest) → ForEachIn (GivesHooks s kept) ns → ForEachIn (KeepsHooks kept) ns
+  keeps_list s kept trees.none h = tt
+  keeps_list s kept (trees.vacant ns) h = keeps_list s kept ns h
+  keeps_list s kept (trees.child x ns) h = (keeps_node s kept x h.0, keeps_list s kept ns h.1)
+
+keeps_if : (s : Sight) (kept : ℕ → Option (List Hook)) (old : Option Node) → GivesHooksIf s kept old → KeepsHooksIf kept old
+keeps_if s kept None h = tt
+keeps_if s kept (Some x) h = keeps_node s kept x h
+
 -- a place of which the next unit begins can be begun
 pub can_begin : (scene : Scene) (kept : ℕ → Option (List Hook)) (t : Trees Fiber) (st : Stack) (id : ℕ) → CanBegin scene kept t st id → IsAtPlace scene.checked.now kept t st id
-can_begin scene kept t st id can = stands can.stands can.there can.drawn (keeps_given can.sight kept (old_instance can.old) can.gives)
+can_begin scene kept t st id can = stands can.stands can.there can.drawn (keeps_if can.sight kept can.old can.gives)
 
 -- where a body waits, its fiber lies below open nodes
 pub waits_below : (scene : Scene) (kept : ℕ → Option (List Hook)) (t : Trees Fiber) (st : Stack) (new : Trees Fiber) (st' : Stack) (id r : ℕ) → CanBegin scene kept t st id
     → ((s : Sight) → IsSceneOf scene s → BeginsPlace s kept t st new st' id (Suspended r)) → IsOpenBelow new st' id
 waits_below scene kept t st new st' id r can begins =
     let b = begins can.sight can.sees can.levels can.frames can.contexts_are can.element can.old can.stands can.gives can.settled in lies b.4
+
+-- where a hidden boundary waits still, its fallback can be opened
+pub hidden_left : (scene : Scene) (kept : ℕ → Option (List Hook)) (t : Trees Fiber) (st : Stack) (new : Trees Fiber) (st' : Stack) (id : ℕ) (a : Awaits) → CanBegin scene kept t st id
+    → ((s : Sight) → IsSceneOf scene s → BeginsPlace s kept t st new st' id (answers.Hidden a)) → IsLeft new id a
+hidden_left scene kept t st new st' id a can begins =
+    let b = begins can.sight can.sees can.levels can.frames can.contexts_are can.element can.old can.stands can.gives can.settled in left b.left
 
 -- the bodies of a unit that begins a place are few
 pub begins_few : (s : Sight) (t : Trees Fiber) (st : Stack) (id count : ℕ)

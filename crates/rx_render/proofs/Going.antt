@@ -10,7 +10,7 @@ use Rattle.rx_loop.specs.declared.work.Unit as work
 use Rattle.rx_ctx.specs.Contexts.{Stack, values_at}
 use Rattle.rx_elem.specs.Elements.{Element}
 use Rattle.rx_elem.specs.Elements as elements
-use Rattle.rx_elem.specs.Trees.{Node, node, mark_of, instance_in}
+use Rattle.rx_elem.specs.Trees.{Instance, Node, node, Forest, none, vacant, child, instance_in}
 use Rattle.rx_hooks.specs.declared.hook.Hook.{Hook}
 use Rattle.rx_lists.specs.Shapes as shapes
 use Rattle.rx_links.specs.Drafts.{Draft, taken, Trees, Makes}
@@ -41,11 +41,12 @@ use Rattle.render_laws.specs.OldNodes.{CursorHas}
 use Rattle.render_laws.proofs.LevelLaw.{fit_has_level}
 use Rattle.draw_laws.specs.Drawn.{IsDrawn}
 use Rattle.draw_laws.specs.Cursors.{CursorDrawn}
+use Rattle.rx_begin.specs.Hidden.{ForEach, ForEachIn}
 use Rattle.rx_begin.specs.Scenes.{IsSceneOf, GivesHooks}
 use Rattle.rx_begin.specs.declared.scene.Scene.{Scene}
 use Rattle.rx_render.specs.declared.at.At.{At}
 use Rattle.rx_render.specs.declared.at.At.TheVariants.{Begins, Completes, Over}
-use Rattle.rx_render.specs.Mounting.{HasInstances, SettlesWith}
+use Rattle.rx_render.specs.Mounting.{IfMounted, HasInstances, HasInstancesIn, SettlesWith}
 use Rattle.rx_render.specs.GivenContexts.{CursorGiven}
 use Rattle.rx_render.specs.Rendering.{Rendering, IfLeft, units_left, left_of, ComesTo, to_place, to_end, to_tree, to_wait}
 use Rattle.rx_render.specs.Renders.{Sees, GivesAll, HasCome, Renders, IsUnderWay, IsRendering}
@@ -75,14 +76,23 @@ left_busy t st _ _ bound units to_wait l = absurd (omega (arith, l))
 
 -- The hooks of old instances
 
-gives_node : (s : Sight) (tree : Option Node) (kept : ℕ → Option (List Hook)) → GivesAll s tree kept → (x : Node) → HasInstances tree x → GivesHooks s kept (instance_in (mark_of x))
-gives_node s tree kept gives (node e m ns fs) h i n is number =
-    let w = h.0 i n is number in
+gives_instance : (s : Sight) (tree : Option Node) (kept : ℕ → Option (List Hook)) → GivesAll s tree kept → (i : Option Instance) → IfMounted tree i → GivesHooks s kept i
+gives_instance s tree kept gives o h i n is number =
+    let w = h i n is number in
     subst (λ k. GivesValues s kept k i.initials) w.is_numbered (subst (λ xs. GivesValues s kept w.instance.number xs) w.is_initially (gives w.place w.instance w.there))
+
+mutual
+  gives_node : (s : Sight) (tree : Option Node) (kept : ℕ → Option (List Hook)) → GivesAll s tree kept → (x : Node) → HasInstances tree x → ForEach (GivesHooks s kept) x
+  gives_node s tree kept gives (node e m ns fs) h = (gives_instance s tree kept gives (instance_in m) h.0, gives_list s tree kept gives ns h.1, gives_list s tree kept gives fs h.2)
+
+  gives_list : (s : Sight) (tree : Option Node) (kept : ℕ → Option (List Hook)) → GivesAll s tree kept → (ns : Forest) → HasInstancesIn tree ns → ForEachIn (GivesHooks s kept) ns
+  gives_list s tree kept gives none h = tt
+  gives_list s tree kept gives (vacant ns) h = gives_list s tree kept gives ns h
+  gives_list s tree kept gives (child x ns) h = (gives_node s tree kept gives x h.0, gives_list s tree kept gives ns h.1)
 
 gives_at : (s : Sight) (tree : Option Node) (kept : ℕ → Option (List Hook)) → GivesAll s tree kept → IfSettled s.program (known_by s) tree → (c : Cursor) → CursorHas (HasInstances tree) c
     → CursorHas (SettlesWith tree) c → GivesAt s kept c
-gives_at s tree kept gives settled (at_place n fs cs e None) h r = ((λ i m is number. absurd (let f : ⊥ = cc in f)), tt)
+gives_at s tree kept gives settled (at_place n fs cs e None) h r = (tt, tt)
 gives_at s tree kept gives settled (at_place n fs cs e (Some x)) h r = (gives_node s tree kept gives x h.0, r.0 s.program (known_by s) settled)
 gives_at s tree kept gives settled (at_end n fs o d) h r = tt
 gives_at s tree kept gives settled (ended x) h r = tt
@@ -123,7 +133,7 @@ module _ (old new : Rendering) (evaluated : ℕ) (step : Stepped old new evaluat
       let level : HasLevel c = fit_has_level s.program c come.goes.fits come.goes.stands in
       let next = step.advances s sees c come.comes level (gives_at s tree (kept_hooks old.hooks) gives settled c come.olds come.rests) in
       let h = reaches s tree old.trees.current current waits draws (subst (λ q. unknowns q ≡ []) (sym sees.program) known) old.units old.bodies evaluated c next.next next.goes
-      (record { goes = come.goes; drawn = come.drawn; given = come.given; olds = come.olds; rests = come.rests; }) busy (step.few s c sees come.comes level) in
+      (record { goes = come.goes; drawn = come.drawn; given = come.given; olds = come.olds; rests = come.rests }) busy (step.few s c sees come.comes level) in
       record {
         cursor = next.next;
         comes = next.comes;

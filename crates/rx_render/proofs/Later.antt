@@ -76,7 +76,7 @@ renders_later p st later g v hooks r l keeps =
       past = past_longer g.cut g st later l r.past;
       settled = subst (IfSettled p (known_by (sight_of p later g))) (sym l.tree) (settled_later p (sight_of p st g) (sight_of p later g) l.new st.tree l.opened l.updates same.resources r.settled);
       waits = subst (IfWaitsAgain (sight_of p later g) (default_contexts p)) (sym l.tree)
-      (later_waits_again (sight_of p st g) later.journal same (later_sees_without p g st later r.past l) (default_contexts p) st.tree r.waits);
+          (later_waits_again (sight_of p st g) later.journal same (later_sees_without p g st later r.past l) (default_contexts p) st.tree r.waits);
       come = subst (λ t. HasCome (sight_of p later g) t (with_hooks v hooks)) (sym l.tree) (come_later (sight_of p st g) later.journal same st.tree v hooks r.come);
     }
 

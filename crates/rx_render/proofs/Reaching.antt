@@ -77,11 +77,11 @@ module _ (s : Sight) (tree : Option Node) (current : Shape Fiber) (is : IsTreeOf
   -- so it is where the render comes in one unit
   pub reaches : (c d : Cursor) → Goes s current c d → Reaches s tree units bodies c → is_over c ≡ false → evaluated ≤ next_counts each_body s c → Reaches s tree (suc units) (bodies + evaluated) d
   reaches c _ by_unit h busy few = unit_reaches c h busy few
-  reaches _ _ (past_attempt {n = n} {fs = fs} {cs = cs} {key = key} {f = f} {es = es} {a = a} {ns = ns} {kept = kept} {o = o} linked stood was open agree) h busy few =
+  reaches _ _ (past_attempt {n = n} {fs = fs} {cs = cs} {key = key} {f = f} {es = es} {a = a} {ns = ns} {kept = kept} {o = o} linked stood was unresolved agree) h busy few =
       let base = default_contexts s.program in
       let here : cs ≡ given_contexts base (given_along fs) = h.given.0 in
       let fits = fits_below n fs cs key f es a ns kept h.goes in
       let waited : render_part (rendered n s) (part cs (listed es) ns) ≡ one_waits a =
       subst (λ l. render_part (rendered n s) (part l (listed es) ns) ≡ one_waits a) (sym here)
-      (waits_here current linked s base tree is waits (given_along fs) o key f es a ns kept stood was open agree n fits) in
+      (waits_here current linked s base tree is waits (given_along fs) o key f es a ns kept stood was unresolved agree n fits) in
       attempt_reaches n fs cs key f es a ns kept h few waited

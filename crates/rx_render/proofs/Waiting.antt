@@ -72,9 +72,9 @@ below_given base (elements.list es) ws = refl
 below_given base (elements.boundary k f es) ws = refl
 below_given base (elements.provider c k x es) ws = refl
 
-not_hidden : (b : Bool) {A B : Type 0} → IfHidden b A B → b ≡ false → B
-not_hidden true h e = cc
-not_hidden false h e = h
+not_hidden : (A B : Type 0) (b : Bool) → IfHidden b A B → b ≡ false → B
+not_hidden A B true h e = cc
+not_hidden A B false h e = h
 
 -- the trees at places of a list
 got_waits : (s : Sight) (cs : Contexts) (ns : Forest) (p : ℕ) (y : Node) → AllWaitAgain s cs ns → node_at ns p ≡ Some y → WaitsAgain s cs y
@@ -106,8 +106,8 @@ module _ (c : Shape Fiber) (linked : IsLinked c) (s : Sight) (base : Contexts) w
       → hides_in v.stage ≡ false → fiber_at (primary_list (list_from c (Some q))) place ≡ Some i → NodeWaits (given_more v.element ws) (Some i)
   child_waits ws q i v place (node e m ns fs) is waits here shown at =
       let same : v.element ≡ e = (let f : Some v.element ≡ Some e = (let g = stood_in c (Some q) (Some (node e m ns fs)) v.element is (ap (option_map (λ w. w.element)) here) in sym g) in cc) in
-      let open : is_hidden m ≡ false = sym (stage_hides q v (node e m ns fs) is here) ∙ shown in
-      let all : AllWaitAgain s (contexts_below e (given_contexts base ws)) ns = not_hidden (is_hidden m) waits.1 open in
+      let shows : is_hidden m ≡ false = sym (stage_hides q v (node e m ns fs) is here) ∙ shown in
+      let all : AllWaitAgain s (contexts_below e (given_contexts base ws)) ns = not_hidden (Unit {0}) (AllWaitAgain s (contexts_below e (given_contexts base ws)) ns) (is_hidden m) waits.1 shows in
       at_place_of (contexts_below e (given_contexts base ws)) (given_more v.element ws) ns place i (below_given base e ws ∙ ap (λ f. given_contexts base (given_more f ws)) (sym same)) all
       (subst (λ o. IsOld c o (node_at ns place)) at (old_at c linked ns (primary_list (list_from c (Some q))) (primary_is c linked (Some q) (Some (node e m ns fs)) is) place))
 
@@ -136,18 +136,18 @@ module _ (c : Shape Fiber) (linked : IsLinked c) (s : Sight) (base : Contexts) w
     own_waits : (ws : List (ℕ × ℤ)) (key : Key) (f : Element) (es : Elements) (a : Awaits) (ns fs : Forest) (x : Node) → trimmed x ≡ trimmed (node (boundary key f es) (of_boundary (Hidden a)) ns fs)
         → WaitsAgain s (given_contexts base ws) x → AreUnresolved s a → AllValuesAgree (without_lanes s) s ns
         → (n : ℕ) → PartFits n s.program (part (given_contexts base ws) (listed es) ns) → render_part (rendered n s) (part (given_contexts base ws) (listed es) ns) ≡ one_waits a
-    own_waits ws key f es a ns fs (node e m ms gs) same waits open agree n fits =
+    own_waits ws key f es a ns fs (node e m ms gs) same waits unresolved agree n fits =
         let el : e ≡ boundary key f es = ap element_of same in
         let mark : m ≡ of_boundary (Hidden a) = ap mark_of same in
         let ends : trimmed_in ms ≡ trimmed_in ns = ap children_of same in
         let own : OwnWaitsAgain s (given_contexts base ws) (boundary key f es) (of_boundary (Hidden a)) ms =
         subst (λ k. OwnWaitsAgain s (given_contexts base ws) (boundary key f es) k ms) mark (subst (λ k. OwnWaitsAgain s (given_contexts base ws) k m ms) el waits.0) in
-        waits_same n s (given_contexts base ws) (listed es) ms ns a ends (own open (values_same (without_lanes s) s ns ms (sym ends) agree) n fits)
+        waits_same n s (given_contexts base ws) (listed es) ms ns a ends (own unresolved (values_same (without_lanes s) s ns ms (sym ends) agree) n fits)
 
     -- The children of a hidden boundary that stands where its current fiber stands wait for what it awaits.
     pub waits_here : (ws : List (ℕ × ℤ)) (o : Option ℕ) (key : Key) (f : Element) (es : Elements) (a : Awaits) (ns fs : Forest) → StoodAt c ws o
         → IsOld c o (Some (node (boundary key f es) (of_boundary (Hidden a)) ns fs)) → AreUnresolved s a → AllValuesAgree (without_lanes s) s ns
         → (n : ℕ) → PartFits n s.program (part (given_contexts base ws) (listed es) ns) → render_part (rendered n s) (part (given_contexts base ws) (listed es) ns) ≡ one_waits a
-    waits_here ws o key f es a ns fs stood old open agree n fits =
+    waits_here ws o key f es a ns fs stood old unresolved agree n fits =
         let x = stood_waits ws o stood in
-        own_waits ws key f es a ns fs x.node_is (same_trimmed c o x.node_is (node (boundary key f es) (of_boundary (Hidden a)) ns fs) x.is old) x.waits open agree n fits
+        own_waits ws key f es a ns fs x.node_is (same_trimmed c o x.node_is (node (boundary key f es) (of_boundary (Hidden a)) ns fs) x.is old) x.waits unresolved agree n fits

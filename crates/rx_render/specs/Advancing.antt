@@ -11,7 +11,7 @@ use Rattle.rx_lists.specs.Shapes.{Shape}
 use Rattle.rx_links.specs.Drafts.{Trees}
 use Rattle.rx_links.specs.Readers.{IsLinked}
 use Rattle.rx_meaning.specs.Again.{AllValuesAgree, AreUnresolved}
-use Rattle.rx_meaning.specs.Fresh.{Sight, Contexts, part, old_instance}
+use Rattle.rx_meaning.specs.Fresh.{Sight, Contexts, part}
 use Rattle.rx_meaning.specs.Cursor.{Frame, falling, Cursor, at_place, at_end, ended, open_part, is_null, unit, HasLevel}
 use Rattle.rx_meaning.specs.Settled.{IfSettled, known_by}
 use Rattle.commit_laws.specs.WaitsAgain.{without_lanes}
@@ -24,7 +24,8 @@ use Rattle.rx_complete.specs.Ends.{IsAtEnd}
 use Rattle.rx_complete.specs.declared.completing.Next.{Next}
 use Rattle.rx_complete.specs.declared.completing.Next.TheVariants.{Sibling, Parent, Done}
 use Rattle.draw_laws.specs.Drawn.{IsDrawn}
-use Rattle.rx_begin.specs.Scenes.{IsSceneOf, GivesHooks}
+use Rattle.rx_begin.specs.Beginning.{GivesHooksIf}
+use Rattle.rx_begin.specs.Scenes.{IsSceneOf}
 use Rattle.rx_begin.specs.declared.scene.Scene.{Scene}
 use Rattle.rx_begin.specs.declared.opening.Opened.{Opened}
 use Rattle.rx_begin.specs.declared.opening.Opened.TheVariants.{First, Empty}
@@ -43,7 +44,7 @@ abbrev pub at_opened : Opened → At
 at_opened (First id) = Begins id
 at_opened (Empty id) = Completes id
 
--- The render stands at a place of this fiber, at which it sees this scene, the hooks give it the values of its old instance, and the old node is settled: what stands there is an element that the program draws and for which there is a node.
+-- The render stands at a place of this fiber, at which it sees this scene, the hooks give it the values of all instances of the old node, and that is settled: what stands there is an element that the program draws and for which there is a node.
 pub record CanBegin (scene : Scene) (kept : ℕ → Option (List Hook)) (t : Trees Fiber) (st : Stack) (q : ℕ) : Type 0 where
   pub sight : Sight
   pub sees : IsSceneOf scene sight
@@ -55,7 +56,7 @@ pub record CanBegin (scene : Scene) (kept : ℕ → Option (List Hook)) (t : Tre
   pub stands : StandsAt t st (Some q) (at_place (suc levels) frames contexts_are element old)
   pub there : is_null element ≡ false
   pub drawn : IsDrawn scene.checked.now element
-  pub gives : GivesHooks sight kept (old_instance old)
+  pub gives : GivesHooksIf sight kept old
   pub settled : IfSettled sight.program (known_by sight) old
   pub each : length (values_at st) ≡ length (contexts scene.checked.now)
 
@@ -65,9 +66,9 @@ IsReadyAt scene kept t st (Begins id) = CanBegin scene kept t st id
 IsReadyAt scene kept t st (Completes id) = IsAtEnd t st id
 IsReadyAt scene kept t st Over = ⊥
 
--- the hooks give the values of the old instance at the place of a cursor, and the old node is settled
+-- the hooks give the values of all instances of the old node at the place of a cursor, and that is settled
 abbrev pub GivesAt : Sight → (kept : ℕ → Option (List Hook)) → Cursor → Type 0
-GivesAt s kept (at_place levels fs cs e old) = GivesHooks s kept (old_instance old) × IfSettled s.program (known_by s) old
+GivesAt s kept (at_place levels fs cs e old) = GivesHooksIf s kept old × IfSettled s.program (known_by s) old
 GivesAt s kept (at_end levels fs o done) = Unit {0}
 GivesAt s kept (ended p) = Unit {0}
 

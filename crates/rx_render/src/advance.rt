@@ -19,7 +19,7 @@ ghost use Rattle.rx_render.specs.Advancing.{at_after, at_opened, CanBegin, IsRea
 
 use crate::at::At;
 use rx_base::{Awaits, Steps};
-use rx_begin::{Begun, Opened, Scene, begin, open_fallback};
+use rx_begin::{Begun, Opened, Scene, begin, open_fallback, open_old_fallback};
 use rx_complete::{Next, complete, unwind_to_boundary};
 use rx_ctx::ContextStack;
 use rx_fiber::Fiber;
@@ -111,6 +111,7 @@ fn begin_place<L: Ledger>(
     ensures states { (st : State) → DoneBefore scene.now.cut st.journal.updates → KeepsAllHooks scene.now.checked.now st (kept_hooks hooks.old) → KeepsAllHooks scene.now.checked.now st (kept_hooks hooks.new) }
     ensures rises { steps.old ≤ steps.new }
 {
+    tree.facts();
     let (begun, evaluated) = begin(alloc, tree, id, scene, hooks, contexts, steps)?;
     match begun {
         Begun::Child(child) => Ok((At::Begins(child), evaluated)),
@@ -119,11 +120,16 @@ fn begin_place<L: Ledger>(
             let at = suspend(alloc, tree, id, contexts, resource)?;
             Ok((at, evaluated))
         }
+        Begun::Hidden(awaits) => {
+            let opened = open_old_fallback(alloc, tree, id, awaits)?;
+            Ok((at_opened(opened), evaluated))
+        }
     }
 }
 
 /// Begins the place of a fiber, or completes its node, as one unit of a render. Where its body waits, what is tried around it
-/// is given up, and the fallback of the nearest boundary opens within the same unit (react.dev, Suspense). Also answered is whether
+/// is given up, and the fallback of the nearest boundary opens within the same unit (react.dev, Suspense); where a hidden
+/// boundary waits still, its fallback opens at once. Also answered is whether
 /// a body was evaluated.
 ///
 /// # Errors

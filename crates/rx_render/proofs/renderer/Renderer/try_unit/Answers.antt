@@ -25,7 +25,7 @@ invariant_of-self-2 g c =
     subst (λ n. n ≤ next_counts each_body s d) (sym c.one_if.ensures)
     (c.in_ok-next.ensures.few s d (record { program = sees.program; resources = c.deref.ensures.value ∙ sees.resources; lanes = sees.lanes; cut = sees.cut }) comes level)) c.in_ok-next.ensures.states
     (λ s k initials sees. c.in_ok-next.ensures.still s k initials (record { program = sees.program; resources = c.deref.ensures.value ∙ sees.resources; lanes = sees.lanes; cut = sees.cut }))
-    (λ s sees. c.in_ok-next.ensures.comes s (record { program = sees.program; resources = c.deref.ensures.value ∙ sees.resources; lanes = sees.lanes; cut = sees.cut }))) (record { unit = c.cursors_are_drawn.ensures.unit; attempt = c.cursors_are_drawn.ensures.skips_attempt; })
+    (λ s sees. c.in_ok-next.ensures.comes s (record { program = sees.program; resources = c.deref.ensures.value ∙ sees.resources; lanes = sees.lanes; cut = sees.cut }))) (record { unit = c.cursors_are_drawn.ensures.unit; attempt = c.cursors_are_drawn.ensures.skips_attempt })
 
 pub returns-clause-falls : goal.returns-clause-falls
 returns-clause-falls g c =
@@ -36,7 +36,7 @@ returns-clause-falls g c =
     subst (λ n. n ≤ next_counts each_body s d) (sym c.one_if.ensures)
     (c.in_ok-next.ensures.few s d (record { program = sees.program; resources = c.deref.ensures.value ∙ sees.resources; lanes = sees.lanes; cut = sees.cut }) comes level)) c.in_ok-next.ensures.states
     (λ s k initials sees. c.in_ok-next.ensures.still s k initials (record { program = sees.program; resources = c.deref.ensures.value ∙ sees.resources; lanes = sees.lanes; cut = sees.cut }))
-    (λ s sees. c.in_ok-next.ensures.comes s (record { program = sees.program; resources = c.deref.ensures.value ∙ sees.resources; lanes = sees.lanes; cut = sees.cut }))) (record { unit = c.cursors_are_drawn.ensures.unit; attempt = c.cursors_are_drawn.ensures.skips_attempt; })
+    (λ s sees. c.in_ok-next.ensures.comes s (record { program = sees.program; resources = c.deref.ensures.value ∙ sees.resources; lanes = sees.lanes; cut = sees.cut }))) (record { unit = c.cursors_are_drawn.ensures.unit; attempt = c.cursors_are_drawn.ensures.skips_attempt })
 
 pub returns-clause-last : goal.returns-clause-last
 returns-clause-last g c =
@@ -47,7 +47,7 @@ returns-clause-last g c =
     subst (λ n. n ≤ next_counts each_body s d) (sym c.one_if.ensures)
     (c.in_ok-next.ensures.few s d (record { program = sees.program; resources = c.deref.ensures.value ∙ sees.resources; lanes = sees.lanes; cut = sees.cut }) comes level)) c.in_ok-next.ensures.states
     (λ s k initials sees. c.in_ok-next.ensures.still s k initials (record { program = sees.program; resources = c.deref.ensures.value ∙ sees.resources; lanes = sees.lanes; cut = sees.cut }))
-    (λ s sees. c.in_ok-next.ensures.comes s (record { program = sees.program; resources = c.deref.ensures.value ∙ sees.resources; lanes = sees.lanes; cut = sees.cut }))) (record { unit = c.cursors_are_drawn.ensures.unit; attempt = c.cursors_are_drawn.ensures.skips_attempt; })
+    (λ s sees. c.in_ok-next.ensures.comes s (record { program = sees.program; resources = c.deref.ensures.value ∙ sees.resources; lanes = sees.lanes; cut = sees.cut }))) (record { unit = c.cursors_are_drawn.ensures.unit; attempt = c.cursors_are_drawn.ensures.skips_attempt })
     c.unit_before.result c.unit_before.ensures
 
 pub returns-clause-ticks : goal.returns-clause-ticks
@@ -59,7 +59,7 @@ returns-clause-ticks g c =
     subst (λ n. n ≤ next_counts each_body s d) (sym c.one_if.ensures)
     (c.in_ok-next.ensures.few s d (record { program = sees.program; resources = c.deref.ensures.value ∙ sees.resources; lanes = sees.lanes; cut = sees.cut }) comes level)) c.in_ok-next.ensures.states
     (λ s k initials sees. c.in_ok-next.ensures.still s k initials (record { program = sees.program; resources = c.deref.ensures.value ∙ sees.resources; lanes = sees.lanes; cut = sees.cut }))
-    (λ s sees. c.in_ok-next.ensures.comes s (record { program = sees.program; resources = c.deref.ensures.value ∙ sees.resources; lanes = sees.lanes; cut = sees.cut }))) (record { unit = c.cursors_are_drawn.ensures.unit; attempt = c.cursors_are_drawn.ensures.skips_attempt; })
+    (λ s sees. c.in_ok-next.ensures.comes s (record { program = sees.program; resources = c.deref.ensures.value ∙ sees.resources; lanes = sees.lanes; cut = sees.cut }))) (record { unit = c.cursors_are_drawn.ensures.unit; attempt = c.cursors_are_drawn.ensures.skips_attempt })
     c.args.steps.now c.advance.new.steps
     (c.in_ok-next.ensures.ticks ∙ ap (λ n. c.args.steps.now + n) (sym c.one_if.ensures))
 
@@ -80,7 +80,7 @@ returns-clause-onward g c =
     subst (λ n. n ≤ next_counts each_body s d) (sym c.one_if.ensures)
     (c.in_ok-next.ensures.few s d (record { program = sees.program; resources = c.deref.ensures.value ∙ sees.resources; lanes = sees.lanes; cut = sees.cut }) comes level)) c.in_ok-next.ensures.states
     (λ s k initials sees. c.in_ok-next.ensures.still s k initials (record { program = sees.program; resources = c.deref.ensures.value ∙ sees.resources; lanes = sees.lanes; cut = sees.cut }))
-    (λ s sees. c.in_ok-next.ensures.comes s (record { program = sees.program; resources = c.deref.ensures.value ∙ sees.resources; lanes = sees.lanes; cut = sees.cut }))) (record { unit = c.cursors_are_drawn.ensures.unit; attempt = c.cursors_are_drawn.ensures.skips_attempt; })
+    (λ s sees. c.in_ok-next.ensures.comes s (record { program = sees.program; resources = c.deref.ensures.value ∙ sees.resources; lanes = sees.lanes; cut = sees.cut }))) (record { unit = c.cursors_are_drawn.ensures.unit; attempt = c.cursors_are_drawn.ensures.skips_attempt })
 
 pub returns-in_err-next-clause-stopped : goal.returns-in_err-next-clause-stopped
 returns-in_err-next-clause-stopped g c =
