@@ -248,14 +248,6 @@ module _ (t u : Trees Fiber) (p : ℕ) (a : Awaits) (o : Option ℕ) (is_left : 
         })
   ]
 
--- the old fibers of the fallback's list are those of the definition
-pub same_olds : (t u : Trees Fiber) (st : Stack) (p : ℕ) (a : Awaits) (c : Cursor) (l : IsLeftAt t st p (taken none) a c) (first o : Option ℕ) (es : List Element)
-    → list_from t.current first ≡ fallback_list (list_from t.current o) → o ≡ l.old → u.current ≡ t.current → es ≡ fallback_in l.value.element ∷ []
-    → matched (list_from u.current first) es ≡ matched (fallback_list (list_from t.current l.old)) (fallback_in l.value.element ∷ [])
-same_olds t u st p a c l first o es list same current es_are =
-    ap (λ x. matched x es) (ap (λ k. list_from k first) current ∙ (list ∙ ap (λ q. fallback_list (list_from t.current q)) same))
-    ∙ ap (λ x. matched (fallback_list (list_from t.current l.old)) x) es_are
-
 -- a list that was made for a fiber that had none
 module _ (cloned : Bool) (t new : Trees Fiber) (p : ℕ) (first : Option ℕ) (es : List Element) (os : List (Option ℕ)) (beside : IsBareBeside t p first) (done : HasMadeFrom cloned 0 t new p es os)
     (knows : KnowsPlaces new) where

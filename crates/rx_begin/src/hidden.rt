@@ -21,7 +21,7 @@ use rx_links::{FiberId, FiberTree};
 use rx_node::Mark;
 use rx_susp::BoundaryState;
 
-// Whether one of some resources has a value; a program names fewer than 64.
+// Whether one of some resources has a value; a program names no more than 64.
 fn has_value(awaits: Awaits, resources: &[Option<Int>]) -> bool
     ensures none { result ≡ false → (r : ℕ) → r < resource_limit → has awaits r ≡ true → slice_index_or resources.now r None ≡ None }
     ensures some { result ≡ true → HasValueOf resources.now awaits }

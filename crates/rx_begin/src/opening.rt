@@ -250,8 +250,9 @@ pub fn open_fallback(
     fall(alloc, tree, at, awaits, Some(&fallback))
 }
 
-/// The same for a boundary that was hidden before and has its element still: its fallback opens over clones of the old one's
-/// fibers, so that nothing in it is rendered anew without a cause.
+/// Opens the fallback of a boundary that was hidden before, has its element still, and waits for these resources again: over
+/// clones of the fibers of its old fallback, so that nothing there is rendered anew without a cause. What the boundary keeps is
+/// taken over as it stands, and the current tree stays as it is.
 ///
 /// # Errors
 ///
