@@ -1,3 +1,4 @@
 pub mod HiddenWaits
 pub mod WaitsAgain
 pub mod Quiet
+pub mod Idle
