@@ -1,9 +1,10 @@
 -- Which subtrees of a committed tree are idle for a render: each instance has the values that are committed, and nothing is hidden.
 use Rattle.std.specs.Prelude.{option_map, ◌≡◌}
-use Rattle.rx_elem.specs.Trees.{Forest, Instance, Mark, Node, child, node, none, of_boundary, of_host, of_instance, plain, vacant}
+use Rattle.rx_elem.specs.Trees.{Forest, Instance, Mark, Node, of_boundary, of_host, of_instance, plain}
 use Rattle.rx_susp.specs.declared.boundary.BoundaryState.TheVariants.{Hidden, Shown}
 use Rattle.rx_meaning.specs.Fresh.{Sight, values_of}
 use Rattle.rx_meaning.specs.Settled.{done_values, known_by}
+use Rattle.commit_laws.specs.Each.{ForEach, ForEachIn}
 
 -- an instance has for a render the values of its hooks that are committed
 abbrev pub HasCommittedValues : Sight → Instance → Type 0
@@ -18,12 +19,9 @@ IsIdleMark s (of_boundary Shown) = Unit {0}
 IsIdleMark s (of_boundary (Hidden a)) = ⊥
 
 -- a tree is idle for a render: each node is
-abbrev mutual
-  pub IsIdle : Sight → Node → Type 0
-  IsIdle s (node e m ns fs) = IsIdleMark s m × AllIdle s ns × AllIdle s fs
+abbrev pub IsIdle : Sight → Node → Type 0
+IsIdle s n = ForEach (IsIdleMark s) n
 
-  -- the same for the trees of a list
-  pub AllIdle : Sight → Forest → Type 0
-  AllIdle s none = Unit {0}
-  AllIdle s (vacant ns) = AllIdle s ns
-  AllIdle s (child n ns) = IsIdle s n × AllIdle s ns
+-- the same for the trees of a list
+abbrev pub AllIdle : Sight → Forest → Type 0
+AllIdle s ns = ForEachIn (IsIdleMark s) ns
