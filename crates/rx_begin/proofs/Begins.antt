@@ -1,5 +1,5 @@
 -- What is asked where a place begins, and what it leaves.
-use Rattle.std.specs.Prelude.{◌≡◌, ℕ, ℤ, suc, ◌+◌, ◌<◌, ◌≤◌, Bool, true, false, if◌then◌else◌, List, Option, Some, None, Result, Ok, Err, IfOk, OnOk, IfSome, IsSome, length, option_and_then, option_map}
+use Rattle.std.specs.Prelude.{◌≡◌, ℕ, ℤ, suc, ◌<◌, ◌≤◌, Bool, true, false, if◌then◌else◌, List, Option, Some, None, Result, Ok, Err, IfOk, OnOk, IfSome, IsSome, length, option_and_then, option_map}
 use Rattle.std.proofs.Common.{refl, sym, ap, ◌∙◌, subst, arith}
 use Rattle.rx_ast.specs.Syntax.{Program, Component}
 use Rattle.rx_ast.specs.Syntax as syntax
@@ -10,21 +10,25 @@ use Rattle.rx_elem.specs.Elements as elements
 use Rattle.rx_elem.specs.Trees.{Node, host_number, instance_in}
 use Rattle.rx_hooks.specs.declared.hook.Hook.{Hook}
 use Rattle.rx_links.specs.Drafts.{Trees, Makes, old_of}
-use Rattle.rx_links.specs.Readers.{list_from, made_value_of, IsLinked}
+use Rattle.rx_links.specs.Readers.{made_value_of, IsLinked}
 use Rattle.rx_meaning.specs.Body.{Body, wait, ready, body_of}
 use Rattle.rx_meaning.specs.Counts.{each_body, begins_as, one_if_component, next_counts}
 use Rattle.rx_meaning.specs.Cursor.{Frame, at_place, is_null}
 use Rattle.rx_meaning.specs.Fresh.{Sight, Contexts, Shape, absent, waiting, one_list, two_lists, shape_of, shape_of_body, shape_of_component, inputs_at, old_instance}
 use Rattle.rx_fiber.specs.Fibers.{Fiber, is_cloned}
 use Rattle.rx_meaning.specs.Settled.{IfSettled, known_by}
-use Rattle.rx_fiber.specs.OldLists.{primary_list, matched, old_elements, old_fibers}
 use Rattle.rx_fiber.specs.Reading.{IsOld}
 use Rattle.rx_fiber.specs.Standing.{StandsAt}
 use Rattle.draw_laws.specs.Drawn.{IsDrawn}
-use Rattle.rx_begin.specs.Nodes.{IsBareAt, HasOpened, mark_at, keeps_children, parts_in, begun_stage, begun_children, begun_stack, given_context}
-use Rattle.rx_begin.specs.Scenes.{GivesHooks, number_in}
+use Rattle.rx_begin.specs.Nodes.{IsBareAt, mark_at, parts_in, begun_stage, begun_children, begun_stack, given_context}
+use Rattle.rx_begin.specs.Scenes.{GivesHooks, IsSceneOf, number_in}
+use Rattle.rx_begin.specs.declared.scene.Scene.{Scene}
+use Rattle.rx_begin.specs.Hidden.{KeepsOld}
+use Rattle.rx_begin.specs.Others.{HasBegunOther}
+use Rattle.rx_begin.specs.Others as others
+use Rattle.rx_begin.proofs.Hiding.{own_keeps, own_gives, kids_keep, hidden_again}
 use Rattle.rx_begin.specs.Bodies.{StoodIn, HasShape}
-use Rattle.rx_begin.specs.Beginning.{IsAtPlace, stands, BeginsPlace}
+use Rattle.rx_begin.specs.Beginning.{IsAtPlace, stands, HasBegun, BeginsPlace}
 use Rattle.rx_begin.specs.declared.node.Begun.{Begun}
 use Rattle.rx_begin.proofs.Lists.{same_parts}
 use Rattle.rx_begin.proofs.Making.{KnowsPlaces}
@@ -80,7 +84,13 @@ module _ (p : Program) (kept : ℕ → Option (List Hook)) (t : Trees Fiber) (st
   pub place_kept : IfSome (number_in (option_and_then instance_in (mark_at t.current (old_of t.draft q)))) (λ n. IsSome (kept n))
   place_kept = elim at_it [
     | stands {n = n} {fs = fs} {cs = cs} {e = e} {old = old} at there drawn keeps ↦
-        subst (λ i. IfSome (number_in i) (λ n. IsSome (kept n))) (sym (old_instance_is t.current (old_of t.draft q) old (old_at t st q n fs cs e old knows at))) (kept_if kept (old_instance old) keeps)
+        subst (λ i. IfSome (number_in i) (λ n. IsSome (kept n))) (sym (old_instance_is t.current (old_of t.draft q) old (old_at t st q n fs cs e old knows at))) (kept_if kept (old_instance old) (own_keeps kept old keeps))
+  ]
+
+  pub place_olds : KeepsOld kept t.current (old_of t.draft q)
+  place_olds = elim at_it [
+    | stands {n = n} {fs = fs} {cs = cs} {e = e} {old = old} at there drawn keeps ↦
+        (record { node = old; was = old_at t st q n fs cs e old knows at; keeps = kids_keep kept old keeps })
   ]
 
   module _ (v : Fiber) (element : Element) (value : Some v ≡ made_value_of t.draft q) (is : element ≡ v.element) where
@@ -108,41 +118,39 @@ module _ (s : Sight) (kept : ℕ → Option (List Hook)) (t : Trees Fiber) (st :
     (value : Some v ≡ made_value_of t.draft p) (is : element ≡ v.element) (answer : Begun) where
   pub begins_body : (c : ℕ) (props : List ℤ) (es : List Element) (here : Contexts) → parts_in element ≡ Some (c, (props, es)) → here ≡ values_at st → st' ≡ st
       → ((old : Option Node) (key : Key) (kids : Elements) → IsOld t.current (old_of t.draft p) old → GivesHooks s kept (old_instance old) → IfSettled s.program (known_by s) old
-      → (is_cloned v.stage ≡ true → StoodIn old (elements.comp c key props kids)) → listed kids ≡ es → HasShape (shape_of_component s here c props kids old (component_at s.program c)) here old t new p answer) → BeginsPlace s kept t st new st' p answer
+      → (is_cloned v.stage ≡ true → StoodIn old (elements.comp c key props kids)) → listed kids ≡ es → HasShape (is_cloned v.stage) (shape_of_component s here c props kids old (component_at s.program c)) here old t new p answer) → BeginsPlace s kept t st new st' p answer
   begins_body c props es here parts same stacks has n fs cs e old at gives settled =
       let x : element ≡ e = is ∙ element_at t st p n fs cs e old knows at v value in
-      body_begun s t st new st' p n fs cs e old linked knows at answer (old_no_null s.program (known_by s) old settled) c props es here (ap parts_in (sym x) ∙ parts) same
+      body_begun s t st new st' p n fs cs e old linked knows at answer (old_no_null s.program (known_by s) old settled) v value c props es here (ap parts_in (sym x) ∙ parts) same
       (λ key kids f g.
-      has old key kids (old_at t st p n fs cs e old knows at) gives settled (λ cloned. subst (StoodIn old) (sym f) (clone_stood t st p n fs cs e old knows at v value cloned)) g)
+      has old key kids (old_at t st p n fs cs e old knows at) (own_gives s kept old gives) settled (λ cloned. subst (StoodIn old) (sym f) (clone_stood t st p n fs cs e old knows at v value cloned)) g)
       stacks
 
-  pub begins_other : (cloned : Bool) → cloned ≡ is_cloned v.stage → is_null element ≡ false → parts_in element ≡ None → st' ≡ begun_stack element st
-      → (keeps_children cloned (mark_at t.current (old_of t.draft p)) ≡ true
-      → HasOpened t new p (begun_stage element (option_and_then host_number (mark_at t.current (old_of t.draft p)))) (old_elements (primary_list (list_from t.current (old_of t.draft p))))
-      (old_fibers (primary_list (list_from t.current (old_of t.draft p)))) answer)
-      → (keeps_children cloned (mark_at t.current (old_of t.draft p)) ≡ false → HasOpened t new p (begun_stage element (option_and_then host_number (mark_at t.current (old_of t.draft p)))) (begun_children element)
-      (matched (primary_list (list_from t.current (old_of t.draft p))) (begun_children element)) answer) → BeginsPlace s kept t st new st' p answer
-  begins_other cloned cloned_is there none stacks kept_so done n fs cs e old at gives settled =
-      let x : element ≡ e = is ∙ element_at t st p n fs cs e old knows at v value in
-      let number : Option ℕ = option_and_then host_number (mark_at t.current (old_of t.draft p)) in
-      other_begun s t st new st' p n fs cs e old linked knows at answer number (old_of t.draft p) (ap is_null (sym x) ∙ there) (ap parts_in (sym x) ∙ none) refl refl
-      (by_kept x (keeps_children cloned (mark_at t.current (old_of t.draft p))) refl)
-      (stacks ∙ ap (λ y. begun_stack y st) x)
+  pub begins_other : (scene : Scene) (cloned : Bool) → IsSceneOf scene s → cloned ≡ is_cloned v.stage → is_null element ≡ false → parts_in element ≡ None → new.current ≡ t.current
+      → HasBegunOther scene kept t st new st' p element cloned answer → BeginsPlace s kept t st new st' p answer
+  begins_other scene cloned sees cloned_is there none current has n fs cs e old at gives settled =
+      by_case answer (subst (λ y. HasBegunOther scene kept t st new st' p y cloned answer) x has)
     where
-      by_kept : element ≡ e → (b : Bool) → keeps_children cloned (mark_at t.current (old_of t.draft p)) ≡ b
-          → Opens s t st new st' p n fs cs e old linked knows at answer (begun_stage e (option_and_then host_number (mark_at t.current (old_of t.draft p)))) (begun_children e)
-      by_kept x true h =
-          let number : Option ℕ = option_and_then host_number (mark_at t.current (old_of t.draft p)) in
-          from_clones s t st new st' p n fs cs e old linked knows at answer (begun_stage e number) (begun_children e) (old_no_null s.program (known_by s) old settled)
+      x : element ≡ e
+      x = is ∙ element_at t st p n fs cs e old knows at v value
+
+      number : Option ℕ
+      number = option_and_then host_number (mark_at t.current (old_of t.draft p))
+
+      opened : (b : Begun) → Opens s t st new st' p n fs cs e old linked knows at b (begun_stage e number) (begun_children e) → st' ≡ begun_stack e st → HasBegun s t st new st' p n fs cs e old b
+      opened b done stacks =
+          other_begun s t st new st' p n fs cs e old linked knows at b number (old_of t.draft p) (ap is_null (sym x) ∙ there) (ap parts_in (sym x) ∙ none) refl refl done stacks
+
+      by_case : (b : Begun) → HasBegunOther scene kept t st new st' p e cloned b → HasBegun s t st new st' p n fs cs e old b
+      by_case b (others.keeps h kept_so stacks) =
+          opened b
+          (from_clones s t st new st' p n fs cs e old linked knows at b (begun_stage e number) (begun_children e) v cloned value cloned_is h (old_no_null s.program (known_by s) old settled)
           (kept_children s.program (known_by s) t.current (old_of t.draft p) old e cloned (old_at t st p n fs cs e old knows at) settled
-          (λ so. clone_stood t st p n fs cs e old knows at v value (sym cloned_is ∙ so)) (ap parts_in (sym x) ∙ none) h)
-          (subst (λ y.
-          HasOpened t new p (begun_stage y number) (old_elements (primary_list (list_from t.current (old_of t.draft p)))) (old_fibers (primary_list (list_from t.current (old_of t.draft p)))) answer) x
-          (kept_so h))
-      by_kept x false h =
-          let number : Option ℕ = option_and_then host_number (mark_at t.current (old_of t.draft p)) in
-          from_matched s t st new st' p n fs cs e old linked knows at answer (begun_stage e number) (begun_children e)
-          (subst (λ y. HasOpened t new p (begun_stage y number) (begun_children y) (matched (primary_list (list_from t.current (old_of t.draft p))) (begun_children y)) answer) x (done h))
+          (λ so. clone_stood t st p n fs cs e old knows at v value (sym cloned_is ∙ so)) (ap parts_in (sym x) ∙ none) h) kept_so)
+          stacks
+      by_case b (others.opens done stacks) = opened b (from_matched s t st new st' p n fs cs e old linked knows at b (begun_stage e number) (begun_children e) done) stacks
+      by_case _ (others.hides {a = a} so mark waits tried stacks) =
+          hidden_again s kept t st new st' p n fs cs e old a knows at v cloned value cloned_is so mark (λ y. waits s y sees) gives settled current tried stacks
 
 -- How many bodies are evaluated
 

@@ -1,5 +1,5 @@
 -- A component's body, from the hooks of its old instance.
-use Rattle.std.specs.Prelude.{◌≡◌, ℕ, ℤ, List, Option, Some, None, IfSome, IsSome, option_and_then, option_map}
+use Rattle.std.specs.Prelude.{◌≡◌, ℕ, ℤ, Bool, List, Option, Some, None, IfSome, IsSome, option_and_then, option_map}
 use Rattle.std.proofs.Common.{refl, sym, ap, ◌∙◌, subst}
 use Rattle.rx_ast.specs.Syntax.{Program, Component}
 use Rattle.rx_rules.specs.Names.{component_at}
@@ -65,8 +65,8 @@ pub instance_at : (c : Shape Fiber) (alternate o : Option ℕ) (old : Option Nod
 instance_at c alternate o old i same was is = is ∙ (ap (λ q. option_and_then instance_in (mark_at c q)) same ∙ old_instance_is c o old was)
 
 -- what stands at the place of a component, by its body
-pub evaluated : (s : Sight) (cs : Contexts) (c : ℕ) (props : List ℤ) (kids : Elements) (old : Option Node) (b : Body) (t new : Trees Fiber) (p : ℕ) (answer : Begun)
+pub evaluated : (s : Sight) (cs : Contexts) (c : ℕ) (props : List ℤ) (kids : Elements) (old : Option Node) (b : Body) (t new : Trees Fiber) (p : ℕ) (answer : Begun) (cloned : Bool)
     → option_map (λ d. body_of s.program d (inputs_at s cs props kids (old_instance old))) (component_at s.program c) ≡ Some b
-    → HasShape (shape_of_body cs c old b) cs old t new p answer → HasShape (shape_of_component s cs c props kids old (component_at s.program c)) cs old t new p answer
-evaluated s cs c props kids old b t new p answer gives has =
-    subst (λ x. HasShape x cs old t new p answer) (sym (shape_is s cs c props kids old (component_at s.program c) b gives)) has
+    → HasShape cloned (shape_of_body cs c old b) cs old t new p answer → HasShape cloned (shape_of_component s cs c props kids old (component_at s.program c)) cs old t new p answer
+evaluated s cs c props kids old b t new p answer cloned gives has =
+    subst (λ x. HasShape cloned x cs old t new p answer) (sym (shape_is s cs c props kids old (component_at s.program c) b gives)) has

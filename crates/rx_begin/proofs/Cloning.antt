@@ -1,8 +1,8 @@
 -- Clones of an old list are the fibers of its nodes, each for itself.
-use Rattle.std.specs.Prelude.{◌≡◌, ℕ, zero, suc, ◌+◌, ◌-◌, Bool, true, false, List, [], ◌∷◌, ◌++◌, length, slice_get, get_or, Option, Some, None, IfSome, option_map, if◌then◌else◌}
+use Rattle.std.specs.Prelude.{◌≡◌, ℕ, ℤ, zero, suc, ◌+◌, ◌-◌, Bool, true, false, List, ◌∷◌, ◌++◌, length, Option, Some, None, IfSome, option_map}
 use Rattle.std.specs.Option.{option_flatten}
 use Rattle.std.specs.List.{zip}
-use Rattle.std.proofs.Common.{refl, sym, ap, ◌∙◌, subst}
+use Rattle.std.proofs.Common.{refl, sym, ap, subst}
 use Rattle.rx_elem.specs.Elements.{Element}
 use Rattle.rx_elem.specs.Elements as elements
 use Rattle.rx_elem.specs.Compare.{old_nodes}
@@ -11,21 +11,21 @@ use Rattle.rx_elem.specs.Trees as trees
 use Rattle.rx_elem.proofs.SelfMatch.{NoNull, matches_itself}
 use Rattle.rx_lists.specs.Shapes.{Shape, none, fiber, first, Holds, IsTree}
 use Rattle.rx_lists.specs.Shapes as shapes
-use Rattle.rx_links.specs.Drafts.{Draft, taken, made, Trees}
+use Rattle.rx_links.specs.Drafts.{Draft, taken, Trees}
 use Rattle.rx_links.specs.Readers.{value_in, list_from, IsLinked}
-use Rattle.rx_meaning.specs.Cursor.{is_null}
 use Rattle.rx_fiber.specs.Fibers.{Fiber}
-use Rattle.rx_fiber.specs.OldLists.{is_fallback, filled, spread, old_elements, old_fibers, fiber_at}
-use Rattle.rx_fiber.specs.Reading.{AreFor, no_more, gap, next, IsFor, IsOld, of}
+use Rattle.rx_fiber.specs.OldLists.{is_fallback, filled, spread, old_elements, old_fibers}
+use Rattle.rx_fiber.specs.Reading.{AreFor, no_more, gap, next, IsOld, of}
 use Rattle.rx_fiber.specs.Surround.{AreNext}
 use Rattle.rx_fiber.specs.Surround as surround
 use Rattle.rx_fiber.proofs.OldLists.{IsListIn, list_is, rest_listed, list_begins, spread_gap, spread_node, IsListFor}
 use Rattle.rx_fiber.proofs.Matching.{at_first, rest_in, spread_length}
 use Rattle.rx_fiber.proofs.OldTops.{fiber_top, fiber_once}
-use Rattle.rx_begin.specs.Children.{AreMade, IsClone, AreClones, AreApart, HasRoomFor}
-use Rattle.rx_begin.specs.Children as children
+use Rattle.rx_begin.specs.Children.{IsClone, AreClones, HasRoomFor}
 use Rattle.rx_begin.specs.Nodes.{IsBareBeside}
 use Rattle.rx_begin.proofs.Matched.{list_tree}
+use Rattle.rx_begin.proofs.Waiting.{AreWaiting}
+use Rattle.rx_begin.proofs.Waiting as waiting
 
 -- What an old list tells
 
@@ -81,40 +81,40 @@ room_for_clones t p first os beside held linked is =
 
 -- The children that begin next
 
-module _ (c : Shape Fiber) (linked : IsLinked c) where
-  past_gap : (n : ℕ) (es : List Element) (os : List (Option ℕ)) (d : Draft Fiber) → AreMade c n (elements.null ∷ es) (None ∷ os) d → AreMade c (suc n) es os d
-  past_gap n es os d (children.gap null more) = more
-  past_gap n es os _ (children.next there waits more) = absurd (let q : ⊥ = cc in q)
+module _ (c : Shape Fiber) (linked : IsLinked c) (ws : List (ℕ × ℤ)) where
+  past_gap : (n : ℕ) (es : List Element) (os : List (Option ℕ)) (d : Draft Fiber) → AreWaiting c ws n (elements.null ∷ es) (None ∷ os) d → AreWaiting c ws (suc n) es os d
+  past_gap n es os d (waiting.gap null more) = more
+  past_gap n es os _ (waiting.next there waits more) = absurd (let q : ⊥ = cc in q)
 
   by_first : (n id : ℕ) (x : Node) (s rest : Shape Fiber) (ns : Forest) (es : List Element) (os : List (Option ℕ)) (d : Draft Fiber) → IsOld c (Some id) (Some x)
-      → ((d : Draft Fiber) → AreMade c (suc n) es os d → AreNext c (suc n) (zip (elements_in ns) (places ns)) d) → AreMade c n (element_of x ∷ es) (Some id ∷ os) d
-      → AreNext c n (zip (elements_in (trees.child x ns)) (places (trees.child x ns))) d
-  by_first n id x s rest ns es os d is rec (children.gap null more) = surround.gap null (rec d more)
-  by_first n id x s rest ns es os _ is rec (children.next {d = d} there waits more) = surround.next there waits is (rec d more)
+      → ((d : Draft Fiber) → AreWaiting c ws (suc n) es os d → AreNext c ws (suc n) (zip (elements_in ns) (places ns)) d) → AreWaiting c ws n (element_of x ∷ es) (Some id ∷ os) d
+      → AreNext c ws n (zip (elements_in (trees.child x ns)) (places (trees.child x ns))) d
+  by_first n id x s rest ns es os d is rec (waiting.gap null more) = surround.gap null (rec d more)
+  by_first n id x s rest ns es os _ is rec (waiting.next {d = d} there waits more) = surround.next there waits is (rec d more)
 
   clones_next : (n : ℕ) (ns : Forest) (s : Shape Fiber) → AreFor n ns s → IsListIn c s → (d : Draft Fiber)
-      → AreMade c n (spread elements.null (λ id v. v.element) n s) (spread None (λ id v. Some id) n s) d → AreNext c n (zip (elements_in ns) (places ns)) d
-  clones_next n _ _ no_more l _ children.no_more = surround.no_more
-  clones_next n (trees.vacant ns) none (gap a) l _ children.no_more = surround.gap refl (clones_next (suc n) ns none a l (taken shapes.none) children.no_more)
+      → AreWaiting c ws n (spread elements.null (λ id v. v.element) n s) (spread None (λ id v. Some id) n s) d → AreNext c ws n (zip (elements_in ns) (places ns)) d
+  clones_next n _ _ no_more l _ waiting.no_more = surround.no_more
+  clones_next n (trees.vacant ns) none (gap a) l _ waiting.no_more = surround.gap refl (clones_next (suc n) ns none a l (taken shapes.none) waiting.no_more)
   clones_next n (trees.vacant ns) (fiber id v ks rs) (gap a) l d are =
       let e = spread_gap elements.null (λ id v. v.element) n id v ks rs (list_begins (suc n) ns (fiber id v ks rs) a) in
       let f = spread_gap None (λ id v. Some id) n id v ks rs (list_begins (suc n) ns (fiber id v ks rs) a) in
       surround.gap refl
       (clones_next (suc n) ns (fiber id v ks rs) a l d
       (past_gap n (spread elements.null (λ id v. v.element) (suc n) (fiber id v ks rs)) (spread None (λ id v. Some id) (suc n) (fiber id v ks rs)) d
-      (subst (λ x. AreMade c n x (None ∷ spread None (λ id v. Some id) (suc n) (fiber id v ks rs)) d) e
-      (subst (λ x. AreMade c n (spread elements.null (λ id v. v.element) n (fiber id v ks rs)) x d) f are))))
+      (subst (λ x. AreWaiting c ws n x (None ∷ spread None (λ id v. Some id) (suc n) (fiber id v ks rs)) d) e
+      (subst (λ x. AreWaiting c ws n (spread elements.null (λ id v. v.element) n (fiber id v ks rs)) x d) f are))))
   clones_next n (trees.child x ns) s (next {rest = rest} is a) l d are =
       let (jd, u, h, same, e) = spread_node elements.null (λ id v. v.element) n x s rest is in
       let (id, v, f, _, g) = spread_node None (λ id v. Some id) n x s rest is in
       by_first n id x s rest ns (spread elements.null (λ id v. v.element) (suc n) rest) (spread None (λ id v. Some id) (suc n) rest) d (of (at_first c s id l f) f (next is a))
       (clones_next (suc n) ns rest a (rest_in c linked n x s rest is l))
-      (subst (λ y. AreMade c n (y ∷ spread elements.null (λ id v. v.element) (suc n) rest) (Some id ∷ spread None (λ id v. Some id) (suc n) rest) d) same
-      (subst (λ y. AreMade c n y (Some id ∷ spread None (λ id v. Some id) (suc n) rest) d) e
-      (subst (λ y. AreMade c n (spread elements.null (λ id v. v.element) n s) y d) g are)))
+      (subst (λ y. AreWaiting c ws n (y ∷ spread elements.null (λ id v. v.element) (suc n) rest) (Some id ∷ spread None (λ id v. Some id) (suc n) rest) d) same
+      (subst (λ y. AreWaiting c ws n y (Some id ∷ spread None (λ id v. Some id) (suc n) rest) d) e
+      (subst (λ y. AreWaiting c ws n (spread elements.null (λ id v. v.element) n s) y d) g are)))
 
   -- Clones of a list begin next where its nodes are matched with their own elements.
-  pub kept_next : (ns : Forest) (s : Shape Fiber) → IsListFor c ns s → NoNull ns → (d : Draft Fiber) → AreMade c 0 (old_elements s) (old_fibers s) d
-      → AreNext c 0 (zip (elements_in ns) (old_nodes ns (elements_in ns))) d
+  pub kept_next : (ns : Forest) (s : Shape Fiber) → IsListFor c ns s → NoNull ns → (d : Draft Fiber) → AreWaiting c ws 0 (old_elements s) (old_fibers s) d
+      → AreNext c ws 0 (zip (elements_in ns) (old_nodes ns (elements_in ns))) d
   kept_next ns s list no_null d are =
-      subst (λ xs. AreNext c 0 (zip (elements_in ns) xs) d) (sym (matches_itself ns no_null)) (clones_next 0 ns s list.are list.listed d are)
+      subst (λ xs. AreNext c ws 0 (zip (elements_in ns) xs) d) (sym (matches_itself ns no_null)) (clones_next 0 ns s list.are list.listed d are)

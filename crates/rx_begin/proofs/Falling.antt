@@ -1,5 +1,5 @@
 -- A boundary's fallback opens, alone or beside what the boundary keeps.
-use Rattle.std.specs.Prelude.{◌≡◌, ℕ, true, false, List, [], ◌∷◌, Option, Some, None, IfSome, is_some}
+use Rattle.std.specs.Prelude.{◌≡◌, ℕ, ℤ, Bool, true, false, List, [], ◌∷◌, Option, Some, None, IfSome, is_some}
 use Rattle.std.proofs.Common.{refl, sym, ap, ◌∙◌, subst}
 use Rattle.rx_base.specs.Awaits.{Awaits}
 use Rattle.rx_ctx.specs.Contexts.{Stack, values_at}
@@ -8,7 +8,7 @@ use Rattle.rx_elem.specs.Elements as elements
 use Rattle.rx_elem.specs.Trees.{Node, children_if, fallback_if, of_boundary}
 use Rattle.rx_elem.specs.Compare.{old_nodes}
 use Rattle.rx_susp.specs.declared.boundary.BoundaryState.TheVariants.{Hidden}
-use Rattle.rx_lists.specs.Shapes.{Shape, none, fiber, first, Holds, IsTop}
+use Rattle.rx_lists.specs.Shapes.{Shape, none, first, Holds, IsTop}
 use Rattle.rx_links.specs.Drafts.{Draft, taken, made, Trees, Makes, entry, old_of, kids_under, IsBare, IsMadeList, old_kids, Fits, taking, valued, inserted}
 use Rattle.rx_links.specs.Places.{Around, after, placed, IsAt}
 use Rattle.rx_links.specs.Readers.{list_from, old_list, IsLinked, made_value_of, made_value_in, made_kids_of, made_kids_in}
@@ -20,8 +20,9 @@ use Rattle.rx_fiber.specs.FiberView.{changed}
 use Rattle.rx_fiber.specs.declared.stage.StageChange.TheVariants as change
 use Rattle.rx_fiber.specs.OldLists.{primary_list, fallback_list, matched}
 use Rattle.rx_fiber.specs.Reading.{has_node}
-use Rattle.rx_fiber.specs.Surround.{AreNext, IsAround, fallback_in, is_boundary}
-use Rattle.rx_fiber.specs.Standing.{given_in, IsStack, opened, StandsAt}
+use Rattle.rx_fiber.specs.Stood.{given_in, given_more}
+use Rattle.rx_fiber.specs.Surround.{given_along, AreNext, IsAround, fallback_in, is_boundary}
+use Rattle.rx_fiber.specs.Standing.{IsStack, opened, StandsAt}
 use Rattle.rx_fiber.specs.Unwound.{IsLeftAt}
 use Rattle.rx_fiber.proofs.Coming.{come_at}
 use Rattle.rx_fiber.proofs.Matching.{matched_old}
@@ -35,8 +36,9 @@ use Rattle.rx_begin.specs.declared.opening.Opened.{Opened}
 use Rattle.rx_begin.proofs.Making.{KnowsPlaces, made_list}
 use Rattle.rx_begin.proofs.Beside.{alone_tops, beside_tops, sibling_top}
 use Rattle.rx_begin.proofs.Starts.{nexts, leads}
+use Rattle.rx_begin.proofs.Waiting.{new_wait}
 
-boundary_gives : (e : Element) → is_boundary e ≡ true → given_in e ≡ None
+pub boundary_gives : (e : Element) → is_boundary e ≡ true → given_in e ≡ None
 boundary_gives elements.null h = refl
 boundary_gives (elements.text t) h = refl
 boundary_gives (elements.host n k attrs es) h = refl
@@ -46,13 +48,13 @@ boundary_gives (elements.boundary k f es) h = refl
 boundary_gives (elements.provider c k x es) h = cc
 
 has_fallen : (t : Trees Fiber) (st : Stack) (q levels : ℕ) (fs : List Frame) (e : Element) (old : Option Node) (a : Awaits) (list : Part) (d : Draft Fiber) → IsMadeList d
-    → StandsAt t st (Some (come_at d q)) (open_part levels fs (falling e old a) list) → AreNext t.current 0 (children_with_old list) d
+    → StandsAt t st (Some (come_at d q)) (open_part levels fs (falling e old a) list) → AreNext t.current (given_more e (given_along fs)) 0 (children_with_old list) d
     → HasOpenedAs t st (open_part levels fs (falling e old a) list) (opened_at (entry d) q)
 has_fallen t st q levels fs e old a list (taken s) is at more =
     subst (λ f. HasOpenedAs t st (open_part levels fs (falling e old a) list) (opened_at f q)) (sym (ap first is))
-    (at, leads t.current 0 levels fs (falling e old a) list.contexts [] (children_with_old list) (taken s) more)
+    (at, leads t.current (given_more e (given_along fs)) 0 levels fs (falling e old a) list.contexts [] (children_with_old list) (taken s) more)
 has_fallen t st q levels fs e old a list (made id v o ks rs) is at more =
-    (at, leads t.current 0 levels fs (falling e old a) list.contexts [] (children_with_old list) (made id v o ks rs) more)
+    (at, leads t.current (given_more e (given_along fs)) 0 levels fs (falling e old a) list.contexts [] (children_with_old list) (made id v o ks rs) more)
 
 module _ (t : Trees Fiber) (st : Stack) (p : ℕ) (a : Awaits) (c : Cursor) (l : IsLeftAt t st p (taken none) a c) (linked : IsLinked t.current) where
   abbrev its_list : Part
@@ -61,11 +63,24 @@ module _ (t : Trees Fiber) (st : Stack) (p : ℕ) (a : Awaits) (c : Cursor) (l :
   abbrev its_olds : List (Option ℕ)
   its_olds = matched (fallback_list (list_from t.current l.old)) (fallback_in l.value.element ∷ [])
 
-  kids_next : (new : Trees Fiber) (d : Draft Fiber) → new.current ≡ t.current → AreMade t.current 0 (fallback_in l.value.element ∷ []) its_olds d → AreNext new.current 0 (children_with_old its_list) d
-  kids_next new d same are =
-      subst (λ k. AreNext k 0 (children_with_old its_list) d) (sym same)
-      (nexts t.current 0 (fallback_in l.value.element ∷ []) its_olds (old_nodes (fallback_if l.node) (fallback_in l.value.element ∷ [])) d are
-      (matched_old t.current linked (fallback_if l.node) (fallback_list (list_from t.current l.old)) (fallback_is t.current linked l.old l.node l.was) (fallback_in l.value.element ∷ [])))
+  abbrev its_given : List (ℕ × ℤ)
+  its_given = given_more l.value.element (given_along l.frames)
+
+  -- the fibers that are made for the fallback's list begin next
+  abbrev pub BeginsNext : Draft Fiber → Type 0
+  BeginsNext d = AreNext t.current its_given 0 (children_with_old its_list) d
+
+  -- so do those that are matched with the old ones
+  pub matched_next : (es : List Element) (os : List (Option ℕ)) → es ≡ fallback_in l.value.element ∷ [] → os ≡ its_olds → (d : Draft Fiber) → AreMade t.current false 0 es os d → BeginsNext d
+  matched_next es os es_are os_are d are =
+      let here : AreMade t.current false 0 (fallback_in l.value.element ∷ []) its_olds d =
+      subst (λ x. AreMade t.current false 0 x its_olds d) es_are (subst (λ x. AreMade t.current false 0 es x d) os_are are) in
+      nexts t.current its_given 0 (fallback_in l.value.element ∷ []) its_olds (old_nodes (fallback_if l.node) (fallback_in l.value.element ∷ [])) d
+      (new_wait t.current its_given 0 (fallback_in l.value.element ∷ []) its_olds d here)
+      (matched_old t.current linked (fallback_if l.node) (fallback_list (list_from t.current l.old)) (fallback_is t.current linked l.old l.node l.was) (fallback_in l.value.element ∷ []))
+
+  kids_next : (new : Trees Fiber) (d : Draft Fiber) → new.current ≡ t.current → BeginsNext d → AreNext new.current its_given 0 (children_with_old its_list) d
+  kids_next new d same begins = subst (λ k. AreNext k its_given 0 (children_with_old its_list) d) (sym same) begins
 
   surrounds_new : (new : Trees Fiber) → new.current ≡ t.current → IsAround new.current l.around l.value.place l.rest l.frames
   surrounds_new new same = subst (λ k. IsAround k l.around l.value.place l.rest l.frames) (sym same) l.surrounds
@@ -77,31 +92,31 @@ module _ (t : Trees Fiber) (st : Stack) (p : ℕ) (a : Awaits) (c : Cursor) (l :
   opens_so new f h = subst (λ x. HasOpenedAs new st x f) (sym l.opens) h
 
   -- a boundary that keeps nothing has its fallback as its children
-  pub left_alone : (new : Trees Fiber) (es : List Element) (os : List (Option ℕ)) (link : Option ℕ) → HasList t new p (begun (of_boundary (Hidden a))) es os link
-      → es ≡ fallback_in l.value.element ∷ [] → os ≡ its_olds → has_node (children_if l.node) ≡ false → HasOpenedAs new st c (opened_at link p)
-  left_alone new es os link done es_are os_are gone =
-      let are : AreMade t.current 0 (fallback_in l.value.element ∷ []) its_olds done.kids = subst (λ x. AreMade t.current 0 x its_olds done.kids) es_are (subst (λ x. AreMade t.current 0 es x done.kids) os_are done.are) in
-      let next = kids_next new done.kids done.current are in
+  pub left_alone : (cloned : Bool) (new : Trees Fiber) (es : List Element) (os : List (Option ℕ)) (link : Option ℕ) → HasList cloned t new p (begun (of_boundary (Hidden a))) es os link
+      → ((d : Draft Fiber) → AreMade t.current cloned 0 es os d → BeginsNext d) → has_node (children_if l.node) ≡ false → HasOpenedAs new st c (opened_at link p)
+  left_alone cloned new es os link done begins gone =
+      let next = kids_next new done.kids done.current (begins done.kids done.are) in
       subst (λ x. HasOpenedAs new st c (opened_at x p)) (sym done.first_is)
       (opens_so new (opened_at (entry done.kids) p)
-      (has_fallen new st p l.levels l.frames l.value.element l.node a its_list done.kids (made_list 0 (fallback_in l.value.element ∷ []) its_olds done.kids are)
+      (has_fallen new st p l.levels l.frames l.value.element l.node a its_list done.kids (made_list 0 es os done.kids done.are)
       (falls_alone new st l.around p l.levels (record l.value { stage = begun (of_boundary (Hidden a)) }) l.old done.kids l.rest l.frames l.value.element l.node a its_list
       (done.stands l.around l.value l.old l.rest l.here) refl refl gone next (surrounds_new new done.current) stack_new)
       next))
 
   -- one that keeps something has it in a fiber of its own
-  pub left_beside : (u w new : Trees Fiber) (r : Option ℕ) (q : ℕ) (es : List Element) (os : List (Option ℕ)) (link : Option ℕ) → HasKept t u p a → u.current ≡ t.current → (put : HasFallback u w p r a q)
-      → (done : HasMadeFrom 0 w new q es os) → es ≡ fallback_in l.value.element ∷ [] → os ≡ its_olds → link ≡ entry done.kids → has_node (children_if l.node) ≡ true → HasOpenedAs new st c (opened_at link q)
-  left_beside u w new r q es os link kept same put done es_are os_are link_is some =
-      let are : AreMade t.current 0 (fallback_in l.value.element ∷ []) its_olds done.kids = subst (λ x. AreMade t.current 0 x its_olds done.kids) es_are (subst (λ x. AreMade t.current 0 es x done.kids) os_are (subst (λ k. AreMade k 0 es os done.kids) (put.current ∙ same) done.are)) in
+  pub left_beside : (cloned : Bool) (u w new : Trees Fiber) (r : Option ℕ) (q : ℕ) (es : List Element) (os : List (Option ℕ)) (link : Option ℕ) → HasKept t u p a → u.current ≡ t.current
+      → (put : HasFallback u w p r a q) → (done : HasMadeFrom cloned 0 w new q es os) → ((d : Draft Fiber) → AreMade t.current cloned 0 es os d → BeginsNext d) → link ≡ entry done.kids
+      → has_node (children_if l.node) ≡ true → HasOpenedAs new st c (opened_at link q)
+  left_beside cloned u w new r q es os link kept same put done begins link_is some =
       let current : new.current ≡ t.current = done.current ∙ (put.current ∙ same) in
-      let next = kids_next new done.kids current are in
+      let are : AreMade t.current cloned 0 es os done.kids = subst (λ k. AreMade k cloned 0 es os done.kids) (put.current ∙ same) done.are in
+      let next = kids_next new done.kids current (begins done.kids are) in
       let v : Fiber = record l.value { stage = begun (of_boundary (Hidden a)) } in
       let keeps : Shape Fiber = kids_under t.current l.old in
       let (element, there) = put.stands l.around v l.old (taken keeps) l.rest (kept l.around l.value l.old l.rest l.here) in
       subst (λ x. HasOpenedAs new st c (opened_at x q)) (sym link_is)
       (opens_so new (opened_at (entry done.kids) q)
-      (has_fallen new st q l.levels l.frames l.value.element l.node a its_list done.kids (made_list 0 (fallback_in l.value.element ∷ []) its_olds done.kids are)
+      (has_fallen new st q l.levels l.frames l.value.element l.node a its_list done.kids (made_list 0 es os done.kids are)
       (falls_beside new st l.around p q l.levels v put.value l.old r keeps done.kids l.rest l.frames l.value.element l.node a its_list
       (done.stands (after p v l.old (taken keeps) l.around) put.value r l.rest there)
       (record {
@@ -242,7 +257,7 @@ same_olds t u st p a c l first o es list same current es_are =
     ∙ ap (λ x. matched (fallback_list (list_from t.current l.old)) x) es_are
 
 -- a list that was made for a fiber that had none
-module _ (t new : Trees Fiber) (p : ℕ) (first : Option ℕ) (es : List Element) (os : List (Option ℕ)) (beside : IsBareBeside t p first) (done : HasMadeFrom 0 t new p es os)
+module _ (cloned : Bool) (t new : Trees Fiber) (p : ℕ) (first : Option ℕ) (es : List Element) (os : List (Option ℕ)) (beside : IsBareBeside t p first) (done : HasMadeFrom cloned 0 t new p es os)
     (knows : KnowsPlaces new) where
   new_at : IsAt new beside.around p beside.value beside.old done.kids beside.rest
   new_at = knows beside.around p beside.value beside.old done.kids beside.rest (done.stands beside.around beside.value beside.old beside.rest beside.here)

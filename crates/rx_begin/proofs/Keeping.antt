@@ -1,30 +1,28 @@
 -- What keeps its old children: a clone, and a component without a cause.
-use Rattle.std.specs.Prelude.{◌≡◌, ℕ, ℤ, suc, Bool, true, false, not, ◌&&◌, List, [], Option, Some, None, IsSome, is_some, option_and_then, option_map}
+use Rattle.std.specs.Prelude.{◌≡◌, ℕ, ℤ, suc, Bool, true, false, not, ◌&&◌, List, Option, Some, None, IsSome, is_some, option_map}
 use Rattle.std.specs.Option.{option_map_or}
 use Rattle.std.proofs.Common.{refl, sym, ap, ◌∙◌, subst, inl, inr}
 use Rattle.rx_ast.specs.Syntax.{Program, Component}
 use Rattle.rx_rules.specs.Names.{component_at}
 use Rattle.rx_ctx.specs.Contexts.{Stack}
-use Rattle.rx_susp.specs.declared.boundary.BoundaryState.TheVariants.{Hidden}
 use Rattle.rx_elem.specs.Elements.{Element, Elements, Key, listed}
 use Rattle.rx_elem.specs.Elements as elements
-use Rattle.rx_elem.specs.Trees.{Instance, Mark, of_instance, of_boundary, Node, node, Forest, none, element_of, elements_in, mark_of, children_if, is_hidden, instance_in}
+use Rattle.rx_elem.specs.Trees.{Instance, Mark, of_instance, Node, node, Forest, element_of, elements_in, mark_of, children_if, is_hidden, instance_in}
 use Rattle.rx_elem.proofs.SelfMatch.{NoNull}
 use Rattle.rx_lists.specs.Shapes.{Shape}
 use Rattle.rx_lists.specs.Shapes as shapes
-use Rattle.rx_links.specs.Drafts.{taken, Trees, list_at, old_of}
-use Rattle.rx_links.specs.Readers.{value_in, list_from, made_value_of, made_value_in}
+use Rattle.rx_links.specs.Drafts.{taken, Trees, list_at}
+use Rattle.rx_links.specs.Readers.{value_in, made_value_of, made_value_in}
 use Rattle.rx_meaning.specs.Body.{body_of, ready}
 use Rattle.rx_meaning.specs.Cursor.{Frame, at_place}
-use Rattle.rx_meaning.specs.Fresh.{Sight, Contexts, Shape as Shape_of, one_list, part, hook_values, inputs_at, instance_after, old_instance, shape_of_body, shape_of_component}
-use Rattle.rx_meaning.specs.Settled.{Known, IsBodyOf, IsOwn, IsSettled, AllSettled, IfSettled, done_values, known_by, read_anew}
+use Rattle.rx_meaning.specs.Fresh.{Sight, Contexts, one_list, part, hook_values, inputs_at, instance_after, old_instance, shape_of_body, shape_of_component}
+use Rattle.rx_meaning.specs.Settled.{Known, IsBodyOf, IsOwn, IfSettled, done_values, known_by, read_anew}
 use Rattle.commit_laws.proofs.TakeOver.{settled_no_null}
 use Rattle.rx_fiber.specs.Fibers.{Fiber, is_cloned}
 use Rattle.rx_fiber.specs.Reading.{IsFor, whole, alone, beside, IsOld, new, of, next}
-use Rattle.rx_fiber.specs.OldLists.{primary_list, old_elements, old_fibers}
 use Rattle.rx_fiber.specs.Standing.{StandsAt, begins}
 use Rattle.rx_fiber.specs.Surround.{IsElementOf}
-use Rattle.rx_begin.specs.Nodes.{HasOpened, mark_at, keeps_children, parts_in, begun_children}
+use Rattle.rx_begin.specs.Nodes.{mark_at, keeps_children, parts_in, begun_children}
 use Rattle.rx_queue.specs.History.{Answers}
 use Rattle.rx_hooks.specs.declared.hook.Hook.{Hook}
 use Rattle.rx_hooks.specs.Hooks.{HookHistory, HooksStandFor}
@@ -33,10 +31,10 @@ use Rattle.rx_node.specs.MarkView.{instance_seen}
 use Rattle.rx_node.specs.declared.mark.Instance as code
 use Rattle.rx_begin.specs.declared.scene.Scene.{Scene}
 use Rattle.rx_begin.specs.Scenes.{IsCalmAt, TellsCalm, number_in}
-use Rattle.rx_begin.specs.Bodies.{StoodIn, HasShape, keeps}
-use Rattle.rx_begin.specs.declared.node.Begun.{Begun}
+use Rattle.rx_begin.specs.Bodies.{StoodIn}
 use Rattle.rx_begin.proofs.Making.{KnowsPlaces}
 use Rattle.rx_begin.proofs.Marks.{mark_is}
+use Rattle.rx_begin.proofs.Standing.{both_true, shown_again}
 
 -- The element of an old node
 
@@ -57,22 +55,13 @@ clone_stood t st p n fs cs e old knows (begins {v = v} {o = o} {rs = rs} {k = k}
     let l : made_value_of t.draft p ≡ Some v = ap made_value_in (knows k p v o (taken shapes.none) rs here).list in
     let same : w ≡ v = cc in
     let so : is.cloned ≡ true = sym (ap (λ u. is_cloned u.stage) same ∙ ap is_cloned is.stage) ∙ cloned in
-    stood_in t.current o old e was (is.same so)
+    stood_in t.current o old e was (is.same so).0
 
 -- Its children
 
 pub old_no_null : (p : Program) (k : Known) (old : Option Node) → IfSettled p k old → NoNull (children_if old)
 old_no_null p k None h = tt
 old_no_null p k (Some (node e m ns fs)) h = settled_no_null p k ns h.1
-
-both_true : (a b : Bool) → a && b ≡ true → (a ≡ true) × (b ≡ true)
-both_true true true h = (refl, refl)
-both_true true false h = cc
-both_true false b h = cc
-
-pub shown_again : (b : Bool) → not b ≡ true → b ≡ false
-shown_again true h = cc
-shown_again false h = refl
 
 -- the children of a node of no component are those of its element
 own_children : (p : Program) (k : Known) (e : Element) (m : Mark) (ns fs : Forest) → IsOwn p k e m ns fs → parts_in e ≡ None → is_hidden m ≡ false → begun_children e ≡ elements_in ns

@@ -1,16 +1,13 @@
 -- What a node leaves that is begun over its children.
-use Rattle.std.specs.Prelude.{◌≡◌, ℕ, suc, cond, true, false, List, [], ◌∷◌, ◌++◌, Option, Some, None}
+use Rattle.std.specs.Prelude.{◌≡◌, ℕ, ℤ, suc, cond, Bool, true, false, List, [], ◌∷◌, ◌++◌, Option, Some, None}
 use Rattle.std.specs.List.{zip}
 use Rattle.std.proofs.Common.{refl, sym, ap, ◌∙◌, subst}
-use Rattle.rx_base.specs.Awaits.{one}
 use Rattle.rx_ctx.specs.Contexts.{Stack, values_at}
 use Rattle.rx_elem.specs.Elements.{Element}
 use Rattle.rx_elem.specs.Trees.{Node, Mark, is_hidden, children_if, fallback_if}
 use Rattle.rx_elem.specs.Compare.{old_nodes}
 use Rattle.rx_lists.specs.Shapes.{Shape}
-use Rattle.rx_lists.specs.Shapes as shapes
-use Rattle.rx_links.specs.Drafts.{Draft, taken, made, Trees, old_of}
-use Rattle.rx_links.specs.Places.{Around, placed}
+use Rattle.rx_links.specs.Drafts.{Draft, taken, made, Trees}
 use Rattle.rx_links.specs.Readers.{list_from, IsLinked}
 use Rattle.rx_meaning.specs.Fresh.{Sight, Contexts, Part, part, one_list, two_lists, waiting, shape_of}
 use Rattle.rx_meaning.specs.Cursor.{Open, around, trying, Frame, Cursor, at_place, come_to, open_part, unit}
@@ -20,7 +17,8 @@ use Rattle.rx_fiber.specs.Fibers.{Fiber, begun}
 use Rattle.rx_fiber.specs.Fibers as stage
 use Rattle.rx_fiber.specs.OldLists.{primary_list, matched}
 use Rattle.rx_fiber.specs.Reading.{IsOld}
-use Rattle.rx_fiber.specs.Surround.{AreNext, IsAround, fallback_in, is_boundary}
+use Rattle.rx_fiber.specs.Stood.{given_more}
+use Rattle.rx_fiber.specs.Surround.{open_element, given_along, AreNext, IsAround, fallback_in, is_boundary}
 use Rattle.rx_fiber.specs.Surround as surround
 use Rattle.rx_fiber.specs.Standing.{IsStack, opened, StandsAt, begins}
 use Rattle.rx_fiber.specs.Unwound.{IsWithin}
@@ -29,36 +27,38 @@ use Rattle.rx_fiber.proofs.OldLists.{primary_is}
 use Rattle.rx_fiber.proofs.Matching.{AreOld, matched_old}
 use Rattle.rx_fiber.proofs.Opening.{opens_one, tries_children}
 use Rattle.rx_fiber.proofs.Unwinding.{place_within}
-use Rattle.rx_begin.specs.Children.{AreMade, no_more, gap, next}
 use Rattle.rx_begin.specs.Nodes.{begun_over, HasOpened}
 use Rattle.rx_begin.specs.Beginning.{IsPlace, IsEnd, HasBegun}
 use Rattle.rx_begin.specs.declared.node.Begun.{Begun}
 use Rattle.rx_begin.specs.declared.node.Begun.TheVariants.{Child, Leaf, Suspended}
+use Rattle.rx_begin.specs.declared.node.Begun.TheVariants as answers
 use Rattle.rx_begin.proofs.Making.{KnowsPlaces}
+use Rattle.rx_begin.proofs.Waiting.{AreWaiting, no_more, gap, next}
 
 -- the children that are made are those that begin next
-pub nexts : (c : Shape Fiber) (n : ℕ) (es : List Element) (os : List (Option ℕ)) (xs : List (Option Node)) (d : Draft Fiber) → AreMade c n es os d → AreOld c os xs → AreNext c n (zip es xs) d
-nexts c n [] [] [] _ no_more olds = surround.no_more
-nexts c n [] [] (x ∷ xs) _ no_more olds = absurd olds
-nexts c n [] (o ∷ os) xs d are olds = elim are [ ]
-nexts c n (e ∷ es) [] xs d are olds = elim are [ ]
-nexts c n (e ∷ es) (o ∷ os) [] d are olds = absurd olds
-nexts c n (e ∷ es) (o ∷ os) (x ∷ xs) d (gap null more) olds = surround.gap null (nexts c (suc n) es os xs d more olds.1)
-nexts c n (e ∷ es) (o ∷ os) (x ∷ xs) (made _ _ _ _ d) (next there waits more) olds = surround.next there waits olds.0 (nexts c (suc n) es os xs d more olds.1)
+pub nexts : (c : Shape Fiber) (ws : List (ℕ × ℤ)) (n : ℕ) (es : List Element) (os : List (Option ℕ)) (xs : List (Option Node)) (d : Draft Fiber) → AreWaiting c ws n es os d → AreOld c os xs → AreNext c ws n (zip es xs) d
+nexts c ws n [] [] [] _ no_more olds = surround.no_more
+nexts c ws n [] [] (x ∷ xs) _ no_more olds = absurd olds
+nexts c ws n [] (o ∷ os) xs d are olds = elim are [ ]
+nexts c ws n (e ∷ es) [] xs d are olds = elim are [ ]
+nexts c ws n (e ∷ es) (o ∷ os) [] d are olds = absurd olds
+nexts c ws n (e ∷ es) (o ∷ os) (x ∷ xs) d (gap null more) olds = surround.gap null (nexts c ws (suc n) es os xs d more olds.1)
+nexts c ws n (e ∷ es) (o ∷ os) (x ∷ xs) (made _ _ _ _ d) (next there waits more) olds = surround.next there waits olds.0 (nexts c ws (suc n) es os xs d more olds.1)
 
 -- the cursor is of the form that the answer says
 abbrev pub Leads : Begun → Cursor → Type 0
 Leads (Child id) c = IsPlace c
 Leads Leaf c = IsEnd c
 Leads (Suspended r) c = ⊥
+Leads (answers.Hidden a) c = ⊥
 
-pub leads : (c : Shape Fiber) (n levels : ℕ) (fs : List Frame) (x : Open) (cs : Contexts) (done : List (Option Node)) (xs : List (Element × Option Node)) (d : Draft Fiber)
-    → AreNext c n xs d → Leads (begun_over d) (come_to levels fs x cs done xs)
-leads c n levels fs x cs done [] _ surround.no_more = tt
-leads c n levels fs x cs done (y ∷ ys) d (surround.gap null more) =
+pub leads : (c : Shape Fiber) (ws : List (ℕ × ℤ)) (n levels : ℕ) (fs : List Frame) (x : Open) (cs : Contexts) (done : List (Option Node)) (xs : List (Element × Option Node)) (d : Draft Fiber)
+    → AreNext c ws n xs d → Leads (begun_over d) (come_to levels fs x cs done xs)
+leads c ws n levels fs x cs done [] _ surround.no_more = tt
+leads c ws n levels fs x cs done (y ∷ ys) d (surround.gap null more) =
     subst (λ b. Leads (begun_over d) (cond b (come_to levels fs x cs (done ++ None ∷ []) ys) (at_place levels ((record { node = x; contexts = cs; done = done; rest = ys }) ∷ fs) cs y.0 y.1)))
-    (sym null) (leads c (suc n) levels fs x cs (done ++ None ∷ []) ys d more)
-leads c n levels fs x cs done (y ∷ ys) (made id _ _ _ _) (surround.next there waits old more) =
+    (sym null) (leads c ws (suc n) levels fs x cs (done ++ None ∷ []) ys d more)
+leads c ws n levels fs x cs done (y ∷ ys) (made id _ _ _ _) (surround.next there waits old more) =
     subst (λ b. Leads (Child id) (cond b (come_to levels fs x cs (done ++ None ∷ []) ys) (at_place levels ((record { node = x; contexts = cs; done = done; rest = ys }) ∷ fs) cs y.0 y.1)))
     (sym there) tt
 
@@ -74,11 +74,11 @@ module _ (s : Sight) (t : Trees Fiber) (st : Stack) (new : Trees Fiber) (st' : S
 
   -- a node comes to its list
   comes_to : (answer : Begun) (x : Open) (list : Part) (d : Draft Fiber) → answer ≡ begun_over d → cursor.begin n fs e old (shape_of s cs e old) ≡ open_part n fs x list
-      → StandsAt new st' (Some (come_at d p)) (open_part n fs x list) → AreNext new.current 0 (children_with_old list) d → HasBegun s t st new st' p n fs cs e old answer
+      → StandsAt new st' (Some (come_at d p)) (open_part n fs x list) → AreNext new.current (given_more (open_element x) (given_along fs)) 0 (children_with_old list) d → HasBegun s t st new st' p n fs cs e old answer
   comes_to answer x list d is same at kids =
       let u : unit s (at_place (suc n) fs cs e old) ≡ open_part n fs x list = unit_begins ∙ same in
       has_begun answer d is (subst (λ c. StandsAt new st' (Some (come_at d p)) c) (sym u) at)
-      (subst (λ c. Leads (begun_over d) c) (sym u) (leads new.current 0 n fs x list.contexts [] (children_with_old list) d kids))
+      (subst (λ c. Leads (begun_over d) c) (sym u) (leads new.current (given_more (open_element x) (given_along fs)) 0 n fs x list.contexts [] (children_with_old list) d kids))
 
   module _ (linked : IsLinked t.current) (knows : KnowsPlaces t) where
     -- the old fibers of its children are those of their old nodes
@@ -86,11 +86,11 @@ module _ (s : Sight) (t : Trees Fiber) (st : Stack) (new : Trees Fiber) (st' : S
     olds_of o es was = matched_old t.current linked (children_if old) (primary_list (list_from t.current o)) (primary_is t.current linked o old was) es
 
     -- a node with one list
-    pub begun_one : (answer : Begun) (m : Mark) (list : Part) (es : List Element) (os : List (Option ℕ)) → (done : HasOpened t new p (begun m) es os answer) → AreNext t.current 0 (children_with_old list) done.kids
+    pub begun_one : (cloned : Bool) (answer : Begun) (m : Mark) (list : Part) (es : List Element) (os : List (Option ℕ)) → (done : HasOpened cloned t new p (begun m) es os answer) → AreNext t.current (given_more e (given_along fs)) 0 (children_with_old list) done.kids
         → StandsAt t st (Some p) (at_place (suc n) fs cs e old) → shape_of s cs e old ≡ one_list m list → is_hidden m ≡ false
         → (values_at st ≡ cs → IsStack st (opened fs) → IsStack st' ((around e m, list.contexts) ∷ opened fs)) → HasBegun s t st new st' p n fs cs e old answer
-    begun_one answer m list es os done beside (begins {v = v} {o = o} {rs = rs} {k = k} here is was surrounds values stack) shape shown stacks =
-        let kids = subst (λ c. AreNext c 0 (children_with_old list) done.kids) (sym done.current) beside in
+    begun_one cloned answer m list es os done beside (begins {v = v} {o = o} {rs = rs} {k = k} here is was surrounds values stack) shape shown stacks =
+        let kids = subst (λ c. AreNext c (given_more e (given_along fs)) 0 (children_with_old list) done.kids) (sym done.current) beside in
         let surrounds' : IsAround new.current k v.place rs fs =
         subst (λ c. IsAround c k v.place rs fs) (sym done.current) (subst (λ place. IsAround t.current k place rs fs) (sym is.at) surrounds) in
         comes_to answer (around e m) list done.kids done.answer_is (ap (cursor.begin n fs e old) shape)
@@ -98,14 +98,14 @@ module _ (s : Sight) (t : Trees Fiber) (st : Stack) (new : Trees Fiber) (st' : S
         kids
 
     -- a boundary
-    pub begun_trying : (answer : Begun) (es given : List Element) (os : List (Option ℕ)) → (done : HasOpened t new p stage.trying given os answer)
-        → AreNext t.current 0 (children_with_old (part cs es (children_if old))) done.kids → StandsAt t st (Some p) (at_place (suc n) fs cs e old) → is_boundary e ≡ true
+    pub begun_trying : (cloned : Bool) (answer : Begun) (es given : List Element) (os : List (Option ℕ)) → (done : HasOpened cloned t new p stage.trying given os answer)
+        → AreNext t.current (given_more e (given_along fs)) 0 (children_with_old (part cs es (children_if old))) done.kids → StandsAt t st (Some p) (at_place (suc n) fs cs e old) → is_boundary e ≡ true
         → shape_of s cs e old ≡ two_lists (part cs es (children_if old)) (part cs (fallback_in e ∷ []) (fallback_if old))
         → (values_at st ≡ cs → IsStack st (opened fs) → IsStack st' ((trying e old (part cs (fallback_in e ∷ []) (fallback_if old)), cs) ∷ opened fs))
         → HasBegun s t st new st' p n fs cs e old answer
-    begun_trying answer es given os done beside (begins {v = v} {o = o} {rs = rs} {k = k} here is was surrounds values stack) boundary shape stacks =
+    begun_trying cloned answer es given os done beside (begins {v = v} {o = o} {rs = rs} {k = k} here is was surrounds values stack) boundary shape stacks =
         let list : Part = part cs es (children_if old) in
-        let kids = subst (λ c. AreNext c 0 (children_with_old list) done.kids) (sym done.current) beside in
+        let kids = subst (λ c. AreNext c (given_more e (given_along fs)) 0 (children_with_old list) done.kids) (sym done.current) beside in
         let surrounds' : IsAround new.current k v.place rs fs =
         subst (λ c. IsAround c k v.place rs fs) (sym done.current) (subst (λ place. IsAround t.current k place rs fs) (sym is.at) surrounds) in
         let was' : IsOld new.current o old = subst (λ c. IsOld c o old) (sym done.current) was in

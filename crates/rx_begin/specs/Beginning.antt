@@ -1,27 +1,48 @@
 -- A place begins.
-use Rattle.std.specs.Prelude.{◌≡◌, ℕ, suc, false, List, Option, Some}
-use Rattle.rx_base.specs.Awaits.{one}
+use Rattle.std.specs.Prelude.{◌≡◌, ℕ, suc, false, List, [], ◌∷◌, Option, Some, None}
+use Rattle.rx_base.specs.Awaits.{Awaits, one}
 use Rattle.rx_ast.specs.Syntax.{Program}
 use Rattle.rx_ctx.specs.Contexts.{Stack}
-use Rattle.rx_elem.specs.Elements.{Element}
-use Rattle.rx_elem.specs.Trees.{Node}
+use Rattle.rx_elem.specs.Elements.{Element, Elements, Key}
+use Rattle.rx_elem.specs.Elements as elements
+use Rattle.rx_elem.specs.Trees.{Forest, Node, node, of_boundary, fallback_if}
+use Rattle.rx_susp.specs.declared.boundary.BoundaryState.TheVariants.{Hidden}
 use Rattle.rx_hooks.specs.declared.hook.Hook.{Hook}
-use Rattle.rx_links.specs.Drafts.{Trees}
-use Rattle.rx_meaning.specs.Fresh.{Sight, Contexts, waiting, shape_of, old_instance}
+use Rattle.rx_lists.specs.Shapes as shapes
+use Rattle.rx_links.specs.Drafts.{taken, Trees, old_of}
+use Rattle.rx_meaning.specs.Again.{AllValuesAgree, AreUnresolved}
+use Rattle.rx_meaning.specs.Fresh.{Sight, Contexts, part, waiting, shape_of}
 use Rattle.rx_meaning.specs.Settled.{IfSettled, known_by}
-use Rattle.rx_meaning.specs.Cursor.{Frame, Cursor, at_place, at_end, ended, is_null, unit, unwind}
+use Rattle.rx_meaning.specs.Cursor.{Frame, Cursor, falling, at_place, at_end, ended, is_null, open_part, unit, unwind}
+use Rattle.commit_laws.specs.WaitsAgain.{without_lanes}
 use Rattle.rx_fiber.specs.Fibers.{Fiber}
+use Rattle.rx_fiber.specs.Reading.{IsOld}
+use Rattle.rx_fiber.specs.Stood.{StoodAt}
+use Rattle.rx_fiber.specs.Surround.{fallback_in, given_along}
 use Rattle.rx_fiber.specs.Standing.{StandsAt}
-use Rattle.rx_fiber.specs.Unwound.{IsWithin}
+use Rattle.rx_fiber.specs.Unwound.{IsWithin, IsLeftAt}
 use Rattle.draw_laws.specs.Drawn.{IsDrawn}
 use Rattle.rx_begin.specs.Scenes.{KeepsHooks, GivesHooks}
+use Rattle.rx_begin.specs.Hidden.{ForEach}
+use Rattle.rx_begin.specs.Again.{HasOldFallback}
 use Rattle.rx_begin.specs.declared.node.Begun.{Begun}
 use Rattle.rx_begin.specs.declared.node.Begun.TheVariants.{Child, Leaf, Suspended}
+use Rattle.rx_begin.specs.declared.node.Begun.TheVariants as answers
 
--- The render stands at a place of this fiber, which begins next: what stands there is an element that the program draws and for which there is a node.
+-- hooks are kept of each instance of an old tree that may be missing, and has a number
+abbrev pub KeepsHooksIf : (kept : ℕ → Option (List Hook)) → Option Node → Type 0
+KeepsHooksIf kept None = Unit {0}
+KeepsHooksIf kept (Some x) = ForEach (KeepsHooks kept) x
+
+-- they give the values that the render sees
+abbrev pub GivesHooksIf : Sight → (kept : ℕ → Option (List Hook)) → Option Node → Type 0
+GivesHooksIf s kept None = Unit {0}
+GivesHooksIf s kept (Some x) = ForEach (GivesHooks s kept) x
+
+-- The render stands at a place of this fiber, which begins next: what stands there is an element that the program draws and for which there is a node, and hooks are kept of all instances of its old node.
 pub data IsAtPlace (p : Program) (kept : ℕ → Option (List Hook)) (t : Trees Fiber) (st : Stack) (q : ℕ) : Type 0 where
   stands : {n : ℕ} {fs : List Frame} {cs : Contexts} {e : Element} {old : Option Node}
-      → StandsAt t st (Some q) (at_place (suc n) fs cs e old) → is_null e ≡ false → IsDrawn p e → KeepsHooks kept (old_instance old) → IsAtPlace p kept t st q
+      → StandsAt t st (Some q) (at_place (suc n) fs cs e old) → is_null e ≡ false → IsDrawn p e → KeepsHooksIf kept old → IsAtPlace p kept t st q
 
 -- the next unit begins a place
 abbrev pub IsPlace : Cursor → Type 0
@@ -35,7 +56,23 @@ IsEnd (at_place levels fs cs e old) = ⊥
 IsEnd (at_end levels fs o done) = Unit {0}
 IsEnd (ended p) = ⊥
 
--- What a unit leaves that begins the place of a fiber: the render stands at the first child, or at the fiber's end; or a body waits, and all is as it was.
+-- The place is that of a hidden boundary, with its element and where it stood, which waits still for these: its children are not tried, and its fallback opens next.
+pub record IsHiddenAgain (s : Sight) (t new : Trees Fiber) (st' : Stack) (p n : ℕ) (fs : List Frame) (cs : Contexts) (e : Element) (old : Option Node) (a : Awaits) : Type 0 where
+  pub key : Key
+  pub fallback : Element
+  pub given : Elements
+  pub boundary : e ≡ elements.boundary key fallback given
+  pub kept : Forest
+  pub shown : Forest
+  pub was : old ≡ Some (node e (of_boundary (Hidden a)) kept shown)
+  pub unresolved : AreUnresolved s a
+  pub agree : AllValuesAgree (without_lanes s) s kept
+  pub old_is : IsOld t.current (old_of t.draft p) old
+  pub stood : StoodAt t.current (given_along fs) (old_of t.draft p)
+  pub left : IsLeftAt new st' p (taken shapes.none) a (open_part n fs (falling e old a) (part cs (fallback_in e ∷ []) (fallback_if old)))
+  pub again : HasOldFallback new.current (given_along left.frames) left.old left.node left.value.element
+
+-- What a unit leaves that begins the place of a fiber: the render stands at the first child, or at the fiber's end; or a body waits, and all is as it was; or a hidden boundary waits still.
 abbrev pub HasBegun : Sight → (before : Trees Fiber) → Stack → (after : Trees Fiber) → Stack → (at : ℕ) → (levels : ℕ) → List Frame → Contexts → Element → Option Node → Begun → Type 0
 HasBegun s t st new st' p n fs cs e old (Child id) =
     StandsAt new st' (Some id) (unit s (at_place (suc n) fs cs e old)) × IsPlace (unit s (at_place (suc n) fs cs e old))
@@ -46,9 +83,17 @@ HasBegun s t st new st' p n fs cs e old (Suspended r) =
     × (new ≡ t)
     × (st' ≡ st)
     × IsWithin new st' p fs
+HasBegun s t st new st' p n fs cs e old (answers.Hidden a) = IsHiddenAgain s t new st' p n fs cs e old a
+
+-- what is waited for still, where a hidden boundary is not tried
+abbrev pub awaited_again : Begun → Option Awaits
+awaited_again (Child id) = None
+awaited_again Leaf = None
+awaited_again (Suspended r) = None
+awaited_again (answers.Hidden a) = Some a
 
 -- the same, from each cursor at which the render may stand, over an old node that is settled
 abbrev pub BeginsPlace : Sight → (kept : ℕ → Option (List Hook)) → (before : Trees Fiber) → Stack → (after : Trees Fiber) → Stack → (at : ℕ) → Begun → Type 0
 BeginsPlace s kept t st new st' p b =
     (n : ℕ) (fs : List Frame) (cs : Contexts) (e : Element) (old : Option Node)
-    → StandsAt t st (Some p) (at_place (suc n) fs cs e old) → GivesHooks s kept (old_instance old) → IfSettled s.program (known_by s) old → HasBegun s t st new st' p n fs cs e old b
+    → StandsAt t st (Some p) (at_place (suc n) fs cs e old) → GivesHooksIf s kept old → IfSettled s.program (known_by s) old → HasBegun s t st new st' p n fs cs e old b

@@ -1,5 +1,5 @@
 -- What stands at a place once its fiber is begun.
-use Rattle.std.specs.Prelude.{◌≡◌, ℕ, false, Option, Some, option_map}
+use Rattle.std.specs.Prelude.{◌≡◌, ℕ, Bool, true, false, Option, Some, option_map}
 use Rattle.rx_elem.specs.Elements.{Element}
 use Rattle.rx_elem.specs.Trees.{Node, Mark, element_of, elements_in, children_if, is_hidden}
 use Rattle.rx_links.specs.Drafts.{Trees, old_of}
@@ -7,7 +7,7 @@ use Rattle.rx_links.specs.Readers.{list_from}
 use Rattle.rx_meaning.specs.Fresh.{Contexts, Part, part, Shape, waiting, one_list}
 use Rattle.rx_fiber.specs.Fibers.{Fiber, begun}
 use Rattle.rx_fiber.specs.OldLists.{primary_list, matched, old_elements, old_fibers}
-use Rattle.rx_begin.specs.Nodes.{HasOpened}
+use Rattle.rx_begin.specs.Nodes.{HasOpened, mark_at, keeps_children}
 use Rattle.rx_begin.specs.declared.node.Begun.{Begun}
 use Rattle.rx_begin.specs.declared.node.Begun.TheVariants.{Suspended}
 
@@ -19,21 +19,22 @@ pub record IsOpened (shape : Shape) (cs : Contexts) (old : Option Node) (before 
   pub contexts : list.contexts ≡ cs
   pub was : list.old ≡ children_if old
   pub shown : is_hidden mark ≡ false
-  pub opened : HasOpened before after p (begun mark) list.elements (matched (primary_list (list_from before.current (old_of before.draft p))) list.elements) answer
+  pub opened : HasOpened false before after p (begun mark) list.elements (matched (primary_list (list_from before.current (old_of before.draft p))) list.elements) answer
 
 -- this element stands in an old node
 abbrev pub StoodIn : Option Node → Element → Type 0
 StoodIn old e = option_map element_of old ≡ Some e
 
--- what stands there is a node with the children of the old one, and its fiber is begun over clones of these
-pub record IsKept (shape : Shape) (cs : Contexts) (old : Option Node) (before after : Trees Fiber) (p : ℕ) (answer : Begun) : Type 0 where
+-- what stands there is a node with the children of the old one, and its fiber, which is cloned, is begun over clones of these
+pub record IsKept (cloned : Bool) (shape : Shape) (cs : Contexts) (old : Option Node) (before after : Trees Fiber) (p : ℕ) (answer : Begun) : Type 0 where
   pub mark : Mark
   pub shape_is : shape ≡ one_list mark (part cs (elements_in (children_if old)) (children_if old))
   pub shown : is_hidden mark ≡ false
-  pub opened : HasOpened before after p (begun mark) (old_elements (primary_list (list_from before.current (old_of before.draft p)))) (old_fibers (primary_list (list_from before.current (old_of before.draft p)))) answer
+  pub keeps : keeps_children cloned (mark_at before.current (old_of before.draft p)) ≡ true
+  pub opened : HasOpened true before after p (begun mark) (old_elements (primary_list (list_from before.current (old_of before.draft p)))) (old_fibers (primary_list (list_from before.current (old_of before.draft p)))) answer
 
--- A component's place is begun: its body waits, and no fiber is changed, or its node is begun, anew or over clones of the children of its old one.
-pub data HasShape (shape : Shape) (cs : Contexts) (old : Option Node) (before after : Trees Fiber) (p : ℕ) (answer : Begun) : Type 0 where
-  waits : (r : ℕ) → shape ≡ waiting r → after ≡ before → answer ≡ Suspended r → HasShape shape cs old before after p answer
-  opens : IsOpened shape cs old before after p answer → HasShape shape cs old before after p answer
-  keeps : IsKept shape cs old before after p answer → HasShape shape cs old before after p answer
+-- A component's place is begun, that of a fiber that is cloned or not: its body waits, and no fiber is changed, or its node is begun, anew or over clones of the children of its old one.
+pub data HasShape (cloned : Bool) (shape : Shape) (cs : Contexts) (old : Option Node) (before after : Trees Fiber) (p : ℕ) (answer : Begun) : Type 0 where
+  waits : (r : ℕ) → shape ≡ waiting r → after ≡ before → answer ≡ Suspended r → HasShape cloned shape cs old before after p answer
+  opens : IsOpened shape cs old before after p answer → HasShape cloned shape cs old before after p answer
+  keeps : IsKept cloned shape cs old before after p answer → HasShape cloned shape cs old before after p answer

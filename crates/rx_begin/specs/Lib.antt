@@ -2,6 +2,9 @@ pub mod Children
 pub mod Nodes
 pub mod PartsView
 pub mod Scenes
+pub mod Hidden
+pub mod Again
+pub mod Others
 pub mod Bodies
 pub mod Beginning
 pub mod Opening

@@ -47,19 +47,19 @@ abbrev pub begun_from : (first : Option ℕ) → Begun
 begun_from None = Leaf
 begun_from (Some id) = Child id
 
--- a made fiber that had no children has this stage and the children of these elements, and nothing else is changed
-pub record HasList (before after : Trees Fiber) (p : ℕ) (stage : Stage) (es : List Element) (os : List (Option ℕ)) (first : Option ℕ) : Type 0 where
+-- a made fiber that had no children has this stage and the children of these elements, clones or none, and nothing else is changed
+pub record HasList (cloned : Bool) (before after : Trees Fiber) (p : ℕ) (stage : Stage) (es : List Element) (os : List (Option ℕ)) (first : Option ℕ) : Type 0 where
   pub kids : Draft Fiber
-  pub are : AreMade before.current 0 es os kids
+  pub are : AreMade before.current cloned 0 es os kids
   pub stands : (k : Around Fiber) (v : Fiber) (o : Option ℕ) (rs : Draft Fiber)
       → before.draft ≡ placed k (made p v o (taken shapes.none) rs) → after.draft ≡ placed k (made p (record v { stage = stage }) o kids rs)
   pub current : after.current ≡ before.current
   pub first_is : first ≡ entry kids
 
 -- the same, with where the render comes from there
-pub record HasOpened (before after : Trees Fiber) (p : ℕ) (stage : Stage) (es : List Element) (os : List (Option ℕ)) (answer : Begun) : Type 0 where
+pub record HasOpened (cloned : Bool) (before after : Trees Fiber) (p : ℕ) (stage : Stage) (es : List Element) (os : List (Option ℕ)) (answer : Begun) : Type 0 where
   pub kids : Draft Fiber
-  pub are : AreMade before.current 0 es os kids
+  pub are : AreMade before.current cloned 0 es os kids
   pub stands : (k : Around Fiber) (v : Fiber) (o : Option ℕ) (rs : Draft Fiber)
       → before.draft ≡ placed k (made p v o (taken shapes.none) rs) → after.draft ≡ placed k (made p (record v { stage = stage }) o kids rs)
   pub current : after.current ≡ before.current

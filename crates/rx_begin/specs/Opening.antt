@@ -1,8 +1,9 @@
 -- A boundary opens its fallback.
-use Rattle.std.specs.Prelude.{◌≡◌, ℕ, Bool, Option, Some, None, if◌then◌else◌}
+use Rattle.std.specs.Prelude.{◌≡◌, ℕ, ℤ, Bool, List, [], ◌∷◌, Option, Some, None, if◌then◌else◌}
 use Rattle.rx_base.specs.Awaits.{Awaits}
 use Rattle.rx_ctx.specs.Contexts.{Stack}
-use Rattle.rx_elem.specs.Trees.{of_boundary, children_if}
+use Rattle.rx_elem.specs.Elements.{Element}
+use Rattle.rx_elem.specs.Trees.{Node, of_boundary, children_if}
 use Rattle.rx_susp.specs.declared.boundary.BoundaryState.TheVariants.{Hidden}
 use Rattle.rx_lists.specs.Shapes.{Shape, first}
 use Rattle.rx_lists.specs.Shapes as shapes
@@ -10,10 +11,12 @@ use Rattle.rx_links.specs.Drafts.{Draft, taken, made, Trees, kids_under}
 use Rattle.rx_links.specs.Places.{Around, placed}
 use Rattle.rx_meaning.specs.Cursor.{Cursor}
 use Rattle.rx_fiber.specs.Fibers.{Fiber, begun, fallback}
-use Rattle.rx_fiber.specs.OldLists.{begins_fallback}
+use Rattle.rx_fiber.specs.OldLists.{begins_fallback, matched, old_elements, old_fibers}
 use Rattle.rx_fiber.specs.Reading.{has_node}
+use Rattle.rx_fiber.specs.Surround.{fallback_in}
 use Rattle.rx_fiber.specs.Standing.{StandsAt}
 use Rattle.rx_fiber.specs.Unwound.{IsLeftAt}
+use Rattle.rx_begin.specs.Again.{HasOldFallback}
 use Rattle.rx_begin.specs.Beginning.{IsPlace, IsEnd}
 use Rattle.rx_begin.specs.declared.opening.Opened.{Opened}
 use Rattle.rx_begin.specs.declared.opening.Opened.TheVariants.{First, Empty}
@@ -54,3 +57,18 @@ pub record HasFallback (before after : Trees Fiber) (p : ℕ) (old : Option ℕ)
   pub stands : (k : Around Fiber) (v : Fiber) (o : Option ℕ) (ks rs : Draft Fiber) → before.draft ≡ placed k (made p v o ks rs)
       → (value.element ≡ v.element) × (after.draft ≡ placed k (made p v o ks (made id value old (taken shapes.none) rs)))
   pub current : after.current ≡ before.current
+
+-- a fallback's list has these elements, which are the fallback of the boundary's element alone; where none are given, it has those of the old fallback
+abbrev pub IsFallbackOf : Shape Fiber → List (ℕ × ℤ) → Option ℕ → Option Node → Element → (given : Option (List Element)) → Type 0
+IsFallbackOf current ws o old e None = HasOldFallback current ws o old e
+IsFallbackOf current ws o old e (Some es) = es ≡ fallback_in e ∷ []
+
+-- the elements that its fibers get, beside the list of the old fallback
+abbrev pub given_elements : (given : Option (List Element)) → Shape Fiber → List Element
+given_elements None s = old_elements s
+given_elements (Some es) s = es
+
+-- the old fibers that they are made for
+abbrev pub given_fibers : (given : Option (List Element)) → Shape Fiber → List (Option ℕ)
+given_fibers None s = old_fibers s
+given_fibers (Some es) s = matched s es

@@ -3,7 +3,9 @@ ghost use Rattle.std.specs.Prelude.{◌≡◌, ◌+◌, ◌<◌, ◌≤◌, suc,
 ghost use Rattle.rx_ast.specs.Syntax as syntax;
 ghost use Rattle.rx_ctx.specs.Contexts.{values_at};
 ghost use Rattle.rx_elem.specs.Elements as elements;
-ghost use Rattle.rx_elem.specs.Trees.{Node, host_number, instance_in};
+ghost use Rattle.rx_elem.specs.Trees.{Node, host_number, instance_in, children_of, of_boundary};
+ghost use Rattle.rx_susp.specs.declared.boundary.BoundaryState.TheVariants.{Hidden};
+ghost use Rattle.rx_fiber.specs.Reading.{IsOld};
 ghost use Rattle.rx_links.specs.Drafts.{old_of};
 ghost use Rattle.rx_links.specs.Readers.{list_from, made_value_of};
 ghost use Rattle.rx_fiber.specs.Fibers as fibers;
@@ -20,16 +22,19 @@ ghost use Rattle.rx_fiber.specs.Standing.{StandsAt};
 ghost use Rattle.rx_hook_store.specs.Store.{kept_hooks};
 ghost use Rattle.rx_hook_store.specs.Gives.{GivesValues};
 ghost use Rattle.rx_begin.specs.Scenes.{IsSceneOf, TellsCalm};
-ghost use Rattle.rx_begin.specs.Beginning.{IsAtPlace, BeginsPlace};
+ghost use Rattle.rx_begin.specs.Hidden.{GivesHooksIn, KeepsOld, WaitsStill};
+ghost use Rattle.rx_begin.specs.Others.{HasBegunOther, IsCauseToTry};
+ghost use Rattle.rx_begin.specs.Beginning.{IsAtPlace, BeginsPlace, awaited_again};
 
 use crate::body::begin_component;
+use crate::hidden::waits_still;
 use crate::kind::{begun_children, begun_stage, enter, parts_of};
 use crate::node::{Begun, keep_node, keeps_children, old_host, open_node};
 use crate::scene::Scene;
-use rx_base::Steps;
+use rx_base::{Awaits, Steps};
 use rx_ctx::ContextStack;
 use rx_elem::Element;
-use rx_fiber::Fiber;
+use rx_fiber::{Fiber, StageChange};
 use rx_hook_store::HookStore;
 use rx_links::{FiberId, FiberTree};
 use std::alloc::{AllocError, Global};
@@ -47,9 +52,9 @@ fn begin_other(
     requires bare { IsBareAt tree.old at }
     requires context { IfSome (given_context element.now) (λ c. c < length (values_at contexts.old)) }
     ensures kept { IfOk result (λ b. keeps_children cloned (mark_at tree.old.current (old_of tree.old.draft at)) ≡ true
-        → HasOpened tree.old tree.new at (begun_stage element.now (option_and_then host_number (mark_at tree.old.current (old_of tree.old.draft at))))
+        → HasOpened true tree.old tree.new at (begun_stage element.now (option_and_then host_number (mark_at tree.old.current (old_of tree.old.draft at))))
         (old_elements (primary_list (list_from tree.old.current (old_of tree.old.draft at)))) (old_fibers (primary_list (list_from tree.old.current (old_of tree.old.draft at)))) b) }
-    ensures opened { IfOk result (λ b. keeps_children cloned (mark_at tree.old.current (old_of tree.old.draft at)) ≡ false → HasOpened tree.old tree.new at (begun_stage element.now (option_and_then host_number (mark_at tree.old.current (old_of tree.old.draft at)))) (begun_children element.now)
+    ensures opened { IfOk result (λ b. keeps_children cloned (mark_at tree.old.current (old_of tree.old.draft at)) ≡ false → HasOpened false tree.old tree.new at (begun_stage element.now (option_and_then host_number (mark_at tree.old.current (old_of tree.old.draft at)))) (begun_children element.now)
         (matched (primary_list (list_from tree.old.current (old_of tree.old.draft at))) (begun_children element.now)) b) }
     ensures stack { OnOk result (contexts.new ≡ begun_stack element.now contexts.old) }
     ensures current { tree.new.current ≡ tree.old.current }
@@ -65,10 +70,62 @@ fn begin_other(
     }
 }
 
+// What the boundary of a cloned fiber waits for still, if it is hidden: nothing new has come for which its children are to be
+// tried.
+fn still_awaited(
+    tree: &FiberTree<Fiber>,
+    at: FiberId,
+    cloned: bool,
+    scene: &Scene,
+    hooks: &HookStore,
+) -> Option<Awaits>
+    requires bare { IsBareAt tree.now at }
+    requires kept { KeepsOld (kept_hooks hooks.now) tree.now.current (old_of tree.now.draft at) }
+    ensures cloned { IfSome result (λ a. cloned ≡ true) }
+    ensures hidden { IfSome result (λ a. mark_at tree.now.current (old_of tree.now.draft at) ≡ Some (of_boundary (Hidden a))) }
+    ensures waits { IfSome result (λ a. (s : Sight) (x : Node) → IsSceneOf scene.now s → IsOld tree.now.current (old_of tree.now.draft at) (Some x) → GivesHooksIn s (kept_hooks hooks.now) (children_of x) → WaitsStill s a x) }
+    ensures tries { cloned ≡ true → result ≡ None → IsCauseToTry scene.now (kept_hooks hooks.now) tree.now at }
+{
+    if !cloned {
+        return None;
+    }
+    tree.place_facts();
+    waits_still(tree, tree.alternate(at), scene, hooks)
+}
+
+// The place of an element of no component begins; a hidden boundary that waits still is not tried.
+fn begin_or_hide(
+    alloc: Global,
+    tree: &mut FiberTree<Fiber>,
+    at: FiberId,
+    element: &Element,
+    cloned: bool,
+    scene: &Scene,
+    hooks: &HookStore,
+    contexts: &mut ContextStack,
+) -> Result<Begun, AllocError>
+    requires bare { IsBareAt tree.old at }
+    requires context { IfSome (given_context element.now) (λ c. c < length (values_at contexts.old)) }
+    requires kept { KeepsOld (kept_hooks hooks.now) tree.old.current (old_of tree.old.draft at) }
+    ensures begun { IfOk result (λ b. HasBegunOther scene.now (kept_hooks hooks.now) tree.old contexts.old tree.new contexts.new at element.now cloned b) }
+    ensures tries { IfOk result (λ b. cloned ≡ true → awaited_again b ≡ None → IsCauseToTry scene.now (kept_hooks hooks.now) tree.old at) }
+    ensures current { tree.new.current ≡ tree.old.current }
+{
+    match still_awaited(tree, at, cloned, scene, hooks) {
+        Some(awaits) => {
+            tree.place_facts();
+            tree.mark_made(at, &StageChange::Try);
+            Ok(Begun::Hidden(awaits))
+        }
+        None => begin_other(alloc, tree, at, element, cloned, contexts),
+    }
+}
+
 /// Begins the place of a fiber, as one unit of a render (react.dev, Render and Commit): a component's body is evaluated, once;
 /// a provider gives its value; the fibers of all children are made, each for the old child of its identity and type. Where the
 /// fiber is a clone, and its component has no cause to be rendered anew, the body is skipped, and the children are clones of the
-/// old ones (react.dev, useState: React skips the component). The current tree stays as it is. Also answered is whether a body
+/// old ones (react.dev, useState: React skips the component). Where the clone is a hidden boundary's, and nothing new has come
+/// for what it waits for and keeps, its children are not tried. The current tree stays as it is. Also answered is whether a body
 /// was evaluated.
 ///
 /// # Errors
@@ -93,6 +150,8 @@ pub fn begin<L: Ledger>(
     ensures anew { IfOk result (λ b. (v : fibers.Fiber) → Some v ≡ made_value_of tree.old.draft at → IsSome (parts_in v.element) → is_cloned v.stage ≡ false → b.1 ≡ true) }
     ensures exact { IfOk result (λ b. (v : fibers.Fiber) → Some v ≡ made_value_of tree.old.draft at → IsSome (parts_in v.element) → is_cloned v.stage ≡ true
         → TellsCalm scene.now (kept_hooks hooks.old) (values_at contexts.old) (option_and_then instance_in (mark_at tree.old.current (old_of tree.old.draft at))) (not b.1)) }
+    // A hidden boundary's children are tried only where its fiber is no clone, or there is a cause.
+    ensures tries { IfOk result (λ b. (v : fibers.Fiber) → Some v ≡ made_value_of tree.old.draft at → parts_in v.element ≡ None → is_cloned v.stage ≡ true → awaited_again b.0 ≡ None → IsCauseToTry scene.now (kept_hooks hooks.old) tree.old at) }
     ensures few { IfOk result (λ b. (s : Sight) (n : ℕ) (fs : List Frame) (cs : Contexts) (e : elements.Element) (old : Option Node) → IsSceneOf scene.now s → StandsAt tree.old contexts.old (Some at) (at_place (suc n) fs cs e old)
         → (if b.1 then 1 else 0) ≤ next_counts each_body s (at_place (suc n) fs cs e old)) }
     ensures rises { steps.old ≤ steps.new }
@@ -119,7 +178,7 @@ pub fn begin<L: Ledger>(
             steps,
         ),
         None => {
-            let begun = begin_other(alloc, tree, at, &element, cloned, contexts)?;
+            let begun = begin_or_hide(alloc, tree, at, &element, cloned, scene, hooks, contexts)?;
             Ok((begun, false))
         }
     }

@@ -1,5 +1,5 @@
 // A component's place begins with its body.
-ghost use Rattle.std.specs.Prelude.{◌≡◌, ◌+◌, ◌≤◌, ℕ, ℤ, true, false, not, List, Option, Some, length, IfOk, IfSome, OnOk, IsSome, if◌then◌else◌, option_map, option_and_then};
+ghost use Rattle.std.specs.Prelude.{◌≡◌, ◌+◌, ◌≤◌, ℕ, ℤ, Bool, true, false, not, List, Option, Some, length, IfOk, IfSome, OnOk, IsSome, if◌then◌else◌, option_map, option_and_then};
 ghost use Rattle.std.specs.Option.{option_copied};
 ghost use Rattle.rx_rules.specs.Names.{component_at, prop_names};
 ghost use Rattle.rx_elem.specs.Elements.{Elements, Key, listed};
@@ -180,7 +180,7 @@ fn open_body(
     body: Body,
 ) -> Result<Begun, AllocError>
     requires bare { IsBareAt tree.old at }
-    ensures opened { IfOk result (λ b. (cs : Contexts) (node : Option Node) → option_map instance_seen old ≡ old_instance node → HasShape (shape_of_body cs component node (body_seen body)) cs node tree.old tree.new at b) }
+    ensures opened { IfOk result (λ b. (cs : Contexts) (node : Option Node) (cloned : Bool) → option_map instance_seen old ≡ old_instance node → HasShape cloned (shape_of_body cs component node (body_seen body)) cs node tree.old tree.new at b) }
     ensures current { tree.new.current ≡ tree.old.current }
 {
     match body {
@@ -267,7 +267,7 @@ fn keep_body(
 ) -> Result<Begun, AllocError>
     requires bare { IsBareAt tree.old at }
     requires there { IsSome old }
-    ensures kept { IfOk result (λ b. (i : trees.Instance) → option_map instance_seen old ≡ Some i → HasOpened tree.old tree.new at (begun (of_instance i))
+    ensures kept { IfOk result (λ b. (i : trees.Instance) → option_map instance_seen old ≡ Some i → HasOpened true tree.old tree.new at (begun (of_instance i))
         (old_elements (primary_list (list_from tree.old.current (old_of tree.old.draft at)))) (old_fibers (primary_list (list_from tree.old.current (old_of tree.old.draft at)))) b) }
     ensures current { tree.new.current ≡ tree.old.current }
 {
@@ -296,7 +296,7 @@ pub(crate) fn begin_component<L: Ledger>(
     requires kept { IfSome (number_in (option_and_then instance_in (mark_at tree.old.current (old_of tree.old.draft at)))) (λ n. IsSome (kept_hooks hooks.old n)) }
     ensures evaluated { IfOk result (λ b. (s : Sight) (old : Option Node) (key : Key) (kids : Elements) → IsSceneOf scene.now s → IsOld tree.old.current (old_of tree.old.draft at) old → GivesHooks s (kept_hooks hooks.old) (old_instance old)
         → IfSettled s.program (known_by s) old → (cloned ≡ true → StoodIn old (elements.comp component key props.now kids))
-        → listed kids ≡ children.now → HasShape (shape_of_component s contexts.now component props.now kids old (component_at s.program component)) contexts.now old tree.old tree.new at b.0) }
+        → listed kids ≡ children.now → HasShape cloned (shape_of_component s contexts.now component props.now kids old (component_at s.program component)) contexts.now old tree.old tree.new at b.0) }
     ensures current { tree.new.current ≡ tree.old.current }
     ensures once { IfOk result (λ b. steps.new ≡ steps.old + (if b.1 then 1 else 0)) }
     ensures anew { IfOk result (λ b. cloned ≡ false → b.1 ≡ true) }

@@ -1,5 +1,5 @@
 // The fibers of a list of children.
-ghost use Rattle.std.specs.Prelude.{◌≡◌, ◌<◌, ◌^◌, true, length, map, slice_get, OnOk, IfOk, IfSome};
+ghost use Rattle.std.specs.Prelude.{◌≡◌, ◌<◌, ◌^◌, true, false, length, map, slice_get, OnOk, IfOk, IfSome};
 ghost use Rattle.std.specs.Option.{option_and_then, option_flatten};
 ghost use Rattle.rx_lists.specs.Shapes.{Holds, IsTop};
 ghost use Rattle.rx_links.specs.Drafts.{IsOpen, IsUnused, old_kids};
@@ -79,7 +79,7 @@ fn make_one(
     requires old_child { IfSome old (IsTop (old_kids tree.old at)) }
     requires unused { IfSome old (IsUnused tree.old.draft) }
     requires same { cloned ≡ true → IsClone tree.old.current element.now old }
-    ensures added { OnOk result (HasAdded tree.old tree.new at place element.now old) }
+    ensures added { OnOk result (HasAdded cloned tree.old tree.new at place element.now old) }
     ensures current { tree.new.current ≡ tree.old.current }
 {
     if element.is_present() {
@@ -101,7 +101,7 @@ fn make_all(
     requires few { length elements.now < 2 ^ 32 }
     requires same { length olds.now ≡ length elements.now }
     requires clones { cloned ≡ true → AreClones tree.old.current elements.now olds.now }
-    ensures made { OnOk result (HasMadeFrom 0 tree.old tree.new at elements.now olds.now) }
+    ensures made { OnOk result (HasMadeFrom cloned 0 tree.old tree.new at elements.now olds.now) }
     ensures current { tree.new.current ≡ tree.old.current }
 {
     let mut place = elements.len();
@@ -136,7 +136,7 @@ pub(crate) fn make_children(
 ) -> Result<(), AllocError>
     requires held { IfSome first_old (Holds tree.old.current) }
     requires beside { IsBareBeside tree.old at first_old }
-    ensures made { OnOk result (HasMadeFrom 0 tree.old tree.new at elements.now (matched (list_from tree.old.current first_old) elements.now)) }
+    ensures made { OnOk result (HasMadeFrom false 0 tree.old tree.new at elements.now (matched (list_from tree.old.current first_old) elements.now)) }
     ensures current { tree.new.current ≡ tree.old.current }
 {
     tree.facts();
@@ -158,7 +158,7 @@ pub(crate) fn clone_children(
 ) -> Result<(), AllocError>
     requires held { IfSome first_old (Holds tree.old.current) }
     requires beside { IsBareBeside tree.old at first_old }
-    ensures made { OnOk result (HasMadeFrom 0 tree.old tree.new at (old_elements (list_from tree.old.current first_old)) (old_fibers (list_from tree.old.current first_old))) }
+    ensures made { OnOk result (HasMadeFrom true 0 tree.old tree.new at (old_elements (list_from tree.old.current first_old)) (old_fibers (list_from tree.old.current first_old))) }
     ensures current { tree.new.current ≡ tree.old.current }
 {
     tree.facts();

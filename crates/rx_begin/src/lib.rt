@@ -4,6 +4,7 @@
 mod beginning;
 mod body;
 mod children;
+mod hidden;
 mod kind;
 mod node;
 mod opening;
@@ -11,5 +12,5 @@ mod scene;
 
 pub use beginning::begin;
 pub use node::Begun;
-pub use opening::{Opened, open_fallback};
+pub use opening::{Opened, open_fallback, open_old_fallback};
 pub use scene::Scene;

@@ -1,5 +1,5 @@
 // A node begins over its children.
-ghost use Rattle.std.specs.Prelude.{◌≡◌, IfOk, OnOk, IfSome, option_and_then, option_map};
+ghost use Rattle.std.specs.Prelude.{◌≡◌, true, false, IfOk, OnOk, IfSome, option_and_then, option_map};
 ghost use Rattle.rx_lists.specs.Shapes.{Holds};
 ghost use Rattle.rx_elem.specs.Trees.{host_number, instance_in};
 ghost use Rattle.rx_links.specs.Drafts.{Makes, old_of};
@@ -10,6 +10,7 @@ ghost use Rattle.rx_fiber.specs.OldLists.{matched, old_elements, old_fibers, pri
 ghost use Rattle.rx_begin.specs.Nodes.{IsBareAt, IsBareBeside, HasStage, HasList, HasOpened, begun_from, keeps_children, mark_at};
 
 use crate::children::{clone_children, make_children};
+use rx_base::Awaits;
 use rx_elem::Element;
 use rx_fiber::{Fiber, Stage, old_primary};
 use rx_links::{FiberId, FiberTree};
@@ -25,6 +26,8 @@ pub enum Begun {
     Leaf,
     /// The body waits for a resource, by its number.
     Suspended(u32),
+    /// A boundary is hidden and waits still for these resources: its children are not tried, and its fallback opens next.
+    Hidden(Awaits),
 }
 
 // The mark of an old node, by its current fiber.
@@ -98,7 +101,7 @@ pub(crate) fn open_list(
 ) -> Result<Option<FiberId>, AllocError>
     requires held { IfSome first_old (Holds tree.old.current) }
     requires beside { IsBareBeside tree.old at first_old }
-    ensures opened { IfOk result (λ first. HasList tree.old tree.new at (stage_seen stage) elements.now (matched (list_from tree.old.current first_old) elements.now) first) }
+    ensures opened { IfOk result (λ first. HasList false tree.old tree.new at (stage_seen stage) elements.now (matched (list_from tree.old.current first_old) elements.now) first) }
     ensures current { tree.new.current ≡ tree.old.current }
 {
     make_children(alloc, tree, at, elements, first_old)?;
@@ -109,7 +112,7 @@ pub(crate) fn open_list(
 }
 
 // A fiber is begun with this stage over clones of a list of the current tree.
-fn open_clones(
+pub(crate) fn open_clones(
     alloc: Global,
     tree: &mut FiberTree<Fiber>,
     at: FiberId,
@@ -118,7 +121,7 @@ fn open_clones(
 ) -> Result<Option<FiberId>, AllocError>
     requires held { IfSome first_old (Holds tree.old.current) }
     requires beside { IsBareBeside tree.old at first_old }
-    ensures opened { IfOk result (λ first. HasList tree.old tree.new at (stage_seen stage) (old_elements (list_from tree.old.current first_old)) (old_fibers (list_from tree.old.current first_old)) first) }
+    ensures opened { IfOk result (λ first. HasList true tree.old tree.new at (stage_seen stage) (old_elements (list_from tree.old.current first_old)) (old_fibers (list_from tree.old.current first_old)) first) }
     ensures current { tree.new.current ≡ tree.old.current }
 {
     clone_children(alloc, tree, at, first_old)?;
@@ -146,7 +149,7 @@ pub(crate) fn open_node(
     elements: &[Element],
 ) -> Result<Begun, AllocError>
     requires bare { IsBareAt tree.old at }
-    ensures opened { IfOk result (λ b. HasOpened tree.old tree.new at (stage_seen stage) elements.now (matched (primary_list (list_from tree.old.current (old_of tree.old.draft at))) elements.now) b) }
+    ensures opened { IfOk result (λ b. HasOpened false tree.old tree.new at (stage_seen stage) elements.now (matched (primary_list (list_from tree.old.current (old_of tree.old.draft at))) elements.now) b) }
     ensures current { tree.new.current ≡ tree.old.current }
 {
     tree.place_facts();
@@ -164,7 +167,7 @@ pub(crate) fn keep_node(
     stage: Stage,
 ) -> Result<Begun, AllocError>
     requires bare { IsBareAt tree.old at }
-    ensures opened { IfOk result (λ b. HasOpened tree.old tree.new at (stage_seen stage) (old_elements (primary_list (list_from tree.old.current (old_of tree.old.draft at))))
+    ensures opened { IfOk result (λ b. HasOpened true tree.old tree.new at (stage_seen stage) (old_elements (primary_list (list_from tree.old.current (old_of tree.old.draft at))))
         (old_fibers (primary_list (list_from tree.old.current (old_of tree.old.draft at)))) b) }
     ensures current { tree.new.current ≡ tree.old.current }
 {

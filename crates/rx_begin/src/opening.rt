@@ -1,17 +1,21 @@
 // The fallback of a boundary opens.
-ghost use Rattle.std.specs.Prelude.{◌≡◌, ◌∷◌, [], true, false, IfOk, IfSome};
+ghost use Rattle.std.specs.Prelude.{◌≡◌, ◌∷◌, [], true, false, IfOk, IfSome, OnOk, is_none};
+ghost use Rattle.std.specs.Option.{option_copied};
 ghost use Rattle.rx_ctx.specs.Contexts.{Stack};
 ghost use Rattle.rx_lists.specs.Shapes.{Holds, IsTop, none};
 ghost use Rattle.rx_links.specs.Drafts.{taken, Makes, IsUnused};
 ghost use Rattle.rx_links.specs.Readers.{list_from, old_list};
 ghost use Rattle.rx_meaning.specs.Cursor.{Cursor};
-ghost use Rattle.rx_fiber.specs.Surround.{fallback_in};
+ghost use Rattle.rx_fiber.specs.FiberView.{stage_seen};
+ghost use Rattle.rx_fiber.specs.Surround.{fallback_in, given_along};
 ghost use Rattle.rx_fiber.specs.Unwound.{IsLeftAt};
-ghost use Rattle.rx_begin.specs.Nodes.{IsBareAt};
-ghost use Rattle.rx_begin.specs.Opening.{IsLeft, KeepsNode, HasOpenedAs, fallback_behind, opened_at, HasKept, HasFallback};
+ghost use Rattle.rx_begin.specs.Children.{HasMadeFrom};
+ghost use Rattle.rx_begin.specs.Nodes.{IsBareAt, IsBareBeside, HasList};
+ghost use Rattle.rx_begin.specs.Again.{HasOldFallback};
+ghost use Rattle.rx_begin.specs.Opening.{IsLeft, KeepsNode, HasOpenedAs, fallback_behind, opened_at, HasKept, HasFallback, IsFallbackOf, given_elements, given_fibers};
 
-use crate::children::make_children;
-use crate::node::open_list;
+use crate::children::{clone_children, make_children};
+use crate::node::{open_clones, open_list};
 use rx_base::Awaits;
 use rx_elem::{Element, ElementKind};
 use rx_fiber::{Fiber, Stage, StageChange, old_fallback, old_primary};
@@ -112,25 +116,65 @@ fn opened_at(first: Option<FiberId>, at: FiberId) -> Opened
     }
 }
 
+// Makes the fibers of a fallback's list below a made fiber that has no children: those of these elements, or where none are given
+// clones of the old ones.
+fn make_listed(
+    alloc: Global,
+    tree: &mut FiberTree<Fiber>,
+    at: FiberId,
+    given: Option<&[Element]>,
+    first_old: Option<FiberId>,
+) -> Result<(), AllocError>
+    requires held { IfSome first_old (Holds tree.old.current) }
+    requires beside { IsBareBeside tree.old at first_old }
+    ensures made { OnOk result (HasMadeFrom (is_none (option_copied given.entry)) 0 tree.old tree.new at (given_elements (option_copied given.entry) (list_from tree.old.current first_old)) (given_fibers (option_copied given.entry) (list_from tree.old.current first_old))) }
+    ensures current { tree.new.current ≡ tree.old.current }
+{
+    match given {
+        Some(elements) => make_children(alloc, tree, at, elements, first_old),
+        None => clone_children(alloc, tree, at, first_old),
+    }
+}
+
+// The same for a fiber that gets this stage.
+fn open_listed(
+    alloc: Global,
+    tree: &mut FiberTree<Fiber>,
+    at: FiberId,
+    stage: Stage,
+    given: Option<&[Element]>,
+    first_old: Option<FiberId>,
+) -> Result<Option<FiberId>, AllocError>
+    requires held { IfSome first_old (Holds tree.old.current) }
+    requires beside { IsBareBeside tree.old at first_old }
+    ensures opened { IfOk result (λ first. HasList (is_none (option_copied given.entry)) tree.old tree.new at (stage_seen stage) (given_elements (option_copied given.entry) (list_from tree.old.current first_old)) (given_fibers (option_copied given.entry) (list_from tree.old.current first_old)) first) }
+    ensures current { tree.new.current ≡ tree.old.current }
+{
+    match given {
+        Some(elements) => open_list(alloc, tree, at, stage, elements, first_old),
+        None => open_clones(alloc, tree, at, stage, first_old),
+    }
+}
+
 // A boundary that keeps nothing opens its fallback in its own fiber.
 fn fall_alone(
     alloc: Global,
     tree: &mut FiberTree<Fiber>,
     at: FiberId,
     awaits: Awaits,
-    fallback: &[Element],
+    given: Option<&[Element]>,
 ) -> Result<Opened, AllocError>
     requires bare { IsBareAt tree.old at }
     requires left { IsLeft tree.old at awaits }
     requires gone { KeepsNode tree.old at awaits false }
-    ensures opened { IfOk result (λ f. (st : Stack) (c : Cursor) → (l : IsLeftAt tree.old st at (taken none) awaits c) → fallback.now ≡ fallback_in l.value.element ∷ [] → HasOpenedAs tree.new st c f) }
+    ensures opened { IfOk result (λ f. (st : Stack) (c : Cursor) → (l : IsLeftAt tree.old st at (taken none) awaits c) → IsFallbackOf tree.old.current (given_along l.frames) l.old l.node l.value.element (option_copied given.entry) → HasOpenedAs tree.new st c f) }
     ensures current { tree.new.current ≡ tree.old.current }
 {
     tree.place_facts();
     tree.facts();
     let first_old = old_fallback(tree, tree.alternate(at));
     let stage = Stage::Begun(Mark::Boundary(BoundaryState::Hidden(awaits)));
-    let first = open_list(alloc, tree, at, stage, fallback, first_old)?;
+    let first = open_listed(alloc, tree, at, stage, given, first_old)?;
     Ok(opened_at(first, at))
 }
 
@@ -140,12 +184,12 @@ fn fall_beside(
     tree: &mut FiberTree<Fiber>,
     at: FiberId,
     awaits: Awaits,
-    fallback: &[Element],
+    given: Option<&[Element]>,
 ) -> Result<Opened, AllocError>
     requires bare { IsBareAt tree.old at }
     requires left { IsLeft tree.old at awaits }
     requires keeps { KeepsNode tree.old at awaits true }
-    ensures opened { IfOk result (λ f. (st : Stack) (c : Cursor) → (l : IsLeftAt tree.old st at (taken none) awaits c) → fallback.now ≡ fallback_in l.value.element ∷ [] → HasOpenedAs tree.new st c f) }
+    ensures opened { IfOk result (λ f. (st : Stack) (c : Cursor) → (l : IsLeftAt tree.old st at (taken none) awaits c) → IsFallbackOf tree.old.current (given_along l.frames) l.old l.node l.value.element (option_copied given.entry) → HasOpenedAs tree.new st c f) }
     ensures current { tree.new.current ≡ tree.old.current }
 {
     tree.place_facts();
@@ -158,9 +202,29 @@ fn fall_beside(
     let beside = unused(tree, behind)?;
     let id = put_fallback(tree, at, awaits, beside)?;
     tree.place_facts();
-    make_children(alloc, tree, id, fallback, first_old)?;
+    make_listed(alloc, tree, id, given, first_old)?;
     tree.place_facts();
     Ok(opened_at(tree.first_child(id), id))
+}
+
+// A boundary opens its fallback over fibers of these elements, or where none are given over clones of the old ones.
+fn fall(
+    alloc: Global,
+    tree: &mut FiberTree<Fiber>,
+    at: FiberId,
+    awaits: Awaits,
+    given: Option<&[Element]>,
+) -> Result<Opened, AllocError>
+    requires { IsLeft tree.old at awaits }
+    ensures opened { IfOk result (λ f. (st : Stack) (c : Cursor) → (l : IsLeftAt tree.old st at (taken none) awaits c) → IsFallbackOf tree.old.current (given_along l.frames) l.old l.node l.value.element (option_copied given.entry) → HasOpenedAs tree.new st c f) }
+    ensures current { tree.new.current ≡ tree.old.current }
+{
+    tree.place_facts();
+    tree.facts();
+    match old_primary(tree, tree.alternate(at)) {
+        None => fall_alone(alloc, tree, at, awaits, given),
+        Some(_) => fall_beside(alloc, tree, at, awaits, given),
+    }
 }
 
 /// Opens the fallback of a boundary whose children wait for these resources, where a wait has stopped at it (react.dev,
@@ -182,10 +246,25 @@ pub fn open_fallback(
     ensures current { tree.new.current ≡ tree.old.current }
 {
     tree.place_facts();
-    tree.facts();
     let fallback = fallback_list(alloc, tree.value(at).element())?;
-    match old_primary(tree, tree.alternate(at)) {
-        None => fall_alone(alloc, tree, at, awaits, &fallback),
-        Some(_) => fall_beside(alloc, tree, at, awaits, &fallback),
-    }
+    fall(alloc, tree, at, awaits, Some(&fallback))
+}
+
+/// The same for a boundary that was hidden before and has its element still: its fallback opens over clones of the old one's
+/// fibers, so that nothing in it is rendered anew without a cause.
+///
+/// # Errors
+///
+/// Want of memory alone. Then the render is to be given up.
+pub fn open_old_fallback(
+    alloc: Global,
+    tree: &mut FiberTree<Fiber>,
+    at: FiberId,
+    awaits: Awaits,
+) -> Result<Opened, AllocError>
+    requires { IsLeft tree.old at awaits }
+    ensures opened { IfOk result (λ f. (st : Stack) (c : Cursor) → (l : IsLeftAt tree.old st at (taken none) awaits c) → HasOldFallback tree.old.current (given_along l.frames) l.old l.node l.value.element → HasOpenedAs tree.new st c f) }
+    ensures current { tree.new.current ≡ tree.old.current }
+{
+    fall(alloc, tree, at, awaits, None)
 }

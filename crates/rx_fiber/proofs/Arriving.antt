@@ -1,5 +1,5 @@
 -- A node that is done becomes an earlier sibling, and the render comes to the next one or to the parent.
-use Rattle.std.specs.Prelude.{◌≡◌, ℕ, suc, List, [], ◌∷◌, ◌++◌, Option, Some}
+use Rattle.std.specs.Prelude.{◌≡◌, ℕ, ℤ, suc, List, [], ◌∷◌, ◌++◌, Option, Some}
 use Rattle.std.proofs.Common.{refl, sym, ap, ◌∙◌, subst}
 use Rattle.std.proofs.lemmas.List.{append_assoc}
 use Rattle.rx_ctx.specs.Contexts.{Stack}
@@ -14,7 +14,7 @@ use Rattle.rx_meaning.specs.Cursor.{Open, Frame, arrive}
 use Rattle.rx_fiber.specs.Fibers.{Fiber}
 use Rattle.rx_fiber.specs.Reading.{AreFor, IsFor, IsTreeOf, next}
 use Rattle.rx_fiber.specs.Reading as reading
-use Rattle.rx_fiber.specs.Surround.{AreDone, AreNext, IsAround, at_root, inside, IsListOf, of_node, of_fallback, behind_earlier, above_list}
+use Rattle.rx_fiber.specs.Surround.{given_along, AreDone, AreNext, IsAround, at_root, inside, IsListOf, of_node, of_fallback, behind_earlier, above_list}
 use Rattle.rx_fiber.specs.Surround as around
 use Rattle.rx_fiber.specs.Standing.{IsStack, bottom, opened, StandsAt, over}
 use Rattle.rx_fiber.proofs.Coming.{come_at, comes}
@@ -63,10 +63,10 @@ list_along c k j q x cs fs e (of_fallback above is around) = of_fallback (e ∙ 
 abbrev pub next_at : Around Fiber → Draft Fiber → Option ℕ
 next_at k rs = or_else (entry rs) (up_of k)
 
-pub next_is : (c : Shape Fiber) (k : Around Fiber) (n q : ℕ) (xs : List (Element × Option Node)) (d : Draft Fiber) → AreNext c n xs d → up_of k ≡ Some q → Some (come_at d q) ≡ next_at k d
-next_is c k n q xs d around.no_more e = sym e
-next_is c k n q (x ∷ xs) d (around.gap null more) e = next_is c k (suc n) q xs d more e
-next_is c k n q (x ∷ xs) (made id _ _ _ _) (around.next there waits old more) e = refl
+pub next_is : (c : Shape Fiber) (ws : List (ℕ × ℤ)) (k : Around Fiber) (n q : ℕ) (xs : List (Element × Option Node)) (d : Draft Fiber) → AreNext c ws n xs d → up_of k ≡ Some q → Some (come_at d q) ≡ next_at k d
+next_is c ws k n q xs d around.no_more e = sym e
+next_is c ws k n q (x ∷ xs) d (around.gap null more) e = next_is c ws k (suc n) q xs d more e
+next_is c ws k n q (x ∷ xs) (made id _ _ _ _) (around.next there waits old more) e = refl
 
 -- The render arrives: the node x of the place is done. j is what surrounds the rest of the list then.
 pub arrives : (t : Trees Fiber) (st : Stack) (k j : Around Fiber) (n levels : ℕ) (rs : Draft Fiber) (fs : List Frame) (x : Node)
@@ -77,5 +77,5 @@ arrives t st _ j _ levels _ _ x here same more at_root (bottom none) =
     (subst (λ s. AreFor 0 (forest (Some x ∷ [])) s) (sym (grafted_top j (taken shapes.none) same)) (more [] (λ xs s a. a) [] shapes.none reading.no_more)))
     none
 arrives t st k j n levels rs (f ∷ fs) x here same more (inside before behind list) stack =
-    subst (λ at. StandsAt t st at (arrive levels (f ∷ fs) (Some x))) (next_is t.current k (suc n) _ f.rest rs behind (list_parent t.current k _ f.node f.contexts fs list))
+    subst (λ at. StandsAt t st at (arrive levels (f ∷ fs) (Some x))) (next_is t.current (given_along (f ∷ fs)) k (suc n) _ f.rest rs behind (list_parent t.current k _ f.node f.contexts fs list))
     (comes t st j (suc n) _ levels fs f.node f.contexts (f.done ++ Some x ∷ []) f.rest rs here (more f.done before) behind (list_along t.current k j _ f.node f.contexts fs same list) stack)

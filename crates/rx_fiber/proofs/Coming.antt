@@ -11,7 +11,8 @@ use Rattle.rx_meaning.specs.Fresh.{Contexts}
 use Rattle.rx_meaning.specs.Cursor.{Open, Frame, come_to, at_place}
 use Rattle.rx_fiber.specs.Fibers.{Fiber}
 use Rattle.rx_fiber.specs.Reading.{AreFor, gap}
-use Rattle.rx_fiber.specs.Surround.{AreDone, AreNext, IsAround, inside, IsListOf}
+use Rattle.rx_fiber.specs.Stood.{given_more}
+use Rattle.rx_fiber.specs.Surround.{open_element, given_along, AreDone, AreNext, IsAround, inside, IsListOf}
 use Rattle.rx_fiber.specs.Surround as around
 use Rattle.rx_fiber.specs.Standing.{IsStack, same, gives, opened, StandsAt, begins, completes}
 
@@ -30,7 +31,7 @@ top_values (gives g v rest) = v
 
 pub comes : (t : Trees Fiber) (st : Stack) (k : Around Fiber) (n q levels : ℕ) (fs : List Frame) (x : Open) (cs : Contexts) (done : List (Option Node))
     (xs : List (Element × Option Node)) (d : Draft Fiber)
-    → t.draft ≡ placed k d → AreDone k n done → AreNext t.current n xs d → IsListOf t.current k q x cs fs → IsStack st ((x, cs) ∷ opened fs)
+    → t.draft ≡ placed k d → AreDone k n done → AreNext t.current (given_more (open_element x) (given_along fs)) n xs d → IsListOf t.current k q x cs fs → IsStack st ((x, cs) ∷ opened fs)
     → StandsAt t st (Some (come_at d q)) (come_to levels fs x cs done xs)
 comes t st k n q levels fs x cs done [] _ here before around.no_more list stack = completes here before list stack
 comes t st k n q levels fs x cs done (y ∷ ys) d here before (around.gap null more) list stack =

@@ -10,3 +10,4 @@ pub mod Unwinding
 pub mod OldReads
 pub mod OldPlaces
 pub mod OldTops
+pub mod Stood

@@ -1,11 +1,13 @@
 -- The stack of contexts at the beginning and at the end of an open node.
 use Rattle.std.specs.Prelude.{◌≡◌, ℕ, ℤ, List, [], ◌∷◌, Some, None, slice_set}
-use Rattle.std.proofs.Common.{refl, ap, subst}
+use Rattle.std.proofs.Common.{refl, sym, ap, ◌∙◌, subst}
 use Rattle.rx_ctx.specs.Contexts.{Stack, values_at}
 use Rattle.rx_ctx.specs.Contexts as contexts
 use Rattle.rx_meaning.specs.Fresh.{Contexts}
-use Rattle.rx_meaning.specs.Cursor.{Open}
-use Rattle.rx_fiber.specs.Standing.{given_by, IsStack, same, gives}
+use Rattle.rx_meaning.specs.Cursor.{Open, Frame}
+use Rattle.rx_fiber.specs.Stood.{one_more}
+use Rattle.rx_fiber.specs.Surround.{given_by, given_along}
+use Rattle.rx_fiber.specs.Standing.{IsStack, bottom, same, gives, opened}
 
 -- an open node that gives nothing leaves the stack as it is
 pub kept : (st : Stack) (x : Open) (cs : Contexts) (xs : List (Open × Contexts)) → given_by x ≡ None → IsStack st ((x, cs) ∷ xs) → IsStack st xs
@@ -39,3 +41,9 @@ pushed st x xs c y given stack = gives given refl stack
 -- any other node opens
 pub unchanged : (st : Stack) (x : Open) (xs : List (Open × Contexts)) → given_by x ≡ None → IsStack st xs → IsStack st ((x, values_at st) ∷ xs)
 unchanged st x xs given stack = same given refl stack
+
+-- the stack has what the open nodes give
+pub stack_given : (st : Stack) (fs : List Frame) → IsStack st (opened fs) → st.given ≡ given_along fs
+stack_given st [] (bottom none) = none
+stack_given st (f ∷ fs) (same g v rest) = stack_given st fs rest ∙ ap (λ o. one_more o (given_along fs)) (sym g)
+stack_given _ (f ∷ fs) (gives {st = st} {c = c} {x = x} g v rest) = ap (λ l. (c, x) ∷ l) (stack_given st fs rest) ∙ ap (λ o. one_more o (given_along fs)) (sym g)

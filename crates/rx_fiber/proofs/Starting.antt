@@ -1,5 +1,5 @@
 -- A render at its start, and the tree that it leaves at its end.
-use Rattle.std.specs.Prelude.{◌≡◌, ℕ, Option, Some, None}
+use Rattle.std.specs.Prelude.{◌≡◌, ℕ, [], Option, Some, None}
 use Rattle.std.proofs.Common.{refl, sym, ap, ◌∙◌, subst, eq-eqb}
 use Rattle.rx_ctx.specs.Contexts.{Stack}
 use Rattle.rx_ctx.specs.Contexts as contexts
@@ -49,7 +49,7 @@ root_old c (Some x) (next {rest = rest} is a) =
 
 -- A render is at its start once the root's fiber is made, with no provider around it.
 pub starts : (s : Sight) (old : Option Node) (t : Trees Fiber) (id : ℕ) (v : Fiber)
-    → IsTreeOf old t.current → IsWaiting t.current (first t.current) v 0 (root_element s.program) → t.draft ≡ made id v (first t.current) (taken shapes.none) (taken shapes.none)
+    → IsTreeOf old t.current → IsWaiting t.current [] (first t.current) v 0 (root_element s.program) → t.draft ≡ made id v (first t.current) (taken shapes.none) (taken shapes.none)
     → StandsAt t (contexts.opening (default_contexts s.program)) (Some id) (start s old)
 unfolding start
 starts s old t id v tree waits here = begins {k = top} here waits (root_old t.current old tree) at_root refl (bottom refl)

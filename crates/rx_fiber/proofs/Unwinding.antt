@@ -14,7 +14,8 @@ use Rattle.rx_meaning.specs.Fresh.{Contexts}
 use Rattle.rx_meaning.specs.Cursor.{Open, falling, Frame, at_place, past, open_part, unwind}
 use Rattle.rx_fiber.specs.Fibers.{Fiber}
 use Rattle.rx_fiber.specs.Surround.{above_list, is_boundary, open_element, IsOpenAs, opens, tries, falls, IsAround, at_root, inside, IsKeptAs, IsListOf, of_node, of_fallback}
-use Rattle.rx_fiber.specs.Standing.{given_in, IsStack, opened, StandsAt, begins}
+use Rattle.rx_fiber.specs.Stood.{given_in}
+use Rattle.rx_fiber.specs.Standing.{IsStack, opened, StandsAt, begins}
 use Rattle.rx_fiber.specs.Unwound.{IsWithin, is_trying, passed_on, IsLeftAt}
 use Rattle.rx_fiber.proofs.Arriving.{up_above}
 use Rattle.rx_fiber.proofs.Completing.{whole_list, placed_list, opens_element}

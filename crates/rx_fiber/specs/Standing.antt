@@ -3,7 +3,6 @@ use Rattle.std.specs.Prelude.{◌≡◌, ℕ, ℤ, List, [], ◌∷◌, map, Opt
 use Rattle.rx_ctx.specs.Contexts as contexts
 use Rattle.rx_ctx.specs.Contexts.{Stack, values_at}
 use Rattle.rx_elem.specs.Elements.{Element}
-use Rattle.rx_elem.specs.Elements as elements
 use Rattle.rx_elem.specs.Trees.{Node}
 use Rattle.rx_lists.specs.Shapes.{Shape}
 use Rattle.rx_lists.specs.Shapes as shapes
@@ -14,21 +13,7 @@ use Rattle.rx_meaning.specs.Fresh as fresh
 use Rattle.rx_meaning.specs.Cursor.{Open, Frame, Cursor, at_place, at_end, ended}
 use Rattle.rx_fiber.specs.Fibers.{Fiber}
 use Rattle.rx_fiber.specs.Reading.{IsOld, IsTreeOf}
-use Rattle.rx_fiber.specs.Surround.{IsWaiting, AreDone, open_element, IsAround, IsListOf}
-
--- what a provider's element gives
-abbrev pub given_in : Element → Option (ℕ × ℤ)
-given_in elements.null = None
-given_in (elements.text t) = None
-given_in (elements.host n k attrs es) = None
-given_in (elements.comp c k ps es) = None
-given_in (elements.list es) = None
-given_in (elements.boundary k f es) = None
-given_in (elements.provider c k x es) = Some (c, x)
-
--- what an open node gives to the contexts below it
-abbrev pub given_by : Open → Option (ℕ × ℤ)
-given_by x = given_in (open_element x)
+use Rattle.rx_fiber.specs.Surround.{IsWaiting, AreDone, given_by, given_along, IsAround, IsListOf}
 
 -- the stack has what the open nodes give: a provider is on it, and each node's list has the values at it
 pub data IsStack : Stack → List (Open × Contexts) → Type 0 where
@@ -44,7 +29,7 @@ opened fs = map (λ f. (f.node, f.contexts)) fs
 -- Where a render stands, with the fiber that it has come to: one that is waiting, whose place begins next; one whose list is done, and which is completed next; none where no unit is left.
 pub data StandsAt (t : Trees Fiber) (st : Stack) : (at : Option ℕ) → Cursor → Type 0 where
   begins : {levels n p : ℕ} {v : Fiber} {o : Option ℕ} {rs : Draft Fiber} {k : Around Fiber} {fs : List Frame} {cs : Contexts} {e : Element} {old : Option Node}
-      → t.draft ≡ placed k (made p v o (taken shapes.none) rs) → IsWaiting t.current o v n e → IsOld t.current o old → IsAround t.current k n rs fs
+      → t.draft ≡ placed k (made p v o (taken shapes.none) rs) → IsWaiting t.current (given_along fs) o v n e → IsOld t.current o old → IsAround t.current k n rs fs
       → values_at st ≡ cs → IsStack st (opened fs) → StandsAt t st (Some p) (at_place levels fs cs e old)
   completes : {levels n q : ℕ} {k : Around Fiber} {fs : List Frame} {cs : Contexts} {x : Open} {done : List (Option Node)}
       → t.draft ≡ placed k (taken shapes.none) → AreDone k n done → IsListOf t.current k q x cs fs

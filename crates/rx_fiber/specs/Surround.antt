@@ -1,5 +1,5 @@
 -- What surrounds the place that a render has come to, read from the fibers around it.
-use Rattle.std.specs.Prelude.{◌≡◌, ℕ, suc, Bool, true, false, List, [], ◌∷◌, ◌++◌, Option, Some, option_map, option_and_then}
+use Rattle.std.specs.Prelude.{◌≡◌, ℕ, ℤ, suc, Bool, true, false, List, [], ◌∷◌, ◌++◌, Option, Some, option_map, option_and_then}
 use Rattle.rx_base.specs.Awaits.{Awaits}
 use Rattle.rx_elem.specs.Elements.{Element}
 use Rattle.rx_elem.specs.Elements as elements
@@ -15,27 +15,28 @@ use Rattle.rx_meaning.specs.Cursor.{Open, around, trying, falling, Frame, is_nul
 use Rattle.rx_fiber.specs.Fibers.{Fiber, waiting, begun}
 use Rattle.rx_fiber.specs.Fibers as stage
 use Rattle.rx_fiber.specs.Reading.{has_node, IsOf, AreFor, IsOld}
+use Rattle.rx_fiber.specs.Stood.{given_in, given_more, StoodAt}
 
 -- this element stands in a current fiber
 abbrev pub IsElementOf : Shape Fiber → Option ℕ → Element → Type 0
 IsElementOf current o e = option_map (λ v. v.element) (option_and_then (value_of current) o) ≡ Some e
 
--- the fiber of a place that the render has not come to, made for this current fiber, if for one, whose element it has where it is cloned
-pub record IsWaiting (current : Shape Fiber) (o : Option ℕ) (v : Fiber) (place : ℕ) (e : Element) : Type 0 where
+-- the fiber of a place that the render has not come to, made for this current fiber, if for one; where it is cloned, it has the element of that one, which stands where the same values are given
+pub record IsWaiting (current : Shape Fiber) (ws : List (ℕ × ℤ)) (o : Option ℕ) (v : Fiber) (place : ℕ) (e : Element) : Type 0 where
   pub at : v.place ≡ place
   pub element : v.element ≡ e
   pub cloned : Bool
   pub stage : v.stage ≡ waiting cloned
-  pub same : cloned ≡ true → IsElementOf current o e
+  pub same : cloned ≡ true → IsElementOf current o e × StoodAt current ws o
 
--- The children of a list that are still to begin, from a place on: each that isn't null has a fiber, made beside the current fiber of its old node.
-pub data AreNext (current : Shape Fiber) : (place : ℕ) → List (Element × Option Node) → Draft Fiber → Type 0 where
-  no_more : {n : ℕ} → AreNext current n [] (taken shapes.none)
+-- The children of a list that are still to begin, from a place on, below providers that give these values: each that isn't null has a fiber, made beside the current fiber of its old node.
+pub data AreNext (current : Shape Fiber) (ws : List (ℕ × ℤ)) : (place : ℕ) → List (Element × Option Node) → Draft Fiber → Type 0 where
+  no_more : {n : ℕ} → AreNext current ws n [] (taken shapes.none)
   gap : {n : ℕ} {x : Element × Option Node} {xs : List (Element × Option Node)} {d : Draft Fiber}
-      → is_null x.0 ≡ true → AreNext current (suc n) xs d → AreNext current n (x ∷ xs) d
+      → is_null x.0 ≡ true → AreNext current ws (suc n) xs d → AreNext current ws n (x ∷ xs) d
   next : {n id : ℕ} {v : Fiber} {o : Option ℕ} {x : Element × Option Node} {xs : List (Element × Option Node)} {d : Draft Fiber}
-      → is_null x.0 ≡ false → IsWaiting current o v n x.0 → IsOld current o x.1 → AreNext current (suc n) xs d
-      → AreNext current n (x ∷ xs) (made id v o (taken shapes.none) d)
+      → is_null x.0 ≡ false → IsWaiting current ws o v n x.0 → IsOld current o x.1 → AreNext current ws (suc n) xs d
+      → AreNext current ws n (x ∷ xs) (made id v o (taken shapes.none) d)
 
 -- a list of fibers behind the earlier siblings of a place
 abbrev pub behind_earlier : Around Fiber → Shape Fiber → Shape Fiber
@@ -58,6 +59,15 @@ abbrev pub open_element : Open → Element
 open_element (around e m) = e
 open_element (trying e old f) = e
 open_element (falling e old a) = e
+
+-- what an open node gives to the contexts below it
+abbrev pub given_by : Open → Option (ℕ × ℤ)
+given_by x = given_in (open_element x)
+
+-- what open nodes give, innermost first
+abbrev pub given_along : List Frame → List (ℕ × ℤ)
+given_along [] = []
+given_along (f ∷ fs) = given_more (open_element f.node) (given_along fs)
 
 -- the fallback of a boundary
 abbrev pub fallback_in : Element → Element
@@ -101,7 +111,7 @@ mutual
   pub data IsAround (current : Shape Fiber) : Around Fiber → (place : ℕ) → (rs : Draft Fiber) → List Frame → Type 0 where
     at_root : IsAround current top 0 (taken shapes.none) []
     inside : {k : Around Fiber} {n q : ℕ} {rs : Draft Fiber} {f : Frame} {fs : List Frame}
-        → AreDone k n f.done → AreNext current (suc n) f.rest rs → IsListOf current k q f.node f.contexts fs → IsAround current k n rs (f ∷ fs)
+        → AreDone k n f.done → AreNext current (given_along (f ∷ fs)) (suc n) f.rest rs → IsListOf current k q f.node f.contexts fs → IsAround current k n rs (f ∷ fs)
 
   -- the list that is surrounded so is that of an open node, in these contexts, and is among the children of q
   pub data IsListOf (current : Shape Fiber) : Around Fiber → (q : ℕ) → Open → Contexts → List Frame → Type 0 where

@@ -28,13 +28,18 @@ state-noted answers lanes cut test same state es = state_from-map answers test t
     all [] = tt
     all (e ∷ es) = (same e, all es)
 
--- the states are the same after a render
+-- the states for any lanes are the same after a render
+pub states-seen : (answers : Answers) (lanes others : Lanes) (cut : Cut) (hs : List HookHistory)
+    → states_of answers others cut (map (rendered lanes cut) hs) ≡ states_of answers others cut hs
+states-seen answers lanes others cut [] = refl
+states-seen answers lanes others cut (h ∷ hs) =
+    ap (λ x. x ∷ states_of answers others cut (map (rendered lanes cut) hs)) (state-noted answers lanes cut (history.is_included others cut) (λ e. refl) h.updates.initial h.updates.entries)
+    ∙ ap (λ xs. history.state_of answers others cut h.updates ∷ xs) (states-seen answers lanes others cut hs)
+
+-- so are those for its own
 pub states-rendered : (answers : Answers) (lanes : Lanes) (cut : Cut) (hs : List HookHistory)
     → states_of answers lanes cut (map (rendered lanes cut) hs) ≡ states_of answers lanes cut hs
-states-rendered answers lanes cut [] = refl
-states-rendered answers lanes cut (h ∷ hs) =
-    ap (λ x. x ∷ states_of answers lanes cut (map (rendered lanes cut) hs)) (state-noted answers lanes cut (history.is_included lanes cut) (λ e. refl) h.updates.initial h.updates.entries)
-    ∙ ap (λ xs. history.state_of answers lanes cut h.updates ∷ xs) (states-rendered answers lanes cut hs)
+states-rendered answers lanes cut hs = states-seen answers lanes lanes cut hs
 
 -- so are the committed values
 pub committed-rendered : (answers : Answers) (lanes : Lanes) (cut : Cut) (hs : List HookHistory) → committed_of answers (map (rendered lanes cut) hs) ≡ committed_of answers hs

@@ -4,7 +4,7 @@ use Rattle.std.specs.Result.{OnErr, OnOk}
 use Rattle.std.proofs.lemmas.Bool.Decides.{nat_tests}
 use Rattle.std.proofs.lemmas.Result.{on_ok_weaker}
 use Rattle.rx_base.specs.declared.cut.Cut.{Cut}
-use Rattle.rx_lane.specs.Lanes.{Lanes}
+use Rattle.rx_lane.specs.Lanes.{Lanes, no_lanes}
 use Rattle.rx_ast.specs.Syntax.{Program}
 use Rattle.rx_queue.specs.History.{Answers}
 use Rattle.rx_hooks.specs.declared.hook.Hook.{Hook}
@@ -18,7 +18,7 @@ use Rattle.rx_model.specs.HooksOf.{KeepsAllHooks}
 use Rattle.rx_elem.specs.Spots.{Mounted, mounted}
 use Rattle.rx_hook_store.specs.Gives.{GivesValues}
 use Rattle.rx_hook_store.specs.Rendered.{IsRendered, KeepsInstance, RendersHooks}
-use Rattle.rx_hook_store.proofs.Rendering.{above-journal, above-rendered, committed-journal, committed-rendered, hooks-rendered, rendered-rendered, states-journal, states-rendered}
+use Rattle.rx_hook_store.proofs.Rendering.{above-journal, above-rendered, committed-journal, committed-rendered, hooks-rendered, rendered-rendered, states-journal, states-rendered, states-seen}
 
 -- what is kept by instance
 abbrev pub KeptBy : Type 0
@@ -46,6 +46,7 @@ gives-same s k old new initials same g =
       stand = g.stand;
       above_done = g.above_done;
       values_are = g.values_are;
+      without_are = g.without_are;
       done_are = g.done_are;
     }
 
@@ -78,6 +79,7 @@ keeps-give p s g kept k initials done keeps =
       stand = keeps.stand;
       above_done = above-journal s k 0 initials g.cut keeps.histories done keeps.are_of;
       values_are = states-journal (answers_of p) g.lanes g.cut s k 0 initials keeps.histories keeps.are_of;
+      without_are = states-journal (answers_of p) no_lanes g.cut s k 0 initials keeps.histories keeps.are_of;
       done_are = committed-journal (answers_of p) s k 0 initials keeps.histories keeps.are_of;
     }
 
@@ -111,6 +113,7 @@ gives-rendered s i k old new initials r g = by_number i k here (λ other. gives-
           stand = renders (answers_of s.program) s.lanes s.cut i old new r k g.hooks g.histories same g.kept_is g.stand g.above_done;
           above_done = above-rendered s.lanes s.cut g.histories g.above_done;
           values_are = states-rendered (answers_of s.program) s.lanes s.cut g.histories ∙ g.values_are;
+          without_are = states-seen (answers_of s.program) s.lanes no_lanes s.cut g.histories ∙ g.without_are;
           done_are = committed-rendered (answers_of s.program) s.lanes s.cut g.histories ∙ g.done_are;
         }
 

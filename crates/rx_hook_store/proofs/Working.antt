@@ -1,14 +1,14 @@
--- Work in kept hooks: it is what the updates of their histories say, and where there is none a render sees the committed values.
+-- Work in kept hooks: it is what the updates of their histories say, and where there is none a render sees the committed values. Where there is no news, it sees what a render without lanes sees.
 use Rattle.std.proofs.Common.{◌≡◌, ℕ, ℤ, Bool, true, false, not, ◌&&◌, ◌||◌, if◌then◌else◌, Some, List, [], ◌∷◌, map, refl, sym, ap, ◌∙◌}
 use Rattle.std.specs.List.{AllByRecursion, list_any}
 use Rattle.rx_base.specs.declared.cut.Cut.{Cut}
-use Rattle.rx_lane.specs.Lanes.{Lanes, has}
+use Rattle.rx_lane.specs.Lanes.{Lanes, has, no_lanes}
 use Rattle.rx_queue.specs.declared.entry.Entry.{Entry}
 use Rattle.rx_queue.specs.declared.entry.Standing.{Standing}
 use Rattle.rx_queue.specs.declared.entry.Standing.TheVariants as standing
 use Rattle.rx_queue.specs.declared.queue.Work.{Work}
 use Rattle.rx_queue.specs.declared.queue.Work.TheVariants.{New, Owed, Nothing}
-use Rattle.rx_queue.specs.History.{Answers, committed_value, is_before, is_done, is_included, is_new, is_owed_before, stands_done, stands_open, stands_owed}
+use Rattle.rx_queue.specs.History.{Answers, committed_value, is_before, is_done, is_included, is_new, is_owed_before, state_of, stands_done, stands_open, stands_owed}
 use Rattle.rx_queue.specs.Stands.{work_of}
 use Rattle.rx_queue.proofs.Histories.{done_are_included, state_from-agree}
 use Rattle.rx_hooks.specs.declared.hook.Hook.{Hook}
@@ -16,7 +16,8 @@ use Rattle.rx_hooks.specs.Hooks.{AllAboveDone, HookHistory, HooksStandFor, is_ne
 use Rattle.rx_meaning.specs.Expressions.{answers_of}
 use Rattle.rx_meaning.specs.Fresh.{Sight, hook_values}
 use Rattle.rx_meaning.specs.Settled.{done_values, known_by}
-use Rattle.rx_hook_store.specs.Gives.{GivesValues, committed_of, has_work_in, has_work_in_update}
+use Rattle.commit_laws.specs.WaitsAgain.{without_lanes}
+use Rattle.rx_hook_store.specs.Gives.{GivesValues, committed_of, has_news_in, has_work_in, has_work_in_update}
 use Rattle.rx_hook_store.proofs.Stores.{KeptBy}
 
 -- ---- which work there is
@@ -119,3 +120,61 @@ sees_committed lanes cut i kept has_work tells s initials lanes_are cut_is g non
     ap (λ l. has_work_in l s.cut g.histories) lanes_are
     ∙ (ap (λ c. has_work_in lanes c g.histories) cut_is ∙ (sym (tells (answers_of s.program) g.hooks g.histories g.kept_is g.stand) ∙ none)) in
     sym g.values_are ∙ (states_committed (answers_of s.program) s.lanes s.cut g.histories g.above_done none_in ∙ g.done_are)
+
+-- ---- news
+
+new_only : (one : Bool) (other : Bool) → is_new_work (if one then New else (if other then Owed else Nothing)) ≡ one
+new_only true other = refl
+new_only false true = refl
+new_only false false = refl
+
+-- there is news in hooks where an included update of one of them is neither done nor owed
+pub news_are : (lanes : Lanes) (cut : Cut) (hs : List HookHistory) → is_new_work (work_of_hooks lanes cut hs) ≡ has_news_in lanes cut hs
+news_are lanes cut hs = new_only (list_any is_new_work (works hs)) (list_any is_owed_work (works hs)) ∙ each hs
+  where
+    works : List HookHistory → List Work
+    works hs = map (λ (h : HookHistory). work_of lanes cut h.updates.entries) hs
+
+    each : (hs : List HookHistory) → list_any is_new_work (map (λ (h : HookHistory). work_of lanes cut h.updates.entries) hs) ≡ has_news_in lanes cut hs
+    each [] = refl
+    each (h ∷ hs) =
+        ap (λ b. b || list_any is_new_work (map (λ (h : HookHistory). work_of lanes cut h.updates.entries) hs))
+        (new_only (list_any (is_new lanes cut) h.updates.entries) (list_any (is_owed_before cut) h.updates.entries))
+        ∙ ap (λ b. list_any (is_new lanes cut) h.updates.entries || b) (each hs)
+
+-- an update that is not new is included for no lanes where it is included
+without : (below : Bool) (x : Standing) (among : Bool) → ((below && (stands_done x || stands_owed x || among)) && stands_open x) ≡ false
+    → (below && (stands_done x || stands_owed x || false)) ≡ (below && (stands_done x || stands_owed x || among))
+without true standing.Open true none = absurd (cc none)
+without true standing.Open false none = refl
+without true standing.Done among none = refl
+without true standing.Owed among none = refl
+without false x among none = refl
+
+all_without : (lanes : Lanes) (cut : Cut) (es : List Entry) → list_any (is_new lanes cut) es ≡ false
+    → AllByRecursion (λ (e : Entry). is_included no_lanes cut e ≡ is_included lanes cut e) es
+all_without lanes cut [] none = tt
+all_without lanes cut (e ∷ es) none =
+    let parts = neither (is_new lanes cut e) (list_any (is_new lanes cut) es) none in
+    (without (is_before cut e) e.standing (has lanes e.update.lane) parts.0, all_without lanes cut es parts.1)
+
+-- where there is none, the states are those for no lanes
+pub states_without : (answers : Answers) (lanes : Lanes) (cut : Cut) (hs : List HookHistory) → has_news_in lanes cut hs ≡ false
+    → states_of answers no_lanes cut hs ≡ states_of answers lanes cut hs
+states_without answers lanes cut [] none = refl
+states_without answers lanes cut (h ∷ hs) none =
+    let parts = neither (list_any (is_new lanes cut) h.updates.entries) (has_news_in lanes cut hs) none in
+    ap (λ x. x ∷ states_of answers no_lanes cut hs)
+    (state_from-agree answers (is_included no_lanes cut) (is_included lanes cut) h.updates.initial h.updates.entries (all_without lanes cut h.updates.entries parts.0))
+    ∙ ap (λ xs. state_of answers lanes cut h.updates ∷ xs) (states_without answers lanes cut hs parts.1)
+
+-- where this tells whether a render has news in the hooks of an instance and it has none, the render sees the values that a render without lanes sees
+pub sees_without : (lanes : Lanes) (cut : Cut) (i : ℕ) (kept : KeptBy) (has_news : Bool)
+    → ((answers : Answers) (hooks : List Hook) (hs : List HookHistory) → kept i ≡ Some hooks → HooksStandFor answers hooks hs → has_news ≡ has_news_in lanes cut hs)
+    → (s : Sight) (initials : List ℤ) → s.lanes ≡ lanes → s.cut ≡ cut → GivesValues s kept i initials → has_news ≡ false
+    → hook_values (without_lanes s) i initials ≡ hook_values s i initials
+sees_without lanes cut i kept has_news tells s initials lanes_are cut_is g none =
+    let none_in : has_news_in s.lanes s.cut g.histories ≡ false =
+    ap (λ l. has_news_in l s.cut g.histories) lanes_are
+    ∙ (ap (λ c. has_news_in lanes c g.histories) cut_is ∙ (sym (tells (answers_of s.program) g.hooks g.histories g.kept_is g.stand) ∙ none)) in
+    sym g.without_are ∙ (states_without (answers_of s.program) s.lanes s.cut g.histories none_in ∙ g.values_are)

@@ -14,8 +14,9 @@ ghost use Rattle.rx_meaning.specs.Settled.{DoneBefore, done_values, known_by};
 ghost use Rattle.rx_model.specs.State.{State, committed_values, linked_lanes, opening};
 ghost use Rattle.rx_model.specs.Accepting.{dispatched_for, lane_of};
 ghost use Rattle.rx_model.specs.HooksOf.{KeepsAllHooks};
+ghost use Rattle.commit_laws.specs.WaitsAgain.{without_lanes};
 ghost use Rattle.rx_hook_store.specs.Store.{kept_hooks};
-ghost use Rattle.rx_hook_store.specs.Gives.{GivesValues, has_work_in};
+ghost use Rattle.rx_hook_store.specs.Gives.{GivesValues, has_news_in, has_work_in};
 ghost use Rattle.rx_hook_store.specs.Rendered.{IsRendered, KeepsInstance, RendersHooks};
 ghost use Rattle.rx_hook_store.specs.Changing.{ChangesHooks, dispatched_hook, lanes_linked};
 
@@ -182,6 +183,23 @@ impl HookStore {
     {
         let hooks = self.hooks.get(&instance).unwrap();
         hooks.work(lanes, cut) != Work::Nothing
+    }
+
+    /// Whether a render for these lanes at this cut has news in the hooks of an instance: an included update of one of them
+    /// is neither done nor owed (react.dev, Suspense: React tries hidden content again when an update reaches it).
+    pub fn has_news(&self, instance: u64, lanes: Lanes, cut: Cut) -> bool
+        requires { IsSome (kept_hooks self.now instance) }
+
+        // It has where an included update of a hook's history is neither done nor owed.
+        ensures news { (answers : Answers) (hooks : List Hook) (histories : List HookHistory) → kept_hooks self.now instance ≡ Some hooks
+            → HooksStandFor answers hooks histories → result ≡ has_news_in lanes cut histories }
+
+        // Where there is none, the render sees the values that a render without lanes sees.
+        ensures same { (s : Sight) (initials : List ℤ) → s.lanes ≡ lanes → s.cut ≡ cut → GivesValues s (kept_hooks self.now) instance initials
+            → result ≡ false → hook_values (without_lanes s) instance initials ≡ hook_values s instance initials }
+    {
+        let hooks = self.hooks.get(&instance).unwrap();
+        hooks.work(lanes, cut) == Work::New
     }
 
     /// Makes room for so many instances more.

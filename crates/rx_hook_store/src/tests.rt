@@ -53,6 +53,11 @@ fn a_dispatch_is_rendered(rt: HostRuntime) -> Result<(), Fail> {
     };
     assert!(rt; store.has_work(7, lanes, cut));
     assert!(rt; !store.has_work(7, Lanes::none(), cut));
+    assert!(rt; store.has_news(7, lanes, cut));
+    assert!(rt; !store.has_news(7, Lanes::none(), cut));
+    store.owe_instance(7, lanes, cut);
+    assert!(rt; store.has_work(7, lanes, cut));
+    assert!(rt; !store.has_news(7, lanes, cut));
     let values = store.render_values(rt.alloc(), 7, &Latest, lanes, cut)?;
     assert_eq!(rt; values.as_slice(), [Int::of(8)].as_slice());
     Ok(())

@@ -3,12 +3,15 @@ use Rattle.rx_begin.specs.PartsView.{parts_seen}
 use Rattle.rx_elem.specs.Trees.{instance_in}
 use Rattle.rx_links.specs.Drafts.{old_of}
 use Rattle.rx_hook_store.specs.Store.{kept_hooks}
+use Rattle.rx_rules.specs.Names.{component_at}
+use Rattle.rx_meaning.specs.Fresh.{shape_of_component}
+use Rattle.rx_begin.specs.Bodies.{HasShape}
 use Rattle.rx_begin.specs.Nodes.{mark_at}
 use Rattle.rx_begin.specs.Scenes.{TellsCalm}
 use Rattle.rx_begin.proofs.Keeping.{parts_here, cloned_here, no_parts}
-use Rattle.std.specs.Prelude.{true, false, not, Some, None, option_map, option_and_then}
+use Rattle.std.specs.Prelude.{true, false, not, None, option_map, option_and_then}
 use Rattle.rx_begin.proofs.ByElement.{if_ok}
-use Rattle.rx_begin.proofs.Begins.{place_kept, place_there, place_context, place_props, begins_body, begins_other, counts_one, made_at}
+use Rattle.rx_begin.proofs.Begins.{place_kept, place_olds, place_there, place_context, place_props, begins_body, begins_other, counts_one, made_at}
 use Rattle.rx_begin.proofs.beginning.begin.Goals as goal
 
 pub begin_component-requires-clause-kept : goal.begin_component-requires-clause-kept
@@ -20,8 +23,8 @@ begin_component-requires-clause-given g c =
     (c.value-fiber.ensures.made (made_at _ _ _ _ _ c.place_facts.ensures c.requires.place)) (c.in_ok-element.ensures ∙ c.element.ensures) c.in-Some.parts.component c.in-Some.parts.props.now
     c.in-Some.parts.children.now (sym c.parts_of.ensures ∙ ap (option_map parts_seen) c.in-Some.is)
 
-pub begin_other-requires-clause-context : goal.begin_other-requires-clause-context
-begin_other-requires-clause-context g c =
+pub begin_or_hide-requires-clause-context : goal.begin_or_hide-requires-clause-context
+begin_or_hide-requires-clause-context g c =
     place_context c.args.scene.now.checked.now _ c.args.tree.now c.args.contexts.now c.args.at c.place_facts.ensures c.requires.place c.value-fiber.result.now c.in_ok-element.element
     (c.value-fiber.ensures.made (made_at _ _ _ _ _ c.place_facts.ensures c.requires.place)) (c.in_ok-element.ensures ∙ c.element.ensures) c.requires.contexts
 
@@ -32,7 +35,10 @@ returns-in-Some-clause-begun g c =
     begins_body s _ c.args.tree.now c.args.contexts.now c.begin_component.new.tree _ c.args.at c.facts.ensures.linked c.place_facts.ensures c.value-fiber.result.now c.in_ok-element.element
     (c.value-fiber.ensures.made (made_at _ _ _ _ _ c.place_facts.ensures c.requires.place)) (c.in_ok-element.ensures ∙ c.element.ensures) b.0 c.in-Some.parts.component c.in-Some.parts.props.now
     c.in-Some.parts.children.now c.values.result.now (sym c.parts_of.ensures ∙ ap (option_map parts_seen) c.in-Some.is) c.values.ensures refl
-    (λ old key kids was gives settled stood same. has s old key kids is was gives settled (λ cloned. stood (sym c.is_cloned-cloned.ensures ∙ cloned)) same))
+    (λ old key kids was gives settled stood same.
+    subst (λ cloned. HasShape cloned (shape_of_component s c.values.result.now c.in-Some.parts.component c.in-Some.parts.props.now kids old (component_at s.program c.in-Some.parts.component))
+    c.values.result.now old c.args.tree.now c.begin_component.new.tree c.args.at b.0) c.is_cloned-cloned.ensures
+    (has s old key kids is was gives settled (λ cloned. stood (sym c.is_cloned-cloned.ensures ∙ cloned)) same)))
     c.begin_component.ensures.evaluated
 
 pub returns-in-Some-clause-bodies : goal.returns-in-Some-clause-bodies
@@ -51,14 +57,30 @@ returns-in-Some-clause-few g c =
     c.in-Some.parts.children.now (sym c.parts_of.ensures ∙ ap (option_map parts_seen) c.in-Some.is)))
     c.begin_component.ensures.once
 
+pub begin_or_hide-requires-clause-kept : goal.begin_or_hide-requires-clause-kept
+begin_or_hide-requires-clause-kept g c = place_olds _ _ c.args.tree.now c.args.contexts.now c.args.at c.place_facts.ensures c.requires.place
+
 pub returns-clause-begun : goal.returns-clause-begun
 returns-clause-begun g c s is =
-    begins_other s _ c.args.tree.now c.args.contexts.now c.begin_other.new.tree c.begin_other.new.contexts c.args.at c.facts.ensures.linked c.place_facts.ensures c.value-fiber.result.now c.in_ok-element.element
+    begins_other s _ c.args.tree.now c.args.contexts.now c.begin_or_hide.new.tree c.begin_or_hide.new.contexts c.args.at c.facts.ensures.linked c.place_facts.ensures c.value-fiber.result.now c.in_ok-element.element
     (c.value-fiber.ensures.made (made_at _ _ _ _ _ c.place_facts.ensures c.requires.place)) (c.in_ok-element.ensures ∙ c.element.ensures) c.in_ok-begun-in-None.begun
-    c.is_cloned-cloned.result c.is_cloned-cloned.ensures
+    c.args.scene.now c.is_cloned-cloned.result is c.is_cloned-cloned.ensures
     (place_there c.args.scene.now.checked.now _ c.args.tree.now c.args.contexts.now c.args.at c.place_facts.ensures c.requires.place c.value-fiber.result.now c.in_ok-element.element
     (c.value-fiber.ensures.made (made_at _ _ _ _ _ c.place_facts.ensures c.requires.place)) (c.in_ok-element.ensures ∙ c.element.ensures))
-    (sym c.parts_of.ensures ∙ ap (option_map parts_seen) c.in-None.is) c.in_ok-begun-in-None.ensures.stack c.in_ok-begun-in-None.ensures.kept c.in_ok-begun-in-None.ensures.opened
+    (sym c.parts_of.ensures ∙ ap (option_map parts_seen) c.in-None.is) c.begin_or_hide.ensures.current c.in_ok-begun-in-None.ensures.begun
+
+pub returns-in-Some-clause-tries : goal.returns-in-Some-clause-tries
+returns-in-Some-clause-tries g c =
+    if_ok c.begin_component.result _ _
+    (λ b once v here none.
+    absurd
+    (let f = parts_here c.args.tree.now c.args.at c.value-fiber.result.now v c.in_ok-element.element _ (c.value-fiber.ensures.made (made_at _ _ _ _ _ c.place_facts.ensures c.requires.place)) here (c.in_ok-element.ensures ∙ c.element.ensures) (sym c.parts_of.ensures ∙ ap (option_map parts_seen) c.in-Some.is) in
+    let q : ⊥ = cc in q))
+    c.begin_component.ensures.once
+
+pub returns-clause-tries : goal.returns-clause-tries
+returns-clause-tries g c v here none so =
+    c.in_ok-begun-in-None.ensures.tries (cloned_here c.args.tree.now c.args.at c.value-fiber.result.now v c.is_cloned-cloned.result true (c.value-fiber.ensures.made (made_at _ _ _ _ _ c.place_facts.ensures c.requires.place)) here c.is_cloned-cloned.ensures so)
 
 pub returns-in-Some-clause-none : goal.returns-in-Some-clause-none
 returns-in-Some-clause-none g c =

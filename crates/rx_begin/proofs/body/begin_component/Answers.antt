@@ -1,4 +1,3 @@
-use Rattle.std.specs.Prelude.{option_and_then}
 use Rattle.std.proofs.Common.{refl, sym, ap, ◌∙◌, subst}
 use Rattle.rx_elem.specs.Trees.{of_instance}
 use Rattle.rx_links.specs.Drafts.{old_of}
@@ -8,6 +7,8 @@ use Rattle.rx_hook_store.specs.Store.{kept_hooks}
 use Rattle.rx_begin.proofs.Nodes.{bare_made}
 use Rattle.rx_begin.proofs.Bodies.{evaluated, instance_at}
 use Rattle.rx_begin.proofs.Keeping.{calm_shape}
+use Rattle.rx_begin.proofs.Marks.{old_instance_is}
+use Rattle.rx_begin.proofs.Standing.{instance_keeps}
 use Rattle.rx_begin.proofs.body.begin_component.Goals as goal
 
 pub keep_body-requires-clause-there : goal.keep_body-requires-clause-there
@@ -23,6 +24,9 @@ returns-then-is_skipped-clause-evaluated g c s old key kids is was gives settled
       mark = of_instance i;
       shape_is = calm_shape s c.args.contexts.now c.args.component key c.args.props.now kids old i settled (stood (c.is_skipped.ensures.cloned c.if-is_skipped.true)) (sym instance ∙ there) calm;
       shown = refl;
+      keeps =
+          instance_keeps c.args.tree.now.current (old_of c.args.tree.now.draft c.args.at) c.args.cloned i (c.is_skipped.ensures.cloned c.if-is_skipped.true)
+          (old_instance_is c.args.tree.now.current (old_of c.args.tree.now.draft c.args.at) old was ∙ (sym instance ∙ there));
       opened = c.in_ok-begun.ensures.kept i there;
     })
 
@@ -30,6 +34,6 @@ pub returns-clause-evaluated : goal.returns-clause-evaluated
 returns-clause-evaluated g c s old key kids is was gives settled stood same =
     let instance = instance_at c.args.tree.now.current c.alternate.result (old_of c.args.tree.now.draft c.args.at) old _
     (c.alternate.ensures.made (bare_made c.args.tree.now c.args.at c.place_facts.ensures c.requires.bare)) was c.in_ok-old.ensures in
-    evaluated s c.args.contexts.now c.args.component c.args.props.now kids old _ c.args.tree.now c.open_body.new.tree c.args.at c.in_ok-begun-2.begun
+    evaluated s c.args.contexts.now c.args.component c.args.props.now kids old _ c.args.tree.now c.open_body.new.tree c.args.at c.in_ok-begun-2.begun c.args.cloned
     (c.in_ok-body.ensures.body s _ kids is (sym (c.number_of-number.ensures ∙ ap number_in instance)) gives same)
-    (c.in_ok-begun-2.ensures.opened c.args.contexts.now old instance)
+    (c.in_ok-begun-2.ensures.opened c.args.contexts.now old c.args.cloned instance)

@@ -1,10 +1,11 @@
 use Rattle.std.specs.Prelude.{option_map}
-use Rattle.std.proofs.Common.{◌≡◌, Bool, true, false, not, ◌&&◌, refl, sym, ap, ◌∙◌}
+use Rattle.std.proofs.Common.{not, ◌&&◌, refl, sym, ap, ◌∙◌}
 use Rattle.rx_meaning.specs.Settled.{read_anew}
 use Rattle.rx_node.specs.MarkView.{instance_seen}
 use Rattle.rx_hook_store.specs.Store.{kept_hooks}
 use Rattle.rx_begin.specs.Scenes.{number_in}
-use Rattle.rx_begin.proofs.Keeping.{shown_again, work_decides, calm_told, none_calm}
+use Rattle.rx_begin.proofs.Standing.{shown_again}
+use Rattle.rx_begin.proofs.Keeping.{work_decides, calm_told, none_calm}
 use Rattle.rx_begin.proofs.body.is_calm.Goals as goal
 
 pub returns-then-not-has_work-clause-calm : goal.returns-then-not-has_work-clause-calm

@@ -5,4 +5,4 @@ use Rattle.rx_begin.specs.Bodies.{waits}
 use Rattle.rx_begin.proofs.body.open_body.Goals as goal
 
 pub returns-in-Wait-clause-opened : goal.returns-in-Wait-clause-opened
-returns-in-Wait-clause-opened c cs node same = waits c.in-Wait.resource (ap (λ b. shape_of_body cs c.args.component node (body_seen b)) c.in-Wait.is) refl refl
+returns-in-Wait-clause-opened c cs node cloned same = waits c.in-Wait.resource (ap (λ b. shape_of_body cs c.args.component node (body_seen b)) c.in-Wait.is) refl refl

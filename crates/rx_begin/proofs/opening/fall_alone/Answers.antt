@@ -1,22 +1,26 @@
+use Rattle.std.specs.Prelude.{is_none}
+use Rattle.std.specs.Option.{option_copied}
 use Rattle.std.proofs.Common.{refl, sym, subst}
 use Rattle.rx_links.specs.Readers.{list_from}
-use Rattle.rx_fiber.specs.OldLists.{matched}
-use Rattle.rx_begin.specs.Opening.{HasOpenedAs}
+use Rattle.rx_begin.specs.Opening.{HasOpenedAs, given_elements, given_fibers}
 use Rattle.rx_begin.proofs.Nodes.{bare_made}
-use Rattle.rx_begin.proofs.Falling.{room_alone, left_alone, left_old, same_olds}
+use Rattle.rx_begin.proofs.Falling.{room_alone, left_alone, left_old}
+use Rattle.rx_begin.proofs.OldFallback.{given_next, same_old}
 use Rattle.rx_begin.proofs.opening.fall_alone.Goals as goal
 
-pub open_list-requires-clause-beside : goal.open_list-requires-clause-beside
-open_list-requires-clause-beside c =
+pub open_listed-requires-clause-beside : goal.open_listed-requires-clause-beside
+open_listed-requires-clause-beside c =
     room_alone c.args.tree.now c.args.at c.args.awaits c.alternate.result c.old_fallback-first_old.result c.requires.left c.requires.gone c.place_facts.ensures c.facts.ensures.linked
     (c.alternate.ensures.made (bare_made c.args.tree.now c.args.at c.place_facts.ensures c.requires.bare)) c.old_fallback-first_old.ensures.list
 
 pub returns-clause-opened : goal.returns-clause-opened
-returns-clause-opened c st d l e =
-    subst (λ f. HasOpenedAs c.open_list.new.tree st d f) (sym c.opened_at.ensures)
-    (left_alone c.args.tree.now st c.args.at c.args.awaits d l c.facts.ensures.linked c.open_list.new.tree c.args.fallback.now
-    (matched (list_from c.args.tree.now.current c.old_fallback-first_old.result) c.args.fallback.now) c.in_ok-first.first c.in_ok-first.ensures.opened e
-    (same_olds c.args.tree.now c.args.tree.now st c.args.at c.args.awaits d l c.old_fallback-first_old.result c.alternate.result c.args.fallback.now c.old_fallback-first_old.ensures.list
-    (left_old c.args.tree.now st c.args.at c.args.awaits d l c.place_facts.ensures c.alternate.result
-    (c.alternate.ensures.made (bare_made c.args.tree.now c.args.at c.place_facts.ensures c.requires.bare))) refl e)
+returns-clause-opened c st d l h =
+    let t = c.args.tree.now in
+    let given = option_copied c.args.given in
+    let s = list_from t.current c.old_fallback-first_old.result in
+    let old = left_old t st c.args.at c.args.awaits d l c.place_facts.ensures c.alternate.result (c.alternate.ensures.made (bare_made t c.args.at c.place_facts.ensures c.requires.bare)) in
+    subst (λ f. HasOpenedAs c.open_listed.new.tree st d f) (sym c.opened_at.ensures)
+    (left_alone t st c.args.at c.args.awaits d l c.facts.ensures.linked (is_none given) c.open_listed.new.tree (given_elements given s) (given_fibers given s) c.in_ok-first.first c.in_ok-first.ensures.opened
+    (given_next t st c.args.at c.args.awaits d l c.facts.ensures.linked given h s
+    (same_old t t l.old c.alternate.result c.old_fallback-first_old.result c.old_fallback-first_old.ensures.list old refl))
     (c.requires.gone st d l))

@@ -1,10 +1,12 @@
-use Rattle.std.proofs.Common.{ap, inr, sym, subst, ◌∙◌, ℕ, List, Option, IfSome}
+use Rattle.std.specs.Prelude.{is_none}
+use Rattle.std.specs.Option.{option_copied}
+use Rattle.std.proofs.Common.{ap, inr, sym, subst, ◌∙◌, IfSome}
 use Rattle.rx_lists.specs.Shapes.{Holds}
 use Rattle.rx_links.specs.Readers.{list_from}
-use Rattle.rx_fiber.specs.OldLists.{matched}
-use Rattle.rx_begin.specs.Opening.{HasOpenedAs, fallback_behind}
+use Rattle.rx_begin.specs.Opening.{HasOpenedAs, fallback_behind, given_elements, given_fibers}
 use Rattle.rx_begin.proofs.Nodes.{bare_made}
-use Rattle.rx_begin.proofs.Falling.{kept_made, kept_sibling, room_beside, left_beside, left_old, same_olds, new_made, new_link}
+use Rattle.rx_begin.proofs.Falling.{kept_made, kept_sibling, room_beside, left_beside, left_old, new_made, new_link}
+use Rattle.rx_begin.proofs.OldFallback.{given_next, same_old}
 use Rattle.rx_begin.proofs.opening.fall_beside.Goals as goal
 
 pub unused-requires : goal.unused-requires
@@ -24,12 +26,12 @@ put_fallback-requires-clause-old_sibling c =
     (c.alternate-2.ensures.made (bare_made c.args.tree.now c.args.at c.place_facts.ensures c.requires.bare)
     ∙ sym (c.alternate.ensures.made (bare_made c.args.tree.now c.args.at c.place_facts.ensures c.requires.bare)))))
 
-pub make_children-requires-clause-held : goal.make_children-requires-clause-held
-make_children-requires-clause-held c =
+pub make_listed-requires-clause-held : goal.make_listed-requires-clause-held
+make_listed-requires-clause-held c =
     subst (λ k. IfSome c.old_fallback-first_old.result (Holds k)) (sym (c.in_ok-id.ensures.current ∙ c.keep_primary.ensures.current)) c.old_fallback-first_old.ensures.held
 
-pub make_children-requires-clause-beside : goal.make_children-requires-clause-beside
-make_children-requires-clause-beside c =
+pub make_listed-requires-clause-beside : goal.make_listed-requires-clause-beside
+make_listed-requires-clause-beside c =
     room_beside c.args.tree.now c.keep_primary.new.tree c.args.at c.args.awaits c.alternate.result c.requires.left c.place_facts.ensures
     (c.alternate.ensures.made (bare_made c.args.tree.now c.args.at c.place_facts.ensures c.requires.bare)) c.keep_primary.ensures.kept c.keep_primary.ensures.current
     c.put_fallback.new.tree c.in_ok-beside.beside c.old_fallback-first_old.result c.in_ok-id.id c.requires.keeps c.facts.ensures.linked
@@ -39,35 +41,38 @@ make_children-requires-clause-beside c =
 
 pub first_child-requires : goal.first_child-requires
 first_child-requires c =
-    inr (new_made c.put_fallback.new.tree c.make_children.new.tree c.in_ok-id.id c.old_fallback-first_old.result c.args.fallback.now
-    (matched (list_from c.put_fallback.new.tree.current c.old_fallback-first_old.result) c.args.fallback.now)
+    let given = option_copied c.args.given in
+    let s = list_from c.put_fallback.new.tree.current c.old_fallback-first_old.result in
+    inr (new_made (is_none given) c.put_fallback.new.tree c.make_listed.new.tree c.in_ok-id.id c.old_fallback-first_old.result (given_elements given s) (given_fibers given s)
     (room_beside c.args.tree.now c.keep_primary.new.tree c.args.at c.args.awaits c.alternate.result c.requires.left c.place_facts.ensures
     (c.alternate.ensures.made (bare_made c.args.tree.now c.args.at c.place_facts.ensures c.requires.bare)) c.keep_primary.ensures.kept c.keep_primary.ensures.current
     c.put_fallback.new.tree c.in_ok-beside.beside c.old_fallback-first_old.result c.in_ok-id.id c.requires.keeps c.facts.ensures.linked
     (c.in_ok-beside.ensures.same ∙ (c.old_beside-behind.ensures.is ∙ ap (λ q. fallback_behind (list_from c.args.tree.now.current q))
     (c.alternate-2.ensures.made (bare_made c.args.tree.now c.args.at c.place_facts.ensures c.requires.bare)
     ∙ sym (c.alternate.ensures.made (bare_made c.args.tree.now c.args.at c.place_facts.ensures c.requires.bare))))) c.in_ok-id.ensures.put c.old_fallback-first_old.ensures.list)
-    c.in_ok-make_children.ensures.made c.place_facts-4.ensures)
+    c.in_ok-make_listed.ensures.made c.place_facts-4.ensures)
 
 pub returns-clause-opened : goal.returns-clause-opened
-returns-clause-opened c st d l e =
-    let os : List (Option ℕ) = matched (list_from c.put_fallback.new.tree.current c.old_fallback-first_old.result) c.args.fallback.now in
+returns-clause-opened c st d l h =
+    let given = option_copied c.args.given in
+    let s = list_from c.put_fallback.new.tree.current c.old_fallback-first_old.result in
     let beside = room_beside c.args.tree.now c.keep_primary.new.tree c.args.at c.args.awaits c.alternate.result c.requires.left c.place_facts.ensures
     (c.alternate.ensures.made (bare_made c.args.tree.now c.args.at c.place_facts.ensures c.requires.bare)) c.keep_primary.ensures.kept c.keep_primary.ensures.current
     c.put_fallback.new.tree c.in_ok-beside.beside c.old_fallback-first_old.result c.in_ok-id.id c.requires.keeps c.facts.ensures.linked
     (c.in_ok-beside.ensures.same ∙ (c.old_beside-behind.ensures.is ∙ ap (λ q. fallback_behind (list_from c.args.tree.now.current q))
     (c.alternate-2.ensures.made (bare_made c.args.tree.now c.args.at c.place_facts.ensures c.requires.bare)
     ∙ sym (c.alternate.ensures.made (bare_made c.args.tree.now c.args.at c.place_facts.ensures c.requires.bare))))) c.in_ok-id.ensures.put c.old_fallback-first_old.ensures.list in
-    let made = new_made c.put_fallback.new.tree c.make_children.new.tree c.in_ok-id.id c.old_fallback-first_old.result c.args.fallback.now os beside
-    c.in_ok-make_children.ensures.made c.place_facts-4.ensures in
-    subst (λ f. HasOpenedAs c.make_children.new.tree st d f) (sym c.opened_at.ensures)
-    (left_beside c.args.tree.now st c.args.at c.args.awaits d l c.facts.ensures.linked c.keep_primary.new.tree c.put_fallback.new.tree
-    c.make_children.new.tree c.in_ok-beside.beside c.in_ok-id.id c.args.fallback.now os c.first_child.result
-    c.keep_primary.ensures.kept c.keep_primary.ensures.current c.in_ok-id.ensures.put c.in_ok-make_children.ensures.made e
-    (same_olds c.args.tree.now c.put_fallback.new.tree st c.args.at c.args.awaits d l c.old_fallback-first_old.result c.alternate.result c.args.fallback.now
-    c.old_fallback-first_old.ensures.list
-    (left_old c.args.tree.now st c.args.at c.args.awaits d l c.place_facts.ensures c.alternate.result (c.alternate.ensures.made (bare_made c.args.tree.now c.args.at c.place_facts.ensures c.requires.bare)))
-    (c.in_ok-id.ensures.current ∙ c.keep_primary.ensures.current) e)
-    (new_link c.put_fallback.new.tree c.make_children.new.tree c.in_ok-id.id c.old_fallback-first_old.result c.args.fallback.now os beside
-    c.in_ok-make_children.ensures.made c.place_facts-4.ensures c.first_child.result (c.first_child.ensures.made made))
+    let made = new_made (is_none given) c.put_fallback.new.tree c.make_listed.new.tree c.in_ok-id.id c.old_fallback-first_old.result (given_elements given s) (given_fibers given s) beside
+    c.in_ok-make_listed.ensures.made c.place_facts-4.ensures in
+    let old = left_old c.args.tree.now st c.args.at c.args.awaits d l c.place_facts.ensures c.alternate.result
+    (c.alternate.ensures.made (bare_made c.args.tree.now c.args.at c.place_facts.ensures c.requires.bare)) in
+    subst (λ f. HasOpenedAs c.make_listed.new.tree st d f) (sym c.opened_at.ensures)
+    (left_beside c.args.tree.now st c.args.at c.args.awaits d l c.facts.ensures.linked (is_none given) c.keep_primary.new.tree c.put_fallback.new.tree
+    c.make_listed.new.tree c.in_ok-beside.beside c.in_ok-id.id (given_elements given s) (given_fibers given s) c.first_child.result
+    c.keep_primary.ensures.kept c.keep_primary.ensures.current c.in_ok-id.ensures.put c.in_ok-make_listed.ensures.made
+    (given_next c.args.tree.now st c.args.at c.args.awaits d l c.facts.ensures.linked given h s
+    (same_old c.args.tree.now c.put_fallback.new.tree l.old c.alternate.result c.old_fallback-first_old.result c.old_fallback-first_old.ensures.list old
+    (c.in_ok-id.ensures.current ∙ c.keep_primary.ensures.current)))
+    (new_link (is_none given) c.put_fallback.new.tree c.make_listed.new.tree c.in_ok-id.id c.old_fallback-first_old.result (given_elements given s) (given_fibers given s) beside
+    c.in_ok-make_listed.ensures.made c.place_facts-4.ensures c.first_child.result (c.first_child.ensures.made made))
     (c.requires.keeps st d l))

@@ -1,0 +1,159 @@
+-- A hidden boundary whose fiber is cloned, and which waits still, is not tried.
+use Rattle.std.specs.Prelude.{◌≡◌, ℕ, suc, Bool, true, false, List, [], ◌∷◌, Option, Some, None, Result, Ok, Err, IfOk, OnOk, option_and_then, option_map}
+use Rattle.std.proofs.Common.{refl, sym, ap, ◌∙◌, subst, inl, inr}
+use Rattle.rx_base.specs.Awaits.{Awaits}
+use Rattle.rx_ast.specs.Syntax.{Program}
+use Rattle.rx_ctx.specs.Contexts.{Stack}
+use Rattle.rx_susp.specs.declared.boundary.BoundaryState.TheVariants.{Hidden}
+use Rattle.rx_elem.specs.Elements.{Element, Elements, Key}
+use Rattle.rx_elem.specs.Elements as elements
+use Rattle.rx_elem.specs.Trees.{Forest, Mark, of_boundary, Node, node, host_number, children_if, children_of, mark_of, fallback_if, was_hidden}
+use Rattle.rx_hooks.specs.declared.hook.Hook.{Hook}
+use Rattle.rx_lists.specs.Shapes.{Shape}
+use Rattle.rx_lists.specs.Shapes as shapes
+use Rattle.rx_links.specs.Drafts.{taken, Trees, old_of, valued}
+use Rattle.rx_links.specs.Readers.{list_from, made_value_of}
+use Rattle.rx_meaning.specs.Cursor.{Frame, falling, at_place, open_part}
+use Rattle.rx_meaning.specs.Fresh.{Sight, Contexts, part, old_instance}
+use Rattle.rx_meaning.specs.Settled.{Known, IsOwn, IfSettled, known_by}
+use Rattle.rx_fiber.specs.Fibers.{Fiber, is_cloned}
+use Rattle.rx_fiber.specs.FiberView.{changed}
+use Rattle.rx_fiber.specs.declared.stage.StageChange.TheVariants as change
+use Rattle.rx_fiber.specs.Reading.{IsOld}
+use Rattle.rx_fiber.specs.Stood.{StoodAt}
+use Rattle.rx_fiber.specs.Surround.{IsElementOf, IsAround, given_along, fallback_in, is_boundary}
+use Rattle.rx_fiber.specs.Standing.{StandsAt, begins}
+use Rattle.rx_fiber.specs.Unwound.{IsLeftAt}
+use Rattle.rx_fiber.specs.OldLists.{primary_list, matched, old_elements, old_fibers}
+use Rattle.rx_begin.specs.Nodes.{HasOpened, mark_at, keeps_children, begun_stage, begun_children, begun_stack}
+use Rattle.rx_begin.specs.Scenes.{KeepsHooks, GivesHooks}
+use Rattle.rx_begin.specs.declared.scene.Scene.{Scene}
+use Rattle.rx_begin.specs.declared.node.Begun.{Begun}
+use Rattle.rx_begin.specs.Others.{HasBegunOther}
+use Rattle.rx_begin.specs.Others as others
+use Rattle.rx_begin.specs.Bodies.{StoodIn}
+use Rattle.rx_begin.specs.Hidden.{KeepsHooksIn, GivesHooksIn, WaitsStill}
+use Rattle.rx_begin.specs.Beginning.{KeepsHooksIf, GivesHooksIf, IsHiddenAgain}
+use Rattle.rx_begin.proofs.ByElement.{old_at}
+use Rattle.rx_begin.proofs.Keeping.{clone_stood}
+use Rattle.rx_begin.proofs.Making.{KnowsPlaces}
+use Rattle.rx_begin.proofs.Marks.{mark_is}
+use Rattle.rx_begin.proofs.Standing.{clone_stands}
+
+-- What begins as no hidden boundary
+
+module _ (scene : Scene) (kept : ℕ → Option (List Hook)) (t : Trees Fiber) (st : Stack) (new : Trees Fiber) (st' : Stack) (p : ℕ) (e : Element) (cloned : Bool) where
+  abbrev mark : Option Mark
+  mark = mark_at t.current (old_of t.draft p)
+
+  abbrev olds : Shape Fiber
+  olds = primary_list (list_from t.current (old_of t.draft p))
+
+  pub other_begins : {E : Type 0} (r : Result Begun E)
+      → IfOk r (λ b. keeps_children cloned mark ≡ true → HasOpened true t new p (begun_stage e (option_and_then host_number mark)) (old_elements olds) (old_fibers olds) b)
+      → IfOk r (λ b. keeps_children cloned mark ≡ false → HasOpened false t new p (begun_stage e (option_and_then host_number mark)) (begun_children e) (matched olds (begun_children e)) b)
+      → OnOk r (st' ≡ begun_stack e st) → IfOk r (λ b. HasBegunOther scene kept t st new st' p e cloned b)
+  other_begins (Err f) k o stacks = tt
+  other_begins (Ok b) k o stacks = by_kept (keeps_children cloned mark) refl
+    where
+      by_kept : (q : Bool) → keeps_children cloned mark ≡ q → HasBegunOther scene kept t st new st' p e cloned b
+      by_kept true h = others.keeps h (k h) stacks
+      by_kept false h = others.opens (o h) stacks
+
+-- The hooks of an old tree are those of its own instance, and those of what it keeps.
+
+pub own_keeps : (kept : ℕ → Option (List Hook)) (old : Option Node) → KeepsHooksIf kept old → KeepsHooks kept (old_instance old)
+own_keeps kept None h = λ n e. absurd (let q : ⊥ = cc in q)
+own_keeps kept (Some (node e m ns fs)) h = h.0
+
+pub own_gives : (s : Sight) (kept : ℕ → Option (List Hook)) (old : Option Node) → GivesHooksIf s kept old → GivesHooks s kept (old_instance old)
+own_gives s kept None h = λ i n e f. absurd (let q : ⊥ = cc in q)
+own_gives s kept (Some (node e m ns fs)) h = h.0
+
+pub kids_keep : (kept : ℕ → Option (List Hook)) (old : Option Node) → KeepsHooksIf kept old → KeepsHooksIn kept (children_if old)
+kids_keep kept None h = tt
+kids_keep kept (Some (node e m ns fs)) h = h.1
+
+-- A node of its own that is hidden is a boundary's
+own_boundary : (p : Program) (k : Known) (e : Element) (a : Awaits) (ns fs : Forest) → IsOwn p k e (of_boundary (Hidden a)) ns fs
+    → (key : Key) × (f : Element) × (es : Elements) × (e ≡ elements.boundary key f es)
+own_boundary p k elements.null a ns fs own = absurd own
+own_boundary p k (elements.text t) a ns fs own = absurd (let f = own.1 in let q : ⊥ = cc in q)
+own_boundary p k (elements.host n key attrs es) a ns fs own = absurd (let f = own.1 in let q : ⊥ = cc in q)
+own_boundary p k (elements.comp c key props given) a ns fs own = absurd (let f = own.1 in let q : ⊥ = cc in q)
+own_boundary p k (elements.list es) a ns fs own = absurd (let f = own.0 in let q : ⊥ = cc in q)
+own_boundary p k (elements.provider c key x es) a ns fs own = absurd (let f = own.0 in let q : ⊥ = cc in q)
+own_boundary p k (elements.boundary key f es) a ns fs (inl own) = absurd (let g = own.0 in let q : ⊥ = cc in q)
+own_boundary p k (elements.boundary key f es) a ns fs (inr own) = (key, f, es, refl)
+
+module _ (s : Sight) (kept : ℕ → Option (List Hook)) (t : Trees Fiber) (st : Stack) (new : Trees Fiber) (st' : Stack) (p n : ℕ) (fs : List Frame) (cs : Contexts) (e : Element) (old : Option Node) (a : Awaits)
+    (knows : KnowsPlaces t) (at : StandsAt t st (Some p) (at_place (suc n) fs cs e old)) (v : Fiber) (cloned : Bool) (value : Some v ≡ made_value_of t.draft p) (cloned_is : cloned ≡ is_cloned v.stage) where
+  -- from the old node
+  by_node : (x : Node) → old ≡ Some x → cloned ≡ true → mark_of x ≡ of_boundary (Hidden a) → StoodIn (Some x) e → IfSettled s.program (known_by s) (Some x) → WaitsStill s a x → new.current ≡ t.current
+      → new ≡ record t { draft = valued p (changed change.Try) t.draft } → st' ≡ st → IsHiddenAgain s t new st' p n fs cs e old a
+  by_node (node f m ns ws) was so mark stood settled waits current tried stacks =
+      let (element, stands) = clone_stands t st p n fs cs e old knows at v cloned value cloned_is so in
+      elim at [
+        | begins {v = w} {o = o} {rs = rs} {k = k} here is is_old surrounds values stack ↦ (
+            let same : f ≡ e = cc in
+            let x_is : node f m ns ws ≡ node e (of_boundary (Hidden a)) ns ws = ap (λ y. node y m ns ws) same ∙ ap (λ y. node e y ns ws) mark in
+            let (key, g, es, e_is) = own_boundary s.program (known_by s) e a ns ws (subst (λ y. IsOwn s.program (known_by s) y (of_boundary (Hidden a)) ns ws) same (subst (λ y. IsOwn s.program (known_by s) f y ns ws) mark settled.0)) in
+            let at_it = knows k p w o (taken shapes.none) rs here in
+            let l : IsLeftAt new st' p (taken shapes.none) a (open_part n fs (falling e old a) (part cs (fallback_in e ∷ []) (fallback_if old))) = record {
+              around = k;
+              value = changed change.Try w;
+              old = o;
+              rest = rs;
+              levels = n;
+              frames = fs;
+              node = old;
+              here = ap (λ y. y.draft) tried ∙ at_it.value (changed change.Try);
+              stage = refl;
+              boundary = ap is_boundary (is.element ∙ e_is);
+              was = subst (λ c. IsOld c o old) (sym current) is_old;
+              surrounds = subst (λ c. IsAround c k w.place rs fs) (sym current) (subst (λ place. IsAround t.current k place rs fs) (sym is.at) surrounds);
+              stack = rw stacks stack;
+              opens = rw (is.element, stacks, values) refl;
+            } in
+            record {
+              key = key;
+              fallback = g;
+              given = es;
+              boundary = e_is;
+              kept = ns;
+              shown = ws;
+              was = was ∙ ap Some x_is;
+              unresolved = waits.unresolved;
+              agree = waits.same;
+              old_is = subst (λ q. IsOld t.current q old) (sym at_it.old) is_old;
+              stood = stands;
+              left = l;
+              again = record {
+                same = subst (λ c. IsElementOf c o w.element) (sym current) (subst (λ y. IsElementOf t.current o y) (sym is.element) (subst (λ q. IsElementOf t.current q e) at_it.old element));
+                stood = subst (λ c. StoodAt c (given_along fs) o) (sym current) (subst (λ q. StoodAt t.current (given_along fs) q) at_it.old stands);
+                hidden = ap was_hidden (was ∙ ap Some x_is);
+                program = s.program;
+                known = known_by s;
+                settled = subst (IfSettled s.program (known_by s)) (sym was) settled;
+              };
+            })
+      ]
+
+  -- Its fallback opens next.
+  pub hidden_again : cloned ≡ true → mark_at t.current (old_of t.draft p) ≡ Some (of_boundary (Hidden a))
+      → ((x : Node) → IsOld t.current (old_of t.draft p) (Some x) → GivesHooksIn s kept (children_of x) → WaitsStill s a x) → GivesHooksIf s kept old → IfSettled s.program (known_by s) old
+      → new.current ≡ t.current → new ≡ record t { draft = valued p (changed change.Try) t.draft } → st' ≡ st → IsHiddenAgain s t new st' p n fs cs e old a
+  hidden_again so mark waits gives settled current tried stacks =
+      by_old old refl
+    where
+      by_old : (o : Option Node) → old ≡ o → IsHiddenAgain s t new st' p n fs cs e old a
+      by_old None f =
+          absurd (let g : option_map mark_of old ≡ Some (of_boundary (Hidden a)) = sym (mark_is t.current (old_of t.draft p) old (old_at t st p n fs cs e old knows at)) ∙ mark in
+          let h : None ≡ Some (of_boundary (Hidden a)) = sym (ap (option_map mark_of) f) ∙ g in let q : ⊥ = cc in q)
+      by_old (Some (node f m ns ws)) g =
+          let x : Node = node f m ns ws in
+          let h : Some m ≡ Some (of_boundary (Hidden a)) = sym (ap (option_map mark_of) g) ∙ (sym (mark_is t.current (old_of t.draft p) old (old_at t st p n fs cs e old knows at)) ∙ mark) in
+          by_node x g so (let q : m ≡ of_boundary (Hidden a) = cc in q)
+          (subst (λ y. StoodIn y e) g (clone_stood t st p n fs cs e old knows at v value (sym cloned_is ∙ so)))
+          (subst (IfSettled s.program (known_by s)) g settled)
+          (waits x (subst (IsOld t.current (old_of t.draft p)) g (old_at t st p n fs cs e old knows at)) (subst (GivesHooksIf s kept) g gives).1) current tried stacks

@@ -1,0 +1,37 @@
+-- Where a fiber of the current tree stands.
+use Rattle.std.specs.Prelude.{◌≡◌, ℕ, ℤ, true, false, List, [], ◌∷◌, Option, Some, None}
+use Rattle.rx_elem.specs.Elements.{Element}
+use Rattle.rx_elem.specs.Elements as elements
+use Rattle.rx_lists.specs.Shapes.{Shape, first}
+use Rattle.rx_links.specs.Readers.{value_of, list_from}
+use Rattle.rx_fiber.specs.Fibers.{Fiber}
+use Rattle.rx_fiber.specs.OldLists.{hides_in, primary_list, fallback_list, fiber_at}
+
+-- what a provider's element gives
+abbrev pub given_in : Element → Option (ℕ × ℤ)
+given_in elements.null = None
+given_in (elements.text t) = None
+given_in (elements.host n k attrs es) = None
+given_in (elements.comp c k ps es) = None
+given_in (elements.list es) = None
+given_in (elements.boundary k f es) = None
+given_in (elements.provider c k x es) = Some (c, x)
+
+-- one value more that is given, if there is one
+abbrev pub one_more : Option (ℕ × ℤ) → List (ℕ × ℤ) → List (ℕ × ℤ)
+one_more None ws = ws
+one_more (Some w) ws = w ∷ ws
+
+-- what providers give below an element, the nearest first, where these stand around it
+abbrev pub given_more : Element → List (ℕ × ℤ) → List (ℕ × ℤ)
+given_more e ws = one_more (given_in e) ws
+
+-- The fiber is one of the current tree that is shown, and the providers on the way to it from the root give these values, the nearest first.
+pub data StoodAt (current : Shape Fiber) : List (ℕ × ℤ) → Option ℕ → Type 0 where
+  at_root : {i : ℕ} → first current ≡ Some i → StoodAt current [] (Some i)
+  -- it is a child of a node that hides nothing
+  below : {ws : List (ℕ × ℤ)} {q i : ℕ} {v : Fiber} (place : ℕ) → StoodAt current ws (Some q) → value_of current q ≡ Some v → hides_in v.stage ≡ false
+      → fiber_at (primary_list (list_from current (Some q))) place ≡ Some i → StoodAt current (given_more v.element ws) (Some i)
+  -- it is in the fallback of a hidden boundary
+  in_fallback : {ws : List (ℕ × ℤ)} {q i : ℕ} {v : Fiber} (place : ℕ) → StoodAt current ws (Some q) → value_of current q ≡ Some v → hides_in v.stage ≡ true
+      → fiber_at (fallback_list (list_from current (Some q))) place ≡ Some i → StoodAt current ws (Some i)
