@@ -1,25 +1,26 @@
--- A subtree that has no cause is rendered to itself.
+-- A subtree that is idle and reads nothing anew is rendered to itself; so is one that has no cause.
 use Rattle.std.specs.List.{enumerate_from, list_any, zip}
-use Rattle.std.specs.Prelude.{Bool, List, None, Option, Some, [], cond, false, filter, map, nat_eq, nat_lt, not, option_to_list, refl, suc, true, zero, ℕ, ℤ, ◌&&◌, ◌+◌, ◌∷◌, ◌≡◌, ◌≤◌}
+use Rattle.std.specs.Prelude.{Bool, List, None, Option, Some, [], cond, false, filter, map, nat_eq, nat_lt, not, option_map, option_to_list, refl, suc, true, zero, ℕ, ℤ, ◌&&◌, ◌+◌, ◌∷◌, ◌≡◌, ◌≤◌}
 use Rattle.std.proofs.Common.{ap, arith, inl, inr, subst, sym, ◌∙◌}
 use Rattle.rx_ast.specs.Syntax.{Component, Program}
 use Rattle.rx_base.specs.declared.cut.Cut.{Cut}
 use Rattle.rx_elem.specs.Compare.{old_nodes}
 use Rattle.rx_elem.specs.Elements.{Element, Elements, gathered, is_present, listed}
-use Rattle.rx_elem.specs.Trees.{Forest, Instance, Mark, Node, child, element_of, elements_in, node, none, of_boundary, of_instance, places, vacant}
+use Rattle.rx_elem.specs.Trees.{Forest, Instance, Mark, Node, child, element_of, elements_in, is_hidden, node, none, of_boundary, of_host, of_instance, places, plain, vacant}
 use Rattle.rx_meaning.specs.Body.{body_of, ready}
 use Rattle.rx_meaning.specs.Expressions.{answers_of}
 use Rattle.rx_meaning.specs.Fresh.{Contexts, Renders, Sight, all_made, before, empty, hook_values, inputs_at, instance_after, made, one_list, part, place_of, render_all, rendered, shape_of, shape_of_body, shape_of_component}
-use Rattle.rx_meaning.specs.Touched.{contexts_below, has_update, touched_instance}
+use Rattle.rx_meaning.specs.Touched.{contexts_below, has_update}
 use Rattle.rx_lane.specs.Lanes.{Lanes}
 use Rattle.rx_queue.specs.History.{stands_done}
 use Rattle.rx_queue.specs.Journal.{Posted, Target, belongs_to, committed_value, hook, is_included, same_target, state_of}
-use Rattle.rx_susp.specs.declared.boundary.BoundaryState.TheVariants.{Hidden}
+use Rattle.rx_susp.specs.declared.boundary.BoundaryState.TheVariants.{Hidden, Shown}
 use Rattle.rx_meaning.proofs.Depths.{ShapeFits, not_deepest, shape_fits}
 use Rattle.rx_elem.proofs.Deciding.{same_itself, same_number, and_passes, or_fails}
 use Rattle.rx_elem.proofs.SelfMatch.{NoNull, matches_itself}
 use Rattle.rx_meaning.specs.Levels.{Fits, body_depth, elements_depth}
-use Rattle.rx_meaning.specs.Settled.{AllSettled, AllStill, DoneBefore, IsBodyOf, IsOwn, IsSettled, IsStill, Known, done_values, has_cause, kept_shape, known_by, read_anew}
+use Rattle.rx_meaning.specs.Settled.{AllCalm, AllReadsHold, AllSettled, AllStill, DoneBefore, IfHidden, IsBodyOf, IsCalm, IsOwn, IsSettled, IsStill, Known, ReadsHold, done_values, has_cause, is_stirred, kept_shape, known_by, read_anew, reads_another}
+use Rattle.commit_laws.specs.Idle.{AllIdle, HasCommittedValues, IsIdle, IsIdleMark}
 use Rattle.rx_elem.specs.Elements as elements
 
 -- Hook values
@@ -100,7 +101,7 @@ own_not_null p k (elements.list es) m ns fs h = refl
 own_not_null p k (elements.boundary key f es) m ns fs h = refl
 own_not_null p k (elements.provider c key x es) m ns fs h = refl
 
--- the body of an instance without a cause gives what the instance has
+-- the body of an instance with the committed values gives what the instance has
 body_again : (s : Sight) (cs : Contexts) (d : Component) (props : List ℤ) (given : Elements) (i : Instance) (es : List Element) (n : ℕ) → i.number ≡ Some n
     → (initials : List ℤ)
     → body_of s.program d (record { props = props; children = listed given; hooks = Some (done_values s.program (known_by s) n i.initials); contexts = cs; resources = (known_by s).resources })
@@ -121,35 +122,35 @@ component_again s cs c props given e i ns fs d initials same again =
     ∙ ap (λ (j : Instance). one_list (of_instance j) (part cs (elements_in ns) ns)) (same_instance c i initials same)
 
 instance_again : (s : Sight) (cs : Contexts) (c : ℕ) (key : _) (props : List ℤ) (given : Elements) (i : Instance) (ns fs : Forest)
-    → DoneBefore s.cut s.journal.updates → IsBodyOf s.program (known_by s) c props given i (elements_in ns) → touched_instance s cs (Some i) ≡ false
+    → IsBodyOf s.program (known_by s) c props given i (elements_in ns) → HasCommittedValues s i → read_anew cs i.reads ≡ false
     → shape_of s cs (elements.comp c key props given) (Some (node (elements.comp c key props given) (of_instance i) ns fs))
     ≡ one_list (of_instance i) (part cs (elements_in ns) ns)
-instance_again s cs c key props given i ns fs before body calm =
-    let parts = or_fails (has_update s (option_to_list i.number)) (read_anew cs i.reads) calm in
-    let still : has_update s (body.instance ∷ []) ≡ false = rw body.is_numbered at parts.0 in
-    let values = hooks_agree s body.instance before still i.initials in
+instance_again s cs c key props given i ns fs body same calm =
+    let both : Some (hook_values s body.instance i.initials) ≡ Some (done_values s.program (known_by s) body.instance i.initials) = rw body.is_numbered at same in
+    let values : hook_values s body.instance i.initials ≡ done_values s.program (known_by s) body.instance i.initials = cc in
     let again : body_of s.program body.component (inputs_at s cs props given (Some i)) ≡ ready (elements_in ns) i.effects body.initials i.reads =
-    body_again s cs body.component props given i (elements_in ns) body.instance body.is_numbered body.initials (body.gives cs parts.1) values in
+    body_again s cs body.component props given i (elements_in ns) body.instance body.is_numbered body.initials (body.gives cs calm) values in
     ap (shape_of_component s cs c props given (Some (node (elements.comp c key props given) (of_instance i) ns fs))) body.is_component
     ∙ component_again s cs c props given (elements.comp c key props given) i ns fs body.component body.initials body.is_of again
 
--- A place that has no cause renders its own children again: no body need be evaluated to know it.
-pub same_shape : (s : Sight) (cs : Contexts) (e : Element) (m : Mark) (ns fs : Forest) → DoneBefore s.cut s.journal.updates
-    → IsOwn s.program (known_by s) e m ns fs → has_cause s cs m ≡ false
+hidden_not_idle : (s : Sight) (m : Mark) (a : _) → IsIdleMark s m → m ≡ of_boundary (Hidden a) → ⊥
+hidden_not_idle s m a idle same = rw same at idle
+
+-- A place that is idle and reads nothing anew renders its own children again: no body need be evaluated to know it.
+pub idle_shape : (s : Sight) (cs : Contexts) (e : Element) (m : Mark) (ns fs : Forest)
+    → IsOwn s.program (known_by s) e m ns fs → IsIdleMark s m → reads_another cs m ≡ false
     → shape_of s cs e (Some (node e m ns fs)) ≡ kept_shape cs e m ns fs
-same_shape s cs elements.null m ns fs before own calm = refl
-same_shape s cs (elements.text t) m ns fs before own calm = rw (own.1, own.2) refl
-same_shape s cs (elements.host n key attrs es) m ns fs before own calm = rw (own.1, own.2) refl
-same_shape s cs (elements.comp c key props given) m ns fs before own calm =
-    let calm_instance : touched_instance s cs (Some own.0) ≡ false = rw own.1 at calm in
-    rw own.1 (instance_again s cs c key props given own.0 ns fs before own.2 calm_instance)
-same_shape s cs (elements.list es) m ns fs before own calm = rw (own.0, own.1) refl
-same_shape s cs (elements.boundary key f es) m ns fs before (inl own) calm = rw own.1 refl
-same_shape s cs (elements.boundary key f es) m ns fs before (inr own) calm = absurd (hidden_has_cause own.0 own.1)
-  where
-    hidden_has_cause : (a : _) → m ≡ of_boundary (Hidden a) → ⊥
-    hidden_has_cause a same = let no_cause : has_cause s cs (of_boundary (Hidden a)) ≡ false = rw same at calm in absurd (cc no_cause)
-same_shape s cs (elements.provider c key x es) m ns fs before own calm = rw (own.0, own.1) refl
+idle_shape s cs elements.null m ns fs own idle reads = refl
+idle_shape s cs (elements.text t) m ns fs own idle reads = rw (own.1, own.2) refl
+idle_shape s cs (elements.host n key attrs es) m ns fs own idle reads = rw (own.1, own.2) refl
+idle_shape s cs (elements.comp c key props given) m ns fs own idle reads =
+    let values : HasCommittedValues s own.0 = rw own.1 at idle in
+    let calm : read_anew cs own.0.reads ≡ false = rw own.1 at reads in
+    rw own.1 (instance_again s cs c key props given own.0 ns fs own.2 values calm)
+idle_shape s cs (elements.list es) m ns fs own idle reads = rw (own.0, own.1) refl
+idle_shape s cs (elements.boundary key f es) m ns fs (inl own) idle reads = rw own.1 refl
+idle_shape s cs (elements.boundary key f es) m ns fs (inr own) idle reads = absurd (hidden_not_idle s m own.0 idle own.1)
+idle_shape s cs (elements.provider c key x es) m ns fs own idle reads = rw (own.0, own.1) refl
 
 -- Subtrees
 
@@ -160,20 +161,17 @@ settled_no_null p k (child (node e m ps fs) ns) h = (own_not_null p k e m ps fs 
 
 -- the nodes of a kept shape
 place_of_kept : (below : Contexts → Renders) (p : Program) (k : Known) (s : Sight) (cs : Contexts) (e : Element) (m : Mark) (ns fs : Forest)
-    → IsOwn p k e m ns fs → has_cause s cs m ≡ false → old_nodes ns (elements_in ns) ≡ places ns
+    → IsOwn p k e m ns fs → IsIdleMark s m → old_nodes ns (elements_in ns) ≡ places ns
     → render_all (below (contexts_below e cs)) (zip (elements_in ns) (places ns)) ≡ all_made ns
     → place_of below e (Some (node e m ns fs)) (kept_shape cs e m ns fs) ≡ made (node e m ns fs)
-place_of_kept below p k s cs elements.null m ns fs own calm found again = absurd own
-place_of_kept below p k s cs (elements.text t) m ns fs own calm found again = rw (found, again, own.3) refl
-place_of_kept below p k s cs (elements.host n key attrs es) m ns fs own calm found again = rw (found, again, own.3) refl
-place_of_kept below p k s cs (elements.comp c key props given) m ns fs own calm found again = rw (found, again, own.3) refl
-place_of_kept below p k s cs (elements.list es) m ns fs own calm found again = rw (found, again, own.2) refl
-place_of_kept below p k s cs (elements.boundary key f es) m ns fs (inl own) calm found again = rw (found, again, own.0, own.2) refl
-place_of_kept below p k s cs (elements.boundary key f es) m ns fs (inr own) calm found again = absurd (hidden_has_cause own.0 own.1)
-  where
-    hidden_has_cause : (a : _) → m ≡ of_boundary (Hidden a) → ⊥
-    hidden_has_cause a same = let no_cause : has_cause s cs (of_boundary (Hidden a)) ≡ false = rw same at calm in absurd (cc no_cause)
-place_of_kept below p k s cs (elements.provider c key x es) m ns fs own calm found again = rw (found, again, own.2) refl
+place_of_kept below p k s cs elements.null m ns fs own idle found again = absurd own
+place_of_kept below p k s cs (elements.text t) m ns fs own idle found again = rw (found, again, own.3) refl
+place_of_kept below p k s cs (elements.host n key attrs es) m ns fs own idle found again = rw (found, again, own.3) refl
+place_of_kept below p k s cs (elements.comp c key props given) m ns fs own idle found again = rw (found, again, own.3) refl
+place_of_kept below p k s cs (elements.list es) m ns fs own idle found again = rw (found, again, own.2) refl
+place_of_kept below p k s cs (elements.boundary key f es) m ns fs (inl own) idle found again = rw (found, again, own.0, own.2) refl
+place_of_kept below p k s cs (elements.boundary key f es) m ns fs (inr own) idle found again = absurd (hidden_not_idle s m own.0 idle own.1)
+place_of_kept below p k s cs (elements.provider c key x es) m ns fs own idle found again = rw (found, again, own.2) refl
 
 -- the children of a kept shape are less deep
 kept_fits : (n : ℕ) (p : Program) (cs : Contexts) (e : Element) (m : Mark) (ns fs : Forest) → is_present e ≡ true
@@ -186,22 +184,22 @@ kept_fits n p cs (elements.list es) m ns fs present h = h
 kept_fits n p cs (elements.boundary key f es) m ns fs present h = h.0
 kept_fits n p cs (elements.provider c key x es) m ns fs present h = h
 
-pub children_fit_again : (n : ℕ) (s : Sight) (cs : Contexts) (e : Element) (m : Mark) (ns fs : Forest) → DoneBefore s.cut s.journal.updates
-    → IsOwn s.program (known_by s) e m ns fs → has_cause s cs m ≡ false → Fits (suc n) s.program e
+idle_children_fit : (n : ℕ) (s : Sight) (cs : Contexts) (e : Element) (m : Mark) (ns fs : Forest)
+    → IsOwn s.program (known_by s) e m ns fs → IsIdleMark s m → reads_another cs m ≡ false → Fits (suc n) s.program e
     → elements_depth (body_depth n s.program) (gathered (elements_in ns)) ≤ n
-children_fit_again n s cs e m ns fs before own calm fits =
+idle_children_fit n s cs e m ns fs own idle reads fits =
     let whole = shape_fits n s cs e (Some (node e m ns fs)) fits in
     kept_fits n s.program cs e m ns fs (own_not_null s.program (known_by s) e m ns fs own)
-    (subst (ShapeFits n s.program) (same_shape s cs e m ns fs before own calm) whole)
+    (subst (ShapeFits n s.program) (idle_shape s cs e m ns fs own idle reads) whole)
 
-node_again : (n : ℕ) (s : Sight) (cs : Contexts) (e : Element) (m : Mark) (ns fs : Forest) → DoneBefore s.cut s.journal.updates
-    → IsOwn s.program (known_by s) e m ns fs → has_cause s cs m ≡ false → NoNull ns
+node_again : (n : ℕ) (s : Sight) (cs : Contexts) (e : Element) (m : Mark) (ns fs : Forest)
+    → IsOwn s.program (known_by s) e m ns fs → IsIdleMark s m → reads_another cs m ≡ false → NoNull ns
     → render_all (rendered n s (contexts_below e cs)) (zip (elements_in ns) (places ns)) ≡ all_made ns
     → rendered (suc n) s cs e (Some (node e m ns fs)) ≡ made (node e m ns fs)
 unfolding rendered
-node_again n s cs e m ns fs before own calm there again =
-    (ap (place_of (rendered n s) e (Some (node e m ns fs))) (same_shape s cs e m ns fs before own calm)
-    ∙ place_of_kept (rendered n s) s.program (known_by s) s cs e m ns fs own calm (matches_itself ns there) again)
+node_again n s cs e m ns fs own idle reads there again =
+    (ap (place_of (rendered n s) e (Some (node e m ns fs))) (idle_shape s cs e m ns fs own idle reads)
+    ∙ place_of_kept (rendered n s) s.program (known_by s) s cs e m ns fs own idle (matches_itself ns there) again)
 
 first_again : (n : ℕ) (s : Sight) (cs : Contexts) (x : Node) (ns : Forest) → rendered n s cs (element_of x) (Some x) ≡ made x
     → render_all (rendered n s cs) (zip (elements_in ns) (places ns)) ≡ all_made ns
@@ -217,20 +215,107 @@ gap_again : (n : ℕ) (s : Sight) (cs : Contexts) (ns : Forest) → render_all (
     → render_all (rendered n s cs) (zip (elements_in (vacant ns)) (places (vacant ns))) ≡ all_made (vacant ns)
 gap_again n s cs ns rest = rw (null_is_empty n s cs None, rest) refl
 
-mutual
-  -- A subtree that has no cause is rendered to itself.
-  pub rendered_again : (n : ℕ) (s : Sight) (cs : Contexts) (o : Node) → DoneBefore s.cut s.journal.updates → IsSettled s.program (known_by s) o → IsStill s cs o
-      → Fits n s.program (element_of o) → rendered n s cs (element_of o) (Some o) ≡ made o
-  rendered_again zero s cs (node e m ns fs) before settled still fits =
-      absurd (omega (arith, not_deepest s.program e fits (own_not_null s.program (known_by s) e m ns fs settled.0)))
-  rendered_again (suc n) s cs (node e m ns fs) before settled still fits =
-      node_again n s cs e m ns fs before settled.0 still.0 (settled_no_null s.program (known_by s) ns settled.1)
-      (all_again n s (contexts_below e cs) ns before settled.1 still.1 (children_fit_again n s cs e m ns fs before settled.0 still.0 fits))
+-- the children of a node that is idle read the contexts of their place
+reads_below : (s : Sight) (m : Mark) (A : Type 0) → IsIdleMark s m → IfHidden (is_hidden m) (Unit {0}) A → A
+reads_below s (of_instance i) A idle reads = reads
+reads_below s (of_host h) A idle reads = reads
+reads_below s plain A idle reads = reads
+reads_below s (of_boundary Shown) A idle reads = reads
+reads_below s (of_boundary (Hidden a)) A idle reads = absurd idle
 
-  pub all_again : (n : ℕ) (s : Sight) (cs : Contexts) (ns : Forest) → DoneBefore s.cut s.journal.updates → AllSettled s.program (known_by s) ns → AllStill s cs ns
+mutual
+  -- A subtree that is idle and reads nothing anew is rendered to itself.
+  pub idle_again : (n : ℕ) (s : Sight) (cs : Contexts) (o : Node) → IsSettled s.program (known_by s) o → IsIdle s o → ReadsHold cs o
+      → Fits n s.program (element_of o) → rendered n s cs (element_of o) (Some o) ≡ made o
+  idle_again zero s cs (node e m ns fs) settled idle reads fits =
+      absurd (omega (arith, not_deepest s.program e fits (own_not_null s.program (known_by s) e m ns fs settled.0)))
+  idle_again (suc n) s cs (node e m ns fs) settled idle reads fits =
+      node_again n s cs e m ns fs settled.0 idle.0 reads.0 (settled_no_null s.program (known_by s) ns settled.1)
+      (all_idle_again n s (contexts_below e cs) ns settled.1 idle.1 (reads_below s m (AllReadsHold (contexts_below e cs) ns) idle.0 reads.1)
+      (idle_children_fit n s cs e m ns fs settled.0 idle.0 reads.0 fits))
+
+  all_idle_again : (n : ℕ) (s : Sight) (cs : Contexts) (ns : Forest) → AllSettled s.program (known_by s) ns → AllIdle s ns → AllReadsHold cs ns
       → elements_depth (body_depth n s.program) (gathered (elements_in ns)) ≤ n
       → render_all (rendered n s cs) (zip (elements_in ns) (places ns)) ≡ all_made ns
-  all_again n s cs none before settled still fits = refl
-  all_again n s cs (vacant ns) before settled still fits = gap_again n s cs ns (all_again n s cs ns before settled still (omega arith))
-  all_again n s cs (child x ns) before settled still fits =
-      first_again n s cs x ns (rendered_again n s cs x before settled.0 still.0 (omega arith)) (all_again n s cs ns before settled.1 still.1 (omega arith))
+  all_idle_again n s cs none settled idle reads fits = refl
+  all_idle_again n s cs (vacant ns) settled idle reads fits = gap_again n s cs ns (all_idle_again n s cs ns settled idle reads (omega arith))
+  all_idle_again n s cs (child x ns) settled idle reads fits =
+      first_again n s cs x ns (idle_again n s cs x settled.0 idle.0 reads.0 (omega arith)) (all_idle_again n s cs ns settled.1 idle.1 reads.1 (omega arith))
+
+-- Causes
+
+-- an instance of which no update is included that isn't done has the committed values
+unstirred_values : (s : Sight) (i : Instance) → DoneBefore s.cut s.journal.updates → has_update s (option_to_list i.number) ≡ false → HasCommittedValues s i
+unstirred_values s i before calm = by_number i.number calm
+  where
+    by_number : (n : Option ℕ) → has_update s (option_to_list n) ≡ false
+        → option_map (λ n. hook_values s n i.initials) n ≡ option_map (λ n. done_values s.program (known_by s) n i.initials) n
+    by_number None h = refl
+    by_number (Some n) h = ap Some (hooks_agree s n before h i.initials)
+
+calm_mark : (s : Sight) (m : Mark) → DoneBefore s.cut s.journal.updates → is_stirred s m ≡ false → IsIdleMark s m
+calm_mark s (of_instance i) before calm = unstirred_values s i before calm
+calm_mark s (of_host h) before calm = tt
+calm_mark s plain before calm = tt
+calm_mark s (of_boundary Shown) before calm = tt
+calm_mark s (of_boundary (Hidden a)) before calm = cc
+
+mutual
+  -- A calm tree is idle.
+  pub calm_is_idle : (s : Sight) (o : Node) → DoneBefore s.cut s.journal.updates → IsCalm s o → IsIdle s o
+  calm_is_idle s (node e m ns fs) before calm = (calm_mark s m before calm.0, all_calm_are_idle s ns before calm.1, all_calm_are_idle s fs before calm.2)
+
+  all_calm_are_idle : (s : Sight) (ns : Forest) → DoneBefore s.cut s.journal.updates → AllCalm s ns → AllIdle s ns
+  all_calm_are_idle s none before calm = tt
+  all_calm_are_idle s (vacant ns) before calm = all_calm_are_idle s ns before calm
+  all_calm_are_idle s (child x ns) before calm = (calm_is_idle s x before calm.0, all_calm_are_idle s ns before calm.1)
+
+-- a node without a cause is idle, and reads nothing anew
+still_mark : (s : Sight) (cs : Contexts) (m : Mark) → DoneBefore s.cut s.journal.updates → has_cause s cs m ≡ false → IsIdleMark s m × (reads_another cs m ≡ false)
+still_mark s cs (of_instance i) before still =
+    let parts = or_fails (has_update s (option_to_list i.number)) (read_anew cs i.reads) still in (unstirred_values s i before parts.0, parts.1)
+still_mark s cs (of_host h) before still = (tt, refl)
+still_mark s cs plain before still = (tt, refl)
+still_mark s cs (of_boundary Shown) before still = (tt, refl)
+still_mark s cs (of_boundary (Hidden a)) before still = cc
+
+if_shown : (b : Bool) (A : Type 0) → A → IfHidden b (Unit {0}) A
+if_shown true A h = tt
+if_shown false A h = h
+
+mutual
+  still_is_idle : (s : Sight) (cs : Contexts) (o : Node) → DoneBefore s.cut s.journal.updates → IsStill s cs o → IsIdle s o × ReadsHold cs o
+  still_is_idle s cs (node e m ns fs) before still =
+      let here = still_mark s cs m before still.0 in
+      let below = all_still_are_idle s (contexts_below e cs) ns before still.1 in
+      let beside = all_still_are_idle s cs fs before still.2 in
+      ((here.0, below.0, beside.0), (here.1, if_shown (is_hidden m) (AllReadsHold (contexts_below e cs) ns) below.1, beside.1))
+
+  all_still_are_idle : (s : Sight) (cs : Contexts) (ns : Forest) → DoneBefore s.cut s.journal.updates → AllStill s cs ns → AllIdle s ns × AllReadsHold cs ns
+  all_still_are_idle s cs none before still = (tt, tt)
+  all_still_are_idle s cs (vacant ns) before still = all_still_are_idle s cs ns before still
+  all_still_are_idle s cs (child x ns) before still =
+      let here = still_is_idle s cs x before still.0 in
+      let more = all_still_are_idle s cs ns before still.1 in
+      ((here.0, more.0), (here.1, more.1))
+
+-- A place that has no cause renders its own children again.
+pub same_shape : (s : Sight) (cs : Contexts) (e : Element) (m : Mark) (ns fs : Forest) → DoneBefore s.cut s.journal.updates
+    → IsOwn s.program (known_by s) e m ns fs → has_cause s cs m ≡ false
+    → shape_of s cs e (Some (node e m ns fs)) ≡ kept_shape cs e m ns fs
+same_shape s cs e m ns fs before own calm = let idle = still_mark s cs m before calm in idle_shape s cs e m ns fs own idle.0 idle.1
+
+pub children_fit_again : (n : ℕ) (s : Sight) (cs : Contexts) (e : Element) (m : Mark) (ns fs : Forest) → DoneBefore s.cut s.journal.updates
+    → IsOwn s.program (known_by s) e m ns fs → has_cause s cs m ≡ false → Fits (suc n) s.program e
+    → elements_depth (body_depth n s.program) (gathered (elements_in ns)) ≤ n
+children_fit_again n s cs e m ns fs before own calm fits = let idle = still_mark s cs m before calm in idle_children_fit n s cs e m ns fs own idle.0 idle.1 fits
+
+-- A subtree that has no cause is rendered to itself.
+pub rendered_again : (n : ℕ) (s : Sight) (cs : Contexts) (o : Node) → DoneBefore s.cut s.journal.updates → IsSettled s.program (known_by s) o → IsStill s cs o
+    → Fits n s.program (element_of o) → rendered n s cs (element_of o) (Some o) ≡ made o
+rendered_again n s cs o before settled still fits = let idle = still_is_idle s cs o before still in idle_again n s cs o settled idle.0 idle.1 fits
+
+pub all_again : (n : ℕ) (s : Sight) (cs : Contexts) (ns : Forest) → DoneBefore s.cut s.journal.updates → AllSettled s.program (known_by s) ns → AllStill s cs ns
+    → elements_depth (body_depth n s.program) (gathered (elements_in ns)) ≤ n
+    → render_all (rendered n s cs) (zip (elements_in ns) (places ns)) ≡ all_made ns
+all_again n s cs ns before settled still fits = let idle = all_still_are_idle s cs ns before still in all_idle_again n s cs ns settled idle.0 idle.1 fits

@@ -1,3 +1,5 @@
 pub mod HiddenWaits
 pub mod WaitsAgain
 pub mod Quiet
+pub mod Each
+pub mod Idle

@@ -22,6 +22,7 @@ ghost use Rattle.rx_meaning.specs.Levels.{Fits};
 ghost use Rattle.rx_meaning.specs.Settled.{Known, IfSettled, IsSettled, IsOwn, known_by, DoneBefore, has_cause, kept_shape, IsStill, HasValuesOf, IsSound, IsCalm, ReadsHold, includes};
 ghost use Rattle.rx_rules.specs.Reads.{ReadsDeclared};
 ghost use Rattle.rx_meaning.specs.Again.{NoneTouched, IsFreeOf, AccountedBefore, NoneOwed, AllValuesAgree, AreUnresolved, WaitsAreSmall, AllOpen, NoNewUpdate};
+ghost use Rattle.commit_laws.specs.Idle.{IsIdle};
 ghost use Rattle.commit_laws.specs.HiddenWaits.{later_sight, journal_since, IfNumbered, Numbered, HiddenWaits, OwnWaits, Seen, AllSeen};
 ghost use Rattle.commit_laws.specs.Quiet.{NoneHidden, AllDone};
 
@@ -34,6 +35,16 @@ pub fn nothing_new_comes()
         → IsSettled s.program (known_by s) o → IsStill s cs o → Fits levels s.program (element_of o)
         → rendered levels s cs (element_of o) (Some o) ≡ made o }
     ensures elements { (e f : Element) → same_element e f ≡ true → e ≡ f }
+{}
+
+/// A subtree is rendered to itself where each of its instances has the values that are committed, nothing in it is hidden,
+/// and it reads what the contexts of its place give; so no body of it need be evaluated. A subtree of which no included
+/// update has yet to be done is such a one (react.dev, useState: React skips the children too).
+pub fn idle_trees_stay()
+    ensures tree { (s : Sight) (cs : Contexts) (o : Node) (levels : ℕ) → IsSettled s.program (known_by s) o
+        → IsIdle s o → ReadsHold cs o → Fits levels s.program (element_of o)
+        → rendered levels s cs (element_of o) (Some o) ≡ made o }
+    ensures calm { (s : Sight) (o : Node) → DoneBefore s.cut s.journal.updates → IsCalm s o → IsIdle s o }
 {}
 
 /// What is kept of the committed tree: a commit keeps it, and so do an update that is accepted and a resolution.

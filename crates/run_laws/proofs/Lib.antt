@@ -12,3 +12,4 @@ pub mod Keeping
 pub mod KeptRuns
 pub mod KeptFacts
 pub mod QuietEnds
+pub mod IdleLater

@@ -13,6 +13,8 @@ ghost use Rattle.rx_meaning.specs.Cursor.{Cursor, ended, is_over};
 ghost use Rattle.rx_meaning.specs.Counts.{each_unit, whole};
 ghost use Rattle.render_laws.specs.InProgress.{InProgress};
 ghost use Rattle.render_laws.specs.SameSight.{AllAfter};
+ghost use Rattle.rx_meaning.specs.Again.{AllOpen};
+ghost use Rattle.commit_laws.specs.Idle.{IsIdle};
 ghost use Rattle.commit_laws.specs.WaitsAgain.{IfWaitsAgain};
 ghost use Rattle.rx_model.specs.State.{State, Progress};
 ghost use Rattle.rx_model.specs.Committing.{sight_of, starting};
@@ -67,6 +69,12 @@ pub fn hidden_waits_are_kept()
         → s.cut.resolutions ≤ length s.journal.resolutions
         → (cs : Contexts) (tree : Option Node) → IfWaitsAgain s cs tree
         → IfWaitsAgain (record s { journal = record { updates = s.journal.updates ++ new; resolutions = s.journal.resolutions ++ more } }) cs tree }
+{}
+
+/// A tree that is idle for a render stays so while updates are accepted behind its cut.
+pub fn idle_trees_are_kept()
+    ensures longer { (s : Sight) (new : List Posted) (more : List Resolution) → AllAfter s.cut.updates new → AllOpen new → (x : Node) → IsIdle s x
+        → IsIdle (record s { journal = record { updates = s.journal.updates ++ new; resolutions = s.journal.resolutions ++ more } }) x }
 {}
 
 /// What each step keeps, in each state of each run: pending lanes are a set, updates are numbered as they came and none
