@@ -12,6 +12,7 @@ use Rattle.rx_lists.specs.Shapes.{Shape, fiber}
 use Rattle.rx_lists.specs.Shapes as shapes
 use Rattle.rx_meaning.specs.Again.{AllValuesAgree, AreUnresolved}
 use Rattle.rx_meaning.specs.Fresh.{Sight, values_of}
+use Rattle.commit_laws.specs.Each as each
 use Rattle.commit_laws.specs.WaitsAgain.{without_lanes}
 use Rattle.rx_fiber.specs.Fibers.{Fiber, Stage}
 use Rattle.rx_fiber.specs.Reading.{IsOld}
@@ -20,18 +21,15 @@ use Rattle.rx_begin.specs.Nodes.{begun_mark}
 use Rattle.rx_begin.specs.Scenes.{GivesHooks, KeepsHooks, number_in}
 use Rattle.rx_begin.specs.declared.scene.Scene.{Scene}
 
--- ---- the instances of a tree
+-- The instances of a tree
 
 -- this holds of what each node of a tree has for its instance
-abbrev mutual
-  pub ForEach : (Option Instance → Type 0) → Node → Type 0
-  ForEach P (node e m ns fs) = P (instance_in m) × ForEachIn P ns × ForEachIn P fs
+abbrev pub ForEach : (Option Instance → Type 0) → Node → Type 0
+ForEach P x = each.ForEach (λ m. P (instance_in m)) x
 
-  -- the same for the trees of a list
-  pub ForEachIn : (Option Instance → Type 0) → Forest → Type 0
-  ForEachIn P none = Unit {0}
-  ForEachIn P (vacant ns) = ForEachIn P ns
-  ForEachIn P (child n ns) = ForEach P n × ForEachIn P ns
+-- the same for the trees of a list
+abbrev pub ForEachIn : (Option Instance → Type 0) → Forest → Type 0
+ForEachIn P ns = each.ForEachIn (λ m. P (instance_in m)) ns
 
 -- it holds of what some node of a tree has for its instance
 abbrev mutual
@@ -52,7 +50,7 @@ KeepsHooksIn kept ns = ForEachIn (KeepsHooks kept) ns
 abbrev pub GivesHooksIn : Sight → (kept : ℕ → Option (List Hook)) → Forest → Type 0
 GivesHooksIn s kept ns = ForEachIn (GivesHooks s kept) ns
 
--- ---- the instances of a list of fibers
+-- The instances of a list of fibers
 
 -- what a fiber of this stage has for its instance
 abbrev pub instance_at : Stage → Option Instance
@@ -68,7 +66,7 @@ abbrev pub ForSomeFiber : (Option Instance → Type 0) → Shape Fiber → Type 
 ForSomeFiber P shapes.none = ⊥
 ForSomeFiber P (fiber id v ks rs) = P (instance_at v.stage) ⊎ (ForSomeFiber P ks ⊎ ForSomeFiber P rs)
 
--- ---- news
+-- News
 
 -- an included update in the kept hooks of an instance is neither done nor owed
 pub record HasNews (kept : ℕ → Option (List Hook)) (lanes : Lanes) (cut : Cut) (i : Option Instance) : Type 0 where
@@ -84,7 +82,7 @@ HasSameValues s i = (j : Instance) → i ≡ Some j → values_of (without_lanes
 abbrev pub HasNoNews : (kept : ℕ → Option (List Hook)) → Lanes → Cut → Option Instance → Type 0
 HasNoNews kept lanes cut i = (s : Sight) → s.lanes ≡ lanes → s.cut ≡ cut → GivesHooks s kept i → HasSameValues s i
 
--- ---- boundaries
+-- Boundaries
 
 -- one of these resources has a value
 pub record HasValueOf (resources : List (Option ℤ)) (a : Awaits) : Type 0 where
