@@ -25,4 +25,4 @@ expr_falls (kind.Group e) = omega arith
 expr_falls (kind.Prefixed o e) = omega arith
 expr_falls (kind.Chain e ls) = omega (arith, most_le-links_depth ls.items)
 expr_falls (kind.Choice c a b) = omega arith
-expr_falls (kind.Call f es) = omega (arith, most_le-exprs_depth es.items)
+expr_falls (kind.Call c) = omega (arith, most_le-exprs_depth c.value.arguments.items)

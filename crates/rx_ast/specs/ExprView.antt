@@ -18,4 +18,4 @@ expr_of (kind.Group e) = grouped e.value
 expr_of (kind.Prefixed o e) = prefixed o e.value
 expr_of (kind.Chain e ls) = chain e.value (links_of ls.items)
 expr_of (kind.Choice c a b) = chosen c.value a.value b.value
-expr_of (kind.Call f es) = called f (exprs_of es.items)
+expr_of (kind.Call c) = called c.value.function (exprs_of c.value.arguments.items)

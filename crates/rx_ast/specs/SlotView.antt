@@ -23,8 +23,8 @@ attribute_of (attribute.Literal x t) = syntax.literal x t
 -- where the key stands
 abbrev pub key_place_of : KeyPlace → syntax.KeyPlace
 key_place_of place.Unkeyed = syntax.unkeyed
-key_place_of (place.First e) = syntax.key_first e
-key_place_of (place.Last e) = syntax.key_last e
+key_place_of (place.First e) = syntax.key_first e.value
+key_place_of (place.Last e) = syntax.key_last e.value
 
 -- how an element of this content ends
 abbrev pub ending_of : Content → Ending
@@ -41,7 +41,7 @@ abbrev pub tagged : Tag → Ending → Slots → Slot
 tagged (tag.Host x attrs) w ss = syntax.host x attrs.items w ss
 tagged (tag.Component x attrs) w ss = syntax.comp x attrs.items w ss
 tagged (tag.Suspense k s) w ss = syntax.boundary (key_place_of k) s.value w ss
-tagged (tag.Provider x k e) w ss = syntax.provider x (key_place_of k) e w ss
+tagged (tag.Provider x k e) w ss = syntax.provider x (key_place_of k) e.value w ss
 
 -- the element of this tag with this content
 abbrev pub element_of : Tag → Content → Slot

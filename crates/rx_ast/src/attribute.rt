@@ -29,9 +29,9 @@ pub enum AttributeKind {
 pub enum KeyPlace {
     Unkeyed,
     /// Before what else is given there.
-    First(Expr),
+    First(Box<Expr>),
     /// Behind what else is given there.
-    Last(Expr),
+    Last(Box<Expr>),
 }
 
 impl Model for Attribute {

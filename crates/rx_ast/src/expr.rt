@@ -74,11 +74,15 @@ pub enum ExprKind {
         first: Box<Expr>,
         second: Box<Expr>,
     },
-    /// A call of a function.
-    Call {
-        function: Name,
-        arguments: Vec<Expr>,
-    },
+    Call(Box<Call>),
+}
+
+/// A call of a function.
+#[cycle(expr)]
+#[derive(Drop)]
+pub struct Call {
+    pub function: Name,
+    pub arguments: Vec<Expr>,
 }
 
 impl Model for Expr {
@@ -184,14 +188,20 @@ impl Expr {
     }
 
     /// A call of a function with its arguments.
-    pub fn call(function: Name, arguments: Vec<Expr>) -> Expr
-        ensures { result ≡ called function (exprs_of arguments.items) }
+    ///
+    /// # Errors
+    ///
+    /// Want of memory alone.
+    pub fn call(alloc: Global, function: Name, arguments: Vec<Expr>) -> Result<Expr, AllocError>
+        ensures { IfOk result (λ e. e ≡ called function (exprs_of arguments.items)) }
     {
-        Expr {
-            kind: ExprKind::Call {
-                function,
-                arguments,
-            },
-        }
+        let call = Call {
+            function,
+            arguments,
+        };
+        let call = Box::new(alloc, call)?;
+        Ok(Expr {
+            kind: ExprKind::Call(call),
+        })
     }
 }

@@ -16,7 +16,7 @@ pub use body::{Body, BodyKind, Fragment};
 pub use declaration::{
     Component, Context, Declaration, DeclarationKind, Function, Line, Parameter, ParameterKind,
 };
-pub use expr::{Expr, ExprKind, Link, Operator, Prefix};
+pub use expr::{Call, Expr, ExprKind, Link, Operator, Prefix};
 pub use program::Program;
 pub use slot::{Child, ChildKind, Content, Element, For, Slot, SlotKind, Tag};
 pub use statement::{Statement, StatementKind};

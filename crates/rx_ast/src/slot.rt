@@ -83,7 +83,7 @@ pub enum Tag {
     Provider {
         context: Name,
         key: KeyPlace,
-        value: Expr,
+        value: Box<Expr>,
     },
 }
 

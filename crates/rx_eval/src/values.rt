@@ -53,10 +53,7 @@ pub(crate) fn value(checked: &Checked, nesting: usize, env: &Env, expr: &Expr) -
                 value(checked, nesting, env, first)
             }
         }
-        ExprKind::Call {
-            function,
-            arguments,
-        } => call(checked, nesting, env, function, arguments),
+        ExprKind::Call(made) => call(checked, nesting, env, &made.function, &made.arguments),
     }
 }
 

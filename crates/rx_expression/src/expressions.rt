@@ -65,7 +65,7 @@ fn call<'a>(
     }
     let rest = expect(rest, Sign::OpenParen)?;
     let (arguments, rest) = exprs(alloc, rest, level - 1, Sign::CloseParen)?;
-    Ok((Expr::call(function, arguments), rest))
+    Ok((Expr::call(alloc, function, arguments)?, rest))
 }
 
 /// A variable or a call.

@@ -101,7 +101,7 @@ abbrev pub tag_cost : (ℕ → ℕ) → Program → Tag → ℕ
 tag_cost costs p (tag.Host x attrs) = attributes_cost costs p attrs.items
 tag_cost costs p (tag.Component x attrs) = attributes_cost costs p attrs.items
 tag_cost costs p (tag.Suspense k f) = held_sum (key_cost costs p (key_place_of k)) (slot_cost costs p f.value)
-tag_cost costs p (tag.Provider x k e) = held_sum (key_cost costs p (key_place_of k)) (expr_cost costs p e)
+tag_cost costs p (tag.Provider x k e) = held_sum (key_cost costs p (key_place_of k)) (expr_cost costs p e.value)
 
 -- the cost of a statement
 abbrev pub statement_cost : (ℕ → ℕ) → Program → Statement → ℕ

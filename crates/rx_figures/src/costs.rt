@@ -58,12 +58,9 @@ fn expr(program: &Index, costs: &[u64], expr: &Expr) -> u64
             let second = self::expr(program, costs, second);
             held_sum(1, held_sum(test, held_sum(first, second)))
         }
-        ExprKind::Call {
-            function,
-            arguments,
-        } => {
-            let own = known(costs, program.function_number(function.text()));
-            held_sum(1, held_sum(exprs(program, costs, arguments), own))
+        ExprKind::Call(call) => {
+            let own = known(costs, program.function_number(call.function.text()));
+            held_sum(1, held_sum(exprs(program, costs, &call.arguments), own))
         }
     }
 }

@@ -19,7 +19,7 @@ abbrev pub opening_of : Tag → Opening
 opening_of (tag.Host x attrs) = host_tag x attrs.items
 opening_of (tag.Component x attrs) = component_tag x attrs.items
 opening_of (tag.Suspense k s) = boundary_tag (key_place_of k) s.value
-opening_of (tag.Provider x k e) = provider_tag x (key_place_of k) e
+opening_of (tag.Provider x k e) = provider_tag x (key_place_of k) e.value
 
 -- the element of an opening tag that ends so and has these children
 abbrev pub element : Opening → Ending → Slots → Slot

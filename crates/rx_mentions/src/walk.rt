@@ -130,12 +130,9 @@ impl<'a> Walk<'a> {
                 self.expr(scope, first)?;
                 self.expr(scope, second)
             }
-            ExprKind::Call {
-                function,
-                arguments,
-            } => {
-                self.call_of(function, arguments)?;
-                self.exprs(scope, arguments)
+            ExprKind::Call(call) => {
+                self.call_of(&call.function, &call.arguments)?;
+                self.exprs(scope, &call.arguments)
             }
         }
     }

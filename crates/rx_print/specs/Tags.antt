@@ -21,4 +21,4 @@ abbrev pub given_tokens : Tag → List Kind
 given_tokens (tag.Host x attrs) = flat_map attribute_tokens attrs.items
 given_tokens (tag.Component x attrs) = flat_map attribute_tokens attrs.items
 given_tokens (tag.Suspense k s) = keyed (key_place_of k) (given (Lower (codes "fallback")) (slot_tokens s.value))
-given_tokens (tag.Provider x k e) = keyed (key_place_of k) (given (Lower (codes "value")) (expr_tokens e))
+given_tokens (tag.Provider x k e) = keyed (key_place_of k) (given (Lower (codes "value")) (expr_tokens e.value))

@@ -73,13 +73,10 @@ impl Printer {
                 self.sign(Sign::Colon)?;
                 self.expr(second)
             }
-            ExprKind::Call {
-                function,
-                arguments,
-            } => {
-                self.lower(function)?;
+            ExprKind::Call(call) => {
+                self.lower(&call.function)?;
                 self.sign(Sign::OpenParen)?;
-                self.exprs(arguments)?;
+                self.exprs(&call.arguments)?;
                 self.sign(Sign::CloseParen)
             }
         }

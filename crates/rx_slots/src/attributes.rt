@@ -120,7 +120,7 @@ pub(crate) fn last_key<'a>(
 {
     if next_is_word(rest, Keyword::Key) {
         let (key, rest) = key(alloc, rest, level)?;
-        return Ok((KeyPlace::Last(key), rest));
+        return Ok((KeyPlace::Last(Box::new(alloc, key)?), rest));
     }
     Ok((KeyPlace::Unkeyed, rest))
 }
@@ -145,7 +145,7 @@ fn keyed_value<'a>(
     if next_is_word(rest, Keyword::Key) {
         let (key, rest) = key(alloc, rest, level)?;
         let (key, value, rest) = beside(key, value(alloc, rest, level))?;
-        return Ok((KeyPlace::First(key), value, rest));
+        return Ok((KeyPlace::First(Box::new(alloc, key)?), value, rest));
     }
     let (value, rest) = value(alloc, rest, level)?;
     let (value, key, rest) = beside(value, last_key(alloc, rest, level))?;
@@ -164,6 +164,7 @@ fn provider<'a>(
     let rest = expect(rest, Sign::Dot)?;
     let rest = expect_word(rest, Keyword::Provider)?;
     let (key, value, rest) = keyed_value(alloc, rest, level)?;
+    let value = Box::new(alloc, value)?;
     Ok((
         Tag::Provider {
             context,

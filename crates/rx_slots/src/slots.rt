@@ -53,7 +53,7 @@ fn keyed_fallback<'a>(
     if next_is_word(rest, Keyword::Key) {
         let (key, rest) = key(alloc, rest, level)?;
         let (key, fallback, rest) = beside(key, fallback(alloc, rest, level))?;
-        return Ok((KeyPlace::First(key), fallback, rest));
+        return Ok((KeyPlace::First(Box::new(alloc, key)?), fallback, rest));
     }
     let (fallback, rest) = fallback(alloc, rest, level)?;
     let (fallback, key, rest) = beside(fallback, last_key(alloc, rest, level))?;
