@@ -7,3 +7,4 @@ pub mod Stood
 pub mod Surround
 pub mod Standing
 pub mod Unwound
+pub mod Passed
