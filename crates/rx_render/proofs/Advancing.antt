@@ -94,19 +94,19 @@ module _ (s : Sight) (kept : ℕ → Option (List Hook)) (t : Trees Fiber) (st :
   pub child_advances : (child : ℕ) → BeginsPlace s kept t st new st' id (Child child) → Advances s kept t st (Begins id) bodies new st' (Begins child)
   child_advances child begins _ (to_place {levels = zero} h) level gives = absurd (omega (arith, level))
   child_advances child begins _ (to_place {levels = suc n} {fs = fs} {cs = cs} {e = e} {old = old} h) level gives =
-      let b = begins n fs cs e old h gives.0 gives.1 in record { next = _; goes = by_unit (few n fs cs e old h); comes = place_comes new st' child _ b.0 b.1 }
+      let b = begins n fs cs e old h gives.0 gives.1 in record { next = unit s (at_place (suc n) fs cs e old); goes = by_unit (few n fs cs e old h); comes = place_comes new st' child _ b.0 b.1 }
 
   pub leaf_advances : BeginsPlace s kept t st new st' id Leaf → Advances s kept t st (Begins id) bodies new st' (Completes id)
   leaf_advances begins _ (to_place {levels = zero} h) level gives = absurd (omega (arith, level))
   leaf_advances begins _ (to_place {levels = suc n} {fs = fs} {cs = cs} {e = e} {old = old} h) level gives =
-      let b = begins n fs cs e old h gives.0 gives.1 in record { next = _; goes = by_unit (few n fs cs e old h); comes = end_comes new st' id _ b.0 b.1 }
+      let b = begins n fs cs e old h gives.0 gives.1 in record { next = unit s (at_place (suc n) fs cs e old); goes = by_unit (few n fs cs e old h); comes = end_comes new st' id _ b.0 b.1 }
 
   pub waits_advances : (r : ℕ) (last : Trees Fiber) (st'' : Stack) (a : At) → BeginsPlace s kept t st new st' id (Suspended r)
       → ((levels : ℕ) (fs : List Frame) → IsWithin new st' id fs → ComesTo last st'' a (unwind levels fs (one r))) → Advances s kept t st (Begins id) bodies last st'' a
   waits_advances r last st'' a begins comes _ (to_place {levels = zero} h) level gives = absurd (omega (arith, level))
   waits_advances r last st'' a begins comes _ (to_place {levels = suc n} {fs = fs} {cs = cs} {e = e} {old = old} h) level gives =
       let b = begins n fs cs e old h gives.0 gives.1 in
-      record { next = _; goes = by_unit (few n fs cs e old h); comes = subst (ComesTo last st'' a) (sym b.1) (comes (suc n) fs b.4) }
+      record { next = unit s (at_place (suc n) fs cs e old); goes = by_unit (few n fs cs e old h); comes = subst (ComesTo last st'' a) (sym b.1) (comes (suc n) fs b.4) }
 
 -- a boundary evaluates none
 boundary_none : (s : Sight) (bodies n : ℕ) (fs : List Frame) (cs : Contexts) (e : Element) (old : Option Node) (key : elements.Key) (f : Element) (es : elements.Elements) → e ≡ elements.boundary key f es
@@ -201,7 +201,7 @@ taken_made scene kept t st new st' id can knows begins =
 pub end_advances : (s : Sight) (kept : ℕ → Option (List Hook)) (t : Trees Fiber) (st : Stack) (new : Trees Fiber) (st' : Stack) (id : ℕ) (a : At)
     → ((levels : ℕ) (fs : List Frame) (o : Open) (done : List (Option Node)) → StandsAt t st (Some id) (at_end levels fs o done) → ComesTo new st' a (unit s (at_end levels fs o done)))
     → Advances s kept t st (Completes id) 0 new st' a
-end_advances s kept t st new st' id a f _ (to_end {levels = levels} {fs = fs} {o = o} {done = done} h) level gives = record { next = _; goes = by_unit (omega arith); comes = f levels fs o done h }
+end_advances s kept t st new st' id a f _ (to_end {levels = levels} {fs = fs} {o = o} {done = done} h) level gives = record { next = unit s (at_end levels fs o done); goes = by_unit (omega arith); comes = f levels fs o done h }
 
 -- Results
 

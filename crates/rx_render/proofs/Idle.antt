@@ -74,8 +74,8 @@ each_reads cs (child x ns) h = (h.0, each_reads cs ns h.1)
 reads_down : HandsDown ReadsHold
 reads_down =
     record {
-      shown = λ cs e m ns fs h shows. each_reads (contexts_below e cs) ns (not_hidden (Unit {0}) (AllReadsHold (contexts_below e cs) ns) (is_hidden m) h.1 shows);
-      beside = λ cs e m ns fs h. each_reads cs fs h.2;
+      children = λ cs e m ns fs h shows. each_reads (contexts_below e cs) ns (not_hidden (Unit {0}) (AllReadsHold (contexts_below e cs) ns) (is_hidden m) h.1 shows);
+      fallbacks = λ cs e m ns fs h. each_reads cs fs h.2;
     }
 
 root_reads : (cs : Contexts) (tree : Option Node) → IfReadsHold cs tree → OldHas (ReadsHold cs) tree

@@ -76,8 +76,8 @@ got Q (child x ns) (suc p) y h e = got Q ns p y h.1 e
 
 -- a property of nodes, in the contexts of their places, goes down to the children of a node that hides nothing, and to a fallback
 pub record HandsDown (P : Contexts → Node → Type 0) : Type 0 where
-  pub shown : (cs : Contexts) (e : Element) (m : Mark) (ns fs : Forest) → P cs (node e m ns fs) → is_hidden m ≡ false → AllHave (P (contexts_below e cs)) ns
-  pub beside : (cs : Contexts) (e : Element) (m : Mark) (ns fs : Forest) → P cs (node e m ns fs) → AllHave (P cs) fs
+  pub children : (cs : Contexts) (e : Element) (m : Mark) (ns fs : Forest) → P cs (node e m ns fs) → is_hidden m ≡ false → AllHave (P (contexts_below e cs)) ns
+  pub fallbacks : (cs : Contexts) (e : Element) (m : Mark) (ns fs : Forest) → P cs (node e m ns fs) → AllHave (P cs) fs
 
 module _ (P : Contexts → Node → Type 0) (hands : HandsDown P) (c : Shape Fiber) (linked : IsLinked c) (base : Contexts) where
   -- a node of the current fiber has the property, where these values are given
@@ -103,13 +103,13 @@ module _ (P : Contexts → Node → Type 0) (hands : HandsDown P) (c : Shape Fib
       let same : v.element ≡ e = (let f : Some v.element ≡ Some e = (let g = stood_in c (Some q) (Some (node e m ns fs)) v.element is (ap (option_map (λ w. w.element)) here) in sym g) in cc) in
       let shows : is_hidden m ≡ false = sym (stage_hides q v (node e m ns fs) is here) ∙ shown in
       at_place_of (contexts_below e (given_contexts base ws)) (given_more v.element ws) ns place i (below_given base e ws ∙ ap (λ f. given_contexts base (given_more f ws)) (sym same))
-      (hands.shown (given_contexts base ws) e m ns fs has shows)
+      (hands.children (given_contexts base ws) e m ns fs has shows)
       (subst (λ o. IsOld c o (node_at ns place)) at (old_at c linked ns (primary_list (list_from c (Some q))) (primary_is c linked (Some q) (Some (node e m ns fs)) is) place))
 
   fallback_has : (ws : List (ℕ × ℤ)) (q i : ℕ) (place : ℕ) → (x : Node) → IsOld c (Some q) (Some x) → P (given_contexts base ws) x
       → fiber_at (fallback_list (list_from c (Some q))) place ≡ Some i → NodeHas ws (Some i)
   fallback_has ws q i place (node e m ns fs) is has at =
-      at_place_of (given_contexts base ws) ws fs place i refl (hands.beside (given_contexts base ws) e m ns fs has)
+      at_place_of (given_contexts base ws) ws fs place i refl (hands.fallbacks (given_contexts base ws) e m ns fs has)
       (subst (λ o. IsOld c o (node_at fs place)) at (old_at c linked fs (fallback_list (list_from c (Some q))) (fallback_is c linked (Some q) (Some (node e m ns fs)) is) place))
 
   module _ (tree : Option Node) (is : IsTreeOf tree c) (root : OldHas (P base) tree) where

@@ -34,8 +34,8 @@ each_waits s cs (child x ns) h = (h.0, each_waits s cs ns h.1)
 waits_down : (s : Sight) → HandsDown (WaitsAgain s)
 waits_down s =
     record {
-      shown = λ cs e m ns fs h shows. each_waits s (contexts_below e cs) ns (not_hidden (Unit {0}) (AllWaitAgain s (contexts_below e cs) ns) (is_hidden m) h.1 shows);
-      beside = λ cs e m ns fs h. each_waits s cs fs h.2;
+      children = λ cs e m ns fs h shows. each_waits s (contexts_below e cs) ns (not_hidden (Unit {0}) (AllWaitAgain s (contexts_below e cs) ns) (is_hidden m) h.1 shows);
+      fallbacks = λ cs e m ns fs h. each_waits s cs fs h.2;
     }
 
 root_waits : (s : Sight) (cs : Contexts) (tree : Option Node) → IfWaitsAgain s cs tree → OldHas (WaitsAgain s cs) tree
