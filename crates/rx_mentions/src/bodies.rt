@@ -13,7 +13,7 @@ use rx_ast::{
     Parameter, ParameterKind, Program, Statement, StatementKind,
 };
 use rx_base::Name;
-use rx_names::Names;
+use rx_names::BorrowedNames;
 use std::alloc::{AllocError, Global};
 
 /// The name of a parameter.
@@ -30,7 +30,7 @@ impl<'a> Walk<'a> {
     /// Notes what parameters of a component mention, and binds them.
     fn parameters(
         &mut self,
-        scope: &mut Scope,
+        scope: &mut Scope<'a>,
         parameters: &'a [Parameter],
     ) -> Result<(), AllocError>
         ensures mentions { OnOk result (self.new ≡ self.old ++ parameters_mentions scope.old parameters.now) }
@@ -44,7 +44,7 @@ impl<'a> Walk<'a> {
     }
 
     /// Notes what parameters of a function mention, and binds them.
-    fn names(&mut self, scope: &mut Scope, names: &'a [Name]) -> Result<(), AllocError>
+    fn names(&mut self, scope: &mut Scope<'a>, names: &'a [Name]) -> Result<(), AllocError>
         ensures mentions { OnOk result (self.new ≡ self.old ++ names_mentions scope.old names.now) }
         ensures scope { OnOk result (scope.new ≡ fold bound scope.old names.now) }
     {
@@ -56,7 +56,7 @@ impl<'a> Walk<'a> {
     }
 
     /// Notes what lines of a function mention, and binds their names.
-    fn lines(&mut self, scope: &mut Scope, lines: &'a [Line]) -> Result<(), AllocError>
+    fn lines(&mut self, scope: &mut Scope<'a>, lines: &'a [Line]) -> Result<(), AllocError>
         ensures mentions { OnOk result (self.new ≡ self.old ++ lines_mentions scope.old lines.now) }
         ensures scope { OnOk result (scope.new ≡ fold after_line scope.old lines.now) }
     {
@@ -105,7 +105,7 @@ impl<'a> Walk<'a> {
     }
 
     /// Notes what the values of an effect mention.
-    fn dependencies(&mut self, scope: &Names, values: &'a [Expr]) -> Result<(), AllocError>
+    fn dependencies(&mut self, scope: &BorrowedNames, values: &'a [Expr]) -> Result<(), AllocError>
         ensures { OnOk result (self.new ≡ self.old ++ flat_map (expr_mentions scope.now) values.now) }
     {
         for value in values {
@@ -164,7 +164,7 @@ impl<'a> Walk<'a> {
     /// Notes what statements mention, and binds their names.
     fn statements(
         &mut self,
-        scope: &mut Scope,
+        scope: &mut Scope<'a>,
         statements: &'a [Statement],
     ) -> Result<(), AllocError>
         ensures mentions { OnOk result (self.new ≡ self.old ++ statements_mentions scope.old statements.now) }
@@ -178,14 +178,14 @@ impl<'a> Walk<'a> {
     }
 
     /// Notes what a fragment mentions.
-    fn fragment(&mut self, scope: &mut Scope, fragment: &'a Fragment) -> Result<(), AllocError>
+    fn fragment(&mut self, scope: &mut Scope<'a>, fragment: &'a Fragment) -> Result<(), AllocError>
         ensures { OnOk result (self.new ≡ self.old ++ slots_mentions scope.old false fragment.now) }
     {
         self.children(scope, fragment.children())
     }
 
     /// Notes what a body mentions.
-    fn body(&mut self, scope: &mut Scope, body: &'a Body) -> Result<(), AllocError>
+    fn body(&mut self, scope: &mut Scope<'a>, body: &'a Body) -> Result<(), AllocError>
         ensures { OnOk result (self.new ≡ self.old ++ slots_mentions scope.old false (body_slots body.now)) }
     {
         match &body.kind {
@@ -223,12 +223,12 @@ impl<'a> Walk<'a> {
     fn declarations(&mut self, declarations: &'a [Declaration]) -> Result<(), AllocError>
         ensures { OnOk result (self.new ≡ self.old ++ declarations_mentions [] declarations.now) }
     {
-        let mut taken = Names::new(self.alloc);
+        let mut taken = BorrowedNames::new(self.alloc);
         for declaration in declarations {
             let name = declaration.name().text();
             self.introduced(&taken, name)?;
             self.declaration(declaration)?;
-            taken.push(self.alloc, name)?;
+            taken.push(name)?;
         }
         Ok(())
     }

@@ -3,19 +3,18 @@ ghost use Rattle.std.specs.Prelude.{◌≡◌, ◌-◌, OnOk, length, take};
 
 use rx_ast::{Parameter, ParameterKind, Statement, StatementKind};
 use rx_base::Name;
-use rx_names::Names;
+use rx_names::BorrowedNames;
 use std::alloc::{AllocError, Global};
 use std::marker::Model;
 
-/// What is bound at a place of a body: the names that stand for values, and all names.
+/// What is bound at a place of a body: the names that stand for values, and all names. It borrows the program.
 #[derive(Drop)]
-pub struct Scope {
-    alloc: Global,
-    values: Names,
-    names: Names,
+pub struct Scope<'a> {
+    values: BorrowedNames<'a>,
+    names: BorrowedNames<'a>,
 }
 
-impl Model for Scope {
+impl<'a> Model for Scope<'a> {
     ghost use Rattle.rx_mentions.specs.Mentions.{Scope as Bound};
 
     ghost Value = { Bound };
@@ -23,47 +22,46 @@ impl Model for Scope {
     ghost view = { λ s. record { values = s.values; names = s.names } };
 }
 
-impl Scope {
+impl<'a> Scope<'a> {
     ghost use Rattle.rx_mentions.specs.Mentions.{no_scope, bound, kept, after_parameter, after_statement};
 
     /// Nothing is bound yet.
-    pub fn new(alloc: Global) -> Scope
+    pub fn new(alloc: Global) -> Scope<'a>
         ensures { result ≡ no_scope }
     {
         Scope {
-            alloc,
-            values: Names::new(alloc),
-            names: Names::new(alloc),
+            values: BorrowedNames::new(alloc),
+            names: BorrowedNames::new(alloc),
         }
     }
 
     /// The names that stand for values.
-    pub fn values(&self) -> &Names
+    pub fn values(&self) -> &BorrowedNames<'a>
         ensures { result.now ≡ self.now.values }
     {
         &self.values
     }
 
     /// All names.
-    pub fn names(&self) -> &Names
+    pub fn names(&self) -> &BorrowedNames<'a>
         ensures { result.now ≡ self.now.names }
     {
         &self.names
     }
 
     /// Binds a name that stands for a value.
-    pub fn bind(&mut self, name: &Name) -> Result<(), AllocError>
+    pub fn bind(&mut self, name: &'a Name) -> Result<(), AllocError>
         ensures { OnOk result (self.new ≡ bound self.old name.now) }
     {
-        self.values.push(self.alloc, name.text())?;
-        self.names.push(self.alloc, name.text())
+        self.values.push(name.text())?;
+        self.names.push(name.text())
     }
 
     /// Binds a name that has no value.
-    pub fn keep(&mut self, name: &str) -> Result<(), AllocError>
+    pub fn keep(&mut self, name: &'a str) -> Result<(), AllocError>
         ensures { OnOk result (self.new ≡ kept self.old name.now) }
     {
-        self.names.push(self.alloc, name)
+        self.names.push(name)
     }
 
     /// Leaves the name that was bound last, with its value.
@@ -75,7 +73,7 @@ impl Scope {
     }
 
     /// Binds a parameter.
-    pub fn parameter(&mut self, parameter: &Parameter) -> Result<(), AllocError>
+    pub fn parameter(&mut self, parameter: &'a Parameter) -> Result<(), AllocError>
         ensures { OnOk result (self.new ≡ after_parameter self.old parameter.now) }
     {
         match &parameter.kind {
@@ -85,7 +83,7 @@ impl Scope {
     }
 
     /// Binds what a statement binds.
-    pub fn statement(&mut self, statement: &Statement) -> Result<(), AllocError>
+    pub fn statement(&mut self, statement: &'a Statement) -> Result<(), AllocError>
         ensures { OnOk result (self.new ≡ after_statement self.old statement.now) }
     {
         match &statement.kind {

@@ -17,7 +17,7 @@ use rx_ast::{
     SlotKind, Tag, key_among,
 };
 use rx_base::Name;
-use rx_names::Names;
+use rx_names::BorrowedNames;
 use std::alloc::{AllocError, Global};
 
 /// Whether there is a child.
@@ -73,28 +73,28 @@ impl<'a> Walk<'a> {
     /// Notes what attributes mention, where these names stand already.
     fn attributes(
         &mut self,
-        scope: &Names,
-        mut taken: Names,
+        scope: &BorrowedNames,
+        mut taken: BorrowedNames<'a>,
         attributes: &'a [Attribute],
     ) -> Result<(), AllocError>
-        ensures { OnOk result (self.new ≡ self.old ++ attributes_mentions scope.now taken attributes.now) }
+        ensures { OnOk result (self.new ≡ self.old ++ attributes_mentions scope.now taken.entry attributes.now) }
     {
         for attribute in attributes {
             match &attribute.kind {
                 AttributeKind::Key(value) => {
                     self.introduced(&taken, "key")?;
                     self.expr(scope, value)?;
-                    taken.push(self.alloc, "key")?;
+                    taken.push("key")?;
                 }
                 AttributeKind::Computed { name, value } => {
                     self.introduced(&taken, name.text())?;
                     self.expr(scope, value)?;
-                    taken.push(self.alloc, name.text())?;
+                    taken.push(name.text())?;
                 }
                 AttributeKind::Literal { name, text } => {
                     self.introduced(&taken, name.text())?;
                     self.quoted(text)?;
-                    taken.push(self.alloc, name.text())?;
+                    taken.push(name.text())?;
                 }
             }
         }
@@ -102,12 +102,12 @@ impl<'a> Walk<'a> {
     }
 
     /// What may not be an attribute of an element.
-    fn taken_first(&self, second: bool) -> Result<Names, AllocError>
+    fn taken_first(&self, second: bool) -> Result<BorrowedNames<'a>, AllocError>
         ensures { IfOk result (λ names. names ≡ taken_first second) }
     {
-        let mut taken = Names::new(self.alloc);
+        let mut taken = BorrowedNames::new(self.alloc);
         if second {
-            taken.push(self.alloc, "key")?;
+            taken.push("key")?;
         }
         Ok(taken)
     }
@@ -115,7 +115,7 @@ impl<'a> Walk<'a> {
     /// Notes what the attributes of an element mention, and how many they are.
     fn element_attributes(
         &mut self,
-        scope: &Names,
+        scope: &BorrowedNames,
         second: bool,
         attributes: &'a [Attribute],
     ) -> Result<(), AllocError>
@@ -128,7 +128,12 @@ impl<'a> Walk<'a> {
     }
 
     /// Notes a key.
-    fn key(&mut self, scope: &Names, second: bool, value: &'a Expr) -> Result<(), AllocError>
+    fn key(
+        &mut self,
+        scope: &BorrowedNames,
+        second: bool,
+        value: &'a Expr,
+    ) -> Result<(), AllocError>
         ensures { OnOk result (self.new ≡ self.old ++ key_mentions scope.now second value.now) }
     {
         self.note(MentionKind::Introduced {
@@ -141,7 +146,7 @@ impl<'a> Walk<'a> {
     /// Notes a key that stands before what else is given.
     fn key_first(
         &mut self,
-        scope: &Names,
+        scope: &BorrowedNames,
         second: bool,
         place: &'a KeyPlace,
     ) -> Result<(), AllocError>
@@ -156,7 +161,7 @@ impl<'a> Walk<'a> {
     /// Notes a key that stands behind what else is given.
     fn key_last(
         &mut self,
-        scope: &Names,
+        scope: &BorrowedNames,
         second: bool,
         place: &'a KeyPlace,
     ) -> Result<(), AllocError>
@@ -210,7 +215,7 @@ impl<'a> Walk<'a> {
     #[cycle(slot)]
     fn tag(
         &mut self,
-        scope: &mut Scope,
+        scope: &mut Scope<'a>,
         second: bool,
         filled: bool,
         tag: &'a Tag,
@@ -249,7 +254,7 @@ impl<'a> Walk<'a> {
     #[cycle(slot)]
     fn element(
         &mut self,
-        scope: &mut Scope,
+        scope: &mut Scope<'a>,
         second: bool,
         element: &'a Element,
     ) -> Result<(), AllocError>
@@ -267,7 +272,7 @@ impl<'a> Walk<'a> {
 
     /// Notes what a repetition mentions.
     #[cycle(slot)]
-    fn repetition(&mut self, scope: &mut Scope, repetition: &'a For) -> Result<(), AllocError>
+    fn repetition(&mut self, scope: &mut Scope<'a>, repetition: &'a For) -> Result<(), AllocError>
         ensures mentions { OnOk result (self.new ≡ self.old ++ slot_mentions scope.old false (repeated repetition.now.index repetition.now.bound repetition.now.limit repetition.now.item)) }
         ensures scope { OnOk result (scope.new ≡ scope.old) }
     {
@@ -287,7 +292,7 @@ impl<'a> Walk<'a> {
     #[cycle(slot)]
     pub fn slot(
         &mut self,
-        scope: &mut Scope,
+        scope: &mut Scope<'a>,
         second: bool,
         slot: &'a Slot,
     ) -> Result<(), AllocError>
@@ -317,7 +322,12 @@ impl<'a> Walk<'a> {
 
     /// Notes what a place of a child list mentions.
     #[cycle(slot)]
-    fn child(&mut self, scope: &mut Scope, second: bool, child: &'a Child) -> Result<(), AllocError>
+    fn child(
+        &mut self,
+        scope: &mut Scope<'a>,
+        second: bool,
+        child: &'a Child,
+    ) -> Result<(), AllocError>
         ensures mentions { OnOk result (self.new ≡ self.old ++ slot_mentions scope.old second child.now) }
         ensures scope { OnOk result (scope.new ≡ scope.old) }
     {
@@ -329,7 +339,11 @@ impl<'a> Walk<'a> {
 
     /// Notes what a child list mentions.
     #[cycle(slot)]
-    pub fn children(&mut self, scope: &mut Scope, children: &'a [Child]) -> Result<(), AllocError>
+    pub fn children(
+        &mut self,
+        scope: &mut Scope<'a>,
+        children: &'a [Child],
+    ) -> Result<(), AllocError>
         ensures mentions { OnOk result (self.new ≡ self.old ++ slots_mentions scope.old false (slots_of children.now)) }
         ensures scope { OnOk result (scope.new ≡ scope.old) }
     {

@@ -10,7 +10,7 @@ use crate::count::Count;
 use crate::mention::{Mention, MentionKind};
 use rx_ast::{Expr, ExprKind, Link};
 use rx_base::Name;
-use rx_names::Names;
+use rx_names::BorrowedNames;
 use std::alloc::{AllocError, Global};
 use std::marker::Model;
 
@@ -57,7 +57,7 @@ impl<'a> Walk<'a> {
     }
 
     /// Notes a name that is introduced where these stand already.
-    pub fn introduced(&mut self, taken: &Names, name: &'a str) -> Result<(), AllocError>
+    pub fn introduced(&mut self, taken: &BorrowedNames, name: &'a str) -> Result<(), AllocError>
         ensures { OnOk result (self.new ≡ self.old ++ introduced taken.now name.now ∷ []) }
     {
         let again = taken.contains(name);
@@ -80,7 +80,7 @@ impl<'a> Walk<'a> {
     }
 
     /// Notes a variable, unless its name stands for a value.
-    fn variable(&mut self, scope: &Names, name: &'a Name) -> Result<(), AllocError>
+    fn variable(&mut self, scope: &BorrowedNames, name: &'a Name) -> Result<(), AllocError>
         ensures { OnOk result (self.new ≡ self.old ++ variable_mentions scope.now name.now) }
     {
         if scope.contains(name.text()) {
@@ -109,7 +109,7 @@ impl<'a> Walk<'a> {
 
     /// Notes what an expression mentions, where these names stand for values.
     #[cycle(expr)]
-    pub fn expr(&mut self, scope: &Names, expr: &'a Expr) -> Result<(), AllocError>
+    pub fn expr(&mut self, scope: &BorrowedNames, expr: &'a Expr) -> Result<(), AllocError>
         ensures { OnOk result (self.new ≡ self.old ++ expr_mentions scope.now expr.now) }
     {
         match &expr.kind {
@@ -139,7 +139,7 @@ impl<'a> Walk<'a> {
 
     /// Notes what the operands of a chain behind its first mention.
     #[cycle(expr)]
-    fn links(&mut self, scope: &Names, links: &'a [Link]) -> Result<(), AllocError>
+    fn links(&mut self, scope: &BorrowedNames, links: &'a [Link]) -> Result<(), AllocError>
         ensures { OnOk result (self.new ≡ self.old ++ links_mentions scope.now (links_of links.now)) }
     {
         for link in links {
@@ -150,7 +150,7 @@ impl<'a> Walk<'a> {
 
     /// Notes what expressions mention.
     #[cycle(expr)]
-    fn exprs(&mut self, scope: &Names, exprs: &'a [Expr]) -> Result<(), AllocError>
+    fn exprs(&mut self, scope: &BorrowedNames, exprs: &'a [Expr]) -> Result<(), AllocError>
         ensures { OnOk result (self.new ≡ self.old ++ exprs_mentions scope.now (exprs_of exprs.now)) }
     {
         for expr in exprs {

@@ -1,6 +1,6 @@
 -- The first places of names among names with one more.
-use Rattle.std.proofs.Common.{◌≡◌, ◌<◌, ◌≤◌, ◌+◌, ◌-◌, Bool, true, false, ◌||◌, cond, List, [], ◌∷◌, ◌++◌, Option, Some, None, not, refl, sym, ap, ◌∙◌, arith, length, take, map}
-use Rattle.std.specs.Prelude.{ℕ, zero, suc, position, find, bytes_eq, is_some, slice_get, Result, Ok, Err, IsOk, OnOk, nat_eq}
+use Rattle.std.proofs.Common.{◌≡◌, ◌<◌, ◌≤◌, ◌+◌, ◌-◌, Bool, true, false, ◌||◌, cond, List, [], ◌∷◌, ◌++◌, Option, Some, None, not, refl, sym, ap, ◌∙◌, arith, length, map}
+use Rattle.std.specs.Prelude.{ℕ, suc, position, find, bytes_eq, is_some, slice_get, Result, Ok, Err, IsOk, OnOk, nat_eq}
 use Rattle.std.specs.Option.{option_eq}
 use Rattle.std.proofs.lemmas.Bool.Decides.{nat_tests}
 use Rattle.std.specs.List.{position_from, list_any}

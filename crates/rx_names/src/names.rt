@@ -1,5 +1,5 @@
 // Names in order.
-ghost use Rattle.std.specs.Prelude.{◌≡◌, ◌-◌, List, [], ◌∷◌, ◌++◌, OnOk, OnErr, bytes_eq, position, length, take};
+ghost use Rattle.std.specs.Prelude.{◌≡◌, List, [], ◌∷◌, ◌++◌, OnOk, OnErr, bytes_eq, position, length};
 ghost use Rattle.rx_rules.specs.Names.{has_name};
 
 use indexmap::IndexMap;
@@ -78,18 +78,6 @@ impl Names {
             self.places.insert(key, place).unwrap();
         }
         Ok(())
-    }
-
-    /// Takes the last name away, where there is one.
-    pub fn pop(&mut self)
-        ensures { self.new ≡ take (length self.old - 1) self.old }
-    {
-        if let Some(name) = self.items.pop() {
-            let text = name.text();
-            if self.places.get(text).copied() == Some(self.items.len()) {
-                self.places.swap_remove(text);
-            }
-        }
     }
 
     /// How many there are.
