@@ -209,7 +209,7 @@ fn is_read_anew(read: &ContextRead, contexts: &[Int]) -> bool
 }
 
 // Whether one of these contexts has another value than the one that was read.
-fn read_anew(reads: &[ContextRead], contexts: &[Int]) -> bool
+pub(crate) fn read_anew(reads: &[ContextRead], contexts: &[Int]) -> bool
     ensures { result ≡ read_anew contexts.now reads.now }
 {
     reads.iter().any(|read| is_read_anew(read, contexts))
