@@ -1,6 +1,6 @@
 // What a clone's current fiber and those below it have as a cause to be rendered.
-ghost use Rattle.std.specs.Prelude.{◌≡◌, ◌&&◌, not, true, false, IfSome, IsSome, is_some, option_and_then};
-ghost use Rattle.rx_elem.specs.Trees.{Node, instance_in, is_hidden};
+ghost use Rattle.std.specs.Prelude.{◌≡◌, true, false, Some, IfSome, IsSome, option_and_then};
+ghost use Rattle.rx_elem.specs.Trees.{Node, instance_in};
 ghost use Rattle.rx_ctx.specs.Contexts.{values_at};
 ghost use Rattle.rx_lists.specs.Shapes.{Holds};
 ghost use Rattle.rx_links.specs.Drafts.{old_of};
@@ -8,13 +8,14 @@ ghost use Rattle.rx_links.specs.Readers.{list_from};
 ghost use Rattle.rx_meaning.specs.Fresh.{Sight};
 ghost use Rattle.commit_laws.specs.Idle.{IsIdle};
 ghost use Rattle.rx_fiber.specs.FiberView.{stage_seen};
+ghost use Rattle.rx_node.specs.MarkView.{mark_seen};
 ghost use Rattle.rx_fiber.specs.Reading.{IsOld};
 ghost use Rattle.rx_hook_store.specs.Store.{kept_hooks};
 ghost use Rattle.rx_begin.specs.Nodes.{IsBareAt, begun_mark, keeps_children, mark_at};
 ghost use Rattle.rx_begin.specs.Scenes.{GivesHooks, IsSceneOf, KeepsHooks, TellsCalm};
 ghost use Rattle.rx_begin.specs.Marks.{EachFiber, SomeFiber};
 ghost use Rattle.rx_begin.specs.Hidden.{ForEach, ForEachFiber, instance_at};
-ghost use Rattle.rx_begin.specs.Idle.{HasCauseAt, HasCauseIn, HasNoCauseAt, KeepsTree, is_anew};
+ghost use Rattle.rx_begin.specs.Idle.{HasCause, HasCauseAt, HasCauseIn, HasNoCause, HasNoCauseAt, KeepsTree, is_anew};
 
 use crate::body::read_anew;
 use crate::scene::Scene;
@@ -25,18 +26,30 @@ use rx_hook_store::HookStore;
 use rx_links::{FiberId, FiberTree};
 use rx_node::Mark;
 
-// Whether the node of a fiber has a cause to be rendered: its instance has work, or it is a hidden boundary.
+// Whether a node has a cause to be rendered, by its mark: its instance has work, or it is a hidden boundary.
+fn mark_has_cause(mark: &Mark, scene: &Scene, hooks: &HookStore) -> bool
+    requires { KeepsHooks (kept_hooks hooks.now) (instance_in (mark_seen mark.now)) }
+    ensures none { result ≡ false → HasNoCause (kept_hooks hooks.now) scene.now.lanes scene.now.cut (mark_seen mark.now) }
+    ensures some { result ≡ true → HasCause (kept_hooks hooks.now) scene.now.lanes scene.now.cut (mark_seen mark.now) }
+{
+    match mark {
+        Mark::Instance(instance) => match instance.number {
+            Some(number) => hooks.has_work(number, scene.lanes, scene.cut),
+            None => true,
+        },
+        Mark::Boundary(state) => state.hides(),
+        Mark::Host(_) | Mark::Plain => false,
+    }
+}
+
+// The same of the node of a fiber; a fiber that is not begun has none.
 fn has_cause(stage: &Stage, scene: &Scene, hooks: &HookStore) -> bool
     requires { KeepsHooks (kept_hooks hooks.now) (instance_at (stage_seen stage.now)) }
     ensures none { result ≡ false → HasNoCauseAt (kept_hooks hooks.now) scene.now.lanes scene.now.cut (begun_mark (stage_seen stage.now)) }
     ensures some { result ≡ true → HasCauseAt (kept_hooks hooks.now) scene.now.lanes scene.now.cut (begun_mark (stage_seen stage.now)) }
 {
     match stage {
-        Stage::Begun(Mark::Instance(instance)) => match instance.number {
-            Some(number) => hooks.has_work(number, scene.lanes, scene.cut),
-            None => true,
-        },
-        Stage::Begun(mark) => mark.is_hidden(),
+        Stage::Begun(mark) => mark_has_cause(mark, scene, hooks),
         _ => false,
     }
 }
@@ -97,8 +110,9 @@ fn is_idle(
     match old {
         Some(id) => {
             let stage = tree.value(id).stage();
-            let anew = is_anew(stage, component, contexts) || has_cause(stage, scene, hooks);
-            !anew && !any_cause(tree, tree.first_child(id), scene, hooks)
+            !is_anew(stage, component, contexts)
+                && !has_cause(stage, scene, hooks)
+                && !any_cause(tree, tree.first_child(id), scene, hooks)
         }
         None => false,
     }
