@@ -146,13 +146,13 @@ module _ (s : Sight) (kept : ℕ → Option (List Hook)) (t : Trees Fiber) (st :
       → ((levels : ℕ) (fs : List Frame) (x : Node) → IsPassed new st' id fs x → StandsAt new st' (fiber_in r) (arrive levels fs (Some x)))
       → ((levels : ℕ) (fs : List Frame) (x : Node) → IsPassed new st' id fs x → LeadsTo r (arrive levels fs (Some x)))
       → Advances s kept t st (Begins id) bodies new st' (at_after r)
-  taken_advances r none linked begins stands leads _ (to_place {levels = zero} h) level gives = absurd (omega (arith, level))
-  taken_advances r none linked begins stands leads _ (to_place {levels = suc n} {fs = fs} {cs = cs} {e = e} {old = old} h) level gives =
+  taken_advances r none linked begins there leads _ (to_place {levels = zero} h) level gives = absurd (omega (arith, level))
+  taken_advances r none linked begins there leads _ (to_place {levels = suc n} {fs = fs} {cs = cs} {e = e} {old = old} h) level gives =
       let b = begins n fs cs e old h gives.0 gives.1 in
       record {
         next = arrive (suc n) fs (Some b.node);
         goes = taken_goes s t new st' id n fs cs e old linked b bodies none;
-        comes = leads_comes new st' r (arrive (suc n) fs (Some b.node)) (leads (suc n) fs b.node b.passed) (stands (suc n) fs b.node b.passed);
+        comes = leads_comes new st' r (arrive (suc n) fs (Some b.node)) (leads (suc n) fs b.node b.passed) (there (suc n) fs b.node b.passed);
       }
 
 -- hooks that give values are kept

@@ -1,6 +1,6 @@
 -- A node that is idle is rendered to itself, where the current fiber stands that a clone was made for.
 use Rattle.std.specs.Prelude.{◌≡◌, ℕ, ℤ, Bool, true, false, List, Option, Some, None}
-use Rattle.std.proofs.Common.{sym, subst}
+use Rattle.std.proofs.Common.{subst}
 use Rattle.rx_elem.specs.Trees.{Node, node, Forest, none, vacant, child, is_hidden, element_of}
 use Rattle.rx_lists.specs.Shapes.{Shape}
 use Rattle.rx_links.specs.Readers.{IsLinked}

@@ -1,5 +1,5 @@
 // One unit of a render, over its parts.
-ghost use Rattle.std.specs.Prelude.{◌≡◌, ◌+◌, ℕ, ℤ, List, Option, Some, IfOk, if◌then◌else◌};
+ghost use Rattle.std.specs.Prelude.{◌≡◌, ◌+◌, ◌≤◌, ℕ, ℤ, List, Option, Some, IfOk, if◌then◌else◌};
 ghost use Rattle.rx_base.specs.Awaits.{one};
 ghost use Rattle.rx_elem.specs.Trees.{Node};
 ghost use Rattle.rx_meaning.specs.Fresh.{Sight};
