@@ -16,6 +16,6 @@ pub mod Falling
 pub mod OldFallback
 pub mod Walks
 pub mod Still
-pub mod Idle
+pub mod Causes
 pub mod Taking
 pub mod Begins

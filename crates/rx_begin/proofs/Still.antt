@@ -90,7 +90,7 @@ no_old c _ _ gone (of here leads a) = let q : ⊥ = cc in q
 
 -- the stage of the old node's fiber tells its mark
 module _ (c : Shape Fiber) (o : Option ℕ) (i : ℕ) (v : Fiber) (s : Stage) (o_is : o ≡ Some i) (value : Some v ≡ value_of c i) (stage : s ≡ v.stage) where
-  stage_mark : begun_mark s ≡ mark_at c o
+  pub stage_mark : begun_mark s ≡ mark_at c o
   stage_mark =
       ap begun_mark stage
       ∙ (ap (option_and_then (λ (u : Fiber). begun_mark u.stage)) value ∙ ap (λ q. mark_at c q) (sym o_is))

@@ -9,15 +9,15 @@ use Rattle.rx_elem.specs.Trees as trees
 use Rattle.rx_hooks.specs.declared.hook.Hook.{Hook}
 use Rattle.rx_lists.specs.Shapes.{Shape, fiber}
 use Rattle.rx_lists.specs.Shapes as shapes
-use Rattle.rx_links.specs.Drafts.{Draft, taken, made, Trees, Makes, kids_of, kids_under, list_at, old_kids, old_of, shape_or_none, taking}
-use Rattle.rx_links.specs.Places.{Around, placed}
+use Rattle.rx_links.specs.Drafts.{taken, made, Trees, kids_of, kids_under, list_at, old_kids, old_of, shape_or_none, taking}
+use Rattle.rx_links.specs.Places.{placed}
 use Rattle.rx_links.specs.Readers.{IsLinked, made_value_in, made_value_of}
 use Rattle.rx_meaning.specs.Cursor.{Frame, at_place}
 use Rattle.rx_meaning.specs.Fresh.{Contexts, Sight}
 use Rattle.commit_laws.specs.Idle.{IsIdle, IsIdleMark}
 use Rattle.rx_fiber.specs.Fibers.{Fiber, begun, is_cloned}
 use Rattle.rx_fiber.specs.Reading.{IsFor, whole, alone, beside, IsOld, of, next}
-use Rattle.rx_fiber.specs.Surround.{IsAround, given_along}
+use Rattle.rx_fiber.specs.Surround.{IsAround}
 use Rattle.rx_fiber.specs.Standing.{StandsAt, begins}
 use Rattle.rx_fiber.proofs.OldLists.{kids_are}
 use Rattle.rx_begin.specs.Nodes.{HasStage, HasTaken, mark_at}
@@ -114,7 +114,9 @@ module _ (s : Sight) (kept : ℕ → Option (List Hook)) (t : Trees Fiber) (st :
     where
       by_old : (o : Option Node) → old ≡ o → IsTakenOver s t new st' p fs e old
       by_old None f =
-          absurd (subst IsSome (mark_is t.current (old_of t.draft p) old (old_at t st p n fs cs e old knows at) ∙ ap (option_map mark_of) f) there)
+          absurd
+          (let g : false ≡ true = subst IsSome (mark_is t.current (old_of t.draft p) old (old_at t st p n fs cs e old knows at) ∙ ap (option_map mark_of) f) there in
+          let q : ⊥ = cc in q)
       by_old (Some x) g =
           by_node x g (subst (λ y. StoodIn y e) g (clone_stood t st p n fs cs e old knows at v value (sym cloned_is ∙ so)))
           (idle x (subst (IsOld t.current (old_of t.draft p)) g (old_at t st p n fs cs e old knows at)) (subst (GivesHooksIf s kept) g gives))

@@ -1,6 +1,6 @@
-use Rattle.std.specs.Prelude.{option_and_then}
+use Rattle.std.specs.Prelude.{Option, option_and_then}
 use Rattle.std.proofs.Common.{sym, subst, inr, arith, IfSome}
-use Rattle.rx_elem.specs.Trees.{instance_in}
+use Rattle.rx_elem.specs.Trees.{Mark, instance_in}
 use Rattle.rx_lists.specs.Shapes.{Holds}
 use Rattle.rx_hook_store.specs.Store.{kept_hooks}
 use Rattle.rx_fiber.proofs.OldReads.{some_held, rest_held}
@@ -23,7 +23,7 @@ walking-preserved t c =
     let behind_is = c.next_sibling-next.ensures.current held in
     let next = c.walking.next in
     let smaller = behind_smaller trees linked i held v here child child_is behind behind_is next c.in-Some.is in
-    let Quiet = (λ m. HasNoNews (kept_hooks c.args.hooks.now) c.args.scene.now.lanes c.args.scene.now.cut (option_and_then instance_in m)) in
+    let Quiet : Option Mark → Type 0 = (λ m. HasNoNews (kept_hooks c.args.hooks.now) c.args.scene.now.lanes c.args.scene.now.cut (option_and_then instance_in m)) in
     record {
       held = subst (λ o. IfSome o (Holds trees)) (sym behind_is) (rest_held trees linked i held);
       kept = (each_parts trees linked i held v here child child_is behind behind_is next c.in-Some.is (λ m. KeepsHooks (kept_hooks c.args.hooks.now) (option_and_then instance_in m)) c.walking.invariant.kept).2;

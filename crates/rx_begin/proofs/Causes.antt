@@ -1,6 +1,7 @@
 -- What a walk over the fibers of an old node tells of the causes in its tree.
-use Rattle.std.specs.Prelude.{◌≡◌, ℕ, ℤ, Bool, true, false, List, Option, Some, None, ◌⊎◌, IsSome, option_and_then}
+use Rattle.std.specs.Prelude.{◌≡◌, ℕ, ℤ, Bool, true, false, not, ◌&&◌, List, Option, Some, None, ◌⊎◌, IsSome, option_and_then}
 use Rattle.std.proofs.Common.{refl, sym, ap, ◌∙◌, subst, inl, inr}
+use Rattle.rx_base.specs.Awaits.{Awaits}
 use Rattle.rx_base.specs.declared.cut.Cut.{Cut}
 use Rattle.rx_lane.specs.Lanes.{Lanes}
 use Rattle.rx_elem.specs.Trees.{Forest, Instance, Mark, Node, instance_in, is_hidden, mark_of, node, of_boundary, of_host, of_instance, plain}
@@ -25,7 +26,7 @@ use Rattle.rx_begin.specs.Scenes.{GivesHooks, KeepsHooks, TellsCalm}
 use Rattle.rx_begin.specs.Marks.{EachFiber, SomeFiber, SomeNode}
 use Rattle.rx_begin.specs.Hidden.{ForEach, ForEachIn}
 use Rattle.rx_begin.specs.Beginning.{KeepsHooksIf}
-use Rattle.rx_begin.specs.Idle.{HasCause, HasCauseAt, HasCauseIn, HasNoCause, HasNoCauseAt, HasNoWork, KeepsTree, is_anew}
+use Rattle.rx_begin.specs.Idle.{HasCause, HasCauseAt, HasNoCause, HasNoCauseAt, HasNoWork, KeepsTree, is_anew}
 use Rattle.rx_begin.specs.declared.scene.Scene.{Scene}
 use Rattle.rx_begin.proofs.Marks.{mark_is}
 use Rattle.rx_begin.proofs.Still.{keeps_none}
@@ -133,7 +134,7 @@ calm_without kept scene cs (Some plain) component so same h = let q : ⊥ = cc i
 -- a mark without a cause hides no children
 pub keeps_without : (kept : ℕ → Option (List Hook)) (lanes : Lanes) (cut : Cut) (m : Option Mark) → HasNoCauseAt kept lanes cut m → keeps_children true m ≡ true
 keeps_without kept lanes cut None h = refl
-keeps_without kept lanes cut (Some m) h = let shown = no_cause_shown kept lanes cut m h in rw shown refl
+keeps_without kept lanes cut (Some m) h = ap (λ b. true && not b) (no_cause_shown kept lanes cut m h)
 
 none_old : (c : Shape Fiber) (o : Option ℕ) (i : ℕ) → IsOld c o None → o ≡ Some i → ⊥
 none_old c _ i new o_is = cc
@@ -141,7 +142,18 @@ none_old c _ i new o_is = cc
 -- an old node that is there has a mark
 pub mark_there : (c : Shape Fiber) (o : Option ℕ) (i : ℕ) (old : Option Node) → IsOld c o old → o ≡ Some i → IsSome (mark_at c o)
 mark_there c _ i _ new o_is = cc
-mark_there c o i (Some x) was o_is = subst IsSome (sym (mark_is c o (Some x) was)) tt
+mark_there c o i (Some x) was o_is = subst IsSome (sym (mark_is c o (Some x) was)) refl
+
+-- one that keeps its children is no hidden boundary
+pub not_hidden : (c : Shape Fiber) (o : Option ℕ) (x : Node) (a : Awaits) → keeps_children true (mark_at c o) ≡ true → IsOld c o (Some x) → mark_of x ≡ of_boundary (Hidden a) → ⊥
+not_hidden c o x a keeps was is =
+    let f : keeps_children true (mark_at c o) ≡ false = ap (keeps_children true) (mark_is c o (Some x) was ∙ ap Some is) in
+    let q : ⊥ = cc in
+    q
+
+pub told_again : (b : Bool) → not b ≡ false → b ≡ true
+told_again true h = refl
+told_again false h = cc
 
 -- The tree of an old node
 
