@@ -154,6 +154,8 @@ pub fn begin<L: Ledger>(
         → TellsCalm scene.now (kept_hooks hooks.old) (values_at contexts.old) (option_and_then instance_in (mark_at tree.old.current (old_of tree.old.draft at))) (not b.1)) }
     // A hidden boundary's children are tried only where its fiber is no clone, or there is a cause.
     ensures tries { IfOk result (λ b. (v : fibers.Fiber) → Some v ≡ made_value_of tree.old.draft at → parts_in v.element ≡ None → is_cloned v.stage ≡ true → awaited_again b.0 ≡ None → IsCauseToTry scene.now (kept_hooks hooks.old) tree.old at) }
+    // Old children are taken over with no body evaluated.
+    ensures taken { IfOk result (λ b. is_taken b.0 ≡ true → b.1 ≡ false) }
     // A clone is begun over clones only where there is a cause in the tree of its old node; else its old children are taken over.
     ensures causes { IfOk result (λ b. (v : fibers.Fiber) → Some v ≡ made_value_of tree.old.draft at → is_cloned v.stage ≡ true → is_taken b.0 ≡ false
         → HasCauseIn scene.now (kept_hooks hooks.old) (values_at contexts.old) (is_some (parts_in v.element)) tree.old.current (old_of tree.old.draft at)) }

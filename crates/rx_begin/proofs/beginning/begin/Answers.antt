@@ -166,3 +166,6 @@ returns-clause-causes g c v here so free =
     (c.takes_over.ensures.cause
     (cloned_here c.args.tree.now c.args.at c.value-fiber.result.now v c.is_cloned-cloned.result true (c.value-fiber.ensures.made (made_at _ _ _ _ _ c.place_facts.ensures c.requires.place)) here c.is_cloned-cloned.ensures so)
     c.if-takes_over.false)
+
+pub returns-in-Some-clause-taken : goal.returns-in-Some-clause-taken
+returns-in-Some-clause-taken g c = c.begin_component.ensures.taken

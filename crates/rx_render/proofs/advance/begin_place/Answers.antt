@@ -1,7 +1,7 @@
 use Rattle.std.specs.Prelude.{if◌then◌else◌}
 use Rattle.std.proofs.Common.{sym, ap, subst}
 use Rattle.rx_hook_store.specs.Store.{kept_hooks}
-use Rattle.rx_begin.specs.Beginning.{BeginsPlace}
+use Rattle.rx_begin.specs.Beginning.{BeginsPlace, is_taken}
 use Rattle.rx_render.specs.declared.at.At.TheVariants.{Begins}
 use Rattle.rx_render.specs.Advancing.{at_opened, Advances}
 use Rattle.rx_render.proofs.Advancing.{can_begin, waits_below, child_advances, leaf_advances, waits_advances, hidden_left, hidden_advances, taken_made, taken_advances, opened_comes}
@@ -57,6 +57,6 @@ returns-in-Taken-clause-comes g c s sees =
     let st = c.begin.new.contexts in
     subst (λ a. Advances s (kept_hooks c.args.hooks.now) c.args.tree.now c.args.contexts.now (Begins c.args.id) (if c.in_ok-begun.evaluated then 1 else 0) c.begin.new.tree st a) (sym c.at_after.ensures)
     (taken_advances s (kept_hooks c.args.hooks.now) c.args.tree.now c.args.contexts.now c.begin.new.tree st c.args.id (if c.in_ok-begun.evaluated then 1 else 0) c.pass.result
-    (ap (λ b. if b then 1 else 0) (c.in_ok-begun.ensures.taken c.in-Taken.is)) c.facts.ensures.linked
+    (ap (λ b. if b then 1 else 0) (c.in_ok-begun.ensures.taken (ap is_taken c.in-Taken.is))) c.facts.ensures.linked
     (subst (BeginsPlace s (kept_hooks c.args.hooks.now) c.args.tree.now c.args.contexts.now c.begin.new.tree st c.args.id) c.in-Taken.is (c.in_ok-begun.ensures.begun s sees))
     (λ levels fs x. c.pass.ensures.stands st levels fs x) (λ levels fs x. c.pass.ensures.leads st levels fs x))
