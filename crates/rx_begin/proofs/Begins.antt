@@ -28,6 +28,7 @@ use Rattle.rx_begin.specs.Others.{HasBegunOther}
 use Rattle.rx_begin.specs.Others as others
 use Rattle.rx_begin.proofs.Hiding.{own_keeps, own_gives, kids_keep, hidden_again}
 use Rattle.rx_begin.specs.Bodies.{StoodIn, HasShape}
+use Rattle.rx_begin.specs.Idle.{KeepsTree}
 use Rattle.rx_begin.specs.Beginning.{IsAtPlace, stands, HasBegun, BeginsPlace}
 use Rattle.rx_begin.specs.declared.node.Begun.{Begun}
 use Rattle.rx_begin.proofs.Lists.{same_parts}
@@ -91,6 +92,12 @@ module _ (p : Program) (kept : ℕ → Option (List Hook)) (t : Trees Fiber) (st
   place_olds = elim at_it [
     | stands {n = n} {fs = fs} {cs = cs} {e = e} {old = old} at there drawn keeps ↦
         (record { node = old; was = old_at t st q n fs cs e old knows at; keeps = kids_keep kept old keeps })
+  ]
+
+  pub place_tree : KeepsTree kept t.current (old_of t.draft q)
+  place_tree = elim at_it [
+    | stands {n = n} {fs = fs} {cs = cs} {e = e} {old = old} at there drawn keeps ↦
+        (record { node = old; was = old_at t st q n fs cs e old knows at; keeps = keeps })
   ]
 
   module _ (v : Fiber) (element : Element) (value : Some v ≡ made_value_of t.draft q) (is : element ≡ v.element) where

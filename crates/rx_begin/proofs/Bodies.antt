@@ -1,5 +1,5 @@
 -- A component's body, from the hooks of its old instance.
-use Rattle.std.specs.Prelude.{◌≡◌, ℕ, ℤ, Bool, List, Option, Some, None, IfSome, IsSome, option_and_then, option_map}
+use Rattle.std.specs.Prelude.{◌≡◌, ℕ, ℤ, Bool, false, List, Option, Some, None, IfSome, IsSome, option_and_then, option_map}
 use Rattle.std.proofs.Common.{refl, sym, ap, ◌∙◌, subst}
 use Rattle.rx_ast.specs.Syntax.{Program, Component}
 use Rattle.rx_rules.specs.Names.{component_at}
@@ -7,15 +7,16 @@ use Rattle.rx_elem.specs.Elements.{Element, Elements, listed}
 use Rattle.rx_elem.specs.Trees.{Node, Instance, instance_in}
 use Rattle.rx_hooks.specs.declared.hook.Hook.{Hook}
 use Rattle.rx_lists.specs.Shapes.{Shape}
-use Rattle.rx_links.specs.Drafts.{Trees}
+use Rattle.rx_links.specs.Drafts.{Draft, taken, made, Trees}
 use Rattle.rx_meaning.specs.Body.{Inputs, Body, body_of}
 use Rattle.rx_meaning.specs.Fresh.{Sight, Contexts, resources_seen, hook_values, values_of, inputs_at, old_instance, shape_of_body, shape_of_component}
-use Rattle.rx_fiber.specs.Fibers.{Fiber}
+use Rattle.rx_fiber.specs.Fibers.{Fiber, Stage}
 use Rattle.rx_fiber.specs.Reading.{IsOld}
 use Rattle.rx_hook_store.specs.Gives.{GivesValues}
-use Rattle.rx_begin.specs.Nodes.{mark_at}
+use Rattle.rx_begin.specs.Nodes.{HasOpened, begun_over, mark_at}
 use Rattle.rx_begin.specs.Scenes.{number_in, GivesHooks, KeepsHooks}
 use Rattle.rx_begin.specs.Bodies.{HasShape}
+use Rattle.rx_begin.specs.Beginning.{is_taken}
 use Rattle.rx_begin.specs.declared.node.Begun.{Begun}
 use Rattle.rx_begin.proofs.Marks.{old_instance_is}
 
@@ -70,3 +71,13 @@ pub evaluated : (s : Sight) (cs : Contexts) (c : ℕ) (props : List ℤ) (kids :
     → HasShape cloned (shape_of_body cs c old b) cs old t new p answer → HasShape cloned (shape_of_component s cs c props kids old (component_at s.program c)) cs old t new p answer
 evaluated s cs c props kids old b t new p answer cloned gives has =
     subst (λ x. HasShape cloned x cs old t new p answer) (sym (shape_is s cs c props kids old (component_at s.program c) b gives)) has
+
+-- What is begun over its own children
+
+begun_anew : (kids : Draft Fiber) → is_taken (begun_over kids) ≡ false
+begun_anew (taken s) = refl
+begun_anew (made id v o ks rs) = refl
+
+-- it takes none over
+pub opened_anew : (cloned : Bool) (t new : Trees Fiber) (p : ℕ) (stage : Stage) (es : List Element) (os : List (Option ℕ)) (b : Begun) → HasOpened cloned t new p stage es os b → is_taken b ≡ false
+opened_anew cloned t new p stage es os b h = ap is_taken h.answer_is ∙ begun_anew h.kids

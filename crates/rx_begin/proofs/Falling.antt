@@ -171,7 +171,7 @@ room_alone t p a o first (left {st = st} {c = c} l) gone knows linked e list = r
 
 -- what is taken over and hidden
 module _ (t u : Trees Fiber) (p : ℕ) (knows : KnowsPlaces t) (took : u ≡ record t { draft = taking p (old_kids t p) t.draft }) where
-  took_so : (k : Around Fiber) (v : Fiber) (o : Option ℕ) (rs : Draft Fiber) → t.draft ≡ placed k (made p v o (taken none) rs)
+  pub took_so : (k : Around Fiber) (v : Fiber) (o : Option ℕ) (rs : Draft Fiber) → t.draft ≡ placed k (made p v o (taken none) rs)
       → u.draft ≡ placed k (made p v o (taken (kids_under t.current o)) rs)
   took_so k v o rs e =
       let at = knows k p v o (taken none) rs e in

@@ -11,8 +11,11 @@ pub mod ByElement
 pub mod Bodies
 pub mod Keeping
 pub mod Hiding
-pub mod Begins
 pub mod Beside
 pub mod Falling
 pub mod OldFallback
+pub mod Walks
 pub mod Still
+pub mod Causes
+pub mod Taking
+pub mod Begins

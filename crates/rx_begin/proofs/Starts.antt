@@ -51,6 +51,7 @@ Leads (Child id) c = IsPlace c
 Leads Leaf c = IsEnd c
 Leads (Suspended r) c = ⊥
 Leads (answers.Hidden a) c = ⊥
+Leads answers.Taken c = ⊥
 
 pub leads : (c : Shape Fiber) (ws : List (ℕ × ℤ)) (n levels : ℕ) (fs : List Frame) (x : Open) (cs : Contexts) (done : List (Option Node)) (xs : List (Element × Option Node)) (d : Draft Fiber)
     → AreNext c ws n xs d → Leads (begun_over d) (come_to levels fs x cs done xs)

@@ -1,6 +1,6 @@
--- A walk over the fibers of what a hidden boundary keeps comes to each of its instances.
-use Rattle.std.specs.Prelude.{◌≡◌, ℕ, ℤ, zero, suc, ◌<◌, ◌≤◌, nat_lt, Bool, true, false, List, [], ◌∷◌, length, Option, Some, None, ◌⊎◌, option_and_then, slice_index_or}
-use Rattle.std.proofs.Common.{refl, sym, ap, ◌∙◌, subst, inl, inr, arith}
+-- What a walk over the fibers of a hidden boundary tells of what it keeps.
+use Rattle.std.specs.Prelude.{◌≡◌, ℕ, ℤ, zero, suc, ◌<◌, ◌≤◌, nat_lt, Bool, true, false, List, [], ◌∷◌, length, Option, Some, None, option_and_then, slice_index_or}
+use Rattle.std.proofs.Common.{refl, sym, ap, ◌∙◌, subst, arith}
 use Rattle.std.proofs.lemmas.Bool.Decides.{nat_tests}
 use Rattle.std.proofs.lemmas.List.{length-map}
 use Rattle.std.proofs.lemmas.List.FromFn.{length-range_with_len}
@@ -11,91 +11,21 @@ use Rattle.rx_rules.specs.Names.{resources as names}
 use Rattle.rx_elem.specs.Trees.{Forest, Instance, Mark, Node, children_if, children_of, instance_in, mark_of, node, of_boundary, of_host, of_instance, plain}
 use Rattle.rx_elem.specs.Trees as trees
 use Rattle.rx_hooks.specs.declared.hook.Hook.{Hook}
-use Rattle.rx_lists.specs.Shapes.{Shape, fiber, first, Holds, size}
-use Rattle.rx_links.specs.Drafts.{kids_of}
-use Rattle.rx_links.specs.Readers.{list_from, rest_of, value_of, IsLinked}
+use Rattle.rx_lists.specs.Shapes.{Shape}
+use Rattle.rx_links.specs.Readers.{list_from, value_of, IsLinked}
 use Rattle.rx_meaning.specs.Again.{AllValuesAgree, AreUnresolved, MarkAgrees, ValuesAgree}
 use Rattle.rx_meaning.specs.Fresh.{Sight, hook_values, resources_seen}
 use Rattle.commit_laws.specs.WaitsAgain.{without_lanes}
-use Rattle.rx_fiber.specs.Fibers.{Fiber, Stage, begun}
+use Rattle.rx_fiber.specs.Fibers.{Fiber, Stage}
 use Rattle.rx_fiber.specs.OldLists.{primary_list}
-use Rattle.rx_fiber.specs.Reading.{AreFor, no_more, gap, next, IsFor, whole, alone, beside, IsOld, of, has_node}
+use Rattle.rx_fiber.specs.Reading.{AreFor, IsOld, of}
 use Rattle.rx_fiber.proofs.OldLists.{primary_is}
-use Rattle.rx_fiber.proofs.OldPlaces.{list_here}
 use Rattle.rx_hook_store.specs.Gives.{GivesValues}
 use Rattle.rx_begin.specs.Nodes.{begun_mark, mark_at}
 use Rattle.rx_begin.specs.Scenes.{GivesHooks, KeepsHooks, number_in}
-use Rattle.rx_begin.specs.Hidden.{ForEach, ForEachIn, ForEachFiber, ForSome, ForSomeIn, ForSomeFiber, GivesHooksIn, HasNews, HasNoNews, HasSameValues, KeepsOld, instance_at}
+use Rattle.rx_begin.specs.Hidden.{ForEach, ForEachIn, ForEachFiber, ForSomeIn, ForSomeFiber, GivesHooksIn, HasNews, HasNoNews, HasSameValues, KeepsOld}
 use Rattle.rx_begin.proofs.Marks.{mark_is}
-
-no_instances : (P : Option Instance → Type 0) (ns : Forest) → has_node ns ≡ false → ForEachIn P ns
-no_instances P trees.none e = tt
-no_instances P (trees.vacant ns) e = no_instances P ns e
-no_instances P (trees.child x ns) e = cc
-
--- From trees to their fibers, and back
-
-module _ (P : Option Instance → Type 0) where
-  -- the fiber of a node has its instance
-  at_node : (v : Fiber) (m : Mark) → v.stage ≡ begun m → P (instance_in m) → P (instance_at v.stage)
-  at_node v m is h = subst P (sym (ap instance_at is)) h
-
-  of_fiber : (v : Fiber) (m : Mark) → v.stage ≡ begun m → P (instance_at v.stage) → P (instance_in m)
-  of_fiber v m is h = subst P (ap instance_at is) h
-
-  mutual
-    -- what holds of each instance of some trees holds of each fiber of theirs; that of a fallback has none
-    pub each_fiber : P None → (n : ℕ) (ns : Forest) (s : Shape Fiber) → AreFor n ns s → ForEachIn P ns → ForEachFiber P s
-    each_fiber empty n _ _ no_more h = tt
-    each_fiber empty n (trees.vacant ns) s (gap a) h = each_fiber empty (suc n) ns s a h
-    each_fiber empty n (trees.child x ns) s (next {rest = rest} is a) h = fibers_of empty n x s rest is h.0 (each_fiber empty (suc n) ns rest a h.1)
-
-    fibers_of : P None → (n : ℕ) (x : Node) (s rest : Shape Fiber) → IsFor n x s rest → ForEach P x → ForEachFiber P rest → ForEachFiber P s
-    fibers_of empty n _ _ rest (whole {v = v} {m = m} {ns = ns} {ks = ks} is shown a) h more = (at_node v m is.stage h.0, each_fiber empty 0 ns ks a h.1, more)
-    fibers_of empty n _ _ rest (alone {v = v} {m = m} {fs = fs} {ks = ks} is hidden gone a) h more = (at_node v m is.stage h.0, each_fiber empty 0 fs ks a h.2, more)
-    fibers_of empty n _ _ rest (beside {v = v} {w = w} {m = m} {ns = ns} {fs = fs} {ks = ks} {ws = ws} is hidden some a s f) h more =
-        (at_node v m is.stage h.0, each_fiber empty 0 ns ks a h.1, (subst P (sym (ap instance_at s)) empty, each_fiber empty 0 fs ws f h.2, more))
-
-  mutual
-    -- what holds of each of the fibers holds of each instance
-    pub each_instance : (n : ℕ) (ns : Forest) (s : Shape Fiber) → AreFor n ns s → ForEachFiber P s → ForEachIn P ns
-    each_instance n _ _ no_more h = tt
-    each_instance n (trees.vacant ns) s (gap a) h = each_instance (suc n) ns s a h
-    each_instance n (trees.child x ns) s (next {rest = rest} is a) h = let (here, more) = instances_of n x s rest is h in (here, each_instance (suc n) ns rest a more)
-
-    instances_of : (n : ℕ) (x : Node) (s rest : Shape Fiber) → IsFor n x s rest → ForEachFiber P s → ForEach P x × ForEachFiber P rest
-    instances_of n _ _ rest (whole {v = v} {m = m} {ns = ns} {ks = ks} is shown a) h = ((of_fiber v m is.stage h.0, each_instance 0 ns ks a h.1, tt), h.2)
-    instances_of n _ _ rest (alone {v = v} {m = m} {ns = ns} {fs = fs} {ks = ks} is hidden gone a) h =
-        ((of_fiber v m is.stage h.0, no_instances P ns gone, each_instance 0 fs ks a h.1), h.2)
-    instances_of n _ _ rest (beside {v = v} {m = m} {ns = ns} {fs = fs} {ks = ks} {ws = ws} is hidden some a s f) h =
-        ((of_fiber v m is.stage h.0, each_instance 0 ns ks a h.1, each_instance 0 fs ws f h.2.1), h.2.2)
-
-  mutual
-    -- what holds of some fiber holds of some instance
-    pub some_instance : (P None → ⊥) → (n : ℕ) (ns : Forest) (s : Shape Fiber) → AreFor n ns s → ForSomeFiber P s → ForSomeIn P ns
-    some_instance never n _ _ no_more h = h
-    some_instance never n (trees.vacant ns) s (gap a) h = some_instance never (suc n) ns s a h
-    some_instance never n (trees.child x ns) s (next {rest = rest} is a) h =
-        elim (some_of never n x s rest is h) [ inl here ↦ inl here | inr more ↦ inr (some_instance never (suc n) ns rest a more) ]
-
-    some_of : (P None → ⊥) → (n : ℕ) (x : Node) (s rest : Shape Fiber) → IsFor n x s rest → ForSomeFiber P s → ForSome P x ⊎ ForSomeFiber P rest
-    some_of never n _ _ rest (whole {v = v} {m = m} {ns = ns} {ks = ks} is shown a) h = elim h [
-      | inl here ↦ inl (inl (of_fiber v m is.stage here))
-      | inr (inl below) ↦ inl (inr (inl (some_instance never 0 ns ks a below)))
-      | inr (inr more) ↦ inr more
-    ]
-    some_of never n _ _ rest (alone {v = v} {m = m} {fs = fs} {ks = ks} is hidden gone a) h = elim h [
-      | inl here ↦ inl (inl (of_fiber v m is.stage here))
-      | inr (inl below) ↦ inl (inr (inr (some_instance never 0 fs ks a below)))
-      | inr (inr more) ↦ inr more
-    ]
-    some_of never n _ _ rest (beside {v = v} {w = w} {m = m} {ns = ns} {fs = fs} {ks = ks} {ws = ws} is hidden some a s f) h = elim h [
-      | inl here ↦ inl (inl (of_fiber v m is.stage here))
-      | inr (inl below) ↦ inl (inr (inl (some_instance never 0 ns ks a below)))
-      | inr (inr (inl there)) ↦ absurd (never (subst P (ap instance_at s) there))
-      | inr (inr (inr (inl below))) ↦ inl (inr (inr (some_instance never 0 fs ws f below)))
-      | inr (inr (inr (inr more))) ↦ inr more
-    ]
+use Rattle.rx_begin.proofs.Walks.{each_fiber, each_node, some_node}
 
 -- Instances without news
 
@@ -130,7 +60,7 @@ none_without kept lanes cut i gone s lanes_are cut_is gives j there =
     let own : j.number ≡ None = sym (ap number_in there) ∙ gone in
     rw own refl
 
-keeps_none : (kept : ℕ → Option (List Hook)) → KeepsHooks kept None
+pub keeps_none : (kept : ℕ → Option (List Hook)) → KeepsHooks kept None
 keeps_none kept n e = cc
 
 news_of_none : (kept : ℕ → Option (List Hook)) (lanes : Lanes) (cut : Cut) → HasNews kept lanes cut None → ⊥
@@ -144,23 +74,23 @@ module _ (c : Shape Fiber) (linked : IsLinked c) (o link : Option ℕ) (list : l
 
   -- its fibers have hooks that are kept
   pub kept_fibers : (kept : ℕ → Option (List Hook)) → KeepsOld kept c o → ForEachFiber (KeepsHooks kept) (list_from c link)
-  kept_fibers kept k = each_fiber (KeepsHooks kept) (keeps_none kept) 0 (children_if k.node) (list_from c link) (kept_are k.node k.was) k.keeps
+  kept_fibers kept k = each_fiber (λ m. KeepsHooks kept (option_and_then instance_in m)) (keeps_none kept) 0 (children_if k.node) (list_from c link) (kept_are k.node k.was) k.keeps
 
   module _ (kept : ℕ → Option (List Hook)) (lanes : Lanes) (cut : Cut) (x : Node) (was : IsOld c o (Some x)) where
     pub kept_agrees : (s : Sight) → s.lanes ≡ lanes → s.cut ≡ cut → ForEachFiber (HasNoNews kept lanes cut) (list_from c link) → GivesHooksIn s kept (children_of x)
         → AllValuesAgree (without_lanes s) s (children_of x)
     kept_agrees s lanes_are cut_is none gives =
-        all_agree kept lanes cut s lanes_are cut_is (children_of x) (each_instance (HasNoNews kept lanes cut) 0 (children_of x) (list_from c link) (kept_are (Some x) was) none) gives
+        all_agree kept lanes cut s lanes_are cut_is (children_of x) (each_node (λ m. HasNoNews kept lanes cut (option_and_then instance_in m)) 0 (children_of x) (list_from c link) (kept_are (Some x) was) none) gives
 
     pub kept_news : ForSomeFiber (HasNews kept lanes cut) (list_from c link) → ForSomeIn (HasNews kept lanes cut) (children_of x)
-    kept_news some = some_instance (HasNews kept lanes cut) (news_of_none kept lanes cut) 0 (children_of x) (list_from c link) (kept_are (Some x) was) some
+    kept_news some = some_node (λ m. HasNews kept lanes cut (option_and_then instance_in m)) (news_of_none kept lanes cut) 0 (children_of x) (list_from c link) (kept_are (Some x) was) some
 
 pub no_old : (c : Shape Fiber) (o : Option ℕ) (x : Node) → o ≡ None → IsOld c o (Some x) → ⊥
 no_old c _ _ gone (of here leads a) = let q : ⊥ = cc in q
 
 -- the stage of the old node's fiber tells its mark
 module _ (c : Shape Fiber) (o : Option ℕ) (i : ℕ) (v : Fiber) (s : Stage) (o_is : o ≡ Some i) (value : Some v ≡ value_of c i) (stage : s ≡ v.stage) where
-  stage_mark : begun_mark s ≡ mark_at c o
+  pub stage_mark : begun_mark s ≡ mark_at c o
   stage_mark =
       ap begun_mark stage
       ∙ (ap (option_and_then (λ (u : Fiber). begun_mark u.stage)) value ∙ ap (λ q. mark_at c q) (sym o_is))
@@ -196,36 +126,3 @@ none_resolved s a resources same few none r awaited = subst (λ xs. slice_index_
         let late : resource_limit ≤ r = grind (arith, nat_tests) in
         let long : length resources ≡ length (names s.program) = ap length same ∙ seen_length s in
         past_end resources r (omega arith)
-
--- The walk
-
-module _ (c : Shape Fiber) (linked : IsLinked c) (i : ℕ) (held : Holds c i) (v : Fiber) (here : Some v ≡ value_of c i)
-    (child : Option ℕ) (child_is : child ≡ first (kids_of c i)) (behind : Option ℕ) (behind_is : behind ≡ first (rest_of c i)) where
-  -- the list from a fiber on, by its links
-  pub list_at_links : list_from c (Some i) ≡ fiber i v (list_from c child) (list_from c behind)
-  list_at_links =
-      let kids : list_from c child ≡ kids_of c i = ap (list_from c) child_is ∙ sym (linked.kids i held) in
-      let rest : list_from c behind ≡ rest_of c i = ap (list_from c) behind_is ∙ sym (linked.rest i held) in
-      list_here c linked i held v here ∙ sym (ap (λ k. fiber i v k (list_from c behind)) kids ∙ ap (λ r. fiber i v (kids_of c i) r) rest)
-
-  module _ (next : Option ℕ) (next_is : next ≡ Some i) where
-    next_list : list_from c next ≡ fiber i v (list_from c child) (list_from c behind)
-    next_list = ap (list_from c) next_is ∙ list_at_links
-
-    pub stage_here : (P : Option Instance → Type 0) (s : Stage) → s ≡ v.stage → P (instance_at s) → P (instance_at v.stage)
-    stage_here P s same h = subst (λ x. P (instance_at x)) same h
-
-    pub each_parts : (P : Option Instance → Type 0) → ForEachFiber P (list_from c next) → P (instance_at v.stage) × ForEachFiber P (list_from c child) × ForEachFiber P (list_from c behind)
-    each_parts P h = subst (ForEachFiber P) next_list h
-
-    pub each_joins : (P : Option Instance → Type 0) → P (instance_at v.stage) → ForEachFiber P (list_from c child) → ForEachFiber P (list_from c behind) → ForEachFiber P (list_from c next)
-    each_joins P here below rest = subst (ForEachFiber P) (sym next_list) (here, below, rest)
-
-    pub some_joins : (P : Option Instance → Type 0) → P (instance_at v.stage) ⊎ (ForSomeFiber P (list_from c child) ⊎ ForSomeFiber P (list_from c behind)) → ForSomeFiber P (list_from c next)
-    some_joins P h = subst (ForSomeFiber P) (sym next_list) h
-
-    pub child_smaller : size (list_from c child) < size (list_from c next)
-    child_smaller = rw next_list (omega arith)
-
-    pub behind_smaller : size (list_from c behind) < size (list_from c next)
-    behind_smaller = rw next_list (omega arith)

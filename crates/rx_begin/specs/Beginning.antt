@@ -1,11 +1,11 @@
 -- A place begins.
-use Rattle.std.specs.Prelude.{◌≡◌, ℕ, suc, false, List, [], ◌∷◌, Option, Some, None}
+use Rattle.std.specs.Prelude.{◌≡◌, ℕ, suc, Bool, true, false, List, [], ◌∷◌, Option, Some, None}
 use Rattle.rx_base.specs.Awaits.{Awaits, one}
 use Rattle.rx_ast.specs.Syntax.{Program}
 use Rattle.rx_ctx.specs.Contexts.{Stack}
 use Rattle.rx_elem.specs.Elements.{Element, Elements, Key}
 use Rattle.rx_elem.specs.Elements as elements
-use Rattle.rx_elem.specs.Trees.{Forest, Node, node, of_boundary, fallback_if}
+use Rattle.rx_elem.specs.Trees.{Forest, Node, element_of, node, of_boundary, fallback_if}
 use Rattle.rx_susp.specs.declared.boundary.BoundaryState.TheVariants.{Hidden}
 use Rattle.rx_hooks.specs.declared.hook.Hook.{Hook}
 use Rattle.rx_lists.specs.Shapes as shapes
@@ -14,8 +14,10 @@ use Rattle.rx_meaning.specs.Again.{AllValuesAgree, AreUnresolved}
 use Rattle.rx_meaning.specs.Fresh.{Sight, Contexts, part, waiting, shape_of}
 use Rattle.rx_meaning.specs.Settled.{IfSettled, known_by}
 use Rattle.rx_meaning.specs.Cursor.{Frame, Cursor, falling, at_place, at_end, ended, is_null, open_part, unit, unwind}
+use Rattle.commit_laws.specs.Idle.{IsIdle}
 use Rattle.commit_laws.specs.WaitsAgain.{without_lanes}
 use Rattle.rx_fiber.specs.Fibers.{Fiber}
+use Rattle.rx_fiber.specs.Passed.{IsPassed}
 use Rattle.rx_fiber.specs.Reading.{IsOld}
 use Rattle.rx_fiber.specs.Stood.{StoodAt}
 use Rattle.rx_fiber.specs.Surround.{fallback_in, given_along}
@@ -26,7 +28,7 @@ use Rattle.rx_begin.specs.Scenes.{KeepsHooks, GivesHooks}
 use Rattle.rx_begin.specs.Hidden.{ForEach}
 use Rattle.rx_begin.specs.Again.{HasOldFallback}
 use Rattle.rx_begin.specs.declared.node.Begun.{Begun}
-use Rattle.rx_begin.specs.declared.node.Begun.TheVariants.{Child, Leaf, Suspended}
+use Rattle.rx_begin.specs.declared.node.Begun.TheVariants.{Child, Leaf, Suspended, Taken}
 use Rattle.rx_begin.specs.declared.node.Begun.TheVariants as answers
 
 -- hooks are kept of each instance of an old tree that may be missing, and has a number
@@ -72,7 +74,17 @@ pub record IsHiddenAgain (s : Sight) (t new : Trees Fiber) (st' : Stack) (p n : 
   pub left : IsLeftAt new st' p (taken shapes.none) a (open_part n fs (falling e old a) (part cs (fallback_in e ∷ []) (fallback_if old)))
   pub again : HasOldFallback new.current (given_along left.frames) left.old left.node left.value.element
 
--- What a unit leaves that begins the place of a fiber: the render stands at the first child, or at the fiber's end; or a body waits, and all is as it was; or a hidden boundary waits still.
+-- The place is that of a clone whose old node is idle: its old children are taken over, and it is done.
+pub record IsTakenOver (s : Sight) (t new : Trees Fiber) (st' : Stack) (p : ℕ) (fs : List Frame) (e : Element) (old : Option Node) : Type 0 where
+  pub node : Node
+  pub was : old ≡ Some node
+  pub same : element_of node ≡ e
+  pub idle : IsIdle s node
+  pub old_is : IsOld t.current (old_of t.draft p) old
+  pub stood : StoodAt t.current (given_along fs) (old_of t.draft p)
+  pub passed : IsPassed new st' p fs node
+
+-- What a unit leaves that begins the place of a fiber: the render stands at the first child, or at the fiber's end; or a body waits, and all is as it was; or a hidden boundary waits still; or old children are taken over.
 abbrev pub HasBegun : Sight → (before : Trees Fiber) → Stack → (after : Trees Fiber) → Stack → (at : ℕ) → (levels : ℕ) → List Frame → Contexts → Element → Option Node → Begun → Type 0
 HasBegun s t st new st' p n fs cs e old (Child id) =
     StandsAt new st' (Some id) (unit s (at_place (suc n) fs cs e old)) × IsPlace (unit s (at_place (suc n) fs cs e old))
@@ -84,6 +96,15 @@ HasBegun s t st new st' p n fs cs e old (Suspended r) =
     × (st' ≡ st)
     × IsWithin new st' p fs
 HasBegun s t st new st' p n fs cs e old (answers.Hidden a) = IsHiddenAgain s t new st' p n fs cs e old a
+HasBegun s t st new st' p n fs cs e old Taken = IsTakenOver s t new st' p fs e old
+
+-- whether old children are taken over
+abbrev pub is_taken : Begun → Bool
+is_taken (Child id) = false
+is_taken Leaf = false
+is_taken (Suspended r) = false
+is_taken (answers.Hidden a) = false
+is_taken Taken = true
 
 -- what is waited for still, where a hidden boundary is not tried
 abbrev pub awaited_again : Begun → Option Awaits
@@ -91,6 +112,7 @@ awaited_again (Child id) = None
 awaited_again Leaf = None
 awaited_again (Suspended r) = None
 awaited_again (answers.Hidden a) = Some a
+awaited_again Taken = None
 
 -- the same, from each cursor at which the render may stand, over an old node that is settled
 abbrev pub BeginsPlace : Sight → (kept : ℕ → Option (List Hook)) → (before : Trees Fiber) → Stack → (after : Trees Fiber) → Stack → (at : ℕ) → Begun → Type 0

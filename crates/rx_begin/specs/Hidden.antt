@@ -3,13 +3,12 @@ use Rattle.std.specs.Prelude.{◌≡◌, ℕ, ℤ, true, List, Option, Some, Non
 use Rattle.rx_base.specs.Awaits.{Awaits, has}
 use Rattle.rx_base.specs.declared.cut.Cut.{Cut}
 use Rattle.rx_lane.specs.Lanes.{Lanes}
-use Rattle.rx_elem.specs.Trees.{Forest, Instance, Node, child, children_if, children_of, instance_in, mark_of, node, none, of_boundary, vacant}
+use Rattle.rx_elem.specs.Trees.{Forest, Instance, Node, children_if, children_of, instance_in, mark_of, of_boundary}
 use Rattle.rx_susp.specs.declared.boundary.BoundaryState.TheVariants.{Hidden}
 use Rattle.rx_queue.specs.History.{Answers}
 use Rattle.rx_hooks.specs.declared.hook.Hook.{Hook}
 use Rattle.rx_hooks.specs.Hooks.{HookHistory, HooksStandFor}
-use Rattle.rx_lists.specs.Shapes.{Shape, fiber}
-use Rattle.rx_lists.specs.Shapes as shapes
+use Rattle.rx_lists.specs.Shapes.{Shape}
 use Rattle.rx_meaning.specs.Again.{AllValuesAgree, AreUnresolved}
 use Rattle.rx_meaning.specs.Fresh.{Sight, values_of}
 use Rattle.commit_laws.specs.Each as each
@@ -17,6 +16,7 @@ use Rattle.commit_laws.specs.WaitsAgain.{without_lanes}
 use Rattle.rx_fiber.specs.Fibers.{Fiber, Stage}
 use Rattle.rx_fiber.specs.Reading.{IsOld}
 use Rattle.rx_hook_store.specs.Gives.{has_news_in}
+use Rattle.rx_begin.specs.Marks.{EachFiber, SomeFiber, SomeNodeIn}
 use Rattle.rx_begin.specs.Nodes.{begun_mark}
 use Rattle.rx_begin.specs.Scenes.{GivesHooks, KeepsHooks, number_in}
 use Rattle.rx_begin.specs.declared.scene.Scene.{Scene}
@@ -31,16 +31,9 @@ ForEach P x = each.ForEach (λ m. P (instance_in m)) x
 abbrev pub ForEachIn : (Option Instance → Type 0) → Forest → Type 0
 ForEachIn P ns = each.ForEachIn (λ m. P (instance_in m)) ns
 
--- it holds of what some node of a tree has for its instance
-abbrev mutual
-  pub ForSome : (Option Instance → Type 0) → Node → Type 0
-  ForSome P (node e m ns fs) = P (instance_in m) ⊎ (ForSomeIn P ns ⊎ ForSomeIn P fs)
-
-  -- the same for the trees of a list
-  pub ForSomeIn : (Option Instance → Type 0) → Forest → Type 0
-  ForSomeIn P none = ⊥
-  ForSomeIn P (vacant ns) = ForSomeIn P ns
-  ForSomeIn P (child n ns) = ForSome P n ⊎ ForSomeIn P ns
+-- it holds of what some node of the trees of a list has for its instance
+abbrev pub ForSomeIn : (Option Instance → Type 0) → Forest → Type 0
+ForSomeIn P ns = SomeNodeIn (λ m. P (instance_in m)) ns
 
 -- hooks are kept of each instance of some trees that has a number
 abbrev pub KeepsHooksIn : (kept : ℕ → Option (List Hook)) → Forest → Type 0
@@ -58,13 +51,11 @@ instance_at stage = option_and_then instance_in (begun_mark stage)
 
 -- this holds of what each fiber of a list, and each below, has for its instance
 abbrev pub ForEachFiber : (Option Instance → Type 0) → Shape Fiber → Type 0
-ForEachFiber P shapes.none = Unit {0}
-ForEachFiber P (fiber id v ks rs) = P (instance_at v.stage) × ForEachFiber P ks × ForEachFiber P rs
+ForEachFiber P s = EachFiber (λ m. P (option_and_then instance_in m)) s
 
 -- it holds of what some fiber has for its instance
 abbrev pub ForSomeFiber : (Option Instance → Type 0) → Shape Fiber → Type 0
-ForSomeFiber P shapes.none = ⊥
-ForSomeFiber P (fiber id v ks rs) = P (instance_at v.stage) ⊎ (ForSomeFiber P ks ⊎ ForSomeFiber P rs)
+ForSomeFiber P s = SomeFiber (λ m. P (option_and_then instance_in m)) s
 
 -- News
 

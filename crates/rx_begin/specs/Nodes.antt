@@ -76,6 +76,12 @@ begun_mark (fallback a) = None
 abbrev pub mark_at : Shape Fiber → Option ℕ → Option Mark
 mark_at c o = option_and_then (λ v. begun_mark v.stage) (option_and_then (value_of c) o)
 
+-- a made fiber that had no children has the mark of its old one, and the children of that one as they stand; nothing else is changed
+abbrev pub HasTaken : (before after : Trees Fiber) → (p : ℕ) → Type 0
+HasTaken t new p =
+    (k : Around Fiber) (v : Fiber) (o : Option ℕ) (rs : Draft Fiber) (m : Mark) → t.draft ≡ placed k (made p v o (taken shapes.none) rs) → mark_at t.current o ≡ Some m
+    → new.draft ≡ placed k (made p (record v { stage = begun m }) o (taken (kids_under t.current o)) rs)
+
 -- a cloned place keeps its children, where its old node, with this mark, is no boundary that hides them
 abbrev pub keeps_children : (cloned : Bool) → Option Mark → Bool
 keeps_children cloned m = cloned && not (option_map_or is_hidden m false)

@@ -1,5 +1,5 @@
 // A place begins.
-ghost use Rattle.std.specs.Prelude.{◌≡◌, ◌+◌, ◌<◌, ◌≤◌, suc, ℕ, ℤ, true, false, not, List, Option, Some, None, length, IfOk, IsSome, IfSome, OnOk, if◌then◌else◌, option_and_then};
+ghost use Rattle.std.specs.Prelude.{◌≡◌, ◌+◌, ◌<◌, ◌≤◌, suc, ℕ, ℤ, true, false, not, List, Option, Some, None, length, IfOk, IsSome, IfSome, OnOk, is_some, if◌then◌else◌, option_and_then};
 ghost use Rattle.rx_ast.specs.Syntax as syntax;
 ghost use Rattle.rx_ctx.specs.Contexts.{values_at};
 ghost use Rattle.rx_elem.specs.Elements as elements;
@@ -24,12 +24,14 @@ ghost use Rattle.rx_hook_store.specs.Gives.{GivesValues};
 ghost use Rattle.rx_begin.specs.Scenes.{IsSceneOf, TellsCalm};
 ghost use Rattle.rx_begin.specs.Hidden.{GivesHooksIn, KeepsOld, WaitsStill};
 ghost use Rattle.rx_begin.specs.Others.{HasBegunOther, IsCauseToTry};
-ghost use Rattle.rx_begin.specs.Beginning.{IsAtPlace, BeginsPlace, awaited_again};
+ghost use Rattle.rx_begin.specs.Idle.{HasCauseIn};
+ghost use Rattle.rx_begin.specs.Beginning.{IsAtPlace, BeginsPlace, awaited_again, is_taken};
 
 use crate::body::begin_component;
 use crate::hidden::waits_still;
-use crate::kind::{begun_children, begun_stage, enter, parts_of};
-use crate::node::{Begun, keep_node, keeps_children, old_host, open_node};
+use crate::idle::takes_over;
+use crate::kind::{begun_children, begun_stage, enter, is_component, parts_of};
+use crate::node::{Begun, keep_node, keeps_children, old_host, open_node, take_node};
 use crate::scene::Scene;
 use rx_base::{Awaits, Steps};
 use rx_ctx::ContextStack;
@@ -125,8 +127,8 @@ fn begin_or_hide(
 /// a provider gives its value; the fibers of all children are made, each for the old child of its identity and type. Where the
 /// fiber is a clone, and its component has no cause to be rendered anew, the body is skipped, and the children are clones of the
 /// old ones (react.dev, useState: React skips the component). Where the clone is a hidden boundary's, and nothing new has come
-/// for what it waits for and keeps, its children are not tried. The current tree stays as it is. Also answered is whether a body
-/// was evaluated.
+/// for what it waits for and keeps, its children are not tried. Where nothing in the tree of a clone's old node has a cause, the
+/// old children are taken over as they stand. The current tree stays as it is. Also answered is whether a body was evaluated.
 ///
 /// # Errors
 ///
@@ -152,6 +154,11 @@ pub fn begin<L: Ledger>(
         → TellsCalm scene.now (kept_hooks hooks.old) (values_at contexts.old) (option_and_then instance_in (mark_at tree.old.current (old_of tree.old.draft at))) (not b.1)) }
     // A hidden boundary's children are tried only where its fiber is no clone, or there is a cause.
     ensures tries { IfOk result (λ b. (v : fibers.Fiber) → Some v ≡ made_value_of tree.old.draft at → parts_in v.element ≡ None → is_cloned v.stage ≡ true → awaited_again b.0 ≡ None → IsCauseToTry scene.now (kept_hooks hooks.old) tree.old at) }
+    // Old children are taken over with no body evaluated.
+    ensures taken { IfOk result (λ b. is_taken b.0 ≡ true → b.1 ≡ false) }
+    // A clone is begun over clones only where there is a cause in the tree of its old node; else its old children are taken over.
+    ensures causes { IfOk result (λ b. (v : fibers.Fiber) → Some v ≡ made_value_of tree.old.draft at → is_cloned v.stage ≡ true → is_taken b.0 ≡ false
+        → HasCauseIn scene.now (kept_hooks hooks.old) (values_at contexts.old) (is_some (parts_in v.element)) tree.old.current (old_of tree.old.draft at)) }
     ensures few { IfOk result (λ b. (s : Sight) (n : ℕ) (fs : List Frame) (cs : Contexts) (e : elements.Element) (old : Option Node) → IsSceneOf scene.now s → StandsAt tree.old contexts.old (Some at) (at_place (suc n) fs cs e old)
         → (if b.1 then 1 else 0) ≤ next_counts each_body s (at_place (suc n) fs cs e old)) }
     ensures rises { steps.old ≤ steps.new }
@@ -163,6 +170,11 @@ pub fn begin<L: Ledger>(
     let fiber = tree.value(at);
     let cloned = fiber.is_cloned();
     let element = fiber.element().copy()?;
+    let component = is_component(&element);
+    if takes_over(tree, at, cloned, component, scene, hooks, contexts) {
+        take_node(tree, at)?;
+        return Ok((Begun::Taken, false));
+    }
     match parts_of(&element) {
         Some(parts) => begin_component(
             alloc,

@@ -24,6 +24,7 @@ ghost use Rattle.rx_fiber.specs.OldLists.{primary_list, old_elements, old_fibers
 ghost use Rattle.rx_begin.specs.Nodes.{IsBareAt, HasOpened, mark_at};
 ghost use Rattle.rx_begin.specs.Scenes.{IsSceneOf, IsCalmAt, TellsCalm, GivesHooks, number_in};
 ghost use Rattle.rx_begin.specs.Bodies.{StoodIn, HasShape};
+ghost use Rattle.rx_begin.specs.Beginning.{is_taken};
 
 use crate::node::{Begun, keep_node, old_instance, open_node};
 use crate::scene::Scene;
@@ -181,6 +182,7 @@ fn open_body(
 ) -> Result<Begun, AllocError>
     requires bare { IsBareAt tree.old at }
     ensures opened { IfOk result (λ b. (cs : Contexts) (node : Option Node) (cloned : Bool) → option_map instance_seen old ≡ old_instance node → HasShape cloned (shape_of_body cs component node (body_seen body)) cs node tree.old tree.new at b) }
+    ensures anew { IfOk result (λ b. is_taken b ≡ false) }
     ensures current { tree.new.current ≡ tree.old.current }
 {
     match body {
@@ -209,7 +211,7 @@ fn is_read_anew(read: &ContextRead, contexts: &[Int]) -> bool
 }
 
 // Whether one of these contexts has another value than the one that was read.
-fn read_anew(reads: &[ContextRead], contexts: &[Int]) -> bool
+pub(crate) fn read_anew(reads: &[ContextRead], contexts: &[Int]) -> bool
     ensures { result ≡ read_anew contexts.now reads.now }
 {
     reads.iter().any(|read| is_read_anew(read, contexts))
@@ -300,6 +302,7 @@ pub(crate) fn begin_component<L: Ledger>(
     ensures current { tree.new.current ≡ tree.old.current }
     ensures once { IfOk result (λ b. steps.new ≡ steps.old + (if b.1 then 1 else 0)) }
     ensures anew { IfOk result (λ b. cloned ≡ false → b.1 ≡ true) }
+    ensures taken { IfOk result (λ b. is_taken b.0 ≡ true → b.1 ≡ false) }
     ensures exact { IfOk result (λ b. cloned ≡ true → TellsCalm scene.now (kept_hooks hooks.old) contexts.now (option_and_then instance_in (mark_at tree.old.current (old_of tree.old.draft at))) (not b.1)) }
     ensures rises { steps.old ≤ steps.new }
     ensures still { (s : Sight) (k : ℕ) (initials : List ℤ) → IsSceneOf scene.now s → GivesValues s (kept_hooks hooks.old) k initials → GivesValues s (kept_hooks hooks.new) k initials }

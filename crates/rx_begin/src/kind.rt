@@ -1,5 +1,5 @@
 // What an element's fiber begins with.
-ghost use Rattle.std.specs.Prelude.{◌≡◌, ◌<◌, length, IfSome, OnOk, option_map};
+ghost use Rattle.std.specs.Prelude.{◌≡◌, ◌<◌, length, IfSome, OnOk, is_some, option_map};
 ghost use Rattle.rx_ctx.specs.Contexts.{values_at};
 ghost use Rattle.rx_fiber.specs.FiberView.{stage_seen};
 ghost use Rattle.rx_begin.specs.Nodes.{parts_in, begun_stage, begun_children, begun_stack, given_context};
@@ -33,6 +33,13 @@ pub(crate) fn parts_of(element: &Element) -> Option<Parts>
         }),
         _ => None,
     }
+}
+
+/// Whether the element is a component's.
+pub(crate) fn is_component(element: &Element) -> bool
+    ensures { result ≡ is_some (parts_in element.now) }
+{
+    matches!(element.kind(), ElementKind::Comp(_, _, _, _))
 }
 
 /// How far the fiber of another element has come once it is begun.

@@ -5,6 +5,7 @@ mod beginning;
 mod body;
 mod children;
 mod hidden;
+mod idle;
 mod kind;
 mod node;
 mod opening;

@@ -1,5 +1,5 @@
 // A node begins over its children.
-ghost use Rattle.std.specs.Prelude.{◌≡◌, true, false, IfOk, OnOk, IfSome, option_and_then, option_map};
+ghost use Rattle.std.specs.Prelude.{◌≡◌, true, false, IfOk, OnOk, IfSome, IsSome, option_and_then, option_map};
 ghost use Rattle.rx_lists.specs.Shapes.{Holds};
 ghost use Rattle.rx_elem.specs.Trees.{host_number, instance_in};
 ghost use Rattle.rx_links.specs.Drafts.{Makes, old_of};
@@ -7,7 +7,7 @@ ghost use Rattle.rx_links.specs.Readers.{list_from};
 ghost use Rattle.rx_fiber.specs.FiberView.{stage_seen};
 ghost use Rattle.rx_node.specs.MarkView.{instance_seen, mark_seen};
 ghost use Rattle.rx_fiber.specs.OldLists.{matched, old_elements, old_fibers, primary_list};
-ghost use Rattle.rx_begin.specs.Nodes.{IsBareAt, IsBareBeside, HasStage, HasList, HasOpened, begun_from, keeps_children, mark_at};
+ghost use Rattle.rx_begin.specs.Nodes.{IsBareAt, IsBareBeside, HasStage, HasList, HasOpened, HasTaken, begun_from, keeps_children, mark_at};
 
 use crate::children::{clone_children, make_children};
 use rx_base::Awaits;
@@ -28,6 +28,8 @@ pub enum Begun {
     Suspended(u32),
     /// A boundary is hidden and waits still for these resources: its children are not tried, and its fallback opens next.
     Hidden(Awaits),
+    /// The fiber took its old children over, since nothing there has a cause to be rendered: its node is done, and is passed.
+    Taken,
 }
 
 // The mark of an old node, by its current fiber.
@@ -176,4 +178,21 @@ pub(crate) fn keep_node(
     let first_old = old_primary(tree, tree.alternate(at));
     let first = open_clones(alloc, tree, at, stage, first_old)?;
     Ok(begun_from(first))
+}
+
+// A fiber takes over the children of its old node, whose mark it gets.
+pub(crate) fn take_node(tree: &mut FiberTree<Fiber>, at: FiberId) -> Result<(), AllocError>
+    requires bare { IsBareAt tree.old at }
+    requires there { IsSome (mark_at tree.old.current (old_of tree.old.draft at)) }
+    ensures taken { OnOk result (HasTaken tree.old tree.new at) }
+    ensures current { tree.new.current ≡ tree.old.current }
+{
+    tree.place_facts();
+    let mark = match old_mark(tree, tree.alternate(at)) {
+        Some(mark) => mark.copy()?,
+        None => unreachable!(),
+    };
+    tree.take_over(at);
+    tree.place_facts();
+    set_stage(tree, at, Stage::Begun(mark))
 }

@@ -1,4 +1,5 @@
 pub mod Leading
 pub mod Completed
+pub mod Passing
 pub mod Depths
 pub mod Waiting

@@ -4,7 +4,8 @@ ghost use Rattle.rx_ctx.specs.Contexts.{Stack};
 ghost use Rattle.rx_elem.specs.Trees.{Node};
 ghost use Rattle.rx_links.specs.Drafts.{Makes};
 ghost use Rattle.rx_meaning.specs.Fresh.{Sight, Contexts};
-ghost use Rattle.rx_meaning.specs.Cursor.{Open, Frame, at_end, unit};
+ghost use Rattle.rx_meaning.specs.Cursor.{Open, Frame, arrive, at_end, unit};
+ghost use Rattle.rx_fiber.specs.Passed.{IsPassed};
 ghost use Rattle.rx_fiber.specs.Surround.{open_element};
 ghost use Rattle.rx_fiber.specs.Standing.{StandsAt, IsStack};
 ghost use Rattle.rx_complete.specs.Ends.{IsAtEnd, fiber_in, next_after, LeadsTo};
@@ -60,6 +61,18 @@ pub fn complete(tree: &mut FiberTree<Fiber>, at: FiberId, contexts: &mut Context
     tree.place_facts();
     leave(tree.value(at).element(), contexts);
     tree.mark_made(at, &StageChange::Complete);
+    tree.place_facts();
+    next_of(tree, at)
+}
+
+/// Passes the node of a fiber that took its old children over (React's bailout): the render comes to the next sibling, or
+/// else to the parent. Changes nothing.
+pub fn pass(tree: &FiberTree<Fiber>, at: FiberId) -> Next
+    requires { Makes tree.now.draft at }
+    ensures stands { (st : Stack) (levels : ℕ) (fs : List Frame) (x : Node) → IsPassed tree.now st at fs x → StandsAt tree.now st (fiber_in result) (arrive levels fs (Some x)) }
+    ensures leads { (st : Stack) (levels : ℕ) (fs : List Frame) (x : Node) → IsPassed tree.now st at fs x → LeadsTo result (arrive levels fs (Some x)) }
+    ensures next { result ≡ next_after tree.now.draft at }
+{
     tree.place_facts();
     next_of(tree, at)
 }

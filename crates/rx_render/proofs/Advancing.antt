@@ -11,20 +11,22 @@ use Rattle.rx_elem.specs.Trees.{Node, node, Forest, of_boundary, fallback_if, In
 use Rattle.rx_elem.specs.Trees as trees
 use Rattle.rx_hooks.specs.declared.hook.Hook.{Hook}
 use Rattle.rx_lists.specs.Shapes as shapes
-use Rattle.rx_links.specs.Drafts.{Trees, taken, old_of}
+use Rattle.rx_links.specs.Drafts.{Trees, Makes, taken, old_of}
 use Rattle.rx_links.specs.Readers.{IsLinked}
 use Rattle.rx_meaning.specs.Fresh.{Sight, Contexts, part}
-use Rattle.rx_meaning.specs.Cursor.{Open, falling, Frame, Cursor, at_place, at_end, ended, open_part, unit, unwind, HasLevel}
+use Rattle.rx_meaning.specs.Cursor.{Open, falling, Frame, Cursor, at_place, at_end, ended, open_part, arrive, unit, unwind, HasLevel}
 use Rattle.rx_meaning.specs.Counts.{each_body, next_counts}
 use Rattle.rx_fiber.specs.Fibers.{Fiber}
+use Rattle.rx_fiber.specs.Passed.{IsPassed}
 use Rattle.rx_fiber.specs.Reading.{IsOld}
 use Rattle.rx_fiber.specs.Standing.{StandsAt}
 use Rattle.rx_fiber.specs.Surround.{fallback_in, given_along}
 use Rattle.rx_fiber.specs.Unwound.{IsWithin, IsLeftAt}
 use Rattle.rx_complete.specs.Ends.{IsOpenBelow, lies, fiber_in, LeadsTo, to_sibling, to_parent, to_none}
 use Rattle.rx_complete.specs.declared.completing.Next.{Next}
+use Rattle.rx_complete.proofs.Completed.{KnowsPlaces}
 use Rattle.rx_begin.specs.Again.{HasOldFallback}
-use Rattle.rx_begin.specs.Beginning.{IsAtPlace, stands, IsPlace, IsEnd, IsHiddenAgain, BeginsPlace, KeepsHooksIf, GivesHooksIf}
+use Rattle.rx_begin.specs.Beginning.{IsAtPlace, stands, IsPlace, IsEnd, IsHiddenAgain, IsTakenOver, BeginsPlace, KeepsHooksIf, GivesHooksIf}
 use Rattle.rx_begin.specs.Hidden.{ForEach, ForEachIn}
 use Rattle.rx_begin.specs.Scenes.{IsSceneOf, KeepsHooks, GivesHooks}
 use Rattle.rx_begin.specs.declared.scene.Scene.{Scene}
@@ -36,7 +38,7 @@ use Rattle.rx_begin.specs.declared.opening.Opened.TheVariants.{First, Empty}
 use Rattle.rx_render.specs.declared.at.At.{At}
 use Rattle.rx_render.specs.declared.at.At.TheVariants.{Begins, Completes}
 use Rattle.rx_render.specs.Rendering.{ComesTo, to_place, to_end, to_tree}
-use Rattle.rx_render.specs.Advancing.{at_after, at_opened, Goes, by_unit, past_attempt, CanBegin, Advances}
+use Rattle.rx_render.specs.Advancing.{at_after, at_opened, Goes, by_unit, past_attempt, past_subtree, CanBegin, Advances}
 
 -- A wait for a number that is no resource's
 
@@ -83,22 +85,34 @@ stopped t new st st' p q a b (lies {fs = fs} w) f = left (f 0 fs w)
 
 -- After a place that begins
 
-module _ (s : Sight) (kept : ℕ → Option (List Hook)) (t : Trees Fiber) (st : Stack) (new : Trees Fiber) (st' : Stack) (id : ℕ) where
-  pub child_advances : (child : ℕ) → BeginsPlace s kept t st new st' id (Child child) → Advances s kept t st (Begins id) new st' (Begins child)
+-- a unit that begins the place of a fiber evaluates at most so many bodies
+abbrev pub AreFew : Sight → Trees Fiber → Stack → (id bodies : ℕ) → Type 0
+AreFew s t st id bodies =
+    (n : ℕ) (fs : List Frame) (cs : Contexts) (e : Element) (old : Option Node) → StandsAt t st (Some id) (at_place (suc n) fs cs e old) → bodies ≤ next_counts each_body s (at_place (suc n) fs cs e old)
+
+module _ (s : Sight) (kept : ℕ → Option (List Hook)) (t : Trees Fiber) (st : Stack) (new : Trees Fiber) (st' : Stack) (id bodies : ℕ) (few : AreFew s t st id bodies) where
+  pub child_advances : (child : ℕ) → BeginsPlace s kept t st new st' id (Child child) → Advances s kept t st (Begins id) bodies new st' (Begins child)
   child_advances child begins _ (to_place {levels = zero} h) level gives = absurd (omega (arith, level))
   child_advances child begins _ (to_place {levels = suc n} {fs = fs} {cs = cs} {e = e} {old = old} h) level gives =
-      let b = begins n fs cs e old h gives.0 gives.1 in record { next = _; goes = by_unit; comes = place_comes new st' child _ b.0 b.1 }
+      let b = begins n fs cs e old h gives.0 gives.1 in record { next = unit s (at_place (suc n) fs cs e old); goes = by_unit (few n fs cs e old h); comes = place_comes new st' child _ b.0 b.1 }
 
-  pub leaf_advances : BeginsPlace s kept t st new st' id Leaf → Advances s kept t st (Begins id) new st' (Completes id)
+  pub leaf_advances : BeginsPlace s kept t st new st' id Leaf → Advances s kept t st (Begins id) bodies new st' (Completes id)
   leaf_advances begins _ (to_place {levels = zero} h) level gives = absurd (omega (arith, level))
   leaf_advances begins _ (to_place {levels = suc n} {fs = fs} {cs = cs} {e = e} {old = old} h) level gives =
-      let b = begins n fs cs e old h gives.0 gives.1 in record { next = _; goes = by_unit; comes = end_comes new st' id _ b.0 b.1 }
+      let b = begins n fs cs e old h gives.0 gives.1 in record { next = unit s (at_place (suc n) fs cs e old); goes = by_unit (few n fs cs e old h); comes = end_comes new st' id _ b.0 b.1 }
 
   pub waits_advances : (r : ℕ) (last : Trees Fiber) (st'' : Stack) (a : At) → BeginsPlace s kept t st new st' id (Suspended r)
-      → ((levels : ℕ) (fs : List Frame) → IsWithin new st' id fs → ComesTo last st'' a (unwind levels fs (one r))) → Advances s kept t st (Begins id) last st'' a
+      → ((levels : ℕ) (fs : List Frame) → IsWithin new st' id fs → ComesTo last st'' a (unwind levels fs (one r))) → Advances s kept t st (Begins id) bodies last st'' a
   waits_advances r last st'' a begins comes _ (to_place {levels = zero} h) level gives = absurd (omega (arith, level))
   waits_advances r last st'' a begins comes _ (to_place {levels = suc n} {fs = fs} {cs = cs} {e = e} {old = old} h) level gives =
-      let b = begins n fs cs e old h gives.0 gives.1 in record { next = _; goes = by_unit; comes = subst (ComesTo last st'' a) (sym b.1) (comes (suc n) fs b.4) }
+      let b = begins n fs cs e old h gives.0 gives.1 in
+      record { next = unit s (at_place (suc n) fs cs e old); goes = by_unit (few n fs cs e old h); comes = subst (ComesTo last st'' a) (sym b.1) (comes (suc n) fs b.4) }
+
+-- a boundary evaluates none
+boundary_none : (s : Sight) (bodies n : ℕ) (fs : List Frame) (cs : Contexts) (e : Element) (old : Option Node) (key : elements.Key) (f : Element) (es : elements.Elements) → e ≡ elements.boundary key f es
+    → bodies ≤ next_counts each_body s (at_place (suc n) fs cs e old) → bodies ≡ 0
+boundary_none s bodies n fs cs e old key f es is few =
+    let h : bodies ≤ 0 = subst (λ x. bodies ≤ next_counts each_body s (at_place (suc n) fs cs x old)) is few in omega (arith, h)
 
 -- where a hidden boundary waits still, past its attempt
 module _ (s : Sight) (t new : Trees Fiber) (st' : Stack) (p n : ℕ) (fs : List Frame) (cs : Contexts) (e : Element) (old : Option Node) (a : Awaits) (linked : IsLinked t.current)
@@ -106,16 +120,40 @@ module _ (s : Sight) (t new : Trees Fiber) (st' : Stack) (p n : ℕ) (fs : List 
   hidden_old : IsOld t.current (old_of t.draft p) (Some (node (elements.boundary h.key h.fallback h.given) (of_boundary (Hidden a)) h.kept h.shown))
   hidden_old = subst (IsOld t.current (old_of t.draft p)) (h.was ∙ ap (λ x. Some (node x (of_boundary (Hidden a)) h.kept h.shown)) h.boundary) h.old_is
 
-  hidden_goes : Goes s t.current (at_place (suc n) fs cs e old) (open_part n fs (falling e old a) (part cs (fallback_in e ∷ []) (fallback_if old)))
-  hidden_goes = rw (h.was, h.boundary) (past_attempt linked h.stood hidden_old h.unresolved h.agree)
+  hidden_goes : (bodies : ℕ) → bodies ≡ 0 → Goes s t.current bodies (at_place (suc n) fs cs e old) (open_part n fs (falling e old a) (part cs (fallback_in e ∷ []) (fallback_if old)))
+  hidden_goes bodies none = rw (h.was, h.boundary) (past_attempt none linked h.stood hidden_old h.unresolved h.agree)
 
-module _ (s : Sight) (kept : ℕ → Option (List Hook)) (t : Trees Fiber) (st : Stack) (new : Trees Fiber) (st' : Stack) (id : ℕ) where
-  pub hidden_advances : (a : Awaits) (last : Trees Fiber) (next : At) → IsLinked t.current → BeginsPlace s kept t st new st' id (answers.Hidden a)
+module _ (s : Sight) (kept : ℕ → Option (List Hook)) (t : Trees Fiber) (st : Stack) (new : Trees Fiber) (st' : Stack) (id bodies : ℕ) where
+  pub hidden_advances : (a : Awaits) (last : Trees Fiber) (next : At) → AreFew s t st id bodies → IsLinked t.current → BeginsPlace s kept t st new st' id (answers.Hidden a)
       → ((c : Cursor) → (l : IsLeftAt new st' id (taken shapes.none) a c) → HasOldFallback new.current (given_along l.frames) l.old l.node l.value.element → ComesTo last st' next c)
-      → Advances s kept t st (Begins id) last st' next
-  hidden_advances a last next linked begins comes _ (to_place {levels = zero} h) level gives = absurd (omega (arith, level))
-  hidden_advances a last next linked begins comes _ (to_place {levels = suc n} {fs = fs} {cs = cs} {e = e} {old = old} h) level gives =
-      let b = begins n fs cs e old h gives.0 gives.1 in record { next = _; goes = hidden_goes s t new st' id n fs cs e old a linked b; comes = comes _ b.left b.again }
+      → Advances s kept t st (Begins id) bodies last st' next
+  hidden_advances a last next few linked begins comes _ (to_place {levels = zero} h) level gives = absurd (omega (arith, level))
+  hidden_advances a last next few linked begins comes _ (to_place {levels = suc n} {fs = fs} {cs = cs} {e = e} {old = old} h) level gives =
+      let b = begins n fs cs e old h gives.0 gives.1 in
+      let none = boundary_none s bodies n fs cs e old b.key b.fallback b.given b.boundary (few n fs cs e old h) in
+      record { next = _; goes = hidden_goes s t new st' id n fs cs e old a linked b bodies none; comes = comes _ b.left b.again }
+
+-- past a subtree that is taken over
+module _ (s : Sight) (t new : Trees Fiber) (st' : Stack) (p n : ℕ) (fs : List Frame) (cs : Contexts) (e : Element) (old : Option Node) (linked : IsLinked t.current)
+    (h : IsTakenOver s t new st' p fs e old) where
+  taken_goes : (bodies : ℕ) → bodies ≡ 0 → Goes s t.current bodies (at_place (suc n) fs cs e old) (arrive (suc n) fs (Some h.node))
+  taken_goes bodies none =
+      subst (λ o. Goes s t.current bodies (at_place (suc n) fs cs e o) (arrive (suc n) fs (Some h.node))) (sym h.was)
+      (past_subtree none linked h.stood (subst (IsOld t.current (old_of t.draft p)) h.was h.old_is) h.same h.idle)
+
+module _ (s : Sight) (kept : ℕ → Option (List Hook)) (t : Trees Fiber) (st : Stack) (new : Trees Fiber) (st' : Stack) (id bodies : ℕ) where
+  pub taken_advances : (r : Next) → bodies ≡ 0 → IsLinked t.current → BeginsPlace s kept t st new st' id answers.Taken
+      → ((levels : ℕ) (fs : List Frame) (x : Node) → IsPassed new st' id fs x → StandsAt new st' (fiber_in r) (arrive levels fs (Some x)))
+      → ((levels : ℕ) (fs : List Frame) (x : Node) → IsPassed new st' id fs x → LeadsTo r (arrive levels fs (Some x)))
+      → Advances s kept t st (Begins id) bodies new st' (at_after r)
+  taken_advances r none linked begins there leads _ (to_place {levels = zero} h) level gives = absurd (omega (arith, level))
+  taken_advances r none linked begins there leads _ (to_place {levels = suc n} {fs = fs} {cs = cs} {e = e} {old = old} h) level gives =
+      let b = begins n fs cs e old h gives.0 gives.1 in
+      record {
+        next = arrive (suc n) fs (Some b.node);
+        goes = taken_goes s t new st' id n fs cs e old linked b bodies none;
+        comes = leads_comes new st' r (arrive (suc n) fs (Some b.node)) (leads (suc n) fs b.node b.passed) (there (suc n) fs b.node b.passed);
+      }
 
 -- hooks that give values are kept
 keeps_given : (s : Sight) (kept : ℕ → Option (List Hook)) (old : Option Instance) → GivesHooks s kept old → KeepsHooks kept old
@@ -151,18 +189,19 @@ pub hidden_left : (scene : Scene) (kept : ℕ → Option (List Hook)) (t : Trees
 hidden_left scene kept t st new st' id a can begins =
     let b = begins can.sight can.sees can.levels can.frames can.contexts_are can.element can.old can.stands can.gives can.settled in left b.left
 
--- the bodies of a unit that begins a place are few
-pub begins_few : (s : Sight) (t : Trees Fiber) (st : Stack) (id count : ℕ)
-    → ((n : ℕ) (fs : List Frame) (cs : Contexts) (e : Element) (old : Option Node) → StandsAt t st (Some id) (at_place (suc n) fs cs e old) → count ≤ next_counts each_body s (at_place (suc n) fs cs e old))
-    → (c : Cursor) → ComesTo t st (Begins id) c → HasLevel c → count ≤ next_counts each_body s c
-begins_few s t st id count f _ (to_place {levels = zero} h) level = absurd (omega (arith, level))
-begins_few s t st id count f _ (to_place {levels = suc n} {fs = fs} {cs = cs} {e = e} {old = old} h) level = f n fs cs e old h
+-- where a subtree is taken over, its fiber can be passed
+pub taken_made : (scene : Scene) (kept : ℕ → Option (List Hook)) (t : Trees Fiber) (st : Stack) (new : Trees Fiber) (st' : Stack) (id : ℕ) → CanBegin scene kept t st id → KnowsPlaces new
+    → ((s : Sight) → IsSceneOf scene s → BeginsPlace s kept t st new st' id answers.Taken) → Makes new.draft id
+taken_made scene kept t st new st' id can knows begins =
+    let b = begins can.sight can.sees can.levels can.frames can.contexts_are can.element can.old can.stands can.gives can.settled in
+    let q = b.passed in
+    (knows q.around id q.value q.old (taken q.kids) q.rest q.here).makes
 
 -- a node is completed
 pub end_advances : (s : Sight) (kept : ℕ → Option (List Hook)) (t : Trees Fiber) (st : Stack) (new : Trees Fiber) (st' : Stack) (id : ℕ) (a : At)
     → ((levels : ℕ) (fs : List Frame) (o : Open) (done : List (Option Node)) → StandsAt t st (Some id) (at_end levels fs o done) → ComesTo new st' a (unit s (at_end levels fs o done)))
-    → Advances s kept t st (Completes id) new st' a
-end_advances s kept t st new st' id a f _ (to_end {levels = levels} {fs = fs} {o = o} {done = done} h) level gives = record { next = _; goes = by_unit; comes = f levels fs o done h }
+    → Advances s kept t st (Completes id) 0 new st' a
+end_advances s kept t st new st' id a f _ (to_end {levels = levels} {fs = fs} {o = o} {done = done} h) level gives = record { next = unit s (at_end levels fs o done); goes = by_unit (omega arith); comes = f levels fs o done h }
 
 -- Results
 

@@ -26,5 +26,6 @@ first_starts lanes cut values v current keeps no_resources at empty =
         settled = tt;
         rooted = tt;
         waits = tt;
+        reads = tt;
       };
     }

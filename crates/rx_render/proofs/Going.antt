@@ -19,8 +19,7 @@ use Rattle.rx_meaning.specs.Body.{Body, wait, ready, body_of}
 use Rattle.rx_meaning.specs.Fresh.{Sight, Contexts, default_contexts, inputs_at, old_instance, shape_of, shape_of_body}
 use Rattle.rx_meaning.specs.Cursor.{Open, Frame, Cursor, at_place, at_end, ended, is_null, unit, HasLevel}
 use Rattle.rx_meaning.specs.Cursor as cursors
-use Rattle.rx_meaning.specs.Counts.{each_body, next_counts, begins_as, one_if_component}
-use Rattle.rx_meaning.specs.Settled.{DoneBefore, IfSettled, known_by}
+use Rattle.rx_meaning.specs.Settled.{DoneBefore, IfReadsHold, IfSettled, known_by}
 use Rattle.rx_model.specs.State.{State, Progress}
 use Rattle.rx_model.specs.Committing.{sight_of}
 use Rattle.rx_model.specs.HooksOf.{KeepsAllHooks}
@@ -108,7 +107,7 @@ renders_give p st g v r k m at = keeps-give p st g (kept_hooks v.hooks) m.number
 -- where a render is in progress one is under way
 pub renders_under_way : (st : State) (g : Progress) (v : Rendering) → Renders v.program st g v → IsUnderWay v
 renders_under_way st g v r =
-    record { sight = sight_of v.program st g; tree = st.tree; sees = renders_sees v.program st g v r; gives = renders_give v.program st g v r; current = r.current; settled = r.settled; waits = r.waits; come = r.come }
+    record { sight = sight_of v.program st g; tree = st.tree; sees = renders_sees v.program st g v r; gives = renders_give v.program st g v r; current = r.current; settled = r.settled; waits = r.waits; reads = r.reads; come = r.come }
 
 -- what a unit makes of a rendering
 pub record Stepped (old new : Rendering) (evaluated : ℕ) : Type 0 where
@@ -119,21 +118,20 @@ pub record Stepped (old new : Rendering) (evaluated : ℕ) : Type 0 where
   pub resources : new.resources ≡ old.resources
   pub units : new.units ≡ suc old.units
   pub bodies : new.bodies ≡ old.bodies + evaluated
-  pub few : (s : Sight) (c : Cursor) → Sees old s → ComesTo old.trees old.contexts old.at c → HasLevel c → evaluated ≤ next_counts each_body s c
   pub keeps : (st : State) → DoneBefore old.cut st.journal.updates → KeepsAllHooks old.program st (kept_hooks old.hooks) → KeepsAllHooks old.program st (kept_hooks new.hooks)
   pub still : (s : Sight) (k : ℕ) (initials : List ℤ) → Sees old s → GivesValues s (kept_hooks old.hooks) k initials → GivesValues s (kept_hooks new.hooks) k initials
-  pub advances : (s : Sight) → Sees old s → Advances s (kept_hooks old.hooks) old.trees old.contexts old.at new.trees new.contexts new.at
+  pub advances : (s : Sight) → Sees old s → Advances s (kept_hooks old.hooks) old.trees old.contexts old.at evaluated new.trees new.contexts new.at
 
 module _ (old new : Rendering) (evaluated : ℕ) (step : Stepped old new evaluated) (draws : DrawsOn) (known : unknowns old.program ≡ []) (left : 0 < left_of old) where
   step_comes : (s : Sight) (tree : Option Node) → Sees old s → GivesAll s tree (kept_hooks old.hooks) → IsTreeOf tree old.trees.current → IfSettled s.program (known_by s) tree
-      → IfWaitsAgain s (default_contexts s.program) tree → HasCome s tree old → HasCome s tree new
-  step_comes s tree sees gives current settled waits come =
+      → IfWaitsAgain s (default_contexts s.program) tree → IfReadsHold (default_contexts s.program) tree → HasCome s tree old → HasCome s tree new
+  step_comes s tree sees gives current settled waits reads come =
       let c = come.cursor in
       let busy : cursors.is_over c ≡ false = left_busy old.trees old.contexts old.at c (unit_bound old.program) old.units come.comes left in
       let level : HasLevel c = fit_has_level s.program c come.goes.fits come.goes.stands in
       let next = step.advances s sees c come.comes level (gives_at s tree (kept_hooks old.hooks) gives settled c come.olds come.rests) in
-      let h = reaches s tree old.trees.current current waits draws (subst (λ q. unknowns q ≡ []) (sym sees.program) known) old.units old.bodies evaluated c next.next next.goes
-      (record { goes = come.goes; drawn = come.drawn; given = come.given; olds = come.olds; rests = come.rests }) busy (step.few s c sees come.comes level) in
+      let h = reaches s tree old.trees.current current settled waits reads draws (subst (λ q. unknowns q ≡ []) (sym sees.program) known) old.units old.bodies evaluated c next.next next.goes
+      (record { goes = come.goes; drawn = come.drawn; given = come.given; olds = come.olds; rests = come.rests }) busy in
       record {
         cursor = next.next;
         comes = next.comes;
@@ -171,7 +169,8 @@ module _ (old new : Rendering) (evaluated : ℕ) (step : Stepped old new evaluat
         past = r.past;
         settled = r.settled;
         waits = r.waits;
-        come = step_comes (sight_of p st g) st.tree (renders_sees p st g old r) (renders_give p st g old r) r.current r.settled r.waits r.come;
+        reads = r.reads;
+        come = step_comes (sight_of p st g) st.tree (renders_sees p st g old r) (renders_give p st g old r) r.current r.settled r.waits r.reads r.come;
       }
 
   pub step_goes_on : GoesOn old new
@@ -196,7 +195,8 @@ module _ (old new : Rendering) (evaluated : ℕ) (step : Stepped old new evaluat
         current = subst (IsTreeOf way.tree) (sym step.current) way.current;
         settled = way.settled;
         waits = way.waits;
-        come = step_comes way.sight way.tree way.sees way.gives way.current way.settled way.waits way.come;
+        reads = way.reads;
+        come = step_comes way.sight way.tree way.sees way.gives way.current way.settled way.waits way.reads way.come;
       }
 
 if_left : (at : At) {A : Type 0} → A → IfLeft at A
@@ -279,13 +279,12 @@ units_last (Completes id) bound units h = omega (arith, h)
 units_last Over bound units h = refl
 
 -- what a unit makes, by what it leaves
-pub stepped : (inside : Rendering) (t : Trees Fiber) (hooks : Kept) (st : Stack) (next : At) (evaluated : ℕ) → t.current ≡ inside.trees.current
-    → ((s : Sight) (c : Cursor) → Sees inside s → ComesTo inside.trees inside.contexts inside.at c → HasLevel c → evaluated ≤ next_counts each_body s c)
+pub stepped : (inside : Rendering) (t : Trees Fiber) (hooks : Kept) (st : Stack) (next : At) (evaluated : ℕ) {count : ℕ} → evaluated ≡ count → t.current ≡ inside.trees.current
     → ((st : State) → DoneBefore inside.cut st.journal.updates → KeepsAllHooks inside.program st (kept_hooks inside.hooks) → KeepsAllHooks inside.program st (kept_hooks hooks))
     → ((s : Sight) (k : ℕ) (initials : List ℤ) → Sees inside s → GivesValues s (kept_hooks inside.hooks) k initials → GivesValues s (kept_hooks hooks) k initials)
-    → ((s : Sight) → Sees inside s → Advances s (kept_hooks inside.hooks) inside.trees inside.contexts inside.at t st next)
+    → ((s : Sight) → Sees inside s → Advances s (kept_hooks inside.hooks) inside.trees inside.contexts inside.at count t st next)
     → Stepped inside (record inside { trees = t; hooks = hooks; contexts = st; at = next; units = inside.units + 1; bodies = inside.bodies + evaluated }) evaluated
-stepped inside t hooks st next evaluated current few keeps still advances =
+stepped inside t hooks st next evaluated same current keeps still advances =
     record {
       program = refl;
       current = current;
@@ -294,10 +293,9 @@ stepped inside t hooks st next evaluated current few keeps still advances =
       resources = refl;
       units = add-one inside.units;
       bodies = refl;
-      few = few;
       keeps = keeps;
       still = still;
-      advances = advances;
+      advances = λ s sees. subst (λ n. Advances s (kept_hooks inside.hooks) inside.trees inside.contexts inside.at n t st next) (sym same) (advances s sees);
     }
 
 -- few units are left of a rendering

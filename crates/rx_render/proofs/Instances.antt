@@ -7,9 +7,9 @@ use Rattle.rx_elem.specs.Spots.{Around, at_root, Spot, spots, spots_in, around_c
 use Rattle.rx_base.specs.Awaits.{Awaits}
 use Rattle.rx_elem.specs.Elements.{Element}
 use Rattle.rx_meaning.specs.Fresh.{Sight, Contexts, Part, two_lists, shape_of}
-use Rattle.rx_meaning.specs.Cursor.{Frame, falling, Cursor, at_place, open_part, start, unit}
-use Rattle.render_laws.specs.OldNodes.{AllHave, OldHas, CursorHas}
-use Rattle.render_laws.proofs.Descent.{GoesDown, unit_has, attempt_has, start_has}
+use Rattle.rx_meaning.specs.Cursor.{Frame, falling, Cursor, at_place, open_part, arrive, start, unit}
+use Rattle.render_laws.specs.OldNodes.{AllHave, OldHas, FramesHave, CursorHas}
+use Rattle.render_laws.proofs.Descent.{GoesDown, unit_has, attempt_has, arrive_has, start_has}
 use Rattle.rx_ast.specs.Syntax.{Program}
 use Rattle.rx_meaning.specs.Settled.{Known, AllSettled, IfSettled}
 use Rattle.rx_render.specs.Mounting.{IsMountedIn, HasInstances, HasInstancesIn, SettlesWith}
@@ -94,6 +94,10 @@ module _ (tree : Option Node) where
       → CursorHas (HasInstances tree) (at_place (suc n) fs cs e o) → CursorHas (HasInstances tree) (open_part n fs (falling e o a) f)
   attempt_instances n fs s cs e o p f a shape h = attempt_has (HasInstances tree) goes_down n fs s cs e o p f a shape h
 
+  -- past a place that is done
+  pub past_instances : (n : ℕ) (fs : List Frame) (m : Option Node) → FramesHave (HasInstances tree) fs → CursorHas (HasInstances tree) (arrive n fs m)
+  past_instances n fs m h = arrive_has (HasInstances tree) goes_down n fs m h
+
 tree_instances : (tree : Option Node) → OldHas (HasInstances tree) tree
 tree_instances None = tt
 tree_instances (Some x) = node_within (Some x) at_root x (λ m h. h)
@@ -118,6 +122,9 @@ module _ (tree : Option Node) where
   pub attempt_rests : (n : ℕ) (fs : List Frame) (s : Sight) (cs : Contexts) (e : Element) (o : Option Node) (p f : Part) (a : Awaits) → shape_of s cs e o ≡ two_lists p f
       → CursorHas (SettlesWith tree) (at_place (suc n) fs cs e o) → CursorHas (SettlesWith tree) (open_part n fs (falling e o a) f)
   attempt_rests n fs s cs e o p f a shape h = attempt_has (SettlesWith tree) settles_down n fs s cs e o p f a shape h
+
+  pub past_rests : (n : ℕ) (fs : List Frame) (m : Option Node) → FramesHave (SettlesWith tree) fs → CursorHas (SettlesWith tree) (arrive n fs m)
+  past_rests n fs m h = arrive_has (SettlesWith tree) settles_down n fs m h
 
 tree_settles : (tree : Option Node) → OldHas (SettlesWith tree) tree
 tree_settles None = tt

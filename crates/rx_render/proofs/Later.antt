@@ -8,7 +8,7 @@ use Rattle.rx_elem.specs.Trees.{Node}
 use Rattle.rx_queue.specs.Journal.{Journal, Posted}
 use Rattle.rx_meaning.specs.Fresh.{Sight, default_contexts, resources_seen}
 use Rattle.rx_meaning.specs.Again.{AllOpen}
-use Rattle.rx_meaning.specs.Settled.{DoneBefore, IfSettled, known_by}
+use Rattle.rx_meaning.specs.Settled.{DoneBefore, IfReadsHold, IfSettled, known_by}
 use Rattle.rx_model.specs.State.{State, Progress}
 use Rattle.rx_model.specs.Accepting.{with_value}
 use Rattle.rx_model.specs.Committing.{sight_of}
@@ -77,6 +77,7 @@ renders_later p st later g v hooks r l keeps =
       settled = subst (IfSettled p (known_by (sight_of p later g))) (sym l.tree) (settled_later p (sight_of p st g) (sight_of p later g) l.new st.tree l.opened l.updates same.resources r.settled);
       waits = subst (IfWaitsAgain (sight_of p later g) (default_contexts p)) (sym l.tree)
           (later_waits_again (sight_of p st g) later.journal same (later_sees_without p g st later r.past l) (default_contexts p) st.tree r.waits);
+      reads = subst (IfReadsHold (default_contexts p)) (sym l.tree) r.reads;
       come = subst (λ t. HasCome (sight_of p later g) t (with_hooks v hooks)) (sym l.tree) (come_later (sight_of p st g) later.journal same st.tree v hooks r.come);
     }
 
@@ -114,6 +115,7 @@ module _ (p : Program) (st later : State) (g : Progress) (v : Rendering) (journa
         past = subst (IsPast g.cut) (sym journal) r.past;
         settled = subst (IfSettled p (known_by (sight_of p later g))) (sym tree) (subst (λ s. IfSettled p (known_by s) st.tree) sight r.settled);
         waits = subst (IfWaitsAgain (sight_of p later g) (default_contexts p)) (sym tree) (subst (λ s. IfWaitsAgain s (default_contexts p) st.tree) sight r.waits);
+        reads = subst (IfReadsHold (default_contexts p)) (sym tree) r.reads;
         come = subst (λ t. HasCome (sight_of p later g) t v) (sym tree) (subst (λ s. HasCome s st.tree v) sight r.come);
       }
 
@@ -132,5 +134,6 @@ renders_as p st g h v lanes cut r =
       past = subst (λ c. IsPast c st.journal) (sym cut) r.past;
       settled = subst (λ s. IfSettled p (known_by s) st.tree) sight r.settled;
       waits = subst (λ s. IfWaitsAgain s (default_contexts p) st.tree) sight r.waits;
+      reads = r.reads;
       come = subst (λ s. HasCome s st.tree v) sight r.come;
     }

@@ -5,7 +5,9 @@ pub mod Settled
 pub mod Later
 pub mod Starting
 pub mod Ending
+pub mod StoodNodes
 pub mod Waiting
+pub mod Idle
 pub mod Advancing
 pub mod Reaching
 pub mod Going

@@ -1,37 +1,44 @@
 -- What holds of a render in progress holds where it comes in one unit.
 use Rattle.std.specs.Prelude.{◌≡◌, ℕ, zero, suc, ◌+◌, ◌≤◌, false, List, [], ◌∷◌, Option, Some, refl}
 use Rattle.std.proofs.Common.{sym, ap, ◌∙◌, subst, arith}
+use Rattle.rx_ast.specs.Syntax.{Program}
 use Rattle.rx_check.specs.Checks.{unknowns}
 use Rattle.rx_base.specs.Awaits.{Awaits}
 use Rattle.rx_susp.specs.declared.boundary.BoundaryState.TheVariants.{Hidden}
 use Rattle.rx_elem.specs.Elements.{Element, Elements, Key, listed, boundary}
-use Rattle.rx_elem.specs.Trees.{Node, node, Forest, of_boundary}
+use Rattle.rx_elem.specs.Trees.{Node, node, Forest, of_boundary, element_of}
 use Rattle.rx_lists.specs.Shapes.{Shape}
-use Rattle.rx_meaning.specs.Fresh.{Sight, Contexts, Part, part, two_lists, shape_of, render_part, rendered, one_waits, default_contexts}
+use Rattle.rx_meaning.specs.Fresh.{Sight, Contexts, Part, part, two_lists, shape_of, render_part, rendered, made, one_waits, default_contexts}
 use Rattle.rx_meaning.specs.Levels.{PartFits}
-use Rattle.rx_meaning.specs.Cursor.{Frame, falling, Cursor, at_place, open_part, unit, is_over}
+use Rattle.rx_meaning.specs.Cursor.{Frame, falling, Cursor, at_place, open_part, arrive, unit, is_over}
 use Rattle.rx_meaning.specs.Counts.{each_body, next_counts}
+use Rattle.rx_meaning.specs.Settled.{IfReadsHold, IfSettled, known_by}
 use Rattle.rx_meaning.proofs.Depths.{shape_fits}
+use Rattle.commit_laws.specs.Idle.{IsIdle}
 use Rattle.commit_laws.specs.WaitsAgain.{IfWaitsAgain}
 use Rattle.render_laws.specs.InProgress.{InProgress}
 use Rattle.render_laws.specs.OldNodes.{CursorHas}
-use Rattle.render_laws.proofs.GoingLaws.{unit_holds, attempt_holds}
+use Rattle.render_laws.proofs.GoingLaws.{unit_holds, attempt_holds, take_holds}
 use Rattle.draw_laws.specs.Cursors.{CursorDrawn}
 use Rattle.rx_fiber.specs.Fibers.{Fiber}
-use Rattle.rx_fiber.specs.Reading.{IsTreeOf}
+use Rattle.rx_links.specs.Readers.{IsLinked}
+use Rattle.rx_fiber.specs.Reading.{IsOld, IsTreeOf}
+use Rattle.rx_fiber.specs.Stood.{StoodAt}
 use Rattle.rx_fiber.specs.Surround.{given_along}
 use Rattle.rx_render.specs.Mounting.{HasInstances, SettlesWith}
 use Rattle.rx_render.specs.GivenContexts.{given_contexts, CursorGiven}
-use Rattle.rx_render.specs.Advancing.{Goes, by_unit, past_attempt}
-use Rattle.rx_render.proofs.Contexts.{unit_given, attempt_given}
-use Rattle.rx_render.proofs.Instances.{unit_instances, attempt_instances, unit_rests, attempt_rests}
+use Rattle.rx_render.specs.Advancing.{Goes, by_unit, past_attempt, past_subtree}
+use Rattle.rx_render.proofs.Contexts.{unit_given, attempt_given, arrive_given}
+use Rattle.rx_render.proofs.Idle.{idle_here}
+use Rattle.rx_render.proofs.Instances.{unit_instances, attempt_instances, past_instances, unit_rests, attempt_rests, past_rests}
 use Rattle.rx_render.proofs.Waiting.{waits_here}
 
--- how a unit draws, and an attempt that is skipped
+-- how a unit draws, an attempt that is skipped, and a subtree that is taken over
 pub record DrawsOn : Type 0 where
   pub unit : (s : Sight) (c : Cursor) → unknowns s.program ≡ [] → CursorDrawn s.program c → CursorDrawn s.program (unit s c)
   pub attempt : (s : Sight) (n : ℕ) (fs : List Frame) (cs : Contexts) (e : Element) (o : Option Node) (q f : Part) (a : Awaits) → unknowns s.program ≡ []
       → shape_of s cs e o ≡ two_lists q f → CursorDrawn s.program (at_place (suc n) fs cs e o) → CursorDrawn s.program (open_part n fs (falling e o a) f)
+  pub subtree : (p : Program) (n : ℕ) (fs : List Frame) (cs : Contexts) (e : Element) (x : Node) → CursorDrawn p (at_place n fs cs e (Some x)) → CursorDrawn p (arrive n fs (Some x))
 
 -- what holds at a cursor of a render over this tree, after so many units and bodies
 pub record Reaches (s : Sight) (tree : Option Node) (units bodies : ℕ) (c : Cursor) : Type 0 where
@@ -41,8 +48,8 @@ pub record Reaches (s : Sight) (tree : Option Node) (units bodies : ℕ) (c : Cu
   pub olds : CursorHas (HasInstances tree) c
   pub rests : CursorHas (SettlesWith tree) c
 
-module _ (s : Sight) (tree : Option Node) (current : Shape Fiber) (is : IsTreeOf tree current) (waits : IfWaitsAgain s (default_contexts s.program) tree) (draws : DrawsOn) (known : unknowns s.program ≡ [])
-    (units bodies evaluated : ℕ) where
+module _ (s : Sight) (tree : Option Node) (current : Shape Fiber) (is : IsTreeOf tree current) (settled : IfSettled s.program (known_by s) tree)
+    (waits : IfWaitsAgain s (default_contexts s.program) tree) (reads : IfReadsHold (default_contexts s.program) tree) (draws : DrawsOn) (known : unknowns s.program ≡ []) (units bodies evaluated : ℕ) where
   -- a unit of the cursor
   unit_reaches : (c : Cursor) → Reaches s tree units bodies c → is_over c ≡ false → evaluated ≤ next_counts each_body s c → Reaches s tree (suc units) (bodies + evaluated) (unit s c)
   unit_reaches c h busy few = record {
@@ -58,10 +65,10 @@ module _ (s : Sight) (tree : Option Node) (current : Shape Fiber) (is : IsTreeOf
     abbrev old : Option Node
     old = Some (node (boundary key f es) (of_boundary (Hidden a)) ns kept)
 
-    attempt_reaches : Reaches s tree units bodies (at_place (suc n) fs cs (boundary key f es) old) → evaluated ≤ 0 → render_part (rendered n s) (part cs (listed es) ns) ≡ one_waits a
+    attempt_reaches : Reaches s tree units bodies (at_place (suc n) fs cs (boundary key f es) old) → evaluated ≡ 0 → render_part (rendered n s) (part cs (listed es) ns) ≡ one_waits a
         → Reaches s tree (suc units) (bodies + evaluated) (open_part n fs (falling (boundary key f es) old a) (part cs (f ∷ []) kept))
-    attempt_reaches h few waited =
-        let same : bodies ≡ bodies + evaluated = omega (arith, few) in
+    attempt_reaches h none waited =
+        let same : bodies ≡ bodies + evaluated = omega (arith, none) in
         record {
           goes = subst (λ b. InProgress s tree (suc units) b (open_part n fs (falling (boundary key f es) old a) (part cs (f ∷ []) kept))) same
               (attempt_holds s tree units bodies n fs cs (boundary key f es) old (part cs (listed es) ns) (part cs (f ∷ []) kept) a refl waited h.goes);
@@ -74,14 +81,43 @@ module _ (s : Sight) (tree : Option Node) (current : Shape Fiber) (is : IsTreeOf
     fits_below : InProgress s tree units bodies (at_place (suc n) fs cs (boundary key f es) old) → PartFits n s.program (part cs (listed es) ns)
     fits_below h = (shape_fits n s cs (boundary key f es) old h.fits.0).0
 
+  -- a subtree that is taken over
+  module _ (n : ℕ) (fs : List Frame) (cs : Contexts) (x : Node) where
+    subtree_reaches : (e : Element) → Reaches s tree units bodies (at_place (suc n) fs cs e (Some x)) → evaluated ≡ 0 → rendered (suc n) s cs e (Some x) ≡ made x
+        → Reaches s tree (suc units) (bodies + evaluated) (arrive (suc n) fs (Some x))
+    subtree_reaches e h none again =
+        let same : bodies ≡ bodies + evaluated = omega (arith, none) in
+        record {
+          goes = subst (λ b. InProgress s tree (suc units) b (arrive (suc n) fs (Some x))) same (take_holds s tree units bodies (suc n) fs cs e x again h.goes);
+          drawn = draws.subtree s.program (suc n) fs cs e x h.drawn;
+          given = arrive_given (default_contexts s.program) (suc n) fs (Some x) h.given.1;
+          olds = past_instances tree (suc n) fs (Some x) h.olds.1;
+          rests = past_rests tree (suc n) fs (Some x) h.rests.1;
+        }
+
+    idle_again : (o : Option ℕ) → IsLinked current → StoodAt current (given_along fs) o → IsOld current o (Some x) → IsIdle s x
+        → Reaches s tree units bodies (at_place (suc n) fs cs (element_of x) (Some x)) → rendered (suc n) s cs (element_of x) (Some x) ≡ made x
+    idle_again o linked stood was idle h =
+        let base = default_contexts s.program in
+        let here : cs ≡ given_contexts base (given_along fs) = h.given.0 in
+        subst (λ l. rendered (suc n) s l (element_of x) (Some x) ≡ made x) (sym here)
+        (idle_here s current linked base tree is reads (given_along fs) o x stood was (suc n) (h.rests.0 s.program (known_by s) settled) idle h.goes.fits.0)
+
+    idle_reaches : (e : Element) (o : Option ℕ) → element_of x ≡ e → IsLinked current → StoodAt current (given_along fs) o → IsOld current o (Some x) → IsIdle s x
+        → Reaches s tree units bodies (at_place (suc n) fs cs e (Some x)) → evaluated ≡ 0 → Reaches s tree (suc units) (bodies + evaluated) (arrive (suc n) fs (Some x))
+    idle_reaches e o same linked stood was idle h none =
+        let at : Reaches s tree units bodies (at_place (suc n) fs cs (element_of x) (Some x)) = subst (λ f. Reaches s tree units bodies (at_place (suc n) fs cs f (Some x))) (sym same) h in
+        subtree_reaches (element_of x) at none (idle_again o linked stood was idle at)
+
   -- so it is where the render comes in one unit
-  pub reaches : (c d : Cursor) → Goes s current c d → Reaches s tree units bodies c → is_over c ≡ false → evaluated ≤ next_counts each_body s c → Reaches s tree (suc units) (bodies + evaluated) d
-  reaches c _ by_unit h busy few = unit_reaches c h busy few
-  reaches _ _ (past_attempt {n = n} {fs = fs} {cs = cs} {key = key} {f = f} {es = es} {a = a} {ns = ns} {kept = kept} {o = o} linked stood was unresolved agree) h busy few =
+  pub reaches : (c d : Cursor) → Goes s current evaluated c d → Reaches s tree units bodies c → is_over c ≡ false → Reaches s tree (suc units) (bodies + evaluated) d
+  reaches c _ (by_unit few) h busy = unit_reaches c h busy few
+  reaches _ _ (past_attempt {n = n} {fs = fs} {cs = cs} {key = key} {f = f} {es = es} {a = a} {ns = ns} {kept = kept} {o = o} none linked stood was unresolved agree) h busy =
       let base = default_contexts s.program in
       let here : cs ≡ given_contexts base (given_along fs) = h.given.0 in
       let fits = fits_below n fs cs key f es a ns kept h.goes in
       let waited : render_part (rendered n s) (part cs (listed es) ns) ≡ one_waits a =
       subst (λ l. render_part (rendered n s) (part l (listed es) ns) ≡ one_waits a) (sym here)
       (waits_here current linked s base tree is waits (given_along fs) o key f es a ns kept stood was unresolved agree n fits) in
-      attempt_reaches n fs cs key f es a ns kept h few waited
+      attempt_reaches n fs cs key f es a ns kept h none waited
+  reaches _ _ (past_subtree {n = n} {fs = fs} {cs = cs} {e = e} {x = x} {o = o} none linked stood was same idle) h busy = idle_reaches n fs cs x e o same linked stood was idle h none

@@ -102,6 +102,7 @@ start_renders lanes cut resources old new r draws bounded st is =
       past = record { updates = omega arith; resolutions = omega arith };
       settled = is.settled;
       waits = is.waits;
+      reads = is.reads;
       come = record {
         cursor = start s st.tree;
         comes = rw (r.at, r.contexts_are) (comes_to_start s st.tree new.trees r.id r.value tree (root_waits old.program new.trees.current st.tree r.value r.cloned tree is.rooted r.place r.element r.stage r.clones) r.here);

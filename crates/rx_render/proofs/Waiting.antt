@@ -1,14 +1,12 @@
 -- A hidden boundary waits again, where the current fiber stands that a clone was made for.
-use Rattle.std.specs.Prelude.{◌≡◌, ℕ, ℤ, zero, suc, Bool, true, false, List, [], ◌∷◌, Option, Some, None, option_map, refl}
-use Rattle.std.proofs.Common.{sym, ap, ◌∙◌, subst}
+use Rattle.std.specs.Prelude.{◌≡◌, ℕ, ℤ, Bool, true, false, List, ◌∷◌, Option, Some, None}
+use Rattle.std.proofs.Common.{sym, ap, subst}
 use Rattle.rx_base.specs.Awaits.{Awaits}
 use Rattle.rx_susp.specs.declared.boundary.BoundaryState.TheVariants.{Hidden}
 use Rattle.rx_elem.specs.Elements.{Element, Elements, Key, listed, boundary}
-use Rattle.rx_elem.specs.Elements as elements
-use Rattle.rx_elem.specs.Trees.{Mark, of_boundary, Node, node, Forest, none, vacant, child, forest, is_hidden, mark_of, children_of, fallback_of, element_of}
-use Rattle.rx_elem.specs.Compare.{node_at}
-use Rattle.rx_lists.specs.Shapes.{Shape, first}
-use Rattle.rx_links.specs.Readers.{IsLinked, list_from, value_of, value_in}
+use Rattle.rx_elem.specs.Trees.{of_boundary, Node, node, Forest, none, vacant, child, is_hidden, mark_of, children_of, element_of}
+use Rattle.rx_lists.specs.Shapes.{Shape}
+use Rattle.rx_links.specs.Readers.{IsLinked}
 use Rattle.rx_meaning.specs.Again.{AllValuesAgree, AreUnresolved}
 use Rattle.rx_meaning.specs.Fresh.{Sight, Contexts, part, render_part, rendered, one_waits}
 use Rattle.rx_meaning.specs.Levels.{PartFits}
@@ -17,137 +15,49 @@ use Rattle.rx_meaning.specs.Touched.{contexts_below}
 use Rattle.commit_laws.specs.WaitsAgain.{without_lanes, OwnWaitsAgain, WaitsAgain, AllWaitAgain, IfWaitsAgain}
 use Rattle.end_laws.specs.Trimmed.{trimmed, trimmed_in}
 use Rattle.end_laws.proofs.Rendered.{waits_same, values_same}
-use Rattle.rx_fiber.specs.Fibers.{Fiber, Stage, waiting, begun, trying, fallback}
-use Rattle.rx_fiber.specs.OldLists.{hides_in, primary_list, fallback_list, fiber_at}
-use Rattle.rx_fiber.specs.Reading.{IsFor, whole, alone, beside, AreFor, next, IsOld, new, of, IsTreeOf}
-use Rattle.rx_fiber.specs.Stood.{given_more, StoodAt, at_root, below, in_fallback}
-use Rattle.rx_fiber.proofs.Matching.{old_at}
-use Rattle.rx_fiber.proofs.OldLists.{primary_is, fallback_is}
-use Rattle.rx_fiber.proofs.Starting.{root_old}
-use Rattle.rx_begin.specs.Nodes.{begun_mark}
-use Rattle.rx_begin.proofs.Keeping.{stood_in}
-use Rattle.rx_begin.proofs.Marks.{mark_is}
-use Rattle.rx_read.proofs.Trims.{places_are}
-use Rattle.rx_read.specs.Places.{places_in}
+use Rattle.render_laws.specs.OldNodes.{AllHave, OldHas}
+use Rattle.rx_fiber.specs.Fibers.{Fiber}
+use Rattle.rx_fiber.specs.Reading.{IsOld, IsTreeOf}
+use Rattle.rx_fiber.specs.Stood.{StoodAt}
 use Rattle.rx_render.specs.GivenContexts.{given_contexts}
+use Rattle.rx_render.proofs.StoodNodes.{HandsDown, same_trimmed, stood_has}
 
--- The fibers of one node
-
-first_place : (n : ℕ) (x : Node) (s rest : Shape Fiber) → IsFor n x s rest → option_map (λ v. v.place) (value_in (Some s)) ≡ Some n
-first_place n _ _ rest (whole is shown a) = ap Some is.at
-first_place n _ _ rest (alone is hidden gone a) = ap Some is.at
-first_place n _ _ rest (beside is hidden some a s b) = ap Some is.at
-
--- they stand for nodes that differ at the ends of lists alone
-same_trimmed : (c : Shape Fiber) (o : Option ℕ) (x y : Node) → IsOld c o (Some x) → IsOld c o (Some y) → trimmed x ≡ trimmed y
-same_trimmed c _ x y (of {n = n} {ns = ns} {s = s} here leads (next {rest = rest} is a)) (of {n = m} {ns = ms} {s = t} there begins (next {rest = later} it b)) =
-    let same : s ≡ t = (let f : Some s ≡ Some t = sym here ∙ there in cc) in
-    let place : n ≡ m = (let f : Some n ≡ Some m = sym (first_place n x s rest is) ∙ (ap (λ l. option_map (λ v. v.place) (value_in (Some l))) same ∙ first_place m y t later it) in cc) in
-    let f : child (trimmed x) (trimmed_in ns) ≡ child (trimmed y) (trimmed_in ms) =
-    sym (places_are n (child x ns) s (next is a)) ∙ (ap (λ k. forest (places_in k s)) place ∙ (ap (λ l. forest (places_in m l)) same ∙ places_are m (child y ms) t (next it b))) in
-    cc
-
-no_fiber : (c : Shape Fiber) (i : ℕ) → IsOld c (Some i) None → ⊥
-no_fiber c i h = by_option (Some i) None refl refl h
-  where
-    by_option : (o : Option ℕ) (x : Option Node) → o ≡ Some i → x ≡ None → IsOld c o x → ⊥
-    by_option _ _ e f new = let q : ⊥ = cc in q
-    by_option _ _ e f (of here leads a) = let q : ⊥ = cc in q
-
--- What a fiber tells of its node
-
-hides_as : (v : Stage) (m : Mark) → begun_mark v ≡ Some m → hides_in v ≡ is_hidden m
-hides_as (waiting c) m h = cc
-hides_as (begun k) m h = let q : k ≡ m = cc in ap is_hidden q
-hides_as trying m h = cc
-hides_as (fallback a) m h = cc
-
--- the contexts below a node
-below_given : (base : Contexts) (e : Element) (ws : List (ℕ × ℤ)) → contexts_below e (given_contexts base ws) ≡ given_contexts base (given_more e ws)
-below_given base elements.null ws = refl
-below_given base (elements.text t) ws = refl
-below_given base (elements.host n k attrs es) ws = refl
-below_given base (elements.comp c k ps es) ws = refl
-below_given base (elements.list es) ws = refl
-below_given base (elements.boundary k f es) ws = refl
-below_given base (elements.provider c k x es) ws = refl
-
-not_hidden : (A B : Type 0) (b : Bool) → IfHidden b A B → b ≡ false → B
+pub not_hidden : (A B : Type 0) (b : Bool) → IfHidden b A B → b ≡ false → B
 not_hidden A B true h e = cc
 not_hidden A B false h e = h
 
--- the trees at places of a list
-got_waits : (s : Sight) (cs : Contexts) (ns : Forest) (p : ℕ) (y : Node) → AllWaitAgain s cs ns → node_at ns p ≡ Some y → WaitsAgain s cs y
-got_waits s cs none p y h e = let q : ⊥ = cc in absurd q
-got_waits s cs (vacant ns) zero y h e = let q : ⊥ = cc in absurd q
-got_waits s cs (vacant ns) (suc p) y h e = got_waits s cs ns p y h e
-got_waits s cs (child x ns) zero y h e = let q : x ≡ y = cc in subst (WaitsAgain s cs) q h.0
-got_waits s cs (child x ns) (suc p) y h e = got_waits s cs ns p y h.1 e
+each_waits : (s : Sight) (cs : Contexts) (ns : Forest) → AllWaitAgain s cs ns → AllHave (WaitsAgain s cs) ns
+each_waits s cs none h = tt
+each_waits s cs (vacant ns) h = each_waits s cs ns h
+each_waits s cs (child x ns) h = (h.0, each_waits s cs ns h.1)
 
-module _ (c : Shape Fiber) (linked : IsLinked c) (s : Sight) (base : Contexts) where
-  -- a node of the current fiber whose hidden boundaries wait again
-  pub record NodeWaits (ws : List (ℕ × ℤ)) (o : Option ℕ) : Type 0 where
-    pub node_is : Node
-    pub is : IsOld c o (Some node_is)
-    pub waits : WaitsAgain s (given_contexts base ws) node_is
+waits_down : (s : Sight) → HandsDown (WaitsAgain s)
+waits_down s =
+    record {
+      children = λ cs e m ns fs h shows. each_waits s (contexts_below e cs) ns (not_hidden (Unit {0}) (AllWaitAgain s (contexts_below e cs) ns) (is_hidden m) h.1 shows);
+      fallbacks = λ cs e m ns fs h. each_waits s cs fs h.2;
+    }
 
-  -- it stands at a place of a list
-  at_place_of : (cs : Contexts) (ws : List (ℕ × ℤ)) (ns : Forest) (place i : ℕ) → cs ≡ given_contexts base ws → AllWaitAgain s cs ns → IsOld c (Some i) (node_at ns place) → NodeWaits ws (Some i)
-  at_place_of cs ws ns place i same h is = by_node (node_at ns place) refl is
-    where
-      by_node : (x : Option Node) → node_at ns place ≡ x → IsOld c (Some i) x → NodeWaits ws (Some i)
-      by_node None e old = absurd (no_fiber c i old)
-      by_node (Some y) e old = record { node_is = y; is = old; waits = subst (λ l. WaitsAgain s l y) same (got_waits s cs ns place y h e) }
+root_waits : (s : Sight) (cs : Contexts) (tree : Option Node) → IfWaitsAgain s cs tree → OldHas (WaitsAgain s cs) tree
+root_waits s cs None h = tt
+root_waits s cs (Some x) h = h
 
-  stage_hides : (q : ℕ) (v : Fiber) (x : Node) → IsOld c (Some q) (Some x) → value_of c q ≡ Some v → hides_in v.stage ≡ is_hidden (mark_of x)
-  stage_hides q v x is here = hides_as v.stage (mark_of x) (let f : begun_mark v.stage ≡ Some (mark_of x) = (let g = mark_is c (Some q) (Some x) is in rw here at g) in f)
+module _ (c : Shape Fiber) (linked : IsLinked c) (s : Sight) (base : Contexts) (tree : Option Node) (is : IsTreeOf tree c) (again : IfWaitsAgain s base tree) where
+  own_waits : (ws : List (ℕ × ℤ)) (key : Key) (f : Element) (es : Elements) (a : Awaits) (ns fs : Forest) (x : Node) → trimmed x ≡ trimmed (node (boundary key f es) (of_boundary (Hidden a)) ns fs)
+      → WaitsAgain s (given_contexts base ws) x → AreUnresolved s a → AllValuesAgree (without_lanes s) s ns
+      → (n : ℕ) → PartFits n s.program (part (given_contexts base ws) (listed es) ns) → render_part (rendered n s) (part (given_contexts base ws) (listed es) ns) ≡ one_waits a
+  own_waits ws key f es a ns fs (node e m ms gs) same waits unresolved agree n fits =
+      let el : e ≡ boundary key f es = ap element_of same in
+      let mark : m ≡ of_boundary (Hidden a) = ap mark_of same in
+      let ends : trimmed_in ms ≡ trimmed_in ns = ap children_of same in
+      let own : OwnWaitsAgain s (given_contexts base ws) (boundary key f es) (of_boundary (Hidden a)) ms =
+      subst (λ k. OwnWaitsAgain s (given_contexts base ws) (boundary key f es) k ms) mark (subst (λ k. OwnWaitsAgain s (given_contexts base ws) k m ms) el waits.0) in
+      waits_same n s (given_contexts base ws) (listed es) ms ns a ends (own unresolved (values_same (without_lanes s) s ns ms (sym ends) agree) n fits)
 
-  child_waits : (ws : List (ℕ × ℤ)) (q i : ℕ) (v : Fiber) (place : ℕ) → (x : Node) → IsOld c (Some q) (Some x) → WaitsAgain s (given_contexts base ws) x → value_of c q ≡ Some v
-      → hides_in v.stage ≡ false → fiber_at (primary_list (list_from c (Some q))) place ≡ Some i → NodeWaits (given_more v.element ws) (Some i)
-  child_waits ws q i v place (node e m ns fs) is waits here shown at =
-      let same : v.element ≡ e = (let f : Some v.element ≡ Some e = (let g = stood_in c (Some q) (Some (node e m ns fs)) v.element is (ap (option_map (λ w. w.element)) here) in sym g) in cc) in
-      let shows : is_hidden m ≡ false = sym (stage_hides q v (node e m ns fs) is here) ∙ shown in
-      let all : AllWaitAgain s (contexts_below e (given_contexts base ws)) ns = not_hidden (Unit {0}) (AllWaitAgain s (contexts_below e (given_contexts base ws)) ns) (is_hidden m) waits.1 shows in
-      at_place_of (contexts_below e (given_contexts base ws)) (given_more v.element ws) ns place i (below_given base e ws ∙ ap (λ f. given_contexts base (given_more f ws)) (sym same)) all
-      (subst (λ o. IsOld c o (node_at ns place)) at (old_at c linked ns (primary_list (list_from c (Some q))) (primary_is c linked (Some q) (Some (node e m ns fs)) is) place))
-
-  fallback_waits : (ws : List (ℕ × ℤ)) (q i : ℕ) (place : ℕ) → (x : Node) → IsOld c (Some q) (Some x) → WaitsAgain s (given_contexts base ws) x
-      → fiber_at (fallback_list (list_from c (Some q))) place ≡ Some i → NodeWaits ws (Some i)
-  fallback_waits ws q i place (node e m ns fs) is waits at =
-      at_place_of (given_contexts base ws) ws fs place i refl waits.2
-      (subst (λ o. IsOld c o (node_at fs place)) at (old_at c linked fs (fallback_list (list_from c (Some q))) (fallback_is c linked (Some q) (Some (node e m ns fs)) is) place))
-
-  module _ (tree : Option Node) (is : IsTreeOf tree c) (again : IfWaitsAgain s base tree) where
-    root_waits : (i : ℕ) → first c ≡ Some i → NodeWaits [] (Some i)
-    root_waits i f = by_tree tree again (subst (λ o. IsOld c o tree) f (root_old c tree is))
-      where
-        by_tree : (x : Option Node) → IfWaitsAgain s base x → IsOld c (Some i) x → NodeWaits [] (Some i)
-        by_tree None h old = absurd (no_fiber c i old)
-        by_tree (Some x) h old = record { node_is = x; is = old; waits = h }
-
-    -- where a current fiber stands, the hidden boundaries of its node wait again with the values that are given there
-    stood_waits : (ws : List (ℕ × ℤ)) (o : Option ℕ) → StoodAt c ws o → NodeWaits ws o
-    stood_waits _ _ (at_root {i = i} f) = root_waits i f
-    stood_waits _ _ (below {ws = ws} {q = q} {i = i} {v = v} place h here shown at) =
-        let n = stood_waits ws (Some q) h in child_waits ws q i v place n.node_is n.is n.waits here shown at
-    stood_waits _ _ (in_fallback {ws = ws} {q = q} {i = i} place h here hides at) =
-        let n = stood_waits ws (Some q) h in fallback_waits ws q i place n.node_is n.is n.waits at
-
-    own_waits : (ws : List (ℕ × ℤ)) (key : Key) (f : Element) (es : Elements) (a : Awaits) (ns fs : Forest) (x : Node) → trimmed x ≡ trimmed (node (boundary key f es) (of_boundary (Hidden a)) ns fs)
-        → WaitsAgain s (given_contexts base ws) x → AreUnresolved s a → AllValuesAgree (without_lanes s) s ns
-        → (n : ℕ) → PartFits n s.program (part (given_contexts base ws) (listed es) ns) → render_part (rendered n s) (part (given_contexts base ws) (listed es) ns) ≡ one_waits a
-    own_waits ws key f es a ns fs (node e m ms gs) same waits unresolved agree n fits =
-        let el : e ≡ boundary key f es = ap element_of same in
-        let mark : m ≡ of_boundary (Hidden a) = ap mark_of same in
-        let ends : trimmed_in ms ≡ trimmed_in ns = ap children_of same in
-        let own : OwnWaitsAgain s (given_contexts base ws) (boundary key f es) (of_boundary (Hidden a)) ms =
-        subst (λ k. OwnWaitsAgain s (given_contexts base ws) (boundary key f es) k ms) mark (subst (λ k. OwnWaitsAgain s (given_contexts base ws) k m ms) el waits.0) in
-        waits_same n s (given_contexts base ws) (listed es) ms ns a ends (own unresolved (values_same (without_lanes s) s ns ms (sym ends) agree) n fits)
-
-    -- The children of a hidden boundary that stands where its current fiber stands wait for what it awaits.
-    pub waits_here : (ws : List (ℕ × ℤ)) (o : Option ℕ) (key : Key) (f : Element) (es : Elements) (a : Awaits) (ns fs : Forest) → StoodAt c ws o
-        → IsOld c o (Some (node (boundary key f es) (of_boundary (Hidden a)) ns fs)) → AreUnresolved s a → AllValuesAgree (without_lanes s) s ns
-        → (n : ℕ) → PartFits n s.program (part (given_contexts base ws) (listed es) ns) → render_part (rendered n s) (part (given_contexts base ws) (listed es) ns) ≡ one_waits a
-    waits_here ws o key f es a ns fs stood old unresolved agree n fits =
-        let x = stood_waits ws o stood in
-        own_waits ws key f es a ns fs x.node_is (same_trimmed c o x.node_is (node (boundary key f es) (of_boundary (Hidden a)) ns fs) x.is old) x.waits unresolved agree n fits
+  -- The children of a hidden boundary that stands where its current fiber stands wait for what it awaits.
+  pub waits_here : (ws : List (ℕ × ℤ)) (o : Option ℕ) (key : Key) (f : Element) (es : Elements) (a : Awaits) (ns fs : Forest) → StoodAt c ws o
+      → IsOld c o (Some (node (boundary key f es) (of_boundary (Hidden a)) ns fs)) → AreUnresolved s a → AllValuesAgree (without_lanes s) s ns
+      → (n : ℕ) → PartFits n s.program (part (given_contexts base ws) (listed es) ns) → render_part (rendered n s) (part (given_contexts base ws) (listed es) ns) ≡ one_waits a
+  waits_here ws o key f es a ns fs stood old unresolved agree n fits =
+      let x = stood_has (WaitsAgain s) (waits_down s) c linked base tree is (root_waits s base tree again) ws o stood in
+      own_waits ws key f es a ns fs x.node_is (same_trimmed c o x.node_is (node (boundary key f es) (of_boundary (Hidden a)) ns fs) x.is old) x.has unresolved agree n fits

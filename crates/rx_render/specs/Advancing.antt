@@ -1,19 +1,21 @@
 -- What a unit needs and what it leaves, by the parts of a rendering.
-use Rattle.std.specs.Prelude.{◌≡◌, ℕ, suc, false, List, [], ◌∷◌, Option, Some, length}
+use Rattle.std.specs.Prelude.{◌≡◌, ◌≤◌, ℕ, suc, false, List, [], ◌∷◌, Option, Some, length}
 use Rattle.rx_base.specs.Awaits.{Awaits}
 use Rattle.rx_ast.specs.Syntax.{contexts}
 use Rattle.rx_ctx.specs.Contexts.{Stack, values_at}
 use Rattle.rx_susp.specs.declared.boundary.BoundaryState.TheVariants.{Hidden}
 use Rattle.rx_elem.specs.Elements.{Element, Elements, Key, boundary}
-use Rattle.rx_elem.specs.Trees.{Node, node, Forest, of_boundary}
+use Rattle.rx_elem.specs.Trees.{Node, node, Forest, of_boundary, element_of}
 use Rattle.rx_hooks.specs.declared.hook.Hook.{Hook}
 use Rattle.rx_lists.specs.Shapes.{Shape}
 use Rattle.rx_links.specs.Drafts.{Trees}
 use Rattle.rx_links.specs.Readers.{IsLinked}
 use Rattle.rx_meaning.specs.Again.{AllValuesAgree, AreUnresolved}
 use Rattle.rx_meaning.specs.Fresh.{Sight, Contexts, part}
-use Rattle.rx_meaning.specs.Cursor.{Frame, falling, Cursor, at_place, at_end, ended, open_part, is_null, unit, HasLevel}
+use Rattle.rx_meaning.specs.Counts.{each_body, next_counts}
+use Rattle.rx_meaning.specs.Cursor.{Frame, falling, Cursor, at_place, at_end, ended, open_part, arrive, is_null, unit, HasLevel}
 use Rattle.rx_meaning.specs.Settled.{IfSettled, known_by}
+use Rattle.commit_laws.specs.Idle.{IsIdle}
 use Rattle.commit_laws.specs.WaitsAgain.{without_lanes}
 use Rattle.rx_fiber.specs.Fibers.{Fiber}
 use Rattle.rx_fiber.specs.Reading.{IsOld}
@@ -72,21 +74,24 @@ GivesAt s kept (at_place levels fs cs e old) = GivesHooksIf s kept old × IfSett
 GivesAt s kept (at_end levels fs o done) = Unit {0}
 GivesAt s kept (ended p) = Unit {0}
 
--- Where a render comes in one unit: where the unit of its cursor comes, or past the attempt of a hidden boundary. That one stands as its current fiber does, nothing that it awaits has a value, and nothing is new for what it keeps.
-pub data Goes (s : Sight) (current : Shape Fiber) : (before after : Cursor) → Type 0 where
-  by_unit : {c : Cursor} → Goes s current c (unit s c)
+-- Where a render comes in one unit that evaluates so many bodies: where the unit of its cursor comes, past the attempt of a hidden boundary, or past a whole subtree. The last two evaluate none. The boundary stands as its current fiber does, nothing that it awaits has a value, and nothing is new for what it keeps; the subtree stands as its current fiber does, and is idle.
+pub data Goes (s : Sight) (current : Shape Fiber) (bodies : ℕ) : (before after : Cursor) → Type 0 where
+  by_unit : {c : Cursor} → bodies ≤ next_counts each_body s c → Goes s current bodies c (unit s c)
   past_attempt : {n : ℕ} {fs : List Frame} {cs : Contexts} {key : Key} {f : Element} {es : Elements} {a : Awaits} {ns kept : Forest} {o : Option ℕ}
-      → IsLinked current → StoodAt current (given_along fs) o → IsOld current o (Some (node (boundary key f es) (of_boundary (Hidden a)) ns kept))
+      → bodies ≡ 0 → IsLinked current → StoodAt current (given_along fs) o → IsOld current o (Some (node (boundary key f es) (of_boundary (Hidden a)) ns kept))
       → AreUnresolved s a → AllValuesAgree (without_lanes s) s ns
-      → Goes s current (at_place (suc n) fs cs (boundary key f es) (Some (node (boundary key f es) (of_boundary (Hidden a)) ns kept)))
+      → Goes s current bodies (at_place (suc n) fs cs (boundary key f es) (Some (node (boundary key f es) (of_boundary (Hidden a)) ns kept)))
       (open_part n fs (falling (boundary key f es) (Some (node (boundary key f es) (of_boundary (Hidden a)) ns kept)) a) (part cs (f ∷ []) kept))
+  past_subtree : {n : ℕ} {fs : List Frame} {cs : Contexts} {e : Element} {x : Node} {o : Option ℕ}
+      → bodies ≡ 0 → IsLinked current → StoodAt current (given_along fs) o → IsOld current o (Some x) → element_of x ≡ e → IsIdle s x
+      → Goes s current bodies (at_place (suc n) fs cs e (Some x)) (arrive (suc n) fs (Some x))
 
--- what the parts come to from a cursor
-pub record ComesFrom (s : Sight) (before : Trees Fiber) (c : Cursor) (after : Trees Fiber) (st : Stack) (at : At) : Type 0 where
+-- what the parts come to from a cursor, with so many bodies
+pub record ComesFrom (s : Sight) (before : Trees Fiber) (c : Cursor) (bodies : ℕ) (after : Trees Fiber) (st : Stack) (at : At) : Type 0 where
   pub next : Cursor
-  pub goes : Goes s before.current c next
+  pub goes : Goes s before.current bodies c next
   pub comes : ComesTo after st at next
 
 -- the same from each cursor that they may stand for
-abbrev pub Advances : Sight → (kept : ℕ → Option (List Hook)) → (before : Trees Fiber) → Stack → At → (after : Trees Fiber) → Stack → At → Type 0
-Advances s kept t st at new st' at' = (c : Cursor) → ComesTo t st at c → HasLevel c → GivesAt s kept c → ComesFrom s t c new st' at'
+abbrev pub Advances : Sight → (kept : ℕ → Option (List Hook)) → (before : Trees Fiber) → Stack → At → (bodies : ℕ) → (after : Trees Fiber) → Stack → At → Type 0
+Advances s kept t st at bodies new st' at' = (c : Cursor) → ComesTo t st at c → HasLevel c → GivesAt s kept c → ComesFrom s t c bodies new st' at'

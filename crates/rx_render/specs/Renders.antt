@@ -11,7 +11,7 @@ use Rattle.rx_queue.specs.Journal.{Journal, Posted, Resolution, cut_now}
 use Rattle.rx_meaning.specs.Fresh.{Sight, default_contexts, resources_seen, root_element}
 use Rattle.rx_meaning.specs.Cursor.{Cursor}
 use Rattle.rx_meaning.specs.Again.{AllOpen}
-use Rattle.rx_meaning.specs.Settled.{DoneBefore, IfSettled, known_by}
+use Rattle.rx_meaning.specs.Settled.{DoneBefore, IfReadsHold, IfSettled, known_by}
 use Rattle.rx_model.specs.State.{State, Progress}
 use Rattle.rx_model.specs.Committing.{sight_of, starting}
 use Rattle.rx_model.specs.HooksOf.{KeepsAllHooks}
@@ -69,11 +69,13 @@ pub record Renders (p : Program) (st : State) (g : Progress) (v : Rendering) : T
   pub past : IsPast g.cut st.journal
   -- the committed tree has what bodies give for what is done
   pub settled : IfSettled p (known_by (sight_of p st g)) st.tree
-  -- and its hidden boundaries wait again
+  -- its hidden boundaries wait again
   pub waits : IfWaitsAgain (sight_of p st g) (default_contexts p) st.tree
+  -- and what is shown of it read what the contexts give
+  pub reads : IfReadsHold (default_contexts p) st.tree
   pub come : HasCome (sight_of p st g) st.tree v
 
--- a render is under way: what it is over is the current tree, which is settled and whose hidden boundaries wait again, and hooks give it the values of the instances there
+-- a render is under way: what it is over is the current tree, which is settled, whose hidden boundaries wait again and whose reads hold, and hooks give it the values of the instances there
 pub record IsUnderWay (v : Rendering) : Type 0 where
   pub sight : Sight
   pub tree : Option Node
@@ -82,6 +84,7 @@ pub record IsUnderWay (v : Rendering) : Type 0 where
   pub current : IsTreeOf tree v.trees.current
   pub settled : IfSettled sight.program (known_by sight) tree
   pub waits : IfWaitsAgain sight (default_contexts sight.program) tree
+  pub reads : IfReadsHold (default_contexts sight.program) tree
   pub come : HasCome sight tree v
 
 -- what holds of each rendering: its program is accepted, and where a unit is left a render is under way
@@ -90,7 +93,7 @@ pub record IsRendering (v : Rendering) : Type 0 where
   pub bounded : IsBounded v.program
   pub under_way : IfLeft v.at (IsUnderWay v)
 
--- what a render that starts now needs: the current tree is the committed one, which is settled, has the root's element at its root and hidden boundaries that wait again, the hooks are those of its instances, the cut has all before it, and the resources are what it sees
+-- what a render that starts now needs: the current tree is the committed one, which is settled, has the root's element at its root, hidden boundaries that wait again and reads that hold, the hooks are those of its instances, the cut has all before it, and the resources are what it sees
 pub record IsStartOf (st : State) (lanes : Lanes) (cut : Cut) (resources : List (Option ℤ)) (v : Rendering) : Type 0 where
   pub current : IsTreeOf st.tree v.trees.current
   pub keeps : KeepsAllHooks v.program st (kept_hooks v.hooks)
@@ -100,6 +103,7 @@ pub record IsStartOf (st : State) (lanes : Lanes) (cut : Cut) (resources : List 
   pub settled : IfSettled v.program (known_by (sight_of v.program st (starting st lanes))) st.tree
   pub rooted : IfSome st.tree (λ x. element_of x ≡ root_element v.program)
   pub waits : IfWaitsAgain (sight_of v.program st (starting st lanes)) (default_contexts v.program) st.tree
+  pub reads : IfReadsHold (default_contexts v.program) st.tree
 
 -- a render can start
 pub record CanStart (lanes : Lanes) (cut : Cut) (resources : List (Option ℤ)) (v : Rendering) : Type 0 where

@@ -3,8 +3,7 @@ ghost use Rattle.std.specs.Prelude.{◌≡◌, ◌+◌, ◌≤◌, ℕ, ℤ, Lis
 ghost use Rattle.rx_base.specs.Awaits.{one};
 ghost use Rattle.rx_elem.specs.Trees.{Node};
 ghost use Rattle.rx_meaning.specs.Fresh.{Sight};
-ghost use Rattle.rx_meaning.specs.Cursor.{Open, Frame, Cursor, at_end, unit, unwind, HasLevel};
-ghost use Rattle.rx_meaning.specs.Counts.{each_body, next_counts};
+ghost use Rattle.rx_meaning.specs.Cursor.{Open, Frame, at_end, unit, unwind};
 ghost use Rattle.rx_meaning.specs.Settled.{DoneBefore};
 ghost use Rattle.rx_model.specs.State.{State};
 ghost use Rattle.rx_model.specs.HooksOf.{KeepsAllHooks};
@@ -20,7 +19,7 @@ ghost use Rattle.rx_render.specs.Advancing.{at_after, at_opened, CanBegin, IsRea
 use crate::at::At;
 use rx_base::{Awaits, Steps};
 use rx_begin::{Begun, Opened, Scene, begin, open_fallback, open_old_fallback};
-use rx_complete::{Next, complete, unwind_to_boundary};
+use rx_complete::{Next, complete, pass, unwind_to_boundary};
 use rx_ctx::ContextStack;
 use rx_fiber::Fiber;
 use rx_hook_store::HookStore;
@@ -103,9 +102,8 @@ fn begin_place<L: Ledger>(
     steps: &mut Steps<L>,
 ) -> Result<(At, bool), AllocError>
     requires { CanBegin scene.now (kept_hooks hooks.old) tree.old contexts.old id }
-    ensures comes { IfOk result (λ a. (s : Sight) → IsSceneOf scene.now s → Advances s (kept_hooks hooks.old) tree.old contexts.old (At.Begins id) tree.new contexts.new a.0) }
+    ensures comes { IfOk result (λ a. (s : Sight) → IsSceneOf scene.now s → Advances s (kept_hooks hooks.old) tree.old contexts.old (At.Begins id) (if a.1 then 1 else 0) tree.new contexts.new a.0) }
     ensures ticks { IfOk result (λ a. steps.new ≡ steps.old + (if a.1 then 1 else 0)) }
-    ensures few { IfOk result (λ a. (s : Sight) (c : Cursor) → IsSceneOf scene.now s → ComesTo tree.old contexts.old (At.Begins id) c → HasLevel c → (if a.1 then 1 else 0) ≤ next_counts each_body s c) }
     ensures current { tree.new.current ≡ tree.old.current }
     ensures still { (s : Sight) (k : ℕ) (initials : List ℤ) → IsSceneOf scene.now s → GivesValues s (kept_hooks hooks.old) k initials → GivesValues s (kept_hooks hooks.new) k initials }
     ensures states { (st : State) → DoneBefore scene.now.cut st.journal.updates → KeepsAllHooks scene.now.checked.now st (kept_hooks hooks.old) → KeepsAllHooks scene.now.checked.now st (kept_hooks hooks.new) }
@@ -124,13 +122,17 @@ fn begin_place<L: Ledger>(
             let opened = open_old_fallback(alloc, tree, id, awaits)?;
             Ok((at_opened(opened), evaluated))
         }
+        Begun::Taken => {
+            tree.place_facts();
+            Ok((at_after(pass(tree, id)), evaluated))
+        }
     }
 }
 
 /// Begins the place of a fiber, or completes its node, as one unit of a render. Where its body waits, what is tried around it
 /// is given up, and the fallback of the nearest boundary opens within the same unit (react.dev, Suspense); where a hidden
-/// boundary waits still, its fallback opens at once. Also answered is whether
-/// a body was evaluated.
+/// boundary waits still, its fallback opens at once, and where a subtree is taken over the render passes on to what follows it
+/// (React's bailout). Also answered is whether a body was evaluated.
 ///
 /// # Errors
 ///
@@ -145,9 +147,8 @@ pub(crate) fn advance<L: Ledger>(
     steps: &mut Steps<L>,
 ) -> Result<(At, bool), AllocError>
     requires { IsReadyAt scene.now (kept_hooks hooks.old) tree.old contexts.old at }
-    ensures comes { IfOk result (λ a. (s : Sight) → IsSceneOf scene.now s → Advances s (kept_hooks hooks.old) tree.old contexts.old at tree.new contexts.new a.0) }
+    ensures comes { IfOk result (λ a. (s : Sight) → IsSceneOf scene.now s → Advances s (kept_hooks hooks.old) tree.old contexts.old at (if a.1 then 1 else 0) tree.new contexts.new a.0) }
     ensures ticks { IfOk result (λ a. steps.new ≡ steps.old + (if a.1 then 1 else 0)) }
-    ensures few { IfOk result (λ a. (s : Sight) (c : Cursor) → IsSceneOf scene.now s → ComesTo tree.old contexts.old at c → HasLevel c → (if a.1 then 1 else 0) ≤ next_counts each_body s c) }
     ensures current { tree.new.current ≡ tree.old.current }
     ensures still { (s : Sight) (k : ℕ) (initials : List ℤ) → IsSceneOf scene.now s → GivesValues s (kept_hooks hooks.old) k initials → GivesValues s (kept_hooks hooks.new) k initials }
     ensures states { (st : State) → DoneBefore scene.now.cut st.journal.updates → KeepsAllHooks scene.now.checked.now st (kept_hooks hooks.old) → KeepsAllHooks scene.now.checked.now st (kept_hooks hooks.new) }

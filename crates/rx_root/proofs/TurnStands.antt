@@ -115,6 +115,7 @@ can_start p accepted bounded s v lanes h reached =
       settled = rw h.program sound.settled;
       rooted = rw h.program (rooted_so p s.tree carried.2.rooted);
       waits = rw h.program (starting_waits_again p bounded.shallow (few-resources p accepted) after carried lanes);
+      reads = rw h.program sound.reads;
     }
 
 left_some : (at : At) (bound units : ℕ) → 0 < units_left at bound units → IfLeft at ⊥ → ⊥

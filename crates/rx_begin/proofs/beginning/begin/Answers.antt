@@ -1,4 +1,4 @@
-use Rattle.std.proofs.Common.{sym, ap, refl, ◌∙◌, subst}
+use Rattle.std.proofs.Common.{◌≡◌, sym, ap, refl, ◌∙◌, subst}
 use Rattle.rx_begin.specs.PartsView.{parts_seen}
 use Rattle.rx_elem.specs.Trees.{instance_in}
 use Rattle.rx_links.specs.Drafts.{old_of}
@@ -8,10 +8,14 @@ use Rattle.rx_meaning.specs.Fresh.{shape_of_component}
 use Rattle.rx_begin.specs.Bodies.{HasShape}
 use Rattle.rx_begin.specs.Nodes.{mark_at}
 use Rattle.rx_begin.specs.Scenes.{TellsCalm}
+use Rattle.rx_begin.specs.Idle.{HasCauseIn}
+use Rattle.rx_ctx.specs.Contexts.{values_at}
 use Rattle.rx_begin.proofs.Keeping.{parts_here, cloned_here, no_parts}
-use Rattle.std.specs.Prelude.{true, false, not, None, option_map, option_and_then}
+use Rattle.std.specs.Prelude.{true, false, not, None, is_some, option_map, option_and_then}
 use Rattle.rx_begin.proofs.ByElement.{if_ok}
-use Rattle.rx_begin.proofs.Begins.{place_kept, place_olds, place_there, place_context, place_props, begins_body, begins_other, counts_one, made_at}
+use Rattle.rx_begin.proofs.Causes.{not_hidden}
+use Rattle.rx_begin.proofs.Taking.{taken_over}
+use Rattle.rx_begin.proofs.Begins.{place_kept, place_olds, place_tree, place_there, place_context, place_props, begins_body, begins_other, counts_one, made_at}
 use Rattle.rx_begin.proofs.beginning.begin.Goals as goal
 
 pub begin_component-requires-clause-kept : goal.begin_component-requires-clause-kept
@@ -112,3 +116,56 @@ returns-clause-anew g c v here some fresh =
 pub returns-clause-exact : goal.returns-clause-exact
 returns-clause-exact g c v here some so =
     absurd (no_parts _ (parts_here c.args.tree.now c.args.at c.value-fiber.result.now v c.in_ok-element.element None (c.value-fiber.ensures.made (made_at _ _ _ _ _ c.place_facts.ensures c.requires.place)) here (c.in_ok-element.ensures ∙ c.element.ensures) (sym c.parts_of.ensures ∙ ap (option_map parts_seen) c.in-None.is)) some)
+
+pub takes_over-requires-clause-kept : goal.takes_over-requires-clause-kept
+takes_over-requires-clause-kept g c = place_tree _ _ c.args.tree.now c.args.contexts.now c.args.at c.place_facts.ensures c.requires.place
+
+pub returns-then-takes_over-clause-begun : goal.returns-then-takes_over-clause-begun
+returns-then-takes_over-clause-begun g c s is n fs cs e old at gives settled =
+    taken_over s (kept_hooks c.args.hooks.now) c.args.tree.now c.args.contexts.now c.take_node.new.tree c.args.contexts.now c.args.at n fs cs e old c.facts.ensures.linked c.place_facts.ensures at
+    c.value-fiber.result.now c.is_cloned-cloned.result (c.value-fiber.ensures.made (made_at _ _ _ _ _ c.place_facts.ensures c.requires.place)) c.is_cloned-cloned.ensures
+    (c.takes_over.ensures.cloned c.if-takes_over.true) c.in_ok-take_node.ensures.taken c.take_node.ensures.current refl (c.takes_over.ensures.there c.if-takes_over.true)
+    (λ x was. c.takes_over.ensures.idle c.if-takes_over.true s x is was) gives
+
+pub returns-then-takes_over-clause-anew : goal.returns-then-takes_over-clause-anew
+returns-then-takes_over-clause-anew g c v here some fresh =
+    absurd
+    (let f : c.is_cloned-cloned.result ≡ false =
+    cloned_here c.args.tree.now c.args.at c.value-fiber.result.now v c.is_cloned-cloned.result false (c.value-fiber.ensures.made (made_at _ _ _ _ _ c.place_facts.ensures c.requires.place)) here c.is_cloned-cloned.ensures fresh in
+    let so : c.is_cloned-cloned.result ≡ true = c.takes_over.ensures.cloned c.if-takes_over.true in
+    let q : ⊥ = cc in q)
+
+pub returns-then-takes_over-clause-exact : goal.returns-then-takes_over-clause-exact
+returns-then-takes_over-clause-exact g c v here some so =
+    c.takes_over.ensures.calm c.if-takes_over.true
+    (c.is_component-component.ensures
+    ∙ (ap is_some (sym (parts_here c.args.tree.now c.args.at c.value-fiber.result.now v c.in_ok-element.element _ (c.value-fiber.ensures.made (made_at _ _ _ _ _ c.place_facts.ensures c.requires.place)) here (c.in_ok-element.ensures ∙ c.element.ensures) refl))
+    ∙ some))
+
+pub returns-then-takes_over-clause-tries : goal.returns-then-takes_over-clause-tries
+returns-then-takes_over-clause-tries g c v here none so again x a was is =
+    absurd (not_hidden c.args.tree.now.current (old_of c.args.tree.now.draft c.args.at) x a (c.takes_over.ensures.shown c.if-takes_over.true) was is)
+
+pub returns-in-Some-clause-causes : goal.returns-in-Some-clause-causes
+returns-in-Some-clause-causes g c =
+    if_ok c.begin_component.result _ _
+    (λ b once v here so free.
+    subst (λ component. HasCauseIn c.args.scene.now (kept_hooks c.args.hooks.now) (values_at c.args.contexts.now) component c.args.tree.now.current (old_of c.args.tree.now.draft c.args.at))
+    (c.is_component-component.ensures
+    ∙ ap is_some (sym (parts_here c.args.tree.now c.args.at c.value-fiber.result.now v c.in_ok-element.element _ (c.value-fiber.ensures.made (made_at _ _ _ _ _ c.place_facts.ensures c.requires.place)) here (c.in_ok-element.ensures ∙ c.element.ensures) refl)))
+    (c.takes_over.ensures.cause
+    (cloned_here c.args.tree.now c.args.at c.value-fiber.result.now v c.is_cloned-cloned.result true (c.value-fiber.ensures.made (made_at _ _ _ _ _ c.place_facts.ensures c.requires.place)) here c.is_cloned-cloned.ensures so)
+    c.if-takes_over.false))
+    c.begin_component.ensures.once
+
+pub returns-clause-causes : goal.returns-clause-causes
+returns-clause-causes g c v here so free =
+    subst (λ component. HasCauseIn c.args.scene.now (kept_hooks c.args.hooks.now) (values_at c.args.contexts.now) component c.args.tree.now.current (old_of c.args.tree.now.draft c.args.at))
+    (c.is_component-component.ensures
+    ∙ ap is_some (sym (parts_here c.args.tree.now c.args.at c.value-fiber.result.now v c.in_ok-element.element _ (c.value-fiber.ensures.made (made_at _ _ _ _ _ c.place_facts.ensures c.requires.place)) here (c.in_ok-element.ensures ∙ c.element.ensures) refl)))
+    (c.takes_over.ensures.cause
+    (cloned_here c.args.tree.now c.args.at c.value-fiber.result.now v c.is_cloned-cloned.result true (c.value-fiber.ensures.made (made_at _ _ _ _ _ c.place_facts.ensures c.requires.place)) here c.is_cloned-cloned.ensures so)
+    c.if-takes_over.false)
+
+pub returns-in-Some-clause-taken : goal.returns-in-Some-clause-taken
+returns-in-Some-clause-taken g c = c.begin_component.ensures.taken

@@ -37,3 +37,6 @@ returns-clause-evaluated g c s old key kids is was gives settled stood same =
     evaluated s c.args.contexts.now c.args.component c.args.props.now kids old _ c.args.tree.now c.open_body.new.tree c.args.at c.in_ok-begun-2.begun c.args.cloned
     (c.in_ok-body.ensures.body s _ kids is (sym (c.number_of-number.ensures ∙ ap number_in instance)) gives same)
     (c.in_ok-begun-2.ensures.opened c.args.contexts.now old c.args.cloned instance)
+
+pub returns-clause-taken : goal.returns-clause-taken
+returns-clause-taken g c is = sym is ∙ c.in_ok-begun-2.ensures.anew

@@ -2,7 +2,12 @@ use Rattle.std.proofs.Common.{ap, refl}
 use Rattle.rx_meaning.specs.Fresh.{shape_of_body}
 use Rattle.rx_eval.specs.Given.{body_seen}
 use Rattle.rx_begin.specs.Bodies.{waits}
+use Rattle.rx_begin.proofs.Bodies.{opened_anew}
+use Rattle.rx_begin.proofs.ByElement.{if_ok}
 use Rattle.rx_begin.proofs.body.open_body.Goals as goal
 
 pub returns-in-Wait-clause-opened : goal.returns-in-Wait-clause-opened
 returns-in-Wait-clause-opened c cs node cloned same = waits c.in-Wait.resource (ap (λ b. shape_of_body cs c.args.component node (body_seen b)) c.in-Wait.is) refl refl
+
+pub returns-in_ok-instance-in-Ready-clause-anew : goal.returns-in_ok-instance-in-Ready-clause-anew
+returns-in_ok-instance-in-Ready-clause-anew c = if_ok c.open_node.result _ _ (λ b h. opened_anew _ _ _ _ _ _ _ b h) c.open_node.ensures.opened

@@ -1,10 +1,12 @@
+use Rattle.std.specs.Prelude.{Option, option_and_then}
 use Rattle.std.proofs.Common.{sym, subst, inr, arith, IfSome}
+use Rattle.rx_elem.specs.Trees.{Mark, instance_in}
 use Rattle.rx_lists.specs.Shapes.{Holds}
 use Rattle.rx_hook_store.specs.Store.{kept_hooks}
 use Rattle.rx_fiber.proofs.OldReads.{some_held, rest_held}
 use Rattle.rx_begin.specs.Scenes.{KeepsHooks}
 use Rattle.rx_begin.specs.Hidden.{HasNews, HasNoNews}
-use Rattle.rx_begin.proofs.Still.{stage_here, each_parts, each_joins, some_joins, behind_smaller}
+use Rattle.rx_begin.proofs.Walks.{stage_here, each_parts, each_joins, some_joins, behind_smaller}
 use Rattle.rx_begin.proofs.hidden.+any_news.Goals as goal
 
 pub walking-preserved : goal.walking-preserved
@@ -21,16 +23,16 @@ walking-preserved t c =
     let behind_is = c.next_sibling-next.ensures.current held in
     let next = c.walking.next in
     let smaller = behind_smaller trees linked i held v here child child_is behind behind_is next c.in-Some.is in
-    let Quiet = HasNoNews (kept_hooks c.args.hooks.now) c.args.scene.now.lanes c.args.scene.now.cut in
+    let Quiet : Option Mark → Type 0 = (λ m. HasNoNews (kept_hooks c.args.hooks.now) c.args.scene.now.lanes c.args.scene.now.cut (option_and_then instance_in m)) in
     record {
       held = subst (λ o. IfSome o (Holds trees)) (sym behind_is) (rest_held trees linked i held);
-      kept = (each_parts trees linked i held v here child child_is behind behind_is next c.in-Some.is (KeepsHooks (kept_hooks c.args.hooks.now)) c.walking.invariant.kept).2;
+      kept = (each_parts trees linked i held v here child child_is behind behind_is next c.in-Some.is (λ m. KeepsHooks (kept_hooks c.args.hooks.now) (option_and_then instance_in m)) c.walking.invariant.kept).2;
       none = λ rest.
           c.walking.invariant.none
           (each_joins trees linked i held v here child child_is behind behind_is next c.in-Some.is Quiet
           (stage_here trees linked i held v here child child_is behind behind_is next c.in-Some.is Quiet _ c.stage.ensures (c.has_news.ensures.none c.if-has_news.false)) (c.any_news.ensures.none c.if-any_news.false) rest);
       some = λ rest.
           c.walking.invariant.some
-          (some_joins trees linked i held v here child child_is behind behind_is next c.in-Some.is (HasNews (kept_hooks c.args.hooks.now) c.args.scene.now.lanes c.args.scene.now.cut) (inr (inr rest)));
+          (some_joins trees linked i held v here child child_is behind behind_is next c.in-Some.is (λ m. HasNews (kept_hooks c.args.hooks.now) c.args.scene.now.lanes c.args.scene.now.cut (option_and_then instance_in m)) (inr (inr rest)));
       within = omega (arith, c.walking.invariant.within, smaller);
     }

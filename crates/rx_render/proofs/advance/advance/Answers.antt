@@ -9,6 +9,6 @@ complete_node-requires g c = subst (IsReadyAt c.args.scene.now (kept_hooks c.arg
 
 pub returns-in-Completes-clause-comes : goal.returns-in-Completes-clause-comes
 returns-in-Completes-clause-comes g c s sees =
-    subst (λ a. Advances s (kept_hooks c.args.hooks.now) c.args.tree.now c.args.contexts.now a c.complete_node.new.tree c.complete_node.new.contexts c.complete_node.result) (sym c.in-Completes.is)
+    subst (λ a. Advances s (kept_hooks c.args.hooks.now) c.args.tree.now c.args.contexts.now a 0 c.complete_node.new.tree c.complete_node.new.contexts c.complete_node.result) (sym c.in-Completes.is)
     (end_advances s (kept_hooks c.args.hooks.now) c.args.tree.now c.args.contexts.now c.complete_node.new.tree c.complete_node.new.contexts c.in-Completes.id c.complete_node.result
     (c.complete_node.ensures.comes s))

@@ -1,6 +1,5 @@
 use Rattle.std.specs.Prelude.{if◌then◌else◌}
-use Rattle.std.proofs.Common.{◌+◌, ◌≤◌, Bool, true, false, refl, sym, ap, ◌∙◌, subst, arith}
-use Rattle.rx_meaning.specs.Counts.{each_body, next_counts}
+use Rattle.std.proofs.Common.{◌+◌, ◌≤◌, Bool, true, false, refl, sym, ap, ◌∙◌, arith}
 use Rattle.rx_render.specs.declared.at.At.TheVariants.{Over}
 use Rattle.rx_render.specs.Rendering.{Rendering}
 use Rattle.rx_render.specs.contracts.renderer.Renderer.{the_view}
@@ -20,46 +19,34 @@ pub invariant_of-self-2 : goal.invariant_of-self-2
 invariant_of-self-2 g c =
     steps_to c.args.self.now (the_view c.self.inside) c.self.view_is c.self.invariant c.requires
     (record (the_view c.self.inside) { trees = c.advance.new.tree; hooks = c.advance.new.hooks; contexts = c.advance.new.contexts; at = c.in_ok-next.next; units = c.self.inside.units + 1; bodies = c.self.inside.bodies + c.one_if.result })
-    c.one_if.result (stepped (the_view c.self.inside) c.advance.new.tree c.advance.new.hooks c.advance.new.contexts c.in_ok-next.next c.one_if.result c.in_ok-next.ensures.current
-    (λ s d sees comes level.
-    subst (λ n. n ≤ next_counts each_body s d) (sym c.one_if.ensures)
-    (c.in_ok-next.ensures.few s d (record { program = sees.program; resources = c.deref.ensures.value ∙ sees.resources; lanes = sees.lanes; cut = sees.cut }) comes level)) c.in_ok-next.ensures.states
+    c.one_if.result (stepped (the_view c.self.inside) c.advance.new.tree c.advance.new.hooks c.advance.new.contexts c.in_ok-next.next c.one_if.result c.one_if.ensures c.in_ok-next.ensures.current c.in_ok-next.ensures.states
     (λ s k initials sees. c.in_ok-next.ensures.still s k initials (record { program = sees.program; resources = c.deref.ensures.value ∙ sees.resources; lanes = sees.lanes; cut = sees.cut }))
-    (λ s sees. c.in_ok-next.ensures.comes s (record { program = sees.program; resources = c.deref.ensures.value ∙ sees.resources; lanes = sees.lanes; cut = sees.cut }))) (record { unit = c.cursors_are_drawn.ensures.unit; attempt = c.cursors_are_drawn.ensures.skips_attempt })
+    (λ s sees. c.in_ok-next.ensures.comes s (record { program = sees.program; resources = c.deref.ensures.value ∙ sees.resources; lanes = sees.lanes; cut = sees.cut }))) (record { unit = c.cursors_are_drawn.ensures.unit; attempt = c.cursors_are_drawn.ensures.skips_attempt; subtree = c.cursors_are_drawn.ensures.takes_over })
 
 pub returns-clause-falls : goal.returns-clause-falls
 returns-clause-falls g c =
     falls c.args.self.now (the_view c.self.inside) c.self.view_is c.self.invariant c.requires
     (record (the_view c.self.inside) { trees = c.advance.new.tree; hooks = c.advance.new.hooks; contexts = c.advance.new.contexts; at = c.in_ok-next.next; units = c.self.inside.units + 1; bodies = c.self.inside.bodies + c.one_if.result })
-    c.one_if.result (stepped (the_view c.self.inside) c.advance.new.tree c.advance.new.hooks c.advance.new.contexts c.in_ok-next.next c.one_if.result c.in_ok-next.ensures.current
-    (λ s d sees comes level.
-    subst (λ n. n ≤ next_counts each_body s d) (sym c.one_if.ensures)
-    (c.in_ok-next.ensures.few s d (record { program = sees.program; resources = c.deref.ensures.value ∙ sees.resources; lanes = sees.lanes; cut = sees.cut }) comes level)) c.in_ok-next.ensures.states
+    c.one_if.result (stepped (the_view c.self.inside) c.advance.new.tree c.advance.new.hooks c.advance.new.contexts c.in_ok-next.next c.one_if.result c.one_if.ensures c.in_ok-next.ensures.current c.in_ok-next.ensures.states
     (λ s k initials sees. c.in_ok-next.ensures.still s k initials (record { program = sees.program; resources = c.deref.ensures.value ∙ sees.resources; lanes = sees.lanes; cut = sees.cut }))
-    (λ s sees. c.in_ok-next.ensures.comes s (record { program = sees.program; resources = c.deref.ensures.value ∙ sees.resources; lanes = sees.lanes; cut = sees.cut }))) (record { unit = c.cursors_are_drawn.ensures.unit; attempt = c.cursors_are_drawn.ensures.skips_attempt })
+    (λ s sees. c.in_ok-next.ensures.comes s (record { program = sees.program; resources = c.deref.ensures.value ∙ sees.resources; lanes = sees.lanes; cut = sees.cut }))) (record { unit = c.cursors_are_drawn.ensures.unit; attempt = c.cursors_are_drawn.ensures.skips_attempt; subtree = c.cursors_are_drawn.ensures.takes_over })
 
 pub returns-clause-last : goal.returns-clause-last
 returns-clause-last g c =
     last c.args.self.now (the_view c.self.inside) c.self.view_is c.self.invariant c.requires
     (record (the_view c.self.inside) { trees = c.advance.new.tree; hooks = c.advance.new.hooks; contexts = c.advance.new.contexts; at = c.in_ok-next.next; units = c.self.inside.units + 1; bodies = c.self.inside.bodies + c.one_if.result })
-    c.one_if.result (stepped (the_view c.self.inside) c.advance.new.tree c.advance.new.hooks c.advance.new.contexts c.in_ok-next.next c.one_if.result c.in_ok-next.ensures.current
-    (λ s d sees comes level.
-    subst (λ n. n ≤ next_counts each_body s d) (sym c.one_if.ensures)
-    (c.in_ok-next.ensures.few s d (record { program = sees.program; resources = c.deref.ensures.value ∙ sees.resources; lanes = sees.lanes; cut = sees.cut }) comes level)) c.in_ok-next.ensures.states
+    c.one_if.result (stepped (the_view c.self.inside) c.advance.new.tree c.advance.new.hooks c.advance.new.contexts c.in_ok-next.next c.one_if.result c.one_if.ensures c.in_ok-next.ensures.current c.in_ok-next.ensures.states
     (λ s k initials sees. c.in_ok-next.ensures.still s k initials (record { program = sees.program; resources = c.deref.ensures.value ∙ sees.resources; lanes = sees.lanes; cut = sees.cut }))
-    (λ s sees. c.in_ok-next.ensures.comes s (record { program = sees.program; resources = c.deref.ensures.value ∙ sees.resources; lanes = sees.lanes; cut = sees.cut }))) (record { unit = c.cursors_are_drawn.ensures.unit; attempt = c.cursors_are_drawn.ensures.skips_attempt })
+    (λ s sees. c.in_ok-next.ensures.comes s (record { program = sees.program; resources = c.deref.ensures.value ∙ sees.resources; lanes = sees.lanes; cut = sees.cut }))) (record { unit = c.cursors_are_drawn.ensures.unit; attempt = c.cursors_are_drawn.ensures.skips_attempt; subtree = c.cursors_are_drawn.ensures.takes_over })
     c.unit_before.result c.unit_before.ensures
 
 pub returns-clause-ticks : goal.returns-clause-ticks
 returns-clause-ticks g c =
     ticks c.args.self.now (the_view c.self.inside) c.self.view_is c.self.invariant c.requires
     (record (the_view c.self.inside) { trees = c.advance.new.tree; hooks = c.advance.new.hooks; contexts = c.advance.new.contexts; at = c.in_ok-next.next; units = c.self.inside.units + 1; bodies = c.self.inside.bodies + c.one_if.result })
-    c.one_if.result (stepped (the_view c.self.inside) c.advance.new.tree c.advance.new.hooks c.advance.new.contexts c.in_ok-next.next c.one_if.result c.in_ok-next.ensures.current
-    (λ s d sees comes level.
-    subst (λ n. n ≤ next_counts each_body s d) (sym c.one_if.ensures)
-    (c.in_ok-next.ensures.few s d (record { program = sees.program; resources = c.deref.ensures.value ∙ sees.resources; lanes = sees.lanes; cut = sees.cut }) comes level)) c.in_ok-next.ensures.states
+    c.one_if.result (stepped (the_view c.self.inside) c.advance.new.tree c.advance.new.hooks c.advance.new.contexts c.in_ok-next.next c.one_if.result c.one_if.ensures c.in_ok-next.ensures.current c.in_ok-next.ensures.states
     (λ s k initials sees. c.in_ok-next.ensures.still s k initials (record { program = sees.program; resources = c.deref.ensures.value ∙ sees.resources; lanes = sees.lanes; cut = sees.cut }))
-    (λ s sees. c.in_ok-next.ensures.comes s (record { program = sees.program; resources = c.deref.ensures.value ∙ sees.resources; lanes = sees.lanes; cut = sees.cut }))) (record { unit = c.cursors_are_drawn.ensures.unit; attempt = c.cursors_are_drawn.ensures.skips_attempt })
+    (λ s sees. c.in_ok-next.ensures.comes s (record { program = sees.program; resources = c.deref.ensures.value ∙ sees.resources; lanes = sees.lanes; cut = sees.cut }))) (record { unit = c.cursors_are_drawn.ensures.unit; attempt = c.cursors_are_drawn.ensures.skips_attempt; subtree = c.cursors_are_drawn.ensures.takes_over })
     c.args.steps.now c.advance.new.steps
     (c.in_ok-next.ensures.ticks ∙ ap (λ n. c.args.steps.now + n) (sym c.one_if.ensures))
 
@@ -75,12 +62,9 @@ pub returns-clause-onward : goal.returns-clause-onward
 returns-clause-onward g c =
     steps_on c.args.self.now (the_view c.self.inside) c.self.view_is c.self.invariant c.requires
     (record (the_view c.self.inside) { trees = c.advance.new.tree; hooks = c.advance.new.hooks; contexts = c.advance.new.contexts; at = c.in_ok-next.next; units = c.self.inside.units + 1; bodies = c.self.inside.bodies + c.one_if.result })
-    c.one_if.result (stepped (the_view c.self.inside) c.advance.new.tree c.advance.new.hooks c.advance.new.contexts c.in_ok-next.next c.one_if.result c.in_ok-next.ensures.current
-    (λ s d sees comes level.
-    subst (λ n. n ≤ next_counts each_body s d) (sym c.one_if.ensures)
-    (c.in_ok-next.ensures.few s d (record { program = sees.program; resources = c.deref.ensures.value ∙ sees.resources; lanes = sees.lanes; cut = sees.cut }) comes level)) c.in_ok-next.ensures.states
+    c.one_if.result (stepped (the_view c.self.inside) c.advance.new.tree c.advance.new.hooks c.advance.new.contexts c.in_ok-next.next c.one_if.result c.one_if.ensures c.in_ok-next.ensures.current c.in_ok-next.ensures.states
     (λ s k initials sees. c.in_ok-next.ensures.still s k initials (record { program = sees.program; resources = c.deref.ensures.value ∙ sees.resources; lanes = sees.lanes; cut = sees.cut }))
-    (λ s sees. c.in_ok-next.ensures.comes s (record { program = sees.program; resources = c.deref.ensures.value ∙ sees.resources; lanes = sees.lanes; cut = sees.cut }))) (record { unit = c.cursors_are_drawn.ensures.unit; attempt = c.cursors_are_drawn.ensures.skips_attempt })
+    (λ s sees. c.in_ok-next.ensures.comes s (record { program = sees.program; resources = c.deref.ensures.value ∙ sees.resources; lanes = sees.lanes; cut = sees.cut }))) (record { unit = c.cursors_are_drawn.ensures.unit; attempt = c.cursors_are_drawn.ensures.skips_attempt; subtree = c.cursors_are_drawn.ensures.takes_over })
 
 pub returns-in_err-next-clause-stopped : goal.returns-in_err-next-clause-stopped
 returns-in_err-next-clause-stopped g c =

@@ -1,0 +1,122 @@
+-- A clone whose old node is idle takes the old children over.
+use Rattle.std.specs.Prelude.{◌≡◌, ℕ, suc, Bool, true, false, List, Option, Some, None, IsSome, option_map}
+use Rattle.std.proofs.Common.{refl, sym, ap, ◌∙◌, subst}
+use Rattle.rx_ctx.specs.Contexts.{Stack}
+use Rattle.rx_susp.specs.declared.boundary.BoundaryState.TheVariants.{Hidden, Shown}
+use Rattle.rx_elem.specs.Elements.{Element}
+use Rattle.rx_elem.specs.Trees.{Mark, Node, element_of, is_hidden, mark_of, node, of_boundary, of_host, of_instance, plain}
+use Rattle.rx_elem.specs.Trees as trees
+use Rattle.rx_hooks.specs.declared.hook.Hook.{Hook}
+use Rattle.rx_lists.specs.Shapes.{Shape, fiber}
+use Rattle.rx_lists.specs.Shapes as shapes
+use Rattle.rx_links.specs.Drafts.{taken, made, Trees, kids_of, kids_under, list_at, old_kids, old_of, shape_or_none, taking}
+use Rattle.rx_links.specs.Places.{placed}
+use Rattle.rx_links.specs.Readers.{IsLinked, made_value_in, made_value_of}
+use Rattle.rx_meaning.specs.Cursor.{Frame, at_place}
+use Rattle.rx_meaning.specs.Fresh.{Contexts, Sight}
+use Rattle.commit_laws.specs.Idle.{IsIdle, IsIdleMark}
+use Rattle.rx_fiber.specs.Fibers.{Fiber, begun, is_cloned}
+use Rattle.rx_fiber.specs.Reading.{IsFor, whole, alone, beside, IsOld, of, next}
+use Rattle.rx_fiber.specs.Surround.{IsAround}
+use Rattle.rx_fiber.specs.Standing.{StandsAt, begins}
+use Rattle.rx_fiber.proofs.OldLists.{kids_are}
+use Rattle.rx_begin.specs.Nodes.{HasStage, HasTaken, mark_at}
+use Rattle.rx_begin.specs.Scenes.{GivesHooks}
+use Rattle.rx_begin.specs.Bodies.{StoodIn}
+use Rattle.rx_begin.specs.Hidden.{ForEach}
+use Rattle.rx_begin.specs.Beginning.{GivesHooksIf, IsTakenOver}
+use Rattle.rx_begin.proofs.ByElement.{old_at}
+use Rattle.rx_begin.proofs.Falling.{took_so}
+use Rattle.rx_begin.proofs.Keeping.{clone_stood}
+use Rattle.rx_begin.proofs.Making.{KnowsPlaces}
+use Rattle.rx_begin.proofs.Marks.{mark_is}
+use Rattle.rx_begin.proofs.Standing.{clone_stands}
+
+-- The fiber
+
+module _ (t u : Trees Fiber) (p : ℕ) (knows : KnowsPlaces t) (took : u ≡ record t { draft = taking p (old_kids t p) t.draft }) (knows_u : KnowsPlaces u) where
+  -- it has the children of its old one, and gets the mark of that one
+  pub taken_so : (new : Trees Fiber) (m : Mark) → Some m ≡ mark_at t.current (old_of t.draft p) → HasStage u new p (begun m) → HasTaken t new p
+  taken_so new m mark changes k v o rs n e is =
+      let at = knows k p v o (taken shapes.none) rs e in
+      let kids : Shape Fiber = kids_under t.current o in
+      let here = took_so t u p knows took k v o rs e in
+      let there = knows_u k p v o (taken kids) rs here in
+      let same : m ≡ n = (let f : Some m ≡ Some n = mark ∙ (ap (mark_at t.current) at.old ∙ is) in cc) in
+      subst (λ l. new.draft ≡ placed k (made p (record v { stage = begun l }) o (taken kids) rs)) same
+      (ap (λ x. x.draft) (changes v (ap made_value_in there.list)) ∙ there.value (λ w. record v { stage = begun m }))
+
+-- Its node
+
+idle_mark : (s : Sight) (m : Mark) → IsIdleMark s m → is_hidden m ≡ false
+idle_mark s (of_instance i) h = refl
+idle_mark s (of_host n) h = refl
+idle_mark s (of_boundary Shown) h = refl
+idle_mark s (of_boundary (Hidden a)) h = absurd h
+idle_mark s plain h = refl
+
+idle_shown : (s : Sight) (x : Node) → IsIdle s x → is_hidden (mark_of x) ≡ false
+idle_shown s (node e m ns fs) h = idle_mark s m h.0
+
+-- with the children of the old node's fiber it stands for that node again, where that one hides nothing
+stands_again : (c : Shape Fiber) (o : Option ℕ) (x : Node) → IsLinked c → IsOld c o (Some x) → is_hidden (mark_of x) ≡ false
+    → (v : Fiber) (q : ℕ) (tail : Shape Fiber) → v.element ≡ element_of x → IsFor v.place x (fiber q (record v { stage = begun (mark_of x) }) (kids_under c o) tail) tail
+stands_again c _ _ linked (of {j = j} {n = n} {x = x} {s = s} here leads (next {rest = rest} is a)) shown v q tail same = by_fibers n x s rest is here leads shown same
+  where
+    by_fibers : (n : ℕ) (x : Node) (s rest : Shape Fiber) → IsFor n x s rest → list_at c j ≡ Some s → shapes.first s ≡ Some j → is_hidden (mark_of x) ≡ false → v.element ≡ element_of x
+        → IsFor v.place x (fiber q (record v { stage = begun (mark_of x) }) (kids_of c j) tail) tail
+    by_fibers n _ _ rest (whole {id = id} {v = w} {e = e} {m = m} {ns = ns} {ks = ks} is shown a) here leads shows same =
+        let i : id ≡ j = cc in
+        let kids : kids_of c j ≡ ks =
+        ap (kids_of c) (sym i) ∙ kids_are c id w ks rest linked (ap (λ k. shape_or_none (list_at c k)) i ∙ ap shape_or_none here) in
+        subst (λ l. IsFor v.place (node e m ns trees.none) (fiber q (record v { stage = begun m }) l tail) tail) (sym kids)
+        (whole (record { at = refl; element = same; stage = refl }) shown a)
+    by_fibers n _ _ rest (alone {m = m} is hidden gone a) here leads shows same = absurd (let q : ⊥ = cc in q)
+    by_fibers n _ _ rest (beside {m = m} is hidden some a s f) here leads shows same = absurd (let q : ⊥ = cc in q)
+
+module _ (s : Sight) (kept : ℕ → Option (List Hook)) (t : Trees Fiber) (st : Stack) (new : Trees Fiber) (st' : Stack) (p n : ℕ) (fs : List Frame) (cs : Contexts) (e : Element) (old : Option Node)
+    (linked : IsLinked t.current) (knows : KnowsPlaces t) (at : StandsAt t st (Some p) (at_place (suc n) fs cs e old)) (v : Fiber) (cloned : Bool) (value : Some v ≡ made_value_of t.draft p)
+    (cloned_is : cloned ≡ is_cloned v.stage) (so : cloned ≡ true) (took : HasTaken t new p) (current : new.current ≡ t.current) (stacks : st' ≡ st) where
+  -- from the old node
+  by_node : (x : Node) → old ≡ Some x → StoodIn (Some x) e → IsIdle s x → IsTakenOver s t new st' p fs e old
+  by_node x was stood idle =
+      let (element, stands) = clone_stands t st p n fs cs e old knows at v cloned value cloned_is so in
+      let same : element_of x ≡ e = cc in
+      elim at [
+        | begins {v = w} {o = o} {rs = rs} {k = k} here is is_old surrounds values stack ↦ (
+            let at_it = knows k p w o (taken shapes.none) rs here in
+            let its : IsOld t.current o (Some x) = subst (IsOld t.current o) was is_old in
+            record {
+              node = x;
+              was = was;
+              same = same;
+              idle = idle;
+              old_is = subst (λ q. IsOld t.current q old) (sym at_it.old) is_old;
+              stood = stands;
+              passed = record {
+                around = k;
+                value = record w { stage = begun (mark_of x) };
+                old = o;
+                kids = kids_under t.current o;
+                rest = rs;
+                here = took k w o rs (mark_of x) here (mark_is t.current o (Some x) its);
+                is_for = λ tail. stands_again t.current o x linked its (idle_shown s x idle) w p tail (is.element ∙ sym same);
+                surrounds = subst (λ c. IsAround c k w.place rs fs) (sym current) (subst (λ place. IsAround t.current k place rs fs) (sym is.at) surrounds);
+                stack = rw stacks stack;
+              };
+            })
+      ]
+
+  -- It is done.
+  pub taken_over : IsSome (mark_at t.current (old_of t.draft p)) → ((x : Node) → IsOld t.current (old_of t.draft p) (Some x) → ForEach (GivesHooks s kept) x → IsIdle s x) → GivesHooksIf s kept old
+      → IsTakenOver s t new st' p fs e old
+  taken_over there idle gives = by_old old refl
+    where
+      by_old : (o : Option Node) → old ≡ o → IsTakenOver s t new st' p fs e old
+      by_old None f =
+          absurd
+          (let g : false ≡ true = subst IsSome (mark_is t.current (old_of t.draft p) old (old_at t st p n fs cs e old knows at) ∙ ap (option_map mark_of) f) there in
+          let q : ⊥ = cc in q)
+      by_old (Some x) g =
+          by_node x g (subst (λ y. StoodIn y e) g (clone_stood t st p n fs cs e old knows at v value (sym cloned_is ∙ so)))
+          (idle x (subst (IsOld t.current (old_of t.draft p)) g (old_at t st p n fs cs e old knows at)) (subst (GivesHooksIf s kept) g gives))

@@ -1,0 +1,38 @@
+use Rattle.std.specs.Prelude.{option_and_then}
+use Rattle.std.proofs.Common.{sym, subst, inr, arith, IfSome}
+use Rattle.rx_elem.specs.Trees.{instance_in}
+use Rattle.rx_lists.specs.Shapes.{Holds}
+use Rattle.rx_hook_store.specs.Store.{kept_hooks}
+use Rattle.rx_fiber.proofs.OldReads.{some_held, rest_held}
+use Rattle.rx_begin.specs.Scenes.{KeepsHooks}
+use Rattle.rx_begin.specs.Idle.{HasCauseAt, HasNoCauseAt}
+use Rattle.rx_begin.proofs.Walks.{stage_here, each_parts, each_joins, some_joins, behind_smaller}
+use Rattle.rx_begin.proofs.idle.+any_cause.Goals as goal
+
+pub walking-preserved : goal.walking-preserved
+walking-preserved t c =
+    let trees = c.args.tree.now.current in
+    let linked = c.facts.ensures.linked in
+    let i = c.in-Some.id in
+    let held = some_held trees c.walking.next i c.walking.invariant.held c.in-Some.is in
+    let v = c.value.result.now in
+    let here = c.value.ensures.current held in
+    let child = c.first_child.result in
+    let child_is = c.first_child.ensures.current held in
+    let behind = c.next_sibling-next.result in
+    let behind_is = c.next_sibling-next.ensures.current held in
+    let next = c.walking.next in
+    let smaller = behind_smaller trees linked i held v here child child_is behind behind_is next c.in-Some.is in
+    let Free = HasNoCauseAt (kept_hooks c.args.hooks.now) c.args.scene.now.lanes c.args.scene.now.cut in
+    record {
+      held = subst (λ o. IfSome o (Holds trees)) (sym behind_is) (rest_held trees linked i held);
+      kept = (each_parts trees linked i held v here child child_is behind behind_is next c.in-Some.is (λ m. KeepsHooks (kept_hooks c.args.hooks.now) (option_and_then instance_in m)) c.walking.invariant.kept).2;
+      none = λ rest.
+          c.walking.invariant.none
+          (each_joins trees linked i held v here child child_is behind behind_is next c.in-Some.is Free
+          (stage_here trees linked i held v here child child_is behind behind_is next c.in-Some.is Free _ c.stage.ensures (c.has_cause.ensures.none c.if-has_cause.false)) (c.any_cause.ensures.none c.if-any_cause.false) rest);
+      some = λ rest.
+          c.walking.invariant.some
+          (some_joins trees linked i held v here child child_is behind behind_is next c.in-Some.is (HasCauseAt (kept_hooks c.args.hooks.now) c.args.scene.now.lanes c.args.scene.now.cut) (inr (inr rest)));
+      within = omega (arith, c.walking.invariant.within, smaller);
+    }

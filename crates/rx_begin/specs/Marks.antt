@@ -1,0 +1,28 @@
+-- What holds of the marks of some trees, and of the fibers that stand for them.
+use Rattle.std.specs.Prelude.{Option, ◌⊎◌}
+use Rattle.rx_elem.specs.Trees.{Forest, Mark, Node, child, node, none, vacant}
+use Rattle.rx_lists.specs.Shapes.{Shape, fiber}
+use Rattle.rx_lists.specs.Shapes as shapes
+use Rattle.rx_fiber.specs.Fibers.{Fiber}
+use Rattle.rx_begin.specs.Nodes.{begun_mark}
+
+-- this holds of the mark of some node of a tree
+abbrev mutual
+  pub SomeNode : (Mark → Type 0) → Node → Type 0
+  SomeNode P (node e m ns fs) = P m ⊎ (SomeNodeIn P ns ⊎ SomeNodeIn P fs)
+
+  -- the same for the trees of a list
+  pub SomeNodeIn : (Mark → Type 0) → Forest → Type 0
+  SomeNodeIn P none = ⊥
+  SomeNodeIn P (vacant ns) = SomeNodeIn P ns
+  SomeNodeIn P (child n ns) = SomeNode P n ⊎ SomeNodeIn P ns
+
+-- this holds of the mark of each fiber of a list, and of each below, if it has one
+abbrev pub EachFiber : (Option Mark → Type 0) → Shape Fiber → Type 0
+EachFiber P shapes.none = Unit {0}
+EachFiber P (fiber id v ks rs) = P (begun_mark v.stage) × EachFiber P ks × EachFiber P rs
+
+-- it holds of the mark of some fiber
+abbrev pub SomeFiber : (Option Mark → Type 0) → Shape Fiber → Type 0
+SomeFiber P shapes.none = ⊥
+SomeFiber P (fiber id v ks rs) = P (begun_mark v.stage) ⊎ (SomeFiber P ks ⊎ SomeFiber P rs)

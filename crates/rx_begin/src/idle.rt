@@ -1,0 +1,153 @@
+// What a clone's current fiber and those below it have as a cause to be rendered.
+ghost use Rattle.std.specs.Prelude.{◌≡◌, true, false, Some, IfSome, IsSome, option_and_then};
+ghost use Rattle.rx_elem.specs.Trees.{Node, instance_in};
+ghost use Rattle.rx_ctx.specs.Contexts.{values_at};
+ghost use Rattle.rx_lists.specs.Shapes.{Holds};
+ghost use Rattle.rx_links.specs.Drafts.{old_of};
+ghost use Rattle.rx_links.specs.Readers.{list_from};
+ghost use Rattle.rx_meaning.specs.Fresh.{Sight};
+ghost use Rattle.commit_laws.specs.Idle.{IsIdle};
+ghost use Rattle.rx_fiber.specs.FiberView.{stage_seen};
+ghost use Rattle.rx_node.specs.MarkView.{mark_seen};
+ghost use Rattle.rx_fiber.specs.Reading.{IsOld};
+ghost use Rattle.rx_hook_store.specs.Store.{kept_hooks};
+ghost use Rattle.rx_begin.specs.Nodes.{IsBareAt, begun_mark, keeps_children, mark_at};
+ghost use Rattle.rx_begin.specs.Scenes.{GivesHooks, IsSceneOf, KeepsHooks, TellsCalm};
+ghost use Rattle.rx_begin.specs.Marks.{EachFiber, SomeFiber};
+ghost use Rattle.rx_begin.specs.Hidden.{ForEach, ForEachFiber, instance_at};
+ghost use Rattle.rx_begin.specs.Idle.{HasCause, HasCauseAt, HasCauseIn, HasNoCause, HasNoCauseAt, KeepsTree, is_anew};
+
+use crate::body::read_anew;
+use crate::scene::Scene;
+use rx_base::Int;
+use rx_ctx::ContextStack;
+use rx_fiber::{Fiber, Stage};
+use rx_hook_store::HookStore;
+use rx_links::{FiberId, FiberTree};
+use rx_node::Mark;
+
+// Whether a node has a cause to be rendered, by its mark: its instance has work, or it is a hidden boundary.
+fn mark_has_cause(mark: &Mark, scene: &Scene, hooks: &HookStore) -> bool
+    requires { KeepsHooks (kept_hooks hooks.now) (instance_in (mark_seen mark.now)) }
+    ensures none { result ≡ false → HasNoCause (kept_hooks hooks.now) scene.now.lanes scene.now.cut (mark_seen mark.now) }
+    ensures some { result ≡ true → HasCause (kept_hooks hooks.now) scene.now.lanes scene.now.cut (mark_seen mark.now) }
+{
+    match mark {
+        Mark::Instance(instance) => match instance.number {
+            Some(number) => hooks.has_work(number, scene.lanes, scene.cut),
+            None => true,
+        },
+        Mark::Boundary(state) => state.hides(),
+        Mark::Host(_) | Mark::Plain => false,
+    }
+}
+
+// The same of the node of a fiber; a fiber that is not begun has none.
+fn has_cause(stage: &Stage, scene: &Scene, hooks: &HookStore) -> bool
+    requires { KeepsHooks (kept_hooks hooks.now) (instance_at (stage_seen stage.now)) }
+    ensures none { result ≡ false → HasNoCauseAt (kept_hooks hooks.now) scene.now.lanes scene.now.cut (begun_mark (stage_seen stage.now)) }
+    ensures some { result ≡ true → HasCauseAt (kept_hooks hooks.now) scene.now.lanes scene.now.cut (begun_mark (stage_seen stage.now)) }
+{
+    match stage {
+        Stage::Begun(mark) => mark_has_cause(mark, scene, hooks),
+        _ => false,
+    }
+}
+
+// Whether a fiber in a current list or below has a cause.
+fn any_cause(
+    tree: &FiberTree<Fiber>,
+    first: Option<FiberId>,
+    scene: &Scene,
+    hooks: &HookStore,
+) -> bool
+    requires held { IfSome first (Holds tree.now.current) }
+    requires kept { ForEachFiber (KeepsHooks (kept_hooks hooks.now)) (list_from tree.now.current first) }
+    ensures none { result ≡ false → EachFiber (HasNoCauseAt (kept_hooks hooks.now) scene.now.lanes scene.now.cut) (list_from tree.now.current first) }
+    ensures some { result ≡ true → SomeFiber (HasCauseAt (kept_hooks hooks.now) scene.now.lanes scene.now.cut) (list_from tree.now.current first) }
+{
+    tree.facts();
+    let mut next = first;
+    'walking: while let Some(id) = next {
+        if has_cause(tree.value(id).stage(), scene, hooks)
+            || any_cause(tree, tree.first_child(id), scene, hooks)
+        {
+            return true;
+        }
+        next = tree.next_sibling(id);
+    }
+    false
+}
+
+// Whether the instance of a fiber read a context that has another value here; a component's place is anew where it has none.
+fn is_anew(stage: &Stage, component: bool, contexts: &[Int]) -> bool
+    ensures { result ≡ is_anew component contexts.now (instance_at (stage_seen stage.now)) }
+{
+    match stage {
+        Stage::Begun(Mark::Instance(instance)) => read_anew(&instance.reads, contexts),
+        _ => component,
+    }
+}
+
+// Whether nothing in the tree of an old node, by its current fiber, has a cause to be rendered here.
+fn is_idle(
+    tree: &FiberTree<Fiber>,
+    old: Option<FiberId>,
+    component: bool,
+    scene: &Scene,
+    hooks: &HookStore,
+    contexts: &[Int],
+) -> bool
+    requires held { IfSome old (Holds tree.now.current) }
+    requires kept { KeepsTree (kept_hooks hooks.now) tree.now.current old }
+    ensures there { result ≡ true → IsSome (mark_at tree.now.current old) }
+    ensures shown { result ≡ true → keeps_children true (mark_at tree.now.current old) ≡ true }
+    ensures idle { result ≡ true → (s : Sight) (x : Node) → IsSceneOf scene.now s → IsOld tree.now.current old (Some x) → ForEach (GivesHooks s (kept_hooks hooks.now)) x → IsIdle s x }
+    ensures calm { result ≡ true → component ≡ true → TellsCalm scene.now (kept_hooks hooks.now) contexts.now (option_and_then instance_in (mark_at tree.now.current old)) true }
+    ensures cause { result ≡ false → HasCauseIn scene.now (kept_hooks hooks.now) contexts.now component tree.now.current old }
+{
+    tree.facts();
+    match old {
+        Some(id) => {
+            let stage = tree.value(id).stage();
+            !is_anew(stage, component, contexts)
+                && !has_cause(stage, scene, hooks)
+                && !any_cause(tree, tree.first_child(id), scene, hooks)
+        }
+        None => false,
+    }
+}
+
+/// Whether a fiber takes over the old children: it is a clone, and nothing in the tree of its old node has a cause to be
+/// rendered.
+pub(crate) fn takes_over(
+    tree: &FiberTree<Fiber>,
+    at: FiberId,
+    cloned: bool,
+    component: bool,
+    scene: &Scene,
+    hooks: &HookStore,
+    contexts: &ContextStack,
+) -> bool
+    requires bare { IsBareAt tree.now at }
+    requires kept { KeepsTree (kept_hooks hooks.now) tree.now.current (old_of tree.now.draft at) }
+    ensures cloned { result ≡ true → cloned ≡ true }
+    ensures there { result ≡ true → IsSome (mark_at tree.now.current (old_of tree.now.draft at)) }
+    ensures shown { result ≡ true → keeps_children true (mark_at tree.now.current (old_of tree.now.draft at)) ≡ true }
+    ensures idle { result ≡ true → (s : Sight) (x : Node) → IsSceneOf scene.now s → IsOld tree.now.current (old_of tree.now.draft at) (Some x) → ForEach (GivesHooks s (kept_hooks hooks.now)) x → IsIdle s x }
+    ensures calm { result ≡ true → component ≡ true → TellsCalm scene.now (kept_hooks hooks.now) (values_at contexts.now) (option_and_then instance_in (mark_at tree.now.current (old_of tree.now.draft at))) true }
+    ensures cause { cloned ≡ true → result ≡ false → HasCauseIn scene.now (kept_hooks hooks.now) (values_at contexts.now) component tree.now.current (old_of tree.now.draft at) }
+{
+    if !cloned {
+        return false;
+    }
+    tree.place_facts();
+    is_idle(
+        tree,
+        tree.alternate(at),
+        component,
+        scene,
+        hooks,
+        contexts.values(),
+    )
+}
