@@ -22,26 +22,34 @@ abbrev pub parameter_name : Parameter → Name
 parameter_name (integer x) = x
 parameter_name given_children = children_name
 
--- what is bound at a place of a body: the names that stand for values, and all names
+-- what is bound at a place of a body: the names that stand for values, and the others
 pub record Scope : Type 0 where
   pub values : List Name
-  pub names : List Name
+  pub others : List Name
 
 -- nothing is bound yet
 abbrev pub no_scope : Scope
-no_scope = record { values = []; names = [] }
+no_scope = record { values = []; others = [] }
 
 -- a name with a value
 abbrev pub bound : Scope → Name → Scope
-bound s x = record { values = s.values ++ x ∷ []; names = s.names ++ x ∷ [] }
+bound s x = record { values = s.values ++ x ∷ []; others = s.others }
 
 -- a name without one
 abbrev pub kept : Scope → Name → Scope
-kept s x = record { values = s.values; names = s.names ++ x ∷ [] }
+kept s x = record { values = s.values; others = s.others ++ x ∷ [] }
+
+-- a name is bound
+abbrev pub is_bound : Scope → Name → Bool
+is_bound s x = has_name s.values x || has_name s.others x
 
 -- a name is introduced where these names stand already
 abbrev pub introduced : List Name → Name → Mention
 introduced taken x = mention.Introduced x (has_name taken x)
+
+-- a name is introduced in a body
+abbrev pub opened : Scope → Name → Mention
+opened s x = mention.Introduced x (is_bound s x)
 
 -- a variable's mention, where these names stand for values: there is one only where it is none of them
 abbrev pub variable_mentions : (scope : List Name) → Name → List Mention
@@ -76,7 +84,7 @@ after_parameter s given_children = kept s children_name
 -- the mentions of parameters
 abbrev pub parameters_mentions : Scope → List Parameter → List Mention
 parameters_mentions s [] = []
-parameters_mentions s (x ∷ xs) = introduced s.names (parameter_name x) ∷ parameters_mentions (after_parameter s x) xs
+parameters_mentions s (x ∷ xs) = opened s (parameter_name x) ∷ parameters_mentions (after_parameter s x) xs
 
 -- what is bound behind a line of a function
 abbrev pub after_line : Scope → Line → Scope
@@ -85,7 +93,7 @@ after_line s l = bound s l.name
 -- the mentions of a function's lines
 abbrev pub lines_mentions : Scope → List Line → List Mention
 lines_mentions s [] = []
-lines_mentions s (l ∷ ls) = introduced s.names l.name ∷ (expr_mentions s.values l.value ++ lines_mentions (after_line s l) ls)
+lines_mentions s (l ∷ ls) = opened s l.name ∷ (expr_mentions s.values l.value ++ lines_mentions (after_line s l) ls)
 
 -- what is bound behind the parameters of a function
 abbrev pub function_scope : Function → Scope
@@ -94,7 +102,7 @@ function_scope f = fold bound no_scope f.parameters
 -- the mentions of a function's parameters
 abbrev pub names_mentions : Scope → List Name → List Mention
 names_mentions s [] = []
-names_mentions s (x ∷ xs) = introduced s.names x ∷ names_mentions (bound s x) xs
+names_mentions s (x ∷ xs) = opened s x ∷ names_mentions (bound s x) xs
 
 -- a function's mentions, behind its name
 abbrev pub function_mentions : Function → List Mention
@@ -106,15 +114,15 @@ function_mentions f =
 
 -- the mentions of a hook's two names
 abbrev pub pair_mentions : Scope → (first second : Name) → List Mention
-pair_mentions s x y = introduced s.names x ∷ introduced (s.names ++ x ∷ []) y ∷ []
+pair_mentions s x y = opened s x ∷ opened (bound s x) y ∷ []
 
 -- the mentions of a statement
 abbrev pub statement_mentions : Scope → Statement → List Mention
 statement_mentions s (state x y e) = pair_mentions s x y ++ expr_mentions s.values e
 statement_mentions s (reducer x y f e) = pair_mentions s x y ++ (mention.Reduction f ∷ expr_mentions s.values e)
-statement_mentions s (context x c) = introduced s.names x ∷ mention.Context c ∷ []
-statement_mentions s (use_resource x r) = introduced s.names x ∷ mention.Resource r ∷ []
-statement_mentions s (constant x e) = introduced s.names x ∷ expr_mentions s.values e
+statement_mentions s (context x c) = opened s x ∷ mention.Context c ∷ []
+statement_mentions s (use_resource x r) = opened s x ∷ mention.Resource r ∷ []
+statement_mentions s (constant x e) = opened s x ∷ expr_mentions s.values e
 statement_mentions s (effect layout label es) =
     mention.Quoted (length label) ∷ mention.Counted count.Dependencies (length es) ∷ flat_map (expr_mentions s.values) es
 
@@ -183,9 +191,9 @@ abbrev mutual
   slot_mentions s second syntax.null = []
   slot_mentions s second (syntax.words t) = mention.Quoted (length t) ∷ []
   slot_mentions s second (syntax.number_of e) = expr_mentions s.values e
-  slot_mentions s second syntax.children = mention.Children (has_name s.names children_name) ∷ []
+  slot_mentions s second syntax.children = mention.Children (is_bound s children_name) ∷ []
   slot_mentions s second (syntax.repeated i e limit item) =
-      introduced s.names i
+      opened s i
       ∷ (expr_mentions s.values e ++ (mention.Counted count.List limit ∷ slot_mentions (bound s i) false item))
   slot_mentions s second (syntax.choice c a b) =
       expr_mentions s.values c ++ (slot_mentions s second a ++ slot_mentions s second b)

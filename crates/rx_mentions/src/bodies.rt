@@ -37,7 +37,7 @@ impl<'a> Walk<'a> {
         ensures scope { OnOk result (scope.new ≡ fold after_parameter scope.old parameters.now) }
     {
         for parameter in parameters {
-            self.introduced(scope.names(), name_of(parameter))?;
+            self.opened(scope, name_of(parameter))?;
             scope.parameter(parameter)?;
         }
         Ok(())
@@ -49,7 +49,7 @@ impl<'a> Walk<'a> {
         ensures scope { OnOk result (scope.new ≡ fold bound scope.old names.now) }
     {
         for name in names {
-            self.introduced(scope.names(), name.text())?;
+            self.opened(scope, name.text())?;
             scope.bind(name)?;
         }
         Ok(())
@@ -61,7 +61,7 @@ impl<'a> Walk<'a> {
         ensures scope { OnOk result (scope.new ≡ fold after_line scope.old lines.now) }
     {
         for line in lines {
-            self.introduced(scope.names(), line.name().text())?;
+            self.opened(scope, line.name().text())?;
             self.expr(scope.values(), line.value())?;
             scope.bind(line.name())?;
         }
@@ -84,10 +84,13 @@ impl<'a> Walk<'a> {
     fn pair(&mut self, scope: &Scope, name: &'a Name, setter: &'a Name) -> Result<(), AllocError>
         ensures { OnOk result (self.new ≡ self.old ++ pair_mentions scope.now name.now setter.now) }
     {
-        self.introduced(scope.names(), name.text())?;
-        let again = scope.names().contains(setter.text()) || setter.text() == name.text();
-        let name = setter.text();
-        self.note(MentionKind::Introduced { again, name })
+        self.opened(scope, name.text())?;
+        let (first, second) = (name.text(), setter.text());
+        let again = scope.contains(second) || second == first;
+        self.note(MentionKind::Introduced {
+            again,
+            name: second,
+        })
     }
 
     /// Notes a function that reduces a state.
@@ -138,15 +141,15 @@ impl<'a> Walk<'a> {
                 self.expr(scope.values(), initial)
             }
             StatementKind::Context { name, source } => {
-                self.introduced(scope.names(), name.text())?;
+                self.opened(scope, name.text())?;
                 self.context(source)
             }
             StatementKind::Resource { name, resource } => {
-                self.introduced(scope.names(), name.text())?;
+                self.opened(scope, name.text())?;
                 self.resource(resource)
             }
             StatementKind::Constant { name, value } => {
-                self.introduced(scope.names(), name.text())?;
+                self.opened(scope, name.text())?;
                 self.expr(scope.values(), value)
             }
             StatementKind::Effect {

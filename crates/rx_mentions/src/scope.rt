@@ -7,11 +7,11 @@ use rx_names::BorrowedNames;
 use std::alloc::{AllocError, Global};
 use std::marker::Model;
 
-/// What is bound at a place of a body: the names that stand for values, and all names. It borrows the program.
+/// What is bound at a place of a body: the names that stand for values, and the others. It borrows the program.
 #[derive(Drop)]
 pub struct Scope<'a> {
     values: BorrowedNames<'a>,
-    names: BorrowedNames<'a>,
+    others: BorrowedNames<'a>,
 }
 
 impl<'a> Model for Scope<'a> {
@@ -19,11 +19,11 @@ impl<'a> Model for Scope<'a> {
 
     ghost Value = { Bound };
 
-    ghost view = { λ s. record { values = s.values; names = s.names } };
+    ghost view = { λ s. record { values = s.values; others = s.others } };
 }
 
 impl<'a> Scope<'a> {
-    ghost use Rattle.rx_mentions.specs.Mentions.{no_scope, bound, kept, after_parameter, after_statement};
+    ghost use Rattle.rx_mentions.specs.Mentions.{no_scope, bound, kept, is_bound, after_parameter, after_statement};
 
     /// Nothing is bound yet.
     pub fn new(alloc: Global) -> Scope<'a>
@@ -31,7 +31,7 @@ impl<'a> Scope<'a> {
     {
         Scope {
             values: BorrowedNames::new(alloc),
-            names: BorrowedNames::new(alloc),
+            others: BorrowedNames::new(alloc),
         }
     }
 
@@ -42,34 +42,32 @@ impl<'a> Scope<'a> {
         &self.values
     }
 
-    /// All names.
-    pub fn names(&self) -> &BorrowedNames<'a>
-        ensures { result.now ≡ self.now.names }
+    /// Whether a name is bound, to a value or not.
+    pub fn contains(&self, name: &str) -> bool
+        ensures { result ≡ is_bound self.now name.now }
     {
-        &self.names
+        self.values.contains(name) || self.others.contains(name)
     }
 
     /// Binds a name that stands for a value.
     pub fn bind(&mut self, name: &'a Name) -> Result<(), AllocError>
         ensures { OnOk result (self.new ≡ bound self.old name.now) }
     {
-        self.values.push(name.text())?;
-        self.names.push(name.text())
+        self.values.push(name.text())
     }
 
     /// Binds a name that has no value.
     pub fn keep(&mut self, name: &'a str) -> Result<(), AllocError>
         ensures { OnOk result (self.new ≡ kept self.old name.now) }
     {
-        self.names.push(name)
+        self.others.push(name)
     }
 
-    /// Leaves the name that was bound last, with its value.
+    /// Leaves the name with a value that was bound last.
     pub fn leave(&mut self)
-        ensures { self.new ≡ record { values = take (length self.old.values - 1) self.old.values; names = take (length self.old.names - 1) self.old.names } }
+        ensures { self.new ≡ record self.old { values = take (length self.old.values - 1) self.old.values } }
     {
         self.values.pop();
-        self.names.pop();
     }
 
     /// Binds a parameter.

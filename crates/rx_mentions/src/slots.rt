@@ -2,10 +2,9 @@
 ghost use Rattle.std.specs.Prelude.{◌≡◌, false, List, [], ◌∷◌, ◌++◌, OnOk, IfOk, length};
 ghost use Rattle.rx_ast.specs.Syntax.{slots_of, repeated};
 ghost use Rattle.rx_ast.specs.SlotView.{key_place_of};
-ghost use Rattle.rx_rules.specs.Names.{has_name};
 ghost use Rattle.rx_rules.specs.Keys.{carries_key};
 ghost use Rattle.rx_mentions.specs.Mention as mention;
-ghost use Rattle.rx_mentions.specs.Mentions.{children_name, attributes_mentions, given_names, key_mentions, first_key_mentions, last_key_mentions, taken_first, is_filled, slot_mentions, slots_mentions};
+ghost use Rattle.rx_mentions.specs.Mentions.{is_bound, children_name, attributes_mentions, given_names, key_mentions, first_key_mentions, last_key_mentions, taken_first, is_filled, slot_mentions, slots_mentions};
 ghost use Rattle.rx_mentions.specs.Tags.{tag_mentions};
 
 use crate::count::Count;
@@ -205,9 +204,9 @@ impl<'a> Walk<'a> {
 
     /// Notes `children`.
     fn given(&mut self, scope: &Scope) -> Result<(), AllocError>
-        ensures { OnOk result (self.new ≡ self.old ++ mention.Children (has_name scope.now.names children_name) ∷ []) }
+        ensures { OnOk result (self.new ≡ self.old ++ mention.Children (is_bound scope.now children_name) ∷ []) }
     {
-        let known = scope.names().contains("children");
+        let known = scope.contains("children");
         self.note(MentionKind::Children { known })
     }
 
@@ -276,7 +275,7 @@ impl<'a> Walk<'a> {
         ensures mentions { OnOk result (self.new ≡ self.old ++ slot_mentions scope.old false (repeated repetition.now.index repetition.now.bound repetition.now.limit repetition.now.item)) }
         ensures scope { OnOk result (scope.new ≡ scope.old) }
     {
-        self.introduced(scope.names(), repetition.index.text())?;
+        self.opened(scope, repetition.index.text())?;
         self.expr(scope.values(), &repetition.bound)?;
         self.note(MentionKind::Counted {
             what: Count::List,

@@ -4,10 +4,11 @@ ghost use Rattle.rx_ast.specs.Syntax.{exprs, exprs_of};
 ghost use Rattle.rx_ast.specs.ExprView.{links_of};
 ghost use Rattle.rx_mentions.specs.Mention as mention;
 ghost use Rattle.rx_mentions.specs.MentionView.{mention_of};
-ghost use Rattle.rx_mentions.specs.Mentions.{introduced, variable_mentions, expr_mentions, links_mentions, exprs_mentions};
+ghost use Rattle.rx_mentions.specs.Mentions.{introduced, opened, variable_mentions, expr_mentions, links_mentions, exprs_mentions};
 
 use crate::count::Count;
 use crate::mention::{Mention, MentionKind};
+use crate::scope::Scope;
 use rx_ast::{Expr, ExprKind, Link};
 use rx_base::Name;
 use rx_names::BorrowedNames;
@@ -61,6 +62,14 @@ impl<'a> Walk<'a> {
         ensures { OnOk result (self.new ≡ self.old ++ introduced taken.now name.now ∷ []) }
     {
         let again = taken.contains(name);
+        self.note(MentionKind::Introduced { again, name })
+    }
+
+    /// Notes a name that is introduced in a body.
+    pub fn opened(&mut self, scope: &Scope, name: &'a str) -> Result<(), AllocError>
+        ensures { OnOk result (self.new ≡ self.old ++ opened scope.now name.now ∷ []) }
+    {
+        let again = scope.contains(name);
         self.note(MentionKind::Introduced { again, name })
     }
 

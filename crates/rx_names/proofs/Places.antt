@@ -1,5 +1,5 @@
 -- The first places of names among names with one more.
-use Rattle.std.proofs.Common.{◌≡◌, ◌<◌, ◌≤◌, ◌+◌, ◌-◌, Bool, true, false, ◌||◌, cond, List, [], ◌∷◌, ◌++◌, Option, Some, None, not, refl, sym, ap, ◌∙◌, arith, length, map}
+use Rattle.std.proofs.Common.{◌≡◌, ◌<◌, ◌≤◌, ◌+◌, ◌-◌, Bool, true, false, ◌||◌, cond, List, [], ◌∷◌, ◌++◌, Option, Some, None, refl, sym, ap, ◌∙◌, arith, length, map}
 use Rattle.std.specs.Prelude.{ℕ, suc, position, find, bytes_eq, is_some, slice_get, Result, Ok, Err, IsOk, OnOk, nat_eq}
 use Rattle.std.specs.Option.{option_eq}
 use Rattle.std.proofs.lemmas.Bool.Decides.{nat_tests}
@@ -206,10 +206,6 @@ dropped-kept get xs ys y place g q p n x =
 pub on-ok : {A E P : Type 0} (r : Result A E) → IsOk r → OnOk r P → P
 on-ok (Ok x) h k = k
 on-ok (Err e) h k = cc
-
-pub not-not : (b : Bool) → not b ≡ true → b ≡ false
-not-not true h = cc
-not-not false h = refl
 
 same-number : (m n : ℕ) → nat_eq m n ≡ true → m ≡ n
 same-number m n h = grind (arith, nat_tests, h)
