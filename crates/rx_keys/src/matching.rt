@@ -78,7 +78,7 @@ fn reused_of(alloc: Global, count: usize, places: &[Option<u32>]) -> Result<Vec<
 fn is_gone(child: &Element, reused: bool) -> bool
     ensures { result ≡ (is_present child.now && not reused) }
 {
-    child.is_present() && !reused
+    !reused && child.is_present()
 }
 
 // The places of the old children that are gone.

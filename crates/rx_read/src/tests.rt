@@ -26,3 +26,21 @@ fn numbers_and_reads_a_tree(rt: HostRuntime) -> Result<(), AllocError> {
     assert!(rt; current.is_some());
     Ok(())
 }
+
+#[test]
+fn a_fiber_that_was_taken_over_stays(rt: HostRuntime) -> Result<(), AllocError> {
+    let alloc = rt.alloc();
+    let mut tree = FiberTree::new(alloc);
+    let element = Element::new(alloc, ElementKind::List(Vec::new(alloc)))?;
+    let plain = Fiber::new(0, element.copy()?, Stage::Begun(Mark::Plain));
+    let first = tree.start(plain)?;
+    let host = Fiber::new(0, element.copy()?, Stage::Begun(Mark::Host(Some(1))));
+    let child = tree.child(first, None, host)?;
+    tree.swap();
+    let root = tree.start(Fiber::new(0, element, Stage::Begun(Mark::Plain)))?;
+    tree.take_over(root);
+    tree.swap();
+    let kept = tree.first_child(root).is_some_and(|id| id.same(child));
+    assert!(rt; kept);
+    Ok(())
+}

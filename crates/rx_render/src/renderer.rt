@@ -143,6 +143,13 @@ impl Renderer {
         &self.checked
     }
 
+    /// The two trees of fibers: the current one, and the one in progress.
+    pub fn fibers(&self) -> &FiberTree<Fiber>
+        ensures { result.now ≡ self.now.trees }
+    {
+        &self.fibers
+    }
+
     /// The hooks of the mounted instances.
     pub fn hooks(&self) -> &HookStore
         ensures { result.now ≡ self.now.hooks }
