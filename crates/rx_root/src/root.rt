@@ -1,21 +1,29 @@
 // The machine: a program, and its state between two steps.
-ghost use Rattle.std.specs.Prelude.{◌≡◌, ◌∷◌, [], true, IfOk, OnErr, OnOk};
+ghost use Rattle.std.specs.Prelude.{◌≡◌, ◌∷◌, ◌+◌, ◌*◌, ◌≤◌, [], true, None, Some, IfOk, OnErr, OnOk};
 ghost use Rattle.rx_elem.specs.Spots.{hidden_count as hidden_in, node_count};
+ghost use Rattle.rx_lists.specs.Shapes.{none, size};
+ghost use Rattle.rx_links.specs.Drafts.{made_size, taken};
+ghost use Rattle.rx_fiber.specs.Reading.{IsTreeOf};
 ghost use Rattle.rx_model.specs.State as machine;
-ghost use Rattle.rx_model.specs.State.{State, opening};
+ghost use Rattle.rx_model.specs.State.{Progress, State, opening};
+ghost use Rattle.rx_model.specs.Committing.{sight_of};
 ghost use Rattle.rx_model.specs.Laws.{ShowsEverything};
+ghost use Rattle.rx_render.specs.Renders.{HasCome};
 ghost use Rattle.run_laws.specs.Carried.{values_now};
 ghost use Rattle.rx_commit.specs.Written.{with_lines};
 ghost use Rattle.rx_root.specs.Stands.{Stands};
 
+use crate::laws::fibers_are_few;
 use end_laws::ends_are_not_read;
 use run_laws::quiet_ends;
 use rx_base::Int;
 use rx_check::Checked;
 use rx_commit::Shown;
+use rx_fiber::Fiber;
 use rx_hook_store::links_are_below;
 use rx_instances::Instances;
 use rx_lane::{Lane, Lanes};
+use rx_links::FiberTree;
 use rx_read::Numbers;
 use rx_render::Renderer;
 use rx_report::Report;
@@ -130,6 +138,28 @@ impl Root {
         self.renderer.facts();
         ends_are_not_read();
         spots::node_count(self.shown.tree())
+    }
+
+    /// The two trees of fibers (react.dev, Render and Commit): the current one stands for the committed tree, and the other one
+    /// stands where the render in progress stands, if there is one. Where there is none, there is no fiber but the current ones.
+    pub fn fibers(&self) -> &FiberTree<Fiber>
+        ensures trees { result.now ≡ self.entry.now.rendering.trees }
+        ensures current { (s : State) → Stands self.entry.now.rendering.program s self.entry.now → IsTreeOf s.tree result.now.current }
+        ensures in_progress { (s : State) (g : Progress) → Stands self.entry.now.rendering.program s self.entry.now → s.progress ≡ Some g
+            → HasCome (sight_of self.entry.now.rendering.program s g) s.tree self.entry.now.rendering }
+        ensures at_rest { (s : State) → Stands self.entry.now.rendering.program s self.entry.now → s.progress ≡ None → result.now.draft ≡ taken none }
+    {
+        self.renderer.fibers()
+    }
+
+    /// How many fibers there are, those of a render in progress too. Where no render is in progress there are at most two for each
+    /// node of the committed tree.
+    pub fn live(&self) -> u64
+        ensures live { result ≡ size self.entry.now.rendering.trees.current + made_size self.entry.now.rendering.trees.draft }
+        ensures at_rest { (s : State) → Stands self.entry.now.rendering.program s self.entry.now → s.progress ≡ None → result ≤ 2 * node_count s.tree }
+    {
+        fibers_are_few();
+        self.fibers().live()
     }
 
     /// True where no lane is pending and no boundary is hidden. Then each hook holds all its updates in the order in which they
