@@ -1,0 +1,4 @@
+pub mod Fitted
+pub mod Steps
+pub mod Counts
+pub mod Law
