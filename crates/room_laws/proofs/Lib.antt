@@ -2,3 +2,5 @@ pub mod Fitted
 pub mod Steps
 pub mod Counts
 pub mod Law
+pub mod Sizes
+pub mod Made

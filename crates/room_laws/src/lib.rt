@@ -3,4 +3,4 @@
 
 mod laws;
 
-pub use laws::cursors_have_room;
+pub use laws::{cursors_have_room, fibers_have_room};
