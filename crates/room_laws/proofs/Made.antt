@@ -1,30 +1,27 @@
 -- How many fibers are made for a render in progress.
-use Rattle.std.specs.Prelude.{◌≡◌, ℕ, ℤ, suc, ◌+◌, ◌*◌, ◌≤◌, true, false, cond, List, [], ◌∷◌, Option, Some, None, length, refl}
-use Rattle.std.proofs.Common.{arith, ap, subst, sym}
-use Rattle.std.proofs.lemmas.List.{length-append}
+use Rattle.std.specs.Prelude.{◌≡◌, ℕ, ℤ, suc, ◌+◌, ◌*◌, ◌≤◌, List, [], ◌∷◌, Option, refl}
+use Rattle.std.proofs.Common.{arith, ap}
 use Rattle.rx_ast.specs.Syntax.{Program}
 use Rattle.rx_rules.specs.Bounds.{node_bound, node_limit}
 use Rattle.rx_rules.specs.Keys.{KeysApart}
 use Rattle.rx_ctx.specs.Contexts.{Stack}
 use Rattle.rx_elem.specs.Elements.{Element}
-use Rattle.rx_elem.specs.Trees.{Node, Forest, forest, children_if}
-use Rattle.rx_elem.specs.Trees as trees
-use Rattle.rx_elem.specs.Spots.{at_root, spots, spots_in, node_count}
+use Rattle.rx_elem.specs.Trees.{Node, children_if}
 use Rattle.rx_lists.specs.Shapes.{Shape, size}
 use Rattle.rx_lists.specs.Shapes as shapes
 use Rattle.rx_links.specs.Drafts.{Draft, taken, made, made_size, Trees}
 use Rattle.rx_links.specs.Places.{Around, top, below, after, placed}
 use Rattle.rx_meaning.specs.Fresh.{Contexts, IsTree}
-use Rattle.rx_meaning.specs.Cursor.{Open, around, trying, falling, Frame, Cursor, is_null}
+use Rattle.rx_meaning.specs.Cursor.{Open, around, trying, falling, Frame, Cursor, StandsAtNode}
 use Rattle.render_laws.proofs.Bounded.{tree_within}
 use Rattle.rx_fiber.specs.Fibers.{Fiber}
-use Rattle.rx_fiber.specs.Reading.{has_node, IsTreeOf}
+use Rattle.rx_fiber.specs.Reading.{IsTreeOf}
 use Rattle.rx_fiber.specs.Surround.{AreNext, made_earlier, above_list, IsAround, IsListOf, of_node, of_fallback}
 use Rattle.rx_fiber.specs.Surround as surround
 use Rattle.rx_fiber.specs.Standing.{StandsAt, begins, completes, over}
-use Rattle.rx_fiber.proofs.Few.{node_there, some_there}
+use Rattle.rx_fiber.proofs.Few.{some_there}
 use Rattle.room_laws.specs.Reached.{IsReached}
-use Rattle.room_laws.specs.Places.{nodes_in, to_begin, open_places, places_around, places_in}
+use Rattle.room_laws.specs.Places.{to_begin, open_places, places_around, places_in}
 use Rattle.room_laws.proofs.Law.{reached_within}
 use Rattle.room_laws.proofs.Sizes.{few}
 
@@ -71,16 +68,17 @@ mutual
   list_made (of_fallback {old = old} above is within) =
       omega (arith, ap made_around above, some_there (children_if old) is.keeps, around_made within)
 
--- no more fibers are made than a render in progress has places, but for one
-pub stands_made : (t : Trees Fiber) (st : Stack) (at : Option ℕ) (c : Cursor) → StandsAt t st at c → made_size t.draft ≤ places_in c + 1
-stands_made t st _ _ (begins {p = p} {v = v} {o = o} {rs = rs} {k = k} here waits old within values stack) =
-    omega (arith, ap made_size here, made_placed k (made p v o (taken shapes.none) rs), around_made within)
-stands_made t st _ _ (completes {k = k} here done list stack) =
+-- no more fibers are made than a render in progress has places
+pub stands_made : (t : Trees Fiber) (st : Stack) (at : Option ℕ) (c : Cursor) → StandsAtNode c → StandsAt t st at c → made_size t.draft ≤ places_in c
+stands_made t st _ _ there (begins {p = p} {v = v} {o = o} {rs = rs} {k = k} {e = e} {old = was} here waits old within values stack) =
+    let one : to_begin ((e, was) ∷ []) ≡ 1 = rw there refl in
+    omega (arith, one, ap made_size here, made_placed k (made p v o (taken shapes.none) rs), around_made within)
+stands_made t st _ _ there (completes {k = k} here done list stack) =
     omega (arith, ap made_size here, made_placed k (taken shapes.none), made_above k, done.few, list_made list)
-stands_made t st _ _ (over tree less empty) = omega (arith, less)
+stands_made t st _ _ there (over tree less empty) = omega (arith, less)
 
--- so both trees have at most three fibers for each node of the bound, and one more
+-- so both trees have at most three fibers for each node of the bound
 pub both_within : (p : Program) (tree : Option Node) (t : Trees Fiber) (st : Stack) (at : Option ℕ) (c : Cursor) → KeysApart p → node_bound p ≤ node_limit → IsTree p tree
-    → IsTreeOf tree t.current → IsReached p tree c → StandsAt t st at c → size t.current + made_size t.draft ≤ 3 * node_bound p + 1
-both_within p tree t st at c apart small is current r stands =
-    omega (arith, few tree t.current current, tree_within p apart small tree is, stands_made t st at c stands, reached_within p tree c apart small is r)
+    → IsTreeOf tree t.current → IsReached p tree c → StandsAtNode c → StandsAt t st at c → size t.current + made_size t.draft ≤ 3 * node_bound p
+both_within p tree t st at c apart small is current r there stands =
+    omega (arith, few tree t.current current, tree_within p apart small tree is, stands_made t st at c there stands, reached_within p tree c apart small is r)

@@ -1,8 +1,8 @@
 -- How many fibers stand for nodes.
-use Rattle.std.specs.Prelude.{◌≡◌, ℕ, zero, suc, ◌+◌, ◌*◌, ◌≤◌, List, [], ◌∷◌, ◌++◌, Option, Some, None, length}
+use Rattle.std.specs.Prelude.{◌≡◌, ℕ, ◌+◌, ◌*◌, ◌≤◌, [], Option, Some, None, length}
 use Rattle.std.proofs.Common.{arith}
 use Rattle.std.proofs.lemmas.List.{length-append}
-use Rattle.rx_elem.specs.Trees.{Node, node, Forest, none, vacant, child}
+use Rattle.rx_elem.specs.Trees.{Node, Forest, none, child}
 use Rattle.rx_elem.specs.Spots.{Around, at_root, around_children, spots, spots_in, node_count}
 use Rattle.rx_lists.specs.Shapes.{Shape, size}
 use Rattle.rx_fiber.specs.Fibers.{Fiber}
