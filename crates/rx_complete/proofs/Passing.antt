@@ -1,5 +1,5 @@
 -- The render passes a node whose fiber took its old children over.
-use Rattle.std.specs.Prelude.{◌≡◌, ℕ, List, Option, Some}
+use Rattle.std.specs.Prelude.{◌≡◌, ℕ, List, Some}
 use Rattle.std.proofs.Common.{refl, sym, ap, ◌∙◌, subst}
 use Rattle.rx_ctx.specs.Contexts.{Stack}
 use Rattle.rx_elem.specs.Trees.{Node}

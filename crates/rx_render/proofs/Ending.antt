@@ -25,7 +25,7 @@ use Rattle.rx_render.specs.Rendering.{Rendering, IfLeft, ComesTo, to_place, to_e
 use Rattle.rx_render.specs.Renders.{HasCome, Renders}
 
 -- an end that is in progress is no wait
-no_wait : (p : Program) → IsBounded p → (s : Sight) (old : Option Node) → s.program ≡ p → (units bodies : ℕ) (a : _) → InProgress s old units bodies (ended (waits a)) → ⊥
+pub no_wait : (p : Program) → IsBounded p → (s : Sight) (old : Option Node) → s.program ≡ p → (units bodies : ℕ) (a : _) → InProgress s old units bodies (ended (waits a)) → ⊥
 unfolding gives
 no_wait p bounded s old same units bodies a h =
     let (n, e) = app_never_waits p bounded s old same in
