@@ -1,5 +1,5 @@
 -- The render passes a node whose fiber took its old children over.
-use Rattle.std.specs.Prelude.{◌≡◌, ℕ, List, Option, Some}
+use Rattle.std.specs.Prelude.{◌≡◌, ℕ, List, Some}
 use Rattle.std.proofs.Common.{refl, sym, ap, ◌∙◌, subst}
 use Rattle.rx_ctx.specs.Contexts.{Stack}
 use Rattle.rx_elem.specs.Trees.{Node}
@@ -9,7 +9,7 @@ use Rattle.rx_meaning.specs.Cursor.{Frame, arrive}
 use Rattle.rx_fiber.specs.Fibers.{Fiber}
 use Rattle.rx_fiber.specs.Passed.{IsPassed}
 use Rattle.rx_fiber.specs.Standing.{StandsAt}
-use Rattle.rx_fiber.proofs.Arriving.{arrives, one_done}
+use Rattle.rx_fiber.proofs.Arriving.{arrives, taken_done}
 use Rattle.rx_complete.specs.declared.completing.Next.{Next}
 use Rattle.rx_complete.specs.Ends.{fiber_in, next_by, next_after, LeadsTo}
 use Rattle.rx_complete.proofs.Completed.{KnowsPlaces}
@@ -26,7 +26,7 @@ module _ (t : Trees Fiber) (st : Stack) (q levels : ℕ) (fs : List Frame) (x : 
   passed_stands =
       subst (λ at. StandsAt t st at (arrive levels fs (Some x))) (sym (ap fiber_in passed_next ∙ fiber_next (entry l.rest) (up_of l.around)))
       (arrives t st l.around (after q l.value l.old (taken l.kids) l.around) l.value.place levels l.rest fs x l.here refl
-      (λ done are. one_done l.around l.value.place done x q l.value l.old (taken l.kids) are l.is_for)
+      (λ done are. taken_done l.around l.value.place done x q l.value l.old l.kids are l.is_for)
       l.surrounds l.stack)
 
   -- the answer is of the form of that place

@@ -1,42 +1,65 @@
 -- A node that is done becomes an earlier sibling, and the render comes to the next one or to the parent.
-use Rattle.std.specs.Prelude.{◌≡◌, ℕ, ℤ, suc, List, [], ◌∷◌, ◌++◌, Option, Some}
-use Rattle.std.proofs.Common.{refl, sym, ap, ◌∙◌, subst}
+use Rattle.std.specs.Prelude.{◌≡◌, ℕ, ℤ, suc, ◌+◌, ◌≤◌, List, [], ◌∷◌, ◌++◌, Option, Some}
+use Rattle.std.proofs.Common.{arith, refl, sym, ap, ◌∙◌, subst}
 use Rattle.std.proofs.lemmas.List.{append_assoc}
 use Rattle.rx_ctx.specs.Contexts.{Stack}
 use Rattle.rx_elem.specs.Elements.{Element}
+use Rattle.rx_elem.specs.Spots.{node_count}
 use Rattle.rx_elem.specs.Trees.{Node, forest}
 use Rattle.rx_lists.specs.Shapes.{Shape, fiber}
 use Rattle.rx_lists.specs.Shapes as shapes
-use Rattle.rx_links.specs.Drafts.{Draft, taken, made, Trees, entry, or_else, grafted}
+use Rattle.rx_links.specs.Drafts.{Draft, taken, made, made_size, Trees, entry, or_else, grafted}
 use Rattle.rx_links.specs.Places.{Around, top, below, after, placed, up_of}
 use Rattle.rx_meaning.specs.Fresh.{Contexts}
 use Rattle.rx_meaning.specs.Cursor.{Open, Frame, arrive}
 use Rattle.rx_fiber.specs.Fibers.{Fiber}
 use Rattle.rx_fiber.specs.Reading.{AreFor, IsFor, IsTreeOf, next}
 use Rattle.rx_fiber.specs.Reading as reading
-use Rattle.rx_fiber.specs.Surround.{given_along, AreDone, AreNext, IsAround, at_root, inside, IsListOf, of_node, of_fallback, behind_earlier, above_list}
+use Rattle.rx_fiber.specs.Surround.{given_along, AreDone, AreNext, IsAround, at_root, inside, IsListOf, of_node, of_fallback, behind_earlier, made_earlier, above_list}
 use Rattle.rx_fiber.specs.Surround as around
 use Rattle.rx_fiber.specs.Standing.{IsStack, bottom, opened, StandsAt, over}
-use Rattle.rx_fiber.proofs.Coming.{come_at, comes}
+use Rattle.rx_fiber.proofs.Few.{node_more, node_there}
+use Rattle.rx_fiber.proofs.Coming.{come_at, comes, none_done}
 
 -- one node more is done, where each list that goes on with its fibers is one of it
 node_done : (k : Around Fiber) (n : ℕ) (done : List (Option Node)) (x : Node) (fibers : Shape Fiber → Shape Fiber)
     → AreDone k n done → ((rest : Shape Fiber) → IsFor n x (fibers rest) rest)
     → (xs : List (Option Node)) (s : Shape Fiber) → AreFor (suc n) (forest xs) s → AreFor 0 (forest ((done ++ Some x ∷ []) ++ xs)) (behind_earlier k (fibers s))
 node_done k n done x fibers before is xs s a =
-    subst (λ l. AreFor 0 (forest l) (behind_earlier k (fibers s))) (sym (append_assoc done (Some x ∷ []) xs)) (before (Some x ∷ xs) (fibers s) (next (is s) a))
+    subst (λ l. AreFor 0 (forest l) (behind_earlier k (fibers s))) (sym (append_assoc done (Some x ∷ []) xs)) (before.are (Some x ∷ xs) (fibers s) (next (is s) a))
 
--- a node of one fiber is done
+-- a node of one fiber is done, for which no more are made than it has nodes
 pub one_done : (k : Around Fiber) (n : ℕ) (done : List (Option Node)) (x : Node) (id : ℕ) (v : Fiber) (o : Option ℕ) (ks : Draft Fiber)
-    → AreDone k n done → ((rest : Shape Fiber) → IsFor n x (fiber id v (grafted ks) rest) rest) → AreDone (after id v o ks k) (suc n) (done ++ Some x ∷ [])
-one_done k n done x id v o ks before is = node_done k n done x (λ s. fiber id v (grafted ks) s) before is
+    → AreDone k n done → ((rest : Shape Fiber) → IsFor n x (fiber id v (grafted ks) rest) rest) → suc (made_size ks) ≤ node_count (Some x)
+    → AreDone (after id v o ks k) (suc n) (done ++ Some x ∷ [])
+one_done k n done x id v o ks before is few = record {
+  are = node_done k n done x (λ s. fiber id v (grafted ks) s) before is;
+  few = omega (arith, before.few, few, node_more done x);
+}
+
+-- so is a node whose fiber took its children over
+pub taken_done : (k : Around Fiber) (n : ℕ) (done : List (Option Node)) (x : Node) (id : ℕ) (v : Fiber) (o : Option ℕ) (kids : Shape Fiber)
+    → AreDone k n done → ((rest : Shape Fiber) → IsFor n x (fiber id v kids rest) rest) → AreDone (after id v o (taken kids) k) (suc n) (done ++ Some x ∷ [])
+taken_done k n done x id v o kids before is = one_done k n done x id v o (taken kids) before is (omega (arith, node_there x))
 
 -- a node of two fibers is done: a boundary that keeps its primary content, and its fallback
 pub two_done : (k : Around Fiber) (n : ℕ) (done : List (Option Node)) (x : Node) (id jd : ℕ) (v w : Fiber) (o p : Option ℕ) (ks ws : Draft Fiber)
     → AreDone k n done → ((rest : Shape Fiber) → IsFor n x (fiber id v (grafted ks) (fiber jd w (grafted ws) rest)) rest)
+    → suc (made_size ws) + suc (made_size ks) ≤ node_count (Some x)
     → AreDone (after jd w p ws (after id v o ks k)) (suc n) (done ++ Some x ∷ [])
-two_done k n done x id jd v w o p ks ws before is =
-    node_done k n done x (λ s. fiber id v (grafted ks) (fiber jd w (grafted ws) s)) before is
+two_done k n done x id jd v w o p ks ws before is few = record {
+  are = node_done k n done x (λ s. fiber id v (grafted ks) (fiber jd w (grafted ws) s)) before is;
+  few = omega (arith, before.few, few, node_more done x);
+}
+
+-- so many fibers are made, where the earlier siblings of a place stand alone
+pub made_top : (k : Around Fiber) (d : Draft Fiber) → above_list k ≡ top → made_size (placed k d) ≡ made_earlier k + made_size d
+made_top top d e = omega arith
+made_top (below id v o rs k) d e = absurd (not_top e)
+  where
+    not_top : below id v o rs k ≡ top → ⊥
+    not_top h = cc
+made_top (after id v o ks k) d e = omega (arith, made_top k (made id v o ks d) e)
 
 -- what a draft will be as a list, where its earlier siblings stand alone
 pub grafted_top : (k : Around Fiber) (d : Draft Fiber) → above_list k ≡ top → grafted (placed k d) ≡ behind_earlier k (grafted d)
@@ -73,8 +96,10 @@ pub arrives : (t : Trees Fiber) (st : Stack) (k j : Around Fiber) (n levels : �
     → t.draft ≡ placed j rs → above_list j ≡ above_list k → ((done : List (Option Node)) → AreDone k n done → AreDone j (suc n) (done ++ Some x ∷ []))
     → IsAround t.current k n rs fs → IsStack st (opened fs) → StandsAt t st (next_at k rs) (arrive levels fs (Some x))
 arrives t st _ j _ levels _ _ x here same more at_root (bottom none) =
+    let done : AreDone j 1 (Some x ∷ []) = more [] (none_done top refl (λ s. refl)) in
     over (subst (λ d. AreFor 0 (forest (Some x ∷ [])) (grafted d)) (sym here)
-    (subst (λ s. AreFor 0 (forest (Some x ∷ [])) s) (sym (grafted_top j (taken shapes.none) same)) (more [] (λ xs s a. a) [] shapes.none reading.no_more)))
+    (subst (λ s. AreFor 0 (forest (Some x ∷ [])) s) (sym (grafted_top j (taken shapes.none) same)) (done.are [] shapes.none reading.no_more)))
+    (subst (λ d. made_size d ≤ node_count (Some x)) (sym here) (omega (arith, made_top j (taken shapes.none) same, done.few, node_more [] x)))
     none
 arrives t st k j n levels rs (f ∷ fs) x here same more (inside before behind list) stack =
     subst (λ at. StandsAt t st at (arrive levels (f ∷ fs) (Some x))) (next_is t.current (given_along (f ∷ fs)) k (suc n) _ f.rest rs behind (list_parent t.current k _ f.node f.contexts fs list))

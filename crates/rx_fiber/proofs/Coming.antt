@@ -1,10 +1,11 @@
 -- A list comes to its next child that isn't null, or it is done.
 use Rattle.std.specs.Prelude.{◌≡◌, ℕ, suc, cond, List, [], ◌∷◌, ◌++◌, Option, Some, None}
-use Rattle.std.proofs.Common.{sym, subst}
+use Rattle.std.proofs.Common.{arith, sym, subst}
 use Rattle.std.proofs.lemmas.List.{append_assoc}
 use Rattle.rx_ctx.specs.Contexts.{Stack, values_at}
 use Rattle.rx_elem.specs.Elements.{Element}
 use Rattle.rx_elem.specs.Trees.{Node, forest}
+use Rattle.rx_lists.specs.Shapes.{Shape}
 use Rattle.rx_links.specs.Drafts.{Draft, taken, made, Trees}
 use Rattle.rx_links.specs.Places.{Around, placed}
 use Rattle.rx_meaning.specs.Fresh.{Contexts}
@@ -15,6 +16,7 @@ use Rattle.rx_fiber.specs.Stood.{given_more}
 use Rattle.rx_fiber.specs.Surround.{open_element, given_along, AreDone, AreNext, IsAround, inside, IsListOf}
 use Rattle.rx_fiber.specs.Surround as around
 use Rattle.rx_fiber.specs.Standing.{IsStack, same, gives, opened, StandsAt, begins, completes}
+use Rattle.rx_fiber.proofs.Few.{none_more}
 
 -- the fiber that the render has come to: the first that is still to begin, or the one whose list it is
 abbrev pub come_at : Draft Fiber → ℕ → ℕ
@@ -22,8 +24,17 @@ come_at (taken s) q = q
 come_at (made id v o ks rs) q = id
 
 pub gap_done : (k : Around Fiber) (n : ℕ) (done : List (Option Node)) → AreDone k n done → AreDone k (suc n) (done ++ None ∷ [])
-gap_done k n done h xs s a =
-    subst (λ l. AreFor 0 (forest l) (around.behind_earlier k s)) (sym (append_assoc done (None ∷ []) xs)) (h (None ∷ xs) s (gap a))
+gap_done k n done h = record {
+  are = λ xs s a. subst (λ l. AreFor 0 (forest l) (around.behind_earlier k s)) (sym (append_assoc done (None ∷ []) xs)) (h.are (None ∷ xs) s (gap a));
+  few = omega (arith, h.few, none_more done);
+}
+
+-- no place of a list is done at its start
+pub none_done : (k : Around Fiber) → around.made_earlier k ≡ 0 → ((s : Shape Fiber) → around.behind_earlier k s ≡ s) → AreDone k 0 []
+none_done k few first = record {
+  are = λ xs s a. subst (λ l. AreFor 0 (forest xs) l) (sym (first s)) a;
+  few = omega (arith, few);
+}
 
 pub top_values : {st : Stack} {x : Open} {cs : Contexts} {xs : List (Open × Contexts)} → IsStack st ((x, cs) ∷ xs) → values_at st ≡ cs
 top_values (same g v rest) = v

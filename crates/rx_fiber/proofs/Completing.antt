@@ -1,20 +1,26 @@
 -- A node is completed: its list is done, and the render arrives with it.
-use Rattle.std.specs.Prelude.{◌≡◌, ℕ, List, [], Option, Some}
-use Rattle.std.proofs.Common.{refl, sym, ap, ◌∙◌, subst}
+use Rattle.std.specs.Prelude.{◌≡◌, ℕ, suc, ◌+◌, ◌≤◌, true, List, [], Option, Some, length}
+use Rattle.std.proofs.Common.{arith, refl, sym, ap, ◌∙◌, subst}
 use Rattle.std.proofs.lemmas.List.{append-nil}
 use Rattle.rx_ctx.specs.Contexts.{Stack}
-use Rattle.rx_elem.specs.Trees.{Node, forest}
+use Rattle.rx_base.specs.Awaits.{Awaits}
+use Rattle.rx_susp.specs.declared.boundary.BoundaryState.TheVariants.{Shown, Hidden}
+use Rattle.rx_elem.specs.Elements.{Element}
+use Rattle.rx_elem.specs.Spots.{at_root, spots_in, node_count}
+use Rattle.rx_elem.specs.Trees.{Node, none, forest, of_boundary, children_if}
 use Rattle.rx_lists.specs.Shapes.{Shape, fiber}
 use Rattle.rx_lists.specs.Shapes as shapes
-use Rattle.rx_links.specs.Drafts.{Draft, taken, made, Trees, grafted}
+use Rattle.rx_links.specs.Drafts.{Draft, taken, made, made_size, Trees, grafted}
 use Rattle.rx_links.specs.Places.{Around, top, below, after, placed, up_of}
 use Rattle.rx_meaning.specs.Fresh.{Contexts}
-use Rattle.rx_meaning.specs.Cursor.{Open, Frame, at_end, arrive, finished}
+use Rattle.rx_meaning.specs.Cursor.{Open, trying, falling, Frame, at_end, arrive, finished}
+use Rattle.rx_meaning.specs.Cursor as cursor
 use Rattle.rx_fiber.specs.Fibers.{Fiber, completed, completed_stage}
-use Rattle.rx_fiber.specs.Reading.{AreFor, IsFor, whole, alone, beside}
+use Rattle.rx_fiber.specs.Reading.{has_node, AreFor, IsFor, whole, alone, beside}
 use Rattle.rx_fiber.specs.Reading as reading
-use Rattle.rx_fiber.specs.Surround.{AreDone, IsOpenAs, opens, tries, falls, IsAround, of_node, of_fallback, behind_earlier, above_list, open_element}
+use Rattle.rx_fiber.specs.Surround.{AreDone, IsOpenAs, opens, tries, falls, IsAround, of_node, of_fallback, behind_earlier, made_earlier, above_list, open_element}
 use Rattle.rx_fiber.specs.Standing.{IsStack, opened, StandsAt, completes}
+use Rattle.rx_fiber.proofs.Few.{node_parts, some_there}
 use Rattle.rx_fiber.proofs.Arriving.{one_done, two_done, next_at, arrives}
 
 -- a list in progress with the earlier siblings of its place
@@ -37,19 +43,39 @@ grafted_list (after id v o ks k) d = grafted_list k (made id v o ks d)
 pub list_done : (k : Around Fiber) (n : ℕ) (done : List (Option Node)) → AreDone k n done → AreFor 0 (forest done) (grafted (whole_list k (taken shapes.none)))
 list_done k n done before =
     subst (λ s. AreFor 0 (forest done) s) (sym (grafted_list k (taken shapes.none)))
-    (subst (λ l. AreFor 0 (forest l) (behind_earlier k shapes.none)) (append-nil done) (before [] shapes.none reading.no_more))
+    (subst (λ l. AreFor 0 (forest l) (behind_earlier k shapes.none)) (append-nil done) (before.are [] shapes.none reading.no_more))
+
+pub made_list : (k : Around Fiber) (d : Draft Fiber) → made_size (whole_list k d) ≡ made_earlier k + made_size d
+made_list top d = omega arith
+made_list (below id v o rs k) d = omega arith
+made_list (after id v o ks k) d = omega (arith, made_list k (made id v o ks d))
+
+-- and no more fibers are made for it than these have nodes
+pub list_few : (k : Around Fiber) (n : ℕ) (done : List (Option Node)) → AreDone k n done → made_size (whole_list k (taken shapes.none)) ≤ length (spots_in at_root (forest done))
+list_few k n done before = omega (arith, made_list k (taken shapes.none), before.few)
+
+-- an open node has its list when it is completed, and itself
+finished_few : (x : Open) (done : List (Option Node)) → suc (length (spots_in at_root (forest done))) ≤ node_count (Some (finished x done))
+finished_few (cursor.around e m) done = omega (arith, node_parts e m (forest done) none)
+finished_few (trying e old f) done = omega (arith, node_parts e (of_boundary Shown) (forest done) none)
+finished_few (falling e old a) done = omega (arith, node_parts e (of_boundary (Hidden a)) (children_if old) (forest done))
+
+-- and what it keeps
+kept_few : (e : Element) (old : Option Node) (a : Awaits) (done : List (Option Node)) → has_node (children_if old) ≡ true
+    → suc (suc (length (spots_in at_root (forest done)))) ≤ node_count (Some (finished (falling e old a) done))
+kept_few e old a done some = omega (arith, node_parts e (of_boundary (Hidden a)) (children_if old) (forest done), some_there (children_if old) some)
 
 -- a list that is done stands for the node of its fiber, once that one is completed
 pub node_finished : (c : Shape Fiber) (v : Fiber) (o : Option ℕ) (cs : Contexts) (x : Open) (q : ℕ) (done : List (Option Node)) (ks rest : Shape Fiber)
     → IsOpenAs c v o cs x → AreFor 0 (forest done) ks → IsFor v.place (finished x done) (fiber q (completed v) ks rest) rest
 node_finished c v o cs x q done ks rest (opens e m shown) a = whole (record { at = refl; element = e; stage = ap completed_stage m }) shown a
 node_finished c v o cs x q done ks rest (tries e s b old) a = whole (record { at = refl; element = e; stage = ap completed_stage s }) refl a
-node_finished c v o cs x q done ks rest (falls e m none) a = alone (record { at = refl; element = e; stage = ap completed_stage m }) refl none a
+node_finished c v o cs x q done ks rest (falls e m empty) a = alone (record { at = refl; element = e; stage = ap completed_stage m }) refl empty a
 
 pub opens_element : (c : Shape Fiber) (v : Fiber) (o : Option ℕ) (cs : Contexts) (x : Open) → IsOpenAs c v o cs x → v.element ≡ open_element x
 opens_element c v o cs x (opens e m shown) = e
 opens_element c v o cs x (tries e s is old) = e
-opens_element c v o cs x (falls e m none) = e
+opens_element c v o cs x (falls e m empty) = e
 
 -- What the fiber that is completed next is to the two trees: once its value is that of a node that is done, and what its element gave is taken from the stack, the render arrives with its node.
 pub record Completes (t : Trees Fiber) (q : ℕ) (fs : List Frame) (x : Open) (done : List (Option Node)) : Type 0 where
@@ -87,7 +113,8 @@ completing t st q levels fs x done (completes {n = n} {k = k} here before (of_no
       arrives = λ new st levels same there stack.
           arrives new st k₁ (after q (completed v) o ks k₁) v.place levels rest fs (finished x done) there refl
           (λ earlier are. one_done k₁ v.place earlier (finished x done) q (completed v) o ks are
-          (λ more. node_finished t.current v o cs x q done (grafted ks) more is (list_done k n done before)))
+          (λ more. node_finished t.current v o cs x q done (grafted ks) more is (list_done k n done before))
+          (omega (arith, list_few k n done before, finished_few x done)))
           (subst (λ c. IsAround c k₁ v.place rest fs) (sym same) around) stack;
     }
 completing t st q levels fs x done (completes {n = n} {k = k} here before (of_fallback {k₁ = k₁} {b = b} {v = v} {w = w} {o = o} {p = p} {kept = kept} {rest = rest} {e = e} {old = old} {a = a} above is around) stack) =
@@ -107,6 +134,7 @@ completing t st q levels fs x done (completes {n = n} {k = k} here before (of_fa
       arrives = λ new st levels same there stack.
           arrives new st k₁ (after q (completed w) p ks (after b v o (taken kept) k₁)) v.place levels rest fs (finished x done) there refl
           (λ earlier are. two_done k₁ v.place earlier (finished x done) b q v (completed w) o p (taken kept) ks are
-          (λ more. beside is.of refl is.keeps is.are (ap completed_stage is.stage) (list_done k n done before)))
+          (λ more. beside is.of refl is.keeps is.are (ap completed_stage is.stage) (list_done k n done before))
+          (omega (arith, list_few k n done before, kept_few e old a done is.keeps)))
           (subst (λ c. IsAround c k₁ v.place rest fs) (sym same) around) stack;
     }

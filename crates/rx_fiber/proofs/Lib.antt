@@ -1,3 +1,4 @@
+pub mod Few
 pub mod Coming
 pub mod Arriving
 pub mod Completing

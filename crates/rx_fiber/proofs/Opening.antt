@@ -18,14 +18,14 @@ use Rattle.rx_fiber.specs.Reading.{has_node, IsOld}
 use Rattle.rx_fiber.specs.Stood.{given_more}
 use Rattle.rx_fiber.specs.Surround.{open_element, given_along, AreNext, IsOpenAs, opens, tries, falls, IsKeptAs, fallback_in, is_boundary, IsAround, of_node, of_fallback}
 use Rattle.rx_fiber.specs.Standing.{IsStack, opened, StandsAt}
-use Rattle.rx_fiber.proofs.Coming.{come_at, comes}
+use Rattle.rx_fiber.proofs.Coming.{come_at, comes, none_done}
 
 -- an open node comes to its list, with the fiber that is its own
 opens_node : (t : Trees Fiber) (st : Stack) (k : Around Fiber) (p levels : ℕ) (v : Fiber) (o : Option ℕ) (d rs : Draft Fiber) (fs : List Frame) (x : Open) (list : Part)
     → t.draft ≡ placed k (made p v o d rs) → IsOpenAs t.current v o list.contexts x → AreNext t.current (given_more (open_element x) (given_along fs)) 0 (children_with_old list) d
     → IsAround t.current k v.place rs fs → IsStack st ((x, list.contexts) ∷ opened fs) → StandsAt t st (Some (come_at d p)) (open_part levels fs x list)
 opens_node t st k p levels v o d rs fs x list here is kids surrounds stack =
-    comes t st (below p v o rs k) 0 p levels fs x list.contexts [] (children_with_old list) d here (λ xs s a. a) kids (of_node refl is surrounds) stack
+    comes t st (below p v o rs k) 0 p levels fs x list.contexts [] (children_with_old list) d here (none_done _ refl (λ s. refl)) kids (of_node refl is surrounds) stack
 
 -- A node with one list: its fiber is begun with its mark, and its children are made.
 pub opens_one : (t : Trees Fiber) (st : Stack) (k : Around Fiber) (p levels : ℕ) (v : Fiber) (o : Option ℕ) (d rs : Draft Fiber) (fs : List Frame) (e : Element) (m : Mark) (list : Part)
@@ -60,5 +60,5 @@ pub falls_beside : (t : Trees Fiber) (st : Stack) (k : Around Fiber) (p q levels
     → t.draft ≡ placed k (made p v o (taken kept) (made q w r d rs)) → IsKeptAs v w kept e old a → AreNext t.current (given_more e (given_along fs)) 0 (children_with_old list) d
     → IsAround t.current k v.place rs fs → IsStack st ((falling e old a, list.contexts) ∷ opened fs) → StandsAt t st (Some (come_at d q)) (open_part levels fs (falling e old a) list)
 falls_beside t st k p q levels v w o r kept d rs fs e old a list here keeps kids surrounds stack =
-    comes t st (below q w r rs (after p v o (taken kept) k)) 0 q levels fs (falling e old a) list.contexts [] (children_with_old list) d here (λ xs s a. a) kids
+    comes t st (below q w r rs (after p v o (taken kept) k)) 0 q levels fs (falling e old a) list.contexts [] (children_with_old list) d here (none_done _ refl (λ s. refl)) kids
     (of_fallback refl keeps surrounds) stack

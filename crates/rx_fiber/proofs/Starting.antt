@@ -56,8 +56,8 @@ starts s old t id v tree waits here = begins {k = top} here waits (root_old t.cu
 
 -- where no unit is left, the tree in progress is that of the node that was made, and so it is once the trees are swapped
 pub swaps : (t : Trees Fiber) (st : Stack) (x : Node) → StandsAt t st None (ended (fresh.made x)) → IsTreeOf (Some x) (grafted t.draft)
-swaps t st x (over tree empty) = tree
+swaps t st x (over tree few empty) = tree
 
 -- a render that is over has made a node
 pub ends : (t : Trees Fiber) (st : Stack) (p : Place) → StandsAt t st None (ended p) → (x : Node) × (p ≡ fresh.made x)
-ends t st p (over {x = x} tree empty) = (x, refl)
+ends t st p (over {x = x} tree few empty) = (x, refl)

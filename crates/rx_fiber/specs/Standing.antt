@@ -1,12 +1,13 @@
 -- Where a render in progress stands, read from the two trees of fibers, the fiber that it has come to, and the stack of contexts.
-use Rattle.std.specs.Prelude.{◌≡◌, ℕ, ℤ, List, [], ◌∷◌, map, Option, Some, None}
+use Rattle.std.specs.Prelude.{◌≡◌, ℕ, ◌≤◌, ℤ, List, [], ◌∷◌, map, Option, Some, None}
 use Rattle.rx_ctx.specs.Contexts as contexts
 use Rattle.rx_ctx.specs.Contexts.{Stack, values_at}
 use Rattle.rx_elem.specs.Elements.{Element}
+use Rattle.rx_elem.specs.Spots.{node_count}
 use Rattle.rx_elem.specs.Trees.{Node}
 use Rattle.rx_lists.specs.Shapes.{Shape}
 use Rattle.rx_lists.specs.Shapes as shapes
-use Rattle.rx_links.specs.Drafts.{Draft, taken, made, Trees, grafted}
+use Rattle.rx_links.specs.Drafts.{Draft, taken, made, made_size, Trees, grafted}
 use Rattle.rx_links.specs.Places.{Around, placed}
 use Rattle.rx_meaning.specs.Fresh.{Contexts}
 use Rattle.rx_meaning.specs.Fresh as fresh
@@ -26,7 +27,7 @@ pub data IsStack : Stack → List (Open × Contexts) → Type 0 where
 abbrev pub opened : List Frame → List (Open × Contexts)
 opened fs = map (λ f. (f.node, f.contexts)) fs
 
--- Where a render stands, with the fiber that it has come to: one that is waiting, whose place begins next; one whose list is done, and which is completed next; none where no unit is left.
+-- Where a render stands, with the fiber that it has come to: one that is waiting, whose place begins next; one whose list is done, and which is completed next; none where no unit is left, and no more fibers are made than the tree has nodes.
 pub data StandsAt (t : Trees Fiber) (st : Stack) : (at : Option ℕ) → Cursor → Type 0 where
   begins : {levels n p : ℕ} {v : Fiber} {o : Option ℕ} {rs : Draft Fiber} {k : Around Fiber} {fs : List Frame} {cs : Contexts} {e : Element} {old : Option Node}
       → t.draft ≡ placed k (made p v o (taken shapes.none) rs) → IsWaiting t.current (given_along fs) o v n e → IsOld t.current o old → IsAround t.current k n rs fs
@@ -34,4 +35,4 @@ pub data StandsAt (t : Trees Fiber) (st : Stack) : (at : Option ℕ) → Cursor 
   completes : {levels n q : ℕ} {k : Around Fiber} {fs : List Frame} {cs : Contexts} {x : Open} {done : List (Option Node)}
       → t.draft ≡ placed k (taken shapes.none) → AreDone k n done → IsListOf t.current k q x cs fs
       → IsStack st ((x, cs) ∷ opened fs) → StandsAt t st (Some q) (at_end levels fs x done)
-  over : {x : Node} → IsTreeOf (Some x) (grafted t.draft) → st.given ≡ [] → StandsAt t st None (ended (fresh.made x))
+  over : {x : Node} → IsTreeOf (Some x) (grafted t.draft) → made_size t.draft ≤ node_count (Some x) → st.given ≡ [] → StandsAt t st None (ended (fresh.made x))

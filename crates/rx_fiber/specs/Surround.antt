@@ -1,13 +1,14 @@
 -- What surrounds the place that a render has come to, read from the fibers around it.
-use Rattle.std.specs.Prelude.{◌≡◌, ℕ, ℤ, suc, Bool, true, false, List, [], ◌∷◌, ◌++◌, Option, Some, option_map, option_and_then}
+use Rattle.std.specs.Prelude.{◌≡◌, ℕ, ℤ, suc, ◌+◌, ◌≤◌, Bool, true, false, List, [], ◌∷◌, ◌++◌, Option, Some, option_map, option_and_then, length}
 use Rattle.rx_base.specs.Awaits.{Awaits}
 use Rattle.rx_elem.specs.Elements.{Element}
 use Rattle.rx_elem.specs.Elements as elements
 use Rattle.rx_elem.specs.Trees.{Mark, of_boundary, Node, forest, children_if, fallback_if, is_hidden}
+use Rattle.rx_elem.specs.Spots as spots
 use Rattle.rx_susp.specs.declared.boundary.BoundaryState.TheVariants.{Hidden}
 use Rattle.rx_lists.specs.Shapes.{Shape, fiber}
 use Rattle.rx_lists.specs.Shapes as shapes
-use Rattle.rx_links.specs.Drafts.{Draft, taken, made, grafted}
+use Rattle.rx_links.specs.Drafts.{Draft, taken, made, made_size, grafted}
 use Rattle.rx_links.specs.Places.{Around, top, below, after}
 use Rattle.rx_links.specs.Readers.{value_of}
 use Rattle.rx_meaning.specs.Fresh.{Contexts, part}
@@ -50,9 +51,16 @@ above_list top = top
 above_list (below id v o rs k) = below id v o rs k
 above_list (after id v o ks k) = above_list k
 
--- the earlier siblings of a place stand for what is done: whatever follows from the place on, the list stands for both
-abbrev pub AreDone : Around Fiber → (place : ℕ) → List (Option Node) → Type 0
-AreDone k n done = (xs : List (Option Node)) (s : Shape Fiber) → AreFor n (forest xs) s → AreFor 0 (forest (done ++ xs)) (behind_earlier k s)
+-- how many fibers are made for the earlier siblings of a place
+abbrev pub made_earlier : Around Fiber → ℕ
+made_earlier top = 0
+made_earlier (below id v o rs k) = 0
+made_earlier (after id v o ks k) = suc (made_size ks) + made_earlier k
+
+-- The earlier siblings of a place stand for what is done: whatever follows from the place on, the list stands for both. No more fibers are made for them than they have nodes.
+pub record AreDone (k : Around Fiber) (place : ℕ) (done : List (Option Node)) : Type 0 where
+  pub are : (xs : List (Option Node)) (s : Shape Fiber) → AreFor place (forest xs) s → AreFor 0 (forest (done ++ xs)) (behind_earlier k s)
+  pub few : made_earlier k ≤ length (spots.spots_in spots.at_root (forest done))
 
 -- the element of an open node
 abbrev pub open_element : Open → Element

@@ -25,7 +25,7 @@ use Rattle.rx_render.specs.Rendering.{Rendering, IfLeft, ComesTo, to_place, to_e
 use Rattle.rx_render.specs.Renders.{HasCome, Renders}
 
 -- an end that is in progress is no wait
-no_wait : (p : Program) → IsBounded p → (s : Sight) (old : Option Node) → s.program ≡ p → (units bodies : ℕ) (a : _) → InProgress s old units bodies (ended (waits a)) → ⊥
+pub no_wait : (p : Program) → IsBounded p → (s : Sight) (old : Option Node) → s.program ≡ p → (units bodies : ℕ) (a : _) → InProgress s old units bodies (ended (waits a)) → ⊥
 unfolding gives
 no_wait p bounded s old same units bodies a h =
     let (n, e) = app_never_waits p bounded s old same in
@@ -40,7 +40,7 @@ ends_as : (p : Program) → IsBounded p → (s : Sight) (old : Option Node) → 
     → ComesTo t st at c → at ≡ Over → InProgress s old units bodies c → Ends t s old units bodies
 ends_as p bounded s old same units bodies t st _ c (to_place h) e g = absurd (let f : ⊥ = cc in f)
 ends_as p bounded s old same units bodies t st _ c (to_end h) e g = absurd (let f : ⊥ = cc in f)
-ends_as p bounded s old same units bodies t st _ _ (to_tree (over {x = x} tree empty)) e g = let (made_it, fewer) = holds_last g in (x, tree, made_it, fewer)
+ends_as p bounded s old same units bodies t st _ _ (to_tree (over {x = x} tree few empty)) e g = let (made_it, fewer) = holds_last g in (x, tree, made_it, fewer)
 ends_as p bounded s old same units bodies t st _ _ (to_wait {a = a}) e g = absurd (no_wait p bounded s old same units bodies a g)
 
 pub renders_end : (p : Program) → IsBounded p → (st : State) (g : Progress) (v : Rendering) → Renders p st g v → v.at ≡ Over

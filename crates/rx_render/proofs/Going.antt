@@ -1,22 +1,17 @@
 -- A unit keeps a render in progress.
-use Rattle.std.specs.Prelude.{◌≡◌, ℕ, zero, suc, ◌+◌, ◌-◌, ◌<◌, ◌≤◌, true, false, List, [], ℤ, Option, Some, None, option_map, length, refl, ◌^◌}
-use Rattle.std.specs.Option.{option_map_or}
+use Rattle.std.specs.Prelude.{◌≡◌, ℕ, zero, suc, ◌+◌, ◌-◌, ◌<◌, ◌≤◌, true, false, List, [], ℤ, Option, Some, None, length, refl, ◌^◌}
 use Rattle.std.proofs.Common.{sym, ap, ◌∙◌, subst, arith, add-one}
-use Rattle.rx_ast.specs.Syntax.{Program, Component, contexts}
-use Rattle.rx_rules.specs.Names.{component_at, prop_names}
+use Rattle.rx_ast.specs.Syntax.{Program, contexts}
 use Rattle.rx_check.specs.Checks.{unknowns}
 use Rattle.rx_loop.specs.Ends.{MatchUnit}
 use Rattle.rx_loop.specs.declared.work.Unit as work
 use Rattle.rx_ctx.specs.Contexts.{Stack, values_at}
 use Rattle.rx_elem.specs.Elements.{Element}
-use Rattle.rx_elem.specs.Elements as elements
 use Rattle.rx_elem.specs.Trees.{Instance, Node, node, Forest, none, vacant, child, instance_in}
 use Rattle.rx_hooks.specs.declared.hook.Hook.{Hook}
 use Rattle.rx_lists.specs.Shapes as shapes
-use Rattle.rx_links.specs.Drafts.{Draft, taken, Trees, Makes}
-use Rattle.rx_links.specs.Readers.{made_value_of}
-use Rattle.rx_meaning.specs.Body.{Body, wait, ready, body_of}
-use Rattle.rx_meaning.specs.Fresh.{Sight, Contexts, default_contexts, inputs_at, old_instance, shape_of, shape_of_body}
+use Rattle.rx_links.specs.Drafts.{taken, Trees}
+use Rattle.rx_meaning.specs.Fresh.{Sight, Contexts, default_contexts}
 use Rattle.rx_meaning.specs.Cursor.{Open, Frame, Cursor, at_place, at_end, ended, is_null, unit, HasLevel}
 use Rattle.rx_meaning.specs.Cursor as cursors
 use Rattle.rx_meaning.specs.Settled.{DoneBefore, IfReadsHold, IfSettled, known_by}
@@ -30,7 +25,6 @@ use Rattle.rx_fiber.specs.Reading.{IsTreeOf}
 use Rattle.rx_fiber.specs.Standing.{StandsAt, begins}
 use Rattle.rx_fiber.specs.Surround.{given_along}
 use Rattle.rx_complete.specs.Ends.{ends}
-use Rattle.rx_complete.proofs.Completed.{KnowsPlaces}
 use Rattle.rx_hook_store.specs.Store.{Kept, kept_hooks}
 use Rattle.rx_hook_store.specs.Gives.{GivesValues}
 use Rattle.rx_hook_store.proofs.Stores.{each-keeps, keeps-give}
@@ -131,7 +125,7 @@ module _ (old new : Rendering) (evaluated : ℕ) (step : Stepped old new evaluat
       let level : HasLevel c = fit_has_level s.program c come.goes.fits come.goes.stands in
       let next = step.advances s sees c come.comes level (gives_at s tree (kept_hooks old.hooks) gives settled c come.olds come.rests) in
       let h = reaches s tree old.trees.current current settled waits reads draws (subst (λ q. unknowns q ≡ []) (sym sees.program) known) old.units old.bodies evaluated c next.next next.goes
-      (record { goes = come.goes; drawn = come.drawn; given = come.given; olds = come.olds; rests = come.rests }) busy in
+      (record { goes = come.goes; drawn = come.drawn; given = come.given; olds = come.olds; rests = come.rests; reached = come.reached }) busy in
       record {
         cursor = next.next;
         comes = next.comes;
@@ -140,6 +134,7 @@ module _ (old new : Rendering) (evaluated : ℕ) (step : Stepped old new evaluat
         given = h.given;
         olds = h.olds;
         rests = h.rests;
+        reached = h.reached;
       }
 
   step_sees : (s : Sight) → Sees old s → Sees new s

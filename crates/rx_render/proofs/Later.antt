@@ -59,7 +59,7 @@ later_sees_without p g st later past l =
 -- it has come as far
 come_later : (s : Sight) (j : Journal) → SeesSame s j → (tree : Option Node) (v : Rendering) (hooks : Kept) → HasCome s tree v → HasCome (record s { journal = j }) tree (with_hooks v hooks)
 come_later s j same tree v hooks h =
-    record { cursor = h.cursor; comes = h.comes; goes = holds_later s j same tree v.units v.bodies h.cursor h.goes; drawn = h.drawn; given = h.given; olds = h.olds; rests = h.rests }
+    record { cursor = h.cursor; comes = h.comes; goes = holds_later s j same tree v.units v.bodies h.cursor h.goes; drawn = h.drawn; given = h.given; olds = h.olds; rests = h.rests; reached = h.reached }
 
 pub renders_later : (p : Program) (st later : State) (g : Progress) (v : Rendering) (hooks : Kept) → Renders p st g v → IsLater g st later
     → KeepsAllHooks p later (kept_hooks hooks) → Renders p later g (with_hooks v hooks)

@@ -5,6 +5,7 @@ pub mod Settled
 pub mod Later
 pub mod Starting
 pub mod Ending
+pub mod Live
 pub mod StoodNodes
 pub mod Waiting
 pub mod Idle

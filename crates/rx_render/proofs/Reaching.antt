@@ -1,6 +1,6 @@
 -- What holds of a render in progress holds where it comes in one unit.
-use Rattle.std.specs.Prelude.{◌≡◌, ℕ, zero, suc, ◌+◌, ◌≤◌, false, List, [], ◌∷◌, Option, Some, refl}
-use Rattle.std.proofs.Common.{sym, ap, ◌∙◌, subst, arith}
+use Rattle.std.specs.Prelude.{◌≡◌, ℕ, suc, ◌+◌, ◌≤◌, false, List, [], ◌∷◌, Option, Some, refl}
+use Rattle.std.proofs.Common.{sym, subst, arith}
 use Rattle.rx_ast.specs.Syntax.{Program}
 use Rattle.rx_check.specs.Checks.{unknowns}
 use Rattle.rx_base.specs.Awaits.{Awaits}
@@ -19,6 +19,9 @@ use Rattle.commit_laws.specs.WaitsAgain.{IfWaitsAgain}
 use Rattle.render_laws.specs.InProgress.{InProgress}
 use Rattle.render_laws.specs.OldNodes.{CursorHas}
 use Rattle.render_laws.proofs.GoingLaws.{unit_holds, attempt_holds, take_holds}
+use Rattle.render_laws.proofs.LevelLaw.{fit_has_level}
+use Rattle.room_laws.specs.Reached.{IsReached}
+use Rattle.room_laws.specs.Reached as steps
 use Rattle.draw_laws.specs.Cursors.{CursorDrawn}
 use Rattle.rx_fiber.specs.Fibers.{Fiber}
 use Rattle.rx_links.specs.Readers.{IsLinked}
@@ -47,6 +50,7 @@ pub record Reaches (s : Sight) (tree : Option Node) (units bodies : ℕ) (c : Cu
   pub given : CursorGiven (default_contexts s.program) c
   pub olds : CursorHas (HasInstances tree) c
   pub rests : CursorHas (SettlesWith tree) c
+  pub reached : IsReached s.program tree c
 
 module _ (s : Sight) (tree : Option Node) (current : Shape Fiber) (is : IsTreeOf tree current) (settled : IfSettled s.program (known_by s) tree)
     (waits : IfWaitsAgain s (default_contexts s.program) tree) (reads : IfReadsHold (default_contexts s.program) tree) (draws : DrawsOn) (known : unknowns s.program ≡ []) (units bodies evaluated : ℕ) where
@@ -58,6 +62,7 @@ module _ (s : Sight) (tree : Option Node) (current : Shape Fiber) (is : IsTreeOf
     given = unit_given (default_contexts s.program) s c h.given;
     olds = unit_instances tree s c h.olds;
     rests = unit_rests tree s c h.rests;
+    reached = steps.by_unit s c refl (fit_has_level s.program c h.goes.fits h.goes.stands) h.reached;
   }
 
   -- an attempt that is skipped
@@ -76,6 +81,7 @@ module _ (s : Sight) (tree : Option Node) (current : Shape Fiber) (is : IsTreeOf
           given = attempt_given (default_contexts s.program) n fs s cs (boundary key f es) old (part cs (listed es) ns) (part cs (f ∷ []) kept) a refl h.given;
           olds = attempt_instances tree n fs s cs (boundary key f es) old (part cs (listed es) ns) (part cs (f ∷ []) kept) a refl h.olds;
           rests = attempt_rests tree n fs s cs (boundary key f es) old (part cs (listed es) ns) (part cs (f ∷ []) kept) a refl h.rests;
+          reached = steps.past_attempt s n fs cs (boundary key f es) old (part cs (listed es) ns) (part cs (f ∷ []) kept) a refl refl h.reached;
         }
 
     fits_below : InProgress s tree units bodies (at_place (suc n) fs cs (boundary key f es) old) → PartFits n s.program (part cs (listed es) ns)
@@ -83,9 +89,9 @@ module _ (s : Sight) (tree : Option Node) (current : Shape Fiber) (is : IsTreeOf
 
   -- a subtree that is taken over
   module _ (n : ℕ) (fs : List Frame) (cs : Contexts) (x : Node) where
-    subtree_reaches : (e : Element) → Reaches s tree units bodies (at_place (suc n) fs cs e (Some x)) → evaluated ≡ 0 → rendered (suc n) s cs e (Some x) ≡ made x
+    subtree_reaches : (e : Element) → element_of x ≡ e → Reaches s tree units bodies (at_place (suc n) fs cs e (Some x)) → evaluated ≡ 0 → rendered (suc n) s cs e (Some x) ≡ made x
         → Reaches s tree (suc units) (bodies + evaluated) (arrive (suc n) fs (Some x))
-    subtree_reaches e h none again =
+    subtree_reaches e same_element h none again =
         let same : bodies ≡ bodies + evaluated = omega (arith, none) in
         record {
           goes = subst (λ b. InProgress s tree (suc units) b (arrive (suc n) fs (Some x))) same (take_holds s tree units bodies (suc n) fs cs e x again h.goes);
@@ -93,6 +99,7 @@ module _ (s : Sight) (tree : Option Node) (current : Shape Fiber) (is : IsTreeOf
           given = arrive_given (default_contexts s.program) (suc n) fs (Some x) h.given.1;
           olds = past_instances tree (suc n) fs (Some x) h.olds.1;
           rests = past_rests tree (suc n) fs (Some x) h.rests.1;
+          reached = steps.past_subtree (suc n) fs cs e x same_element h.reached;
         }
 
     idle_again : (o : Option ℕ) → IsLinked current → StoodAt current (given_along fs) o → IsOld current o (Some x) → IsIdle s x
@@ -107,7 +114,7 @@ module _ (s : Sight) (tree : Option Node) (current : Shape Fiber) (is : IsTreeOf
         → Reaches s tree units bodies (at_place (suc n) fs cs e (Some x)) → evaluated ≡ 0 → Reaches s tree (suc units) (bodies + evaluated) (arrive (suc n) fs (Some x))
     idle_reaches e o same linked stood was idle h none =
         let at : Reaches s tree units bodies (at_place (suc n) fs cs (element_of x) (Some x)) = subst (λ f. Reaches s tree units bodies (at_place (suc n) fs cs f (Some x))) (sym same) h in
-        subtree_reaches (element_of x) at none (idle_again o linked stood was idle at)
+        subtree_reaches (element_of x) refl at none (idle_again o linked stood was idle at)
 
   -- so it is where the render comes in one unit
   pub reaches : (c d : Cursor) → Goes s current evaluated c d → Reaches s tree units bodies c → is_over c ≡ false → Reaches s tree (suc units) (bodies + evaluated) d

@@ -147,7 +147,7 @@ sent_rendering result old hooks w u pending place i ok err later is =
           settled = way.settled;
           waits = way.waits;
           reads = way.reads;
-          come = record { cursor = way.come.cursor; comes = way.come.comes; goes = way.come.goes; drawn = way.come.drawn; given = way.come.given; olds = way.come.olds; rests = way.come.rests };
+          come = record { cursor = way.come.cursor; comes = way.come.comes; goes = way.come.goes; drawn = way.come.drawn; given = way.come.given; olds = way.come.olds; rests = way.come.rests; reached = way.come.reached };
         }
 
 -- A render of the machine
@@ -210,7 +210,7 @@ with_kept v hooks p st g keeps r =
       settled = r.settled;
       waits = r.waits;
       reads = r.reads;
-      come = record { cursor = r.come.cursor; comes = r.come.comes; goes = r.come.goes; drawn = r.come.drawn; given = r.come.given; olds = r.come.olds; rests = r.come.rests };
+      come = record { cursor = r.come.cursor; comes = r.come.comes; goes = r.come.goes; drawn = r.come.drawn; given = r.come.given; olds = r.come.olds; rests = r.come.rests; reached = r.come.reached };
     }
 
 -- so it is where memory ran out

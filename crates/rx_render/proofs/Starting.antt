@@ -27,6 +27,7 @@ use Rattle.rx_fiber.proofs.Starting.{starts, root_old}
 use Rattle.rx_begin.proofs.Keeping.{node_element}
 use Rattle.rx_hook_store.specs.Store.{kept_hooks}
 use Rattle.render_laws.proofs.GoingLaws.{start_holds}
+use Rattle.room_laws.specs.Reached as steps
 use Rattle.draw_laws.specs.Cursors.{CursorDrawn}
 use Rattle.rx_render.specs.declared.at.At.TheVariants.{Begins, Over}
 use Rattle.rx_render.specs.Rendering.{Rendering, IfLeft, ComesTo, to_place}
@@ -111,6 +112,7 @@ start_renders lanes cut resources old new r draws bounded st is =
         given = start_given s st.tree;
         olds = start_instances s st.tree;
         rests = start_rests s st.tree;
+        reached = steps.starts s refl;
       };
     }
 

@@ -23,6 +23,7 @@ use Rattle.render_laws.specs.InProgress.{InProgress}
 use Rattle.render_laws.specs.OldNodes.{CursorHas}
 use Rattle.render_laws.specs.SameSight.{AllAfter}
 use Rattle.draw_laws.specs.Cursors.{CursorDrawn}
+use Rattle.room_laws.specs.Reached.{IsReached}
 use Rattle.commit_laws.specs.WaitsAgain.{IfWaitsAgain}
 use Rattle.rx_render.specs.Mounting.{HasInstances, SettlesWith}
 use Rattle.rx_render.specs.GivenContexts.{CursorGiven}
@@ -50,6 +51,8 @@ pub record HasCome (s : Sight) (tree : Option Node) (v : Rendering) : Type 0 whe
   pub olds : CursorHas (HasInstances tree) cursor
   -- and each old node is settled where the tree is
   pub rests : CursorHas (SettlesWith tree) cursor
+  -- a render over the tree comes there
+  pub reached : IsReached s.program tree cursor
 
 -- a cut has nothing before it that has yet to come
 pub record IsPast (cut : Cut) (j : Journal) : Type 0 where

@@ -1,5 +1,5 @@
 // A render in progress.
-ghost use Rattle.std.specs.Prelude.{◌≡◌, ◌+◌, ◌<◌, ◌≤◌, ◌^◌, ℕ, ℤ, true, false, List, [], Option, None, Some, length, slice_get, IfOk, OnOk, OnErr, IsSomeAnd, if◌then◌else◌};
+ghost use Rattle.std.specs.Prelude.{◌≡◌, ◌+◌, ◌*◌, ◌<◌, ◌≤◌, ◌^◌, ℕ, ℤ, true, false, List, [], Option, None, Some, length, slice_get, IfOk, OnOk, OnErr, IsSomeAnd, if◌then◌else◌};
 ghost use Rattle.std.specs.Option.{option_copied};
 ghost use Rattle.rx_ast.specs.Syntax.{Program};
 ghost use Rattle.rx_check.specs.Checks.{unknowns};
@@ -7,12 +7,14 @@ ghost use Rattle.rx_elem.specs.Numbers.{numbered};
 ghost use Rattle.rx_elem.specs.Spots.{Mounted, mounted, node_count};
 ghost use Rattle.rx_elem.specs.Trees as trees;
 ghost use Rattle.rx_loop.specs.Ends.{MatchUnit};
-ghost use Rattle.rx_lists.specs.Shapes.{none};
-ghost use Rattle.rx_links.specs.Drafts.{taken, grafted};
+ghost use Rattle.rx_rules.specs.Bounds.{node_bound};
+ghost use Rattle.rx_lists.specs.Shapes.{none, size};
+ghost use Rattle.rx_links.specs.Drafts.{taken, made_size, grafted};
 ghost use Rattle.rx_queue.specs.Journal.{hook};
 ghost use Rattle.rx_hooks.specs.Hooks.{changed_at};
 ghost use Rattle.rx_model.specs.State.{State, Progress, linked_lanes, opening};
 ghost use Rattle.rx_model.specs.Accepting.{dispatched_for, lane_of};
+ghost use Rattle.rx_meaning.specs.Fresh.{IsTree};
 ghost use Rattle.rx_meaning.specs.Settled.{DoneBefore};
 ghost use Rattle.rx_model.specs.Committing.{committed_state, starting};
 ghost use Rattle.rx_model.specs.Laws.{IsBounded};
@@ -29,7 +31,7 @@ ghost use Rattle.rx_settle.specs.Settling.{CanSettle, IsSettlingOf};
 ghost use Rattle.rx_render.specs.declared.at.At.TheVariants.{Over};
 ghost use Rattle.rx_render.specs.LastUnit.{is_over};
 ghost use Rattle.rx_render.specs.Rendering.{IsIdle, IfLeft, left_of};
-ghost use Rattle.rx_render.specs.Renders.{CanStart, IsStartOf, Renders, with_hooks};
+ghost use Rattle.rx_render.specs.Renders.{CanStart, IsStartOf, IsUnderWay, Renders, with_hooks};
 ghost use Rattle.rx_render.specs.Turning.{GoesOn, GivesUp, BreaksOff};
 ghost use Rattle.rx_render.specs.TurningLaws.{goes_on_same, goes_on_join, gives_up_after};
 
@@ -37,6 +39,8 @@ use crate::advance::advance;
 use crate::at::{At, is_over, unit_before};
 use crate::roots::{default_contexts, root_element};
 use draw_laws::cursors_are_drawn;
+use render_laws::nodes_are_bounded;
+use room_laws::fibers_have_room;
 use rx_base::{Cut, Int, Steps};
 use rx_begin::Scene;
 use rx_check::Checked;
@@ -192,6 +196,21 @@ impl Renderer {
         ensures { result ≡ self.now.units }
     {
         self.units
+    }
+
+    /// How many fibers there are: those of the current tree, and those that are made for the tree in progress. A render over
+    /// a tree of the program never has more than three for each node of the bound.
+    pub fn live(&self) -> u64
+        ensures value { result ≡ size self.now.trees.current + made_size self.now.trees.draft }
+        ensures few { (st : State) (g : Progress) → Renders self.now.program st g self.now → IsTree self.now.program st.tree
+            → result ≤ 3 * node_bound self.now.program }
+        ensures under_way { (way : IsUnderWay self.now) → IsTree self.now.program way.tree → result ≤ 3 * node_bound self.now.program }
+        ensures idle { (tree : Option trees.Node) → self.now.trees.draft ≡ taken none → IsTreeOf tree self.now.trees.current
+            → IsTree self.now.program tree → result ≤ 2 * node_bound self.now.program }
+    {
+        nodes_are_bounded();
+        fibers_have_room();
+        self.fibers.live()
     }
 
     /// How many bodies it has evaluated so far.
