@@ -21,4 +21,4 @@ pub mod Taken
 pub mod FlushSteps
 pub mod StepRoom
 pub mod Broken
-pub mod Sizes
+pub mod Live

@@ -7,5 +7,5 @@ mod root;
 mod step;
 mod turns;
 
-pub use laws::{fibers_are_few, steps_can_be_taken};
+pub use laws::steps_can_be_taken;
 pub use root::Root;

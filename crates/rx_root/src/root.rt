@@ -1,5 +1,6 @@
 // The machine: a program, and its state between two steps.
 ghost use Rattle.std.specs.Prelude.{◌≡◌, ◌∷◌, ◌+◌, ◌*◌, ◌≤◌, [], true, None, Some, IfOk, OnErr, OnOk};
+ghost use Rattle.rx_rules.specs.Bounds.{node_bound};
 ghost use Rattle.rx_elem.specs.Spots.{hidden_count as hidden_in, node_count};
 ghost use Rattle.rx_lists.specs.Shapes.{none, size};
 ghost use Rattle.rx_links.specs.Drafts.{made_size, taken};
@@ -13,8 +14,8 @@ ghost use Rattle.run_laws.specs.Carried.{values_now};
 ghost use Rattle.rx_commit.specs.Written.{with_lines};
 ghost use Rattle.rx_root.specs.Stands.{Stands};
 
-use crate::laws::fibers_are_few;
 use end_laws::ends_are_not_read;
+use room_laws::fibers_have_room;
 use run_laws::quiet_ends;
 use rx_base::Int;
 use rx_check::Checked;
@@ -152,14 +153,15 @@ impl Root {
         self.renderer.fibers()
     }
 
-    /// How many fibers there are, those of a render in progress too. Where no render is in progress there are at most two for each
-    /// node of the committed tree.
+    /// How many fibers there are, those of a render in progress too: never more than three for each node of the bound, and where
+    /// no render is in progress at most two for each node of the committed tree.
     pub fn live(&self) -> u64
         ensures live { result ≡ size self.entry.now.rendering.trees.current + made_size self.entry.now.rendering.trees.draft }
+        ensures few { (s : State) → Stands self.entry.now.rendering.program s self.entry.now → result ≤ 3 * node_bound self.entry.now.rendering.program }
         ensures at_rest { (s : State) → Stands self.entry.now.rendering.program s self.entry.now → s.progress ≡ None → result ≤ 2 * node_count s.tree }
     {
-        fibers_are_few();
-        self.fibers().live()
+        fibers_have_room();
+        self.renderer.live()
     }
 
     /// True where no lane is pending and no boundary is hidden. Then each hook holds all its updates in the order in which they
