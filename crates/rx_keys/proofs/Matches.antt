@@ -1,5 +1,5 @@
 -- Where a child is found is where the old child is that it is, if their kinds agree.
-use Rattle.std.proofs.Common.{◌≡◌, ℕ, zero, suc, ◌+◌, ◌<◌, ◌≤◌, Bool, true, false, ◌&&◌, ◌⊎◌, cond, List, [], ◌∷◌, ◌++◌, ℤ, Option, Some, None, map, length, get_or, drop, refl, sym, ap, ◌∙◌, arith, subst, inl, inr, add-one, append_assoc, length-append}
+use Rattle.std.proofs.Common.{◌≡◌, ℕ, zero, suc, ◌+◌, ◌<◌, ◌≤◌, Bool, true, false, ◌&&◌, ◌⊎◌, cond, List, [], ◌∷◌, ◌++◌, ℤ, Option, Some, None, map, length, get_or, take, drop, refl, sym, ap, ◌∙◌, arith, subst, inl, inr, add-one, append_assoc, length-append}
 use Rattle.std.specs.Prelude.{slice_get, position, option_and_then}
 use Rattle.std.specs.List.{zip}
 use Rattle.std.specs.Bool.{then_some}
@@ -158,31 +158,36 @@ length-children (y ∷ ids) (z ∷ es) = omega (arith, length-children ids es)
 abbrev pub place_of : (old : List Element) → Child → Option ℕ
 place_of old c = position (is_same_child c) (identified old)
 
-seen_at : (ids : List code.Identity) (k : ℕ) (id : code.Identity) → k < length ids → id ≡ get_or ids k id → slice_get (map identity_seen ids) k ≡ Some (identity_seen id)
-seen_at [] k id h e = absurd (omega arith)
-seen_at (x ∷ ids) zero id h e = ap (λ (y : code.Identity). Some (identity_seen y)) (sym e)
-seen_at (x ∷ ids) (suc k) id h e = seen_at ids k id (omega arith) e
+-- what a child's identity is by the siblings before it
+identity-there : (earlier es : List Element) (k : ℕ) (e : Element) → slice_get es k ≡ Some e
+    → slice_get (identities_after earlier es) k ≡ Some (identity_after (earlier ++ take k es) (key_of e))
+identity-there earlier [] k e h = absurd (none-some e h)
+identity-there earlier (x ∷ es) zero e h =
+    let same : x ≡ e = same_Some _ _ h in
+    ap (λ (y : Element). Some (identity_after earlier (key_of y))) same ∙ ap (λ (zs : List Element). Some (identity_after zs (key_of e))) (sym (append-nil earlier))
+identity-there earlier (x ∷ es) (suc k) e h =
+    identity-there (earlier ++ x ∷ []) es k e h ∙ ap (λ (zs : List Element). Some (identity_after zs (key_of e))) (append_assoc earlier (x ∷ []) (take k es))
 
 -- one child more
-pub more_places : (old new : List Element) (ids : List code.Identity) (k : ℕ) (id : code.Identity) (e : Element) (all places after : List (Option ℕ)) (r : Option ℕ)
-    → k < length new → k < length ids → map identity_seen ids ≡ identities new → id ≡ get_or ids k id → e ≡ get_or new k e
+pub more_places : (old new : List Element) (k : ℕ) (id : code.Identity) (e : Element) (all places after : List (Option ℕ)) (r : Option ℕ)
+    → k < length new → e ≡ get_or new k e
     → all ≡ places ++ map (place_of old) (drop k (identified new))
+    → identity_seen id ≡ identity_after (take k new) (key_of e)
     → r ≡ place_of old (record { identity = identity_seen id; element = e })
     → after ≡ places ++ r ∷ []
     → all ≡ after ++ map (place_of old) (drop (k + 1) (identified new))
-more_places old new ids k id e all places after r ln li same ei ee so_far one pushed =
+more_places old new k id e all places after r ln ee so_far known one pushed =
     so_far
     ∙ ap (λ (cs : List Child). places ++ map (place_of old) cs) ahead
     ∙ ap (λ (x : Option ℕ). places ++ (x ∷ map (place_of old) (drop (k + 1) (identified new)))) (sym one)
     ∙ sym (append_assoc places (r ∷ []) (map (place_of old) (drop (k + 1) (identified new))))
     ∙ ap (λ (ps : List (Option ℕ)). ps ++ map (place_of old) (drop (k + 1) (identified new))) (sym pushed)
   where
+    there : slice_get new k ≡ Some e
+    there = slice_get-get_or new k e ln ∙ ap Some (sym ee)
+
     ahead : drop k (identified new) ≡ record { identity = identity_seen id; element = e } ∷ drop (k + 1) (identified new)
-    ahead =
-        rw add-one
-        (children-more (identities new) new k (identity_seen id) e
-        (ap (λ (xs : List Identity). slice_get xs k) (sym same) ∙ seen_at ids k id li ei)
-        (slice_get-get_or new k e ln ∙ ap Some (sym ee)))
+    ahead = rw add-one (children-more (identities new) new k (identity_seen id) e (identity-there [] new k e there ∙ ap Some (sym known)) there)
 
 pub drop-end : {A : Type 0} (xs : List A) (k : ℕ) → length xs ≤ k → drop k xs ≡ []
 drop-end [] zero h = refl

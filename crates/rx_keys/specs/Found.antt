@@ -1,5 +1,5 @@
 -- How old children are found again: the tables that a matching keeps, and what it reads off them.
-use Rattle.std.specs.Prelude.{◌≡◌, ℕ, ◌+◌, max, Bool, false, not, ◌&&◌, List, [], ◌∷◌, ℤ, Option, Some, None, nat_eq, nat_lt, slice_get, filter, length, map, option_and_then, if◌then◌else◌}
+use Rattle.std.specs.Prelude.{◌≡◌, ℕ, ◌+◌, max, Bool, false, not, ◌&&◌, List, [], ◌∷◌, ℤ, Option, Some, None, nat_eq, nat_lt, slice_get, filter, length, map, unwrap_or, count_by, option_and_then, if◌then◌else◌}
 use Rattle.std.specs.Option.{option_map_or}
 use Rattle.std.specs.Ordering.{int_eq}
 use Rattle.std.specs.List.{range_with_len}
@@ -7,13 +7,17 @@ use Rattle.std.specs.HashMap.{HashMap, get}
 use Rattle.std.specs.declared.hash.FoldHasher.{FoldHasher}
 use Rattle.std.specs.declared.hash.BuildHasherDefault.{BuildHasherDefault}
 use Rattle.rx_elem.specs.Elements.{Element, is_present}
-use Rattle.rx_elem.specs.Identity.{Identity, at_key, at_index, same_identity, identities, is_reused}
+use Rattle.rx_elem.specs.Identity.{Identity, at_key, at_index, has_key, same_identity, identities, is_reused}
 use Rattle.rx_keys.specs.declared.identity.Identity as code
 use Rattle.rx_keys.specs.IdentityView.{identity_seen}
 
 -- how many children had each key
 abbrev pub Counts : Type 0
 Counts = HashMap ℤ ℕ (BuildHasherDefault FoldHasher)
+
+-- the counts are those of the keys of these children
+abbrev pub CountsKeys : Counts → List Element → Type 0
+CountsKeys counts children = (k : ℤ) → unwrap_or (get int_eq counts k) 0 ≡ count_by (has_key k) children
 
 -- where the child with each key and each number of earlier siblings with that key was
 abbrev pub Table : Type 0

@@ -1,7 +1,10 @@
 // How a child is known among its siblings.
-ghost use Rattle.std.specs.Prelude.{◌≡◌, ◌<◌, ◌^◌, IfOk, length, map};
-ghost use Rattle.rx_elem.specs.Identity.{identities};
+ghost use Rattle.std.specs.Prelude.{◌≡◌, ◌+◌, ◌<◌, ◌^◌, ◌++◌, ◌∷◌, [], List, IfOk, OnOk, length, map};
+ghost use Rattle.rx_elem.specs.Elements as elements;
+ghost use Rattle.rx_elem.specs.Elements.{key_of};
+ghost use Rattle.rx_elem.specs.Identity.{identities, identity_after};
 ghost use Rattle.rx_keys.specs.IdentityView.{identity_seen};
+ghost use Rattle.rx_keys.specs.Found.{CountsKeys};
 
 use rx_base::Int;
 use rx_elem::Element;
@@ -16,6 +19,27 @@ pub enum Identity {
     Index(u32),
 }
 
+// The identity of the next child of a list, where the keys of its earlier siblings are counted. Its own key is counted then.
+pub(crate) fn next_identity(
+    counts: &mut HashMap<i64, u32>,
+    place: usize,
+    child: &Element,
+) -> Result<Identity, AllocError>
+    requires few { place + 1 < 2 ^ 32 }
+    requires counted { (earlier : List elements.Element) × (length earlier ≡ place) × CountsKeys counts.old earlier }
+    ensures identity { (earlier : List elements.Element) → length earlier ≡ place → CountsKeys counts.old earlier → IfOk result (λ id. identity_seen id ≡ identity_after earlier (key_of child.now)) }
+    ensures counted { (earlier : List elements.Element) → CountsKeys counts.old earlier → OnOk result (CountsKeys counts.new (earlier ++ child.now ∷ [])) }
+{
+    match child.key() {
+        None => Ok(Identity::Index(place as u32)),
+        Some(key) => {
+            let earlier = counts.get(&key.value()).copied().unwrap_or(0);
+            counts.insert(key.value(), earlier + 1)?;
+            Ok(Identity::Key(key, earlier))
+        }
+    }
+}
+
 /// The identity of each child of a list.
 ///
 /// # Errors
@@ -28,14 +52,7 @@ pub fn identities(alloc: Global, children: &[Element]) -> Result<Vec<Identity>, 
     let mut counts: HashMap<i64, u32> = HashMap::new(alloc);
     let mut ids = Vec::with_capacity(alloc, children.len())?;
     for place in 0..children.len() {
-        let id = match children[place].key() {
-            None => Identity::Index(place as u32),
-            Some(key) => {
-                let earlier = counts.get(&key.value()).copied().unwrap_or(0);
-                counts.insert(key.value(), earlier + 1)?;
-                Identity::Key(key, earlier)
-            }
-        };
+        let id = next_identity(&mut counts, place, &children[place])?;
         ids.push(id)?;
     }
     Ok(ids)

@@ -5,7 +5,7 @@ ghost use Rattle.rx_elem.specs.Identity.{at_key, identified, identities, is_same
 ghost use Rattle.rx_keys.specs.IdentityView.{identity_seen};
 ghost use Rattle.rx_keys.specs.Found.{KnowsAll, found_in, same_pair};
 
-use crate::identity::{Identity, identities};
+use crate::identity::{Identity, identities, next_identity};
 use rx_elem::Element;
 use std::alloc::{AllocError, Global};
 use std::collections::HashMap;
@@ -88,11 +88,12 @@ impl<'a> Known<'a> {
         requires knows { KnowsAll self.now.children.now self.now.ids.items self.now.table }
         ensures { IfOk result (λ places. places.items ≡ old_places self.now.children.now children.now) }
     {
-        let ids = identities(alloc, children)?;
+        let mut counts = HashMap::new(alloc);
         let mut places = Vec::with_capacity(alloc, children.len())?;
         for place in 0..children.len() {
-            let old = self.find(ids[place], &children[place]);
-            places.push(old)?;
+            let child = &children[place];
+            let id = next_identity(&mut counts, place, child)?;
+            places.push(self.find(id, child))?;
         }
         Ok(places)
     }
