@@ -27,20 +27,26 @@ fn numbers_and_reads_a_tree(rt: HostRuntime) -> Result<(), AllocError> {
     Ok(())
 }
 
+fn plain(element: &Element) -> Result<Fiber, AllocError> {
+    Ok(Fiber::new(0, element.copy()?, Stage::Begun(Mark::Plain)))
+}
+
 #[test]
-fn a_fiber_that_was_taken_over_stays(rt: HostRuntime) -> Result<(), AllocError> {
+fn a_fiber_that_is_taken_over_stays_the_same(rt: HostRuntime) -> Result<(), AllocError> {
     let alloc = rt.alloc();
     let mut tree = FiberTree::new(alloc);
     let element = Element::new(alloc, ElementKind::List(Vec::new(alloc)))?;
-    let plain = Fiber::new(0, element.copy()?, Stage::Begun(Mark::Plain));
-    let first = tree.start(plain)?;
-    let host = Fiber::new(0, element.copy()?, Stage::Begun(Mark::Host(Some(1))));
-    let child = tree.child(first, None, host)?;
+    let first = tree.start(plain(&element)?)?;
+    let beside = tree.child(first, None, plain(&element)?)?;
+    let above = tree.child(first, None, plain(&element)?)?;
+    let kept = tree.child(above, None, plain(&element)?)?;
     tree.swap();
-    let root = tree.start(Fiber::new(0, element, Stage::Begun(Mark::Plain)))?;
-    tree.take_over(root);
+    let root = tree.start(plain(&element)?)?;
+    let _changed = tree.child(root, Some(beside), plain(&element)?)?;
+    let clone = tree.child(root, Some(above), plain(&element)?)?;
+    tree.take_over(clone);
     tree.swap();
-    let kept = tree.first_child(root).is_some_and(|id| id.same(child));
-    assert!(rt; kept);
+    let same = tree.first_child(clone).is_some_and(|id| id.same(kept));
+    assert!(rt; same);
     Ok(())
 }
