@@ -1,3 +1,4 @@
 pub mod Behind
 pub mod Committed
 pub mod Lines
+pub mod Beside

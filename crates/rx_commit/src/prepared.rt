@@ -1,22 +1,32 @@
 // A commit that is prepared.
-ghost use Rattle.std.specs.Prelude.{◌≡◌, ◌∷◌, ◌++◌, Option, IfOk, OnErr, OnOk, map};
+ghost use Rattle.std.specs.Prelude.{◌≡◌, ◌∷◌, ◌++◌, Option, Some, IfOk, OnErr, OnOk, map};
 ghost use Rattle.std.specs.Option.{option_copied};
+ghost use Rattle.rx_elem.specs.Compare.{compare_trees};
 ghost use Rattle.rx_elem.specs.Trees.{Node};
+ghost use Rattle.rx_forest.specs.Hosts.{hosts};
+ghost use Rattle.rx_forest.specs.HostOps.{host_ops, ops_between};
 ghost use Rattle.rx_lane.specs.Lanes.{has, lanes_where};
 ghost use Rattle.rx_lines.specs.Lines.{committed, logged, operated};
+ghost use Rattle.rx_pruned.specs.Besides.{IsBeside};
 ghost use Rattle.end_laws.specs.Trimmed.{trimmed, trimmed_if};
+ghost use Rattle.host_laws.specs.Commits.{IsCommit};
+ghost use Rattle.prune_laws.specs.Present.{IfHasNoNull};
+ghost use Rattle.stay_laws.specs.Staying.{AreOfCommit};
 ghost use Rattle.rx_commit.specs.Shown.{Prepares};
 ghost use Rattle.rx_commit.specs.Written.{GoesOn, lines_of, sync_lines, with_lines};
 
 use crate::writing::{add_effects, add_ops, add_passive, cut_back};
-use rx_compare::compare_trees;
+use prune_laws::pruned_trees_compare_alike;
+use rx_compare::{Compared, compare_trees as compare};
 use rx_effect::LogLine;
 use rx_forest::HostOp;
-use rx_host_ops::{host_ops, hosts};
+use rx_host_ops::{hosts as listed, ops_between as between, placed_hosts};
 use rx_lane::{Lane, Lanes};
 use rx_log::{Passive, layout_log, passive_effects};
 use rx_node as node;
+use rx_pruned::Beside;
 use rx_report::Report;
+use stay_laws::hosts_that_stay_need_nothing;
 use std::alloc::{AllocError, Global};
 use std::marker::Model;
 
@@ -44,23 +54,61 @@ impl Model for Prepared {
     ghost view = { λ p. record { tree = p.tree; ops = p.ops.items; layout = p.layout.items; passive = passive_seen p.passive } };
 }
 
+// The operations from the hosts of one tree to those of another.
+fn ops_from(
+    alloc: Global,
+    old: Option<&node::Node>,
+    new: &node::Node,
+    placed: &[u64],
+) -> Result<Vec<HostOp>, AllocError>
+    ensures { IfOk result (λ ops. ops.items ≡ ops_between (hosts (option_copied old.entry)) (hosts (Some new.now)) placed.now) }
+{
+    let before = listed(alloc, old)?;
+    let after = listed(alloc, Some(new))?;
+    between(alloc, &before, &after, placed)
+}
+
+// The operations of a commit. A host that is placed goes before its next sibling, and that one may have stayed; so only where
+// none is placed are the hosts of lists that stayed left out.
+fn ops_beside(
+    alloc: Global,
+    old: Option<&node::Node>,
+    beside: &Beside,
+    compared: &Compared,
+) -> Result<Vec<HostOp>, AllocError>
+    requires beside { IsBeside (option_copied old) beside.now }
+    requires compared { compared.now ≡ compare_trees beside.now.pruned_old beside.now.pruned_new }
+    ensures { IfOk result (λ ops. IfHasNoNull (option_copied old.entry) → AreOfCommit (option_copied old.entry) beside.now.tree → ops.items ≡ host_ops (option_copied old.entry) beside.now.tree) }
+{
+    pruned_trees_compare_alike();
+    hosts_that_stay_need_nothing();
+    let placed = placed_hosts(alloc, compared)?;
+    if placed.is_empty() {
+        let pruned = beside.pruned_old.as_ref();
+        ops_from(alloc, pruned, &beside.pruned_new, &placed)
+    } else {
+        ops_from(alloc, old, &beside.tree, &placed)
+    }
+}
+
 impl Prepared {
-    // The commit of a tree after the one that is shown.
+    // The commit of a finished tree after the one that is shown.
     pub(crate) fn new(
         alloc: Global,
         old: Option<&node::Node>,
-        new: node::Node,
+        beside: &Beside,
     ) -> Result<Prepared, AllocError>
-        ensures { IfOk result (λ x. (tree : Option Node) (next : Node) → option_copied old.entry ≡ trimmed_if tree → new ≡ trimmed next → Prepares tree next x) }
+        requires { IsBeside (option_copied old) beside.now }
+        ensures { IfOk result (λ x. (tree : Option Node) (next : Node) → option_copied old.entry ≡ trimmed_if tree → beside.now.tree ≡ trimmed next → IfHasNoNull tree → IsCommit tree next → Prepares tree next x) }
     {
-        let compared = compare_trees(alloc, old, &new)?;
-        let before = hosts(alloc, old)?;
-        let after = hosts(alloc, Some(&new))?;
+        pruned_trees_compare_alike();
+        let pruned = beside.pruned_old.as_ref();
+        let compared = compare(alloc, pruned, &beside.pruned_new)?;
         Ok(Prepared {
-            ops: host_ops(alloc, &before, &after, &compared)?,
+            ops: ops_beside(alloc, old, beside, &compared)?,
             layout: layout_log(alloc, &compared)?,
             passive: passive_effects(alloc, &compared)?,
-            tree: new,
+            tree: beside.tree.copy()?,
         })
     }
 

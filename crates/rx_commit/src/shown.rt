@@ -11,13 +11,16 @@ ghost use Rattle.rx_host.specs.Kept.{forest_kept};
 ghost use Rattle.rx_lines.specs.Lines.{tree_lines};
 ghost use Rattle.rx_meaning.specs.Outcome.{outcome};
 ghost use Rattle.rx_report.specs.TreeOrder.{AreInTreeOrder};
+ghost use Rattle.rx_pruned.specs.Besides.{IsBeside};
 ghost use Rattle.end_laws.specs.Trimmed.{trimmed, trimmed_if};
 ghost use Rattle.host_laws.specs.Commits.{IsCommit, TextsAreLeaves};
+ghost use Rattle.prune_laws.specs.Present.{IfHasNoNull};
 ghost use Rattle.rx_commit.specs.Shown.{CanCommit, Prepares, Shows, outcome_as};
 ghost use Rattle.rx_commit.specs.Written.{passive_lines, with_lines};
 
 use crate::prepared::Prepared;
 use crate::writing::{add_passive, cut_back};
+use prune_laws::pruned_trees_compare_alike;
 use rx_base::Awaits;
 use rx_compare::{Outcome, compare_trees, outcome_of};
 use rx_forest::HostOp;
@@ -25,6 +28,7 @@ use rx_host::HostTree;
 use rx_lane::Lanes;
 use rx_log::Passive;
 use rx_node as node;
+use rx_pruned::Beside;
 use rx_report::Report;
 use std::alloc::{AllocError, Global};
 use std::marker::Model;
@@ -94,35 +98,38 @@ impl Shown {
     pub fn outcome(
         &self,
         alloc: Global,
-        new: &node::Node,
+        beside: &Beside,
         lanes: Lanes,
     ) -> Result<Option<Awaits>, AllocError>
-        ensures { IfOk result (λ awaits. (tree : Option Node) (next : Node) → self.now.tree ≡ trimmed_if tree → new.now ≡ trimmed next → outcome_as next awaits ≡ outcome lanes tree next) }
+        requires { IsBeside self.now.tree beside.now }
+        ensures { IfOk result (λ awaits. (tree : Option Node) (next : Node) → self.entry.now.tree ≡ trimmed_if tree → beside.now.tree ≡ trimmed next → IfHasNoNull tree → outcome_as next awaits ≡ outcome lanes tree next) }
     {
+        pruned_trees_compare_alike();
         if !lanes.only_transitions() {
             return Ok(None);
         }
-        let compared = compare_trees(alloc, self.tree(), new)?;
+        let compared = compare_trees(alloc, beside.pruned_old.as_ref(), &beside.pruned_new)?;
         match outcome_of(lanes, &compared) {
             Outcome::Commit => Ok(None),
             Outcome::Defer(awaits) => Ok(Some(awaits)),
         }
     }
 
-    /// Prepares the commit of a tree: it takes all the memory that the commit needs, and shows nothing of it.
+    /// Prepares the commit of a finished tree: it takes all the memory that the commit needs, and shows nothing of it.
     ///
     /// # Errors
     ///
     /// Want of memory alone.
-    pub fn prepare(&mut self, alloc: Global, new: node::Node) -> Result<Prepared, AllocError>
-        ensures prepares { IfOk result (λ x. (tree : Option Node) (next : Node) → self.old.tree ≡ trimmed_if tree → new ≡ trimmed next → Prepares tree next x) }
-        ensures ready { IfOk result (λ x. (tree : Option Node) (passive : effects.Passive) (next : Node) → Shows tree passive self.old → new ≡ trimmed next → IsCommit tree next → TextsAreLeaves next → CanCommit self.new x) }
+    pub fn prepare(&mut self, alloc: Global, beside: &Beside) -> Result<Prepared, AllocError>
+        requires { IsBeside self.old.tree beside.now }
+        ensures prepares { IfOk result (λ x. (tree : Option Node) (next : Node) → self.old.tree ≡ trimmed_if tree → beside.now.tree ≡ trimmed next → IfHasNoNull tree → IsCommit tree next → Prepares tree next x) }
+        ensures ready { IfOk result (λ x. (tree : Option Node) (passive : effects.Passive) (next : Node) → Shows tree passive self.old → beside.now.tree ≡ trimmed next → IfHasNoNull tree → IsCommit tree next → TextsAreLeaves next → CanCommit self.new x) }
         ensures tree { self.new.tree ≡ self.old.tree }
         ensures hosts { forest_kept self.new.hosts ≡ forest_kept self.old.hosts }
         ensures passive { self.new.passive ≡ self.old.passive }
         ensures same { (tree : Option Node) (passive : effects.Passive) → Shows tree passive self.old → Shows tree passive self.new }
     {
-        let prepared = Prepared::new(alloc, self.tree(), new)?;
+        let prepared = Prepared::new(alloc, self.tree(), beside)?;
         self.hosts.reserve(prepared.ops.len() as u64)?;
         Ok(prepared)
     }

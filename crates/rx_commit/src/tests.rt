@@ -4,12 +4,14 @@ ghost use Rattle.rx_elem.specs.Elements as elements;
 ghost use Rattle.rx_elem.specs.Trees.{node, none, of_host};
 ghost use Rattle.end_laws.specs.Trimmed.{trimmed};
 ghost use Rattle.host_laws.specs.Commits.{IsCommit, TextsAreLeaves};
+ghost use Rattle.rx_pruned.specs.Besides.{IsBeside};
 
 use super::Shown;
 use rx_base::{Ints, Name, Str};
 use rx_elem::{EffectRecord, Element, ElementKind};
 use rx_lane::{Lane, Lanes};
 use rx_node::{Instance, Mark, Node};
+use rx_pruned::Beside;
 use rx_report::Report;
 use std::alloc::{AllocError, Global};
 use std::rc::Rc;
@@ -60,14 +62,27 @@ fn first_tree(alloc: Global) -> Result<Node, AllocError>
     Node::new(alloc, element, mark, children, Vec::new(alloc))
 }
 
+// A first tree, beside which there is none.
+fn beside_none(tree: Node) -> Result<Beside, AllocError>
+    ensures beside { IfOk result (λ b. IsBeside None b) }
+    ensures tree { IfOk result (λ b. b.tree ≡ tree) }
+{
+    Ok(Beside {
+        pruned_old: None,
+        pruned_new: tree.copy()?,
+        tree,
+    })
+}
+
 #[test]
 fn a_tree_is_committed(rt: HostRuntime) -> Result<(), Fail> {
     let alloc = rt.alloc();
     let mut shown = Shown::new(alloc);
     let tree = first_tree(alloc)?;
     let lanes = Lanes::one(Lane::Default);
-    assert!(rt; shown.outcome(alloc, &tree, lanes)?.is_none());
-    let prepared = shown.prepare(alloc, tree)?;
+    let beside = beside_none(tree)?;
+    assert!(rt; shown.outcome(alloc, &beside, lanes)?.is_none());
+    let prepared = shown.prepare(alloc, &beside)?;
     let mut log = Report::new(alloc, false, true);
     prepared.write(&mut log, 1, lanes, 1, 1)?;
     shown.commit(prepared);

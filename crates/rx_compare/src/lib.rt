@@ -12,4 +12,5 @@ mod tests;
 pub use around::Around;
 pub use compare::compare_trees;
 pub use compared::{Change, Compared, Gone};
+pub use lists::{elements_of, node_at};
 pub use outcome::{Outcome, outcome_of};

@@ -32,8 +32,8 @@ pub(crate) fn fallback_if<'a>(old: Option<&'a Node>) -> &'a [Option<Node>]
     }
 }
 
-// The node at a place of a list.
-pub(crate) fn node_at(nodes: &[Option<Node>], place: Option<u32>) -> Option<&Node>
+/// The node at a place of a list.
+pub fn node_at(nodes: &[Option<Node>], place: Option<u32>) -> Option<&Node>
     ensures { option_copied result ≡ option_and_then (node_at (forest nodes.now)) place }
 {
     nodes.get(place? as usize)?.as_ref()
@@ -48,8 +48,12 @@ fn element_at(alloc: Global, place: &Option<Node>) -> Result<Element, AllocError
     }
 }
 
-// The elements that a list was rendered from. A list has fewer than 2 ^ 32 places: there is no memory for more.
-fn elements_of(alloc: Global, nodes: &[Option<Node>]) -> Result<Vec<Element>, AllocError>
+/// The elements that a list was rendered from. A list has fewer than 2 ^ 32 places: there is no memory for more.
+///
+/// # Errors
+///
+/// Want of memory alone.
+pub fn elements_of(alloc: Global, nodes: &[Option<Node>]) -> Result<Vec<Element>, AllocError>
     ensures few { IfOk result (λ es. length es.items < 2 ^ 32) }
     ensures are { IfOk result (λ es. es.items ≡ elements_in (forest nodes.now)) }
 {

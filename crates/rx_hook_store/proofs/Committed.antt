@@ -9,20 +9,22 @@ use Rattle.rx_elem.specs.Trees.{Node}
 use Rattle.rx_elem.specs.Spots.{Mounted, kept_instances, mounted, numbers_of, visible_instances}
 use Rattle.rx_queue.specs.declared.entry.Standing.{Standing}
 use Rattle.rx_queue.specs.declared.entry.Standing.TheVariants.{Done, Open, Owed}
-use Rattle.rx_queue.specs.History.{stands_done}
-use Rattle.rx_queue.specs.Journal.{Posted, belongs_to, hook, is_before, is_included, marked_update, same_target}
+use Rattle.rx_queue.specs.declared.entry.Entry.{Entry}
+use Rattle.rx_queue.specs.History.{stands_done, stands_owed}
+use Rattle.rx_queue.specs.History as history
+use Rattle.rx_queue.specs.Bridge.{posted_as}
+use Rattle.rx_queue.specs.Journal.{Posted, Target, belongs_to, hook, marked_update, same_target}
 use Rattle.rx_queue.proofs.Bridging.{committed_agrees, owed_agrees}
 use Rattle.rx_hooks.specs.declared.hook.Hook.{Hook}
 use Rattle.rx_hooks.specs.Hooks.{HookHistory, HooksStandFor, committed_hook, owed_hook, rendered}
 use Rattle.rx_hooks.specs.Hooks as hooks_of
 use Rattle.rx_meaning.specs.Expressions.{answers_of}
 use Rattle.rx_meaning.specs.Settled.{HasOwnNumbers, TargetsBelow, includes}
-use Rattle.rx_meaning.specs.Touched.{has_update}
+use Rattle.rx_hook_store.specs.Gives.{has_work_in, has_work_in_update}
 use Rattle.rx_model.specs.State.{Progress, State}
 use Rattle.rx_model.specs.Committing.{committed_state}
 use Rattle.rx_model.specs.HooksOf.{AreHooksFrom, KeepsAllHooks}
 use Rattle.commit_laws.proofs.OwnNumbers.{own_numbers_apart}
-use Rattle.commit_laws.proofs.Settling.{target_has}
 use Rattle.rx_hook_store.specs.Rendered.{KeepsInstance}
 use Rattle.rx_hook_store.specs.Changing.{HooksChange}
 use Rattle.rx_hook_store.specs.Commits.{LinksBelow, SettlesHooks, hidden, made, shown, untouched}
@@ -99,65 +101,59 @@ module _ (program : Program) (s : State) (g : Progress) (fixed : Numbers × Node
     hooks_hidden is_out is_in (suc k) xs hs are.1,
   )
 
-  -- an update of an instance that isn't touched stands as before
-  update_left : (u : Posted) (k : ℕ) → same_target (hook n k) u.target ≡ true → includes kept n ≡ false → (is_included g.lanes g.cut u && (not (stands_done u.standing) && belongs_to (n ∷ []) u.target)) ≡ false
-      → marked_update g.lanes g.cut visible kept u ≡ u
-  update_left u k same is_out calm = ap (λ (x : Standing). let v : Posted = record { target = u.target; update = u.update; standing = x } in v)
-      (by_tests u.standing (is_included g.lanes g.cut u) (belongs_to visible u.target) (is_before g.cut u) (has g.lanes u.update.lane) (belongs_to kept u.target) (belongs_to (n ∷ []) u.target)
-      (target_has kept n k u.target false is_out same) (target_has (n ∷ []) n k u.target true (itself n) same) calm)
+  -- where a render has no work in a hook's updates, they stand as before
+  updates_left : (t : Target) (es : List Entry) → list_any (has_work_in_update g.lanes g.cut) es ≡ false
+      → map (marked_update g.lanes g.cut visible kept) (map (posted_as t) es) ≡ map (posted_as t) es
+  updates_left t [] calm = refl
+  updates_left t (e ∷ es) calm =
+      let parts = or_false_parts (has_work_in_update g.lanes g.cut e) (list_any (has_work_in_update g.lanes g.cut) es) calm in
+      ap (λ (x : Standing). let u : Posted = record { target = t; update = e.update; standing = x } in u ∷ map (marked_update g.lanes g.cut visible kept) (map (posted_as t) es))
+      (by_tests e.standing (history.is_before g.cut e) (has g.lanes e.update.lane) (belongs_to visible t) (belongs_to kept t) parts.0)
+      ∙ ap (λ (us : List Posted). posted_as t e ∷ us) (updates_left t es parts.1)
     where
-      itself : (i : ℕ) → includes (i ∷ []) i ≡ true
-      itself i = let e : nat_eq i i ≡ true = grind (arith, nat_tests) in rw e refl
+      by_tests : (x : Standing) (before among seen hid : Bool) → ((before && (stands_done x || stands_owed x || among)) && not (stands_done x)) ≡ false
+          → (if (before && (stands_done x || stands_owed x || among)) && seen then Done else (if before && (not (stands_done x) && (among && hid)) then Owed else x)) ≡ x
+      by_tests Open true true seen hid calm = absurd (let f : ⊥ = cc in f)
+      by_tests Open true false seen hid calm = refl
+      by_tests Open false among seen hid calm = refl
+      by_tests Done true among true hid calm = refl
+      by_tests Done true among false hid calm = refl
+      by_tests Done false among seen hid calm = refl
+      by_tests Owed true among seen hid calm = absurd (let f : ⊥ = cc in f)
+      by_tests Owed false among seen hid calm = refl
 
-      by_tests : (x : Standing) (a b c d e f : Bool) → e ≡ false → f ≡ true → (a && (not (stands_done x) && f)) ≡ false
-          → (if a && b then Done else (if c && (not (stands_done x) && (d && e)) then Owed else x)) ≡ x
-      by_tests x a b c d true f out one calm = cc
-      by_tests x a b c d false false out one calm = cc
-      by_tests Done true true c d false true out one calm = refl
-      by_tests Done true false true true false true out one calm = refl
-      by_tests Done true false true false false true out one calm = refl
-      by_tests Done true false false d false true out one calm = refl
-      by_tests Open true b c d false true out one calm = cc
-      by_tests Owed true b c d false true out one calm = cc
-      by_tests Done false b true d false true out one calm = refl
-      by_tests Done false b false d false true out one calm = refl
-      by_tests Open false b true true false true out one calm = refl
-      by_tests Open false b true false false true out one calm = refl
-      by_tests Open false b false d false true out one calm = refl
-      by_tests Owed false b true true false true out one calm = refl
-      by_tests Owed false b true false false true out one calm = refl
-      by_tests Owed false b false d false true out one calm = refl
-
-  updates_left : (k : ℕ) (us : List Posted) → includes kept n ≡ false
-      → list_any (λ (u : Posted). is_included g.lanes g.cut u && (not (stands_done u.standing) && belongs_to (n ∷ []) u.target)) us ≡ false
-      → filter (λ (u : Posted). same_target (hook n k) u.target) (map (marked_update g.lanes g.cut visible kept) us) ≡ filter (λ (u : Posted). same_target (hook n k) u.target) us
-  updates_left k [] is_out calm = refl
-  updates_left k (u ∷ us) is_out calm =
-      let parts = or_false_parts (is_included g.lanes g.cut u && (not (stands_done u.standing) && belongs_to (n ∷ []) u.target)) _ calm in
-      go (same_target (hook n k) u.target) refl parts.0 (updates_left k us is_out parts.1)
+  -- the updates of a target after the commit
+  updates_after : (t : Target) (us : List Posted) → filter (λ (u : Posted). same_target t u.target) (map (marked_update g.lanes g.cut visible kept) us)
+      ≡ map (marked_update g.lanes g.cut visible kept) (filter (λ (u : Posted). same_target t u.target) us)
+  updates_after t [] = refl
+  updates_after t (u ∷ us) = go (same_target t u.target) (updates_after t us)
     where
-      go : (b : Bool) → same_target (hook n k) u.target ≡ b → (is_included g.lanes g.cut u && (not (stands_done u.standing) && belongs_to (n ∷ []) u.target)) ≡ false
-          → filter (λ (u : Posted). same_target (hook n k) u.target) (map (marked_update g.lanes g.cut visible kept) us) ≡ filter (λ (u : Posted). same_target (hook n k) u.target) us
-          → cond b (marked_update g.lanes g.cut visible kept u ∷ filter (λ (u : Posted). same_target (hook n k) u.target) (map (marked_update g.lanes g.cut visible kept) us))
-          (filter (λ (u : Posted). same_target (hook n k) u.target) (map (marked_update g.lanes g.cut visible kept) us))
-          ≡ cond b (u ∷ filter (λ (u : Posted). same_target (hook n k) u.target) us) (filter (λ (u : Posted). same_target (hook n k) u.target) us)
-      go true same one rest = ap (λ (v : Posted). v ∷ filter (λ (u : Posted). same_target (hook n k) u.target) (map (marked_update g.lanes g.cut visible kept) us)) (update_left u k same is_out one)
-          ∙ ap (λ (vs : List Posted). u ∷ vs) rest
-      go false same one rest = rest
+      go : (b : Bool) → filter (λ (u : Posted). same_target t u.target) (map (marked_update g.lanes g.cut visible kept) us)
+          ≡ map (marked_update g.lanes g.cut visible kept) (filter (λ (u : Posted). same_target t u.target) us)
+          → cond b (marked_update g.lanes g.cut visible kept u ∷ filter (λ (u : Posted). same_target t u.target) (map (marked_update g.lanes g.cut visible kept) us))
+          (filter (λ (u : Posted). same_target t u.target) (map (marked_update g.lanes g.cut visible kept) us))
+          ≡ map (marked_update g.lanes g.cut visible kept) (cond b (u ∷ filter (λ (u : Posted). same_target t u.target) us) (filter (λ (u : Posted). same_target t u.target) us))
+      go true e = ap (λ (vs : List Posted). marked_update g.lanes g.cut visible kept u ∷ vs) e
+      go false e = e
 
-  -- the hooks of an instance that isn't touched stay
-  hooks_left : includes kept n ≡ false → has_update (record { program = program; journal = s.journal; lanes = g.lanes; cut = g.cut }) (n ∷ []) ≡ false
-      → (k : ℕ) (xs : List ℤ) (hs : List HookHistory) → AreHooksFrom s n k xs hs → AreHooksFrom after n k xs hs
-  hooks_left is_out calm k [] [] are = tt
-  hooks_left is_out calm k [] (h ∷ hs) are = absurd are
-  hooks_left is_out calm k (x ∷ xs) [] are = absurd are
-  hooks_left is_out calm k (x ∷ xs) (h ∷ hs) are = (
-    record {
-      history_is = record { initial_is = are.0.history_is.initial_is; updates_are = are.0.history_is.updates_are ∙ sym (updates_left k s.journal.updates is_out calm) };
-      linked_is = are.0.linked_is;
-    },
-    hooks_left is_out calm (suc k) xs hs are.1,
-  )
+  -- the hooks of an instance in which the render has no work stay
+  hooks_left : (k : ℕ) (xs : List ℤ) (hs : List HookHistory) → has_work_in g.lanes g.cut hs ≡ false → AreHooksFrom s n k xs hs → AreHooksFrom after n k xs hs
+  hooks_left k [] [] calm are = tt
+  hooks_left k [] (h ∷ hs) calm are = absurd are
+  hooks_left k (x ∷ xs) [] calm are = absurd are
+  hooks_left k (x ∷ xs) (h ∷ hs) calm are =
+      let parts = or_false_parts (list_any (has_work_in_update g.lanes g.cut) h.updates.entries) (has_work_in g.lanes g.cut hs) calm in (
+        record {
+          history_is = record {
+            initial_is = are.0.history_is.initial_is;
+            updates_are =
+                sym (updates_left (hook n k) h.updates.entries parts.0) ∙ ap (map (marked_update g.lanes g.cut visible kept)) are.0.history_is.updates_are
+                ∙ sym (updates_after (hook n k) s.journal.updates);
+          };
+          linked_is = are.0.linked_is;
+        },
+        hooks_left (suc k) xs hs parts.1 are.1,
+      )
 
   none_yet : (k : ℕ) (us : List Posted) → s.numbers.instance ≤ n → TargetsBelow s.numbers.instance us
       → filter (λ (u : Posted). same_target (hook n k) u.target) (map (marked_update g.lanes g.cut visible kept) us) ≡ []
@@ -210,15 +206,13 @@ committed_keeps p s g fixed old new below links own settles = all-keep p (commit
         passes_in (λ (m : Mounted). not m.visible) (mounted (Some fixed.1)) k m at (not_hidden m.visible visible) in
         changed (map (owed_hook g.lanes g.cut)) p (committed_state s g fixed) new m.number m.initials (old m.number) c is.hooks is.histories is.kept_is is.stand
         (hooks_hidden p s g fixed m.number (apart m.number is_in) is_in 0 m.initials is.histories is.are_of)
-    go k m at (untouched visible is calm same) =
-        let is_in : includes (visible_instances (Some fixed.1)) m.number ≡ true = passes_in (λ (m : Mounted). m.visible) (mounted (Some fixed.1)) k m at visible in
-        let is_out : includes (kept_instances (Some fixed.1)) m.number ≡ false = not_both _ _ (apart m.number) is_in in
+    go k m at (untouched is calm same) =
         record {
           hooks = is.hooks;
           kept_is = same ∙ is.kept_is;
           histories = is.histories;
           stand = is.stand;
-          are_of = hooks_left p s g fixed m.number is_out calm 0 m.initials is.histories is.are_of;
+          are_of = hooks_left p s g fixed m.number 0 m.initials is.histories calm is.are_of;
         }
     go k m at (made new_one are) =
         record {

@@ -6,3 +6,5 @@ pub mod Sending
 pub mod Committed
 pub mod Numbered
 pub mod Staying
+pub mod Idle
+pub mod Listing

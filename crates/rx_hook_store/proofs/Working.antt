@@ -82,7 +82,7 @@ work_is lanes cut hs = among_works (map (λ (h : HookHistory). work_of lanes cut
 
 -- ---- where there is none
 
-neither : (a b : Bool) → (a || b) ≡ false → (a ≡ false) × (b ≡ false)
+pub neither : (a b : Bool) → (a || b) ≡ false → (a ≡ false) × (b ≡ false)
 neither true b none = absurd (cc none)
 neither false b none = (refl, none)
 

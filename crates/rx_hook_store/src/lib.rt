@@ -1,6 +1,7 @@
 //! The hooks of the mounted instances, by the numbers of the instances.
 #![tactic(auto)]
 
+mod busy;
 mod laws;
 mod store;
 #[cfg(test)]

@@ -1,5 +1,5 @@
 // The hooks of the mounted instances.
-ghost use Rattle.std.specs.Prelude.{◌≡◌, ◌+◌, ◌<◌, ◌≤◌, ℕ, ℤ, false, nat_eq, List, Some, None, OnOk, OnErr, IfOk, IsSome, IsSomeAnd, if◌then◌else◌, length, map, slice_get};
+ghost use Rattle.std.specs.Prelude.{◌≡◌, ◌+◌, ◌<◌, ◌≤◌, ℕ, ℤ, true, false, nat_eq, List, Some, None, OnOk, OnErr, IfOk, IsSome, IsSomeAnd, if◌then◌else◌, length, map, slice_get};
 ghost use Rattle.rx_ast.specs.Syntax.{Program};
 ghost use Rattle.rx_base.specs.declared.cut.Cut.{Cut};
 ghost use Rattle.rx_lane.specs.Lanes.{Lanes};
@@ -10,7 +10,7 @@ ghost use Rattle.rx_hooks.specs.declared.hook.Hook.{Hook};
 ghost use Rattle.rx_hooks.specs.Hooks.{HookHistory, HooksStandFor, changed_at, committed_hook, owed_hook};
 ghost use Rattle.rx_meaning.specs.Expressions.{answers_of};
 ghost use Rattle.rx_meaning.specs.Fresh.{Sight, hook_values};
-ghost use Rattle.rx_meaning.specs.Settled.{DoneBefore, done_values, known_by};
+ghost use Rattle.rx_meaning.specs.Settled.{DoneBefore, done_values, includes, known_by};
 ghost use Rattle.rx_model.specs.State.{State, committed_values, linked_lanes, opening};
 ghost use Rattle.rx_model.specs.Accepting.{dispatched_for, lane_of};
 ghost use Rattle.rx_model.specs.HooksOf.{KeepsAllHooks};
@@ -19,14 +19,18 @@ ghost use Rattle.rx_hook_store.specs.Store.{kept_hooks};
 ghost use Rattle.rx_hook_store.specs.Gives.{GivesValues, has_news_in, has_work_in};
 ghost use Rattle.rx_hook_store.specs.Rendered.{IsRendered, KeepsInstance, RendersHooks};
 ghost use Rattle.rx_hook_store.specs.Changing.{ChangesHooks, dispatched_hook, lanes_linked};
+ghost use Rattle.rx_hook_store.specs.Working.{AreAllWorking, HaveWork};
+ghost use Rattle.std.specs.HashSet.{contains};
+ghost use Rattle.std.specs.Map.{lookup};
 
+use crate::busy::Busy;
 use rx_base::{Cut, Int, Ints};
 use rx_hooks::Hooks;
 use rx_lane::Lanes;
 use rx_queue::{Fold, Update, Work};
 use rx_step::LaneWord;
 use std::alloc::{AllocError, Global};
-use std::collections::HashMap;
+use std::collections::{HashMap, HashSet};
 use std::marker::Model;
 
 /// The hooks of the mounted instances, by the numbers of the instances. The fibers of an instance share them, as React's
@@ -34,15 +38,24 @@ use std::marker::Model;
 #[derive(Drop)]
 pub struct HookStore {
     hooks: HashMap<u64, Hooks>,
+    busy: Busy,
 }
 
 impl Model for HookStore {
+    ghost use Rattle.std.specs.Prelude.{◌≡◌, ℕ, false, nat_eq, List, Some};
     ghost use Rattle.std.specs.HashMap.{spare};
+    ghost use Rattle.std.specs.Map.{lookup};
+    ghost use Rattle.rx_hooks.specs.declared.hook.Hook.{Hook};
     ghost use Rattle.rx_hook_store.specs.Store.{Kept};
+    ghost use Rattle.rx_hook_store.specs.Working.{AreIdle};
+    ghost use Rattle.rx_hook_store.specs.Busy.{is_listed};
 
     ghost Value = { Kept };
 
     ghost view = { λ s. record { entries = s.hooks.entries; spare = spare s.hooks } };
+
+    // The hooks of an instance that is not listed as busy are idle.
+    ghost invariant = { λ s. (n : ℕ) (hooks : List Hook) → lookup (nat_eq n) s.hooks.entries ≡ Some hooks → is_listed s.busy n ≡ false → AreIdle hooks };
 }
 
 // Sends an update to a hook, and links the lane of a transition.
@@ -69,6 +82,57 @@ fn send(
     }
 }
 
+// Pushes the number of an instance, if a render has work in its hooks.
+fn push_working(
+    numbers: &mut Vec<u64>,
+    hooks: &HashMap<u64, Hooks>,
+    instance: u64,
+    lanes: Lanes,
+    cut: Cut,
+) -> Result<(), AllocError>
+    ensures here { OnOk result ((kept : List Hook) → lookup (nat_eq instance) hooks.now.entries ≡ Some kept → HaveWork lanes cut kept → includes numbers.new.items instance ≡ true) }
+    ensures others { (n : ℕ) → includes numbers.old.items n ≡ true → includes numbers.new.items n ≡ true }
+{
+    if let Some(kept) = hooks.get(&instance)
+        && kept.work(lanes, cut) != Work::Nothing
+    {
+        numbers.push(instance)?;
+    }
+    Ok(())
+}
+
+// Pushes the numbers of those of the listed instances in whose hooks a render has work.
+fn push_listed(
+    numbers: &mut Vec<u64>,
+    hooks: &HashMap<u64, Hooks>,
+    listed: &HashSet<u64>,
+    lanes: Lanes,
+    cut: Cut,
+) -> Result<(), AllocError>
+    ensures { OnOk result ((n : ℕ) (kept : List Hook) → contains nat_eq listed.now n ≡ true → lookup (nat_eq n) hooks.now.entries ≡ Some kept → HaveWork lanes cut kept
+        → includes numbers.new.items n ≡ true) }
+{
+    'listing: for instance in listed.iter() {
+        push_working(numbers, hooks, *instance, lanes, cut)?;
+    }
+    Ok(())
+}
+
+// Pushes the numbers of all instances in whose hooks a render has work.
+fn push_all(
+    numbers: &mut Vec<u64>,
+    hooks: &HashMap<u64, Hooks>,
+    lanes: Lanes,
+    cut: Cut,
+) -> Result<(), AllocError>
+    ensures { OnOk result ((n : ℕ) (kept : List Hook) → lookup (nat_eq n) hooks.now.entries ≡ Some kept → HaveWork lanes cut kept → includes numbers.new.items n ≡ true) }
+{
+    'pushing: for instance in hooks.keys() {
+        push_working(numbers, hooks, *instance, lanes, cut)?;
+    }
+    Ok(())
+}
+
 impl HookStore {
     /// No hooks.
     pub fn new(alloc: Global) -> HookStore
@@ -77,6 +141,7 @@ impl HookStore {
     {
         HookStore {
             hooks: HashMap::new(alloc),
+            busy: Busy::new(alloc),
         }
     }
 
@@ -116,7 +181,9 @@ impl HookStore {
             → IsRendered p st lanes cut (kept_hooks self.old) k initials → IsRendered p st lanes cut (kept_hooks self.new) k initials }
     {
         let hooks = self.hooks.get_mut(&instance).unwrap();
-        hooks.render_values(alloc, fold, lanes, cut)
+        let values = hooks.render_values(alloc, fold, lanes, cut);
+        self.busy.note(instance, hooks);
+        values
     }
 
     /// Sends an update to a hook of an instance, by its place from 0. A transition also links the update's lane with those
@@ -154,7 +221,9 @@ impl HookStore {
             → IsRendered p (dispatched_for s word (hook instance place) update.op) lanes cut (kept_hooks self.new) k initials) }
     {
         let hooks = self.hooks.get_mut(&instance).unwrap();
-        send(hooks, place, word, update, pending)
+        let linked = send(hooks, place, word, update, pending);
+        self.busy.add(instance);
+        linked
     }
 
     /// The committed value of a hook of an instance, by its place from 0.
@@ -202,6 +271,24 @@ impl HookStore {
         hooks.work(lanes, cut) == Work::New
     }
 
+    /// The numbers of the instances in whose hooks a render for these lanes at this cut has work; others may be among them.
+    /// It asks those alone that may have queued updates.
+    ///
+    /// # Errors
+    ///
+    /// Want of memory alone.
+    pub fn working(&self, alloc: Global, lanes: Lanes, cut: Cut) -> Result<Vec<u64>, AllocError>
+        ensures { IfOk result (λ numbers. AreAllWorking lanes cut (kept_hooks self.now) numbers.items) }
+    {
+        let mut numbers = Vec::new(alloc);
+        if self.busy.all {
+            push_all(&mut numbers, &self.hooks, lanes, cut)?;
+        } else {
+            push_listed(&mut numbers, &self.hooks, &self.busy.numbers, lanes, cut)?;
+        }
+        Ok(numbers)
+    }
+
     /// Makes room for so many instances more.
     pub fn reserve(&mut self, more: u64) -> Result<(), AllocError>
         ensures room { OnOk result (more ≤ self.new.spare) }
@@ -217,7 +304,9 @@ impl HookStore {
         ensures changes { ChangesHooks (map committed_hook) instance (kept_hooks self.old) (kept_hooks self.new) }
         ensures spare { self.new.spare ≡ self.old.spare }
     {
-        self.hooks.get_mut(&instance).unwrap().commit();
+        let hooks = self.hooks.get_mut(&instance).unwrap();
+        hooks.commit();
+        self.busy.note(instance, hooks);
     }
 
     /// Marks what a commit for these lanes at this cut owes to an instance that it keeps hidden.
@@ -226,7 +315,9 @@ impl HookStore {
         ensures changes { ChangesHooks (map (owed_hook lanes cut)) instance (kept_hooks self.old) (kept_hooks self.new) }
         ensures spare { self.new.spare ≡ self.old.spare }
     {
-        self.hooks.get_mut(&instance).unwrap().mark_owed(lanes, cut);
+        let hooks = self.hooks.get_mut(&instance).unwrap();
+        hooks.mark_owed(lanes, cut);
+        self.busy.note(instance, hooks);
     }
 
     /// Keeps the hooks of an instance, which is new or loses those that it had.
@@ -235,6 +326,7 @@ impl HookStore {
         ensures kept { (n : ℕ) → kept_hooks self.new n ≡ (if nat_eq instance n then Some hooks else kept_hooks self.old n) }
         ensures spare { self.old.spare ≤ self.new.spare + 1 }
     {
+        self.busy.note(instance, &hooks);
         let _ = self.hooks.insert(instance, hooks);
     }
 
@@ -244,5 +336,6 @@ impl HookStore {
         ensures spare { self.old.spare ≤ self.new.spare }
     {
         let _ = self.hooks.remove(&instance);
+        self.busy.remove(instance);
     }
 }

@@ -55,10 +55,15 @@ fn a_dispatch_is_rendered(rt: HostRuntime) -> Result<(), Fail> {
     assert!(rt; !store.has_work(7, Lanes::none(), cut));
     assert!(rt; store.has_news(7, lanes, cut));
     assert!(rt; !store.has_news(7, Lanes::none(), cut));
+    let working = store.working(rt.alloc(), lanes, cut)?;
+    assert_eq!(rt; working.as_slice(), [7].as_slice());
+    assert!(rt; store.working(rt.alloc(), Lanes::none(), cut)?.is_empty());
     store.owe_instance(7, lanes, cut);
     assert!(rt; store.has_work(7, lanes, cut));
     assert!(rt; !store.has_news(7, lanes, cut));
     let values = store.render_values(rt.alloc(), 7, &Latest, lanes, cut)?;
     assert_eq!(rt; values.as_slice(), [Int::of(8)].as_slice());
+    store.commit_instance(7);
+    assert!(rt; store.working(rt.alloc(), lanes, cut)?.is_empty());
     Ok(())
 }

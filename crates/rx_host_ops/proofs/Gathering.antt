@@ -2,10 +2,8 @@
 use Rattle.std.proofs.Common.{◌≡◌, ℕ, zero, suc, ◌+◌, ◌<◌, ◌≤◌, List, [], ◌∷◌, ◌++◌, Option, Some, None, length, get_or, drop, refl, sym, ap, ◌∙◌, arith, append_assoc}
 use Rattle.std.specs.List.{cons_option}
 use Rattle.std.proofs.lemmas.List.Elements.{filter_map-append}
-use Rattle.rx_elem.specs.Trees.{Node}
-use Rattle.rx_elem.specs.Compare.{Change, Compared, compared, changes, changes_in, compare_trees}
-use Rattle.rx_forest.specs.Hosts.{Host, hosts}
-use Rattle.rx_forest.specs.HostOps.{host_ops, ops_between, placed_hosts, placed_in}
+use Rattle.rx_elem.specs.Compare.{Change, Compared, compared, changes, changes_in}
+use Rattle.rx_forest.specs.HostOps.{placed_hosts, placed_in}
 use Rattle.rx_compare.specs.Comparisons.{all_of, change_in, children_in, fallback_in, levels, levels_in}
 use Rattle.rx_host_ops.proofs.Lists.{front}
 
@@ -44,12 +42,3 @@ pub levels-get : (cs : List Compared) (k : ℕ) (c : Compared) → k < length cs
 levels-get [] k c h e = absurd (omega arith)
 levels-get (d ∷ cs) zero c h e = omega (arith, ap levels e)
 levels-get (d ∷ cs) (suc k) c h e = omega (arith, levels-get cs k c (omega arith) e)
-
--- between the hosts of two trees that were compared there are the operations of a commit
-pub commit_ops : (tree : Option Node) (next : Node) (old new : List Host) (c : Compared) → old ≡ hosts tree → new ≡ hosts (Some next) → c ≡ compare_trees tree next
-    → ops_between old new (placed_hosts (changes c)) ≡ host_ops tree next
-unfolding host_ops
-commit_ops tree next old new c eo en ec =
-    ap (λ x. ops_between x new (placed_hosts (changes c))) eo
-    ∙ ap (λ x. ops_between (hosts tree) x (placed_hosts (changes c))) en
-    ∙ ap (λ x. ops_between (hosts tree) (hosts (Some next)) (placed_hosts (changes x))) ec

@@ -141,10 +141,14 @@ impl<'a> Known<'a> {
     }
 }
 
-/// The operations from the hosts of an old tree to those of a new one, where hosts of these numbers are placed: the
-/// removals, each with all that is below it; what is made; the placements; the changes of attributes and texts; and the
-/// changes of marks.
-pub(crate) fn ops_between(
+/// The operations of a commit (react.dev, Render and Commit), from the hosts of an old tree to those of a new one, where hosts
+/// of these numbers are placed: the removals, each with all that is below it; what is made; the placements; the changes of
+/// attributes and texts; and the changes of marks.
+///
+/// # Errors
+///
+/// Want of memory alone.
+pub fn ops_between(
     alloc: Global,
     old: &[Host],
     new: &[Host],

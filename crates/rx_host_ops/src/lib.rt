@@ -12,6 +12,7 @@ mod reading;
 #[cfg(test)]
 mod tests;
 
+pub use between::ops_between;
 pub use host::Host;
-pub use placed::host_ops;
+pub use placed::placed_hosts;
 pub use reading::hosts;

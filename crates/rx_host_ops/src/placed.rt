@@ -1,18 +1,12 @@
-// Which hosts a comparison places, and the operations of a commit.
-ghost use Rattle.std.specs.Prelude.{◌≡◌, ◌++◌, [], Option, Some, IfOk, OnOk};
+// Which hosts a comparison places.
+ghost use Rattle.std.specs.Prelude.{◌≡◌, ◌++◌, [], IfOk, OnOk};
 ghost use Rattle.std.specs.List.{cons_option};
-ghost use Rattle.rx_elem.specs.Compare.{changes, changes_in, compare_trees};
-ghost use Rattle.rx_elem.specs.Trees as trees;
-ghost use Rattle.rx_forest.specs.HostOps as forest;
+ghost use Rattle.rx_elem.specs.Compare.{changes, changes_in};
 ghost use Rattle.rx_forest.specs.HostOps.{placed_hosts, placed_in};
-ghost use Rattle.rx_forest.specs.Hosts as listed;
 ghost use Rattle.rx_compare.specs.ComparedView.{change_seen};
 ghost use Rattle.rx_compare.specs.Comparisons.{all_of};
 
-use crate::between::ops_between;
-use crate::host::Host;
 use rx_compare::{Change, Compared};
-use rx_forest::HostOp;
 use rx_node::Mark;
 use std::alloc::{AllocError, Global};
 
@@ -49,22 +43,16 @@ fn add_all_placed(all: &[Compared], placed: &mut Vec<u64>) -> Result<(), AllocEr
     Ok(())
 }
 
-/// The operations of a commit (react.dev, Render and Commit): from the hosts of the old tree to those of the new one, which
-/// were compared. Where the hosts are those of both trees, they are all operations of the commit.
+/// The numbers of the hosts that a commit places, in tree order: each that is new or moved, or that lies below such a node with
+/// no host between them (react.dev, Render and Commit).
 ///
 /// # Errors
 ///
 /// Want of memory alone.
-pub fn host_ops(
-    alloc: Global,
-    old: &[Host],
-    new: &[Host],
-    compared: &Compared,
-) -> Result<Vec<HostOp>, AllocError>
-    ensures between { IfOk result (λ ops. ops.items ≡ forest.ops_between old.now new.now (placed_hosts (changes compared.now))) }
-    ensures commit { (tree : Option trees.Node) (next : trees.Node) → old.now ≡ listed.hosts tree → new.now ≡ listed.hosts (Some next) → compared.now ≡ compare_trees tree next → IfOk result (λ ops. ops.items ≡ forest.host_ops tree next) }
+pub fn placed_hosts(alloc: Global, compared: &Compared) -> Result<Vec<u64>, AllocError>
+    ensures { IfOk result (λ placed. placed.items ≡ placed_hosts (changes compared.now)) }
 {
     let mut placed = Vec::new(alloc);
     add_placed(compared, &mut placed)?;
-    ops_between(alloc, old, new, &placed)
+    Ok(placed)
 }

@@ -1,5 +1,5 @@
 // A text that changes, below an element that loses an attribute.
-use super::{host_ops, hosts};
+use super::{hosts, ops_between, placed_hosts};
 use rx_base::{Int, Name, Str};
 use rx_compare::compare_trees;
 use rx_elem::{Attr, AttrValue, Element, ElementKind};
@@ -42,7 +42,9 @@ fn changes_a_text_and_an_attribute(rt: HostRuntime) -> Result<(), Fail> {
     let after = hosts(alloc, Some(&new))?;
     assert_eq!(rt; before.len(), 2);
     let compared = compare_trees(alloc, Some(&old), &new)?;
-    let ops = host_ops(alloc, &before, &after, &compared)?;
+    let placed = placed_hosts(alloc, &compared)?;
+    assert!(rt; placed.is_empty());
+    let ops = ops_between(alloc, &before, &after, &placed)?;
     assert_eq!(rt; ops.len(), 2);
     Ok(())
 }

@@ -1,5 +1,6 @@
-pub mod Apart
+pub mod Counting
+pub mod Led
 pub mod Named
-pub mod Placing
+pub mod Nearest
+pub mod Numbers
 pub mod Showing
-pub mod Walks

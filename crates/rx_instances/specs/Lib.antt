@@ -1,3 +1,4 @@
 pub mod Kinds
-pub mod Placed
+pub mod Nearest
 pub mod Shown
+pub mod Example

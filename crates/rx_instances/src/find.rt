@@ -1,85 +1,125 @@
 // The instance that a path leads to.
-ghost use Rattle.std.specs.Prelude.{◌≡◌, ℕ, IfSome, None, bytes_eq, nat_eq};
+ghost use Rattle.std.specs.Prelude.{◌≡◌, ℕ, [], ◌∷◌, if◌then◌else◌, option_map, slice_get};
 ghost use Rattle.std.specs.Option.{option_copied};
-ghost use Rattle.rx_model.specs.State as state;
+ghost use Rattle.commit_laws.specs.HiddenWaits.{IfNumbered};
+ghost use Rattle.rx_elem.specs.Trees.{children_of, forest, mark_of};
+ghost use Rattle.rx_meaning.specs.Settled.{HasOwnNumbers};
+ghost use Rattle.rx_model.specs.State.{instance_found};
+ghost use Rattle.rx_instances.specs.Nearest.{Counts, found_as, itself_or, named, nearest, nearest_if, nearest_in, told};
 
-use crate::instances::Instances;
 use crate::names::name_of;
 use rx_base::Name;
 use rx_check::Checked;
-use rx_spots::Mounted;
+use rx_node::{Mark, Node};
 
-// True where an instance is one of this name, right below this owner.
-fn is_step(checked: &Checked, owner: Option<u64>, name: &Name, mounted: &Mounted) -> bool
-    ensures { result ≡ state.is_step checked.now owner name.now mounted.now }
-{
-    mounted.owner() == owner && name_of(checked, mounted.component()) == name.text()
+/// An instance of a committed tree: its number, and its component, by its number in the order of the text.
+#[derive(Clone, Copy)]
+pub struct Found {
+    pub number: u64,
+    pub component: u32,
 }
 
-// The instance that a part of a path leads to, among these, one after another.
-fn walk_to<'a>(
-    checked: &Checked,
-    all: &'a [Mounted],
-    owner: Option<u64>,
-    part: &(Name, u64),
-) -> Option<&'a Mounted>
-    ensures { option_copied result ≡ state.step_to checked.now all.now owner part.now }
+// What is told of a node that is an instance, from its first commit on.
+fn told(node: &Node) -> Option<Found>
+    ensures { result ≡ told node.now }
 {
-    let (name, number) = part;
-    let mut left = *number;
-    'counting: for mounted in all {
-        if is_step(checked, owner, name, mounted) {
-            if left == 0 {
-                return Some(mounted);
+    match node.mark() {
+        Mark::Instance(instance) => Some(Found {
+            number: instance.number?,
+            component: instance.component,
+        }),
+        _ => None,
+    }
+}
+
+// Finds this node where it counts and none is left to come before it.
+fn count<'a>(node: &'a Node, counts: bool, left: &mut u64) -> Option<&'a Node>
+    ensures { Counts (if counts then (node.now ∷ []) else []) (option_copied result) left.old left.new }
+{
+    if !counts {
+        return None;
+    }
+    if *left == 0 {
+        return Some(node);
+    }
+    *left -= 1;
+    None
+}
+
+// Looks at a node itself where it is an instance, and else for the nearest ones below it.
+#[cycle(looking)]
+fn look_at<'a>(checked: &Checked, node: &'a Node, name: &Name, left: &mut u64) -> Option<&'a Node>
+    ensures { Counts (named checked.now name.now (itself_or (mark_of node.now) node.now (nearest_in (children_of node.now)))) (option_copied result) left.old left.new }
+{
+    match node.mark() {
+        Mark::Instance(instance) => {
+            let counts = name_of(checked, instance.component) == name.text();
+            count(node, counts, left)
+        }
+        _ => look_in(checked, node.children(), name, left),
+    }
+}
+
+// Looks for an instance of a component of this name among the nearest ones from a node on: the one that so many come before.
+#[cycle(looking)]
+fn look_from<'a>(checked: &Checked, node: &'a Node, name: &Name, left: &mut u64) -> Option<&'a Node>
+    ensures { Counts (named checked.now name.now (nearest node.now)) (option_copied result) left.old left.new }
+{
+    match look_at(checked, node, name, left) {
+        Some(found) => Some(found),
+        None => look_in(checked, node.fallback(), name, left),
+    }
+}
+
+#[cycle(looking)]
+fn look_in<'a>(
+    checked: &Checked,
+    places: &'a [Option<Node>],
+    name: &Name,
+    left: &mut u64,
+) -> Option<&'a Node>
+    ensures { Counts (named checked.now name.now (nearest_in (forest places.now))) (option_copied result) left.old left.new }
+{
+    for place in places {
+        if let Some(node) = place {
+            if let Some(found) = look_from(checked, node, name, left) {
+                return Some(found);
             }
-            left -= 1;
         }
     }
     None
 }
 
-// The number of the one component that has a name: no two components of a program that is accepted have one name. Of an
-// empty name it tells none, since an instance of no component has it.
-fn component_of(checked: &Checked, name: &Name) -> Option<u32>
-    ensures { IfSome result (λ number. (c : ℕ) → bytes_eq (state.name_of checked.now c) name.now ≡ nat_eq c number) }
+// The instance that the first part of a path leads to.
+fn first<'a>(checked: &Checked, tree: Option<&'a Node>, part: &(Name, u64)) -> Option<&'a Node>
+    ensures { option_copied result ≡ slice_get (named checked.now part.now.0 (nearest_if (option_copied tree.entry))) part.now.1 }
 {
-    let _ = checked.program();
-    if name.text().is_empty() {
-        return None;
-    }
-    checked.component(name.text())
+    let (name, number) = part;
+    let mut left = *number;
+    look_from(checked, tree?, name, &mut left)
 }
 
-impl Instances {
-    // The instance that a part of a path leads to. Only a name that no component has is looked for one by one, and no script
-    // that is accepted has one.
-    fn step_to(&self, checked: &Checked, owner: Option<u64>, part: &(Name, u64)) -> Option<&Mounted>
-        ensures { option_copied result ≡ state.step_to checked.now self.now owner part.now }
-    {
-        let (name, number) = part;
-        match component_of(checked, name) {
-            Some(component) => self.child(owner, component, *number),
-            None => walk_to(checked, self.all(), owner, part),
-        }
-    }
+// The instance that a further part of a path leads to, from the one before it.
+fn next<'a>(checked: &Checked, node: &'a Node, part: &(Name, u64)) -> Option<&'a Node>
+    ensures { option_copied result ≡ slice_get (named checked.now part.now.0 (nearest_in (children_of node.now))) part.now.1 }
+{
+    let (name, number) = part;
+    let mut left = *number;
+    look_in(checked, node.children(), name, &mut left)
+}
 
-    /// The instance that a path leads to: from the root, each part names the so-many-th instance of a component right below
-    /// the one before, counted from 0 in tree order. Where each part names a component, it takes time in proportion to the
-    /// path, however large the tree is.
-    pub fn find(&self, checked: &Checked, path: &[(Name, u64)]) -> Option<&Mounted>
-        ensures { option_copied result ≡ state.find_from checked.now self.now None path.now }
-    {
-        let mut owner = None;
-        let mut found = None;
-        'walking: for part in path {
-            match self.step_to(checked, owner, part) {
-                None => return None,
-                Some(mounted) => {
-                    owner = Some(mounted.number());
-                    found = Some(mounted);
-                }
-            }
-        }
-        found
+/// The instance that a path leads to: from the root, each part names the so-many-th instance of a component right below the
+/// one before, counted from 0 in tree order. It takes time in proportion to what is rendered by the bodies of the instances
+/// on the way, however large the tree is.
+pub fn find_instance(checked: &Checked, tree: Option<&Node>, path: &[(Name, u64)]) -> Option<Found>
+    requires numbered { IfNumbered (option_copied tree) }
+    requires apart { (next : ℕ) × HasOwnNumbers next (option_copied tree) }
+    ensures { result ≡ option_map found_as (instance_found checked.now (option_copied tree.entry) path.now) }
+{
+    let (part, rest) = path.split_first()?;
+    let mut found = first(checked, tree, part)?;
+    'walking: for part in rest {
+        found = next(checked, found, part)?;
     }
+    told(found)
 }

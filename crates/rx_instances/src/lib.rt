@@ -4,13 +4,12 @@
 
 mod dispatch;
 mod find;
-mod instances;
 mod names;
 mod show;
 #[cfg(test)]
 mod tests;
 
 pub use dispatch::{dispatch_hook, dispatch_op, dispatch_path, dispatch_word};
-pub use instances::Instances;
+pub use find::{Found, find_instance};
 pub use names::hook_place;
 pub use show::show_hooks;

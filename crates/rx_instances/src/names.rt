@@ -14,8 +14,8 @@ use std::alloc::{AllocError, Global};
 pub(crate) fn name_of(checked: &Checked, component: u32) -> &str
     ensures { result.now ≡ state.name_of checked.now component }
 {
-    match checked.program().component(component as usize) {
-        Some(found) => found.name().text(),
+    match checked.components().get(component as usize) {
+        Some(name) => name.text(),
         None => "",
     }
 }

@@ -1,4 +1,7 @@
 // An instance is looked up, and hooks are shown.
+ghost use Rattle.std.specs.Prelude.{◌≡◌, IfOk};
+ghost use Rattle.rx_instances.specs.Example.{counted};
+
 use super::*;
 use rx_ast::{Body, Component, Declaration, Expr, Program, Slot, Statement};
 use rx_base::{Int, Ints, Name};
@@ -27,7 +30,9 @@ fn counter(alloc: Global) -> Result<Program, AllocError> {
 }
 
 // The tree of the counter.
-fn counted(alloc: Global) -> Result<Node, AllocError> {
+fn counted(alloc: Global) -> Result<Node, AllocError>
+    ensures { IfOk result (λ n. n ≡ counted) }
+{
     let mut initials = Vec::new(alloc);
     initials.push(Int::of(0))?;
     let instance = Instance {
@@ -50,18 +55,13 @@ fn set_seven(alloc: Global) -> Result<Dispatch, AllocError> {
     Ok(Dispatch::Set(LaneWord::Sync, Path { parts }, name, Int::of(7)))
 }
 
-fn instances(alloc: Global) -> Result<Instances, AllocError> {
-    let tree = counted(alloc)?;
-    Instances::new(alloc, Some(&tree))
-}
-
 #[test]
 fn a_path_leads_to_an_instance(rt: HostRuntime) -> Result<(), Fail> {
     let checked = check(rt.alloc(), counter(rt.alloc())?)?;
-    let instances = instances(rt.alloc())?;
+    let tree = counted(rt.alloc())?;
     let dispatch = set_seven(rt.alloc())?;
-    let found = instances.find(&checked, dispatch_path(&dispatch));
-    assert_eq!(rt; found.map(|m| m.number()), Some(1));
+    let found = find_instance(&checked, Some(&tree), dispatch_path(&dispatch));
+    assert_eq!(rt; found.map(|f| f.number), Some(1));
     Ok(())
 }
 

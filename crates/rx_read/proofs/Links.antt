@@ -17,12 +17,12 @@ abbrev pub IsKept : Shape Fiber → Draft Fiber → Type 0
 IsKept c (taken s) = IsListIn c s
 IsKept c (made id v o ks rs) = IsKept c ks × IsKept c rs
 
-top_listed : (c s : Shape Fiber) (j : ℕ) (k : Shape Fiber) → IsLinked c → HasTop s j k → IsListIn c s → IsListIn c k
+pub top_listed : (c s : Shape Fiber) (j : ℕ) (k : Shape Fiber) → IsLinked c → HasTop s j k → IsListIn c s → IsListIn c k
 top_listed c none j k linked h l = absurd h
 top_listed c (fiber id v ks rs) j k linked (inl h) l = subst (IsListIn c) h.1 (kids_listed c id v ks rs linked l)
 top_listed c (fiber id v ks rs) j k linked (inr h) l = top_listed c rs j k linked h (rest_listed c id v ks rs linked l)
 
-old_listed : (c s : Shape Fiber) (o : Option ℕ) (k : Shape Fiber) → IsLinked c → IsOldKids s o k → IsListIn c s → IsListIn c k
+pub old_listed : (c s : Shape Fiber) (o : Option ℕ) (k : Shape Fiber) → IsLinked c → IsOldKids s o k → IsListIn c s → IsListIn c k
 old_listed c s None k linked h l = subst (IsListIn c) (sym h) refl
 old_listed c s (Some j) k linked h l = top_listed c s j k linked h l
 

@@ -12,7 +12,7 @@ use Rattle.rx_fiber.specs.declared.stage.Stage.TheVariants as variants
 use Rattle.rx_node.specs.declared.mark.Mark as code
 use Rattle.rx_fiber.specs.OldLists.{is_fallback, filled, hides_in, begins_fallback, first_kids, primary_list, fallback_list}
 use Rattle.rx_read.specs.Lists.{list_of}
-use Rattle.rx_read.specs.Places.{mark_in, primary_from, fallback_from, places_in, fallback_behind, first_places}
+use Rattle.rx_read.specs.Places.{mark_in, primary_from, fallback_from, node_if, own_places, places_in, fallback_behind, first_places, first_node}
 use Rattle.rx_read.proofs.Links.{Linked}
 
 -- The lists of a node
@@ -73,10 +73,9 @@ not_begun (variants.Begun m) h = absurd (h m refl)
 not_begun variants.Trying h = refl
 not_begun (variants.Fallback a) h = refl
 
--- a fiber that stands for no node adds no place
-pub none_read : (t : Trees Fiber) (i : ℕ) (v : Fiber) (c s : Option ℕ) → Linked t i v c s → (xs : List (Option Node)) → mark_in v.stage ≡ None
-    → xs ≡ xs ++ first_places (length xs) (list_of t (Some i))
-none_read t i v c s l xs m = let e = l.list in rw (e, m) (sym (append-nil xs))
+-- a fiber that stands for no node has none
+pub none_read : (t : Trees Fiber) (i : ℕ) (v : Fiber) (c s : Option ℕ) → Linked t i v c s → mark_in v.stage ≡ None → None ≡ first_node (list_of t (Some i))
+none_read t i v c s l m = let e = l.list in rw (e, m) refl
 
 behind_is : (s : Shape Fiber) (hidden : Bool) (ks : Shape Fiber)
     → (primary_from hidden (forest (places_in 0 ks)) (fallback_behind s) ≡ forest (places_in 0 (cond (hidden && not (begins_fallback s)) none ks)))
@@ -91,12 +90,11 @@ behind_is (fiber jd w ws rest) true ks = by_stage (is_fallback w.stage)
     by_stage true = (refl, refl)
     by_stage false = (refl, refl)
 
--- the places of a fiber with a mark, by the lists of its node
-node_places : (v : Fiber) (m : Mark) (n id : ℕ) (ks rs : Shape Fiber) → v.stage ≡ begun m
-    → first_places n (fiber id v ks rs)
-    ≡ filled (v.place - n) None
-    ++ Some (node v.element m (forest (places_in 0 (primary_list (fiber id v ks rs)))) (forest (places_in 0 (fallback_list (fiber id v ks rs))))) ∷ []
-node_places v m n id ks rs e =
+-- the node of a fiber with a mark, by its lists
+node_is : (v : Fiber) (m : Mark) (id : ℕ) (ks rs : Shape Fiber) → v.stage ≡ begun m
+    → first_node (fiber id v ks rs)
+    ≡ Some (node v.element m (forest (places_in 0 (primary_list (fiber id v ks rs)))) (forest (places_in 0 (fallback_list (fiber id v ks rs)))))
+node_is v m id ks rs e =
     let b = behind_is rs (is_hidden m) ks in
     let h : hides_in v.stage ≡ is_hidden m = ap hides_in e in
     let k : mark_in v.stage ≡ Some m = ap mark_in e in
@@ -105,24 +103,35 @@ node_places v m n id ks rs e =
 pub node_parts : (n : Node) (e f : Element) (m k : Mark) (ns fs : Forest) → n ≡ node e m ns fs → e ≡ f → m ≡ k → n ≡ node f k ns fs
 node_parts n e f m k ns fs is p q = is ∙ (λ j. node (p j) (q j) ns fs)
 
--- the node of a fiber goes behind the places before its own
+-- the node of a fiber is that of its lists
 pub node_read : (t : Trees Fiber) (i : ℕ) (v : Fiber) (c s : Option ℕ) → Linked t i v c s → (m : Mark) → v.stage ≡ begun m
-    → (xs ys zs : List (Option Node)) (n : Node) (children fallbacks : List (Option Node))
+    → (n : Node) (children fallbacks : List (Option Node))
     → children ≡ places_in 0 (primary_list (list_of t (Some i))) → fallbacks ≡ places_in 0 (fallback_list (list_of t (Some i)))
     → n ≡ node v.element m (forest children) (forest fallbacks)
-    → ys ≡ xs ++ filled (v.place - length xs) None → zs ≡ ys ++ Some n ∷ []
-    → zs ≡ xs ++ first_places (length xs) (list_of t (Some i))
-node_read t i v c s l m e xs ys zs n children fallbacks a b is filled_up pushed =
+    → Some n ≡ first_node (list_of t (Some i))
+node_read t i v c s l m e n children fallbacks a b is =
     let q = l.list in
-    let n_is : n ≡ node v.element m (forest (places_in 0 (primary_list (list_of t (Some i))))) (forest (places_in 0 (fallback_list (list_of t (Some i))))) =
-    is ∙ (λ j. node v.element m (forest (a j)) (forest (b j))) in
-    let places : first_places (length xs) (list_of t (Some i))
-    ≡ filled (v.place - length xs) None ++ Some (node v.element m (forest (places_in 0 (primary_list (list_of t (Some i))))) (forest (places_in 0 (fallback_list (list_of t (Some i)))))) ∷ [] =
-    rw q (node_places v m (length xs) i (list_of t c) (list_of t s) e) in
+    ap Some is
+    ∙ (λ j. Some (node v.element m (forest (a j)) (forest (b j))))
+    ∙ rw q (sym (node_is v m i (list_of t c) (list_of t s) e))
+
+-- the node of one that does stands at its place
+places_some : (o : Option Mark) (n : ℕ) (v : Fiber) (kids : Forest) (behind : Option Forest) (x : Node) → node_if o v kids behind ≡ Some x
+    → own_places o n v kids behind ≡ filled (v.place - n) None ++ Some x ∷ []
+places_some None n v kids behind x e = cc
+places_some (Some m) n v kids behind x e = ap (λ o. filled (v.place - n) None ++ o ∷ []) e
+
+-- the node of a fiber goes behind the places before its own
+pub node_added : (t : Trees Fiber) (i : ℕ) (v : Fiber) (c s : Option ℕ) → Linked t i v c s → (xs ys zs : List (Option Node)) (x : Node)
+    → Some x ≡ first_node (list_of t (Some i)) → ys ≡ xs ++ filled (v.place - length xs) None → zs ≡ ys ++ Some x ∷ []
+    → zs ≡ xs ++ first_places (length xs) (list_of t (Some i))
+node_added t i v c s l xs ys zs x e filled_up pushed =
+    let q = l.list in
+    let p : first_places (length xs) (list_of t (Some i)) ≡ filled (v.place - length xs) None ++ Some x ∷ [] =
+    rw q (places_some (mark_in v.stage) (length xs) v (forest (places_in 0 (list_of t c))) (fallback_behind (list_of t s)) x (sym (e ∙ ap first_node q))) in
     pushed
-    ∙ (ap (λ l. l ++ Some n ∷ []) filled_up
-    ∙ (append_assoc xs (filled (v.place - length xs) None) (Some n ∷ [])
-    ∙ (ap (λ x. xs ++ (filled (v.place - length xs) None ++ Some x ∷ [])) n_is ∙ ap (λ l. xs ++ l) (sym places))))
+    ∙ (ap (λ l. l ++ Some x ∷ []) filled_up
+    ∙ (append_assoc xs (filled (v.place - length xs) None) (Some x ∷ []) ∙ ap (λ l. xs ++ l) (sym p)))
 
 -- The fibers of a list are read
 

@@ -51,3 +51,13 @@ abbrev mutual
 abbrev pub first_places : (place : ℕ) → Shape Fiber → List (Option Node)
 first_places n none = []
 first_places n (fiber id v ks rs) = own_places (mark_in v.stage) n v (forest (places_in 0 ks)) (fallback_behind rs)
+
+-- the node of a fiber, if it has a mark
+abbrev pub node_if : Option Mark → Fiber → (kids : Forest) → (behind : Option Forest) → Option Node
+node_if None v kids behind = None
+node_if (Some m) v kids behind = Some (node_from v m kids behind)
+
+-- the node that the first fiber of a list stands for, if it stands for one
+abbrev pub first_node : Shape Fiber → Option Node
+first_node none = None
+first_node (fiber id v ks rs) = node_if (mark_in v.stage) v (forest (places_in 0 ks)) (fallback_behind rs)

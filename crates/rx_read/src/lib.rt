@@ -8,5 +8,5 @@ mod reading;
 mod tests;
 
 pub use laws::current_trees_have_numbers;
-pub use numbering::{Numbers, number_made};
-pub use reading::{read_current, read_in_progress};
+pub use numbering::{Numbers, made_child, number_made};
+pub use reading::{read_current, read_fiber, read_in_progress};

@@ -70,9 +70,9 @@ fn number_fiber(tree: &mut FiberTree<Fiber>, id: FiberId, next: Numbers) -> Numb
     }
 }
 
-// The first child of a made fiber, where its children are made too. Those that were taken over have the current fiber for their
-// parent.
-fn made_child(tree: &FiberTree<Fiber>, id: FiberId) -> Option<FiberId>
+/// The first child of a made fiber, where its children are made too. Those that were taken over have the current fiber for their
+/// parent.
+pub fn made_child(tree: &FiberTree<Fiber>, id: FiberId) -> Option<FiberId>
     requires { Makes tree.now.draft id }
     ensures entry { result ≡ made_entry (made_kids_of tree.now.draft id) }
     ensures made { IfSome result (Makes tree.now.draft) }

@@ -7,7 +7,7 @@ ghost use Rattle.rx_fiber.specs.OldLists.{filled, begins_fallback, first_kids, p
 ghost use Rattle.rx_fiber.specs.Reading.{IsTreeOf};
 ghost use Rattle.end_laws.specs.Trimmed.{trimmed, trimmed_if};
 ghost use Rattle.rx_read.specs.Lists.{list_of};
-ghost use Rattle.rx_read.specs.Places.{places_in, first_places};
+ghost use Rattle.rx_read.specs.Places.{places_in, first_places, first_node};
 
 use rx_fiber::{Fiber, Stage, hides, is_fallback};
 use rx_links::{FiberId, FiberTree};
@@ -83,6 +83,38 @@ fn fill(nodes: &mut Vec<Option<Node>>, place: u32) -> Result<(), AllocError>
     Ok(())
 }
 
+/// The node that a fiber stands for, with all below it, if it stands for one. A boundary's fallback is read with the boundary.
+///
+/// # Errors
+///
+/// Want of memory alone.
+#[cycle(read)]
+pub fn read_fiber(
+    alloc: Global,
+    tree: &FiberTree<Fiber>,
+    id: FiberId,
+) -> Result<Option<Node>, AllocError>
+    requires { IsIn tree.now id }
+    ensures { IfOk result (λ n. n ≡ first_node (list_of tree.now (Some id))) }
+{
+    tree.facts();
+    let fiber = tree.value(id);
+    let Stage::Begun(mark) = fiber.stage() else {
+        return Ok(None);
+    };
+    let lists = lists_of(tree, id);
+    let children = read_list(alloc, tree, lists.children)?;
+    let fallback = read_list(alloc, tree, lists.fallback)?;
+    let node = Node::new(
+        alloc,
+        fiber.element().copy()?,
+        mark.copy()?,
+        children,
+        fallback,
+    )?;
+    Ok(Some(node))
+}
+
 // Goes on with the node of a fiber, at its place; that of a fallback is read with its boundary.
 #[cycle(read)]
 fn read_node(
@@ -95,22 +127,10 @@ fn read_node(
     ensures { OnOk result (nodes.new.items ≡ nodes.old.items ++ first_places (length nodes.old.items) (list_of tree.now (Some id))) }
 {
     tree.facts();
-    let fiber = tree.value(id);
-    let Stage::Begun(mark) = fiber.stage() else {
-        return Ok(());
-    };
-    let lists = lists_of(tree, id);
-    let children = read_list(alloc, tree, lists.children)?;
-    let fallback = read_list(alloc, tree, lists.fallback)?;
-    let node = Node::new(
-        alloc,
-        fiber.element().copy()?,
-        mark.copy()?,
-        children,
-        fallback,
-    )?;
-    fill(nodes, fiber.place())?;
-    nodes.push(Some(node))?;
+    if let Some(node) = read_fiber(alloc, tree, id)? {
+        fill(nodes, tree.value(id).place())?;
+        nodes.push(Some(node))?;
+    }
     Ok(())
 }
 

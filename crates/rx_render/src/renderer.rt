@@ -20,7 +20,8 @@ ghost use Rattle.rx_model.specs.Committing.{committed_state, starting};
 ghost use Rattle.rx_model.specs.Laws.{IsBounded};
 ghost use Rattle.rx_model.specs.HooksOf.{KeepsAllHooks};
 ghost use Rattle.rx_fiber.specs.Reading.{IsTreeOf};
-ghost use Rattle.end_laws.specs.Trimmed.{trimmed};
+ghost use Rattle.rx_pruned.specs.Besides.{IsBeside};
+ghost use Rattle.end_laws.specs.Trimmed.{trimmed, trimmed_if};
 ghost use Rattle.rx_read.specs.NumbersView.{numbers_seen};
 ghost use Rattle.rx_read.specs.Numbering.{numbered_draft, IsAllNumbered};
 ghost use Rattle.rx_hook_store.specs.Store.{kept_hooks};
@@ -43,6 +44,7 @@ use render_laws::nodes_are_bounded;
 use room_laws::fibers_have_room;
 use rx_base::{Cut, Int, Steps};
 use rx_begin::Scene;
+use rx_beside::read_beside;
 use rx_check::Checked;
 use rx_ctx::ContextStack;
 use rx_fiber::{Fiber, Stage};
@@ -51,8 +53,9 @@ use rx_lane::Lanes;
 use rx_links::FiberTree;
 use rx_loop::{Unit, Units};
 use rx_node::Node;
+use rx_pruned::Beside;
 use rx_queue::Update;
-use rx_read::{Numbers, number_made, read_in_progress};
+use rx_read::{Numbers, number_made};
 use rx_settle::settle_hooks;
 use rx_step::LaneWord;
 use std::alloc::{AllocError, Global};
@@ -269,16 +272,20 @@ impl Renderer {
         Ok(())
     }
 
-    /// The finished tree as a plain tree, without the vacant places at the ends of its lists, of which fibers do not tell.
+    /// The finished tree as a plain tree, without the vacant places at the ends of its lists, of which fibers do not tell; and
+    /// beside it the committed tree and itself, both without some lists that it took over. `old` is the current tree as a plain
+    /// one. Takes time for what the render made, and none for what is below a list that it took over.
     ///
     /// # Errors
     ///
     /// Want of memory alone.
-    pub fn finished(&self) -> Result<Node, AllocError>
-        requires { (x : trees.Node) × IsTreeOf (Some x) (grafted self.now.trees.draft) }
-        ensures { IfOk result (λ n. (x : trees.Node) → IsTreeOf (Some x) (grafted self.now.trees.draft) → n ≡ trimmed x) }
+    pub fn finished(&self, old: Option<&Node>) -> Result<Beside, AllocError>
+        requires finished { (x : trees.Node) × IsTreeOf (Some x) (grafted self.now.trees.draft) }
+        requires current { (y : Option trees.Node) × (IsTreeOf y self.now.trees.current × (option_copied old ≡ trimmed_if y)) }
+        ensures tree { IfOk result (λ b. (x : trees.Node) → IsTreeOf (Some x) (grafted self.now.trees.draft) → b.tree ≡ trimmed x) }
+        ensures beside { IfOk result (λ b. IsBeside (option_copied old.entry) b) }
     {
-        read_in_progress(self.alloc, &self.fibers)
+        read_beside(self.alloc, &self.fibers, old)
     }
 
     /// Gives each instance and each host of the finished tree that is new its number, in tree order, as its commit begins.
@@ -298,22 +305,28 @@ impl Renderer {
     }
 
     /// Settles the hooks of each instance of the finished tree at its commit (react.dev, State as a Snapshot): `old` is the
-    /// current tree and `new` the finished one with its numbers, as plain trees, and new instances have numbers from the first on.
+    /// current tree as a plain one, `beside` has the finished one with its numbers, and new instances have numbers from the first on.
     ///
     /// # Errors
     ///
     /// Want of memory alone. The hooks then stand for whatever they stood for, and the render is still finished.
-    pub fn settle(&mut self, old: Option<&Node>, new: &Node, first: u64) -> Result<(), AllocError>
+    pub fn settle(
+        &mut self,
+        old: Option<&Node>,
+        beside: &Beside,
+        first: u64,
+    ) -> Result<(), AllocError>
         requires over { self.old.at ≡ Over }
-        requires at_hand { CanSettle self.old.program (kept_hooks self.old.hooks) (option_copied old) new.now first self.old.lanes self.old.cut }
+        requires at_hand { CanSettle self.old.program (kept_hooks self.old.hooks) (option_copied old) beside.now.tree first self.old.lanes self.old.cut }
+        requires beside { IsBeside (option_copied old) beside.now }
         ensures same { self.new ≡ with_hooks self.old self.new.hooks }
 
         // What is kept stands for the machine's state after the commit.
         ensures settled { OnOk result ((s : State) (g : Progress) (x : trees.Node)
-            → IsSettlingOf self.old.program (kept_hooks self.old.hooks) (option_copied old.entry) new.now first self.old.lanes self.old.cut s g x
+            → IsSettlingOf self.old.program (kept_hooks self.old.hooks) (option_copied old.entry) beside.now.tree first self.old.lanes self.old.cut s g x
             → KeepsAllHooks self.old.program (committed_state s g (numbered s.numbers x)) (kept_hooks self.new.hooks)) }
         ensures gone { OnOk result ((k : ℕ) (m : Mounted) → slice_get (mounted (option_copied old.entry)) k ≡ Some m
-            → has_instance (mounted (Some new.now)) m.number ≡ false → kept_hooks self.new.hooks m.number ≡ None) }
+            → has_instance (mounted (Some beside.now.tree)) m.number ≡ false → kept_hooks self.new.hooks m.number ≡ None) }
         ensures err { OnErr result ((s : State) → DoneBefore self.old.cut s.journal.updates → KeepsAllHooks self.old.program s (kept_hooks self.old.hooks)
             → KeepsAllHooks self.old.program s (kept_hooks self.new.hooks)) }
         ensures stays { OnErr result ((p : Program) (s : State) (g : Progress) → Renders p s g self.old → Renders p s g self.new) }
@@ -323,7 +336,9 @@ impl Renderer {
             &mut self.hooks,
             &self.checked,
             old,
-            new,
+            &beside.tree,
+            beside.pruned_old.as_ref(),
+            &beside.pruned_new,
             first,
             self.lanes,
             self.cut,

@@ -153,7 +153,6 @@ but_for p s asks v w shown h program current keeps shows =
       event = h.event;
       numbers = h.numbers;
       declared = h.declared;
-      instances = h.instances;
       progress = tt;
     }
 
@@ -258,7 +257,6 @@ passive_broken p s v new w shown log written h none is program current hooks is_
         event = h.event;
         numbers = h.numbers;
         declared = h.declared;
-        instances = h.instances;
         progress = tt;
       });
       written = is_written ∙ ap (λ (x : Passive). with_lines log (passive_lines x)) h.shows.passive_is;

@@ -1,5 +1,5 @@
 -- A root stands for the state after a commit.
-use Rattle.std.proofs.Common.{◌≡◌, ℕ, ◌+◌, Bool, true, false, cond, List, [], ◌++◌, refl, sym, ap, ◌∙◌, subst, Option, Some, None}
+use Rattle.std.proofs.Common.{◌≡◌, ℕ, ◌+◌, Bool, true, false, cond, List, [], ◌++◌, refl, sym, ap, ◌∙◌, subst, Option, Some}
 use Rattle.std.proofs.lemmas.List.{length-map}
 use Rattle.rx_lane.specs.declared.lane.Lane.TheVariants as lane
 use Rattle.rx_lane.specs.Lanes.{Lanes, has, lanes_where}
@@ -15,7 +15,7 @@ use Rattle.rx_lines.specs.Lines.{Line, Counts, Written}
 use Rattle.rx_model.specs.State.{State, Progress}
 use Rattle.rx_model.specs.Stretch.{silent}
 use Rattle.rx_model.specs.HooksOf.{KeepsAllHooks}
-use Rattle.rx_model.specs.Committing.{passive_run, commit_lines, committed_state, committed_as}
+use Rattle.rx_model.specs.Committing.{sight_of, passive_run, commit_lines, committed_state, committed_as}
 use Rattle.rx_model.specs.Laws.{IsBounded, IsReached}
 use Rattle.commit_laws.proofs.HiddenLaw.{numbering_numbers}
 use Rattle.end_laws.specs.Trimmed.{trimmed}
@@ -34,6 +34,8 @@ use Rattle.rx_render.specs.Rendering.{Rendering, IsIdle}
 use Rattle.rx_render.specs.Renders.{with_hooks}
 use Rattle.rx_root.specs.Rooted.{Rooted}
 use Rattle.rx_root.specs.Stands.{StandsBy, Stands}
+use Rattle.rx_meaning.specs.Settled.{known_by}
+use Rattle.prune_laws.proofs.Present.{if_settled_present}
 use Rattle.rx_root.specs.Turning.{IsAtEndOf, StandsAtEnd, KnowsSince, HasNumbered, CanFollow, counts_of, passive_left}
 use Rattle.rx_root.proofs.CommitReady.{is_commit}
 
@@ -46,7 +48,6 @@ after_commit_of s g tree w shown v =
       schedule = after_commit v.schedule g.lanes (still_pending g.lanes g.cut s.journal (numbered s.numbers tree).1) v.now;
       commits = v.commits + 1;
       numbers = (numbered s.numbers tree).0;
-      instances = None;
     }
 
 -- what the parts of a root promise of a commit
@@ -81,7 +82,6 @@ committed_with p s asks g tree passive v w shown h reached c shows =
       event = h.event;
       numbers = refl;
       declared = h.declared;
-      instances = tt;
       progress = c.idle;
     }
 
@@ -157,6 +157,7 @@ module _ (p : Program) (s : State) (g : Progress) (tree : Node) (v x : Rooted) (
       record {
         shows = subst (λ (y : Rooted). Shows s.tree s.passive y.shown) (sym n.rest) h.shows;
         tree_is = is_new;
+        present = if_settled_present p (known_by (sight_of p s g)) s.tree h.progress.renders.settled;
         commits = commits.0;
         leaves = commits.1;
       }
@@ -164,7 +165,7 @@ module _ (p : Program) (s : State) (g : Progress) (tree : Node) (v x : Rooted) (
 -- what the parts of a root did at a commit, once its new nodes had their numbers: its hooks are settled, the tree is shown, it is the current one, and its lanes are finished
 pub record HasCommitted (s : State) (g : Progress) (tree : Node) (x : Rooted) (w : Rendering) (shown : Shown) (y : Rooted) (last : Rendering) (schedule : Schedule) : Type 0 where
   pub settled : w ≡ with_hooks x.rendering w.hooks
-  pub is_shown : y ≡ record x { rendering = w; shown = shown; commits = x.commits + 1; instances = None }
+  pub is_shown : y ≡ record x { rendering = w; shown = shown; commits = x.commits + 1 }
   pub is_last : last ≡ record y.rendering { trees = record { current = grafted y.rendering.trees.draft; draft = taken shapes.none }; at = Over }
   pub lanes : Lanes
   pub still : Lanes
@@ -194,16 +195,16 @@ module _ (p : Program) (s : State) (g : Progress) (tree : Node) (v x : Rooted) (
   schedule_is : schedule ≡ after_commit v.schedule g.lanes (still_pending g.lanes g.cut s.journal (numbered s.numbers tree).1) v.now
   schedule_is =
       c.is_schedule
-      ∙ ap (λ (z : Rooted). after_commit z.schedule c.lanes c.still z.now) (c.is_shown ∙ ap (λ (z : Rooted). record z { rendering = w; shown = shown; commits = z.commits + 1; instances = None }) n.rest)
+      ∙ ap (λ (z : Rooted). after_commit z.schedule c.lanes c.still z.now) (c.is_shown ∙ ap (λ (z : Rooted). record z { rendering = w; shown = shown; commits = z.commits + 1 }) n.rest)
       ∙ ap (λ (ls : Lanes). after_commit v.schedule ls c.still v.now) c.lanes_are
       ∙ ap (λ (ls : Lanes). after_commit v.schedule g.lanes ls v.now) c.still_is
 
   root_is : record y { rendering = last; schedule = schedule } ≡ after_commit_of s g tree last shown v
   root_is =
       ap (λ (z : Rooted). record z { rendering = last; schedule = schedule })
-      (c.is_shown ∙ ap (λ (z : Rooted). record z { rendering = w; shown = shown; commits = z.commits + 1; instances = None }) n.rest)
-      ∙ ap (λ (m : Numbers). record v { rendering = last; shown = shown; schedule = schedule; commits = v.commits + 1; numbers = m; instances = None }) n.next
-      ∙ ap (λ (sch : Schedule). record v { rendering = last; shown = shown; schedule = sch; commits = v.commits + 1; numbers = (numbered s.numbers tree).0; instances = None }) schedule_is
+      (c.is_shown ∙ ap (λ (z : Rooted). record z { rendering = w; shown = shown; commits = z.commits + 1 }) n.rest)
+      ∙ ap (λ (m : Numbers). record v { rendering = last; shown = shown; schedule = schedule; commits = v.commits + 1; numbers = m }) n.next
+      ∙ ap (λ (sch : Schedule). record v { rendering = last; shown = shown; schedule = sch; commits = v.commits + 1; numbers = (numbered s.numbers tree).0 }) schedule_is
 
   -- so the root stands for the state after the commit
   pub commit_stands : (counts : Counts) → IsReached p (committed_as s g counts (numbered s.numbers tree)).after

@@ -123,7 +123,6 @@ module _ (p : Program) (bounded : IsBounded p) (s : State) (g : Progress) (slice
           event = h.stands.event;
           numbers = h.stands.numbers;
           declared = h.stands.declared;
-          instances = h.stands.instances;
           progress = record {
             renders = still;
             over = over;

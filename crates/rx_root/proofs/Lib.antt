@@ -22,3 +22,4 @@ pub mod FlushSteps
 pub mod StepRoom
 pub mod Broken
 pub mod Live
+pub mod Findable

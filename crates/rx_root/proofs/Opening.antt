@@ -52,7 +52,6 @@ opening_root rd shown schedule values later =
       event = None;
       numbers = record { instance = 1; host = 1 };
       later = later;
-      instances = None;
     }
 
 -- it stands for the opening state
@@ -77,6 +76,5 @@ opening_stands p rd shown schedule values later same current keeps idle shows fi
       event = refl;
       numbers = refl;
       declared = λ r late. refl;
-      instances = tt;
       progress = idle;
     }

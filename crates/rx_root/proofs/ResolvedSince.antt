@@ -16,7 +16,7 @@ use Rattle.rx_model.specs.State.{State, Progress}
 use Rattle.rx_model.specs.Committing.{sight_of}
 use Rattle.run_laws.specs.Carried.{values_now}
 use Rattle.rx_root.specs.Stands.{AreDeclared}
-use Rattle.rx_root.specs.Turning.{is_news}
+use Rattle.rx_root.specs.Turning.{is_new, is_news}
 
 -- two tests of which each follows from the other
 same_test : (a b : Bool) → (a ≡ true → b ≡ true) → (b ≡ true → a ≡ true) → a ≡ b
@@ -137,3 +137,19 @@ news_is p s g waits values seen b e f declared some none =
     same r =
         ap (λ (xs : List (Option ℤ)). is_news xs seen waits r) e
         ∙ ap (λ (xs : List (Option ℤ)). is_news (values_now p s.journal) xs waits r) f
+
+-- where no resource is new, none that is waited for is
+pub none_new : (p : Program) (s : State) (g : Progress) (values seen : List (Option ℤ)) → values ≡ values_now p s.journal → seen ≡ resources_seen (sight_of p s g) → AreDeclared p s.journal
+    → ((r : ℕ) → r < length values → is_new values seen r ≡ false) → (waits : Awaits) → resolved_since g.cut s.journal waits ≡ false
+none_new p s g values seen e f declared none waits =
+    sym (news_is p s g waits values seen false e f declared (λ h. absurd (let k : false ≡ true = h in cc)) (λ h r few. rw (none r few) (never (has waits r))))
+  where
+    never : (b : Bool) → (b && false) ≡ false
+    never true = refl
+    never false = refl
+
+-- and so of lists of what is waited for
+pub none_of_all : (p : Program) (s : State) (g : Progress) → ((waits : Awaits) → resolved_since g.cut s.journal waits ≡ false) → (all : List Awaits)
+    → list_any (resolved_since g.cut s.journal) all ≡ false
+none_of_all p s g none [] = refl
+none_of_all p s g none (waits ∷ all) = rw (none waits) (none_of_all p s g none all)

@@ -1,5 +1,5 @@
 -- What a root stands for after a dispatch.
-use Rattle.std.proofs.Common.{◌≡◌, ℕ, ◌+◌, ◌<◌, ◌≤◌, true, List, length, refl, sym, ap, ◌∙◌, subst, arith, Option, Some, None}
+use Rattle.std.proofs.Common.{◌≡◌, ℕ, ◌+◌, ◌<◌, ◌≤◌, true, length, refl, sym, ap, ◌∙◌, subst, arith, Option, Some, None}
 use Rattle.std.specs.Prelude.{is_none, slice_get, if◌then◌else◌}
 use Rattle.rx_lane.specs.declared.lane.Lane.{Lane}
 use Rattle.rx_lane.specs.Lanes.{Lanes, one, union}
@@ -17,7 +17,7 @@ use Rattle.rx_step.specs.declared.step.LaneWord.{LaneWord}
 use Rattle.rx_step.specs.declared.step.LaneWord.TheVariants as word
 use Rattle.rx_step.specs.declared.step.Step.TheVariants as step
 use Rattle.rx_step.specs.Steps.{hook_name, path_of}
-use Rattle.rx_model.specs.State.{Progress, State, find_from, hook_number, hooks_at, linked_lanes}
+use Rattle.rx_model.specs.State.{Progress, State, hook_number, hooks_at, instance_found, linked_lanes}
 use Rattle.rx_model.specs.Accepting.{accepted, claimed_if_first, dispatched_for, lane_of, next_update, op_of, with_linked}
 use Rattle.rx_model.specs.HooksOf.{KeepsAllHooks}
 use Rattle.rx_model.specs.Laws.{IsBounded, IsReached}
@@ -45,11 +45,10 @@ use Rattle.rx_root.proofs.Standing.{stands_after}
 -- ---- where a dispatch goes
 
 -- the instance that was found is the one that the dispatch is for, by its hook
-pub is_for : (p : Program) (s : State) (v : Rooted) (d : Dispatch) (all : List Mounted) (m : Mounted) (sent : Sent) → IsAccepted p → Stands p s v → CanTake p (step.Dispatch d)
-    → all ≡ mounted s.tree → find_from p all None (path_of d) ≡ Some m → sent.instance ≡ m.number → sent.place ≡ hook_number p m.component (hook_name d)
+pub is_for : (p : Program) (s : State) (v : Rooted) (d : Dispatch) (m : Mounted) (sent : Sent) → IsAccepted p → Stands p s v → CanTake p (step.Dispatch d)
+    → instance_found p s.tree (path_of d) ≡ Some m → sent.instance ≡ m.number → sent.place ≡ hook_number p m.component (hook_name d)
     → (has_name (hooks_at p m.component) (hook_name d) ≡ true → sent.place < length (hooks_at p m.component)) → sent.op ≡ op_of p m.component d → IsFor p s d sent
-is_for p s v d all m sent accepted h can listed found number place below op =
-    let here : find_from p (mounted s.tree) None (path_of d) ≡ Some m = subst (λ (xs : List Mounted). find_from p xs None (path_of d) ≡ Some m) listed found in
+is_for p s v d m sent accepted h can here number place below op =
     let there = found_there p (mounted s.tree) (path_of d) m here in
     let named = dispatch_hook p d can in
     let has = found_hook p accepted (mounted s.tree) (mounted_hooks p s.tree (reached_tree p s h.reached)) (path_of d) (hook_name d) named.0 named.1 m here in
@@ -118,7 +117,7 @@ module _ (p : Program) (s : State) (v : Rooted) (i k : ℕ) (o : Op) (rd : Rende
   plain l lane_is none keeps goes below reached is =
       subst (λ (r : Rooted). Stands p (accepted s (next_update s.journal (hook i k) o l)) r)
       (sym (is ∙ plain_root v rd lanes lane l s.schedule s.event none lane_is h.schedule h.event))
-      (stands_after p s s.schedule s.linked s.event (next_update s.journal (hook i k) o l) v rd v.instances same refl goes keeps below h.instances reached h)
+      (stands_after p s s.schedule s.linked s.event (next_update s.journal (hook i k) o l) v rd same refl goes keeps below reached h)
 
   -- a transition
   transition : lane ≡ lane_of s word.Transition → lanes ≡ Some (links_with lane v.schedule.pending (linked_lanes s.linked (hook i k)))
@@ -133,8 +132,8 @@ module _ (p : Program) (s : State) (v : Rooted) (i k : ℕ) (o : Op) (rd : Rende
       let linked_is : lanes ≡ Some ls = some ∙ (λ j. Some (links_with (lane_is j) (h.schedule j).pending (linked_lanes s.linked (hook i k)))) in
       subst (λ (r : Rooted). Stands p (dispatched_for s word.Transition (hook i k) o) r)
       (sym (is ∙ transition_root v rd lanes ls lane l s.schedule s.event linked_is lane_is h.schedule h.event))
-      (stands_after p s (linked_lanes_of (claimed_if_first s) ls) (with_linked s.linked (hook i k) ls) (Some l) (next_update s.journal (hook i k) o l) v rd v.instances same refl
-      goes keeps below h.instances reached h)
+      (stands_after p s (linked_lanes_of (claimed_if_first s) ls) (with_linked s.linked (hook i k) ls) (Some l) (next_update s.journal (hook i k) o l) v rd same refl
+      goes keeps below reached h)
 
   -- the root stands for the state after the dispatch
   pub sent_stands : (w : LaneWord) (u : Update) → lane ≡ lane_of s w → u.lane ≡ lane → lanes ≡ lanes_linked w u v.schedule.pending (linked_lanes s.linked (hook i k))
@@ -187,6 +186,5 @@ unsent_stands p s v rd new h same kept goes is =
       event = h.event;
       numbers = h.numbers;
       declared = h.declared;
-      instances = h.instances;
       progress = unsent_progress p s v rd same goes s.progress h.progress;
     })

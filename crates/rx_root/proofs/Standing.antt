@@ -1,6 +1,6 @@
 -- What a root stands for after a step that renders nothing.
 use Rattle.std.proofs.Common.{◌≡◌, ℕ, ℤ, zero, suc, ◌+◌, ◌<◌, ◌≤◌, Bool, true, false, ◌&&◌, ◌||◌, cond, nat_eq, nat_le, Option, Some, None, List, [], ◌∷◌, ◌++◌, length, map, refl, sym, ap, ◌∙◌, subst, arith}
-use Rattle.std.specs.Prelude.{IfSome, find, slice_set, take}
+use Rattle.std.specs.Prelude.{find, slice_set, take}
 use Rattle.std.specs.List.{list_any, range_with_len}
 use Rattle.std.specs.Option.{option_map}
 use Rattle.std.proofs.lemmas.Bool.Decides.{nat_tests}
@@ -12,7 +12,6 @@ use Rattle.rx_lane.specs.Lanes.{Lanes, has, one, same_lane, union}
 use Rattle.rx_lane.specs.SetLaws.{has-lanes_where}
 use Rattle.rx_ast.specs.Syntax.{Program}
 use Rattle.rx_rules.specs.Names.{resources}
-use Rattle.rx_elem.specs.Spots.{Mounted, mounted}
 use Rattle.rx_queue.specs.Journal.{Journal, Posted, Resolution, has_later, resolved_now}
 use Rattle.rx_sched.specs.Schedule.{Schedule, after_resolution, after_update}
 use Rattle.rx_meaning.specs.Outcome.{is_awaited}
@@ -74,39 +73,7 @@ stands_at p s now event passive v clock shown time shows reached h =
       event = refl;
       numbers = h.numbers;
       declared = h.declared;
-      instances = h.instances;
       progress = progress_stays p s now event passive v clock shown s.progress h.progress;
-    }
-
--- ---- the table of instances
-
-listed_progress : (p : Program) (s : State) (v : Rooted) (ms : Option (List Mounted)) (x : Option Progress) → HasProgress p s x v → HasProgress p s x (record v { instances = ms })
-listed_progress p s v ms None h = h
-listed_progress p s v ms (Some g) h =
-    record { renders = h.renders; units = h.units; bodies = h.bodies; left = h.left; lanes_are_set = h.lanes_are_set; later = h.later }
-
--- the instances of the committed tree are listed
-pub stands_listed : (p : Program) (s : State) (v : Rooted) (ms : Option (List Mounted)) → IfSome ms (λ xs. xs ≡ mounted s.tree) → Stands p s v → Stands p s (record v { instances = ms })
-stands_listed p s v ms listed h =
-    record {
-      reached = h.reached;
-      program = h.program;
-      current = h.current;
-      numbered = h.numbered;
-      keeps = h.keeps;
-      below = h.below;
-      shows = h.shows;
-      schedule = h.schedule;
-      commits = h.commits;
-      updates = h.updates;
-      resolutions = h.resolutions;
-      values = h.values;
-      now = h.now;
-      event = h.event;
-      numbers = h.numbers;
-      declared = h.declared;
-      instances = listed;
-      progress = listed_progress p s v ms s.progress h.progress;
     }
 
 -- ---- updates
@@ -126,7 +93,7 @@ later_more cut j u a l before behind =
     ap (λ b. (b && same_lane u.update.lane l) || false) behind ∙ or_nothing (same_lane u.update.lane l) in
     both ∙ (ap (λ b. b || has (one u.update.lane) l) before ∙ (ap (λ b. list_any test j.updates || b) (own ∙ sym last) ∙ sym (list_any-append test j.updates (u ∷ []))))
 
-module _ (p : Program) (s : State) (sc : Schedule) (ln : List Linked) (ev : Option Lane) (u : Posted) (v : Rooted) (rd : Rendering) (ms : Option (List Mounted)) where
+module _ (p : Program) (s : State) (sc : Schedule) (ln : List Linked) (ev : Option Lane) (u : Posted) (v : Rooted) (rd : Rendering) where
   -- the state after the update
   abbrev state_after : State
   state_after = accepted (record s { schedule = sc; linked = ln; event = ev }) u
@@ -140,7 +107,6 @@ module _ (p : Program) (s : State) (sc : Schedule) (ln : List Linked) (ev : Opti
         updates = v.updates + 1;
         event = ev;
         later = union v.later (one u.update.lane);
-        instances = ms;
       }
 
   progress_after : rd ≡ with_hooks v.rendering rd.hooks → u.update.number ≡ length s.journal.updates → ((g : Progress) → Renders p s g v.rendering → Renders p state_after g rd)
@@ -161,9 +127,9 @@ module _ (p : Program) (s : State) (sc : Schedule) (ln : List Linked) (ev : Opti
 
   -- an update is accepted
   pub stands_after : rd ≡ with_hooks v.rendering rd.hooks → u.update.number ≡ length s.journal.updates → ((g : Progress) → Renders p s g v.rendering → Renders p state_after g rd)
-      → KeepsAllHooks p state_after (kept_hooks rd.hooks) → LinksBelow state_after → IfSome ms (λ xs. xs ≡ mounted s.tree) → IsReached p state_after
+      → KeepsAllHooks p state_after (kept_hooks rd.hooks) → LinksBelow state_after → IsReached p state_after
       → Stands p s v → Stands p state_after root_after
-  stands_after same number goes keeps below listed reached h =
+  stands_after same number goes keeps below reached h =
       record {
         reached = reached;
         program = ap (λ (r : Rendering). r.program) same ∙ h.program;
@@ -181,7 +147,6 @@ module _ (p : Program) (s : State) (sc : Schedule) (ln : List Linked) (ev : Opti
         event = refl;
         numbers = h.numbers;
         declared = h.declared;
-        instances = listed;
         progress = progress_after same number goes s.progress h.progress;
       }
 
@@ -276,6 +241,5 @@ module _ (p : Program) (s : State) (r : ℕ) (x : ℤ) (v : Rooted) where
         event = h.event;
         numbers = h.numbers;
         declared = λ q late. now_stays s.journal.updates s.journal.resolutions last q (grind (arith, nat_tests)) ∙ h.declared q late;
-        instances = h.instances;
         progress = progress_resolved s.progress h.progress;
       }

@@ -68,7 +68,6 @@ moved_stands p s asks v schedule progress w h reached program current keeps has 
       event = h.event;
       numbers = h.numbers;
       declared = h.declared;
-      instances = h.instances;
       progress = has;
     }
 
@@ -146,7 +145,6 @@ started_stands p s v lanes w h reached set program current hooks renders units b
       event = h.event;
       numbers = h.numbers;
       declared = h.declared;
-      instances = h.instances;
       progress = record {
         renders = renders;
         units = units;

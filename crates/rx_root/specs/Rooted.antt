@@ -3,12 +3,11 @@ use Rattle.std.specs.Prelude.{ℕ, List, ℤ, Option}
 use Rattle.rx_lane.specs.declared.lane.Lane.{Lane}
 use Rattle.rx_lane.specs.Lanes.{Lanes}
 use Rattle.rx_elem.specs.Numbers.{Numbers}
-use Rattle.rx_elem.specs.Spots.{Mounted}
 use Rattle.rx_sched.specs.Schedule.{Schedule}
 use Rattle.rx_commit.specs.Shown.{Shown}
 use Rattle.rx_render.specs.Rendering.{Rendering}
 
--- The program with the fibers, the hooks and the render in progress; what is shown; the lanes; how many commits and updates there were, and how many resolutions; the values of the resources; the clock; the transition lane of the event that goes on; the numbers that come next; the lanes of the updates since the render in progress began; and the instances of the committed tree, once a dispatch has asked for them.
+-- The program with the fibers, the hooks and the render in progress; what is shown; the lanes; how many commits and updates there were, and how many resolutions; the values of the resources; the clock; the transition lane of the event that goes on; the numbers that come next; and the lanes of the updates since the render in progress began.
 pub record Rooted : Type 0 where
   pub rendering : Rendering
   pub shown : Shown
@@ -21,4 +20,3 @@ pub record Rooted : Type 0 where
   pub event : Option Lane
   pub numbers : Numbers
   pub later : Lanes
-  pub instances : Option (List Mounted)

@@ -1,11 +1,10 @@
 -- Which state of the machine a root stands for.
-use Rattle.std.specs.Prelude.{◌≡◌, ℕ, ◌+◌, ◌*◌, ◌<◌, ◌≤◌, ◌^◌, Option, Some, None, IfSome, length}
+use Rattle.std.specs.Prelude.{◌≡◌, ℕ, ◌+◌, ◌*◌, ◌<◌, ◌≤◌, ◌^◌, Option, Some, None, length}
 use Rattle.rx_lane.specs.declared.lane.Lane.{Lane}
 use Rattle.rx_lane.specs.Lanes.{has}
 use Rattle.rx_ast.specs.Syntax.{Program}
 use Rattle.rx_rules.specs.Bounds.{node_limit}
 use Rattle.rx_rules.specs.Names.{resources}
-use Rattle.rx_elem.specs.Spots.{mounted}
 use Rattle.rx_queue.specs.Journal.{Journal, has_later, resolved_now}
 use Rattle.rx_model.specs.State.{State, Progress}
 use Rattle.rx_model.specs.HooksOf.{KeepsAllHooks}
@@ -59,7 +58,6 @@ pub record StandsBy (p : Program) (s : State) (asks : Rooted → Type 0) (v : Ro
   pub event : v.event ≡ s.event
   pub numbers : v.numbers ≡ s.numbers
   pub declared : AreDeclared p s.journal
-  pub instances : IfSome v.instances (λ ms. ms ≡ mounted s.tree)
   pub progress : asks v
 
 -- a root stands for a state, with this render in progress, if there is one, in place of the state's own

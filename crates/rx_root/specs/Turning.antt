@@ -28,6 +28,7 @@ use Rattle.rx_links.specs.Drafts.{grafted}
 use Rattle.rx_fiber.specs.Reading.{IsTreeOf}
 use Rattle.end_laws.specs.Trimmed.{trimmed}
 use Rattle.host_laws.specs.Commits.{IsCommit, TextsAreLeaves}
+use Rattle.prune_laws.specs.Present.{IfHasNoNull}
 use Rattle.rx_commit.specs.Shown.{CanCommit, Prepared, Prepares, Shown, Shows}
 use Rattle.rx_commit.specs.Written.{with_lines}
 use Rattle.rx_render.specs.declared.at.At.TheVariants.{Over}
@@ -123,9 +124,13 @@ LeadsOn p s g budget = (r : Stretch) → GoesOn p s g budget r → IsReached p r
 abbrev pub passive_left : Lanes → Passive → Passive
 passive_left lanes passive = if has lanes lane.Sync then no_passive else passive
 
+-- a resource has a value by now, and had none before
+abbrev pub is_new : (values seen : List (Option ℤ)) → (resource : ℕ) → Bool
+is_new values seen r = is_some (slice_index_or values r None) && not (is_some (slice_index_or seen r None))
+
 -- one of these resources has a value by now, and had none before
 abbrev pub is_news : (values seen : List (Option ℤ)) → Awaits → (resource : ℕ) → Bool
-is_news values seen waits r = has_resource waits r && (is_some (slice_index_or values r None) && not (is_some (slice_index_or seen r None)))
+is_news values seen waits r = has_resource waits r && is_new values seen r
 
 -- A render in progress is finished within its slice: the root is at its end, and its bodies are counted.
 pub record HasFinished (p : Program) (s : State) (g : Progress) (slice : Option ℕ) (v : Rooted) (steps counted : ℕ) : Type 0 where
@@ -148,10 +153,11 @@ pub record LeavesRoom (turns : ℕ) (old new : Rooted) : Type 0 where
   pub updates : new.updates ≡ old.updates
   pub resolutions : new.resolutions ≡ old.resolutions
 
--- What is shown is that of an old tree and its passive effects; the tree that is to be shown now is the new one, without the vacant places at the ends of its lists, and related to the old one as a commit relates them.
+-- What is shown is that of an old tree and its passive effects; the tree that is to be shown now is the new one, without the vacant places at the ends of its lists, and related to the old one as a commit relates them; and no node of the old one is one of null.
 pub record CanFollow (tree : Node) (old : Option Node) (passive : Passive) (new : Node) (v : Shown) : Type 0 where
   pub shows : Shows old passive v
   pub tree_is : tree ≡ trimmed new
+  pub present : IfHasNoNull old
   pub commits : IsCommit old new
   pub leaves : TextsAreLeaves new
 

@@ -1,5 +1,5 @@
 // What happens outside of renders: dispatches, resolutions, the clock, passive effects, and what is printed.
-ghost use Rattle.std.specs.Prelude.{◌≡◌, ◌+◌, ◌<◌, ◌≤◌, ◌^◌, ℕ, true, Some, None, IfOk, IsSome, IsSomeAnd, IsTrue, OnErr, OnOk, bytes_eq, is_some, length, position, slice_get, slice_set};
+ghost use Rattle.std.specs.Prelude.{◌≡◌, ◌+◌, ◌<◌, ◌≤◌, ◌^◌, ℕ, true, Some, None, IsSomeAnd, IsTrue, OnErr, OnOk, bytes_eq, is_some, length, position, slice_get, slice_set};
 ghost use Rattle.rx_lane.specs.Lanes.{is_transition};
 ghost use Rattle.rx_rules.specs.Names.{resource_number, resources};
 ghost use Rattle.rx_elem.specs.Spots.{Mounted, mounted};
@@ -27,7 +27,7 @@ use end_laws::ends_are_not_read;
 use rx_base::{Int, Name};
 use rx_hook_store::{hooks_are_there, links_are_below};
 use rx_instances::{
-    Instances, dispatch_hook, dispatch_op, dispatch_path, dispatch_word, hook_place, show_hooks,
+    dispatch_hook, dispatch_op, dispatch_path, dispatch_word, find_instance, hook_place, show_hooks,
 };
 use rx_lane::{Lane, Lanes};
 use rx_queue::{Op, Update};
@@ -122,41 +122,21 @@ impl Root {
         self.shown.write_tree(log)
     }
 
-    // The instances of the committed tree.
-    fn instances(&self) -> Result<Instances, AllocError>
-        ensures { IfOk result (λ all. (s : State) → Stands self.entry.now.rendering.program s self.entry.now → all ≡ mounted s.tree) }
-    {
-        ends_are_not_read();
-        Instances::new(self.alloc, self.shown.tree())
-    }
-
-    // Lists the instances of the committed tree, unless they are listed since the last commit.
-    fn list_instances(&mut self) -> Result<(), AllocError>
-        ensures listed { OnOk result (IsSome self.new.instances) }
-        ensures same { self.new ≡ record self.old { instances = self.new.instances } }
-        ensures stands { (s : State) → Stands self.old.rendering.program s self.old → Stands self.old.rendering.program s self.new }
-    {
-        if self.instances.is_none() {
-            self.instances = Some(self.instances()?);
-        }
-        Ok(())
-    }
-
     // The hook that a dispatch is for, and what the dispatch does to it, if its path leads to an instance.
     fn target(&self, dispatch: &Dispatch) -> Option<Sent>
-        requires { IsSome self.now.instances }
+        requires { (s : State) × Stands self.now.rendering.program s self.now }
         ensures { (s : State) → Stands self.entry.now.rendering.program s self.entry.now → CanTake self.entry.now.rendering.program (step.Dispatch dispatch.now)
             → IsTargetOf self.entry.now.rendering.program s dispatch.now result }
     {
+        ends_are_not_read();
+        self.renderer.facts();
         let checked = self.renderer.checked();
         checked.program();
-        let all = self.instances.as_ref().unwrap();
-        let instance = all.find(checked, dispatch_path(dispatch))?;
-        let component = instance.component();
+        let found = find_instance(checked, self.shown.tree(), dispatch_path(dispatch))?;
         Some(Sent {
-            instance: instance.number(),
-            place: hook_place(checked, component, dispatch_hook(dispatch)),
-            op: dispatch_op(checked, component, dispatch),
+            instance: found.number,
+            place: hook_place(checked, found.component, dispatch_hook(dispatch)),
+            op: dispatch_op(checked, found.component, dispatch),
         })
     }
 
@@ -258,12 +238,11 @@ impl Root {
             → Takes self.old.rendering.program (StepTo self.old.rendering.program s (step.Dispatch dispatch.now)) self.new log.old log.new n n) }
         ensures err { OnErr result ((s : State) → Stands self.old.rendering.program s self.old → Stands self.old.rendering.program s self.new) }
         ensures unchanged { OnErr result (log.new ≡ log.old) }
-        ensures same { self.new ≡ record self.old { rendering = self.new.rendering; schedule = self.new.schedule; updates = self.new.updates; event = self.new.event; later = self.new.later; instances = self.new.instances } }
+        ensures same { self.new ≡ record self.old { rendering = self.new.rendering; schedule = self.new.schedule; updates = self.new.updates; event = self.new.event; later = self.new.later } }
         ensures program { self.new.rendering.program ≡ self.old.rendering.program }
         ensures one { self.new.updates ≤ self.old.updates + 1 }
     {
         hooks_are_there();
-        self.list_instances()?;
         match self.target(dispatch) {
             None => log.no_instance_line(dispatch_path(dispatch)),
             Some(sent) => self.send(dispatch_word(dispatch), sent),

@@ -22,7 +22,6 @@ use rx_check::Checked;
 use rx_commit::Shown;
 use rx_fiber::Fiber;
 use rx_hook_store::links_are_below;
-use rx_instances::Instances;
 use rx_lane::{Lane, Lanes};
 use rx_links::FiberTree;
 use rx_read::Numbers;
@@ -53,8 +52,6 @@ pub struct Root {
     pub(crate) numbers: Numbers,
     // The lanes of the updates since the render in progress began.
     pub(crate) later: Lanes,
-    // The instances of the committed tree, once a dispatch has asked for them.
-    pub(crate) instances: Option<Instances>,
 }
 
 impl Model for Root {
@@ -69,7 +66,7 @@ impl Model for Root {
 
     ghost coded = { Prim.hlevel (codes, program_code, node_code, fiber_trees_code) };
 
-    ghost view = { λ r. record { rendering = r.renderer; shown = r.shown; schedule = r.lanes; commits = r.commits; updates = r.updates; resolutions = r.resolutions; values = r.values.items; now = r.now; event = r.event; numbers = numbers_seen r.numbers; later = r.later; instances = r.instances } };
+    ghost view = { λ r. record { rendering = r.renderer; shown = r.shown; schedule = r.lanes; commits = r.commits; updates = r.updates; resolutions = r.resolutions; values = r.values.items; now = r.now; event = r.event; numbers = numbers_seen r.numbers; later = r.later } };
 }
 
 // No resource of a program has a value.
@@ -112,7 +109,6 @@ impl Root {
                 host: 1,
             },
             later: Lanes::none(),
-            instances: None,
         })
     }
 

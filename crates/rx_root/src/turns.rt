@@ -1,5 +1,7 @@
 // Turns of rendering.
 ghost use Rattle.std.specs.Prelude.{◌≡◌, ◌≢◌, ◌⊎◌, ℕ, ◌+◌, ◌<◌, ◌≤◌, ◌^◌, true, false, Option, Some, None, option_map, IfOk, IfSome, OnErr, OnOk, length};
+ghost use Rattle.std.specs.List.{list_any};
+ghost use Rattle.rx_base.specs.Awaits as awaits;
 ghost use Rattle.rx_ast.specs.Syntax as syntax;
 ghost use Rattle.rx_check.specs.Accepted.{IsAccepted};
 ghost use Rattle.rx_elem.specs.Trees as trees;
@@ -11,7 +13,7 @@ ghost use Rattle.rx_lane.specs.declared.lane.Lane.TheVariants as lane;
 ghost use Rattle.rx_lane.specs.Lanes.{has, lanes_where};
 ghost use Rattle.rx_queue.specs.Journal.{resolved_since};
 ghost use Rattle.rx_loop.specs.Ends.{MatchDriven};
-ghost use Rattle.rx_meaning.specs.Outcome.{outcome, still_pending};
+ghost use Rattle.rx_meaning.specs.Outcome.{outcome, still_pending, visible_awaits};
 ghost use Rattle.rx_model.specs.State.{State, Progress};
 ghost use Rattle.rx_model.specs.Committing.{passive_run, starting, committed_as, committed_state, schedule_deferred, deferred_as, ended};
 ghost use Rattle.rx_model.specs.HooksOf.{KeepsAllHooks};
@@ -23,6 +25,7 @@ ghost use Rattle.rx_model.specs.Turns.{slice_of, choice_of, GoesOn, Turn};
 ghost use Rattle.rx_model.specs.Machine.{Flush, FlushSync, flush_limit};
 ghost use Rattle.rx_model.specs.Kept.{IsSet};
 ghost use Rattle.rx_model.specs.Laws.{IsBounded, IsReached};
+ghost use Rattle.rx_pruned.specs.Besides.{IsBeside};
 ghost use Rattle.end_laws.specs.Trimmed.{trimmed};
 ghost use Rattle.rx_commit.specs.Shown.{Prepares, Shows, outcome_as};
 ghost use Rattle.rx_commit.specs.Written.{lines_of, passive_lines, with_lines};
@@ -31,7 +34,7 @@ ghost use Rattle.rx_render.specs.Renders.{with_hooks};
 ghost use Rattle.rx_render.specs.Turning.{GoesOn as Onward, GivesUp, KeepsHooks};
 ghost use Rattle.rx_root.specs.Breaking.{BreaksOffWithin, HasBegun, TurnBreaksOff};
 ghost use Rattle.rx_root.specs.Stands.{Stands, StandsWith};
-ghost use Rattle.rx_root.specs.Turning.{Breaks, CanFollow, CanShow, FlushWithin, FlushesFrom, GaveUp, HasBroken, HasDone, HasFinished, HasNumbered, HasRoomForTurns, HasSomeProgress, HasYielded, IsAtSomeEnd, IsPrepared, IsPreparedFor, KnowsSince, KnowsSinceSome, LeadsOn, LeavesRoom, StandsAtEnd, StandsBetween, Takes, counts_of, is_news, passive_left};
+ghost use Rattle.rx_root.specs.Turning.{Breaks, CanFollow, CanShow, FlushWithin, FlushesFrom, GaveUp, HasBroken, HasDone, HasFinished, HasNumbered, HasRoomForTurns, HasSomeProgress, HasYielded, IsAtSomeEnd, IsPrepared, IsPreparedFor, KnowsSince, KnowsSinceSome, LeadsOn, LeavesRoom, StandsAtEnd, StandsBetween, Takes, counts_of, is_new, is_news, passive_left};
 
 use crate::root::Root;
 use rx_base::{Awaits, Cut, Int, Steps};
@@ -39,6 +42,7 @@ use rx_commit::{Prepared, Shown, cut_back};
 use rx_lane::{Lane, Lanes};
 use rx_loop::{Driven, drive};
 use rx_node::Node;
+use rx_pruned::Beside;
 use rx_report::Report;
 use rx_sched::Choice;
 use rx_spots::awaited;
@@ -57,6 +61,20 @@ fn has_news(values: &[Option<Int>], seen: &[Option<Int>], waits: &Awaits) -> boo
 {
     for resource in 0..values.len() {
         if waits.has(resource as u32) && values[resource].is_some() && seen[resource].is_none() {
+            return true;
+        }
+    }
+    false
+}
+
+// Whether any resource has a value by now, and had none before.
+fn has_any_news(values: &[Option<Int>], seen: &[Option<Int>]) -> bool
+    requires { length seen.now ≡ length values.now }
+    ensures some { result ≡ true → (r : ℕ) × (r < length values.now) × (is_new values.now seen.now r ≡ true) }
+    ensures none { result ≡ false → (r : ℕ) → r < length values.now → is_new values.now seen.now r ≡ false }
+{
+    for resource in 0..values.len() {
+        if values[resource].is_some() && seen[resource].is_none() {
             return true;
         }
     }
@@ -185,8 +203,8 @@ impl Root {
         if !lanes.only_transitions() {
             return Ok(None);
         }
-        let tree = self.renderer.finished()?;
-        self.shown.outcome(self.alloc, &tree, lanes)
+        let beside = self.renderer.finished(self.shown.tree())?;
+        self.shown.outcome(self.alloc, &beside, lanes)
     }
 
     // Suspends the lanes of a deferred render, unless something that it waits for has its value by now.
@@ -215,6 +233,29 @@ impl Root {
         Ok(())
     }
 
+    // Whether any resource got its value since the render in progress began.
+    fn is_any_resolved_since(&self) -> bool
+        requires { KnowsSinceSome self.now }
+        ensures { (p : syntax.Program) (s : State) (g : Progress) → KnowsSince p s g self.entry.now → result ≡ false → (waits : awaits.Awaits) → resolved_since g.cut s.journal waits ≡ false }
+    {
+        self.facts();
+        has_any_news(&self.values, self.renderer.resources())
+    }
+
+    // Whether a visible boundary of this tree waits for a resource that got its value since the render in progress began. The
+    // tree is looked through only where there is such a resource.
+    fn has_retry(&self, tree: &Node) -> bool
+        requires { KnowsSinceSome self.now }
+        ensures { (p : syntax.Program) (s : State) (g : Progress) → KnowsSince p s g self.entry.now
+            → result ≡ list_any (resolved_since g.cut s.journal) (visible_awaits (Some tree.now)) }
+    {
+        self.facts();
+        if !self.is_any_resolved_since() {
+            return false;
+        }
+        self.is_resolved_since(&awaited(Some(tree)))
+    }
+
     // The lanes that are pending again after the commit of this tree: those of later updates, and Retry where there is
     // something to retry.
     fn still(&self, tree: &Node) -> Lanes
@@ -224,7 +265,7 @@ impl Root {
     {
         self.facts();
         let later = self.renderer.lanes().intersection(self.later);
-        let retry = if self.is_resolved_since(&awaited(Some(tree))) {
+        let retry = if self.has_retry(tree) {
             Lanes::one(Lane::Retry)
         } else {
             Lanes::none()
@@ -232,32 +273,35 @@ impl Root {
         later.union(retry)
     }
 
-    // The finished tree, with numbers for what is new in it.
-    fn number(&mut self) -> Result<Node, AllocError>
+    // The finished tree beside the one that is shown, with numbers for what is new in it.
+    fn number(&mut self) -> Result<Beside, AllocError>
         requires end { IsAtSomeEnd self.old }
         requires room { HasRoomForTurns 1 self.old }
-        ensures tree { IfOk result (λ n. (p : syntax.Program) (s : State) (g : Progress) (tree : trees.Node) → StandsAtEnd p s g tree self.old → n ≡ trimmed (numbered s.numbers tree).1) }
+        ensures tree { IfOk result (λ b. (p : syntax.Program) (s : State) (g : Progress) (tree : trees.Node) → StandsAtEnd p s g tree self.old → b.tree ≡ trimmed (numbered s.numbers tree).1) }
+        ensures beside { IfOk result (λ b. IsBeside self.old.shown.tree b) }
         ensures numbers { OnOk result ((p : syntax.Program) (s : State) (g : Progress) (tree : trees.Node) → StandsAtEnd p s g tree self.old → HasNumbered p s g tree self.old self.new) }
         ensures rest { self.new ≡ record self.old { numbers = self.new.numbers; rendering = record self.old.rendering { trees = record self.old.rendering.trees { draft = self.new.rendering.trees.draft } } } }
     {
         self.facts();
         self.numbers = self.renderer.number(self.numbers);
-        self.renderer.finished()
+        self.renderer.finished(self.shown.tree())
     }
 
     // Writes what a prepared commit does, and settles the hooks: an `Err` takes back what was written.
     fn settle(
         &mut self,
         prepared: &Prepared,
+        beside: &Beside,
         first: u64,
         log: &mut Report,
     ) -> Result<(), AllocError>
         requires room { self.old.commits + 1 < 2 ^ 64 }
         requires over { self.old.rendering.at ≡ Over }
         requires prepares { (old : Option trees.Node) × (new : trees.Node) × Prepares old new prepared.now }
-        requires at_hand { CanSettle self.old.rendering.program (kept_hooks self.old.rendering.hooks) self.old.shown.tree prepared.now.tree first self.old.rendering.lanes self.old.rendering.cut }
+        requires at_hand { CanSettle self.old.rendering.program (kept_hooks self.old.rendering.hooks) self.old.shown.tree beside.now.tree first self.old.rendering.lanes self.old.rendering.cut }
+        requires beside { IsBeside self.old.shown.tree beside.now }
         ensures settled { OnOk result ((s : State) (g : Progress) (x : trees.Node)
-            → IsSettlingOf self.old.rendering.program (kept_hooks self.old.rendering.hooks) self.old.shown.tree prepared.now.tree first self.old.rendering.lanes self.old.rendering.cut s g x
+            → IsSettlingOf self.old.rendering.program (kept_hooks self.old.rendering.hooks) self.old.shown.tree beside.now.tree first self.old.rendering.lanes self.old.rendering.cut s g x
             → KeepsAllHooks self.old.rendering.program (committed_state s g (numbered s.numbers x)) (kept_hooks self.new.rendering.hooks)) }
         ensures written { OnOk result ((old : Option trees.Node) (new : trees.Node) → Prepares old new prepared.now
             → log.new ≡ with_lines log.old (lines_of (self.old.commits + 1) (lanes_where (has self.old.rendering.lanes)) (counts_of self.old) old new)) }
@@ -273,31 +317,35 @@ impl Root {
             self.renderer.units(),
             self.renderer.bodies(),
         )?;
-        let settled = self
-            .renderer
-            .settle(self.shown.tree(), prepared.tree(), first);
+        let settled = self.renderer.settle(self.shown.tree(), beside, first);
         cut_back(log, len, settled)
     }
 
     // Prepares the commit of a finished tree, whose new instances have numbers from the first on: all of it that may fail, its
     // lines and its hooks too. An `Err` changes nothing of what the root stands for, nor the report.
-    fn prepare(&mut self, tree: Node, first: u64, log: &mut Report) -> Result<Prepared, AllocError>
+    fn prepare(
+        &mut self,
+        beside: &Beside,
+        first: u64,
+        log: &mut Report,
+    ) -> Result<Prepared, AllocError>
         requires room { self.old.commits + 1 < 2 ^ 64 }
         requires over { self.old.rendering.at ≡ Over }
-        requires at_hand { CanSettle self.old.rendering.program (kept_hooks self.old.rendering.hooks) self.old.shown.tree tree first self.old.rendering.lanes self.old.rendering.cut }
-        requires can_show { CanShow tree self.old.shown }
-        ensures ready { IfOk result (λ x. (old : Option trees.Node) (passive : effects.Passive) (new : trees.Node) → CanFollow tree old passive new self.old.shown → IsPreparedFor old new self.new.shown x) }
+        requires at_hand { CanSettle self.old.rendering.program (kept_hooks self.old.rendering.hooks) self.old.shown.tree beside.now.tree first self.old.rendering.lanes self.old.rendering.cut }
+        requires beside { IsBeside self.old.shown.tree beside.now }
+        requires can_show { CanShow beside.now.tree self.old.shown }
+        ensures ready { IfOk result (λ x. (old : Option trees.Node) (passive : effects.Passive) (new : trees.Node) → CanFollow beside.now.tree old passive new self.old.shown → IsPreparedFor old new self.new.shown x) }
         ensures settled { OnOk result ((s : State) (g : Progress) (x : trees.Node)
-            → IsSettlingOf self.old.rendering.program (kept_hooks self.old.rendering.hooks) self.old.shown.tree tree first self.old.rendering.lanes self.old.rendering.cut s g x
+            → IsSettlingOf self.old.rendering.program (kept_hooks self.old.rendering.hooks) self.old.shown.tree beside.now.tree first self.old.rendering.lanes self.old.rendering.cut s g x
             → KeepsAllHooks self.old.rendering.program (committed_state s g (numbered s.numbers x)) (kept_hooks self.new.rendering.hooks)) }
-        ensures written { OnOk result ((old : Option trees.Node) (passive : effects.Passive) (new : trees.Node) → CanFollow tree old passive new self.old.shown
+        ensures written { OnOk result ((old : Option trees.Node) (passive : effects.Passive) (new : trees.Node) → CanFollow beside.now.tree old passive new self.old.shown
             → log.new ≡ with_lines log.old (lines_of (self.old.commits + 1) (lanes_where (has self.old.rendering.lanes)) (counts_of self.old) old new)) }
         ensures rest { self.new ≡ record self.old { rendering = with_hooks self.old.rendering self.new.rendering.hooks; shown = self.new.shown } }
         ensures gave_up { OnErr result (GaveUp self.old self.new) }
         ensures unchanged { OnErr result (log.new ≡ log.old) }
     {
-        let prepared = self.shown.prepare(self.alloc, tree)?;
-        self.settle(&prepared, first, log)?;
+        let prepared = self.shown.prepare(self.alloc, beside)?;
+        self.settle(&prepared, beside, first, log)?;
         Ok(prepared)
     }
 
@@ -307,12 +355,11 @@ impl Root {
         requires ready { IsPrepared self.old.shown prepared }
         ensures shown { (old : Option trees.Node) (new : trees.Node) → IsPreparedFor old new self.old.shown prepared
             → Shows (Some new) (passive_left self.old.rendering.lanes (passive_of (compare_trees old new))) self.new.shown }
-        ensures rest { self.new ≡ record self.old { shown = self.new.shown; commits = self.old.commits + 1; instances = None } }
+        ensures rest { self.new ≡ record self.old { shown = self.new.shown; commits = self.old.commits + 1 } }
     {
         self.shown.commit(prepared);
         end_passive_of(&mut self.shown, self.renderer.lanes());
         self.commits += 1;
-        self.instances = None;
     }
 
     // Commits a finished render; where memory is wanting the next numbers are not what they were.
@@ -328,9 +375,9 @@ impl Root {
         self.facts();
         let first = self.numbers.instance;
         let lanes = self.renderer.lanes();
-        let tree = self.number()?;
-        let still = self.still(&tree);
-        let prepared = self.prepare(tree, first, log)?;
+        let beside = self.number()?;
+        let still = self.still(&beside.tree);
+        let prepared = self.prepare(&beside, first, log)?;
         self.show(prepared);
         self.renderer.commit();
         self.lanes.finished(lanes, still, self.now);

@@ -1,5 +1,5 @@
 -- A render that is repeated leaves what is kept as it was.
-use Rattle.std.proofs.Common.{◌≡◌, ℕ, ℤ, ◌+◌, ◌<◌, Some, IsSome, List, map, slice_get, refl, sym, ap, ◌∙◌, subst, below_more}
+use Rattle.std.proofs.Common.{◌≡◌, ℕ, ℤ, ◌+◌, ◌<◌, false, nat_eq, Some, IsSome, List, map, slice_get, refl, sym, ap, ◌∙◌, subst, below_more}
 use Rattle.rx_base.specs.declared.cut.Cut.{Cut}
 use Rattle.rx_lane.specs.Lanes.{Lanes}
 use Rattle.rx_ast.specs.Syntax.{Program}
@@ -12,7 +12,8 @@ use Rattle.rx_model.specs.State.{State}
 use Rattle.rx_hook_store.specs.Rendered.{IsRendered, KeepsInstance, RendersHooks}
 use Rattle.rx_hook_store.proofs.Rendering.{above-journal, hooks-rendered}
 use Rattle.rx_hook_store.proofs.Stores.{KeptBy, by_number, keeps-same, rendered-same}
-use Rattle.rx_settle.specs.Passes.{KeepsOn, RendersShown}
+use Rattle.rx_settle.specs.Passes.{KeepsOn, RendersShown, has_instance}
+use Rattle.rx_settle.proofs.Kept.{other_than}
 
 -- hooks that are rendered stand for the state as before
 module _ (p : Program) (lanes : Lanes) (cut : Cut) (i : ℕ) (old new : KeptBy) (r : RendersHooks (answers_of p) lanes cut i old new) where
@@ -49,10 +50,11 @@ same_goes_on p lanes cut old new same =
 
 -- ---- one instance after the other
 
--- what is kept goes on, and the first so many instances are rendered
+-- what is kept goes on, and the first so many instances are rendered; what is kept of those that are not in the list stays
 pub record RenderedSoFar (p : Program) (lanes : Lanes) (cut : Cut) (first : ℕ) (old new : KeptBy) (ms : List Mounted) (count : ℕ) : Type 0 where
   pub goes_on : KeepsOn p lanes cut old new
   pub rendered : (k : ℕ) → k < count → (m : Mounted) → slice_get ms k ≡ Some m → RendersShown p lanes cut first old new m
+  pub elsewhere : (n : ℕ) → has_instance ms n ≡ false → new n ≡ old n
 
 module _ (p : Program) (lanes : Lanes) (cut : Cut) (first : ℕ) (old now new : KeptBy) where
   -- one render after the other
@@ -66,8 +68,8 @@ module _ (p : Program) (lanes : Lanes) (cut : Cut) (first : ℕ) (old now new : 
 
   -- one instance more is rendered
   pub render_more : (ms : List Mounted) (i : ℕ) (m : Mounted) → slice_get ms i ≡ Some m → RenderedSoFar p lanes cut first old now ms i → KeepsOn p lanes cut now new
-      → RendersShown p lanes cut first now new m → RenderedSoFar p lanes cut first old new ms (i + 1)
-  render_more ms i m at so_far further one =
+      → RendersShown p lanes cut first now new m → ((n : ℕ) → nat_eq m.number n ≡ false → new n ≡ now n) → RenderedSoFar p lanes cut first old new ms (i + 1)
+  render_more ms i m at so_far further one others =
       record {
         goes_on = goes_further so_far.goes_on further;
         rendered = below_more (λ k. (x : Mounted) → slice_get ms k ≡ Some x → RendersShown p lanes cut first old new x) i
@@ -75,6 +77,7 @@ module _ (p : Program) (lanes : Lanes) (cut : Cut) (first : ℕ) (old now new : 
             (λ x there visible below s done keeps.
             let same : m ≡ x = cc in
             subst (λ (y : Mounted). RendersShown p lanes cut first now new y) same one visible below s done (so_far.goes_on.keeps s x.number x.initials done keeps));
+        elsewhere = λ n none. others n (other_than ms i m n at none) ∙ so_far.elsewhere n none;
       }
 
 -- ---- where all is as before at first

@@ -23,7 +23,7 @@ one_listed n a (of_boundary b) ms = omega arith
 one_listed n a plain ms = omega arith
 
 -- the instances at some spots have each number as often as the spots
-all_listed : (n : ℕ) (xs : List Spot) → occurs n (numbers_of (filter_map mounted_in xs)) ≡ spot_times n xs
+pub all_listed : (n : ℕ) (xs : List Spot) → occurs n (numbers_of (filter_map mounted_in xs)) ≡ spot_times n xs
 all_listed n [] = refl
 all_listed n (x ∷ xs) = omega (arith, one_listed n x.around (spot_mark x) (filter_map mounted_in xs), all_listed n xs)
 

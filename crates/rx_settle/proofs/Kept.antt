@@ -1,5 +1,5 @@
 -- What a commit does with the hooks that are kept, one instance after the other.
-use Rattle.std.proofs.Common.{◌≡◌, ℕ, ◌+◌, ◌<◌, ◌≤◌, Bool, true, false, nat_eq, Option, Some, None, IsSome, List, map, slice_get, sym, ◌∙◌, subst, below_more, arith}
+use Rattle.std.proofs.Common.{◌≡◌, ℕ, zero, suc, ◌+◌, ◌<◌, ◌≤◌, Bool, true, false, ◌||◌, nat_eq, Option, Some, None, IsSome, List, [], ◌∷◌, map, slice_get, refl, sym, ◌∙◌, subst, below_more, arith}
 use Rattle.std.proofs.lemmas.Bool.Decides.{nat_tests}
 use Rattle.rx_base.specs.declared.cut.Cut.{Cut}
 use Rattle.rx_lane.specs.Lanes.{Lanes}
@@ -8,14 +8,33 @@ use Rattle.rx_hooks.specs.declared.hook.Hook.{Hook}
 use Rattle.rx_hooks.specs.Hooks.{committed_hook, owed_hook}
 use Rattle.rx_hook_store.specs.Changing.{HooksChange}
 use Rattle.rx_hook_store.proofs.Stores.{KeptBy}
-use Rattle.rx_settle.specs.Passes.{AreApart, AreKept, AreSettled}
+use Rattle.rx_settle.specs.Passes.{AreApart, AreKept, AreSettled, has_instance}
+
+-- ---- numbers
+
+-- two numbers differ either way
+other_way : (a b : ℕ) → nat_eq a b ≡ false → nat_eq b a ≡ false
+other_way a b e = grind (arith, nat_tests)
+
+neither : (a b : Bool) → (a || b) ≡ false → (a ≡ false) × (b ≡ false)
+neither true b e = absurd (let f : ⊥ = cc in f)
+neither false b e = (refl, e)
+
+-- a number that no instance of a list has is another one than that of each
+pub other_than : (ms : List Mounted) (k : ℕ) (m : Mounted) (n : ℕ) → slice_get ms k ≡ Some m → has_instance ms n ≡ false → nat_eq m.number n ≡ false
+other_than [] k m n at none = absurd (let f : ⊥ = cc in f)
+other_than (x ∷ ms) zero m n at none =
+    let same : x ≡ m = cc in
+    subst (λ (y : Mounted). nat_eq y.number n ≡ false) same (other_way n x.number (neither (nat_eq n x.number) (has_instance ms n) none).0)
+other_than (x ∷ ms) (suc k) m n at none = other_than ms k m n at (neither (nat_eq n x.number) (has_instance ms n) none).1
 
 -- ---- settling
 
--- the first so many instances are settled, and what is kept of the others is as before
+-- the first so many instances are settled, and what is kept of the others is as before, and of all that are not in the list
 pub record SettledSoFar (lanes : Lanes) (cut : Cut) (first : ℕ) (old new : KeptBy) (ms : List Mounted) (count : ℕ) : Type 0 where
   pub settled : (k : ℕ) → k < count → (m : Mounted) → slice_get ms k ≡ Some m → AreSettled lanes cut first old new m
   pub others : (k : ℕ) (m : Mounted) → count ≤ k → slice_get ms k ≡ Some m → new m.number ≡ old m.number
+  pub elsewhere : (n : ℕ) → has_instance ms n ≡ false → new n ≡ old n
 
 module _ (lanes : Lanes) (cut : Cut) (first : ℕ) where
   -- hooks are settled where they are seen so before or after
@@ -33,10 +52,6 @@ module _ (lanes : Lanes) (cut : Cut) (first : ℕ) where
         hidden = λ below visible. subst (λ (o : Option (List Hook)). HooksChange (map (owed_hook lanes cut)) o (new m.number)) same (h.hidden below visible);
       }
 
-  -- two numbers differ either way
-  other_way : (a b : ℕ) → nat_eq a b ≡ false → nat_eq b a ≡ false
-  other_way a b e = grind (arith, nat_tests)
-
   module _ (ms : List Mounted) (apart : AreApart ms) (old now new : KeptBy) (i : ℕ) (m : Mounted) (at : slice_get ms i ≡ Some m) where
     -- one instance more is settled
     pub settle_more : SettledSoFar lanes cut first old now ms i → AreSettled lanes cut first now new m → ((n : ℕ) → nat_eq m.number n ≡ false → new n ≡ now n)
@@ -50,6 +65,7 @@ module _ (lanes : Lanes) (cut : Cut) (first : ℕ) where
               let same : m ≡ x = cc in
               subst (λ (y : Mounted). AreSettled lanes cut first old new y) same (settled_before m old now new (so_far.others i m (omega arith) at) one));
           others = λ k x le there. others x.number (apart i k m x (omega arith) at there) ∙ so_far.others k x (omega arith) there;
+          elsewhere = λ n none. others n (other_than ms i m n at none) ∙ so_far.elsewhere n none;
         }
 
     -- hooks are still kept of the next instance
@@ -58,19 +74,21 @@ module _ (lanes : Lanes) (cut : Cut) (first : ℕ) where
 
 -- ---- removing
 
--- what is known is kept as before, and of the first so many instances those that are not known are gone
+-- what is known is kept as before, and what is not in the list; and of the first so many instances those that are not known are gone
 pub record GoneSoFar (known : ℕ → Bool) (old new : KeptBy) (ms : List Mounted) (count : ℕ) : Type 0 where
   pub kept : (n : ℕ) → known n ≡ true → new n ≡ old n
   pub gone : (k : ℕ) → k < count → (m : Mounted) → slice_get ms k ≡ Some m → known m.number ≡ false → new m.number ≡ None
+  pub elsewhere : (n : ℕ) → has_instance ms n ≡ false → new n ≡ old n
 
 -- one instance more is gone, or is known
 pub remove_more : (known : ℕ → Bool) (old now new : KeptBy) (ms : List Mounted) (i : ℕ) (m : Mounted) → slice_get ms i ≡ Some m → GoneSoFar known old now ms i
     → ((n : ℕ) → known n ≡ true → new n ≡ now n) → (known m.number ≡ false → new m.number ≡ None) → ((n : ℕ) → now n ≡ None → new n ≡ None)
-    → GoneSoFar known old new ms (i + 1)
-remove_more known old now new ms i m at so_far kept gone none =
+    → ((n : ℕ) → nat_eq m.number n ≡ false → new n ≡ now n) → GoneSoFar known old new ms (i + 1)
+remove_more known old now new ms i m at so_far kept gone none others =
     record {
       kept = λ n is. kept n is ∙ so_far.kept n is;
       gone = below_more (λ k. (x : Mounted) → slice_get ms k ≡ Some x → known x.number ≡ false → new x.number ≡ None) i
           (λ k lt x there is. none x.number (so_far.gone k lt x there is))
           (λ x there. let same : m ≡ x = cc in subst (λ (y : Mounted). known y.number ≡ false → new y.number ≡ None) same gone);
+      elsewhere = λ n free. others n (other_than ms i m n at free) ∙ so_far.elsewhere n free;
     }

@@ -3,5 +3,6 @@ mod Again
 mod Kept
 mod Making
 mod Apart
+mod Numbers
 mod Whole
 mod First

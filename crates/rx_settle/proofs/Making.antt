@@ -137,3 +137,8 @@ found (x ∷ xs) kept n has = go (nat_eq x.number n) refl has (found xs kept n)
           number_is = f.number_is;
           kept_is = ap (λ b. cond b (Some x.hooks) (kept_with xs kept n)) is ∙ f.kept_is;
         }
+
+-- what is kept of an instance that has no new hooks stays
+pub elsewhere_stays : (xs : List NewHooks) (kept : KeptBy) (n : ℕ) → ((k : ℕ) (x : NewHooks) → slice_get xs k ≡ Some x → nat_eq x.number n ≡ false) → kept_with xs kept n ≡ kept n
+elsewhere_stays [] kept n other = refl
+elsewhere_stays (x ∷ xs) kept n other = rw (other 0 x refl) (elsewhere_stays xs kept n (λ k y at. other (suc k) y at))

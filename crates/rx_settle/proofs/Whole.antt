@@ -1,5 +1,5 @@
 -- A commit that settles the hooks of each instance of its tree.
-use Rattle.std.proofs.Common.{◌≡◌, ◌⊎◌, inl, inr, ℕ, zero, suc, ◌<◌, ◌≤◌, Bool, true, false, nat_eq, nat_lt, ◌||◌, Option, Some, IsSome, List, [], ◌∷◌, length, map, slice_get, refl, sym, ap, ◌∙◌, subst, arith}
+use Rattle.std.proofs.Common.{◌≡◌, ◌⊎◌, inl, inr, ℕ, zero, suc, ◌<◌, ◌≤◌, Bool, true, false, nat_eq, nat_lt, ◌||◌, Option, Some, None, IsSome, List, [], ◌∷◌, length, map, slice_get, refl, sym, ap, ◌∙◌, subst, arith}
 use Rattle.std.proofs.lemmas.Bool.Decides.{nat_tests}
 use Rattle.std.proofs.lemmas.Option.{slice_get_within}
 use Rattle.rx_base.specs.declared.cut.Cut.{Cut}
@@ -16,7 +16,12 @@ use Rattle.rx_model.specs.State.{Progress, State}
 use Rattle.rx_model.specs.Committing.{committed_state, sight_of}
 use Rattle.rx_model.specs.HooksOf.{KeepsAllHooks}
 use Rattle.rx_hook_store.specs.Changing.{HooksChange}
-use Rattle.rx_hook_store.specs.Commits.{AreMounted, SettlesHooks, hidden, made, shown}
+use Rattle.rx_hook_store.specs.Commits.{AreMounted, SettlesHooks, hidden, made, shown, untouched}
+use Rattle.rx_hook_store.specs.Gives.{has_work_in}
+use Rattle.rx_meaning.specs.Expressions.{answers_of}
+use Rattle.rx_pruned.specs.Pruned.{ArePruned, later, whole}
+use Rattle.rx_pruned.specs.Pruned as pruning
+use Rattle.pruned_laws.proofs.Within.{are_within}
 use Rattle.rx_hook_store.specs.Rendered.{KeepsInstance}
 use Rattle.rx_hook_store.proofs.Committed.{committed_keeps}
 use Rattle.rx_hook_store.proofs.Staying.{there_is}
@@ -26,9 +31,10 @@ use Rattle.run_laws.proofs.AlongRuns.{reached_carries}
 use Rattle.end_laws.proofs.Read.{mounted_same}
 use Rattle.rx_settle.specs.declared.made.NewHooks.{NewHooks}
 use Rattle.rx_settle.specs.Made.{AreMadeFor, kept_with}
-use Rattle.rx_settle.specs.Passes.{AllSettled, AreApart, AreKept, AreSettled, KeepsOn, RendersShown, has_instance}
+use Rattle.rx_settle.specs.Passes.{AllSettled, AreApart, AreKept, AreSettled, HasAllWorking, IsSettledOver, KeepsOn, has_instance}
 use Rattle.rx_settle.specs.Settling.{IsSettlingOf}
 use Rattle.rx_settle.proofs.Apart.{own_apart}
+use Rattle.rx_settle.proofs.Numbers.{is_there, left_in, left_out, own_same, pruned_own}
 use Rattle.rx_settle.proofs.Making.{IsFound, below_or_not, found, old_stays}
 use Rattle.rx_settle.proofs.Mounting.{new_or_old}
 
@@ -105,11 +111,10 @@ module _ (lanes : Lanes) (cut : Cut) (first : ℕ) (ms : List Mounted) (xs : Lis
 
 -- ---- the commit
 
--- what the two passes leave
-record TwoPasses (p : Program) (kept rendered last : KeptBy) (lanes : Lanes) (cut : Cut) (first : ℕ) (ms : List Mounted) : Type 0 where
-  goes_on : KeepsOn p lanes cut kept rendered
-  renders : (k : ℕ) (m : Mounted) → slice_get ms k ≡ Some m → RendersShown p lanes cut first kept rendered m
-  settles : AllSettled lanes cut first rendered last ms
+-- What is kept is settled over pruned trees, and each new instance in whose hooks the render has work is one of the pruned new one.
+record SettlesPruned (p : Program) (kept last : KeptBy) (lanes : Lanes) (cut : Cut) (first : ℕ) (new : Node) (pruned_old : Option Node) (pruned_new : Node) : Type 0 where
+  over : IsSettledOver p lanes cut first kept last (mounted pruned_old) (mounted (Some pruned_new))
+  working : HasAllWorking lanes cut kept new pruned_new
 
 module _ (p : Program) (kept : KeptBy) (old : Option Node) (new : Node) (first : ℕ) (lanes : Lanes) (cut : Cut) (s : State) (g : Progress) (x : Node)
     (h : IsSettlingOf p kept old new first lanes cut s g x) where
@@ -131,48 +136,116 @@ module _ (p : Program) (kept : KeptBy) (old : Option Node) (new : Node) (first :
   new_or_kept : (k : ℕ) (m : Mounted) → slice_get (mounted (Some fixed.1)) k ≡ Some m → (s.numbers.instance ≤ m.number) ⊎ KeepsInstance p s kept m.number m.initials
   new_or_kept = new_or_old (KeepsInstance p s kept) (sight_of p s g) s.tree x s.numbers (each-keeps p s kept h.keeps) h.gives
 
-  -- no two instances of the tree have one number
-  pub instances_apart : AreApart (mounted (Some new))
-  instances_apart = subst AreApart (sym instances_are) (own_apart fixed.0.instance fixed.1 own_numbers)
+  own_new : HasOwnNumbers fixed.0.instance (Some new)
+  own_new = own_same fixed.0.instance (Some new) (Some fixed.1) instances_are own_numbers
+
+  own_old : HasOwnNumbers s.numbers.instance old
+  own_old =
+      own_same s.numbers.instance old s.tree (ap mounted h.old_is ∙ mounted_same s.tree)
+      (let carried = reached_carries p h.bounded.shallow h.bounded.declared s h.reached in carried.2.sound.own_numbers)
 
   -- hooks are kept of each one that is not new
-  pub instances_kept : AreKept first kept (mounted (Some new))
+  instances_kept : AreKept first kept (mounted (Some new))
   instances_kept k m at below = go (new_or_kept k m (subst (λ (ms : List Mounted). slice_get ms k ≡ Some m) instances_are at))
     where
       go : (s.numbers.instance ≤ m.number) ⊎ KeepsInstance p s kept m.number m.initials → IsSome (kept m.number)
       go (inl le) = let is = h.first_is in absurd (omega arith)
       go (inr keeps) = there_is p s kept m.number m.initials keeps
 
-  module _ (rendered last : KeptBy) (q : TwoPasses p kept rendered last g.lanes g.cut s.numbers.instance (mounted (Some fixed.1))) where
-    -- the commit finds the hooks of each instance settled
-    each_settles : (k : ℕ) (m : Mounted) → slice_get (mounted (Some fixed.1)) k ≡ Some m → SettlesHooks p s g rendered last m
-    each_settles k m at = go (new_or_kept k m at)
-      where
-        seen : (v : Bool) → m.visible ≡ v → m.number < s.numbers.instance → KeepsInstance p s kept m.number m.initials → SettlesHooks p s g rendered last m
-        seen true is below keeps = shown is (q.renders k m at is below s h.done keeps) ((q.settles.kept k m at).shown below is)
-        seen false is below keeps = hidden is (q.goes_on.keeps s m.number m.initials h.done keeps) ((q.settles.kept k m at).hidden below is)
+  module _ (pruned_old : Option Node) (pruned_new : Node) (pruned : ArePruned old new pruned_old pruned_new) where
+    -- no two instances of the pruned tree have one number
+    pub pruned_apart : AreApart (mounted (Some pruned_new))
+    pruned_apart = own_apart fixed.0.instance pruned_new (pruned_own old new pruned_old pruned_new pruned fixed.0.instance own_new)
 
-        by_number : KeepsInstance p s kept m.number m.initials → (m.number < s.numbers.instance) ⊎ (s.numbers.instance ≤ m.number) → SettlesHooks p s g rendered last m
-        by_number keeps (inl below) = seen m.visible refl below keeps
-        by_number keeps (inr le) = made le (q.settles.made k m at le)
+    -- hooks are kept of each one that is not new
+    pub pruned_kept : AreKept first kept (mounted (Some pruned_new))
+    pruned_kept k m at below = let whole = are_within old new pruned_old pruned_new pruned k m at in instances_kept whole.0 m whole.1 below
 
-        go : (s.numbers.instance ≤ m.number) ⊎ KeepsInstance p s kept m.number m.initials → SettlesHooks p s g rendered last m
-        go (inl le) = made le (q.settles.made k m at le)
-        go (inr keeps) = by_number keeps (below_or_not m.number s.numbers.instance)
+    module _ (last : KeptBy) (q : SettlesPruned p kept last g.lanes g.cut s.numbers.instance new pruned_old pruned_new) where
+      -- the commit finds the hooks of each instance of the pruned tree settled
+      each_settles : (k : ℕ) (m : Mounted) → slice_get (mounted (Some pruned_new)) k ≡ Some m → (s.numbers.instance ≤ m.number) ⊎ KeepsInstance p s kept m.number m.initials
+          → SettlesHooks p s g q.over.rendered last m
+      each_settles k m at which = go which
+        where
+          seen : (v : Bool) → m.visible ≡ v → m.number < s.numbers.instance → KeepsInstance p s kept m.number m.initials → SettlesHooks p s g q.over.rendered last m
+          seen true is below keeps = shown is (q.over.renders k m at is below s h.done keeps) ((q.over.settles.kept k m at).shown below is)
+          seen false is below keeps = hidden is (q.over.goes_on.keeps s m.number m.initials h.done keeps) ((q.over.settles.kept k m at).hidden below is)
 
-    passes_keep : KeepsAllHooks p (committed_state s g fixed) last
-    passes_keep = committed_keeps p s g fixed rendered last targets_below h.links own_numbers each_settles
+          by_number : KeepsInstance p s kept m.number m.initials → (m.number < s.numbers.instance) ⊎ (s.numbers.instance ≤ m.number) → SettlesHooks p s g q.over.rendered last m
+          by_number keeps (inl below) = seen m.visible refl below keeps
+          by_number keeps (inr le) = made le (q.over.settles.made k m at le)
 
-  -- after both passes what is kept stands for the state after the commit
-  pub settled_keeps : (rendered last : KeptBy) → KeepsOn p lanes cut kept rendered
-      → ((k : ℕ) (m : Mounted) → slice_get (mounted (Some new)) k ≡ Some m → RendersShown p lanes cut first kept rendered m) → AllSettled lanes cut first rendered last (mounted (Some new))
-      → KeepsAllHooks p (committed_state s g (numbered s.numbers x)) last
-  settled_keeps rendered last goes_on renders settles =
-      passes_keep rendered last
-      (subst (λ l. TwoPasses p kept rendered last l g.cut s.numbers.instance (mounted (Some fixed.1))) h.lanes_are
-      (subst (λ c. TwoPasses p kept rendered last lanes c s.numbers.instance (mounted (Some fixed.1))) h.cut_is
-      (subst (λ n. TwoPasses p kept rendered last lanes cut n (mounted (Some fixed.1))) h.first_is
-      (subst (λ (ms : List Mounted). TwoPasses p kept rendered last lanes cut first ms) instances_are (record { goes_on = goes_on; renders = renders; settles = settles })))))
+          go : (s.numbers.instance ≤ m.number) ⊎ KeepsInstance p s kept m.number m.initials → SettlesHooks p s g q.over.rendered last m
+          go (inl le) = made le (q.over.settles.made k m at le)
+          go (inr keeps) = by_number keeps (below_or_not m.number s.numbers.instance)
+
+      -- and those of one that is left out untouched
+      each_left : (m : Mounted) → has_instance (mounted (Some new)) m.number ≡ true → has_instance (mounted (Some pruned_new)) m.number ≡ false
+          → (s.numbers.instance ≤ m.number) ⊎ KeepsInstance p s kept m.number m.initials → SettlesHooks p s g q.over.rendered last m
+      each_left m has none which = go which
+        where
+          left : (m.number < s.numbers.instance) × (has_instance (mounted pruned_old) m.number ≡ false)
+          left = left_out old new pruned_old pruned_new pruned s.numbers.instance m.number own_old has none
+
+          no_work : (keeps : KeepsInstance p s kept m.number m.initials) (b : Bool) → has_work_in g.lanes g.cut keeps.histories ≡ b → b ≡ false
+          no_work keeps false e = refl
+          no_work keeps true e =
+              let is_in = q.working m.number keeps.hooks has keeps.kept_is (record { answers = answers_of p; histories = keeps.histories; stand = keeps.stand; has = e }) in
+              sym is_in ∙ none
+
+          go : (s.numbers.instance ≤ m.number) ⊎ KeepsInstance p s kept m.number m.initials → SettlesHooks p s g q.over.rendered last m
+          go (inl le) = let below = left.0 in absurd (omega arith)
+          go (inr keeps) =
+              untouched
+              (record {
+                hooks = keeps.hooks;
+                kept_is = q.over.not_rendered m.number none ∙ keeps.kept_is;
+                histories = keeps.histories;
+                stand = keeps.stand;
+                are_of = keeps.are_of;
+              })
+              (no_work keeps (has_work_in g.lanes g.cut keeps.histories) refl) (q.over.others m.number none left.1)
+
+      any_settles : (k : ℕ) (m : Mounted) → slice_get (mounted (Some fixed.1)) k ≡ Some m → SettlesHooks p s g q.over.rendered last m
+      any_settles k m at = go (has_instance (mounted (Some pruned_new)) m.number) refl
+        where
+          in_new : slice_get (mounted (Some new)) k ≡ Some m
+          in_new = subst (λ (ms : List Mounted). slice_get ms k ≡ Some m) (sym instances_are) at
+
+          go : (b : Bool) → has_instance (mounted (Some pruned_new)) m.number ≡ b → SettlesHooks p s g q.over.rendered last m
+          go false none = each_left m (has_itself (mounted (Some new)) k m in_new) none (new_or_kept k m at)
+          go true has =
+              let there = is_there (mounted (Some pruned_new)) m.number has in
+              let whole = are_within old new pruned_old pruned_new pruned there.place there.instance there.at in
+              let same : there.instance ≡ m = one_instance (mounted (Some new)) (own_apart fixed.0.instance new own_new) whole.0 k there.instance m whole.1 in_new there.number_is in
+              each_settles there.place m (subst (λ (y : Mounted). slice_get (mounted (Some pruned_new)) there.place ≡ Some y) same there.at) (new_or_kept k m at)
+
+      passes_keep : KeepsAllHooks p (committed_state s g fixed) last
+      passes_keep = committed_keeps p s g fixed q.over.rendered last targets_below h.links own_numbers any_settles
+
+    -- so what is kept stands for the state after the commit
+    pub settled_keeps : (last : KeptBy) → IsSettledOver p lanes cut first kept last (mounted pruned_old) (mounted (Some pruned_new)) → HasAllWorking lanes cut kept new pruned_new
+        → KeepsAllHooks p (committed_state s g (numbered s.numbers x)) last
+    settled_keeps last over working =
+        passes_keep last
+        (subst (λ l. SettlesPruned p kept last l g.cut s.numbers.instance new pruned_old pruned_new) h.lanes_are
+        (subst (λ c. SettlesPruned p kept last lanes c s.numbers.instance new pruned_old pruned_new) h.cut_is
+        (subst (λ n. SettlesPruned p kept last lanes cut n new pruned_old pruned_new) h.first_is (record { over = over; working = working }))))
+
+-- an old instance that is gone is dropped
+pub settled_gone : (p : Program) (kept last : KeptBy) (old : Option Node) (new : Node) (pruned_old : Option Node) (pruned_new : Node) (least : ℕ) (lanes : Lanes) (cut : Cut)
+    → ArePruned old new pruned_old pruned_new → IsSettledOver p lanes cut least kept last (mounted pruned_old) (mounted (Some pruned_new))
+    → (k : ℕ) (m : Mounted) → slice_get (mounted old) k ≡ Some m → has_instance (mounted (Some new)) m.number ≡ false → last m.number ≡ None
+settled_gone p kept last old new pruned_old pruned_new least lanes cut pruned over k m at none =
+    let left = left_in old new pruned_old pruned_new pruned m.number (has_itself (mounted old) k m at) none in
+    let there = is_there (mounted pruned_old) m.number left.0 in
+    subst (λ (n : ℕ). last n ≡ None) there.number_is
+    (over.gone there.place there.instance there.at (subst (λ (n : ℕ). has_instance (mounted (Some pruned_new)) n ≡ false) (sym there.number_is) left.1))
+
+-- whole trees are pruned ones too
+pub whole_trees : (old : Option Node) (new : Node) → ArePruned old new old new
+whole_trees None new = pruning.first
+whole_trees (Some o) new = later whole
 
 -- where a render goes on what is kept, it stands for the state as before
 pub all_go_on : (p : Program) (lanes : Lanes) (cut : Cut) (old new : KeptBy) (s : State) → KeepsOn p lanes cut old new → DoneBefore cut s.journal.updates → KeepsAllHooks p s old

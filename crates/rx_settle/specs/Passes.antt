@@ -1,10 +1,11 @@
 -- What a commit makes of the hooks that are kept, in its two passes over the instances of its tree.
-use Rattle.std.specs.Prelude.{◌≡◌, ◌<◌, ◌≤◌, ℕ, ℤ, Bool, true, false, nat_eq, List, map, Option, Some, IsSome, slice_get}
+use Rattle.std.specs.Prelude.{◌≡◌, ◌<◌, ◌≤◌, ℕ, ℤ, Bool, true, false, nat_eq, List, map, Option, Some, None, IsSome, slice_get}
 use Rattle.std.specs.List.{list_any}
 use Rattle.rx_base.specs.declared.cut.Cut.{Cut}
 use Rattle.rx_lane.specs.Lanes.{Lanes}
 use Rattle.rx_ast.specs.Syntax.{Program}
-use Rattle.rx_elem.specs.Spots.{Mounted}
+use Rattle.rx_elem.specs.Spots.{Mounted, mounted}
+use Rattle.rx_elem.specs.Trees.{Node}
 use Rattle.rx_hooks.specs.declared.hook.Hook.{Hook}
 use Rattle.rx_hooks.specs.Hooks.{committed_hook, owed_hook}
 use Rattle.rx_meaning.specs.Settled.{DoneBefore}
@@ -12,6 +13,7 @@ use Rattle.rx_model.specs.State.{State}
 use Rattle.rx_hook_store.specs.Changing.{HooksChange}
 use Rattle.rx_hook_store.specs.Commits.{AreMounted}
 use Rattle.rx_hook_store.specs.Rendered.{IsRendered, KeepsInstance}
+use Rattle.rx_hook_store.specs.Working.{HaveWork}
 
 -- no two instances have one number
 abbrev pub AreApart : List Mounted → Type 0
@@ -46,3 +48,18 @@ pub record AreSettled (lanes : Lanes) (cut : Cut) (first : ℕ) (old new : ℕ �
 pub record AllSettled (lanes : Lanes) (cut : Cut) (first : ℕ) (old new : ℕ → Option (List Hook)) (ms : List Mounted) : Type 0 where
   pub kept : (k : ℕ) (m : Mounted) → slice_get ms k ≡ Some m → AreSettled lanes cut first old new m
   pub made : (k : ℕ) (m : Mounted) → slice_get ms k ≡ Some m → first ≤ m.number → AreMounted m.initials (new m.number)
+
+-- What is kept is settled over some instances: those that are visible are rendered again, all are settled, and those of the old ones that are not among them are dropped. What is kept of any other instance stays.
+pub record IsSettledOver (p : Program) (lanes : Lanes) (cut : Cut) (first : ℕ) (old new : ℕ → Option (List Hook)) (before ms : List Mounted) : Type 0 where
+  pub rendered : ℕ → Option (List Hook)
+  pub goes_on : KeepsOn p lanes cut old rendered
+  pub renders : (k : ℕ) (m : Mounted) → slice_get ms k ≡ Some m → RendersShown p lanes cut first old rendered m
+  pub settles : AllSettled lanes cut first rendered new ms
+  pub gone : (k : ℕ) (m : Mounted) → slice_get before k ≡ Some m → has_instance ms m.number ≡ false → new m.number ≡ None
+  pub not_rendered : (n : ℕ) → has_instance ms n ≡ false → rendered n ≡ old n
+  pub others : (n : ℕ) → has_instance ms n ≡ false → has_instance before n ≡ false → new n ≡ rendered n
+
+-- each instance of a tree in whose hooks a render has work is one of another tree
+abbrev pub HasAllWorking : Lanes → Cut → (kept : ℕ → Option (List Hook)) → (tree other : Node) → Type 0
+HasAllWorking lanes cut kept tree other =
+    (n : ℕ) (hooks : List Hook) → has_instance (mounted (Some tree)) n ≡ true → kept n ≡ Some hooks → HaveWork lanes cut hooks → has_instance (mounted (Some other)) n ≡ true

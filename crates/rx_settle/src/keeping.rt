@@ -35,6 +35,7 @@ fn settle_each(store: &mut HookStore, instances: &[Mounted], first: u64, lanes: 
     requires apart { AreApart instances.now }
     requires kept { AreKept first (kept_hooks store.old) instances.now }
     ensures settled { (k : ℕ) (m : spots.Mounted) → slice_get instances.now k ≡ Some m → AreSettled lanes cut first (kept_hooks store.old) (kept_hooks store.new) m }
+    ensures others { (n : ℕ) → has_instance instances.now n ≡ false → kept_hooks store.new n ≡ kept_hooks store.old n }
     ensures spare { store.new.spare ≡ store.old.spare }
 {
     'settling: for instance in instances {
@@ -57,6 +58,7 @@ fn remove_one(store: &mut HookStore, instance: &Mounted, known: &HashSet<u64>)
     ensures kept { (n : ℕ) → contains nat_eq known.now n ≡ true → kept_hooks store.new n ≡ kept_hooks store.old n }
     ensures gone { contains nat_eq known.now instance.now.number ≡ false → kept_hooks store.new instance.now.number ≡ None }
     ensures none { (n : ℕ) → kept_hooks store.old n ≡ None → kept_hooks store.new n ≡ None }
+    ensures others { (n : ℕ) → nat_eq instance.now.number n ≡ false → kept_hooks store.new n ≡ kept_hooks store.old n }
 {
     let number = instance.number();
     if !known.contains(&number) {
@@ -68,6 +70,7 @@ fn remove_one(store: &mut HookStore, instance: &Mounted, known: &HashSet<u64>)
 fn remove_gone(store: &mut HookStore, before: &[Mounted], known: &HashSet<u64>)
     ensures kept { (n : ℕ) → contains nat_eq known.now n ≡ true → kept_hooks store.new n ≡ kept_hooks store.old n }
     ensures gone { (k : ℕ) (m : spots.Mounted) → slice_get before.now k ≡ Some m → contains nat_eq known.now m.number ≡ false → kept_hooks store.new m.number ≡ None }
+    ensures others { (n : ℕ) → has_instance before.now n ≡ false → kept_hooks store.new n ≡ kept_hooks store.old n }
 {
     'removing: for instance in before {
         remove_one(store, instance, known);
@@ -75,7 +78,8 @@ fn remove_gone(store: &mut HookStore, before: &[Mounted], known: &HashSet<u64>)
 }
 
 /// Settles the hooks of each instance of a tree, whose numbers are known: keeps those of new instances, and drops those of
-/// the old instances that are no longer there. The visible instances that are not new were rendered before.
+/// the old instances that are no longer there. The visible instances that are not new were rendered before. What is kept of
+/// others stays.
 pub(crate) fn settle_all(
     store: &mut HookStore,
     instances: &[Mounted],
@@ -93,6 +97,7 @@ pub(crate) fn settle_all(
     requires known { (n : ℕ) → contains nat_eq known.now n ≡ has_instance instances.now n }
     ensures settled { AllSettled lanes cut first (kept_hooks store.old) (kept_hooks store.new) instances.now }
     ensures gone { (k : ℕ) (m : spots.Mounted) → slice_get before.now k ≡ Some m → has_instance instances.now m.number ≡ false → kept_hooks store.new m.number ≡ None }
+    ensures others { (n : ℕ) → has_instance instances.now n ≡ false → has_instance before.now n ≡ false → kept_hooks store.new n ≡ kept_hooks store.old n }
 {
     settle_each(store, instances, first, lanes, cut);
     insert_all(store, made);

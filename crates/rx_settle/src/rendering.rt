@@ -1,8 +1,8 @@
 // The hooks that a render processed.
-ghost use Rattle.std.specs.Prelude.{◌≡◌, ◌<◌, ℕ, OnOk, IsSome, Some, slice_get};
+ghost use Rattle.std.specs.Prelude.{◌≡◌, ◌<◌, ℕ, false, nat_eq, OnOk, IsSome, Some, slice_get};
 ghost use Rattle.rx_elem.specs.Spots as spots;
 ghost use Rattle.rx_hook_store.specs.Store.{kept_hooks};
-ghost use Rattle.rx_settle.specs.Passes.{AreKept, KeepsOn, RendersShown};
+ghost use Rattle.rx_settle.specs.Passes.{AreKept, KeepsOn, RendersShown, has_instance};
 
 use rx_base::Cut;
 use rx_check::Checked;
@@ -25,6 +25,7 @@ fn render_one(
     requires { instance.now.number < first → IsSome (kept_hooks store.old instance.now.number) }
     ensures keeps { KeepsOn checked.now lanes cut (kept_hooks store.old) (kept_hooks store.new) }
     ensures rendered { OnOk result (RendersShown checked.now lanes cut first (kept_hooks store.old) (kept_hooks store.new) instance.now) }
+    ensures others { (n : ℕ) → nat_eq instance.now.number n ≡ false → kept_hooks store.new n ≡ kept_hooks store.old n }
     ensures spare { store.new.spare ≡ store.old.spare }
 {
     let number = instance.number();
@@ -54,6 +55,7 @@ pub(crate) fn render_shown(
     requires { AreKept first (kept_hooks store.old) instances.now }
     ensures keeps { KeepsOn checked.now lanes cut (kept_hooks store.old) (kept_hooks store.new) }
     ensures rendered { OnOk result ((k : ℕ) (m : spots.Mounted) → slice_get instances.now k ≡ Some m → RendersShown checked.now lanes cut first (kept_hooks store.old) (kept_hooks store.new) m) }
+    ensures others { (n : ℕ) → has_instance instances.now n ≡ false → kept_hooks store.new n ≡ kept_hooks store.old n }
     ensures spare { store.new.spare ≡ store.old.spare }
 {
     'rendering: for instance in instances {

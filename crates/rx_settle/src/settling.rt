@@ -1,16 +1,19 @@
 // What a commit does with the hooks of the instances of its tree.
-ghost use Rattle.std.specs.Prelude.{◌≡◌, ℕ, false, nat_eq, IfOk, OnOk, OnErr, Some, None, slice_get};
+ghost use Rattle.std.specs.Prelude.{◌≡◌, ℕ, true, false, nat_eq, List, IfOk, OnOk, OnErr, Some, None, slice_get};
 ghost use Rattle.std.specs.HashSet.{contains};
 ghost use Rattle.std.specs.Option.{option_copied};
 ghost use Rattle.rx_elem.specs.Numbers.{numbered};
 ghost use Rattle.rx_elem.specs.Spots as spots;
 ghost use Rattle.rx_elem.specs.Trees as trees;
-ghost use Rattle.rx_meaning.specs.Settled.{DoneBefore};
+ghost use Rattle.rx_hooks.specs.declared.hook.Hook.{Hook};
+ghost use Rattle.rx_pruned.specs.Pruned.{ArePruned};
+ghost use Rattle.rx_meaning.specs.Settled.{DoneBefore, includes};
 ghost use Rattle.rx_model.specs.State.{Progress, State};
 ghost use Rattle.rx_model.specs.Committing.{committed_state};
 ghost use Rattle.rx_model.specs.HooksOf.{KeepsAllHooks};
 ghost use Rattle.rx_hook_store.specs.Store.{kept_hooks};
-ghost use Rattle.rx_settle.specs.Passes.{has_instance};
+ghost use Rattle.rx_hook_store.specs.Working.{HaveWork};
+ghost use Rattle.rx_settle.specs.Passes.{AreApart, AreKept, IsSettledOver, has_instance};
 ghost use Rattle.rx_settle.specs.Settling.{CanSettle, IsSettlingOf};
 
 use crate::keeping::settle_all;
@@ -36,16 +39,37 @@ fn numbers_of(alloc: Global, instances: &[Mounted]) -> Result<HashSet<u64>, Allo
     Ok(known)
 }
 
-/// Settles the hooks of each instance of a tree at its commit (react.dev, State as a Snapshot). Updates that its render
-/// included are done in a visible instance; a kept one is owed them; a new instance, one with a number from the first on,
-/// has its hooks at their initial values; and those of an instance that is gone are dropped (react.dev, Preserving and
-/// Resetting State). The render keeps no note of what it folded, so the hooks of each visible instance are folded once more,
-/// for its lanes at its cut, and give the same.
-///
-/// # Errors
-///
-/// Want of memory alone. What is kept then stands for whatever state it stood for.
-pub fn settle_hooks(
+// True where all these numbers are known.
+fn are_known(numbers: &[u64], known: &HashSet<u64>) -> bool
+    ensures { result ≡ true → (n : ℕ) → includes numbers.now n ≡ true → contains nat_eq known.now n ≡ true }
+{
+    'finding: for number in numbers {
+        if !known.contains(number) {
+            return false;
+        }
+    }
+    true
+}
+
+// True where each instance in whose hooks a render has work is one of a tree.
+fn has_all_working(
+    alloc: Global,
+    store: &HookStore,
+    tree: &Node,
+    lanes: Lanes,
+    cut: Cut,
+) -> Result<bool, AllocError>
+    ensures { IfOk result (λ all. all ≡ true → (n : ℕ) (hooks : List Hook) → kept_hooks store.now n ≡ Some hooks → HaveWork lanes cut hooks
+        → has_instance (spots.mounted (Some tree.now)) n ≡ true) }
+{
+    let instances = mounted(alloc, Some(tree))?;
+    let known = numbers_of(alloc, &instances)?;
+    let working = store.working(alloc, lanes, cut)?;
+    Ok(are_known(&working, &known))
+}
+
+// Settles the hooks of the instances of a tree, and drops those of the instances of an old one that it has no longer.
+fn settle_trees(
     alloc: Global,
     store: &mut HookStore,
     checked: &Checked,
@@ -55,13 +79,10 @@ pub fn settle_hooks(
     lanes: Lanes,
     cut: Cut,
 ) -> Result<(), AllocError>
-    requires { CanSettle checked.now (kept_hooks store.old) (option_copied old) new.now first lanes cut }
-
-    // What is kept stands for the machine's state after the commit.
-    ensures settled { OnOk result ((s : State) (g : Progress) (x : trees.Node) → IsSettlingOf checked.now (kept_hooks store.old) (option_copied old.entry) new.now first lanes cut s g x
-        → KeepsAllHooks checked.now (committed_state s g (numbered s.numbers x)) (kept_hooks store.new)) }
-    ensures gone { OnOk result ((k : ℕ) (m : spots.Mounted) → slice_get (spots.mounted (option_copied old.entry)) k ≡ Some m
-        → has_instance (spots.mounted (Some new.now)) m.number ≡ false → kept_hooks store.new m.number ≡ None) }
+    requires apart { AreApart (spots.mounted (Some new.now)) }
+    requires kept { AreKept first (kept_hooks store.old) (spots.mounted (Some new.now)) }
+    ensures settled { OnOk result (IsSettledOver checked.now lanes cut first (kept_hooks store.old) (kept_hooks store.new)
+        (spots.mounted (option_copied old.entry)) (spots.mounted (Some new.now))) }
     ensures err { OnErr result ((s : State) → DoneBefore cut s.journal.updates → KeepsAllHooks checked.now s (kept_hooks store.old)
         → KeepsAllHooks checked.now s (kept_hooks store.new)) }
 {
@@ -73,4 +94,45 @@ pub fn settle_hooks(
     render_shown(alloc, store, checked, &instances, first, lanes, cut)?;
     settle_all(store, &instances, &before, &known, made, first, lanes, cut);
     Ok(())
+}
+
+/// Settles the hooks of each instance of a tree at its commit (react.dev, State as a Snapshot). Updates that its render
+/// included are done in a visible instance; a kept one is owed them; a new instance, one with a number from the first on,
+/// has its hooks at their initial values; and those of an instance that is gone are dropped (react.dev, Preserving and
+/// Resetting State). The render keeps no note of what it folded, so the hooks of each visible instance are folded once more,
+/// for its lanes at its cut, and give the same. Where no instance that the pruned trees leave out has work, it goes over these
+/// alone: what is kept of the others stands as it is.
+///
+/// # Errors
+///
+/// Want of memory alone. What is kept then stands for whatever state it stood for.
+pub fn settle_hooks(
+    alloc: Global,
+    store: &mut HookStore,
+    checked: &Checked,
+    old: Option<&Node>,
+    new: &Node,
+    pruned_old: Option<&Node>,
+    pruned_new: &Node,
+    first: u64,
+    lanes: Lanes,
+    cut: Cut,
+) -> Result<(), AllocError>
+    requires can { CanSettle checked.now (kept_hooks store.old) (option_copied old) new.now first lanes cut }
+    requires pruned { ArePruned (option_copied old) new.now (option_copied pruned_old) pruned_new.now }
+
+    // What is kept stands for the machine's state after the commit.
+    ensures settled { OnOk result ((s : State) (g : Progress) (x : trees.Node) → IsSettlingOf checked.now (kept_hooks store.old) (option_copied old.entry) new.now first lanes cut s g x
+        → KeepsAllHooks checked.now (committed_state s g (numbered s.numbers x)) (kept_hooks store.new)) }
+    ensures gone { OnOk result ((k : ℕ) (m : spots.Mounted) → slice_get (spots.mounted (option_copied old.entry)) k ≡ Some m
+        → has_instance (spots.mounted (Some new.now)) m.number ≡ false → kept_hooks store.new m.number ≡ None) }
+    ensures err { OnErr result ((s : State) → DoneBefore cut s.journal.updates → KeepsAllHooks checked.now s (kept_hooks store.old)
+        → KeepsAllHooks checked.now s (kept_hooks store.new)) }
+{
+    if has_all_working(alloc, store, pruned_new, lanes, cut)? {
+        return settle_trees(
+            alloc, store, checked, pruned_old, pruned_new, first, lanes, cut,
+        );
+    }
+    settle_trees(alloc, store, checked, old, new, first, lanes, cut)
 }

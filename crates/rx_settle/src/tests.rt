@@ -65,7 +65,9 @@ fn a_new_instance_has_its_hooks(rt: HostRuntime) -> Result<(), Fail> {
         updates: 0,
         resolutions: 0,
     };
-    settle_hooks(alloc, &mut store, &checked, None, &tree, 1, lanes, cut)?;
+    settle_hooks(
+        alloc, &mut store, &checked, None, &tree, None, &tree, 1, lanes, cut,
+    )?;
     let value = store.committed(1, 0);
     assert_eq!(rt; value, Int::of(5));
     Ok(())

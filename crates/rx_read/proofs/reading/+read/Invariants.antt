@@ -5,11 +5,14 @@ use Rattle.rx_read.specs.Lists.{list_of}
 use Rattle.rx_read.specs.Places.{places_in}
 use Rattle.rx_read.proofs.reading.+read.Given as goal
 
+abbrev pub decreases-read_fiber : goal.decreases-read_fiber
+decreases-read_fiber l = 3 * size (list_of l.tree.now (Some l.id))
+
 abbrev pub decreases-read_node : goal.decreases-read_node
-decreases-read_node l = 2 * size (list_of l.tree.now (Some l.id))
+decreases-read_node l = 3 * size (list_of l.tree.now (Some l.id)) + 1
 
 abbrev pub decreases-read_list : goal.decreases-read_list
-decreases-read_list l = 2 * size (list_of l.tree.now l.first) + 1
+decreases-read_list l = 3 * size (list_of l.tree.now l.first) + 2
 
 -- with the places of the rest of the list they are all of them
 abbrev pub invariant-read_list-reading : goal.invariant-read_list-reading

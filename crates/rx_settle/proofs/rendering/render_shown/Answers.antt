@@ -16,7 +16,7 @@ rendering-preserved c = record {
       render_more c.args.checked.now c.args.lanes c.args.cut c.args.first (kept_hooks c.args.store.now) (kept_hooks c.rendering.store) (kept_hooks c.render_one.new.store)
       c.args.instances.now c.rendering.instance-index c.instance-item.result
       (slice_get_read c.args.instances.now _ c.rendering.instance-index c.instance-item.result refl c.rendering-test.true c.instance-item.is)
-      c.rendering.invariant.so_far c.render_one.ensures.keeps c.in_ok-render_one.ensures.rendered;
+      c.rendering.invariant.so_far c.render_one.ensures.keeps c.in_ok-render_one.ensures.rendered c.render_one.ensures.others;
   spare = search rules;
 }
 

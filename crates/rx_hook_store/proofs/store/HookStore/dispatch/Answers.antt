@@ -10,10 +10,10 @@ pub returns-clause-linked : goal.returns-clause-linked
 returns-clause-linked c = search rules
 
 pub returns-clause-states : goal.returns-clause-states
-returns-clause-states c = then_keeps c.send.result c.args.word c.args.update c.args.pending c.args.instance c.args.place (kept_hooks c.args.self.now) _ (returns-clause-ok c)
+returns-clause-states c = then_keeps c.send-linked.result c.args.word c.args.update c.args.pending c.args.instance c.args.place (kept_hooks c.args.self.now) _ (returns-clause-ok c)
 
 pub returns-clause-rendered : goal.returns-clause-rendered
-returns-clause-rendered c = then_rendered c.send.result c.args.word c.args.update c.args.pending c.args.instance c.args.place (kept_hooks c.args.self.now) _ (returns-clause-ok c)
+returns-clause-rendered c = then_rendered c.send-linked.result c.args.word c.args.update c.args.pending c.args.instance c.args.place (kept_hooks c.args.self.now) _ (returns-clause-ok c)
 
 pub returns-clause-links : goal.returns-clause-links
-returns-clause-links c = tells_linked c.send.result c.args.word c.args.update c.args.pending c.args.instance c.args.place (kept_hooks c.args.self.now) c.requires (returns-clause-linked c)
+returns-clause-links c = tells_linked c.send-linked.result c.args.word c.args.update c.args.pending c.args.instance c.args.place (kept_hooks c.args.self.now) c.requires (returns-clause-linked c)

@@ -11,20 +11,20 @@ returns-clause-err g c = search rules
 
 pub returns-clause-still : goal.returns-clause-still
 returns-clause-still g c =
-    still-gives c.render_values.result (g.F.Fold.answers c.args.fold.now) c.args.lanes c.args.cut c.args.instance (kept_hooks c.args.self.now) _
+    still-gives c.render_values-values.result (g.F.Fold.answers c.args.fold.now) c.args.lanes c.args.cut c.args.instance (kept_hooks c.args.self.now) _
     (returns-clause-ok g c) (returns-clause-err g c)
 
 pub returns-clause-states : goal.returns-clause-states
 returns-clause-states g c =
-    still-keeps c.render_values.result (g.F.Fold.answers c.args.fold.now) c.args.lanes c.args.cut c.args.instance (kept_hooks c.args.self.now) _
+    still-keeps c.render_values-values.result (g.F.Fold.answers c.args.fold.now) c.args.lanes c.args.cut c.args.instance (kept_hooks c.args.self.now) _
     (returns-clause-ok g c) (returns-clause-err g c)
 
 pub returns-clause-rendered : goal.returns-clause-rendered
 returns-clause-rendered g c =
-    finds-rendered c.render_values.result (g.F.Fold.answers c.args.fold.now) c.args.lanes c.args.cut c.args.instance (kept_hooks c.args.self.now) _
+    finds-rendered c.render_values-values.result (g.F.Fold.answers c.args.fold.now) c.args.lanes c.args.cut c.args.instance (kept_hooks c.args.self.now) _
     (returns-clause-ok g c) (returns-clause-err g c)
 
 pub returns-clause-stays : goal.returns-clause-stays
 returns-clause-stays g c =
-    stays-rendered c.render_values.result (g.F.Fold.answers c.args.fold.now) c.args.lanes c.args.cut c.args.instance (kept_hooks c.args.self.now) _
+    stays-rendered c.render_values-values.result (g.F.Fold.answers c.args.fold.now) c.args.lanes c.args.cut c.args.instance (kept_hooks c.args.self.now) _
     (returns-clause-ok g c) (returns-clause-err g c)

@@ -1,8 +1,10 @@
-use Rattle.std.proofs.Common.{ℕ, ◌+◌, Option, sym, ap, ◌∙◌, subst}
+use Rattle.std.proofs.Common.{ℕ, ◌+◌, Option, refl, sym, ap, ◌∙◌, subst}
 use Rattle.std.specs.Option.{option_copied}
 use Rattle.rx_lane.specs.Lanes.{Lanes, has, lanes_where}
 use Rattle.rx_ast.specs.Syntax.{Program}
 use Rattle.rx_elem.specs.Numbers.{numbered}
+use Rattle.rx_elem.specs.Trees.{Node}
+use Rattle.rx_pruned.specs.Besides.{IsBeside}
 use Rattle.rx_model.specs.Committing.{committed_state}
 use Rattle.rx_model.specs.HooksOf.{KeepsAllHooks}
 use Rattle.rx_hook_store.specs.Store.{kept_hooks}
@@ -19,7 +21,11 @@ settle-settled-requires-clause-over c = ap (λ (v : Rooted). v.rendering.at) c.s
 
 pub settle-settled-requires-clause-at_hand : goal.settle-settled-requires-clause-at_hand
 settle-settled-requires-clause-at_hand c =
-    settles_at c.args.self.now (the_view c.self.inside) (option_copied c.tree.result) c.tree-2.result.now c.args.prepared.now.tree c.args.first c.self.view_is c.tree.ensures c.tree-2.ensures c.requires.at_hand
+    settles_at c.args.self.now (the_view c.self.inside) (option_copied c.tree.result) c.args.beside.now.tree c.args.beside.now.tree c.args.first c.self.view_is c.tree.ensures refl c.requires.at_hand
+
+pub settle-settled-requires-clause-beside : goal.settle-settled-requires-clause-beside
+settle-settled-requires-clause-beside c =
+    subst (λ (o : Option Node). IsBeside o c.args.beside.now) (sym (c.tree.ensures ∙ ap (λ (v : Rooted). v.shown.tree) c.self.view_is)) c.requires.beside
 
 pub returns-clause-settled : goal.returns-clause-settled
 returns-clause-settled c =
@@ -27,7 +33,7 @@ returns-clause-settled c =
     (λ settled s g x h.
     subst (λ (q : Program). KeepsAllHooks q (committed_state s g (numbered s.numbers x)) (kept_hooks c.settle-settled.new.self.hooks)) (ap (λ (v : Rooted). v.rendering.program) c.self.view_is)
     (settled s g x
-    (settling_at c.args.self.now (the_view c.self.inside) (option_copied c.tree.result) c.tree-2.result.now c.args.prepared.now.tree c.args.first s g x c.self.view_is c.tree.ensures c.tree-2.ensures h)))
+    (settling_at c.args.self.now (the_view c.self.inside) (option_copied c.tree.result) c.args.beside.now.tree c.args.beside.now.tree c.args.first s g x c.self.view_is c.tree.ensures refl h)))
     c.settle-settled.ensures.settled
 
 pub returns-clause-written : goal.returns-clause-written

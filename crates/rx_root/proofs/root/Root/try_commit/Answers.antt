@@ -1,8 +1,9 @@
-use Rattle.std.proofs.Common.{◌≡◌, ◌+◌, refl, sym, ap, ◌∙◌, subst, arith, None}
+use Rattle.std.proofs.Common.{◌≡◌, ◌+◌, refl, sym, ap, ◌∙◌, subst, arith}
 use Rattle.rx_check.specs.Accepted.{IsAccepted}
 use Rattle.rx_elem.specs.Numbers.{numbered}
 use Rattle.rx_model.specs.Laws.{IsBounded}
 use Rattle.rx_render.specs.Rendering.{Rendering}
+use Rattle.rx_pruned.specs.Besides.{IsBeside}
 use Rattle.rx_root.specs.Rooted.{Rooted}
 use Rattle.rx_root.specs.Turning.{counts_of}
 use Rattle.rx_root.specs.contracts.root.Root.{the_view}
@@ -17,70 +18,74 @@ still-still-requires c =
       program = e.program;
       state = e.state;
       progress = e.progress;
-      knows = numbered_knows e.program e.state e.progress e.tree c.args.self.now c.number.new.self e.stands (c.in_ok-tree.ensures.numbers e.program e.state e.progress e.tree e.stands);
+      knows = numbered_knows e.program e.state e.progress e.tree c.args.self.now c.number.new.self e.stands (c.in_ok-beside.ensures.numbers e.program e.state e.progress e.tree e.stands);
     }
 
 pub prepare-requires-clause-room : goal.prepare-requires-clause-room
 prepare-requires-clause-room c =
     let e = c.requires.end in
-    let n = c.in_ok-tree.ensures.numbers e.program e.state e.progress e.tree e.stands in
+    let n = c.in_ok-beside.ensures.numbers e.program e.state e.progress e.tree e.stands in
     let same : c.number.new.self.commits ≡ c.args.self.now.commits = ap (λ (v : Rooted). v.commits) n.rest in
     omega (arith, same, c.requires.room.commits)
 
 pub prepare-requires-clause-over : goal.prepare-requires-clause-over
 prepare-requires-clause-over c =
     let e = c.requires.end in
-    numbered_over e.program e.state e.progress e.tree c.args.self.now c.number.new.self e.stands (c.in_ok-tree.ensures.numbers e.program e.state e.progress e.tree e.stands)
+    numbered_over e.program e.state e.progress e.tree c.args.self.now c.number.new.self e.stands (c.in_ok-beside.ensures.numbers e.program e.state e.progress e.tree e.stands)
 
 pub prepare-requires-clause-at_hand : goal.prepare-requires-clause-at_hand
 prepare-requires-clause-at_hand c =
     let e = c.requires.end in
-    let n = c.in_ok-tree.ensures.numbers e.program e.state e.progress e.tree e.stands in
+    let n = c.in_ok-beside.ensures.numbers e.program e.state e.progress e.tree e.stands in
     record {
       state = e.state;
       progress = e.progress;
       rendered = e.tree;
       is = settling_of e.program e.state e.progress e.tree c.args.self.now c.number.new.self e.stands n (subst IsBounded e.stands.program c.facts.ensures.bounded) c.number.new.self.shown.tree
-          c.in_ok-tree.tree c.self.inside.numbers.instance refl (c.in_ok-tree.ensures.tree e.program e.state e.progress e.tree e.stands)
+          c.in_ok-beside.beside.tree c.self.inside.numbers.instance refl (c.in_ok-beside.ensures.tree e.program e.state e.progress e.tree e.stands)
           (ap (λ (v : Rooted). v.numbers.instance) c.self.view_is);
     }
+
+pub prepare-requires-clause-beside : goal.prepare-requires-clause-beside
+prepare-requires-clause-beside c =
+    subst (λ (v : Rooted). IsBeside v.shown.tree c.in_ok-beside.beside) (sym c.in_ok-beside.ensures.rest) c.in_ok-beside.ensures.beside
 
 pub prepare-requires-clause-can_show : goal.prepare-requires-clause-can_show
 prepare-requires-clause-can_show c =
     let e = c.requires.end in
-    let n = c.in_ok-tree.ensures.numbers e.program e.state e.progress e.tree e.stands in
+    let n = c.in_ok-beside.ensures.numbers e.program e.state e.progress e.tree e.stands in
     record {
       old = e.state.tree;
       passive = e.state.passive;
       new = (numbered e.state.numbers e.tree).1;
       follows = follows_of e.program e.state e.progress e.tree c.args.self.now c.number.new.self e.stands n (subst IsBounded e.stands.program c.facts.ensures.bounded)
-          (subst IsAccepted e.stands.program c.facts.ensures.accepted) c.in_ok-tree.tree (c.in_ok-tree.ensures.tree e.program e.state e.progress e.tree e.stands);
+          (subst IsAccepted e.stands.program c.facts.ensures.accepted) c.in_ok-beside.beside.tree (c.in_ok-beside.ensures.tree e.program e.state e.progress e.tree e.stands);
     }
 
 pub show-requires-clause-room : goal.show-requires-clause-room
 show-requires-clause-room c =
     let e = c.requires.end in
-    let n = c.in_ok-tree.ensures.numbers e.program e.state e.progress e.tree e.stands in
+    let n = c.in_ok-beside.ensures.numbers e.program e.state e.progress e.tree e.stands in
     let same : c.prepare.new.self.commits ≡ c.args.self.now.commits = ap (λ (v : Rooted). v.commits) c.in_ok-prepared.ensures.rest ∙ ap (λ (v : Rooted). v.commits) n.rest in
     omega (arith, same, c.requires.room.commits)
 
 pub show-requires-clause-ready : goal.show-requires-clause-ready
 show-requires-clause-ready c =
     let e = c.requires.end in
-    let n = c.in_ok-tree.ensures.numbers e.program e.state e.progress e.tree e.stands in
+    let n = c.in_ok-beside.ensures.numbers e.program e.state e.progress e.tree e.stands in
     record {
       old = e.state.tree;
       new = (numbered e.state.numbers e.tree).1;
       is = c.in_ok-prepared.ensures.ready e.state.tree e.state.passive (numbered e.state.numbers e.tree).1
           (follows_of e.program e.state e.progress e.tree c.args.self.now c.number.new.self e.stands n (subst IsBounded e.stands.program c.facts.ensures.bounded)
-          (subst IsAccepted e.stands.program c.facts.ensures.accepted) c.in_ok-tree.tree (c.in_ok-tree.ensures.tree e.program e.state e.progress e.tree e.stands));
+          (subst IsAccepted e.stands.program c.facts.ensures.accepted) c.in_ok-beside.beside.tree (c.in_ok-beside.ensures.tree e.program e.state e.progress e.tree e.stands));
     }
 
-pub returns-in_err-tree-clause-gave_up : goal.returns-in_err-tree-clause-gave_up
-returns-in_err-tree-clause-gave_up c = any_err c.from_residual.result _ (numbered_gave_up c.args.self.now c.number.new.self c.number.new.self c.number.ensures.rest (gave_up_same c.number.new.self))
+pub returns-in_err-beside-clause-gave_up : goal.returns-in_err-beside-clause-gave_up
+returns-in_err-beside-clause-gave_up c = any_err c.from_residual.result _ (numbered_gave_up c.args.self.now c.number.new.self c.number.new.self c.number.ensures.rest (gave_up_same c.number.new.self))
 
 pub returns-in_err-prepared-clause-gave_up : goal.returns-in_err-prepared-clause-gave_up
-returns-in_err-prepared-clause-gave_up c = any_err c.from_residual-in_err-prepared.result _ (numbered_gave_up c.args.self.now c.number.new.self c.prepare.new.self c.in_ok-tree.ensures.rest c.in_err-prepared.ensures.gave_up)
+returns-in_err-prepared-clause-gave_up c = any_err c.from_residual-in_err-prepared.result _ (numbered_gave_up c.args.self.now c.number.new.self c.prepare.new.self c.in_ok-beside.ensures.rest c.in_err-prepared.ensures.gave_up)
 
 pub returns-clause-done : goal.returns-clause-done
 returns-clause-done c p s g tree h reached =
@@ -88,20 +93,20 @@ returns-clause-done c p s g tree h reached =
     let x = c.number.new.self in
     let w = c.prepare.new.self.rendering in
     let y = the_view c.self-2.inside in
-    let n = c.in_ok-tree.ensures.numbers p s g tree h in
+    let n = c.in_ok-beside.ensures.numbers p s g tree h in
     let bounded = subst IsBounded h.program c.facts.ensures.bounded in
-    let is_new = c.in_ok-tree.ensures.tree p s g tree h in
-    let follows = follows_of p s g tree v x h n bounded (subst IsAccepted h.program c.facts.ensures.accepted) c.in_ok-tree.tree is_new in
+    let is_new = c.in_ok-beside.ensures.tree p s g tree h in
+    let follows = follows_of p s g tree v x h n bounded (subst IsAccepted h.program c.facts.ensures.accepted) c.in_ok-beside.beside.tree is_new in
     let settling =
-    settling_of p s g tree v x h n bounded x.shown.tree c.in_ok-tree.tree c.self.inside.numbers.instance refl is_new (ap (λ (z : Rooted). z.numbers.instance) c.self.view_is) in
+    settling_of p s g tree v x h n bounded x.shown.tree c.in_ok-beside.beside.tree c.self.inside.numbers.instance refl is_new (ap (λ (z : Rooted). z.numbers.instance) c.self.view_is) in
     let settled = ap (λ (z : Rooted). z.rendering) c.in_ok-prepared.ensures.rest in
     let committed : HasCommitted s g tree x w c.show.new.self.shown y c.commit.new.self c.finished.new.self =
     record {
       settled = settled;
       is_shown =
           c.self-2.view_is ∙ c.show.ensures.rest
-          ∙ ap (λ (z : Rooted). record z { shown = c.show.new.self.shown; commits = z.commits + 1; instances = None }) c.in_ok-prepared.ensures.rest
-          ∙ ap (λ (r : Rendering). record x { rendering = r; shown = c.show.new.self.shown; commits = x.commits + 1; instances = None }) (sym settled);
+          ∙ ap (λ (z : Rooted). record z { shown = c.show.new.self.shown; commits = z.commits + 1 }) c.in_ok-prepared.ensures.rest
+          ∙ ap (λ (r : Rendering). record x { rendering = r; shown = c.show.new.self.shown; commits = x.commits + 1 }) (sym settled);
       is_last = c.commit.ensures;
       lanes = c.lanes-lanes.result;
       still = c.still-still.result;

@@ -1,0 +1,6 @@
+pub mod Ascending
+pub mod Standing
+pub mod Here
+pub mod Walking
+pub mod Ending
+pub mod Roots

@@ -1,0 +1,25 @@
+use Rattle.std.proofs.Common.{◌≡◌, ◌+◌, ◌*◌, length, map, take, Some}
+use Rattle.rx_lists.specs.Shapes.{size}
+use Rattle.rx_read.specs.Lists.{list_of}
+use Rattle.rx_read.specs.Places.{first_node}
+use Rattle.rx_beside.proofs.Walking.{Walked}
+use Rattle.rx_beside.proofs.pairs.+pair.Given as goal
+
+abbrev pub decreases-read_pair : goal.decreases-read_pair
+decreases-read_pair l = 4 * size (list_of l.tree.now (Some l.id)) + 3
+
+abbrev pub decreases-read_lists : goal.decreases-read_lists
+decreases-read_lists l = 4 * size (list_of l.tree.now (Some l.id)) + 2
+
+abbrev pub decreases-read_made : goal.decreases-read_made
+decreases-read_made l = 4 * size (list_of l.tree.now (Some l.id)) + 1
+
+abbrev pub decreases-read_slot : goal.decreases-read_slot
+decreases-read_slot l = 4 * size (list_of l.tree.now l.child) + 4
+
+-- the places so far are walked
+abbrev pub invariant-read_made-going : goal.invariant-read_made-going
+invariant-read_made-going l = record {
+  tree : l.lists.tree.items ≡ map (λ o. first_node (list_of l.tree o)) (take l.i l.fibers.items);
+  walked : Walked l.fn.displaced l.old (take l.i l.matching.places.items) (take l.i l.matching.moved.items) l.lists.tree.items l.lists.pruned_old.items l.lists.pruned_new.items;
+}

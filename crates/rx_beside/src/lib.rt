@@ -1,0 +1,9 @@
+//! A finished tree of fibers read beside the tree before, in time of what was made.
+#![tactic(auto)]
+
+mod beside;
+mod children;
+mod lists;
+mod pairs;
+
+pub use beside::read_beside;

@@ -1,0 +1,307 @@
+// A node of the finished tree beside the old one that it was made for.
+ghost use Rattle.std.specs.Prelude.{◌≡◌, ℕ, Bool, true, false, ◌||◌, IfSome, IfOk, OnOk, Some, Option, option_and_then};
+ghost use Rattle.rx_elem.specs.Trees as trees;
+ghost use Rattle.rx_elem.specs.Trees.{node, none, forest, element_of, mark_of, host_number};
+ghost use Rattle.rx_elem.specs.Compare.{node_at};
+ghost use Rattle.rx_node.specs.MarkView.{mark_seen};
+ghost use Rattle.rx_links.specs.Drafts.{Makes, taken, grafted, old_of, old_kids};
+ghost use Rattle.rx_links.specs.Readers.{IsIn, made_kids_of};
+ghost use Rattle.rx_fiber.specs.Reading.{IsTreeOf};
+ghost use Rattle.rx_read.specs.Lists.{list_of};
+ghost use Rattle.rx_read.specs.Numbering.{made_entry};
+ghost use Rattle.rx_read.specs.Places.{places_in, first_node};
+ghost use Rattle.rx_pruned.specs.Pruned.{GoesOn, displaced_below, Pruned};
+ghost use Rattle.rx_beside.specs.Children.{IsChildOf, IsNodeOf, WasOver};
+ghost use Rattle.rx_beside.specs.Slots.{IsSlot, AreLists};
+
+use crate::children::{children_of, is_begun};
+use crate::lists::{Lists, Slot, add_slot, copy_node, copy_nodes, match_fibers};
+use rx_compare::node_at;
+use rx_elem::Element;
+use rx_fiber::{Fiber, Stage};
+use rx_links::{FiberId, FiberTree};
+use rx_node::{Mark, Node};
+use rx_read::{made_child, read_fiber};
+use std::alloc::{AllocError, Global};
+
+// A node of the finished tree; and the old node and this one, both without what stayed the same.
+#[derive(Drop)]
+pub(crate) struct Pair {
+    pub tree: Node,
+    pub pruned_old: Node,
+    pub pruned_new: Node,
+}
+
+// The number of a host or a text.
+fn host_number(mark: &Mark) -> Option<u64>
+    ensures { result ≡ host_number (mark_seen mark.now) }
+{
+    match mark {
+        Mark::Host(number) => *number,
+        _ => None,
+    }
+}
+
+// Whether what is below an old node and the new one can be gone through.
+fn goes_on(old: &Mark, new: &Mark) -> bool
+    ensures { result ≡ true → GoesOn (mark_seen old.now) (mark_seen new.now) }
+{
+    !old.is_hidden()
+        && !new.is_hidden()
+        && old.is_host() == new.is_host()
+        && host_number(old) == host_number(new)
+}
+
+// Whether a node from one up to the host above the children of a node is new or moved.
+fn displaced_below(displaced: bool, mark: &Mark) -> bool
+    ensures { result ≡ displaced_below displaced (mark_seen mark.now) }
+{
+    !mark.is_host() && displaced
+}
+
+// Whether a node from a child up to the host above it is new or moved.
+fn or_moved(displaced: bool, moved: bool) -> bool
+    ensures { result ≡ (displaced || moved) }
+{
+    displaced || moved
+}
+
+// Whether a made fiber took over the children of the current one.
+fn takes_over(tree: &FiberTree<Fiber>, id: FiberId) -> bool
+    requires { Makes tree.now.draft id }
+    ensures taken { result ≡ true → made_kids_of tree.now.draft id ≡ taken (old_kids tree.now id) }
+    ensures made { result ≡ false → list_of tree.now (made_entry (made_kids_of tree.now.draft id)) ≡ grafted (made_kids_of tree.now.draft id) }
+{
+    tree.facts();
+    tree.first_child(id).is_some() && made_child(tree, id).is_none()
+}
+
+// The old node at a place, where it is that of the current fiber for which a made one was made.
+fn was_beside<'a>(
+    tree: &FiberTree<Fiber>,
+    id: FiberId,
+    old: &'a [Option<Node>],
+    place: Option<u32>,
+) -> Option<&'a Node>
+    requires over { (p : ℕ) × WasOver tree.now p (forest old.now) × IsChildOf tree.now p id }
+    requires tree { (y : Option trees.Node) × IsTreeOf y tree.now.current }
+    ensures at { IfSome result (λ n. option_and_then (node_at (forest old.now)) place ≡ Some n.now) }
+    ensures was { IfSome result (λ n. Some n.now ≡ first_node (list_of tree.now (old_of tree.now.draft id))) }
+{
+    tree.facts();
+    let place = place?;
+    let alternate = tree.alternate(id)?;
+    let fiber = tree.value(alternate);
+    if fiber.place() == place && is_begun(fiber.stage()) {
+        node_at(old, Some(place))
+    } else {
+        None
+    }
+}
+
+// The node with these children, and no fallback.
+fn node_over(
+    alloc: Global,
+    element: &Element,
+    mark: &Mark,
+    children: Vec<Option<Node>>,
+) -> Result<Node, AllocError>
+    ensures { IfOk result (λ n. n ≡ node element.now (mark_seen mark.now) (forest children.items) none) }
+{
+    let element = element.copy()?;
+    let mark = mark.copy()?;
+    Node::new(alloc, element, mark, children, Vec::new(alloc))
+}
+
+// The nodes over these lists.
+fn pair_over(
+    alloc: Global,
+    old: &Node,
+    element: &Element,
+    mark: &Mark,
+    lists: Lists,
+) -> Result<Pair, AllocError>
+    ensures tree { IfOk result (λ p. p.tree ≡ node element.now (mark_seen mark.now) (forest lists.tree.items) none) }
+    ensures pruned_old { IfOk result (λ p. p.pruned_old ≡ node (element_of old.now) (mark_of old.now) (forest lists.pruned_old.items) none) }
+    ensures pruned_new { IfOk result (λ p. p.pruned_new ≡ node element.now (mark_seen mark.now) (forest lists.pruned_new.items) none) }
+{
+    let Lists {
+        tree,
+        pruned_old,
+        pruned_new,
+    } = lists;
+    let tree = node_over(alloc, element, mark, tree)?;
+    let pruned_old = node_over(alloc, old.element(), old.mark(), pruned_old)?;
+    let pruned_new = node_over(alloc, element, mark, pruned_new)?;
+    Ok(Pair {
+        tree,
+        pruned_old,
+        pruned_new,
+    })
+}
+
+// A made node and the old one, with all of both.
+pub(crate) fn read_whole(
+    alloc: Global,
+    tree: &FiberTree<Fiber>,
+    id: FiberId,
+    old: &Node,
+) -> Result<Pair, AllocError>
+    requires inside { IsIn tree.now id }
+    requires node { (x : trees.Node) × (first_node (list_of tree.now (Some id)) ≡ Some x) }
+    ensures tree { IfOk result (λ p. Some p.tree ≡ first_node (list_of tree.now (Some id))) }
+    ensures pruned { (d : Bool) → IfOk result (λ p. Pruned d old.now p.tree p.pruned_old p.pruned_new) }
+{
+    match read_fiber(alloc, tree, id)? {
+        Some(tree) => Ok(Pair {
+            pruned_old: old.copy()?,
+            pruned_new: tree.copy()?,
+            tree,
+        }),
+        None => unreachable!(),
+    }
+}
+
+// The lists where the children of the old node were taken over: both left out, but where something above moved.
+fn same_lists(alloc: Global, old: &[Option<Node>], displaced: bool) -> Result<Lists, AllocError>
+    ensures tree { IfOk result (λ l. l.tree.items ≡ old.now) }
+    ensures pruned { IfOk result (λ l. AreLists displaced (forest old.now) (forest l.tree.items) (forest l.pruned_old.items) (forest l.pruned_new.items)) }
+{
+    let tree = copy_nodes(alloc, old)?;
+    if displaced {
+        Ok(Lists {
+            tree,
+            pruned_old: copy_nodes(alloc, old)?,
+            pruned_new: copy_nodes(alloc, old)?,
+        })
+    } else {
+        Ok(Lists {
+            tree,
+            pruned_old: Vec::new(alloc),
+            pruned_new: Vec::new(alloc),
+        })
+    }
+}
+
+// A made node beside the old one that it was made for.
+#[cycle(pair)]
+pub(crate) fn read_pair(
+    alloc: Global,
+    tree: &FiberTree<Fiber>,
+    id: FiberId,
+    old: &Node,
+    displaced: bool,
+) -> Result<Pair, AllocError>
+    requires made { Makes tree.now.draft id }
+    requires tree { (y : Option trees.Node) × IsTreeOf y tree.now.current }
+    requires old { Some old.now ≡ first_node (list_of tree.now (old_of tree.now.draft id)) }
+    requires node { (x : trees.Node) × (first_node (list_of tree.now (Some id)) ≡ Some x) }
+    ensures tree { IfOk result (λ p. Some p.tree ≡ first_node (list_of tree.now (Some id))) }
+    ensures pruned { IfOk result (λ p. Pruned displaced old.now p.tree p.pruned_old p.pruned_new) }
+{
+    tree.facts();
+    let fiber = tree.value(id);
+    if let Stage::Begun(mark) = fiber.stage()
+        && goes_on(old.mark(), mark)
+    {
+        let below = displaced_below(displaced, mark);
+        let lists = read_lists(alloc, tree, id, old.children(), below)?;
+        let pair = pair_over(alloc, old, fiber.element(), mark, lists)?;
+        return Ok(pair);
+    }
+    read_whole(alloc, tree, id, old)
+}
+
+// The children of a made node beside those of the old one.
+#[cycle(pair)]
+fn read_lists(
+    alloc: Global,
+    tree: &FiberTree<Fiber>,
+    id: FiberId,
+    old: &[Option<Node>],
+    displaced: bool,
+) -> Result<Lists, AllocError>
+    requires over { WasOver tree.now id (forest old.now) }
+    requires tree { (y : Option trees.Node) × IsTreeOf y tree.now.current }
+    ensures tree { IfOk result (λ l. forest l.tree.items ≡ forest (places_in 0 (grafted (made_kids_of tree.now.draft id)))) }
+    ensures pruned { IfOk result (λ l. AreLists displaced (forest old.now) (forest l.tree.items) (forest l.pruned_old.items) (forest l.pruned_new.items)) }
+{
+    if takes_over(tree, id) {
+        same_lists(alloc, old, displaced)
+    } else {
+        read_made(alloc, tree, id, old, displaced)
+    }
+}
+
+// The made children of a made node beside those of the old one.
+#[cycle(pair)]
+fn read_made(
+    alloc: Global,
+    tree: &FiberTree<Fiber>,
+    id: FiberId,
+    old: &[Option<Node>],
+    displaced: bool,
+) -> Result<Lists, AllocError>
+    requires over { WasOver tree.now id (forest old.now) }
+    requires tree { (y : Option trees.Node) × IsTreeOf y tree.now.current }
+    ensures tree { IfOk result (λ l. l.tree.items ≡ places_in 0 (list_of tree.now (made_entry (made_kids_of tree.now.draft id)))) }
+    ensures pruned { IfOk result (λ l. AreLists displaced (forest old.now) (forest l.tree.items) (forest l.pruned_old.items) (forest l.pruned_new.items)) }
+{
+    tree.facts();
+    let fibers = children_of(alloc, tree, id)?;
+    let matching = match_fibers(alloc, tree, old, &fibers)?;
+    let mut lists = Lists {
+        tree: Vec::with_capacity(alloc, fibers.len())?,
+        pruned_old: copy_nodes(alloc, old)?,
+        pruned_new: Vec::with_capacity(alloc, fibers.len())?,
+    };
+    'going: for i in 0..fibers.len() {
+        let place = matching.places[i];
+        let moved = or_moved(displaced, matching.moved[i]);
+        let slot = read_slot(alloc, tree, fibers[i], old, place, moved)?;
+        add_slot(&mut lists, place, slot)?;
+    }
+    Ok(lists)
+}
+
+// What stands at a place of a made list, beside what it was.
+#[cycle(pair)]
+fn read_slot(
+    alloc: Global,
+    tree: &FiberTree<Fiber>,
+    child: Option<FiberId>,
+    old: &[Option<Node>],
+    place: Option<u32>,
+    displaced: bool,
+) -> Result<Slot, AllocError>
+    requires over { (p : ℕ) × WasOver tree.now p (forest old.now) × IfSome child (IsNodeOf tree.now p) }
+    requires tree { (y : Option trees.Node) × IsTreeOf y tree.now.current }
+    ensures tree { IfOk result (λ s. s.tree ≡ first_node (list_of tree.now child)) }
+    ensures pruned { IfOk result (λ s. IsSlot displaced (option_and_then (node_at (forest old.now)) place) s.tree s.pruned_old s.pruned_new) }
+{
+    let Some(id) = child else {
+        return Ok(Slot {
+            tree: None,
+            pruned_old: None,
+            pruned_new: None,
+        });
+    };
+    match was_beside(tree, id, old, place) {
+        Some(node) => {
+            let pair = read_pair(alloc, tree, id, node, displaced)?;
+            Ok(Slot {
+                tree: Some(pair.tree),
+                pruned_old: Some(pair.pruned_old),
+                pruned_new: Some(pair.pruned_new),
+            })
+        }
+        None => {
+            let node = read_fiber(alloc, tree, id)?;
+            Ok(Slot {
+                tree: copy_node(&node)?,
+                pruned_old: None,
+                pruned_new: node,
+            })
+        }
+    }
+}

@@ -1,0 +1,50 @@
+-- Instances with work are pushed, one after the other.
+use Rattle.std.proofs.Common.{◌≡◌, ◌<◌, ◌^◌, ℕ, Bool, true, false, ◌||◌, nat_eq, Option, Some, None, List, [], ◌∷◌, refl, ap, ◌∙◌, sym}
+use Rattle.rx_lane.specs.Lanes.{Lanes}
+use Rattle.rx_base.specs.declared.cut.Cut.{Cut}
+use Rattle.rx_hooks.specs.declared.hook.Hook.{Hook}
+use Rattle.rx_meaning.specs.Settled.{includes}
+use Rattle.rx_hook_store.specs.Working.{AreIdle, HaveWork}
+use Rattle.rx_hook_store.specs.Gives.{has_work_in}
+
+-- what is found is what is there
+pub none_there : {A : Type 0} (o : Option A) (x : A) → o ≡ None → o ≡ Some x → ⊥
+none_there None x is at = let f : ⊥ = cc in f
+none_there (Some y) x is at = let f : ⊥ = cc in f
+
+pub same_there : {A : Type 0} (o : Option A) (x y : A) → o ≡ Some x → o ≡ Some y → x ≡ y
+same_there None x y is at = let f : ⊥ = cc in absurd f
+same_there (Some z) x y is at = cc
+
+pub not_both_ways : (b : Bool) → b ≡ true → b ≡ false → ⊥
+not_both_ways true t f = let g : ⊥ = cc in g
+not_both_ways false t f = let g : ⊥ = cc in g
+
+-- a number that is left or pushed still is where the first one that is left is pushed
+pub push_more : (n x : ℕ) (left rest before after : List ℕ) → left ≡ x ∷ rest → (includes left n || includes before n) ≡ true → (nat_eq n x ≡ true → includes after n ≡ true)
+    → (includes before n ≡ true → includes after n ≡ true) → (includes rest n || includes after n) ≡ true
+push_more n x left rest before after first now here others =
+    go (nat_eq n x) (includes rest n) (includes before n) (includes after n) (sym (ap (λ (l : List ℕ). includes l n || includes before n) first) ∙ now) here others
+  where
+    go : (a b c d : Bool) → ((a || b) || c) ≡ true → (a ≡ true → d ≡ true) → (c ≡ true → d ≡ true) → (b || d) ≡ true
+    go a true c d h here others = refl
+    go true false c d h here others = here refl
+    go false false true d h here others = others refl
+    go false false false d h here others = cc
+
+-- where none is left it is pushed
+pub none_left : (n : ℕ) (left numbers : List ℕ) → left ≡ [] → (includes left n || includes numbers n) ≡ true → includes numbers n ≡ true
+none_left n left numbers none is = sym (ap (λ (l : List ℕ). includes l n || includes numbers n) none) ∙ is
+
+-- at first each one is left
+pub all_left : (n : ℕ) (left numbers : List ℕ) → includes left n ≡ true → (includes left n || includes numbers n) ≡ true
+all_left n left numbers is = ap (λ b. b || includes numbers n) is
+
+-- hooks in which there is work are not idle
+pub never_idle : (lanes : Lanes) (cut : Cut) (hooks : List Hook) → cut.updates < 2 ^ 64 → HaveWork lanes cut hooks → AreIdle hooks → ⊥
+never_idle lanes cut hooks below work idle = not_both_ways (has_work_in lanes cut work.histories) work.has (idle work.answers work.histories work.stand lanes cut below)
+
+-- so their instance is listed
+pub is_busy : (b : Bool) (lanes : Lanes) (cut : Cut) (hooks : List Hook) → cut.updates < 2 ^ 64 → HaveWork lanes cut hooks → (b ≡ false → AreIdle hooks) → b ≡ true
+is_busy true lanes cut hooks below work idle = refl
+is_busy false lanes cut hooks below work idle = absurd (never_idle lanes cut hooks below work (idle refl))

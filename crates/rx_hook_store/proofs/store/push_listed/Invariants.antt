@@ -1,0 +1,12 @@
+use Rattle.std.proofs.Common.{◌≡◌, ℕ, true, ◌||◌, nat_eq, List, Some}
+use Rattle.std.specs.HashSet.{contains}
+use Rattle.std.specs.Map.{lookup}
+use Rattle.rx_hooks.specs.declared.hook.Hook.{Hook}
+use Rattle.rx_meaning.specs.Settled.{includes}
+use Rattle.rx_hook_store.specs.Working.{HaveWork}
+use Rattle.rx_hook_store.proofs.store.push_listed.Given as goal
+
+-- an instance that is listed and in whose hooks there is work is left, or pushed
+abbrev pub invariant-listing : goal.invariant-listing
+invariant-listing l = (n : ℕ) (kept : List Hook) → contains nat_eq l.listed n ≡ true → lookup (nat_eq n) l.hooks.entries ≡ Some kept → HaveWork l.lanes l.cut kept
+    → (includes l.instance-iterator n || includes l.numbers.items n) ≡ true

@@ -1,0 +1,49 @@
+-- An old tree and the new one that it became, both without some lists of children that stayed the same.
+use Rattle.std.specs.Prelude.{◌≡◌, ℕ, Bool, false, ◌||◌, List, [], ◌∷◌, Option, Some, None, if◌then◌else◌}
+use Rattle.rx_elem.specs.Elements.{Element}
+use Rattle.rx_elem.specs.Identity.{old_places, is_reused}
+use Rattle.rx_elem.specs.Trees.{Mark, Node, node, Forest, none, vacant, child, elements_in, host_number, is_host, is_hidden}
+use Rattle.rx_elem.specs.Compare.{Past, pasts, node_at}
+
+-- The way goes on below an old node and the new one that it became: neither is a hidden boundary, and a host is the same one.
+pub record GoesOn (old new : Mark) : Type 0 where
+  pub old_shown : is_hidden old ≡ false
+  pub new_shown : is_hidden new ≡ false
+  pub hosts : is_host old ≡ is_host new
+  pub numbers : host_number old ≡ host_number new
+
+-- a node from one up to the host above the children of a node with this mark is new or moved
+abbrev pub displaced_below : (displaced : Bool) → Mark → Bool
+displaced_below d m = if is_host m then false else d
+
+-- an old list stands with some of its nodes changed: those that are reused by these elements
+pub record KeepsGone (old pruned : Forest) (new : List Element) : Type 0 where
+  pub elements : elements_in pruned ≡ elements_in old
+  pub gone : (place : ℕ) → is_reused (old_places (elements_in old) new) place ≡ false → node_at pruned place ≡ node_at old place
+
+-- a child that was this one
+abbrev pub was : Node → (moved : Bool) → Past
+was o moved = record { old = Some o; moved = moved }
+
+mutual
+  -- An old node and the new one that it became, and both without some lists that stayed the same: where a list of children is left out, it is one list, no boundary above it is hidden, and nothing from it up to its host is new or moved.
+  pub data Pruned : (displaced : Bool) → (old new pruned_old pruned_new : Node) → Type 0 where
+    whole : {d : Bool} {o n : Node} → Pruned d o n o n
+    cut : {d : Bool} {e f : Element} {m w : Mark} {ns : Forest}
+        → GoesOn m w → displaced_below d w ≡ false → Pruned d (node e m ns none) (node f w ns none) (node e m none none) (node f w none none)
+    inside : {d : Bool} {e f : Element} {m w : Mark} {os ns ps qs : Forest}
+        → GoesOn m w → KeepsGone os ps (elements_in ns) → PrunedIn (displaced_below d w) (pasts os (elements_in ns)) ns (pasts ps (elements_in ns)) qs
+        → Pruned d (node e m os none) (node f w ns none) (node e m ps none) (node f w qs none)
+
+  -- The children of a list, each with its past: those that were there may be without some lists.
+  pub data PrunedIn : (displaced : Bool) → (pasts : List Past) → (new : Forest) → (pruned_pasts : List Past) → (pruned_new : Forest) → Type 0 where
+    no_more : {d : Bool} → PrunedIn d [] none [] none
+    gap : {d : Bool} {p : Past} {ps qs : List Past} {ns ms : Forest} → PrunedIn d ps ns qs ms → PrunedIn d (p ∷ ps) (vacant ns) (p ∷ qs) (vacant ms)
+    same : {d : Bool} {p : Past} {ps qs : List Past} {n : Node} {ns ms : Forest} → PrunedIn d ps ns qs ms → PrunedIn d (p ∷ ps) (child n ns) (p ∷ qs) (child n ms)
+    pair : {d moved : Bool} {o n p q : Node} {ps qs : List Past} {ns ms : Forest}
+        → Pruned (d || moved) o n p q → PrunedIn d ps ns qs ms → PrunedIn d (was o moved ∷ ps) (child n ns) (was p moved ∷ qs) (child q ms)
+
+-- A new tree beside the old one, if there is one, and both without some lists that stayed the same.
+pub data ArePruned : (old : Option Node) → (new : Node) → (pruned_old : Option Node) → (pruned_new : Node) → Type 0 where
+  first : {n : Node} → ArePruned None n None n
+  later : {o n p q : Node} → Pruned false o n p q → ArePruned (Some o) n (Some p) q

@@ -1,0 +1,4 @@
+pub mod Merged
+pub mod Reused
+pub mod Parts
+pub mod Staying
