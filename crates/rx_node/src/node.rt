@@ -1,6 +1,7 @@
 // A node of a finished tree.
 ghost use Rattle.std.specs.Prelude.{◌≡◌, ◌<◌, IfOk};
 ghost use Rattle.rx_elem.specs.Trees.{node, element_of, mark_of, children_of, fallback_of, places, forest, height, height_in};
+ghost use Rattle.rx_node.specs.Hides.{hides_in, hides_within};
 ghost use Rattle.rx_node.specs.MarkView.{mark_seen};
 
 use crate::mark::Mark;
@@ -24,6 +25,8 @@ struct Parts {
     mark: Mark,
     children: Vec<Option<Node>>,
     fallback: Vec<Option<Node>>,
+    // Whether a boundary at it or below is hidden.
+    hides: bool,
 }
 
 impl Model for Node {
@@ -38,6 +41,11 @@ impl Model for Node {
 
     ghost view = { λ n. node_seen n.parts.value };
 
+    ghost use Rattle.std.specs.Prelude.{◌≡◌};
+    ghost use Rattle.rx_node.specs.Hides.{hides_within};
+
+    ghost invariant = { λ n. n.parts.value.hides ≡ hides_within (node_seen n.parts.value) };
+
     ghost size = { trees.height };
 
     ghost use Rattle.rx_node.specs.NodeFalls.{height_falls};
@@ -51,6 +59,20 @@ impl Drop for Node {
         let Node { parts } = self;
         drop(parts);
     }
+}
+
+// Whether a boundary in a list or below is hidden.
+fn any_hides(nodes: &[Option<Node>]) -> bool
+    ensures { result ≡ hides_in (forest nodes.now) }
+{
+    'looking: for place in nodes {
+        if let Some(node) = place
+            && node.hides()
+        {
+            return true;
+        }
+    }
+    false
 }
 
 impl Node {
@@ -68,11 +90,13 @@ impl Node {
     ) -> Result<Node, AllocError>
         ensures { IfOk result (λ n. n ≡ node element (mark_seen mark) (forest children.items) (forest fallback.items)) }
     {
+        let hides = mark.is_hidden() || any_hides(&children) || any_hides(&fallback);
         let parts = Parts {
             element,
             mark,
             children,
             fallback,
+            hides,
         };
         let parts = Rc::new(alloc, parts)?;
         Ok(Node { parts })
@@ -108,6 +132,13 @@ impl Node {
         ensures lower { height_in (forest result.now) < height self.now }
     {
         &self.parts.fallback
+    }
+
+    /// Whether a boundary at it or below is hidden, of what is kept and of fallbacks too. No walk is taken for it.
+    pub fn hides(&self) -> bool
+        ensures { result ≡ hides_within self.now }
+    {
+        self.parts.hides
     }
 
     /// The same node, by one handle more.

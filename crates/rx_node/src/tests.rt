@@ -38,5 +38,6 @@ fn reads_a_node(rt: HostRuntime) -> Result<(), AllocError> {
     let element = Element::new(alloc, ElementKind::List(Vec::new(alloc)))?;
     let node = Node::new(alloc, element, Mark::Plain, children, Vec::new(alloc))?.copy()?;
     assert_eq!(rt; node.children().len(), 2);
+    assert!(rt; !node.hides());
     Ok(())
 }
