@@ -1,11 +1,14 @@
 -- Instances with work are pushed, one after the other.
-use Rattle.std.proofs.Common.{◌≡◌, ◌<◌, ◌^◌, ℕ, Bool, true, false, ◌||◌, nat_eq, Option, Some, None, List, [], ◌∷◌, refl, ap, ◌∙◌, sym}
+use Rattle.std.proofs.Common.{◌≡◌, ◌<◌, ◌^◌, ℕ, ℤ, Bool, true, false, ◌||◌, nat_eq, Option, Some, None, List, [], ◌∷◌, refl, ap, ◌∙◌, sym}
 use Rattle.rx_lane.specs.Lanes.{Lanes}
 use Rattle.rx_base.specs.declared.cut.Cut.{Cut}
 use Rattle.rx_hooks.specs.declared.hook.Hook.{Hook}
-use Rattle.rx_meaning.specs.Settled.{includes}
+use Rattle.rx_meaning.specs.Fresh.{Sight, hook_values}
+use Rattle.rx_meaning.specs.Settled.{done_values, includes, known_by}
 use Rattle.rx_hook_store.specs.Working.{AreIdle, HaveWork}
-use Rattle.rx_hook_store.specs.Gives.{has_work_in}
+use Rattle.rx_hook_store.specs.Gives.{GivesValues, has_work_in}
+use Rattle.rx_hook_store.proofs.Stores.{KeptBy}
+use Rattle.rx_hook_store.proofs.Working.{sees_committed}
 
 -- what is found is what is there
 pub none_there : {A : Type 0} (o : Option A) (x : A) → o ≡ None → o ≡ Some x → ⊥
@@ -48,3 +51,12 @@ never_idle lanes cut hooks below work idle = not_both_ways (has_work_in lanes cu
 pub is_busy : (b : Bool) (lanes : Lanes) (cut : Cut) (hooks : List Hook) → cut.updates < 2 ^ 64 → HaveWork lanes cut hooks → (b ≡ false → AreIdle hooks) → b ≡ true
 is_busy true lanes cut hooks below work idle = refl
 is_busy false lanes cut hooks below work idle = absurd (never_idle lanes cut hooks below work (idle refl))
+
+-- a render sees the committed values in the hooks of an instance that is not listed
+pub unlisted_calm : (b : Bool) (i : ℕ) (kept : KeptBy) → ((hooks : List Hook) → kept i ≡ Some hooks → b ≡ false → AreIdle hooks) → b ≡ false
+    → (s : Sight) (initials : List ℤ) → s.cut.updates < 2 ^ 64 → GivesValues s kept i initials
+    → hook_values s i initials ≡ done_values s.program (known_by s) i initials
+unlisted_calm b i kept idle none s initials below g =
+    sees_committed s.lanes s.cut i kept false
+    (λ answers hooks hs at stand. sym (idle hooks at none answers hs stand s.lanes s.cut below))
+    s initials refl refl g refl

@@ -1,5 +1,5 @@
 // The hooks of the mounted instances.
-ghost use Rattle.std.specs.Prelude.{◌≡◌, ◌+◌, ◌<◌, ◌≤◌, ℕ, ℤ, true, false, nat_eq, List, Some, None, OnOk, OnErr, IfOk, IsSome, IsSomeAnd, if◌then◌else◌, length, map, slice_get};
+ghost use Rattle.std.specs.Prelude.{◌≡◌, ◌+◌, ◌^◌, ◌<◌, ◌≤◌, ℕ, ℤ, true, false, nat_eq, List, Some, None, OnOk, OnErr, IfOk, IfSome, IsSome, IsSomeAnd, if◌then◌else◌, length, map, slice_get};
 ghost use Rattle.rx_ast.specs.Syntax.{Program};
 ghost use Rattle.rx_base.specs.declared.cut.Cut.{Cut};
 ghost use Rattle.rx_lane.specs.Lanes.{Lanes};
@@ -287,6 +287,18 @@ impl HookStore {
             push_listed(&mut numbers, &self.hooks, &self.busy.numbers, lanes, cut)?;
         }
         Ok(numbers)
+    }
+
+    /// The numbers of the instances that may have queued updates, if they are listed one by one: in the hooks of any other no
+    /// render has work, and it sees the values that are committed.
+    pub fn stirred(&self) -> Option<&HashSet<u64>>
+        ensures { IfSome result (λ set. (s : Sight) (n : ℕ) (initials : List ℤ) → contains nat_eq set.now n ≡ false → s.cut.updates < 2 ^ 64
+            → GivesValues s (kept_hooks self.now) n initials → hook_values s n initials ≡ done_values s.program (known_by s) n initials) }
+    {
+        if self.busy.all {
+            return None;
+        }
+        Some(&self.busy.numbers)
     }
 
     /// Makes room for so many instances more.

@@ -51,6 +51,7 @@ fn a_dispatch_is_rendered(rt: HostRuntime) -> Result<(), Fail> {
         updates: 1,
         resolutions: 0,
     };
+    assert!(rt; store.stirred().is_some_and(|numbers| numbers.contains(&7)));
     assert!(rt; store.has_work(7, lanes, cut));
     assert!(rt; !store.has_work(7, Lanes::none(), cut));
     assert!(rt; store.has_news(7, lanes, cut));
@@ -64,6 +65,7 @@ fn a_dispatch_is_rendered(rt: HostRuntime) -> Result<(), Fail> {
     let values = store.render_values(rt.alloc(), 7, &Latest, lanes, cut)?;
     assert_eq!(rt; values.as_slice(), [Int::of(8)].as_slice());
     store.commit_instance(7);
+    assert!(rt; store.stirred().is_some_and(|numbers| numbers.is_empty()));
     assert!(rt; store.working(rt.alloc(), lanes, cut)?.is_empty());
     Ok(())
 }

@@ -1,0 +1,4 @@
+pub mod Covering
+pub mod Leading
+pub mod Quiet
+pub mod Trimming

@@ -1,0 +1,4 @@
+pub mod Ways
+pub mod Leads
+pub mod Walk
+pub mod Example
