@@ -122,11 +122,11 @@ module _ (p : Program) (kept : ℕ → Option (List Hook)) (t : Trees Fiber) (st
 -- What it leaves
 
 module _ (s : Sight) (kept : ℕ → Option (List Hook)) (t : Trees Fiber) (st : Stack) (new : Trees Fiber) (st' : Stack) (p : ℕ) (linked : IsLinked t.current) (knows : KnowsPlaces t) (v : Fiber) (element : Element)
-    (value : Some v ≡ made_value_of t.draft p) (is : element ≡ v.element) (answer : Begun) where
+    (value : Some v ≡ made_value_of t.draft p) (is : element ≡ v.element) (answer : Begun) (way : ℕ → Bool) where
   pub begins_body : (c : ℕ) (props : List ℤ) (es : List Element) (here : Contexts) → parts_in element ≡ Some (c, (props, es)) → here ≡ values_at st → st' ≡ st
       → ((old : Option Node) (key : Key) (kids : Elements) → IsOld t.current (old_of t.draft p) old → GivesHooks s kept (old_instance old) → IfSettled s.program (known_by s) old
-      → (is_cloned v.stage ≡ true → StoodIn old (elements.comp c key props kids)) → listed kids ≡ es → HasShape (is_cloned v.stage) (shape_of_component s here c props kids old (component_at s.program c)) here old t new p answer) → BeginsPlace s kept t st new st' p answer
-  begins_body c props es here parts same stacks has n fs cs e old at gives settled =
+      → (is_cloned v.stage ≡ true → StoodIn old (elements.comp c key props kids)) → listed kids ≡ es → HasShape (is_cloned v.stage) (shape_of_component s here c props kids old (component_at s.program c)) here old t new p answer) → BeginsPlace s way kept t st new st' p answer
+  begins_body c props es here parts same stacks has n fs cs e old at gives settled covers =
       let x : element ≡ e = is ∙ element_at t st p n fs cs e old knows at v value in
       body_begun s t st new st' p n fs cs e old linked knows at answer (old_no_null s.program (known_by s) old settled) v value c props es here (ap parts_in (sym x) ∙ parts) same
       (λ key kids f g.
@@ -134,8 +134,8 @@ module _ (s : Sight) (kept : ℕ → Option (List Hook)) (t : Trees Fiber) (st :
       stacks
 
   pub begins_other : (scene : Scene) (cloned : Bool) → IsSceneOf scene s → cloned ≡ is_cloned v.stage → is_null element ≡ false → parts_in element ≡ None → new.current ≡ t.current
-      → HasBegunOther scene kept t st new st' p element cloned answer → BeginsPlace s kept t st new st' p answer
-  begins_other scene cloned sees cloned_is there none current has n fs cs e old at gives settled =
+      → HasBegunOther scene kept t st new st' p element cloned answer → BeginsPlace s way kept t st new st' p answer
+  begins_other scene cloned sees cloned_is there none current has n fs cs e old at gives settled covers =
       by_case answer (subst (λ y. HasBegunOther scene kept t st new st' p y cloned answer) x has)
     where
       x : element ≡ e

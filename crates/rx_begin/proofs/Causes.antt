@@ -4,8 +4,7 @@ use Rattle.std.proofs.Common.{refl, sym, ap, ◌∙◌, subst, inl, inr}
 use Rattle.rx_base.specs.Awaits.{Awaits}
 use Rattle.rx_base.specs.declared.cut.Cut.{Cut}
 use Rattle.rx_lane.specs.Lanes.{Lanes}
-use Rattle.rx_elem.specs.Trees.{Forest, Instance, Mark, Node, instance_in, is_hidden, mark_of, node, of_boundary, of_host, of_instance, plain}
-use Rattle.rx_elem.specs.Trees as trees
+use Rattle.rx_elem.specs.Trees.{Instance, Mark, Node, instance_in, is_hidden, mark_of, of_boundary, of_host, of_instance, plain}
 use Rattle.rx_susp.specs.declared.boundary.BoundaryState.TheVariants.{Hidden, Shown}
 use Rattle.rx_queue.specs.History.{Answers}
 use Rattle.rx_hooks.specs.declared.hook.Hook.{Hook}
@@ -17,20 +16,21 @@ use Rattle.rx_links.specs.Readers.{list_from}
 use Rattle.rx_meaning.specs.Fresh.{Contexts, Sight, hook_values}
 use Rattle.rx_meaning.specs.Settled.{done_values, known_by, read_anew}
 use Rattle.commit_laws.specs.Each as each
-use Rattle.commit_laws.specs.Idle.{AllIdle, IsIdle, IsIdleMark}
+use Rattle.commit_laws.specs.Idle.{IsIdle, IsIdleMark}
+use Rattle.rx_ways.specs.Ways.{Covers}
 use Rattle.rx_fiber.specs.Fibers.{Fiber}
 use Rattle.rx_fiber.specs.Reading.{IsFor, whole, alone, beside, IsOld, new, of, next}
 use Rattle.rx_hook_store.specs.Gives.{GivesValues, has_work_in}
 use Rattle.rx_begin.specs.Nodes.{begun_mark, keeps_children, mark_at}
 use Rattle.rx_begin.specs.Scenes.{GivesHooks, KeepsHooks, TellsCalm}
-use Rattle.rx_begin.specs.Marks.{EachFiber, SomeFiber, SomeNode}
-use Rattle.rx_begin.specs.Hidden.{ForEach, ForEachIn}
+use Rattle.rx_begin.specs.Marks.{EachFiber, EachFiberBut, SomeFiber, SomeNode}
+use Rattle.rx_begin.specs.Hidden.{ForEach}
 use Rattle.rx_begin.specs.Beginning.{KeepsHooksIf}
 use Rattle.rx_begin.specs.Idle.{HasCause, HasCauseAt, HasNoCause, HasNoCauseAt, HasNoWork, KeepsTree, is_anew}
 use Rattle.rx_begin.specs.declared.scene.Scene.{Scene}
 use Rattle.rx_begin.proofs.Marks.{mark_is}
 use Rattle.rx_begin.proofs.Still.{keeps_none}
-use Rattle.rx_begin.proofs.Walks.{at_node, of_fiber, each_fiber, each_node, some_node}
+use Rattle.rx_begin.proofs.Walks.{at_node, of_fiber, each_covered, each_fiber, some_node}
 
 -- The fiber of an old node
 
@@ -43,6 +43,11 @@ EachOfFirst P (fiber id v ks rs) = P (begun_mark v.stage) × EachFiber P ks
 abbrev pub SomeOfFirst : (Option Mark → Type 0) → Shape Fiber → Type 0
 SomeOfFirst P shapes.none = ⊥
 SomeOfFirst P (fiber id v ks rs) = P (begun_mark v.stage) ⊎ SomeFiber P ks
+
+-- it holds of that of the first, and of each below but for those of instances that stand on no way, and all below these
+abbrev pub EachOfFirstBut : (way : ℕ → Bool) → (Option Mark → Type 0) → Shape Fiber → Type 0
+EachOfFirstBut way P shapes.none = ⊥
+EachOfFirstBut way P (fiber id v ks rs) = P (begun_mark v.stage) × EachFiberBut way P ks
 
 -- the list from the fiber on
 old_list : (c : Shape Fiber) (o : Option ℕ) (x : Node) (i : ℕ) (s : Shape Fiber) → IsOld c o (Some x) → o ≡ Some i → list_from c (Some i) ≡ s → (n : ℕ) × (rest : Shape Fiber) × IsFor n x s rest
@@ -93,15 +98,6 @@ module _ (kept : ℕ → Option (List Hook)) (lanes : Lanes) (cut : Cut) where
   no_cause_shown (of_boundary b) h = h
   no_cause_shown plain h = refl
 
-  -- where the fiber of an old node and those below it have none, the node hides nothing, and none has a cause
-  node_without : (n : ℕ) (x : Node) (s rest : Shape Fiber) → IsFor n x s rest → EachOfFirst (HasNoCauseAt kept lanes cut) s → each.ForEach (HasNoCause kept lanes cut) x
-  node_without n _ _ rest (whole {v = v} {m = m} {ns = ns} {ks = ks} is shown a) h =
-      (of_fiber (HasNoCauseAt kept lanes cut) v m is.stage h.0, each_node (HasNoCauseAt kept lanes cut) 0 ns ks a h.1, tt)
-  node_without n _ _ rest (alone {v = v} {m = m} is hidden gone a) h =
-      absurd (let f = no_cause_shown m (of_fiber (HasNoCauseAt kept lanes cut) v m is.stage h.0) in let q : ⊥ = cc in q)
-  node_without n _ _ rest (beside {v = v} {m = m} is hidden some a s f) h =
-      absurd (let f = no_cause_shown m (of_fiber (HasNoCauseAt kept lanes cut) v m is.stage h.0) in let q : ⊥ = cc in q)
-
   module _ (s : Sight) (lanes_are : s.lanes ≡ lanes) (cut_is : s.cut ≡ cut) where
     mark_idle : (m : Mark) → HasNoCause kept lanes cut m → GivesHooks s kept (instance_in m) → IsIdleMark s m
     mark_idle (of_instance i) h gives = h.values s lanes_are cut_is gives
@@ -110,15 +106,17 @@ module _ (kept : ℕ → Option (List Hook)) (lanes : Lanes) (cut : Cut) where
     mark_idle (of_boundary (Hidden a)) h gives = let q : ⊥ = cc in q
     mark_idle plain h gives = tt
 
-    mutual
-      -- it is idle
-      node_idle : (x : Node) → each.ForEach (HasNoCause kept lanes cut) x → ForEach (GivesHooks s kept) x → IsIdle s x
-      node_idle (node e m ns fs) h g = (mark_idle m h.0 g.0, all_idle ns h.1 g.1, all_idle fs h.2 g.2)
-
-      all_idle : (ns : Forest) → each.ForEachIn (HasNoCause kept lanes cut) ns → ForEachIn (GivesHooks s kept) ns → AllIdle s ns
-      all_idle trees.none h g = tt
-      all_idle (trees.vacant ns) h g = all_idle ns h g
-      all_idle (trees.child x ns) h g = (node_idle x h.0 g.0, all_idle ns h.1 g.1)
+    -- an old node is idle whose fiber has none, where those below have none but for those that are passed
+    node_idle : (way : ℕ → Bool) (n : ℕ) (x : Node) (l rest : Shape Fiber) → IsFor n x l rest → EachOfFirstBut way (HasNoCauseAt kept lanes cut) l → ForEach (GivesHooks s kept) x → Covers way (IsIdleMark s) x → IsIdle s x
+    node_idle way n _ _ rest (whole {v = v} {m = m} {ns = ns} {ks = ks} is shown a) h gives covers = (
+      mark_idle m (of_fiber (HasNoCauseAt kept lanes cut) v m is.stage h.0) gives.0,
+      each_covered way (HasNoCauseAt kept lanes cut) (λ m. GivesHooks s kept (instance_in m)) (IsIdleMark s) mark_idle 0 ns ks a h.1 gives.1 covers.1,
+      tt,
+    )
+    node_idle way n _ _ rest (alone {v = v} {m = m} is hidden gone a) h gives covers =
+        absurd (let f = no_cause_shown m (of_fiber (HasNoCauseAt kept lanes cut) v m is.stage h.0) in let q : ⊥ = cc in q)
+    node_idle way n _ _ rest (beside {v = v} {m = m} is hidden some a s f) h gives covers =
+        absurd (let f = no_cause_shown m (of_fiber (HasNoCauseAt kept lanes cut) v m is.stage h.0) in let q : ⊥ = cc in q)
 
 -- a component's instance that reads nothing anew, and has no work, is calm
 pub calm_without : (kept : ℕ → Option (List Hook)) (scene : Scene) (cs : Contexts) (m : Option Mark) (component : Bool) → component ≡ true → is_anew component cs (option_and_then instance_in m) ≡ false
@@ -169,12 +167,12 @@ module _ (c : Shape Fiber) (o : Option ℕ) (i : ℕ) (o_is : o ≡ Some i) (v :
           first_each (λ m. KeepsHooks kept (option_and_then instance_in m)) (keeps_none kept) n x (fiber i v below behind) rest is h
 
   module _ (lanes : Lanes) (cut : Cut) (x : Node) (was : IsOld c o (Some x)) where
-    -- it is idle where none of them has a cause
-    pub tree_idle : HasNoCauseAt kept lanes cut (begun_mark v.stage) → EachFiber (HasNoCauseAt kept lanes cut) below → (s : Sight) → s.lanes ≡ lanes → s.cut ≡ cut
-        → ForEach (GivesHooks s kept) x → IsIdle s x
-    tree_idle own more s lanes_are cut_is gives =
+    -- it is idle where none of them has a cause, but for those that are passed
+    pub tree_idle : (way : ℕ → Bool) → HasNoCauseAt kept lanes cut (begun_mark v.stage) → EachFiberBut way (HasNoCauseAt kept lanes cut) below → (s : Sight) → s.lanes ≡ lanes → s.cut ≡ cut
+        → ForEach (GivesHooks s kept) x → Covers way (IsIdleMark s) x → IsIdle s x
+    tree_idle way own more s lanes_are cut_is gives covers =
         let (n, rest, is) = old_list c o x i (fiber i v below behind) was o_is list in
-        node_idle kept lanes cut s lanes_are cut_is x (node_without kept lanes cut n x (fiber i v below behind) rest is (own, more)) gives
+        node_idle kept lanes cut s lanes_are cut_is way n x (fiber i v below behind) rest is (own, more) gives covers
 
     -- one of its nodes has a cause where one of them has
     pub tree_cause : HasCauseAt kept lanes cut (begun_mark v.stage) ⊎ SomeFiber (HasCauseAt kept lanes cut) below → SomeNode (HasCause kept lanes cut) x

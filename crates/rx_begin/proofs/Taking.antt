@@ -15,6 +15,7 @@ use Rattle.rx_links.specs.Readers.{IsLinked, made_value_in, made_value_of}
 use Rattle.rx_meaning.specs.Cursor.{Frame, at_place}
 use Rattle.rx_meaning.specs.Fresh.{Contexts, Sight}
 use Rattle.commit_laws.specs.Idle.{IsIdle, IsIdleMark}
+use Rattle.rx_ways.specs.Ways.{Covers, CoversIf}
 use Rattle.rx_fiber.specs.Fibers.{Fiber, begun, is_cloned}
 use Rattle.rx_fiber.specs.Reading.{IsFor, whole, alone, beside, IsOld, of, next}
 use Rattle.rx_fiber.specs.Surround.{IsAround}
@@ -108,9 +109,9 @@ module _ (s : Sight) (kept : ℕ → Option (List Hook)) (t : Trees Fiber) (st :
       ]
 
   -- It is done.
-  pub taken_over : IsSome (mark_at t.current (old_of t.draft p)) → ((x : Node) → IsOld t.current (old_of t.draft p) (Some x) → ForEach (GivesHooks s kept) x → IsIdle s x) → GivesHooksIf s kept old
+  pub taken_over : (way : ℕ → Bool) → IsSome (mark_at t.current (old_of t.draft p)) → ((x : Node) → IsOld t.current (old_of t.draft p) (Some x) → ForEach (GivesHooks s kept) x → Covers way (IsIdleMark s) x → IsIdle s x) → GivesHooksIf s kept old → CoversIf way (IsIdleMark s) old
       → IsTakenOver s t new st' p fs e old
-  taken_over there idle gives = by_old old refl
+  taken_over way there idle gives covers = by_old old refl
     where
       by_old : (o : Option Node) → old ≡ o → IsTakenOver s t new st' p fs e old
       by_old None f =
@@ -119,4 +120,4 @@ module _ (s : Sight) (kept : ℕ → Option (List Hook)) (t : Trees Fiber) (st :
           let q : ⊥ = cc in q)
       by_old (Some x) g =
           by_node x g (subst (λ y. StoodIn y e) g (clone_stood t st p n fs cs e old knows at v value (sym cloned_is ∙ so)))
-          (idle x (subst (IsOld t.current (old_of t.draft p)) g (old_at t st p n fs cs e old knows at)) (subst (GivesHooksIf s kept) g gives))
+          (idle x (subst (IsOld t.current (old_of t.draft p)) g (old_at t st p n fs cs e old knows at)) (subst (GivesHooksIf s kept) g gives) (subst (CoversIf way (IsIdleMark s)) g covers))

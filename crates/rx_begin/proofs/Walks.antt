@@ -1,22 +1,26 @@
 -- A walk over the fibers of some trees comes to each of their nodes.
-use Rattle.std.specs.Prelude.{◌≡◌, ℕ, suc, ◌<◌, false, Option, Some, None, ◌⊎◌}
-use Rattle.std.proofs.Common.{sym, ap, ◌∙◌, subst, inl, inr, arith}
-use Rattle.rx_elem.specs.Trees.{Forest, Mark, Node}
+use Rattle.std.specs.Prelude.{◌≡◌, ℕ, suc, ◌<◌, Bool, true, false, not, Option, Some, None, ◌⊎◌}
+use Rattle.std.specs.Option.{option_map_or}
+use Rattle.std.proofs.Common.{refl, sym, ap, ◌∙◌, subst, inl, inr, arith}
+use Rattle.rx_base.specs.Awaits.{Awaits}
+use Rattle.rx_elem.specs.Trees.{Forest, Mark, Node, node}
 use Rattle.rx_elem.specs.Trees as trees
 use Rattle.rx_lists.specs.Shapes.{Shape, fiber, first, Holds, size}
 use Rattle.rx_links.specs.Drafts.{kids_of}
 use Rattle.rx_links.specs.Readers.{list_from, rest_of, value_of, IsLinked}
+use Rattle.rx_meaning.specs.Settled.{number_of}
 use Rattle.commit_laws.specs.Each.{ForEach, ForEachIn}
-use Rattle.rx_fiber.specs.Fibers.{Fiber, Stage, begun}
+use Rattle.rx_ways.specs.Ways.{Covers, CoversHere, CoversIn}
+use Rattle.rx_fiber.specs.Fibers.{Fiber, Stage, begun, fallback}
 use Rattle.rx_fiber.specs.Reading.{AreFor, no_more, gap, next, IsFor, whole, alone, beside, has_node}
 use Rattle.rx_fiber.proofs.OldPlaces.{list_here}
 use Rattle.rx_begin.specs.Nodes.{begun_mark}
-use Rattle.rx_begin.specs.Marks.{EachFiber, SomeFiber, SomeNode, SomeNodeIn}
+use Rattle.rx_begin.specs.Marks.{EachFiber, EachFiberBut, is_spared, SomeFiber, SomeNode, SomeNodeIn}
 
-no_marks : (P : Option Mark → Type 0) (ns : Forest) → has_node ns ≡ false → ForEachIn (λ m. P (Some m)) ns
-no_marks P trees.none e = tt
-no_marks P (trees.vacant ns) e = no_marks P ns e
-no_marks P (trees.child x ns) e = cc
+no_marks : (Q : Mark → Type 0) (ns : Forest) → has_node ns ≡ false → ForEachIn Q ns
+no_marks Q trees.none e = tt
+no_marks Q (trees.vacant ns) e = no_marks Q ns e
+no_marks Q (trees.child x ns) e = cc
 
 -- From trees to their fibers, and back
 
@@ -51,7 +55,7 @@ module _ (P : Option Mark → Type 0) where
     nodes_of : (n : ℕ) (x : Node) (s rest : Shape Fiber) → IsFor n x s rest → EachFiber P s → ForEach (λ m. P (Some m)) x × EachFiber P rest
     nodes_of n _ _ rest (whole {v = v} {m = m} {ns = ns} {ks = ks} is shown a) h = ((of_fiber v m is.stage h.0, each_node 0 ns ks a h.1, tt), h.2)
     nodes_of n _ _ rest (alone {v = v} {m = m} {ns = ns} {fs = fs} {ks = ks} is hidden gone a) h =
-        ((of_fiber v m is.stage h.0, no_marks P ns gone, each_node 0 fs ks a h.1), h.2)
+        ((of_fiber v m is.stage h.0, no_marks (λ m. P (Some m)) ns gone, each_node 0 fs ks a h.1), h.2)
     nodes_of n _ _ rest (beside {v = v} {m = m} {ns = ns} {fs = fs} {ks = ks} {ws = ws} is hidden some a s f) h =
         ((of_fiber v m is.stage h.0, each_node 0 ns ks a h.1, each_node 0 fs ws f h.2.1), h.2.2)
 
@@ -82,6 +86,50 @@ module _ (P : Option Mark → Type 0) where
       | inr (inr (inr (inr more))) ↦ inr more
     ]
 
+-- Fibers that are passed
+
+module _ (way : ℕ → Bool) where
+  numbered_off : (o : Option ℕ) → option_map_or (λ n. not (way n)) o false ≡ true → (n : ℕ) × (o ≡ Some n) × (way n ≡ false)
+  numbered_off None e = cc
+  numbered_off (Some n) e = (n, refl, off (way n) e)
+    where
+      off : (b : Bool) → not b ≡ true → b ≡ false
+      off true e = cc
+      off false e = refl
+
+  -- of a node whose fiber is passed all is told by the ways
+  spared : (Q : Mark → Type 0) (v : Fiber) (m : Mark) (x : Node) → v.stage ≡ begun m → is_spared way (begun_mark v.stage) ≡ true → CoversHere way Q m x → ForEach Q x
+  spared Q v m x is off covers = let (n, number, away) = numbered_off (number_of m) (ap (is_spared way) (sym (ap begun_mark is)) ∙ off) in covers n number away
+
+  fallback_kept : (w : Fiber) (a : Awaits) → w.stage ≡ fallback a → is_spared way (begun_mark w.stage) ≡ true → ⊥
+  fallback_kept w a is off = let f : false ≡ true = ap (λ s. is_spared way (begun_mark s)) (sym is) ∙ off in cc
+
+  module _ (P : Option Mark → Type 0) (G Q : Mark → Type 0) (told : (m : Mark) → P (Some m) → G m → Q m) where
+    mutual
+      -- what is told of each mark by its fiber, and by the ways where that is passed, holds of all
+      pub each_covered : (n : ℕ) (ns : Forest) (s : Shape Fiber) → AreFor n ns s → EachFiberBut way P s → ForEachIn G ns → CoversIn way Q ns → ForEachIn Q ns
+      each_covered n _ _ no_more h g c = tt
+      each_covered n (trees.vacant ns) s (gap a) h g c = each_covered (suc n) ns s a h g c
+      each_covered n (trees.child x ns) s (next {rest = rest} is a) h g c =
+          let (here, more) = covered_of n x s rest is h g.0 c.0 in (here, each_covered (suc n) ns rest a more g.1 c.1)
+
+      covered_of : (n : ℕ) (x : Node) (s rest : Shape Fiber) → IsFor n x s rest → EachFiberBut way P s → ForEach G x → Covers way Q x → ForEach Q x × EachFiberBut way P rest
+      covered_of n _ _ rest (whole {v = v} {e = e} {m = m} {ns = ns} {ks = ks} is shown a) h g c = elim h.0 [
+        | inl off ↦ (spared Q v m (node e m ns trees.none) is.stage off c.0, h.1)
+        | inr own ↦ ((told m (of_fiber P v m is.stage own.0) g.0, each_covered 0 ns ks a own.1 g.1 c.1, tt), h.1)
+      ]
+      covered_of n _ _ rest (alone {v = v} {e = e} {m = m} {ns = ns} {fs = fs} {ks = ks} is hidden gone a) h g c = elim h.0 [
+        | inl off ↦ (spared Q v m (node e m ns fs) is.stage off c.0, h.1)
+        | inr own ↦ ((told m (of_fiber P v m is.stage own.0) g.0, no_marks Q ns gone, each_covered 0 fs ks a own.1 g.2 c.2), h.1)
+      ]
+      covered_of n _ _ rest (beside {v = v} {w = w} {e = e} {m = m} {ns = ns} {fs = fs} {ks = ks} {ws = ws} is hidden some a s f) h g c = elim h.0 [
+        | inl off ↦ (spared Q v m (node e m ns fs) is.stage off c.0, h.1.1)
+        | inr own ↦ elim h.1.0 [
+          | inl off ↦ absurd (fallback_kept w _ s off)
+          | inr other ↦ ((told m (of_fiber P v m is.stage own.0) g.0, each_covered 0 ns ks a own.1 g.1 c.1, each_covered 0 fs ws f other.1 g.2 c.2), h.1.1)
+        ]
+      ]
+
 -- The walk
 
 module _ (c : Shape Fiber) (linked : IsLinked c) (i : ℕ) (held : Holds c i) (v : Fiber) (here : Some v ≡ value_of c i)
@@ -105,6 +153,10 @@ module _ (c : Shape Fiber) (linked : IsLinked c) (i : ℕ) (held : Holds c i) (v
 
     pub each_joins : (P : Option Mark → Type 0) → P (begun_mark v.stage) → EachFiber P (list_from c child) → EachFiber P (list_from c behind) → EachFiber P (list_from c next)
     each_joins P here below rest = subst (EachFiber P) (sym next_list) (here, below, rest)
+
+    pub but_joins : (way : ℕ → Bool) (P : Option Mark → Type 0) → (is_spared way (begun_mark v.stage) ≡ true) ⊎ (P (begun_mark v.stage) × EachFiberBut way P (list_from c child)) → EachFiberBut way P (list_from c behind)
+        → EachFiberBut way P (list_from c next)
+    but_joins way P here rest = subst (EachFiberBut way P) (sym next_list) (here, rest)
 
     pub some_joins : (P : Option Mark → Type 0) → P (begun_mark v.stage) ⊎ (SomeFiber P (list_from c child) ⊎ SomeFiber P (list_from c behind)) → SomeFiber P (list_from c next)
     some_joins P h = subst (SomeFiber P) (sym next_list) h

@@ -14,8 +14,9 @@ use Rattle.rx_meaning.specs.Again.{AllValuesAgree, AreUnresolved}
 use Rattle.rx_meaning.specs.Fresh.{Sight, Contexts, part, waiting, shape_of}
 use Rattle.rx_meaning.specs.Settled.{IfSettled, known_by}
 use Rattle.rx_meaning.specs.Cursor.{Frame, Cursor, falling, at_place, at_end, ended, is_null, open_part, unit, unwind}
-use Rattle.commit_laws.specs.Idle.{IsIdle}
+use Rattle.commit_laws.specs.Idle.{IsIdle, IsIdleMark}
 use Rattle.commit_laws.specs.WaitsAgain.{without_lanes}
+use Rattle.rx_ways.specs.Ways.{CoversIf}
 use Rattle.rx_fiber.specs.Fibers.{Fiber}
 use Rattle.rx_fiber.specs.Passed.{IsPassed}
 use Rattle.rx_fiber.specs.Reading.{IsOld}
@@ -114,8 +115,8 @@ awaited_again (Suspended r) = None
 awaited_again (answers.Hidden a) = Some a
 awaited_again Taken = None
 
--- the same, from each cursor at which the render may stand, over an old node that is settled
-abbrev pub BeginsPlace : Sight → (kept : ℕ → Option (List Hook)) → (before : Trees Fiber) → Stack → (after : Trees Fiber) → Stack → (at : ℕ) → Begun → Type 0
-BeginsPlace s kept t st new st' p b =
+-- the same, from each cursor at which the render may stand, over an old node that is settled, and idle below each instance that stands on no way
+abbrev pub BeginsPlace : Sight → (way : ℕ → Bool) → (kept : ℕ → Option (List Hook)) → (before : Trees Fiber) → Stack → (after : Trees Fiber) → Stack → (at : ℕ) → Begun → Type 0
+BeginsPlace s way kept t st new st' p b =
     (n : ℕ) (fs : List Frame) (cs : Contexts) (e : Element) (old : Option Node)
-    → StandsAt t st (Some p) (at_place (suc n) fs cs e old) → GivesHooksIf s kept old → IfSettled s.program (known_by s) old → HasBegun s t st new st' p n fs cs e old b
+    → StandsAt t st (Some p) (at_place (suc n) fs cs e old) → GivesHooksIf s kept old → IfSettled s.program (known_by s) old → CoversIf way (IsIdleMark s) old → HasBegun s t st new st' p n fs cs e old b

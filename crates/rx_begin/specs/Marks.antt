@@ -1,8 +1,10 @@
 -- What holds of the marks of some trees, and of the fibers that stand for them.
-use Rattle.std.specs.Prelude.{Option, ◌⊎◌}
+use Rattle.std.specs.Prelude.{◌≡◌, ℕ, Bool, true, false, not, Option, ◌⊎◌, option_and_then}
+use Rattle.std.specs.Option.{option_map_or}
 use Rattle.rx_elem.specs.Trees.{Forest, Mark, Node, child, node, none, vacant}
 use Rattle.rx_lists.specs.Shapes.{Shape, fiber}
 use Rattle.rx_lists.specs.Shapes as shapes
+use Rattle.rx_meaning.specs.Settled.{number_of}
 use Rattle.rx_fiber.specs.Fibers.{Fiber}
 use Rattle.rx_begin.specs.Nodes.{begun_mark}
 
@@ -21,6 +23,15 @@ abbrev mutual
 abbrev pub EachFiber : (Option Mark → Type 0) → Shape Fiber → Type 0
 EachFiber P shapes.none = Unit {0}
 EachFiber P (fiber id v ks rs) = P (begun_mark v.stage) × EachFiber P ks × EachFiber P rs
+
+-- the mark of a fiber is that of an instance with a number that stands on no way
+abbrev pub is_spared : (way : ℕ → Bool) → Option Mark → Bool
+is_spared way m = option_map_or (λ n. not (way n)) (option_and_then number_of m) false
+
+-- this holds of the mark of each fiber of a list, and of each below, but of those of instances that stand on no way, and of all below these
+abbrev pub EachFiberBut : (way : ℕ → Bool) → (Option Mark → Type 0) → Shape Fiber → Type 0
+EachFiberBut way P shapes.none = Unit {0}
+EachFiberBut way P (fiber id v ks rs) = ((is_spared way (begun_mark v.stage) ≡ true) ⊎ (P (begun_mark v.stage) × EachFiberBut way P ks)) × EachFiberBut way P rs
 
 -- it holds of the mark of some fiber
 abbrev pub SomeFiber : (Option Mark → Type 0) → Shape Fiber → Type 0

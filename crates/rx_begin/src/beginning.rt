@@ -19,6 +19,7 @@ ghost use Rattle.rx_meaning.specs.Settled.{DoneBefore};
 ghost use Rattle.rx_model.specs.State.{State};
 ghost use Rattle.rx_model.specs.HooksOf.{KeepsAllHooks};
 ghost use Rattle.rx_fiber.specs.Standing.{StandsAt};
+ghost use Rattle.rx_ways.specs.Ways.{is_way};
 ghost use Rattle.rx_hook_store.specs.Store.{kept_hooks};
 ghost use Rattle.rx_hook_store.specs.Gives.{GivesValues};
 ghost use Rattle.rx_begin.specs.Scenes.{IsSceneOf, TellsCalm};
@@ -144,7 +145,7 @@ pub fn begin<L: Ledger>(
 ) -> Result<(Begun, bool), AllocError>
     requires place { IsAtPlace scene.now.checked.now (kept_hooks hooks.old) tree.old contexts.old at }
     requires contexts { length (values_at contexts.old) ≡ length (syntax.contexts scene.now.checked.now) }
-    ensures begun { IfOk result (λ b. (s : Sight) → IsSceneOf scene.now s → BeginsPlace s (kept_hooks hooks.old) tree.old contexts.old tree.new contexts.new at b.0) }
+    ensures begun { IfOk result (λ b. (s : Sight) → IsSceneOf scene.now s → BeginsPlace s (is_way scene.now.ways.now) (kept_hooks hooks.old) tree.old contexts.old tree.new contexts.new at b.0) }
     ensures current { tree.new.current ≡ tree.old.current }
     ensures bodies { IfOk result (λ b. steps.new ≡ steps.old + (if b.1 then 1 else 0)) }
     // A component's body is skipped exactly where its fiber is cloned and its old instance is calm; no other element has one.

@@ -6,14 +6,15 @@ ghost use Rattle.rx_lists.specs.Shapes.{Holds};
 ghost use Rattle.rx_links.specs.Drafts.{old_of};
 ghost use Rattle.rx_links.specs.Readers.{list_from};
 ghost use Rattle.rx_meaning.specs.Fresh.{Sight};
-ghost use Rattle.commit_laws.specs.Idle.{IsIdle};
+ghost use Rattle.commit_laws.specs.Idle.{IsIdle, IsIdleMark};
 ghost use Rattle.rx_fiber.specs.FiberView.{stage_seen};
 ghost use Rattle.rx_node.specs.MarkView.{mark_seen};
 ghost use Rattle.rx_fiber.specs.Reading.{IsOld};
+ghost use Rattle.rx_ways.specs.Ways.{Covers, is_way};
 ghost use Rattle.rx_hook_store.specs.Store.{kept_hooks};
 ghost use Rattle.rx_begin.specs.Nodes.{IsBareAt, begun_mark, keeps_children, mark_at};
 ghost use Rattle.rx_begin.specs.Scenes.{GivesHooks, IsSceneOf, KeepsHooks, TellsCalm};
-ghost use Rattle.rx_begin.specs.Marks.{EachFiber, SomeFiber};
+ghost use Rattle.rx_begin.specs.Marks.{EachFiberBut, SomeFiber, is_spared};
 ghost use Rattle.rx_begin.specs.Hidden.{ForEach, ForEachFiber, instance_at};
 ghost use Rattle.rx_begin.specs.Idle.{HasCause, HasCauseAt, HasCauseIn, HasNoCause, HasNoCauseAt, KeepsTree, is_anew};
 
@@ -54,7 +55,20 @@ fn has_cause(stage: &Stage, scene: &Scene, hooks: &HookStore) -> bool
     }
 }
 
-// Whether a fiber in a current list or below has a cause.
+// Whether the instance of a fiber stands on no way: then there is no cause, neither at the fiber nor below.
+fn is_spared(stage: &Stage, scene: &Scene) -> bool
+    ensures { result ≡ is_spared (is_way scene.now.ways.now) (begun_mark (stage_seen stage.now)) }
+{
+    match stage {
+        Stage::Begun(Mark::Instance(instance)) => match instance.number {
+            Some(number) => !scene.ways.has(number),
+            None => false,
+        },
+        _ => false,
+    }
+}
+
+// Whether a fiber in a current list or below has a cause; those of instances that stand on no way are passed.
 fn any_cause(
     tree: &FiberTree<Fiber>,
     first: Option<FiberId>,
@@ -63,14 +77,16 @@ fn any_cause(
 ) -> bool
     requires held { IfSome first (Holds tree.now.current) }
     requires kept { ForEachFiber (KeepsHooks (kept_hooks hooks.now)) (list_from tree.now.current first) }
-    ensures none { result ≡ false → EachFiber (HasNoCauseAt (kept_hooks hooks.now) scene.now.lanes scene.now.cut) (list_from tree.now.current first) }
+    ensures none { result ≡ false → EachFiberBut (is_way scene.now.ways.now) (HasNoCauseAt (kept_hooks hooks.now) scene.now.lanes scene.now.cut) (list_from tree.now.current first) }
     ensures some { result ≡ true → SomeFiber (HasCauseAt (kept_hooks hooks.now) scene.now.lanes scene.now.cut) (list_from tree.now.current first) }
 {
     tree.facts();
     let mut next = first;
     'walking: while let Some(id) = next {
-        if has_cause(tree.value(id).stage(), scene, hooks)
-            || any_cause(tree, tree.first_child(id), scene, hooks)
+        let stage = tree.value(id).stage();
+        if !is_spared(stage, scene)
+            && (has_cause(stage, scene, hooks)
+                || any_cause(tree, tree.first_child(id), scene, hooks))
         {
             return true;
         }
@@ -102,7 +118,7 @@ fn is_idle(
     requires kept { KeepsTree (kept_hooks hooks.now) tree.now.current old }
     ensures there { result ≡ true → IsSome (mark_at tree.now.current old) }
     ensures shown { result ≡ true → keeps_children true (mark_at tree.now.current old) ≡ true }
-    ensures idle { result ≡ true → (s : Sight) (x : Node) → IsSceneOf scene.now s → IsOld tree.now.current old (Some x) → ForEach (GivesHooks s (kept_hooks hooks.now)) x → IsIdle s x }
+    ensures idle { result ≡ true → (s : Sight) (x : Node) → IsSceneOf scene.now s → IsOld tree.now.current old (Some x) → ForEach (GivesHooks s (kept_hooks hooks.now)) x → Covers (is_way scene.now.ways.now) (IsIdleMark s) x → IsIdle s x }
     ensures calm { result ≡ true → component ≡ true → TellsCalm scene.now (kept_hooks hooks.now) contexts.now (option_and_then instance_in (mark_at tree.now.current old)) true }
     ensures cause { result ≡ false → HasCauseIn scene.now (kept_hooks hooks.now) contexts.now component tree.now.current old }
 {
@@ -134,7 +150,7 @@ pub(crate) fn takes_over(
     ensures cloned { result ≡ true → cloned ≡ true }
     ensures there { result ≡ true → IsSome (mark_at tree.now.current (old_of tree.now.draft at)) }
     ensures shown { result ≡ true → keeps_children true (mark_at tree.now.current (old_of tree.now.draft at)) ≡ true }
-    ensures idle { result ≡ true → (s : Sight) (x : Node) → IsSceneOf scene.now s → IsOld tree.now.current (old_of tree.now.draft at) (Some x) → ForEach (GivesHooks s (kept_hooks hooks.now)) x → IsIdle s x }
+    ensures idle { result ≡ true → (s : Sight) (x : Node) → IsSceneOf scene.now s → IsOld tree.now.current (old_of tree.now.draft at) (Some x) → ForEach (GivesHooks s (kept_hooks hooks.now)) x → Covers (is_way scene.now.ways.now) (IsIdleMark s) x → IsIdle s x }
     ensures calm { result ≡ true → component ≡ true → TellsCalm scene.now (kept_hooks hooks.now) (values_at contexts.now) (option_and_then instance_in (mark_at tree.now.current (old_of tree.now.draft at))) true }
     ensures cause { cloned ≡ true → result ≡ false → HasCauseIn scene.now (kept_hooks hooks.now) (values_at contexts.now) component tree.now.current (old_of tree.now.draft at) }
 {

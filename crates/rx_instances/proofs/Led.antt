@@ -39,7 +39,7 @@ found_first p all o part [] = go (step_to p all o part)
 found_first p all o part (q ∷ parts) = refl
 
 -- the number of an instance is the one that is told of it
-told_number : (n : Node) (f : Found) → told n ≡ Some f → number_of (mark_of n) ≡ Some f.number
+pub told_number : (n : Node) (f : Found) → told n ≡ Some f → number_of (mark_of n) ≡ Some f.number
 told_number (node e (of_instance i) ns fs) f is = go i.number is
   where
     go : (r : Option ℕ) → option_map (λ n. let y : Found = record { number = n; component = i.component } in y) r ≡ Some f → r ≡ Some f.number

@@ -4,3 +4,4 @@ pub mod Named
 pub mod Nearest
 pub mod Numbers
 pub mod Showing
+pub mod Walked

@@ -1,16 +1,19 @@
 // The instance that a path leads to.
-ghost use Rattle.std.specs.Prelude.{◌≡◌, ℕ, [], ◌∷◌, if◌then◌else◌, option_map, slice_get};
+ghost use Rattle.std.specs.Prelude.{◌≡◌, ◌<◌, ℕ, suc, true, Some, [], ◌∷◌, if◌then◌else◌, length, option_map, slice_get, take};
 ghost use Rattle.std.specs.Option.{option_copied};
 ghost use Rattle.commit_laws.specs.HiddenWaits.{IfNumbered};
 ghost use Rattle.rx_elem.specs.Trees.{children_of, forest, mark_of};
-ghost use Rattle.rx_meaning.specs.Settled.{HasOwnNumbers};
+ghost use Rattle.rx_elem.specs.Spots.{Mounted};
+ghost use Rattle.rx_meaning.specs.Settled.{HasOwnNumbers, number_of};
 ghost use Rattle.rx_model.specs.State.{instance_found};
 ghost use Rattle.rx_instances.specs.Nearest.{Counts, found_as, itself_or, named, nearest, nearest_if, nearest_in, told};
+ghost use Rattle.rx_ways.specs.Ways.{is_way};
 
 use crate::names::name_of;
 use rx_base::Name;
 use rx_check::Checked;
 use rx_node::{Mark, Node};
+use rx_ways::Ways;
 
 /// An instance of a committed tree: its number, and its component, by its number in the order of the text.
 #[derive(Clone, Copy)]
@@ -108,18 +111,41 @@ fn next<'a>(checked: &Checked, node: &'a Node, part: &(Name, u64)) -> Option<&'a
     look_in(checked, node.children(), name, &mut left)
 }
 
+// Puts a node that is an instance on the ways, from its first commit on.
+fn put(node: &Node, sent: &mut Ways)
+    ensures here { (n : ℕ) → number_of (mark_of node.now) ≡ Some n → is_way sent.new n ≡ true }
+    ensures others { (n : ℕ) → is_way sent.old n ≡ true → is_way sent.new n ≡ true }
+{
+    if let Some(number) = node.mark().instance_number() {
+        sent.add(number);
+    }
+}
+
 /// The instance that a path leads to: from the root, each part names the so-many-th instance of a component right below the
-/// one before, counted from 0 in tree order. It takes time in proportion to what is rendered by the bodies of the instances
-/// on the way, however large the tree is.
-pub fn find_instance(checked: &Checked, tree: Option<&Node>, path: &[(Name, u64)]) -> Option<Found>
+/// one before, counted from 0 in tree order. It puts each instance on the way, itself too, on the ways that updates were
+/// sent along. It takes time in proportion to what is rendered by the bodies of the instances on the way, however large the
+/// tree is.
+pub fn find_instance(
+    checked: &Checked,
+    tree: Option<&Node>,
+    path: &[(Name, u64)],
+    sent: &mut Ways,
+) -> Option<Found>
     requires numbered { IfNumbered (option_copied tree) }
     requires apart { (next : ℕ) × HasOwnNumbers next (option_copied tree) }
-    ensures { result ≡ option_map found_as (instance_found checked.now (option_copied tree.entry) path.now) }
+    ensures found { result ≡ option_map found_as (instance_found checked.now (option_copied tree.entry) path.now) }
+    ensures grows { (n : ℕ) → is_way sent.old n ≡ true → is_way sent.new n ≡ true }
+
+    // Also where the whole path leads nowhere, each instance is put that its first parts lead to.
+    ensures way { (k : ℕ) (m : Mounted) → k < length path.now → instance_found checked.now (option_copied tree.entry) (take (suc k) path.now) ≡ Some m
+        → is_way sent.new m.number ≡ true }
 {
     let (part, rest) = path.split_first()?;
     let mut found = first(checked, tree, part)?;
+    put(found, sent);
     'walking: for part in rest {
         found = next(checked, found, part)?;
+        put(found, sent);
     }
     told(found)
 }

@@ -5,25 +5,37 @@ ghost use Rattle.rx_instances.specs.Example.{counted};
 use super::*;
 use rx_ast::{Body, Component, Declaration, Expr, Program, Slot, Statement};
 use rx_base::{Int, Ints, Name};
-use rx_check::check;
+use rx_check::{Checked, check};
 use rx_elem::{Element, ElementKind};
 use rx_hook_store::HookStore;
 use rx_node::{Instance, Mark, Node};
 use rx_report::Report;
 use rx_step::{Dispatch, LaneWord, Path};
+use rx_ways::Ways;
 use std::alloc::{AllocError, Global};
 use std::rc::Rc;
 use std::test::Fail;
 
-// `function App() { const [n, setN] = useState(0); return null; }`
-fn counter(alloc: Global) -> Result<Program, AllocError> {
+// `const [n, setN] = useState(0);`
+fn state(alloc: Global) -> Result<Vec<Statement>, AllocError> {
     let name = Name::new(alloc, "n")?;
     let setter = Name::new(alloc, "setN")?;
     let mut statements = Vec::new(alloc);
     statements.push(Statement::state(name, setter, Expr::number(0)))?;
-    let app = Name::new(alloc, "App")?;
+    Ok(statements)
+}
+
+// `function App() { const [n, setN] = useState(0); return null; }`
+fn app(alloc: Global) -> Result<Component, AllocError> {
+    let statements = state(alloc)?;
+    let name = Name::new(alloc, "App")?;
     let body = Body::slot(Slot::null());
-    let app = Component::new(app, false, Vec::new(alloc), statements, body);
+    Ok(Component::new(name, false, Vec::new(alloc), statements, body))
+}
+
+// The program of that component.
+fn counter(alloc: Global) -> Result<Program, AllocError> {
+    let app = app(alloc)?;
     let mut declarations = Vec::new(alloc);
     declarations.push(Declaration::component(app))?;
     Ok(Program::new(declarations))
@@ -60,17 +72,25 @@ fn a_path_leads_to_an_instance(rt: HostRuntime) -> Result<(), Fail> {
     let checked = check(rt.alloc(), counter(rt.alloc())?)?;
     let tree = counted(rt.alloc())?;
     let dispatch = set_seven(rt.alloc())?;
-    let found = find_instance(&checked, Some(&tree), dispatch_path(&dispatch));
+    let mut sent = Ways::new(rt.alloc());
+    let found = find_instance(&checked, Some(&tree), dispatch_path(&dispatch), &mut sent);
     assert_eq!(rt; found.map(|f| f.number), Some(1));
+    assert!(rt; sent.has(1));
     Ok(())
+}
+
+// What is shown of a machine at its start.
+fn shown(alloc: Global, checked: &Checked) -> Result<Report, AllocError> {
+    let hooks = HookStore::new(alloc);
+    let mut report = Report::new(alloc, false, false);
+    show_hooks(alloc, &mut report, checked, None, &hooks)?;
+    Ok(report)
 }
 
 #[test]
 fn no_hooks_at_the_start(rt: HostRuntime) -> Result<(), Fail> {
     let checked = check(rt.alloc(), counter(rt.alloc())?)?;
-    let hooks = HookStore::new(rt.alloc());
-    let mut report = Report::new(rt.alloc(), false, false);
-    show_hooks(rt.alloc(), &mut report, &checked, None, &hooks)?;
+    let report = shown(rt.alloc(), &checked)?;
     assert!(rt; report.bytes() == b"state\n".as_slice());
     Ok(())
 }

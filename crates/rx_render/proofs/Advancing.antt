@@ -1,5 +1,5 @@
 -- Where a unit of each kind comes to.
-use Rattle.std.specs.Prelude.{◌≡◌, ℕ, zero, suc, ◌+◌, ◌≤◌, false, List, [], ◌∷◌, filter, nat_eq, ℤ, Option, Some, None, Result, Ok, Err, IfOk, OnOk, OnErr, refl}
+use Rattle.std.specs.Prelude.{◌≡◌, ℕ, zero, suc, ◌+◌, ◌≤◌, Bool, false, List, [], ◌∷◌, filter, nat_eq, Option, Some, None, Result, Ok, Err, IfOk, OnOk, OnErr, refl}
 use Rattle.std.specs.List.{range_with_len}
 use Rattle.std.proofs.Common.{sym, ap, ◌∙◌, subst, arith, add-one}
 use Rattle.rx_base.specs.Awaits.{Awaits, one, nothing, awaits_where}
@@ -14,7 +14,7 @@ use Rattle.rx_lists.specs.Shapes as shapes
 use Rattle.rx_links.specs.Drafts.{Trees, Makes, taken, old_of}
 use Rattle.rx_links.specs.Readers.{IsLinked}
 use Rattle.rx_meaning.specs.Fresh.{Sight, Contexts, part}
-use Rattle.rx_meaning.specs.Cursor.{Open, falling, Frame, Cursor, at_place, at_end, ended, open_part, arrive, unit, unwind, HasLevel}
+use Rattle.rx_meaning.specs.Cursor.{Open, falling, Frame, Cursor, at_place, at_end, ended, open_part, arrive, unit, unwind}
 use Rattle.rx_meaning.specs.Counts.{each_body, next_counts}
 use Rattle.rx_fiber.specs.Fibers.{Fiber}
 use Rattle.rx_fiber.specs.Passed.{IsPassed}
@@ -29,6 +29,7 @@ use Rattle.rx_begin.specs.Again.{HasOldFallback}
 use Rattle.rx_begin.specs.Beginning.{IsAtPlace, stands, IsPlace, IsEnd, IsHiddenAgain, IsTakenOver, BeginsPlace, KeepsHooksIf, GivesHooksIf}
 use Rattle.rx_begin.specs.Hidden.{ForEach, ForEachIn}
 use Rattle.rx_begin.specs.Scenes.{IsSceneOf, KeepsHooks, GivesHooks}
+use Rattle.rx_ways.specs.Ways.{is_way}
 use Rattle.rx_begin.specs.declared.scene.Scene.{Scene}
 use Rattle.rx_begin.specs.Opening.{HasOpenedAs, IsLeft, left}
 use Rattle.rx_begin.specs.declared.node.Begun.TheVariants.{Child, Leaf, Suspended}
@@ -90,22 +91,22 @@ abbrev pub AreFew : Sight → Trees Fiber → Stack → (id bodies : ℕ) → Ty
 AreFew s t st id bodies =
     (n : ℕ) (fs : List Frame) (cs : Contexts) (e : Element) (old : Option Node) → StandsAt t st (Some id) (at_place (suc n) fs cs e old) → bodies ≤ next_counts each_body s (at_place (suc n) fs cs e old)
 
-module _ (s : Sight) (kept : ℕ → Option (List Hook)) (t : Trees Fiber) (st : Stack) (new : Trees Fiber) (st' : Stack) (id bodies : ℕ) (few : AreFew s t st id bodies) where
-  pub child_advances : (child : ℕ) → BeginsPlace s kept t st new st' id (Child child) → Advances s kept t st (Begins id) bodies new st' (Begins child)
+module _ (s : Sight) (way : ℕ → Bool) (kept : ℕ → Option (List Hook)) (t : Trees Fiber) (st : Stack) (new : Trees Fiber) (st' : Stack) (id bodies : ℕ) (few : AreFew s t st id bodies) where
+  pub child_advances : (child : ℕ) → BeginsPlace s way kept t st new st' id (Child child) → Advances s way kept t st (Begins id) bodies new st' (Begins child)
   child_advances child begins _ (to_place {levels = zero} h) level gives = absurd (omega (arith, level))
   child_advances child begins _ (to_place {levels = suc n} {fs = fs} {cs = cs} {e = e} {old = old} h) level gives =
-      let b = begins n fs cs e old h gives.0 gives.1 in record { next = unit s (at_place (suc n) fs cs e old); goes = by_unit (few n fs cs e old h); comes = place_comes new st' child _ b.0 b.1 }
+      let b = begins n fs cs e old h gives.0 gives.1 gives.2 in record { next = unit s (at_place (suc n) fs cs e old); goes = by_unit (few n fs cs e old h); comes = place_comes new st' child _ b.0 b.1 }
 
-  pub leaf_advances : BeginsPlace s kept t st new st' id Leaf → Advances s kept t st (Begins id) bodies new st' (Completes id)
+  pub leaf_advances : BeginsPlace s way kept t st new st' id Leaf → Advances s way kept t st (Begins id) bodies new st' (Completes id)
   leaf_advances begins _ (to_place {levels = zero} h) level gives = absurd (omega (arith, level))
   leaf_advances begins _ (to_place {levels = suc n} {fs = fs} {cs = cs} {e = e} {old = old} h) level gives =
-      let b = begins n fs cs e old h gives.0 gives.1 in record { next = unit s (at_place (suc n) fs cs e old); goes = by_unit (few n fs cs e old h); comes = end_comes new st' id _ b.0 b.1 }
+      let b = begins n fs cs e old h gives.0 gives.1 gives.2 in record { next = unit s (at_place (suc n) fs cs e old); goes = by_unit (few n fs cs e old h); comes = end_comes new st' id _ b.0 b.1 }
 
-  pub waits_advances : (r : ℕ) (last : Trees Fiber) (st'' : Stack) (a : At) → BeginsPlace s kept t st new st' id (Suspended r)
-      → ((levels : ℕ) (fs : List Frame) → IsWithin new st' id fs → ComesTo last st'' a (unwind levels fs (one r))) → Advances s kept t st (Begins id) bodies last st'' a
+  pub waits_advances : (r : ℕ) (last : Trees Fiber) (st'' : Stack) (a : At) → BeginsPlace s way kept t st new st' id (Suspended r)
+      → ((levels : ℕ) (fs : List Frame) → IsWithin new st' id fs → ComesTo last st'' a (unwind levels fs (one r))) → Advances s way kept t st (Begins id) bodies last st'' a
   waits_advances r last st'' a begins comes _ (to_place {levels = zero} h) level gives = absurd (omega (arith, level))
   waits_advances r last st'' a begins comes _ (to_place {levels = suc n} {fs = fs} {cs = cs} {e = e} {old = old} h) level gives =
-      let b = begins n fs cs e old h gives.0 gives.1 in
+      let b = begins n fs cs e old h gives.0 gives.1 gives.2 in
       record { next = unit s (at_place (suc n) fs cs e old); goes = by_unit (few n fs cs e old h); comes = subst (ComesTo last st'' a) (sym b.1) (comes (suc n) fs b.4) }
 
 -- a boundary evaluates none
@@ -123,13 +124,13 @@ module _ (s : Sight) (t new : Trees Fiber) (st' : Stack) (p n : ℕ) (fs : List 
   hidden_goes : (bodies : ℕ) → bodies ≡ 0 → Goes s t.current bodies (at_place (suc n) fs cs e old) (open_part n fs (falling e old a) (part cs (fallback_in e ∷ []) (fallback_if old)))
   hidden_goes bodies none = rw (h.was, h.boundary) (past_attempt none linked h.stood hidden_old h.unresolved h.agree)
 
-module _ (s : Sight) (kept : ℕ → Option (List Hook)) (t : Trees Fiber) (st : Stack) (new : Trees Fiber) (st' : Stack) (id bodies : ℕ) where
-  pub hidden_advances : (a : Awaits) (last : Trees Fiber) (next : At) → AreFew s t st id bodies → IsLinked t.current → BeginsPlace s kept t st new st' id (answers.Hidden a)
+module _ (s : Sight) (way : ℕ → Bool) (kept : ℕ → Option (List Hook)) (t : Trees Fiber) (st : Stack) (new : Trees Fiber) (st' : Stack) (id bodies : ℕ) where
+  pub hidden_advances : (a : Awaits) (last : Trees Fiber) (next : At) → AreFew s t st id bodies → IsLinked t.current → BeginsPlace s way kept t st new st' id (answers.Hidden a)
       → ((c : Cursor) → (l : IsLeftAt new st' id (taken shapes.none) a c) → HasOldFallback new.current (given_along l.frames) l.old l.node l.value.element → ComesTo last st' next c)
-      → Advances s kept t st (Begins id) bodies last st' next
+      → Advances s way kept t st (Begins id) bodies last st' next
   hidden_advances a last next few linked begins comes _ (to_place {levels = zero} h) level gives = absurd (omega (arith, level))
   hidden_advances a last next few linked begins comes _ (to_place {levels = suc n} {fs = fs} {cs = cs} {e = e} {old = old} h) level gives =
-      let b = begins n fs cs e old h gives.0 gives.1 in
+      let b = begins n fs cs e old h gives.0 gives.1 gives.2 in
       let none = boundary_none s bodies n fs cs e old b.key b.fallback b.given b.boundary (few n fs cs e old h) in
       record { next = _; goes = hidden_goes s t new st' id n fs cs e old a linked b bodies none; comes = comes _ b.left b.again }
 
@@ -141,14 +142,14 @@ module _ (s : Sight) (t new : Trees Fiber) (st' : Stack) (p n : ℕ) (fs : List 
       subst (λ o. Goes s t.current bodies (at_place (suc n) fs cs e o) (arrive (suc n) fs (Some h.node))) (sym h.was)
       (past_subtree none linked h.stood (subst (IsOld t.current (old_of t.draft p)) h.was h.old_is) h.same h.idle)
 
-module _ (s : Sight) (kept : ℕ → Option (List Hook)) (t : Trees Fiber) (st : Stack) (new : Trees Fiber) (st' : Stack) (id bodies : ℕ) where
-  pub taken_advances : (r : Next) → bodies ≡ 0 → IsLinked t.current → BeginsPlace s kept t st new st' id answers.Taken
+module _ (s : Sight) (way : ℕ → Bool) (kept : ℕ → Option (List Hook)) (t : Trees Fiber) (st : Stack) (new : Trees Fiber) (st' : Stack) (id bodies : ℕ) where
+  pub taken_advances : (r : Next) → bodies ≡ 0 → IsLinked t.current → BeginsPlace s way kept t st new st' id answers.Taken
       → ((levels : ℕ) (fs : List Frame) (x : Node) → IsPassed new st' id fs x → StandsAt new st' (fiber_in r) (arrive levels fs (Some x)))
       → ((levels : ℕ) (fs : List Frame) (x : Node) → IsPassed new st' id fs x → LeadsTo r (arrive levels fs (Some x)))
-      → Advances s kept t st (Begins id) bodies new st' (at_after r)
+      → Advances s way kept t st (Begins id) bodies new st' (at_after r)
   taken_advances r none linked begins there leads _ (to_place {levels = zero} h) level gives = absurd (omega (arith, level))
   taken_advances r none linked begins there leads _ (to_place {levels = suc n} {fs = fs} {cs = cs} {e = e} {old = old} h) level gives =
-      let b = begins n fs cs e old h gives.0 gives.1 in
+      let b = begins n fs cs e old h gives.0 gives.1 gives.2 in
       record {
         next = arrive (suc n) fs (Some b.node);
         goes = taken_goes s t new st' id n fs cs e old linked b bodies none;
@@ -179,29 +180,29 @@ can_begin scene kept t st id can = stands can.stands can.there can.drawn (keeps_
 
 -- where a body waits, its fiber lies below open nodes
 pub waits_below : (scene : Scene) (kept : ℕ → Option (List Hook)) (t : Trees Fiber) (st : Stack) (new : Trees Fiber) (st' : Stack) (id r : ℕ) → CanBegin scene kept t st id
-    → ((s : Sight) → IsSceneOf scene s → BeginsPlace s kept t st new st' id (Suspended r)) → IsOpenBelow new st' id
+    → ((s : Sight) → IsSceneOf scene s → BeginsPlace s (is_way scene.ways.now) kept t st new st' id (Suspended r)) → IsOpenBelow new st' id
 waits_below scene kept t st new st' id r can begins =
-    let b = begins can.sight can.sees can.levels can.frames can.contexts_are can.element can.old can.stands can.gives can.settled in lies b.4
+    let b = begins can.sight can.sees can.levels can.frames can.contexts_are can.element can.old can.stands can.gives can.settled can.covers in lies b.4
 
 -- where a hidden boundary waits still, its fallback can be opened
 pub hidden_left : (scene : Scene) (kept : ℕ → Option (List Hook)) (t : Trees Fiber) (st : Stack) (new : Trees Fiber) (st' : Stack) (id : ℕ) (a : Awaits) → CanBegin scene kept t st id
-    → ((s : Sight) → IsSceneOf scene s → BeginsPlace s kept t st new st' id (answers.Hidden a)) → IsLeft new id a
+    → ((s : Sight) → IsSceneOf scene s → BeginsPlace s (is_way scene.ways.now) kept t st new st' id (answers.Hidden a)) → IsLeft new id a
 hidden_left scene kept t st new st' id a can begins =
-    let b = begins can.sight can.sees can.levels can.frames can.contexts_are can.element can.old can.stands can.gives can.settled in left b.left
+    let b = begins can.sight can.sees can.levels can.frames can.contexts_are can.element can.old can.stands can.gives can.settled can.covers in left b.left
 
 -- where a subtree is taken over, its fiber can be passed
 pub taken_made : (scene : Scene) (kept : ℕ → Option (List Hook)) (t : Trees Fiber) (st : Stack) (new : Trees Fiber) (st' : Stack) (id : ℕ) → CanBegin scene kept t st id → KnowsPlaces new
-    → ((s : Sight) → IsSceneOf scene s → BeginsPlace s kept t st new st' id answers.Taken) → Makes new.draft id
+    → ((s : Sight) → IsSceneOf scene s → BeginsPlace s (is_way scene.ways.now) kept t st new st' id answers.Taken) → Makes new.draft id
 taken_made scene kept t st new st' id can knows begins =
-    let b = begins can.sight can.sees can.levels can.frames can.contexts_are can.element can.old can.stands can.gives can.settled in
+    let b = begins can.sight can.sees can.levels can.frames can.contexts_are can.element can.old can.stands can.gives can.settled can.covers in
     let q = b.passed in
     (knows q.around id q.value q.old (taken q.kids) q.rest q.here).makes
 
 -- a node is completed
-pub end_advances : (s : Sight) (kept : ℕ → Option (List Hook)) (t : Trees Fiber) (st : Stack) (new : Trees Fiber) (st' : Stack) (id : ℕ) (a : At)
+pub end_advances : (s : Sight) (way : ℕ → Bool) (kept : ℕ → Option (List Hook)) (t : Trees Fiber) (st : Stack) (new : Trees Fiber) (st' : Stack) (id : ℕ) (a : At)
     → ((levels : ℕ) (fs : List Frame) (o : Open) (done : List (Option Node)) → StandsAt t st (Some id) (at_end levels fs o done) → ComesTo new st' a (unit s (at_end levels fs o done)))
-    → Advances s kept t st (Completes id) 0 new st' a
-end_advances s kept t st new st' id a f _ (to_end {levels = levels} {fs = fs} {o = o} {done = done} h) level gives = record { next = unit s (at_end levels fs o done); goes = by_unit (omega arith); comes = f levels fs o done h }
+    → Advances s way kept t st (Completes id) 0 new st' a
+end_advances s way kept t st new st' id a f _ (to_end {levels = levels} {fs = fs} {o = o} {done = done} h) level gives = record { next = unit s (at_end levels fs o done); goes = by_unit (omega arith); comes = f levels fs o done h }
 
 -- Results
 

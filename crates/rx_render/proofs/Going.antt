@@ -1,5 +1,5 @@
 -- A unit keeps a render in progress.
-use Rattle.std.specs.Prelude.{◌≡◌, ℕ, zero, suc, ◌+◌, ◌-◌, ◌<◌, ◌≤◌, true, false, List, [], ℤ, Option, Some, None, length, refl, ◌^◌}
+use Rattle.std.specs.Prelude.{◌≡◌, ℕ, zero, suc, ◌+◌, ◌-◌, ◌<◌, ◌≤◌, Bool, true, false, List, [], ℤ, Option, Some, None, length, refl, ◌^◌}
 use Rattle.std.proofs.Common.{sym, ap, ◌∙◌, subst, arith, add-one}
 use Rattle.rx_ast.specs.Syntax.{Program, contexts}
 use Rattle.rx_check.specs.Checks.{unknowns}
@@ -28,7 +28,9 @@ use Rattle.rx_complete.specs.Ends.{ends}
 use Rattle.rx_hook_store.specs.Store.{Kept, kept_hooks}
 use Rattle.rx_hook_store.specs.Gives.{GivesValues}
 use Rattle.rx_hook_store.proofs.Stores.{each-keeps, keeps-give}
+use Rattle.commit_laws.specs.Idle.{IsIdleMark}
 use Rattle.commit_laws.specs.WaitsAgain.{IfWaitsAgain}
+use Rattle.rx_ways.specs.Ways.{CoversIf, is_way}
 use Rattle.render_laws.specs.InProgress.{InProgress}
 use Rattle.render_laws.specs.OldNodes.{CursorHas}
 use Rattle.render_laws.proofs.LevelLaw.{fit_has_level}
@@ -39,7 +41,7 @@ use Rattle.rx_begin.specs.Scenes.{IsSceneOf, GivesHooks}
 use Rattle.rx_begin.specs.declared.scene.Scene.{Scene}
 use Rattle.rx_render.specs.declared.at.At.{At}
 use Rattle.rx_render.specs.declared.at.At.TheVariants.{Begins, Completes, Over}
-use Rattle.rx_render.specs.Mounting.{IfMounted, HasInstances, HasInstancesIn, SettlesWith}
+use Rattle.rx_render.specs.Mounting.{IfMounted, HasInstances, HasInstancesIn, GoesWith}
 use Rattle.rx_render.specs.GivenContexts.{CursorGiven}
 use Rattle.rx_render.specs.Rendering.{Rendering, IfLeft, units_left, left_of, ComesTo, to_place, to_end, to_tree, to_wait}
 use Rattle.rx_render.specs.Renders.{Sees, GivesAll, HasCome, Renders, IsUnderWay, IsRendering}
@@ -69,7 +71,7 @@ left_busy t st _ _ bound units to_wait l = absurd (omega (arith, l))
 
 -- The hooks of old instances
 
-gives_instance : (s : Sight) (tree : Option Node) (kept : ℕ → Option (List Hook)) → GivesAll s tree kept → (i : Option Instance) → IfMounted tree i → GivesHooks s kept i
+pub gives_instance : (s : Sight) (tree : Option Node) (kept : ℕ → Option (List Hook)) → GivesAll s tree kept → (i : Option Instance) → IfMounted tree i → GivesHooks s kept i
 gives_instance s tree kept gives o h i n is number =
     let w = h i n is number in
     subst (λ k. GivesValues s kept k i.initials) w.is_numbered (subst (λ xs. GivesValues s kept w.instance.number xs) w.is_initially (gives w.place w.instance w.there))
@@ -83,12 +85,12 @@ mutual
   gives_list s tree kept gives (vacant ns) h = gives_list s tree kept gives ns h
   gives_list s tree kept gives (child x ns) h = (gives_node s tree kept gives x h.0, gives_list s tree kept gives ns h.1)
 
-gives_at : (s : Sight) (tree : Option Node) (kept : ℕ → Option (List Hook)) → GivesAll s tree kept → IfSettled s.program (known_by s) tree → (c : Cursor) → CursorHas (HasInstances tree) c
-    → CursorHas (SettlesWith tree) c → GivesAt s kept c
-gives_at s tree kept gives settled (at_place n fs cs e None) h r = (tt, tt)
-gives_at s tree kept gives settled (at_place n fs cs e (Some x)) h r = (gives_node s tree kept gives x h.0, r.0 s.program (known_by s) settled)
-gives_at s tree kept gives settled (at_end n fs o d) h r = tt
-gives_at s tree kept gives settled (ended x) h r = tt
+gives_at : (s : Sight) (way : ℕ → Bool) (tree : Option Node) (kept : ℕ → Option (List Hook)) → GivesAll s tree kept → IfSettled s.program (known_by s) tree → CoversIf way (IsIdleMark s) tree → (c : Cursor)
+    → CursorHas (HasInstances tree) c → CursorHas (GoesWith tree) c → GivesAt s way kept c
+gives_at s way tree kept gives settled covers (at_place n fs cs e None) h r = (tt, tt, tt)
+gives_at s way tree kept gives settled covers (at_place n fs cs e (Some x)) h r = (gives_node s tree kept gives x h.0, r.0.settles s.program (known_by s) settled, r.0.covered way s covers)
+gives_at s way tree kept gives settled covers (at_end n fs o d) h r = tt
+gives_at s way tree kept gives settled covers (ended x) h r = tt
 
 -- A unit
 
@@ -101,7 +103,7 @@ renders_give p st g v r k m at = keeps-give p st g (kept_hooks v.hooks) m.number
 -- where a render is in progress one is under way
 pub renders_under_way : (st : State) (g : Progress) (v : Rendering) → Renders v.program st g v → IsUnderWay v
 renders_under_way st g v r =
-    record { sight = sight_of v.program st g; tree = st.tree; sees = renders_sees v.program st g v r; gives = renders_give v.program st g v r; current = r.current; settled = r.settled; waits = r.waits; reads = r.reads; come = r.come }
+    record { sight = sight_of v.program st g; tree = st.tree; sees = renders_sees v.program st g v r; gives = renders_give v.program st g v r; current = r.current; settled = r.settled; waits = r.waits; reads = r.reads; covers = r.covers; come = r.come }
 
 -- what a unit makes of a rendering
 pub record Stepped (old new : Rendering) (evaluated : ℕ) : Type 0 where
@@ -110,20 +112,21 @@ pub record Stepped (old new : Rendering) (evaluated : ℕ) : Type 0 where
   pub lanes : new.lanes ≡ old.lanes
   pub cut : new.cut ≡ old.cut
   pub resources : new.resources ≡ old.resources
+  pub ways : new.ways ≡ old.ways
   pub units : new.units ≡ suc old.units
   pub bodies : new.bodies ≡ old.bodies + evaluated
   pub keeps : (st : State) → DoneBefore old.cut st.journal.updates → KeepsAllHooks old.program st (kept_hooks old.hooks) → KeepsAllHooks old.program st (kept_hooks new.hooks)
   pub still : (s : Sight) (k : ℕ) (initials : List ℤ) → Sees old s → GivesValues s (kept_hooks old.hooks) k initials → GivesValues s (kept_hooks new.hooks) k initials
-  pub advances : (s : Sight) → Sees old s → Advances s (kept_hooks old.hooks) old.trees old.contexts old.at evaluated new.trees new.contexts new.at
+  pub advances : (s : Sight) → Sees old s → Advances s (is_way old.ways) (kept_hooks old.hooks) old.trees old.contexts old.at evaluated new.trees new.contexts new.at
 
 module _ (old new : Rendering) (evaluated : ℕ) (step : Stepped old new evaluated) (draws : DrawsOn) (known : unknowns old.program ≡ []) (left : 0 < left_of old) where
   step_comes : (s : Sight) (tree : Option Node) → Sees old s → GivesAll s tree (kept_hooks old.hooks) → IsTreeOf tree old.trees.current → IfSettled s.program (known_by s) tree
-      → IfWaitsAgain s (default_contexts s.program) tree → IfReadsHold (default_contexts s.program) tree → HasCome s tree old → HasCome s tree new
-  step_comes s tree sees gives current settled waits reads come =
+      → IfWaitsAgain s (default_contexts s.program) tree → IfReadsHold (default_contexts s.program) tree → CoversIf (is_way old.ways) (IsIdleMark s) tree → HasCome s tree old → HasCome s tree new
+  step_comes s tree sees gives current settled waits reads covers come =
       let c = come.cursor in
       let busy : cursors.is_over c ≡ false = left_busy old.trees old.contexts old.at c (unit_bound old.program) old.units come.comes left in
       let level : HasLevel c = fit_has_level s.program c come.goes.fits come.goes.stands in
-      let next = step.advances s sees c come.comes level (gives_at s tree (kept_hooks old.hooks) gives settled c come.olds come.rests) in
+      let next = step.advances s sees c come.comes level (gives_at s (is_way old.ways) tree (kept_hooks old.hooks) gives settled covers c come.olds come.rests) in
       let h = reaches s tree old.trees.current current settled waits reads draws (subst (λ q. unknowns q ≡ []) (sym sees.program) known) old.units old.bodies evaluated c next.next next.goes
       (record { goes = come.goes; drawn = come.drawn; given = come.given; olds = come.olds; rests = come.rests; reached = come.reached }) busy in
       record {
@@ -165,7 +168,8 @@ module _ (old new : Rendering) (evaluated : ℕ) (step : Stepped old new evaluat
         settled = r.settled;
         waits = r.waits;
         reads = r.reads;
-        come = step_comes (sight_of p st g) st.tree (renders_sees p st g old r) (renders_give p st g old r) r.current r.settled r.waits r.reads r.come;
+        covers = subst (λ w. CoversIf (is_way w) (IsIdleMark (sight_of p st g)) st.tree) (sym step.ways) r.covers;
+        come = step_comes (sight_of p st g) st.tree (renders_sees p st g old r) (renders_give p st g old r) r.current r.settled r.waits r.reads r.covers r.come;
       }
 
   pub step_goes_on : GoesOn old new
@@ -191,7 +195,8 @@ module _ (old new : Rendering) (evaluated : ℕ) (step : Stepped old new evaluat
         settled = way.settled;
         waits = way.waits;
         reads = way.reads;
-        come = step_comes way.sight way.tree way.sees way.gives way.current way.settled way.waits way.reads way.come;
+        covers = subst (λ w. CoversIf (is_way w) (IsIdleMark way.sight) way.tree) (sym step.ways) way.covers;
+        come = step_comes way.sight way.tree way.sees way.gives way.current way.settled way.waits way.reads way.covers way.come;
       }
 
 if_left : (at : At) {A : Type 0} → A → IfLeft at A
@@ -210,12 +215,13 @@ step_rendering old new evaluated step draws is left =
 
 -- What a unit needs
 
-ready_as : (s : Sight) (tree : Option Node) (v : Rendering) → Sees v s → GivesAll s tree (kept_hooks v.hooks) → IfSettled s.program (known_by s) tree → DrawsPlace → (scene : Scene) → IsSceneOf scene s → scene.checked.now ≡ s.program
+ready_as : (s : Sight) (tree : Option Node) (v : Rendering) → Sees v s → GivesAll s tree (kept_hooks v.hooks) → IfSettled s.program (known_by s) tree → CoversIf (is_way v.ways) (IsIdleMark s) tree → DrawsPlace → (scene : Scene)
+    → IsSceneOf scene s → scene.checked.now ≡ s.program → scene.ways.now ≡ v.ways
     → (at : At) (c : Cursor) → ComesTo v.trees v.contexts at c → InProgress s tree v.units v.bodies c → CursorDrawn s.program c → CursorGiven (default_contexts s.program) c
-    → CursorHas (HasInstances tree) c → CursorHas (SettlesWith tree) c → cursors.is_over c ≡ false → IsReadyAt scene (kept_hooks v.hooks) v.trees v.contexts at
-ready_as s tree v see gives settled draws scene sees same _ _ (to_place {levels = zero} {fs = fs} {cs = cs} {e = e} {old = old} h) goes drawn given olds rests busy =
+    → CursorHas (HasInstances tree) c → CursorHas (GoesWith tree) c → cursors.is_over c ≡ false → IsReadyAt scene (kept_hooks v.hooks) v.trees v.contexts at
+ready_as s tree v see gives settled covers draws scene sees same ways _ _ (to_place {levels = zero} {fs = fs} {cs = cs} {e = e} {old = old} h) goes drawn given olds rests busy =
     absurd (let l : HasLevel (at_place zero fs cs e old) = fit_has_level s.program (at_place zero fs cs e old) goes.fits goes.stands in omega (arith, l))
-ready_as s tree v see gives settled draws scene sees same _ _ (to_place {id = id} {levels = suc n} {fs = fs} {cs = cs} {e = e} {old = old} h) goes drawn given olds rests busy =
+ready_as s tree v see gives settled covers draws scene sees same ways _ _ (to_place {id = id} {levels = suc n} {fs = fs} {cs = cs} {e = e} {old = old} h) goes drawn given olds rests busy =
     record {
       sight = s;
       sees = sees;
@@ -227,25 +233,26 @@ ready_as s tree v see gives settled draws scene sees same _ _ (to_place {id = id
       stands = h;
       there = goes.stands;
       drawn = subst (λ q. IsDrawn q e) (sym same) (draws s.program (suc n) fs cs e old drawn);
-      gives = (gives_at s tree (kept_hooks v.hooks) gives settled (at_place (suc n) fs cs e old) olds rests).0;
-      settled = (gives_at s tree (kept_hooks v.hooks) gives settled (at_place (suc n) fs cs e old) olds rests).1;
+      gives = (gives_at s (is_way v.ways) tree (kept_hooks v.hooks) gives settled covers (at_place (suc n) fs cs e old) olds rests).0;
+      settled = (gives_at s (is_way v.ways) tree (kept_hooks v.hooks) gives settled covers (at_place (suc n) fs cs e old) olds rests).1;
+      covers = subst (λ w. CoversIf (is_way w) (IsIdleMark s) old) (sym ways) (gives_at s (is_way v.ways) tree (kept_hooks v.hooks) gives settled covers (at_place (suc n) fs cs e old) olds rests).2;
       each = values_are h ∙ (ap length given.0 ∙ (as_many (default_contexts s.program) (given_along fs) ∙ (one_each s.program ∙ ap (λ q. length (contexts q)) (sym same))));
     }
   where
     values_are : StandsAt v.trees v.contexts (Some id) (at_place (suc n) fs cs e old) → length (values_at v.contexts) ≡ length cs
     values_are (begins here waits was around values stack) = ap length values
-ready_as s tree v see gives settled draws scene sees same _ _ (to_end h) goes drawn given olds rests busy = ends h
-ready_as s tree v see gives settled draws scene sees same _ _ (to_tree h) goes drawn given olds rests busy = absurd (let f : ⊥ = cc in f)
-ready_as s tree v see gives settled draws scene sees same _ _ to_wait goes drawn given olds rests busy = absurd (let f : ⊥ = cc in f)
+ready_as s tree v see gives settled covers draws scene sees same ways _ _ (to_end h) goes drawn given olds rests busy = ends h
+ready_as s tree v see gives settled covers draws scene sees same ways _ _ (to_tree h) goes drawn given olds rests busy = absurd (let f : ⊥ = cc in f)
+ready_as s tree v see gives settled covers draws scene sees same ways _ _ to_wait goes drawn given olds rests busy = absurd (let f : ⊥ = cc in f)
 
 module _ (v : Rendering) (is : IsRendering v) (left : 0 < left_of v) where
   abbrev pub way : IsUnderWay v
   way = is_left v.at (unit_bound v.program) v.units left is.under_way
 
-  pub unit_ready : DrawsPlace → (scene : Scene) → ((s : Sight) → Sees v s → IsSceneOf scene s) → scene.checked.now ≡ v.program → IsReadyAt scene (kept_hooks v.hooks) v.trees v.contexts v.at
-  unit_ready draws scene sees same =
+  pub unit_ready : DrawsPlace → (scene : Scene) → ((s : Sight) → Sees v s → IsSceneOf scene s) → scene.checked.now ≡ v.program → scene.ways.now ≡ v.ways → IsReadyAt scene (kept_hooks v.hooks) v.trees v.contexts v.at
+  unit_ready draws scene sees same ways =
       let come = way.come in
-      ready_as way.sight way.tree v way.sees way.gives way.settled draws scene (sees way.sight way.sees) (same ∙ sym way.sees.program) v.at come.cursor come.comes come.goes come.drawn come.given come.olds come.rests
+      ready_as way.sight way.tree v way.sees way.gives way.settled way.covers draws scene (sees way.sight way.sees) (same ∙ sym way.sees.program) ways v.at come.cursor come.comes come.goes come.drawn come.given come.olds come.rests
       (left_busy v.trees v.contexts v.at come.cursor (unit_bound v.program) v.units come.comes left)
 
   pub unit_below : v.units < unit_bound v.program
@@ -277,7 +284,7 @@ units_last Over bound units h = refl
 pub stepped : (inside : Rendering) (t : Trees Fiber) (hooks : Kept) (st : Stack) (next : At) (evaluated : ℕ) {count : ℕ} → evaluated ≡ count → t.current ≡ inside.trees.current
     → ((st : State) → DoneBefore inside.cut st.journal.updates → KeepsAllHooks inside.program st (kept_hooks inside.hooks) → KeepsAllHooks inside.program st (kept_hooks hooks))
     → ((s : Sight) (k : ℕ) (initials : List ℤ) → Sees inside s → GivesValues s (kept_hooks inside.hooks) k initials → GivesValues s (kept_hooks hooks) k initials)
-    → ((s : Sight) → Sees inside s → Advances s (kept_hooks inside.hooks) inside.trees inside.contexts inside.at count t st next)
+    → ((s : Sight) → Sees inside s → Advances s (is_way inside.ways) (kept_hooks inside.hooks) inside.trees inside.contexts inside.at count t st next)
     → Stepped inside (record inside { trees = t; hooks = hooks; contexts = st; at = next; units = inside.units + 1; bodies = inside.bodies + evaluated }) evaluated
 stepped inside t hooks st next evaluated same current keeps still advances =
     record {
@@ -286,11 +293,12 @@ stepped inside t hooks st next evaluated same current keeps still advances =
       lanes = refl;
       cut = refl;
       resources = refl;
+      ways = refl;
       units = add-one inside.units;
       bodies = refl;
       keeps = keeps;
       still = still;
-      advances = λ s sees. subst (λ n. Advances s (kept_hooks inside.hooks) inside.trees inside.contexts inside.at n t st next) (sym same) (advances s sees);
+      advances = λ s sees. subst (λ n. Advances s (is_way inside.ways) (kept_hooks inside.hooks) inside.trees inside.contexts inside.at n t st next) (sym same) (advances s sees);
     }
 
 -- few units are left of a rendering
@@ -332,7 +340,7 @@ module _ (value inside : Rendering) (same : inside ≡ value) (is : IsRendering 
   abbrev pub inside_left : 0 < left_of inside
   inside_left = subst (λ v. 0 < left_of v) (sym same) left
 
-  pub inside_ready : DrawsPlace → (scene : Scene) → ((s : Sight) → Sees inside s → IsSceneOf scene s) → scene.checked.now ≡ inside.program
+  pub inside_ready : DrawsPlace → (scene : Scene) → ((s : Sight) → Sees inside s → IsSceneOf scene s) → scene.checked.now ≡ inside.program → scene.ways.now ≡ inside.ways
       → IsReadyAt scene (kept_hooks inside.hooks) inside.trees inside.contexts inside.at
   inside_ready = unit_ready inside is inside_left
 

@@ -1,5 +1,5 @@
 -- Each old node that a render comes to has instances of the old tree alone.
-use Rattle.std.specs.Prelude.{◌≡◌, ◌⊎◌, ℕ, zero, suc, List, [], ◌∷◌, ◌++◌, Option, Some, None, option_and_then, slice_get, refl}
+use Rattle.std.specs.Prelude.{◌≡◌, ◌⊎◌, ℕ, zero, suc, Bool, List, [], ◌∷◌, ◌++◌, Option, Some, None, option_and_then, slice_get, refl}
 use Rattle.std.proofs.Common.{ap, subst, inl, inr}
 use Rattle.std.proofs.lemmas.List.Elements.{filter_map-append}
 use Rattle.rx_elem.specs.Trees.{Instance, Mark, Node, node, Forest, none, vacant, child, instance_in}
@@ -12,7 +12,9 @@ use Rattle.render_laws.specs.OldNodes.{AllHave, OldHas, FramesHave, CursorHas}
 use Rattle.render_laws.proofs.Descent.{GoesDown, unit_has, attempt_has, arrive_has, start_has}
 use Rattle.rx_ast.specs.Syntax.{Program}
 use Rattle.rx_meaning.specs.Settled.{Known, AllSettled, IfSettled}
-use Rattle.rx_render.specs.Mounting.{IsMountedIn, HasInstances, HasInstancesIn, SettlesWith}
+use Rattle.commit_laws.specs.Idle.{IsIdleMark}
+use Rattle.rx_ways.specs.Ways.{CoversIf, CoversIn}
+use Rattle.rx_render.specs.Mounting.{IsMountedIn, HasInstances, HasInstancesIn, GoesWith}
 
 -- an instance is among some
 abbrev Among : List Mounted → Mounted → Type 0
@@ -98,7 +100,7 @@ module _ (tree : Option Node) where
   pub past_instances : (n : ℕ) (fs : List Frame) (m : Option Node) → FramesHave (HasInstances tree) fs → CursorHas (HasInstances tree) (arrive n fs m)
   past_instances n fs m h = arrive_has (HasInstances tree) goes_down n fs m h
 
-tree_instances : (tree : Option Node) → OldHas (HasInstances tree) tree
+pub tree_instances : (tree : Option Node) → OldHas (HasInstances tree) tree
 tree_instances None = tt
 tree_instances (Some x) = node_within (Some x) at_root x (λ m h. h)
 
@@ -108,27 +110,29 @@ start_instances s tree = start_has (HasInstances tree) (goes_down tree) s tree (
 -- So each is settled where the old tree is.
 
 module _ (tree : Option Node) where
-  all_settle : (ns : Forest) → ((p : Program) (k : Known) → IfSettled p k tree → AllSettled p k ns) → AllHave (SettlesWith tree) ns
-  all_settle none h = tt
-  all_settle (vacant ns) h = all_settle ns h
-  all_settle (child x ns) h = ((λ p k s. (h p k s).0), all_settle ns (λ p k s. (h p k s).1))
+  all_go : (ns : Forest) → ((p : Program) (k : Known) → IfSettled p k tree → AllSettled p k ns) → ((way : ℕ → Bool) (s : Sight) → CoversIf way (IsIdleMark s) tree → CoversIn way (IsIdleMark s) ns)
+      → AllHave (GoesWith tree) ns
+  all_go none h c = tt
+  all_go (vacant ns) h c = all_go ns h c
+  all_go (child x ns) h c = (record { settles = λ p k s. (h p k s).0; covered = λ way s w. (c way s w).0 }, all_go ns (λ p k s. (h p k s).1) (λ way s w. (c way s w).1))
 
-  settles_down : GoesDown (SettlesWith tree)
-  settles_down (node e m ns fs) h = (all_settle ns (λ p k s. (h p k s).1), all_settle fs (λ p k s. (h p k s).2))
+  goes_with_down : GoesDown (GoesWith tree)
+  goes_with_down (node e m ns fs) h =
+      (all_go ns (λ p k s. (h.settles p k s).1) (λ way s w. (h.covered way s w).1), all_go fs (λ p k s. (h.settles p k s).2) (λ way s w. (h.covered way s w).2))
 
-  pub unit_rests : (s : Sight) (c : Cursor) → CursorHas (SettlesWith tree) c → CursorHas (SettlesWith tree) (unit s c)
-  unit_rests s c h = unit_has (SettlesWith tree) settles_down s c h
+  pub unit_rests : (s : Sight) (c : Cursor) → CursorHas (GoesWith tree) c → CursorHas (GoesWith tree) (unit s c)
+  unit_rests s c h = unit_has (GoesWith tree) goes_with_down s c h
 
   pub attempt_rests : (n : ℕ) (fs : List Frame) (s : Sight) (cs : Contexts) (e : Element) (o : Option Node) (p f : Part) (a : Awaits) → shape_of s cs e o ≡ two_lists p f
-      → CursorHas (SettlesWith tree) (at_place (suc n) fs cs e o) → CursorHas (SettlesWith tree) (open_part n fs (falling e o a) f)
-  attempt_rests n fs s cs e o p f a shape h = attempt_has (SettlesWith tree) settles_down n fs s cs e o p f a shape h
+      → CursorHas (GoesWith tree) (at_place (suc n) fs cs e o) → CursorHas (GoesWith tree) (open_part n fs (falling e o a) f)
+  attempt_rests n fs s cs e o p f a shape h = attempt_has (GoesWith tree) goes_with_down n fs s cs e o p f a shape h
 
-  pub past_rests : (n : ℕ) (fs : List Frame) (m : Option Node) → FramesHave (SettlesWith tree) fs → CursorHas (SettlesWith tree) (arrive n fs m)
-  past_rests n fs m h = arrive_has (SettlesWith tree) settles_down n fs m h
+  pub past_rests : (n : ℕ) (fs : List Frame) (m : Option Node) → FramesHave (GoesWith tree) fs → CursorHas (GoesWith tree) (arrive n fs m)
+  past_rests n fs m h = arrive_has (GoesWith tree) goes_with_down n fs m h
 
-tree_settles : (tree : Option Node) → OldHas (SettlesWith tree) tree
-tree_settles None = tt
-tree_settles (Some x) = λ p k s. s
+tree_goes_with : (tree : Option Node) → OldHas (GoesWith tree) tree
+tree_goes_with None = tt
+tree_goes_with (Some x) = record { settles = λ p k s. s; covered = λ way s w. w }
 
-pub start_rests : (s : Sight) (tree : Option Node) → CursorHas (SettlesWith tree) (start s tree)
-start_rests s tree = start_has (SettlesWith tree) (settles_down tree) s tree (tree_settles tree)
+pub start_rests : (s : Sight) (tree : Option Node) → CursorHas (GoesWith tree) (start s tree)
+start_rests s tree = start_has (GoesWith tree) (goes_with_down tree) s tree (tree_goes_with tree)

@@ -1,5 +1,5 @@
 -- What changes nothing of a render in progress: a longer journal, and whatever leaves the journal, the tree and the links.
-use Rattle.std.specs.Prelude.{◌≡◌, ℤ, ℕ, ◌≤◌, true, false, List, [], ◌∷◌, ◌++◌, Option, length, refl}
+use Rattle.std.specs.Prelude.{◌≡◌, ℤ, ℕ, ◌≤◌, Bool, true, false, List, [], ◌∷◌, ◌++◌, Option, length, refl}
 use Rattle.std.proofs.Common.{sym, ap, ◌∙◌, subst, arith}
 use Rattle.std.proofs.lemmas.List.{append-nil, length-append}
 use Rattle.rx_base.specs.declared.cut.Cut.{Cut}
@@ -16,10 +16,13 @@ use Rattle.rx_model.specs.HooksOf.{KeepsAllHooks}
 use Rattle.rx_fiber.specs.Reading.{IsTreeOf}
 use Rattle.rx_hook_store.specs.Store.{Kept, kept_hooks}
 use Rattle.rx_hook_store.proofs.Staying.{all_stay}
+use Rattle.commit_laws.specs.Idle.{IsIdleMark}
 use Rattle.commit_laws.specs.WaitsAgain.{without_lanes, IfWaitsAgain}
+use Rattle.rx_ways.specs.Ways.{CoversIf, is_way}
 use Rattle.render_laws.specs.SameSight.{SeesSame}
 use Rattle.render_laws.proofs.LaterEntries.{holds_later, longer_sees_same}
 use Rattle.run_laws.proofs.WaitingAgain.{later_waits_again}
+use Rattle.rx_render.proofs.Covered.{covered_later}
 use Rattle.rx_render.proofs.Settled.{settled_later}
 use Rattle.rx_render.specs.Rendering.{Rendering}
 use Rattle.rx_render.specs.Renders.{HasCome, IsPast, Renders, IsLater, with_hooks}
@@ -61,6 +64,12 @@ come_later : (s : Sight) (j : Journal) → SeesSame s j → (tree : Option Node)
 come_later s j same tree v hooks h =
     record { cursor = h.cursor; comes = h.comes; goes = holds_later s j same tree v.units v.bodies h.cursor h.goes; drawn = h.drawn; given = h.given; olds = h.olds; rests = h.rests; reached = h.reached }
 
+-- ways that cover the tree still do
+covers_longer : (p : Program) (g : Progress) (st later : State) (way : ℕ → Bool) → IsLater g st later → CoversIf way (IsIdleMark (sight_of p st g)) st.tree → CoversIf way (IsIdleMark (sight_of p later g)) st.tree
+covers_longer p g st later way l h =
+    let journal : record { updates = st.journal.updates ++ l.new; resolutions = st.journal.resolutions ++ l.more } ≡ later.journal = rw (← l.updates, ← l.resolutions) refl in
+    subst (λ (j : Journal). CoversIf way (IsIdleMark (record { program = p; journal = j; lanes = g.lanes; cut = g.cut })) st.tree) journal (covered_later way (sight_of p st g) l.new l.more l.after l.opened st.tree h)
+
 pub renders_later : (p : Program) (st later : State) (g : Progress) (v : Rendering) (hooks : Kept) → Renders p st g v → IsLater g st later
     → KeepsAllHooks p later (kept_hooks hooks) → Renders p later g (with_hooks v hooks)
 renders_later p st later g v hooks r l keeps =
@@ -78,6 +87,7 @@ renders_later p st later g v hooks r l keeps =
       waits = subst (IfWaitsAgain (sight_of p later g) (default_contexts p)) (sym l.tree)
           (later_waits_again (sight_of p st g) later.journal same (later_sees_without p g st later r.past l) (default_contexts p) st.tree r.waits);
       reads = subst (IfReadsHold (default_contexts p)) (sym l.tree) r.reads;
+      covers = subst (CoversIf (is_way v.ways) (IsIdleMark (sight_of p later g))) (sym l.tree) (covers_longer p g st later (is_way v.ways) l r.covers);
       come = subst (λ t. HasCome (sight_of p later g) t (with_hooks v hooks)) (sym l.tree) (come_later (sight_of p st g) later.journal same st.tree v hooks r.come);
     }
 
@@ -116,6 +126,7 @@ module _ (p : Program) (st later : State) (g : Progress) (v : Rendering) (journa
         settled = subst (IfSettled p (known_by (sight_of p later g))) (sym tree) (subst (λ s. IfSettled p (known_by s) st.tree) sight r.settled);
         waits = subst (IfWaitsAgain (sight_of p later g) (default_contexts p)) (sym tree) (subst (λ s. IfWaitsAgain s (default_contexts p) st.tree) sight r.waits);
         reads = subst (IfReadsHold (default_contexts p)) (sym tree) r.reads;
+        covers = subst (CoversIf (is_way v.ways) (IsIdleMark (sight_of p later g))) (sym tree) (subst (λ s. CoversIf (is_way v.ways) (IsIdleMark s) st.tree) sight r.covers);
         come = subst (λ t. HasCome (sight_of p later g) t v) (sym tree) (subst (λ s. HasCome s st.tree v) sight r.come);
       }
 
@@ -135,5 +146,6 @@ renders_as p st g h v lanes cut r =
       settled = subst (λ s. IfSettled p (known_by s) st.tree) sight r.settled;
       waits = subst (λ s. IfWaitsAgain s (default_contexts p) st.tree) sight r.waits;
       reads = r.reads;
+      covers = subst (λ s. CoversIf (is_way v.ways) (IsIdleMark s) st.tree) sight r.covers;
       come = subst (λ s. HasCome s st.tree v) sight r.come;
     }

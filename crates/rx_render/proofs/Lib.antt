@@ -12,6 +12,7 @@ pub mod Idle
 pub mod Advancing
 pub mod Reaching
 pub mod Going
+pub mod Covered
 pub mod Sending
 pub mod Settling
 pub mod Sizes

@@ -28,7 +28,7 @@ use Rattle.rx_links.specs.Readers.{IsLinked}
 use Rattle.rx_fiber.specs.Reading.{IsOld, IsTreeOf}
 use Rattle.rx_fiber.specs.Stood.{StoodAt}
 use Rattle.rx_fiber.specs.Surround.{given_along}
-use Rattle.rx_render.specs.Mounting.{HasInstances, SettlesWith}
+use Rattle.rx_render.specs.Mounting.{HasInstances, GoesWith}
 use Rattle.rx_render.specs.GivenContexts.{given_contexts, CursorGiven}
 use Rattle.rx_render.specs.Advancing.{Goes, by_unit, past_attempt, past_subtree}
 use Rattle.rx_render.proofs.Contexts.{unit_given, attempt_given, arrive_given}
@@ -49,7 +49,7 @@ pub record Reaches (s : Sight) (tree : Option Node) (units bodies : ℕ) (c : Cu
   pub drawn : CursorDrawn s.program c
   pub given : CursorGiven (default_contexts s.program) c
   pub olds : CursorHas (HasInstances tree) c
-  pub rests : CursorHas (SettlesWith tree) c
+  pub rests : CursorHas (GoesWith tree) c
   pub reached : IsReached s.program tree c
 
 module _ (s : Sight) (tree : Option Node) (current : Shape Fiber) (is : IsTreeOf tree current) (settled : IfSettled s.program (known_by s) tree)
@@ -108,7 +108,7 @@ module _ (s : Sight) (tree : Option Node) (current : Shape Fiber) (is : IsTreeOf
         let base = default_contexts s.program in
         let here : cs ≡ given_contexts base (given_along fs) = h.given.0 in
         subst (λ l. rendered (suc n) s l (element_of x) (Some x) ≡ made x) (sym here)
-        (idle_here s current linked base tree is reads (given_along fs) o x stood was (suc n) (h.rests.0 s.program (known_by s) settled) idle h.goes.fits.0)
+        (idle_here s current linked base tree is reads (given_along fs) o x stood was (suc n) (h.rests.0.settles s.program (known_by s) settled) idle h.goes.fits.0)
 
     idle_reaches : (e : Element) (o : Option ℕ) → element_of x ≡ e → IsLinked current → StoodAt current (given_along fs) o → IsOld current o (Some x) → IsIdle s x
         → Reaches s tree units bodies (at_place (suc n) fs cs e (Some x)) → evaluated ≡ 0 → Reaches s tree (suc units) (bodies + evaluated) (arrive (suc n) fs (Some x))

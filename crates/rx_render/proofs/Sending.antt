@@ -147,6 +147,7 @@ sent_rendering result old hooks w u pending place i ok err later is =
           settled = way.settled;
           waits = way.waits;
           reads = way.reads;
+          covers = way.covers;
           come = record { cursor = way.come.cursor; comes = way.come.comes; goes = way.come.goes; drawn = way.come.drawn; given = way.come.given; olds = way.come.olds; rests = way.come.rests; reached = way.come.reached };
         }
 
@@ -210,6 +211,7 @@ with_kept v hooks p st g keeps r =
       settled = r.settled;
       waits = r.waits;
       reads = r.reads;
+      covers = r.covers;
       come = record { cursor = r.come.cursor; comes = r.come.comes; goes = r.come.goes; drawn = r.come.drawn; given = r.come.given; olds = r.come.olds; rests = r.come.rests; reached = r.come.reached };
     }
 

@@ -14,6 +14,7 @@ use Rattle.rx_lists.specs.Shapes as shapes
 use Rattle.rx_links.specs.Drafts.{Trees, taken, made}
 use Rattle.rx_meaning.specs.Fresh.{Sight, default_contexts, root_element}
 use Rattle.rx_meaning.specs.Cursor.{start}
+use Rattle.rx_meaning.specs.Settled.{DoneBefore}
 use Rattle.rx_model.specs.State.{State}
 use Rattle.rx_model.specs.Committing.{sight_of, starting}
 use Rattle.rx_model.specs.HooksOf.{KeepsAllHooks}
@@ -26,12 +27,16 @@ use Rattle.rx_fiber.specs.Surround.{IsElementOf, IsWaiting}
 use Rattle.rx_fiber.proofs.Starting.{starts, root_old}
 use Rattle.rx_begin.proofs.Keeping.{node_element}
 use Rattle.rx_hook_store.specs.Store.{kept_hooks}
+use Rattle.rx_hook_store.proofs.Stores.{each-keeps, keeps-give}
+use Rattle.commit_laws.specs.Idle.{IsIdleMark}
+use Rattle.end_laws.specs.Trimmed.{trimmed_if}
+use Rattle.rx_ways.specs.Ways.{CoversIf, Ways, is_way}
 use Rattle.render_laws.proofs.GoingLaws.{start_holds}
 use Rattle.room_laws.specs.Reached as steps
 use Rattle.draw_laws.specs.Cursors.{CursorDrawn}
 use Rattle.rx_render.specs.declared.at.At.TheVariants.{Begins, Over}
 use Rattle.rx_render.specs.Rendering.{Rendering, IfLeft, ComesTo, to_place}
-use Rattle.rx_render.specs.Renders.{Renders, IsStartOf, CanStart, IsUnderWay, IsRendering}
+use Rattle.rx_render.specs.Renders.{GivesAll, Renders, IsStartOf, CanStart, IsUnderWay, IsRendering}
 use Rattle.rx_render.proofs.Contexts.{start_given}
 use Rattle.rx_render.proofs.Instances.{start_instances, start_rests}
 use Rattle.rx_render.proofs.Going.{renders_under_way}
@@ -67,13 +72,14 @@ unfolding start
 comes_to_start s old t id v tree waits here = to_place (starts s old t id v tree waits here)
 
 -- a rendering whose root waits for its first unit
-pub record StandsAtRoot (lanes : Lanes) (cut : Cut) (resources : List (Option ℤ)) (old new : Rendering) : Type 0 where
+pub record StandsAtRoot (lanes : Lanes) (cut : Cut) (resources : List (Option ℤ)) (plain : Option Node) (old new : Rendering) : Type 0 where
   pub program : new.program ≡ old.program
   pub current : new.trees.current ≡ old.trees.current
   pub hooks : new.hooks ≡ old.hooks
   pub lanes_are : new.lanes ≡ lanes
   pub cut_is : new.cut ≡ cut
   pub resources_are : new.resources ≡ resources
+  pub covers : (s : Sight) (tree : Option Node) → s.cut ≡ cut → GivesAll s tree (kept_hooks old.hooks) → plain ≡ trimmed_if tree → CoversIf (is_way new.ways) (IsIdleMark s) tree
   pub units : new.units ≡ 0
   pub bodies : new.bodies ≡ 0
   pub id : ℕ
@@ -87,9 +93,15 @@ pub record StandsAtRoot (lanes : Lanes) (cut : Cut) (resources : List (Option �
   pub at : new.at ≡ Begins id
   pub contexts_are : new.contexts ≡ contexts.opening (default_contexts old.program)
 
-pub start_renders : (lanes : Lanes) (cut : Cut) (resources : List (Option ℤ)) (old new : Rendering) → StandsAtRoot lanes cut resources old new → DrawsStart → IsBounded old.program
-    → (st : State) → IsStartOf st lanes cut resources old → Renders old.program st (starting st lanes) new
-start_renders lanes cut resources old new r draws bounded st is =
+-- hooks give it the values of the instances of the committed tree
+start_gives : (lanes : Lanes) (cut : Cut) (resources : List (Option ℤ)) (plain : Option Node) (old : Rendering) (st : State) → IsStartOf st lanes cut resources plain old
+    → GivesAll (sight_of old.program st (starting st lanes)) st.tree (kept_hooks old.hooks)
+start_gives lanes cut resources plain old st is k m at =
+    keeps-give old.program st (starting st lanes) (kept_hooks old.hooks) m.number m.initials (subst (λ c. DoneBefore c st.journal.updates) is.cut_is is.done) (each-keeps old.program st (kept_hooks old.hooks) is.keeps k m at)
+
+pub start_renders : (lanes : Lanes) (cut : Cut) (resources : List (Option ℤ)) (plain : Option Node) (old new : Rendering) → StandsAtRoot lanes cut resources plain old new → DrawsStart → IsBounded old.program
+    → (st : State) → IsStartOf st lanes cut resources plain old → Renders old.program st (starting st lanes) new
+start_renders lanes cut resources plain old new r draws bounded st is =
     let s = sight_of old.program st (starting st lanes) in
     let tree : IsTreeOf st.tree new.trees.current = subst (IsTreeOf st.tree) (sym r.current) is.current in
     record {
@@ -104,6 +116,7 @@ start_renders lanes cut resources old new r draws bounded st is =
       settled = is.settled;
       waits = is.waits;
       reads = is.reads;
+      covers = r.covers s st.tree (sym is.cut_is) (start_gives lanes cut resources plain old st is) is.shown;
       come = record {
         cursor = start s st.tree;
         comes = rw (r.at, r.contexts_are) (comes_to_start s st.tree new.trees r.id r.value tree (root_waits old.program new.trees.current st.tree r.value r.cloned tree is.rooted r.place r.element r.stage r.clones) r.here);
@@ -117,16 +130,17 @@ start_renders lanes cut resources old new r draws bounded st is =
     }
 
 -- what a start leaves, by what it makes
-module _ (lanes : Lanes) (cut : Cut) (resources : List (Option ℤ)) (old inside : Rendering) (t : Trees Fiber) (id : ℕ) (st : Stack) where
+module _ (lanes : Lanes) (cut : Cut) (resources : List (Option ℤ)) (plain : Option Node) (old inside : Rendering) (t : Trees Fiber) (id : ℕ) (st : Stack) (ways : Ways) where
   abbrev pub started : Rendering
-  started = record inside { trees = t; contexts = st; resources = resources; lanes = lanes; cut = cut; at = Begins id; units = 0; bodies = 0 }
+  started = record inside { trees = t; contexts = st; resources = resources; lanes = lanes; cut = cut; ways = ways; at = Begins id; units = 0; bodies = 0 }
 
   pub root_stands : inside ≡ record old { trees = record old.trees { draft = taken shapes.none }; at = Over } → (v : Fiber) (root : Element) (given defaults : List ℤ)
       → t ≡ record inside.trees { draft = made id v (first inside.trees.current) (taken shapes.none) (taken shapes.none) }
       → (cloned : Bool) → cloned ≡ is_some (first inside.trees.current) → v ≡ record { place = 0; element = root; stage = waiting cloned } → root ≡ root_element inside.program
       → st ≡ contexts.opening given → given ≡ defaults → defaults ≡ default_contexts inside.program
-      → StandsAtRoot lanes cut resources old started
-  root_stands was v root given defaults grown cloned cloned_is value element stack same all =
+      → ((s : Sight) (tree : Option Node) → s.cut ≡ cut → GivesAll s tree (kept_hooks inside.hooks) → plain ≡ trimmed_if tree → CoversIf (is_way ways) (IsIdleMark s) tree)
+      → StandsAtRoot lanes cut resources plain old started
+  root_stands was v root given defaults grown cloned cloned_is value element stack same all covers =
       let program : inside.program ≡ old.program = ap (λ r. r.program) was in
       let kept : t.current ≡ inside.trees.current = ap (λ u. u.current) grown in
       record {
@@ -136,6 +150,7 @@ module _ (lanes : Lanes) (cut : Cut) (resources : List (Option ℤ)) (old inside
         lanes_are = refl;
         cut_is = refl;
         resources_are = refl;
+        covers = λ s tree at gives. covers s tree at (subst (λ (r : Rendering). GivesAll s tree (kept_hooks r.hooks)) (sym was) gives);
         units = refl;
         bodies = refl;
         id = id;
@@ -151,14 +166,14 @@ module _ (lanes : Lanes) (cut : Cut) (resources : List (Option ℤ)) (old inside
       }
 
 -- a rendering that has started is one
-pub start_rendering : (lanes : Lanes) (cut : Cut) (resources : List (Option ℤ)) (old new : Rendering) (id : ℕ) → StandsAtRoot lanes cut resources old new → DrawsStart
-    → unknowns new.program ≡ [] → IsBounded new.program → CanStart lanes cut resources old → IsRendering new
-start_rendering lanes cut resources old new id r draws known bounded can =
+pub start_rendering : (lanes : Lanes) (cut : Cut) (resources : List (Option ℤ)) (plain : Option Node) (old new : Rendering) (id : ℕ) → StandsAtRoot lanes cut resources plain old new → DrawsStart
+    → unknowns new.program ≡ [] → IsBounded new.program → CanStart lanes cut resources plain old → IsRendering new
+start_rendering lanes cut resources plain old new id r draws known bounded can =
     record {
       known = known;
       bounded = bounded;
       under_way = subst (λ a. IfLeft a (IsUnderWay new)) (sym r.at)
           (renders_under_way can.state (starting can.state lanes) new
           (subst (λ p. Renders p can.state (starting can.state lanes) new) (sym r.program)
-          (start_renders lanes cut resources old new r draws (subst IsBounded r.program bounded) can.state can.is)));
+          (start_renders lanes cut resources plain old new r draws (subst IsBounded r.program bounded) can.state can.is)));
     }

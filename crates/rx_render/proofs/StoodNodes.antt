@@ -1,5 +1,5 @@
 -- What goes down a tree to all that is shown holds of the node of a current fiber, where that stands.
-use Rattle.std.specs.Prelude.{◌≡◌, ℕ, ℤ, zero, suc, false, List, [], ◌∷◌, Option, Some, None, option_map, refl}
+use Rattle.std.specs.Prelude.{◌≡◌, ℕ, ℤ, zero, suc, false, List, [], Option, Some, None, option_map, refl}
 use Rattle.std.proofs.Common.{sym, ap, ◌∙◌, subst}
 use Rattle.rx_elem.specs.Elements.{Element}
 use Rattle.rx_elem.specs.Elements as elements

@@ -1,5 +1,5 @@
 -- A hidden boundary waits again, where the current fiber stands that a clone was made for.
-use Rattle.std.specs.Prelude.{◌≡◌, ℕ, ℤ, Bool, true, false, List, ◌∷◌, Option, Some, None}
+use Rattle.std.specs.Prelude.{◌≡◌, ℕ, ℤ, Bool, true, false, List, Option, Some, None}
 use Rattle.std.proofs.Common.{sym, ap, subst}
 use Rattle.rx_base.specs.Awaits.{Awaits}
 use Rattle.rx_susp.specs.declared.boundary.BoundaryState.TheVariants.{Hidden}

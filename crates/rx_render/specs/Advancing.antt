@@ -1,5 +1,5 @@
 -- What a unit needs and what it leaves, by the parts of a rendering.
-use Rattle.std.specs.Prelude.{◌≡◌, ◌≤◌, ℕ, suc, false, List, [], ◌∷◌, Option, Some, length}
+use Rattle.std.specs.Prelude.{◌≡◌, ◌≤◌, ℕ, suc, Bool, false, List, [], ◌∷◌, Option, Some, length}
 use Rattle.rx_base.specs.Awaits.{Awaits}
 use Rattle.rx_ast.specs.Syntax.{contexts}
 use Rattle.rx_ctx.specs.Contexts.{Stack, values_at}
@@ -15,7 +15,7 @@ use Rattle.rx_meaning.specs.Fresh.{Sight, Contexts, part}
 use Rattle.rx_meaning.specs.Counts.{each_body, next_counts}
 use Rattle.rx_meaning.specs.Cursor.{Frame, falling, Cursor, at_place, at_end, ended, open_part, arrive, is_null, unit, HasLevel}
 use Rattle.rx_meaning.specs.Settled.{IfSettled, known_by}
-use Rattle.commit_laws.specs.Idle.{IsIdle}
+use Rattle.commit_laws.specs.Idle.{IsIdle, IsIdleMark}
 use Rattle.commit_laws.specs.WaitsAgain.{without_lanes}
 use Rattle.rx_fiber.specs.Fibers.{Fiber}
 use Rattle.rx_fiber.specs.Reading.{IsOld}
@@ -27,6 +27,7 @@ use Rattle.rx_complete.specs.declared.completing.Next.{Next}
 use Rattle.rx_complete.specs.declared.completing.Next.TheVariants.{Sibling, Parent, Done}
 use Rattle.draw_laws.specs.Drawn.{IsDrawn}
 use Rattle.rx_begin.specs.Beginning.{GivesHooksIf}
+use Rattle.rx_ways.specs.Ways.{CoversIf, is_way}
 use Rattle.rx_begin.specs.Scenes.{IsSceneOf}
 use Rattle.rx_begin.specs.declared.scene.Scene.{Scene}
 use Rattle.rx_begin.specs.declared.opening.Opened.{Opened}
@@ -46,7 +47,7 @@ abbrev pub at_opened : Opened → At
 at_opened (First id) = Begins id
 at_opened (Empty id) = Completes id
 
--- The render stands at a place of this fiber, at which it sees this scene, the hooks give it the values of all instances of the old node, and that is settled: what stands there is an element that the program draws and for which there is a node.
+-- The render stands at a place of this fiber, at which it sees this scene, the hooks give it the values of all instances of the old node, and that is settled, and idle where it stands on no way: what stands there is an element that the program draws and for which there is a node.
 pub record CanBegin (scene : Scene) (kept : ℕ → Option (List Hook)) (t : Trees Fiber) (st : Stack) (q : ℕ) : Type 0 where
   pub sight : Sight
   pub sees : IsSceneOf scene sight
@@ -60,6 +61,7 @@ pub record CanBegin (scene : Scene) (kept : ℕ → Option (List Hook)) (t : Tre
   pub drawn : IsDrawn scene.checked.now element
   pub gives : GivesHooksIf sight kept old
   pub settled : IfSettled sight.program (known_by sight) old
+  pub covers : CoversIf (is_way scene.ways.now) (IsIdleMark sight) old
   pub each : length (values_at st) ≡ length (contexts scene.checked.now)
 
 -- a unit can be done
@@ -68,11 +70,11 @@ IsReadyAt scene kept t st (Begins id) = CanBegin scene kept t st id
 IsReadyAt scene kept t st (Completes id) = IsAtEnd t st id
 IsReadyAt scene kept t st Over = ⊥
 
--- the hooks give the values of all instances of the old node at the place of a cursor, and that is settled
-abbrev pub GivesAt : Sight → (kept : ℕ → Option (List Hook)) → Cursor → Type 0
-GivesAt s kept (at_place levels fs cs e old) = GivesHooksIf s kept old × IfSettled s.program (known_by s) old
-GivesAt s kept (at_end levels fs o done) = Unit {0}
-GivesAt s kept (ended p) = Unit {0}
+-- the hooks give the values of all instances of the old node at the place of a cursor, and that is settled, and idle where it stands on no way
+abbrev pub GivesAt : Sight → (way : ℕ → Bool) → (kept : ℕ → Option (List Hook)) → Cursor → Type 0
+GivesAt s way kept (at_place levels fs cs e old) = GivesHooksIf s kept old × IfSettled s.program (known_by s) old × CoversIf way (IsIdleMark s) old
+GivesAt s way kept (at_end levels fs o done) = Unit {0}
+GivesAt s way kept (ended p) = Unit {0}
 
 -- Where a render comes in one unit that evaluates so many bodies: where the unit of its cursor comes, past the attempt of a hidden boundary, or past a whole subtree. The last two evaluate none. The boundary stands as its current fiber does, nothing that it awaits has a value, and nothing is new for what it keeps; the subtree stands as its current fiber does, and is idle.
 pub data Goes (s : Sight) (current : Shape Fiber) (bodies : ℕ) : (before after : Cursor) → Type 0 where
@@ -93,5 +95,5 @@ pub record ComesFrom (s : Sight) (before : Trees Fiber) (c : Cursor) (bodies : �
   pub comes : ComesTo after st at next
 
 -- the same from each cursor that they may stand for
-abbrev pub Advances : Sight → (kept : ℕ → Option (List Hook)) → (before : Trees Fiber) → Stack → At → (bodies : ℕ) → (after : Trees Fiber) → Stack → At → Type 0
-Advances s kept t st at bodies new st' at' = (c : Cursor) → ComesTo t st at c → HasLevel c → GivesAt s kept c → ComesFrom s t c bodies new st' at'
+abbrev pub Advances : Sight → (way : ℕ → Bool) → (kept : ℕ → Option (List Hook)) → (before : Trees Fiber) → Stack → At → (bodies : ℕ) → (after : Trees Fiber) → Stack → At → Type 0
+Advances s way kept t st at bodies new st' at' = (c : Cursor) → ComesTo t st at c → HasLevel c → GivesAt s way kept c → ComesFrom s t c bodies new st' at'

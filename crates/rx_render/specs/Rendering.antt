@@ -15,10 +15,11 @@ use Rattle.rx_model.specs.Turns.{unit_bound}
 use Rattle.rx_fiber.specs.Fibers.{Fiber}
 use Rattle.rx_fiber.specs.Standing.{StandsAt}
 use Rattle.rx_hook_store.specs.Store.{Kept}
+use Rattle.rx_ways.specs.Ways.{Ways}
 use Rattle.rx_render.specs.declared.at.At.{At}
 use Rattle.rx_render.specs.declared.at.At.TheVariants.{Begins, Completes, Over}
 
--- The program, the current tree of fibers and the one in progress, the hooks, and what the render sees: the contexts at the place that it has come to, the resources, its lanes and its cut. Then what the next unit does, and the units and bodies so far.
+-- The program, the current tree of fibers and the one in progress, the hooks, and what the render sees: the contexts at the place that it has come to, the resources, its lanes and its cut, and the ways on which it may find a cause. Then what the next unit does, and the units and bodies so far.
 pub record Rendering : Type 0 where
   pub program : Program
   pub trees : Trees Fiber
@@ -27,6 +28,7 @@ pub record Rendering : Type 0 where
   pub resources : List (Option ℤ)
   pub lanes : Lanes
   pub cut : Cut
+  pub ways : Ways
   pub at : At
   pub units : ℕ
   pub bodies : ℕ

@@ -11,7 +11,7 @@ use Rattle.rx_queue.specs.Journal.{Journal, Posted, Resolution, cut_now}
 use Rattle.rx_meaning.specs.Fresh.{Sight, default_contexts, resources_seen, root_element}
 use Rattle.rx_meaning.specs.Cursor.{Cursor}
 use Rattle.rx_meaning.specs.Again.{AllOpen}
-use Rattle.rx_meaning.specs.Settled.{DoneBefore, IfReadsHold, IfSettled, known_by}
+use Rattle.rx_meaning.specs.Settled.{DoneBefore, HasOwnNumbers, IfReadsHold, IfSettled, known_by}
 use Rattle.rx_model.specs.State.{State, Progress}
 use Rattle.rx_model.specs.Committing.{sight_of, starting}
 use Rattle.rx_model.specs.HooksOf.{KeepsAllHooks}
@@ -19,13 +19,17 @@ use Rattle.rx_model.specs.Laws.{IsBounded}
 use Rattle.rx_fiber.specs.Reading.{IsTreeOf}
 use Rattle.rx_hook_store.specs.Store.{Kept, kept_hooks}
 use Rattle.rx_hook_store.specs.Gives.{GivesValues}
+use Rattle.rx_ways.specs.Ways.{CoversIf, is_way}
 use Rattle.render_laws.specs.InProgress.{InProgress}
 use Rattle.render_laws.specs.OldNodes.{CursorHas}
 use Rattle.render_laws.specs.SameSight.{AllAfter}
 use Rattle.draw_laws.specs.Cursors.{CursorDrawn}
 use Rattle.room_laws.specs.Reached.{IsReached}
+use Rattle.commit_laws.specs.HiddenWaits.{IfNumbered}
+use Rattle.commit_laws.specs.Idle.{IsIdleMark}
 use Rattle.commit_laws.specs.WaitsAgain.{IfWaitsAgain}
-use Rattle.rx_render.specs.Mounting.{HasInstances, SettlesWith}
+use Rattle.end_laws.specs.Trimmed.{trimmed_if}
+use Rattle.rx_render.specs.Mounting.{HasInstances, GoesWith}
 use Rattle.rx_render.specs.GivenContexts.{CursorGiven}
 use Rattle.rx_render.specs.Rendering.{Rendering, IfLeft, ComesTo}
 
@@ -49,8 +53,8 @@ pub record HasCome (s : Sight) (tree : Option Node) (v : Rendering) : Type 0 whe
   pub drawn : CursorDrawn s.program cursor
   pub given : CursorGiven (default_contexts s.program) cursor
   pub olds : CursorHas (HasInstances tree) cursor
-  -- and each old node is settled where the tree is
-  pub rests : CursorHas (SettlesWith tree) cursor
+  -- and each old node is settled and covered where the tree is
+  pub rests : CursorHas (GoesWith tree) cursor
   -- a render over the tree comes there
   pub reached : IsReached s.program tree cursor
 
@@ -76,9 +80,11 @@ pub record Renders (p : Program) (st : State) (g : Progress) (v : Rendering) : T
   pub waits : IfWaitsAgain (sight_of p st g) (default_contexts p) st.tree
   -- and what is shown of it read what the contexts give
   pub reads : IfReadsHold (default_contexts p) st.tree
+  -- what stands on no way is idle
+  pub covers : CoversIf (is_way v.ways) (IsIdleMark (sight_of p st g)) st.tree
   pub come : HasCome (sight_of p st g) st.tree v
 
--- a render is under way: what it is over is the current tree, which is settled, whose hidden boundaries wait again and whose reads hold, and hooks give it the values of the instances there
+-- a render is under way: what it is over is the current tree, which is settled, whose hidden boundaries wait again and whose reads hold, which is idle where it stands on no way, and hooks give it the values of the instances there
 pub record IsUnderWay (v : Rendering) : Type 0 where
   pub sight : Sight
   pub tree : Option Node
@@ -88,6 +94,7 @@ pub record IsUnderWay (v : Rendering) : Type 0 where
   pub settled : IfSettled sight.program (known_by sight) tree
   pub waits : IfWaitsAgain sight (default_contexts sight.program) tree
   pub reads : IfReadsHold (default_contexts sight.program) tree
+  pub covers : CoversIf (is_way v.ways) (IsIdleMark sight) tree
   pub come : HasCome sight tree v
 
 -- what holds of each rendering: its program is accepted, and where a unit is left a render is under way
@@ -96,8 +103,8 @@ pub record IsRendering (v : Rendering) : Type 0 where
   pub bounded : IsBounded v.program
   pub under_way : IfLeft v.at (IsUnderWay v)
 
--- what a render that starts now needs: the current tree is the committed one, which is settled, has the root's element at its root, hidden boundaries that wait again and reads that hold, the hooks are those of its instances, the cut has all before it, and the resources are what it sees
-pub record IsStartOf (st : State) (lanes : Lanes) (cut : Cut) (resources : List (Option ℤ)) (v : Rendering) : Type 0 where
+-- what a render that starts now needs: the current tree is the committed one, which is settled, has the root's element at its root, hidden boundaries that wait again and reads that hold, and is this plain one, whose instances have numbers of their own; the hooks are those of its instances, the cut has all before it, and the resources are what it sees
+pub record IsStartOf (st : State) (lanes : Lanes) (cut : Cut) (resources : List (Option ℤ)) (old : Option Node) (v : Rendering) : Type 0 where
   pub current : IsTreeOf st.tree v.trees.current
   pub keeps : KeepsAllHooks v.program st (kept_hooks v.hooks)
   pub done : DoneBefore cut st.journal.updates
@@ -107,11 +114,14 @@ pub record IsStartOf (st : State) (lanes : Lanes) (cut : Cut) (resources : List 
   pub rooted : IfSome st.tree (λ x. element_of x ≡ root_element v.program)
   pub waits : IfWaitsAgain (sight_of v.program st (starting st lanes)) (default_contexts v.program) st.tree
   pub reads : IfReadsHold (default_contexts v.program) st.tree
+  pub shown : old ≡ trimmed_if st.tree
+  pub numbered : IfNumbered old
+  pub apart : (next : ℕ) × HasOwnNumbers next old
 
 -- a render can start
-pub record CanStart (lanes : Lanes) (cut : Cut) (resources : List (Option ℤ)) (v : Rendering) : Type 0 where
+pub record CanStart (lanes : Lanes) (cut : Cut) (resources : List (Option ℤ)) (old : Option Node) (v : Rendering) : Type 0 where
   pub state : State
-  pub is : IsStartOf state lanes cut resources v
+  pub is : IsStartOf state lanes cut resources old v
 
 -- The machine's state is one that follows within a render: the same tree, and a journal with more updates, after its cut, and more resolutions.
 pub record IsLater (g : Progress) (st later : State) : Type 0 where

@@ -13,6 +13,7 @@ ghost use Rattle.rx_complete.specs.Ends.{IsAtEnd, IsOpenBelow};
 ghost use Rattle.rx_hook_store.specs.Store.{kept_hooks};
 ghost use Rattle.rx_hook_store.specs.Gives.{GivesValues};
 ghost use Rattle.rx_begin.specs.Scenes.{IsSceneOf};
+ghost use Rattle.rx_ways.specs.Ways.{is_way};
 ghost use Rattle.rx_render.specs.Rendering.{ComesTo};
 ghost use Rattle.rx_render.specs.Advancing.{at_after, at_opened, CanBegin, IsReadyAt, Advances};
 
@@ -102,7 +103,7 @@ fn begin_place<L: Ledger>(
     steps: &mut Steps<L>,
 ) -> Result<(At, bool), AllocError>
     requires { CanBegin scene.now (kept_hooks hooks.old) tree.old contexts.old id }
-    ensures comes { IfOk result (λ a. (s : Sight) → IsSceneOf scene.now s → Advances s (kept_hooks hooks.old) tree.old contexts.old (At.Begins id) (if a.1 then 1 else 0) tree.new contexts.new a.0) }
+    ensures comes { IfOk result (λ a. (s : Sight) → IsSceneOf scene.now s → Advances s (is_way scene.now.ways.now) (kept_hooks hooks.old) tree.old contexts.old (At.Begins id) (if a.1 then 1 else 0) tree.new contexts.new a.0) }
     ensures ticks { IfOk result (λ a. steps.new ≡ steps.old + (if a.1 then 1 else 0)) }
     ensures current { tree.new.current ≡ tree.old.current }
     ensures still { (s : Sight) (k : ℕ) (initials : List ℤ) → IsSceneOf scene.now s → GivesValues s (kept_hooks hooks.old) k initials → GivesValues s (kept_hooks hooks.new) k initials }
@@ -147,7 +148,7 @@ pub(crate) fn advance<L: Ledger>(
     steps: &mut Steps<L>,
 ) -> Result<(At, bool), AllocError>
     requires { IsReadyAt scene.now (kept_hooks hooks.old) tree.old contexts.old at }
-    ensures comes { IfOk result (λ a. (s : Sight) → IsSceneOf scene.now s → Advances s (kept_hooks hooks.old) tree.old contexts.old at (if a.1 then 1 else 0) tree.new contexts.new a.0) }
+    ensures comes { IfOk result (λ a. (s : Sight) → IsSceneOf scene.now s → Advances s (is_way scene.now.ways.now) (kept_hooks hooks.old) tree.old contexts.old at (if a.1 then 1 else 0) tree.new contexts.new a.0) }
     ensures ticks { IfOk result (λ a. steps.new ≡ steps.old + (if a.1 then 1 else 0)) }
     ensures current { tree.new.current ≡ tree.old.current }
     ensures still { (s : Sight) (k : ℕ) (initials : List ℤ) → IsSceneOf scene.now s → GivesValues s (kept_hooks hooks.old) k initials → GivesValues s (kept_hooks hooks.new) k initials }

@@ -14,8 +14,11 @@ ghost use Rattle.rx_queue.specs.Journal.{hook};
 ghost use Rattle.rx_hooks.specs.Hooks.{changed_at};
 ghost use Rattle.rx_model.specs.State.{State, Progress, linked_lanes, opening};
 ghost use Rattle.rx_model.specs.Accepting.{dispatched_for, lane_of};
-ghost use Rattle.rx_meaning.specs.Fresh.{IsTree};
-ghost use Rattle.rx_meaning.specs.Settled.{DoneBefore};
+ghost use Rattle.rx_meaning.specs.Fresh.{IsTree, Sight};
+ghost use Rattle.rx_meaning.specs.Settled.{DoneBefore, HasOwnNumbers};
+ghost use Rattle.commit_laws.specs.HiddenWaits.{IfNumbered};
+ghost use Rattle.commit_laws.specs.Idle.{IsIdleMark};
+ghost use Rattle.rx_ways.specs.Ways.{CoversIf, is_way};
 ghost use Rattle.rx_model.specs.Committing.{committed_state, starting};
 ghost use Rattle.rx_model.specs.Laws.{IsBounded};
 ghost use Rattle.rx_model.specs.HooksOf.{KeepsAllHooks};
@@ -32,7 +35,7 @@ ghost use Rattle.rx_settle.specs.Settling.{CanSettle, IsSettlingOf};
 ghost use Rattle.rx_render.specs.declared.at.At.TheVariants.{Over};
 ghost use Rattle.rx_render.specs.LastUnit.{is_over};
 ghost use Rattle.rx_render.specs.Rendering.{IsIdle, IfLeft, left_of};
-ghost use Rattle.rx_render.specs.Renders.{CanStart, IsStartOf, IsUnderWay, Renders, with_hooks};
+ghost use Rattle.rx_render.specs.Renders.{CanStart, GivesAll, IsStartOf, IsUnderWay, Renders, with_hooks};
 ghost use Rattle.rx_render.specs.Turning.{GoesOn, GivesUp, BreaksOff};
 ghost use Rattle.rx_render.specs.TurningLaws.{goes_on_same, goes_on_join, gives_up_after};
 
@@ -58,6 +61,7 @@ use rx_queue::Update;
 use rx_read::{Numbers, number_made};
 use rx_settle::settle_hooks;
 use rx_step::LaneWord;
+use rx_ways::{Ways, find_ways};
 use std::alloc::{AllocError, Global};
 use std::marker::Model;
 use std::sync::ledger::Ledger;
@@ -74,6 +78,7 @@ pub struct Renderer {
     resources: Vec<Option<Int>>,
     lanes: Lanes,
     cut: Cut,
+    ways: Ways,
     at: At,
     units: u64,
     bodies: u64,
@@ -90,9 +95,9 @@ impl Model for Renderer {
 
     ghost coded = { Prim.hlevel (codes, program_code, fiber_trees_code) };
 
-    ghost view = { λ r. record { program = r.checked; trees = r.fibers; hooks = r.hooks; contexts = r.contexts; resources = r.resources.items; lanes = r.lanes; cut = r.cut; at = r.at; units = r.units; bodies = r.bodies } };
+    ghost view = { λ r. record { program = r.checked; trees = r.fibers; hooks = r.hooks; contexts = r.contexts; resources = r.resources.items; lanes = r.lanes; cut = r.cut; ways = r.ways; at = r.at; units = r.units; bodies = r.bodies } };
 
-    ghost invariant = { λ r. IsRendering (record { program = r.checked; trees = r.fibers; hooks = r.hooks; contexts = r.contexts; resources = r.resources.items; lanes = r.lanes; cut = r.cut; at = r.at; units = r.units; bodies = r.bodies }) };
+    ghost invariant = { λ r. IsRendering (record { program = r.checked; trees = r.fibers; hooks = r.hooks; contexts = r.contexts; resources = r.resources.items; lanes = r.lanes; cut = r.cut; ways = r.ways; at = r.at; units = r.units; bodies = r.bodies }) };
 }
 
 // How many bodies were evaluated.
@@ -128,6 +133,7 @@ impl Renderer {
                 updates: 0,
                 resolutions: 0,
             },
+            ways: Ways::new(alloc),
             at: At::Over,
             units: 0,
             bodies: 0,
@@ -231,8 +237,23 @@ impl Renderer {
         self.at = At::Over;
     }
 
+    // The ways on which the next render may find a cause: `old` is the current tree as a plain one, and since the last render
+    // started updates were sent along these ways.
+    fn find_ways(&self, old: Option<&Node>, sent: &Ways) -> Result<Ways, AllocError>
+        requires numbered { IfNumbered (option_copied old) }
+        requires apart { (next : ℕ) × HasOwnNumbers next (option_copied old) }
+        ensures { IfOk result (λ w. (s : Sight) (tree : Option trees.Node) → s.cut.updates < 2 ^ 64 → GivesAll s tree (kept_hooks self.now.hooks)
+            → option_copied old.entry ≡ trimmed_if tree → CoversIf (is_way w) (IsIdleMark s) tree) }
+    {
+        match self.hooks.stirred() {
+            Some(stirred) => find_ways(self.alloc, old, stirred, &self.ways, sent),
+            None => Ok(Ways::everything(self.alloc)),
+        }
+    }
+
     /// Discards what is in progress, and starts a render with these lanes at this cut, which sees these values of the
-    /// resources, by their numbers: the next unit begins the root.
+    /// resources, by their numbers: the next unit begins the root. `old` is the current tree as a plain one, and since the
+    /// last render started updates were sent along these ways.
     ///
     /// # Errors
     ///
@@ -242,9 +263,11 @@ impl Renderer {
         lanes: Lanes,
         cut: Cut,
         resources: Vec<Option<Int>>,
+        old: Option<&Node>,
+        sent: &Ways,
     ) -> Result<(), AllocError>
-        requires { CanStart lanes cut resources.items self.old }
-        ensures started { OnOk result ((st : State) → IsStartOf st lanes cut resources.items self.old → Renders self.old.program st (starting st lanes) self.new) }
+        requires { CanStart lanes cut resources.items (option_copied old) self.old }
+        ensures started { OnOk result ((st : State) → IsStartOf st lanes cut resources.items (option_copied old.entry) self.old → Renders self.old.program st (starting st lanes) self.new) }
         ensures units { OnOk result (self.new.units ≡ 0) }
         ensures bodies { OnOk result (self.new.bodies ≡ 0) }
         ensures left { OnOk result (0 < left_of self.new) }
@@ -254,6 +277,7 @@ impl Renderer {
         ensures idle { OnErr result (IsIdle self.new) }
     {
         self.discard();
+        let ways = self.find_ways(old, sent)?;
         let defaults = default_contexts(self.alloc, &self.checked)?;
         let contexts = ContextStack::new(self.alloc, &defaults)?;
         let root = root_element(self.alloc, &self.checked)?;
@@ -266,6 +290,7 @@ impl Renderer {
         self.resources = resources;
         self.lanes = lanes;
         self.cut = cut;
+        self.ways = ways;
         self.at = At::Begins(id);
         self.units = 0;
         self.bodies = 0;
@@ -412,6 +437,7 @@ impl Renderer {
             resources: &self.resources,
             lanes: self.lanes,
             cut: self.cut,
+            ways: &self.ways,
         };
         let (next, evaluated) = advance(
             self.alloc,

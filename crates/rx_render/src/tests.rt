@@ -9,6 +9,7 @@ use rx_base::{Cut, Name, Steps};
 use rx_check::{Checked, check};
 use rx_lane::{Lane, Lanes};
 use rx_loop::{Driven, drive};
+use rx_ways::Ways;
 use std::alloc::{AllocError, Global};
 use std::marker::Brand;
 use std::sync::ledger::{Blank, Ledger};
@@ -43,7 +44,13 @@ fn first_render(alloc: Global, checked: Checked) -> Result<Renderer, AllocError>
         updates: 0,
         resolutions: 0,
     };
-    renderer.start(Lanes::one(Lane::Default), cut, Vec::new(alloc))?;
+    renderer.start(
+        Lanes::one(Lane::Default),
+        cut,
+        Vec::new(alloc),
+        None,
+        &Ways::new(alloc),
+    )?;
     renderer.facts();
     Ok(renderer)
 }

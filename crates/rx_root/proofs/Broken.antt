@@ -1,5 +1,5 @@
 -- What a root stands for where memory runs out within a turn.
-use Rattle.std.proofs.Common.{◌≡◌, ◌≢◌, inl, inr, ℕ, zero, suc, ◌+◌, ◌-◌, ◌<◌, ◌≤◌, true, List, [], ◌∷◌, ◌++◌, length, take, refl, sym, ap, ◌∙◌, subst, arith, add-zero, Option, Some, None}
+use Rattle.std.proofs.Common.{◌≡◌, ◌≢◌, inl, inr, ℕ, suc, ◌+◌, ◌-◌, ◌≤◌, true, List, ◌++◌, length, take, refl, sym, ap, ◌∙◌, subst, arith, Option, Some, None}
 use Rattle.std.specs.Prelude.{◌⊎◌, OnErr, OnOk, Result, Ok, Err}
 use Rattle.rx_ast.specs.Syntax.{Program}
 use Rattle.std.proofs.Math.Seq.{take-append_seam}
@@ -20,7 +20,7 @@ use Rattle.rx_model.specs.Stretch.{Stretch, silent, followed_by}
 use Rattle.rx_model.specs.Committing.{passive_run}
 use Rattle.rx_model.specs.HooksOf.{KeepsAllHooks}
 use Rattle.rx_model.specs.Turns.{Turn, choice_of}
-use Rattle.rx_model.specs.Laws.{IsReached, without_render}
+use Rattle.rx_model.specs.Laws.{without_render}
 use Rattle.rx_model.proofs.Reached.{discards-reach}
 use Rattle.rx_fiber.specs.Reading.{IsTreeOf}
 use Rattle.rx_hook_store.specs.Store.{Kept, kept_hooks}
@@ -33,8 +33,8 @@ use Rattle.rx_render.specs.Turning.{GoesOn, GivesUp, KeepsHooks}
 use Rattle.rx_render.specs.TurningLaws.{keeps_join}
 use Rattle.rx_root.specs.Rooted.{Rooted}
 use Rattle.rx_root.specs.Stands.{HasRoomFor, StandsBy, StandsButForRender, StandsWith, Stands}
-use Rattle.rx_root.specs.Turning.{Breaks, GaveUp, HasBroken, HasDone, HasRoomForTurns, KeepsShown, LeavesRoom, StandsAtEnd, Takes}
-use Rattle.rx_root.specs.Breaking.{BreaksOff, BreaksOffWithin, HasBegun, TurnBreaksOff, TurnsBreakOff}
+use Rattle.rx_root.specs.Turning.{Breaks, GaveUp, HasBroken, HasRoomForTurns, KeepsShown, LeavesRoom, Takes}
+use Rattle.rx_root.specs.Breaking.{BreaksOff, BreaksOffWithin, HasBegun, TurnBreaksOff}
 use Rattle.rx_root.proofs.TurnLines.{with_none, with_both}
 use Rattle.rx_root.proofs.TurnReached.{reached_passive}
 use Rattle.rx_root.proofs.TurnRoom.{Grows, room_after}

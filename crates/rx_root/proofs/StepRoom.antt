@@ -1,6 +1,5 @@
 -- The room that a step of rendering needs and leaves, once the event before it has ended.
-use Rattle.std.proofs.Common.{◌≡◌, ℕ, suc, ◌+◌, ◌-◌, ◌*◌, ◌<◌, ◌≤◌, ◌^◌, None, refl, sym, ap, ◌∙◌, subst, arith}
-use Rattle.rx_rules.specs.Bounds.{node_limit}
+use Rattle.std.proofs.Common.{◌≡◌, ℕ, suc, ◌+◌, ◌-◌, ◌*◌, ◌≤◌, None, refl, sym, subst, arith}
 use Rattle.rx_ast.specs.Syntax.{Program}
 use Rattle.rx_model.specs.State.{State}
 use Rattle.rx_model.specs.Accepting.{between_events}

@@ -122,17 +122,24 @@ impl Root {
         self.shown.write_tree(log)
     }
 
-    // The hook that a dispatch is for, and what the dispatch does to it, if its path leads to an instance.
-    fn target(&self, dispatch: &Dispatch) -> Option<Sent>
-        requires { (s : State) × Stands self.now.rendering.program s self.now }
-        ensures { (s : State) → Stands self.entry.now.rendering.program s self.entry.now → CanTake self.entry.now.rendering.program (step.Dispatch dispatch.now)
-            → IsTargetOf self.entry.now.rendering.program s dispatch.now result }
+    // The hook that a dispatch is for, and what the dispatch does to it, if its path leads to an instance. Notes the instances
+    // on the path.
+    fn target(&mut self, dispatch: &Dispatch) -> Option<Sent>
+        requires { (s : State) × Stands self.old.rendering.program s self.old }
+        ensures target { (s : State) → Stands self.old.rendering.program s self.old → CanTake self.old.rendering.program (step.Dispatch dispatch.now)
+            → IsTargetOf self.old.rendering.program s dispatch.now result }
+        ensures same { self.new ≡ self.old }
     {
         ends_are_not_read();
         self.renderer.facts();
         let checked = self.renderer.checked();
         checked.program();
-        let found = find_instance(checked, self.shown.tree(), dispatch_path(dispatch))?;
+        let found = find_instance(
+            checked,
+            self.shown.tree(),
+            dispatch_path(dispatch),
+            &mut self.sent,
+        )?;
         Some(Sent {
             instance: found.number,
             place: hook_place(checked, found.component, dispatch_hook(dispatch)),

@@ -29,6 +29,7 @@ use rx_render::Renderer;
 use rx_report::Report;
 use rx_sched::RootLanes;
 use rx_spots as spots;
+use rx_ways::Ways;
 use std::alloc::{AllocError, Global};
 use std::marker::Model;
 
@@ -52,6 +53,8 @@ pub struct Root {
     pub(crate) numbers: Numbers,
     // The lanes of the updates since the render in progress began.
     pub(crate) later: Lanes,
+    // The instances to which updates were sent since then, and those above them.
+    pub(crate) sent: Ways,
 }
 
 impl Model for Root {
@@ -109,6 +112,7 @@ impl Root {
                 host: 1,
             },
             later: Lanes::none(),
+            sent: Ways::new(alloc),
         })
     }
 

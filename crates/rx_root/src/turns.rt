@@ -46,6 +46,7 @@ use rx_pruned::Beside;
 use rx_report::Report;
 use rx_sched::Choice;
 use rx_spots::awaited;
+use rx_ways::Ways;
 use std::alloc::{AllocError, Global};
 use std::sync::ledger::Ledger;
 
@@ -155,8 +156,10 @@ impl Root {
             updates: self.updates,
             resolutions: self.resolutions,
         };
-        self.renderer.start(lanes, cut, values)?;
+        self.renderer
+            .start(lanes, cut, values, self.shown.tree(), &self.sent)?;
         self.later = Lanes::none();
+        self.sent = Ways::new(self.alloc);
         Ok(())
     }
 

@@ -2,6 +2,7 @@ use Rattle.std.proofs.Common.{◌≡◌, sym, ap, refl, ◌∙◌, subst}
 use Rattle.rx_begin.specs.PartsView.{parts_seen}
 use Rattle.rx_elem.specs.Trees.{instance_in}
 use Rattle.rx_links.specs.Drafts.{old_of}
+use Rattle.rx_ways.specs.Ways.{is_way}
 use Rattle.rx_hook_store.specs.Store.{kept_hooks}
 use Rattle.rx_rules.specs.Names.{component_at}
 use Rattle.rx_meaning.specs.Fresh.{shape_of_component}
@@ -37,7 +38,7 @@ returns-in-Some-clause-begun g c =
     if_ok c.begin_component.result _ _
     (λ b has s is.
     begins_body s _ c.args.tree.now c.args.contexts.now c.begin_component.new.tree _ c.args.at c.facts.ensures.linked c.place_facts.ensures c.value-fiber.result.now c.in_ok-element.element
-    (c.value-fiber.ensures.made (made_at _ _ _ _ _ c.place_facts.ensures c.requires.place)) (c.in_ok-element.ensures ∙ c.element.ensures) b.0 c.in-Some.parts.component c.in-Some.parts.props.now
+    (c.value-fiber.ensures.made (made_at _ _ _ _ _ c.place_facts.ensures c.requires.place)) (c.in_ok-element.ensures ∙ c.element.ensures) b.0 (is_way c.args.scene.now.ways.now) c.in-Some.parts.component c.in-Some.parts.props.now
     c.in-Some.parts.children.now c.values.result.now (sym c.parts_of.ensures ∙ ap (option_map parts_seen) c.in-Some.is) c.values.ensures refl
     (λ old key kids was gives settled stood same.
     subst (λ cloned. HasShape cloned (shape_of_component s c.values.result.now c.in-Some.parts.component c.in-Some.parts.props.now kids old (component_at s.program c.in-Some.parts.component))
@@ -68,7 +69,7 @@ pub returns-clause-begun : goal.returns-clause-begun
 returns-clause-begun g c s is =
     begins_other s _ c.args.tree.now c.args.contexts.now c.begin_or_hide.new.tree c.begin_or_hide.new.contexts c.args.at c.facts.ensures.linked c.place_facts.ensures c.value-fiber.result.now c.in_ok-element.element
     (c.value-fiber.ensures.made (made_at _ _ _ _ _ c.place_facts.ensures c.requires.place)) (c.in_ok-element.ensures ∙ c.element.ensures) c.in_ok-begun-in-None.begun
-    c.args.scene.now c.is_cloned-cloned.result is c.is_cloned-cloned.ensures
+    (is_way c.args.scene.now.ways.now) c.args.scene.now c.is_cloned-cloned.result is c.is_cloned-cloned.ensures
     (place_there c.args.scene.now.checked.now _ c.args.tree.now c.args.contexts.now c.args.at c.place_facts.ensures c.requires.place c.value-fiber.result.now c.in_ok-element.element
     (c.value-fiber.ensures.made (made_at _ _ _ _ _ c.place_facts.ensures c.requires.place)) (c.in_ok-element.ensures ∙ c.element.ensures))
     (sym c.parts_of.ensures ∙ ap (option_map parts_seen) c.in-None.is) c.begin_or_hide.ensures.current c.in_ok-begun-in-None.ensures.begun
@@ -121,11 +122,11 @@ pub takes_over-requires-clause-kept : goal.takes_over-requires-clause-kept
 takes_over-requires-clause-kept g c = place_tree _ _ c.args.tree.now c.args.contexts.now c.args.at c.place_facts.ensures c.requires.place
 
 pub returns-then-takes_over-clause-begun : goal.returns-then-takes_over-clause-begun
-returns-then-takes_over-clause-begun g c s is n fs cs e old at gives settled =
+returns-then-takes_over-clause-begun g c s is n fs cs e old at gives settled covers =
     taken_over s (kept_hooks c.args.hooks.now) c.args.tree.now c.args.contexts.now c.take_node.new.tree c.args.contexts.now c.args.at n fs cs e old c.facts.ensures.linked c.place_facts.ensures at
     c.value-fiber.result.now c.is_cloned-cloned.result (c.value-fiber.ensures.made (made_at _ _ _ _ _ c.place_facts.ensures c.requires.place)) c.is_cloned-cloned.ensures
-    (c.takes_over.ensures.cloned c.if-takes_over.true) c.in_ok-take_node.ensures.taken c.take_node.ensures.current refl (c.takes_over.ensures.there c.if-takes_over.true)
-    (λ x was. c.takes_over.ensures.idle c.if-takes_over.true s x is was) gives
+    (c.takes_over.ensures.cloned c.if-takes_over.true) c.in_ok-take_node.ensures.taken c.take_node.ensures.current refl (is_way c.args.scene.now.ways.now) (c.takes_over.ensures.there c.if-takes_over.true)
+    (λ x was. c.takes_over.ensures.idle c.if-takes_over.true s x is was) gives covers
 
 pub returns-then-takes_over-clause-anew : goal.returns-then-takes_over-clause-anew
 returns-then-takes_over-clause-anew g c v here some fresh =

@@ -1,13 +1,18 @@
 use Rattle.std.specs.Prelude.{option_and_then}
-use Rattle.std.proofs.Common.{sym, subst, inr, arith, IfSome}
+use Rattle.std.proofs.Common.{◌≡◌, true, false, refl, sym, ap, ◌∙◌, subst, inl, inr, arith, IfSome}
+use Rattle.rx_lists.specs.Shapes.{Holds, first}
+use Rattle.rx_links.specs.Drafts.{kids_of}
 use Rattle.rx_elem.specs.Trees.{instance_in}
-use Rattle.rx_lists.specs.Shapes.{Holds}
+use Rattle.rx_ways.specs.Ways.{is_way}
 use Rattle.rx_hook_store.specs.Store.{kept_hooks}
 use Rattle.rx_fiber.proofs.OldReads.{some_held, rest_held}
 use Rattle.rx_begin.specs.Scenes.{KeepsHooks}
+use Rattle.rx_begin.specs.Marks.{is_spared}
+use Rattle.rx_begin.specs.Nodes.{begun_mark}
 use Rattle.rx_begin.specs.Idle.{HasCauseAt, HasNoCauseAt}
-use Rattle.rx_begin.proofs.Walks.{stage_here, each_parts, each_joins, some_joins, behind_smaller}
+use Rattle.rx_begin.proofs.Walks.{stage_here, each_parts, but_joins, some_joins, behind_smaller}
 use Rattle.rx_begin.proofs.idle.+any_cause.Goals as goal
+use Rattle.rx_begin.proofs.idle.+any_cause.Goals.{else-not-is_spared-via-then-not-is_spared+else-any_cause, then-has_cause, else-has_cause, else-not-is_spared-via-else-not-is_spared}
 
 pub walking-preserved : goal.walking-preserved
 walking-preserved t c =
@@ -17,22 +22,35 @@ walking-preserved t c =
     let held = some_held trees c.walking.next i c.walking.invariant.held c.in-Some.is in
     let v = c.value.result.now in
     let here = c.value.ensures.current held in
-    let child = c.first_child.result in
-    let child_is = c.first_child.ensures.current held in
+    let child = first (kids_of trees i) in
     let behind = c.next_sibling-next.result in
     let behind_is = c.next_sibling-next.ensures.current held in
     let next = c.walking.next in
-    let smaller = behind_smaller trees linked i held v here child child_is behind behind_is next c.in-Some.is in
+    let smaller = behind_smaller trees linked i held v here child refl behind behind_is next c.in-Some.is in
     let Free = HasNoCauseAt (kept_hooks c.args.hooks.now) c.args.scene.now.lanes c.args.scene.now.cut in
+    let way = is_way c.args.scene.now.ways.now in
     record {
       held = subst (λ o. IfSome o (Holds trees)) (sym behind_is) (rest_held trees linked i held);
-      kept = (each_parts trees linked i held v here child child_is behind behind_is next c.in-Some.is (λ m. KeepsHooks (kept_hooks c.args.hooks.now) (option_and_then instance_in m)) c.walking.invariant.kept).2;
+      kept = (each_parts trees linked i held v here child refl behind behind_is next c.in-Some.is (λ m. KeepsHooks (kept_hooks c.args.hooks.now) (option_and_then instance_in m)) c.walking.invariant.kept).2;
       none = λ rest.
           c.walking.invariant.none
-          (each_joins trees linked i held v here child child_is behind behind_is next c.in-Some.is Free
-          (stage_here trees linked i held v here child child_is behind behind_is next c.in-Some.is Free _ c.stage.ensures (c.has_cause.ensures.none c.if-has_cause.false)) (c.any_cause.ensures.none c.if-any_cause.false) rest);
+          (elim c.else-not-is_spared.branch [
+            | else-not-is_spared-via-then-not-is_spared+else-any_cause w ↦ elim w.if-has_cause.branch [
+              | then-has_cause u ↦ absurd (let q : true ≡ false = sym u.if-has_cause.true ∙ (sym u.value-is ∙ w.if-any_cause.false) in let r : ⊥ = cc in r)
+              | else-has_cause u ↦
+                  but_joins trees linked i held v here u.first_child.result (u.first_child.ensures.current held) behind behind_is next c.in-Some.is way Free
+                  (inr (
+                    stage_here trees linked i held v here child refl behind behind_is next c.in-Some.is Free _ c.stage-stage.ensures (w.has_cause.ensures.none u.if-has_cause.false),
+                    u.any_cause.ensures.none (sym u.value-is ∙ w.if-any_cause.false),
+                  ))
+                  rest
+            ]
+            | else-not-is_spared-via-else-not-is_spared w ↦
+                but_joins trees linked i held v here child refl behind behind_is next c.in-Some.is way Free
+                (inl (ap (λ s. is_spared way (begun_mark s)) (sym c.stage-stage.ensures) ∙ (sym c.is_spared.ensures ∙ w.if-not-is_spared.false))) rest
+          ]);
       some = λ rest.
           c.walking.invariant.some
-          (some_joins trees linked i held v here child child_is behind behind_is next c.in-Some.is (HasCauseAt (kept_hooks c.args.hooks.now) c.args.scene.now.lanes c.args.scene.now.cut) (inr (inr rest)));
+          (some_joins trees linked i held v here child refl behind behind_is next c.in-Some.is (HasCauseAt (kept_hooks c.args.hooks.now) c.args.scene.now.lanes c.args.scene.now.cut) (inr (inr rest)));
       within = omega (arith, c.walking.invariant.within, smaller);
     }

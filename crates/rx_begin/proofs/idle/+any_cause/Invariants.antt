@@ -1,9 +1,10 @@
 use Rattle.std.proofs.Common.{◌≤◌, IfSome}
 use Rattle.rx_lists.specs.Shapes.{Holds, size}
 use Rattle.rx_links.specs.Readers.{list_from}
+use Rattle.rx_ways.specs.Ways.{is_way}
 use Rattle.rx_hook_store.specs.Store.{kept_hooks}
 use Rattle.rx_begin.specs.Scenes.{KeepsHooks}
-use Rattle.rx_begin.specs.Marks.{EachFiber, SomeFiber}
+use Rattle.rx_begin.specs.Marks.{EachFiberBut, SomeFiber}
 use Rattle.rx_begin.specs.Hidden.{ForEachFiber}
 use Rattle.rx_begin.specs.Idle.{HasCauseAt, HasNoCauseAt}
 use Rattle.rx_begin.proofs.idle.+any_cause.Given as goal
@@ -16,8 +17,8 @@ abbrev pub invariant-walking : goal.invariant-walking
 invariant-walking l = record {
   held : IfSome l.next (Holds l.tree.current);
   kept : ForEachFiber (KeepsHooks (kept_hooks l.hooks)) (list_from l.tree.current l.next);
-  none : EachFiber (HasNoCauseAt (kept_hooks l.hooks) l.scene.lanes l.scene.cut) (list_from l.tree.current l.next)
-      → EachFiber (HasNoCauseAt (kept_hooks l.hooks) l.scene.lanes l.scene.cut) (list_from l.tree.current l.initial.next);
+  none : EachFiberBut (is_way l.scene.ways.now) (HasNoCauseAt (kept_hooks l.hooks) l.scene.lanes l.scene.cut) (list_from l.tree.current l.next)
+      → EachFiberBut (is_way l.scene.ways.now) (HasNoCauseAt (kept_hooks l.hooks) l.scene.lanes l.scene.cut) (list_from l.tree.current l.initial.next);
   some : SomeFiber (HasCauseAt (kept_hooks l.hooks) l.scene.lanes l.scene.cut) (list_from l.tree.current l.next)
       → SomeFiber (HasCauseAt (kept_hooks l.hooks) l.scene.lanes l.scene.cut) (list_from l.tree.current l.initial.next);
   within : size (list_from l.tree.current l.next) ≤ size (list_from l.tree.current l.initial.next);

@@ -5,6 +5,7 @@ use Rattle.rx_links.specs.Drafts.{kids_of}
 use Rattle.rx_links.specs.Readers.{list_from, rest_of}
 use Rattle.rx_fiber.proofs.OldPlaces.{list_here}
 use Rattle.rx_fiber.proofs.OldReads.{some_held}
+use Rattle.rx_ways.specs.Ways.{is_way}
 use Rattle.rx_hook_store.specs.Store.{kept_hooks}
 use Rattle.rx_begin.specs.Nodes.{begun_mark, mark_at}
 use Rattle.rx_begin.specs.Scenes.{KeepsHooks}
@@ -54,7 +55,7 @@ returns-then-not-has_cause-clause-shown c free =
     ]
 
 pub returns-then-not-has_cause-clause-idle : goal.returns-then-not-has_cause-clause-idle
-returns-then-not-has_cause-clause-idle c free s x is was gives =
+returns-then-not-has_cause-clause-idle c free s x is was gives covers =
     let trees = c.args.tree.now.current in
     let i = c.in-Some.id in
     let held = some_held trees c.args.old i c.requires.held c.in-Some.is in
@@ -64,10 +65,10 @@ returns-then-not-has_cause-clause-idle c free s x is was gives =
       | then-not-is_anew w ↦
           tree_idle trees c.args.old i c.in-Some.is v (list_from trees c.first_child.result) (list_from trees behind)
           (list_at_links trees c.facts.ensures.linked i held v (c.value.ensures.current held) c.first_child.result (c.first_child.ensures.current held) behind refl)
-          (kept_hooks c.args.hooks.now) c.args.scene.now.lanes c.args.scene.now.cut x was
+          (kept_hooks c.args.hooks.now) c.args.scene.now.lanes c.args.scene.now.cut x was (is_way c.args.scene.now.ways.now)
           (subst (λ stage. HasNoCauseAt (kept_hooks c.args.hooks.now) c.args.scene.now.lanes c.args.scene.now.cut (begun_mark stage)) c.stage-stage.ensures
           (w.has_cause.ensures.none (shown_again w.has_cause.result (sym w.value-is ∙ c.if-not-has_cause.true))))
-          (c.any_cause.ensures.none (shown_again c.any_cause.result free)) s is.lanes is.cut gives
+          (c.any_cause.ensures.none (shown_again c.any_cause.result free)) s is.lanes is.cut gives covers
       | else-not-is_anew w ↦ absurd (let q : true ≡ false = sym w.if-not-is_anew.false ∙ shown_again c.is_anew.result (sym w.value-is ∙ c.if-not-has_cause.true) in let r : ⊥ = cc in r)
     ]
 

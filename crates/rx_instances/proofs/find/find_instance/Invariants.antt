@@ -1,8 +1,8 @@
-use Rattle.std.proofs.Common.{◌≡◌, drop}
+use Rattle.std.proofs.Common.{◌+◌}
 use Rattle.std.specs.Option.{option_copied}
-use Rattle.rx_instances.proofs.Led.{led, led_from}
+use Rattle.rx_instances.proofs.Walked.{Walked}
 use Rattle.rx_instances.proofs.find.find_instance.Given as goal
 
--- what is left of the path leads on from the node that was found to what the path leads to
+-- the first part and so many further ones were walked, to the node that was found
 abbrev pub invariant-walking : goal.invariant-walking
-invariant-walking l = led l.checked (option_copied l.tree) l.path ≡ led_from l.checked l.found (drop l.part-index l.rest)
+invariant-walking l = Walked l.checked (option_copied l.tree) l.path (l.part-index + 1) l.found l.fn.sent l.sent

@@ -1,4 +1,11 @@
+use Rattle.std.proofs.Common.{sym, subst}
+use Rattle.rx_ast.specs.Syntax.{Program}
+use Rattle.rx_model.specs.State.{opening}
+use Rattle.rx_root.specs.Stands.{Stands}
 use Rattle.rx_top.proofs.summary.summarize_accepted.Goals as goal
+
+pub run_and_sum_up-requires-clause-stands : goal.run_and_sum_up-requires-clause-stands
+run_and_sum_up-requires-clause-stands g c = subst (λ (p : Program). Stands p opening c.in-Ok.root) (sym c.in-Ok.ensures.program) c.in-Ok.ensures.stands
 
 pub returns-in-Ok : goal.returns-in-Ok
 returns-in-Ok g c = rw c.in-Ok.ensures.program at c.run_and_sum_up.ensures

@@ -10,7 +10,7 @@ use Rattle.rx_render.proofs.renderer.Renderer.try_unit.Goals as goal
 pub advance-requires : goal.advance-requires
 advance-requires g c =
     inside_ready c.args.self.now (the_view c.self.inside) c.self.view_is c.self.invariant c.requires c.cursors_are_drawn.ensures.place _
-    (λ s sees. record { program = sees.program; resources = c.deref.ensures.value ∙ sees.resources; lanes = sees.lanes; cut = sees.cut }) refl
+    (λ s sees. record { program = sees.program; resources = c.deref.ensures.value ∙ sees.resources; lanes = sees.lanes; cut = sees.cut }) refl refl
 
 pub invariant_of-self : goal.invariant_of-self
 invariant_of-self g c = over_rendering (the_view c.self.inside) _ c.self.invariant refl refl

@@ -1,4 +1,4 @@
-use Rattle.std.proofs.Common.{◌≡◌, refl, ap, ◌∙◌, arith}
+use Rattle.std.proofs.Common.{refl, arith}
 use Rattle.rx_model.specs.Accepting.{between_events}
 use Rattle.rx_model.specs.Machine.{flush_limit}
 use Rattle.rx_begin.proofs.Begins.{on_ok}

@@ -1,6 +1,5 @@
-use Rattle.std.proofs.Common.{◌≡◌, refl, ap, ◌∙◌, arith}
+use Rattle.std.proofs.Common.{refl, arith}
 use Rattle.rx_model.specs.Accepting.{between_events}
-use Rattle.rx_model.specs.Machine.{flush_limit}
 use Rattle.rx_begin.proofs.Begins.{on_ok}
 use Rattle.rx_root.proofs.Broken.{on_err}
 use Rattle.rx_root.proofs.StepRoom.{after_event, room_for_turns, room_left, stands_between}

@@ -7,7 +7,6 @@ use Rattle.rx_ast.specs.Syntax.{Program}
 use Rattle.rx_base.specs.Values.{Name}
 use Rattle.rx_check.specs.Accepted.{IsAccepted}
 use Rattle.rx_elem.specs.Spots.{Mounted}
-use Rattle.rx_elem.specs.Trees.{Node}
 use Rattle.rx_meaning.specs.Settled.{HasOwnNumbers}
 use Rattle.rx_rules.specs.Names.{has_name}
 use Rattle.rx_step.specs.Steps.{hook_name, path_of}
@@ -35,8 +34,8 @@ find_instance-requires c =
       apart = (s.numbers.instance, subst (HasOwnNumbers s.numbers.instance) (sym tree) numbered.1);
     }
 
-pub returns-in_err-found : goal.returns-in_err-found
-returns-in_err-found c s h can =
+pub returns-in_err-found-clause-target : goal.returns-in_err-found-clause-target
+returns-in_err-found-clause-target c s h can =
     let v = c.args.self.now in
     let p = v.rendering.program in
     let d = c.args.dispatch.now in
@@ -44,10 +43,10 @@ returns-in_err-found c s h can =
     let tree : option_copied c.tree.result ≡ trimmed_if s.tree = c.tree.ensures ∙ ap (λ (r : Rooted). r.shown.tree) c.self.view_is ∙ h.shows.tree_is in
     let same : instance_found c.checked-checked.result.now (option_copied c.tree.result) c.dispatch_path.result.now ≡ instance_found p s.tree (path_of d) =
     (λ i. instance_found (program i) (tree i) (c.dispatch_path.ensures i)) ∙ ap (λ (ms : List Mounted). find_from p ms None (path_of d)) (c.ends_are_not_read.ensures.mounted s.tree) in
-    subst (IsTargetOf p s d) (sym c.from_residual.ensures) (found_none (instance_found p s.tree (path_of d)) (c.in_err-found.ensures ∙ ap (option_map found_as) same))
+    subst (IsTargetOf p s d) (sym c.from_residual.ensures) (found_none (instance_found p s.tree (path_of d)) (c.in_err-found.ensures.found ∙ ap (option_map found_as) same))
 
-pub returns : goal.returns
-returns c s h can =
+pub returns-clause-target : goal.returns-clause-target
+returns-clause-target c s h can =
     let v = c.args.self.now in
     let p = v.rendering.program in
     let d = c.args.dispatch.now in
@@ -57,7 +56,7 @@ returns c s h can =
     let tree : option_copied c.tree.result ≡ trimmed_if s.tree = c.tree.ensures ∙ ap (λ (r : Rooted). r.shown.tree) c.self.view_is ∙ h.shows.tree_is in
     let same : instance_found c.checked-checked.result.now (option_copied c.tree.result) c.dispatch_path.result.now ≡ instance_found p s.tree (path_of d) =
     (λ i. instance_found (program i) (tree i) (c.dispatch_path.ensures i)) ∙ ap (λ (ms : List Mounted). find_from p ms None (path_of d)) (c.ends_are_not_read.ensures.mounted s.tree) in
-    let one = found_one (instance_found p s.tree (path_of d)) f (c.in_ok-found.ensures ∙ ap (option_map found_as) same) in
+    let one = found_one (instance_found p s.tree (path_of d)) f (c.in_ok-found.ensures.found ∙ ap (option_map found_as) same) in
     let m : Mounted = one.0 in
     let component : f.component ≡ m.component = one.3 in
     let place : c.hook_place.result ≡ hook_number p m.component (hook_name d) =
