@@ -8,8 +8,6 @@ use Rattle.std.proofs.lemmas.Option.{none-some, same_Some, slice_get-get_or, sli
 use Rattle.std.proofs.lemmas.List.{append-nil}
 use Rattle.rx_elem.specs.Elements.{Element, kind_of, same_kind, key_of}
 use Rattle.rx_elem.specs.Identity.{Identity, at_key, at_index, same_identity, identity_after, identities_after, identities, Child, identified, is_same_child}
-use Rattle.rx_keys.specs.declared.identity.Identity as code
-use Rattle.rx_keys.specs.IdentityView.{identity_seen}
 use Rattle.rx_keys.specs.Found.{found_from, found_in}
 use Rattle.rx_keys.proofs.Distinct.{same_identity_is, same_identity_self, both, identity_at, children_distinct, position_is_the_one}
 
@@ -159,7 +157,7 @@ abbrev pub place_of : (old : List Element) → Child → Option ℕ
 place_of old c = position (is_same_child c) (identified old)
 
 -- what a child's identity is by the siblings before it
-identity-there : (earlier es : List Element) (k : ℕ) (e : Element) → slice_get es k ≡ Some e
+pub identity-there : (earlier es : List Element) (k : ℕ) (e : Element) → slice_get es k ≡ Some e
     → slice_get (identities_after earlier es) k ≡ Some (identity_after (earlier ++ take k es) (key_of e))
 identity-there earlier [] k e h = absurd (none-some e h)
 identity-there earlier (x ∷ es) zero e h =
@@ -169,11 +167,11 @@ identity-there earlier (x ∷ es) (suc k) e h =
     identity-there (earlier ++ x ∷ []) es k e h ∙ ap (λ (zs : List Element). Some (identity_after zs (key_of e))) (append_assoc earlier (x ∷ []) (take k es))
 
 -- one child more
-pub more_places : (old new : List Element) (k : ℕ) (id : code.Identity) (e : Element) (all places after : List (Option ℕ)) (r : Option ℕ)
+pub more_places : (old new : List Element) (k : ℕ) (id : Identity) (e : Element) (all places after : List (Option ℕ)) (r : Option ℕ)
     → k < length new → e ≡ get_or new k e
     → all ≡ places ++ map (place_of old) (drop k (identified new))
-    → identity_seen id ≡ identity_after (take k new) (key_of e)
-    → r ≡ place_of old (record { identity = identity_seen id; element = e })
+    → id ≡ identity_after (take k new) (key_of e)
+    → r ≡ place_of old (record { identity = id; element = e })
     → after ≡ places ++ r ∷ []
     → all ≡ after ++ map (place_of old) (drop (k + 1) (identified new))
 more_places old new k id e all places after r ln ee so_far known one pushed =
@@ -186,8 +184,8 @@ more_places old new k id e all places after r ln ee so_far known one pushed =
     there : slice_get new k ≡ Some e
     there = slice_get-get_or new k e ln ∙ ap Some (sym ee)
 
-    ahead : drop k (identified new) ≡ record { identity = identity_seen id; element = e } ∷ drop (k + 1) (identified new)
-    ahead = rw add-one (children-more (identities new) new k (identity_seen id) e (identity-there [] new k e there ∙ ap Some (sym known)) there)
+    ahead : drop k (identified new) ≡ record { identity = id; element = e } ∷ drop (k + 1) (identified new)
+    ahead = rw add-one (children-more (identities new) new k id e (identity-there [] new k e there ∙ ap Some (sym known)) there)
 
 pub drop-end : {A : Type 0} (xs : List A) (k : ℕ) → length xs ≤ k → drop k xs ≡ []
 drop-end [] zero h = refl

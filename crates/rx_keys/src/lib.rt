@@ -1,6 +1,7 @@
 //! Which children of a list are those of before, and which moved.
 #![tactic(auto)]
 
+mod aligned;
 mod identity;
 mod known;
 mod matching;

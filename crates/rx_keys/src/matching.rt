@@ -5,6 +5,7 @@ ghost use Rattle.rx_elem.specs.Elements.{is_present};
 ghost use Rattle.rx_elem.specs.Identity.{is_reused, moves, old_places, removed_places};
 ghost use Rattle.rx_keys.specs.Found.{gone_places, moves_below};
 
+use crate::aligned::{have_same_keys, places_beside};
 use crate::known::Known;
 use rx_elem::Element;
 use std::alloc::{AllocError, Global};
@@ -100,6 +101,23 @@ fn removed_of(
     Ok(removed)
 }
 
+// For each new child the place of the old child that it is, if it is one: where the keys are the same, without a table.
+fn places_of(
+    alloc: Global,
+    old: &[Element],
+    new: &[Element],
+) -> Result<Vec<Option<u32>>, AllocError>
+    requires few_old { length old.now < 2 ^ 32 }
+    requires few_new { length new.now < 2 ^ 32 }
+    ensures { IfOk result (λ places. places.items ≡ old_places old.now new.now) }
+{
+    if have_same_keys(old, new) {
+        return places_beside(alloc, old, new);
+    }
+    let known = Known::new(alloc, old)?;
+    known.places_of(alloc, new)
+}
+
 /// Which of the new children is which old one, which of them moved, and which old ones are gone (react.dev, Preserving and
 /// Resetting State), in time in proportion to both lists.
 ///
@@ -117,8 +135,7 @@ pub fn match_children(
     ensures moved { IfOk result (λ m. m.moved.items ≡ moves (old_places old.now new.now)) }
     ensures removed { IfOk result (λ m. m.removed.items ≡ removed_places old.now new.now) }
 {
-    let known = Known::new(alloc, old)?;
-    let places = known.places_of(alloc, new)?;
+    let places = places_of(alloc, old, new)?;
     let moved = moves_of(alloc, &places)?;
     let removed = removed_of(alloc, old, &places)?;
     Ok(Matching {
