@@ -20,21 +20,22 @@ use Rattle.rx_meaning.specs.Settled.{IfSettled, known_by}
 use Rattle.rx_fiber.specs.Reading.{IsOld}
 use Rattle.rx_fiber.specs.Standing.{StandsAt}
 use Rattle.draw_laws.specs.Drawn.{IsDrawn}
-use Rattle.rx_begin.specs.Nodes.{IsBareAt, mark_at, parts_in, begun_stage, begun_children, begun_stack, given_context}
-use Rattle.rx_begin.specs.Scenes.{GivesHooks, IsSceneOf, number_in}
-use Rattle.rx_begin.specs.declared.scene.Scene.{Scene}
-use Rattle.rx_begin.specs.Hidden.{KeepsOld}
+use Rattle.rx_causes.specs.declared.scene.Scene.{Scene}
+use Rattle.rx_causes.specs.Marks.{mark_at}
+use Rattle.rx_causes.specs.Scenes.{GivesHooks, IsSceneOf, number_in}
+use Rattle.rx_causes.specs.Hidden.{KeepsOld}
+use Rattle.rx_causes.specs.Idle.{KeepsTree}
+use Rattle.rx_causes.proofs.Marks.{old_instance_is}
+use Rattle.rx_begin.specs.Nodes.{IsBareAt, parts_in, begun_stage, begun_children, begun_stack, given_context}
 use Rattle.rx_begin.specs.Others.{HasBegunOther}
 use Rattle.rx_begin.specs.Others as others
 use Rattle.rx_begin.proofs.Hiding.{own_keeps, own_gives, kids_keep, hidden_again}
 use Rattle.rx_begin.specs.Bodies.{StoodIn, HasShape}
-use Rattle.rx_begin.specs.Idle.{KeepsTree}
 use Rattle.rx_begin.specs.Beginning.{IsAtPlace, stands, HasBegun, BeginsPlace}
 use Rattle.rx_begin.specs.declared.node.Begun.{Begun}
 use Rattle.rx_begin.proofs.Lists.{same_parts}
 use Rattle.rx_begin.proofs.Making.{KnowsPlaces}
 use Rattle.rx_begin.proofs.Nodes.{bare_made}
-use Rattle.rx_begin.proofs.Marks.{old_instance_is}
 use Rattle.rx_begin.proofs.Bodies.{kept_if}
 use Rattle.rx_begin.proofs.ByElement.{element_at, old_at, bare_at, Opens, from_matched, from_clones, other_begun, body_begun}
 use Rattle.rx_begin.proofs.Keeping.{clone_stood, old_no_null, kept_children}

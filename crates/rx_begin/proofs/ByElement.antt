@@ -27,13 +27,14 @@ use Rattle.rx_fiber.specs.Surround.{given_along, AreNext, fallback_in, is_bounda
 use Rattle.rx_fiber.proofs.OldLists.{primary_is}
 use Rattle.rx_fiber.specs.Standing.{IsStack, opened, StandsAt, begins}
 use Rattle.rx_fiber.proofs.Stacking.{pushed, unchanged}
-use Rattle.rx_begin.specs.Nodes.{IsBareAt, HasOpened, mark_at, keeps_children, parts_in, begun_stage, begun_children, begun_stack}
+use Rattle.rx_causes.specs.Marks.{mark_at, keeps_children}
+use Rattle.rx_causes.proofs.Marks.{old_host_is}
+use Rattle.rx_begin.specs.Nodes.{IsBareAt, HasOpened, parts_in, begun_stage, begun_children, begun_stack}
 use Rattle.rx_begin.specs.Bodies.{HasShape, waits, opens, keeps}
 use Rattle.rx_begin.specs.Beginning.{HasBegun}
 use Rattle.rx_begin.specs.declared.node.Begun.{Begun}
 use Rattle.rx_begin.proofs.Lists.{same_parts}
 use Rattle.rx_begin.proofs.Making.{KnowsPlaces}
-use Rattle.rx_begin.proofs.Marks.{old_host_is}
 use Rattle.rx_begin.proofs.Starts.{nexts, olds_of, begun_one, begun_trying, begun_waiting}
 use Rattle.rx_begin.proofs.Cloning.{kept_next}
 use Rattle.rx_begin.proofs.Waiting.{new_wait, clones_wait}

@@ -25,19 +25,20 @@ use Rattle.rx_fiber.specs.Surround.{IsElementOf, IsAround, given_along, fallback
 use Rattle.rx_fiber.specs.Standing.{StandsAt, begins}
 use Rattle.rx_fiber.specs.Unwound.{IsLeftAt}
 use Rattle.rx_fiber.specs.OldLists.{primary_list, matched, old_elements, old_fibers}
-use Rattle.rx_begin.specs.Nodes.{HasOpened, mark_at, keeps_children, begun_stage, begun_children, begun_stack}
-use Rattle.rx_begin.specs.Scenes.{KeepsHooks, GivesHooks}
-use Rattle.rx_begin.specs.declared.scene.Scene.{Scene}
+use Rattle.rx_causes.specs.declared.scene.Scene.{Scene}
+use Rattle.rx_causes.specs.Marks.{mark_at, keeps_children}
+use Rattle.rx_causes.specs.Scenes.{KeepsHooks, GivesHooks}
+use Rattle.rx_causes.specs.Hidden.{KeepsHooksIn, GivesHooksIn, WaitsStill, KeepsHooksIf, GivesHooksIf}
+use Rattle.rx_causes.proofs.Marks.{mark_is}
+use Rattle.rx_begin.specs.Nodes.{HasOpened, begun_stage, begun_children, begun_stack}
 use Rattle.rx_begin.specs.declared.node.Begun.{Begun}
 use Rattle.rx_begin.specs.Others.{HasBegunOther}
 use Rattle.rx_begin.specs.Others as others
 use Rattle.rx_begin.specs.Bodies.{StoodIn}
-use Rattle.rx_begin.specs.Hidden.{KeepsHooksIn, GivesHooksIn, WaitsStill}
-use Rattle.rx_begin.specs.Beginning.{KeepsHooksIf, GivesHooksIf, IsHiddenAgain}
+use Rattle.rx_begin.specs.Beginning.{IsHiddenAgain}
 use Rattle.rx_begin.proofs.ByElement.{old_at}
 use Rattle.rx_begin.proofs.Keeping.{clone_stood}
 use Rattle.rx_begin.proofs.Making.{KnowsPlaces}
-use Rattle.rx_begin.proofs.Marks.{mark_is}
 use Rattle.rx_begin.proofs.Standing.{clone_stands}
 
 -- What begins as no hidden boundary

@@ -22,19 +22,21 @@ use Rattle.rx_fiber.specs.Fibers.{Fiber, is_cloned}
 use Rattle.rx_fiber.specs.Reading.{IsFor, whole, alone, beside, IsOld, new, of, next}
 use Rattle.rx_fiber.specs.Standing.{StandsAt, begins}
 use Rattle.rx_fiber.specs.Surround.{IsElementOf}
-use Rattle.rx_begin.specs.Nodes.{mark_at, keeps_children, parts_in, begun_children}
+use Rattle.rx_causes.specs.declared.scene.Scene.{Scene}
+use Rattle.rx_causes.specs.Marks.{mark_at, keeps_children}
+use Rattle.rx_causes.specs.Scenes.{IsCalmAt, TellsCalm, number_in}
+use Rattle.rx_causes.proofs.Marks.{mark_is}
+use Rattle.rx_causes.proofs.Causes.{shown_again}
+use Rattle.rx_begin.specs.Nodes.{parts_in, begun_children}
 use Rattle.rx_queue.specs.History.{Answers}
 use Rattle.rx_hooks.specs.declared.hook.Hook.{Hook}
 use Rattle.rx_hooks.specs.Hooks.{HookHistory, HooksStandFor}
 use Rattle.rx_hook_store.specs.Gives.{has_work_in}
 use Rattle.rx_node.specs.MarkView.{instance_seen}
 use Rattle.rx_node.specs.declared.mark.Instance as code
-use Rattle.rx_begin.specs.declared.scene.Scene.{Scene}
-use Rattle.rx_begin.specs.Scenes.{IsCalmAt, TellsCalm, number_in}
 use Rattle.rx_begin.specs.Bodies.{StoodIn}
 use Rattle.rx_begin.proofs.Making.{KnowsPlaces}
-use Rattle.rx_begin.proofs.Marks.{mark_is}
-use Rattle.rx_begin.proofs.Standing.{both_true, shown_again}
+use Rattle.rx_begin.proofs.Standing.{both_true}
 
 -- The element of an old node
 

@@ -4,7 +4,6 @@ pub mod Matched
 pub mod Waiting
 pub mod Cloning
 pub mod Nodes
-pub mod Marks
 pub mod Standing
 pub mod Starts
 pub mod ByElement
@@ -14,8 +13,5 @@ pub mod Hiding
 pub mod Beside
 pub mod Falling
 pub mod OldFallback
-pub mod Walks
-pub mod Still
-pub mod Causes
 pub mod Taking
 pub mod Begins

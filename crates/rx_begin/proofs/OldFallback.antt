@@ -25,6 +25,7 @@ use Rattle.rx_fiber.specs.Surround.{AreNext, fallback_in, given_along, is_bounda
 use Rattle.rx_fiber.specs.Unwound.{IsLeftAt}
 use Rattle.rx_fiber.proofs.OldLists.{fallback_is}
 use Rattle.rx_fiber.proofs.Stood.{stood_in_fallback}
+use Rattle.rx_causes.proofs.Marks.{mark_is}
 use Rattle.rx_begin.specs.Bodies.{StoodIn}
 use Rattle.rx_begin.specs.Children.{AreMade}
 use Rattle.rx_begin.specs.Again.{HasOldFallback}
@@ -32,7 +33,6 @@ use Rattle.rx_begin.specs.Opening.{IsFallbackOf, given_elements, given_fibers}
 use Rattle.rx_begin.proofs.Cloning.{kept_next}
 use Rattle.rx_begin.proofs.Falling.{BeginsNext, boundary_gives, matched_next}
 use Rattle.rx_begin.proofs.Keeping.{stood_in}
-use Rattle.rx_begin.proofs.Marks.{mark_is}
 use Rattle.rx_begin.proofs.Standing.{mark_hides}
 use Rattle.rx_begin.proofs.Waiting.{clones_wait}
 

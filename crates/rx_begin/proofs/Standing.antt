@@ -17,17 +17,14 @@ use Rattle.rx_fiber.specs.Stood.{given_more, StoodAt}
 use Rattle.rx_fiber.specs.Surround.{IsElementOf, given_along}
 use Rattle.rx_fiber.specs.Standing.{StandsAt, begins}
 use Rattle.rx_fiber.proofs.Stood.{stood_below}
-use Rattle.rx_begin.specs.Nodes.{begun_mark, mark_at, keeps_children}
+use Rattle.rx_causes.specs.Marks.{begun_mark, mark_at, keeps_children}
+use Rattle.rx_causes.proofs.Causes.{shown_again}
 use Rattle.rx_begin.proofs.Making.{KnowsPlaces}
 
 pub both_true : (a b : Bool) → a && b ≡ true → (a ≡ true) × (b ≡ true)
 both_true true true h = (refl, refl)
 both_true true false h = cc
 both_true false b h = cc
-
-pub shown_again : (b : Bool) → not b ≡ true → b ≡ false
-shown_again true h = cc
-shown_again false h = refl
 
 -- a stage hides what its mark hides
 hides_as : (s : Stage) → option_map_or is_hidden (begun_mark s) false ≡ hides_in s

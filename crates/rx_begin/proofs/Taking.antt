@@ -21,16 +21,17 @@ use Rattle.rx_fiber.specs.Reading.{IsFor, whole, alone, beside, IsOld, of, next}
 use Rattle.rx_fiber.specs.Surround.{IsAround}
 use Rattle.rx_fiber.specs.Standing.{StandsAt, begins}
 use Rattle.rx_fiber.proofs.OldLists.{kids_are}
-use Rattle.rx_begin.specs.Nodes.{HasStage, HasTaken, mark_at}
-use Rattle.rx_begin.specs.Scenes.{GivesHooks}
+use Rattle.rx_causes.specs.Marks.{mark_at}
+use Rattle.rx_causes.specs.Scenes.{GivesHooks}
+use Rattle.rx_causes.specs.Hidden.{ForEach, GivesHooksIf}
+use Rattle.rx_causes.proofs.Marks.{mark_is}
+use Rattle.rx_begin.specs.Nodes.{HasStage, HasTaken}
 use Rattle.rx_begin.specs.Bodies.{StoodIn}
-use Rattle.rx_begin.specs.Hidden.{ForEach}
-use Rattle.rx_begin.specs.Beginning.{GivesHooksIf, IsTakenOver}
+use Rattle.rx_begin.specs.Beginning.{IsTakenOver}
 use Rattle.rx_begin.proofs.ByElement.{old_at}
 use Rattle.rx_begin.proofs.Falling.{took_so}
 use Rattle.rx_begin.proofs.Keeping.{clone_stood}
 use Rattle.rx_begin.proofs.Making.{KnowsPlaces}
-use Rattle.rx_begin.proofs.Marks.{mark_is}
 use Rattle.rx_begin.proofs.Standing.{clone_stands}
 
 -- The fiber

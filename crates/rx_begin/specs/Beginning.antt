@@ -25,22 +25,11 @@ use Rattle.rx_fiber.specs.Surround.{fallback_in, given_along}
 use Rattle.rx_fiber.specs.Standing.{StandsAt}
 use Rattle.rx_fiber.specs.Unwound.{IsWithin, IsLeftAt}
 use Rattle.draw_laws.specs.Drawn.{IsDrawn}
-use Rattle.rx_begin.specs.Scenes.{KeepsHooks, GivesHooks}
-use Rattle.rx_begin.specs.Hidden.{ForEach}
+use Rattle.rx_causes.specs.Hidden.{KeepsHooksIf, GivesHooksIf}
 use Rattle.rx_begin.specs.Again.{HasOldFallback}
 use Rattle.rx_begin.specs.declared.node.Begun.{Begun}
 use Rattle.rx_begin.specs.declared.node.Begun.TheVariants.{Child, Leaf, Suspended, Taken}
 use Rattle.rx_begin.specs.declared.node.Begun.TheVariants as answers
-
--- hooks are kept of each instance of an old tree that may be missing, and has a number
-abbrev pub KeepsHooksIf : (kept : ℕ → Option (List Hook)) → Option Node → Type 0
-KeepsHooksIf kept None = Unit {0}
-KeepsHooksIf kept (Some x) = ForEach (KeepsHooks kept) x
-
--- they give the values that the render sees
-abbrev pub GivesHooksIf : Sight → (kept : ℕ → Option (List Hook)) → Option Node → Type 0
-GivesHooksIf s kept None = Unit {0}
-GivesHooksIf s kept (Some x) = ForEach (GivesHooks s kept) x
 
 -- The render stands at a place of this fiber, which begins next: what stands there is an element that the program draws and for which there is a node, and hooks are kept of all instances of its old node.
 pub data IsAtPlace (p : Program) (kept : ℕ → Option (List Hook)) (t : Trees Fiber) (st : Stack) (q : ℕ) : Type 0 where

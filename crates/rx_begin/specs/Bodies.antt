@@ -7,7 +7,8 @@ use Rattle.rx_links.specs.Readers.{list_from}
 use Rattle.rx_meaning.specs.Fresh.{Contexts, Part, part, Shape, waiting, one_list}
 use Rattle.rx_fiber.specs.Fibers.{Fiber, begun}
 use Rattle.rx_fiber.specs.OldLists.{primary_list, matched, old_elements, old_fibers}
-use Rattle.rx_begin.specs.Nodes.{HasOpened, mark_at, keeps_children}
+use Rattle.rx_causes.specs.Marks.{mark_at, keeps_children}
+use Rattle.rx_begin.specs.Nodes.{HasOpened}
 use Rattle.rx_begin.specs.declared.node.Begun.{Begun}
 use Rattle.rx_begin.specs.declared.node.Begun.TheVariants.{Suspended}
 

@@ -1,12 +1,8 @@
 pub mod Children
 pub mod Nodes
 pub mod PartsView
-pub mod Scenes
-pub mod Marks
-pub mod Hidden
 pub mod Again
 pub mod Others
 pub mod Bodies
 pub mod Beginning
-pub mod Idle
 pub mod Opening

@@ -1,17 +1,17 @@
 -- What a fiber is begun with, and what its current fiber tells of before.
-use Rattle.std.specs.Prelude.{◌≡◌, ℕ, ℤ, Bool, false, not, ◌&&◌, List, [], Option, Some, None, option_and_then}
-use Rattle.std.specs.Option.{option_map_or}
+use Rattle.std.specs.Prelude.{◌≡◌, ℕ, ℤ, Bool, false, List, [], Option, Some, None}
 use Rattle.rx_ctx.specs.Contexts as contexts
 use Rattle.rx_ctx.specs.Contexts.{Stack}
 use Rattle.rx_elem.specs.Elements.{Element, listed}
 use Rattle.rx_elem.specs.Elements as elements
-use Rattle.rx_elem.specs.Trees.{Mark, of_host, plain, is_hidden}
-use Rattle.rx_lists.specs.Shapes.{Shape, IsTop}
+use Rattle.rx_elem.specs.Trees.{Mark, of_host, plain}
+use Rattle.rx_lists.specs.Shapes.{IsTop}
 use Rattle.rx_lists.specs.Shapes as shapes
 use Rattle.rx_links.specs.Drafts.{Draft, taken, made, Trees, entry, kids_under, valued}
 use Rattle.rx_links.specs.Places.{Around, placed}
-use Rattle.rx_links.specs.Readers.{list_from, value_of, made_value_of}
-use Rattle.rx_fiber.specs.Fibers.{Stage, Fiber, waiting, begun, trying, fallback}
+use Rattle.rx_links.specs.Readers.{list_from, made_value_of}
+use Rattle.rx_fiber.specs.Fibers.{Stage, Fiber, waiting, begun, trying}
+use Rattle.rx_causes.specs.Marks.{mark_at}
 use Rattle.rx_begin.specs.Children.{AreMade}
 use Rattle.rx_begin.specs.declared.node.Begun.{Begun}
 use Rattle.rx_begin.specs.declared.node.Begun.TheVariants.{Child, Leaf}
@@ -65,26 +65,11 @@ pub record HasOpened (cloned : Bool) (before after : Trees Fiber) (p : ℕ) (sta
   pub current : after.current ≡ before.current
   pub answer_is : answer ≡ begun_over kids
 
--- the mark of a node that is begun
-abbrev pub begun_mark : Stage → Option Mark
-begun_mark (waiting c) = None
-begun_mark (begun m) = Some m
-begun_mark trying = None
-begun_mark (fallback a) = None
-
--- the mark of an old node, by its current fiber
-abbrev pub mark_at : Shape Fiber → Option ℕ → Option Mark
-mark_at c o = option_and_then (λ v. begun_mark v.stage) (option_and_then (value_of c) o)
-
 -- a made fiber that had no children has the mark of its old one, and the children of that one as they stand; nothing else is changed
 abbrev pub HasTaken : (before after : Trees Fiber) → (p : ℕ) → Type 0
 HasTaken t new p =
     (k : Around Fiber) (v : Fiber) (o : Option ℕ) (rs : Draft Fiber) (m : Mark) → t.draft ≡ placed k (made p v o (taken shapes.none) rs) → mark_at t.current o ≡ Some m
     → new.draft ≡ placed k (made p (record v { stage = begun m }) o (taken (kids_under t.current o)) rs)
-
--- a cloned place keeps its children, where its old node, with this mark, is no boundary that hides them
-abbrev pub keeps_children : (cloned : Bool) → Option Mark → Bool
-keeps_children cloned m = cloned && not (option_map_or is_hidden m false)
 
 -- the number, the props and the children of a component's element
 abbrev pub parts_in : Element → Option (ℕ × (List ℤ × List Element))

@@ -14,10 +14,11 @@ use Rattle.rx_fiber.specs.FiberView.{changed}
 use Rattle.rx_fiber.specs.declared.stage.StageChange.TheVariants as change
 use Rattle.rx_fiber.specs.OldLists.{primary_list, matched, old_elements, old_fibers}
 use Rattle.rx_fiber.specs.Reading.{IsOld}
-use Rattle.rx_begin.specs.Hidden.{GivesHooksIn, HasCauseToTry, WaitsStill}
-use Rattle.rx_begin.specs.Nodes.{HasOpened, mark_at, keeps_children, begun_stage, begun_children, begun_stack}
-use Rattle.rx_begin.specs.Scenes.{IsSceneOf}
-use Rattle.rx_begin.specs.declared.scene.Scene.{Scene}
+use Rattle.rx_causes.specs.declared.scene.Scene.{Scene}
+use Rattle.rx_causes.specs.Marks.{mark_at, keeps_children}
+use Rattle.rx_causes.specs.Scenes.{IsSceneOf}
+use Rattle.rx_causes.specs.Hidden.{GivesHooksIn, HasCauseToTry, WaitsStill}
+use Rattle.rx_begin.specs.Nodes.{HasOpened, begun_stage, begun_children, begun_stack}
 use Rattle.rx_begin.specs.declared.node.Begun.{Begun}
 use Rattle.rx_begin.specs.declared.node.Begun.TheVariants as answers
 

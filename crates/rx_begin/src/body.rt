@@ -9,8 +9,7 @@ ghost use Rattle.rx_elem.specs.Trees.{Node, instance_in, of_instance};
 ghost use Rattle.rx_links.specs.Drafts.{old_of};
 ghost use Rattle.rx_meaning.specs.Body.{body_of};
 ghost use Rattle.rx_meaning.specs.Fresh.{Sight, Contexts, values_of, instance_after, inputs_at, old_instance, shape_of_body, shape_of_component};
-ghost use Rattle.rx_meaning.specs.Settled.{DoneBefore, IfSettled, known_by, read_anew};
-ghost use Rattle.rx_meaning.specs.Touched.{is_read_anew};
+ghost use Rattle.rx_meaning.specs.Settled.{DoneBefore, IfSettled, known_by};
 ghost use Rattle.rx_model.specs.State.{State};
 ghost use Rattle.rx_model.specs.HooksOf.{KeepsAllHooks};
 ghost use Rattle.rx_eval.specs.Given.{body_seen};
@@ -21,14 +20,15 @@ ghost use Rattle.rx_hook_store.specs.Gives.{GivesValues};
 ghost use Rattle.rx_links.specs.Readers.{list_from};
 ghost use Rattle.rx_fiber.specs.Fibers.{begun};
 ghost use Rattle.rx_fiber.specs.OldLists.{primary_list, old_elements, old_fibers};
-ghost use Rattle.rx_begin.specs.Nodes.{IsBareAt, HasOpened, mark_at};
-ghost use Rattle.rx_begin.specs.Scenes.{IsSceneOf, IsCalmAt, TellsCalm, GivesHooks, number_in};
+ghost use Rattle.rx_causes.specs.Marks.{mark_at};
+ghost use Rattle.rx_causes.specs.Scenes.{IsSceneOf, IsCalmAt, TellsCalm, GivesHooks, number_in};
+ghost use Rattle.rx_begin.specs.Nodes.{IsBareAt, HasOpened};
 ghost use Rattle.rx_begin.specs.Bodies.{StoodIn, HasShape};
 ghost use Rattle.rx_begin.specs.Beginning.{is_taken};
 
 use crate::node::{Begun, keep_node, old_instance, open_node};
-use crate::scene::Scene;
 use rx_base::{Int, Ints, Steps};
+use rx_causes::{Scene, read_anew};
 use rx_elem::{ContextRead, EffectRecord, Element};
 use rx_eval::{Body, Evaluator, Inputs, eval_body};
 use rx_fiber::{Fiber, Stage};
@@ -198,23 +198,6 @@ fn open_body(
             open_node(alloc, tree, at, stage, &elements)
         }
     }
-}
-
-// Whether a context has another value than the one that was read.
-fn is_read_anew(read: &ContextRead, contexts: &[Int]) -> bool
-    ensures { result ≡ is_read_anew contexts.now read.now }
-{
-    match contexts.get(read.context as usize) {
-        Some(value) => !value.same(read.value),
-        None => true,
-    }
-}
-
-// Whether one of these contexts has another value than the one that was read.
-pub(crate) fn read_anew(reads: &[ContextRead], contexts: &[Int]) -> bool
-    ensures { result ≡ read_anew contexts.now reads.now }
-{
-    reads.iter().any(|read| is_read_anew(read, contexts))
 }
 
 // Whether an instance has no cause to be rendered anew: its hooks have no work, and the contexts that it read have the values

@@ -4,14 +4,11 @@
 mod beginning;
 mod body;
 mod children;
-mod hidden;
-mod idle;
 mod kind;
 mod node;
 mod opening;
-mod scene;
+mod take;
 
 pub use beginning::begin;
 pub use node::Begun;
 pub use opening::{Opened, open_fallback, open_old_fallback};
-pub use scene::Scene;

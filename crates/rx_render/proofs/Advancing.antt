@@ -25,12 +25,12 @@ use Rattle.rx_fiber.specs.Unwound.{IsWithin, IsLeftAt}
 use Rattle.rx_complete.specs.Ends.{IsOpenBelow, lies, fiber_in, LeadsTo, to_sibling, to_parent, to_none}
 use Rattle.rx_complete.specs.declared.completing.Next.{Next}
 use Rattle.rx_complete.proofs.Completed.{KnowsPlaces}
+use Rattle.rx_causes.specs.declared.scene.Scene.{Scene}
+use Rattle.rx_causes.specs.Scenes.{IsSceneOf, KeepsHooks, GivesHooks}
+use Rattle.rx_causes.specs.Hidden.{KeepsHooksIf, GivesHooksIf, ForEach, ForEachIn}
 use Rattle.rx_begin.specs.Again.{HasOldFallback}
-use Rattle.rx_begin.specs.Beginning.{IsAtPlace, stands, IsPlace, IsEnd, IsHiddenAgain, IsTakenOver, BeginsPlace, KeepsHooksIf, GivesHooksIf}
-use Rattle.rx_begin.specs.Hidden.{ForEach, ForEachIn}
-use Rattle.rx_begin.specs.Scenes.{IsSceneOf, KeepsHooks, GivesHooks}
+use Rattle.rx_begin.specs.Beginning.{IsAtPlace, stands, IsPlace, IsEnd, IsHiddenAgain, IsTakenOver, BeginsPlace}
 use Rattle.rx_ways.specs.Ways.{is_way}
-use Rattle.rx_begin.specs.declared.scene.Scene.{Scene}
 use Rattle.rx_begin.specs.Opening.{HasOpenedAs, IsLeft, left}
 use Rattle.rx_begin.specs.declared.node.Begun.TheVariants.{Child, Leaf, Suspended}
 use Rattle.rx_begin.specs.declared.node.Begun.TheVariants as answers

@@ -36,9 +36,9 @@ use Rattle.render_laws.specs.OldNodes.{CursorHas}
 use Rattle.render_laws.proofs.LevelLaw.{fit_has_level}
 use Rattle.draw_laws.specs.Drawn.{IsDrawn}
 use Rattle.draw_laws.specs.Cursors.{CursorDrawn}
-use Rattle.rx_begin.specs.Hidden.{ForEach, ForEachIn}
-use Rattle.rx_begin.specs.Scenes.{IsSceneOf, GivesHooks}
-use Rattle.rx_begin.specs.declared.scene.Scene.{Scene}
+use Rattle.rx_causes.specs.declared.scene.Scene.{Scene}
+use Rattle.rx_causes.specs.Scenes.{IsSceneOf, GivesHooks}
+use Rattle.rx_causes.specs.Hidden.{ForEach, ForEachIn}
 use Rattle.rx_render.specs.declared.at.At.{At}
 use Rattle.rx_render.specs.declared.at.At.TheVariants.{Begins, Completes, Over}
 use Rattle.rx_render.specs.Mounting.{IfMounted, HasInstances, HasInstancesIn, GoesWith}

@@ -26,10 +26,10 @@ use Rattle.rx_complete.specs.Ends.{IsAtEnd}
 use Rattle.rx_complete.specs.declared.completing.Next.{Next}
 use Rattle.rx_complete.specs.declared.completing.Next.TheVariants.{Sibling, Parent, Done}
 use Rattle.draw_laws.specs.Drawn.{IsDrawn}
-use Rattle.rx_begin.specs.Beginning.{GivesHooksIf}
+use Rattle.rx_causes.specs.declared.scene.Scene.{Scene}
+use Rattle.rx_causes.specs.Scenes.{IsSceneOf}
+use Rattle.rx_causes.specs.Hidden.{GivesHooksIf}
 use Rattle.rx_ways.specs.Ways.{CoversIf, is_way}
-use Rattle.rx_begin.specs.Scenes.{IsSceneOf}
-use Rattle.rx_begin.specs.declared.scene.Scene.{Scene}
 use Rattle.rx_begin.specs.declared.opening.Opened.{Opened}
 use Rattle.rx_begin.specs.declared.opening.Opened.TheVariants.{First, Empty}
 use Rattle.rx_render.specs.declared.at.At.{At}

@@ -12,14 +12,15 @@ ghost use Rattle.rx_fiber.specs.Unwound.{IsWithin};
 ghost use Rattle.rx_complete.specs.Ends.{IsAtEnd, IsOpenBelow};
 ghost use Rattle.rx_hook_store.specs.Store.{kept_hooks};
 ghost use Rattle.rx_hook_store.specs.Gives.{GivesValues};
-ghost use Rattle.rx_begin.specs.Scenes.{IsSceneOf};
+ghost use Rattle.rx_causes.specs.Scenes.{IsSceneOf};
 ghost use Rattle.rx_ways.specs.Ways.{is_way};
 ghost use Rattle.rx_render.specs.Rendering.{ComesTo};
 ghost use Rattle.rx_render.specs.Advancing.{at_after, at_opened, CanBegin, IsReadyAt, Advances};
 
 use crate::at::At;
 use rx_base::{Awaits, Steps};
-use rx_begin::{Begun, Opened, Scene, begin, open_fallback, open_old_fallback};
+use rx_begin::{Begun, Opened, begin, open_fallback, open_old_fallback};
+use rx_causes::Scene;
 use rx_complete::{Next, complete, pass, unwind_to_boundary};
 use rx_ctx::ContextStack;
 use rx_fiber::Fiber;

@@ -1,4 +1,8 @@
 use Rattle.std.proofs.Common.{◌≡◌, sym, ap, refl, ◌∙◌, subst}
+use Rattle.rx_causes.specs.Marks.{mark_at}
+use Rattle.rx_causes.specs.Scenes.{TellsCalm}
+use Rattle.rx_causes.specs.Idle.{HasCauseIn}
+use Rattle.rx_causes.proofs.Causes.{not_hidden}
 use Rattle.rx_begin.specs.PartsView.{parts_seen}
 use Rattle.rx_elem.specs.Trees.{instance_in}
 use Rattle.rx_links.specs.Drafts.{old_of}
@@ -7,14 +11,10 @@ use Rattle.rx_hook_store.specs.Store.{kept_hooks}
 use Rattle.rx_rules.specs.Names.{component_at}
 use Rattle.rx_meaning.specs.Fresh.{shape_of_component}
 use Rattle.rx_begin.specs.Bodies.{HasShape}
-use Rattle.rx_begin.specs.Nodes.{mark_at}
-use Rattle.rx_begin.specs.Scenes.{TellsCalm}
-use Rattle.rx_begin.specs.Idle.{HasCauseIn}
 use Rattle.rx_ctx.specs.Contexts.{values_at}
 use Rattle.rx_begin.proofs.Keeping.{parts_here, cloned_here, no_parts}
 use Rattle.std.specs.Prelude.{true, false, not, None, is_some, option_map, option_and_then}
 use Rattle.rx_begin.proofs.ByElement.{if_ok}
-use Rattle.rx_begin.proofs.Causes.{not_hidden}
 use Rattle.rx_begin.proofs.Taking.{taken_over}
 use Rattle.rx_begin.proofs.Begins.{place_kept, place_olds, place_tree, place_there, place_context, place_props, begins_body, begins_other, counts_one, made_at}
 use Rattle.rx_begin.proofs.beginning.begin.Goals as goal

@@ -1,13 +1,13 @@
 use Rattle.std.proofs.Common.{refl, sym, ap, ◌∙◌, subst}
 use Rattle.rx_elem.specs.Trees.{of_instance}
 use Rattle.rx_links.specs.Drafts.{old_of}
-use Rattle.rx_begin.specs.Scenes.{GivesHooks, number_in}
+use Rattle.rx_causes.specs.Scenes.{GivesHooks, number_in}
+use Rattle.rx_causes.proofs.Marks.{old_instance_is}
 use Rattle.rx_begin.specs.Bodies.{keeps}
 use Rattle.rx_hook_store.specs.Store.{kept_hooks}
 use Rattle.rx_begin.proofs.Nodes.{bare_made}
 use Rattle.rx_begin.proofs.Bodies.{evaluated, instance_at}
 use Rattle.rx_begin.proofs.Keeping.{calm_shape}
-use Rattle.rx_begin.proofs.Marks.{old_instance_is}
 use Rattle.rx_begin.proofs.Standing.{instance_keeps}
 use Rattle.rx_begin.proofs.body.begin_component.Goals as goal
 

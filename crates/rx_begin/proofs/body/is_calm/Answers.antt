@@ -3,8 +3,8 @@ use Rattle.std.proofs.Common.{not, ◌&&◌, refl, sym, ap, ◌∙◌}
 use Rattle.rx_meaning.specs.Settled.{read_anew}
 use Rattle.rx_node.specs.MarkView.{instance_seen}
 use Rattle.rx_hook_store.specs.Store.{kept_hooks}
-use Rattle.rx_begin.specs.Scenes.{number_in}
-use Rattle.rx_begin.proofs.Standing.{shown_again}
+use Rattle.rx_causes.specs.Scenes.{number_in}
+use Rattle.rx_causes.proofs.Causes.{shown_again}
 use Rattle.rx_begin.proofs.Keeping.{work_decides, calm_told, none_calm}
 use Rattle.rx_begin.proofs.body.is_calm.Goals as goal
 

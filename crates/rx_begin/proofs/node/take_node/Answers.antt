@@ -1,6 +1,6 @@
 use Rattle.std.proofs.Common.{Some, ap, subst, option_map, ◌≡◌, ◌∙◌}
 use Rattle.rx_node.specs.MarkView.{mark_seen}
-use Rattle.rx_begin.specs.Nodes.{mark_at}
+use Rattle.rx_causes.specs.Marks.{mark_at}
 use Rattle.rx_begin.proofs.Begins.{on_ok}
 use Rattle.rx_begin.proofs.Falling.{bare_is, took_made}
 use Rattle.rx_begin.proofs.Nodes.{bare_made}

@@ -7,17 +7,16 @@ use Rattle.rx_fiber.proofs.OldPlaces.{list_here}
 use Rattle.rx_fiber.proofs.OldReads.{some_held}
 use Rattle.rx_ways.specs.Ways.{is_way}
 use Rattle.rx_hook_store.specs.Store.{kept_hooks}
-use Rattle.rx_begin.specs.Nodes.{begun_mark, mark_at}
-use Rattle.rx_begin.specs.Scenes.{KeepsHooks}
-use Rattle.rx_begin.specs.Hidden.{instance_at}
-use Rattle.rx_begin.specs.Idle.{HasCauseAt, HasNoCauseAt, is_anew}
-use Rattle.rx_begin.proofs.Causes.{calm_without, keeps_fibers, keeps_without, mark_there, told_again, tree_cause, tree_idle}
-use Rattle.rx_begin.proofs.Marks.{mark_is}
-use Rattle.rx_begin.proofs.Standing.{shown_again}
-use Rattle.rx_begin.proofs.Still.{no_old, stage_mark}
-use Rattle.rx_begin.proofs.Walks.{list_at_links}
-use Rattle.rx_begin.proofs.idle.is_idle.Goals as goal
-use Rattle.rx_begin.proofs.idle.is_idle.Goals.{then-not-is_anew, else-not-is_anew}
+use Rattle.rx_causes.specs.Marks.{begun_mark, mark_at}
+use Rattle.rx_causes.specs.Scenes.{KeepsHooks}
+use Rattle.rx_causes.specs.Hidden.{instance_at}
+use Rattle.rx_causes.specs.Idle.{HasCauseAt, HasNoCauseAt, is_anew}
+use Rattle.rx_causes.proofs.Marks.{mark_is}
+use Rattle.rx_causes.proofs.Walks.{list_at_links}
+use Rattle.rx_causes.proofs.Still.{no_old, stage_mark}
+use Rattle.rx_causes.proofs.Causes.{calm_without, keeps_fibers, keeps_without, mark_there, told_again, tree_cause, tree_idle, shown_again}
+use Rattle.rx_causes.proofs.idle.is_idle.Goals as goal
+use Rattle.rx_causes.proofs.idle.is_idle.Goals.{then-not-is_anew, else-not-is_anew}
 
 pub has_cause-requires : goal.has_cause-requires
 has_cause-requires c =

@@ -1,7 +1,7 @@
 use Rattle.std.proofs.Common.{◌≡◌, ℕ, ◌<◌, true, None}
 use Rattle.std.specs.Prelude.{slice_index_or}
 use Rattle.rx_base.specs.Awaits.{has}
-use Rattle.rx_begin.proofs.hidden.has_value.Given as goal
+use Rattle.rx_causes.proofs.hidden.has_value.Given as goal
 
 -- no resource so far that is waited for has a value
 abbrev pub invariant-resolving : goal.invariant-resolving

@@ -14,8 +14,7 @@ use Rattle.rx_ways.specs.Ways.{Covers, CoversHere, CoversIn}
 use Rattle.rx_fiber.specs.Fibers.{Fiber, Stage, begun, fallback}
 use Rattle.rx_fiber.specs.Reading.{AreFor, no_more, gap, next, IsFor, whole, alone, beside, has_node}
 use Rattle.rx_fiber.proofs.OldPlaces.{list_here}
-use Rattle.rx_begin.specs.Nodes.{begun_mark}
-use Rattle.rx_begin.specs.Marks.{EachFiber, EachFiberBut, is_spared, SomeFiber, SomeNode, SomeNodeIn}
+use Rattle.rx_causes.specs.Marks.{begun_mark, EachFiber, EachFiberBut, is_spared, SomeFiber, SomeNode, SomeNodeIn}
 
 no_marks : (Q : Mark → Type 0) (ns : Forest) → has_node ns ≡ false → ForEachIn Q ns
 no_marks Q trees.none e = tt

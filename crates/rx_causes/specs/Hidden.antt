@@ -16,10 +16,9 @@ use Rattle.commit_laws.specs.WaitsAgain.{without_lanes}
 use Rattle.rx_fiber.specs.Fibers.{Fiber, Stage}
 use Rattle.rx_fiber.specs.Reading.{IsOld}
 use Rattle.rx_hook_store.specs.Gives.{has_news_in}
-use Rattle.rx_begin.specs.Marks.{EachFiber, SomeFiber, SomeNodeIn}
-use Rattle.rx_begin.specs.Nodes.{begun_mark}
-use Rattle.rx_begin.specs.Scenes.{GivesHooks, KeepsHooks, number_in}
-use Rattle.rx_begin.specs.declared.scene.Scene.{Scene}
+use Rattle.rx_causes.specs.declared.scene.Scene.{Scene}
+use Rattle.rx_causes.specs.Marks.{EachFiber, SomeFiber, SomeNodeIn, begun_mark}
+use Rattle.rx_causes.specs.Scenes.{GivesHooks, KeepsHooks, number_in}
 
 -- The instances of a tree
 
@@ -42,6 +41,16 @@ KeepsHooksIn kept ns = ForEachIn (KeepsHooks kept) ns
 -- they give the values that the render sees
 abbrev pub GivesHooksIn : Sight → (kept : ℕ → Option (List Hook)) → Forest → Type 0
 GivesHooksIn s kept ns = ForEachIn (GivesHooks s kept) ns
+
+-- hooks are kept of each instance of an old tree that may be missing, and has a number
+abbrev pub KeepsHooksIf : (kept : ℕ → Option (List Hook)) → Option Node → Type 0
+KeepsHooksIf kept None = Unit {0}
+KeepsHooksIf kept (Some x) = ForEach (KeepsHooks kept) x
+
+-- they give the values that the render sees
+abbrev pub GivesHooksIf : Sight → (kept : ℕ → Option (List Hook)) → Option Node → Type 0
+GivesHooksIf s kept None = Unit {0}
+GivesHooksIf s kept (Some x) = ForEach (GivesHooks s kept) x
 
 -- The instances of a list of fibers
 

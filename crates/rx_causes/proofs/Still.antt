@@ -21,11 +21,11 @@ use Rattle.rx_fiber.specs.OldLists.{primary_list}
 use Rattle.rx_fiber.specs.Reading.{AreFor, IsOld, of}
 use Rattle.rx_fiber.proofs.OldLists.{primary_is}
 use Rattle.rx_hook_store.specs.Gives.{GivesValues}
-use Rattle.rx_begin.specs.Nodes.{begun_mark, mark_at}
-use Rattle.rx_begin.specs.Scenes.{GivesHooks, KeepsHooks, number_in}
-use Rattle.rx_begin.specs.Hidden.{ForEach, ForEachIn, ForEachFiber, ForSomeIn, ForSomeFiber, GivesHooksIn, HasNews, HasNoNews, HasSameValues, KeepsOld}
-use Rattle.rx_begin.proofs.Marks.{mark_is}
-use Rattle.rx_begin.proofs.Walks.{each_fiber, each_node, some_node}
+use Rattle.rx_causes.specs.Marks.{begun_mark, mark_at}
+use Rattle.rx_causes.specs.Scenes.{GivesHooks, KeepsHooks, number_in}
+use Rattle.rx_causes.specs.Hidden.{ForEach, ForEachIn, ForEachFiber, ForSomeIn, ForSomeFiber, GivesHooksIn, HasNews, HasNoNews, HasSameValues, KeepsOld}
+use Rattle.rx_causes.proofs.Marks.{mark_is}
+use Rattle.rx_causes.proofs.Walks.{each_fiber, each_node, some_node}
 
 -- Instances without news
 

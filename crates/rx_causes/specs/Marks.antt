@@ -1,12 +1,31 @@
--- What holds of the marks of some trees, and of the fibers that stand for them.
-use Rattle.std.specs.Prelude.{◌≡◌, ℕ, Bool, true, false, not, Option, ◌⊎◌, option_and_then}
+-- The marks of some trees, and of the fibers that stand for them, and what holds of them.
+use Rattle.std.specs.Prelude.{◌≡◌, ℕ, Bool, true, false, not, ◌&&◌, Option, Some, None, ◌⊎◌, option_and_then}
 use Rattle.std.specs.Option.{option_map_or}
-use Rattle.rx_elem.specs.Trees.{Forest, Mark, Node, child, node, none, vacant}
+use Rattle.rx_elem.specs.Trees.{Forest, Mark, Node, child, is_hidden, node, none, vacant}
 use Rattle.rx_lists.specs.Shapes.{Shape, fiber}
 use Rattle.rx_lists.specs.Shapes as shapes
+use Rattle.rx_links.specs.Readers.{value_of}
 use Rattle.rx_meaning.specs.Settled.{number_of}
-use Rattle.rx_fiber.specs.Fibers.{Fiber}
-use Rattle.rx_begin.specs.Nodes.{begun_mark}
+use Rattle.rx_fiber.specs.Fibers.{Fiber, Stage, waiting, begun, trying, fallback}
+
+-- The mark of an old node
+
+-- the mark of a node that is begun
+abbrev pub begun_mark : Stage → Option Mark
+begun_mark (waiting c) = None
+begun_mark (begun m) = Some m
+begun_mark trying = None
+begun_mark (fallback a) = None
+
+-- the mark of an old node, by its current fiber
+abbrev pub mark_at : Shape Fiber → Option ℕ → Option Mark
+mark_at c o = option_and_then (λ v. begun_mark v.stage) (option_and_then (value_of c) o)
+
+-- a cloned place keeps its children, where its old node, with this mark, is no boundary that hides them
+abbrev pub keeps_children : (cloned : Bool) → Option Mark → Bool
+keeps_children cloned m = cloned && not (option_map_or is_hidden m false)
+
+-- What holds of marks
 
 -- this holds of the mark of some node of a tree
 abbrev mutual

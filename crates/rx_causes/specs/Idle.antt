@@ -15,10 +15,10 @@ use Rattle.commit_laws.specs.Idle.{HasCommittedValues}
 use Rattle.rx_fiber.specs.Fibers.{Fiber}
 use Rattle.rx_fiber.specs.Reading.{IsOld}
 use Rattle.rx_hook_store.specs.Gives.{has_work_in}
-use Rattle.rx_begin.specs.Scenes.{GivesHooks, TellsWork}
-use Rattle.rx_begin.specs.Marks.{SomeNode}
-use Rattle.rx_begin.specs.Beginning.{KeepsHooksIf}
-use Rattle.rx_begin.specs.declared.scene.Scene.{Scene}
+use Rattle.rx_causes.specs.declared.scene.Scene.{Scene}
+use Rattle.rx_causes.specs.Marks.{SomeNode}
+use Rattle.rx_causes.specs.Scenes.{GivesHooks, TellsWork}
+use Rattle.rx_causes.specs.Hidden.{KeepsHooksIf}
 
 -- Causes
 

@@ -1,9 +1,7 @@
-// What a clone's current fiber and those below it have as a cause to be rendered.
+// What an old node's current fiber and those below it have as a cause to be rendered.
 ghost use Rattle.std.specs.Prelude.{◌≡◌, true, false, Some, IfSome, IsSome, option_and_then};
 ghost use Rattle.rx_elem.specs.Trees.{Node, instance_in};
-ghost use Rattle.rx_ctx.specs.Contexts.{values_at};
 ghost use Rattle.rx_lists.specs.Shapes.{Holds};
-ghost use Rattle.rx_links.specs.Drafts.{old_of};
 ghost use Rattle.rx_links.specs.Readers.{list_from};
 ghost use Rattle.rx_meaning.specs.Fresh.{Sight};
 ghost use Rattle.commit_laws.specs.Idle.{IsIdle, IsIdleMark};
@@ -12,16 +10,14 @@ ghost use Rattle.rx_node.specs.MarkView.{mark_seen};
 ghost use Rattle.rx_fiber.specs.Reading.{IsOld};
 ghost use Rattle.rx_ways.specs.Ways.{Covers, is_way};
 ghost use Rattle.rx_hook_store.specs.Store.{kept_hooks};
-ghost use Rattle.rx_begin.specs.Nodes.{IsBareAt, begun_mark, keeps_children, mark_at};
-ghost use Rattle.rx_begin.specs.Scenes.{GivesHooks, IsSceneOf, KeepsHooks, TellsCalm};
-ghost use Rattle.rx_begin.specs.Marks.{EachFiberBut, SomeFiber, is_spared};
-ghost use Rattle.rx_begin.specs.Hidden.{ForEach, ForEachFiber, instance_at};
-ghost use Rattle.rx_begin.specs.Idle.{HasCause, HasCauseAt, HasCauseIn, HasNoCause, HasNoCauseAt, KeepsTree, is_anew};
+ghost use Rattle.rx_causes.specs.Marks.{begun_mark, keeps_children, mark_at, EachFiberBut, SomeFiber, is_spared};
+ghost use Rattle.rx_causes.specs.Scenes.{GivesHooks, IsSceneOf, KeepsHooks, TellsCalm};
+ghost use Rattle.rx_causes.specs.Hidden.{ForEach, ForEachFiber, instance_at};
+ghost use Rattle.rx_causes.specs.Idle.{HasCause, HasCauseAt, HasCauseIn, HasNoCause, HasNoCauseAt, KeepsTree, is_anew};
 
-use crate::body::read_anew;
+use crate::reading::read_anew;
 use crate::scene::Scene;
 use rx_base::Int;
-use rx_ctx::ContextStack;
 use rx_fiber::{Fiber, Stage};
 use rx_hook_store::HookStore;
 use rx_links::{FiberId, FiberTree};
@@ -105,8 +101,10 @@ fn is_anew(stage: &Stage, component: bool, contexts: &[Int]) -> bool
     }
 }
 
-// Whether nothing in the tree of an old node, by its current fiber, has a cause to be rendered here.
-fn is_idle(
+/// Whether nothing in the tree of an old node, by its current fiber, has a cause to be rendered here: the node's own instance
+/// reads what it read, no instance on a way has work, and no boundary there is hidden. Instances on no way are passed, with all
+/// below them: where the ways cover the tree, there is no cause there. It answers false where there is no old node.
+pub fn is_idle(
     tree: &FiberTree<Fiber>,
     old: Option<FiberId>,
     component: bool,
@@ -132,38 +130,4 @@ fn is_idle(
         }
         None => false,
     }
-}
-
-/// Whether a fiber takes over the old children: it is a clone, and nothing in the tree of its old node has a cause to be
-/// rendered.
-pub(crate) fn takes_over(
-    tree: &FiberTree<Fiber>,
-    at: FiberId,
-    cloned: bool,
-    component: bool,
-    scene: &Scene,
-    hooks: &HookStore,
-    contexts: &ContextStack,
-) -> bool
-    requires bare { IsBareAt tree.now at }
-    requires kept { KeepsTree (kept_hooks hooks.now) tree.now.current (old_of tree.now.draft at) }
-    ensures cloned { result ≡ true → cloned ≡ true }
-    ensures there { result ≡ true → IsSome (mark_at tree.now.current (old_of tree.now.draft at)) }
-    ensures shown { result ≡ true → keeps_children true (mark_at tree.now.current (old_of tree.now.draft at)) ≡ true }
-    ensures idle { result ≡ true → (s : Sight) (x : Node) → IsSceneOf scene.now s → IsOld tree.now.current (old_of tree.now.draft at) (Some x) → ForEach (GivesHooks s (kept_hooks hooks.now)) x → Covers (is_way scene.now.ways.now) (IsIdleMark s) x → IsIdle s x }
-    ensures calm { result ≡ true → component ≡ true → TellsCalm scene.now (kept_hooks hooks.now) (values_at contexts.now) (option_and_then instance_in (mark_at tree.now.current (old_of tree.now.draft at))) true }
-    ensures cause { cloned ≡ true → result ≡ false → HasCauseIn scene.now (kept_hooks hooks.now) (values_at contexts.now) component tree.now.current (old_of tree.now.draft at) }
-{
-    if !cloned {
-        return false;
-    }
-    tree.place_facts();
-    is_idle(
-        tree,
-        tree.alternate(at),
-        component,
-        scene,
-        hooks,
-        contexts.values(),
-    )
 }

@@ -1,5 +1,5 @@
 // A boundary that is hidden in the committed tree may wait still.
-ghost use Rattle.std.specs.Prelude.{◌≡◌, ◌<◌, ℕ, true, false, Option, Some, None, IfSome, IsSome, slice_index_or};
+ghost use Rattle.std.specs.Prelude.{◌≡◌, ◌<◌, ℕ, true, false, Option, Some, None, IfSome, slice_index_or};
 ghost use Rattle.rx_base.specs.Awaits.{Awaits as AwaitsSeen, has, resource_limit};
 ghost use Rattle.rx_susp.specs.declared.boundary.BoundaryState.TheVariants.{Hidden};
 ghost use Rattle.rx_elem.specs.Trees.{Node, children_of, mark_of, of_boundary};
@@ -9,9 +9,9 @@ ghost use Rattle.rx_meaning.specs.Fresh.{Sight};
 ghost use Rattle.rx_fiber.specs.FiberView.{stage_seen};
 ghost use Rattle.rx_fiber.specs.Reading.{IsOld};
 ghost use Rattle.rx_hook_store.specs.Store.{kept_hooks};
-ghost use Rattle.rx_begin.specs.Nodes.{begun_mark, mark_at};
-ghost use Rattle.rx_begin.specs.Scenes.{IsSceneOf, KeepsHooks, number_in};
-ghost use Rattle.rx_begin.specs.Hidden.{ForEachFiber, ForSomeFiber, GivesHooksIn, HasCauseToTry, HasNews, HasNoNews, HasValueOf, KeepsOld, WaitsStill, instance_at};
+ghost use Rattle.rx_causes.specs.Marks.{begun_mark, mark_at};
+ghost use Rattle.rx_causes.specs.Scenes.{IsSceneOf, KeepsHooks, number_in};
+ghost use Rattle.rx_causes.specs.Hidden.{ForEachFiber, ForSomeFiber, GivesHooksIn, HasCauseToTry, HasNews, HasNoNews, HasValueOf, KeepsOld, WaitsStill, instance_at};
 
 use crate::scene::Scene;
 use rx_base::{Awaits, Int};
@@ -94,7 +94,7 @@ fn awaits_of(stage: &Stage) -> Option<Awaits>
 
 /// What an old boundary waits for, by its current fiber, if it is hidden and waits still: none of it has a value, and nothing
 /// new has come for what the boundary keeps. Then its children would wait for the same again (react.dev, Suspense).
-pub(crate) fn waits_still(
+pub fn waits_still(
     tree: &FiberTree<Fiber>,
     old: Option<FiberId>,
     scene: &Scene,

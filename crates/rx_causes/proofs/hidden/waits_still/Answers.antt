@@ -8,10 +8,10 @@ use Rattle.rx_links.specs.Readers.{list_from}
 use Rattle.rx_fiber.specs.OldLists.{primary_list}
 use Rattle.rx_fiber.proofs.OldReads.{some_held}
 use Rattle.rx_hook_store.specs.Store.{kept_hooks}
-use Rattle.rx_begin.specs.Hidden.{HasValueOf}
-use Rattle.rx_begin.proofs.Still.{no_old, marks_node, node_marks, kept_fibers, kept_agrees, kept_news, none_resolved}
-use Rattle.rx_begin.proofs.hidden.waits_still.Goals as goal
-use Rattle.rx_begin.proofs.hidden.waits_still.Goals.{then-has_value, else-has_value}
+use Rattle.rx_causes.specs.Hidden.{HasValueOf}
+use Rattle.rx_causes.proofs.Still.{no_old, marks_node, node_marks, kept_fibers, kept_agrees, kept_news, none_resolved}
+use Rattle.rx_causes.proofs.hidden.waits_still.Goals as goal
+use Rattle.rx_causes.proofs.hidden.waits_still.Goals.{then-has_value, else-has_value}
 
 pub returns-in_err-id-clause-tries : goal.returns-in_err-id-clause-tries
 returns-in_err-id-clause-tries c none x a was is = absurd (no_old c.args.tree.now.current c.args.old x c.in_err-id.was was)

@@ -2,9 +2,9 @@ use Rattle.std.proofs.Common.{◌≤◌, IfSome}
 use Rattle.rx_lists.specs.Shapes.{Holds, size}
 use Rattle.rx_links.specs.Readers.{list_from}
 use Rattle.rx_hook_store.specs.Store.{kept_hooks}
-use Rattle.rx_begin.specs.Scenes.{KeepsHooks}
-use Rattle.rx_begin.specs.Hidden.{ForEachFiber, ForSomeFiber, HasNews, HasNoNews}
-use Rattle.rx_begin.proofs.hidden.+any_news.Given as goal
+use Rattle.rx_causes.specs.Scenes.{KeepsHooks}
+use Rattle.rx_causes.specs.Hidden.{ForEachFiber, ForSomeFiber, HasNews, HasNoNews}
+use Rattle.rx_causes.proofs.hidden.+any_news.Given as goal
 
 abbrev pub decreases-any_news : goal.decreases-any_news
 decreases-any_news l = size (list_from l.tree.now.current l.first)

@@ -1,9 +1,9 @@
 use Rattle.std.proofs.Common.{sym, subst, ◌∙◌}
 use Rattle.rx_node.specs.MarkView.{instance_seen, mark_seen}
 use Rattle.rx_hook_store.specs.Store.{kept_hooks}
-use Rattle.rx_begin.specs.Idle.{HasCause, HasNoCause, works}
-use Rattle.rx_begin.proofs.Causes.{no_work}
-use Rattle.rx_begin.proofs.idle.mark_has_cause.Goals as goal
+use Rattle.rx_causes.specs.Idle.{HasCause, HasNoCause, works}
+use Rattle.rx_causes.proofs.Causes.{no_work}
+use Rattle.rx_causes.proofs.idle.mark_has_cause.Goals as goal
 
 pub returns-in-Some-clause-none : goal.returns-in-Some-clause-none
 returns-in-Some-clause-none c free =

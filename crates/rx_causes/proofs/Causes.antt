@@ -21,16 +21,14 @@ use Rattle.rx_ways.specs.Ways.{Covers}
 use Rattle.rx_fiber.specs.Fibers.{Fiber}
 use Rattle.rx_fiber.specs.Reading.{IsFor, whole, alone, beside, IsOld, new, of, next}
 use Rattle.rx_hook_store.specs.Gives.{GivesValues, has_work_in}
-use Rattle.rx_begin.specs.Nodes.{begun_mark, keeps_children, mark_at}
-use Rattle.rx_begin.specs.Scenes.{GivesHooks, KeepsHooks, TellsCalm}
-use Rattle.rx_begin.specs.Marks.{EachFiber, EachFiberBut, SomeFiber, SomeNode}
-use Rattle.rx_begin.specs.Hidden.{ForEach}
-use Rattle.rx_begin.specs.Beginning.{KeepsHooksIf}
-use Rattle.rx_begin.specs.Idle.{HasCause, HasCauseAt, HasNoCause, HasNoCauseAt, HasNoWork, KeepsTree, is_anew}
-use Rattle.rx_begin.specs.declared.scene.Scene.{Scene}
-use Rattle.rx_begin.proofs.Marks.{mark_is}
-use Rattle.rx_begin.proofs.Still.{keeps_none}
-use Rattle.rx_begin.proofs.Walks.{at_node, of_fiber, each_covered, each_fiber, some_node}
+use Rattle.rx_causes.specs.declared.scene.Scene.{Scene}
+use Rattle.rx_causes.specs.Marks.{begun_mark, keeps_children, mark_at, EachFiber, EachFiberBut, SomeFiber, SomeNode}
+use Rattle.rx_causes.specs.Scenes.{GivesHooks, KeepsHooks, TellsCalm}
+use Rattle.rx_causes.specs.Hidden.{ForEach, KeepsHooksIf}
+use Rattle.rx_causes.specs.Idle.{HasCause, HasCauseAt, HasNoCause, HasNoCauseAt, HasNoWork, KeepsTree, is_anew}
+use Rattle.rx_causes.proofs.Marks.{mark_is}
+use Rattle.rx_causes.proofs.Walks.{at_node, of_fiber, each_covered, each_fiber, some_node}
+use Rattle.rx_causes.proofs.Still.{keeps_none}
 
 -- The fiber of an old node
 
@@ -152,6 +150,10 @@ not_hidden c o x a keeps was is =
 pub told_again : (b : Bool) → not b ≡ false → b ≡ true
 told_again true h = refl
 told_again false h = cc
+
+pub shown_again : (b : Bool) → not b ≡ true → b ≡ false
+shown_again true h = cc
+shown_again false h = refl
 
 -- The tree of an old node
 

@@ -4,10 +4,10 @@ use Rattle.rx_elem.specs.Trees.{Mark, instance_in}
 use Rattle.rx_lists.specs.Shapes.{Holds}
 use Rattle.rx_hook_store.specs.Store.{kept_hooks}
 use Rattle.rx_fiber.proofs.OldReads.{some_held, rest_held}
-use Rattle.rx_begin.specs.Scenes.{KeepsHooks}
-use Rattle.rx_begin.specs.Hidden.{HasNews, HasNoNews}
-use Rattle.rx_begin.proofs.Walks.{stage_here, each_parts, each_joins, some_joins, behind_smaller}
-use Rattle.rx_begin.proofs.hidden.+any_news.Goals as goal
+use Rattle.rx_causes.specs.Scenes.{KeepsHooks}
+use Rattle.rx_causes.specs.Hidden.{HasNews, HasNoNews}
+use Rattle.rx_causes.proofs.Walks.{stage_here, each_parts, each_joins, some_joins, behind_smaller}
+use Rattle.rx_causes.proofs.hidden.+any_news.Goals as goal
 
 pub walking-preserved : goal.walking-preserved
 walking-preserved t c =

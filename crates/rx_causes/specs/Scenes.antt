@@ -10,7 +10,7 @@ use Rattle.rx_hooks.specs.declared.hook.Hook.{Hook}
 use Rattle.rx_meaning.specs.Fresh.{Sight, Contexts, resources_seen, hook_values}
 use Rattle.rx_meaning.specs.Settled.{done_values, known_by, read_anew}
 use Rattle.rx_hook_store.specs.Gives.{GivesValues, has_work_in}
-use Rattle.rx_begin.specs.declared.scene.Scene.{Scene}
+use Rattle.rx_causes.specs.declared.scene.Scene.{Scene}
 
 -- a scene is what this render sees
 pub record IsSceneOf (scene : Scene) (s : Sight) : Type 0 where

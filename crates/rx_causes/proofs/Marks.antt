@@ -8,7 +8,7 @@ use Rattle.rx_links.specs.Readers.{value_in}
 use Rattle.rx_meaning.specs.Fresh.{old_instance, old_host}
 use Rattle.rx_fiber.specs.Fibers.{Fiber}
 use Rattle.rx_fiber.specs.Reading.{IsFor, whole, alone, beside, IsOld, new, of, next}
-use Rattle.rx_begin.specs.Nodes.{begun_mark, mark_at}
+use Rattle.rx_causes.specs.Marks.{begun_mark, mark_at}
 
 node_mark : (c : Shape Fiber) (j n : ℕ) (x : Node) (s rest : Shape Fiber) → IsFor n x s rest → list_at c j ≡ Some s → mark_at c (Some j) ≡ Some (mark_of x)
 node_mark c j n _ _ rest (whole is shown a) here = ap (λ l. option_and_then (λ v. begun_mark v.stage) (value_in l)) here ∙ ap begun_mark is.stage

@@ -3,11 +3,11 @@ use Rattle.rx_lists.specs.Shapes.{Holds, size}
 use Rattle.rx_links.specs.Readers.{list_from}
 use Rattle.rx_ways.specs.Ways.{is_way}
 use Rattle.rx_hook_store.specs.Store.{kept_hooks}
-use Rattle.rx_begin.specs.Scenes.{KeepsHooks}
-use Rattle.rx_begin.specs.Marks.{EachFiberBut, SomeFiber}
-use Rattle.rx_begin.specs.Hidden.{ForEachFiber}
-use Rattle.rx_begin.specs.Idle.{HasCauseAt, HasNoCauseAt}
-use Rattle.rx_begin.proofs.idle.+any_cause.Given as goal
+use Rattle.rx_causes.specs.Marks.{EachFiberBut, SomeFiber}
+use Rattle.rx_causes.specs.Scenes.{KeepsHooks}
+use Rattle.rx_causes.specs.Hidden.{ForEachFiber}
+use Rattle.rx_causes.specs.Idle.{HasCauseAt, HasNoCauseAt}
+use Rattle.rx_causes.proofs.idle.+any_cause.Given as goal
 
 abbrev pub decreases-any_cause : goal.decreases-any_cause
 decreases-any_cause l = size (list_from l.tree.now.current l.first)

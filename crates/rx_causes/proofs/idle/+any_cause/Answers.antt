@@ -6,13 +6,12 @@ use Rattle.rx_elem.specs.Trees.{instance_in}
 use Rattle.rx_ways.specs.Ways.{is_way}
 use Rattle.rx_hook_store.specs.Store.{kept_hooks}
 use Rattle.rx_fiber.proofs.OldReads.{some_held, rest_held}
-use Rattle.rx_begin.specs.Scenes.{KeepsHooks}
-use Rattle.rx_begin.specs.Marks.{is_spared}
-use Rattle.rx_begin.specs.Nodes.{begun_mark}
-use Rattle.rx_begin.specs.Idle.{HasCauseAt, HasNoCauseAt}
-use Rattle.rx_begin.proofs.Walks.{stage_here, each_parts, but_joins, some_joins, behind_smaller}
-use Rattle.rx_begin.proofs.idle.+any_cause.Goals as goal
-use Rattle.rx_begin.proofs.idle.+any_cause.Goals.{else-not-is_spared-via-then-not-is_spared+else-any_cause, then-has_cause, else-has_cause, else-not-is_spared-via-else-not-is_spared}
+use Rattle.rx_causes.specs.Marks.{is_spared, begun_mark}
+use Rattle.rx_causes.specs.Scenes.{KeepsHooks}
+use Rattle.rx_causes.specs.Idle.{HasCauseAt, HasNoCauseAt}
+use Rattle.rx_causes.proofs.Walks.{stage_here, each_parts, but_joins, some_joins, behind_smaller}
+use Rattle.rx_causes.proofs.idle.+any_cause.Goals as goal
+use Rattle.rx_causes.proofs.idle.+any_cause.Goals.{else-not-is_spared-via-then-not-is_spared+else-any_cause, then-has_cause, else-has_cause, else-not-is_spared-via-else-not-is_spared}
 
 pub walking-preserved : goal.walking-preserved
 walking-preserved t c =

@@ -1,0 +1,4 @@
+pub mod Marks
+pub mod Walks
+pub mod Still
+pub mod Causes

@@ -1,0 +1,4 @@
+pub mod Scenes
+pub mod Marks
+pub mod Hidden
+pub mod Idle
