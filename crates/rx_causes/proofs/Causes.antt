@@ -48,7 +48,7 @@ EachOfFirstBut way P shapes.none = ⊥
 EachOfFirstBut way P (fiber id v ks rs) = P (begun_mark v.stage) × EachFiberBut way P ks
 
 -- the list from the fiber on
-old_list : (c : Shape Fiber) (o : Option ℕ) (x : Node) (i : ℕ) (s : Shape Fiber) → IsOld c o (Some x) → o ≡ Some i → list_from c (Some i) ≡ s → (n : ℕ) × (rest : Shape Fiber) × IsFor n x s rest
+pub old_list : (c : Shape Fiber) (o : Option ℕ) (x : Node) (i : ℕ) (s : Shape Fiber) → IsOld c o (Some x) → o ≡ Some i → list_from c (Some i) ≡ s → (n : ℕ) × (rest : Shape Fiber) × IsFor n x s rest
 old_list c _ _ i s (of {j = j} {n = n} {x = x} {s = l} here leads (next {rest = rest} is a)) o_is list =
     let q : j ≡ i = cc in
     let f : l ≡ s = sym (ap shape_or_none here) ∙ (ap (λ k. list_from c (Some k)) q ∙ list) in
