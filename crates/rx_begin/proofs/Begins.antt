@@ -15,7 +15,8 @@ use Rattle.rx_meaning.specs.Body.{Body, wait, ready, body_of}
 use Rattle.rx_meaning.specs.Counts.{each_body, begins_as, one_if_component, next_counts}
 use Rattle.rx_meaning.specs.Cursor.{Frame, at_place, is_null}
 use Rattle.rx_meaning.specs.Fresh.{Sight, Contexts, Shape, absent, waiting, one_list, two_lists, shape_of, shape_of_body, shape_of_component, inputs_at, old_instance}
-use Rattle.rx_fiber.specs.Fibers.{Fiber, is_cloned}
+use Rattle.rx_fiber.specs.Fibers.{Fiber, is_stood}
+use Rattle.rx_fiber.specs.declared.stage.Origin.{Origin}
 use Rattle.rx_meaning.specs.Settled.{IfSettled, known_by}
 use Rattle.rx_fiber.specs.Reading.{IsOld}
 use Rattle.rx_fiber.specs.Standing.{StandsAt}
@@ -31,6 +32,7 @@ use Rattle.rx_begin.specs.Others.{HasBegunOther}
 use Rattle.rx_begin.specs.Others as others
 use Rattle.rx_begin.proofs.Hiding.{own_keeps, own_gives, kids_keep, hidden_again}
 use Rattle.rx_begin.specs.Bodies.{StoodIn, HasShape}
+use Rattle.rx_begin.specs.Origins.{IsSteady}
 use Rattle.rx_begin.specs.Beginning.{IsAtPlace, stands, HasBegun, BeginsPlace}
 use Rattle.rx_begin.specs.declared.node.Begun.{Begun}
 use Rattle.rx_begin.proofs.Lists.{same_parts}
@@ -38,7 +40,8 @@ use Rattle.rx_begin.proofs.Making.{KnowsPlaces}
 use Rattle.rx_begin.proofs.Nodes.{bare_made}
 use Rattle.rx_begin.proofs.Bodies.{kept_if}
 use Rattle.rx_begin.proofs.ByElement.{element_at, old_at, bare_at, Opens, from_matched, from_clones, other_begun, body_begun}
-use Rattle.rx_begin.proofs.Keeping.{clone_stood, old_no_null, kept_children}
+use Rattle.rx_begin.proofs.Keeping.{stood_in, old_no_null, kept_children}
+use Rattle.rx_begin.proofs.Standing.{IsAgain, KidsStand, clone_same, kids_stand}
 
 pub on_ok : {A E : Type 0} (r : Result A E) (P Q : Type 0) → (P → Q) → OnOk r P → OnOk r Q
 on_ok (Ok a) P Q f h = f h
@@ -124,41 +127,52 @@ module _ (p : Program) (kept : ℕ → Option (List Hook)) (t : Trees Fiber) (st
 
 module _ (s : Sight) (kept : ℕ → Option (List Hook)) (t : Trees Fiber) (st : Stack) (new : Trees Fiber) (st' : Stack) (p : ℕ) (linked : IsLinked t.current) (knows : KnowsPlaces t) (v : Fiber) (element : Element)
     (value : Some v ≡ made_value_of t.draft p) (is : element ≡ v.element) (answer : Begun) (way : ℕ → Bool) where
-  pub begins_body : (c : ℕ) (props : List ℤ) (es : List Element) (here : Contexts) → parts_in element ≡ Some (c, (props, es)) → here ≡ values_at st → st' ≡ st
+  its_element : (n : ℕ) (fs : List Frame) (cs : Contexts) (e : Element) (old : Option Node) → StandsAt t st (Some p) (at_place (suc n) fs cs e old) → element ≡ e
+  its_element n fs cs e old at = is ∙ element_at t st p n fs cs e old knows at v value
+
+  -- what counts as a clone stands in its old node
+  stood_so : (n : ℕ) (fs : List Frame) (cs : Contexts) (e : Element) (old : Option Node) → StandsAt t st (Some p) (at_place (suc n) fs cs e old) → (cloned : Bool) → IsAgain t p v cloned → cloned ≡ true → StoodIn old e
+  stood_so n fs cs e old at cloned again so = stood_in t.current (old_of t.draft p) old e (old_at t st p n fs cs e old knows at) (clone_same t st p n fs cs e old knows at v value cloned again so)
+
+  pub begins_body : (cloned steady : Bool) → IsAgain t p v cloned → (steady ≡ true → IsSteady t.current (old_of t.draft p) v) → (c : ℕ) (props : List ℤ) (es : List Element) (here : Contexts) → parts_in element ≡ Some (c, (props, es)) → here ≡ values_at st → st' ≡ st
       → ((old : Option Node) (key : Key) (kids : Elements) → IsOld t.current (old_of t.draft p) old → GivesHooks s kept (old_instance old) → IfSettled s.program (known_by s) old
-      → (is_cloned v.stage ≡ true → StoodIn old (elements.comp c key props kids)) → listed kids ≡ es → HasShape (is_cloned v.stage) (shape_of_component s here c props kids old (component_at s.program c)) here old t new p answer) → BeginsPlace s way kept t st new st' p answer
-  begins_body c props es here parts same stacks has n fs cs e old at gives settled covers =
-      let x : element ≡ e = is ∙ element_at t st p n fs cs e old knows at v value in
-      body_begun s t st new st' p n fs cs e old linked knows at answer (old_no_null s.program (known_by s) old settled) v value c props es here (ap parts_in (sym x) ∙ parts) same
+      → (cloned ≡ true → StoodIn old (elements.comp c key props kids)) → listed kids ≡ es → HasShape cloned steady (shape_of_component s here c props kids old (component_at s.program c)) here old t new p answer) → BeginsPlace s way kept t st new st' p answer
+  begins_body cloned steady again steadies c props es here parts same stacks has n fs cs e old at gives settled covers =
+      let x : element ≡ e = its_element n fs cs e old at in
+      body_begun s t st new st' p n fs cs e old linked knows at answer (old_no_null s.program (known_by s) old settled) cloned steady
+      (kids_stand t st p n fs cs e old knows at v value (element_at t st p n fs cs e old knows at v value) steady steadies) c props es here (ap parts_in (sym x) ∙ parts) same
       (λ key kids f g.
-      has old key kids (old_at t st p n fs cs e old knows at) (own_gives s kept old gives) settled (λ cloned. subst (StoodIn old) (sym f) (clone_stood t st p n fs cs e old knows at v value cloned)) g)
+      has old key kids (old_at t st p n fs cs e old knows at) (own_gives s kept old gives) settled (λ so. subst (StoodIn old) (sym f) (stood_so n fs cs e old at cloned again so)) g)
       stacks
 
-  pub begins_other : (scene : Scene) (cloned : Bool) → IsSceneOf scene s → cloned ≡ is_cloned v.stage → is_null element ≡ false → parts_in element ≡ None → new.current ≡ t.current
-      → HasBegunOther scene kept t st new st' p element cloned answer → BeginsPlace s way kept t st new st' p answer
-  begins_other scene cloned sees cloned_is there none current has n fs cs e old at gives settled covers =
-      by_case answer (subst (λ y. HasBegunOther scene kept t st new st' p y cloned answer) x has)
+  pub begins_other : (scene : Scene) (origin : Origin) (steady : Bool) → IsSceneOf scene s → IsAgain t p v origin.cloned → origin.stood ≡ is_stood v.stage → (steady ≡ true → IsSteady t.current (old_of t.draft p) v) → is_null element ≡ false → parts_in element ≡ None
+      → new.current ≡ t.current → HasBegunOther scene kept t st new st' p element origin steady answer → BeginsPlace s way kept t st new st' p answer
+  begins_other scene origin steady sees again stood_is steadies there none current has n fs cs e old at gives settled covers =
+      by_case answer (subst (λ y. HasBegunOther scene kept t st new st' p y origin steady answer) x has)
     where
       x : element ≡ e
-      x = is ∙ element_at t st p n fs cs e old knows at v value
+      x = its_element n fs cs e old at
 
       number : Option ℕ
       number = option_and_then host_number (mark_at t.current (old_of t.draft p))
+
+      stand : KidsStand t p fs e steady
+      stand = kids_stand t st p n fs cs e old knows at v value (element_at t st p n fs cs e old knows at v value) steady steadies
 
       opened : (b : Begun) → Opens s t st new st' p n fs cs e old linked knows at b (begun_stage e number) (begun_children e) → st' ≡ begun_stack e st → HasBegun s t st new st' p n fs cs e old b
       opened b done stacks =
           other_begun s t st new st' p n fs cs e old linked knows at b number (old_of t.draft p) (ap is_null (sym x) ∙ there) (ap parts_in (sym x) ∙ none) refl refl done stacks
 
-      by_case : (b : Begun) → HasBegunOther scene kept t st new st' p e cloned b → HasBegun s t st new st' p n fs cs e old b
+      by_case : (b : Begun) → HasBegunOther scene kept t st new st' p e origin steady b → HasBegun s t st new st' p n fs cs e old b
       by_case b (others.keeps h kept_so stacks) =
           opened b
-          (from_clones s t st new st' p n fs cs e old linked knows at b (begun_stage e number) (begun_children e) v cloned value cloned_is h (old_no_null s.program (known_by s) old settled)
-          (kept_children s.program (known_by s) t.current (old_of t.draft p) old e cloned (old_at t st p n fs cs e old knows at) settled
-          (λ so. clone_stood t st p n fs cs e old knows at v value (sym cloned_is ∙ so)) (ap parts_in (sym x) ∙ none) h) kept_so)
+          (from_clones s t st new st' p n fs cs e old linked knows at b (begun_stage e number) (begun_children e) steady stand (old_no_null s.program (known_by s) old settled)
+          (kept_children s.program (known_by s) t.current (old_of t.draft p) old e origin.cloned (old_at t st p n fs cs e old knows at) settled
+          (λ so. stood_so n fs cs e old at origin.cloned again so) (ap parts_in (sym x) ∙ none) h) kept_so)
           stacks
-      by_case b (others.opens done stacks) = opened b (from_matched s t st new st' p n fs cs e old linked knows at b (begun_stage e number) (begun_children e) done) stacks
-      by_case _ (others.hides {a = a} so mark waits tried stacks) =
-          hidden_again s kept t st new st' p n fs cs e old a knows at v cloned value cloned_is so mark (λ y. waits s y sees) gives settled current tried stacks
+      by_case b (others.opens done stacks) = opened b (from_matched s t st new st' p n fs cs e old linked knows at b (begun_stage e number) (begun_children e) steady stand done) stacks
+      by_case _ (others.hides {a = a} so too mark waits tried stacks) =
+          hidden_again s kept t st new st' p n fs cs e old a knows at v value origin again stood_is so too mark (λ y. waits s y sees) gives settled current tried stacks
 
 -- How many bodies are evaluated
 

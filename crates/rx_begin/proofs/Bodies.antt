@@ -11,6 +11,7 @@ use Rattle.rx_links.specs.Drafts.{Draft, taken, made, Trees}
 use Rattle.rx_meaning.specs.Body.{Inputs, Body, body_of}
 use Rattle.rx_meaning.specs.Fresh.{Sight, Contexts, resources_seen, hook_values, values_of, inputs_at, old_instance, shape_of_body, shape_of_component}
 use Rattle.rx_fiber.specs.Fibers.{Fiber, Stage}
+use Rattle.rx_fiber.specs.declared.stage.Origin.{Origin}
 use Rattle.rx_fiber.specs.Reading.{IsOld}
 use Rattle.rx_hook_store.specs.Gives.{GivesValues}
 use Rattle.rx_causes.specs.Marks.{mark_at}
@@ -67,11 +68,11 @@ pub instance_at : (c : Shape Fiber) (alternate o : Option ℕ) (old : Option Nod
 instance_at c alternate o old i same was is = is ∙ (ap (λ q. option_and_then instance_in (mark_at c q)) same ∙ old_instance_is c o old was)
 
 -- what stands at the place of a component, by its body
-pub evaluated : (s : Sight) (cs : Contexts) (c : ℕ) (props : List ℤ) (kids : Elements) (old : Option Node) (b : Body) (t new : Trees Fiber) (p : ℕ) (answer : Begun) (cloned : Bool)
+pub evaluated : (s : Sight) (cs : Contexts) (c : ℕ) (props : List ℤ) (kids : Elements) (old : Option Node) (b : Body) (t new : Trees Fiber) (p : ℕ) (answer : Begun) (cloned steady : Bool)
     → option_map (λ d. body_of s.program d (inputs_at s cs props kids (old_instance old))) (component_at s.program c) ≡ Some b
-    → HasShape cloned (shape_of_body cs c old b) cs old t new p answer → HasShape cloned (shape_of_component s cs c props kids old (component_at s.program c)) cs old t new p answer
-evaluated s cs c props kids old b t new p answer cloned gives has =
-    subst (λ x. HasShape cloned x cs old t new p answer) (sym (shape_is s cs c props kids old (component_at s.program c) b gives)) has
+    → HasShape cloned steady (shape_of_body cs c old b) cs old t new p answer → HasShape cloned steady (shape_of_component s cs c props kids old (component_at s.program c)) cs old t new p answer
+evaluated s cs c props kids old b t new p answer cloned steady gives has =
+    subst (λ x. HasShape cloned steady x cs old t new p answer) (sym (shape_is s cs c props kids old (component_at s.program c) b gives)) has
 
 -- What is begun over its own children
 
@@ -80,5 +81,5 @@ begun_anew (taken s) = refl
 begun_anew (made id v o ks rs) = refl
 
 -- it takes none over
-pub opened_anew : (cloned : Bool) (t new : Trees Fiber) (p : ℕ) (stage : Stage) (es : List Element) (os : List (Option ℕ)) (b : Begun) → HasOpened cloned t new p stage es os b → is_taken b ≡ false
-opened_anew cloned t new p stage es os b h = ap is_taken h.answer_is ∙ begun_anew h.kids
+pub opened_anew : (origin : Origin) (t new : Trees Fiber) (p : ℕ) (stage : Stage) (es : List Element) (os : List (Option ℕ)) (b : Begun) → HasOpened origin t new p stage es os b → is_taken b ≡ false
+opened_anew origin t new p stage es os b h = ap is_taken h.answer_is ∙ begun_anew h.kids

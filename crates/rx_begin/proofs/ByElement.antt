@@ -1,6 +1,7 @@
 -- What a place leaves that is begun, by its element.
 use Rattle.std.specs.Prelude.{◌≡◌, ℕ, ℤ, suc, Bool, false, true, List, [], ◌∷◌, Option, Some, None, Result, Ok, Err, IfOk, option_and_then, slice_set}
 use Rattle.std.specs.List.{zip}
+use Rattle.std.specs.Option.{option_flatten}
 use Rattle.std.proofs.Common.{refl, sym, ap, ◌∙◌, subst}
 use Rattle.rx_base.specs.Values.{Text, Name}
 use Rattle.rx_rules.specs.Names.{component_at}
@@ -18,7 +19,8 @@ use Rattle.rx_links.specs.Drafts.{taken, Trees, old_of}
 use Rattle.rx_links.specs.Readers.{list_from, IsLinked, made_value_of, made_value_in}
 use Rattle.rx_meaning.specs.Fresh.{Sight, Contexts, Part, part, one_list, two_lists, shape_of, shape_of_component, old_host}
 use Rattle.rx_meaning.specs.Cursor.{Open, around, trying, Frame, at_place, is_null}
-use Rattle.rx_fiber.specs.Fibers.{Fiber, Stage, begun, is_cloned}
+use Rattle.rx_fiber.specs.Fibers.{Fiber, Stage, as_cloned, as_matched, begun}
+use Rattle.rx_fiber.specs.declared.stage.Origin.{Origin}
 use Rattle.rx_fiber.specs.Fibers as stage
 use Rattle.rx_fiber.specs.OldLists.{primary_list, matched, old_elements, old_fibers}
 use Rattle.rx_fiber.specs.Reading.{IsOld}
@@ -27,7 +29,7 @@ use Rattle.rx_fiber.specs.Surround.{given_along, AreNext, fallback_in, is_bounda
 use Rattle.rx_fiber.proofs.OldLists.{primary_is}
 use Rattle.rx_fiber.specs.Standing.{IsStack, opened, StandsAt, begins}
 use Rattle.rx_fiber.proofs.Stacking.{pushed, unchanged}
-use Rattle.rx_causes.specs.Marks.{mark_at, keeps_children}
+use Rattle.rx_causes.specs.Marks.{mark_at}
 use Rattle.rx_causes.proofs.Marks.{old_host_is}
 use Rattle.rx_begin.specs.Nodes.{IsBareAt, HasOpened, parts_in, begun_stage, begun_children, begun_stack}
 use Rattle.rx_begin.specs.Bodies.{HasShape, waits, opens, keeps}
@@ -37,8 +39,9 @@ use Rattle.rx_begin.proofs.Lists.{same_parts}
 use Rattle.rx_begin.proofs.Making.{KnowsPlaces}
 use Rattle.rx_begin.proofs.Starts.{nexts, olds_of, begun_one, begun_trying, begun_waiting}
 use Rattle.rx_begin.proofs.Cloning.{kept_next}
-use Rattle.rx_begin.proofs.Waiting.{new_wait, clones_wait}
-use Rattle.rx_begin.proofs.Standing.{kids_stand}
+use Rattle.rx_begin.proofs.Matched.{matched_at}
+use Rattle.rx_begin.proofs.Waiting.{all_wait}
+use Rattle.rx_begin.proofs.Standing.{KidsStand}
 
 pub if_ok : {A E : Type 0} (r : Result A E) (P Q : A → Type 0) → ((a : A) → P a → Q a) → IfOk r P → IfOk r Q
 if_ok (Ok a) P Q f h = f a h
@@ -74,38 +77,39 @@ module _ (s : Sight) (t : Trees Fiber) (st : Stack) (new : Trees Fiber) (st' : S
   pub record Opens (m : Stage) (es : List Element) : Type 0 where
     pub given : List Element
     pub olds : List (Option ℕ)
-    pub cloned : Bool
-    pub opened : HasOpened cloned t new p m given olds answer
+    pub origin : Origin
+    pub opened : HasOpened origin t new p m given olds answer
     pub nexts : AreNext t.current (given_more e (given_along fs)) 0 (zip es (old_nodes (children_if old) es)) opened.kids
 
   -- children that are matched with the old ones
-  pub from_matched : (m : Stage) (es : List Element) → HasOpened false t new p m es (matched (primary_list (list_from t.current (old_of t.draft p))) es) answer → Opens m es
-  from_matched m es done = record {
+  pub from_matched : (m : Stage) (es : List Element) (steady : Bool) → KidsStand t p fs e steady → HasOpened (as_matched steady) t new p m es (matched (primary_list (list_from t.current (old_of t.draft p))) es) answer
+      → Opens m es
+  from_matched m es steady stand done = record {
     given = es;
     olds = matched (primary_list (list_from t.current (old_of t.draft p))) es;
-    cloned = false;
+    origin = as_matched steady;
     opened = done;
     nexts =
         nexts t.current (given_more e (given_along fs)) 0 es (matched (primary_list (list_from t.current (old_of t.draft p))) es) (old_nodes (children_if old) es) done.kids
-        (new_wait t.current (given_more e (given_along fs)) 0 es (matched (primary_list (list_from t.current (old_of t.draft p))) es) done.kids done.are)
+        (all_wait t.current (given_more e (given_along fs)) (as_matched steady) 0 es (matched (primary_list (list_from t.current (old_of t.draft p))) es) done.kids
+        (λ so i j is. let (place, there, here) = matched_at (primary_list (list_from t.current (old_of t.draft p))) es i j is in stand so place j here) done.are)
         (olds_of s t st new st' p n fs cs e old linked knows (old_of t.draft p) es (old_at t st p n fs cs e old knows at));
   }
 
   -- clones of the old ones
-  pub from_clones : (m : Stage) (es : List Element) (v : Fiber) (cloned : Bool) → Some v ≡ made_value_of t.draft p → cloned ≡ is_cloned v.stage
-      → keeps_children cloned (mark_at t.current (old_of t.draft p)) ≡ true → NoNull (children_if old) → es ≡ elements_in (children_if old)
-      → HasOpened true t new p m (old_elements (primary_list (list_from t.current (old_of t.draft p)))) (old_fibers (primary_list (list_from t.current (old_of t.draft p)))) answer → Opens m es
-  from_clones m es v cloned value cloned_is own no_null same done = record {
+  pub from_clones : (m : Stage) (es : List Element) (steady : Bool) → KidsStand t p fs e steady → NoNull (children_if old) → es ≡ elements_in (children_if old)
+      → HasOpened (as_cloned steady) t new p m (old_elements (primary_list (list_from t.current (old_of t.draft p)))) (old_fibers (primary_list (list_from t.current (old_of t.draft p)))) answer → Opens m es
+  from_clones m es steady stand no_null same done = record {
     given = old_elements (primary_list (list_from t.current (old_of t.draft p)));
     olds = old_fibers (primary_list (list_from t.current (old_of t.draft p)));
-    cloned = true;
+    origin = as_cloned steady;
     opened = done;
     nexts =
         subst (λ xs. AreNext t.current (given_more e (given_along fs)) 0 (zip xs (old_nodes (children_if old) xs)) done.kids) (sym same)
         (kept_next t.current linked (given_more e (given_along fs)) (children_if old) (primary_list (list_from t.current (old_of t.draft p)))
         (primary_is t.current linked (old_of t.draft p) old (old_at t st p n fs cs e old knows at)) no_null done.kids
-        (clones_wait t.current (given_more e (given_along fs)) 0 (old_elements (primary_list (list_from t.current (old_of t.draft p)))) (old_fibers (primary_list (list_from t.current (old_of t.draft p)))) done.kids
-        (kids_stand t st p n fs cs e old knows at v cloned value cloned_is own) done.are));
+        (all_wait t.current (given_more e (given_along fs)) (as_cloned steady) 0 (old_elements (primary_list (list_from t.current (old_of t.draft p)))) (old_fibers (primary_list (list_from t.current (old_of t.draft p)))) done.kids
+        (λ so i j is. stand so i j (ap option_flatten is)) done.are));
   }
 
   again : (m l : Stage) (es xs : List Element) → m ≡ l → es ≡ xs → Opens m es → Opens l xs
@@ -116,7 +120,7 @@ module _ (s : Sight) (t : Trees Fiber) (st : Stack) (new : Trees Fiber) (st' : S
       → is_hidden m ≡ false → l ≡ begun m → es ≡ list.elements → Opens l es → st' ≡ st → HasBegun s t st new st' p n fs cs e old answer
   plain_begun m l es list shape given same was shown stage_is elements_are done stacks =
       let o = again l (begun m) es list.elements stage_is elements_are done in
-      begun_one s t st new st' p n fs cs e old linked knows o.cloned answer m list o.given o.olds o.opened
+      begun_one s t st new st' p n fs cs e old linked knows o.origin answer m list o.given o.olds o.opened
       (subst (λ ns. AreNext t.current (given_more e (given_along fs)) 0 (zip list.elements (old_nodes ns list.elements)) o.opened.kids) (sym was) o.nexts) at shape shown
       (λ values stack. subst (λ c. IsStack st' ((around e m, c) ∷ opened fs)) (sym same) (around_stack st st' (around e m) (opened fs) e m cs given stacks values stack))
 
@@ -129,7 +133,7 @@ module _ (s : Sight) (t : Trees Fiber) (st : Stack) (new : Trees Fiber) (st' : S
       → st' ≡ st → HasBegun s t st new st' p n fs cs e old answer
   text_begun x number o is f g done stacks =
       let x = again (begun (of_host number)) (begun (of_host (old_host old))) [] [] (host_mark number o f g) refl done in
-      begun_one s t st new st' p n fs cs e old linked knows x.cloned answer (of_host (old_host old)) (part cs [] trees.none) x.given x.olds x.opened x.nexts at (shape is) refl
+      begun_one s t st new st' p n fs cs e old linked knows x.origin answer (of_host (old_host old)) (part cs [] trees.none) x.given x.olds x.opened x.nexts at (shape is) refl
       (λ values stack. around_stack st st' (around e (of_host (old_host old))) (opened fs) e (of_host (old_host old)) cs (given is) stacks values stack)
     where
       shape : elements.text x ≡ e → shape_of s cs e old ≡ one_list (of_host (old_host old)) (part cs [] trees.none)
@@ -155,7 +159,7 @@ module _ (s : Sight) (t : Trees Fiber) (st : Stack) (new : Trees Fiber) (st' : S
       → HasBegun s t st new st' p n fs cs e old answer
   provider_begun c key x es is done stacks =
       let list : Part = part (slice_set cs c x) (listed es) (children_if old) in
-      begun_one s t st new st' p n fs cs e old linked knows done.cloned answer plain list done.given done.olds done.opened done.nexts at
+      begun_one s t st new st' p n fs cs e old linked knows done.origin answer plain list done.given done.olds done.opened done.nexts at
       (subst (λ y. shape_of s cs y old ≡ one_list plain list) is refl) refl
       (λ values stack.
       subst (λ q. IsStack q ((around e plain, slice_set cs c x) ∷ opened fs)) (sym stacks)
@@ -164,7 +168,7 @@ module _ (s : Sight) (t : Trees Fiber) (st : Stack) (new : Trees Fiber) (st' : S
 
   pub boundary_begun : (key : Key) (f : Element) (es : Elements) → elements.boundary key f es ≡ e → Opens stage.trying (listed es) → st' ≡ st → HasBegun s t st new st' p n fs cs e old answer
   boundary_begun key f es is done stacks =
-      begun_trying s t st new st' p n fs cs e old linked knows done.cloned answer (listed es) done.given done.olds done.opened done.nexts at
+      begun_trying s t st new st' p n fs cs e old linked knows done.origin answer (listed es) done.given done.olds done.opened done.nexts at
       (subst (λ y. is_boundary y ≡ true) is refl)
       (subst (λ y. shape_of s cs y old ≡ two_lists (part cs (listed es) (children_if old)) (part cs (fallback_in y ∷ []) (fallback_if old))) is refl)
       (λ values stack.
@@ -172,22 +176,22 @@ module _ (s : Sight) (t : Trees Fiber) (st : Stack) (new : Trees Fiber) (st' : S
       subst (λ q. IsStack q ((x, cs) ∷ opened fs)) (sym stacks)
       (subst (λ l. IsStack st ((x, l) ∷ opened fs)) values (unchanged st x (opened fs) (subst (λ y. given_in y ≡ None) is refl) stack)))
 
-  pub comp_begun : NoNull (children_if old) → (v : Fiber) → Some v ≡ made_value_of t.draft p → (c : ℕ) (key : Key) (props : List ℤ) (kids : Elements) (contexts_here : Contexts) → elements.comp c key props kids ≡ e → contexts_here ≡ values_at st
-      → HasShape (is_cloned v.stage) (shape_of_component s contexts_here c props kids old (component_at s.program c)) contexts_here old t new p answer → st' ≡ st → HasBegun s t st new st' p n fs cs e old answer
-  comp_begun no_null v value c key props kids here is same has stacks = by_shape (subst (λ l. HasShape (is_cloned v.stage) (shape_of_component s l c props kids old (component_at s.program c)) l old t new p answer) (same ∙ values_here t st p n fs cs e old at) has)
+  pub comp_begun : NoNull (children_if old) → (cloned steady : Bool) → KidsStand t p fs e steady → (c : ℕ) (key : Key) (props : List ℤ) (kids : Elements) (contexts_here : Contexts) → elements.comp c key props kids ≡ e → contexts_here ≡ values_at st
+      → HasShape cloned steady (shape_of_component s contexts_here c props kids old (component_at s.program c)) contexts_here old t new p answer → st' ≡ st → HasBegun s t st new st' p n fs cs e old answer
+  comp_begun no_null cloned steady stand c key props kids here is same has stacks = by_shape (subst (λ l. HasShape cloned steady (shape_of_component s l c props kids old (component_at s.program c)) l old t new p answer) (same ∙ values_here t st p n fs cs e old at) has)
     where
       shape_is : shape_of s cs e old ≡ shape_of_component s cs c props kids old (component_at s.program c)
       shape_is = subst (λ y. shape_of s cs y old ≡ shape_of_component s cs c props kids old (component_at s.program c)) is refl
 
-      by_shape : HasShape (is_cloned v.stage) (shape_of_component s cs c props kids old (component_at s.program c)) cs old t new p answer → HasBegun s t st new st' p n fs cs e old answer
+      by_shape : HasShape cloned steady (shape_of_component s cs c props kids old (component_at s.program c)) cs old t new p answer → HasBegun s t st new st' p n fs cs e old answer
       by_shape (waits r shape trees_same answer_is) =
           subst (λ a. HasBegun s t st new st' p n fs cs e old a) (sym answer_is) (begun_waiting s t st new st' p n fs cs e old r at (shape_is ∙ shape) trees_same stacks)
       by_shape (opens o) =
           plain_begun o.mark (begun o.mark) o.list.elements o.list (shape_is ∙ o.shape_is) (subst (λ y. given_in y ≡ None) is refl) o.contexts o.was o.shown refl refl
-          (from_matched (begun o.mark) o.list.elements o.opened) stacks
+          (from_matched (begun o.mark) o.list.elements steady stand o.opened) stacks
       by_shape (keeps o) =
           plain_begun o.mark (begun o.mark) (elements_in (children_if old)) (part cs (elements_in (children_if old)) (children_if old)) (shape_is ∙ o.shape_is) (subst (λ y. given_in y ≡ None) is refl) refl refl o.shown refl refl
-          (from_clones (begun o.mark) (elements_in (children_if old)) v (is_cloned v.stage) value refl o.keeps no_null refl o.opened) stacks
+          (from_clones (begun o.mark) (elements_in (children_if old)) steady stand no_null refl o.opened) stacks
 
   -- a place of no component
   pub other_begun : (number o : Option ℕ) → is_null e ≡ false → parts_in e ≡ None → number ≡ option_and_then host_number (mark_at t.current o) → o ≡ old_of t.draft p
@@ -215,10 +219,10 @@ module _ (s : Sight) (t : Trees Fiber) (st : Stack) (new : Trees Fiber) (st' : S
           (stacks ∙ ap (λ z. begun_stack z st) (sym h))
 
   -- a component's place
-  pub body_begun : NoNull (children_if old) → (v : Fiber) → Some v ≡ made_value_of t.draft p → (c : ℕ) (props : List ℤ) (es : List Element) (here : Contexts) → parts_in e ≡ Some (c, (props, es)) → here ≡ values_at st
-      → ((key : Key) (kids : Elements) → elements.comp c key props kids ≡ e → listed kids ≡ es → HasShape (is_cloned v.stage) (shape_of_component s here c props kids old (component_at s.program c)) here old t new p answer) → st' ≡ st
+  pub body_begun : NoNull (children_if old) → (cloned steady : Bool) → KidsStand t p fs e steady → (c : ℕ) (props : List ℤ) (es : List Element) (here : Contexts) → parts_in e ≡ Some (c, (props, es)) → here ≡ values_at st
+      → ((key : Key) (kids : Elements) → elements.comp c key props kids ≡ e → listed kids ≡ es → HasShape cloned steady (shape_of_component s here c props kids old (component_at s.program c)) here old t new p answer) → st' ≡ st
       → HasBegun s t st new st' p n fs cs e old answer
-  body_begun no_null v value c props es here parts same has stacks = by_element e refl
+  body_begun no_null cloned steady stand c props es here parts same has stacks = by_element e refl
     where
       none_here : (x : Element) → x ≡ e → parts_in x ≡ None → HasBegun s t st new st' p n fs cs e old answer
       none_here x h none = absurd (let q : parts_in x ≡ Some (c, (props, es)) = ap parts_in h ∙ parts in let r : ⊥ = cc in r)
@@ -233,4 +237,4 @@ module _ (s : Sight) (t : Trees Fiber) (st : Stack) (new : Trees Fiber) (st' : S
       by_element (elements.comp d key others kids) h =
           let (q0, q1, q2) = same_parts d c others props (listed kids) es (ap parts_in h ∙ parts) in
           let x : elements.comp c key props kids ≡ e = subst (λ i. elements.comp i key props kids ≡ e) q0 (subst (λ ps. elements.comp d key ps kids ≡ e) q1 h) in
-          comp_begun no_null v value c key props kids here x same (has key kids x q2) stacks
+          comp_begun no_null cloned steady stand c key props kids here x same (has key kids x q2) stacks

@@ -1,5 +1,5 @@
 -- A boundary's fallback opens, alone or beside what the boundary keeps.
-use Rattle.std.specs.Prelude.{◌≡◌, ℕ, ℤ, Bool, true, false, List, [], ◌∷◌, Option, Some, None, IfSome, is_some}
+use Rattle.std.specs.Prelude.{◌≡◌, ℕ, ℤ, true, false, List, [], ◌∷◌, Option, Some, None, IfSome, is_some}
 use Rattle.std.proofs.Common.{refl, sym, ap, ◌∙◌, subst}
 use Rattle.rx_base.specs.Awaits.{Awaits}
 use Rattle.rx_ctx.specs.Contexts.{Stack, values_at}
@@ -15,7 +15,7 @@ use Rattle.rx_links.specs.Readers.{list_from, old_list, IsLinked, made_value_of,
 use Rattle.rx_meaning.specs.Fresh.{Part, part}
 use Rattle.rx_meaning.specs.Cursor.{Cursor, Frame, falling, open_part}
 use Rattle.rx_meaning.specs.Touched.{children_with_old}
-use Rattle.rx_fiber.specs.Fibers.{Fiber, begun, fallback}
+use Rattle.rx_fiber.specs.Fibers.{Fiber, as_matched, begun, fallback}
 use Rattle.rx_fiber.specs.FiberView.{changed}
 use Rattle.rx_fiber.specs.declared.stage.StageChange.TheVariants as change
 use Rattle.rx_fiber.specs.OldLists.{primary_list, fallback_list, matched}
@@ -29,6 +29,7 @@ use Rattle.rx_fiber.proofs.Matching.{matched_old}
 use Rattle.rx_fiber.proofs.OldLists.{primary_is, fallback_is, kept_is, has_node_is}
 use Rattle.rx_fiber.proofs.Opening.{falls_alone, falls_beside}
 use Rattle.rx_fiber.proofs.Stacking.{unchanged}
+use Rattle.rx_fiber.specs.declared.stage.Origin.{Origin}
 use Rattle.rx_begin.specs.Children.{AreMade, HasMadeFrom}
 use Rattle.rx_begin.specs.Nodes.{IsBareAt, IsBareBeside, HasList}
 use Rattle.rx_begin.specs.Opening.{IsLeft, left, KeepsNode, HasOpenedAs, opened_at, fallback_behind, HasKept, HasFallback}
@@ -36,7 +37,7 @@ use Rattle.rx_begin.specs.declared.opening.Opened.{Opened}
 use Rattle.rx_begin.proofs.Making.{KnowsPlaces, made_list}
 use Rattle.rx_begin.proofs.Beside.{alone_tops, beside_tops, sibling_top}
 use Rattle.rx_begin.proofs.Starts.{nexts, leads}
-use Rattle.rx_begin.proofs.Waiting.{new_wait}
+use Rattle.rx_begin.proofs.Waiting.{all_wait}
 
 pub boundary_gives : (e : Element) → is_boundary e ≡ true → given_in e ≡ None
 boundary_gives elements.null h = refl
@@ -71,12 +72,12 @@ module _ (t : Trees Fiber) (st : Stack) (p : ℕ) (a : Awaits) (c : Cursor) (l :
   BeginsNext d = AreNext t.current its_given 0 (children_with_old its_list) d
 
   -- so do those that are matched with the old ones
-  pub matched_next : (es : List Element) (os : List (Option ℕ)) → es ≡ fallback_in l.value.element ∷ [] → os ≡ its_olds → (d : Draft Fiber) → AreMade t.current false 0 es os d → BeginsNext d
+  pub matched_next : (es : List Element) (os : List (Option ℕ)) → es ≡ fallback_in l.value.element ∷ [] → os ≡ its_olds → (d : Draft Fiber) → AreMade t.current (as_matched false) 0 es os d → BeginsNext d
   matched_next es os es_are os_are d are =
-      let here : AreMade t.current false 0 (fallback_in l.value.element ∷ []) its_olds d =
-      subst (λ x. AreMade t.current false 0 x its_olds d) es_are (subst (λ x. AreMade t.current false 0 es x d) os_are are) in
+      let here : AreMade t.current (as_matched false) 0 (fallback_in l.value.element ∷ []) its_olds d =
+      subst (λ x. AreMade t.current (as_matched false) 0 x its_olds d) es_are (subst (λ x. AreMade t.current (as_matched false) 0 es x d) os_are are) in
       nexts t.current its_given 0 (fallback_in l.value.element ∷ []) its_olds (old_nodes (fallback_if l.node) (fallback_in l.value.element ∷ [])) d
-      (new_wait t.current its_given 0 (fallback_in l.value.element ∷ []) its_olds d here)
+      (all_wait t.current its_given (as_matched false) 0 (fallback_in l.value.element ∷ []) its_olds d (λ so. absurd (let q : ⊥ = cc in q)) here)
       (matched_old t.current linked (fallback_if l.node) (fallback_list (list_from t.current l.old)) (fallback_is t.current linked l.old l.node l.was) (fallback_in l.value.element ∷ []))
 
   kids_next : (new : Trees Fiber) (d : Draft Fiber) → new.current ≡ t.current → BeginsNext d → AreNext new.current its_given 0 (children_with_old its_list) d
@@ -92,9 +93,9 @@ module _ (t : Trees Fiber) (st : Stack) (p : ℕ) (a : Awaits) (c : Cursor) (l :
   opens_so new f h = subst (λ x. HasOpenedAs new st x f) (sym l.opens) h
 
   -- a boundary that keeps nothing has its fallback as its children
-  pub left_alone : (cloned : Bool) (new : Trees Fiber) (es : List Element) (os : List (Option ℕ)) (link : Option ℕ) → HasList cloned t new p (begun (of_boundary (Hidden a))) es os link
-      → ((d : Draft Fiber) → AreMade t.current cloned 0 es os d → BeginsNext d) → has_node (children_if l.node) ≡ false → HasOpenedAs new st c (opened_at link p)
-  left_alone cloned new es os link done begins gone =
+  pub left_alone : (origin : Origin) (new : Trees Fiber) (es : List Element) (os : List (Option ℕ)) (link : Option ℕ) → HasList origin t new p (begun (of_boundary (Hidden a))) es os link
+      → ((d : Draft Fiber) → AreMade t.current origin 0 es os d → BeginsNext d) → has_node (children_if l.node) ≡ false → HasOpenedAs new st c (opened_at link p)
+  left_alone origin new es os link done begins gone =
       let next = kids_next new done.kids done.current (begins done.kids done.are) in
       subst (λ x. HasOpenedAs new st c (opened_at x p)) (sym done.first_is)
       (opens_so new (opened_at (entry done.kids) p)
@@ -104,12 +105,12 @@ module _ (t : Trees Fiber) (st : Stack) (p : ℕ) (a : Awaits) (c : Cursor) (l :
       next))
 
   -- one that keeps something has it in a fiber of its own
-  pub left_beside : (cloned : Bool) (u w new : Trees Fiber) (r : Option ℕ) (q : ℕ) (es : List Element) (os : List (Option ℕ)) (link : Option ℕ) → HasKept t u p a → u.current ≡ t.current
-      → (put : HasFallback u w p r a q) → (done : HasMadeFrom cloned 0 w new q es os) → ((d : Draft Fiber) → AreMade t.current cloned 0 es os d → BeginsNext d) → link ≡ entry done.kids
+  pub left_beside : (origin : Origin) (u w new : Trees Fiber) (r : Option ℕ) (q : ℕ) (es : List Element) (os : List (Option ℕ)) (link : Option ℕ) → HasKept t u p a → u.current ≡ t.current
+      → (put : HasFallback u w p r a q) → (done : HasMadeFrom origin 0 w new q es os) → ((d : Draft Fiber) → AreMade t.current origin 0 es os d → BeginsNext d) → link ≡ entry done.kids
       → has_node (children_if l.node) ≡ true → HasOpenedAs new st c (opened_at link q)
-  left_beside cloned u w new r q es os link kept same put done begins link_is some =
+  left_beside origin u w new r q es os link kept same put done begins link_is some =
       let current : new.current ≡ t.current = done.current ∙ (put.current ∙ same) in
-      let are : AreMade t.current cloned 0 es os done.kids = subst (λ k. AreMade k cloned 0 es os done.kids) (put.current ∙ same) done.are in
+      let are : AreMade t.current origin 0 es os done.kids = subst (λ k. AreMade k origin 0 es os done.kids) (put.current ∙ same) done.are in
       let next = kids_next new done.kids current (begins done.kids are) in
       let v : Fiber = record l.value { stage = begun (of_boundary (Hidden a)) } in
       let keeps : Shape Fiber = kids_under t.current l.old in
@@ -249,7 +250,7 @@ module _ (t u : Trees Fiber) (p : ℕ) (a : Awaits) (o : Option ℕ) (is_left : 
   ]
 
 -- a list that was made for a fiber that had none
-module _ (cloned : Bool) (t new : Trees Fiber) (p : ℕ) (first : Option ℕ) (es : List Element) (os : List (Option ℕ)) (beside : IsBareBeside t p first) (done : HasMadeFrom cloned 0 t new p es os)
+module _ (origin : Origin) (t new : Trees Fiber) (p : ℕ) (first : Option ℕ) (es : List Element) (os : List (Option ℕ)) (beside : IsBareBeside t p first) (done : HasMadeFrom origin 0 t new p es os)
     (knows : KnowsPlaces new) where
   new_at : IsAt new beside.around p beside.value beside.old done.kids beside.rest
   new_at = knows beside.around p beside.value beside.old done.kids beside.rest (done.stands beside.around beside.value beside.old beside.rest beside.here)

@@ -16,7 +16,8 @@ use Rattle.rx_links.specs.Readers.{list_from, made_value_of}
 use Rattle.rx_meaning.specs.Cursor.{Frame, falling, at_place, open_part}
 use Rattle.rx_meaning.specs.Fresh.{Sight, Contexts, part, old_instance}
 use Rattle.rx_meaning.specs.Settled.{Known, IsOwn, IfSettled, known_by}
-use Rattle.rx_fiber.specs.Fibers.{Fiber, is_cloned}
+use Rattle.rx_fiber.specs.Fibers.{Fiber, as_cloned, as_matched, is_stood}
+use Rattle.rx_fiber.specs.declared.stage.Origin.{Origin}
 use Rattle.rx_fiber.specs.FiberView.{changed}
 use Rattle.rx_fiber.specs.declared.stage.StageChange.TheVariants as change
 use Rattle.rx_fiber.specs.Reading.{IsOld}
@@ -37,13 +38,13 @@ use Rattle.rx_begin.specs.Others as others
 use Rattle.rx_begin.specs.Bodies.{StoodIn}
 use Rattle.rx_begin.specs.Beginning.{IsHiddenAgain}
 use Rattle.rx_begin.proofs.ByElement.{old_at}
-use Rattle.rx_begin.proofs.Keeping.{clone_stood}
+use Rattle.rx_begin.proofs.Keeping.{stood_in}
 use Rattle.rx_begin.proofs.Making.{KnowsPlaces}
-use Rattle.rx_begin.proofs.Standing.{clone_stands}
+use Rattle.rx_begin.proofs.Standing.{IsAgain, clone_same, stands_so, stood_here}
 
 -- What begins as no hidden boundary
 
-module _ (scene : Scene) (kept : ℕ → Option (List Hook)) (t : Trees Fiber) (st : Stack) (new : Trees Fiber) (st' : Stack) (p : ℕ) (e : Element) (cloned : Bool) where
+module _ (scene : Scene) (kept : ℕ → Option (List Hook)) (t : Trees Fiber) (st : Stack) (new : Trees Fiber) (st' : Stack) (p : ℕ) (e : Element) (origin : Origin) (steady : Bool) where
   abbrev mark : Option Mark
   mark = mark_at t.current (old_of t.draft p)
 
@@ -51,13 +52,13 @@ module _ (scene : Scene) (kept : ℕ → Option (List Hook)) (t : Trees Fiber) (
   olds = primary_list (list_from t.current (old_of t.draft p))
 
   pub other_begins : {E : Type 0} (r : Result Begun E)
-      → IfOk r (λ b. keeps_children cloned mark ≡ true → HasOpened true t new p (begun_stage e (option_and_then host_number mark)) (old_elements olds) (old_fibers olds) b)
-      → IfOk r (λ b. keeps_children cloned mark ≡ false → HasOpened false t new p (begun_stage e (option_and_then host_number mark)) (begun_children e) (matched olds (begun_children e)) b)
-      → OnOk r (st' ≡ begun_stack e st) → IfOk r (λ b. HasBegunOther scene kept t st new st' p e cloned b)
+      → IfOk r (λ b. keeps_children origin.cloned mark ≡ true → HasOpened (as_cloned steady) t new p (begun_stage e (option_and_then host_number mark)) (old_elements olds) (old_fibers olds) b)
+      → IfOk r (λ b. keeps_children origin.cloned mark ≡ false → HasOpened (as_matched steady) t new p (begun_stage e (option_and_then host_number mark)) (begun_children e) (matched olds (begun_children e)) b)
+      → OnOk r (st' ≡ begun_stack e st) → IfOk r (λ b. HasBegunOther scene kept t st new st' p e origin steady b)
   other_begins (Err f) k o stacks = tt
-  other_begins (Ok b) k o stacks = by_kept (keeps_children cloned mark) refl
+  other_begins (Ok b) k o stacks = by_kept (keeps_children origin.cloned mark) refl
     where
-      by_kept : (q : Bool) → keeps_children cloned mark ≡ q → HasBegunOther scene kept t st new st' p e cloned b
+      by_kept : (q : Bool) → keeps_children origin.cloned mark ≡ q → HasBegunOther scene kept t st new st' p e origin steady b
       by_kept true h = others.keeps h (k h) stacks
       by_kept false h = others.opens (o h) stacks
 
@@ -88,12 +89,14 @@ own_boundary p k (elements.boundary key f es) a ns fs (inl own) = absurd (let g 
 own_boundary p k (elements.boundary key f es) a ns fs (inr own) = (key, f, es, refl)
 
 module _ (s : Sight) (kept : ℕ → Option (List Hook)) (t : Trees Fiber) (st : Stack) (new : Trees Fiber) (st' : Stack) (p n : ℕ) (fs : List Frame) (cs : Contexts) (e : Element) (old : Option Node) (a : Awaits)
-    (knows : KnowsPlaces t) (at : StandsAt t st (Some p) (at_place (suc n) fs cs e old)) (v : Fiber) (cloned : Bool) (value : Some v ≡ made_value_of t.draft p) (cloned_is : cloned ≡ is_cloned v.stage) where
+    (knows : KnowsPlaces t) (at : StandsAt t st (Some p) (at_place (suc n) fs cs e old)) (v : Fiber) (value : Some v ≡ made_value_of t.draft p) (origin : Origin) (again : IsAgain t p v origin.cloned)
+    (stood_is : origin.stood ≡ is_stood v.stage) where
   -- from the old node
-  by_node : (x : Node) → old ≡ Some x → cloned ≡ true → mark_of x ≡ of_boundary (Hidden a) → StoodIn (Some x) e → IfSettled s.program (known_by s) (Some x) → WaitsStill s a x → new.current ≡ t.current
+  by_node : (x : Node) → old ≡ Some x → origin.cloned ≡ true → origin.stood ≡ true → mark_of x ≡ of_boundary (Hidden a) → StoodIn (Some x) e → IfSettled s.program (known_by s) (Some x) → WaitsStill s a x → new.current ≡ t.current
       → new ≡ record t { draft = valued p (changed change.Try) t.draft } → st' ≡ st → IsHiddenAgain s t new st' p n fs cs e old a
-  by_node (node f m ns ws) was so mark stood settled waits current tried stacks =
-      let (element, stands) = clone_stands t st p n fs cs e old knows at v cloned value cloned_is so in
+  by_node (node f m ns ws) was so too mark stood settled waits current tried stacks =
+      let element = clone_same t st p n fs cs e old knows at v value origin.cloned again so in
+      let stands = stands_so t.current (given_along fs) (old_of t.draft p) e element (stood_here t st p n fs cs e old knows at v value (sym stood_is ∙ too)) in
       elim at [
         | begins {v = w} {o = o} {rs = rs} {k = k} here is is_old surrounds values stack ↦ (
             let same : f ≡ e = cc in
@@ -141,10 +144,10 @@ module _ (s : Sight) (kept : ℕ → Option (List Hook)) (t : Trees Fiber) (st :
       ]
 
   -- Its fallback opens next.
-  pub hidden_again : cloned ≡ true → mark_at t.current (old_of t.draft p) ≡ Some (of_boundary (Hidden a))
+  pub hidden_again : origin.cloned ≡ true → origin.stood ≡ true → mark_at t.current (old_of t.draft p) ≡ Some (of_boundary (Hidden a))
       → ((x : Node) → IsOld t.current (old_of t.draft p) (Some x) → GivesHooksIn s kept (children_of x) → WaitsStill s a x) → GivesHooksIf s kept old → IfSettled s.program (known_by s) old
       → new.current ≡ t.current → new ≡ record t { draft = valued p (changed change.Try) t.draft } → st' ≡ st → IsHiddenAgain s t new st' p n fs cs e old a
-  hidden_again so mark waits gives settled current tried stacks =
+  hidden_again so too mark waits gives settled current tried stacks =
       by_old old refl
     where
       by_old : (o : Option Node) → old ≡ o → IsHiddenAgain s t new st' p n fs cs e old a
@@ -154,7 +157,7 @@ module _ (s : Sight) (kept : ℕ → Option (List Hook)) (t : Trees Fiber) (st :
       by_old (Some (node f m ns ws)) g =
           let x : Node = node f m ns ws in
           let h : Some m ≡ Some (of_boundary (Hidden a)) = sym (ap (option_map mark_of) g) ∙ (sym (mark_is t.current (old_of t.draft p) old (old_at t st p n fs cs e old knows at)) ∙ mark) in
-          by_node x g so (let q : m ≡ of_boundary (Hidden a) = cc in q)
-          (subst (λ y. StoodIn y e) g (clone_stood t st p n fs cs e old knows at v value (sym cloned_is ∙ so)))
+          by_node x g so too (let q : m ≡ of_boundary (Hidden a) = cc in q)
+          (subst (λ y. StoodIn y e) g (stood_in t.current (old_of t.draft p) old e (old_at t st p n fs cs e old knows at) (clone_same t st p n fs cs e old knows at v value origin.cloned again so)))
           (subst (IfSettled s.program (known_by s)) g settled)
           (waits x (subst (IsOld t.current (old_of t.draft p)) g (old_at t st p n fs cs e old knows at)) (subst (GivesHooksIf s kept) g gives).1) current tried stacks

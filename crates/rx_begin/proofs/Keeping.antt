@@ -1,26 +1,22 @@
 -- What keeps its old children: a clone, and a component without a cause.
-use Rattle.std.specs.Prelude.{◌≡◌, ℕ, ℤ, suc, Bool, true, false, not, ◌&&◌, List, Option, Some, None, IsSome, is_some, option_map}
+use Rattle.std.specs.Prelude.{◌≡◌, ℕ, ℤ, Bool, true, false, not, ◌&&◌, List, Option, Some, None, Result, Ok, Err, IfOk, IsSome, is_some, option_map}
 use Rattle.std.specs.Option.{option_map_or}
 use Rattle.std.proofs.Common.{refl, sym, ap, ◌∙◌, subst, inl, inr}
 use Rattle.rx_ast.specs.Syntax.{Program, Component}
 use Rattle.rx_rules.specs.Names.{component_at}
-use Rattle.rx_ctx.specs.Contexts.{Stack}
 use Rattle.rx_elem.specs.Elements.{Element, Elements, Key, listed}
 use Rattle.rx_elem.specs.Elements as elements
 use Rattle.rx_elem.specs.Trees.{Instance, Mark, of_instance, Node, node, Forest, element_of, elements_in, mark_of, children_if, is_hidden, instance_in}
 use Rattle.rx_elem.proofs.SelfMatch.{NoNull}
 use Rattle.rx_lists.specs.Shapes.{Shape}
-use Rattle.rx_lists.specs.Shapes as shapes
-use Rattle.rx_links.specs.Drafts.{taken, Trees, list_at}
-use Rattle.rx_links.specs.Readers.{value_in, made_value_of, made_value_in}
+use Rattle.rx_links.specs.Drafts.{Trees, list_at}
+use Rattle.rx_links.specs.Readers.{value_in, made_value_of}
 use Rattle.rx_meaning.specs.Body.{body_of, ready}
-use Rattle.rx_meaning.specs.Cursor.{Frame, at_place}
 use Rattle.rx_meaning.specs.Fresh.{Sight, Contexts, one_list, part, hook_values, inputs_at, instance_after, old_instance, shape_of_body, shape_of_component}
 use Rattle.rx_meaning.specs.Settled.{Known, IsBodyOf, IsOwn, IfSettled, done_values, known_by, read_anew}
 use Rattle.commit_laws.proofs.TakeOver.{settled_no_null}
-use Rattle.rx_fiber.specs.Fibers.{Fiber, is_cloned}
+use Rattle.rx_fiber.specs.Fibers.{Fiber}
 use Rattle.rx_fiber.specs.Reading.{IsFor, whole, alone, beside, IsOld, new, of, next}
-use Rattle.rx_fiber.specs.Standing.{StandsAt, begins}
 use Rattle.rx_fiber.specs.Surround.{IsElementOf}
 use Rattle.rx_causes.specs.declared.scene.Scene.{Scene}
 use Rattle.rx_causes.specs.Marks.{mark_at, keeps_children}
@@ -35,7 +31,6 @@ use Rattle.rx_hook_store.specs.Gives.{has_work_in}
 use Rattle.rx_node.specs.MarkView.{instance_seen}
 use Rattle.rx_node.specs.declared.mark.Instance as code
 use Rattle.rx_begin.specs.Bodies.{StoodIn}
-use Rattle.rx_begin.proofs.Making.{KnowsPlaces}
 use Rattle.rx_begin.proofs.Standing.{both_true}
 
 -- The element of an old node
@@ -49,15 +44,6 @@ node_element c j n _ _ rest (beside is hidden some a s b) here = ap (λ l. optio
 pub stood_in : (c : Shape Fiber) (o : Option ℕ) (old : Option Node) (e : Element) → IsOld c o old → IsElementOf c o e → StoodIn old e
 stood_in c _ _ e new same = cc
 stood_in c _ _ e (of {j = j} {n = n} {x = x} {s = s} here leads (next {rest = rest} is a)) same = sym (node_element c j n x s rest is here) ∙ same
-
--- a clone has the element of its old node
-pub clone_stood : (t : Trees Fiber) (st : Stack) (p n : ℕ) (fs : List Frame) (cs : Contexts) (e : Element) (old : Option Node) → KnowsPlaces t
-    → StandsAt t st (Some p) (at_place (suc n) fs cs e old) → (v : Fiber) → Some v ≡ made_value_of t.draft p → is_cloned v.stage ≡ true → StoodIn old e
-clone_stood t st p n fs cs e old knows (begins {v = v} {o = o} {rs = rs} {k = k} here is was surrounds values stack) w f cloned =
-    let l : made_value_of t.draft p ≡ Some v = ap made_value_in (knows k p v o (taken shapes.none) rs here).list in
-    let same : w ≡ v = cc in
-    let so : is.cloned ≡ true = sym (ap (λ u. is_cloned u.stage) same ∙ ap is_cloned is.stage) ∙ cloned in
-    stood_in t.current o old e was (is.same so).0
 
 -- Its children
 
@@ -161,8 +147,14 @@ pub parts_here : (t : Trees Fiber) (q : ℕ) (w v : Fiber) (e : Element) (x : Op
     → parts_in e ≡ x → parts_in v.element ≡ x
 parts_here t q w v e x is here same parts = let so : w ≡ v = cc in ap (λ u. parts_in u.element) (sym so) ∙ (ap parts_in (sym same) ∙ parts)
 
-pub cloned_here : (t : Trees Fiber) (q : ℕ) (w v : Fiber) (cloned b : Bool) → Some w ≡ made_value_of t.draft q → Some v ≡ made_value_of t.draft q → cloned ≡ is_cloned w.stage → is_cloned v.stage ≡ b → cloned ≡ b
-cloned_here t q w v cloned b is here same told = let so : w ≡ v = cc in same ∙ (ap (λ u. is_cloned u.stage) so ∙ told)
+-- a body that is not evaluated is that of what counts as a clone
+pub counts_so : (cloned evaluated : Bool) → (cloned ≡ false → evaluated ≡ true) → evaluated ≡ false → cloned ≡ true
+counts_so true evaluated anew none = refl
+counts_so false evaluated anew none = absurd (let q : true ≡ false = sym (anew refl) ∙ none in let r : ⊥ = cc in r)
+
+pub if_both : {A E : Type 0} (r : Result A E) (P Q : A → Type 0) {R : A → Type 0} → ((a : A) → P a → R a → Q a) → IfOk r P → IfOk r R → IfOk r Q
+if_both (Ok a) P Q f h g = f a h g
+if_both (Err e) P Q f h g = tt
 
 pub no_parts : (x : Option (ℕ × (List ℤ × List Element))) → x ≡ None → IsSome x → ⊥
 no_parts None e h = let q : ⊥ = cc in q

@@ -4,6 +4,7 @@ pub mod Matched
 pub mod Waiting
 pub mod Cloning
 pub mod Nodes
+pub mod Origins
 pub mod Standing
 pub mod Starts
 pub mod ByElement

@@ -1,5 +1,5 @@
 -- A fiber is begun over the children that were made for it.
-use Rattle.std.specs.Prelude.{◌≡◌, ℕ, Bool, List, Option}
+use Rattle.std.specs.Prelude.{◌≡◌, ℕ, List, Option}
 use Rattle.std.proofs.Common.{refl, ap, ◌∙◌, subst}
 use Rattle.rx_elem.specs.Elements.{Element}
 use Rattle.rx_lists.specs.Shapes.{IsTop}
@@ -10,6 +10,7 @@ use Rattle.rx_links.specs.Readers.{list_from, IsLinked, made_value_in, made_kids
 use Rattle.rx_fiber.specs.Fibers.{Fiber, Stage}
 use Rattle.rx_fiber.specs.OldLists.{primary_list}
 use Rattle.rx_fiber.proofs.OldTops.{primary_top}
+use Rattle.rx_fiber.specs.declared.stage.Origin.{Origin}
 use Rattle.rx_begin.specs.Children.{HasMadeFrom}
 use Rattle.rx_begin.specs.Nodes.{IsBareAt, IsBareBeside, HasStage, HasList, HasOpened, begun_over, begun_from}
 use Rattle.rx_begin.specs.declared.node.Begun.{Begun}
@@ -20,7 +21,7 @@ from_first : (d : Draft Fiber) → IsMadeList d → begun_from (entry d) ≡ beg
 from_first (taken s) is = ap (λ l. begun_from (shapes.first l)) is
 from_first (made jd v o ks rs) is = refl
 
-module _ (cloned : Bool) (t u new : Trees Fiber) (p : ℕ) (first : Option ℕ) (stage : Stage) (es : List Element) (os : List (Option ℕ)) (beside : IsBareBeside t p first) (done : HasMadeFrom cloned 0 t u p es os)
+module _ (origin : Origin) (t u new : Trees Fiber) (p : ℕ) (first : Option ℕ) (stage : Stage) (es : List Element) (os : List (Option ℕ)) (beside : IsBareBeside t p first) (done : HasMadeFrom origin 0 t u p es os)
     (knows : KnowsPlaces u) where
   pub still_made : Makes u.draft p
   still_made = (knows beside.around p beside.value beside.old done.kids beside.rest (done.stands beside.around beside.value beside.old beside.rest beside.here)).makes
@@ -47,7 +48,7 @@ module _ (cloned : Bool) (t u new : Trees Fiber) (p : ℕ) (first : Option ℕ) 
     pub made_new : Makes new.draft p
     made_new = at_new.makes
 
-    pub has_list : (link : Option ℕ) → link ≡ entry (made_kids_of new.draft p) → HasList cloned t new p stage es os link
+    pub has_list : (link : Option ℕ) → link ≡ entry (made_kids_of new.draft p) → HasList origin t new p stage es os link
     has_list link is = record {
       kids = done.kids;
       are = done.are;
@@ -57,9 +58,9 @@ module _ (cloned : Bool) (t u new : Trees Fiber) (p : ℕ) (first : Option ℕ) 
     }
 
 -- where the render comes from a list that is made
-pub opened_from : (cloned : Bool) (t new : Trees Fiber) (p : ℕ) (stage : Stage) (es : List Element) (os : List (Option ℕ)) (first : Option ℕ) (answer : Begun) → HasList cloned t new p stage es os first
-    → answer ≡ begun_from first → HasOpened cloned t new p stage es os answer
-opened_from cloned t new p stage es os first answer list is = record {
+pub opened_from : (origin : Origin) (t new : Trees Fiber) (p : ℕ) (stage : Stage) (es : List Element) (os : List (Option ℕ)) (first : Option ℕ) (answer : Begun) → HasList origin t new p stage es os first
+    → answer ≡ begun_from first → HasOpened origin t new p stage es os answer
+opened_from origin t new p stage es os first answer list is = record {
   kids = list.kids;
   are = list.are;
   stands = list.stands;

@@ -1,5 +1,5 @@
 -- The fibers that are made for a fallback's list begin next, clones of the old ones too.
-use Rattle.std.specs.Prelude.{◌≡◌, ℕ, true, false, List, [], ◌∷◌, Option, Some, None, is_none, option_and_then, option_map, slice_get}
+use Rattle.std.specs.Prelude.{◌≡◌, ℕ, true, false, List, [], ◌∷◌, Option, Some, None, option_and_then, option_map, slice_get}
 use Rattle.std.specs.Option.{option_flatten, option_map_or}
 use Rattle.std.specs.List.{zip}
 use Rattle.std.proofs.Common.{sym, ap, ◌∙◌, subst, inl, inr}
@@ -17,7 +17,7 @@ use Rattle.rx_links.specs.Readers.{list_from, value_of, IsLinked}
 use Rattle.rx_meaning.specs.Cursor.{Cursor}
 use Rattle.rx_meaning.specs.Settled.{IfSettled, IsOwn, Known}
 use Rattle.commit_laws.proofs.TakeOver.{settled_no_null}
-use Rattle.rx_fiber.specs.Fibers.{Fiber}
+use Rattle.rx_fiber.specs.Fibers.{Fiber, as_cloned}
 use Rattle.rx_fiber.specs.OldLists.{fallback_list, hides_in, matched, old_elements, old_fibers}
 use Rattle.rx_fiber.specs.Reading.{IsOld}
 use Rattle.rx_fiber.specs.Stood.{StoodAt, given_in, one_more}
@@ -29,12 +29,12 @@ use Rattle.rx_causes.proofs.Marks.{mark_is}
 use Rattle.rx_begin.specs.Bodies.{StoodIn}
 use Rattle.rx_begin.specs.Children.{AreMade}
 use Rattle.rx_begin.specs.Again.{HasOldFallback}
-use Rattle.rx_begin.specs.Opening.{IsFallbackOf, given_elements, given_fibers}
+use Rattle.rx_begin.specs.Opening.{IsFallbackOf, given_as, given_elements, given_fibers}
 use Rattle.rx_begin.proofs.Cloning.{kept_next}
 use Rattle.rx_begin.proofs.Falling.{BeginsNext, boundary_gives, matched_next}
 use Rattle.rx_begin.proofs.Keeping.{stood_in}
 use Rattle.rx_begin.proofs.Standing.{mark_hides}
-use Rattle.rx_begin.proofs.Waiting.{clones_wait}
+use Rattle.rx_begin.proofs.Waiting.{all_wait}
 
 -- What a settled hidden boundary has for its fallback
 
@@ -75,7 +75,7 @@ module _ (t : Trees Fiber) (st : Stack) (p : ℕ) (a : Awaits) (c : Cursor) (l :
       stood_in_fallback t.current (given_along l.frames) l.value.element l.old i j h.stood h.same (λ v value. hides_if t.current l.old l.node v l.was h.hidden value) (ap option_flatten is)
 
   -- clones begin next
-  cloned_next : HasOldFallback t.current (given_along l.frames) l.old l.node l.value.element → (d : Draft Fiber) → AreMade t.current true 0 (old_elements its_old) (old_fibers its_old) d
+  cloned_next : HasOldFallback t.current (given_along l.frames) l.old l.node l.value.element → (d : Draft Fiber) → AreMade t.current (as_cloned true) 0 (old_elements its_old) (old_fibers its_old) d
       → BeginsNext t st p a c l linked d
   cloned_next h d are =
       let own = fallback_is_own h.program h.known l.value.element l.node h.settled (stood_in t.current l.old l.node l.value.element l.was h.same) l.boundary h.hidden in
@@ -83,12 +83,12 @@ module _ (t : Trees Fiber) (st : Stack) (p : ℕ) (a : Awaits) (c : Cursor) (l :
       subst (λ ws. AreNext t.current ws 0 (zip (fallback_in l.value.element ∷ []) (old_nodes (fallback_if l.node) (fallback_in l.value.element ∷ []))) d) gives
       (subst (λ es. AreNext t.current (given_along l.frames) 0 (zip es (old_nodes (fallback_if l.node) es)) d) own.0
       (kept_next t.current linked (given_along l.frames) (fallback_if l.node) its_old (fallback_is t.current linked l.old l.node l.was) own.1 d
-      (clones_wait t.current (given_along l.frames) 0 (old_elements its_old) (old_fibers its_old) d (clones_stand h) are)))
+      (all_wait t.current (given_along l.frames) (as_cloned true) 0 (old_elements its_old) (old_fibers its_old) d (λ so. clones_stand h) are)))
 
   -- So do those of the elements that are given, and clones where none are.
   pub given_next : (given : Option (List Element)) → IsFallbackOf t.current (given_along l.frames) l.old l.node l.value.element given → (s : Shape Fiber) → s ≡ its_old
-      → (d : Draft Fiber) → AreMade t.current (is_none given) 0 (given_elements given s) (given_fibers given s) d → BeginsNext t st p a c l linked d
-  given_next None h s is d are = cloned_next h d (subst (λ x. AreMade t.current true 0 (old_elements x) (old_fibers x) d) is are)
+      → (d : Draft Fiber) → AreMade t.current (given_as given) 0 (given_elements given s) (given_fibers given s) d → BeginsNext t st p a c l linked d
+  given_next None h s is d are = cloned_next h d (subst (λ x. AreMade t.current (as_cloned true) 0 (old_elements x) (old_fibers x) d) is are)
   given_next (Some es) h s is d are =
       matched_next t st p a c l linked es (matched s es) h (ap (λ x. matched x es) is ∙ ap (matched its_old) h) d are
 

@@ -1,7 +1,7 @@
 -- Where the children of the current fiber stand for which a cloned place was made.
-use Rattle.std.specs.Prelude.{◌≡◌, ℕ, suc, Bool, true, false, not, ◌&&◌, List, Option, Some, None, slice_get, option_and_then}
-use Rattle.std.specs.Option.{option_flatten, option_map_or}
-use Rattle.std.proofs.Common.{refl, sym, ap, ◌∙◌, subst}
+use Rattle.std.specs.Prelude.{◌≡◌, ℕ, ℤ, suc, Bool, true, false, ◌&&◌, ◌⊎◌, List, Option, Some, None, option_and_then}
+use Rattle.std.specs.Option.{option_map_or}
+use Rattle.std.proofs.Common.{refl, sym, ap, ◌∙◌, subst, inl, inr}
 use Rattle.rx_ctx.specs.Contexts.{Stack}
 use Rattle.rx_elem.specs.Elements.{Element}
 use Rattle.rx_elem.specs.Trees.{Instance, Mark, of_instance, of_host, of_boundary, plain, Node, is_hidden, instance_in}
@@ -11,14 +11,14 @@ use Rattle.rx_links.specs.Drafts.{taken, Trees, old_of}
 use Rattle.rx_links.specs.Readers.{value_of, list_from, made_value_of, made_value_in}
 use Rattle.rx_meaning.specs.Cursor.{Frame, at_place}
 use Rattle.rx_meaning.specs.Fresh.{Contexts}
-use Rattle.rx_fiber.specs.Fibers.{Fiber, Stage, waiting, begun, trying, fallback, is_cloned}
-use Rattle.rx_fiber.specs.OldLists.{hides_in, primary_list, old_fibers}
-use Rattle.rx_fiber.specs.Stood.{given_more, StoodAt}
-use Rattle.rx_fiber.specs.Surround.{IsElementOf, given_along}
+use Rattle.rx_fiber.specs.Fibers.{Fiber, Stage, waiting, begun, trying, fallback, is_cloned, is_stood}
+use Rattle.rx_fiber.specs.OldLists.{fiber_at, hides_in, primary_list}
+use Rattle.rx_fiber.specs.Stood.{given_in, given_more, StoodAt}
+use Rattle.rx_fiber.specs.Surround.{IsElementOf, StandsIf, given_along}
 use Rattle.rx_fiber.specs.Standing.{StandsAt, begins}
 use Rattle.rx_fiber.proofs.Stood.{stood_below}
 use Rattle.rx_causes.specs.Marks.{begun_mark, mark_at, keeps_children}
-use Rattle.rx_causes.proofs.Causes.{shown_again}
+use Rattle.rx_begin.specs.Origins.{IsSteady}
 use Rattle.rx_begin.proofs.Making.{KnowsPlaces}
 
 pub both_true : (a b : Bool) → a && b ≡ true → (a ≡ true) × (b ≡ true)
@@ -36,26 +36,47 @@ hides_as (fallback a) = refl
 pub mark_hides : (c : Shape Fiber) (o : Option ℕ) (v : Fiber) → option_and_then (value_of c) o ≡ Some v → option_map_or is_hidden (mark_at c o) false ≡ hides_in v.stage
 mark_hides c o v e = ap (λ x. option_map_or is_hidden (option_and_then (λ (v : Fiber). begun_mark v.stage) x) false) e ∙ hides_as v.stage
 
-module _ (t : Trees Fiber) (st : Stack) (p n : ℕ) (fs : List Frame) (cs : Contexts) (e : Element) (old : Option Node) (knows : KnowsPlaces t)
-    (at : StandsAt t st (Some p) (at_place (suc n) fs cs e old)) (v : Fiber) (cloned : Bool) (value : Some v ≡ made_value_of t.draft p) (cloned_is : cloned ≡ is_cloned v.stage) where
-  -- a clone has the element of the current fiber for which it was made, and stands as that one
-  pub clone_stands : cloned ≡ true → IsElementOf t.current (old_of t.draft p) e × StoodAt t.current (given_along fs) (old_of t.draft p)
-  clone_stands so = elim at [
-    | begins {v = w} {o = o} {rs = rs} {k = k} here is was surrounds values stack ↦ (
-        let l : made_value_of t.draft p ≡ Some w = ap made_value_in (knows k p w o (taken shapes.none) rs here).list in
-        let same : v ≡ w = cc in
-        let too : is.cloned ≡ true = sym (ap (λ u. is_cloned u.stage) same ∙ ap is_cloned is.stage) ∙ (sym cloned_is ∙ so) in
-        subst (λ q. IsElementOf t.current q e × StoodAt t.current (given_along fs) q) (sym (knows k p w o (taken shapes.none) rs here).old) (is.same too))
-  ]
+-- What counts as a clone is one, or has the element of its current fiber.
+abbrev pub IsAgain : Trees Fiber → (p : ℕ) → Fiber → (cloned : Bool) → Type 0
+IsAgain t p v cloned = cloned ≡ true → (is_cloned v.stage ≡ true) ⊎ IsElementOf t.current (old_of t.draft p) v.element
 
-  -- the children of that one stand below it, where it hides nothing
-  pub kids_stand : keeps_children cloned (mark_at t.current (old_of t.draft p)) ≡ true
-      → (i j : ℕ) → slice_get (old_fibers (primary_list (list_from t.current (old_of t.draft p)))) i ≡ Some (Some j) → StoodAt t.current (given_more e (given_along fs)) (Some j)
-  kids_stand keeps i j is =
-      let (so, shown) = both_true cloned (not (option_map_or is_hidden (mark_at t.current (old_of t.draft p)) false)) keeps in
-      let (same, stood) = clone_stands so in
-      stood_below t.current (given_along fs) e (old_of t.draft p) i j stood same
-      (λ w f. sym (mark_hides t.current (old_of t.draft p) w f) ∙ shown_again (option_map_or is_hidden (mark_at t.current (old_of t.draft p)) false) shown) (ap option_flatten is)
+-- So it has that element.
+pub clone_same : (t : Trees Fiber) (st : Stack) (p n : ℕ) (fs : List Frame) (cs : Contexts) (e : Element) (old : Option Node) → KnowsPlaces t
+    → StandsAt t st (Some p) (at_place (suc n) fs cs e old) → (v : Fiber) → Some v ≡ made_value_of t.draft p → (cloned : Bool) → IsAgain t p v cloned → cloned ≡ true → IsElementOf t.current (old_of t.draft p) e
+clone_same t st p n fs cs e old knows (begins {v = w} {o = o} {rs = rs} {k = k} here is was surrounds values stack) v value cloned again so = by_case (again so)
+  where
+    same : v ≡ w
+    same = let l : made_value_of t.draft p ≡ Some w = ap made_value_in (knows k p w o (taken shapes.none) rs here).list in cc
+
+    by_case : (is_cloned v.stage ≡ true) ⊎ IsElementOf t.current (old_of t.draft p) v.element → IsElementOf t.current (old_of t.draft p) e
+    by_case (inl clone) =
+        let too : is.origin.cloned ≡ true = sym (ap (λ u. is_cloned u.stage) same ∙ ap is_cloned is.stage) ∙ clone in
+        subst (λ q. IsElementOf t.current q e) (sym (knows k p w o (taken shapes.none) rs here).old) (is.same too)
+    by_case (inr its) = subst (λ y. IsElementOf t.current (old_of t.draft p) y) (ap (λ u. u.element) same ∙ is.element) its
+
+-- The current fiber of one that stood, if it is there, stands where the same values are given.
+pub stood_here : (t : Trees Fiber) (st : Stack) (p n : ℕ) (fs : List Frame) (cs : Contexts) (e : Element) (old : Option Node) → KnowsPlaces t
+    → StandsAt t st (Some p) (at_place (suc n) fs cs e old) → (v : Fiber) → Some v ≡ made_value_of t.draft p → is_stood v.stage ≡ true → StandsIf t.current (given_along fs) (old_of t.draft p)
+stood_here t st p n fs cs e old knows (begins {v = w} {o = o} {rs = rs} {k = k} here is was surrounds values stack) v value so =
+    let l : made_value_of t.draft p ≡ Some w = ap made_value_in (knows k p w o (taken shapes.none) rs here).list in
+    let same : v ≡ w = cc in
+    let too : is.origin.stood ≡ true = sym (ap (λ u. is_stood u.stage) same ∙ ap is_stood is.stage) ∙ so in
+    subst (λ q. StandsIf t.current (given_along fs) q) (sym (knows k p w o (taken shapes.none) rs here).old) (is.stands too)
+
+-- it is there where it has an element, or an old node
+pub stands_so : (c : Shape Fiber) (ws : List (ℕ × ℤ)) (o : Option ℕ) (e : Element) → IsElementOf c o e → StandsIf c ws o → StoodAt c ws o
+stands_so c ws None e same h = cc
+stands_so c ws (Some i) e same h = h
+
+-- The children of the current fiber of a steady place stand where those of the place will.
+abbrev pub KidsStand : Trees Fiber → (p : ℕ) → List Frame → Element → (steady : Bool) → Type 0
+KidsStand t p fs e steady = steady ≡ true → (place j : ℕ) → fiber_at (primary_list (list_from t.current (old_of t.draft p))) place ≡ Some j → StoodAt t.current (given_more e (given_along fs)) (Some j)
+
+pub kids_stand : (t : Trees Fiber) (st : Stack) (p n : ℕ) (fs : List Frame) (cs : Contexts) (e : Element) (old : Option Node) → KnowsPlaces t
+    → StandsAt t st (Some p) (at_place (suc n) fs cs e old) → (v : Fiber) → Some v ≡ made_value_of t.draft p → v.element ≡ e → (steady : Bool) → (steady ≡ true → IsSteady t.current (old_of t.draft p) v) → KidsStand t p fs e steady
+kids_stand t st p n fs cs e old knows at v value element steady is so place j here =
+    let s = is so in
+    stood_below t.current (given_along fs) e (old_of t.draft p) s.old place j (stood_here t st p n fs cs e old knows at v value s.stood) s.old_is s.shown (sym (ap given_in element) ∙ s.gives) here
 
 -- what an instance has keeps its children
 pub instance_keeps : (c : Shape Fiber) (o : Option ℕ) (cloned : Bool) (i : Instance) → cloned ≡ true → option_and_then instance_in (mark_at c o) ≡ Some i → keeps_children cloned (mark_at c o) ≡ true

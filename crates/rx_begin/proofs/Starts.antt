@@ -1,5 +1,5 @@
 -- What a node leaves that is begun over its children.
-use Rattle.std.specs.Prelude.{◌≡◌, ℕ, ℤ, suc, cond, Bool, true, false, List, [], ◌∷◌, ◌++◌, Option, Some, None}
+use Rattle.std.specs.Prelude.{◌≡◌, ℕ, ℤ, suc, cond, true, false, List, [], ◌∷◌, ◌++◌, Option, Some, None}
 use Rattle.std.specs.List.{zip}
 use Rattle.std.proofs.Common.{refl, sym, ap, ◌∙◌, subst}
 use Rattle.rx_ctx.specs.Contexts.{Stack, values_at}
@@ -27,6 +27,7 @@ use Rattle.rx_fiber.proofs.OldLists.{primary_is}
 use Rattle.rx_fiber.proofs.Matching.{AreOld, matched_old}
 use Rattle.rx_fiber.proofs.Opening.{opens_one, tries_children}
 use Rattle.rx_fiber.proofs.Unwinding.{place_within}
+use Rattle.rx_fiber.specs.declared.stage.Origin.{Origin}
 use Rattle.rx_begin.specs.Nodes.{begun_over, HasOpened}
 use Rattle.rx_begin.specs.Beginning.{IsPlace, IsEnd, HasBegun}
 use Rattle.rx_begin.specs.declared.node.Begun.{Begun}
@@ -87,10 +88,10 @@ module _ (s : Sight) (t : Trees Fiber) (st : Stack) (new : Trees Fiber) (st' : S
     olds_of o es was = matched_old t.current linked (children_if old) (primary_list (list_from t.current o)) (primary_is t.current linked o old was) es
 
     -- a node with one list
-    pub begun_one : (cloned : Bool) (answer : Begun) (m : Mark) (list : Part) (es : List Element) (os : List (Option ℕ)) → (done : HasOpened cloned t new p (begun m) es os answer) → AreNext t.current (given_more e (given_along fs)) 0 (children_with_old list) done.kids
+    pub begun_one : (origin : Origin) (answer : Begun) (m : Mark) (list : Part) (es : List Element) (os : List (Option ℕ)) → (done : HasOpened origin t new p (begun m) es os answer) → AreNext t.current (given_more e (given_along fs)) 0 (children_with_old list) done.kids
         → StandsAt t st (Some p) (at_place (suc n) fs cs e old) → shape_of s cs e old ≡ one_list m list → is_hidden m ≡ false
         → (values_at st ≡ cs → IsStack st (opened fs) → IsStack st' ((around e m, list.contexts) ∷ opened fs)) → HasBegun s t st new st' p n fs cs e old answer
-    begun_one cloned answer m list es os done beside (begins {v = v} {o = o} {rs = rs} {k = k} here is was surrounds values stack) shape shown stacks =
+    begun_one origin answer m list es os done beside (begins {v = v} {o = o} {rs = rs} {k = k} here is was surrounds values stack) shape shown stacks =
         let kids = subst (λ c. AreNext c (given_more e (given_along fs)) 0 (children_with_old list) done.kids) (sym done.current) beside in
         let surrounds' : IsAround new.current k v.place rs fs =
         subst (λ c. IsAround c k v.place rs fs) (sym done.current) (subst (λ place. IsAround t.current k place rs fs) (sym is.at) surrounds) in
@@ -99,12 +100,12 @@ module _ (s : Sight) (t : Trees Fiber) (st : Stack) (new : Trees Fiber) (st' : S
         kids
 
     -- a boundary
-    pub begun_trying : (cloned : Bool) (answer : Begun) (es given : List Element) (os : List (Option ℕ)) → (done : HasOpened cloned t new p stage.trying given os answer)
+    pub begun_trying : (origin : Origin) (answer : Begun) (es given : List Element) (os : List (Option ℕ)) → (done : HasOpened origin t new p stage.trying given os answer)
         → AreNext t.current (given_more e (given_along fs)) 0 (children_with_old (part cs es (children_if old))) done.kids → StandsAt t st (Some p) (at_place (suc n) fs cs e old) → is_boundary e ≡ true
         → shape_of s cs e old ≡ two_lists (part cs es (children_if old)) (part cs (fallback_in e ∷ []) (fallback_if old))
         → (values_at st ≡ cs → IsStack st (opened fs) → IsStack st' ((trying e old (part cs (fallback_in e ∷ []) (fallback_if old)), cs) ∷ opened fs))
         → HasBegun s t st new st' p n fs cs e old answer
-    begun_trying cloned answer es given os done beside (begins {v = v} {o = o} {rs = rs} {k = k} here is was surrounds values stack) boundary shape stacks =
+    begun_trying origin answer es given os done beside (begins {v = v} {o = o} {rs = rs} {k = k} here is was surrounds values stack) boundary shape stacks =
         let list : Part = part cs es (children_if old) in
         let kids = subst (λ c. AreNext c (given_more e (given_along fs)) 0 (children_with_old list) done.kids) (sym done.current) beside in
         let surrounds' : IsAround new.current k v.place rs fs =

@@ -1,7 +1,7 @@
 -- A clone whose old node is idle takes the old children over.
-use Rattle.std.specs.Prelude.{◌≡◌, ℕ, suc, Bool, true, false, List, Option, Some, None, IsSome, option_map}
-use Rattle.std.proofs.Common.{refl, sym, ap, ◌∙◌, subst}
-use Rattle.rx_ctx.specs.Contexts.{Stack}
+use Rattle.std.specs.Prelude.{◌≡◌, ℕ, suc, Bool, true, false, List, Option, Some, None, ◌⊎◌, IsSome, option_map}
+use Rattle.std.proofs.Common.{refl, sym, ap, ◌∙◌, subst, inl, inr}
+use Rattle.rx_ctx.specs.Contexts.{Stack, values_at}
 use Rattle.rx_susp.specs.declared.boundary.BoundaryState.TheVariants.{Hidden, Shown}
 use Rattle.rx_elem.specs.Elements.{Element}
 use Rattle.rx_elem.specs.Trees.{Mark, Node, element_of, is_hidden, mark_of, node, of_boundary, of_host, of_instance, plain}
@@ -14,11 +14,14 @@ use Rattle.rx_links.specs.Places.{placed}
 use Rattle.rx_links.specs.Readers.{IsLinked, made_value_in, made_value_of}
 use Rattle.rx_meaning.specs.Cursor.{Frame, at_place}
 use Rattle.rx_meaning.specs.Fresh.{Contexts, Sight}
+use Rattle.rx_meaning.specs.Settled.{ReadsHold}
 use Rattle.commit_laws.specs.Idle.{IsIdle, IsIdleMark}
 use Rattle.rx_ways.specs.Ways.{Covers, CoversIf}
-use Rattle.rx_fiber.specs.Fibers.{Fiber, begun, is_cloned}
+use Rattle.rx_fiber.specs.Fibers.{Fiber, begun, is_stood}
+use Rattle.rx_fiber.specs.declared.stage.Origin.{Origin}
 use Rattle.rx_fiber.specs.Reading.{IsFor, whole, alone, beside, IsOld, of, next}
-use Rattle.rx_fiber.specs.Surround.{IsAround}
+use Rattle.rx_fiber.specs.Stood.{StoodAt}
+use Rattle.rx_fiber.specs.Surround.{IsAround, IsElementOf, given_along}
 use Rattle.rx_fiber.specs.Standing.{StandsAt, begins}
 use Rattle.rx_fiber.proofs.OldLists.{kids_are}
 use Rattle.rx_causes.specs.Marks.{mark_at}
@@ -28,11 +31,11 @@ use Rattle.rx_causes.proofs.Marks.{mark_is}
 use Rattle.rx_begin.specs.Nodes.{HasStage, HasTaken}
 use Rattle.rx_begin.specs.Bodies.{StoodIn}
 use Rattle.rx_begin.specs.Beginning.{IsTakenOver}
-use Rattle.rx_begin.proofs.ByElement.{old_at}
+use Rattle.rx_begin.proofs.ByElement.{old_at, values_here}
 use Rattle.rx_begin.proofs.Falling.{took_so}
-use Rattle.rx_begin.proofs.Keeping.{clone_stood}
+use Rattle.rx_begin.proofs.Keeping.{stood_in}
 use Rattle.rx_begin.proofs.Making.{KnowsPlaces}
-use Rattle.rx_begin.proofs.Standing.{clone_stands}
+use Rattle.rx_begin.proofs.Standing.{IsAgain, clone_same, stands_so, stood_here}
 
 -- The fiber
 
@@ -77,12 +80,26 @@ stands_again c _ _ linked (of {j = j} {n = n} {x = x} {s = s} here leads (next {
     by_fibers n _ _ rest (beside {m = m} is hidden some a s f) here leads shows same = absurd (let q : ⊥ = cc in q)
 
 module _ (s : Sight) (kept : ℕ → Option (List Hook)) (t : Trees Fiber) (st : Stack) (new : Trees Fiber) (st' : Stack) (p n : ℕ) (fs : List Frame) (cs : Contexts) (e : Element) (old : Option Node)
-    (linked : IsLinked t.current) (knows : KnowsPlaces t) (at : StandsAt t st (Some p) (at_place (suc n) fs cs e old)) (v : Fiber) (cloned : Bool) (value : Some v ≡ made_value_of t.draft p)
-    (cloned_is : cloned ≡ is_cloned v.stage) (so : cloned ≡ true) (took : HasTaken t new p) (current : new.current ≡ t.current) (stacks : st' ≡ st) where
+    (linked : IsLinked t.current) (knows : KnowsPlaces t) (at : StandsAt t st (Some p) (at_place (suc n) fs cs e old)) (v : Fiber) (value : Some v ≡ made_value_of t.draft p) (origin : Origin)
+    (again : IsAgain t p v origin.cloned) (stood_is : origin.stood ≡ is_stood v.stage) (so : origin.cloned ≡ true) (took : HasTaken t new p) (current : new.current ≡ t.current) (stacks : st' ≡ st) where
+  -- it has the element of its current fiber
+  element_here : IsElementOf t.current (old_of t.draft p) e
+  element_here = clone_same t st p n fs cs e old knows at v value origin.cloned again so
+
+  -- that one stands where the same values are given, or what was read there holds
+  stood_or_read : (x : Node) → old ≡ Some x → (origin.stood ≡ false → (y : Node) → IsOld t.current (old_of t.draft p) (Some y) → ReadsHold (values_at st) y)
+      → StoodAt t.current (given_along fs) (old_of t.draft p) ⊎ ReadsHold cs x
+  stood_or_read x was reads = by_stood origin.stood refl
+    where
+      by_stood : (b : Bool) → origin.stood ≡ b → StoodAt t.current (given_along fs) (old_of t.draft p) ⊎ ReadsHold cs x
+      by_stood true f = inl (stands_so t.current (given_along fs) (old_of t.draft p) e element_here (stood_here t st p n fs cs e old knows at v value (sym stood_is ∙ f)))
+      by_stood false f =
+          inr (subst (λ l. ReadsHold l x) (values_here t st p n fs cs e old at)
+          (reads f x (subst (IsOld t.current (old_of t.draft p)) was (old_at t st p n fs cs e old knows at))))
+
   -- from the old node
-  by_node : (x : Node) → old ≡ Some x → StoodIn (Some x) e → IsIdle s x → IsTakenOver s t new st' p fs e old
-  by_node x was stood idle =
-      let (element, stands) = clone_stands t st p n fs cs e old knows at v cloned value cloned_is so in
+  by_node : (x : Node) → old ≡ Some x → StoodIn (Some x) e → IsIdle s x → StoodAt t.current (given_along fs) (old_of t.draft p) ⊎ ReadsHold cs x → IsTakenOver s t new st' p fs cs e old
+  by_node x was stood idle stands =
       let same : element_of x ≡ e = cc in
       elim at [
         | begins {v = w} {o = o} {rs = rs} {k = k} here is is_old surrounds values stack ↦ (
@@ -110,15 +127,16 @@ module _ (s : Sight) (kept : ℕ → Option (List Hook)) (t : Trees Fiber) (st :
       ]
 
   -- It is done.
-  pub taken_over : (way : ℕ → Bool) → IsSome (mark_at t.current (old_of t.draft p)) → ((x : Node) → IsOld t.current (old_of t.draft p) (Some x) → ForEach (GivesHooks s kept) x → Covers way (IsIdleMark s) x → IsIdle s x) → GivesHooksIf s kept old → CoversIf way (IsIdleMark s) old
-      → IsTakenOver s t new st' p fs e old
-  taken_over way there idle gives covers = by_old old refl
+  pub taken_over : (way : ℕ → Bool) → IsSome (mark_at t.current (old_of t.draft p)) → ((x : Node) → IsOld t.current (old_of t.draft p) (Some x) → ForEach (GivesHooks s kept) x → Covers way (IsIdleMark s) x → IsIdle s x)
+      → (origin.stood ≡ false → (x : Node) → IsOld t.current (old_of t.draft p) (Some x) → ReadsHold (values_at st) x) → GivesHooksIf s kept old → CoversIf way (IsIdleMark s) old → IsTakenOver s t new st' p fs cs e old
+  taken_over way there idle reads gives covers = by_old old refl
     where
-      by_old : (o : Option Node) → old ≡ o → IsTakenOver s t new st' p fs e old
+      by_old : (o : Option Node) → old ≡ o → IsTakenOver s t new st' p fs cs e old
       by_old None f =
           absurd
           (let g : false ≡ true = subst IsSome (mark_is t.current (old_of t.draft p) old (old_at t st p n fs cs e old knows at) ∙ ap (option_map mark_of) f) there in
           let q : ⊥ = cc in q)
       by_old (Some x) g =
-          by_node x g (subst (λ y. StoodIn y e) g (clone_stood t st p n fs cs e old knows at v value (sym cloned_is ∙ so)))
+          by_node x g (subst (λ y. StoodIn y e) g (stood_in t.current (old_of t.draft p) old e (old_at t st p n fs cs e old knows at) element_here))
           (idle x (subst (IsOld t.current (old_of t.draft p)) g (old_at t st p n fs cs e old knows at)) (subst (GivesHooksIf s kept) g gives) (subst (CoversIf way (IsIdleMark s)) g covers))
+          (stood_or_read x g reads)

@@ -1,5 +1,5 @@
 -- A place begins.
-use Rattle.std.specs.Prelude.{◌≡◌, ℕ, suc, Bool, true, false, List, [], ◌∷◌, Option, Some, None}
+use Rattle.std.specs.Prelude.{◌≡◌, ℕ, suc, Bool, true, false, List, [], ◌∷◌, Option, Some, None, ◌⊎◌}
 use Rattle.rx_base.specs.Awaits.{Awaits, one}
 use Rattle.rx_ast.specs.Syntax.{Program}
 use Rattle.rx_ctx.specs.Contexts.{Stack}
@@ -12,7 +12,7 @@ use Rattle.rx_lists.specs.Shapes as shapes
 use Rattle.rx_links.specs.Drafts.{taken, Trees, old_of}
 use Rattle.rx_meaning.specs.Again.{AllValuesAgree, AreUnresolved}
 use Rattle.rx_meaning.specs.Fresh.{Sight, Contexts, part, waiting, shape_of}
-use Rattle.rx_meaning.specs.Settled.{IfSettled, known_by}
+use Rattle.rx_meaning.specs.Settled.{IfSettled, ReadsHold, known_by}
 use Rattle.rx_meaning.specs.Cursor.{Frame, Cursor, falling, at_place, at_end, ended, is_null, open_part, unit, unwind}
 use Rattle.commit_laws.specs.Idle.{IsIdle, IsIdleMark}
 use Rattle.commit_laws.specs.WaitsAgain.{without_lanes}
@@ -64,14 +64,14 @@ pub record IsHiddenAgain (s : Sight) (t new : Trees Fiber) (st' : Stack) (p n : 
   pub left : IsLeftAt new st' p (taken shapes.none) a (open_part n fs (falling e old a) (part cs (fallback_in e ∷ []) (fallback_if old)))
   pub again : HasOldFallback new.current (given_along left.frames) left.old left.node left.value.element
 
--- The place is that of a clone whose old node is idle: its old children are taken over, and it is done.
-pub record IsTakenOver (s : Sight) (t new : Trees Fiber) (st' : Stack) (p : ℕ) (fs : List Frame) (e : Element) (old : Option Node) : Type 0 where
+-- The place is that of a clone whose old node is idle, and stands where the same values of contexts are given, or was read with those that are given here: its old children are taken over, and it is done.
+pub record IsTakenOver (s : Sight) (t new : Trees Fiber) (st' : Stack) (p : ℕ) (fs : List Frame) (cs : Contexts) (e : Element) (old : Option Node) : Type 0 where
   pub node : Node
   pub was : old ≡ Some node
   pub same : element_of node ≡ e
   pub idle : IsIdle s node
   pub old_is : IsOld t.current (old_of t.draft p) old
-  pub stood : StoodAt t.current (given_along fs) (old_of t.draft p)
+  pub stood : StoodAt t.current (given_along fs) (old_of t.draft p) ⊎ ReadsHold cs node
   pub passed : IsPassed new st' p fs node
 
 -- What a unit leaves that begins the place of a fiber: the render stands at the first child, or at the fiber's end; or a body waits, and all is as it was; or a hidden boundary waits still; or old children are taken over.
@@ -86,7 +86,7 @@ HasBegun s t st new st' p n fs cs e old (Suspended r) =
     × (st' ≡ st)
     × IsWithin new st' p fs
 HasBegun s t st new st' p n fs cs e old (answers.Hidden a) = IsHiddenAgain s t new st' p n fs cs e old a
-HasBegun s t st new st' p n fs cs e old Taken = IsTakenOver s t new st' p fs e old
+HasBegun s t st new st' p n fs cs e old Taken = IsTakenOver s t new st' p fs cs e old
 
 -- whether old children are taken over
 abbrev pub is_taken : Begun → Bool

@@ -1,5 +1,5 @@
 -- What a fiber is begun with, and what its current fiber tells of before.
-use Rattle.std.specs.Prelude.{◌≡◌, ℕ, ℤ, Bool, false, List, [], Option, Some, None}
+use Rattle.std.specs.Prelude.{◌≡◌, ℕ, ℤ, false, List, [], Option, Some, None}
 use Rattle.rx_ctx.specs.Contexts as contexts
 use Rattle.rx_ctx.specs.Contexts.{Stack}
 use Rattle.rx_elem.specs.Elements.{Element, listed}
@@ -10,8 +10,9 @@ use Rattle.rx_lists.specs.Shapes as shapes
 use Rattle.rx_links.specs.Drafts.{Draft, taken, made, Trees, entry, kids_under, valued}
 use Rattle.rx_links.specs.Places.{Around, placed}
 use Rattle.rx_links.specs.Readers.{list_from, made_value_of}
-use Rattle.rx_fiber.specs.Fibers.{Stage, Fiber, waiting, begun, trying}
+use Rattle.rx_fiber.specs.Fibers.{Stage, Fiber, waiting, begun, trying, as_matched}
 use Rattle.rx_causes.specs.Marks.{mark_at}
+use Rattle.rx_fiber.specs.declared.stage.Origin.{Origin}
 use Rattle.rx_begin.specs.Children.{AreMade}
 use Rattle.rx_begin.specs.declared.node.Begun.{Begun}
 use Rattle.rx_begin.specs.declared.node.Begun.TheVariants.{Child, Leaf}
@@ -47,19 +48,19 @@ abbrev pub begun_from : (first : Option ℕ) → Begun
 begun_from None = Leaf
 begun_from (Some id) = Child id
 
--- a made fiber that had no children has this stage and the children of these elements, clones or none, and nothing else is changed
-pub record HasList (cloned : Bool) (before after : Trees Fiber) (p : ℕ) (stage : Stage) (es : List Element) (os : List (Option ℕ)) (first : Option ℕ) : Type 0 where
+-- a made fiber that had no children has this stage and the children of these elements, of which so much is known, and nothing else is changed
+pub record HasList (origin : Origin) (before after : Trees Fiber) (p : ℕ) (stage : Stage) (es : List Element) (os : List (Option ℕ)) (first : Option ℕ) : Type 0 where
   pub kids : Draft Fiber
-  pub are : AreMade before.current cloned 0 es os kids
+  pub are : AreMade before.current origin 0 es os kids
   pub stands : (k : Around Fiber) (v : Fiber) (o : Option ℕ) (rs : Draft Fiber)
       → before.draft ≡ placed k (made p v o (taken shapes.none) rs) → after.draft ≡ placed k (made p (record v { stage = stage }) o kids rs)
   pub current : after.current ≡ before.current
   pub first_is : first ≡ entry kids
 
 -- the same, with where the render comes from there
-pub record HasOpened (cloned : Bool) (before after : Trees Fiber) (p : ℕ) (stage : Stage) (es : List Element) (os : List (Option ℕ)) (answer : Begun) : Type 0 where
+pub record HasOpened (origin : Origin) (before after : Trees Fiber) (p : ℕ) (stage : Stage) (es : List Element) (os : List (Option ℕ)) (answer : Begun) : Type 0 where
   pub kids : Draft Fiber
-  pub are : AreMade before.current cloned 0 es os kids
+  pub are : AreMade before.current origin 0 es os kids
   pub stands : (k : Around Fiber) (v : Fiber) (o : Option ℕ) (rs : Draft Fiber)
       → before.draft ≡ placed k (made p v o (taken shapes.none) rs) → after.draft ≡ placed k (made p (record v { stage = stage }) o kids rs)
   pub current : after.current ≡ before.current
@@ -83,10 +84,10 @@ parts_in (elements.provider c k x es) = None
 
 -- how far the fiber of another element has come once it is begun, where a host of before has this number
 abbrev pub begun_stage : Element → (number : Option ℕ) → Stage
-begun_stage elements.null n = waiting false
+begun_stage elements.null n = waiting (as_matched false)
 begun_stage (elements.text t) n = begun (of_host n)
 begun_stage (elements.host name k attrs es) n = begun (of_host n)
-begun_stage (elements.comp c k ps es) n = waiting false
+begun_stage (elements.comp c k ps es) n = waiting (as_matched false)
 begun_stage (elements.list es) n = begun plain
 begun_stage (elements.boundary k f es) n = trying
 begun_stage (elements.provider c k x es) n = begun plain

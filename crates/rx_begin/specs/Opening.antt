@@ -1,5 +1,5 @@
 -- A boundary opens its fallback.
-use Rattle.std.specs.Prelude.{◌≡◌, ℕ, ℤ, Bool, List, [], ◌∷◌, Option, Some, None, if◌then◌else◌}
+use Rattle.std.specs.Prelude.{◌≡◌, ℕ, ℤ, Bool, true, false, List, [], ◌∷◌, Option, Some, None, if◌then◌else◌}
 use Rattle.rx_base.specs.Awaits.{Awaits}
 use Rattle.rx_ctx.specs.Contexts.{Stack}
 use Rattle.rx_elem.specs.Elements.{Element}
@@ -10,7 +10,8 @@ use Rattle.rx_lists.specs.Shapes as shapes
 use Rattle.rx_links.specs.Drafts.{Draft, taken, made, Trees, kids_under}
 use Rattle.rx_links.specs.Places.{Around, placed}
 use Rattle.rx_meaning.specs.Cursor.{Cursor}
-use Rattle.rx_fiber.specs.Fibers.{Fiber, begun, fallback}
+use Rattle.rx_fiber.specs.Fibers.{Fiber, as_cloned, as_matched, begun, fallback}
+use Rattle.rx_fiber.specs.declared.stage.Origin.{Origin}
 use Rattle.rx_fiber.specs.OldLists.{begins_fallback, matched, old_elements, old_fibers}
 use Rattle.rx_fiber.specs.Reading.{has_node}
 use Rattle.rx_fiber.specs.Surround.{fallback_in}
@@ -72,3 +73,8 @@ given_elements (Some es) s = es
 abbrev pub given_fibers : (given : Option (List Element)) → Shape Fiber → List (Option ℕ)
 given_fibers None s = old_fibers s
 given_fibers (Some es) s = matched s es
+
+-- what is known of them: they are clones that stand as these did, or elements that may be others
+abbrev pub given_as : (given : Option (List Element)) → Origin
+given_as None = as_cloned true
+given_as (Some es) = as_matched false

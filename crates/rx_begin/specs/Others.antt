@@ -1,5 +1,5 @@
 -- What the place of an element of no component leaves that is begun.
-use Rattle.std.specs.Prelude.{◌≡◌, ℕ, Bool, true, false, List, Option, Some, option_and_then}
+use Rattle.std.specs.Prelude.{◌≡◌, ℕ, Bool, true, List, Option, Some, option_and_then}
 use Rattle.rx_base.specs.Awaits.{Awaits}
 use Rattle.rx_ctx.specs.Contexts.{Stack}
 use Rattle.rx_elem.specs.Elements.{Element}
@@ -9,7 +9,8 @@ use Rattle.rx_hooks.specs.declared.hook.Hook.{Hook}
 use Rattle.rx_links.specs.Drafts.{Trees, old_of, valued}
 use Rattle.rx_links.specs.Readers.{list_from}
 use Rattle.rx_meaning.specs.Fresh.{Sight}
-use Rattle.rx_fiber.specs.Fibers.{Fiber}
+use Rattle.rx_fiber.specs.Fibers.{Fiber, as_cloned, as_matched}
+use Rattle.rx_fiber.specs.declared.stage.Origin.{Origin}
 use Rattle.rx_fiber.specs.FiberView.{changed}
 use Rattle.rx_fiber.specs.declared.stage.StageChange.TheVariants as change
 use Rattle.rx_fiber.specs.OldLists.{primary_list, matched, old_elements, old_fibers}
@@ -23,17 +24,17 @@ use Rattle.rx_begin.specs.declared.node.Begun.{Begun}
 use Rattle.rx_begin.specs.declared.node.Begun.TheVariants as answers
 
 -- The fiber is begun over clones of its old node's children, or over its own, matched with those; or its old node is a hidden boundary that waits still, and it comes to try its children, of which none is made.
-pub data HasBegunOther (scene : Scene) (kept : ℕ → Option (List Hook)) (t : Trees Fiber) (st : Stack) (new : Trees Fiber) (st' : Stack) (p : ℕ) (e : Element) (cloned : Bool) : Begun → Type 0 where
-  keeps : {b : Begun} → keeps_children cloned (mark_at t.current (old_of t.draft p)) ≡ true
-      → HasOpened true t new p (begun_stage e (option_and_then host_number (mark_at t.current (old_of t.draft p))))
+pub data HasBegunOther (scene : Scene) (kept : ℕ → Option (List Hook)) (t : Trees Fiber) (st : Stack) (new : Trees Fiber) (st' : Stack) (p : ℕ) (e : Element) (origin : Origin) (steady : Bool) : Begun → Type 0 where
+  keeps : {b : Begun} → keeps_children origin.cloned (mark_at t.current (old_of t.draft p)) ≡ true
+      → HasOpened (as_cloned steady) t new p (begun_stage e (option_and_then host_number (mark_at t.current (old_of t.draft p))))
       (old_elements (primary_list (list_from t.current (old_of t.draft p)))) (old_fibers (primary_list (list_from t.current (old_of t.draft p)))) b
-      → st' ≡ begun_stack e st → HasBegunOther scene kept t st new st' p e cloned b
-  opens : {b : Begun} → HasOpened false t new p (begun_stage e (option_and_then host_number (mark_at t.current (old_of t.draft p)))) (begun_children e)
+      → st' ≡ begun_stack e st → HasBegunOther scene kept t st new st' p e origin steady b
+  opens : {b : Begun} → HasOpened (as_matched steady) t new p (begun_stage e (option_and_then host_number (mark_at t.current (old_of t.draft p)))) (begun_children e)
       (matched (primary_list (list_from t.current (old_of t.draft p))) (begun_children e)) b
-      → st' ≡ begun_stack e st → HasBegunOther scene kept t st new st' p e cloned b
-  hides : {a : Awaits} → cloned ≡ true → mark_at t.current (old_of t.draft p) ≡ Some (of_boundary (Hidden a))
+      → st' ≡ begun_stack e st → HasBegunOther scene kept t st new st' p e origin steady b
+  hides : {a : Awaits} → origin.cloned ≡ true → origin.stood ≡ true → mark_at t.current (old_of t.draft p) ≡ Some (of_boundary (Hidden a))
       → ((s : Sight) (x : Node) → IsSceneOf scene s → IsOld t.current (old_of t.draft p) (Some x) → GivesHooksIn s kept (children_of x) → WaitsStill s a x)
-      → new ≡ record t { draft = valued p (changed change.Try) t.draft } → st' ≡ st → HasBegunOther scene kept t st new st' p e cloned (answers.Hidden a)
+      → new ≡ record t { draft = valued p (changed change.Try) t.draft } → st' ≡ st → HasBegunOther scene kept t st new st' p e origin steady (answers.Hidden a)
 
 -- where the old node is a hidden boundary, there is a cause to try its children again
 abbrev pub IsCauseToTry : Scene → (kept : ℕ → Option (List Hook)) → Trees Fiber → ℕ → Type 0

@@ -1,5 +1,5 @@
 // A place begins.
-ghost use Rattle.std.specs.Prelude.{◌≡◌, ◌+◌, ◌<◌, ◌≤◌, suc, ℕ, ℤ, true, false, not, List, Option, Some, None, length, IfOk, IsSome, IfSome, OnOk, is_some, if◌then◌else◌, option_and_then};
+ghost use Rattle.std.specs.Prelude.{◌≡◌, ◌+◌, ◌<◌, ◌≤◌, suc, ℕ, ℤ, true, false, not, List, Option, Some, None, ◌⊎◌, length, IfOk, IsSome, IfSome, OnOk, is_some, if◌then◌else◌, option_and_then};
 ghost use Rattle.rx_ast.specs.Syntax as syntax;
 ghost use Rattle.rx_ctx.specs.Contexts.{values_at};
 ghost use Rattle.rx_elem.specs.Elements as elements;
@@ -9,12 +9,12 @@ ghost use Rattle.rx_fiber.specs.Reading.{IsOld};
 ghost use Rattle.rx_links.specs.Drafts.{old_of};
 ghost use Rattle.rx_links.specs.Readers.{list_from, made_value_of};
 ghost use Rattle.rx_fiber.specs.Fibers as fibers;
-ghost use Rattle.rx_fiber.specs.Fibers.{is_cloned};
+ghost use Rattle.rx_fiber.specs.Fibers.{as_cloned, as_matched, is_cloned, is_stood};
+ghost use Rattle.rx_fiber.specs.Surround.{IsElementOf};
 ghost use Rattle.rx_fiber.specs.OldLists.{matched, old_elements, old_fibers, primary_list};
 ghost use Rattle.rx_causes.specs.Marks.{mark_at, keeps_children};
 ghost use Rattle.rx_causes.specs.Scenes.{IsSceneOf, TellsCalm};
 ghost use Rattle.rx_causes.specs.Hidden.{GivesHooksIn, KeepsOld, WaitsStill};
-ghost use Rattle.rx_causes.specs.Idle.{HasCauseIn};
 ghost use Rattle.rx_begin.specs.Nodes.{IsBareAt, HasOpened, parts_in, begun_stage, begun_children, begun_stack, given_context};
 ghost use Rattle.rx_meaning.specs.Fresh.{Sight, Contexts};
 ghost use Rattle.rx_meaning.specs.Cursor.{Frame, at_place};
@@ -27,17 +27,18 @@ ghost use Rattle.rx_ways.specs.Ways.{is_way};
 ghost use Rattle.rx_hook_store.specs.Store.{kept_hooks};
 ghost use Rattle.rx_hook_store.specs.Gives.{GivesValues};
 ghost use Rattle.rx_begin.specs.Others.{HasBegunOther, IsCauseToTry};
+ghost use Rattle.rx_begin.specs.Origins.{HasCauseToBegin};
 ghost use Rattle.rx_begin.specs.Beginning.{IsAtPlace, BeginsPlace, awaited_again, is_taken};
 
 use crate::body::begin_component;
 use crate::kind::{begun_children, begun_stage, enter, is_component, parts_of};
 use crate::node::{Begun, keep_node, keeps_children, old_host, open_node, take_node};
-use crate::take::takes_over;
+use crate::origin::{is_steady, origin_of, takes_over};
 use rx_base::{Awaits, Steps};
 use rx_causes::{Scene, waits_still};
 use rx_ctx::ContextStack;
 use rx_elem::Element;
-use rx_fiber::{Fiber, StageChange};
+use rx_fiber::{Fiber, Origin, StageChange};
 use rx_hook_store::HookStore;
 use rx_links::{FiberId, FiberTree};
 use std::alloc::{AllocError, Global};
@@ -50,14 +51,15 @@ fn begin_other(
     at: FiberId,
     element: &Element,
     cloned: bool,
+    steady: bool,
     contexts: &mut ContextStack,
 ) -> Result<Begun, AllocError>
     requires bare { IsBareAt tree.old at }
     requires context { IfSome (given_context element.now) (λ c. c < length (values_at contexts.old)) }
     ensures kept { IfOk result (λ b. keeps_children cloned (mark_at tree.old.current (old_of tree.old.draft at)) ≡ true
-        → HasOpened true tree.old tree.new at (begun_stage element.now (option_and_then host_number (mark_at tree.old.current (old_of tree.old.draft at))))
+        → HasOpened (as_cloned steady) tree.old tree.new at (begun_stage element.now (option_and_then host_number (mark_at tree.old.current (old_of tree.old.draft at))))
         (old_elements (primary_list (list_from tree.old.current (old_of tree.old.draft at)))) (old_fibers (primary_list (list_from tree.old.current (old_of tree.old.draft at)))) b) }
-    ensures opened { IfOk result (λ b. keeps_children cloned (mark_at tree.old.current (old_of tree.old.draft at)) ≡ false → HasOpened false tree.old tree.new at (begun_stage element.now (option_and_then host_number (mark_at tree.old.current (old_of tree.old.draft at)))) (begun_children element.now)
+    ensures opened { IfOk result (λ b. keeps_children cloned (mark_at tree.old.current (old_of tree.old.draft at)) ≡ false → HasOpened (as_matched steady) tree.old tree.new at (begun_stage element.now (option_and_then host_number (mark_at tree.old.current (old_of tree.old.draft at)))) (begun_children element.now)
         (matched (primary_list (list_from tree.old.current (old_of tree.old.draft at))) (begun_children element.now)) b) }
     ensures stack { OnOk result (contexts.new ≡ begun_stack element.now contexts.old) }
     ensures current { tree.new.current ≡ tree.old.current }
@@ -67,29 +69,30 @@ fn begin_other(
     let number = old_host(tree, tree.alternate(at));
     let stage = begun_stage(element, number);
     if keeps_children(tree, tree.alternate(at), cloned) {
-        keep_node(alloc, tree, at, stage)
+        keep_node(alloc, tree, at, stage, steady)
     } else {
-        open_node(alloc, tree, at, stage, begun_children(element))
+        open_node(alloc, tree, at, stage, begun_children(element), steady)
     }
 }
 
-// What the boundary of a cloned fiber waits for still, if it is hidden: nothing new has come for which its children are to be
-// tried.
+// What the boundary of a clone waits for still, if it is hidden, and stands where the same values of contexts are given: nothing
+// new has come for which its children are to be tried.
 fn still_awaited(
     tree: &FiberTree<Fiber>,
     at: FiberId,
-    cloned: bool,
+    origin: Origin,
     scene: &Scene,
     hooks: &HookStore,
 ) -> Option<Awaits>
     requires bare { IsBareAt tree.now at }
     requires kept { KeepsOld (kept_hooks hooks.now) tree.now.current (old_of tree.now.draft at) }
-    ensures cloned { IfSome result (λ a. cloned ≡ true) }
+    ensures cloned { IfSome result (λ a. origin.cloned ≡ true) }
+    ensures stood { IfSome result (λ a. origin.stood ≡ true) }
     ensures hidden { IfSome result (λ a. mark_at tree.now.current (old_of tree.now.draft at) ≡ Some (of_boundary (Hidden a))) }
     ensures waits { IfSome result (λ a. (s : Sight) (x : Node) → IsSceneOf scene.now s → IsOld tree.now.current (old_of tree.now.draft at) (Some x) → GivesHooksIn s (kept_hooks hooks.now) (children_of x) → WaitsStill s a x) }
-    ensures tries { cloned ≡ true → result ≡ None → IsCauseToTry scene.now (kept_hooks hooks.now) tree.now at }
+    ensures tries { origin.cloned ≡ true → origin.stood ≡ true → result ≡ None → IsCauseToTry scene.now (kept_hooks hooks.now) tree.now at }
 {
-    if !cloned {
+    if !origin.cloned || !origin.stood {
         return None;
     }
     tree.place_facts();
@@ -102,7 +105,8 @@ fn begin_or_hide(
     tree: &mut FiberTree<Fiber>,
     at: FiberId,
     element: &Element,
-    cloned: bool,
+    origin: Origin,
+    steady: bool,
     scene: &Scene,
     hooks: &HookStore,
     contexts: &mut ContextStack,
@@ -110,26 +114,28 @@ fn begin_or_hide(
     requires bare { IsBareAt tree.old at }
     requires context { IfSome (given_context element.now) (λ c. c < length (values_at contexts.old)) }
     requires kept { KeepsOld (kept_hooks hooks.now) tree.old.current (old_of tree.old.draft at) }
-    ensures begun { IfOk result (λ b. HasBegunOther scene.now (kept_hooks hooks.now) tree.old contexts.old tree.new contexts.new at element.now cloned b) }
-    ensures tries { IfOk result (λ b. cloned ≡ true → awaited_again b ≡ None → IsCauseToTry scene.now (kept_hooks hooks.now) tree.old at) }
+    ensures begun { IfOk result (λ b. HasBegunOther scene.now (kept_hooks hooks.now) tree.old contexts.old tree.new contexts.new at element.now origin steady b) }
+    ensures tries { IfOk result (λ b. origin.cloned ≡ true → origin.stood ≡ true → awaited_again b ≡ None → IsCauseToTry scene.now (kept_hooks hooks.now) tree.old at) }
     ensures current { tree.new.current ≡ tree.old.current }
 {
-    match still_awaited(tree, at, cloned, scene, hooks) {
+    match still_awaited(tree, at, origin, scene, hooks) {
         Some(awaits) => {
             tree.place_facts();
             tree.mark_made(at, &StageChange::Try);
             Ok(Begun::Hidden(awaits))
         }
-        None => begin_other(alloc, tree, at, element, cloned, contexts),
+        None => begin_other(alloc, tree, at, element, origin.cloned, steady, contexts),
     }
 }
 
 /// Begins the place of a fiber, as one unit of a render (react.dev, Render and Commit): a component's body is evaluated, once;
 /// a provider gives its value; the fibers of all children are made, each for the old child of its identity and type. Where the
 /// fiber is a clone, and its component has no cause to be rendered anew, the body is skipped, and the children are clones of the
-/// old ones (react.dev, useState: React skips the component). Where the clone is a hidden boundary's, and nothing new has come
-/// for what it waits for and keeps, its children are not tried. Where nothing in the tree of a clone's old node has a cause, the
-/// old children are taken over as they stand. The current tree stays as it is. Also answered is whether a body was evaluated.
+/// old ones (react.dev, useState: React skips the component); so is that of a fiber whose element was given again. Where the
+/// clone is a hidden boundary's, stands where the same values of contexts are given, and nothing new has come for what it waits
+/// for and keeps, its children are not tried. Where nothing in the tree of a clone's old node has a cause, and what was read there
+/// of the contexts is what they give, the old children are taken over as they stand (react.dev, useContext: React finds the
+/// readers, also below components that it skips). The current tree stays as it is. Also answered is whether a body was evaluated.
 ///
 /// # Errors
 ///
@@ -148,18 +154,24 @@ pub fn begin<L: Ledger>(
     ensures begun { IfOk result (λ b. (s : Sight) → IsSceneOf scene.now s → BeginsPlace s (is_way scene.now.ways.now) (kept_hooks hooks.old) tree.old contexts.old tree.new contexts.new at b.0) }
     ensures current { tree.new.current ≡ tree.old.current }
     ensures bodies { IfOk result (λ b. steps.new ≡ steps.old + (if b.1 then 1 else 0)) }
-    // A component's body is skipped exactly where its fiber is cloned and its old instance is calm; no other element has one.
+    // A component's body is skipped only where its element is that of the current fiber, and its old instance is calm; a clone's
+    // exactly where that is calm. No other element has one.
     ensures none { IfOk result (λ b. (v : fibers.Fiber) → Some v ≡ made_value_of tree.old.draft at → parts_in v.element ≡ None → b.1 ≡ false) }
-    ensures anew { IfOk result (λ b. (v : fibers.Fiber) → Some v ≡ made_value_of tree.old.draft at → IsSome (parts_in v.element) → is_cloned v.stage ≡ false → b.1 ≡ true) }
+    ensures same { IfOk result (λ b. (v : fibers.Fiber) → Some v ≡ made_value_of tree.old.draft at → IsSome (parts_in v.element) → b.1 ≡ false
+        → (is_cloned v.stage ≡ true) ⊎ IsElementOf tree.old.current (old_of tree.old.draft at) v.element) }
+    ensures calm { IfOk result (λ b. (v : fibers.Fiber) → Some v ≡ made_value_of tree.old.draft at → IsSome (parts_in v.element) → b.1 ≡ false
+        → TellsCalm scene.now (kept_hooks hooks.old) (values_at contexts.old) (option_and_then instance_in (mark_at tree.old.current (old_of tree.old.draft at))) true) }
     ensures exact { IfOk result (λ b. (v : fibers.Fiber) → Some v ≡ made_value_of tree.old.draft at → IsSome (parts_in v.element) → is_cloned v.stage ≡ true
         → TellsCalm scene.now (kept_hooks hooks.old) (values_at contexts.old) (option_and_then instance_in (mark_at tree.old.current (old_of tree.old.draft at))) (not b.1)) }
-    // A hidden boundary's children are tried only where its fiber is no clone, or there is a cause.
-    ensures tries { IfOk result (λ b. (v : fibers.Fiber) → Some v ≡ made_value_of tree.old.draft at → parts_in v.element ≡ None → is_cloned v.stage ≡ true → awaited_again b.0 ≡ None → IsCauseToTry scene.now (kept_hooks hooks.old) tree.old at) }
+    // A hidden boundary's children are tried only where its fiber is no clone, or may stand where other values of contexts are
+    // given, or there is a cause.
+    ensures tries { IfOk result (λ b. (v : fibers.Fiber) → Some v ≡ made_value_of tree.old.draft at → parts_in v.element ≡ None → is_cloned v.stage ≡ true → is_stood v.stage ≡ true → awaited_again b.0 ≡ None
+        → IsCauseToTry scene.now (kept_hooks hooks.old) tree.old at) }
     // Old children are taken over with no body evaluated.
     ensures taken { IfOk result (λ b. is_taken b.0 ≡ true → b.1 ≡ false) }
     // A clone is begun over clones only where there is a cause in the tree of its old node; else its old children are taken over.
     ensures causes { IfOk result (λ b. (v : fibers.Fiber) → Some v ≡ made_value_of tree.old.draft at → is_cloned v.stage ≡ true → is_taken b.0 ≡ false
-        → HasCauseIn scene.now (kept_hooks hooks.old) (values_at contexts.old) (is_some (parts_in v.element)) tree.old.current (old_of tree.old.draft at)) }
+        → HasCauseToBegin scene.now (kept_hooks hooks.old) (values_at contexts.old) (is_some (parts_in v.element)) (is_stood v.stage) tree.old.current (old_of tree.old.draft at)) }
     ensures few { IfOk result (λ b. (s : Sight) (n : ℕ) (fs : List Frame) (cs : Contexts) (e : elements.Element) (old : Option Node) → IsSceneOf scene.now s → StandsAt tree.old contexts.old (Some at) (at_place (suc n) fs cs e old)
         → (if b.1 then 1 else 0) ≤ next_counts each_body s (at_place (suc n) fs cs e old)) }
     ensures rises { steps.old ≤ steps.new }
@@ -168,21 +180,23 @@ pub fn begin<L: Ledger>(
 {
     tree.place_facts();
     tree.facts();
+    let origin = origin_of(tree, at);
     let fiber = tree.value(at);
-    let cloned = fiber.is_cloned();
     let element = fiber.element().copy()?;
     let component = is_component(&element);
-    if takes_over(tree, at, cloned, component, scene, hooks, contexts) {
+    if takes_over(tree, at, origin, component, scene, hooks, contexts) {
         take_node(tree, at)?;
         return Ok((Begun::Taken, false));
     }
+    let steady = is_steady(tree, at);
     match parts_of(&element) {
         Some(parts) => begin_component(
             alloc,
             tree,
             at,
             scene,
-            cloned,
+            origin.cloned,
+            steady,
             parts.component,
             parts.props,
             parts.children,
@@ -191,7 +205,9 @@ pub fn begin<L: Ledger>(
             steps,
         ),
         None => {
-            let begun = begin_or_hide(alloc, tree, at, &element, cloned, scene, hooks, contexts)?;
+            let begun = begin_or_hide(
+                alloc, tree, at, &element, origin, steady, scene, hooks, contexts,
+            )?;
             Ok((begun, false))
         }
     }

@@ -18,7 +18,7 @@ ghost use Rattle.rx_fiber.specs.Reading.{IsOld};
 ghost use Rattle.rx_hook_store.specs.Store.{kept_hooks};
 ghost use Rattle.rx_hook_store.specs.Gives.{GivesValues};
 ghost use Rattle.rx_links.specs.Readers.{list_from};
-ghost use Rattle.rx_fiber.specs.Fibers.{begun};
+ghost use Rattle.rx_fiber.specs.Fibers.{as_cloned, begun};
 ghost use Rattle.rx_fiber.specs.OldLists.{primary_list, old_elements, old_fibers};
 ghost use Rattle.rx_causes.specs.Marks.{mark_at};
 ghost use Rattle.rx_causes.specs.Scenes.{IsSceneOf, IsCalmAt, TellsCalm, GivesHooks, number_in};
@@ -179,9 +179,10 @@ fn open_body(
     component: u32,
     old: Option<Instance>,
     body: Body,
+    steady: bool,
 ) -> Result<Begun, AllocError>
     requires bare { IsBareAt tree.old at }
-    ensures opened { IfOk result (λ b. (cs : Contexts) (node : Option Node) (cloned : Bool) → option_map instance_seen old ≡ old_instance node → HasShape cloned (shape_of_body cs component node (body_seen body)) cs node tree.old tree.new at b) }
+    ensures opened { IfOk result (λ b. (cs : Contexts) (node : Option Node) (cloned : Bool) → option_map instance_seen old ≡ old_instance node → HasShape cloned steady (shape_of_body cs component node (body_seen body)) cs node tree.old tree.new at b) }
     ensures anew { IfOk result (λ b. is_taken b ≡ false) }
     ensures current { tree.new.current ≡ tree.old.current }
 {
@@ -195,7 +196,7 @@ fn open_body(
         } => {
             let instance = instance_after(alloc, component, old, initials, reads, effects)?;
             let stage = Stage::Begun(Mark::Instance(instance));
-            open_node(alloc, tree, at, stage, &elements)
+            open_node(alloc, tree, at, stage, &elements, steady)
         }
     }
 }
@@ -221,7 +222,7 @@ fn is_calm(instance: &Option<Instance>, scene: &Scene, hooks: &HookStore, contex
     }
 }
 
-// Whether a body is skipped: the fiber is cloned, and its instance has no cause to be rendered anew.
+// Whether a body is skipped: the fiber is a clone, and its instance has no cause to be rendered anew.
 fn is_skipped(
     cloned: bool,
     instance: &Option<Instance>,
@@ -249,15 +250,22 @@ fn keep_body(
     tree: &mut FiberTree<Fiber>,
     at: FiberId,
     old: Option<Instance>,
+    steady: bool,
 ) -> Result<Begun, AllocError>
     requires bare { IsBareAt tree.old at }
     requires there { IsSome old }
-    ensures kept { IfOk result (λ b. (i : trees.Instance) → option_map instance_seen old ≡ Some i → HasOpened true tree.old tree.new at (begun (of_instance i))
+    ensures kept { IfOk result (λ b. (i : trees.Instance) → option_map instance_seen old ≡ Some i → HasOpened (as_cloned steady) tree.old tree.new at (begun (of_instance i))
         (old_elements (primary_list (list_from tree.old.current (old_of tree.old.draft at)))) (old_fibers (primary_list (list_from tree.old.current (old_of tree.old.draft at)))) b) }
     ensures current { tree.new.current ≡ tree.old.current }
 {
     match old {
-        Some(instance) => keep_node(alloc, tree, at, Stage::Begun(Mark::Instance(instance))),
+        Some(instance) => keep_node(
+            alloc,
+            tree,
+            at,
+            Stage::Begun(Mark::Instance(instance)),
+            steady,
+        ),
         None => unreachable!(),
     }
 }
@@ -269,6 +277,7 @@ pub(crate) fn begin_component<L: Ledger>(
     at: FiberId,
     scene: &Scene,
     cloned: bool,
+    steady: bool,
     component: u32,
     props: &Ints,
     children: &[Element],
@@ -281,7 +290,7 @@ pub(crate) fn begin_component<L: Ledger>(
     requires kept { IfSome (number_in (option_and_then instance_in (mark_at tree.old.current (old_of tree.old.draft at)))) (λ n. IsSome (kept_hooks hooks.old n)) }
     ensures evaluated { IfOk result (λ b. (s : Sight) (old : Option Node) (key : Key) (kids : Elements) → IsSceneOf scene.now s → IsOld tree.old.current (old_of tree.old.draft at) old → GivesHooks s (kept_hooks hooks.old) (old_instance old)
         → IfSettled s.program (known_by s) old → (cloned ≡ true → StoodIn old (elements.comp component key props.now kids))
-        → listed kids ≡ children.now → HasShape cloned (shape_of_component s contexts.now component props.now kids old (component_at s.program component)) contexts.now old tree.old tree.new at b.0) }
+        → listed kids ≡ children.now → HasShape cloned steady (shape_of_component s contexts.now component props.now kids old (component_at s.program component)) contexts.now old tree.old tree.new at b.0) }
     ensures current { tree.new.current ≡ tree.old.current }
     ensures once { IfOk result (λ b. steps.new ≡ steps.old + (if b.1 then 1 else 0)) }
     ensures anew { IfOk result (λ b. cloned ≡ false → b.1 ≡ true) }
@@ -294,13 +303,13 @@ pub(crate) fn begin_component<L: Ledger>(
     tree.place_facts();
     let old = old_instance(tree, tree.alternate(at))?;
     if is_skipped(cloned, &old, scene, hooks, contexts) {
-        let begun = keep_body(alloc, tree, at, old)?;
+        let begun = keep_body(alloc, tree, at, old, steady)?;
         return Ok((begun, false));
     }
     let number = number_of(&old);
     let body = body_at(
         alloc, scene, component, props, children, number, hooks, contexts, steps,
     )?;
-    let begun = open_body(alloc, tree, at, component, old, body)?;
+    let begun = open_body(alloc, tree, at, component, old, body, steady)?;
     Ok((begun, true))
 }

@@ -4,12 +4,13 @@ ghost use Rattle.std.specs.Option.{option_and_then, option_flatten};
 ghost use Rattle.rx_lists.specs.Shapes.{Holds, IsTop};
 ghost use Rattle.rx_links.specs.Drafts.{IsOpen, IsUnused, old_kids};
 ghost use Rattle.rx_links.specs.Readers.{list_from};
+ghost use Rattle.rx_fiber.specs.Fibers.{as_cloned, as_matched};
 ghost use Rattle.rx_fiber.specs.OldLists.{matched, old_elements, old_fibers};
 ghost use Rattle.rx_begin.specs.Children.{IsClone, AreClones, HasRoomFor, HasAdded, HasMadeFrom};
 ghost use Rattle.rx_begin.specs.Nodes.{IsBareBeside};
 
 use rx_elem::Element;
-use rx_fiber::{Fiber, Stage, old_children};
+use rx_fiber::{Fiber, Origin, Stage, old_children};
 use rx_keys::match_children;
 use rx_links::{FiberId, FiberTree};
 use std::alloc::{AllocError, Global};
@@ -66,42 +67,44 @@ fn match_fibers(
     fibers_at(alloc, &known.fibers, &matching.places)
 }
 
-// Makes the fiber of one child in front of those that are made; `null` has none. A cloned one has the element of its old fiber.
+// Makes the fiber of one child in front of those that are made, of which so much is known; `null` has none. A cloned one has the
+// element of its old fiber.
 fn make_one(
     tree: &mut FiberTree<Fiber>,
     at: FiberId,
     place: u32,
     element: &Element,
     old: Option<FiberId>,
-    cloned: bool,
+    origin: Origin,
 ) -> Result<(), AllocError>
     requires open { IsOpen tree.old.draft at }
     requires old_child { IfSome old (IsTop (old_kids tree.old at)) }
     requires unused { IfSome old (IsUnused tree.old.draft) }
-    requires same { cloned ≡ true → IsClone tree.old.current element.now old }
-    ensures added { OnOk result (HasAdded cloned tree.old tree.new at place element.now old) }
+    requires same { origin.cloned ≡ true → IsClone tree.old.current element.now old }
+    ensures added { OnOk result (HasAdded origin tree.old tree.new at place element.now old) }
     ensures current { tree.new.current ≡ tree.old.current }
 {
     if element.is_present() {
-        let fiber = Fiber::new(place, element.copy()?, Stage::Waiting { cloned });
+        let fiber = Fiber::new(place, element.copy()?, Stage::Waiting(origin));
         tree.child(at, old, fiber)?;
     }
     Ok(())
 }
 
-// Makes the fibers of children from the last to the first, each for its old one; where they are cloned, each with its element.
+// Makes the fibers of children from the last to the first, each for its old one, of which so much is known; where they are cloned,
+// each with its element.
 fn make_all(
     tree: &mut FiberTree<Fiber>,
     at: FiberId,
     elements: &[Element],
     olds: &[Option<FiberId>],
-    cloned: bool,
+    origin: Origin,
 ) -> Result<(), AllocError>
     requires room { HasRoomFor tree.old at olds.now }
     requires few { length elements.now < 2 ^ 32 }
     requires same { length olds.now ≡ length elements.now }
-    requires clones { cloned ≡ true → AreClones tree.old.current elements.now olds.now }
-    ensures made { OnOk result (HasMadeFrom cloned 0 tree.old tree.new at elements.now olds.now) }
+    requires clones { origin.cloned ≡ true → AreClones tree.old.current elements.now olds.now }
+    ensures made { OnOk result (HasMadeFrom origin 0 tree.old tree.new at elements.now olds.now) }
     ensures current { tree.new.current ≡ tree.old.current }
 {
     let mut place = elements.len();
@@ -114,7 +117,7 @@ fn make_all(
             place as u32,
             &elements[place],
             olds[place],
-            cloned,
+            origin,
         )?;
     }
     Ok(())
@@ -122,7 +125,8 @@ fn make_all(
 
 /// Makes the fibers of a list of children below a made fiber that has none: each element that is not `null` gets one, at its
 /// place, for the old child of its identity and type in the current list that begins with a fiber, or a new one. They are made
-/// from the last to the first (react.dev, Preserving and Resetting State).
+/// from the last to the first (react.dev, Preserving and Resetting State). `stood` tells whether the old ones stand where the
+/// same values of contexts are given.
 ///
 /// # Errors
 ///
@@ -133,19 +137,25 @@ pub(crate) fn make_children(
     at: FiberId,
     elements: &[Element],
     first_old: Option<FiberId>,
+    stood: bool,
 ) -> Result<(), AllocError>
     requires held { IfSome first_old (Holds tree.old.current) }
     requires beside { IsBareBeside tree.old at first_old }
-    ensures made { OnOk result (HasMadeFrom false 0 tree.old tree.new at elements.now (matched (list_from tree.old.current first_old) elements.now)) }
+    ensures made { OnOk result (HasMadeFrom (as_matched stood) 0 tree.old tree.new at elements.now (matched (list_from tree.old.current first_old) elements.now)) }
     ensures current { tree.new.current ≡ tree.old.current }
 {
     tree.facts();
     let olds = match_fibers(alloc, tree, elements, first_old)?;
-    make_all(tree, at, elements, &olds, false)
+    let origin = Origin {
+        cloned: false,
+        stood,
+    };
+    make_all(tree, at, elements, &olds, origin)
 }
 
 /// Makes clones of the children of a current list below a made fiber that has none: each for its old fiber, at its place and with
-/// its element, so that nothing is matched. They are made from the last to the first.
+/// its element, so that nothing is matched. They are made from the last to the first. `stood` tells whether the old ones stand
+/// where the same values of contexts are given.
 ///
 /// # Errors
 ///
@@ -155,14 +165,19 @@ pub(crate) fn clone_children(
     tree: &mut FiberTree<Fiber>,
     at: FiberId,
     first_old: Option<FiberId>,
+    stood: bool,
 ) -> Result<(), AllocError>
     requires held { IfSome first_old (Holds tree.old.current) }
     requires beside { IsBareBeside tree.old at first_old }
-    ensures made { OnOk result (HasMadeFrom true 0 tree.old tree.new at (old_elements (list_from tree.old.current first_old)) (old_fibers (list_from tree.old.current first_old))) }
+    ensures made { OnOk result (HasMadeFrom (as_cloned stood) 0 tree.old tree.new at (old_elements (list_from tree.old.current first_old)) (old_fibers (list_from tree.old.current first_old))) }
     ensures current { tree.new.current ≡ tree.old.current }
 {
     tree.facts();
     let known = old_children(alloc, tree, first_old)?;
     count_places(&known.elements)?;
-    make_all(tree, at, &known.elements, &known.fibers, true)
+    let origin = Origin {
+        cloned: true,
+        stood,
+    };
+    make_all(tree, at, &known.elements, &known.fibers, origin)
 }

@@ -1,14 +1,15 @@
 // What an element's fiber begins with.
-ghost use Rattle.std.specs.Prelude.{◌≡◌, ◌<◌, length, IfSome, OnOk, is_some, option_map};
+ghost use Rattle.std.specs.Prelude.{◌≡◌, ◌<◌, true, length, IfSome, OnOk, is_some, option_map};
 ghost use Rattle.rx_ctx.specs.Contexts.{values_at};
 ghost use Rattle.rx_fiber.specs.FiberView.{stage_seen};
+ghost use Rattle.rx_fiber.specs.Stood.{given_in};
 ghost use Rattle.rx_begin.specs.Nodes.{parts_in, begun_stage, begun_children, begun_stack, given_context};
 ghost use Rattle.rx_begin.specs.PartsView.{parts_seen};
 
 use rx_base::Ints;
 use rx_ctx::ContextStack;
 use rx_elem::{Element, ElementKind};
-use rx_fiber::Stage;
+use rx_fiber::{Origin, Stage};
 use rx_node::Mark;
 use std::alloc::AllocError;
 
@@ -47,7 +48,10 @@ pub(crate) fn begun_stage(element: &Element, number: Option<u64>) -> Stage
     ensures { stage_seen result ≡ begun_stage element.now number }
 {
     match element.kind() {
-        ElementKind::Null | ElementKind::Comp(_, _, _, _) => Stage::Waiting { cloned: false },
+        ElementKind::Null | ElementKind::Comp(_, _, _, _) => Stage::Waiting(Origin {
+            cloned: false,
+            stood: false,
+        }),
         ElementKind::Text(_) | ElementKind::Host(_, _, _, _) => Stage::Begun(Mark::Host(number)),
         ElementKind::List(_) | ElementKind::Provider(_, _, _, _) => Stage::Begun(Mark::Plain),
         ElementKind::Boundary(_, _, _) => Stage::Trying,
@@ -65,6 +69,20 @@ pub(crate) fn begun_children(element: &Element) -> &[Element]
         ElementKind::Boundary(_, _, children) => children,
         ElementKind::Provider(_, _, _, children) => children,
         _ => &[],
+    }
+}
+
+/// Whether two elements give the same to the contexts below them: both nothing, or one context the same value.
+pub(crate) fn gives_same(element: &Element, old: &Element) -> bool
+    ensures { result ≡ true → given_in element.now ≡ given_in old.now }
+{
+    match (element.kind(), old.kind()) {
+        (ElementKind::Provider(c, _, x, _), ElementKind::Provider(d, _, y, _)) => {
+            *c == *d && x.same(*y)
+        }
+        (ElementKind::Provider(_, _, _, _), _) => false,
+        (_, ElementKind::Provider(_, _, _, _)) => false,
+        _ => true,
     }
 }
 

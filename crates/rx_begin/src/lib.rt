@@ -7,7 +7,7 @@ mod children;
 mod kind;
 mod node;
 mod opening;
-mod take;
+mod origin;
 
 pub use beginning::begin;
 pub use node::Begun;

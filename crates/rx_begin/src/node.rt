@@ -4,6 +4,7 @@ ghost use Rattle.rx_lists.specs.Shapes.{Holds};
 ghost use Rattle.rx_elem.specs.Trees.{host_number, instance_in};
 ghost use Rattle.rx_links.specs.Drafts.{Makes, old_of};
 ghost use Rattle.rx_links.specs.Readers.{list_from};
+ghost use Rattle.rx_fiber.specs.Fibers.{as_cloned, as_matched};
 ghost use Rattle.rx_fiber.specs.FiberView.{stage_seen};
 ghost use Rattle.rx_node.specs.MarkView.{instance_seen, mark_seen};
 ghost use Rattle.rx_fiber.specs.OldLists.{matched, old_elements, old_fibers, primary_list};
@@ -101,13 +102,14 @@ pub(crate) fn open_list(
     stage: Stage,
     elements: &[Element],
     first_old: Option<FiberId>,
+    stood: bool,
 ) -> Result<Option<FiberId>, AllocError>
     requires held { IfSome first_old (Holds tree.old.current) }
     requires beside { IsBareBeside tree.old at first_old }
-    ensures opened { IfOk result (λ first. HasList false tree.old tree.new at (stage_seen stage) elements.now (matched (list_from tree.old.current first_old) elements.now) first) }
+    ensures opened { IfOk result (λ first. HasList (as_matched stood) tree.old tree.new at (stage_seen stage) elements.now (matched (list_from tree.old.current first_old) elements.now) first) }
     ensures current { tree.new.current ≡ tree.old.current }
 {
-    make_children(alloc, tree, at, elements, first_old)?;
+    make_children(alloc, tree, at, elements, first_old, stood)?;
     tree.place_facts();
     set_stage(tree, at, stage)?;
     tree.place_facts();
@@ -121,13 +123,14 @@ pub(crate) fn open_clones(
     at: FiberId,
     stage: Stage,
     first_old: Option<FiberId>,
+    stood: bool,
 ) -> Result<Option<FiberId>, AllocError>
     requires held { IfSome first_old (Holds tree.old.current) }
     requires beside { IsBareBeside tree.old at first_old }
-    ensures opened { IfOk result (λ first. HasList true tree.old tree.new at (stage_seen stage) (old_elements (list_from tree.old.current first_old)) (old_fibers (list_from tree.old.current first_old)) first) }
+    ensures opened { IfOk result (λ first. HasList (as_cloned stood) tree.old tree.new at (stage_seen stage) (old_elements (list_from tree.old.current first_old)) (old_fibers (list_from tree.old.current first_old)) first) }
     ensures current { tree.new.current ≡ tree.old.current }
 {
-    clone_children(alloc, tree, at, first_old)?;
+    clone_children(alloc, tree, at, first_old, stood)?;
     tree.place_facts();
     set_stage(tree, at, stage)?;
     tree.place_facts();
@@ -143,41 +146,45 @@ fn begun_from(first: Option<FiberId>) -> Begun
     }
 }
 
-// A fiber is begun beside the children of its old node.
+// A fiber is begun beside the children of its old node; where it is steady, these stand where the same values of contexts are
+// given.
 pub(crate) fn open_node(
     alloc: Global,
     tree: &mut FiberTree<Fiber>,
     at: FiberId,
     stage: Stage,
     elements: &[Element],
+    steady: bool,
 ) -> Result<Begun, AllocError>
     requires bare { IsBareAt tree.old at }
-    ensures opened { IfOk result (λ b. HasOpened false tree.old tree.new at (stage_seen stage) elements.now (matched (primary_list (list_from tree.old.current (old_of tree.old.draft at))) elements.now) b) }
+    ensures opened { IfOk result (λ b. HasOpened (as_matched steady) tree.old tree.new at (stage_seen stage) elements.now (matched (primary_list (list_from tree.old.current (old_of tree.old.draft at))) elements.now) b) }
     ensures current { tree.new.current ≡ tree.old.current }
 {
     tree.place_facts();
     tree.facts();
     let first_old = old_primary(tree, tree.alternate(at));
-    let first = open_list(alloc, tree, at, stage, elements, first_old)?;
+    let first = open_list(alloc, tree, at, stage, elements, first_old, steady)?;
     Ok(begun_from(first))
 }
 
-// A fiber is begun over clones of the children of its old node.
+// A fiber is begun over clones of the children of its old node; where it is steady, these stand where the same values of contexts
+// are given.
 pub(crate) fn keep_node(
     alloc: Global,
     tree: &mut FiberTree<Fiber>,
     at: FiberId,
     stage: Stage,
+    steady: bool,
 ) -> Result<Begun, AllocError>
     requires bare { IsBareAt tree.old at }
-    ensures opened { IfOk result (λ b. HasOpened true tree.old tree.new at (stage_seen stage) (old_elements (primary_list (list_from tree.old.current (old_of tree.old.draft at))))
+    ensures opened { IfOk result (λ b. HasOpened (as_cloned steady) tree.old tree.new at (stage_seen stage) (old_elements (primary_list (list_from tree.old.current (old_of tree.old.draft at))))
         (old_fibers (primary_list (list_from tree.old.current (old_of tree.old.draft at)))) b) }
     ensures current { tree.new.current ≡ tree.old.current }
 {
     tree.place_facts();
     tree.facts();
     let first_old = old_primary(tree, tree.alternate(at));
-    let first = open_clones(alloc, tree, at, stage, first_old)?;
+    let first = open_clones(alloc, tree, at, stage, first_old, steady)?;
     Ok(begun_from(first))
 }
 

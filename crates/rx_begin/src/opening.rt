@@ -1,5 +1,5 @@
 // The fallback of a boundary opens.
-ghost use Rattle.std.specs.Prelude.{◌≡◌, ◌∷◌, [], true, false, IfOk, IfSome, OnOk, is_none};
+ghost use Rattle.std.specs.Prelude.{◌≡◌, ◌∷◌, [], true, false, IfOk, IfSome, OnOk};
 ghost use Rattle.std.specs.Option.{option_copied};
 ghost use Rattle.rx_ctx.specs.Contexts.{Stack};
 ghost use Rattle.rx_lists.specs.Shapes.{Holds, IsTop, none};
@@ -12,7 +12,7 @@ ghost use Rattle.rx_fiber.specs.Unwound.{IsLeftAt};
 ghost use Rattle.rx_begin.specs.Children.{HasMadeFrom};
 ghost use Rattle.rx_begin.specs.Nodes.{IsBareAt, IsBareBeside, HasList};
 ghost use Rattle.rx_begin.specs.Again.{HasOldFallback};
-ghost use Rattle.rx_begin.specs.Opening.{IsLeft, KeepsNode, HasOpenedAs, fallback_behind, opened_at, HasKept, HasFallback, IsFallbackOf, given_elements, given_fibers};
+ghost use Rattle.rx_begin.specs.Opening.{IsLeft, KeepsNode, HasOpenedAs, fallback_behind, opened_at, HasKept, HasFallback, IsFallbackOf, given_as, given_elements, given_fibers};
 
 use crate::children::{clone_children, make_children};
 use crate::node::{open_clones, open_list};
@@ -127,12 +127,12 @@ fn make_listed(
 ) -> Result<(), AllocError>
     requires held { IfSome first_old (Holds tree.old.current) }
     requires beside { IsBareBeside tree.old at first_old }
-    ensures made { OnOk result (HasMadeFrom (is_none (option_copied given.entry)) 0 tree.old tree.new at (given_elements (option_copied given.entry) (list_from tree.old.current first_old)) (given_fibers (option_copied given.entry) (list_from tree.old.current first_old))) }
+    ensures made { OnOk result (HasMadeFrom (given_as (option_copied given.entry)) 0 tree.old tree.new at (given_elements (option_copied given.entry) (list_from tree.old.current first_old)) (given_fibers (option_copied given.entry) (list_from tree.old.current first_old))) }
     ensures current { tree.new.current ≡ tree.old.current }
 {
     match given {
-        Some(elements) => make_children(alloc, tree, at, elements, first_old),
-        None => clone_children(alloc, tree, at, first_old),
+        Some(elements) => make_children(alloc, tree, at, elements, first_old, false),
+        None => clone_children(alloc, tree, at, first_old, true),
     }
 }
 
@@ -147,12 +147,12 @@ fn open_listed(
 ) -> Result<Option<FiberId>, AllocError>
     requires held { IfSome first_old (Holds tree.old.current) }
     requires beside { IsBareBeside tree.old at first_old }
-    ensures opened { IfOk result (λ first. HasList (is_none (option_copied given.entry)) tree.old tree.new at (stage_seen stage) (given_elements (option_copied given.entry) (list_from tree.old.current first_old)) (given_fibers (option_copied given.entry) (list_from tree.old.current first_old)) first) }
+    ensures opened { IfOk result (λ first. HasList (given_as (option_copied given.entry)) tree.old tree.new at (stage_seen stage) (given_elements (option_copied given.entry) (list_from tree.old.current first_old)) (given_fibers (option_copied given.entry) (list_from tree.old.current first_old)) first) }
     ensures current { tree.new.current ≡ tree.old.current }
 {
     match given {
-        Some(elements) => open_list(alloc, tree, at, stage, elements, first_old),
-        None => open_clones(alloc, tree, at, stage, first_old),
+        Some(elements) => open_list(alloc, tree, at, stage, elements, first_old, false),
+        None => open_clones(alloc, tree, at, stage, first_old, true),
     }
 }
 

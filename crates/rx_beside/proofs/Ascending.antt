@@ -1,12 +1,10 @@
 -- The fibers of a list ascend: what stands at the place of each is its node.
 use Rattle.std.proofs.Common.{◌≡◌, ◌⊎◌, inl, inr, ℕ, zero, suc, ◌+◌, ◌-◌, ◌≤◌, List, [], ◌∷◌, ◌++◌, length, refl, sym, ap, ◌∙◌, subst, arith, Option, Some, None}
 use Rattle.std.specs.Prelude.{slice_get}
-use Rattle.std.proofs.lemmas.List.{length-append}
 use Rattle.rx_elem.specs.Elements.{Element}
 use Rattle.rx_elem.specs.Trees.{Mark, Node, Forest, vacant, child, forest}
-use Rattle.rx_elem.specs.Trees as trees
 use Rattle.rx_lists.specs.Shapes.{Shape, none, fiber}
-use Rattle.rx_fiber.specs.Fibers.{Fiber, begun}
+use Rattle.rx_fiber.specs.Fibers.{Fiber}
 use Rattle.rx_fiber.specs.OldLists.{filled}
 use Rattle.rx_fiber.specs.Reading.{IsOf, AreFor, no_more, gap, next, IsFor, whole, alone, beside}
 use Rattle.rx_read.specs.Places.{mark_in, node_from, own_places, places_in, fallback_behind, node_if, first_node}

@@ -1,49 +1,24 @@
 -- What two lists are beside each other once they are walked, and what their nodes are then.
 use Rattle.std.proofs.Common.{◌≡◌, ℕ, zero, suc, ◌+◌, ◌<◌, ◌≤◌, Bool, true, false, ◌||◌, List, [], ◌∷◌, ◌++◌, length, get_or, take, map, refl, sym, ap, ◌∙◌, subst, arith, Option, Some, None}
 use Rattle.std.specs.Prelude.{slice_get, nat_eq, position, option_and_then}
-use Rattle.std.specs.List.{zip, list_any}
+use Rattle.std.specs.List.{zip}
 use Rattle.std.specs.Option.{option_map_or}
 use Rattle.std.proofs.lemmas.Bool.Decides.{Decides-eqb}
 use Rattle.std.proofs.lemmas.List.{length-map, length-take-le, map-append, take_all, take_more}
-use Rattle.std.proofs.lemmas.List.Quantifiers.{position-Some}
 use Rattle.std.proofs.lemmas.Option.{slice_get-get_or}
 use Rattle.rx_elem.specs.Elements.{Element}
-use Rattle.rx_elem.specs.Identity.{Child, identities, identities_after, identified, is_same_child, is_reused, old_places, moves, moves_after}
+use Rattle.rx_elem.specs.Identity.{identities, identified, is_same_child, is_reused, old_places, moves, moves_after}
 use Rattle.rx_elem.specs.Trees.{Mark, Node, node, Forest, vacant, child, forest, element_of, elements_in, mark_of, children_of, fallback_of}
 use Rattle.rx_elem.specs.Trees as trees
-use Rattle.rx_elem.specs.Compare.{Past, pasts, node_at}
-use Rattle.rx_keys.proofs.Distinct.{both, same_identity_is, children_distinct}
-use Rattle.rx_pruned.specs.Pruned.{GoesOn, displaced_below, KeepsGone, Pruned, whole, cut, inside, PrunedIn}
+use Rattle.rx_elem.specs.Compare.{pasts, node_at}
+use Rattle.rx_keys.proofs.Distinct.{identified_length, places_apart}
+use Rattle.rx_pruned.specs.Pruned.{GoesOn, displaced_below, Pruned, whole, cut, inside, PrunedIn}
 use Rattle.rx_compare.specs.Matched.{IsMatched}
 use Rattle.rx_keys.specs.declared.matching.Matching.{Matching}
 use Rattle.rx_beside.specs.Slots.{IsSlot, kept, changed, replaced, AreLists, left_out, as_they_are, without_some}
 use Rattle.rx_beside.proofs.Walking.{pasts_by, pasts_are, Walked, walked_more}
 
 -- Where new children were
-
--- what stands in a mapped list comes from what stands there before
-map_at : {X Y : Type 0} (f : X → Y) (xs : List X) (i : ℕ) (y : Y) → slice_get (map f xs) i ≡ Some y → (x : X) × (slice_get xs i ≡ Some x) × (f x ≡ y)
-map_at f [] i y h = cc
-map_at f (x ∷ xs) zero y h = (x, refl, (let e : f x ≡ y = cc in e))
-map_at f (x ∷ xs) (suc i) y h = map_at f xs i y h
-
--- two new children were not one old child
-places_apart : (old new : List Element) (i k p : ℕ) → slice_get (old_places old new) i ≡ Some (Some p) → slice_get (old_places old new) k ≡ Some (Some p) → i ≡ k
-places_apart old new i k p h l =
-    let first = map_at (λ c. position (is_same_child c) (identified old)) (identified new) i (Some p) h in
-    let second = map_at (λ c. position (is_same_child c) (identified old)) (identified new) k (Some p) l in
-    let c : Child = first.0 in
-    let d : Child = second.0 in
-    let o : Child = get_or (identified old) p c in
-    let one = position-Some (is_same_child c) (identified old) p c first.2 in
-    let two = position-Some (is_same_child d) (identified old) p c second.2 in
-    let e : c.identity ≡ o.identity = same_identity_is c.identity o.identity (both _ _ one.1).0 in
-    let f : d.identity ≡ o.identity = same_identity_is d.identity o.identity (both _ _ two.1).0 in
-    children_distinct new i k c d first.1 second.1 (e ∙ sym f)
-
-identified_length : (before es : List Element) → length (zip (identities_after before es) es) ≡ length es
-identified_length before [] = refl
-identified_length before (e ∷ es) = ap suc (identified_length (before ++ e ∷ []) es)
 
 -- each new child has a place or none, and moved or not
 pub places_length : (old new : List Element) → length (old_places old new) ≡ length new

@@ -6,8 +6,8 @@ use Rattle.rx_elem.specs.Trees.{Mark, Node, Forest, forest, element_of, elements
 use Rattle.rx_compare.specs.Matched.{element_at}
 use Rattle.rx_compare.proofs.Places.{map-element_at}
 use Rattle.rx_fiber.specs.OldLists.{filled}
-use Rattle.rx_lists.specs.Shapes.{Shape, none, fiber, first, size, IsTop}
-use Rattle.rx_links.specs.Drafts.{Draft, taken, made, Trees, entry, Makes, Fits, Follows, IsOldKids, old_of, old_kids, grafted}
+use Rattle.rx_lists.specs.Shapes.{Shape, first, size, IsTop}
+use Rattle.rx_links.specs.Drafts.{Draft, taken, made, Trees, entry, Makes, Fits, Follows, IsOldKids, old_kids, grafted}
 use Rattle.rx_links.specs.Places.{Around, below, after, placed}
 use Rattle.rx_links.specs.Readers.{IsLinked, made_kids_of, made_rest_of}
 use Rattle.rx_links.proofs.Placed.{is-at}
@@ -17,7 +17,7 @@ use Rattle.rx_read.specs.Numbering.{made_entry}
 use Rattle.rx_read.specs.Places.{mark_in, node_from, own_places, places_in, fallback_behind, first_places, node_if, first_node}
 use Rattle.rx_read.proofs.Links.{Linked, list_of_made}
 use Rattle.rx_beside.specs.Children.{IsChildOf, IsNodeOf}
-use Rattle.rx_beside.proofs.Standing.{Beside, beside_at, top_is}
+use Rattle.rx_beside.proofs.Standing.{beside_at, top_is}
 
 -- a made child at its place, with those behind it: made beside the children of the current fiber that its parent is for
 pub record IsHere (t : Trees Fiber) (p i : ℕ) : Type 0 where

@@ -1,9 +1,9 @@
 -- The root of a tree is read as the tree.
-use Rattle.std.proofs.Common.{◌≡◌, false, ◌-◌, [], ◌∷◌, refl, sym, ap, ◌∙◌, arith, ℕ, Option, Some, None}
+use Rattle.std.proofs.Common.{◌≡◌, false, ◌-◌, [], ◌∷◌, sym, ap, ◌∙◌, arith, ℕ, Option, Some, None}
 use Rattle.rx_elem.specs.Trees.{Mark, Node, forest}
 use Rattle.rx_elem.specs.Trees as trees
 use Rattle.rx_lists.specs.Shapes.{Shape, none, fiber}
-use Rattle.rx_links.specs.Drafts.{Trees, Fits, entry, grafted, old_of}
+use Rattle.rx_links.specs.Drafts.{Trees, Fits, entry, grafted}
 use Rattle.rx_links.specs.Readers.{IsLinked}
 use Rattle.rx_fiber.specs.Fibers.{Fiber, begun}
 use Rattle.rx_fiber.specs.Reading.{AreFor, next, IsFor, whole, alone, beside, IsTreeOf}

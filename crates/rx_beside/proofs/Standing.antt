@@ -1,5 +1,5 @@
 -- A made fiber beside the current one that it was made for.
-use Rattle.std.proofs.Common.{◌≡◌, ◌⊎◌, inl, inr, ℕ, zero, suc, ◌-◌, Bool, true, false, eqb, List, refl, sym, ap, ◌∙◌, subst, arith, is_some, Option, Some, None, IfSome}
+use Rattle.std.proofs.Common.{◌≡◌, ◌⊎◌, inl, inr, ℕ, ◌-◌, Bool, true, false, eqb, List, refl, sym, ap, ◌∙◌, subst, arith, is_some, Option, Some, None, IfSome}
 use Rattle.std.specs.Prelude.{slice_get, if◌then◌else◌}
 use Rattle.std.specs.Option.{option_flatten}
 use Rattle.rx_elem.specs.Trees.{Mark, Node, node, Forest, forest, places, is_hidden, mark_of, children_of, fallback_of, element_of}
@@ -9,12 +9,12 @@ use Rattle.rx_node.proofs.Listing.{places-forest}
 use Rattle.rx_lists.specs.Shapes.{Shape, none, fiber, first, Holds, IsTop}
 use Rattle.rx_links.specs.Drafts.{Draft, taken, made, Trees, or_else, entry, Makes, Fits, Follows, HasTop, IsOldKids, list_at, kids_of, kids_under, old_of, old_kids, grafted}
 use Rattle.rx_links.specs.Places.{Around, top, below, after, placed}
-use Rattle.rx_links.specs.Readers.{list_from, rest_of, value_of, IsLinked, IsIn, made_kids_of, made_value_of}
+use Rattle.rx_links.specs.Readers.{rest_of, value_of, IsLinked, made_kids_of, made_value_of}
 use Rattle.rx_links.proofs.Placed.{is-at}
 use Rattle.rx_links.proofs.Edits.{top-kids}
 use Rattle.rx_fiber.specs.Fibers.{Fiber, begun}
 use Rattle.rx_fiber.specs.Reading.{IsTreeOf}
-use Rattle.rx_fiber.proofs.OldLists.{IsListIn, list_is, list_held, kids_listed, rest_listed, kids_are}
+use Rattle.rx_fiber.proofs.OldLists.{IsListIn, list_is, list_held, rest_listed, kids_are}
 use Rattle.rx_lists.proofs.Frames.{some-at}
 use Rattle.rx_read.specs.Lists.{list_of}
 use Rattle.rx_read.specs.Numbering.{made_entry}

@@ -1,19 +1,19 @@
 -- Two lists of children are walked beside each other.
-use Rattle.std.proofs.Common.{◌≡◌, ℕ, zero, suc, ◌+◌, ◌<◌, Bool, true, false, ◌||◌, List, [], ◌∷◌, ◌++◌, length, map, refl, sym, ap, ◌∙◌, subst, arith, Option, Some, None}
+use Rattle.std.proofs.Common.{◌≡◌, ℕ, zero, suc, Bool, true, false, ◌||◌, List, [], ◌∷◌, ◌++◌, length, map, refl, sym, ap, ◌∙◌, subst, arith, Option, Some, None}
 use Rattle.std.specs.Prelude.{slice_get, slice_set, nat_eq, option_and_then}
-use Rattle.std.specs.List.{zip, list_any}
+use Rattle.std.specs.List.{zip}
 use Rattle.std.specs.Option.{option_flatten, option_map_or}
 use Rattle.std.proofs.lemmas.Bool.Decides.{Decides-eqb}
 use Rattle.std.proofs.lemmas.List.Folds.{list_any-append}
 use Rattle.rx_elem.specs.Elements.{Element}
 use Rattle.rx_elem.specs.Elements as elements
-use Rattle.rx_elem.specs.Identity.{is_reused, old_places, moves}
+use Rattle.rx_elem.specs.Identity.{is_reused}
 use Rattle.rx_elem.specs.Trees.{Mark, Node, node, Forest, vacant, child, forest, element_of, elements_in}
 use Rattle.rx_elem.specs.Trees as trees
-use Rattle.rx_elem.specs.Compare.{Past, pasts, node_at}
+use Rattle.rx_elem.specs.Compare.{Past, node_at}
 use Rattle.rx_node.proofs.Listing.{places-forest}
-use Rattle.rx_pruned.specs.Pruned.{GoesOn, displaced_below, KeepsGone, was, Pruned, whole, cut, inside, PrunedIn, no_more, gap, same, pair}
-use Rattle.rx_beside.specs.Slots.{IsSlot, kept, changed, replaced, AreLists, left_out, as_they_are, without_some}
+use Rattle.rx_pruned.specs.Pruned.{was, Pruned, whole, cut, inside, PrunedIn, no_more, gap, same, pair}
+use Rattle.rx_beside.specs.Slots.{IsSlot, kept, changed, replaced}
 
 -- Pasts by places
 

@@ -86,4 +86,9 @@ impl Element {
         let kind = self.kind.clone()?;
         Ok(Element { kind })
     }
+
+    // Whether both handles lead to one place of memory. It is a hint: no clause tells what it answers.
+    pub(crate) fn shares(&self, other: &Element) -> bool {
+        Rc::ptr_eq(&self.kind, &other.kind)
+    }
 }

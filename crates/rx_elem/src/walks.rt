@@ -1,5 +1,5 @@
 // Walks over whole elements.
-ghost use Rattle.std.specs.Prelude.{◌≡◌};
+ghost use Rattle.std.specs.Prelude.{◌≡◌, true};
 ghost use Rattle.rx_elem.specs.Elements.{gathered, same_element, same_elements};
 ghost use Rattle.rx_elem.specs.ElementSize.{held, size, size_in};
 
@@ -62,6 +62,14 @@ impl Element {
             }
             _ => false,
         }
+    }
+
+    /// Whether both are handles of one element, as it is given again where what gave it was not evaluated anew. An equal one that
+    /// was made anew is another (react.dev, memo: React compares the elements themselves, and not what is in them).
+    pub fn is_again(&self, other: &Element) -> bool
+        ensures { result ≡ true → same_element self.now other.now ≡ true }
+    {
+        self.shares(other) && self.same(other)
     }
 
     /// How many elements it is, with those below it; held at the greatest `u64`.

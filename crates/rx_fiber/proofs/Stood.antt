@@ -6,8 +6,8 @@ use Rattle.rx_lists.specs.Shapes.{Shape}
 use Rattle.rx_links.specs.Readers.{value_of, list_from}
 use Rattle.rx_fiber.specs.Fibers.{Fiber}
 use Rattle.rx_fiber.specs.OldLists.{hides_in, primary_list, fallback_list, fiber_at}
-use Rattle.rx_fiber.specs.Stood.{given_more, StoodAt, below, in_fallback}
-use Rattle.rx_fiber.specs.Surround.{IsElementOf}
+use Rattle.rx_fiber.specs.Stood.{given_in, given_more, one_more, StoodAt, below, in_fallback}
+use Rattle.rx_fiber.specs.Surround.{IsElementOf, StandsIf}
 
 module _ (c : Shape Fiber) (ws : List (ℕ × ℤ)) (e : Element) where
   -- the fiber of an element has a value
@@ -18,12 +18,11 @@ module _ (c : Shape Fiber) (ws : List (ℕ × ℤ)) (e : Element) where
       by_value None f = absurd (let g : option_map (λ (v : Fiber). v.element) None ≡ Some e = sym (ap (option_map (λ v. v.element)) f) ∙ same in let h : ⊥ = cc in h)
       by_value (Some v) f = (v, f, (let g : Some v.element ≡ Some e = sym (ap (option_map (λ v. v.element)) f) ∙ same in cc))
 
-  -- A child of one that hides nothing.
-  pub stood_below : (o : Option ℕ) (place i : ℕ) → StoodAt c ws o → IsElementOf c o e → ((v : Fiber) → option_and_then (value_of c) o ≡ Some v → hides_in v.stage ≡ false)
+  -- A child of one that hides nothing, and gives what this element does.
+  pub stood_below : (o : Option ℕ) (v : Fiber) (place i : ℕ) → StandsIf c ws o → option_and_then (value_of c) o ≡ Some v → hides_in v.stage ≡ false → given_in e ≡ given_in v.element
       → fiber_at (primary_list (list_from c o)) place ≡ Some i → StoodAt c (given_more e ws) (Some i)
-  stood_below None place i at same shown is = cc
-  stood_below (Some q) place i at same shown is =
-      let (v, f, g) = value_with q same in subst (λ y. StoodAt c (given_more y ws) (Some i)) g (below place at f (shown v f) is)
+  stood_below None v place i at value shown gives is = cc
+  stood_below (Some q) v place i at value shown gives is = subst (λ g. StoodAt c (one_more g ws) (Some i)) (sym gives) (below place at value shown is)
 
   -- One of the fallback of a boundary that is hidden.
   pub stood_in_fallback : (o : Option ℕ) (place i : ℕ) → StoodAt c ws o → IsElementOf c o e → ((v : Fiber) → option_and_then (value_of c) o ≡ Some v → hides_in v.stage ≡ true)

@@ -13,16 +13,16 @@ abbrev numbers : Coded (List ℕ)
 numbers = coded_list coded_ℕ
 
 abbrev StageParts : Type 0
-StageParts = (Bool ⊎ Mark) ⊎ Option Awaits
+StageParts = ((Bool × Bool) ⊎ Mark) ⊎ Option Awaits
 
 abbrev of_stage : Stage → StageParts
-of_stage (waiting c) = inl (inl c)
+of_stage (waiting c) = inl (inl (c.cloned, c.stood))
 of_stage (begun m) = inl (inr m)
 of_stage trying = inr None
 of_stage (fallback a) = inr (Some a)
 
 abbrev to_stage : StageParts → Stage
-to_stage (inl (inl c)) = waiting c
+to_stage (inl (inl c)) = waiting (record { cloned = c.0; stood = c.1 })
 to_stage (inl (inr m)) = begun m
 to_stage (inr None) = trying
 to_stage (inr (Some a)) = fallback a
@@ -34,7 +34,7 @@ stage_back trying = refl
 stage_back (fallback a) = refl
 
 abbrev stage_code : Coded Stage
-stage_code = code_by StageParts (coded⊎ (coded⊎ coded_bool mark_code) (coded_option numbers)) of_stage to_stage stage_back
+stage_code = code_by StageParts (coded⊎ (coded⊎ (coded× coded_bool coded_bool) mark_code) (coded_option numbers)) of_stage to_stage stage_back
 
 -- a fiber as it is stored, from which it can be read back
 abbrev pub fiber_code : Coded Fiber

@@ -1,14 +1,15 @@
 -- What a fiber holds beside its links.
-use Rattle.std.specs.Prelude.{ℕ, Bool, false, Some}
+use Rattle.std.specs.Prelude.{ℕ, Bool, true, false, Some}
 use Rattle.rx_susp.specs.declared.boundary.BoundaryState.TheVariants.{Shown}
 use Rattle.rx_base.specs.Awaits.{Awaits}
 use Rattle.rx_elem.specs.Elements.{Element}
 use Rattle.rx_elem.specs.Trees.{Mark, of_instance, of_host, of_boundary, plain}
+use Rattle.rx_fiber.specs.declared.stage.Origin.{Origin}
 
 -- how far a fiber has come
 pub data Stage : Type 0 where
-  -- it is made for a place that the render has not come to; it is cloned where its element is that of the current fiber for which it was made
-  waiting : (cloned : Bool) → Stage
+  -- it is made for a place that the render has not come to
+  waiting : Origin → Stage
   -- it is begun: a node with this mark, over its children
   begun : Mark → Stage
   -- a boundary whose children are tried
@@ -16,12 +17,27 @@ pub data Stage : Type 0 where
   -- the fallback of the boundary right before it, which keeps its primary content and waits for these
   fallback : Awaits → Stage
 
--- it is made for a place that the render has not come to, and cloned
+-- what is known of a fiber whose element may be another than that of the current fiber for which it was made
+abbrev pub as_matched : (stood : Bool) → Origin
+as_matched stood = record { cloned = false; stood = stood }
+
+-- what is known of a clone
+abbrev pub as_cloned : (stood : Bool) → Origin
+as_cloned stood = record { cloned = true; stood = stood }
+
+-- it is made for a place that the render has not come to, and cloned: its element is that of the current fiber for which it was made
 abbrev pub is_cloned : Stage → Bool
-is_cloned (waiting c) = c
+is_cloned (waiting c) = c.cloned
 is_cloned (begun m) = false
 is_cloned trying = false
 is_cloned (fallback a) = false
+
+-- it is made for a place that the render has not come to, and the current fiber for which it was made, if for one, stands where the same values of contexts are given
+abbrev pub is_stood : Stage → Bool
+is_stood (waiting c) = c.stood
+is_stood (begun m) = false
+is_stood trying = false
+is_stood (fallback a) = false
 
 -- a fiber: its place among the children of its parent, its element, and how far it has come
 pub record Fiber : Type 0 where

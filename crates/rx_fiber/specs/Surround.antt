@@ -1,5 +1,5 @@
 -- What surrounds the place that a render has come to, read from the fibers around it.
-use Rattle.std.specs.Prelude.{◌≡◌, ℕ, ℤ, suc, ◌+◌, ◌≤◌, Bool, true, false, List, [], ◌∷◌, ◌++◌, Option, Some, option_map, option_and_then, length}
+use Rattle.std.specs.Prelude.{◌≡◌, ℕ, ℤ, suc, ◌+◌, ◌≤◌, Bool, true, false, List, [], ◌∷◌, ◌++◌, Option, Some, None, option_map, option_and_then, length}
 use Rattle.rx_base.specs.Awaits.{Awaits}
 use Rattle.rx_elem.specs.Elements.{Element}
 use Rattle.rx_elem.specs.Elements as elements
@@ -15,6 +15,7 @@ use Rattle.rx_meaning.specs.Fresh.{Contexts, part}
 use Rattle.rx_meaning.specs.Cursor.{Open, around, trying, falling, Frame, is_null}
 use Rattle.rx_fiber.specs.Fibers.{Fiber, waiting, begun}
 use Rattle.rx_fiber.specs.Fibers as stage
+use Rattle.rx_fiber.specs.declared.stage.Origin.{Origin}
 use Rattle.rx_fiber.specs.Reading.{has_node, IsOf, AreFor, IsOld}
 use Rattle.rx_fiber.specs.Stood.{given_in, given_more, StoodAt}
 
@@ -22,13 +23,19 @@ use Rattle.rx_fiber.specs.Stood.{given_in, given_more, StoodAt}
 abbrev pub IsElementOf : Shape Fiber → Option ℕ → Element → Type 0
 IsElementOf current o e = option_map (λ v. v.element) (option_and_then (value_of current) o) ≡ Some e
 
--- the fiber of a place that the render has not come to, made for this current fiber, if for one; where it is cloned, it has the element of that one, which stands where the same values are given
+-- a current fiber, if it is there, stands where these values are given
+abbrev pub StandsIf : Shape Fiber → List (ℕ × ℤ) → Option ℕ → Type 0
+StandsIf current ws None = Unit {0}
+StandsIf current ws (Some i) = StoodAt current ws (Some i)
+
+-- the fiber of a place that the render has not come to, made for this current fiber, if for one; where it is cloned, it has the element of that one; where it stood, that one stands where the same values are given
 pub record IsWaiting (current : Shape Fiber) (ws : List (ℕ × ℤ)) (o : Option ℕ) (v : Fiber) (place : ℕ) (e : Element) : Type 0 where
   pub at : v.place ≡ place
   pub element : v.element ≡ e
-  pub cloned : Bool
-  pub stage : v.stage ≡ waiting cloned
-  pub same : cloned ≡ true → IsElementOf current o e × StoodAt current ws o
+  pub origin : Origin
+  pub stage : v.stage ≡ waiting origin
+  pub same : origin.cloned ≡ true → IsElementOf current o e
+  pub stands : origin.stood ≡ true → StandsIf current ws o
 
 -- The children of a list that are still to begin, from a place on, below providers that give these values: each that isn't null has a fiber, made beside the current fiber of its old node.
 pub data AreNext (current : Shape Fiber) (ws : List (ℕ × ℤ)) : (place : ℕ) → List (Element × Option Node) → Draft Fiber → Type 0 where

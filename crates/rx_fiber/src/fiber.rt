@@ -1,7 +1,7 @@
 // A fiber's value.
 ghost use Rattle.std.specs.Prelude.{◌≡◌};
 ghost use Rattle.rx_fiber.specs.Fibers as fibers;
-ghost use Rattle.rx_fiber.specs.Fibers.{is_cloned};
+ghost use Rattle.rx_fiber.specs.Fibers.{is_cloned, is_stood};
 ghost use Rattle.rx_fiber.specs.FiberView.{stage_seen, changed};
 
 use crate::stage::{Stage, StageChange};
@@ -70,7 +70,18 @@ impl Fiber {
         ensures { result ≡ is_cloned self.now.stage }
     {
         match self.stage {
-            Stage::Waiting { cloned } => cloned,
+            Stage::Waiting(origin) => origin.cloned,
+            _ => false,
+        }
+    }
+
+    /// Whether it waits where the current fiber for which it was made, if it was for one, stands where the same values of
+    /// contexts are given.
+    pub fn is_stood(&self) -> bool
+        ensures { result ≡ is_stood self.now.stage }
+    {
+        match self.stage {
+            Stage::Waiting(origin) => origin.stood,
             _ => false,
         }
     }

@@ -9,4 +9,4 @@ mod tests;
 
 pub use fiber::Fiber;
 pub use old::{OldChildren, hides, is_fallback, old_children, old_fallback, old_primary};
-pub use stage::{Stage, StageChange};
+pub use stage::{Origin, Stage, StageChange};

@@ -6,12 +6,20 @@ ghost use Rattle.rx_fiber.specs.FiberView.{stage_seen};
 use rx_base::Awaits;
 use rx_node::Mark;
 
+/// What is known of a fiber beside the current one for which it was made, where it is made.
+#[derive(Clone, Copy)]
+pub struct Origin {
+    /// It is cloned: its element is that of the current fiber, so that nothing above asks for another.
+    pub cloned: bool,
+    /// The current fiber, if it was made for one, stands where the same values of contexts are given.
+    pub stood: bool,
+}
+
 /// How far a fiber has come in the render that made it.
 #[derive(Drop)]
 pub enum Stage {
-    /// It is made for a place that the render has not come to. It is cloned where its element is that of the current fiber for
-    /// which it was made, so that nothing above asks for another.
-    Waiting { cloned: bool },
+    /// It is made for a place that the render has not come to.
+    Waiting(Origin),
     /// It is begun: a node with this mark, over its children.
     Begun(Mark),
     /// A boundary whose children are tried.

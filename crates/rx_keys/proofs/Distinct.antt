@@ -2,12 +2,13 @@
 use Rattle.std.proofs.Common.{◌≡◌, ℕ, zero, suc, ◌<◌, ◌≤◌, Bool, true, false, cond, ◌&&◌, List, [], ◌∷◌, ◌++◌, Some, None, map, length, get_or, nat_lt, nat_eq, refl, sym, ◌∙◌, ap, arith, subst, length-append}
 use Rattle.std.specs.Prelude.{slice_get, count_by, position}
 use Rattle.std.specs.List.{zip, position_or_len}
+use Rattle.std.proofs.lemmas.List.Quantifiers.{position-Some}
 use Rattle.std.specs.Ordering.{int_eq}
 use Rattle.std.proofs.lemmas.Bool.Decides.{nat_tests, Decides-int_eq, Decides-eqb}
 use Rattle.std.proofs.lemmas.List.Sums.{sum_by-append, position_or_len_is}
 use Rattle.std.proofs.lemmas.Option.{none-some, same_Some, slice_get-get_or, slice_get_within, get_or_from_slice_get}
 use Rattle.rx_elem.specs.Elements.{Element, Key, key_of}
-use Rattle.rx_elem.specs.Identity.{Identity, at_key, at_index, same_identity, has_key, identity_after, identities_after, identities, Child, identified, is_same_child}
+use Rattle.rx_elem.specs.Identity.{Identity, at_key, at_index, same_identity, has_key, identity_after, identities_after, identities, Child, identified, is_same_child, old_places}
 
 -- an identity that none of these siblings has
 abbrev IsLater : List Element → Identity → Type 0
@@ -107,3 +108,30 @@ position_is_the_one old c p d here same =
   where
     identity_of_same : (c d : Child) → is_same_child c d ≡ true → c.identity ≡ d.identity
     identity_of_same c d h = same_identity_is c.identity d.identity (both _ _ h).0
+
+-- Where new children were
+
+-- what stands in a mapped list comes from what stands there before
+pub map_at : {X Y : Type 0} (f : X → Y) (xs : List X) (i : ℕ) (y : Y) → slice_get (map f xs) i ≡ Some y → (x : X) × (slice_get xs i ≡ Some x) × (f x ≡ y)
+map_at f [] i y h = cc
+map_at f (x ∷ xs) zero y h = (x, refl, (let e : f x ≡ y = cc in e))
+map_at f (x ∷ xs) (suc i) y h = map_at f xs i y h
+
+-- two new children were not one old child
+pub places_apart : (old new : List Element) (i k p : ℕ) → slice_get (old_places old new) i ≡ Some (Some p) → slice_get (old_places old new) k ≡ Some (Some p) → i ≡ k
+places_apart old new i k p h l =
+    let first = map_at (λ c. position (is_same_child c) (identified old)) (identified new) i (Some p) h in
+    let second = map_at (λ c. position (is_same_child c) (identified old)) (identified new) k (Some p) l in
+    let c : Child = first.0 in
+    let d : Child = second.0 in
+    let o : Child = get_or (identified old) p c in
+    let one = position-Some (is_same_child c) (identified old) p c first.2 in
+    let two = position-Some (is_same_child d) (identified old) p c second.2 in
+    let e : c.identity ≡ o.identity = same_identity_is c.identity o.identity (both _ _ one.1).0 in
+    let f : d.identity ≡ o.identity = same_identity_is d.identity o.identity (both _ _ two.1).0 in
+    children_distinct new i k c d first.1 second.1 (e ∙ sym f)
+
+-- each child has an identity
+pub identified_length : (before es : List Element) → length (zip (identities_after before es) es) ≡ length es
+identified_length before [] = refl
+identified_length before (e ∷ es) = ap suc (identified_length (before ++ e ∷ []) es)

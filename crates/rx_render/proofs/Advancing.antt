@@ -136,7 +136,7 @@ module _ (s : Sight) (way : ℕ → Bool) (kept : ℕ → Option (List Hook)) (t
 
 -- past a subtree that is taken over
 module _ (s : Sight) (t new : Trees Fiber) (st' : Stack) (p n : ℕ) (fs : List Frame) (cs : Contexts) (e : Element) (old : Option Node) (linked : IsLinked t.current)
-    (h : IsTakenOver s t new st' p fs e old) where
+    (h : IsTakenOver s t new st' p fs cs e old) where
   taken_goes : (bodies : ℕ) → bodies ≡ 0 → Goes s t.current bodies (at_place (suc n) fs cs e old) (arrive (suc n) fs (Some h.node))
   taken_goes bodies none =
       subst (λ o. Goes s t.current bodies (at_place (suc n) fs cs e o) (arrive (suc n) fs (Some h.node))) (sym h.was)

@@ -1,6 +1,6 @@
 -- What holds of a render in progress holds where it comes in one unit.
-use Rattle.std.specs.Prelude.{◌≡◌, ℕ, suc, ◌+◌, ◌≤◌, false, List, [], ◌∷◌, Option, Some, refl}
-use Rattle.std.proofs.Common.{sym, subst, arith}
+use Rattle.std.specs.Prelude.{◌≡◌, ℕ, suc, ◌+◌, ◌≤◌, false, List, [], ◌∷◌, Option, Some, ◌⊎◌, refl}
+use Rattle.std.proofs.Common.{sym, subst, arith, inl, inr}
 use Rattle.rx_ast.specs.Syntax.{Program}
 use Rattle.rx_check.specs.Checks.{unknowns}
 use Rattle.rx_base.specs.Awaits.{Awaits}
@@ -12,9 +12,10 @@ use Rattle.rx_meaning.specs.Fresh.{Sight, Contexts, Part, part, two_lists, shape
 use Rattle.rx_meaning.specs.Levels.{PartFits}
 use Rattle.rx_meaning.specs.Cursor.{Frame, falling, Cursor, at_place, open_part, arrive, unit, is_over}
 use Rattle.rx_meaning.specs.Counts.{each_body, next_counts}
-use Rattle.rx_meaning.specs.Settled.{IfReadsHold, IfSettled, known_by}
+use Rattle.rx_meaning.specs.Settled.{IfReadsHold, IfSettled, ReadsHold, known_by}
 use Rattle.rx_meaning.proofs.Depths.{shape_fits}
 use Rattle.commit_laws.specs.Idle.{IsIdle}
+use Rattle.commit_laws.proofs.TakeOver.{idle_again as again}
 use Rattle.commit_laws.specs.WaitsAgain.{IfWaitsAgain}
 use Rattle.render_laws.specs.InProgress.{InProgress}
 use Rattle.render_laws.specs.OldNodes.{CursorHas}
@@ -102,15 +103,16 @@ module _ (s : Sight) (tree : Option Node) (current : Shape Fiber) (is : IsTreeOf
           reached = steps.past_subtree (suc n) fs cs e x same_element h.reached;
         }
 
-    idle_again : (o : Option ℕ) → IsLinked current → StoodAt current (given_along fs) o → IsOld current o (Some x) → IsIdle s x
+    idle_again : (o : Option ℕ) → IsLinked current → StoodAt current (given_along fs) o ⊎ ReadsHold cs x → IsOld current o (Some x) → IsIdle s x
         → Reaches s tree units bodies (at_place (suc n) fs cs (element_of x) (Some x)) → rendered (suc n) s cs (element_of x) (Some x) ≡ made x
-    idle_again o linked stood was idle h =
+    idle_again o linked (inr reads_here) was idle h = again (suc n) s cs x (h.rests.0.settles s.program (known_by s) settled) idle reads_here h.goes.fits.0
+    idle_again o linked (inl stood) was idle h =
         let base = default_contexts s.program in
         let here : cs ≡ given_contexts base (given_along fs) = h.given.0 in
         subst (λ l. rendered (suc n) s l (element_of x) (Some x) ≡ made x) (sym here)
         (idle_here s current linked base tree is reads (given_along fs) o x stood was (suc n) (h.rests.0.settles s.program (known_by s) settled) idle h.goes.fits.0)
 
-    idle_reaches : (e : Element) (o : Option ℕ) → element_of x ≡ e → IsLinked current → StoodAt current (given_along fs) o → IsOld current o (Some x) → IsIdle s x
+    idle_reaches : (e : Element) (o : Option ℕ) → element_of x ≡ e → IsLinked current → StoodAt current (given_along fs) o ⊎ ReadsHold cs x → IsOld current o (Some x) → IsIdle s x
         → Reaches s tree units bodies (at_place (suc n) fs cs e (Some x)) → evaluated ≡ 0 → Reaches s tree (suc units) (bodies + evaluated) (arrive (suc n) fs (Some x))
     idle_reaches e o same linked stood was idle h none =
         let at : Reaches s tree units bodies (at_place (suc n) fs cs (element_of x) (Some x)) = subst (λ f. Reaches s tree units bodies (at_place (suc n) fs cs f (Some x))) (sym same) h in

@@ -20,10 +20,11 @@ use Rattle.rx_model.specs.Committing.{sight_of, starting}
 use Rattle.rx_model.specs.HooksOf.{KeepsAllHooks}
 use Rattle.rx_model.specs.Laws.{IsBounded}
 use Rattle.rx_fiber.specs.Fibers.{Fiber, waiting}
+use Rattle.rx_fiber.specs.declared.stage.Origin.{Origin}
 use Rattle.rx_fiber.specs.Reading.{IsTreeOf, IsOld, of, next}
 use Rattle.rx_fiber.specs.Reading as reading
-use Rattle.rx_fiber.specs.Stood.{StoodAt, at_root}
-use Rattle.rx_fiber.specs.Surround.{IsElementOf, IsWaiting}
+use Rattle.rx_fiber.specs.Stood.{at_root}
+use Rattle.rx_fiber.specs.Surround.{IsElementOf, IsWaiting, StandsIf}
 use Rattle.rx_fiber.proofs.Starting.{starts, root_old}
 use Rattle.rx_begin.proofs.Keeping.{node_element}
 use Rattle.rx_hook_store.specs.Store.{kept_hooks}
@@ -50,19 +51,20 @@ root_same : (c : Shape Fiber) (o : Option ℕ) (old : Option Node) (e : Element)
 root_same c _ _ e reading.new rooted there = cc
 root_same c _ _ e (of {j = j} {n = n} {x = x} {s = s} here leads (next {rest = rest} is a)) rooted there = node_element c j n x s rest is here ∙ ap Some rooted
 
--- it stands at the root
-root_stood : (c : Shape Fiber) (o : Option ℕ) → first c ≡ o → is_some o ≡ true → StoodAt c [] o
-root_stood c None e there = cc
-root_stood c (Some i) e there = at_root e
+-- it stands at the root, if it is there
+root_stands_if : (c : Shape Fiber) (o : Option ℕ) → first c ≡ o → StandsIf c [] o
+root_stands_if c None e = tt
+root_stands_if c (Some i) e = at_root e
 
-root_waits : (p : Program) (c : Shape Fiber) (old : Option Node) (v : Fiber) (cloned : Bool) → IsTreeOf old c → IfSome old (λ x. element_of x ≡ root_element p) → v.place ≡ 0
-    → v.element ≡ root_element p → v.stage ≡ waiting cloned → (cloned ≡ true → is_some (first c) ≡ true) → IsWaiting c [] (first c) v 0 (root_element p)
-root_waits p c old v cloned tree rooted place element stage clones = record {
+root_waits : (p : Program) (c : Shape Fiber) (old : Option Node) (v : Fiber) (origin : Origin) → IsTreeOf old c → IfSome old (λ x. element_of x ≡ root_element p) → v.place ≡ 0
+    → v.element ≡ root_element p → v.stage ≡ waiting origin → (origin.cloned ≡ true → is_some (first c) ≡ true) → IsWaiting c [] (first c) v 0 (root_element p)
+root_waits p c old v origin tree rooted place element stage clones = record {
   at = place;
   element = element;
-  cloned = cloned;
+  origin = origin;
   stage = stage;
-  same = λ so. (root_same c (first c) old (root_element p) (root_old c old tree) rooted (clones so), root_stood c (first c) refl (clones so));
+  same = λ so. root_same c (first c) old (root_element p) (root_old c old tree) rooted (clones so);
+  stands = λ so. root_stands_if c (first c) refl;
 }
 
 comes_to_start : (s : Sight) (old : Option Node) (t : Trees Fiber) (id : ℕ) (v : Fiber)
@@ -84,11 +86,11 @@ pub record StandsAtRoot (lanes : Lanes) (cut : Cut) (resources : List (Option �
   pub bodies : new.bodies ≡ 0
   pub id : ℕ
   pub value : Fiber
-  pub cloned : Bool
+  pub origin : Origin
   pub place : value.place ≡ 0
   pub element : value.element ≡ root_element old.program
-  pub stage : value.stage ≡ waiting cloned
-  pub clones : cloned ≡ true → is_some (first new.trees.current) ≡ true
+  pub stage : value.stage ≡ waiting origin
+  pub clones : origin.cloned ≡ true → is_some (first new.trees.current) ≡ true
   pub here : new.trees.draft ≡ made id value (first new.trees.current) (taken shapes.none) (taken shapes.none)
   pub at : new.at ≡ Begins id
   pub contexts_are : new.contexts ≡ contexts.opening (default_contexts old.program)
@@ -119,7 +121,7 @@ start_renders lanes cut resources plain old new r draws bounded st is =
       covers = r.covers s st.tree (sym is.cut_is) (start_gives lanes cut resources plain old st is) is.shown;
       come = record {
         cursor = start s st.tree;
-        comes = rw (r.at, r.contexts_are) (comes_to_start s st.tree new.trees r.id r.value tree (root_waits old.program new.trees.current st.tree r.value r.cloned tree is.rooted r.place r.element r.stage r.clones) r.here);
+        comes = rw (r.at, r.contexts_are) (comes_to_start s st.tree new.trees r.id r.value tree (root_waits old.program new.trees.current st.tree r.value r.origin tree is.rooted r.place r.element r.stage r.clones) r.here);
         goes = rw (r.units, r.bodies) (start_holds s st.tree bounded.shallow);
         drawn = draws s st.tree bounded.rooted;
         given = start_given s st.tree;
@@ -136,11 +138,11 @@ module _ (lanes : Lanes) (cut : Cut) (resources : List (Option ℤ)) (plain : Op
 
   pub root_stands : inside ≡ record old { trees = record old.trees { draft = taken shapes.none }; at = Over } → (v : Fiber) (root : Element) (given defaults : List ℤ)
       → t ≡ record inside.trees { draft = made id v (first inside.trees.current) (taken shapes.none) (taken shapes.none) }
-      → (cloned : Bool) → cloned ≡ is_some (first inside.trees.current) → v ≡ record { place = 0; element = root; stage = waiting cloned } → root ≡ root_element inside.program
+      → (origin : Origin) → origin.cloned ≡ is_some (first inside.trees.current) → v ≡ record { place = 0; element = root; stage = waiting origin } → root ≡ root_element inside.program
       → st ≡ contexts.opening given → given ≡ defaults → defaults ≡ default_contexts inside.program
       → ((s : Sight) (tree : Option Node) → s.cut ≡ cut → GivesAll s tree (kept_hooks inside.hooks) → plain ≡ trimmed_if tree → CoversIf (is_way ways) (IsIdleMark s) tree)
       → StandsAtRoot lanes cut resources plain old started
-  root_stands was v root given defaults grown cloned cloned_is value element stack same all covers =
+  root_stands was v root given defaults grown origin cloned_is value element stack same all covers =
       let program : inside.program ≡ old.program = ap (λ r. r.program) was in
       let kept : t.current ≡ inside.trees.current = ap (λ u. u.current) grown in
       record {
@@ -155,7 +157,7 @@ module _ (lanes : Lanes) (cut : Cut) (resources : List (Option ℤ)) (plain : Op
         bodies = refl;
         id = id;
         value = v;
-        cloned = cloned;
+        origin = origin;
         place = ap (λ u. u.place) value;
         element = ap (λ u. u.element) value ∙ (element ∙ ap root_element program);
         stage = ap (λ u. u.stage) value;

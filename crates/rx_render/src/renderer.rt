@@ -50,7 +50,7 @@ use rx_beside::read_beside;
 use rx_causes::Scene;
 use rx_check::Checked;
 use rx_ctx::ContextStack;
-use rx_fiber::{Fiber, Stage};
+use rx_fiber::{Fiber, Origin, Stage};
 use rx_hook_store::HookStore;
 use rx_lane::Lanes;
 use rx_links::FiberTree;
@@ -282,9 +282,13 @@ impl Renderer {
         let contexts = ContextStack::new(self.alloc, &defaults)?;
         let root = root_element(self.alloc, &self.checked)?;
         let cloned = self.fibers.current().is_some();
+        let origin = Origin {
+            cloned,
+            stood: true,
+        };
         let id = self
             .fibers
-            .start(Fiber::new(0, root, Stage::Waiting { cloned }))?;
+            .start(Fiber::new(0, root, Stage::Waiting(origin)))?;
         cursors_are_drawn();
         self.contexts = contexts;
         self.resources = resources;

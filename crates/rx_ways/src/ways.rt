@@ -34,7 +34,7 @@ impl Ways {
         }
     }
 
-    // All instances.
+    /// All instances: what a caller falls back to where ways cannot be told one by one.
     pub fn everything(alloc: Global) -> Ways
         ensures { (n : ℕ) → is_way result n ≡ true }
     {

@@ -1,19 +1,17 @@
-use Rattle.std.proofs.Common.{◌≡◌, sym, ap, refl, ◌∙◌, subst}
+use Rattle.std.proofs.Common.{sym, ap, refl, ◌∙◌, subst}
 use Rattle.rx_causes.specs.Marks.{mark_at}
 use Rattle.rx_causes.specs.Scenes.{TellsCalm}
-use Rattle.rx_causes.specs.Idle.{HasCauseIn}
+use Rattle.rx_begin.specs.Origins.{HasCauseToBegin}
 use Rattle.rx_causes.proofs.Causes.{not_hidden}
 use Rattle.rx_begin.specs.PartsView.{parts_seen}
+use Rattle.rx_begin.specs.Nodes.{parts_in}
 use Rattle.rx_elem.specs.Trees.{instance_in}
 use Rattle.rx_links.specs.Drafts.{old_of}
 use Rattle.rx_ways.specs.Ways.{is_way}
 use Rattle.rx_hook_store.specs.Store.{kept_hooks}
-use Rattle.rx_rules.specs.Names.{component_at}
-use Rattle.rx_meaning.specs.Fresh.{shape_of_component}
-use Rattle.rx_begin.specs.Bodies.{HasShape}
 use Rattle.rx_ctx.specs.Contexts.{values_at}
-use Rattle.rx_begin.proofs.Keeping.{parts_here, cloned_here, no_parts}
-use Rattle.std.specs.Prelude.{true, false, not, None, is_some, option_map, option_and_then}
+use Rattle.rx_begin.proofs.Keeping.{parts_here, no_parts, counts_so, if_both}
+use Rattle.std.specs.Prelude.{true, not, None, is_some, option_map, option_and_then}
 use Rattle.rx_begin.proofs.ByElement.{if_ok}
 use Rattle.rx_begin.proofs.Taking.{taken_over}
 use Rattle.rx_begin.proofs.Begins.{place_kept, place_olds, place_tree, place_there, place_context, place_props, begins_body, begins_other, counts_one, made_at}
@@ -38,12 +36,10 @@ returns-in-Some-clause-begun g c =
     if_ok c.begin_component.result _ _
     (λ b has s is.
     begins_body s _ c.args.tree.now c.args.contexts.now c.begin_component.new.tree _ c.args.at c.facts.ensures.linked c.place_facts.ensures c.value-fiber.result.now c.in_ok-element.element
-    (c.value-fiber.ensures.made (made_at _ _ _ _ _ c.place_facts.ensures c.requires.place)) (c.in_ok-element.ensures ∙ c.element.ensures) b.0 (is_way c.args.scene.now.ways.now) c.in-Some.parts.component c.in-Some.parts.props.now
+    (c.value-fiber.ensures.made (made_at _ _ _ _ _ c.place_facts.ensures c.requires.place)) (c.in_ok-element.ensures ∙ c.element.ensures) b.0 (is_way c.args.scene.now.ways.now) c.origin_of-origin.result.cloned c.is_steady-steady.result
+    (λ so. c.origin_of-origin.ensures.cloned so c.value-fiber.result.now (c.value-fiber.ensures.made (made_at _ _ _ _ _ c.place_facts.ensures c.requires.place))) (λ so. c.is_steady-steady.ensures so c.value-fiber.result.now (c.value-fiber.ensures.made (made_at _ _ _ _ _ c.place_facts.ensures c.requires.place))) c.in-Some.parts.component c.in-Some.parts.props.now
     c.in-Some.parts.children.now c.values.result.now (sym c.parts_of.ensures ∙ ap (option_map parts_seen) c.in-Some.is) c.values.ensures refl
-    (λ old key kids was gives settled stood same.
-    subst (λ cloned. HasShape cloned (shape_of_component s c.values.result.now c.in-Some.parts.component c.in-Some.parts.props.now kids old (component_at s.program c.in-Some.parts.component))
-    c.values.result.now old c.args.tree.now c.begin_component.new.tree c.args.at b.0) c.is_cloned-cloned.ensures
-    (has s old key kids is was gives settled (λ cloned. stood (sym c.is_cloned-cloned.ensures ∙ cloned)) same)))
+    (λ old key kids was gives settled stood same. has s old key kids is was gives settled stood same))
     c.begin_component.ensures.evaluated
 
 pub returns-in-Some-clause-bodies : goal.returns-in-Some-clause-bodies
@@ -69,7 +65,8 @@ pub returns-clause-begun : goal.returns-clause-begun
 returns-clause-begun g c s is =
     begins_other s _ c.args.tree.now c.args.contexts.now c.begin_or_hide.new.tree c.begin_or_hide.new.contexts c.args.at c.facts.ensures.linked c.place_facts.ensures c.value-fiber.result.now c.in_ok-element.element
     (c.value-fiber.ensures.made (made_at _ _ _ _ _ c.place_facts.ensures c.requires.place)) (c.in_ok-element.ensures ∙ c.element.ensures) c.in_ok-begun-in-None.begun
-    (is_way c.args.scene.now.ways.now) c.args.scene.now c.is_cloned-cloned.result is c.is_cloned-cloned.ensures
+    (is_way c.args.scene.now.ways.now) c.args.scene.now c.origin_of-origin.result c.is_steady-steady.result is
+    (λ so. c.origin_of-origin.ensures.cloned so c.value-fiber.result.now (c.value-fiber.ensures.made (made_at _ _ _ _ _ c.place_facts.ensures c.requires.place))) (c.origin_of-origin.ensures.stood c.value-fiber.result.now (c.value-fiber.ensures.made (made_at _ _ _ _ _ c.place_facts.ensures c.requires.place))) (λ so. c.is_steady-steady.ensures so c.value-fiber.result.now (c.value-fiber.ensures.made (made_at _ _ _ _ _ c.place_facts.ensures c.requires.place)))
     (place_there c.args.scene.now.checked.now _ c.args.tree.now c.args.contexts.now c.args.at c.place_facts.ensures c.requires.place c.value-fiber.result.now c.in_ok-element.element
     (c.value-fiber.ensures.made (made_at _ _ _ _ _ c.place_facts.ensures c.requires.place)) (c.in_ok-element.ensures ∙ c.element.ensures))
     (sym c.parts_of.ensures ∙ ap (option_map parts_seen) c.in-None.is) c.begin_or_hide.ensures.current c.in_ok-begun-in-None.ensures.begun
@@ -84,8 +81,7 @@ returns-in-Some-clause-tries g c =
     c.begin_component.ensures.once
 
 pub returns-clause-tries : goal.returns-clause-tries
-returns-clause-tries g c v here none so =
-    c.in_ok-begun-in-None.ensures.tries (cloned_here c.args.tree.now c.args.at c.value-fiber.result.now v c.is_cloned-cloned.result true (c.value-fiber.ensures.made (made_at _ _ _ _ _ c.place_facts.ensures c.requires.place)) here c.is_cloned-cloned.ensures so)
+returns-clause-tries g c v here none so too = c.in_ok-begun-in-None.ensures.tries (c.origin_of-origin.ensures.clones v here so) (c.origin_of-origin.ensures.stood v here ∙ too)
 
 pub returns-in-Some-clause-none : goal.returns-in-Some-clause-none
 returns-in-Some-clause-none g c =
@@ -96,22 +92,33 @@ returns-in-Some-clause-none g c =
     let q : ⊥ = cc in q))
     c.begin_component.ensures.once
 
-pub returns-in-Some-clause-anew : goal.returns-in-Some-clause-anew
-returns-in-Some-clause-anew g c =
-    if_ok c.begin_component.result _ _
-    (λ b anew v here some fresh. anew (cloned_here c.args.tree.now c.args.at c.value-fiber.result.now v c.is_cloned-cloned.result false (c.value-fiber.ensures.made (made_at _ _ _ _ _ c.place_facts.ensures c.requires.place)) here c.is_cloned-cloned.ensures fresh))
-    c.begin_component.ensures.anew
+-- a body is skipped for what counts as a clone alone
+pub returns-in-Some-clause-same : goal.returns-in-Some-clause-same
+returns-in-Some-clause-same g c = if_ok c.begin_component.result _ _ (λ b anew v here some none. c.origin_of-origin.ensures.cloned (counts_so c.origin_of-origin.result.cloned b.1 anew none) v here) c.begin_component.ensures.anew
+
+pub returns-in-Some-clause-calm : goal.returns-in-Some-clause-calm
+returns-in-Some-clause-calm g c =
+    if_both c.begin_component.result _ _
+    (λ b exact anew v here some none.
+    subst (λ cs. TellsCalm c.args.scene.now (kept_hooks c.args.hooks.now) cs (option_and_then instance_in (mark_at c.args.tree.now.current (old_of c.args.tree.now.draft c.args.at))) true) c.values.ensures
+    (subst (λ d. TellsCalm c.args.scene.now (kept_hooks c.args.hooks.now) c.values.result.now (option_and_then instance_in (mark_at c.args.tree.now.current (old_of c.args.tree.now.draft c.args.at))) d) (ap not none)
+    (exact (counts_so c.origin_of-origin.result.cloned b.1 anew none))))
+    c.begin_component.ensures.exact c.begin_component.ensures.anew
 
 pub returns-in-Some-clause-exact : goal.returns-in-Some-clause-exact
 returns-in-Some-clause-exact g c =
     if_ok c.begin_component.result _ _
     (λ b exact v here some so.
     subst (λ cs. TellsCalm c.args.scene.now (kept_hooks c.args.hooks.now) cs (option_and_then instance_in (mark_at c.args.tree.now.current (old_of c.args.tree.now.draft c.args.at))) (not b.1)) c.values.ensures
-    (exact (cloned_here c.args.tree.now c.args.at c.value-fiber.result.now v c.is_cloned-cloned.result true (c.value-fiber.ensures.made (made_at _ _ _ _ _ c.place_facts.ensures c.requires.place)) here c.is_cloned-cloned.ensures so)))
+    (exact (c.origin_of-origin.ensures.clones v here so)))
     c.begin_component.ensures.exact
 
-pub returns-clause-anew : goal.returns-clause-anew
-returns-clause-anew g c v here some fresh =
+pub returns-clause-same : goal.returns-clause-same
+returns-clause-same g c v here some none =
+    absurd (no_parts _ (parts_here c.args.tree.now c.args.at c.value-fiber.result.now v c.in_ok-element.element None (c.value-fiber.ensures.made (made_at _ _ _ _ _ c.place_facts.ensures c.requires.place)) here (c.in_ok-element.ensures ∙ c.element.ensures) (sym c.parts_of.ensures ∙ ap (option_map parts_seen) c.in-None.is)) some)
+
+pub returns-clause-calm : goal.returns-clause-calm
+returns-clause-calm g c v here some none =
     absurd (no_parts _ (parts_here c.args.tree.now c.args.at c.value-fiber.result.now v c.in_ok-element.element None (c.value-fiber.ensures.made (made_at _ _ _ _ _ c.place_facts.ensures c.requires.place)) here (c.in_ok-element.ensures ∙ c.element.ensures) (sym c.parts_of.ensures ∙ ap (option_map parts_seen) c.in-None.is)) some)
 
 pub returns-clause-exact : goal.returns-clause-exact
@@ -124,17 +131,20 @@ takes_over-requires-clause-kept g c = place_tree _ _ c.args.tree.now c.args.cont
 pub returns-then-takes_over-clause-begun : goal.returns-then-takes_over-clause-begun
 returns-then-takes_over-clause-begun g c s is n fs cs e old at gives settled covers =
     taken_over s (kept_hooks c.args.hooks.now) c.args.tree.now c.args.contexts.now c.take_node.new.tree c.args.contexts.now c.args.at n fs cs e old c.facts.ensures.linked c.place_facts.ensures at
-    c.value-fiber.result.now c.is_cloned-cloned.result (c.value-fiber.ensures.made (made_at _ _ _ _ _ c.place_facts.ensures c.requires.place)) c.is_cloned-cloned.ensures
+    c.value-fiber.result.now (c.value-fiber.ensures.made (made_at _ _ _ _ _ c.place_facts.ensures c.requires.place)) c.origin_of-origin.result
+    (λ so. c.origin_of-origin.ensures.cloned so c.value-fiber.result.now (c.value-fiber.ensures.made (made_at _ _ _ _ _ c.place_facts.ensures c.requires.place))) (c.origin_of-origin.ensures.stood c.value-fiber.result.now (c.value-fiber.ensures.made (made_at _ _ _ _ _ c.place_facts.ensures c.requires.place)))
     (c.takes_over.ensures.cloned c.if-takes_over.true) c.in_ok-take_node.ensures.taken c.take_node.ensures.current refl (is_way c.args.scene.now.ways.now) (c.takes_over.ensures.there c.if-takes_over.true)
-    (λ x was. c.takes_over.ensures.idle c.if-takes_over.true s x is was) gives covers
+    (λ x was. c.takes_over.ensures.idle c.if-takes_over.true s x is was) (c.takes_over.ensures.reads c.if-takes_over.true) gives covers
 
-pub returns-then-takes_over-clause-anew : goal.returns-then-takes_over-clause-anew
-returns-then-takes_over-clause-anew g c v here some fresh =
-    absurd
-    (let f : c.is_cloned-cloned.result ≡ false =
-    cloned_here c.args.tree.now c.args.at c.value-fiber.result.now v c.is_cloned-cloned.result false (c.value-fiber.ensures.made (made_at _ _ _ _ _ c.place_facts.ensures c.requires.place)) here c.is_cloned-cloned.ensures fresh in
-    let so : c.is_cloned-cloned.result ≡ true = c.takes_over.ensures.cloned c.if-takes_over.true in
-    let q : ⊥ = cc in q)
+pub returns-then-takes_over-clause-same : goal.returns-then-takes_over-clause-same
+returns-then-takes_over-clause-same g c v here some none = c.origin_of-origin.ensures.cloned (c.takes_over.ensures.cloned c.if-takes_over.true) v here
+
+pub returns-then-takes_over-clause-calm : goal.returns-then-takes_over-clause-calm
+returns-then-takes_over-clause-calm g c v here some none =
+    c.takes_over.ensures.calm c.if-takes_over.true
+    (c.is_component-component.ensures
+    ∙ (ap is_some (sym (parts_here c.args.tree.now c.args.at c.value-fiber.result.now v c.in_ok-element.element _ (c.value-fiber.ensures.made (made_at _ _ _ _ _ c.place_facts.ensures c.requires.place)) here (c.in_ok-element.ensures ∙ c.element.ensures) refl))
+    ∙ some))
 
 pub returns-then-takes_over-clause-exact : goal.returns-then-takes_over-clause-exact
 returns-then-takes_over-clause-exact g c v here some so =
@@ -144,29 +154,27 @@ returns-then-takes_over-clause-exact g c v here some so =
     ∙ some))
 
 pub returns-then-takes_over-clause-tries : goal.returns-then-takes_over-clause-tries
-returns-then-takes_over-clause-tries g c v here none so again x a was is =
+returns-then-takes_over-clause-tries g c v here none so too again x a was is =
     absurd (not_hidden c.args.tree.now.current (old_of c.args.tree.now.draft c.args.at) x a (c.takes_over.ensures.shown c.if-takes_over.true) was is)
 
 pub returns-in-Some-clause-causes : goal.returns-in-Some-clause-causes
 returns-in-Some-clause-causes g c =
     if_ok c.begin_component.result _ _
     (λ b once v here so free.
-    subst (λ component. HasCauseIn c.args.scene.now (kept_hooks c.args.hooks.now) (values_at c.args.contexts.now) component c.args.tree.now.current (old_of c.args.tree.now.draft c.args.at))
+    subst (λ stood. HasCauseToBegin c.args.scene.now (kept_hooks c.args.hooks.now) (values_at c.args.contexts.now) (is_some (parts_in v.element)) stood c.args.tree.now.current (old_of c.args.tree.now.draft c.args.at)) (c.origin_of-origin.ensures.stood v here)
+    (subst (λ component. HasCauseToBegin c.args.scene.now (kept_hooks c.args.hooks.now) (values_at c.args.contexts.now) component c.origin_of-origin.result.stood c.args.tree.now.current (old_of c.args.tree.now.draft c.args.at))
     (c.is_component-component.ensures
     ∙ ap is_some (sym (parts_here c.args.tree.now c.args.at c.value-fiber.result.now v c.in_ok-element.element _ (c.value-fiber.ensures.made (made_at _ _ _ _ _ c.place_facts.ensures c.requires.place)) here (c.in_ok-element.ensures ∙ c.element.ensures) refl)))
-    (c.takes_over.ensures.cause
-    (cloned_here c.args.tree.now c.args.at c.value-fiber.result.now v c.is_cloned-cloned.result true (c.value-fiber.ensures.made (made_at _ _ _ _ _ c.place_facts.ensures c.requires.place)) here c.is_cloned-cloned.ensures so)
-    c.if-takes_over.false))
+    (c.takes_over.ensures.cause (c.origin_of-origin.ensures.clones v here so) c.if-takes_over.false)))
     c.begin_component.ensures.once
 
 pub returns-clause-causes : goal.returns-clause-causes
 returns-clause-causes g c v here so free =
-    subst (λ component. HasCauseIn c.args.scene.now (kept_hooks c.args.hooks.now) (values_at c.args.contexts.now) component c.args.tree.now.current (old_of c.args.tree.now.draft c.args.at))
+    subst (λ stood. HasCauseToBegin c.args.scene.now (kept_hooks c.args.hooks.now) (values_at c.args.contexts.now) (is_some (parts_in v.element)) stood c.args.tree.now.current (old_of c.args.tree.now.draft c.args.at)) (c.origin_of-origin.ensures.stood v here)
+    (subst (λ component. HasCauseToBegin c.args.scene.now (kept_hooks c.args.hooks.now) (values_at c.args.contexts.now) component c.origin_of-origin.result.stood c.args.tree.now.current (old_of c.args.tree.now.draft c.args.at))
     (c.is_component-component.ensures
     ∙ ap is_some (sym (parts_here c.args.tree.now c.args.at c.value-fiber.result.now v c.in_ok-element.element _ (c.value-fiber.ensures.made (made_at _ _ _ _ _ c.place_facts.ensures c.requires.place)) here (c.in_ok-element.ensures ∙ c.element.ensures) refl)))
-    (c.takes_over.ensures.cause
-    (cloned_here c.args.tree.now c.args.at c.value-fiber.result.now v c.is_cloned-cloned.result true (c.value-fiber.ensures.made (made_at _ _ _ _ _ c.place_facts.ensures c.requires.place)) here c.is_cloned-cloned.ensures so)
-    c.if-takes_over.false)
+    (c.takes_over.ensures.cause (c.origin_of-origin.ensures.clones v here so) c.if-takes_over.false))
 
 pub returns-in-Some-clause-taken : goal.returns-in-Some-clause-taken
 returns-in-Some-clause-taken g c = c.begin_component.ensures.taken

@@ -5,9 +5,9 @@ use Rattle.rx_begin.proofs.Hiding.{other_begins}
 use Rattle.rx_begin.proofs.beginning.begin_or_hide.Goals as goal
 
 pub returns-in-Some-clause-begun : goal.returns-in-Some-clause-begun
-returns-in-Some-clause-begun c = hides c.in-Some.ensures.cloned c.in-Some.ensures.hidden c.in-Some.ensures.waits c.mark_made.ensures refl
+returns-in-Some-clause-begun c = hides c.in-Some.ensures.cloned c.in-Some.ensures.stood c.in-Some.ensures.hidden c.in-Some.ensures.waits c.mark_made.ensures refl
 
 pub returns-in-None-clause-begun : goal.returns-in-None-clause-begun
 returns-in-None-clause-begun c =
-    other_begins c.args.scene.now (kept_hooks c.args.hooks.now) c.args.tree.now c.args.contexts.now c.begin_other.new.tree c.begin_other.new.contexts c.args.at c.args.element.now c.args.cloned
+    other_begins c.args.scene.now (kept_hooks c.args.hooks.now) c.args.tree.now c.args.contexts.now c.begin_other.new.tree c.begin_other.new.contexts c.args.at c.args.element.now c.args.origin c.args.steady
     c.begin_other.result c.begin_other.ensures.kept c.begin_other.ensures.opened c.begin_other.ensures.stack

@@ -34,7 +34,7 @@ pub returns-clause-evaluated : goal.returns-clause-evaluated
 returns-clause-evaluated g c s old key kids is was gives settled stood same =
     let instance = instance_at c.args.tree.now.current c.alternate.result (old_of c.args.tree.now.draft c.args.at) old _
     (c.alternate.ensures.made (bare_made c.args.tree.now c.args.at c.place_facts.ensures c.requires.bare)) was c.in_ok-old.ensures in
-    evaluated s c.args.contexts.now c.args.component c.args.props.now kids old _ c.args.tree.now c.open_body.new.tree c.args.at c.in_ok-begun-2.begun c.args.cloned
+    evaluated s c.args.contexts.now c.args.component c.args.props.now kids old _ c.args.tree.now c.open_body.new.tree c.args.at c.in_ok-begun-2.begun c.args.cloned c.args.steady
     (c.in_ok-body.ensures.body s _ kids is (sym (c.number_of-number.ensures ∙ ap number_in instance)) gives same)
     (c.in_ok-begun-2.ensures.opened c.args.contexts.now old c.args.cloned instance)
 

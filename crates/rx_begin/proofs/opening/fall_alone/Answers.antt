@@ -1,8 +1,7 @@
-use Rattle.std.specs.Prelude.{is_none}
 use Rattle.std.specs.Option.{option_copied}
 use Rattle.std.proofs.Common.{refl, sym, subst}
 use Rattle.rx_links.specs.Readers.{list_from}
-use Rattle.rx_begin.specs.Opening.{HasOpenedAs, given_elements, given_fibers}
+use Rattle.rx_begin.specs.Opening.{HasOpenedAs, given_as, given_elements, given_fibers}
 use Rattle.rx_begin.proofs.Nodes.{bare_made}
 use Rattle.rx_begin.proofs.Falling.{room_alone, left_alone, left_old}
 use Rattle.rx_begin.proofs.OldFallback.{given_next, same_old}
@@ -20,7 +19,7 @@ returns-clause-opened c st d l h =
     let s = list_from t.current c.old_fallback-first_old.result in
     let old = left_old t st c.args.at c.args.awaits d l c.place_facts.ensures c.alternate.result (c.alternate.ensures.made (bare_made t c.args.at c.place_facts.ensures c.requires.bare)) in
     subst (λ f. HasOpenedAs c.open_listed.new.tree st d f) (sym c.opened_at.ensures)
-    (left_alone t st c.args.at c.args.awaits d l c.facts.ensures.linked (is_none given) c.open_listed.new.tree (given_elements given s) (given_fibers given s) c.in_ok-first.first c.in_ok-first.ensures.opened
+    (left_alone t st c.args.at c.args.awaits d l c.facts.ensures.linked (given_as given) c.open_listed.new.tree (given_elements given s) (given_fibers given s) c.in_ok-first.first c.in_ok-first.ensures.opened
     (given_next t st c.args.at c.args.awaits d l c.facts.ensures.linked given h s
     (same_old t t l.old c.alternate.result c.old_fallback-first_old.result c.old_fallback-first_old.ensures.list old refl))
     (c.requires.gone st d l))

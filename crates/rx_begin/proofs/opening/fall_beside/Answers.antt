@@ -1,9 +1,8 @@
-use Rattle.std.specs.Prelude.{is_none}
 use Rattle.std.specs.Option.{option_copied}
 use Rattle.std.proofs.Common.{ap, inr, sym, subst, ◌∙◌, IfSome}
 use Rattle.rx_lists.specs.Shapes.{Holds}
 use Rattle.rx_links.specs.Readers.{list_from}
-use Rattle.rx_begin.specs.Opening.{HasOpenedAs, fallback_behind, given_elements, given_fibers}
+use Rattle.rx_begin.specs.Opening.{HasOpenedAs, fallback_behind, given_as, given_elements, given_fibers}
 use Rattle.rx_begin.proofs.Nodes.{bare_made}
 use Rattle.rx_begin.proofs.Falling.{kept_made, kept_sibling, room_beside, left_beside, left_old, new_made, new_link}
 use Rattle.rx_begin.proofs.OldFallback.{given_next, same_old}
@@ -43,7 +42,7 @@ pub first_child-requires : goal.first_child-requires
 first_child-requires c =
     let given = option_copied c.args.given in
     let s = list_from c.put_fallback.new.tree.current c.old_fallback-first_old.result in
-    inr (new_made (is_none given) c.put_fallback.new.tree c.make_listed.new.tree c.in_ok-id.id c.old_fallback-first_old.result (given_elements given s) (given_fibers given s)
+    inr (new_made (given_as given) c.put_fallback.new.tree c.make_listed.new.tree c.in_ok-id.id c.old_fallback-first_old.result (given_elements given s) (given_fibers given s)
     (room_beside c.args.tree.now c.keep_primary.new.tree c.args.at c.args.awaits c.alternate.result c.requires.left c.place_facts.ensures
     (c.alternate.ensures.made (bare_made c.args.tree.now c.args.at c.place_facts.ensures c.requires.bare)) c.keep_primary.ensures.kept c.keep_primary.ensures.current
     c.put_fallback.new.tree c.in_ok-beside.beside c.old_fallback-first_old.result c.in_ok-id.id c.requires.keeps c.facts.ensures.linked
@@ -62,17 +61,17 @@ returns-clause-opened c st d l h =
     (c.in_ok-beside.ensures.same ∙ (c.old_beside-behind.ensures.is ∙ ap (λ q. fallback_behind (list_from c.args.tree.now.current q))
     (c.alternate-2.ensures.made (bare_made c.args.tree.now c.args.at c.place_facts.ensures c.requires.bare)
     ∙ sym (c.alternate.ensures.made (bare_made c.args.tree.now c.args.at c.place_facts.ensures c.requires.bare))))) c.in_ok-id.ensures.put c.old_fallback-first_old.ensures.list in
-    let made = new_made (is_none given) c.put_fallback.new.tree c.make_listed.new.tree c.in_ok-id.id c.old_fallback-first_old.result (given_elements given s) (given_fibers given s) beside
+    let made = new_made (given_as given) c.put_fallback.new.tree c.make_listed.new.tree c.in_ok-id.id c.old_fallback-first_old.result (given_elements given s) (given_fibers given s) beside
     c.in_ok-make_listed.ensures.made c.place_facts-4.ensures in
     let old = left_old c.args.tree.now st c.args.at c.args.awaits d l c.place_facts.ensures c.alternate.result
     (c.alternate.ensures.made (bare_made c.args.tree.now c.args.at c.place_facts.ensures c.requires.bare)) in
     subst (λ f. HasOpenedAs c.make_listed.new.tree st d f) (sym c.opened_at.ensures)
-    (left_beside c.args.tree.now st c.args.at c.args.awaits d l c.facts.ensures.linked (is_none given) c.keep_primary.new.tree c.put_fallback.new.tree
+    (left_beside c.args.tree.now st c.args.at c.args.awaits d l c.facts.ensures.linked (given_as given) c.keep_primary.new.tree c.put_fallback.new.tree
     c.make_listed.new.tree c.in_ok-beside.beside c.in_ok-id.id (given_elements given s) (given_fibers given s) c.first_child.result
     c.keep_primary.ensures.kept c.keep_primary.ensures.current c.in_ok-id.ensures.put c.in_ok-make_listed.ensures.made
     (given_next c.args.tree.now st c.args.at c.args.awaits d l c.facts.ensures.linked given h s
     (same_old c.args.tree.now c.put_fallback.new.tree l.old c.alternate.result c.old_fallback-first_old.result c.old_fallback-first_old.ensures.list old
     (c.in_ok-id.ensures.current ∙ c.keep_primary.ensures.current)))
-    (new_link (is_none given) c.put_fallback.new.tree c.make_listed.new.tree c.in_ok-id.id c.old_fallback-first_old.result (given_elements given s) (given_fibers given s) beside
+    (new_link (given_as given) c.put_fallback.new.tree c.make_listed.new.tree c.in_ok-id.id c.old_fallback-first_old.result (given_elements given s) (given_fibers given s) beside
     c.in_ok-make_listed.ensures.made c.place_facts-4.ensures c.first_child.result (c.first_child.ensures.made made))
     (c.requires.keeps st d l))

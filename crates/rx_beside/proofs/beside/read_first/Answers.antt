@@ -1,4 +1,4 @@
-use Rattle.std.proofs.Common.{Some, None, sym, ◌∙◌}
+use Rattle.std.proofs.Common.{Some, sym, ◌∙◌}
 use Rattle.rx_read.proofs.Links.{from_draft}
 use Rattle.rx_beside.proofs.Roots.{new_root, is_tree, first_by}
 use Rattle.rx_beside.proofs.beside.read_first.Goals as goal

@@ -1,11 +1,11 @@
-use Rattle.std.proofs.Common.{◌<◌, ◌++◌, inr, length, map, Some, sym, ap, ◌∙◌, subst, refl, rules}
+use Rattle.std.proofs.Common.{◌<◌, ◌++◌, inr, map, Some, sym, ap, ◌∙◌, subst, refl, rules}
 use Rattle.std.proofs.lemmas.List.{length-map}
 use Rattle.rx_lists.specs.Shapes.{size}
 use Rattle.rx_lists.proofs.Frames.{some-at}
 use Rattle.rx_read.specs.Lists.{list_of}
 use Rattle.rx_read.specs.Places.{first_places, first_node}
 use Rattle.rx_read.proofs.Links.{by_sibling}
-use Rattle.rx_read.proofs.Listing.{rest_smaller, list_step, list_end}
+use Rattle.rx_read.proofs.Listing.{rest_smaller, list_step}
 use Rattle.rx_beside.proofs.Here.{first_here, next_here, child_here}
 use Rattle.rx_beside.proofs.children.children_of.Goals as goal
 

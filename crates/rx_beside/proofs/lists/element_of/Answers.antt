@@ -1,4 +1,4 @@
-use Rattle.std.proofs.Common.{◌≡◌, IfOk, Some, ap, sym, ◌∙◌, subst, inr}
+use Rattle.std.proofs.Common.{◌≡◌, IfOk, ap, sym, ◌∙◌, subst, inr}
 use Rattle.rx_lists.proofs.Frames.{some-at}
 use Rattle.rx_compare.specs.Matched.{element_at}
 use Rattle.rx_read.specs.Lists.{list_of}

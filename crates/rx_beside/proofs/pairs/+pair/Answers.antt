@@ -1,9 +1,8 @@
-use Rattle.std.proofs.Common.{◌≡◌, ◌<◌, ◌≤◌, length, get_or, map, All, IfSome, Some, refl, sym, ap, ◌∙◌, subst, arith, rules}
+use Rattle.std.proofs.Common.{◌<◌, ◌≤◌, length, map, All, IfSome, Some, refl, sym, ap, ◌∙◌, subst, arith}
 use Rattle.std.proofs.lemmas.List.Elements.{All-get_or}
 use Rattle.std.specs.Prelude.{option_and_then}
 use Rattle.rx_elem.specs.Trees.{node, none, forest, elements_in, is_hidden}
 use Rattle.rx_elem.specs.Compare.{node_at}
-use Rattle.rx_lists.specs.Shapes.{size}
 use Rattle.rx_compare.specs.Matched.{IsMatched}
 use Rattle.rx_node.specs.MarkView.{mark_seen}
 use Rattle.rx_fiber.specs.FiberView.{stage_seen}

@@ -1,4 +1,4 @@
-use Rattle.std.proofs.Common.{◌≡◌, ◌+◌, ◌*◌, length, map, take, Some}
+use Rattle.std.proofs.Common.{◌≡◌, ◌+◌, ◌*◌, map, take, Some}
 use Rattle.rx_lists.specs.Shapes.{size}
 use Rattle.rx_read.specs.Lists.{list_of}
 use Rattle.rx_read.specs.Places.{first_node}

@@ -1,4 +1,4 @@
-use Rattle.std.proofs.Common.{inl, is_some, Some, sym, ap, ◌∙◌}
+use Rattle.std.proofs.Common.{inl, is_some, sym, ap, ◌∙◌}
 use Rattle.std.specs.Option.{option_copied}
 use Rattle.rx_elem.specs.Compare.{node_at}
 use Rattle.rx_lists.proofs.Frames.{some-at, if-some}
