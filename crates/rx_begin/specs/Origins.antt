@@ -3,6 +3,9 @@ use Rattle.std.specs.Prelude.{◌≡◌, ℕ, Bool, true, false, List, Option, S
 use Rattle.rx_elem.specs.Trees.{Node}
 use Rattle.rx_hooks.specs.declared.hook.Hook.{Hook}
 use Rattle.rx_lists.specs.Shapes.{Shape}
+use Rattle.rx_lists.specs.Shapes as shapes
+use Rattle.rx_links.specs.Drafts.{Draft, taken, made, Trees}
+use Rattle.rx_links.specs.Places.{Around, placed}
 use Rattle.rx_links.specs.Readers.{value_of}
 use Rattle.rx_meaning.specs.Fresh.{Contexts}
 use Rattle.rx_fiber.specs.Fibers.{Fiber, is_stood}
@@ -20,6 +23,22 @@ pub record IsSteady (current : Shape Fiber) (o : Option ℕ) (v : Fiber) : Type 
   pub old_is : option_and_then (value_of current) o ≡ Some old
   pub shown : hides_in old.stage ≡ false
   pub gives : given_in v.element ≡ given_in old.element
+
+-- a test tells whether a place is steady
+abbrev pub TellsSteady : Shape Fiber → Option ℕ → Fiber → Bool → Type 0
+TellsSteady current o v b = (b ≡ true → IsSteady current o v) × (IsSteady current o v → b ≡ true)
+
+-- each fiber that is made for a list waits as one that stood, or none does
+abbrev pub AllStood : (stood : Bool) → Draft Fiber → Type 0
+AllStood b (taken s) = Unit {0}
+AllStood b (made id v o ks rs) = (is_stood v.stage ≡ b) × AllStood b rs
+
+-- A made fiber that had no children has some, which all wait as ones that stood, or none does.
+pub record HasKids (before after : Trees Fiber) (p : ℕ) (stood : Bool) : Type 0 where
+  pub kids : Draft Fiber
+  pub value : Fiber → Fiber
+  pub stands : (k : Around Fiber) (v : Fiber) (o : Option ℕ) (rs : Draft Fiber) → before.draft ≡ placed k (made p v o (taken shapes.none) rs) → after.draft ≡ placed k (made p (value v) o kids rs)
+  pub all : AllStood stood kids
 
 -- there is a cause to begin a clone's place: one in the tree of its old node, or, where that may stand where other values of contexts are given, an instance that may read another one there
 abbrev pub HasCauseToBegin : Scene → (kept : ℕ → Option (List Hook)) → Contexts → (component stood : Bool) → Shape Fiber → Option ℕ → Type 0

@@ -1,5 +1,5 @@
 // A place begins.
-ghost use Rattle.std.specs.Prelude.{◌≡◌, ◌+◌, ◌<◌, ◌≤◌, suc, ℕ, ℤ, true, false, not, List, Option, Some, None, ◌⊎◌, length, IfOk, IsSome, IfSome, OnOk, is_some, if◌then◌else◌, option_and_then};
+ghost use Rattle.std.specs.Prelude.{◌≡◌, ◌+◌, ◌<◌, ◌≤◌, suc, ℕ, ℤ, Bool, true, false, not, List, Option, Some, None, ◌⊎◌, length, IfOk, IsSome, IfSome, OnOk, is_some, if◌then◌else◌, option_and_then};
 ghost use Rattle.rx_ast.specs.Syntax as syntax;
 ghost use Rattle.rx_ctx.specs.Contexts.{values_at};
 ghost use Rattle.rx_elem.specs.Elements as elements;
@@ -27,7 +27,8 @@ ghost use Rattle.rx_ways.specs.Ways.{is_way};
 ghost use Rattle.rx_hook_store.specs.Store.{kept_hooks};
 ghost use Rattle.rx_hook_store.specs.Gives.{GivesValues};
 ghost use Rattle.rx_begin.specs.Others.{HasBegunOther, IsCauseToTry};
-ghost use Rattle.rx_begin.specs.Origins.{HasCauseToBegin};
+ghost use Rattle.rx_begin.specs.Origins.{HasCauseToBegin, HasKids, TellsSteady};
+ghost use Rattle.rx_begin.specs.declared.node.Begun.TheVariants.{Child};
 ghost use Rattle.rx_begin.specs.Beginning.{IsAtPlace, BeginsPlace, awaited_again, is_taken};
 
 use crate::body::begin_component;
@@ -167,6 +168,9 @@ pub fn begin<L: Ledger>(
     // given, or there is a cause.
     ensures tries { IfOk result (λ b. (v : fibers.Fiber) → Some v ≡ made_value_of tree.old.draft at → parts_in v.element ≡ None → is_cloned v.stage ≡ true → is_stood v.stage ≡ true → awaited_again b.0 ≡ None
         → IsCauseToTry scene.now (kept_hooks hooks.old) tree.old at) }
+    // The children that are made wait as ones that stood exactly where the place is steady.
+    ensures kids { IfOk result (λ b. (v : fibers.Fiber) (id : ℕ) → Some v ≡ made_value_of tree.old.draft at → b.0 ≡ Child id
+        → (steady : Bool) × TellsSteady tree.old.current (old_of tree.old.draft at) v steady × HasKids tree.old tree.new at steady) }
     // Old children are taken over with no body evaluated.
     ensures taken { IfOk result (λ b. is_taken b.0 ≡ true → b.1 ≡ false) }
     // A clone is begun over clones only where there is a cause in the tree of its old node; else its old children are taken over.

@@ -25,6 +25,8 @@ ghost use Rattle.rx_causes.specs.Scenes.{IsSceneOf, IsCalmAt, TellsCalm, GivesHo
 ghost use Rattle.rx_begin.specs.Nodes.{IsBareAt, HasOpened};
 ghost use Rattle.rx_begin.specs.Bodies.{StoodIn, HasShape};
 ghost use Rattle.rx_begin.specs.Beginning.{is_taken};
+ghost use Rattle.rx_begin.specs.Origins.{HasKids};
+ghost use Rattle.rx_begin.specs.declared.node.Begun.TheVariants.{Child};
 
 use crate::node::{Begun, keep_node, old_instance, open_node};
 use rx_base::{Int, Ints, Steps};
@@ -184,6 +186,7 @@ fn open_body(
     requires bare { IsBareAt tree.old at }
     ensures opened { IfOk result (λ b. (cs : Contexts) (node : Option Node) (cloned : Bool) → option_map instance_seen old ≡ old_instance node → HasShape cloned steady (shape_of_body cs component node (body_seen body)) cs node tree.old tree.new at b) }
     ensures anew { IfOk result (λ b. is_taken b ≡ false) }
+    ensures kids { IfOk result (λ b. (id : ℕ) → b ≡ Child id → HasKids tree.old tree.new at steady) }
     ensures current { tree.new.current ≡ tree.old.current }
 {
     match body {
@@ -256,6 +259,7 @@ fn keep_body(
     requires there { IsSome old }
     ensures kept { IfOk result (λ b. (i : trees.Instance) → option_map instance_seen old ≡ Some i → HasOpened (as_cloned steady) tree.old tree.new at (begun (of_instance i))
         (old_elements (primary_list (list_from tree.old.current (old_of tree.old.draft at)))) (old_fibers (primary_list (list_from tree.old.current (old_of tree.old.draft at)))) b) }
+    ensures kids { IfOk result (λ b. HasKids tree.old tree.new at steady) }
     ensures current { tree.new.current ≡ tree.old.current }
 {
     match old {
@@ -292,6 +296,7 @@ pub(crate) fn begin_component<L: Ledger>(
         → IfSettled s.program (known_by s) old → (cloned ≡ true → StoodIn old (elements.comp component key props.now kids))
         → listed kids ≡ children.now → HasShape cloned steady (shape_of_component s contexts.now component props.now kids old (component_at s.program component)) contexts.now old tree.old tree.new at b.0) }
     ensures current { tree.new.current ≡ tree.old.current }
+    ensures kids { IfOk result (λ b. (id : ℕ) → b.0 ≡ Child id → HasKids tree.old tree.new at steady) }
     ensures once { IfOk result (λ b. steps.new ≡ steps.old + (if b.1 then 1 else 0)) }
     ensures anew { IfOk result (λ b. cloned ≡ false → b.1 ≡ true) }
     ensures taken { IfOk result (λ b. is_taken b.0 ≡ true → b.1 ≡ false) }

@@ -74,7 +74,8 @@ pub(crate) fn begun_children(element: &Element) -> &[Element]
 
 /// Whether two elements give the same to the contexts below them: both nothing, or one context the same value.
 pub(crate) fn gives_same(element: &Element, old: &Element) -> bool
-    ensures { result ≡ true → given_in element.now ≡ given_in old.now }
+    ensures same { result ≡ true → given_in element.now ≡ given_in old.now }
+    ensures other { given_in element.now ≡ given_in old.now → result ≡ true }
 {
     match (element.kind(), old.kind()) {
         (ElementKind::Provider(c, _, x, _), ElementKind::Provider(d, _, y, _)) => {

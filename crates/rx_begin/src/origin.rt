@@ -18,7 +18,7 @@ ghost use Rattle.rx_causes.specs.Scenes.{GivesHooks, IsSceneOf, TellsCalm};
 ghost use Rattle.rx_causes.specs.Hidden.{ForEach};
 ghost use Rattle.rx_causes.specs.Idle.{KeepsTree};
 ghost use Rattle.rx_begin.specs.Nodes.{IsBareAt};
-ghost use Rattle.rx_begin.specs.Origins.{HasCauseToBegin, IsSteady};
+ghost use Rattle.rx_begin.specs.Origins.{HasCauseToBegin, TellsSteady};
 
 use crate::kind::gives_same;
 use rx_causes::{Scene, is_idle, reads_hold};
@@ -61,7 +61,7 @@ pub(crate) fn origin_of(tree: &FiberTree<Fiber>, at: FiberId) -> Origin
 /// to those below it. Then its children stand where the same values are given too.
 pub(crate) fn is_steady(tree: &FiberTree<Fiber>, at: FiberId) -> bool
     requires { IsBareAt tree.now at }
-    ensures { result ≡ true → (v : fibers.Fiber) → Some v ≡ made_value_of tree.now.draft at → IsSteady tree.now.current (old_of tree.now.draft at) v }
+    ensures { (v : fibers.Fiber) → Some v ≡ made_value_of tree.now.draft at → TellsSteady tree.now.current (old_of tree.now.draft at) v result }
 {
     tree.place_facts();
     tree.facts();

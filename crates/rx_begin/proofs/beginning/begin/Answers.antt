@@ -13,6 +13,7 @@ use Rattle.rx_ctx.specs.Contexts.{values_at}
 use Rattle.rx_begin.proofs.Keeping.{parts_here, no_parts, counts_so, if_both}
 use Rattle.std.specs.Prelude.{true, not, None, is_some, option_map, option_and_then}
 use Rattle.rx_begin.proofs.ByElement.{if_ok}
+use Rattle.rx_begin.proofs.Origins.{other_kids}
 use Rattle.rx_begin.proofs.Taking.{taken_over}
 use Rattle.rx_begin.proofs.Begins.{place_kept, place_olds, place_tree, place_there, place_context, place_props, begins_body, begins_other, counts_one, made_at}
 use Rattle.rx_begin.proofs.beginning.begin.Goals as goal
@@ -37,7 +38,7 @@ returns-in-Some-clause-begun g c =
     (λ b has s is.
     begins_body s _ c.args.tree.now c.args.contexts.now c.begin_component.new.tree _ c.args.at c.facts.ensures.linked c.place_facts.ensures c.value-fiber.result.now c.in_ok-element.element
     (c.value-fiber.ensures.made (made_at _ _ _ _ _ c.place_facts.ensures c.requires.place)) (c.in_ok-element.ensures ∙ c.element.ensures) b.0 (is_way c.args.scene.now.ways.now) c.origin_of-origin.result.cloned c.is_steady-steady.result
-    (λ so. c.origin_of-origin.ensures.cloned so c.value-fiber.result.now (c.value-fiber.ensures.made (made_at _ _ _ _ _ c.place_facts.ensures c.requires.place))) (λ so. c.is_steady-steady.ensures so c.value-fiber.result.now (c.value-fiber.ensures.made (made_at _ _ _ _ _ c.place_facts.ensures c.requires.place))) c.in-Some.parts.component c.in-Some.parts.props.now
+    (λ so. c.origin_of-origin.ensures.cloned so c.value-fiber.result.now (c.value-fiber.ensures.made (made_at _ _ _ _ _ c.place_facts.ensures c.requires.place))) (c.is_steady-steady.ensures c.value-fiber.result.now (c.value-fiber.ensures.made (made_at _ _ _ _ _ c.place_facts.ensures c.requires.place))).0 c.in-Some.parts.component c.in-Some.parts.props.now
     c.in-Some.parts.children.now c.values.result.now (sym c.parts_of.ensures ∙ ap (option_map parts_seen) c.in-Some.is) c.values.ensures refl
     (λ old key kids was gives settled stood same. has s old key kids is was gives settled stood same))
     c.begin_component.ensures.evaluated
@@ -66,7 +67,7 @@ returns-clause-begun g c s is =
     begins_other s _ c.args.tree.now c.args.contexts.now c.begin_or_hide.new.tree c.begin_or_hide.new.contexts c.args.at c.facts.ensures.linked c.place_facts.ensures c.value-fiber.result.now c.in_ok-element.element
     (c.value-fiber.ensures.made (made_at _ _ _ _ _ c.place_facts.ensures c.requires.place)) (c.in_ok-element.ensures ∙ c.element.ensures) c.in_ok-begun-in-None.begun
     (is_way c.args.scene.now.ways.now) c.args.scene.now c.origin_of-origin.result c.is_steady-steady.result is
-    (λ so. c.origin_of-origin.ensures.cloned so c.value-fiber.result.now (c.value-fiber.ensures.made (made_at _ _ _ _ _ c.place_facts.ensures c.requires.place))) (c.origin_of-origin.ensures.stood c.value-fiber.result.now (c.value-fiber.ensures.made (made_at _ _ _ _ _ c.place_facts.ensures c.requires.place))) (λ so. c.is_steady-steady.ensures so c.value-fiber.result.now (c.value-fiber.ensures.made (made_at _ _ _ _ _ c.place_facts.ensures c.requires.place)))
+    (λ so. c.origin_of-origin.ensures.cloned so c.value-fiber.result.now (c.value-fiber.ensures.made (made_at _ _ _ _ _ c.place_facts.ensures c.requires.place))) (c.origin_of-origin.ensures.stood c.value-fiber.result.now (c.value-fiber.ensures.made (made_at _ _ _ _ _ c.place_facts.ensures c.requires.place))) (c.is_steady-steady.ensures c.value-fiber.result.now (c.value-fiber.ensures.made (made_at _ _ _ _ _ c.place_facts.ensures c.requires.place))).0
     (place_there c.args.scene.now.checked.now _ c.args.tree.now c.args.contexts.now c.args.at c.place_facts.ensures c.requires.place c.value-fiber.result.now c.in_ok-element.element
     (c.value-fiber.ensures.made (made_at _ _ _ _ _ c.place_facts.ensures c.requires.place)) (c.in_ok-element.ensures ∙ c.element.ensures))
     (sym c.parts_of.ensures ∙ ap (option_map parts_seen) c.in-None.is) c.begin_or_hide.ensures.current c.in_ok-begun-in-None.ensures.begun
@@ -178,3 +179,14 @@ returns-clause-causes g c v here so free =
 
 pub returns-in-Some-clause-taken : goal.returns-in-Some-clause-taken
 returns-in-Some-clause-taken g c = c.begin_component.ensures.taken
+
+pub returns-in-Some-clause-kids : goal.returns-in-Some-clause-kids
+returns-in-Some-clause-kids g c = if_ok c.begin_component.result _ _ (λ b kids v id here is. (c.is_steady-steady.result, c.is_steady-steady.ensures v here, kids id is)) c.begin_component.ensures.kids
+
+pub returns-clause-kids : goal.returns-clause-kids
+returns-clause-kids g c v id here is = (
+  c.is_steady-steady.result,
+  c.is_steady-steady.ensures v here,
+  other_kids c.args.scene.now (kept_hooks c.args.hooks.now) c.args.tree.now c.args.contexts.now c.begin_or_hide.new.tree c.begin_or_hide.new.contexts c.args.at c.in_ok-element.element
+      c.origin_of-origin.result c.is_steady-steady.result c.in_ok-begun-in-None.begun c.in_ok-begun-in-None.ensures.begun id is,
+)

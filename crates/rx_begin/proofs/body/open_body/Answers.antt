@@ -3,7 +3,9 @@ use Rattle.rx_meaning.specs.Fresh.{shape_of_body}
 use Rattle.rx_eval.specs.Given.{body_seen}
 use Rattle.rx_begin.specs.Bodies.{waits}
 use Rattle.rx_begin.proofs.Bodies.{opened_anew}
+use Rattle.rx_fiber.specs.Fibers.{as_matched}
 use Rattle.rx_begin.proofs.ByElement.{if_ok}
+use Rattle.rx_begin.proofs.Origins.{opened_kids}
 use Rattle.rx_begin.proofs.body.open_body.Goals as goal
 
 pub returns-in-Wait-clause-opened : goal.returns-in-Wait-clause-opened
@@ -11,3 +13,6 @@ returns-in-Wait-clause-opened c cs node cloned same = waits c.in-Wait.resource (
 
 pub returns-in_ok-instance-in-Ready-clause-anew : goal.returns-in_ok-instance-in-Ready-clause-anew
 returns-in_ok-instance-in-Ready-clause-anew c = if_ok c.open_node.result _ _ (λ b h. opened_anew _ _ _ _ _ _ _ b h) c.open_node.ensures.opened
+
+pub returns-in_ok-instance-in-Ready-clause-kids : goal.returns-in_ok-instance-in-Ready-clause-kids
+returns-in_ok-instance-in-Ready-clause-kids c = if_ok c.open_node.result _ _ (λ b h id is. opened_kids (as_matched c.args.steady) c.args.tree.now c.open_node.new.tree c.args.at _ _ _ b h) c.open_node.ensures.opened
