@@ -51,7 +51,8 @@ module _ (s : Sight) (j : Journal) (same : SeesSame s j) where
   component_same cs c props given old None = refl
   component_same cs c props given old (Some d) = ap (λ i. shape_of_body cs c old (body_of s.program d i)) (inputs_same cs props given (old_instance old))
 
-  shape_same : (cs : Contexts) (e : Element) (old : Option Node) → shape_of s cs e old ≡ shape_of later cs e old
+  -- the same stands in a place
+  pub shape_same : (cs : Contexts) (e : Element) (old : Option Node) → shape_of s cs e old ≡ shape_of later cs e old
   shape_same cs elements.null old = refl
   shape_same cs (elements.text t) old = refl
   shape_same cs (elements.host name key attrs es) old = refl
@@ -131,11 +132,12 @@ module _ (s : Sight) (j : Journal) (same : SeesSame s j) where
 -- Longer journals
 
 -- no update passes a test
-abbrev AllFail : (Posted → Bool) → List Posted → Type 0
+abbrev pub AllFail : (Posted → Bool) → List Posted → Type 0
 AllFail test [] = Unit {0}
 AllFail test (u ∷ us) = (test u ≡ false) × AllFail test us
 
-late_fail : (s : Sight) (new : List Posted) → AllAfter s.cut.updates new → AllFail (is_included s.lanes s.cut) new
+-- an update after the cut isn't included
+pub late_fail : (s : Sight) (new : List Posted) → AllAfter s.cut.updates new → AllFail (is_included s.lanes s.cut) new
 late_fail s [] h = tt
 late_fail s (u ∷ us) h = (go (nat_lt u.update.number s.cut.updates) refl, late_fail s us h.1)
   where

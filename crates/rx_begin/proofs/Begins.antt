@@ -170,7 +170,7 @@ module _ (s : Sight) (kept : ℕ → Option (List Hook)) (t : Trees Fiber) (st :
           (kept_children s.program (known_by s) t.current (old_of t.draft p) old e origin.cloned (old_at t st p n fs cs e old knows at) settled
           (λ so. stood_so n fs cs e old at origin.cloned again so) (ap parts_in (sym x) ∙ none) h) kept_so)
           stacks
-      by_case b (others.opens done stacks) = opened b (from_matched s t st new st' p n fs cs e old linked knows at b (begun_stage e number) (begun_children e) steady stand done) stacks
+      by_case b (others.opens not done stacks) = opened b (from_matched s t st new st' p n fs cs e old linked knows at b (begun_stage e number) (begun_children e) steady stand done) stacks
       by_case _ (others.hides {a = a} so too mark waits tried stacks) =
           hidden_again s kept t st new st' p n fs cs e old a knows at v value origin again stood_is so too mark (λ y. waits s y sees) gives settled current tried stacks
 

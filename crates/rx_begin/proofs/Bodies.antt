@@ -76,7 +76,7 @@ evaluated s cs c props kids old b t new p answer cloned steady gives has =
 
 -- What is begun over its own children
 
-begun_anew : (kids : Draft Fiber) → is_taken (begun_over kids) ≡ false
+pub begun_anew : (kids : Draft Fiber) → is_taken (begun_over kids) ≡ false
 begun_anew (taken s) = refl
 begun_anew (made id v o ks rs) = refl
 

@@ -60,7 +60,7 @@ module _ (scene : Scene) (kept : ℕ → Option (List Hook)) (t : Trees Fiber) (
     where
       by_kept : (q : Bool) → keeps_children origin.cloned mark ≡ q → HasBegunOther scene kept t st new st' p e origin steady b
       by_kept true h = others.keeps h (k h) stacks
-      by_kept false h = others.opens (o h) stacks
+      by_kept false h = others.opens h (o h) stacks
 
 -- The hooks of an old tree are those of its own instance, and those of what it keeps.
 

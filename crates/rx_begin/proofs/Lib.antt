@@ -14,5 +14,6 @@ pub mod Hiding
 pub mod Beside
 pub mod Falling
 pub mod OldFallback
+pub mod FallbackKids
 pub mod Taking
 pub mod Begins

@@ -1,26 +1,35 @@
 -- What is known of a place that begins, by its fiber and its current one.
-use Rattle.std.specs.Prelude.{◌≡◌, ℕ, suc, Bool, List, [], ◌∷◌, Option, Some, IfSome, option_map, option_and_then}
-use Rattle.std.proofs.Common.{sym, ap, ◌∙◌, subst}
+use Rattle.std.specs.Prelude.{◌≡◌, ℕ, zero, suc, Bool, true, false, List, [], ◌∷◌, Option, Some, None, Result, Ok, Err, IfOk, IfSome, IsSome, slice_get, option_map, option_and_then}
+use Rattle.std.specs.Option.{option_flatten}
+use Rattle.std.proofs.Common.{refl, sym, ap, ◌∙◌, subst}
 use Rattle.rx_elem.specs.Elements.{Element}
-use Rattle.rx_lists.specs.Shapes.{Holds, Shape}
+use Rattle.rx_lists.specs.Shapes.{Holds, Shape, IsTop}
 use Rattle.rx_lists.specs.Shapes as shapes
-use Rattle.rx_links.specs.Drafts.{Draft, taken, made, Makes, Trees, old_of}
-use Rattle.rx_links.specs.Readers.{made_value_of, value_of}
+use Rattle.rx_links.specs.Drafts.{Draft, taken, made, Makes, Trees, old_of, valued}
+use Rattle.rx_links.specs.Readers.{list_from, made_value_of, value_of}
 use Rattle.rx_ctx.specs.Contexts.{Stack}
 use Rattle.rx_hooks.specs.declared.hook.Hook.{Hook}
-use Rattle.rx_fiber.specs.Fibers.{Fiber, Stage, as_cloned, as_matched, is_stood}
+use Rattle.rx_fiber.specs.Fibers.{Fiber, Stage, as_cloned, as_matched}
+use Rattle.rx_fiber.specs.FiberView.{changed}
+use Rattle.rx_fiber.specs.declared.stage.StageChange.TheVariants as change
+use Rattle.rx_fiber.specs.OldLists.{matched, old_elements, old_fibers, primary_list}
+use Rattle.rx_fiber.proofs.OldTops.{fiber_top}
+use Rattle.rx_causes.specs.Marks.{keeps_children, mark_at}
 use Rattle.rx_fiber.specs.declared.stage.Origin.{Origin}
 use Rattle.rx_causes.specs.declared.scene.Scene.{Scene}
 use Rattle.rx_fiber.specs.Surround.{IsElementOf}
 use Rattle.rx_begin.specs.Children.{AreMade, no_more, gap, next}
-use Rattle.rx_begin.specs.Nodes.{IsBareAt, HasOpened}
-use Rattle.rx_begin.specs.Origins.{AllStood, HasKids}
+use Rattle.rx_begin.specs.Nodes.{IsBareAt, HasOpened, begun_over}
+use Rattle.rx_begin.specs.Origins.{AllWait, AllNew, HasKids}
+use Rattle.rx_begin.specs.Beginning.{awaited_again, is_opened, is_taken}
 use Rattle.rx_begin.specs.Others.{HasBegunOther}
 use Rattle.rx_begin.specs.Others as others
 use Rattle.rx_begin.specs.declared.node.Begun.{Begun}
-use Rattle.rx_begin.specs.declared.node.Begun.TheVariants.{Child}
+use Rattle.rx_begin.specs.declared.node.Begun.TheVariants.{Suspended}
 use Rattle.rx_begin.proofs.Making.{KnowsPlaces}
 use Rattle.rx_begin.proofs.Nodes.{bare_made}
+use Rattle.rx_begin.proofs.Bodies.{begun_anew}
+use Rattle.rx_begin.proofs.Matched.{matched_top}
 
 module _ (t : Trees Fiber) (p : ℕ) (knows : KnowsPlaces t) (bare : IsBareAt t p) (o : Option ℕ) (old : ℕ) (same : o ≡ old_of t.draft p) (is : o ≡ Some old) where
   -- its current fiber is held
@@ -38,26 +47,131 @@ module _ (t : Trees Fiber) (p : ℕ) (knows : KnowsPlaces t) (bare : IsBareAt t 
       let so : w ≡ v = (let f : Some w ≡ Some v = reads_made (bare_made t p knows bare) ∙ sym here in cc) in
       ap (option_map (λ (x : Fiber). x.element)) (current_value u reads) ∙ ap Some (sym element ∙ ap (λ (x : Fiber). x.element) so)
 
--- the fibers that are made for a list wait as is known of them
-all_stood : (c : Shape Fiber) (origin : Origin) (n : ℕ) (es : List Element) (os : List (Option ℕ)) (d : Draft Fiber) → AreMade c origin n es os d → AllStood origin.stood d
-all_stood c origin n [] [] _ no_more = tt
-all_stood c origin n [] (o ∷ os) d are = elim are [ ]
-all_stood c origin n (e ∷ es) [] d are = elim are [ ]
-all_stood c origin n (e ∷ es) (o ∷ os) d (gap null more) = all_stood c origin (suc n) es os d more
-all_stood c origin n (e ∷ es) (o ∷ os) (made _ _ _ _ d) (next there is more) = (ap is_stood is.stage, all_stood c origin (suc n) es os d more)
+-- the fibers that are made for a list wait, with no children, as is known of them
+pub kids_wait : (c : Shape Fiber) (origin : Origin) (n : ℕ) (es : List Element) (os : List (Option ℕ)) (d : Draft Fiber) → AreMade c origin n es os d → AllWait origin d
+kids_wait c origin n [] [] _ no_more = refl
+kids_wait c origin n [] (o ∷ os) d are = elim are [ ]
+kids_wait c origin n (e ∷ es) [] d are = elim are [ ]
+kids_wait c origin n (e ∷ es) (o ∷ os) d (gap null more) = kids_wait c origin (suc n) es os d more
+kids_wait c origin n (e ∷ es) (o ∷ os) (made _ _ _ _ d) (next there is more) = (is.stage, refl, kids_wait c origin (suc n) es os d more)
 
--- so do the children that a fiber is begun over
-pub opened_kids : (origin : Origin) (t new : Trees Fiber) (p : ℕ) (stage : Stage) (es : List Element) (os : List (Option ℕ)) (b : Begun) → HasOpened origin t new p stage es os b → HasKids t new p origin.stood
-opened_kids origin t new p stage es os b h = record {
-  kids = h.kids;
-  value = λ v. record v { stage = stage };
-  stands = h.stands;
-  all = all_stood t.current origin 0 es os h.kids h.are;
-}
+-- none of these is a current fiber
+abbrev pub NoFiber : List (Option ℕ) → Type 0
+NoFiber os = (i j : ℕ) → slice_get os i ≡ Some (Some j) → ⊥
 
--- and those of a place of no component, where it comes to a child
-pub other_kids : (scene : Scene) (kept : ℕ → Option (List Hook)) (t : Trees Fiber) (st : Stack) (new : Trees Fiber) (st' : Stack) (p : ℕ) (e : Element) (origin : Origin) (steady : Bool) (b : Begun)
-    → HasBegunOther scene kept t st new st' p e origin steady b → (id : ℕ) → b ≡ Child id → HasKids t new p steady
-other_kids scene kept t st new st' p e origin steady b (others.keeps h opened stacks) id is = opened_kids (as_cloned steady) t new p _ _ _ b opened
-other_kids scene kept t st new st' p e origin steady b (others.opens opened stacks) id is = opened_kids (as_matched steady) t new p _ _ _ b opened
-other_kids scene kept t st new st' p e origin steady _ (others.hides so too mark waits tried stacks) id is = absurd (let q : ⊥ = cc in q)
+no_one : (o : Option ℕ) → ((j : ℕ) → o ≡ Some j → ⊥) → o ≡ None
+no_one None f = refl
+no_one (Some j) f = absurd (f j refl)
+
+-- so none that is made for them is made for one
+pub kids_new : (c : Shape Fiber) (origin : Origin) (n : ℕ) (es : List Element) (os : List (Option ℕ)) (d : Draft Fiber) → AreMade c origin n es os d → NoFiber os → AllNew d
+kids_new c origin n [] [] _ no_more f = tt
+kids_new c origin n [] (o ∷ os) d are f = elim are [ ]
+kids_new c origin n (e ∷ es) [] d are f = elim are [ ]
+kids_new c origin n (e ∷ es) (o ∷ os) d (gap null more) f = kids_new c origin (suc n) es os d more (λ i j h. f (suc i) j h)
+kids_new c origin n (e ∷ es) (o ∷ os) (made _ _ _ _ d) (next there is more) f =
+    (no_one o (λ j h. f zero j (ap Some h)), kids_new c origin (suc n) es os d more (λ i j h. f (suc i) j h))
+
+pub is_none : {A : Type 0} (x : Option A) → x ≡ None → IsSome x → ⊥
+is_none None e h = let q : ⊥ = cc in q
+is_none (Some a) e h = let q : ⊥ = cc in q
+
+pub not_both : (b : Bool) → b ≡ false → b ≡ true → ⊥
+not_both b lacks holds = let q : true ≡ false = sym holds ∙ lacks in let r : ⊥ = cc in r
+
+-- an old list without fibers has none for new children, and none to be cloned
+pub matched_none : (s : Shape Fiber) (es : List Element) → s ≡ shapes.none → NoFiber (matched s es)
+matched_none s es e i j h = subst (λ x. IsTop x j) e (matched_top s es i j h)
+
+pub cloned_none : (s : Shape Fiber) → s ≡ shapes.none → NoFiber (old_fibers s)
+cloned_none s e i j h = subst (λ x. IsTop x j) e (fiber_top s i j (ap option_flatten h))
+
+-- the old list of a fiber that is made for none
+abbrev pub OldList : Trees Fiber → ℕ → Shape Fiber
+OldList t p = primary_list (list_from t.current (old_of t.draft p))
+
+pub no_list : (t : Trees Fiber) (p : ℕ) → old_of t.draft p ≡ None → OldList t p ≡ shapes.none
+no_list t p e = ap (λ o. primary_list (list_from t.current o)) e
+
+-- A fiber is begun over children that wait.
+abbrev pub OpensOver : Origin → Trees Fiber → Trees Fiber → ℕ → Begun → Type 0
+OpensOver origin t new p b = (h : HasKids origin t new p) × (b ≡ begun_over h.kids)
+
+pub opened_kids : (origin : Origin) (t new : Trees Fiber) (p : ℕ) (stage : Stage) (es : List Element) (os : List (Option ℕ)) (b : Begun) → (old_of t.draft p ≡ None → NoFiber os)
+    → HasOpened origin t new p stage es os b → OpensOver origin t new p b
+opened_kids origin t new p stage es os b none h = (
+  record {
+    kids = h.kids;
+    value = λ v. record v { stage = stage };
+    stands = h.stands;
+    all = kids_wait t.current origin 0 es os h.kids h.are;
+    new = λ e. kids_new t.current origin 0 es os h.kids h.are (none e);
+  },
+  h.answer_is,
+)
+
+-- so where they are matched with the old ones, and where they are clones of these
+pub matched_kids : (t new : Trees Fiber) (p : ℕ) (stage : Stage) (es : List Element) (steady : Bool) (b : Begun) → HasOpened (as_matched steady) t new p stage es (matched (OldList t p) es) b
+    → OpensOver (as_matched steady) t new p b
+matched_kids t new p stage es steady b h = opened_kids (as_matched steady) t new p stage es (matched (OldList t p) es) b (λ e. matched_none (OldList t p) es (no_list t p e)) h
+
+pub cloned_kids : (t new : Trees Fiber) (p : ℕ) (stage : Stage) (steady : Bool) (b : Begun) → HasOpened (as_cloned steady) t new p stage (old_elements (OldList t p)) (old_fibers (OldList t p)) b
+    → OpensOver (as_cloned steady) t new p b
+cloned_kids t new p stage steady b h =
+    opened_kids (as_cloned steady) t new p stage (old_elements (OldList t p)) (old_fibers (OldList t p)) b (λ e. cloned_none (OldList t p) (no_list t p e)) h
+
+-- What is begun over its own children waits for nothing.
+over_waits_not : (kids : Draft Fiber) → awaited_again (begun_over kids) ≡ None
+over_waits_not (taken s) = refl
+over_waits_not (made id v o ks rs) = refl
+
+-- So does a fiber that is begun over its own children, or over those that it keeps.
+pub begun_waits_not : {E : Type 0} (t new : Trees Fiber) (p : ℕ) (keeps : Bool) (one other : Origin) (m l : Stage) (es xs : List Element) (os ys : List (Option ℕ)) (r : Result Begun E)
+    → IfOk r (λ b. keeps ≡ true → HasOpened one t new p m es os b) → IfOk r (λ b. keeps ≡ false → HasOpened other t new p l xs ys b) → IfOk r (λ b. awaited_again b ≡ None)
+begun_waits_not t new p keeps one other m l es xs os ys (Err f) k o = tt
+begun_waits_not t new p true one other m l es xs os ys (Ok b) k o = let h = k refl in ap awaited_again h.answer_is ∙ over_waits_not h.kids
+begun_waits_not t new p false one other m l es xs os ys (Ok b) k o = let h = o refl in ap awaited_again h.answer_is ∙ over_waits_not h.kids
+
+over_no_body : (kids : Draft Fiber) (r : ℕ) → begun_over kids ≡ Suspended r → ⊥
+over_no_body (taken s) r e = let q : ⊥ = cc in q
+over_no_body (made id v o ks rs) r e = let q : ⊥ = cc in q
+
+pub opened_waits_not : (origin : Origin) (t new : Trees Fiber) (p : ℕ) (b : Begun) → OpensOver origin t new p b → awaited_again b ≡ None
+opened_waits_not origin t new p b h = ap awaited_again h.1 ∙ over_waits_not h.0.kids
+
+pub opened_no_body : (origin : Origin) (t new : Trees Fiber) (p : ℕ) (b : Begun) → OpensOver origin t new p b → (r : ℕ) → b ≡ Suspended r → ⊥
+opened_no_body origin t new p b h r e = over_no_body h.0.kids r (sym h.1 ∙ e)
+
+pub opened_takes_not : (origin : Origin) (t new : Trees Fiber) (p : ℕ) (b : Begun) → OpensOver origin t new p b → is_taken b ≡ false
+opened_takes_not origin t new p b h = ap is_taken h.1 ∙ begun_anew h.0.kids
+
+-- The place of no component
+module _ (scene : Scene) (kept : ℕ → Option (List Hook)) (t : Trees Fiber) (st : Stack) (new : Trees Fiber) (st' : Stack) (p : ℕ) (e : Element) (origin : Origin) (steady : Bool) where
+  -- is begun over clones where it counts as one, and its old node hides nothing
+  pub other_kids : (b : Begun) → HasBegunOther scene kept t st new st' p e origin steady b → is_opened b ≡ true
+      → (cloned : Bool) × (origin.cloned ≡ true → keeps_children true (mark_at t.current (old_of t.draft p)) ≡ true → cloned ≡ true) × OpensOver (record { cloned = cloned; stood = steady }) t new p b
+  other_kids b (others.keeps h opened stacks) is = (true, (λ so clear. refl), cloned_kids t new p _ steady b opened)
+  other_kids b (others.opens not opened stacks) is = (
+    false,
+    (λ so clear. sym not ∙ (ap (λ c. keeps_children c (mark_at t.current (old_of t.draft p))) so ∙ clear)),
+    matched_kids t new p _ _ steady b opened,
+  )
+  other_kids _ (others.hides so too mark waits tried stacks) is = absurd (let q : ⊥ = cc in q)
+
+  -- comes to try its children where it waits still
+  pub other_tried : (b : Begun) → HasBegunOther scene kept t st new st' p e origin steady b → IsSome (awaited_again b) → new ≡ record t { draft = valued p (changed change.Try) t.draft }
+  other_tried b (others.keeps h opened stacks) is = absurd (is_none (awaited_again b) (opened_waits_not (as_cloned steady) t new p b (cloned_kids t new p _ steady b opened)) is)
+  other_tried b (others.opens not opened stacks) is = absurd (is_none (awaited_again b) (opened_waits_not (as_matched steady) t new p b (matched_kids t new p _ _ steady b opened)) is)
+  other_tried _ (others.hides so too mark waits tried stacks) is = tried
+
+  -- takes nothing over
+  pub other_takes_not : (b : Begun) → HasBegunOther scene kept t st new st' p e origin steady b → is_taken b ≡ false
+  other_takes_not b (others.keeps h opened stacks) = opened_takes_not (as_cloned steady) t new p b (cloned_kids t new p _ steady b opened)
+  other_takes_not b (others.opens not opened stacks) = opened_takes_not (as_matched steady) t new p b (matched_kids t new p _ _ steady b opened)
+  other_takes_not _ (others.hides so too mark waits tried stacks) = refl
+
+  -- and has no body that waits
+  pub other_no_body : (b : Begun) → HasBegunOther scene kept t st new st' p e origin steady b → (r : ℕ) → b ≡ Suspended r → ⊥
+  other_no_body b (others.keeps h opened stacks) r is = opened_no_body (as_cloned steady) t new p b (cloned_kids t new p _ steady b opened) r is
+  other_no_body b (others.opens not opened stacks) r is = opened_no_body (as_matched steady) t new p b (matched_kids t new p _ _ steady b opened) r is
+  other_no_body _ (others.hides so too mark waits tried stacks) r is = let q : ⊥ = cc in q

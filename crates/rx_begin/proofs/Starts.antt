@@ -29,7 +29,7 @@ use Rattle.rx_fiber.proofs.Opening.{opens_one, tries_children}
 use Rattle.rx_fiber.proofs.Unwinding.{place_within}
 use Rattle.rx_fiber.specs.declared.stage.Origin.{Origin}
 use Rattle.rx_begin.specs.Nodes.{begun_over, HasOpened}
-use Rattle.rx_begin.specs.Beginning.{IsPlace, IsEnd, HasBegun}
+use Rattle.rx_begin.specs.Beginning.{IsPlace, IsEnd, HasBegun, HasLists}
 use Rattle.rx_begin.specs.declared.node.Begun.{Begun}
 use Rattle.rx_begin.specs.declared.node.Begun.TheVariants.{Child, Leaf, Suspended}
 use Rattle.rx_begin.specs.declared.node.Begun.TheVariants as answers
@@ -70,17 +70,19 @@ module _ (s : Sight) (t : Trees Fiber) (st : Stack) (new : Trees Fiber) (st' : S
   unit_begins = refl
 
   has_begun : (answer : Begun) (d : Draft Fiber) → answer ≡ begun_over d → StandsAt new st' (Some (come_at d p)) (unit s (at_place (suc n) fs cs e old))
-      → Leads (begun_over d) (unit s (at_place (suc n) fs cs e old)) → HasBegun s t st new st' p n fs cs e old answer
-  has_begun answer (taken l) is at form = subst (λ a. HasBegun s t st new st' p n fs cs e old a) (sym is) (at, form)
-  has_begun answer (made id v o ks rs) is at form = subst (λ a. HasBegun s t st new st' p n fs cs e old a) (sym is) (at, form)
+      → Leads (begun_over d) (unit s (at_place (suc n) fs cs e old)) → HasLists (shape_of s cs e old) → HasBegun s t st new st' p n fs cs e old answer
+  has_begun answer (taken l) is at form lists = subst (λ a. HasBegun s t st new st' p n fs cs e old a) (sym is) (at, form, lists)
+  has_begun answer (made id v o ks rs) is at form lists = subst (λ a. HasBegun s t st new st' p n fs cs e old a) (sym is) (at, form, lists)
 
   -- a node comes to its list
   comes_to : (answer : Begun) (x : Open) (list : Part) (d : Draft Fiber) → answer ≡ begun_over d → cursor.begin n fs e old (shape_of s cs e old) ≡ open_part n fs x list
-      → StandsAt new st' (Some (come_at d p)) (open_part n fs x list) → AreNext new.current (given_more (open_element x) (given_along fs)) 0 (children_with_old list) d → HasBegun s t st new st' p n fs cs e old answer
-  comes_to answer x list d is same at kids =
+      → StandsAt new st' (Some (come_at d p)) (open_part n fs x list) → AreNext new.current (given_more (open_element x) (given_along fs)) 0 (children_with_old list) d → HasLists (shape_of s cs e old)
+      → HasBegun s t st new st' p n fs cs e old answer
+  comes_to answer x list d is same at kids lists =
       let u : unit s (at_place (suc n) fs cs e old) ≡ open_part n fs x list = unit_begins ∙ same in
       has_begun answer d is (subst (λ c. StandsAt new st' (Some (come_at d p)) c) (sym u) at)
       (subst (λ c. Leads (begun_over d) c) (sym u) (leads new.current (given_more (open_element x) (given_along fs)) 0 n fs x list.contexts [] (children_with_old list) d kids))
+      lists
 
   module _ (linked : IsLinked t.current) (knows : KnowsPlaces t) where
     -- the old fibers of its children are those of their old nodes
@@ -97,7 +99,7 @@ module _ (s : Sight) (t : Trees Fiber) (st : Stack) (new : Trees Fiber) (st' : S
         subst (λ c. IsAround c k v.place rs fs) (sym done.current) (subst (λ place. IsAround t.current k place rs fs) (sym is.at) surrounds) in
         comes_to answer (around e m) list done.kids done.answer_is (ap (cursor.begin n fs e old) shape)
         (opens_one new st' k p n (record v { stage = begun m }) o done.kids rs fs e m list (done.stands k v o rs here) is.element refl shown kids surrounds' (stacks values stack))
-        kids
+        kids (subst (λ x. HasLists x) (sym shape) tt)
 
     -- a boundary
     pub begun_trying : (origin : Origin) (answer : Begun) (es given : List Element) (os : List (Option ℕ)) → (done : HasOpened origin t new p stage.trying given os answer)
@@ -113,7 +115,7 @@ module _ (s : Sight) (t : Trees Fiber) (st : Stack) (new : Trees Fiber) (st' : S
         let was' : IsOld new.current o old = subst (λ c. IsOld c o old) (sym done.current) was in
         comes_to answer (trying e old (part cs (fallback_in e ∷ []) (fallback_if old))) list done.kids done.answer_is (ap (cursor.begin n fs e old) shape)
         (tries_children new st' k p n (record v { stage = stage.trying }) o done.kids rs fs e old cs es (done.stands k v o rs here) is.element refl boundary was' kids surrounds' (stacks values stack))
-        kids
+        kids (subst (λ x. HasLists x) (sym shape) tt)
 
   -- a body that waits
   pub begun_waiting : (r : ℕ) → StandsAt t st (Some p) (at_place (suc n) fs cs e old) → shape_of s cs e old ≡ waiting r → new ≡ t → st' ≡ st

@@ -11,7 +11,7 @@ use Rattle.rx_hooks.specs.declared.hook.Hook.{Hook}
 use Rattle.rx_lists.specs.Shapes as shapes
 use Rattle.rx_links.specs.Drafts.{taken, Trees, old_of}
 use Rattle.rx_meaning.specs.Again.{AllValuesAgree, AreUnresolved}
-use Rattle.rx_meaning.specs.Fresh.{Sight, Contexts, part, waiting, shape_of}
+use Rattle.rx_meaning.specs.Fresh.{Sight, Contexts, Shape, absent, one_list, part, shape_of, two_lists, waiting}
 use Rattle.rx_meaning.specs.Settled.{IfSettled, ReadsHold, known_by}
 use Rattle.rx_meaning.specs.Cursor.{Frame, Cursor, falling, at_place, at_end, ended, is_null, open_part, unit, unwind}
 use Rattle.commit_laws.specs.Idle.{IsIdle, IsIdleMark}
@@ -74,11 +74,19 @@ pub record IsTakenOver (s : Sight) (t new : Trees Fiber) (st' : Stack) (p : ℕ)
   pub stood : StoodAt t.current (given_along fs) (old_of t.draft p) ⊎ ReadsHold cs node
   pub passed : IsPassed new st' p fs node
 
+-- what stands there has a list of children, or two
+abbrev pub HasLists : Shape → Type 0
+HasLists absent = ⊥
+HasLists (waiting r) = ⊥
+HasLists (one_list m p) = Unit {0}
+HasLists (two_lists p f) = Unit {0}
+
 -- What a unit leaves that begins the place of a fiber: the render stands at the first child, or at the fiber's end; or a body waits, and all is as it was; or a hidden boundary waits still; or old children are taken over.
 abbrev pub HasBegun : Sight → (before : Trees Fiber) → Stack → (after : Trees Fiber) → Stack → (at : ℕ) → (levels : ℕ) → List Frame → Contexts → Element → Option Node → Begun → Type 0
 HasBegun s t st new st' p n fs cs e old (Child id) =
-    StandsAt new st' (Some id) (unit s (at_place (suc n) fs cs e old)) × IsPlace (unit s (at_place (suc n) fs cs e old))
-HasBegun s t st new st' p n fs cs e old Leaf = StandsAt new st' (Some p) (unit s (at_place (suc n) fs cs e old)) × IsEnd (unit s (at_place (suc n) fs cs e old))
+    StandsAt new st' (Some id) (unit s (at_place (suc n) fs cs e old)) × IsPlace (unit s (at_place (suc n) fs cs e old)) × HasLists (shape_of s cs e old)
+HasBegun s t st new st' p n fs cs e old Leaf =
+    StandsAt new st' (Some p) (unit s (at_place (suc n) fs cs e old)) × IsEnd (unit s (at_place (suc n) fs cs e old)) × HasLists (shape_of s cs e old)
 HasBegun s t st new st' p n fs cs e old (Suspended r) =
     (shape_of s cs e old ≡ waiting r)
     × (unit s (at_place (suc n) fs cs e old) ≡ unwind (suc n) fs (one r))
@@ -95,6 +103,14 @@ is_taken Leaf = false
 is_taken (Suspended r) = false
 is_taken (answers.Hidden a) = false
 is_taken Taken = true
+
+-- whether the fiber is begun over children of its own, or over none
+abbrev pub is_opened : Begun → Bool
+is_opened (Child id) = true
+is_opened Leaf = true
+is_opened (Suspended r) = false
+is_opened (answers.Hidden a) = false
+is_opened Taken = false
 
 -- what is waited for still, where a hidden boundary is not tried
 abbrev pub awaited_again : Begun → Option Awaits

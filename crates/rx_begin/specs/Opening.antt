@@ -7,18 +7,20 @@ use Rattle.rx_elem.specs.Trees.{Node, of_boundary, children_if}
 use Rattle.rx_susp.specs.declared.boundary.BoundaryState.TheVariants.{Hidden}
 use Rattle.rx_lists.specs.Shapes.{Shape, first}
 use Rattle.rx_lists.specs.Shapes as shapes
-use Rattle.rx_links.specs.Drafts.{Draft, taken, made, Trees, kids_under}
+use Rattle.rx_links.specs.Drafts.{Draft, taken, made, Trees, entry, kids_under, old_of}
 use Rattle.rx_links.specs.Places.{Around, placed}
+use Rattle.rx_links.specs.Readers.{list_from}
 use Rattle.rx_meaning.specs.Cursor.{Cursor}
 use Rattle.rx_fiber.specs.Fibers.{Fiber, as_cloned, as_matched, begun, fallback}
 use Rattle.rx_fiber.specs.declared.stage.Origin.{Origin}
-use Rattle.rx_fiber.specs.OldLists.{begins_fallback, matched, old_elements, old_fibers}
+use Rattle.rx_fiber.specs.OldLists.{begins_fallback, fallback_list, matched, old_elements, old_fibers}
 use Rattle.rx_fiber.specs.Reading.{has_node}
 use Rattle.rx_fiber.specs.Surround.{fallback_in}
 use Rattle.rx_fiber.specs.Standing.{StandsAt}
-use Rattle.rx_fiber.specs.Unwound.{IsLeftAt}
+use Rattle.rx_fiber.specs.Unwound.{IsLeftAt, is_trying}
 use Rattle.rx_begin.specs.Again.{HasOldFallback}
 use Rattle.rx_begin.specs.Beginning.{IsPlace, IsEnd}
+use Rattle.rx_begin.specs.Origins.{AllWait, AllNew}
 use Rattle.rx_begin.specs.declared.opening.Opened.{Opened}
 use Rattle.rx_begin.specs.declared.opening.Opened.TheVariants.{First, Empty}
 
@@ -78,3 +80,16 @@ given_fibers (Some es) s = matched s es
 abbrev pub given_as : (given : Option (List Element)) → Origin
 given_as None = as_cloned true
 given_as (Some es) = as_matched false
+
+-- A boundary's fallback has fibers that wait, and of which so much is known; where the old fallback has none, each is made for no current fiber. They stand below the boundary's own fiber, or below one right behind it, where that one keeps a list; neither tries its children.
+pub data HasFallbackKids (origin : Origin) (before after : Trees Fiber) (q : ℕ) : Opened → Type 0 where
+  alone : {f : Opened} (kids : Draft Fiber) (value : Fiber → Fiber) → ((v : Fiber) → is_trying (value v).stage ≡ false) → AllWait origin kids
+      → (fallback_list (list_from before.current (old_of before.draft q)) ≡ shapes.none → AllNew kids)
+      → ((k : Around Fiber) (v : Fiber) (o : Option ℕ) (rs : Draft Fiber) → before.draft ≡ placed k (made q v o (taken shapes.none) rs) → after.draft ≡ placed k (made q (value v) o kids rs))
+      → f ≡ opened_at (entry kids) q → HasFallbackKids origin before after q f
+  beside : {f : Opened} (kids : Draft Fiber) (value : Fiber → Fiber) (kept : Option ℕ → Shape Fiber) (id : ℕ) (w : Fiber) (old : Option ℕ)
+      → ((v : Fiber) → is_trying (value v).stage ≡ false) → is_trying w.stage ≡ false → AllWait origin kids
+      → (fallback_list (list_from before.current (old_of before.draft q)) ≡ shapes.none → AllNew kids)
+      → ((k : Around Fiber) (v : Fiber) (o : Option ℕ) (rs : Draft Fiber) → before.draft ≡ placed k (made q v o (taken shapes.none) rs)
+      → after.draft ≡ placed k (made q (value v) o (taken (kept o)) (made id w old kids rs)))
+      → f ≡ opened_at (entry kids) id → HasFallbackKids origin before after q f

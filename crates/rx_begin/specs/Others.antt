@@ -1,5 +1,5 @@
 -- What the place of an element of no component leaves that is begun.
-use Rattle.std.specs.Prelude.{◌≡◌, ℕ, Bool, true, List, Option, Some, option_and_then}
+use Rattle.std.specs.Prelude.{◌≡◌, ℕ, Bool, true, false, List, Option, Some, option_and_then}
 use Rattle.rx_base.specs.Awaits.{Awaits}
 use Rattle.rx_ctx.specs.Contexts.{Stack}
 use Rattle.rx_elem.specs.Elements.{Element}
@@ -29,7 +29,8 @@ pub data HasBegunOther (scene : Scene) (kept : ℕ → Option (List Hook)) (t : 
       → HasOpened (as_cloned steady) t new p (begun_stage e (option_and_then host_number (mark_at t.current (old_of t.draft p))))
       (old_elements (primary_list (list_from t.current (old_of t.draft p)))) (old_fibers (primary_list (list_from t.current (old_of t.draft p)))) b
       → st' ≡ begun_stack e st → HasBegunOther scene kept t st new st' p e origin steady b
-  opens : {b : Begun} → HasOpened (as_matched steady) t new p (begun_stage e (option_and_then host_number (mark_at t.current (old_of t.draft p)))) (begun_children e)
+  opens : {b : Begun} → keeps_children origin.cloned (mark_at t.current (old_of t.draft p)) ≡ false
+      → HasOpened (as_matched steady) t new p (begun_stage e (option_and_then host_number (mark_at t.current (old_of t.draft p)))) (begun_children e)
       (matched (primary_list (list_from t.current (old_of t.draft p))) (begun_children e)) b
       → st' ≡ begun_stack e st → HasBegunOther scene kept t st new st' p e origin steady b
   hides : {a : Awaits} → origin.cloned ≡ true → origin.stood ≡ true → mark_at t.current (old_of t.draft p) ≡ Some (of_boundary (Hidden a))

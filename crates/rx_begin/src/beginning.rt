@@ -6,16 +6,19 @@ ghost use Rattle.rx_elem.specs.Elements as elements;
 ghost use Rattle.rx_elem.specs.Trees.{Node, host_number, instance_in, children_of, of_boundary};
 ghost use Rattle.rx_susp.specs.declared.boundary.BoundaryState.TheVariants.{Hidden};
 ghost use Rattle.rx_fiber.specs.Reading.{IsOld};
-ghost use Rattle.rx_links.specs.Drafts.{old_of};
+ghost use Rattle.rx_links.specs.Drafts.{old_of, valued};
 ghost use Rattle.rx_links.specs.Readers.{list_from, made_value_of};
 ghost use Rattle.rx_fiber.specs.Fibers as fibers;
 ghost use Rattle.rx_fiber.specs.Fibers.{as_cloned, as_matched, is_cloned, is_stood};
+ghost use Rattle.rx_fiber.specs.FiberView.{changed};
+ghost use Rattle.rx_fiber.specs.declared.stage.StageChange.TheVariants as change;
 ghost use Rattle.rx_fiber.specs.Surround.{IsElementOf};
 ghost use Rattle.rx_fiber.specs.OldLists.{matched, old_elements, old_fibers, primary_list};
-ghost use Rattle.rx_causes.specs.Marks.{mark_at, keeps_children};
-ghost use Rattle.rx_causes.specs.Scenes.{IsSceneOf, TellsCalm};
-ghost use Rattle.rx_causes.specs.Hidden.{GivesHooksIn, KeepsOld, WaitsStill};
-ghost use Rattle.rx_begin.specs.Nodes.{IsBareAt, HasOpened, parts_in, begun_stage, begun_children, begun_stack, given_context};
+ghost use Rattle.rx_causes.specs.Marks.{EachBut, mark_at, keeps_children};
+ghost use Rattle.rx_causes.specs.Scenes.{IsSceneOf, TellsCalm, TellsNews};
+ghost use Rattle.rx_causes.specs.Hidden.{ForEachIn, GivesHooksIn, KeepsOld, WaitsStill};
+ghost use Rattle.rx_causes.specs.Idle.{Rests};
+ghost use Rattle.rx_begin.specs.Nodes.{IsBareAt, HasOpened, HasTaken, begun_over, parts_in, begun_stage, begun_children, begun_stack, given_context};
 ghost use Rattle.rx_meaning.specs.Fresh.{Sight, Contexts};
 ghost use Rattle.rx_meaning.specs.Cursor.{Frame, at_place};
 ghost use Rattle.rx_meaning.specs.Counts.{each_body, next_counts};
@@ -28,8 +31,8 @@ ghost use Rattle.rx_hook_store.specs.Store.{kept_hooks};
 ghost use Rattle.rx_hook_store.specs.Gives.{GivesValues};
 ghost use Rattle.rx_begin.specs.Others.{HasBegunOther, IsCauseToTry};
 ghost use Rattle.rx_begin.specs.Origins.{HasCauseToBegin, HasKids, TellsSteady};
-ghost use Rattle.rx_begin.specs.declared.node.Begun.TheVariants.{Child};
-ghost use Rattle.rx_begin.specs.Beginning.{IsAtPlace, BeginsPlace, awaited_again, is_taken};
+ghost use Rattle.rx_begin.specs.declared.node.Begun.TheVariants.{Suspended};
+ghost use Rattle.rx_begin.specs.Beginning.{IsAtPlace, BeginsPlace, awaited_again, is_opened, is_taken};
 
 use crate::body::begin_component;
 use crate::kind::{begun_children, begun_stage, enter, is_component, parts_of};
@@ -91,6 +94,7 @@ fn still_awaited(
     ensures stood { IfSome result (λ a. origin.stood ≡ true) }
     ensures hidden { IfSome result (λ a. mark_at tree.now.current (old_of tree.now.draft at) ≡ Some (of_boundary (Hidden a))) }
     ensures waits { IfSome result (λ a. (s : Sight) (x : Node) → IsSceneOf scene.now s → IsOld tree.now.current (old_of tree.now.draft at) (Some x) → GivesHooksIn s (kept_hooks hooks.now) (children_of x) → WaitsStill s a x) }
+    ensures news { IfSome result (λ a. (x : Node) → IsOld tree.now.current (old_of tree.now.draft at) (Some x) → ForEachIn (λ i. TellsNews (kept_hooks hooks.now) scene.now.lanes scene.now.cut i false) (children_of x)) }
     ensures tries { origin.cloned ≡ true → origin.stood ≡ true → result ≡ None → IsCauseToTry scene.now (kept_hooks hooks.now) tree.now at }
 {
     if !origin.cloned || !origin.stood {
@@ -117,6 +121,8 @@ fn begin_or_hide(
     requires kept { KeepsOld (kept_hooks hooks.now) tree.old.current (old_of tree.old.draft at) }
     ensures begun { IfOk result (λ b. HasBegunOther scene.now (kept_hooks hooks.now) tree.old contexts.old tree.new contexts.new at element.now origin steady b) }
     ensures tries { IfOk result (λ b. origin.cloned ≡ true → origin.stood ≡ true → awaited_again b ≡ None → IsCauseToTry scene.now (kept_hooks hooks.now) tree.old at) }
+    ensures news { IfOk result (λ b. IsSome (awaited_again b) → (x : Node) → IsOld tree.old.current (old_of tree.old.draft at) (Some x)
+        → ForEachIn (λ i. TellsNews (kept_hooks hooks.now) scene.now.lanes scene.now.cut i false) (children_of x)) }
     ensures current { tree.new.current ≡ tree.old.current }
 {
     match still_awaited(tree, at, origin, scene, hooks) {
@@ -168,11 +174,24 @@ pub fn begin<L: Ledger>(
     // given, or there is a cause.
     ensures tries { IfOk result (λ b. (v : fibers.Fiber) → Some v ≡ made_value_of tree.old.draft at → parts_in v.element ≡ None → is_cloned v.stage ≡ true → is_stood v.stage ≡ true → awaited_again b.0 ≡ None
         → IsCauseToTry scene.now (kept_hooks hooks.old) tree.old at) }
-    // The children that are made wait as ones that stood exactly where the place is steady.
-    ensures kids { IfOk result (λ b. (v : fibers.Fiber) (id : ℕ) → Some v ≡ made_value_of tree.old.draft at → b.0 ≡ Child id
-        → (steady : Bool) × TellsSteady tree.old.current (old_of tree.old.draft at) v steady × HasKids tree.old tree.new at steady) }
-    // Old children are taken over with no body evaluated.
+    // Where they are not tried, there is no news in what it keeps.
+    ensures news { IfOk result (λ b. IsSome (awaited_again b.0) → (x : Node) → IsOld tree.old.current (old_of tree.old.draft at) (Some x)
+        → ForEachIn (λ i. TellsNews (kept_hooks hooks.old) scene.now.lanes scene.now.cut i false) (children_of x)) }
+    // The children that are made wait as ones that stood exactly where the place is steady. They are clones where the fiber is one,
+    // its body was not evaluated, and its old node hides nothing; and made for no current fiber where the fiber is.
+    ensures kids { IfOk result (λ b. (v : fibers.Fiber) → Some v ≡ made_value_of tree.old.draft at → is_opened b.0 ≡ true
+        → (cloned steady : Bool) × TellsSteady tree.old.current (old_of tree.old.draft at) v steady
+        × (is_cloned v.stage ≡ true → b.1 ≡ false → keeps_children true (mark_at tree.old.current (old_of tree.old.draft at)) ≡ true → cloned ≡ true)
+        × ((h : HasKids (record { cloned = cloned; stood = steady }) tree.old tree.new at) × (b.0 ≡ begun_over h.kids))) }
+    // A hidden boundary that waits still is to try its children, of which none is made; old children stand as they are; and where a
+    // body waits, all is as it was.
+    ensures tried { IfOk result (λ b. IsSome (awaited_again b.0) → tree.new ≡ record tree.old { draft = valued at (changed change.Try) tree.old.draft }) }
+    ensures taken_over { IfOk result (λ b. is_taken b.0 ≡ true → HasTaken tree.old tree.new at) }
+    ensures waits { IfOk result (λ b. (r : ℕ) → b.0 ≡ Suspended r → tree.new ≡ tree.old) }
+    // Old children are taken over with no body evaluated; and the tree of the old node rests, but for what is passed.
     ensures taken { IfOk result (λ b. is_taken b.0 ≡ true → b.1 ≡ false) }
+    ensures rests { IfOk result (λ b. is_taken b.0 ≡ true → (x : Node) → IsOld tree.old.current (old_of tree.old.draft at) (Some x)
+        → EachBut (is_way scene.now.ways.now) (Rests (kept_hooks hooks.old) scene.now.lanes scene.now.cut) x) }
     // A clone is begun over clones only where there is a cause in the tree of its old node; else its old children are taken over.
     ensures causes { IfOk result (λ b. (v : fibers.Fiber) → Some v ≡ made_value_of tree.old.draft at → is_cloned v.stage ≡ true → is_taken b.0 ≡ false
         → HasCauseToBegin scene.now (kept_hooks hooks.old) (values_at contexts.old) (is_some (parts_in v.element)) (is_stood v.stage) tree.old.current (old_of tree.old.draft at)) }

@@ -1,5 +1,5 @@
 // A component's place begins with its body.
-ghost use Rattle.std.specs.Prelude.{◌≡◌, ◌+◌, ◌≤◌, ℕ, ℤ, Bool, true, false, not, List, Option, Some, length, IfOk, IfSome, OnOk, IsSome, if◌then◌else◌, option_map, option_and_then};
+ghost use Rattle.std.specs.Prelude.{◌≡◌, ◌+◌, ◌≤◌, ℕ, ℤ, Bool, true, false, not, List, Option, Some, None, length, IfOk, IfSome, OnOk, IsSome, if◌then◌else◌, option_map, option_and_then};
 ghost use Rattle.std.specs.Option.{option_copied};
 ghost use Rattle.rx_rules.specs.Names.{component_at, prop_names};
 ghost use Rattle.rx_elem.specs.Elements.{Elements, Key, listed};
@@ -18,15 +18,15 @@ ghost use Rattle.rx_fiber.specs.Reading.{IsOld};
 ghost use Rattle.rx_hook_store.specs.Store.{kept_hooks};
 ghost use Rattle.rx_hook_store.specs.Gives.{GivesValues};
 ghost use Rattle.rx_links.specs.Readers.{list_from};
-ghost use Rattle.rx_fiber.specs.Fibers.{as_cloned, begun};
+ghost use Rattle.rx_fiber.specs.Fibers.{as_cloned, as_matched, begun};
 ghost use Rattle.rx_fiber.specs.OldLists.{primary_list, old_elements, old_fibers};
 ghost use Rattle.rx_causes.specs.Marks.{mark_at};
 ghost use Rattle.rx_causes.specs.Scenes.{IsSceneOf, IsCalmAt, TellsCalm, GivesHooks, number_in};
-ghost use Rattle.rx_begin.specs.Nodes.{IsBareAt, HasOpened};
+ghost use Rattle.rx_begin.specs.Nodes.{IsBareAt, HasOpened, begun_over};
 ghost use Rattle.rx_begin.specs.Bodies.{StoodIn, HasShape};
-ghost use Rattle.rx_begin.specs.Beginning.{is_taken};
+ghost use Rattle.rx_begin.specs.Beginning.{awaited_again, is_opened, is_taken};
 ghost use Rattle.rx_begin.specs.Origins.{HasKids};
-ghost use Rattle.rx_begin.specs.declared.node.Begun.TheVariants.{Child};
+ghost use Rattle.rx_begin.specs.declared.node.Begun.TheVariants.{Suspended};
 
 use crate::node::{Begun, keep_node, old_instance, open_node};
 use rx_base::{Int, Ints, Steps};
@@ -186,7 +186,9 @@ fn open_body(
     requires bare { IsBareAt tree.old at }
     ensures opened { IfOk result (λ b. (cs : Contexts) (node : Option Node) (cloned : Bool) → option_map instance_seen old ≡ old_instance node → HasShape cloned steady (shape_of_body cs component node (body_seen body)) cs node tree.old tree.new at b) }
     ensures anew { IfOk result (λ b. is_taken b ≡ false) }
-    ensures kids { IfOk result (λ b. (id : ℕ) → b ≡ Child id → HasKids tree.old tree.new at steady) }
+    ensures own { IfOk result (λ b. awaited_again b ≡ None) }
+    ensures kids { IfOk result (λ b. is_opened b ≡ true → (h : HasKids (as_matched steady) tree.old tree.new at) × (b ≡ begun_over h.kids)) }
+    ensures waits { IfOk result (λ b. (r : ℕ) → b ≡ Suspended r → tree.new ≡ tree.old) }
     ensures current { tree.new.current ≡ tree.old.current }
 {
     match body {
@@ -259,7 +261,7 @@ fn keep_body(
     requires there { IsSome old }
     ensures kept { IfOk result (λ b. (i : trees.Instance) → option_map instance_seen old ≡ Some i → HasOpened (as_cloned steady) tree.old tree.new at (begun (of_instance i))
         (old_elements (primary_list (list_from tree.old.current (old_of tree.old.draft at)))) (old_fibers (primary_list (list_from tree.old.current (old_of tree.old.draft at)))) b) }
-    ensures kids { IfOk result (λ b. HasKids tree.old tree.new at steady) }
+    ensures kids { IfOk result (λ b. (h : HasKids (as_cloned steady) tree.old tree.new at) × (b ≡ begun_over h.kids)) }
     ensures current { tree.new.current ≡ tree.old.current }
 {
     match old {
@@ -296,7 +298,9 @@ pub(crate) fn begin_component<L: Ledger>(
         → IfSettled s.program (known_by s) old → (cloned ≡ true → StoodIn old (elements.comp component key props.now kids))
         → listed kids ≡ children.now → HasShape cloned steady (shape_of_component s contexts.now component props.now kids old (component_at s.program component)) contexts.now old tree.old tree.new at b.0) }
     ensures current { tree.new.current ≡ tree.old.current }
-    ensures kids { IfOk result (λ b. (id : ℕ) → b.0 ≡ Child id → HasKids tree.old tree.new at steady) }
+    ensures own { IfOk result (λ b. (is_taken b.0 ≡ false) × (awaited_again b.0 ≡ None)) }
+    ensures kids { IfOk result (λ b. is_opened b.0 ≡ true → (h : HasKids (record { cloned = not b.1; stood = steady }) tree.old tree.new at) × (b.0 ≡ begun_over h.kids)) }
+    ensures waits { IfOk result (λ b. (r : ℕ) → b.0 ≡ Suspended r → tree.new ≡ tree.old) }
     ensures once { IfOk result (λ b. steps.new ≡ steps.old + (if b.1 then 1 else 0)) }
     ensures anew { IfOk result (λ b. cloned ≡ false → b.1 ≡ true) }
     ensures taken { IfOk result (λ b. is_taken b.0 ≡ true → b.1 ≡ false) }

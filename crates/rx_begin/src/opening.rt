@@ -6,13 +6,14 @@ ghost use Rattle.rx_lists.specs.Shapes.{Holds, IsTop, none};
 ghost use Rattle.rx_links.specs.Drafts.{taken, Makes, IsUnused};
 ghost use Rattle.rx_links.specs.Readers.{list_from, old_list};
 ghost use Rattle.rx_meaning.specs.Cursor.{Cursor};
+ghost use Rattle.rx_fiber.specs.Fibers.{as_cloned, as_matched};
 ghost use Rattle.rx_fiber.specs.FiberView.{stage_seen};
 ghost use Rattle.rx_fiber.specs.Surround.{fallback_in, given_along};
 ghost use Rattle.rx_fiber.specs.Unwound.{IsLeftAt};
 ghost use Rattle.rx_begin.specs.Children.{HasMadeFrom};
 ghost use Rattle.rx_begin.specs.Nodes.{IsBareAt, IsBareBeside, HasList};
 ghost use Rattle.rx_begin.specs.Again.{HasOldFallback};
-ghost use Rattle.rx_begin.specs.Opening.{IsLeft, KeepsNode, HasOpenedAs, fallback_behind, opened_at, HasKept, HasFallback, IsFallbackOf, given_as, given_elements, given_fibers};
+ghost use Rattle.rx_begin.specs.Opening.{IsLeft, KeepsNode, HasOpenedAs, fallback_behind, opened_at, HasKept, HasFallback, HasFallbackKids, IsFallbackOf, given_as, given_elements, given_fibers};
 
 use crate::children::{clone_children, make_children};
 use crate::node::{open_clones, open_list};
@@ -168,6 +169,7 @@ fn fall_alone(
     requires left { IsLeft tree.old at awaits }
     requires gone { KeepsNode tree.old at awaits false }
     ensures opened { IfOk result (λ f. (st : Stack) (c : Cursor) → (l : IsLeftAt tree.old st at (taken none) awaits c) → IsFallbackOf tree.old.current (given_along l.frames) l.old l.node l.value.element (option_copied given.entry) → HasOpenedAs tree.new st c f) }
+    ensures kids { IfOk result (λ f. HasFallbackKids (given_as (option_copied given.entry)) tree.old tree.new at f) }
     ensures current { tree.new.current ≡ tree.old.current }
 {
     tree.place_facts();
@@ -190,6 +192,7 @@ fn fall_beside(
     requires left { IsLeft tree.old at awaits }
     requires keeps { KeepsNode tree.old at awaits true }
     ensures opened { IfOk result (λ f. (st : Stack) (c : Cursor) → (l : IsLeftAt tree.old st at (taken none) awaits c) → IsFallbackOf tree.old.current (given_along l.frames) l.old l.node l.value.element (option_copied given.entry) → HasOpenedAs tree.new st c f) }
+    ensures kids { IfOk result (λ f. HasFallbackKids (given_as (option_copied given.entry)) tree.old tree.new at f) }
     ensures current { tree.new.current ≡ tree.old.current }
 {
     tree.place_facts();
@@ -217,6 +220,7 @@ fn fall(
 ) -> Result<Opened, AllocError>
     requires { IsLeft tree.old at awaits }
     ensures opened { IfOk result (λ f. (st : Stack) (c : Cursor) → (l : IsLeftAt tree.old st at (taken none) awaits c) → IsFallbackOf tree.old.current (given_along l.frames) l.old l.node l.value.element (option_copied given.entry) → HasOpenedAs tree.new st c f) }
+    ensures kids { IfOk result (λ f. HasFallbackKids (given_as (option_copied given.entry)) tree.old tree.new at f) }
     ensures current { tree.new.current ≡ tree.old.current }
 {
     tree.place_facts();
@@ -243,6 +247,7 @@ pub fn open_fallback(
 ) -> Result<Opened, AllocError>
     requires { IsLeft tree.old at awaits }
     ensures opened { IfOk result (λ f. (st : Stack) (c : Cursor) → IsLeftAt tree.old st at (taken none) awaits c → HasOpenedAs tree.new st c f) }
+    ensures kids { IfOk result (λ f. HasFallbackKids (as_matched false) tree.old tree.new at f) }
     ensures current { tree.new.current ≡ tree.old.current }
 {
     tree.place_facts();
@@ -265,6 +270,7 @@ pub fn open_old_fallback(
 ) -> Result<Opened, AllocError>
     requires { IsLeft tree.old at awaits }
     ensures opened { IfOk result (λ f. (st : Stack) (c : Cursor) → (l : IsLeftAt tree.old st at (taken none) awaits c) → HasOldFallback tree.old.current (given_along l.frames) l.old l.node l.value.element → HasOpenedAs tree.new st c f) }
+    ensures kids { IfOk result (λ f. HasFallbackKids (as_cloned true) tree.old tree.new at f) }
     ensures current { tree.new.current ≡ tree.old.current }
 {
     fall(alloc, tree, at, awaits, None)

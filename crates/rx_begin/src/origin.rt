@@ -13,10 +13,10 @@ ghost use Rattle.rx_fiber.specs.Reading.{IsOld};
 ghost use Rattle.rx_fiber.specs.Surround.{IsElementOf};
 ghost use Rattle.rx_ways.specs.Ways.{Covers, is_way};
 ghost use Rattle.rx_hook_store.specs.Store.{kept_hooks};
-ghost use Rattle.rx_causes.specs.Marks.{keeps_children, mark_at};
+ghost use Rattle.rx_causes.specs.Marks.{EachBut, keeps_children, mark_at};
 ghost use Rattle.rx_causes.specs.Scenes.{GivesHooks, IsSceneOf, TellsCalm};
 ghost use Rattle.rx_causes.specs.Hidden.{ForEach};
-ghost use Rattle.rx_causes.specs.Idle.{KeepsTree};
+ghost use Rattle.rx_causes.specs.Idle.{KeepsTree, Rests};
 ghost use Rattle.rx_begin.specs.Nodes.{IsBareAt};
 ghost use Rattle.rx_begin.specs.Origins.{HasCauseToBegin, TellsSteady};
 
@@ -94,6 +94,7 @@ pub(crate) fn takes_over(
     ensures there { result ≡ true → IsSome (mark_at tree.now.current (old_of tree.now.draft at)) }
     ensures shown { result ≡ true → keeps_children true (mark_at tree.now.current (old_of tree.now.draft at)) ≡ true }
     ensures idle { result ≡ true → (s : Sight) (x : Node) → IsSceneOf scene.now s → IsOld tree.now.current (old_of tree.now.draft at) (Some x) → ForEach (GivesHooks s (kept_hooks hooks.now)) x → Covers (is_way scene.now.ways.now) (IsIdleMark s) x → IsIdle s x }
+    ensures rest { result ≡ true → (x : Node) → IsOld tree.now.current (old_of tree.now.draft at) (Some x) → EachBut (is_way scene.now.ways.now) (Rests (kept_hooks hooks.now) scene.now.lanes scene.now.cut) x }
     ensures reads { result ≡ true → origin.stood ≡ false → (x : Node) → IsOld tree.now.current (old_of tree.now.draft at) (Some x) → ReadsHold (values_at contexts.now) x }
     ensures calm { result ≡ true → component ≡ true → TellsCalm scene.now (kept_hooks hooks.now) (values_at contexts.now) (option_and_then instance_in (mark_at tree.now.current (old_of tree.now.draft at))) true }
     ensures cause { origin.cloned ≡ true → result ≡ false → HasCauseToBegin scene.now (kept_hooks hooks.now) (values_at contexts.now) component origin.stood tree.now.current (old_of tree.now.draft at) }

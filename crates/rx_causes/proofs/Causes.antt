@@ -22,12 +22,12 @@ use Rattle.rx_fiber.specs.Fibers.{Fiber}
 use Rattle.rx_fiber.specs.Reading.{IsFor, whole, alone, beside, IsOld, new, of, next}
 use Rattle.rx_hook_store.specs.Gives.{GivesValues, has_work_in}
 use Rattle.rx_causes.specs.declared.scene.Scene.{Scene}
-use Rattle.rx_causes.specs.Marks.{begun_mark, keeps_children, mark_at, EachFiber, EachFiberBut, SomeFiber, SomeNode}
+use Rattle.rx_causes.specs.Marks.{begun_mark, keeps_children, mark_at, EachBut, EachFiber, EachFiberBut, SomeFiber, SomeNode}
 use Rattle.rx_causes.specs.Scenes.{GivesHooks, KeepsHooks, TellsCalm}
 use Rattle.rx_causes.specs.Hidden.{ForEach, KeepsHooksIf}
-use Rattle.rx_causes.specs.Idle.{HasCause, HasCauseAt, HasNoCause, HasNoCauseAt, HasNoWork, KeepsTree, is_anew}
+use Rattle.rx_causes.specs.Idle.{HasCause, HasCauseAt, HasNoCause, HasNoCauseAt, HasNoWork, KeepsTree, Rests, is_anew}
 use Rattle.rx_causes.proofs.Marks.{mark_is}
-use Rattle.rx_causes.proofs.Walks.{at_node, of_fiber, each_covered, each_fiber, some_node}
+use Rattle.rx_causes.proofs.Walks.{at_node, of_fiber, each_but, each_covered, each_fiber, some_node}
 use Rattle.rx_causes.proofs.Still.{keeps_none}
 
 -- The fiber of an old node
@@ -116,6 +116,21 @@ module _ (kept : ℕ → Option (List Hook)) (lanes : Lanes) (cut : Cut) where
     node_idle way n _ _ rest (beside {v = v} {m = m} is hidden some a s f) h gives covers =
         absurd (let f = no_cause_shown m (of_fiber (HasNoCauseAt kept lanes cut) v m is.stage h.0) in let q : ⊥ = cc in q)
 
+  mark_rests : (m : Mark) → HasNoCause kept lanes cut m → Rests kept lanes cut m
+  mark_rests (of_instance i) h = (subst IsSome (sym h.is_numbered) refl, h.tells)
+  mark_rests (of_host n) h = tt
+  mark_rests (of_boundary b) h = tt
+  mark_rests plain h = tt
+
+  -- each of its nodes rests, but for those that are passed
+  node_rests : (way : ℕ → Bool) (n : ℕ) (x : Node) (l rest : Shape Fiber) → IsFor n x l rest → EachOfFirstBut way (HasNoCauseAt kept lanes cut) l → EachBut way (Rests kept lanes cut) x
+  node_rests way n _ _ rest (whole {v = v} {m = m} {ns = ns} {ks = ks} is shown a) h =
+      inr (mark_rests m (of_fiber (HasNoCauseAt kept lanes cut) v m is.stage h.0), each_but way (HasNoCauseAt kept lanes cut) (Rests kept lanes cut) mark_rests 0 ns ks a h.1, tt)
+  node_rests way n _ _ rest (alone {v = v} {m = m} is hidden gone a) h =
+      absurd (let f = no_cause_shown m (of_fiber (HasNoCauseAt kept lanes cut) v m is.stage h.0) in let q : ⊥ = cc in q)
+  node_rests way n _ _ rest (beside {v = v} {m = m} is hidden some a s f) h =
+      absurd (let f = no_cause_shown m (of_fiber (HasNoCauseAt kept lanes cut) v m is.stage h.0) in let q : ⊥ = cc in q)
+
 -- a component's instance that reads nothing anew, and has no work, is calm
 pub calm_without : (kept : ℕ → Option (List Hook)) (scene : Scene) (cs : Contexts) (m : Option Mark) (component : Bool) → component ≡ true → is_anew component cs (option_and_then instance_in m) ≡ false
     → HasNoCauseAt kept scene.lanes scene.cut m → TellsCalm scene kept cs (option_and_then instance_in m) true
@@ -175,6 +190,12 @@ module _ (c : Shape Fiber) (o : Option ℕ) (i : ℕ) (o_is : o ≡ Some i) (v :
     tree_idle way own more s lanes_are cut_is gives covers =
         let (n, rest, is) = old_list c o x i (fiber i v below behind) was o_is list in
         node_idle kept lanes cut s lanes_are cut_is way n x (fiber i v below behind) rest is (own, more) gives covers
+
+    -- each of its nodes rests then, but for those that are passed
+    pub tree_rests : (way : ℕ → Bool) → HasNoCauseAt kept lanes cut (begun_mark v.stage) → EachFiberBut way (HasNoCauseAt kept lanes cut) below → EachBut way (Rests kept lanes cut) x
+    tree_rests way own more =
+        let (n, rest, is) = old_list c o x i (fiber i v below behind) was o_is list in
+        node_rests kept lanes cut way n x (fiber i v below behind) rest is (own, more)
 
     -- one of its nodes has a cause where one of them has
     pub tree_cause : HasCauseAt kept lanes cut (begun_mark v.stage) ⊎ SomeFiber (HasCauseAt kept lanes cut) below → SomeNode (HasCause kept lanes cut) x

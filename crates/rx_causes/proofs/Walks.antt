@@ -14,7 +14,7 @@ use Rattle.rx_ways.specs.Ways.{Covers, CoversHere, CoversIn}
 use Rattle.rx_fiber.specs.Fibers.{Fiber, Stage, begun, fallback}
 use Rattle.rx_fiber.specs.Reading.{AreFor, no_more, gap, next, IsFor, whole, alone, beside, has_node}
 use Rattle.rx_fiber.proofs.OldPlaces.{list_here}
-use Rattle.rx_causes.specs.Marks.{begun_mark, EachFiber, EachFiberBut, is_spared, SomeFiber, SomeNode, SomeNodeIn}
+use Rattle.rx_causes.specs.Marks.{begun_mark, EachBut, EachButIn, EachFiber, EachFiberBut, is_spared, SomeFiber, SomeNode, SomeNodeIn}
 
 no_marks : (Q : Mark → Type 0) (ns : Forest) → has_node ns ≡ false → ForEachIn Q ns
 no_marks Q trees.none e = tt
@@ -126,6 +126,36 @@ module _ (way : ℕ → Bool) where
         | inr own ↦ elim h.1.0 [
           | inl off ↦ absurd (fallback_kept w _ s off)
           | inr other ↦ ((told m (of_fiber P v m is.stage own.0) g.0, each_covered 0 ns ks a own.1 g.1 c.1, each_covered 0 fs ws f other.1 g.2 c.2), h.1.1)
+        ]
+      ]
+
+  no_but : (Q : Mark → Type 0) (ns : Forest) → has_node ns ≡ false → EachButIn way Q ns
+  no_but Q trees.none e = tt
+  no_but Q (trees.vacant ns) e = no_but Q ns e
+  no_but Q (trees.child x ns) e = cc
+
+  module _ (P : Option Mark → Type 0) (Q : Mark → Type 0) (told : (m : Mark) → P (Some m) → Q m) where
+    mutual
+      -- what is told of each mark by its fiber holds of all but those that are passed
+      pub each_but : (n : ℕ) (ns : Forest) (s : Shape Fiber) → AreFor n ns s → EachFiberBut way P s → EachButIn way Q ns
+      each_but n _ _ no_more h = tt
+      each_but n (trees.vacant ns) s (gap a) h = each_but (suc n) ns s a h
+      each_but n (trees.child x ns) s (next {rest = rest} is a) h = let (here, more) = but_of n x s rest is h in (here, each_but (suc n) ns rest a more)
+
+      but_of : (n : ℕ) (x : Node) (s rest : Shape Fiber) → IsFor n x s rest → EachFiberBut way P s → EachBut way Q x × EachFiberBut way P rest
+      but_of n _ _ rest (whole {v = v} {m = m} {ns = ns} {ks = ks} is shown a) h = elim h.0 [
+        | inl off ↦ (inl (ap (is_spared way) (sym (ap begun_mark is.stage)) ∙ off), h.1)
+        | inr own ↦ (inr (told m (of_fiber P v m is.stage own.0), each_but 0 ns ks a own.1, tt), h.1)
+      ]
+      but_of n _ _ rest (alone {v = v} {m = m} {ns = ns} {fs = fs} {ks = ks} is hidden gone a) h = elim h.0 [
+        | inl off ↦ (inl (ap (is_spared way) (sym (ap begun_mark is.stage)) ∙ off), h.1)
+        | inr own ↦ (inr (told m (of_fiber P v m is.stage own.0), no_but Q ns gone, each_but 0 fs ks a own.1), h.1)
+      ]
+      but_of n _ _ rest (beside {v = v} {w = w} {m = m} {ns = ns} {fs = fs} {ks = ks} {ws = ws} is hidden some a s f) h = elim h.0 [
+        | inl off ↦ (inl (ap (is_spared way) (sym (ap begun_mark is.stage)) ∙ off), h.1.1)
+        | inr own ↦ elim h.1.0 [
+          | inl off ↦ absurd (fallback_kept w _ s off)
+          | inr other ↦ (inr (told m (of_fiber P v m is.stage own.0), each_but 0 ns ks a own.1, each_but 0 fs ws f other.1), h.1.1)
         ]
       ]
 

@@ -1,5 +1,5 @@
 -- When a boundary that is hidden in the committed tree waits still, and what it keeps has no news.
-use Rattle.std.specs.Prelude.{◌≡◌, ℕ, ℤ, true, List, Option, Some, None, ◌⊎◌, IsSome, option_and_then, slice_index_or}
+use Rattle.std.specs.Prelude.{◌≡◌, ℕ, ℤ, true, false, List, Option, Some, None, ◌⊎◌, IsSome, option_and_then, slice_index_or}
 use Rattle.rx_base.specs.Awaits.{Awaits, has}
 use Rattle.rx_base.specs.declared.cut.Cut.{Cut}
 use Rattle.rx_lane.specs.Lanes.{Lanes}
@@ -18,7 +18,7 @@ use Rattle.rx_fiber.specs.Reading.{IsOld}
 use Rattle.rx_hook_store.specs.Gives.{has_news_in}
 use Rattle.rx_causes.specs.declared.scene.Scene.{Scene}
 use Rattle.rx_causes.specs.Marks.{EachFiber, SomeFiber, SomeNodeIn, begun_mark}
-use Rattle.rx_causes.specs.Scenes.{GivesHooks, KeepsHooks, number_in}
+use Rattle.rx_causes.specs.Scenes.{GivesHooks, KeepsHooks, TellsNews, number_in}
 
 -- The instances of a tree
 
@@ -78,9 +78,10 @@ pub record HasNews (kept : ℕ → Option (List Hook)) (lanes : Lanes) (cut : Cu
 abbrev pub HasSameValues : Sight → Option Instance → Type 0
 HasSameValues s i = (j : Instance) → i ≡ Some j → values_of (without_lanes s) j ≡ values_of s j
 
--- it has them for each render with these lanes at this cut to which hooks give its values
-abbrev pub HasNoNews : (kept : ℕ → Option (List Hook)) → Lanes → Cut → Option Instance → Type 0
-HasNoNews kept lanes cut i = (s : Sight) → s.lanes ≡ lanes → s.cut ≡ cut → GivesHooks s kept i → HasSameValues s i
+-- Each included update in the kept hooks of an instance is done or owed; so it has the values that a render without lanes sees, for each render with these lanes at this cut to which the hooks give its values.
+pub record HasNoNews (kept : ℕ → Option (List Hook)) (lanes : Lanes) (cut : Cut) (i : Option Instance) : Type 0 where
+  pub tells : TellsNews kept lanes cut i false
+  pub same : (s : Sight) → s.lanes ≡ lanes → s.cut ≡ cut → GivesHooks s kept i → HasSameValues s i
 
 -- Boundaries
 

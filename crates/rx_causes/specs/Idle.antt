@@ -1,5 +1,5 @@
 -- When the old children of a clone are taken over: nothing in the tree of its old node has a cause to be rendered.
-use Rattle.std.specs.Prelude.{◌≡◌, ℕ, Bool, true, false, List, Option, Some, None, ◌⊎◌}
+use Rattle.std.specs.Prelude.{◌≡◌, ℕ, Bool, true, false, List, Option, Some, None, ◌⊎◌, IsSome}
 use Rattle.std.specs.Option.{option_map_or}
 use Rattle.rx_base.specs.declared.cut.Cut.{Cut}
 use Rattle.rx_lane.specs.Lanes.{Lanes}
@@ -59,6 +59,13 @@ HasNoCause kept lanes cut plain = Unit {0}
 abbrev pub HasNoCauseAt : (kept : ℕ → Option (List Hook)) → Lanes → Cut → Option Mark → Type 0
 HasNoCauseAt kept lanes cut None = Unit {0}
 HasNoCauseAt kept lanes cut (Some m) = HasNoCause kept lanes cut m
+
+-- a node rests, by its mark: an instance has a number, and no included update in its kept hooks is not done
+abbrev pub Rests : (kept : ℕ → Option (List Hook)) → Lanes → Cut → Mark → Type 0
+Rests kept lanes cut (of_instance i) = IsSome i.number × TellsWork kept lanes cut (Some i) false
+Rests kept lanes cut (of_host h) = Unit {0}
+Rests kept lanes cut (of_boundary b) = Unit {0}
+Rests kept lanes cut plain = Unit {0}
 
 -- The old node of a clone
 

@@ -56,3 +56,14 @@ EachFiberBut way P (fiber id v ks rs) = ((is_spared way (begun_mark v.stage) ≡
 abbrev pub SomeFiber : (Option Mark → Type 0) → Shape Fiber → Type 0
 SomeFiber P shapes.none = ⊥
 SomeFiber P (fiber id v ks rs) = P (begun_mark v.stage) ⊎ (SomeFiber P ks ⊎ SomeFiber P rs)
+
+-- this holds of the mark of each node of a tree, but of those of instances that stand on no way, and of all below these
+abbrev mutual
+  pub EachBut : (way : ℕ → Bool) → (Mark → Type 0) → Node → Type 0
+  EachBut way P (node e m ns fs) = (is_spared way (Some m) ≡ true) ⊎ (P m × EachButIn way P ns × EachButIn way P fs)
+
+  -- the same for the trees of a list
+  pub EachButIn : (way : ℕ → Bool) → (Mark → Type 0) → Forest → Type 0
+  EachButIn way P none = Unit {0}
+  EachButIn way P (vacant ns) = EachButIn way P ns
+  EachButIn way P (child n ns) = EachBut way P n × EachButIn way P ns

@@ -9,7 +9,7 @@ use Rattle.rx_elem.specs.Trees.{Instance}
 use Rattle.rx_hooks.specs.declared.hook.Hook.{Hook}
 use Rattle.rx_meaning.specs.Fresh.{Sight, Contexts, resources_seen, hook_values}
 use Rattle.rx_meaning.specs.Settled.{done_values, known_by, read_anew}
-use Rattle.rx_hook_store.specs.Gives.{GivesValues, has_work_in}
+use Rattle.rx_hook_store.specs.Gives.{GivesValues, has_news_in, has_work_in}
 use Rattle.rx_causes.specs.declared.scene.Scene.{Scene}
 
 -- a scene is what this render sees
@@ -42,6 +42,11 @@ pub record IsCalmAt (s : Sight) (cs : Contexts) (i : Instance) : Type 0 where
 abbrev pub TellsWork : (kept : ℕ → Option (List Hook)) → Lanes → Cut → Option Instance → Bool → Type 0
 TellsWork kept lanes cut i work =
     (n : ℕ) (answers : Answers) (hooks : List Hook) (histories : List HookHistory) → number_in i ≡ Some n → kept n ≡ Some hooks → HooksStandFor answers hooks histories → work ≡ has_work_in lanes cut histories
+
+-- what a test says of news: whether an included update of a history that they stand for is neither done nor owed
+abbrev pub TellsNews : (kept : ℕ → Option (List Hook)) → Lanes → Cut → Option Instance → Bool → Type 0
+TellsNews kept lanes cut i news =
+    (n : ℕ) (answers : Answers) (hooks : List Hook) (histories : List HookHistory) → number_in i ≡ Some n → kept n ≡ Some hooks → HooksStandFor answers hooks histories → news ≡ has_news_in lanes cut histories
 
 -- one of these contexts has another value than the one that the instance read, if there is one
 abbrev pub reads_anew : Contexts → Option Instance → Bool

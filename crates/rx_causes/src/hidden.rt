@@ -10,8 +10,8 @@ ghost use Rattle.rx_fiber.specs.FiberView.{stage_seen};
 ghost use Rattle.rx_fiber.specs.Reading.{IsOld};
 ghost use Rattle.rx_hook_store.specs.Store.{kept_hooks};
 ghost use Rattle.rx_causes.specs.Marks.{begun_mark, mark_at};
-ghost use Rattle.rx_causes.specs.Scenes.{IsSceneOf, KeepsHooks, number_in};
-ghost use Rattle.rx_causes.specs.Hidden.{ForEachFiber, ForSomeFiber, GivesHooksIn, HasCauseToTry, HasNews, HasNoNews, HasValueOf, KeepsOld, WaitsStill, instance_at};
+ghost use Rattle.rx_causes.specs.Scenes.{IsSceneOf, KeepsHooks, TellsNews, number_in};
+ghost use Rattle.rx_causes.specs.Hidden.{ForEachFiber, ForEachIn, ForSomeFiber, GivesHooksIn, HasCauseToTry, HasNews, HasNoNews, HasValueOf, KeepsOld, WaitsStill, instance_at};
 
 use crate::scene::Scene;
 use rx_base::{Awaits, Int};
@@ -104,6 +104,7 @@ pub fn waits_still(
     requires kept { KeepsOld (kept_hooks hooks.now) tree.now.current old }
     ensures hidden { IfSome result (λ a. mark_at tree.now.current old ≡ Some (of_boundary (Hidden a))) }
     ensures waits { IfSome result (λ a. (s : Sight) (x : Node) → IsSceneOf scene.now s → IsOld tree.now.current old (Some x) → GivesHooksIn s (kept_hooks hooks.now) (children_of x) → WaitsStill s a x) }
+    ensures news { IfSome result (λ a. (x : Node) → IsOld tree.now.current old (Some x) → ForEachIn (λ i. TellsNews (kept_hooks hooks.now) scene.now.lanes scene.now.cut i false) (children_of x)) }
     // It answers nothing only where there is a cause to try the children again.
     ensures tries { result ≡ None → (x : Node) (a : AwaitsSeen) → IsOld tree.now.current old (Some x) → mark_of x ≡ of_boundary (Hidden a) → HasCauseToTry scene.now (kept_hooks hooks.now) a x }
 {

@@ -10,10 +10,10 @@ ghost use Rattle.rx_node.specs.MarkView.{mark_seen};
 ghost use Rattle.rx_fiber.specs.Reading.{IsOld};
 ghost use Rattle.rx_ways.specs.Ways.{Covers, is_way};
 ghost use Rattle.rx_hook_store.specs.Store.{kept_hooks};
-ghost use Rattle.rx_causes.specs.Marks.{begun_mark, keeps_children, mark_at, EachFiberBut, SomeFiber, is_spared};
+ghost use Rattle.rx_causes.specs.Marks.{begun_mark, keeps_children, mark_at, EachBut, EachFiberBut, SomeFiber, is_spared};
 ghost use Rattle.rx_causes.specs.Scenes.{GivesHooks, IsSceneOf, KeepsHooks, TellsCalm};
 ghost use Rattle.rx_causes.specs.Hidden.{ForEach, ForEachFiber, instance_at};
-ghost use Rattle.rx_causes.specs.Idle.{HasCause, HasCauseAt, HasCauseIn, HasNoCause, HasNoCauseAt, KeepsTree, is_anew};
+ghost use Rattle.rx_causes.specs.Idle.{HasCause, HasCauseAt, HasCauseIn, HasNoCause, HasNoCauseAt, KeepsTree, Rests, is_anew};
 
 use crate::reading::read_anew;
 use crate::scene::Scene;
@@ -117,6 +117,7 @@ pub fn is_idle(
     ensures there { result ≡ true → IsSome (mark_at tree.now.current old) }
     ensures shown { result ≡ true → keeps_children true (mark_at tree.now.current old) ≡ true }
     ensures idle { result ≡ true → (s : Sight) (x : Node) → IsSceneOf scene.now s → IsOld tree.now.current old (Some x) → ForEach (GivesHooks s (kept_hooks hooks.now)) x → Covers (is_way scene.now.ways.now) (IsIdleMark s) x → IsIdle s x }
+    ensures rest { result ≡ true → (x : Node) → IsOld tree.now.current old (Some x) → EachBut (is_way scene.now.ways.now) (Rests (kept_hooks hooks.now) scene.now.lanes scene.now.cut) x }
     ensures calm { result ≡ true → component ≡ true → TellsCalm scene.now (kept_hooks hooks.now) contexts.now (option_and_then instance_in (mark_at tree.now.current old)) true }
     ensures cause { result ≡ false → HasCauseIn scene.now (kept_hooks hooks.now) contexts.now component tree.now.current old }
 {

@@ -3,3 +3,4 @@ pub mod Completed
 pub mod Passing
 pub mod Depths
 pub mod Waiting
+pub mod Nearest

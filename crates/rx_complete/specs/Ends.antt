@@ -1,15 +1,16 @@
 -- What is completed next, and where the render comes from there.
-use Rattle.std.specs.Prelude.{ℕ, List, Option, Some, None}
+use Rattle.std.specs.Prelude.{ℕ, List, Option, Some, None, if◌then◌else◌}
 use Rattle.rx_ctx.specs.Contexts.{Stack}
 use Rattle.rx_elem.specs.Elements.{Element}
 use Rattle.rx_elem.specs.Trees.{Node}
 use Rattle.rx_links.specs.Drafts.{Draft, Trees, entry}
+use Rattle.rx_links.specs.Places.{Around, top, below, after}
 use Rattle.rx_links.specs.Readers.{made_rest_of, made_parent_of}
 use Rattle.rx_meaning.specs.Fresh.{Contexts, Place}
 use Rattle.rx_meaning.specs.Cursor.{Open, Frame, Cursor, at_place, at_end, ended}
 use Rattle.rx_fiber.specs.Fibers.{Fiber}
 use Rattle.rx_fiber.specs.Standing.{StandsAt}
-use Rattle.rx_fiber.specs.Unwound.{IsWithin}
+use Rattle.rx_fiber.specs.Unwound.{IsWithin, is_trying}
 use Rattle.rx_complete.specs.declared.completing.Next.{Next}
 use Rattle.rx_complete.specs.declared.completing.Next.TheVariants.{Sibling, Parent, Done}
 
@@ -42,3 +43,17 @@ pub data LeadsTo : Next → Cursor → Type 0 where
   to_sibling : {id levels : ℕ} {fs : List Frame} {cs : Contexts} {e : Element} {old : Option Node} → LeadsTo (Sibling id) (at_place levels fs cs e old)
   to_parent : {id levels : ℕ} {fs : List Frame} {x : Open} {done : List (Option Node)} → LeadsTo (Parent id) (at_end levels fs x done)
   to_none : {p : Place} → LeadsTo Done (ended p)
+
+-- a made fiber with what surrounds it
+pub record Outer : Type 0 where
+  pub around : Around Fiber
+  pub id : ℕ
+  pub value : Fiber
+  pub old : Option ℕ
+  pub rest : Draft Fiber
+
+-- the nearest fiber outside of a place that tries its children
+abbrev pub nearest : Around Fiber → Option Outer
+nearest top = None
+nearest (below id v o rs k) = if is_trying v.stage then Some (record { around = k; id = id; value = v; old = o; rest = rs }) else nearest k
+nearest (after id v o ks k) = nearest k

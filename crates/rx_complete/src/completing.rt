@@ -2,9 +2,11 @@
 ghost use Rattle.std.specs.Prelude.{◌≡◌, ℕ, List, ◌∷◌, Option, Some};
 ghost use Rattle.rx_ctx.specs.Contexts.{Stack};
 ghost use Rattle.rx_elem.specs.Trees.{Node};
-ghost use Rattle.rx_links.specs.Drafts.{Makes};
+ghost use Rattle.rx_links.specs.Drafts.{Makes, valued};
 ghost use Rattle.rx_meaning.specs.Fresh.{Sight, Contexts};
 ghost use Rattle.rx_meaning.specs.Cursor.{Open, Frame, arrive, at_end, unit};
+ghost use Rattle.rx_fiber.specs.FiberView.{changed};
+ghost use Rattle.rx_fiber.specs.declared.stage.StageChange.TheVariants as change;
 ghost use Rattle.rx_fiber.specs.Passed.{IsPassed};
 ghost use Rattle.rx_fiber.specs.Surround.{open_element};
 ghost use Rattle.rx_fiber.specs.Standing.{StandsAt, IsStack};
@@ -57,6 +59,7 @@ pub fn complete(tree: &mut FiberTree<Fiber>, at: FiberId, contexts: &mut Context
     ensures leads { (s : Sight) (levels : ℕ) (fs : List Frame) (x : Open) (done : List (Option Node)) → StandsAt tree.old contexts.old (Some at) (at_end levels fs x done) → LeadsTo result (unit s (at_end levels fs x done)) }
     ensures next { result ≡ next_after tree.old.draft at }
     ensures current { tree.new.current ≡ tree.old.current }
+    ensures marked { tree.new ≡ record tree.old { draft = valued at (changed change.Complete) tree.old.draft } }
 {
     tree.place_facts();
     leave(tree.value(at).element(), contexts);

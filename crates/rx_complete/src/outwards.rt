@@ -1,12 +1,13 @@
 // A wait goes outwards.
 ghost use Rattle.std.specs.Prelude.{◌≡◌, ℕ, List, Option, Some, None, MatchOption};
-ghost use Rattle.rx_links.specs.Drafts.{Draft, taken};
+ghost use Rattle.rx_links.specs.Drafts.{Draft, taken, made};
+ghost use Rattle.rx_links.specs.Places.{Around, placed};
 ghost use Rattle.rx_lists.specs.Shapes.{none};
 ghost use Rattle.rx_meaning.specs.Fresh.{waits};
 ghost use Rattle.rx_meaning.specs.Cursor.{Frame, ended, unwind};
 ghost use Rattle.rx_fiber.specs.FiberView.{stage_seen};
 ghost use Rattle.rx_fiber.specs.Unwound.{IsWithin, is_trying, passed_on, IsLeftAt};
-ghost use Rattle.rx_complete.specs.Ends.{IsOpenBelow};
+ghost use Rattle.rx_complete.specs.Ends.{IsOpenBelow, Outer, nearest};
 
 use crate::completing::leave;
 use rx_base::Awaits;
@@ -40,7 +41,8 @@ fn find_boundary(
     awaits: &mut Awaits,
 ) -> Option<FiberId>
     requires { IsOpenBelow tree.now contexts.old at }
-    ensures { (levels : ℕ) (fs : List Frame) → IsWithin tree.now contexts.old at fs → MatchOption result (unwind levels fs awaits.old ≡ ended (waits awaits.new)) (λ q. (kids : Draft Fiber) × IsLeftAt tree.now contexts.new q kids awaits.new (unwind levels fs awaits.old)) }
+    ensures left { (levels : ℕ) (fs : List Frame) → IsWithin tree.now contexts.old at fs → MatchOption result (unwind levels fs awaits.old ≡ ended (waits awaits.new)) (λ q. (kids : Draft Fiber) × IsLeftAt tree.now contexts.new q kids awaits.new (unwind levels fs awaits.old)) }
+    ensures nearest { (k : Around Fiber) (v : Fiber) (o : Option ℕ) (ks rs : Draft Fiber) → tree.now.draft ≡ placed k (made at v o ks rs) → MatchOption result (nearest k ≡ None) (λ q. (u : Outer) × (nearest k ≡ Some u) × (u.id ≡ q) × (kids : Draft Fiber) × (tree.now.draft ≡ placed u.around (made q u.value u.old kids u.rest))) }
 {
     tree.place_facts();
     tree.facts();
@@ -69,6 +71,7 @@ pub fn unwind_to_boundary(
     requires { IsOpenBelow tree.old contexts.old at }
     ensures left { (levels : ℕ) (fs : List Frame) → IsWithin tree.old contexts.old at fs → MatchOption result ((unwind levels fs awaits.old ≡ ended (waits awaits.new)) × (tree.new ≡ tree.old)) (λ q. IsLeftAt tree.new contexts.new q (taken none) awaits.new (unwind levels fs awaits.old)) }
     ensures current { tree.new.current ≡ tree.old.current }
+    ensures nearest { (k : Around Fiber) (v : Fiber) (o : Option ℕ) (ks rs : Draft Fiber) → tree.old.draft ≡ placed k (made at v o ks rs) → MatchOption result (nearest k ≡ None) (λ q. (u : Outer) × (nearest k ≡ Some u) × (u.id ≡ q) × (tree.new.draft ≡ placed u.around (made q u.value u.old (taken none) u.rest))) }
 {
     let boundary = find_boundary(tree, at, contexts, awaits)?;
     tree.place_facts();

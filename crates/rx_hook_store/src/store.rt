@@ -292,8 +292,10 @@ impl HookStore {
     /// The numbers of the instances that may have queued updates, if they are listed one by one: in the hooks of any other no
     /// render has work, and it sees the values that are committed.
     pub fn stirred(&self) -> Option<&HashSet<u64>>
-        ensures { IfSome result (λ set. (s : Sight) (n : ℕ) (initials : List ℤ) → contains nat_eq set.now n ≡ false → s.cut.updates < 2 ^ 64
+        ensures values { IfSome result (λ set. (s : Sight) (n : ℕ) (initials : List ℤ) → contains nat_eq set.now n ≡ false → s.cut.updates < 2 ^ 64
             → GivesValues s (kept_hooks self.now) n initials → hook_values s n initials ≡ done_values s.program (known_by s) n initials) }
+        ensures rest { IfSome result (λ set. (n : ℕ) (answers : Answers) (hooks : List Hook) (histories : List HookHistory) (lanes : Lanes) (cut : Cut) → contains nat_eq set.now n ≡ false
+            → kept_hooks self.now n ≡ Some hooks → HooksStandFor answers hooks histories → cut.updates < 2 ^ 64 → has_work_in lanes cut histories ≡ false) }
     {
         if self.busy.all {
             return None;

@@ -1,5 +1,5 @@
 -- Where a unit of each kind comes to.
-use Rattle.std.specs.Prelude.{◌≡◌, ℕ, zero, suc, ◌+◌, ◌≤◌, Bool, false, List, [], ◌∷◌, filter, nat_eq, Option, Some, None, Result, Ok, Err, IfOk, OnOk, OnErr, refl}
+use Rattle.std.specs.Prelude.{◌≡◌, ℕ, zero, suc, ◌+◌, ◌≤◌, Bool, true, false, List, [], ◌∷◌, filter, nat_eq, Option, Some, None, Result, Ok, Err, IfOk, OnOk, OnErr, refl}
 use Rattle.std.specs.List.{range_with_len}
 use Rattle.std.proofs.Common.{sym, ap, ◌∙◌, subst, arith, add-one}
 use Rattle.rx_base.specs.Awaits.{Awaits, one, nothing, awaits_where}
@@ -7,13 +7,13 @@ use Rattle.rx_ctx.specs.Contexts.{Stack}
 use Rattle.rx_susp.specs.declared.boundary.BoundaryState.TheVariants.{Hidden}
 use Rattle.rx_elem.specs.Elements.{Element}
 use Rattle.rx_elem.specs.Elements as elements
-use Rattle.rx_elem.specs.Trees.{Node, node, Forest, of_boundary, fallback_if, Instance, instance_in}
+use Rattle.rx_elem.specs.Trees.{Node, node, Forest, of_boundary, fallback_if, Instance, children_of, instance_in}
 use Rattle.rx_elem.specs.Trees as trees
 use Rattle.rx_hooks.specs.declared.hook.Hook.{Hook}
 use Rattle.rx_lists.specs.Shapes as shapes
 use Rattle.rx_links.specs.Drafts.{Trees, Makes, taken, old_of}
 use Rattle.rx_links.specs.Readers.{IsLinked}
-use Rattle.rx_meaning.specs.Fresh.{Sight, Contexts, part}
+use Rattle.rx_meaning.specs.Fresh.{Sight, Contexts, part, shape_of, waiting}
 use Rattle.rx_meaning.specs.Cursor.{Open, falling, Frame, Cursor, at_place, at_end, ended, open_part, arrive, unit, unwind}
 use Rattle.rx_meaning.specs.Counts.{each_body, next_counts}
 use Rattle.rx_fiber.specs.Fibers.{Fiber}
@@ -26,16 +26,31 @@ use Rattle.rx_complete.specs.Ends.{IsOpenBelow, lies, fiber_in, LeadsTo, to_sibl
 use Rattle.rx_complete.specs.declared.completing.Next.{Next}
 use Rattle.rx_complete.proofs.Completed.{KnowsPlaces}
 use Rattle.rx_causes.specs.declared.scene.Scene.{Scene}
-use Rattle.rx_causes.specs.Scenes.{IsSceneOf, KeepsHooks, GivesHooks}
+use Rattle.rx_causes.specs.Scenes.{IsSceneOf, KeepsHooks, GivesHooks, TellsNews}
 use Rattle.rx_causes.specs.Hidden.{KeepsHooksIf, GivesHooksIf, ForEach, ForEachIn}
 use Rattle.rx_begin.specs.Again.{HasOldFallback}
-use Rattle.rx_begin.specs.Beginning.{IsAtPlace, stands, IsPlace, IsEnd, IsHiddenAgain, IsTakenOver, BeginsPlace}
+use Rattle.rx_begin.specs.Beginning.{IsAtPlace, stands, HasLists, IsPlace, IsEnd, IsHiddenAgain, IsTakenOver, BeginsPlace}
 use Rattle.rx_ways.specs.Ways.{is_way}
 use Rattle.rx_begin.specs.Opening.{HasOpenedAs, IsLeft, left}
 use Rattle.rx_begin.specs.declared.node.Begun.TheVariants.{Child, Leaf, Suspended}
 use Rattle.rx_begin.specs.declared.node.Begun.TheVariants as answers
 use Rattle.rx_begin.specs.declared.opening.Opened.{Opened}
 use Rattle.rx_begin.specs.declared.opening.Opened.TheVariants.{First, Empty}
+use Rattle.commit_laws.specs.Each as marks
+use Rattle.rx_meaning.specs.Again.{AreUnresolved}
+use Rattle.rx_meaning.specs.Settled.{IfSettled, known_by}
+use Rattle.rx_ways.specs.Ways.{CoversIf}
+use Rattle.rx_causes.specs.Idle.{Rests}
+use Rattle.rx_causes.specs.Marks.{EachBut}
+use Rattle.cost_laws.specs.Allowed.{below_boundary}
+use Rattle.cost_laws.specs.Causes.{waits_still}
+use Rattle.cost_laws.specs.Costs.{FramesFlagged}
+use Rattle.cost_laws.specs.Left.{Flags, flag, outer}
+use Rattle.cost_laws.specs.Required.{IsUndue}
+use Rattle.flag_laws.specs.Flagged.{FlagsAtEnd, FlagsAtPlace}
+use Rattle.begin_laws.specs.Telling.{TellsIf}
+use Rattle.rx_render.specs.Costing.{CausesAt, HasFlags, Paid, Pays}
+use Rattle.rx_render.specs.Costing as paying
 use Rattle.rx_render.specs.declared.at.At.{At}
 use Rattle.rx_render.specs.declared.at.At.TheVariants.{Begins, Completes}
 use Rattle.rx_render.specs.Rendering.{ComesTo, to_place, to_end, to_tree}
@@ -86,28 +101,73 @@ stopped t new st st' p q a b (lies {fs = fs} w) f = left (f 0 fs w)
 
 -- After a place that begins
 
+-- what a unit pays that begins the place of a fiber, and opens it over a list
+abbrev pub PaysOpened : Sight → (kept : ℕ → Option (List Hook)) → Trees Fiber → Stack → Trees Fiber → (id bodies : ℕ) → At → Type 0
+PaysOpened s kept t st new id bodies at =
+    (n : ℕ) (fs : List Frame) (cs : Contexts) (e : Element) (old : Option Node) (us : Flags) → StandsAt t st (Some id) (at_place (suc n) fs cs e old) → IfSettled s.program (known_by s) old → TellsIf s kept old
+    → HasLists (shape_of s cs e old) → FlagsAtPlace t id us → Paid s t.current bodies us (at_place (suc n) fs cs e old) (unit s (at_place (suc n) fs cs e old)) new at
+
+-- what it pays where a body waits, and the fallback of a boundary opens
+abbrev pub PaysWaiting : Sight → (kept : ℕ → Option (List Hook)) → Trees Fiber → Stack → Trees Fiber → Stack → (id bodies r : ℕ) → Trees Fiber → At → Type 0
+PaysWaiting s kept t st new st' id bodies r last at =
+    (n : ℕ) (fs : List Frame) (cs : Contexts) (e : Element) (old : Option Node) (us : Flags) → StandsAt t st (Some id) (at_place (suc n) fs cs e old) → TellsIf s kept old → shape_of s cs e old ≡ waiting r
+    → IsWithin new st' id fs → FramesFlagged us fs → FlagsAtPlace t id us → Paid s t.current bodies us (at_place (suc n) fs cs e old) (unit s (at_place (suc n) fs cs e old)) last at
+
+-- there is no news in what the old node of a fiber keeps
+abbrev pub HasNoNewsThere : Sight → (kept : ℕ → Option (List Hook)) → Trees Fiber → ℕ → Type 0
+HasNoNewsThere s kept t id = (x : Node) → IsOld t.current (old_of t.draft id) (Some x) → ForEachIn (λ i. TellsNews kept s.lanes s.cut i false) (children_of x)
+
+-- the tree of the old node of a fiber rests, but for what stands on no way
+abbrev pub RestsThere : Sight → (way : ℕ → Bool) → (kept : ℕ → Option (List Hook)) → Trees Fiber → ℕ → Type 0
+RestsThere s way kept t id = (x : Node) → IsOld t.current (old_of t.draft id) (Some x) → EachBut way (Rests kept s.lanes s.cut) x
+
+-- a hidden boundary waits still that awaits nothing with a value and keeps nothing with news
+waits_there : (s : Sight) (kept : ℕ → Option (List Hook)) (t : Trees Fiber) (id : ℕ) (old : Option Node) (e : Element) (a : Awaits) (ns fs : Forest) → old ≡ Some (node e (of_boundary (Hidden a)) ns fs)
+    → IsOld t.current (old_of t.draft id) old → TellsIf s kept old → AreUnresolved s a → HasNoNewsThere s kept t id → waits_still s old ≡ true
+waits_there s kept t id old e a ns fs was old_is tells unresolved none =
+    let there : TellsIf s kept (Some (node e (of_boundary (Hidden a)) ns fs)) = subst (TellsIf s kept) was tells in
+    ap (waits_still s) was ∙ there.waits a refl unresolved (none (node e (of_boundary (Hidden a)) ns fs) (subst (IsOld t.current (old_of t.draft id)) was old_is))
+
 -- a unit that begins the place of a fiber evaluates at most so many bodies
 abbrev pub AreFew : Sight → Trees Fiber → Stack → (id bodies : ℕ) → Type 0
 AreFew s t st id bodies =
     (n : ℕ) (fs : List Frame) (cs : Contexts) (e : Element) (old : Option Node) → StandsAt t st (Some id) (at_place (suc n) fs cs e old) → bodies ≤ next_counts each_body s (at_place (suc n) fs cs e old)
 
 module _ (s : Sight) (way : ℕ → Bool) (kept : ℕ → Option (List Hook)) (t : Trees Fiber) (st : Stack) (new : Trees Fiber) (st' : Stack) (id bodies : ℕ) (few : AreFew s t st id bodies) where
-  pub child_advances : (child : ℕ) → BeginsPlace s way kept t st new st' id (Child child) → Advances s way kept t st (Begins id) bodies new st' (Begins child)
-  child_advances child begins _ (to_place {levels = zero} h) level gives = absurd (omega (arith, level))
-  child_advances child begins _ (to_place {levels = suc n} {fs = fs} {cs = cs} {e = e} {old = old} h) level gives =
-      let b = begins n fs cs e old h gives.0 gives.1 gives.2 in record { next = unit s (at_place (suc n) fs cs e old); goes = by_unit (few n fs cs e old h); comes = place_comes new st' child _ b.0 b.1 }
+  pub child_advances : (child : ℕ) → BeginsPlace s way kept t st new st' id (Child child) → PaysOpened s kept t st new id bodies (Begins child) → Advances s way kept t st (Begins id) bodies new st' (Begins child)
+  child_advances child begins pays _ (to_place {levels = zero} h) level gives = absurd (omega (arith, level))
+  child_advances child begins pays _ (to_place {levels = suc n} {fs = fs} {cs = cs} {e = e} {old = old} h) level gives =
+      let b = begins n fs cs e old h gives.0 gives.1 gives.2 in
+      record {
+        next = unit s (at_place (suc n) fs cs e old);
+        goes = by_unit (few n fs cs e old h);
+        comes = place_comes new st' child _ b.0 b.1;
+        paid = λ us causes flagged are. pays n fs cs e old us h gives.1 causes.0 b.2 are;
+      }
 
-  pub leaf_advances : BeginsPlace s way kept t st new st' id Leaf → Advances s way kept t st (Begins id) bodies new st' (Completes id)
-  leaf_advances begins _ (to_place {levels = zero} h) level gives = absurd (omega (arith, level))
-  leaf_advances begins _ (to_place {levels = suc n} {fs = fs} {cs = cs} {e = e} {old = old} h) level gives =
-      let b = begins n fs cs e old h gives.0 gives.1 gives.2 in record { next = unit s (at_place (suc n) fs cs e old); goes = by_unit (few n fs cs e old h); comes = end_comes new st' id _ b.0 b.1 }
+  pub leaf_advances : BeginsPlace s way kept t st new st' id Leaf → PaysOpened s kept t st new id bodies (Completes id) → Advances s way kept t st (Begins id) bodies new st' (Completes id)
+  leaf_advances begins pays _ (to_place {levels = zero} h) level gives = absurd (omega (arith, level))
+  leaf_advances begins pays _ (to_place {levels = suc n} {fs = fs} {cs = cs} {e = e} {old = old} h) level gives =
+      let b = begins n fs cs e old h gives.0 gives.1 gives.2 in
+      record {
+        next = unit s (at_place (suc n) fs cs e old);
+        goes = by_unit (few n fs cs e old h);
+        comes = end_comes new st' id _ b.0 b.1;
+        paid = λ us causes flagged are. pays n fs cs e old us h gives.1 causes.0 b.2 are;
+      }
 
   pub waits_advances : (r : ℕ) (last : Trees Fiber) (st'' : Stack) (a : At) → BeginsPlace s way kept t st new st' id (Suspended r)
-      → ((levels : ℕ) (fs : List Frame) → IsWithin new st' id fs → ComesTo last st'' a (unwind levels fs (one r))) → Advances s way kept t st (Begins id) bodies last st'' a
-  waits_advances r last st'' a begins comes _ (to_place {levels = zero} h) level gives = absurd (omega (arith, level))
-  waits_advances r last st'' a begins comes _ (to_place {levels = suc n} {fs = fs} {cs = cs} {e = e} {old = old} h) level gives =
+      → ((levels : ℕ) (fs : List Frame) → IsWithin new st' id fs → ComesTo last st'' a (unwind levels fs (one r))) → PaysWaiting s kept t st new st' id bodies r last a
+      → Advances s way kept t st (Begins id) bodies last st'' a
+  waits_advances r last st'' a begins comes pays _ (to_place {levels = zero} h) level gives = absurd (omega (arith, level))
+  waits_advances r last st'' a begins comes pays _ (to_place {levels = suc n} {fs = fs} {cs = cs} {e = e} {old = old} h) level gives =
       let b = begins n fs cs e old h gives.0 gives.1 gives.2 in
-      record { next = unit s (at_place (suc n) fs cs e old); goes = by_unit (few n fs cs e old h); comes = subst (ComesTo last st'' a) (sym b.1) (comes (suc n) fs b.4) }
+      record {
+        next = unit s (at_place (suc n) fs cs e old);
+        goes = by_unit (few n fs cs e old h);
+        comes = subst (ComesTo last st'' a) (sym b.1) (comes (suc n) fs b.4);
+        paid = λ us causes flagged are. pays n fs cs e old us h causes.0 b.0 b.4 flagged are;
+      }
 
 -- a boundary evaluates none
 boundary_none : (s : Sight) (bodies n : ℕ) (fs : List Frame) (cs : Contexts) (e : Element) (old : Option Node) (key : elements.Key) (f : Element) (es : elements.Elements) → e ≡ elements.boundary key f es
@@ -124,15 +184,36 @@ module _ (s : Sight) (t new : Trees Fiber) (st' : Stack) (p n : ℕ) (fs : List 
   hidden_goes : (bodies : ℕ) → bodies ≡ 0 → Goes s t.current bodies (at_place (suc n) fs cs e old) (open_part n fs (falling e old a) (part cs (fallback_in e ∷ []) (fallback_if old)))
   hidden_goes bodies none = rw (h.was, h.boundary) (past_attempt none linked h.stood hidden_old h.unresolved h.agree)
 
+-- what it pays there, by the flags that its fallback opens with
+module _ (s : Sight) (t new last : Trees Fiber) (st' : Stack) (p n : ℕ) (fs : List Frame) (cs : Contexts) (e : Element) (old : Option Node) (a : Awaits) (us : Flags) (next : At) (linked : IsLinked t.current)
+    (h : IsHiddenAgain s t new st' p n fs cs e old a) where
+  hidden_pays : (bodies : ℕ) → bodies ≡ 0 → waits_still s old ≡ true
+      → Pays s t.current bodies us (at_place (suc n) fs cs e old) (below_boundary s (flag us) old ∷ us) (open_part n fs (falling e old a) (part cs (fallback_in e ∷ []) (fallback_if old)))
+  hidden_pays bodies none still =
+      let so : waits_still s (Some (node (elements.boundary h.key h.fallback h.given) (of_boundary (Hidden a)) h.kept h.shown)) ≡ true =
+      ap (waits_still s) (sym (h.was ∙ ap (λ x. Some (node x (of_boundary (Hidden a)) h.kept h.shown)) h.boundary)) ∙ still
+      in
+      rw (h.was, h.boundary) (paying.past_attempt none linked h.stood (hidden_old s t new st' p n fs cs e old a linked h) h.unresolved h.agree so)
+
+  hidden_paid : (bodies : ℕ) → bodies ≡ 0 → waits_still s old ≡ true → HasFlags last next (below_boundary s (flag us) old ∷ us)
+      → Paid s t.current bodies us (at_place (suc n) fs cs e old) (open_part n fs (falling e old a) (part cs (fallback_in e ∷ []) (fallback_if old))) last next
+  hidden_paid bodies none still flags = record { flags = below_boundary s (flag us) old ∷ us; are = flags; pays = hidden_pays bodies none still }
+
 module _ (s : Sight) (way : ℕ → Bool) (kept : ℕ → Option (List Hook)) (t : Trees Fiber) (st : Stack) (new : Trees Fiber) (st' : Stack) (id bodies : ℕ) where
   pub hidden_advances : (a : Awaits) (last : Trees Fiber) (next : At) → AreFew s t st id bodies → IsLinked t.current → BeginsPlace s way kept t st new st' id (answers.Hidden a)
       → ((c : Cursor) → (l : IsLeftAt new st' id (taken shapes.none) a c) → HasOldFallback new.current (given_along l.frames) l.old l.node l.value.element → ComesTo last st' next c)
-      → Advances s way kept t st (Begins id) bodies last st' next
-  hidden_advances a last next few linked begins comes _ (to_place {levels = zero} h) level gives = absurd (omega (arith, level))
-  hidden_advances a last next few linked begins comes _ (to_place {levels = suc n} {fs = fs} {cs = cs} {e = e} {old = old} h) level gives =
+      → HasNoNewsThere s kept t id → ((us : Flags) (u : Bool) → FlagsAtPlace t id us → HasFlags last next (u ∷ us)) → Advances s way kept t st (Begins id) bodies last st' next
+  hidden_advances a last next few linked begins comes none_new opened _ (to_place {levels = zero} h) level gives = absurd (omega (arith, level))
+  hidden_advances a last next few linked begins comes none_new opened _ (to_place {levels = suc n} {fs = fs} {cs = cs} {e = e} {old = old} h) level gives =
       let b = begins n fs cs e old h gives.0 gives.1 gives.2 in
       let none = boundary_none s bodies n fs cs e old b.key b.fallback b.given b.boundary (few n fs cs e old h) in
-      record { next = _; goes = hidden_goes s t new st' id n fs cs e old a linked b bodies none; comes = comes _ b.left b.again }
+      record {
+        next = _;
+        goes = hidden_goes s t new st' id n fs cs e old a linked b bodies none;
+        comes = comes _ b.left b.again;
+        paid = λ us causes flagged are.
+            hidden_paid s t new last st' id n fs cs e old a us next linked b bodies none (waits_there s kept t id old e a b.kept b.shown b.was b.old_is causes.0 b.unresolved none_new) (opened us (below_boundary s (flag us) old) are);
+      }
 
 -- past a subtree that is taken over
 module _ (s : Sight) (t new : Trees Fiber) (st' : Stack) (p n : ℕ) (fs : List Frame) (cs : Contexts) (e : Element) (old : Option Node) (linked : IsLinked t.current)
@@ -142,18 +223,37 @@ module _ (s : Sight) (t new : Trees Fiber) (st' : Stack) (p n : ℕ) (fs : List 
       subst (λ o. Goes s t.current bodies (at_place (suc n) fs cs e o) (arrive (suc n) fs (Some h.node))) (sym h.was)
       (past_subtree none linked h.stood (subst (IsOld t.current (old_of t.draft p)) h.was h.old_is) h.same h.idle)
 
+  -- nothing is due in it
+  taken_undue : (way : ℕ → Bool) (kept : ℕ → Option (List Hook)) → RestsThere s way kept t p → CausesAt s way kept (at_place (suc n) fs cs e old) → marks.ForEach (IsUndue s) h.node
+  taken_undue way kept rested causes =
+      let there : TellsIf s kept (Some h.node) = subst (TellsIf s kept) h.was causes.0 in
+      let covered : CoversIf way (IsUndue s) (Some h.node) = subst (CoversIf way (IsUndue s)) h.was causes.1 in
+      there.undue way (rested h.node (subst (IsOld t.current (old_of t.draft p)) h.was h.old_is)) covered
+
+  taken_pays : (way : ℕ → Bool) (kept : ℕ → Option (List Hook)) (us : Flags) (bodies : ℕ) → bodies ≡ 0 → RestsThere s way kept t p → CausesAt s way kept (at_place (suc n) fs cs e old)
+      → Pays s t.current bodies us (at_place (suc n) fs cs e old) us (arrive (suc n) fs (Some h.node))
+  taken_pays way kept us bodies none rested causes =
+      subst (λ o. Pays s t.current bodies us (at_place (suc n) fs cs e o) us (arrive (suc n) fs (Some h.node))) (sym h.was)
+      (paying.past_subtree none linked h.stood (subst (IsOld t.current (old_of t.draft p)) h.was h.old_is) h.same h.idle (taken_undue way kept rested causes))
+
 module _ (s : Sight) (way : ℕ → Bool) (kept : ℕ → Option (List Hook)) (t : Trees Fiber) (st : Stack) (new : Trees Fiber) (st' : Stack) (id bodies : ℕ) where
-  pub taken_advances : (r : Next) → bodies ≡ 0 → IsLinked t.current → BeginsPlace s way kept t st new st' id answers.Taken
+  pub taken_advances : (r : Next) → bodies ≡ 0 → IsLinked t.current → BeginsPlace s way kept t st new st' id answers.Taken → RestsThere s way kept t id → ((us : Flags) (x : Node) → FlagsAtPlace t id us → IsOld t.current (old_of t.draft id) (Some x) → HasFlags new (at_after r) us)
       → ((levels : ℕ) (fs : List Frame) (x : Node) → IsPassed new st' id fs x → StandsAt new st' (fiber_in r) (arrive levels fs (Some x)))
       → ((levels : ℕ) (fs : List Frame) (x : Node) → IsPassed new st' id fs x → LeadsTo r (arrive levels fs (Some x)))
       → Advances s way kept t st (Begins id) bodies new st' (at_after r)
-  taken_advances r none linked begins there leads _ (to_place {levels = zero} h) level gives = absurd (omega (arith, level))
-  taken_advances r none linked begins there leads _ (to_place {levels = suc n} {fs = fs} {cs = cs} {e = e} {old = old} h) level gives =
+  taken_advances r none linked begins rested passed there leads _ (to_place {levels = zero} h) level gives = absurd (omega (arith, level))
+  taken_advances r none linked begins rested passed there leads _ (to_place {levels = suc n} {fs = fs} {cs = cs} {e = e} {old = old} h) level gives =
       let b = begins n fs cs e old h gives.0 gives.1 gives.2 in
       record {
         next = arrive (suc n) fs (Some b.node);
         goes = taken_goes s t new st' id n fs cs e old linked b bodies none;
         comes = leads_comes new st' r (arrive (suc n) fs (Some b.node)) (leads (suc n) fs b.node b.passed) (there (suc n) fs b.node b.passed);
+        paid = λ us causes flagged are.
+            record {
+              flags = us;
+              are = passed us b.node are (subst (IsOld t.current (old_of t.draft id)) b.was b.old_is);
+              pays = taken_pays s t new st' id n fs cs e old linked b way kept us bodies none rested causes;
+            };
       }
 
 -- hooks that give values are kept
@@ -201,8 +301,13 @@ taken_made scene kept t st new st' id can knows begins =
 -- a node is completed
 pub end_advances : (s : Sight) (way : ℕ → Bool) (kept : ℕ → Option (List Hook)) (t : Trees Fiber) (st : Stack) (new : Trees Fiber) (st' : Stack) (id : ℕ) (a : At)
     → ((levels : ℕ) (fs : List Frame) (o : Open) (done : List (Option Node)) → StandsAt t st (Some id) (at_end levels fs o done) → ComesTo new st' a (unit s (at_end levels fs o done)))
-    → Advances s way kept t st (Completes id) 0 new st' a
-end_advances s way kept t st new st' id a f _ (to_end {levels = levels} {fs = fs} {o = o} {done = done} h) level gives = record { next = unit s (at_end levels fs o done); goes = by_unit (omega arith); comes = f levels fs o done h }
+    → ((us : Flags) → FlagsAtEnd t id us → HasFlags new a (outer us)) → Advances s way kept t st (Completes id) 0 new st' a
+end_advances s way kept t st new st' id a f go _ (to_end {levels = levels} {fs = fs} {o = o} {done = done} h) level gives = record {
+  next = unit s (at_end levels fs o done);
+  goes = by_unit (omega arith);
+  comes = f levels fs o done h;
+  paid = λ us causes flagged are. record { flags = outer us; are = go us are; pays = paying.by_unit tt (omega arith) (omega arith) };
+}
 
 -- Results
 

@@ -1,9 +1,14 @@
 -- Ways cover a tree: when a render starts, and while updates come that lie behind its cut.
-use Rattle.std.specs.Prelude.{◌≡◌, ℕ, ℤ, Bool, true, false, List, ◌++◌, Option, Some, None, option_map, refl, ◌<◌, ◌^◌}
-use Rattle.std.proofs.Common.{sym, ap, ◌∙◌}
+use Rattle.std.specs.Prelude.{◌≡◌, ℕ, ℤ, Bool, true, false, List, ◌++◌, Option, Some, None, IsSome, option_map, refl, ◌<◌, ◌^◌}
+use Rattle.std.proofs.Common.{sym, ap, ◌∙◌, subst}
+use Rattle.rx_base.specs.declared.cut.Cut.{Cut}
+use Rattle.rx_lane.specs.Lanes.{Lanes}
+use Rattle.rx_ast.specs.Syntax.{Program}
 use Rattle.rx_elem.specs.Trees.{Forest, Instance, Mark, Node, child, node, none, of_boundary, of_host, of_instance, plain, vacant, instance_in}
 use Rattle.rx_susp.specs.declared.boundary.BoundaryState.TheVariants.{Hidden, Shown}
 use Rattle.rx_hooks.specs.declared.hook.Hook.{Hook}
+use Rattle.rx_hooks.specs.Hooks.{HookHistory, HooksStandFor}
+use Rattle.rx_queue.specs.History.{Answers}
 use Rattle.rx_queue.specs.Journal.{Posted, Resolution}
 use Rattle.rx_meaning.specs.Again.{AllOpen}
 use Rattle.rx_meaning.specs.Fresh.{Sight, hook_values}
@@ -14,8 +19,15 @@ use Rattle.render_laws.specs.OldNodes.{OldHas}
 use Rattle.render_laws.specs.SameSight.{AllAfter}
 use Rattle.run_laws.proofs.IdleLater.{idle_later}
 use Rattle.rx_ways.specs.Ways.{Covers, CoversIn, CoversIf, IsQuiet}
-use Rattle.rx_hook_store.specs.Gives.{GivesValues}
-use Rattle.rx_render.specs.Mounting.{IfMounted, HasInstances, HasInstancesIn}
+use Rattle.rx_hook_store.specs.Gives.{GivesValues, has_work_in}
+use Rattle.rx_model.specs.State.{Progress, State}
+use Rattle.rx_model.specs.Committing.{sight_of}
+use Rattle.rx_model.specs.HooksOf.{KeepsAllHooks}
+use Rattle.rx_causes.specs.Idle.{Rests}
+use Rattle.rx_causes.specs.Scenes.{TellsWork}
+use Rattle.cost_laws.specs.Required.{IsUndue}
+use Rattle.begin_laws.proofs.Hooks.{undue_at}
+use Rattle.begin_laws.specs.Mounting.{IfMounted, HasInstances, HasInstancesIn}
 use Rattle.rx_render.specs.Renders.{GivesAll}
 use Rattle.rx_render.proofs.Going.{gives_instance}
 use Rattle.rx_render.proofs.Instances.{tree_instances}
@@ -98,3 +110,73 @@ module _ (way : ℕ → Bool) (all : (n : ℕ) → way n ≡ true) (P : Mark →
   pub all_covered : (tree : Option Node) → CoversIf way P tree
   all_covered None = tt
   all_covered (Some x) = node_all x
+
+-- What holds of marks
+
+module _ (way : ℕ → Bool) (P Q : Mark → Type 0) (more : (m : Mark) → P m → Q m) where
+  mutual
+    each_more : (x : Node) → ForEach P x → ForEach Q x
+    each_more (node e m ns fs) h = (more m h.0, all_more ns h.1, all_more fs h.2)
+
+    all_more : (ns : Forest) → ForEachIn P ns → ForEachIn Q ns
+    all_more none h = tt
+    all_more (vacant ns) h = all_more ns h
+    all_more (child x ns) h = (each_more x h.0, all_more ns h.1)
+
+  mutual
+    covers_more : (x : Node) → Covers way P x → Covers way Q x
+    covers_more (node e m ns fs) h = ((λ n at off. each_more (node e m ns fs) (h.0 n at off)), covers_all ns h.1, covers_all fs h.2)
+
+    covers_all : (ns : Forest) → CoversIn way P ns → CoversIn way Q ns
+    covers_all none h = tt
+    covers_all (vacant ns) h = covers_all ns h
+    covers_all (child x ns) h = (covers_more x h.0, covers_all ns h.1)
+
+  -- ways cover a tree for what follows too
+  pub covers_if : (tree : Option Node) → CoversIf way P tree → CoversIf way Q tree
+  covers_if None h = tt
+  covers_if (Some x) h = covers_more x h
+
+-- No update is due
+
+-- in the hooks of an instance that is not one of these no render at this cut has work
+abbrev pub HaveNoWork : (stirred : ℕ → Bool) → (kept : ℕ → Option (List Hook)) → Lanes → Cut → Type 0
+HaveNoWork stirred kept lanes cut =
+    (n : ℕ) (answers : Answers) (hooks : List Hook) (histories : List HookHistory) → stirred n ≡ false → kept n ≡ Some hooks → HooksStandFor answers hooks histories → has_work_in lanes cut histories ≡ false
+
+module _ (way stirred : ℕ → Bool) (p : Program) (st : State) (g : Progress) (kept : ℕ → Option (List Hook)) (keeps : KeepsAllHooks p st kept) (calm : HaveNoWork stirred kept g.lanes g.cut) where
+  quiet_rests : (m : Mark) → IsQuiet stirred m → Rests kept g.lanes g.cut m
+  quiet_rests (of_instance i) h = (subst IsSome (sym h.1) refl, tells)
+    where
+      tells : TellsWork kept g.lanes g.cut (Some i) false
+      tells n answers hooks histories number have stand =
+          let same : h.0 ≡ n = (let f : Some h.0 ≡ Some n = sym h.1 ∙ number in cc) in
+          sym (calm n answers hooks histories (subst (λ (k : ℕ). stirred k ≡ false) same h.2) have stand)
+  quiet_rests (of_host x) h = tt
+  quiet_rests (of_boundary b) h = tt
+  quiet_rests plain h = tt
+
+  mutual
+    node_undue : (x : Node) → HasInstances st.tree x → ForEach (IsQuiet stirred) x → ForEach (IsUndue (sight_of p st g)) x
+    node_undue (node e m ns fs) has h = (undue_at p st g kept keeps m has.0 (quiet_rests m h.0), list_undue ns has.1 h.1, list_undue fs has.2 h.2)
+
+    list_undue : (ns : Forest) → HasInstancesIn st.tree ns → ForEachIn (IsQuiet stirred) ns → ForEachIn (IsUndue (sight_of p st g)) ns
+    list_undue none has h = tt
+    list_undue (vacant ns) has h = list_undue ns has h
+    list_undue (child x ns) has h = (node_undue x has.0 h.0, list_undue ns has.1 h.1)
+
+  mutual
+    undue_covered : (x : Node) → HasInstances st.tree x → Covers way (IsQuiet stirred) x → Covers way (IsUndue (sight_of p st g)) x
+    undue_covered (node e m ns fs) has h = ((λ n at off. node_undue (node e m ns fs) has (h.0 n at off)), undue_list ns has.1 h.1, undue_list fs has.2 h.2)
+
+    undue_list : (ns : Forest) → HasInstancesIn st.tree ns → CoversIn way (IsQuiet stirred) ns → CoversIn way (IsUndue (sight_of p st g)) ns
+    undue_list none has h = tt
+    undue_list (vacant ns) has h = undue_list ns has h
+    undue_list (child x ns) has h = (undue_covered x has.0 h.0, undue_list ns has.1 h.1)
+
+  pub start_undue : CoversIf way (IsQuiet stirred) st.tree → CoversIf way (IsUndue (sight_of p st g)) st.tree
+  start_undue h = go st.tree (tree_instances st.tree) h
+    where
+      go : (old : Option Node) → OldHas (HasInstances st.tree) old → CoversIf way (IsQuiet stirred) old → CoversIf way (IsUndue (sight_of p st g)) old
+      go None has h = tt
+      go (Some x) has h = undue_covered x has h

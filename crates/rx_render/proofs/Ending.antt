@@ -1,5 +1,5 @@
 -- The end of a render, and the units before it.
-use Rattle.std.specs.Prelude.{◌≡◌, ℕ, ◌<◌, Option, Some, refl}
+use Rattle.std.specs.Prelude.{◌≡◌, ℕ, ◌<◌, ◌≤◌, Option, Some, refl}
 use Rattle.std.proofs.Common.{◌∙◌, arith}
 use Rattle.rx_ast.specs.Syntax.{Program}
 use Rattle.rx_ctx.specs.Contexts.{Stack}
@@ -21,6 +21,12 @@ use Rattle.render_laws.proofs.GoingLaws.{holds_unfinished, holds_last}
 use Rattle.render_laws.proofs.Bounded.{units_within}
 use Rattle.rx_render.specs.declared.at.At.{At}
 use Rattle.rx_render.specs.declared.at.At.TheVariants.{Over}
+use Rattle.cost_laws.specs.Allowed.{whole_allowed}
+use Rattle.cost_laws.specs.Costs.{Costs}
+use Rattle.cost_laws.specs.Left.{Flags}
+use Rattle.cost_laws.specs.Required.{PassesNone, whole_required}
+use Rattle.cost_laws.proofs.CostLaws.{last_costs}
+use Rattle.cost_laws.proofs.Requiring.{last_passes}
 use Rattle.rx_render.specs.Rendering.{Rendering, IfLeft, ComesTo, to_place, to_end, to_tree, to_wait}
 use Rattle.rx_render.specs.Renders.{HasCome, Renders}
 
@@ -34,18 +40,20 @@ no_wait p bounded s old same units bodies a h =
 
 -- what a render has made where no unit is left
 abbrev Ends : Trees Fiber → Sight → Option Node → (units bodies : ℕ) → Type 0
-Ends t s old units bodies = (x : Node) × IsTreeOf (Some x) (grafted t.draft) × (fresh s old ≡ made x) × (bodies < units)
+Ends t s old units bodies =
+    (x : Node) × IsTreeOf (Some x) (grafted t.draft) × (fresh s old ≡ made x) × (bodies < units) × (whole_required s old ≤ bodies) × (bodies ≤ whole_allowed s old)
 
 ends_as : (p : Program) → IsBounded p → (s : Sight) (old : Option Node) → s.program ≡ p → (units bodies : ℕ) (t : Trees Fiber) (st : Stack) (at : At) (c : Cursor)
-    → ComesTo t st at c → at ≡ Over → InProgress s old units bodies c → Ends t s old units bodies
-ends_as p bounded s old same units bodies t st _ c (to_place h) e g = absurd (let f : ⊥ = cc in f)
-ends_as p bounded s old same units bodies t st _ c (to_end h) e g = absurd (let f : ⊥ = cc in f)
-ends_as p bounded s old same units bodies t st _ _ (to_tree (over {x = x} tree few empty)) e g = let (made_it, fewer) = holds_last g in (x, tree, made_it, fewer)
-ends_as p bounded s old same units bodies t st _ _ (to_wait {a = a}) e g = absurd (no_wait p bounded s old same units bodies a g)
+    → ComesTo t st at c → at ≡ Over → InProgress s old units bodies c → PassesNone s old bodies c → (us : Flags) → Costs s old bodies us c → Ends t s old units bodies
+ends_as p bounded s old same units bodies t st _ c (to_place h) e g none us costs = absurd (let f : ⊥ = cc in f)
+ends_as p bounded s old same units bodies t st _ c (to_end h) e g none us costs = absurd (let f : ⊥ = cc in f)
+ends_as p bounded s old same units bodies t st _ _ (to_tree (over {x = x} tree few empty)) e g none us costs =
+    let (made_it, fewer) = holds_last g in (x, tree, made_it, fewer, last_passes s old bodies (made x) none, last_costs s old bodies us (made x) costs)
+ends_as p bounded s old same units bodies t st _ _ (to_wait {a = a}) e g none us costs = absurd (no_wait p bounded s old same units bodies a g)
 
 pub renders_end : (p : Program) → IsBounded p → (st : State) (g : Progress) (v : Rendering) → Renders p st g v → v.at ≡ Over
     → Ends v.trees (sight_of p st g) st.tree v.units v.bodies
-renders_end p bounded st g v r e = ends_as p bounded (sight_of p st g) st.tree refl v.units v.bodies v.trees v.contexts v.at r.come.cursor r.come.comes e r.come.goes
+renders_end p bounded st g v r e = ends_as p bounded (sight_of p st g) st.tree refl v.units v.bodies v.trees v.contexts v.at r.come.cursor r.come.comes e r.come.goes r.costs.enough r.costs.flags r.costs.few
 
 bounded_as : (s : Sight) (old : Option Node) → IsBounded s.program → (units bodies : ℕ) (t : Trees Fiber) (st : Stack) (at : At) (c : Cursor)
     → ComesTo t st at c → InProgress s old units bodies c → IfLeft at (units < unit_bound s.program)

@@ -41,15 +41,20 @@ use Rattle.rx_causes.specs.Scenes.{IsSceneOf, GivesHooks}
 use Rattle.rx_causes.specs.Hidden.{ForEach, ForEachIn}
 use Rattle.rx_render.specs.declared.at.At.{At}
 use Rattle.rx_render.specs.declared.at.At.TheVariants.{Begins, Completes, Over}
-use Rattle.rx_render.specs.Mounting.{IfMounted, HasInstances, HasInstancesIn, GoesWith}
+use Rattle.begin_laws.specs.Mounting.{IfMounted, HasInstances, HasInstancesIn}
+use Rattle.rx_render.specs.Mounting.{GoesWith}
 use Rattle.rx_render.specs.GivenContexts.{CursorGiven}
 use Rattle.rx_render.specs.Rendering.{Rendering, IfLeft, units_left, left_of, ComesTo, to_place, to_end, to_tree, to_wait}
-use Rattle.rx_render.specs.Renders.{Sees, GivesAll, HasCome, Renders, IsUnderWay, IsRendering}
+use Rattle.rx_render.specs.Renders.{Sees, GivesAll, HasCome, HasCosts, Renders, IsUnderWay, IsRendering}
 use Rattle.rx_render.specs.Turning.{GoesOn, BreaksOff, GivesUp}
 use Rattle.rx_render.specs.LastUnit.{unit_before, is_over}
+use Rattle.cost_laws.specs.Costs.{Costs}
+use Rattle.cost_laws.specs.Required.{IsUndue, PassesNone}
+use Rattle.begin_laws.proofs.Hooks.{hooks_tell}
+use Rattle.rx_render.specs.Costing.{CausesAt}
 use Rattle.rx_render.specs.Advancing.{IsReadyAt, GivesAt, Advances}
 use Rattle.rx_render.proofs.Contexts.{as_many, one_each}
-use Rattle.rx_render.proofs.Reaching.{DrawsOn, reaches}
+use Rattle.rx_render.proofs.Reaching.{DrawsOn, Reaches, pays_enough, pays_few, reaches}
 use Rattle.rx_render.proofs.Ending.{come_bounded}
 
 -- the element of a place is drawn
@@ -140,6 +145,37 @@ module _ (old new : Rendering) (evaluated : ℕ) (step : Stepped old new evaluat
         reached = h.reached;
       }
 
+  -- the hooks tell the causes at the place where it stands
+  causes_at : (p : Program) (st : State) (g : Progress) (c : Cursor) → KeepsAllHooks p st (kept_hooks old.hooks) → CursorHas (HasInstances st.tree) c → CursorHas (GoesWith st.tree) c
+      → CoversIf (is_way old.ways) (IsUndue (sight_of p st g)) st.tree → CausesAt (sight_of p st g) (is_way old.ways) (kept_hooks old.hooks) c
+  causes_at p st g (at_place n fs cs e None) keeps olds rests undue = (tt, tt)
+  causes_at p st g (at_place n fs cs e (Some x)) keeps olds rests undue = (hooks_tell p st g (kept_hooks old.hooks) x keeps olds.0, rests.0.undue (is_way old.ways) (sight_of p st g) undue)
+  causes_at p st g (at_end n fs o d) keeps olds rests undue = tt
+  causes_at p st g (ended x) keeps olds rests undue = tt
+
+  -- what the unit costs is paid
+  step_costs : (p : Program) (st : State) (g : Progress) → (sees : Sees old (sight_of p st g)) → KeepsAllHooks p st (kept_hooks old.hooks) → (gives : GivesAll (sight_of p st g) st.tree (kept_hooks old.hooks))
+      → (current : IsTreeOf st.tree old.trees.current) → (settled : IfSettled p (known_by (sight_of p st g)) st.tree) → (waits : IfWaitsAgain (sight_of p st g) (default_contexts p) st.tree)
+      → (reads : IfReadsHold (default_contexts p) st.tree) → (covers : CoversIf (is_way old.ways) (IsIdleMark (sight_of p st g)) st.tree) → (come : HasCome (sight_of p st g) st.tree old)
+      → HasCosts (sight_of p st g) st.tree old come.cursor
+      → HasCosts (sight_of p st g) st.tree new (step_comes (sight_of p st g) st.tree sees gives current settled waits reads covers come).cursor
+  unfolding step_comes
+  step_costs p st g sees keeps gives current settled waits reads covers come costs =
+      let s = sight_of p st g in
+      let c = come.cursor in
+      let level : HasLevel c = fit_has_level s.program c come.goes.fits come.goes.stands in
+      let next = step.advances s sees c come.comes level (gives_at s (is_way old.ways) st.tree (kept_hooks old.hooks) gives settled covers c come.olds come.rests) in
+      let paid = next.paid costs.flags (causes_at p st g c keeps come.olds come.rests costs.undue) costs.few.flagged costs.are in
+      let at : Reaches s st.tree old.units old.bodies c = record { goes = come.goes; drawn = come.drawn; given = come.given; olds = come.olds; rests = come.rests; reached = come.reached } in
+      let checked : unknowns s.program ≡ [] = subst (λ q. unknowns q ≡ []) (sym sees.program) known in
+      record {
+        flags = paid.flags;
+        are = paid.are;
+        few = subst (λ b. Costs s st.tree b paid.flags next.next) (sym step.bodies) (pays_few s st.tree old.trees.current current settled waits reads draws checked old.units old.bodies evaluated c next.next costs.flags paid.flags paid.pays at costs.few);
+        enough = subst (λ b. PassesNone s st.tree b next.next) (sym step.bodies) (pays_enough s st.tree old.trees.current current settled waits reads draws checked old.units old.bodies evaluated c next.next costs.flags paid.flags paid.pays at costs.enough);
+        undue = subst (λ w. CoversIf (is_way w) (IsUndue s) st.tree) (sym step.ways) costs.undue;
+      }
+
   step_sees : (s : Sight) → Sees old s → Sees new s
   step_sees s sees =
       record {
@@ -170,6 +206,7 @@ module _ (old new : Rendering) (evaluated : ℕ) (step : Stepped old new evaluat
         reads = r.reads;
         covers = subst (λ w. CoversIf (is_way w) (IsIdleMark (sight_of p st g)) st.tree) (sym step.ways) r.covers;
         come = step_comes (sight_of p st g) st.tree (renders_sees p st g old r) (renders_give p st g old r) r.current r.settled r.waits r.reads r.covers r.come;
+        costs = step_costs p st g (renders_sees p st g old r) r.keeps (renders_give p st g old r) r.current r.settled r.waits r.reads r.covers r.come r.costs;
       }
 
   pub step_goes_on : GoesOn old new

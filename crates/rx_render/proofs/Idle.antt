@@ -85,7 +85,7 @@ root_reads cs (Some x) h = h
 module _ (s : Sight) (c : Shape Fiber) (linked : IsLinked c) (base : Contexts) (tree : Option Node) (is : IsTreeOf tree c) (reads : IfReadsHold base tree)
     (ws : List (ℕ × ℤ)) (o : Option ℕ) (x : Node) (stood : StoodAt c ws o) (old : IsOld c o (Some x)) where
   -- an old node read what the contexts give where its current fiber stands
-  reads_here : ReadsHold (given_contexts base ws) x
+  pub reads_here : ReadsHold (given_contexts base ws) x
   reads_here =
       let y = stood_has ReadsHold reads_down c linked base tree is (root_reads base tree reads) ws o stood in
       reads_same (given_contexts base ws) y.node_is x (same_trimmed c o y.node_is x y.is old) y.has

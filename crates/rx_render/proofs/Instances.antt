@@ -14,7 +14,9 @@ use Rattle.rx_ast.specs.Syntax.{Program}
 use Rattle.rx_meaning.specs.Settled.{Known, AllSettled, IfSettled}
 use Rattle.commit_laws.specs.Idle.{IsIdleMark}
 use Rattle.rx_ways.specs.Ways.{CoversIf, CoversIn}
-use Rattle.rx_render.specs.Mounting.{IsMountedIn, HasInstances, HasInstancesIn, GoesWith}
+use Rattle.cost_laws.specs.Required.{IsUndue}
+use Rattle.begin_laws.specs.Mounting.{IsMountedIn, HasInstances, HasInstancesIn}
+use Rattle.rx_render.specs.Mounting.{GoesWith}
 
 -- an instance is among some
 abbrev Among : List Mounted → Mounted → Type 0
@@ -111,14 +113,17 @@ start_instances s tree = start_has (HasInstances tree) (goes_down tree) s tree (
 
 module _ (tree : Option Node) where
   all_go : (ns : Forest) → ((p : Program) (k : Known) → IfSettled p k tree → AllSettled p k ns) → ((way : ℕ → Bool) (s : Sight) → CoversIf way (IsIdleMark s) tree → CoversIn way (IsIdleMark s) ns)
-      → AllHave (GoesWith tree) ns
-  all_go none h c = tt
-  all_go (vacant ns) h c = all_go ns h c
-  all_go (child x ns) h c = (record { settles = λ p k s. (h p k s).0; covered = λ way s w. (c way s w).0 }, all_go ns (λ p k s. (h p k s).1) (λ way s w. (c way s w).1))
+      → ((way : ℕ → Bool) (s : Sight) → CoversIf way (IsUndue s) tree → CoversIn way (IsUndue s) ns) → AllHave (GoesWith tree) ns
+  all_go none h c d = tt
+  all_go (vacant ns) h c d = all_go ns h c d
+  all_go (child x ns) h c d =
+      (record { settles = λ p k s. (h p k s).0; covered = λ way s w. (c way s w).0; undue = λ way s w. (d way s w).0 }, all_go ns (λ p k s. (h p k s).1) (λ way s w. (c way s w).1) (λ way s w. (d way s w).1))
 
   goes_with_down : GoesDown (GoesWith tree)
-  goes_with_down (node e m ns fs) h =
-      (all_go ns (λ p k s. (h.settles p k s).1) (λ way s w. (h.covered way s w).1), all_go fs (λ p k s. (h.settles p k s).2) (λ way s w. (h.covered way s w).2))
+  goes_with_down (node e m ns fs) h = (
+    all_go ns (λ p k s. (h.settles p k s).1) (λ way s w. (h.covered way s w).1) (λ way s w. (h.undue way s w).1),
+    all_go fs (λ p k s. (h.settles p k s).2) (λ way s w. (h.covered way s w).2) (λ way s w. (h.undue way s w).2),
+  )
 
   pub unit_rests : (s : Sight) (c : Cursor) → CursorHas (GoesWith tree) c → CursorHas (GoesWith tree) (unit s c)
   unit_rests s c h = unit_has (GoesWith tree) goes_with_down s c h
@@ -132,7 +137,7 @@ module _ (tree : Option Node) where
 
 tree_goes_with : (tree : Option Node) → OldHas (GoesWith tree) tree
 tree_goes_with None = tt
-tree_goes_with (Some x) = record { settles = λ p k s. s; covered = λ way s w. w }
+tree_goes_with (Some x) = record { settles = λ p k s. s; covered = λ way s w. w; undue = λ way s w. w }
 
 pub start_rests : (s : Sight) (tree : Option Node) → CursorHas (GoesWith tree) (start s tree)
 start_rests s tree = start_has (GoesWith tree) (goes_with_down tree) s tree (tree_goes_with tree)

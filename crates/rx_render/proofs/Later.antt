@@ -6,6 +6,7 @@ use Rattle.rx_base.specs.declared.cut.Cut.{Cut}
 use Rattle.rx_ast.specs.Syntax.{Program}
 use Rattle.rx_elem.specs.Trees.{Node}
 use Rattle.rx_queue.specs.Journal.{Journal, Posted}
+use Rattle.rx_meaning.specs.Cursor.{Cursor}
 use Rattle.rx_meaning.specs.Fresh.{Sight, default_contexts, resources_seen}
 use Rattle.rx_meaning.specs.Again.{AllOpen}
 use Rattle.rx_meaning.specs.Settled.{DoneBefore, IfReadsHold, IfSettled, known_by}
@@ -22,10 +23,15 @@ use Rattle.rx_ways.specs.Ways.{CoversIf, is_way}
 use Rattle.render_laws.specs.SameSight.{SeesSame}
 use Rattle.render_laws.proofs.LaterEntries.{holds_later, longer_sees_same}
 use Rattle.run_laws.proofs.WaitingAgain.{later_waits_again}
-use Rattle.rx_render.proofs.Covered.{covered_later}
+use Rattle.rx_render.proofs.Covered.{covered_later, covers_if}
 use Rattle.rx_render.proofs.Settled.{settled_later}
 use Rattle.rx_render.specs.Rendering.{Rendering}
-use Rattle.rx_render.specs.Renders.{HasCome, IsPast, Renders, IsLater, with_hooks}
+use Rattle.cost_laws.specs.Required.{IsUndue}
+use Rattle.cost_laws.specs.SameWork.{SeesSameWork}
+use Rattle.cost_laws.proofs.CostLaws.{later_costs}
+use Rattle.cost_laws.proofs.LaterCauses.{later_passes, undue_later}
+use Rattle.cost_laws.proofs.LaterWork.{longer_sees_same_work}
+use Rattle.rx_render.specs.Renders.{HasCome, HasCosts, IsPast, Renders, IsLater, with_hooks}
 
 -- A longer journal
 
@@ -59,10 +65,31 @@ later_sees_without p g st later past l =
     let journal : record { updates = st.journal.updates ++ l.new; resolutions = st.journal.resolutions ++ l.more } ≡ later.journal = rw (← l.updates, ← l.resolutions) refl in
     subst (SeesSame (without_lanes (sight_of p st g))) journal (longer_sees_same (without_lanes (sight_of p st g)) l.new l.more l.after past.resolutions)
 
+-- where a rendering has come, with what it has cost
+abbrev HasComeSo : Sight → Option Node → Rendering → Type 0
+HasComeSo s tree v = (h : HasCome s tree v) × HasCosts s tree v h.cursor
+
 -- it has come as far
 come_later : (s : Sight) (j : Journal) → SeesSame s j → (tree : Option Node) (v : Rendering) (hooks : Kept) → HasCome s tree v → HasCome (record s { journal = j }) tree (with_hooks v hooks)
 come_later s j same tree v hooks h =
     record { cursor = h.cursor; comes = h.comes; goes = holds_later s j same tree v.units v.bodies h.cursor h.goes; drawn = h.drawn; given = h.given; olds = h.olds; rests = h.rests; reached = h.reached }
+
+-- the sight of the later state sees the same work
+later_work : (p : Program) (g : Progress) (st later : State) → IsLater g st later → SeesSameWork (sight_of p st g) later.journal
+later_work p g st later l =
+    let journal : record { updates = st.journal.updates ++ l.new; resolutions = st.journal.resolutions ++ l.more } ≡ later.journal = rw (← l.updates, ← l.resolutions) refl in
+    subst (SeesSameWork (sight_of p st g)) journal (longer_sees_same_work (sight_of p st g) l.new l.more l.after)
+
+-- it has cost as much
+costs_later : (s : Sight) (j : Journal) → SeesSame s j → SeesSameWork s j → (tree : Option Node) (v : Rendering) (hooks : Kept) (c : Cursor) → HasCosts s tree v c → HasCosts (record s { journal = j }) tree (with_hooks v hooks) c
+costs_later s j same work tree v hooks c h =
+    record {
+      flags = h.flags;
+      are = h.are;
+      few = later_costs s j tree v.bodies h.flags c same work h.few;
+      enough = later_passes s j tree v.bodies c same work h.enough;
+      undue = covers_if (is_way v.ways) (IsUndue s) (IsUndue (record s { journal = j })) (λ m u. undue_later s j m work u) tree h.undue;
+    }
 
 -- ways that cover the tree still do
 covers_longer : (p : Program) (g : Progress) (st later : State) (way : ℕ → Bool) → IsLater g st later → CoversIf way (IsIdleMark (sight_of p st g)) st.tree → CoversIf way (IsIdleMark (sight_of p later g)) st.tree
@@ -72,8 +99,12 @@ covers_longer p g st later way l h =
 
 pub renders_later : (p : Program) (st later : State) (g : Progress) (v : Rendering) (hooks : Kept) → Renders p st g v → IsLater g st later
     → KeepsAllHooks p later (kept_hooks hooks) → Renders p later g (with_hooks v hooks)
+unfolding come_later
 renders_later p st later g v hooks r l keeps =
     let same = later_sees p g st later r.past l in
+    let come = subst (λ t. HasComeSo (sight_of p later g) t (with_hooks v hooks)) (sym l.tree)
+    (come_later (sight_of p st g) later.journal same st.tree v hooks r.come, costs_later (sight_of p st g) later.journal same (later_work p g st later l) st.tree v hooks r.come.cursor r.costs)
+    in
     record {
       program = r.program;
       resources = r.resources ∙ same.resources;
@@ -88,7 +119,8 @@ renders_later p st later g v hooks r l keeps =
           (later_waits_again (sight_of p st g) later.journal same (later_sees_without p g st later r.past l) (default_contexts p) st.tree r.waits);
       reads = subst (IfReadsHold (default_contexts p)) (sym l.tree) r.reads;
       covers = subst (CoversIf (is_way v.ways) (IsIdleMark (sight_of p later g))) (sym l.tree) (covers_longer p g st later (is_way v.ways) l r.covers);
-      come = subst (λ t. HasCome (sight_of p later g) t (with_hooks v hooks)) (sym l.tree) (come_later (sight_of p st g) later.journal same st.tree v hooks r.come);
+      come = come.0;
+      costs = come.1;
     }
 
 -- a resource gets its value
@@ -112,6 +144,9 @@ module _ (p : Program) (st later : State) (g : Progress) (v : Rendering) (journa
   sight : sight_of p st g ≡ sight_of p later g
   sight = λ i. record { program = p; journal = sym journal i; lanes = g.lanes; cut = g.cut }
 
+  come_same : Renders p st g v → HasComeSo (sight_of p later g) later.tree v
+  come_same r = subst (λ t. HasComeSo (sight_of p later g) t v) (sym tree) (subst (λ s. HasComeSo s st.tree v) sight (r.come, r.costs))
+
   pub renders_same : Renders p st g v → Renders p later g v
   renders_same r =
       record {
@@ -127,13 +162,15 @@ module _ (p : Program) (st later : State) (g : Progress) (v : Rendering) (journa
         waits = subst (IfWaitsAgain (sight_of p later g) (default_contexts p)) (sym tree) (subst (λ s. IfWaitsAgain s (default_contexts p) st.tree) sight r.waits);
         reads = subst (IfReadsHold (default_contexts p)) (sym tree) r.reads;
         covers = subst (CoversIf (is_way v.ways) (IsIdleMark (sight_of p later g))) (sym tree) (subst (λ s. CoversIf (is_way v.ways) (IsIdleMark s) st.tree) sight r.covers);
-        come = subst (λ t. HasCome (sight_of p later g) t v) (sym tree) (subst (λ s. HasCome s st.tree v) sight r.come);
+        come = (come_same r).0;
+        costs = (come_same r).1;
       }
 
 -- a render in progress is told by its lanes and its cut
 pub renders_as : (p : Program) (st : State) (g h : Progress) (v : Rendering) → h.lanes ≡ g.lanes → h.cut ≡ g.cut → Renders p st g v → Renders p st h v
 renders_as p st g h v lanes cut r =
     let sight : sight_of p st g ≡ sight_of p st h = (λ i. record { program = p; journal = st.journal; lanes = sym lanes i; cut = sym cut i }) in
+    let come = subst (λ s. HasComeSo s st.tree v) sight (r.come, r.costs) in
     record {
       program = r.program;
       resources = subst (λ s. v.resources ≡ resources_seen s) sight r.resources;
@@ -147,5 +184,6 @@ renders_as p st g h v lanes cut r =
       waits = subst (λ s. IfWaitsAgain s (default_contexts p) st.tree) sight r.waits;
       reads = r.reads;
       covers = subst (λ s. CoversIf (is_way v.ways) (IsIdleMark s) st.tree) sight r.covers;
-      come = subst (λ s. HasCome s st.tree v) sight r.come;
+      come = come.0;
+      costs = come.1;
     }

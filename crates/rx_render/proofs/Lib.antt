@@ -10,6 +10,7 @@ pub mod StoodNodes
 pub mod Waiting
 pub mod Idle
 pub mod Advancing
+pub mod Paying
 pub mod Reaching
 pub mod Going
 pub mod Covered

@@ -29,11 +29,24 @@ use Rattle.rx_links.specs.Readers.{IsLinked}
 use Rattle.rx_fiber.specs.Reading.{IsOld, IsTreeOf}
 use Rattle.rx_fiber.specs.Stood.{StoodAt}
 use Rattle.rx_fiber.specs.Surround.{given_along}
-use Rattle.rx_render.specs.Mounting.{HasInstances, GoesWith}
+use Rattle.begin_laws.specs.Mounting.{HasInstances}
+use Rattle.rx_render.specs.Mounting.{GoesWith}
+use Rattle.rx_meaning.specs.Again.{AllValuesAgree, AreUnresolved}
+use Rattle.commit_laws.specs.Each.{ForEach}
+use Rattle.commit_laws.specs.WaitsAgain.{without_lanes}
+use Rattle.cost_laws.specs.Costs.{Costs}
+use Rattle.cost_laws.specs.Allowed.{below_boundary}
+use Rattle.cost_laws.specs.Left.{Flags, flag}
+use Rattle.cost_laws.specs.Required.{IsUndue, PassesNone, required}
+use Rattle.cost_laws.proofs.CostLaws.{attempt_costs, take_costs, unit_costs}
+use Rattle.cost_laws.proofs.Requiring.{attempt_passes, take_passes, unit_passes}
+use Rattle.cost_laws.proofs.Resting.{nothing_rests}
+use Rattle.rx_render.specs.Costing.{Pays}
+use Rattle.rx_render.specs.Costing as paying
 use Rattle.rx_render.specs.GivenContexts.{given_contexts, CursorGiven}
 use Rattle.rx_render.specs.Advancing.{Goes, by_unit, past_attempt, past_subtree}
 use Rattle.rx_render.proofs.Contexts.{unit_given, attempt_given, arrive_given}
-use Rattle.rx_render.proofs.Idle.{idle_here}
+use Rattle.rx_render.proofs.Idle.{idle_here, reads_here}
 use Rattle.rx_render.proofs.Instances.{unit_instances, attempt_instances, past_instances, unit_rests, attempt_rests, past_rests}
 use Rattle.rx_render.proofs.Waiting.{waits_here}
 
@@ -130,3 +143,60 @@ module _ (s : Sight) (tree : Option Node) (current : Shape Fiber) (is : IsTreeOf
       (waits_here current linked s base tree is waits (given_along fs) o key f es a ns kept stood was unresolved agree n fits) in
       attempt_reaches n fs cs key f es a ns kept h none waited
   reaches _ _ (past_subtree {n = n} {fs = fs} {cs = cs} {e = e} {x = x} {o = o} none linked stood was same idle) h busy = idle_reaches n fs cs x e o same linked stood was idle h none
+
+  -- What it pays
+
+  waits_at : (n : ℕ) (fs : List Frame) (cs : Contexts) (key : Key) (f : Element) (es : Elements) (a : Awaits) (ns kept : Forest) (o : Option ℕ) → IsLinked current → StoodAt current (given_along fs) o
+      → IsOld current o (Some (node (boundary key f es) (of_boundary (Hidden a)) ns kept)) → AreUnresolved s a → AllValuesAgree (without_lanes s) s ns
+      → Reaches s tree units bodies (at_place (suc n) fs cs (boundary key f es) (Some (node (boundary key f es) (of_boundary (Hidden a)) ns kept))) → render_part (rendered n s) (part cs (listed es) ns) ≡ one_waits a
+  waits_at n fs cs key f es a ns kept o linked stood was unresolved agree h =
+      let base = default_contexts s.program in
+      let here : cs ≡ given_contexts base (given_along fs) = h.given.0 in
+      subst (λ l. render_part (rendered n s) (part l (listed es) ns) ≡ one_waits a) (sym here)
+      (waits_here current linked s base tree is waits (given_along fs) o key f es a ns kept stood was unresolved agree n (fits_below n fs cs key f es a ns kept h.goes))
+
+  renders_at : (n : ℕ) (fs : List Frame) (cs : Contexts) (x : Node) (e : Element) (o : Option ℕ) → element_of x ≡ e → IsLinked current → StoodAt current (given_along fs) o ⊎ ReadsHold cs x → IsOld current o (Some x) → IsIdle s x
+      → Reaches s tree units bodies (at_place (suc n) fs cs e (Some x)) → rendered (suc n) s cs e (Some x) ≡ made x
+  renders_at n fs cs x e o same linked stood was idle h =
+      subst (λ f. rendered (suc n) s cs f (Some x) ≡ made x) same
+      (idle_again n fs cs x o linked stood was idle (subst (λ f. Reaches s tree units bodies (at_place (suc n) fs cs f (Some x))) (sym same) h))
+
+  reads_at : (n : ℕ) (fs : List Frame) (cs : Contexts) (x : Node) (e : Element) (o : Option ℕ) → IsLinked current → StoodAt current (given_along fs) o ⊎ ReadsHold cs x → IsOld current o (Some x)
+      → Reaches s tree units bodies (at_place (suc n) fs cs e (Some x)) → ReadsHold cs x
+  reads_at n fs cs x e o linked (inr reads_so) was h = reads_so
+  reads_at n fs cs x e o linked (inl stood) was h =
+      let base = default_contexts s.program in
+      let here : cs ≡ given_contexts base (given_along fs) = h.given.0 in
+      subst (λ l. ReadsHold l x) (sym here) (reads_here s current linked base tree is reads (given_along fs) o x stood was)
+
+  requires_at : (n : ℕ) (fs : List Frame) (cs : Contexts) (x : Node) (e : Element) (o : Option ℕ) → element_of x ≡ e → IsLinked current → StoodAt current (given_along fs) o ⊎ ReadsHold cs x → IsOld current o (Some x) → IsIdle s x
+      → ForEach (IsUndue s) x → Reaches s tree units bodies (at_place (suc n) fs cs e (Some x)) → required (suc n) s cs e (Some x) ≡ 0
+  requires_at n fs cs x e o same linked stood was idle undue h =
+      subst (λ f. required (suc n) s cs f (Some x) ≡ 0) same
+      (nothing_rests s cs x (suc n) (h.rests.0.settles s.program (known_by s) settled) idle undue (reads_at n fs cs x e o linked stood was h))
+
+  as_many : evaluated ≡ 0 → bodies ≡ bodies + evaluated
+  as_many none = omega (arith, none)
+
+  -- it is no more than may be evaluated
+  pub pays_few : (c d : Cursor) (us vs : Flags) → Pays s current evaluated us c vs d → Reaches s tree units bodies c → Costs s tree bodies us c → Costs s tree (bodies + evaluated) vs d
+  pays_few c _ us _ (paying.by_unit may few least) h costs = unit_costs s tree bodies us c h.goes.stands may costs evaluated few
+  pays_few _ _ us _ (paying.past_attempt {n = n} {fs = fs} {cs = cs} {key = key} {f = f} {es = es} {a = a} {ns = ns} {kept = kept} {o = o} none linked stood was unresolved agree still) h costs =
+      subst (λ b. Costs s tree b (below_boundary s (flag us) (Some (node (boundary key f es) (of_boundary (Hidden a)) ns kept)) ∷ us)
+      (open_part n fs (falling (boundary key f es) (Some (node (boundary key f es) (of_boundary (Hidden a)) ns kept)) a) (part cs (f ∷ []) kept))) (as_many none)
+      (attempt_costs s tree bodies n us fs cs (boundary key f es) (Some (node (boundary key f es) (of_boundary (Hidden a)) ns kept)) (part cs (listed es) ns) (part cs (f ∷ []) kept) a refl
+      (waits_at n fs cs key f es a ns kept o linked stood was unresolved agree h) costs)
+  pays_few _ _ us _ (paying.past_subtree {n = n} {fs = fs} {cs = cs} {e = e} {x = x} {o = o} none linked stood was same idle undue) h costs =
+      subst (λ b. Costs s tree b us (arrive (suc n) fs (Some x))) (as_many none)
+      (take_costs s tree bodies (suc n) us fs cs e x (renders_at n fs cs x e o same linked stood was idle h) costs)
+
+  -- and passes over nothing that has to be
+  pub pays_enough : (c d : Cursor) (us vs : Flags) → Pays s current evaluated us c vs d → Reaches s tree units bodies c → PassesNone s tree bodies c → PassesNone s tree (bodies + evaluated) d
+  pays_enough c _ us _ (paying.by_unit may few least) h enough = unit_passes s tree bodies evaluated c least enough
+  pays_enough _ _ us _ (paying.past_attempt {n = n} {fs = fs} {cs = cs} {key = key} {f = f} {es = es} {a = a} {ns = ns} {kept = kept} {o = o} none linked stood was unresolved agree still) h enough =
+      subst (λ b. PassesNone s tree b (open_part n fs (falling (boundary key f es) (Some (node (boundary key f es) (of_boundary (Hidden a)) ns kept)) a) (part cs (f ∷ []) kept))) (as_many none)
+      (attempt_passes s tree bodies n fs cs (boundary key f es) (Some (node (boundary key f es) (of_boundary (Hidden a)) ns kept)) (part cs (listed es) ns) (part cs (f ∷ []) kept) a refl
+      (waits_at n fs cs key f es a ns kept o linked stood was unresolved agree h) still enough)
+  pays_enough _ _ us _ (paying.past_subtree {n = n} {fs = fs} {cs = cs} {e = e} {x = x} {o = o} none linked stood was same idle undue) h enough =
+      subst (λ b. PassesNone s tree b (arrive (suc n) fs (Some x))) (as_many none)
+      (take_passes s tree bodies (suc n) fs cs e x (renders_at n fs cs x e o same linked stood was idle h) (requires_at n fs cs x e o same linked stood was idle undue h) enough)

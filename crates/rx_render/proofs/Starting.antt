@@ -1,6 +1,6 @@
 -- A render that starts is in progress.
-use Rattle.std.specs.Prelude.{◌≡◌, ℕ, ℤ, Bool, List, [], Option, Some, None, IfSome, is_some, true, refl}
-use Rattle.std.proofs.Common.{sym, ap, ◌∙◌, subst, arith}
+use Rattle.std.specs.Prelude.{◌≡◌, ℕ, ℤ, List, [], Option, Some, None, IfSome, is_some, true, refl}
+use Rattle.std.proofs.Common.{sym, ap, ◌∙◌, subst, arith, inl, inr}
 use Rattle.rx_base.specs.declared.cut.Cut.{Cut}
 use Rattle.rx_lane.specs.Lanes.{Lanes}
 use Rattle.rx_ast.specs.Syntax.{Program}
@@ -15,11 +15,11 @@ use Rattle.rx_links.specs.Drafts.{Trees, taken, made}
 use Rattle.rx_meaning.specs.Fresh.{Sight, default_contexts, root_element}
 use Rattle.rx_meaning.specs.Cursor.{start}
 use Rattle.rx_meaning.specs.Settled.{DoneBefore}
-use Rattle.rx_model.specs.State.{State}
+use Rattle.rx_model.specs.State.{Progress, State}
 use Rattle.rx_model.specs.Committing.{sight_of, starting}
 use Rattle.rx_model.specs.HooksOf.{KeepsAllHooks}
 use Rattle.rx_model.specs.Laws.{IsBounded}
-use Rattle.rx_fiber.specs.Fibers.{Fiber, waiting}
+use Rattle.rx_fiber.specs.Fibers.{Fiber, is_cloned, is_stood, waiting}
 use Rattle.rx_fiber.specs.declared.stage.Origin.{Origin}
 use Rattle.rx_fiber.specs.Reading.{IsTreeOf, IsOld, of, next}
 use Rattle.rx_fiber.specs.Reading as reading
@@ -35,6 +35,14 @@ use Rattle.rx_ways.specs.Ways.{CoversIf, Ways, is_way}
 use Rattle.render_laws.proofs.GoingLaws.{start_holds}
 use Rattle.room_laws.specs.Reached as steps
 use Rattle.draw_laws.specs.Cursors.{CursorDrawn}
+use Rattle.rx_links.specs.Places.{top}
+use Rattle.cost_laws.specs.Costs.{Costs}
+use Rattle.cost_laws.specs.Required.{IsUndue, PassesNone}
+use Rattle.cost_laws.proofs.CostLaws.{start_costs}
+use Rattle.cost_laws.proofs.Requiring.{start_passes}
+use Rattle.flag_laws.specs.Flagged.{FlagsAtPlace, IsClear}
+use Rattle.flag_laws.specs.Flagged as flagged
+use Rattle.rx_render.specs.Costing.{HasFlags}
 use Rattle.rx_render.specs.declared.at.At.TheVariants.{Begins, Over}
 use Rattle.rx_render.specs.Rendering.{Rendering, IfLeft, ComesTo, to_place}
 use Rattle.rx_render.specs.Renders.{GivesAll, Renders, IsStartOf, CanStart, IsUnderWay, IsRendering}
@@ -73,6 +81,18 @@ comes_to_start : (s : Sight) (old : Option Node) (t : Trees Fiber) (id : ℕ) (v
 unfolding start
 comes_to_start s old t id v tree waits here = to_place (starts s old t id v tree waits here)
 
+-- the root's list lies below no cause
+root_flags : (t : Trees Fiber) (id : ℕ) (v : Fiber) (origin : Origin) → v.stage ≡ waiting origin → origin.stood ≡ true → origin.cloned ≡ is_some (first t.current)
+    → t.draft ≡ made id v (first t.current) (taken shapes.none) (taken shapes.none) → FlagsAtPlace t id []
+root_flags t id v origin stage stood cloned here = record {
+  flags = record { around = top; value = v; old = first t.current; rest = taken shapes.none; here = here; flagged = flagged.at_root refl refl tt };
+  clear = λ clean. by_old (first t.current) refl;
+}
+  where
+    by_old : (o : Option ℕ) → first t.current ≡ o → IsClear v (first t.current)
+    by_old None e = inl e
+    by_old (Some i) e = inr (ap is_cloned stage ∙ (cloned ∙ ap is_some e), ap is_stood stage ∙ stood)
+
 -- a rendering whose root waits for its first unit
 pub record StandsAtRoot (lanes : Lanes) (cut : Cut) (resources : List (Option ℤ)) (plain : Option Node) (old new : Rendering) : Type 0 where
   pub program : new.program ≡ old.program
@@ -82,6 +102,7 @@ pub record StandsAtRoot (lanes : Lanes) (cut : Cut) (resources : List (Option �
   pub cut_is : new.cut ≡ cut
   pub resources_are : new.resources ≡ resources
   pub covers : (s : Sight) (tree : Option Node) → s.cut ≡ cut → GivesAll s tree (kept_hooks old.hooks) → plain ≡ trimmed_if tree → CoversIf (is_way new.ways) (IsIdleMark s) tree
+  pub undue : (p : Program) (st : State) (g : Progress) → g.cut ≡ cut → KeepsAllHooks p st (kept_hooks old.hooks) → plain ≡ trimmed_if st.tree → CoversIf (is_way new.ways) (IsUndue (sight_of p st g)) st.tree
   pub units : new.units ≡ 0
   pub bodies : new.bodies ≡ 0
   pub id : ℕ
@@ -90,7 +111,8 @@ pub record StandsAtRoot (lanes : Lanes) (cut : Cut) (resources : List (Option �
   pub place : value.place ≡ 0
   pub element : value.element ≡ root_element old.program
   pub stage : value.stage ≡ waiting origin
-  pub clones : origin.cloned ≡ true → is_some (first new.trees.current) ≡ true
+  pub clones : origin.cloned ≡ is_some (first new.trees.current)
+  pub stood : origin.stood ≡ true
   pub here : new.trees.draft ≡ made id value (first new.trees.current) (taken shapes.none) (taken shapes.none)
   pub at : new.at ≡ Begins id
   pub contexts_are : new.contexts ≡ contexts.opening (default_contexts old.program)
@@ -121,13 +143,20 @@ start_renders lanes cut resources plain old new r draws bounded st is =
       covers = r.covers s st.tree (sym is.cut_is) (start_gives lanes cut resources plain old st is) is.shown;
       come = record {
         cursor = start s st.tree;
-        comes = rw (r.at, r.contexts_are) (comes_to_start s st.tree new.trees r.id r.value tree (root_waits old.program new.trees.current st.tree r.value r.origin tree is.rooted r.place r.element r.stage r.clones) r.here);
+        comes = rw (r.at, r.contexts_are) (comes_to_start s st.tree new.trees r.id r.value tree (root_waits old.program new.trees.current st.tree r.value r.origin tree is.rooted r.place r.element r.stage (λ so. sym r.clones ∙ so)) r.here);
         goes = rw (r.units, r.bodies) (start_holds s st.tree bounded.shallow);
         drawn = draws s st.tree bounded.rooted;
         given = start_given s st.tree;
         olds = start_instances s st.tree;
         rests = start_rests s st.tree;
         reached = steps.starts s refl;
+      };
+      costs = record {
+        flags = [];
+        are = subst (λ a. HasFlags new.trees a []) (sym r.at) (root_flags new.trees r.id r.value r.origin r.stage r.stood r.clones r.here);
+        few = subst (λ b. Costs s st.tree b [] (start s st.tree)) (sym r.bodies) (start_costs s st.tree);
+        enough = subst (λ b. PassesNone s st.tree b (start s st.tree)) (sym r.bodies) (start_passes s st.tree);
+        undue = r.undue old.program st (starting st lanes) (sym is.cut_is) is.keeps is.shown;
       };
     }
 
@@ -138,11 +167,12 @@ module _ (lanes : Lanes) (cut : Cut) (resources : List (Option ℤ)) (plain : Op
 
   pub root_stands : inside ≡ record old { trees = record old.trees { draft = taken shapes.none }; at = Over } → (v : Fiber) (root : Element) (given defaults : List ℤ)
       → t ≡ record inside.trees { draft = made id v (first inside.trees.current) (taken shapes.none) (taken shapes.none) }
-      → (origin : Origin) → origin.cloned ≡ is_some (first inside.trees.current) → v ≡ record { place = 0; element = root; stage = waiting origin } → root ≡ root_element inside.program
+      → (origin : Origin) → origin.cloned ≡ is_some (first inside.trees.current) → origin.stood ≡ true → v ≡ record { place = 0; element = root; stage = waiting origin } → root ≡ root_element inside.program
       → st ≡ contexts.opening given → given ≡ defaults → defaults ≡ default_contexts inside.program
       → ((s : Sight) (tree : Option Node) → s.cut ≡ cut → GivesAll s tree (kept_hooks inside.hooks) → plain ≡ trimmed_if tree → CoversIf (is_way ways) (IsIdleMark s) tree)
+      → ((p : Program) (st : State) (g : Progress) → g.cut ≡ cut → KeepsAllHooks p st (kept_hooks inside.hooks) → plain ≡ trimmed_if st.tree → CoversIf (is_way ways) (IsUndue (sight_of p st g)) st.tree)
       → StandsAtRoot lanes cut resources plain old started
-  root_stands was v root given defaults grown origin cloned_is value element stack same all covers =
+  root_stands was v root given defaults grown origin cloned_is stood_is value element stack same all covers undue =
       let program : inside.program ≡ old.program = ap (λ r. r.program) was in
       let kept : t.current ≡ inside.trees.current = ap (λ u. u.current) grown in
       record {
@@ -153,6 +183,7 @@ module _ (lanes : Lanes) (cut : Cut) (resources : List (Option ℤ)) (plain : Op
         cut_is = refl;
         resources_are = refl;
         covers = λ s tree at gives. covers s tree at (subst (λ (r : Rendering). GivesAll s tree (kept_hooks r.hooks)) (sym was) gives);
+        undue = λ p st g at keeps. undue p st g at (subst (λ (r : Rendering). KeepsAllHooks p st (kept_hooks r.hooks)) (sym was) keeps);
         units = refl;
         bodies = refl;
         id = id;
@@ -161,7 +192,8 @@ module _ (lanes : Lanes) (cut : Cut) (resources : List (Option ℤ)) (plain : Op
         place = ap (λ u. u.place) value;
         element = ap (λ u. u.element) value ∙ (element ∙ ap root_element program);
         stage = ap (λ u. u.stage) value;
-        clones = λ so. ap (λ c. is_some (first c)) kept ∙ (sym cloned_is ∙ so);
+        clones = cloned_is ∙ ap (λ c. is_some (first c)) (sym kept);
+        stood = stood_is;
         here = ap (λ u. u.draft) grown ∙ ap (λ c. made id v (first c) (taken shapes.none) (taken shapes.none)) (sym kept);
         at = refl;
         contexts_are = stack ∙ ap contexts.opening (same ∙ (all ∙ ap default_contexts program));

@@ -34,7 +34,10 @@ use Rattle.rx_begin.specs.declared.opening.Opened.{Opened}
 use Rattle.rx_begin.specs.declared.opening.Opened.TheVariants.{First, Empty}
 use Rattle.rx_render.specs.declared.at.At.{At}
 use Rattle.rx_render.specs.declared.at.At.TheVariants.{Begins, Completes, Over}
+use Rattle.cost_laws.specs.Costs.{CursorFlagged}
+use Rattle.cost_laws.specs.Left.{Flags}
 use Rattle.rx_render.specs.Rendering.{ComesTo}
+use Rattle.rx_render.specs.Costing.{CausesAt, HasFlags, Paid}
 
 -- what the next unit does after a node that is completed
 abbrev pub at_after : Next → At
@@ -88,12 +91,13 @@ pub data Goes (s : Sight) (current : Shape Fiber) (bodies : ℕ) : (before after
       → bodies ≡ 0 → IsLinked current → StoodAt current (given_along fs) o ⊎ ReadsHold cs x → IsOld current o (Some x) → element_of x ≡ e → IsIdle s x
       → Goes s current bodies (at_place (suc n) fs cs e (Some x)) (arrive (suc n) fs (Some x))
 
--- what the parts come to from a cursor, with so many bodies
-pub record ComesFrom (s : Sight) (before : Trees Fiber) (c : Cursor) (bodies : ℕ) (after : Trees Fiber) (st : Stack) (at : At) : Type 0 where
+-- what the parts come to from a cursor, with so many bodies; and what these cost, where the hooks tell which causes there are
+pub record ComesFrom (s : Sight) (way : ℕ → Bool) (kept : ℕ → Option (List Hook)) (before : Trees Fiber) (from : At) (c : Cursor) (bodies : ℕ) (after : Trees Fiber) (st : Stack) (at : At) : Type 0 where
   pub next : Cursor
   pub goes : Goes s before.current bodies c next
   pub comes : ComesTo after st at next
+  pub paid : (us : Flags) → CausesAt s way kept c → CursorFlagged us c → HasFlags before from us → Paid s before.current bodies us c next after at
 
 -- the same from each cursor that they may stand for
 abbrev pub Advances : Sight → (way : ℕ → Bool) → (kept : ℕ → Option (List Hook)) → (before : Trees Fiber) → Stack → At → (bodies : ℕ) → (after : Trees Fiber) → Stack → At → Type 0
-Advances s way kept t st at bodies new st' at' = (c : Cursor) → ComesTo t st at c → HasLevel c → GivesAt s way kept c → ComesFrom s t c bodies new st' at'
+Advances s way kept t st at bodies new st' at' = (c : Cursor) → ComesTo t st at c → HasLevel c → GivesAt s way kept c → ComesFrom s way kept t at c bodies new st' at'

@@ -2,6 +2,7 @@ pub mod Mounting
 pub mod GivenContexts
 pub mod TreesCode
 pub mod Rendering
+pub mod Costing
 pub mod Renders
 pub mod Turning
 pub mod TurningLaws

@@ -29,9 +29,14 @@ use Rattle.commit_laws.specs.HiddenWaits.{IfNumbered}
 use Rattle.commit_laws.specs.Idle.{IsIdleMark}
 use Rattle.commit_laws.specs.WaitsAgain.{IfWaitsAgain}
 use Rattle.end_laws.specs.Trimmed.{trimmed_if}
-use Rattle.rx_render.specs.Mounting.{HasInstances, GoesWith}
+use Rattle.cost_laws.specs.Costs.{Costs}
+use Rattle.cost_laws.specs.Left.{Flags}
+use Rattle.cost_laws.specs.Required.{IsUndue, PassesNone}
+use Rattle.begin_laws.specs.Mounting.{HasInstances}
+use Rattle.rx_render.specs.Mounting.{GoesWith}
 use Rattle.rx_render.specs.GivenContexts.{CursorGiven}
 use Rattle.rx_render.specs.Rendering.{Rendering, IfLeft, ComesTo}
+use Rattle.rx_render.specs.Costing.{HasFlags}
 
 -- a rendering sees what a render sees
 pub record Sees (v : Rendering) (s : Sight) : Type 0 where
@@ -58,6 +63,14 @@ pub record HasCome (s : Sight) (tree : Option Node) (v : Rendering) : Type 0 whe
   -- a render over the tree comes there
   pub reached : IsReached s.program tree cursor
 
+-- What a rendering has cost so far at a cursor: it evaluated no more than what has a cause or lies below a cause, and passed over nothing that it had to evaluate. No update is due where the tree stands on no way.
+pub record HasCosts (s : Sight) (tree : Option Node) (v : Rendering) (c : Cursor) : Type 0 where
+  pub flags : Flags
+  pub are : HasFlags v.trees v.at flags
+  pub few : Costs s tree v.bodies flags c
+  pub enough : PassesNone s tree v.bodies c
+  pub undue : CoversIf (is_way v.ways) (IsUndue s) tree
+
 -- a cut has nothing before it that has yet to come
 pub record IsPast (cut : Cut) (j : Journal) : Type 0 where
   pub updates : cut.updates ≤ length j.updates
@@ -83,6 +96,7 @@ pub record Renders (p : Program) (st : State) (g : Progress) (v : Rendering) : T
   -- what stands on no way is idle
   pub covers : CoversIf (is_way v.ways) (IsIdleMark (sight_of p st g)) st.tree
   pub come : HasCome (sight_of p st g) st.tree v
+  pub costs : HasCosts (sight_of p st g) st.tree v come.cursor
 
 -- a render is under way: what it is over is the current tree, which is settled, whose hidden boundaries wait again and whose reads hold, which is idle where it stands on no way, and hooks give it the values of the instances there
 pub record IsUnderWay (v : Rendering) : Type 0 where

@@ -13,8 +13,14 @@ ghost use Rattle.rx_complete.specs.Ends.{IsAtEnd, IsOpenBelow};
 ghost use Rattle.rx_hook_store.specs.Store.{kept_hooks};
 ghost use Rattle.rx_hook_store.specs.Gives.{GivesValues};
 ghost use Rattle.rx_causes.specs.Scenes.{IsSceneOf};
+ghost use Rattle.rx_lists.specs.Shapes.{none};
+ghost use Rattle.rx_links.specs.Drafts.{taken};
+ghost use Rattle.cost_laws.specs.Costs.{FramesFlagged};
+ghost use Rattle.cost_laws.specs.Left.{Flags, outer, unwound};
+ghost use Rattle.flag_laws.specs.Flagged.{FlagsAtEnd, FlagsHere};
 ghost use Rattle.rx_ways.specs.Ways.{is_way};
 ghost use Rattle.rx_render.specs.Rendering.{ComesTo};
+ghost use Rattle.rx_render.specs.Costing.{HasFlags};
 ghost use Rattle.rx_render.specs.Advancing.{at_after, at_opened, CanBegin, IsReadyAt, Advances};
 
 use crate::at::At;
@@ -66,8 +72,10 @@ fn at_opened(opened: Opened) -> At
 fn complete_node(tree: &mut FiberTree<Fiber>, id: FiberId, contexts: &mut ContextStack) -> At
     requires { IsAtEnd tree.old contexts.old id }
     ensures comes { (s : Sight) (levels : ℕ) (fs : List Frame) (o : Open) (done : List (Option Node)) → StandsAt tree.old contexts.old (Some id) (at_end levels fs o done) → ComesTo tree.new contexts.new result (unit s (at_end levels fs o done)) }
+    ensures flags { (us : Flags) → FlagsAtEnd tree.old id us → HasFlags tree.new result (outer us) }
     ensures current { tree.new.current ≡ tree.old.current }
 {
+    tree.facts();
     at_after(complete(tree, id, contexts))
 }
 
@@ -81,12 +89,15 @@ fn suspend(
 ) -> Result<At, AllocError>
     requires { IsOpenBelow tree.old contexts.old id }
     ensures comes { IfOk result (λ a. (levels : ℕ) (fs : List Frame) → IsWithin tree.old contexts.old id fs → ComesTo tree.new contexts.new a (unwind levels fs (one resource))) }
+    ensures flags { IfOk result (λ a. (fs : List Frame) (us : Flags) → FlagsHere tree.old id (taken none) us → IsWithin tree.old contexts.old id fs → FramesFlagged us fs → HasFlags tree.new a (unwound fs us)) }
     ensures current { tree.new.current ≡ tree.old.current }
 {
+    tree.facts();
     let mut awaits = awaits_for(resource);
     match unwind_to_boundary(tree, id, contexts, &mut awaits) {
         None => Ok(At::Over),
         Some(boundary) => {
+            tree.facts();
             let opened = open_fallback(alloc, tree, boundary, awaits)?;
             Ok(at_opened(opened))
         }
@@ -126,6 +137,7 @@ fn begin_place<L: Ledger>(
         }
         Begun::Taken => {
             tree.place_facts();
+            tree.facts();
             Ok((at_after(pass(tree, id)), evaluated))
         }
     }

@@ -18,8 +18,9 @@ ghost use Rattle.rx_meaning.specs.Fresh.{IsTree, Sight};
 ghost use Rattle.rx_meaning.specs.Settled.{DoneBefore, HasOwnNumbers};
 ghost use Rattle.commit_laws.specs.HiddenWaits.{IfNumbered};
 ghost use Rattle.commit_laws.specs.Idle.{IsIdleMark};
+ghost use Rattle.cost_laws.specs.Required.{IsUndue};
 ghost use Rattle.rx_ways.specs.Ways.{CoversIf, is_way};
-ghost use Rattle.rx_model.specs.Committing.{committed_state, starting};
+ghost use Rattle.rx_model.specs.Committing.{committed_state, sight_of, starting};
 ghost use Rattle.rx_model.specs.Laws.{IsBounded};
 ghost use Rattle.rx_model.specs.HooksOf.{KeepsAllHooks};
 ghost use Rattle.rx_fiber.specs.Reading.{IsTreeOf};
@@ -242,8 +243,10 @@ impl Renderer {
     fn find_ways(&self, old: Option<&Node>, sent: &Ways) -> Result<Ways, AllocError>
         requires numbered { IfNumbered (option_copied old) }
         requires apart { (next : ℕ) × HasOwnNumbers next (option_copied old) }
-        ensures { IfOk result (λ w. (s : Sight) (tree : Option trees.Node) → s.cut.updates < 2 ^ 64 → GivesAll s tree (kept_hooks self.now.hooks)
+        ensures idle { IfOk result (λ w. (s : Sight) (tree : Option trees.Node) → s.cut.updates < 2 ^ 64 → GivesAll s tree (kept_hooks self.now.hooks)
             → option_copied old.entry ≡ trimmed_if tree → CoversIf (is_way w) (IsIdleMark s) tree) }
+        ensures undue { IfOk result (λ w. (p : Program) (st : State) (g : Progress) → g.cut.updates < 2 ^ 64 → KeepsAllHooks p st (kept_hooks self.now.hooks)
+            → option_copied old.entry ≡ trimmed_if st.tree → CoversIf (is_way w) (IsUndue (sight_of p st g)) st.tree) }
     {
         match self.hooks.stirred() {
             Some(stirred) => find_ways(self.alloc, old, stirred, &self.ways, sent),

@@ -19,7 +19,7 @@ use Rattle.rx_model.specs.State.{State, Progress}
 use Rattle.rx_model.specs.Stretch.{Stretch, silent, followed_by}
 use Rattle.rx_model.specs.Committing.{passive_run}
 use Rattle.rx_model.specs.HooksOf.{KeepsAllHooks}
-use Rattle.rx_model.specs.Turns.{Turn, choice_of}
+use Rattle.rx_model.specs.Turns.{choice_of}
 use Rattle.rx_model.specs.Laws.{without_render}
 use Rattle.rx_model.proofs.Reached.{discards-reach}
 use Rattle.rx_fiber.specs.Reading.{IsTreeOf}
@@ -33,6 +33,7 @@ use Rattle.rx_render.specs.Turning.{GoesOn, GivesUp, KeepsHooks}
 use Rattle.rx_render.specs.TurningLaws.{keeps_join}
 use Rattle.rx_root.specs.Rooted.{Rooted}
 use Rattle.rx_root.specs.Stands.{HasRoomFor, StandsBy, StandsButForRender, StandsWith, Stands}
+use Rattle.rx_root.specs.Paying.{TurnPaid}
 use Rattle.rx_root.specs.Turning.{Breaks, GaveUp, HasBroken, HasRoomForTurns, KeepsShown, LeavesRoom, Takes}
 use Rattle.rx_root.specs.Breaking.{BreaksOff, BreaksOffWithin, HasBegun, TurnBreaksOff}
 use Rattle.rx_root.proofs.TurnLines.{with_none, with_both}
@@ -354,12 +355,12 @@ flush_breaks p s limit w log new steps counted few b =
     record { stretch = b.stretch; asked = (0, omega (arith, few), b.asked); done = b.done; bodies = b.bodies }
 
 flush_breaks_suc : (p : Program) (s : State) (limit : ℕ) (x w : Rooted) (log mid new : Written) (steps between counted : ℕ) → choice_of s ≢ choice.None
-    → (first : Takes p (Turn p s None) x log mid steps between) → Breaks p (BreaksOffWithin limit p first.stretch.after) w mid new between counted
+    → (first : Takes p (TurnPaid p s None) x log mid steps between) → Breaks p (BreaksOffWithin limit p first.stretch.after) w mid new between counted
     → Breaks p (BreaksOffWithin (suc limit) p s) w log new steps counted
 flush_breaks_suc p s limit x w log mid new steps between counted some first rest =
     record {
       stretch = followed_by first.stretch rest.stretch;
-      asked = (suc rest.asked.0, omega (arith, rest.asked.1), (some, first.stretch, rest.stretch, first.asked, rest.asked.2, refl));
+      asked = (suc rest.asked.0, omega (arith, rest.asked.1), (some, first.stretch, rest.stretch, first.asked.0, rest.asked.2, refl));
       done = record {
         stands = rest.done.stands;
         written = rest.done.written ∙ ap (λ (r : Written). with_lines r rest.stretch.lines) first.done.written ∙ with_both log first.stretch.lines rest.stretch.lines;
@@ -369,7 +370,7 @@ flush_breaks_suc p s limit x w log mid new steps between counted some first rest
 
 -- one that follows does
 pub flush_breaks_later : (limit : ℕ) (p : Program) (s : State) (x w : Rooted) (log mid new : Written) (steps between counted : ℕ) → 1 ≤ limit → choice_of s ≢ choice.None
-    → (first : Takes p (Turn p s None) x log mid steps between) → Breaks p (BreaksOffWithin (limit - 1) p first.stretch.after) w mid new between counted
+    → (first : Takes p (TurnPaid p s None) x log mid steps between) → Breaks p (BreaksOffWithin (limit - 1) p first.stretch.after) w mid new between counted
     → Breaks p (BreaksOffWithin limit p s) w log new steps counted
 flush_breaks_later limit p s x w log mid new steps between counted some_left some first rest =
     let sum : suc (limit - 1) ≡ limit = omega (arith, some_left) in

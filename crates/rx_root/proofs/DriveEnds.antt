@@ -133,6 +133,8 @@ module _ (p : Program) (bounded : IsBounded p) (s : State) (g : Progress) (slice
           };
         };
         bodies = counted_are;
+        allowed = omega (arith, bodies_rise, end.5);
+        required = omega (arith, bodies_rise, end.4);
       }
 
   -- what the slice leaves is a render of the machine
@@ -170,6 +172,7 @@ module _ (p : Program) (bounded : IsBounded p) (s : State) (g : Progress) (slice
         stands = yielded_stands ends.0;
         silently = refl;
         bodies = counted_are;
+        allowed = omega (arith, bodies_rise, still.costs.few.bound);
       }
 
 -- some unit is left of a render in progress

@@ -9,7 +9,8 @@ use Rattle.rx_model.specs.Turns.{Turn, choice_of}
 use Rattle.rx_model.specs.Laws.{IsBounded}
 use Rattle.rx_root.specs.Rooted.{Rooted}
 use Rattle.rx_root.specs.Stands.{Stands}
-use Rattle.rx_root.specs.Turning.{HasRoomForTurns, LeavesRoom, CanFlush, FlushWithin, FlushesFrom, Takes}
+use Rattle.rx_root.specs.Paying.{FlushPaidWithin, TurnPaid}
+use Rattle.rx_root.specs.Turning.{HasRoomForTurns, LeavesRoom, CanFlush, FlushesFrom, Takes}
 use Rattle.rx_root.proofs.TurnReached.{reached_passive, turn_event}
 use Rattle.rx_root.proofs.FlushEnds.{flush_over, flush_on}
 use Rattle.rx_root.proofs.TurnRoom.{turn_grows, room_after}
@@ -19,9 +20,9 @@ use Rattle.rx_root.proofs.TurnsTaken.{flush_more}
 
 -- a turn leaves room
 pub turn_leaves : (p : Program) (s : State) (budget : Option ℕ) (v w : Rooted) (log new : Written) (steps counted : ℕ) → IsBounded v.rendering.program → Stands p s v → s.event ≡ None
-    → Takes p (Turn p s budget) w log new steps counted → LeavesRoom 1 v w
+    → Takes p (TurnPaid p s budget) w log new steps counted → LeavesRoom 1 v w
 turn_leaves p s budget v w log new steps counted bounded h none t =
-    let grows = turn_grows p (subst IsBounded h.program bounded) s budget t.stretch h.reached (reached_passive p s h.reached none) t.asked in
+    let grows = turn_grows p (subst IsBounded h.program bounded) s budget t.stretch h.reached (reached_passive p s h.reached none) t.asked.0 in
     record {
       room = λ more room.
           let same : 1 + more ≡ suc more = omega arith in
@@ -69,23 +70,23 @@ less_renders (suc n) p s first ends some turn =
 
 -- a turn leaves a root that can go on with the flush
 pub flushes_on : (limit : ℕ) (v x : Rooted) (log new : Written) (steps counted : ℕ) → (f : FlushesFrom limit v) → choice_of f.state ≢ choice.None
-    → Takes f.program (Turn f.program f.state None) x log new steps counted → FlushesFrom (limit - 1) x
+    → Takes f.program (TurnPaid f.program f.state None) x log new steps counted → FlushesFrom (limit - 1) x
 flushes_on limit v x log new steps counted f some t =
     record {
       program = f.program;
       state = t.stretch.after;
       stands = t.done.stands;
-      between = turn_event f.program f.state None t.stretch f.between t.asked;
-      ends = less_renders limit f.program f.state t.stretch f.ends some t.asked;
+      between = turn_event f.program f.state None t.stretch f.between t.asked.0;
+      ends = less_renders limit f.program f.state t.stretch f.ends some t.asked.0;
     }
 
 -- so a flush takes its turns
 pub flush_takes : (limit : ℕ) (p : Program) (s : State) (x w : Rooted) (log mid new : Written) (steps between counted : ℕ) → 1 ≤ limit → choice_of s ≢ choice.None
-    → (first : Takes p (Turn p s None) x log mid steps between) → Takes p (FlushWithin (limit - 1) p first.stretch.after) w mid new between counted
-    → Takes p (FlushWithin limit p s) w log new steps counted
+    → (first : Takes p (TurnPaid p s None) x log mid steps between) → Takes p (FlushPaidWithin (limit - 1) p first.stretch.after) w mid new between counted
+    → Takes p (FlushPaidWithin limit p s) w log new steps counted
 flush_takes limit p s x w log mid new steps between counted some_left some first rest =
     let sum : suc (limit - 1) ≡ limit = omega (arith, some_left) in
-    subst (λ (n : ℕ). Takes p (FlushWithin n p s) w log new steps counted) sum (flush_more p s (limit - 1) x w log mid new steps between counted some first rest)
+    subst (λ (n : ℕ). Takes p (FlushPaidWithin n p s) w log new steps counted) sum (flush_more p s (limit - 1) x w log mid new steps between counted some first rest)
 
 -- room for some turns is room for one
 pub one_room : (limit : ℕ) (v : Rooted) → 1 ≤ limit → HasRoomForTurns limit v → HasRoomForTurns 1 v

@@ -1,8 +1,10 @@
 -- Steps that render nothing are taken.
-use Rattle.std.proofs.Common.{◌≡◌, ℕ, ℤ, zero, suc, ◌+◌, ◌<◌, Option, Some, None, List, [], ◌∷◌, length, map, refl, sym, ap, ◌∙◌, subst, arith}
+use Rattle.std.proofs.Common.{◌≡◌, ℕ, ℤ, zero, suc, ◌+◌, ◌<◌, Bool, true, false, Option, Some, None, List, [], ◌∷◌, length, map, refl, sym, ap, ◌∙◌, subst, arith}
 use Rattle.std.specs.Prelude.{slice_get, slice_set}
 use Rattle.std.specs.List.{range_with_len}
 use Rattle.rx_base.specs.Values.{Name}
+use Rattle.rx_lane.specs.declared.lane.Lane.TheVariants as lane
+use Rattle.rx_lane.specs.Lanes.{has}
 use Rattle.rx_ast.specs.Syntax.{Program}
 use Rattle.rx_rules.specs.Names.{resource_number, resources}
 use Rattle.rx_queue.specs.Journal.{hook, resolved_now}
@@ -20,13 +22,14 @@ use Rattle.rx_model.specs.State.{State, instance_found, state_lines}
 use Rattle.rx_model.specs.Stretch.{Stretch, silent, writes}
 use Rattle.rx_model.specs.Accepting.{between_events, dispatched_for, dispatched_to, resolved_as, with_value}
 use Rattle.rx_model.specs.Committing.{passive_run}
-use Rattle.rx_model.specs.Machine.{StepTo}
+use Rattle.rx_model.specs.Machine.{Flushes, FlushSync, StepTo}
 use Rattle.rx_model.specs.Laws.{IsReached}
 use Rattle.rx_commit.specs.Written.{passive_lines, with_lines}
 use Rattle.rx_root.specs.declared.events.Sent.{Sent}
 use Rattle.rx_root.specs.Rooted.{Rooted}
 use Rattle.rx_root.specs.Stands.{Stands}
 use Rattle.rx_root.specs.Taking.{IsFor}
+use Rattle.rx_root.specs.Paying.{FlushesPaid, FlushSyncPaid, StepPaid}
 use Rattle.rx_root.specs.Turning.{Takes}
 use Rattle.rx_model.proofs.Reached.{step-reached}
 use Rattle.rx_root.proofs.Standing.{at_time, stands_at, stands_resolved}
@@ -158,8 +161,31 @@ sent_taken p s d sent v log n is h = silent_taken p s (step.Dispatch d) v log (s
 
 -- ---- any step
 
+-- a flush whose renders pay is a flush
+paid_flushes : (n : ℕ) (p : Program) (s : State) (r : Stretch) → FlushesPaid n p s r → Flushes n p s r
+paid_flushes zero p s r h = h
+paid_flushes (suc n) p s r h = (h.0, h.1, h.2, h.3.0, paid_flushes n p h.1.after h.2 h.4, h.5)
+
+paid_sync : (b : Bool) (p : Program) (s : State) (r : Stretch) → FlushSyncPaid b p s r → FlushSync b p s r
+paid_sync true p s r h = h.0
+paid_sync false p s r h = h
+
+-- and so is each step
+paid_step : (p : Program) (s : State) (x : Step) (r : Stretch) → StepPaid p s x r → StepTo p s x r
+paid_step p s (step.Dispatch d) r h = h
+paid_step p s (step.Resolve name x) r h = h
+paid_step p s (step.Tick n) r h = h
+paid_step p s (step.Work n) r h = h.0
+paid_step p s step.Flush r h = (h.0, h.1, paid_flushes h.0 p (between_events s) r h.2)
+paid_step p s step.FlushSync r h = paid_sync (has s.schedule.pending lane.Sync) p (between_events s) r h
+paid_step p s step.Passive r h = h
+paid_step p s step.Event r h = h
+paid_step p s step.State r h = h
+paid_step p s step.Tree r h = h
+
 -- what is said of a step that is taken, whichever it is
-pub taken_as : (p : Program) (s : State) (x y : Step) (v : Rooted) (log new : Written) (n m : ℕ) → y ≡ x → Takes p (StepTo p s x) v log new n m
-    → (r : Stretch) × StepTo p s y r × Stands p r.after v × (new ≡ with_lines log r.lines) × (m ≡ n + r.bodies)
+pub taken_as : (p : Program) (s : State) (x y : Step) (v : Rooted) (log new : Written) (n m : ℕ) → y ≡ x → Takes p (StepPaid p s x) v log new n m
+    → (r : Stretch) × StepTo p s y r × Stands p r.after v × (new ≡ with_lines log r.lines) × (m ≡ n + r.bodies) × StepPaid p s y r
 taken_as p s x y v log new n m same t =
-    (t.stretch, subst (λ (z : Step). StepTo p s z t.stretch) (sym same) t.asked, t.done.stands, t.done.written, t.bodies)
+    let paid = subst (λ (z : Step). StepPaid p s z t.stretch) (sym same) t.asked in
+    (t.stretch, paid_step p s y t.stretch paid, t.done.stands, t.done.written, t.bodies, paid)

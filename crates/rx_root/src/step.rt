@@ -5,12 +5,12 @@ ghost use Rattle.rx_lane.specs.Lanes.{has};
 ghost use Rattle.rx_model.specs.State.{State};
 ghost use Rattle.rx_model.specs.Stretch.{Stretch};
 ghost use Rattle.rx_model.specs.Accepting.{between_events};
-ghost use Rattle.rx_model.specs.Turns.{Turn};
-ghost use Rattle.rx_model.specs.Machine.{Flush, FlushSync, StepTo, flush_limit};
+ghost use Rattle.rx_model.specs.Machine.{StepTo, flush_limit};
 ghost use Rattle.rx_commit.specs.Written.{with_lines};
 ghost use Rattle.rx_root.specs.Stands.{HasRoomFor, Stands};
 ghost use Rattle.rx_root.specs.Taking.{CanTake, IsAside};
 ghost use Rattle.rx_root.specs.Turning.{Breaks, Takes};
+ghost use Rattle.rx_root.specs.Paying.{FlushPaidWithin, FlushSyncPaid, StepPaid, TurnPaid};
 ghost use Rattle.rx_root.specs.Breaking.{BreaksOff, BreaksOffWithin, TurnBreaksOff};
 
 use crate::root::Root;
@@ -32,7 +32,7 @@ impl Root {
         requires positive { 0 < units }
         requires room { HasRoomFor 1 self.old }
         ensures ok { OnOk result ((s : State) → Stands self.old.rendering.program s self.old
-            → Takes self.old.rendering.program (Turn self.old.rendering.program (between_events s) (Some units)) self.new log.old log.new steps.old steps.new) }
+            → Takes self.old.rendering.program (TurnPaid self.old.rendering.program (between_events s) (Some units)) self.new log.old log.new steps.old steps.new) }
         ensures breaks { OnErr result ((s : State) → Stands self.old.rendering.program s self.old
             → Breaks self.old.rendering.program (TurnBreaksOff (between_events s)) self.new log.old log.new steps.old steps.new) }
         ensures left { (k : ℕ) → HasRoomFor (suc k) self.old → HasRoomFor k self.new }
@@ -51,7 +51,7 @@ impl Root {
         requires stands { (s : State) × Stands self.old.rendering.program s self.old }
         requires room { HasRoomFor 1 self.old }
         ensures ok { OnOk result ((s : State) → Stands self.old.rendering.program s self.old
-            → Takes self.old.rendering.program (Flush self.old.rendering.program (between_events s)) self.new log.old log.new steps.old steps.new) }
+            → Takes self.old.rendering.program (FlushPaidWithin flush_limit self.old.rendering.program (between_events s)) self.new log.old log.new steps.old steps.new) }
         ensures breaks { OnErr result ((s : State) → Stands self.old.rendering.program s self.old
             → Breaks self.old.rendering.program (BreaksOffWithin flush_limit self.old.rendering.program (between_events s)) self.new log.old log.new steps.old steps.new) }
         ensures left { (k : ℕ) → HasRoomFor (suc k) self.old → HasRoomFor k self.new }
@@ -70,7 +70,7 @@ impl Root {
         requires stands { (s : State) × Stands self.old.rendering.program s self.old }
         requires room { HasRoomFor 1 self.old }
         ensures ok { OnOk result ((s : State) → Stands self.old.rendering.program s self.old
-            → Takes self.old.rendering.program (FlushSync (has s.schedule.pending lane.Sync) self.old.rendering.program (between_events s)) self.new log.old log.new steps.old steps.new) }
+            → Takes self.old.rendering.program (FlushSyncPaid (has s.schedule.pending lane.Sync) self.old.rendering.program (between_events s)) self.new log.old log.new steps.old steps.new) }
         ensures breaks { OnErr result ((s : State) → Stands self.old.rendering.program s self.old
             → Breaks self.old.rendering.program (λ r. (has s.schedule.pending lane.Sync ≡ true) × TurnBreaksOff (between_events s) r) self.new log.old log.new steps.old steps.new) }
         ensures left { (k : ℕ) → HasRoomFor (suc k) self.old → HasRoomFor k self.new }
@@ -81,7 +81,9 @@ impl Root {
     }
 
     /// Takes a step of a script: the root stands for the state of the machine after it, the report has its lines, and the
-    /// counter the bodies that it evaluated. After an `Err` of a step that renders, the root stands for the state after the
+    /// counter the bodies that it evaluated. Each of its renders evaluates a body only where a place has a cause or lies below
+    /// one that has, and each place that has one of its own, but for what hidden boundaries keep that wait still (react.dev,
+    /// Render and Commit). After an `Err` of a step that renders, the root stands for the state after the
     /// renders that the step finished and the passive effects that it ran, whose lines the report has, and no render is in
     /// progress; so the step may be called again. An `Err` of any other step changes nothing of what the root stands for, nor
     /// the report.
@@ -100,7 +102,7 @@ impl Root {
         requires room { HasRoomFor 1 self.old }
         ensures ok { OnOk result ((s : State) → Stands self.old.rendering.program s self.old
             → (r : Stretch) × StepTo self.old.rendering.program s step.now r × Stands self.old.rendering.program r.after self.new
-            × (log.new ≡ with_lines log.old r.lines) × (steps.new ≡ steps.old + r.bodies)) }
+            × (log.new ≡ with_lines log.old r.lines) × (steps.new ≡ steps.old + r.bodies) × StepPaid self.old.rendering.program s step.now r) }
         ensures broken { OnErr result ((s : State) → Stands self.old.rendering.program s self.old
             → (r : Stretch) × BreaksOff self.old.rendering.program s step.now r × Stands self.old.rendering.program r.after self.new
             × (log.new ≡ with_lines log.old r.lines) × (steps.old + r.bodies ≤ steps.new)) }

@@ -21,8 +21,8 @@ ghost use Rattle.rx_model.specs.Stretch.{silent};
 ghost use Rattle.rx_sched.specs.declared.choice.Choice.TheVariants as choices;
 ghost use Rattle.rx_settle.specs.Settling.{CanSettle, IsSettlingOf};
 ghost use Rattle.rx_hook_store.specs.Store.{kept_hooks};
-ghost use Rattle.rx_model.specs.Turns.{slice_of, choice_of, GoesOn, Turn};
-ghost use Rattle.rx_model.specs.Machine.{Flush, FlushSync, flush_limit};
+ghost use Rattle.rx_model.specs.Turns.{slice_of, choice_of};
+ghost use Rattle.rx_model.specs.Machine.{flush_limit};
 ghost use Rattle.rx_model.specs.Kept.{IsSet};
 ghost use Rattle.rx_model.specs.Laws.{IsBounded, IsReached};
 ghost use Rattle.rx_pruned.specs.Besides.{IsBeside};
@@ -34,7 +34,8 @@ ghost use Rattle.rx_render.specs.Renders.{with_hooks};
 ghost use Rattle.rx_render.specs.Turning.{GoesOn as Onward, GivesUp, KeepsHooks};
 ghost use Rattle.rx_root.specs.Breaking.{BreaksOffWithin, HasBegun, TurnBreaksOff};
 ghost use Rattle.rx_root.specs.Stands.{Stands, StandsWith};
-ghost use Rattle.rx_root.specs.Turning.{Breaks, CanFollow, CanShow, FlushWithin, FlushesFrom, GaveUp, HasBroken, HasDone, HasFinished, HasNumbered, HasRoomForTurns, HasSomeProgress, HasYielded, IsAtSomeEnd, IsPrepared, IsPreparedFor, KnowsSince, KnowsSinceSome, LeadsOn, LeavesRoom, StandsAtEnd, StandsBetween, Takes, counts_of, is_new, is_news, passive_left};
+ghost use Rattle.rx_root.specs.Paying.{FlushPaidWithin, FlushSyncPaid, GoesOnPaid, TurnPaid};
+ghost use Rattle.rx_root.specs.Turning.{Breaks, CanFollow, CanShow, FlushesFrom, GaveUp, HasBroken, HasDone, HasFinished, HasNumbered, HasRoomForTurns, HasSomeProgress, HasYielded, IsAtSomeEnd, IsPrepared, IsPreparedFor, KnowsSince, KnowsSinceSome, LeadsOn, LeavesRoom, StandsAtEnd, StandsBetween, Takes, counts_of, is_new, is_news, passive_left};
 
 use crate::root::Root;
 use rx_base::{Awaits, Cut, Int, Steps};
@@ -434,7 +435,7 @@ impl Root {
         requires room { HasRoomForTurns 1 self.old }
         requires positive { IfSome budget (λ n. 0 < n) }
         ensures takes { OnOk result ((p : syntax.Program) (s : State) (g : Progress) → StandsWith p s (Some g) self.old → LeadsOn p s g budget
-            → Takes p (GoesOn p s g budget) self.new log.old log.new steps.old steps.new) }
+            → Takes p (GoesOnPaid p s g budget) self.new log.old log.new steps.old steps.new) }
         ensures gave_up { OnErr result (GaveUp self.old self.new) }
         ensures unchanged { OnErr result (log.new ≡ log.old) }
         ensures rises { steps.old ≤ steps.new }
@@ -456,7 +457,7 @@ impl Root {
         requires stands { StandsBetween self.old }
         requires room { HasRoomForTurns 1 self.old }
         requires positive { IfSome budget (λ n. 0 < n) }
-        ensures takes { OnOk result ((p : syntax.Program) (s : State) → Stands p s self.old → s.event ≡ None → Takes p (Turn p s budget) self.new log.old log.new steps.old steps.new) }
+        ensures takes { OnOk result ((p : syntax.Program) (s : State) → Stands p s self.old → s.event ≡ None → Takes p (TurnPaid p s budget) self.new log.old log.new steps.old steps.new) }
         ensures broken { OnErr result ((p : syntax.Program) (s : State) → Stands p s self.old → s.event ≡ None → HasBroken p (λ r. (choice_of s ≢ choices.None) × HasBegun s r) self.new log.old log.new) }
         ensures rises { steps.old ≤ steps.new }
     {
@@ -481,7 +482,7 @@ impl Root {
         requires stands { StandsBetween self.old }
         requires room { HasRoomForTurns 1 self.old }
         requires positive { IfSome budget (λ n. 0 < n) }
-        ensures takes { OnOk result ((p : syntax.Program) (s : State) → Stands p s self.old → s.event ≡ None → Takes p (Turn p s budget) self.new log.old log.new steps.old steps.new) }
+        ensures takes { OnOk result ((p : syntax.Program) (s : State) → Stands p s self.old → s.event ≡ None → Takes p (TurnPaid p s budget) self.new log.old log.new steps.old steps.new) }
         ensures breaks { OnErr result ((p : syntax.Program) (s : State) → Stands p s self.old → s.event ≡ None → Breaks p (TurnBreaksOff s) self.new log.old log.new steps.old steps.new) }
         ensures leaves { LeavesRoom 1 self.old self.new }
         ensures rises { steps.old ≤ steps.new }
@@ -511,7 +512,7 @@ impl Root {
         requires stands { StandsBetween self.old }
         requires room { HasRoomForTurns 1 self.old }
         requires positive { 0 < units }
-        ensures takes { OnOk result ((p : syntax.Program) (s : State) → Stands p s self.old → s.event ≡ None → Takes p (Turn p s (Some units)) self.new log.old log.new steps.old steps.new) }
+        ensures takes { OnOk result ((p : syntax.Program) (s : State) → Stands p s self.old → s.event ≡ None → Takes p (TurnPaid p s (Some units)) self.new log.old log.new steps.old steps.new) }
         ensures breaks { OnErr result ((p : syntax.Program) (s : State) → Stands p s self.old → s.event ≡ None → Breaks p (TurnBreaksOff s) self.new log.old log.new steps.old steps.new) }
         ensures leaves { LeavesRoom 1 self.old self.new }
         ensures rises { steps.old ≤ steps.new }
@@ -528,7 +529,7 @@ impl Root {
     ) -> Result<(), AllocError>
         requires flushes { FlushesFrom limit self.old }
         requires room { HasRoomForTurns limit self.old }
-        ensures takes { OnOk result ((p : syntax.Program) (s : State) → Stands p s self.old → s.event ≡ None → Takes p (FlushWithin limit p s) self.new log.old log.new steps.old steps.new) }
+        ensures takes { OnOk result ((p : syntax.Program) (s : State) → Stands p s self.old → s.event ≡ None → Takes p (FlushPaidWithin limit p s) self.new log.old log.new steps.old steps.new) }
         ensures breaks { OnErr result ((p : syntax.Program) (s : State) → Stands p s self.old → s.event ≡ None → Breaks p (BreaksOffWithin limit p s) self.new log.old log.new steps.old steps.new) }
         ensures leaves { LeavesRoom limit self.old self.new }
         ensures rises { steps.old ≤ steps.new }
@@ -552,7 +553,7 @@ impl Root {
     ) -> Result<(), AllocError>
         requires stands { StandsBetween self.old }
         requires room { HasRoomForTurns flush_limit self.old }
-        ensures takes { OnOk result ((p : syntax.Program) (s : State) → Stands p s self.old → s.event ≡ None → Takes p (Flush p s) self.new log.old log.new steps.old steps.new) }
+        ensures takes { OnOk result ((p : syntax.Program) (s : State) → Stands p s self.old → s.event ≡ None → Takes p (FlushPaidWithin flush_limit p s) self.new log.old log.new steps.old steps.new) }
         ensures breaks { OnErr result ((p : syntax.Program) (s : State) → Stands p s self.old → s.event ≡ None → Breaks p (BreaksOffWithin flush_limit p s) self.new log.old log.new steps.old steps.new) }
         ensures leaves { LeavesRoom flush_limit self.old self.new }
         ensures rises { steps.old ≤ steps.new }
@@ -574,7 +575,7 @@ impl Root {
         requires stands { StandsBetween self.old }
         requires room { HasRoomForTurns 1 self.old }
         ensures takes { OnOk result ((p : syntax.Program) (s : State) → Stands p s self.old → s.event ≡ None
-            → Takes p (FlushSync (has s.schedule.pending lane.Sync) p s) self.new log.old log.new steps.old steps.new) }
+            → Takes p (FlushSyncPaid (has s.schedule.pending lane.Sync) p s) self.new log.old log.new steps.old steps.new) }
         ensures breaks { OnErr result ((p : syntax.Program) (s : State) → Stands p s self.old → s.event ≡ None → Breaks p (λ r. (has s.schedule.pending lane.Sync ≡ true) × TurnBreaksOff s r) self.new log.old log.new steps.old steps.new) }
         ensures leaves { LeavesRoom 1 self.old self.new }
         ensures rises { steps.old ≤ steps.new }

@@ -13,6 +13,7 @@ use Rattle.rx_model.specs.State.{State, opening}
 use Rattle.rx_model.specs.Stretch.{Stretch, silent, followed_by}
 use Rattle.rx_model.specs.Laws.{IsReached}
 use Rattle.rx_model.specs.Machine.{RunTo, StepTo}
+use Rattle.rx_root.specs.Paying.{StepPaid}
 use Rattle.rx_root.specs.Rooted.{Rooted}
 use Rattle.rx_root.specs.Stands.{Stands, HasRoomFor}
 use Rattle.rx_top.specs.Running.{BeginsRun, WritesRun}
@@ -138,7 +139,7 @@ logged o before cut log bytes lines c l p b =
 abbrev pub Takes : Program → Step → Rooted → Rooted → Written → Written → ℕ → ℕ → Type 0
 Takes p step root after cut log used_old used =
     (s : State) → Stands p s root → (r : Stretch) × StepTo p s step r × Stands p r.after after
-    × (log ≡ record { options = cut.options; bytes = cut.bytes ++ report_bytes cut.options r.lines }) × (used ≡ used_old + r.bodies)
+    × (log ≡ record { options = cut.options; bytes = cut.bytes ++ report_bytes cut.options r.lines }) × (used ≡ used_old + r.bodies) × StepPaid p s step r
 
 -- a step that a root takes, where its log was cut to nothing before
 pub stepped : (p q : Program) (o : Options) (step : Step) (root after : Rooted) (before cut log : Written) (bytes : List ℕ) (used_old used : ℕ) → q ≡ p

@@ -13,7 +13,8 @@ use Rattle.rx_ctx.specs.Contexts.{values_at}
 use Rattle.rx_begin.proofs.Keeping.{parts_here, no_parts, counts_so, if_both}
 use Rattle.std.specs.Prelude.{true, not, None, is_some, option_map, option_and_then}
 use Rattle.rx_begin.proofs.ByElement.{if_ok}
-use Rattle.rx_begin.proofs.Origins.{other_kids}
+use Rattle.rx_begin.specs.Beginning.{awaited_again, is_taken}
+use Rattle.rx_begin.proofs.Origins.{is_none, not_both, other_kids, other_tried, other_takes_not, other_no_body}
 use Rattle.rx_begin.proofs.Taking.{taken_over}
 use Rattle.rx_begin.proofs.Begins.{place_kept, place_olds, place_tree, place_there, place_context, place_props, begins_body, begins_other, counts_one, made_at}
 use Rattle.rx_begin.proofs.beginning.begin.Goals as goal
@@ -181,12 +182,53 @@ pub returns-in-Some-clause-taken : goal.returns-in-Some-clause-taken
 returns-in-Some-clause-taken g c = c.begin_component.ensures.taken
 
 pub returns-in-Some-clause-kids : goal.returns-in-Some-clause-kids
-returns-in-Some-clause-kids g c = if_ok c.begin_component.result _ _ (λ b kids v id here is. (c.is_steady-steady.result, c.is_steady-steady.ensures v here, kids id is)) c.begin_component.ensures.kids
+returns-in-Some-clause-kids g c =
+    if_ok c.begin_component.result _ _ (λ b kids v here is. (not b.1, c.is_steady-steady.result, c.is_steady-steady.ensures v here, (λ so none clear. ap not none), kids is))
+    c.begin_component.ensures.kids
 
 pub returns-clause-kids : goal.returns-clause-kids
-returns-clause-kids g c v id here is = (
-  c.is_steady-steady.result,
-  c.is_steady-steady.ensures v here,
-  other_kids c.args.scene.now (kept_hooks c.args.hooks.now) c.args.tree.now c.args.contexts.now c.begin_or_hide.new.tree c.begin_or_hide.new.contexts c.args.at c.in_ok-element.element
-      c.origin_of-origin.result c.is_steady-steady.result c.in_ok-begun-in-None.begun c.in_ok-begun-in-None.ensures.begun id is,
-)
+returns-clause-kids g c v here is =
+    let (cloned, counts, opens) = other_kids c.args.scene.now (kept_hooks c.args.hooks.now) c.args.tree.now c.args.contexts.now c.begin_or_hide.new.tree c.begin_or_hide.new.contexts c.args.at c.in_ok-element.element
+    c.origin_of-origin.result c.is_steady-steady.result c.in_ok-begun-in-None.begun c.in_ok-begun-in-None.ensures.begun is in
+    (cloned, c.is_steady-steady.result, c.is_steady-steady.ensures v here, (λ so none clear. counts (c.origin_of-origin.ensures.clones v here so) clear), opens)
+
+pub returns-in-Some-clause-tried : goal.returns-in-Some-clause-tried
+returns-in-Some-clause-tried g c = if_ok c.begin_component.result _ _ (λ b own is. absurd (is_none (awaited_again b.0) own.1 is)) c.begin_component.ensures.own
+
+pub returns-clause-tried : goal.returns-clause-tried
+returns-clause-tried g c is =
+    other_tried c.args.scene.now (kept_hooks c.args.hooks.now) c.args.tree.now c.args.contexts.now c.begin_or_hide.new.tree c.begin_or_hide.new.contexts c.args.at c.in_ok-element.element
+    c.origin_of-origin.result c.is_steady-steady.result c.in_ok-begun-in-None.begun c.in_ok-begun-in-None.ensures.begun is
+
+pub returns-then-takes_over-clause-taken_over : goal.returns-then-takes_over-clause-taken_over
+returns-then-takes_over-clause-taken_over g c is = c.in_ok-take_node.ensures.taken
+
+pub returns-in-Some-clause-taken_over : goal.returns-in-Some-clause-taken_over
+returns-in-Some-clause-taken_over g c = if_ok c.begin_component.result _ _ (λ b own is. absurd (not_both (is_taken b.0) own.0 is)) c.begin_component.ensures.own
+
+pub returns-clause-taken_over : goal.returns-clause-taken_over
+returns-clause-taken_over g c is =
+    absurd (not_both (is_taken c.in_ok-begun-in-None.begun) (other_takes_not c.args.scene.now (kept_hooks c.args.hooks.now) c.args.tree.now c.args.contexts.now c.begin_or_hide.new.tree c.begin_or_hide.new.contexts c.args.at c.in_ok-element.element
+    c.origin_of-origin.result c.is_steady-steady.result c.in_ok-begun-in-None.begun c.in_ok-begun-in-None.ensures.begun) is)
+
+pub returns-in-Some-clause-waits : goal.returns-in-Some-clause-waits
+returns-in-Some-clause-waits g c = c.begin_component.ensures.waits
+
+pub returns-clause-waits : goal.returns-clause-waits
+returns-clause-waits g c r is =
+    absurd (other_no_body c.args.scene.now (kept_hooks c.args.hooks.now) c.args.tree.now c.args.contexts.now c.begin_or_hide.new.tree c.begin_or_hide.new.contexts c.args.at c.in_ok-element.element
+    c.origin_of-origin.result c.is_steady-steady.result c.in_ok-begun-in-None.begun c.in_ok-begun-in-None.ensures.begun r is)
+
+pub returns-then-takes_over-clause-rests : goal.returns-then-takes_over-clause-rests
+returns-then-takes_over-clause-rests g c is = c.takes_over.ensures.rest c.if-takes_over.true
+
+pub returns-in-Some-clause-rests : goal.returns-in-Some-clause-rests
+returns-in-Some-clause-rests g c = if_ok c.begin_component.result _ _ (λ b own is. absurd (not_both (is_taken b.0) own.0 is)) c.begin_component.ensures.own
+
+pub returns-clause-rests : goal.returns-clause-rests
+returns-clause-rests g c is =
+    absurd (not_both (is_taken c.in_ok-begun-in-None.begun) (other_takes_not c.args.scene.now (kept_hooks c.args.hooks.now) c.args.tree.now c.args.contexts.now c.begin_or_hide.new.tree c.begin_or_hide.new.contexts c.args.at c.in_ok-element.element
+    c.origin_of-origin.result c.is_steady-steady.result c.in_ok-begun-in-None.begun c.in_ok-begun-in-None.ensures.begun) is)
+
+pub returns-in-Some-clause-news : goal.returns-in-Some-clause-news
+returns-in-Some-clause-news g c = if_ok c.begin_component.result _ _ (λ b own is. absurd (is_none (awaited_again b.0) own.1 is)) c.begin_component.ensures.own

@@ -7,6 +7,8 @@ use Rattle.rx_begin.specs.Bodies.{keeps}
 use Rattle.rx_hook_store.specs.Store.{kept_hooks}
 use Rattle.rx_begin.proofs.Nodes.{bare_made}
 use Rattle.rx_begin.proofs.Bodies.{evaluated, instance_at}
+use Rattle.rx_fiber.specs.Fibers.{as_cloned}
+use Rattle.rx_begin.proofs.Origins.{opened_takes_not, opened_waits_not, opened_no_body}
 use Rattle.rx_begin.proofs.Keeping.{calm_shape}
 use Rattle.rx_begin.proofs.Standing.{instance_keeps}
 use Rattle.rx_begin.proofs.body.begin_component.Goals as goal
@@ -40,3 +42,24 @@ returns-clause-evaluated g c s old key kids is was gives settled stood same =
 
 pub returns-clause-taken : goal.returns-clause-taken
 returns-clause-taken g c is = sym is ∙ c.in_ok-begun-2.ensures.anew
+
+pub returns-then-is_skipped-clause-own : goal.returns-then-is_skipped-clause-own
+returns-then-is_skipped-clause-own g c = (
+  opened_takes_not (as_cloned c.args.steady) c.args.tree.now c.keep_body.new.tree c.args.at c.in_ok-begun.begun c.in_ok-begun.ensures.kids,
+  opened_waits_not (as_cloned c.args.steady) c.args.tree.now c.keep_body.new.tree c.args.at c.in_ok-begun.begun c.in_ok-begun.ensures.kids,
+)
+
+pub returns-then-is_skipped-clause-kids : goal.returns-then-is_skipped-clause-kids
+returns-then-is_skipped-clause-kids g c is = c.in_ok-begun.ensures.kids
+
+pub returns-then-is_skipped-clause-waits : goal.returns-then-is_skipped-clause-waits
+returns-then-is_skipped-clause-waits g c r is = absurd (opened_no_body (as_cloned c.args.steady) c.args.tree.now c.keep_body.new.tree c.args.at c.in_ok-begun.begun c.in_ok-begun.ensures.kids r is)
+
+pub returns-clause-own : goal.returns-clause-own
+returns-clause-own g c = (c.in_ok-begun-2.ensures.anew, c.in_ok-begun-2.ensures.own)
+
+pub returns-clause-kids : goal.returns-clause-kids
+returns-clause-kids g c is = c.in_ok-begun-2.ensures.kids is
+
+pub returns-clause-waits : goal.returns-clause-waits
+returns-clause-waits g c r is = c.in_ok-begun-2.ensures.waits r is

@@ -5,7 +5,7 @@ use Rattle.rx_begin.specs.Bodies.{waits}
 use Rattle.rx_begin.proofs.Bodies.{opened_anew}
 use Rattle.rx_fiber.specs.Fibers.{as_matched}
 use Rattle.rx_begin.proofs.ByElement.{if_ok}
-use Rattle.rx_begin.proofs.Origins.{opened_kids}
+use Rattle.rx_begin.proofs.Origins.{matched_kids, opened_waits_not, opened_no_body}
 use Rattle.rx_begin.proofs.body.open_body.Goals as goal
 
 pub returns-in-Wait-clause-opened : goal.returns-in-Wait-clause-opened
@@ -14,5 +14,18 @@ returns-in-Wait-clause-opened c cs node cloned same = waits c.in-Wait.resource (
 pub returns-in_ok-instance-in-Ready-clause-anew : goal.returns-in_ok-instance-in-Ready-clause-anew
 returns-in_ok-instance-in-Ready-clause-anew c = if_ok c.open_node.result _ _ (λ b h. opened_anew _ _ _ _ _ _ _ b h) c.open_node.ensures.opened
 
+pub returns-in_ok-instance-in-Ready-clause-own : goal.returns-in_ok-instance-in-Ready-clause-own
+returns-in_ok-instance-in-Ready-clause-own c =
+    if_ok c.open_node.result _ _ (λ b h. opened_waits_not (as_matched c.args.steady) c.args.tree.now c.open_node.new.tree c.args.at b (matched_kids c.args.tree.now c.open_node.new.tree c.args.at _ _ c.args.steady b h))
+    c.open_node.ensures.opened
+
 pub returns-in_ok-instance-in-Ready-clause-kids : goal.returns-in_ok-instance-in-Ready-clause-kids
-returns-in_ok-instance-in-Ready-clause-kids c = if_ok c.open_node.result _ _ (λ b h id is. opened_kids (as_matched c.args.steady) c.args.tree.now c.open_node.new.tree c.args.at _ _ _ b h) c.open_node.ensures.opened
+returns-in_ok-instance-in-Ready-clause-kids c =
+    if_ok c.open_node.result _ _ (λ b h is. matched_kids c.args.tree.now c.open_node.new.tree c.args.at _ _ c.args.steady b h) c.open_node.ensures.opened
+
+pub returns-in_ok-instance-in-Ready-clause-waits : goal.returns-in_ok-instance-in-Ready-clause-waits
+returns-in_ok-instance-in-Ready-clause-waits c =
+    if_ok c.open_node.result _ _
+    (λ b h r is.
+    absurd (opened_no_body (as_matched c.args.steady) c.args.tree.now c.open_node.new.tree c.args.at b (matched_kids c.args.tree.now c.open_node.new.tree c.args.at _ _ c.args.steady b h) r is))
+    c.open_node.ensures.opened

@@ -1,9 +1,11 @@
 use Rattle.std.specs.Option.{option_copied}
-use Rattle.std.proofs.Common.{refl, sym, subst}
+use Rattle.std.proofs.Common.{refl, sym, ap, ◌∙◌, subst}
 use Rattle.rx_links.specs.Readers.{list_from}
+use Rattle.rx_fiber.specs.OldLists.{fallback_list}
 use Rattle.rx_begin.specs.Opening.{HasOpenedAs, given_as, given_elements, given_fibers}
 use Rattle.rx_begin.proofs.Nodes.{bare_made}
 use Rattle.rx_begin.proofs.Falling.{room_alone, left_alone, left_old}
+use Rattle.rx_begin.proofs.FallbackKids.{alone_kids}
 use Rattle.rx_begin.proofs.OldFallback.{given_next, same_old}
 use Rattle.rx_begin.proofs.opening.fall_alone.Goals as goal
 
@@ -23,3 +25,11 @@ returns-clause-opened c st d l h =
     (given_next t st c.args.at c.args.awaits d l c.facts.ensures.linked given h s
     (same_old t t l.old c.alternate.result c.old_fallback-first_old.result c.old_fallback-first_old.ensures.list old refl))
     (c.requires.gone st d l))
+
+pub returns-clause-kids : goal.returns-clause-kids
+returns-clause-kids c =
+    let t = c.args.tree.now in
+    let s = list_from t.current c.old_fallback-first_old.result in
+    alone_kids t c.open_listed.new.tree c.args.at c.args.awaits (option_copied c.args.given) s c.in_ok-first.first c.opened_at.result
+    (c.old_fallback-first_old.ensures.list ∙ ap (λ o. fallback_list (list_from t.current o)) (c.alternate.ensures.made (bare_made t c.args.at c.place_facts.ensures c.requires.bare)))
+    c.in_ok-first.ensures.opened c.opened_at.ensures

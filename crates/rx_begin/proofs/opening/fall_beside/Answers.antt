@@ -1,10 +1,12 @@
 use Rattle.std.specs.Option.{option_copied}
 use Rattle.std.proofs.Common.{ap, inr, sym, subst, ◌∙◌, IfSome}
 use Rattle.rx_lists.specs.Shapes.{Holds}
+use Rattle.rx_links.specs.Drafts.{old_of}
 use Rattle.rx_links.specs.Readers.{list_from}
 use Rattle.rx_begin.specs.Opening.{HasOpenedAs, fallback_behind, given_as, given_elements, given_fibers}
 use Rattle.rx_begin.proofs.Nodes.{bare_made}
 use Rattle.rx_begin.proofs.Falling.{kept_made, kept_sibling, room_beside, left_beside, left_old, new_made, new_link}
+use Rattle.rx_begin.proofs.FallbackKids.{beside_kids}
 use Rattle.rx_begin.proofs.OldFallback.{given_next, same_old}
 use Rattle.rx_begin.proofs.opening.fall_beside.Goals as goal
 
@@ -75,3 +77,23 @@ returns-clause-opened c st d l h =
     (new_link (given_as given) c.put_fallback.new.tree c.make_listed.new.tree c.in_ok-id.id c.old_fallback-first_old.result (given_elements given s) (given_fibers given s) beside
     c.in_ok-make_listed.ensures.made c.place_facts-4.ensures c.first_child.result (c.first_child.ensures.made made))
     (c.requires.keeps st d l))
+
+pub returns-clause-kids : goal.returns-clause-kids
+returns-clause-kids c =
+    let given = option_copied c.args.given in
+    let s = list_from c.put_fallback.new.tree.current c.old_fallback-first_old.result in
+    let beside = room_beside c.args.tree.now c.keep_primary.new.tree c.args.at c.args.awaits c.alternate.result c.requires.left c.place_facts.ensures
+    (c.alternate.ensures.made (bare_made c.args.tree.now c.args.at c.place_facts.ensures c.requires.bare)) c.keep_primary.ensures.kept c.keep_primary.ensures.current
+    c.put_fallback.new.tree c.in_ok-beside.beside c.old_fallback-first_old.result c.in_ok-id.id c.requires.keeps c.facts.ensures.linked
+    (c.in_ok-beside.ensures.same ∙ (c.old_beside-behind.ensures.is ∙ ap (λ q. fallback_behind (list_from c.args.tree.now.current q))
+    (c.alternate-2.ensures.made (bare_made c.args.tree.now c.args.at c.place_facts.ensures c.requires.bare)
+    ∙ sym (c.alternate.ensures.made (bare_made c.args.tree.now c.args.at c.place_facts.ensures c.requires.bare))))) c.in_ok-id.ensures.put c.old_fallback-first_old.ensures.list in
+    let made = new_made (given_as given) c.put_fallback.new.tree c.make_listed.new.tree c.in_ok-id.id c.old_fallback-first_old.result (given_elements given s) (given_fibers given s) beside
+    c.in_ok-make_listed.ensures.made c.place_facts-4.ensures in
+    beside_kids c.args.tree.now c.make_listed.new.tree c.args.at c.args.awaits given s c.first_child.result c.opened_at.result
+    (same_old c.args.tree.now c.put_fallback.new.tree (old_of c.args.tree.now.draft c.args.at) c.alternate.result c.old_fallback-first_old.result c.old_fallback-first_old.ensures.list
+    (c.alternate.ensures.made (bare_made c.args.tree.now c.args.at c.place_facts.ensures c.requires.bare)) (c.in_ok-id.ensures.current ∙ c.keep_primary.ensures.current))
+    c.keep_primary.new.tree c.put_fallback.new.tree c.in_ok-beside.beside c.in_ok-id.id c.keep_primary.ensures.kept c.in_ok-id.ensures.put c.in_ok-make_listed.ensures.made
+    (new_link (given_as given) c.put_fallback.new.tree c.make_listed.new.tree c.in_ok-id.id c.old_fallback-first_old.result (given_elements given s) (given_fibers given s) beside
+    c.in_ok-make_listed.ensures.made c.place_facts-4.ensures c.first_child.result (c.first_child.ensures.made made))
+    c.opened_at.ensures

@@ -9,7 +9,7 @@ use Rattle.rx_fiber.specs.OldLists.{primary_list}
 use Rattle.rx_fiber.proofs.OldReads.{some_held}
 use Rattle.rx_hook_store.specs.Store.{kept_hooks}
 use Rattle.rx_causes.specs.Hidden.{HasValueOf}
-use Rattle.rx_causes.proofs.Still.{no_old, marks_node, node_marks, kept_fibers, kept_agrees, kept_news, none_resolved}
+use Rattle.rx_causes.proofs.Still.{no_old, marks_node, node_marks, kept_fibers, kept_agrees, kept_news, kept_told, none_resolved}
 use Rattle.rx_causes.proofs.hidden.waits_still.Goals as goal
 use Rattle.rx_causes.proofs.hidden.waits_still.Goals.{then-has_value, else-has_value}
 
@@ -62,4 +62,15 @@ returns-else-any_news-clause-waits c s x is was gives =
                 (c.old_primary-kept.ensures.list ∙ ap (λ o. primary_list (list_from trees o)) (sym c.in_ok-id.was)) (kept_hooks c.args.hooks.now) c.args.scene.now.lanes c.args.scene.now.cut x was s is.lanes is.cut
                 (w.any_news.ensures.none (sym w.value-is ∙ c.if-any_news.false)) gives;
           }
+    ]
+
+pub returns-else-any_news-clause-news : goal.returns-else-any_news-clause-news
+returns-else-any_news-clause-news c x was =
+    let trees = c.args.tree.now.current in
+    elim c.if-has_value.branch [
+      | then-has_value w ↦ absurd (let q : true ≡ false = sym w.if-has_value.true ∙ (sym w.value-is ∙ c.if-any_news.false) in let r : ⊥ = cc in r)
+      | else-has_value w ↦
+          kept_told trees c.facts.ensures.linked c.args.old c.old_primary-kept.result
+          (c.old_primary-kept.ensures.list ∙ ap (λ o. primary_list (list_from trees o)) (sym c.in_ok-id.was)) (kept_hooks c.args.hooks.now) c.args.scene.now.lanes c.args.scene.now.cut x was
+          (w.any_news.ensures.none (sym w.value-is ∙ c.if-any_news.false))
     ]

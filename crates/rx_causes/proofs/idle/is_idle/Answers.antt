@@ -14,7 +14,7 @@ use Rattle.rx_causes.specs.Idle.{HasCauseAt, HasNoCauseAt, is_anew}
 use Rattle.rx_causes.proofs.Marks.{mark_is}
 use Rattle.rx_causes.proofs.Walks.{list_at_links}
 use Rattle.rx_causes.proofs.Still.{no_old, stage_mark}
-use Rattle.rx_causes.proofs.Causes.{calm_without, keeps_fibers, keeps_without, mark_there, told_again, tree_cause, tree_idle, shown_again}
+use Rattle.rx_causes.proofs.Causes.{calm_without, keeps_fibers, keeps_without, mark_there, told_again, tree_cause, tree_idle, tree_rests, shown_again}
 use Rattle.rx_causes.proofs.idle.is_idle.Goals as goal
 use Rattle.rx_causes.proofs.idle.is_idle.Goals.{then-not-is_anew, else-not-is_anew}
 
@@ -68,6 +68,24 @@ returns-then-not-has_cause-clause-idle c free s x is was gives covers =
           (subst (λ stage. HasNoCauseAt (kept_hooks c.args.hooks.now) c.args.scene.now.lanes c.args.scene.now.cut (begun_mark stage)) c.stage-stage.ensures
           (w.has_cause.ensures.none (shown_again w.has_cause.result (sym w.value-is ∙ c.if-not-has_cause.true))))
           (c.any_cause.ensures.none (shown_again c.any_cause.result free)) s is.lanes is.cut gives covers
+      | else-not-is_anew w ↦ absurd (let q : true ≡ false = sym w.if-not-is_anew.false ∙ shown_again c.is_anew.result (sym w.value-is ∙ c.if-not-has_cause.true) in let r : ⊥ = cc in r)
+    ]
+
+pub returns-then-not-has_cause-clause-rest : goal.returns-then-not-has_cause-clause-rest
+returns-then-not-has_cause-clause-rest c free x was =
+    let trees = c.args.tree.now.current in
+    let i = c.in-Some.id in
+    let held = some_held trees c.args.old i c.requires.held c.in-Some.is in
+    let v = c.value.result.now in
+    let behind = first (rest_of trees i) in
+    elim c.if-not-is_anew.branch [
+      | then-not-is_anew w ↦
+          tree_rests trees c.args.old i c.in-Some.is v (list_from trees c.first_child.result) (list_from trees behind)
+          (list_at_links trees c.facts.ensures.linked i held v (c.value.ensures.current held) c.first_child.result (c.first_child.ensures.current held) behind refl)
+          (kept_hooks c.args.hooks.now) c.args.scene.now.lanes c.args.scene.now.cut x was (is_way c.args.scene.now.ways.now)
+          (subst (λ stage. HasNoCauseAt (kept_hooks c.args.hooks.now) c.args.scene.now.lanes c.args.scene.now.cut (begun_mark stage)) c.stage-stage.ensures
+          (w.has_cause.ensures.none (shown_again w.has_cause.result (sym w.value-is ∙ c.if-not-has_cause.true))))
+          (c.any_cause.ensures.none (shown_again c.any_cause.result free))
       | else-not-is_anew w ↦ absurd (let q : true ≡ false = sym w.if-not-is_anew.false ∙ shown_again c.is_anew.result (sym w.value-is ∙ c.if-not-has_cause.true) in let r : ⊥ = cc in r)
     ]
 

@@ -12,4 +12,4 @@ pub returns-in-Completes-clause-comes : goal.returns-in-Completes-clause-comes
 returns-in-Completes-clause-comes g c s sees =
     subst (λ a. Advances s (is_way c.args.scene.now.ways.now) (kept_hooks c.args.hooks.now) c.args.tree.now c.args.contexts.now a 0 c.complete_node.new.tree c.complete_node.new.contexts c.complete_node.result) (sym c.in-Completes.is)
     (end_advances s (is_way c.args.scene.now.ways.now) (kept_hooks c.args.hooks.now) c.args.tree.now c.args.contexts.now c.complete_node.new.tree c.complete_node.new.contexts c.in-Completes.id c.complete_node.result
-    (c.complete_node.ensures.comes s))
+    (c.complete_node.ensures.comes s) c.complete_node.ensures.flags)

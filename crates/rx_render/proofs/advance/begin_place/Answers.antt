@@ -1,11 +1,20 @@
-use Rattle.std.specs.Prelude.{if◌then◌else◌}
-use Rattle.std.proofs.Common.{sym, ap, subst}
+use Rattle.std.specs.Prelude.{◌≡◌, false, IsSome, if◌then◌else◌}
+use Rattle.std.proofs.Common.{refl, sym, ap, subst}
+use Rattle.rx_base.specs.Awaits.{Awaits}
+use Rattle.rx_elem.specs.Trees.{children_of}
+use Rattle.rx_causes.specs.Hidden.{ForEachIn}
+use Rattle.rx_causes.specs.Idle.{Rests}
+use Rattle.rx_causes.specs.Marks.{EachBut}
+use Rattle.rx_causes.specs.Scenes.{TellsNews}
+use Rattle.rx_begin.specs.declared.node.Begun.{Begun}
+use Rattle.rx_begin.specs.declared.node.Begun.TheVariants as answers
 use Rattle.rx_hook_store.specs.Store.{kept_hooks}
 use Rattle.rx_ways.specs.Ways.{is_way}
-use Rattle.rx_begin.specs.Beginning.{BeginsPlace, is_taken}
+use Rattle.rx_begin.specs.Beginning.{BeginsPlace, awaited_again, is_taken}
 use Rattle.rx_render.specs.declared.at.At.TheVariants.{Begins}
 use Rattle.rx_render.specs.Advancing.{at_opened, Advances}
 use Rattle.rx_render.proofs.Advancing.{can_begin, waits_below, child_advances, leaf_advances, waits_advances, hidden_left, hidden_advances, taken_made, taken_advances, opened_comes}
+use Rattle.rx_render.proofs.Paying.{again_flags, child_paid, leaf_paid, passed_flags, waits_paid}
 use Rattle.rx_render.proofs.advance.begin_place.Goals as goal
 
 pub begin-requires-clause-place : goal.begin-requires-clause-place
@@ -20,11 +29,17 @@ pub returns-in-Child-clause-comes : goal.returns-in-Child-clause-comes
 returns-in-Child-clause-comes g c s sees =
     child_advances s (is_way c.args.scene.now.ways.now) (kept_hooks c.args.hooks.now) c.args.tree.now c.args.contexts.now c.begin.new.tree c.begin.new.contexts c.args.id _ (λ n fs cs e old. c.in_ok-begun.ensures.few s n fs cs e old sees) c.in-Child.child
     (subst (BeginsPlace s (is_way c.args.scene.now.ways.now) (kept_hooks c.args.hooks.now) c.args.tree.now c.args.contexts.now c.begin.new.tree c.begin.new.contexts c.args.id) c.in-Child.is (c.in_ok-begun.ensures.begun s sees))
+    (child_paid s c.args.scene.now sees (kept_hooks c.args.hooks.now) c.args.tree.now c.args.contexts.now c.args.id c.in_ok-begun.evaluated c.facts.ensures.fits
+    (record { none = c.in_ok-begun.ensures.none; calm = c.in_ok-begun.ensures.calm; exact = c.in_ok-begun.ensures.exact }) (λ n fs cs e old. c.in_ok-begun.ensures.few s n fs cs e old sees) (λ v there none cloned stood. c.in_ok-begun.ensures.tries v there none cloned stood (ap awaited_again c.in-Child.is))
+    c.begin.new.tree c.in_ok-begun.begun c.in-Child.child c.in-Child.is c.in_ok-begun.ensures.kids)
 
 pub returns-in-Leaf-clause-comes : goal.returns-in-Leaf-clause-comes
 returns-in-Leaf-clause-comes g c s sees =
     leaf_advances s (is_way c.args.scene.now.ways.now) (kept_hooks c.args.hooks.now) c.args.tree.now c.args.contexts.now c.begin.new.tree c.begin.new.contexts c.args.id _ (λ n fs cs e old. c.in_ok-begun.ensures.few s n fs cs e old sees)
     (subst (BeginsPlace s (is_way c.args.scene.now.ways.now) (kept_hooks c.args.hooks.now) c.args.tree.now c.args.contexts.now c.begin.new.tree c.begin.new.contexts c.args.id) c.in-Leaf.is (c.in_ok-begun.ensures.begun s sees))
+    (leaf_paid s c.args.scene.now sees (kept_hooks c.args.hooks.now) c.args.tree.now c.args.contexts.now c.args.id c.in_ok-begun.evaluated c.facts.ensures.fits
+    (record { none = c.in_ok-begun.ensures.none; calm = c.in_ok-begun.ensures.calm; exact = c.in_ok-begun.ensures.exact }) (λ n fs cs e old. c.in_ok-begun.ensures.few s n fs cs e old sees) (λ v there none cloned stood. c.in_ok-begun.ensures.tries v there none cloned stood (ap awaited_again c.in-Leaf.is))
+    c.begin.new.tree c.in_ok-begun.begun c.in-Leaf.is c.in_ok-begun.ensures.kids)
 
 pub returns-in_ok-at-in-Suspended-clause-comes : goal.returns-in_ok-at-in-Suspended-clause-comes
 returns-in_ok-at-in-Suspended-clause-comes g c s sees =
@@ -32,11 +47,18 @@ returns-in_ok-at-in-Suspended-clause-comes g c s sees =
     c.in_ok-at-in-Suspended.at
     (subst (BeginsPlace s (is_way c.args.scene.now.ways.now) (kept_hooks c.args.hooks.now) c.args.tree.now c.args.contexts.now c.begin.new.tree c.begin.new.contexts c.args.id) c.in-Suspended.is (c.in_ok-begun.ensures.begun s sees))
     c.in_ok-at-in-Suspended.ensures.comes
+    (waits_paid s c.args.scene.now sees (kept_hooks c.args.hooks.now) c.args.tree.now c.args.contexts.now c.args.id c.in_ok-begun.evaluated c.facts.ensures.fits
+    (record { none = c.in_ok-begun.ensures.none; calm = c.in_ok-begun.ensures.calm; exact = c.in_ok-begun.ensures.exact }) (λ n fs cs e old. c.in_ok-begun.ensures.few s n fs cs e old sees) (λ v there none cloned stood. c.in_ok-begun.ensures.tries v there none cloned stood (ap awaited_again c.in-Suspended.is))
+    c.begin.new.tree c.begin.new.contexts c.in-Suspended.resource c.suspend.new.tree c.in_ok-at-in-Suspended.at (c.in_ok-begun.ensures.waits c.in-Suspended.resource c.in-Suspended.is) c.in_ok-at-in-Suspended.ensures.flags)
 
 pub open_old_fallback-requires : goal.open_old_fallback-requires
 open_old_fallback-requires g c =
     hidden_left c.args.scene.now (kept_hooks c.args.hooks.now) c.args.tree.now c.args.contexts.now c.begin.new.tree c.begin.new.contexts c.args.id c.in-Hidden.awaits c.requires
     (λ s sees. subst (BeginsPlace s (is_way c.args.scene.now.ways.now) (kept_hooks c.args.hooks.now) c.args.tree.now c.args.contexts.now c.begin.new.tree c.begin.new.contexts c.args.id) c.in-Hidden.is (c.in_ok-begun.ensures.begun s sees))
+
+-- a hidden boundary waits still
+is_again : {b : Begun} {a : Awaits} → b ≡ answers.Hidden a → IsSome (awaited_again b)
+is_again is = subst (λ x. IsSome (awaited_again x)) (sym is) refl
 
 pub returns-in_ok-opened-in-Hidden-clause-comes : goal.returns-in_ok-opened-in-Hidden-clause-comes
 returns-in_ok-opened-in-Hidden-clause-comes g c s sees =
@@ -46,7 +68,10 @@ returns-in_ok-opened-in-Hidden-clause-comes g c s sees =
     (hidden_advances s (is_way c.args.scene.now.ways.now) (kept_hooks c.args.hooks.now) c.args.tree.now c.args.contexts.now c.begin.new.tree st c.args.id _ c.in-Hidden.awaits c.open_old_fallback.new.tree (at_opened opened)
     (λ n fs cs e old. c.in_ok-begun.ensures.few s n fs cs e old sees) c.facts.ensures.linked
     (subst (BeginsPlace s (is_way c.args.scene.now.ways.now) (kept_hooks c.args.hooks.now) c.args.tree.now c.args.contexts.now c.begin.new.tree st c.args.id) c.in-Hidden.is (c.in_ok-begun.ensures.begun s sees))
-    (λ d l again. opened_comes c.open_old_fallback.new.tree st opened d (c.in_ok-opened-in-Hidden.ensures.opened st d l again)))
+    (λ d l again. opened_comes c.open_old_fallback.new.tree st opened d (c.in_ok-opened-in-Hidden.ensures.opened st d l again))
+    (λ x was. subst (λ l. ForEachIn (λ i. TellsNews (kept_hooks c.args.hooks.now) l s.cut i false) (children_of x)) (sym sees.lanes)
+    (subst (λ k. ForEachIn (λ i. TellsNews (kept_hooks c.args.hooks.now) c.args.scene.now.lanes k i false) (children_of x)) (sym sees.cut) (c.in_ok-begun.ensures.news (is_again c.in-Hidden.is) x was)))
+    (again_flags c.args.tree.now c.begin.new.tree c.open_old_fallback.new.tree c.args.id opened c.facts.ensures.fits (c.in_ok-begun.ensures.tried (is_again c.in-Hidden.is)) c.in_ok-opened-in-Hidden.ensures.kids))
 
 pub pass-requires : goal.pass-requires
 pass-requires g c =
@@ -60,4 +85,7 @@ returns-in-Taken-clause-comes g c s sees =
     (taken_advances s (is_way c.args.scene.now.ways.now) (kept_hooks c.args.hooks.now) c.args.tree.now c.args.contexts.now c.begin.new.tree st c.args.id (if c.in_ok-begun.evaluated then 1 else 0) c.pass.result
     (ap (λ b. if b then 1 else 0) (c.in_ok-begun.ensures.taken (ap is_taken c.in-Taken.is))) c.facts.ensures.linked
     (subst (BeginsPlace s (is_way c.args.scene.now.ways.now) (kept_hooks c.args.hooks.now) c.args.tree.now c.args.contexts.now c.begin.new.tree st c.args.id) c.in-Taken.is (c.in_ok-begun.ensures.begun s sees))
+    (λ x was. subst (λ l. EachBut (is_way c.args.scene.now.ways.now) (Rests (kept_hooks c.args.hooks.now) l s.cut) x) (sym sees.lanes)
+    (subst (λ k. EachBut (is_way c.args.scene.now.ways.now) (Rests (kept_hooks c.args.hooks.now) c.args.scene.now.lanes k) x) (sym sees.cut) (c.in_ok-begun.ensures.rests (ap is_taken c.in-Taken.is) x was)))
+    (passed_flags c.args.tree.now c.begin.new.tree c.args.id c.pass.result c.facts.ensures.fits c.facts-in-Taken.ensures.fits (c.in_ok-begun.ensures.taken_over (ap is_taken c.in-Taken.is)) c.pass.ensures.next)
     (λ levels fs x. c.pass.ensures.stands st levels fs x) (λ levels fs x. c.pass.ensures.leads st levels fs x))

@@ -7,6 +7,9 @@ use Rattle.rx_fiber.specs.Unwound.{IsLeftAt}
 use Rattle.rx_render.specs.declared.at.At.TheVariants.{Over}
 use Rattle.rx_render.specs.Rendering.{ComesTo, to_wait}
 use Rattle.rx_render.proofs.Advancing.{stopped, opened_comes}
+use Rattle.cost_laws.specs.Left.{unwound}
+use Rattle.rx_render.specs.Costing.{HasFlags}
+use Rattle.rx_render.proofs.Paying.{unwound_flags}
 use Rattle.rx_render.proofs.advance.suspend.Goals as goal
 
 pub open_fallback-requires : goal.open_fallback-requires
@@ -27,3 +30,9 @@ returns-in_ok-opened-in-Some-clause-comes c levels fs w =
     (c.in_ok-opened-in-Some.ensures.opened c.unwind_to_boundary.new.contexts next
     (subst (IsLeftAt c.unwind_to_boundary.new.tree c.unwind_to_boundary.new.contexts c.in-Some.boundary (taken none) c.unwind_to_boundary.new.awaits)
     (ap (unwind levels fs) c.awaits_for-awaits.ensures) (c.in-Some.ensures.left levels fs w))))
+
+pub returns-in_ok-opened-in-Some-clause-flags : goal.returns-in_ok-opened-in-Some-clause-flags
+returns-in_ok-opened-in-Some-clause-flags c fs us h within framed =
+    subst (λ a. HasFlags c.open_fallback.new.tree a (unwound fs us)) (sym c.at_opened.ensures)
+    (unwound_flags c.args.tree.now c.facts.ensures.fits c.args.contexts.now c.args.id fs us h within framed c.unwind_to_boundary.new.tree c.open_fallback.new.tree c.in-Some.boundary
+    c.in_ok-opened-in-Some.opened c.facts-in-Some.ensures.fits c.unwind_to_boundary.ensures.current (c.in-Some.ensures.nearest h.around h.value h.old (taken none) h.rest h.here) c.in_ok-opened-in-Some.ensures.kids)

@@ -5,6 +5,13 @@ use Rattle.rx_root.proofs.TurnsTaken.{on_ok, goes_finished, goes_yielded}
 use Rattle.rx_root.proofs.Broken.{any_err, gave_up_after, gave_up_units, on_err}
 use Rattle.rx_root.proofs.root.Root.go_on.Goals as goal
 
+pub finish-requires-clause-end : goal.finish-requires-clause-end
+finish-requires-clause-end g c =
+    let is = c.requires.goes_on in
+    let ends = rw c.in-Finished.is at c.in_ok-drive.ensures.ends in
+    let f = ends is.program is.state is.progress is.stands in
+    record { program = is.program; state = is.state; progress = is.progress; tree = f.tree; stands = f.stands }
+
 pub returns-in-Finished-clause-takes : goal.returns-in-Finished-clause-takes
 returns-in-Finished-clause-takes g c =
     let ends = rw c.in-Finished.is at c.in_ok-drive.ensures.ends in

@@ -1,0 +1,2 @@
+pub mod Costing
+pub mod Hooks

@@ -1,0 +1,149 @@
+-- What a render may evaluate is the same for two sights that see the same work, and a longer journal shows no other work.
+use Rattle.std.specs.Prelude.{◌≡◌, ℕ, zero, suc, ◌+◌, Bool, true, false, not, ◌&&◌, ◌||◌, cond, List, [], ◌∷◌, ◌++◌, ℤ, Option, Some, None, filter, is_some, slice_index_or, refl}
+use Rattle.std.specs.List.{enumerate_from, list_any}
+use Rattle.std.specs.Option.{option_map_or}
+use Rattle.std.proofs.Common.{ap, ◌∙◌}
+use Rattle.rx_susp.specs.declared.boundary.BoundaryState.{BoundaryState}
+use Rattle.rx_susp.specs.Boundary.{awaits_of, hides}
+use Rattle.rx_elem.specs.Elements.{Element}
+use Rattle.rx_elem.specs.Elements as elements
+use Rattle.rx_elem.specs.Trees.{Forest, Instance, Node, boundary_in, child, children_of, instance_in, mark_of, node, none, vacant, was_hidden}
+use Rattle.rx_queue.specs.Journal.{Journal, Posted, Resolution, Target, hook, is_included, same_target, updates_of}
+use Rattle.rx_queue.specs.History.{stands_done, stands_open}
+use Rattle.rx_meaning.specs.Fresh.{Sight, Contexts, Renders, Place, made, rendered, depth_limit, default_contexts, root_element, old_instance, Shape, absent, waiting, one_list, two_lists, shape_of, render_part}
+use Rattle.rx_meaning.specs.Counts.{count_part, if_waits, one_if_component, unless_waits, try_all}
+use Rattle.rx_meaning.specs.Cursor.{Frame, Cursor, at_place, at_end, ended, finished}
+use Rattle.rx_meaning.specs.Rest.{from_open, list_from}
+use Rattle.rx_meaning.specs.Touched.{is_read_anew}
+use Rattle.render_laws.specs.SameSight.{SeesSame, AllAfter}
+use Rattle.render_laws.proofs.LaterEntries.{renders_same, shape_same, AllFail, late_fail}
+use Rattle.cost_laws.specs.Causes.{has_cause, has_value, instance_news, is_called, is_due, is_news, news_at, news_in, some_update, waits_still}
+use Rattle.cost_laws.specs.Allowed.{Allows, below_boundary, below_node, is_left_out, own_body, allow_shape, allowed, whole_allowed}
+use Rattle.cost_laws.specs.Left.{Flags, flag, outer, allow_open, allow_around, left_allowed}
+use Rattle.cost_laws.specs.SameWork.{SeesSameWork}
+
+module _ (s : Sight) (j : Journal) (same : SeesSame s j) (work : SeesSameWork s j) where
+  -- the sight with the other journal
+  abbrev seen : Sight
+  seen = record s { journal = j }
+
+  some_same : (test : Posted → Bool) → ((t : Target) → list_any test (updates_of t s.journal) ≡ list_any test (updates_of t j)) → (n : ℕ) (initials : List ℤ)
+      → some_update test s n initials ≡ some_update test seen n initials
+  some_same test each n initials = λ i. list_any (λ h. each (hook n h.0) i) (enumerate_from 0 initials)
+
+  called_same : (cs : Contexts) (i : Option Instance) → is_called s cs i ≡ is_called seen cs i
+  called_same cs None = refl
+  called_same cs (Some i) = λ k. option_map_or (λ n. some_same (is_due s) work.due n i.initials k) i.number true || list_any (is_read_anew cs) i.reads
+
+  news_same : (i : Option Instance) → instance_news s i ≡ instance_news seen i
+  news_same i = λ k. option_map_or (λ j. option_map_or (λ n. some_same (is_news s) work.news n j.initials k) j.number false) i false
+
+  mutual
+    news_at_same : (n : Node) → news_at s n ≡ news_at seen n
+    news_at_same (node e m ns fs) = λ k. news_same (instance_in m) k || (news_in_same ns k || news_in_same fs k)
+
+    news_in_same : (ns : Forest) → news_in s ns ≡ news_in seen ns
+    news_in_same none = refl
+    news_in_same (vacant ns) = news_in_same ns
+    news_in_same (child n ns) = λ k. news_at_same n k || news_in_same ns k
+
+  -- The same places have a cause.
+  pub cause_same : (cs : Contexts) (e : Element) (old : Option Node) → has_cause s cs e old ≡ has_cause seen cs e old
+  cause_same cs elements.null old = refl
+  cause_same cs (elements.text t) old = refl
+  cause_same cs (elements.host n k attrs es) old = refl
+  cause_same cs (elements.comp c k ps es) old = called_same cs (old_instance old)
+  cause_same cs (elements.list es) old = refl
+  cause_same cs (elements.boundary k f es) old = refl
+  cause_same cs (elements.provider c k x es) old = refl
+
+  waiting_same : (n : Node) (b : Option BoundaryState)
+      → option_map_or (λ state. hides state && not (has_value s (awaits_of state) || news_in s (children_of n))) b false
+      ≡ option_map_or (λ state. hides state && not (has_value seen (awaits_of state) || news_in seen (children_of n))) b false
+  waiting_same n b = λ k. option_map_or (λ state. hides state && not (list_any (λ r. is_some (slice_index_or (same.resources k) r None)) (awaits_of state) || news_in_same (children_of n) k)) b false
+
+  -- The same boundaries wait still.
+  pub still_same : (old : Option Node) → waits_still s old ≡ waits_still seen old
+  still_same None = refl
+  still_same (Some n) = waiting_same n (boundary_in (mark_of n))
+
+  boundary_same : (under : Bool) (old : Option Node) → below_boundary s under old ≡ below_boundary seen under old
+  boundary_same under old = ap (λ b. under || (was_hidden old && not b)) (still_same old)
+
+  out_same : (under : Bool) (old : Option Node) → is_left_out s under old ≡ is_left_out seen under old
+  out_same under old = ap (λ b. not under && b) (still_same old)
+
+  node_same : (under : Bool) (cs : Contexts) (e : Element) (old : Option Node) → below_node s under cs e old ≡ below_node seen under cs e old
+  node_same under cs e old = ap (λ b. under || b) (cause_same cs e old)
+
+  own_same : (under : Bool) (cs : Contexts) (e : Element) (old : Option Node) → own_body s under cs e old ≡ own_body seen under cs e old
+  own_same under cs e old = ap (λ b. cond b (one_if_component e) 0) (node_same under cs e old)
+
+  place_same : (allow : Allows) (below : Contexts → Renders) (under : Bool) (cs : Contexts) (e : Element) (old : Option Node) (shape : Shape)
+      → allow_shape allow below s under cs e old shape ≡ allow_shape allow below seen under cs e old shape
+  place_same allow below under cs e old absent = refl
+  place_same allow below under cs e old (waiting r) = own_same under cs e old
+  place_same allow below under cs e old (one_list m p) = λ i. own_same under cs e old i + count_part (allow (node_same under cs e old i)) below p
+  place_same allow below under cs e old (two_lists p f) =
+      λ i. cond (out_same under old i) 0 (count_part (allow (boundary_same under old i)) below p)
+      + if_waits (render_part below p) (count_part (allow (boundary_same under old i)) below f)
+
+  allowed_same : (n : ℕ) (under : Bool) (cs : Contexts) (e : Element) (old : Option Node) → allowed n s under cs e old ≡ allowed n seen under cs e old
+  unfolding allowed
+  allowed_same zero under cs e old = refl
+  allowed_same (suc n) under cs e old =
+      place_same (allowed n s) (rendered n s) under cs e old (shape_of s cs e old)
+      ∙ (λ i. allow_shape (λ u ds f o. allowed_same n u ds f o i) (renders_same s j same n i) seen under cs e old (shape_same s j same cs e old i))
+
+  allows_same : (n : ℕ) → allowed n s ≡ allowed n seen
+  allows_same n = λ i under cs e old. allowed_same n under cs e old i
+
+  around_allows_same : (n : ℕ) (fs : List Frame) (us : Flags) (p : Place) → allow_around n s fs us p ≡ allow_around n seen fs us p
+  around_allows_same n [] us p = refl
+  around_allows_same n (f ∷ fs) us p =
+      ap (λ k. unless_waits p (try_all (allowed n s (flag us) f.contexts) (rendered n s f.contexts) f.rest) + (allow_open (allowed n s) (rendered n s) (flag us) f.node (list_from (rendered n s) f p) + k))
+      (around_allows_same (suc n) fs (outer us) (from_open (rendered n s) f.node (list_from (rendered n s) f p)))
+      ∙ (λ i. unless_waits p (try_all (allows_same n i (flag us) f.contexts) (renders_same s j same n i f.contexts) f.rest)
+      + (allow_open (allows_same n i) (renders_same s j same n i) (flag us) f.node (list_from (renders_same s j same n i) f p)
+      + allow_around (suc n) seen fs (outer us) (from_open (renders_same s j same n i) f.node (list_from (renders_same s j same n i) f p))))
+
+  -- What is left to evaluate is the same.
+  pub left_allowed_same : (us : Flags) (c : Cursor) → left_allowed s us c ≡ left_allowed seen us c
+  unfolding left_allowed
+  left_allowed_same us (at_place n fs cs e old) =
+      ap (λ k. allowed n s (flag us) cs e old + k) (around_allows_same n fs us (rendered n s cs e old))
+      ∙ (λ i. allowed_same n (flag us) cs e old i + allow_around n seen fs us (renders_same s j same n i cs e old))
+  left_allowed_same us (at_end n fs o done) = around_allows_same n fs (outer us) (made (finished o done))
+  left_allowed_same us (ended p) = refl
+
+  -- What a whole render may evaluate is the same.
+  pub whole_allowed_same : (old : Option Node) → whole_allowed s old ≡ whole_allowed seen old
+  unfolding whole_allowed
+  whole_allowed_same old = allowed_same depth_limit false (default_contexts s.program) (root_element s.program) old
+
+-- Longer journals
+
+-- where no update of a later list passes a first test, it adds none that passes both
+any_more : (first second : Posted → Bool) (test : Posted → Bool) (us new : List Posted) → AllFail first new
+    → list_any (λ u. first u && second u) (filter test us) ≡ list_any (λ u. first u && second u) (filter test (us ++ new))
+any_more first second test [] [] h = refl
+any_more first second test [] (u ∷ new) h = any_more first second test [] new h.1 ∙ go (test u)
+  where
+    go : (b : Bool) → list_any (λ v. first v && second v) (filter test new) ≡ list_any (λ v. first v && second v) (cond b (u ∷ filter test new) (filter test new))
+    go true = rw (h.0) refl
+    go false = refl
+any_more first second test (u ∷ us) new h = go (test u) (any_more first second test us new h)
+  where
+    go : (b : Bool) → list_any (λ v. first v && second v) (filter test us) ≡ list_any (λ v. first v && second v) (filter test (us ++ new))
+        → list_any (λ v. first v && second v) (cond b (u ∷ filter test us) (filter test us)) ≡ list_any (λ v. first v && second v) (cond b (u ∷ filter test (us ++ new)) (filter test (us ++ new)))
+    go true e = ap (λ b. (first u && second u) || b) e
+    go false e = e
+
+-- A longer journal shows no other work, where all that is new comes after the cut.
+pub longer_sees_same_work : (s : Sight) (new : List Posted) (more : List Resolution) → AllAfter s.cut.updates new
+    → SeesSameWork s (record { updates = s.journal.updates ++ new; resolutions = s.journal.resolutions ++ more })
+longer_sees_same_work s new more late =
+    record {
+      due = λ t. any_more (is_included s.lanes s.cut) (λ u. not (stands_done u.standing)) (λ u. same_target t u.target) s.journal.updates new (late_fail s new late);
+      news = λ t. any_more (is_included s.lanes s.cut) (λ u. stands_open u.standing) (λ u. same_target t u.target) s.journal.updates new (late_fail s new late);
+    }

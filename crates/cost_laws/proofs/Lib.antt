@@ -1,0 +1,9 @@
+pub mod Allowing
+pub mod Flagging
+pub mod FewerBodies
+pub mod LaterWork
+pub mod CostLaws
+pub mod Requiring
+pub mod LaterCauses
+pub mod RequiredWithin
+pub mod Resting

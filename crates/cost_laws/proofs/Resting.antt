@@ -1,0 +1,184 @@
+-- What a render has to evaluate of a tree that rests.
+use Rattle.std.specs.Prelude.{◌≡◌, ℕ, zero, suc, ◌≤◌, Bool, true, false, cond, List, [], ◌∷◌, Option, Some, None, refl}
+use Rattle.std.specs.List.{zip}
+use Rattle.std.proofs.Common.{arith, subst}
+use Rattle.rx_susp.specs.declared.boundary.BoundaryState.TheVariants.{Hidden, Shown}
+use Rattle.rx_elem.specs.Elements.{Element}
+use Rattle.rx_elem.specs.Elements as elements
+use Rattle.rx_elem.specs.Trees.{Forest, Instance, Mark, Node, child, element_of, elements_in, is_hidden, node, none, of_boundary, of_host, of_instance, places, plain, vacant}
+use Rattle.rx_elem.proofs.SelfMatch.{NoNull, matches_itself}
+use Rattle.rx_meaning.specs.Fresh.{Sight, Contexts, Place, empty, made, waits, Places, all_made, one_waits, before, over, over_boundary, Part, part, Shape, one_list, two_lists, place_of, rendered, render_all, render_part, shape_of}
+use Rattle.rx_meaning.specs.Counts.{count_part, if_waits, try_all, unless_waits}
+use Rattle.rx_meaning.specs.Settled.{AllReadsHold, AllSettled, IfHidden, IsOwn, IsSettled, ReadsHold, kept_shape, known_by, read_anew, reads_another}
+use Rattle.rx_meaning.specs.Touched.{contexts_below}
+use Rattle.commit_laws.specs.Each.{ForEach, ForEachIn}
+use Rattle.commit_laws.specs.Idle.{AllIdle, IsIdle, IsIdleMark}
+use Rattle.commit_laws.proofs.TakeOver.{idle_shape, settled_no_null}
+use Rattle.cost_laws.specs.Causes.{is_called, is_due, some_update, waits_still}
+use Rattle.cost_laws.specs.Required.{IsUndue, called_body, require_shape, required}
+
+-- Causes
+
+not_called : (s : Sight) (cs : Contexts) (i : Instance) (n : ℕ) → i.number ≡ Some n → some_update (is_due s) s n i.initials ≡ false → read_anew cs i.reads ≡ false
+    → is_called s cs (Some i) ≡ false
+not_called s cs i n numbered undue calm = rw (numbered, undue, calm) refl
+
+undue_calm : (s : Sight) (cs : Contexts) (i : Instance) → IsUndue s (of_instance i) → read_anew cs i.reads ≡ false → is_called s cs (Some i) ≡ false
+undue_calm s cs i h calm = not_called s cs i h.0 h.1 h.2 calm
+
+body_rests : (s : Sight) (cs : Contexts) (e : Element) (m : Mark) (ns fs : Forest) → IsOwn s.program (known_by s) e m ns fs → IsUndue s m → reads_another cs m ≡ false
+    → called_body s cs e (Some (node e m ns fs)) ≡ 0
+body_rests s cs elements.null m ns fs own undue calm = refl
+body_rests s cs (elements.text t) m ns fs own undue calm = refl
+body_rests s cs (elements.host n key attrs es) m ns fs own undue calm = refl
+body_rests s cs (elements.comp c key props given) m ns fs own undue calm =
+    let here : IsUndue s (of_instance own.0) = subst (IsUndue s) own.1 undue in
+    let reads : read_anew cs own.0.reads ≡ false = rw own.1 at calm in
+    rw (own.1, undue_calm s cs own.0 here reads) refl
+body_rests s cs (elements.list es) m ns fs own undue calm = refl
+body_rests s cs (elements.boundary key f es) m ns fs own undue calm = refl
+body_rests s cs (elements.provider c key x es) m ns fs own undue calm = refl
+
+-- Places
+
+-- a place doesn't wait
+abbrev Stands : Place → Type 0
+Stands empty = Unit {0}
+Stands (made n) = Unit {0}
+Stands (waits a) = ⊥
+
+-- a list doesn't wait
+abbrev AllStand : Places → Type 0
+AllStand (all_made ns) = Unit {0}
+AllStand (one_waits a) = ⊥
+
+before_stands : (p : Place) (ps : Places) → Stands p → AllStand ps → AllStand (before p ps)
+before_stands empty (all_made ns) h k = tt
+before_stands empty (one_waits a) h k = k
+before_stands (made n) (all_made ns) h k = tt
+before_stands (made n) (one_waits a) h k = k
+before_stands (waits a) ps h k = absurd h
+
+over_stands : (e : Element) (m : Mark) (ps : Places) → AllStand ps → Stands (over e m ps)
+over_stands e m (all_made ns) h = tt
+over_stands e m (one_waits a) h = absurd h
+
+boundary_stands : (e : Element) (old : Option Node) (ps qs : Places) → AllStand ps → Stands (over_boundary e old ps qs)
+boundary_stands e old (all_made ns) qs h = tt
+boundary_stands e old (one_waits a) qs h = absurd h
+
+no_fallback : (ps : Places) (k : ℕ) → AllStand ps → if_waits ps k ≡ 0
+no_fallback (all_made ns) k h = refl
+no_fallback (one_waits a) k h = absurd h
+
+stands_then : (p : Place) (k : ℕ) → k ≡ 0 → unless_waits p k ≡ 0
+stands_then empty k h = h
+stands_then (made n) k h = h
+stands_then (waits a) k h = refl
+
+-- a place rests: nothing is required of it, and it doesn't wait
+abbrev Rests : ℕ → Sight → Contexts → Element → Option Node → Type 0
+Rests n s cs e old = (required n s cs e old ≡ 0) × Stands (rendered n s cs e old)
+
+-- the places of a list rest
+abbrev AllRest : ℕ → Sight → Contexts → List (Element × Option Node) → Type 0
+AllRest n s cs xs = (try_all (required n s cs) (rendered n s cs) xs ≡ 0) × AllStand (render_all (rendered n s cs) xs)
+
+-- the children of a node rest
+abbrev PartRests : ℕ → Sight → Part → Type 0
+PartRests n s p = (count_part (required n s) (rendered n s) p ≡ 0) × AllStand (render_part (rendered n s) p)
+
+nothing_if : (b : Bool) (k : ℕ) → k ≡ 0 → cond b 0 k ≤ 0
+nothing_if true k h = omega arith
+nothing_if false k h = omega (arith, h)
+
+-- what is required at a place is nothing, and it doesn't wait, by what stands there
+abbrev ShapeRests : ℕ → Sight → Contexts → Element → Option Node → Shape → Type 0
+ShapeRests n s cs e old shape = (require_shape (required n s) (rendered n s) s cs e old shape ≡ 0) × Stands (place_of (rendered n s) e old shape)
+
+one_rests : (n : ℕ) (s : Sight) (cs : Contexts) (e : Element) (old : Option Node) (m : Mark) (p : Part) → called_body s cs e old ≡ 0 → PartRests n s p
+    → ShapeRests n s cs e old (one_list m p)
+one_rests n s cs e old m p body h = (omega (arith, body, h.0), over_stands e m (render_part (rendered n s) p) h.1)
+
+two_rest : (n : ℕ) (s : Sight) (cs : Contexts) (e : Element) (old : Option Node) (p f : Part) → PartRests n s p → ShapeRests n s cs e old (two_lists p f)
+two_rest n s cs e old p f h = (
+  omega (
+    arith,
+    nothing_if (waits_still s old) (count_part (required n s) (rendered n s) p) h.0,
+    no_fallback (render_part (rendered n s) p) (count_part (required n s) (rendered n s) f) h.1,
+  ),
+  boundary_stands e old (render_part (rendered n s) p) (render_part (rendered n s) f) h.1,
+)
+
+kept_rests : (n : ℕ) (s : Sight) (cs : Contexts) (e : Element) (old : Option Node) (m : Mark) (ns fs : Forest)
+    → called_body s cs e old ≡ 0 → PartRests n s (part (contexts_below e cs) (elements_in ns) ns) → ShapeRests n s cs e old (kept_shape cs e m ns fs)
+kept_rests n s cs elements.null old m ns fs body h = (refl, tt)
+kept_rests n s cs (elements.text t) old m ns fs body h = one_rests n s cs (elements.text t) old m (part cs (elements_in ns) ns) body h
+kept_rests n s cs (elements.host x key attrs es) old m ns fs body h = one_rests n s cs (elements.host x key attrs es) old m (part cs (elements_in ns) ns) body h
+kept_rests n s cs (elements.comp c key props given) old m ns fs body h = one_rests n s cs (elements.comp c key props given) old m (part cs (elements_in ns) ns) body h
+kept_rests n s cs (elements.list es) old m ns fs body h = one_rests n s cs (elements.list es) old m (part cs (elements_in ns) ns) body h
+kept_rests n s cs (elements.boundary key f es) old m ns fs body h =
+    two_rest n s cs (elements.boundary key f es) old (part cs (elements_in ns) ns) (part cs (f ∷ []) fs) h
+kept_rests n s cs (elements.provider c key x es) old m ns fs body h =
+    one_rests n s cs (elements.provider c key x es) old m (part (contexts_below (elements.provider c key x es) cs) (elements_in ns) ns) body h
+
+-- a list against its own elements rests where its places do
+own_part_rests : (n : ℕ) (s : Sight) (cs : Contexts) (ns : Forest) → NoNull ns → AllRest n s cs (zip (elements_in ns) (places ns))
+    → PartRests n s (part cs (elements_in ns) ns)
+own_part_rests n s cs ns there h = rw (matches_itself ns there) h
+
+-- Trees
+
+first_rests : (n : ℕ) (s : Sight) (cs : Contexts) (e : Element) (old : Option Node) (xs : List (Element × Option Node)) → Rests n s cs e old → AllRest n s cs xs
+    → AllRest n s cs ((e, old) ∷ xs)
+first_rests n s cs e old xs h k = (
+  omega (arith, h.0, stands_then (rendered n s cs e old) (try_all (required n s cs) (rendered n s cs) xs) k.0),
+  before_stands (rendered n s cs e old) (render_all (rendered n s cs) xs) h.1 k.1,
+)
+
+gap_rests : (n : ℕ) (s : Sight) (cs : Contexts) → Rests n s cs elements.null None
+unfolding required rendered
+gap_rests zero s cs = (refl, tt)
+gap_rests (suc n) s cs = (refl, tt)
+
+place_rests : (n : ℕ) (s : Sight) (cs : Contexts) (e : Element) (m : Mark) (ns fs : Forest) → shape_of s cs e (Some (node e m ns fs)) ≡ kept_shape cs e m ns fs
+    → ShapeRests n s cs e (Some (node e m ns fs)) (kept_shape cs e m ns fs)
+    → Rests (suc n) s cs e (Some (node e m ns fs))
+unfolding required rendered
+place_rests n s cs e m ns fs shape h = rw shape h
+
+-- nothing of an idle tree is hidden, so all of it reads the contexts of its place
+reads_below : (s : Sight) (m : Mark) (A : Type 0) → IsIdleMark s m → IfHidden (is_hidden m) (Unit {0}) A → A
+reads_below s (of_instance i) A idle reads = reads
+reads_below s (of_host h) A idle reads = reads
+reads_below s plain A idle reads = reads
+reads_below s (of_boundary Shown) A idle reads = reads
+reads_below s (of_boundary (Hidden a)) A idle reads = absurd idle
+
+no_level_rests : (s : Sight) (cs : Contexts) (e : Element) (old : Option Node) → Rests zero s cs e old
+unfolding required rendered
+no_level_rests s cs e old = (refl, tt)
+
+mutual
+  tree_rests : (n : ℕ) (s : Sight) (cs : Contexts) (x : Node) → IsSettled s.program (known_by s) x → IsIdle s x → ForEach (IsUndue s) x → ReadsHold cs x
+      → Rests n s cs (element_of x) (Some x)
+  tree_rests zero s cs (node e m ns fs) settled idle undue reads = no_level_rests s cs e (Some (node e m ns fs))
+  tree_rests (suc n) s cs (node e m ns fs) settled idle undue reads =
+      place_rests n s cs e m ns fs (idle_shape s cs e m ns fs settled.0 idle.0 reads.0)
+      (kept_rests n s cs e (Some (node e m ns fs)) m ns fs (body_rests s cs e m ns fs settled.0 undue.0 reads.0)
+      (own_part_rests n s (contexts_below e cs) ns (settled_no_null s.program (known_by s) ns settled.1)
+      (trees_rest n s (contexts_below e cs) ns settled.1 idle.1 undue.1 (reads_below s m (AllReadsHold (contexts_below e cs) ns) idle.0 reads.1))))
+
+  trees_rest : (n : ℕ) (s : Sight) (cs : Contexts) (ns : Forest) → AllSettled s.program (known_by s) ns → AllIdle s ns → ForEachIn (IsUndue s) ns → AllReadsHold cs ns
+      → AllRest n s cs (zip (elements_in ns) (places ns))
+  trees_rest n s cs none settled idle undue reads = (refl, tt)
+  trees_rest n s cs (vacant ns) settled idle undue reads =
+      first_rests n s cs elements.null None (zip (elements_in ns) (places ns)) (gap_rests n s cs) (trees_rest n s cs ns settled idle undue reads)
+  trees_rest n s cs (child x ns) settled idle undue reads =
+      first_rests n s cs (element_of x) (Some x) (zip (elements_in ns) (places ns))
+      (tree_rests n s cs x settled.0 idle.0 undue.0 reads.0) (trees_rest n s cs ns settled.1 idle.1 undue.1 reads.1)
+
+-- Nothing is required of a tree that is idle, whose instances have each included update done, and in which reads hold.
+pub nothing_rests : (s : Sight) (cs : Contexts) (x : Node) (n : ℕ) → IsSettled s.program (known_by s) x
+    → IsIdle s x → ForEach (IsUndue s) x → ReadsHold cs x → required n s cs (element_of x) (Some x) ≡ 0
+nothing_rests s cs x n settled idle undue reads = (tree_rests n s cs x settled idle undue reads).0

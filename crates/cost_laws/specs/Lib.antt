@@ -1,0 +1,6 @@
+pub mod Causes
+pub mod Allowed
+pub mod Left
+pub mod Costs
+pub mod SameWork
+pub mod Required

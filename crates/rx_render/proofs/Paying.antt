@@ -1,0 +1,194 @@
+-- What the beginning of a place pays, by the parts of a unit.
+use Rattle.std.specs.Prelude.{◌≡◌, ℕ, suc, Bool, true, false, List, ◌∷◌, Option, Some, None, if◌then◌else◌}
+use Rattle.std.proofs.Common.{refl, sym, ap, ◌∙◌, subst}
+use Rattle.rx_ctx.specs.Contexts.{Stack, values_at}
+use Rattle.rx_elem.specs.Elements.{Element}
+use Rattle.rx_elem.specs.Trees.{Node, mark_of}
+use Rattle.rx_hooks.specs.declared.hook.Hook.{Hook}
+use Rattle.rx_lists.specs.Shapes as shapes
+use Rattle.rx_links.specs.Drafts.{Draft, taken, made, Fits, Trees, entry, kids_under, old_of, valued}
+use Rattle.rx_links.specs.Places.{placed}
+use Rattle.rx_links.specs.Readers.{list_from, made_value_in, made_value_of}
+use Rattle.rx_links.proofs.Placed.{is-at}
+use Rattle.rx_meaning.specs.Cursor.{Frame, at_place}
+use Rattle.rx_meaning.specs.Fresh.{Contexts, Sight}
+use Rattle.rx_fiber.specs.FiberView.{changed}
+use Rattle.rx_fiber.specs.declared.stage.StageChange.TheVariants as change
+use Rattle.rx_fiber.specs.declared.stage.Origin.{Origin}
+use Rattle.rx_fiber.specs.Fibers.{Fiber, as_cloned, as_matched, is_cloned}
+use Rattle.rx_fiber.specs.OldLists.{fallback_list}
+use Rattle.rx_fiber.specs.Reading.{IsOld}
+use Rattle.rx_fiber.specs.Standing.{StandsAt, begins}
+use Rattle.rx_fiber.specs.Unwound.{IsWithin}
+use Rattle.rx_complete.specs.Ends.{Outer, nearest, next_after}
+use Rattle.rx_complete.specs.declared.completing.Next.{Next}
+use Rattle.rx_complete.specs.declared.completing.Next.TheVariants.{Sibling, Parent, Done}
+use Rattle.rx_causes.specs.declared.scene.Scene.{Scene}
+use Rattle.rx_causes.specs.Marks.{keeps_children, mark_at}
+use Rattle.rx_causes.specs.Scenes.{IsSceneOf}
+use Rattle.rx_causes.proofs.Marks.{mark_is}
+use Rattle.rx_begin.specs.Beginning.{is_opened}
+use Rattle.rx_begin.specs.Nodes.{HasTaken, begun_over}
+use Rattle.rx_begin.specs.Opening.{HasFallbackKids, alone, beside, opened_at}
+use Rattle.rx_begin.specs.Origins.{AllNew, AllWait, HasKids, TellsSteady}
+use Rattle.rx_begin.specs.declared.node.Begun.{Begun}
+use Rattle.rx_begin.specs.declared.node.Begun.TheVariants.{Child, Leaf}
+use Rattle.rx_begin.specs.declared.opening.Opened.{Opened}
+use Rattle.cost_laws.specs.Costs.{FramesFlagged}
+use Rattle.cost_laws.specs.Left.{Flags, begun_flags, flag, outer, unit_flags, unwound}
+use Rattle.flag_laws.specs.Flagged.{AllClear, FlagsAfter, FlagsAtEnd, FlagsAtPlace, FlagsHere, FlagsOpened, HasUnwound}
+use Rattle.flag_laws.proofs.Going.{completes, opens, opens_beside, passes}
+use Rattle.flag_laws.proofs.Unwinding.{unwinds}
+use Rattle.begin_laws.specs.Telling.{OpensKids, TellsBody, TellsTries}
+use Rattle.begin_laws.proofs.Costing.{allows, may, new_clear, opens_so, serves, wait_bare, wait_clear}
+use Rattle.rx_render.specs.declared.at.At.{At}
+use Rattle.rx_render.specs.declared.at.At.TheVariants.{Begins, Completes}
+use Rattle.rx_render.specs.Advancing.{at_after, at_opened}
+use Rattle.rx_render.specs.Costing.{HasFlags, Paid, Pays}
+use Rattle.rx_render.specs.Costing as paying
+use Rattle.rx_render.proofs.Advancing.{AreFew, PaysOpened, PaysWaiting}
+
+-- Where flags go
+
+-- after a node
+pub after_flags : (t : Trees Fiber) (us : Flags) (r : Next) → FlagsAfter t us r → HasFlags t (at_after r) us
+after_flags t us (Sibling id) h = h
+after_flags t us (Parent id) h = h
+after_flags t us Done h = tt
+
+-- at what is opened
+opened_flags : (t : Trees Fiber) (q : ℕ) (us : Flags) (first : Option ℕ) → FlagsOpened t q us first → HasFlags t (at_opened (opened_at first q)) us
+opened_flags t q us None h = h
+opened_flags t q us (Some id) h = h
+
+-- a fallback opens below a boundary
+module _ (origin : Origin) (t new : Trees Fiber) (q : ℕ) (us : Flags) (u : Bool) (here : FlagsHere t q (taken shapes.none) us) where
+  pub fallback_flags : (f : Opened) → HasFallbackKids origin t new q f
+      → (u ≡ false → (d : Draft Fiber) → AllWait origin d → (fallback_list (list_from t.current (old_of t.draft q)) ≡ shapes.none → AllNew d) → AllClear d) → HasFlags new (at_opened f) (u ∷ us)
+  fallback_flags f (alone kids value still all new_if stands is) clear =
+      subst (λ x. HasFlags new (at_opened x) (u ∷ us)) (sym is)
+      (opened_flags new q (u ∷ us) (entry kids) (opens t new q us u kids value here stands (wait_bare origin kids all) (λ f. clear f kids all new_if)))
+  fallback_flags f (beside kids value kept id w old still too all new_if stands is) clear =
+      subst (λ x. HasFlags new (at_opened x) (u ∷ us)) (sym is)
+      (opened_flags new id (u ∷ us) (entry kids) (opens_beside t new q id us u kids value w old kept here stands (wait_bare origin kids all) (λ f. clear f kids all new_if)))
+
+-- a boundary that waits still opens its fallback over clones that stood
+pub again_flags : (t tried new : Trees Fiber) (id : ℕ) (f : Opened) → Fits t → tried ≡ record t { draft = valued id (changed change.Try) t.draft } → HasFallbackKids (as_cloned true) tried new id f
+    → (us : Flags) (u : Bool) → FlagsAtPlace t id us → HasFlags new (at_opened f) (u ∷ us)
+again_flags t tried new id f fits is kids us u h =
+    let at = is-at t fits h.flags.around id h.flags.value h.flags.old (taken shapes.none) h.flags.rest h.flags.here in
+    let here : FlagsHere tried id (taken shapes.none) us = record {
+      around = h.flags.around;
+      value = changed change.Try h.flags.value;
+      old = h.flags.old;
+      rest = h.flags.rest;
+      here = ap (λ x. x.draft) is ∙ at.value (changed change.Try);
+      flagged = h.flags.flagged;
+    } in
+    fallback_flags (as_cloned true) tried new id us u here f kids (λ clean d all new_if. wait_clear (as_cloned true) refl refl d all)
+
+-- a node that is completed
+pub end_flags : (t new : Trees Fiber) (id : ℕ) (r : Next) → Fits t → new ≡ record t { draft = valued id (changed change.Complete) t.draft } → r ≡ next_after t.draft id → (us : Flags) → FlagsAtEnd t id us
+    → HasFlags new (at_after r) (outer us)
+end_flags t new id r fits is next us h =
+    subst (λ x. HasFlags new (at_after x) (outer us)) (sym next)
+    (after_flags new (outer us) (next_after t.draft id) (completes t new id us (changed change.Complete) fits h (ap (λ x. x.draft) is)))
+
+-- old children that are taken over
+pub passed_flags : (t new : Trees Fiber) (id : ℕ) (r : Next) → Fits t → Fits new → HasTaken t new id → r ≡ next_after new.draft id → (us : Flags) (x : Node) → FlagsAtPlace t id us
+    → IsOld t.current (old_of t.draft id) (Some x) → HasFlags new (at_after r) us
+passed_flags t new id r fits fits_new takes next us x h was =
+    let at = is-at t fits h.flags.around id h.flags.value h.flags.old (taken shapes.none) h.flags.rest h.flags.here in
+    let marked : mark_at t.current h.flags.old ≡ Some (mark_of x) = ap (mark_at t.current) (sym at.old) ∙ mark_is t.current (old_of t.draft id) (Some x) was in
+    let there : FlagsHere new id (taken (kids_under t.current h.flags.old)) us = record {
+      around = h.flags.around;
+      value = _;
+      old = h.flags.old;
+      rest = h.flags.rest;
+      here = takes h.flags.around h.flags.value h.flags.old h.flags.rest (mark_of x) h.flags.here marked;
+      flagged = h.flags.flagged;
+    } in
+    subst (λ y. HasFlags new (at_after y) us) (sym next)
+    (after_flags new us (next_after new.draft id) (passes new id (taken (kids_under t.current h.flags.old)) us fits_new there))
+
+-- out of a place that waits, to the fallback of the nearest boundary
+module _ (t : Trees Fiber) (fits : Fits t) (st : Stack) (p : ℕ) (fs : List Frame) (us : Flags) (h : FlagsHere t p (taken shapes.none) us) (within : IsWithin t st p fs) (framed : FramesFlagged us fs) where
+  pub unwound_flags : (dropped new : Trees Fiber) (q : ℕ) (f : Opened) → Fits dropped → dropped.current ≡ t.current
+      → ((u : Outer) × (nearest h.around ≡ Some u) × (u.id ≡ q) × (dropped.draft ≡ placed u.around (made q u.value u.old (taken shapes.none) u.rest)))
+      → HasFallbackKids (as_matched false) dropped new q f → HasFlags new (at_opened f) (unwound fs us)
+  unwound_flags dropped new q f fits_dropped current found kids =
+      let (u, near, id, here) = found in
+      let here_too : dropped.draft ≡ placed u.around (made u.id u.value u.old (taken shapes.none) u.rest) = here ∙ ap (λ i. placed u.around (made i u.value u.old (taken shapes.none) u.rest)) (sym id) in
+      let w : HasUnwound t dropped u.id u.old fs us = unwinds t dropped st p (taken shapes.none) fs us fits h within framed u near here_too in
+      let at = is-at dropped fits_dropped u.around q u.value u.old (taken shapes.none) u.rest here in
+      let flags : FlagsHere dropped q (taken shapes.none) (outer (unwound fs us)) = subst (λ i. FlagsHere dropped i (taken shapes.none) (outer (unwound fs us))) id w.flags in
+      subst (HasFlags new (at_opened f)) (sym w.some)
+      (fallback_flags (as_matched false) dropped new q (outer (unwound fs us)) (flag (unwound fs us)) flags f kids
+      (λ clean d all new_if. new_clear d (new_if (ap (λ c. fallback_list (list_from c (old_of dropped.draft q))) current ∙ (ap (λ o. fallback_list (list_from t.current o)) at.old ∙ w.shown clean)))))
+
+-- What is paid
+
+begun_first : (origin : Origin) (d : Draft Fiber) (i : ℕ) → Child i ≡ begun_over d → entry d ≡ Some i
+begun_first origin (taken s) i e = absurd (let q : ⊥ = cc in q)
+begun_first origin (made id v o ks rs) i e = let q : i ≡ id = cc in ap Some (sym q)
+
+begun_none : (origin : Origin) (d : Draft Fiber) → AllWait origin d → Leaf ≡ begun_over d → entry d ≡ None
+begun_none origin (taken s) all e = ap shapes.first all
+begun_none origin (made id v o ks rs) all e = absurd (let q : ⊥ = cc in q)
+
+module _ (s : Sight) (scene : Scene) (sees : IsSceneOf scene s) (kept : ℕ → Option (List Hook)) (t : Trees Fiber) (st : Stack) (id : ℕ) (evaluated : Bool) (fits : Fits t)
+    (body : TellsBody scene kept t (values_at st) id evaluated) (few : AreFew s t st id (if evaluated then 1 else 0)) where
+  values_there : (n : ℕ) (fs : List Frame) (cs : Contexts) (e : Element) (old : Option Node) → StandsAt t st (Some id) (at_place (suc n) fs cs e old) → values_at st ≡ cs
+  values_there n fs cs e old (begins here is was surrounds values stack) = values
+
+  body_at : (n : ℕ) (fs : List Frame) (cs : Contexts) (e : Element) (old : Option Node) → StandsAt t st (Some id) (at_place (suc n) fs cs e old) → TellsBody scene kept t cs id evaluated
+  body_at n fs cs e old h = subst (λ l. TellsBody scene kept t l id evaluated) (values_there n fs cs e old h) body
+
+  -- the value of the fiber
+  value_there : (n : ℕ) (fs : List Frame) (cs : Contexts) (e : Element) (old : Option Node) → StandsAt t st (Some id) (at_place (suc n) fs cs e old) → (v : Fiber) × (Some v ≡ made_value_of t.draft id)
+  value_there n fs cs e old (begins {v = v} {o = o} {rs = rs} {k = k} here is was surrounds values stack) =
+      (v, sym (ap made_value_in (is-at t fits k id v o (taken shapes.none) rs here).list))
+
+  -- what it says of the children of a place that is opened
+  abbrev pub SaysKids : Trees Fiber → Begun → Type 0
+  SaysKids new b =
+      (v : Fiber) → Some v ≡ made_value_of t.draft id → is_opened b ≡ true
+      → (cloned steady : Bool) × TellsSteady t.current (old_of t.draft id) v steady
+      × (is_cloned v.stage ≡ true → evaluated ≡ false → keeps_children true (mark_at t.current (old_of t.draft id)) ≡ true → cloned ≡ true)
+      × ((h : HasKids (record { cloned = cloned; stood = steady }) t new id) × (b ≡ begun_over h.kids))
+
+  module _ (tries : TellsTries scene kept t id) where
+    opened_paid : (new : Trees Fiber) (b : Begun) → is_opened b ≡ true → SaysKids new b → (first : Option ℕ) → ((origin : Origin) (d : Draft Fiber) → AllWait origin d → b ≡ begun_over d → entry d ≡ first)
+        → (at : At) → ((us : Flags) → FlagsOpened new id us first → HasFlags new at us) → PaysOpened s kept t st new id (if evaluated then 1 else 0) at
+    opened_paid new b opens_it says first is at as_flags n fs cs e old us h settled tells lists flags =
+        let goes = may s scene kept t st id n fs cs e old us sees fits h tells flags tries in
+        let (v, there) = value_there n fs cs e old h in
+        let (cloned, steady, steadiness, clones, (kids, over)) = says v there opens_it in
+        let opened : OpensKids t new id evaluated = record { value = v; is = there; cloned = cloned; steady = steady; steadiness = steadiness; clones = clones; kids = kids } in
+        record {
+          flags = unit_flags s us (at_place (suc n) fs cs e old);
+          are = as_flags (unit_flags s us (at_place (suc n) fs cs e old))
+              (subst (FlagsOpened new id (unit_flags s us (at_place (suc n) fs cs e old))) (is (record { cloned = cloned; stood = steady }) kids.kids kids.all over)
+              (opens_so s scene kept t new st id n fs cs e old us evaluated sees fits h settled tells flags (body_at n fs cs e old h) goes lists opened));
+          pays = paying.by_unit goes (allows s scene kept t st id n fs cs e old us evaluated sees fits h tells flags (body_at n fs cs e old h) (few n fs cs e old h))
+              (serves s scene kept t st id n fs cs e old evaluated sees fits h tells (body_at n fs cs e old h));
+        }
+
+    pub child_paid : (new : Trees Fiber) (b : Begun) (child : ℕ) → b ≡ Child child → SaysKids new b → PaysOpened s kept t st new id (if evaluated then 1 else 0) (Begins child)
+    child_paid new b child is says =
+        opened_paid new b (ap is_opened is) says (Some child) (λ origin d all over. begun_first origin d child (sym is ∙ over)) (Begins child) (λ us h. h)
+
+    pub leaf_paid : (new : Trees Fiber) (b : Begun) → b ≡ Leaf → SaysKids new b → PaysOpened s kept t st new id (if evaluated then 1 else 0) (Completes id)
+    leaf_paid new b is says = opened_paid new b (ap is_opened is) says None (λ origin d all over. begun_none origin d all (sym is ∙ over)) (Completes id) (λ us h. h)
+
+    pub waits_paid : (new : Trees Fiber) (st' : Stack) (r : ℕ) (last : Trees Fiber) (at : At) → new ≡ t
+        → ((fs : List Frame) (us : Flags) → FlagsHere new id (taken shapes.none) us → IsWithin new st' id fs → FramesFlagged us fs → HasFlags last at (unwound fs us))
+        → PaysWaiting s kept t st new st' id (if evaluated then 1 else 0) r last at
+    waits_paid new st' r last at same out n fs cs e old us h tells shape within framed flags =
+        let goes = may s scene kept t st id n fs cs e old us sees fits h tells flags tries in
+        record {
+          flags = unit_flags s us (at_place (suc n) fs cs e old);
+          are = subst (HasFlags last at) (sym (ap (begun_flags s fs us cs e old) shape)) (out fs us (subst (λ x. FlagsHere x id (taken shapes.none) us) (sym same) flags.flags) within framed);
+          pays = paying.by_unit goes (allows s scene kept t st id n fs cs e old us evaluated sees fits h tells flags (body_at n fs cs e old h) (few n fs cs e old h))
+              (serves s scene kept t st id n fs cs e old evaluated sees fits h tells (body_at n fs cs e old h));
+        }

@@ -1,0 +1,61 @@
+-- What a render costs as it goes.
+use Rattle.std.specs.Prelude.{◌≡◌, ℕ, suc, ◌≤◌, Bool, true, List, [], ◌∷◌, Option, Some, ◌⊎◌}
+use Rattle.rx_base.specs.Awaits.{Awaits}
+use Rattle.rx_susp.specs.declared.boundary.BoundaryState.TheVariants.{Hidden}
+use Rattle.rx_elem.specs.Elements.{Element, Elements, Key, boundary}
+use Rattle.rx_elem.specs.Trees.{Forest, Node, element_of, node, of_boundary}
+use Rattle.rx_hooks.specs.declared.hook.Hook.{Hook}
+use Rattle.rx_lists.specs.Shapes.{Shape}
+use Rattle.rx_links.specs.Drafts.{Trees}
+use Rattle.rx_links.specs.Readers.{IsLinked}
+use Rattle.rx_meaning.specs.Again.{AllValuesAgree, AreUnresolved}
+use Rattle.rx_meaning.specs.Cursor.{Cursor, Frame, arrive, at_end, at_place, ended, falling, open_part, unit}
+use Rattle.rx_meaning.specs.Fresh.{Contexts, Sight, part}
+use Rattle.rx_meaning.specs.Settled.{ReadsHold}
+use Rattle.commit_laws.specs.Each.{ForEach}
+use Rattle.commit_laws.specs.Idle.{IsIdle}
+use Rattle.commit_laws.specs.WaitsAgain.{without_lanes}
+use Rattle.rx_fiber.specs.Fibers.{Fiber}
+use Rattle.rx_fiber.specs.Reading.{IsOld}
+use Rattle.rx_fiber.specs.Stood.{StoodAt}
+use Rattle.rx_fiber.specs.Surround.{given_along}
+use Rattle.rx_ways.specs.Ways.{CoversIf}
+use Rattle.cost_laws.specs.Allowed.{below_boundary}
+use Rattle.cost_laws.specs.Causes.{waits_still}
+use Rattle.cost_laws.specs.Left.{Flags, MayGo, flag, next_allowed, unit_flags}
+use Rattle.cost_laws.specs.Required.{IsUndue, next_required}
+use Rattle.flag_laws.specs.Flagged.{FlagsAtEnd, FlagsAtPlace}
+use Rattle.begin_laws.specs.Telling.{TellsIf}
+use Rattle.rx_render.specs.declared.at.At.{At}
+use Rattle.rx_render.specs.declared.at.At.TheVariants.{Begins, Completes, Over}
+
+-- the flags of the lists that are open, where the next unit does this
+abbrev pub HasFlags : Trees Fiber → At → Flags → Type 0
+HasFlags t (Begins id) us = FlagsAtPlace t id us
+HasFlags t (Completes id) us = FlagsAtEnd t id us
+HasFlags t Over us = Unit {0}
+
+-- the hooks tell which causes the old node at the place of a cursor has, and the ways cover it: no update is due where it stands on none
+abbrev pub CausesAt : Sight → (way : ℕ → Bool) → (kept : ℕ → Option (List Hook)) → Cursor → Type 0
+CausesAt s way kept (at_place levels fs cs e old) = TellsIf s kept old × CoversIf way (IsUndue s) old
+CausesAt s way kept (at_end levels fs o done) = Unit {0}
+CausesAt s way kept (ended p) = Unit {0}
+
+-- What a unit pays that comes from one cursor to another, with these flags before and after: it evaluates what it has to and only what it may, and tries no boundary that is left out. Past an attempt it evaluates nothing, and the boundary waits still; past a subtree it evaluates nothing, and no update of the subtree's instances is due.
+pub data Pays (s : Sight) (current : Shape Fiber) (bodies : ℕ) (us : Flags) : (before : Cursor) → Flags → (after : Cursor) → Type 0 where
+  by_unit : {c : Cursor} → MayGo s us c → bodies ≤ next_allowed s us c → next_required s c ≤ bodies → Pays s current bodies us c (unit_flags s us c) (unit s c)
+  past_attempt : {n : ℕ} {fs : List Frame} {cs : Contexts} {key : Key} {f : Element} {es : Elements} {a : Awaits} {ns kept : Forest} {o : Option ℕ}
+      → bodies ≡ 0 → IsLinked current → StoodAt current (given_along fs) o → IsOld current o (Some (node (boundary key f es) (of_boundary (Hidden a)) ns kept))
+      → AreUnresolved s a → AllValuesAgree (without_lanes s) s ns → waits_still s (Some (node (boundary key f es) (of_boundary (Hidden a)) ns kept)) ≡ true
+      → Pays s current bodies us (at_place (suc n) fs cs (boundary key f es) (Some (node (boundary key f es) (of_boundary (Hidden a)) ns kept)))
+      (below_boundary s (flag us) (Some (node (boundary key f es) (of_boundary (Hidden a)) ns kept)) ∷ us)
+      (open_part n fs (falling (boundary key f es) (Some (node (boundary key f es) (of_boundary (Hidden a)) ns kept)) a) (part cs (f ∷ []) kept))
+  past_subtree : {n : ℕ} {fs : List Frame} {cs : Contexts} {e : Element} {x : Node} {o : Option ℕ}
+      → bodies ≡ 0 → IsLinked current → StoodAt current (given_along fs) o ⊎ ReadsHold cs x → IsOld current o (Some x) → element_of x ≡ e → IsIdle s x → ForEach (IsUndue s) x
+      → Pays s current bodies us (at_place (suc n) fs cs e (Some x)) us (arrive (suc n) fs (Some x))
+
+-- so many bodies are paid where the parts come to a cursor, and these are the flags there
+pub record Paid (s : Sight) (current : Shape Fiber) (bodies : ℕ) (us : Flags) (before : Cursor) (after : Cursor) (t : Trees Fiber) (at : At) : Type 0 where
+  pub flags : Flags
+  pub are : HasFlags t at flags
+  pub pays : Pays s current bodies us before flags after
