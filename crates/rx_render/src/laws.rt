@@ -34,8 +34,8 @@ pub fn renders_stay()
 {}
 
 /// Where no unit is left, the tree in progress is that of the node that fresh rendering gives, and there were fewer bodies
-/// than units. Each body that has a cause of its own was evaluated, what hidden boundaries keep that wait still apart; and only
-/// such bodies, and those below a place with a cause, none of them twice: so the bodies are as many at least, and at most.
+/// than units. They are as many at least as places have a cause of their own, what hidden boundaries keep that wait still left
+/// out, and as many at most as places have a cause or lie below one that has.
 pub fn renders_end()
     ensures { (p : Program) → IsBounded p → (st : State) (g : Progress) (v : Rendering) → Renders p st g v → v.at ≡ Over
         → (x : Node) × IsTreeOf (Some x) (grafted v.trees.draft) × (fresh (sight_of p st g) st.tree ≡ made x) × (v.bodies < v.units)

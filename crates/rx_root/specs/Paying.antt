@@ -1,5 +1,5 @@
 -- What the steps of the machine cost: how many bodies each of their renders evaluates, at most and at least.
-use Rattle.std.specs.Prelude.{◌≡◌, ◌≢◌, ℕ, zero, suc, ◌+◌, ◌≤◌, Bool, true, false, Option, Some, None}
+use Rattle.std.specs.Prelude.{◌≡◌, ◌≢◌, ℕ, zero, suc, ◌+◌, ◌≤◌, Bool, true, false, List, [], ◌∷◌, Option, Some, None}
 use Rattle.rx_lane.specs.declared.lane.Lane.TheVariants as lane
 use Rattle.rx_lane.specs.Lanes.{has}
 use Rattle.rx_ast.specs.Syntax.{Program}
@@ -68,3 +68,8 @@ StepPaid p s step.Passive r = StepTo p s step.Passive r
 StepPaid p s step.Event r = StepTo p s step.Event r
 StepPaid p s step.State r = StepTo p s step.State r
 StepPaid p s step.Tree r = StepTo p s step.Tree r
+
+-- From a state, the steps of a script may be this stretch, one after another, and each of their renders pays.
+abbrev pub RunPaid : Program → State → List Step → Stretch → Type 0
+RunPaid p s [] r = r ≡ silent s
+RunPaid p s (x ∷ xs) r = (first rest : Stretch) × StepPaid p s x first × RunPaid p first.after xs rest × (r ≡ followed_by first rest)

@@ -81,9 +81,10 @@ impl Root {
     }
 
     /// Takes a step of a script: the root stands for the state of the machine after it, the report has its lines, and the
-    /// counter the bodies that it evaluated. Each of its renders evaluates a body only where a place has a cause or lies below
-    /// one that has, and each place that has one of its own, but for what hidden boundaries keep that wait still (react.dev,
-    /// Render and Commit). After an `Err` of a step that renders, the root stands for the state after the
+    /// counter the bodies that it evaluated. Each of its renders evaluates as many bodies at most as places have a cause or lie
+    /// below one that has, and one that is finished as many at least as places have a cause of their own, what hidden boundaries
+    /// keep that wait still left out (react.dev, Render and Commit). After an `Err` of a step that renders, the root stands for
+    /// the state after the
     /// renders that the step finished and the passive effects that it ran, whose lines the report has, and no render is in
     /// progress; so the step may be called again. An `Err` of any other step changes nothing of what the root stands for, nor
     /// the report.

@@ -15,7 +15,7 @@ use Rattle.rx_words.specs.declared.task.Reading.TheVariants.{Run, Check}
 use Rattle.rx_words.specs.Words.{task_of}
 use Rattle.rx_top.specs.declared.status.Status.{Status}
 use Rattle.rx_top.specs.declared.status.Status.TheVariants.{Done, Usage, ReadFault, WriteFault, TooLong, ProgramRefused, ScriptRefused, OutOfMemory}
-use Rattle.rx_top.specs.Outcome.{accepted_line, IsAccepted, IsRefused, IsDueFor, IsDueTo, IsDue, IsReport, IsWork, IsOutput, IsSomeOutput, IsTextFor, IsBegun, IsAnswer, Gives, limit, Writes, WritesPart, WritesSome}
+use Rattle.rx_top.specs.Outcome.{accepted_line, IsAccepted, IsRefused, IsDueFor, IsDueTo, IsDue, IsReport, IsPaidReport, Reporting, IsWork, IsOutput, IsSomeOutput, IsTextFor, IsBegun, IsAnswer, Gives, limit, Writes, WritesPart, WritesSome}
 
 -- an input is this, and nothing else
 abbrev pub IsAlone : List ℕ → Judgement → Type 0
@@ -57,32 +57,32 @@ due-refused_script input line alone OutOfMemory d = absurd d.1
 -- What is written
 
 -- what a run writes is the work of `run` with these options
-pub run-work : (counts ops : Bool) (reading : Reading) (p : Program) (steps : List Step) (o : Options) → reading ≡ Run counts ops → o ≡ record { counts = counts; ops = ops }
-    → (X : (List ℕ → ℕ → Type 0) → Type 0) → X (IsReport p steps o) → X (IsWork reading p steps)
-run-work counts ops reading p steps o is shown X holds = subst (λ t. X (IsWork t p steps)) (sym is) (subst (λ q. X (IsReport p steps q)) shown holds)
+pub run-work : (Report : Reporting) (counts ops : Bool) (reading : Reading) (p : Program) (steps : List Step) (o : Options) → reading ≡ Run counts ops → o ≡ record { counts = counts; ops = ops }
+    → (X : (List ℕ → ℕ → Type 0) → Type 0) → X (Report p steps o) → X (IsWork Report reading p steps)
+run-work Report counts ops reading p steps o is shown X holds = subst (λ t. X (IsWork Report t p steps)) (sym is) (subst (λ q. X (Report p steps q)) shown holds)
 
 -- the line of the bounds is the work of `check`
-pub check-work : (reading : Reading) (p : Program) (steps : List Step) (line : List ℕ) → reading ≡ Check → line ≡ accepted_line (node_bound p) (depth_bound p) (length steps)
-    → IsWork reading p steps line 0
-check-work reading p steps line is told = subst (λ t. IsWork t p steps line 0) (sym is) (told, refl)
+pub check-work : (Report : Reporting) (reading : Reading) (p : Program) (steps : List Step) (line : List ℕ) → reading ≡ Check → line ≡ accepted_line (node_bound p) (depth_bound p) (length steps)
+    → IsWork Report reading p steps line 0
+check-work Report reading p steps line is told = subst (λ t. IsWork Report t p steps line 0) (sym is) (told, refl)
 
 -- the work on what is accepted is its output
 pub work-done : (reading : Reading) (input : List ℕ) (a : IsAccepted input) (w u : Option (List ℕ)) (used_old used : ℕ) (answer : Status) → answer ≡ Done
-    → Writes w u used_old used (IsWork reading a.program a.steps) → Writes w u used_old used (IsOutput reading input answer)
+    → Writes w u used_old used (IsWork IsPaidReport reading a.program a.steps) → Writes w u used_old used (IsOutput IsPaidReport reading input answer)
 work-done reading input a w u used_old used answer is done = rw is (done.0, done.1, (a, done.2), done.3, done.4)
 
-pub work-part : (reading : Reading) (input : List ℕ) (a : IsAccepted input) (w u : Option (List ℕ)) → WritesPart w u (IsWork reading a.program a.steps)
+pub work-part : (reading : Reading) (input : List ℕ) (a : IsAccepted input) (w u : Option (List ℕ)) → WritesPart w u (IsWork IsReport reading a.program a.steps)
     → WritesPart w u (IsSomeOutput reading input)
 work-part reading input a w u part = (part.0, part.1, part.2, (Done, (a, part.3)), part.4)
 
-pub work-some : (reading : Reading) (input : List ℕ) (a : IsAccepted input) (w u : Option (List ℕ)) → WritesSome w u (IsWork reading a.program a.steps)
+pub work-some : (reading : Reading) (input : List ℕ) (a : IsAccepted input) (w u : Option (List ℕ)) → WritesSome w u (IsWork IsReport reading a.program a.steps)
     → WritesSome w u (IsSomeOutput reading input)
 work-some reading input a w u (inl kept) = inl kept
 work-some reading input a w u (inr part) = inr (work-part reading input a w u part)
 
 -- the output of a program that is refused
 pub program-done : (reading : Reading) (input : List ℕ) (line : Text) → IsRefused input ProgramRefused line → (w u : Option (List ℕ)) (used : ℕ) (answer : Status)
-    → answer ≡ ProgramRefused → Appends w u line → Writes w u used used (IsOutput reading input answer)
+    → answer ≡ ProgramRefused → Appends w u line → Writes w u used used (IsOutput IsPaidReport reading input answer)
 program-done reading input line r w u used answer is wrote = rw is (line, 0, (r, refl), wrote, omega arith)
 
 pub program-part : (reading : Reading) (input : List ℕ) (line : Text) → IsRefused input ProgramRefused line → (w u : Option (List ℕ)) → AppendsPrefix w u line
@@ -92,7 +92,7 @@ program-part reading input line r w u part =
 
 -- the output of a script that is refused
 pub script-done : (reading : Reading) (input : List ℕ) (line : Text) → IsRefused input ScriptRefused line → (w u : Option (List ℕ)) (used : ℕ) (answer : Status)
-    → answer ≡ ScriptRefused → Appends w u line → Writes w u used used (IsOutput reading input answer)
+    → answer ≡ ScriptRefused → Appends w u line → Writes w u used used (IsOutput IsPaidReport reading input answer)
 script-done reading input line r w u used answer is wrote = rw is (line, 0, (r, refl), wrote, omega arith)
 
 pub script-part : (reading : Reading) (input : List ℕ) (line : Text) → IsRefused input ScriptRefused line → (w u : Option (List ℕ)) → AppendsPrefix w u line
@@ -199,10 +199,3 @@ pub read-some : (words : List Text) (reading : Reading) (old new w u : Option (L
 read-some words reading old new w u input valid taken end within (inl kept) = inl kept
 read-some words reading old new w u input valid taken end within (inr part) =
     inr (begun-part words (Read reading) old new w u valid (read-part reading old new w u input taken end within part))
-
--- no input is answered so
-pub never-usage : (reading : Reading) (input text : List ℕ) (bodies : ℕ) → IsOutput reading input Usage text bodies → ⊥
-never-usage reading input text bodies out = out.0
-
-pub never-too_long : (reading : Reading) (input text : List ℕ) (bodies : ℕ) → IsOutput reading input TooLong text bodies → ⊥
-never-too_long reading input text bodies out = out.0

@@ -13,7 +13,7 @@ use Rattle.rx_model.specs.Machine.{RunTo}
 use Rattle.rx_model.specs.Laws.{IsBounded, QuietLaw}
 use Rattle.rx_model.proofs.Reached.{runs-reach, start-reached}
 use Rattle.rx_root.specs.Rooted.{Rooted}
-use Rattle.rx_top.specs.Outcome.{IsReport, Writes, WritesPart}
+use Rattle.rx_top.specs.Outcome.{IsPaidReport, IsReport, Writes, WritesPart}
 use Rattle.rx_top.specs.Running.{BeginsRun, WritesRun}
 use Rattle.rx_top.proofs.Stretches.{report_bytes-append}
 
@@ -41,13 +41,14 @@ report-begins p bounded law o script w u b =
     (b.0, b.1 ++ end, b.2.bodies, reports p bounded law o script b.2 b.3 (b.0 ++ (b.1 ++ end)) whole, b.5)
 
 pub report-done : (p : Program) → IsBounded p → QuietLaw p → (o : Options) (script : List Step) (w v u : Option (List ℕ)) (used_old used : ℕ) (root : Rooted) (end : List ℕ)
-    → (r : WritesRun p o opening script w v used_old used root) → end ≡ end_bytes o r.0.after → Appends v u end → Writes w u used_old used (IsReport p script o)
+    → (r : WritesRun p o opening script w v used_old used root) → end ≡ end_bytes o r.0.after → Appends v u end → Writes w u used_old used (IsPaidReport p script o)
+unfolding reports
 report-done p bounded law o script w v u used_old used root end r is wrote = (
   report_bytes o r.0.lines ++ end,
   r.0.bodies,
-  reports p bounded law o script r.0 r.1 (report_bytes o r.0.lines ++ end) (ap (λ l. report_bytes o r.0.lines ++ l) is),
-  Appends-trans w v u (report_bytes o r.0.lines) end r.2 wrote,
-  r.3,
+  record { report = reports p bounded law o script r.0 r.1 (report_bytes o r.0.lines ++ end) (ap (λ l. report_bytes o r.0.lines ++ l) is); pays = r.2 },
+  Appends-trans w v u (report_bytes o r.0.lines) end r.3 wrote,
+  r.4,
 )
 
 pub report-part : (p : Program) → IsBounded p → QuietLaw p → (o : Options) (script : List Step) (w v u : Option (List ℕ)) (used_old used : ℕ) (root : Rooted) (end : List ℕ)
@@ -59,7 +60,7 @@ report-part p bounded law o script w v u used_old used root end r is wrote =
       wrote.1,
       r.0.bodies,
       reports p bounded law o script r.0 r.1 ((report_bytes o r.0.lines ++ wrote.0) ++ wrote.1) whole,
-      Appends-trans w v u (report_bytes o r.0.lines) wrote.0 r.2 wrote.3,
+      Appends-trans w v u (report_bytes o r.0.lines) wrote.0 r.3 wrote.3,
     )
 
 -- where nothing but the log's end was to be written
@@ -67,4 +68,4 @@ pub report-unwritten : (p : Program) → IsBounded p → QuietLaw p → (o : Opt
     → WritesRun p o opening script w v used_old used root → WritesPart w v (IsReport p script o)
 report-unwritten p bounded law o script w v used_old used root r =
     let end = end_bytes o r.0.after in
-    (report_bytes o r.0.lines, end, r.0.bodies, reports p bounded law o script r.0 r.1 (report_bytes o r.0.lines ++ end) refl, r.2)
+    (report_bytes o r.0.lines, end, r.0.bodies, reports p bounded law o script r.0 r.1 (report_bytes o r.0.lines ++ end) refl, r.3)

@@ -13,7 +13,7 @@ use Rattle.rx_model.specs.State.{State, opening}
 use Rattle.rx_model.specs.Stretch.{Stretch, silent, followed_by}
 use Rattle.rx_model.specs.Laws.{IsReached}
 use Rattle.rx_model.specs.Machine.{RunTo, StepTo}
-use Rattle.rx_root.specs.Paying.{StepPaid}
+use Rattle.rx_root.specs.Paying.{RunPaid, StepPaid}
 use Rattle.rx_root.specs.Rooted.{Rooted}
 use Rattle.rx_root.specs.Stands.{Stands, HasRoomFor}
 use Rattle.rx_top.specs.Running.{BeginsRun, WritesRun}
@@ -36,6 +36,10 @@ followed-silent r = ap₂ (λ (l : List Line) (n : ℕ). record { lines = l; bod
 abbrev pub GoesOn : Program → State → List Step → Stretch → List Step → Type 0
 GoesOn p old script done left = (more : Stretch) → RunTo p done.after left more → RunTo p old script (followed_by done more)
 
+-- the same of runs each of whose renders pays
+abbrev pub GoesOnPaid : Program → State → List Step → Stretch → List Step → Type 0
+GoesOnPaid p old script done left = (more : Stretch) → RunPaid p done.after left more → RunPaid p old script (followed_by done more)
+
 -- from each state that can be reached each list of steps has a run
 abbrev pub Onward : Program → Type 0
 Onward p = (s : State) → IsReached p s → (steps : List Step) → (r : Stretch) × RunTo p s steps r
@@ -51,20 +55,32 @@ next p old script left step done first before here more run =
 ends : (p : Program) (old : State) (script : List Step) (done : Stretch) → GoesOn p old script done [] → RunTo p old script done
 ends p old script done before = subst (RunTo p old script) (followed-silent done) (before (silent done.after) refl)
 
+starts-paid : (p : Program) (old : State) (script : List Step) → GoesOnPaid p old script (silent old) script
+starts-paid p old script more run = subst (RunPaid p old script) (ap (λ (n : ℕ). record { lines = more.lines; bodies = n; after = more.after }) (omega arith)) run
+
+next-paid : (p : Program) (old : State) (script left : List Step) (step : Step) (done first : Stretch)
+    → GoesOnPaid p old script done (step ∷ left) → StepPaid p done.after step first → GoesOnPaid p old script (followed_by done first) left
+next-paid p old script left step done first before here more run =
+    subst (RunPaid p old script) (sym (followed-assoc done first more)) (before (followed_by first more) (first, more, here, run, refl))
+
+ends-paid : (p : Program) (old : State) (script : List Step) (done : Stretch) → GoesOnPaid p old script done [] → RunPaid p old script done
+ends-paid p old script done before = subst (RunPaid p old script) (followed-silent done) (before (silent done.after) refl)
+
 -- the run so far, with what was written and counted for it, and the root after it
 abbrev pub SoFar : Program → Options → State → List Step → Option (List ℕ) → Option (List ℕ) → ℕ → ℕ → Rooted → List Step → Type 0
 SoFar p o old script w v used_old used root left =
     (done : Stretch) × GoesOn p old script done left × Stands p done.after root × Appends w v (report_bytes o done.lines) × (used ≡ used_old + done.bodies)
+    × GoesOnPaid p old script done left
 
 -- a step that a root takes, with the bytes of its lines
 abbrev pub Stepped : Program → Options → Step → Rooted → Rooted → List ℕ → ℕ → ℕ → Type 0
 Stepped p o step root after bytes used_old used =
-    (s : State) → Stands p s root → (r : Stretch) × StepTo p s step r × Stands p r.after after × (bytes ≡ report_bytes o r.lines) × (used ≡ used_old + r.bodies)
+    (s : State) → Stands p s root → (r : Stretch) × StepTo p s step r × Stands p r.after after × (bytes ≡ report_bytes o r.lines) × (used ≡ used_old + r.bodies) × StepPaid p s step r
 
 pub so_far-starts : (p : Program) (o : Options) (old : State) (script : List Step) (w : Option (List ℕ)) (used : ℕ) (root : Rooted) → Stands p old root
     → SoFar p o old script w w used used root script
 unfolding report_bytes
-so_far-starts p o old script w used root stands = (silent old, starts p old script, stands, Appends-nil w, omega arith)
+so_far-starts p o old script w used root stands = (silent old, starts p old script, stands, Appends-nil w, omega arith, starts-paid p old script)
 
 pub so_far-next : (p : Program) (o : Options) (old : State) (script left : List Step) (step : Step) (w v u : Option (List ℕ)) (bytes : List ℕ) (used_old used used_new : ℕ) (root after : Rooted)
     → SoFar p o old script w v used_old used root (step ∷ left) → Stepped p o step root after bytes used used_new → Appends v u bytes
@@ -77,6 +93,7 @@ so_far-next p o old script left step w v u bytes used_old used used_new root aft
       here.2,
       subst (Appends w u) (sym (report_bytes-append o before.0.lines here.0.lines)) all,
       omega (arith, before.4, here.4),
+      next-paid p old script left step before.0 here.0 before.5 here.5,
     )
 
 -- what was written so far begins the lines of some run
@@ -116,7 +133,7 @@ so_far-part p o old script left step w v u bytes used_old used used_new root aft
 
 pub so_far-ends : (p : Program) (o : Options) (old : State) (script : List Step) (w v : Option (List ℕ)) (used_old used : ℕ) (root : Rooted)
     → SoFar p o old script w v used_old used root [] → WritesRun p o old script w v used_old used root
-so_far-ends p o old script w v used_old used root before = (before.0, ends p old script before.0 before.1, before.3, before.4, before.2)
+so_far-ends p o old script w v used_old used root before = (before.0, ends p old script before.0 before.1, ends-paid p old script before.0 before.5, before.3, before.4, before.2)
 
 -- room for more steps is room for fewer
 pub room-fewer : (m n : ℕ) (v : Rooted) → m ≤ n → HasRoomFor n v → HasRoomFor m v
@@ -152,6 +169,7 @@ stepped p q o step root after before cut log bytes used_old used same takes c l 
       subst (λ t. Stands t r.0.after after) same r.2,
       logged o before cut log bytes r.0.lines c r.3 l b,
       r.4,
+      subst (λ t. StepPaid t s step r.0) same r.5,
     )
 
 -- a root at the start has room for every script

@@ -14,6 +14,7 @@ use Rattle.rx_model.specs.State.{State, opening, is_quiet}
 use Rattle.rx_model.specs.Stretch.{Stretch}
 use Rattle.rx_model.specs.Machine.{RunTo, Reports}
 use Rattle.rx_model.specs.Laws.{ShowsEverything}
+use Rattle.rx_root.specs.Paying.{RunPaid}
 use Rattle.rx_gen.specs.Generated.{program_text, script_text, summary_text}
 use Rattle.rx_words.specs.Words.{is_valid, reads_input, task_of}
 use Rattle.rx_words.specs.declared.task.Task.{Task}
@@ -74,15 +75,24 @@ pub record IsReport (p : Program) (steps : List Step) (options : Options) (bytes
   pub reports : Reports p steps options bytes bodies
   pub quiet : IsTrue (is_quiet reports.run.whole.after) → ShowsEverything p reports.run.whole.after
 
+-- The bytes are such a report, and each render of its run pays: it evaluates as many bodies at most as places have a cause or lie below one that has, and as many at least, once it is finished, as places have a cause of their own.
+pub record IsPaidReport (p : Program) (steps : List Step) (options : Options) (bytes : List ℕ) (bodies : ℕ) : Type 0 where
+  pub report : IsReport p steps options bytes bodies
+  pub pays : RunPaid p opening steps report.reports.run.whole
+
+-- what is asked of a report, of which a run evaluates so many bodies
+abbrev pub Reporting : Type 1
+Reporting = Program → List Step → Options → List ℕ → ℕ → Type 0
+
 -- What is written for a program that is accepted and the steps of its script, and how many bodies are evaluated for it: `check` writes the one line of its bounds; `run` writes the report of a run of the fresh machine.
-abbrev pub IsWork : Reading → Program → List Step → List ℕ → ℕ → Type 0
-IsWork Check p steps text bodies = (text ≡ accepted_line (node_bound p) (depth_bound p) (length steps)) × (bodies ≡ 0)
-IsWork (Run counts ops) p steps text bodies = IsReport p steps (record { counts = counts; ops = ops }) text bodies
+abbrev pub IsWork : Reporting → Reading → Program → List Step → List ℕ → ℕ → Type 0
+IsWork Report Check p steps text bodies = (text ≡ accepted_line (node_bound p) (depth_bound p) (length steps)) × (bodies ≡ 0)
+IsWork Report (Run counts ops) p steps text bodies = Report p steps (record { counts = counts; ops = ops }) text bodies
 
 -- what is written for an input that isn't too long, and how many bodies are evaluated for it
-abbrev pub IsOutput : Reading → List ℕ → Status → List ℕ → ℕ → Type 0
-IsOutput reading input Done text bodies = (a : IsAccepted input) × IsWork reading a.program a.steps text bodies
-IsOutput reading input due text bodies = IsRefused input due text × (bodies ≡ 0)
+abbrev pub IsOutput : Reporting → Reading → List ℕ → Status → List ℕ → ℕ → Type 0
+IsOutput Report reading input Done text bodies = (a : IsAccepted input) × IsWork Report reading a.program a.steps text bodies
+IsOutput Report reading input due text bodies = IsRefused input due text × (bodies ≡ 0)
 
 -- The generated run
 
@@ -102,11 +112,12 @@ tree_bytes s = report_bytes plain (drop 1 (tree_lines (hosts s.tree)))
 abbrev pub summary_of : (rounds : ℕ) → State → Text
 summary_of n s = summary_text n (length s.journal.updates) s.commits (node_count s.tree) (tree_bytes s)
 
--- The text sums up a run of the fresh machine, of the generated program on the steps of its script.
+-- The text sums up a run of the fresh machine, of the generated program on the steps of its script, each of whose renders pays.
 pub record IsSummary (rounds : ℕ) (text : List ℕ) (bodies : ℕ) : Type 0 where
   pub input : IsAccepted (generated_input rounds)
   pub whole : Stretch
   pub runs : RunTo input.program opening input.steps whole
+  pub pays : RunPaid input.program opening input.steps whole
   pub text_is : text ≡ summary_of rounds whole.after
   pub bodies_are : bodies ≡ whole.bodies
 
@@ -148,12 +159,12 @@ ReadsAll old new P = (input : List ℕ) × Consumes old new input × IsAtEnd new
 
 -- some output of this task and this input
 abbrev pub IsSomeOutput : Reading → List ℕ → List ℕ → ℕ → Type 0
-IsSomeOutput reading input text bodies = (due : Status) × IsOutput reading input due text bodies
+IsSomeOutput reading input text bodies = (due : Status) × IsOutput IsReport reading input due text bodies
 
 -- An input was read whole, and what was written is its output with this status.
 abbrev pub Answers : Reading → Status → (left_old left_new written_old written_new : Option (List ℕ)) → (used_old used_new : ℕ) → Type 0
 Answers reading due left_old left_new written_old written_new used_old used_new =
-    ReadsAll left_old left_new (λ input. (length input ≤ limit) × Writes written_old written_new used_old used_new (IsOutput reading input due))
+    ReadsAll left_old left_new (λ input. (length input ≤ limit) × Writes written_old written_new used_old used_new (IsOutput IsPaidReport reading input due))
 
 -- A task's work was done: an input was read whole, and its output written; or a generated run was summed up.
 abbrev pub Does : Task → (left_old left_new written_old written_new : Option (List ℕ)) → (used_old used_new : ℕ) → Type 0

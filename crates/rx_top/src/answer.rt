@@ -9,7 +9,7 @@ ghost use Rattle.rx_model.specs.Laws.{IsBounded};
 ghost use Rattle.rx_root.specs.Stands.{Stands};
 ghost use Rattle.rx_root.specs.Taking.{AllCanTake};
 ghost use Rattle.rx_top.specs.declared.status.Status.{Status};
-ghost use Rattle.rx_top.specs.Outcome.{accepted_line as accepted_line_of, IsDueFor, IsOutput, IsReport, IsSomeOutput, IsWork, Gives, IsAnswer, Writes, WritesPart, WritesSome};
+ghost use Rattle.rx_top.specs.Outcome.{accepted_line as accepted_line_of, IsDueFor, IsOutput, IsPaidReport, IsReport, IsSomeOutput, IsWork, Gives, IsAnswer, Writes, WritesPart, WritesSome};
 
 use crate::lines::accepted_line;
 use crate::run::{RunError, run_steps};
@@ -63,7 +63,7 @@ fn run_root<K: Sink, L: Ledger>(
     requires few { length script.now < 2 ^ 32 }
     ensures gives { Gives Status.Done result }
     ensures no_read { result ≡ Status.ReadFault → ⊥ }
-    ensures done { result ≡ Status.Done → Writes (K.written out.old) (K.written out.new) steps.old steps.new (IsReport root.old.rendering.program script.now log.old.options) }
+    ensures done { result ≡ Status.Done → Writes (K.written out.old) (K.written out.new) steps.old steps.new (IsPaidReport root.old.rendering.program script.now log.old.options) }
     ensures fault_part { result ≡ Status.WriteFault → WritesPart (K.written out.old) (K.written out.new) (IsReport root.old.rendering.program script.now log.old.options) }
     ensures memory_part { result ≡ Status.OutOfMemory → WritesPart (K.written out.old) (K.written out.new) (IsReport root.old.rendering.program script.now log.old.options) }
     ensures cause { result ≡ Status.WriteFault → Rose (K.faults out.old) (K.faults out.new) }
@@ -98,7 +98,7 @@ fn run_program<K: Sink, L: Ledger>(
     requires few { length script.now < 2 ^ 32 }
     ensures gives { Gives Status.Done result }
     ensures no_read { result ≡ Status.ReadFault → ⊥ }
-    ensures done { result ≡ Status.Done → Writes (K.written out.old) (K.written out.new) steps.old steps.new (IsReport checked script.now log.old.options) }
+    ensures done { result ≡ Status.Done → Writes (K.written out.old) (K.written out.new) steps.old steps.new (IsPaidReport checked script.now log.old.options) }
     ensures fault_part { result ≡ Status.WriteFault → WritesPart (K.written out.old) (K.written out.new) (IsReport checked script.now log.old.options) }
     ensures memory_part { result ≡ Status.OutOfMemory → WritesSome (K.written out.old) (K.written out.new) (IsReport checked script.now log.old.options) }
     ensures cause { result ≡ Status.WriteFault → Rose (K.faults out.old) (K.faults out.new) }
@@ -138,9 +138,9 @@ fn answer_accepted<K: Sink, L: Ledger>(
     requires few { length script.now < 2 ^ 32 }
     ensures gives { Gives Status.Done result }
     ensures no_read { result ≡ Status.ReadFault → ⊥ }
-    ensures done { IsAnswer result → Writes (K.written out.old) (K.written out.new) steps.old steps.new (IsWork reading checked script.now) }
-    ensures fault_part { result ≡ Status.WriteFault → WritesPart (K.written out.old) (K.written out.new) (IsWork reading checked script.now) }
-    ensures memory_part { result ≡ Status.OutOfMemory → WritesSome (K.written out.old) (K.written out.new) (IsWork reading checked script.now) }
+    ensures done { IsAnswer result → Writes (K.written out.old) (K.written out.new) steps.old steps.new (IsWork IsPaidReport reading checked script.now) }
+    ensures fault_part { result ≡ Status.WriteFault → WritesPart (K.written out.old) (K.written out.new) (IsWork IsReport reading checked script.now) }
+    ensures memory_part { result ≡ Status.OutOfMemory → WritesSome (K.written out.old) (K.written out.new) (IsWork IsReport reading checked script.now) }
     ensures cause { result ≡ Status.WriteFault → Rose (K.faults out.old) (K.faults out.new) }
 {
     match reading {
@@ -163,7 +163,7 @@ pub(crate) fn answer<K: Sink, L: Ledger>(
     requires { length input.now < 2 ^ 32 }
     ensures gives { (due : Status) → IsDueFor input.now due → Gives due result }
     ensures no_read { result ≡ Status.ReadFault → ⊥ }
-    ensures done { IsAnswer result → Writes (K.written out.old) (K.written out.new) steps.old steps.new (IsOutput reading input.now result) }
+    ensures done { IsAnswer result → Writes (K.written out.old) (K.written out.new) steps.old steps.new (IsOutput IsPaidReport reading input.now result) }
     ensures fault_part { result ≡ Status.WriteFault → WritesPart (K.written out.old) (K.written out.new) (IsSomeOutput reading input.now) }
     ensures memory_part { result ≡ Status.OutOfMemory → WritesSome (K.written out.old) (K.written out.new) (IsSomeOutput reading input.now) }
     ensures cause { result ≡ Status.WriteFault → Rose (K.faults out.old) (K.faults out.new) }

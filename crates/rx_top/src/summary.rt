@@ -6,6 +6,7 @@ ghost use Rattle.rx_model.specs.State.{State, opening};
 ghost use Rattle.rx_model.specs.Stretch.{Stretch};
 ghost use Rattle.rx_model.specs.Laws.{IsBounded};
 ghost use Rattle.rx_model.specs.Machine.{RunTo};
+ghost use Rattle.rx_root.specs.Paying.{RunPaid};
 ghost use Rattle.rx_root.specs.Taking.{AllCanTake};
 ghost use Rattle.rx_words.specs.Words.{most_rounds};
 ghost use Rattle.rx_top.specs.Running.{SumsUp};
@@ -50,7 +51,8 @@ fn run_silently<L: Ledger>(
     requires fits { AllCanTake root.old.rendering.program script.now }
     requires room { HasRoomFor (length script.now) root.old }
     ensures ok { OnOk result ((s : State) → Stands root.old.rendering.program s root.old
-        → (r : Stretch) × RunTo root.old.rendering.program s script.now r × (steps.new ≡ steps.old + r.bodies) × Stands root.old.rendering.program r.after root.new) }
+        → (r : Stretch) × RunTo root.old.rendering.program s script.now r
+        × RunPaid root.old.rendering.program s script.now r × (steps.new ≡ steps.old + r.bodies) × Stands root.old.rendering.program r.after root.new) }
     ensures program { OnOk result (root.new.rendering.program ≡ root.old.rendering.program) }
     ensures options { OnOk result (log.new.options ≡ log.old.options) }
     ensures left { OnOk result ((k : ℕ) → HasRoomFor (length script.now + k) root.old → HasRoomFor k root.new) }

@@ -20,13 +20,13 @@ returns-in-Err-clause-memory_part g c _ = report-unwritten c.args.root.now.rende
 pub returns-in-Ok-write_all-clause-done : goal.returns-in-Ok-write_all-clause-done
 returns-in-Ok-write_all-clause-done g c _ =
     let r = c.in-Ok.ensures.ok opening c.requires.stands in
-    let told = c.in-Ok-end_line.ensures.ok r.0.after (subst (λ t. Stands t r.0.after c.run_steps.new.root) (sym c.in-Ok.ensures.program) r.4) in
+    let told = c.in-Ok-end_line.ensures.ok r.0.after (subst (λ t. Stands t r.0.after c.run_steps.new.root) (sym c.in-Ok.ensures.program) r.5) in
     let end = logged c.args.log.now.options c.run_steps.new.log c.cut.new.self c.end_line.new.log c.bytes.result.now _ c.cut.ensures told c.in-Ok.ensures.options c.bytes.ensures in
     report-done c.args.root.now.rendering.program c.requires.bounded (c.quiet_ends.ensures c.args.root.now.rendering.program) c.args.log.now.options c.args.script.now _ _ _ _ _ _ c.bytes.result.now r end c.in-Ok-write_all.ensures.ok
 
 pub returns-in-Err-write_all-clause-fault_part : goal.returns-in-Err-write_all-clause-fault_part
 returns-in-Err-write_all-clause-fault_part g c _ =
     let r = c.in-Ok.ensures.ok opening c.requires.stands in
-    let told = c.in-Ok-end_line.ensures.ok r.0.after (subst (λ t. Stands t r.0.after c.run_steps.new.root) (sym c.in-Ok.ensures.program) r.4) in
+    let told = c.in-Ok-end_line.ensures.ok r.0.after (subst (λ t. Stands t r.0.after c.run_steps.new.root) (sym c.in-Ok.ensures.program) r.5) in
     let end = logged c.args.log.now.options c.run_steps.new.log c.cut.new.self c.end_line.new.log c.bytes.result.now _ c.cut.ensures told c.in-Ok.ensures.options c.bytes.ensures in
     report-part c.args.root.now.rendering.program c.requires.bounded (c.quiet_ends.ensures c.args.root.now.rendering.program) c.args.log.now.options c.args.script.now _ _ _ _ _ _ c.bytes.result.now r end c.in-Err-write_all.ensures.err

@@ -8,7 +8,7 @@ use Rattle.rx_top.proofs.summary.run_and_sum_up.Goals as goal
 pub sum_up-requires-clause-stands : goal.sum_up-requires-clause-stands
 sum_up-requires-clause-stands g c =
     let r = c.in_ok-run_silently.ensures.ok opening c.requires.stands in
-    (r.0.after, subst (λ q. Stands q r.0.after c.run_silently.new.root) (sym c.in_ok-run_silently.ensures.program) r.3)
+    (r.0.after, subst (λ q. Stands q r.0.after c.run_silently.new.root) (sym c.in_ok-run_silently.ensures.program) r.4)
 
 pub sum_up-requires-clause-room : goal.sum_up-requires-clause-room
 sum_up-requires-clause-room g c =
@@ -17,5 +17,5 @@ sum_up-requires-clause-room g c =
 pub returns : goal.returns
 returns g c =
     let r = c.in_ok-run_silently.ensures.ok opening c.requires.stands in
-    let after = subst (λ q. Stands q r.0.after c.run_silently.new.root) (sym c.in_ok-run_silently.ensures.program) r.3 in
-    IfOk-weaker c.sum_up.result _ _ (λ line summed. (r.0, r.1, summed.0 r.0.after after, omega (arith, summed.1, r.2))) c.sum_up.ensures
+    let after = subst (λ q. Stands q r.0.after c.run_silently.new.root) (sym c.in_ok-run_silently.ensures.program) r.4 in
+    IfOk-weaker c.sum_up.result _ _ (λ line summed. (r.0, r.1, r.2, summed.0 r.0.after after, omega (arith, summed.1, r.3))) c.sum_up.ensures

@@ -26,8 +26,9 @@ returns-in-Accepted g c =
         input = record { program = c.in-Accepted.checked; steps = c.in-Accepted.script.items; judged = made };
         whole = sums.0;
         runs = sums.1;
-        text_is = sums.2;
+        pays = sums.2;
+        text_is = sums.3;
         bodies_are = refl;
       },
-      sums.3,
+      sums.4,
     )) (rw c.deref-in-Accepted.ensures.value at c.summarize_accepted.ensures)
