@@ -47,7 +47,7 @@ pub record HasKids (origin : Origin) (before after : Trees Fiber) (p : ℕ) : Ty
   pub all : AllWait origin kids
   pub new : old_of before.draft p ≡ None → AllNew kids
 
--- there is a cause to begin a clone's place: one in the tree of its old node, or, where that may stand where other values of contexts are given, an instance that may read another one there
+-- there is a cause to begin a clone's place: the tree of its old node leads to one, or, where that may stand where other values of contexts are given, an instance that may read another one there
 abbrev pub HasCauseToBegin : Scene → (kept : ℕ → Option (List Hook)) → Contexts → (component stood : Bool) → Shape Fiber → Option ℕ → Type 0
 HasCauseToBegin scene kept cs component stood current o =
     HasCauseIn scene kept cs component current o ⊎ ((stood ≡ false) × ((x : Node) → IsOld current o (Some x) → MayReadAnew cs x))

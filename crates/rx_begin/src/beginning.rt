@@ -192,7 +192,8 @@ pub fn begin<L: Ledger>(
     ensures taken { IfOk result (λ b. is_taken b.0 ≡ true → b.1 ≡ false) }
     ensures rests { IfOk result (λ b. is_taken b.0 ≡ true → (x : Node) → IsOld tree.old.current (old_of tree.old.draft at) (Some x)
         → EachBut (is_way scene.now.ways.now) (Rests (kept_hooks hooks.old) scene.now.lanes scene.now.cut) x) }
-    // A clone is begun over clones only where there is a cause in the tree of its old node; else its old children are taken over.
+    // A clone is begun over clones only where there is a cause in the tree of its old node, or an instance there stands on a way;
+    // else its old children are taken over.
     ensures causes { IfOk result (λ b. (v : fibers.Fiber) → Some v ≡ made_value_of tree.old.draft at → is_cloned v.stage ≡ true → is_taken b.0 ≡ false
         → HasCauseToBegin scene.now (kept_hooks hooks.old) (values_at contexts.old) (is_some (parts_in v.element)) (is_stood v.stage) tree.old.current (old_of tree.old.draft at)) }
     ensures few { IfOk result (λ b. (s : Sight) (n : ℕ) (fs : List Frame) (cs : Contexts) (e : elements.Element) (old : Option Node) → IsSceneOf scene.now s → StandsAt tree.old contexts.old (Some at) (at_place (suc n) fs cs e old)

@@ -25,7 +25,7 @@ use Rattle.rx_causes.specs.declared.scene.Scene.{Scene}
 use Rattle.rx_causes.specs.Marks.{begun_mark, keeps_children, mark_at, EachBut, EachFiber, EachFiberBut, SomeFiber, SomeNode}
 use Rattle.rx_causes.specs.Scenes.{GivesHooks, KeepsHooks, TellsCalm}
 use Rattle.rx_causes.specs.Hidden.{ForEach, KeepsHooksIf}
-use Rattle.rx_causes.specs.Idle.{HasCause, HasCauseAt, HasNoCause, HasNoCauseAt, HasNoWork, KeepsTree, Rests, is_anew}
+use Rattle.rx_causes.specs.Idle.{HasNoCause, HasNoCauseAt, HasNoWork, KeepsTree, LeadsAt, Rests, is_anew}
 use Rattle.rx_causes.proofs.Marks.{mark_is}
 use Rattle.rx_causes.proofs.Walks.{at_node, of_fiber, each_but, each_covered, each_fiber, some_node}
 use Rattle.rx_causes.proofs.Still.{keeps_none}
@@ -197,8 +197,13 @@ module _ (c : Shape Fiber) (o : Option ℕ) (i : ℕ) (o_is : o ≡ Some i) (v :
         let (n, rest, is) = old_list c o x i (fiber i v below behind) was o_is list in
         node_rests kept lanes cut way n x (fiber i v below behind) rest is (own, more)
 
-    -- one of its nodes has a cause where one of them has
-    pub tree_cause : HasCauseAt kept lanes cut (begun_mark v.stage) ⊎ SomeFiber (HasCauseAt kept lanes cut) below → SomeNode (HasCause kept lanes cut) x
-    tree_cause some =
+    -- one of its nodes leads to a cause where one of them does
+    pub tree_cause : (way : ℕ → Bool) → LeadsAt way kept lanes cut (begun_mark v.stage) ⊎ SomeFiber (LeadsAt way kept lanes cut) below
+        → SomeNode (λ m. LeadsAt way kept lanes cut (Some m)) x
+    tree_cause way some =
         let (n, rest, is) = old_list c o x i (fiber i v below behind) was o_is list in
-        node_some (HasCauseAt kept lanes cut) (λ e. e) n x (fiber i v below behind) rest is some
+        node_some (LeadsAt way kept lanes cut) (never_leads way) n x (fiber i v below behind) rest is some
+      where
+        never_leads : (way : ℕ → Bool) → LeadsAt way kept lanes cut None → ⊥
+        never_leads way (inl on) = let q : ⊥ = cc in q
+        never_leads way (inr e) = e

@@ -15,8 +15,9 @@ use Rattle.commit_laws.specs.Idle.{HasCommittedValues}
 use Rattle.rx_fiber.specs.Fibers.{Fiber}
 use Rattle.rx_fiber.specs.Reading.{IsOld}
 use Rattle.rx_hook_store.specs.Gives.{has_work_in}
+use Rattle.rx_ways.specs.Ways.{is_way}
 use Rattle.rx_causes.specs.declared.scene.Scene.{Scene}
-use Rattle.rx_causes.specs.Marks.{SomeNode}
+use Rattle.rx_causes.specs.Marks.{SomeNode, stands_on_way}
 use Rattle.rx_causes.specs.Scenes.{GivesHooks, TellsWork}
 use Rattle.rx_causes.specs.Hidden.{KeepsHooksIf}
 
@@ -40,6 +41,10 @@ HasCause kept lanes cut plain = ⊥
 abbrev pub HasCauseAt : (kept : ℕ → Option (List Hook)) → Lanes → Cut → Option Mark → Type 0
 HasCauseAt kept lanes cut None = ⊥
 HasCauseAt kept lanes cut (Some m) = HasCause kept lanes cut m
+
+-- a fiber leads to a cause, by its mark: its instance stands on a way, or it has one itself
+abbrev pub LeadsAt : (way : ℕ → Bool) → (kept : ℕ → Option (List Hook)) → Lanes → Cut → Option Mark → Type 0
+LeadsAt way kept lanes cut m = (stands_on_way way m ≡ true) ⊎ HasCauseAt kept lanes cut m
 
 -- An instance has a number, and no included update in its kept hooks is not done; so it has the committed values for each render with these lanes at this cut to which the hooks give its values.
 pub record HasNoWork (kept : ℕ → Option (List Hook)) (lanes : Lanes) (cut : Cut) (i : Instance) : Type 0 where
@@ -79,7 +84,8 @@ pub record KeepsTree (kept : ℕ → Option (List Hook)) (current : Shape Fiber)
   pub was : IsOld current o node
   pub keeps : KeepsHooksIf kept node
 
--- there is a cause to begin a clone's place: its old node reads anew, or one of its tree has a cause
+-- there is a cause to begin a clone's place: its old node reads anew, or one of its tree leads to a cause
 abbrev pub HasCauseIn : Scene → (kept : ℕ → Option (List Hook)) → Contexts → (component : Bool) → Shape Fiber → Option ℕ → Type 0
 HasCauseIn scene kept cs component current o =
-    (x : Node) → IsOld current o (Some x) → (is_anew component cs (instance_in (mark_of x)) ≡ true) ⊎ SomeNode (HasCause kept scene.lanes scene.cut) x
+    (x : Node) → IsOld current o (Some x) → (is_anew component cs (instance_in (mark_of x)) ≡ true)
+    ⊎ SomeNode (λ m. LeadsAt (is_way scene.ways.now) kept scene.lanes scene.cut (Some m)) x

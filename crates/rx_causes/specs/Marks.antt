@@ -47,6 +47,10 @@ EachFiber P (fiber id v ks rs) = P (begun_mark v.stage) × EachFiber P ks × Eac
 abbrev pub is_spared : (way : ℕ → Bool) → Option Mark → Bool
 is_spared way m = option_map_or (λ n. not (way n)) (option_and_then number_of m) false
 
+-- it is that of an instance with a number that stands on a way
+abbrev pub stands_on_way : (way : ℕ → Bool) → Option Mark → Bool
+stands_on_way way m = option_map_or way (option_and_then number_of m) false
+
 -- this holds of the mark of each fiber of a list, and of each below, but of those of instances that stand on no way, and of all below these
 abbrev pub EachFiberBut : (way : ℕ → Bool) → (Option Mark → Type 0) → Shape Fiber → Type 0
 EachFiberBut way P shapes.none = Unit {0}

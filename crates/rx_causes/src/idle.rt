@@ -10,10 +10,10 @@ ghost use Rattle.rx_node.specs.MarkView.{mark_seen};
 ghost use Rattle.rx_fiber.specs.Reading.{IsOld};
 ghost use Rattle.rx_ways.specs.Ways.{Covers, is_way};
 ghost use Rattle.rx_hook_store.specs.Store.{kept_hooks};
-ghost use Rattle.rx_causes.specs.Marks.{begun_mark, keeps_children, mark_at, EachBut, EachFiberBut, SomeFiber, is_spared};
+ghost use Rattle.rx_causes.specs.Marks.{begun_mark, keeps_children, mark_at, EachBut, EachFiberBut, SomeFiber, is_spared, stands_on_way};
 ghost use Rattle.rx_causes.specs.Scenes.{GivesHooks, IsSceneOf, KeepsHooks, TellsCalm};
 ghost use Rattle.rx_causes.specs.Hidden.{ForEach, ForEachFiber, instance_at};
-ghost use Rattle.rx_causes.specs.Idle.{HasCause, HasCauseAt, HasCauseIn, HasNoCause, HasNoCauseAt, KeepsTree, Rests, is_anew};
+ghost use Rattle.rx_causes.specs.Idle.{HasCause, HasCauseAt, HasCauseIn, LeadsAt, HasNoCause, HasNoCauseAt, KeepsTree, Rests, is_anew};
 
 use crate::reading::read_anew;
 use crate::scene::Scene;
@@ -64,7 +64,30 @@ fn is_spared(stage: &Stage, scene: &Scene) -> bool
     }
 }
 
-// Whether a fiber in a current list or below has a cause; those of instances that stand on no way are passed.
+// Whether the instance of a fiber stands on a way: then there is a cause at the fiber or below.
+fn stands_on_way(stage: &Stage, scene: &Scene) -> bool
+    ensures { result ≡ stands_on_way (is_way scene.now.ways.now) (begun_mark (stage_seen stage.now)) }
+{
+    match stage {
+        Stage::Begun(Mark::Instance(instance)) => match instance.number {
+            Some(number) => scene.ways.has(number),
+            None => false,
+        },
+        _ => false,
+    }
+}
+
+// Whether a fiber leads to a cause: its instance stands on a way, or it has one itself.
+fn leads(stage: &Stage, scene: &Scene, hooks: &HookStore) -> bool
+    requires { KeepsHooks (kept_hooks hooks.now) (instance_at (stage_seen stage.now)) }
+    ensures none { result ≡ false → HasNoCauseAt (kept_hooks hooks.now) scene.now.lanes scene.now.cut (begun_mark (stage_seen stage.now)) }
+    ensures some { result ≡ true → LeadsAt (is_way scene.now.ways.now) (kept_hooks hooks.now) scene.now.lanes scene.now.cut (begun_mark (stage_seen stage.now)) }
+{
+    stands_on_way(stage, scene) || has_cause(stage, scene, hooks)
+}
+
+// Whether a fiber in a current list or below leads to a cause. Those of instances that stand on no way are passed, and what is
+// below one that leads to a cause is not looked at.
 fn any_cause(
     tree: &FiberTree<Fiber>,
     first: Option<FiberId>,
@@ -74,15 +97,14 @@ fn any_cause(
     requires held { IfSome first (Holds tree.now.current) }
     requires kept { ForEachFiber (KeepsHooks (kept_hooks hooks.now)) (list_from tree.now.current first) }
     ensures none { result ≡ false → EachFiberBut (is_way scene.now.ways.now) (HasNoCauseAt (kept_hooks hooks.now) scene.now.lanes scene.now.cut) (list_from tree.now.current first) }
-    ensures some { result ≡ true → SomeFiber (HasCauseAt (kept_hooks hooks.now) scene.now.lanes scene.now.cut) (list_from tree.now.current first) }
+    ensures some { result ≡ true → SomeFiber (LeadsAt (is_way scene.now.ways.now) (kept_hooks hooks.now) scene.now.lanes scene.now.cut) (list_from tree.now.current first) }
 {
     tree.facts();
     let mut next = first;
     'walking: while let Some(id) = next {
         let stage = tree.value(id).stage();
         if !is_spared(stage, scene)
-            && (has_cause(stage, scene, hooks)
-                || any_cause(tree, tree.first_child(id), scene, hooks))
+            && (leads(stage, scene, hooks) || any_cause(tree, tree.first_child(id), scene, hooks))
         {
             return true;
         }
@@ -102,8 +124,9 @@ fn is_anew(stage: &Stage, component: bool, contexts: &[Int]) -> bool
 }
 
 /// Whether nothing in the tree of an old node, by its current fiber, has a cause to be rendered here: the node's own instance
-/// reads what it read, no instance on a way has work, and no boundary there is hidden. Instances on no way are passed, with all
-/// below them: where the ways cover the tree, there is no cause there. It answers false where there is no old node.
+/// reads what it read and has no work, no instance below stands on a way, and no boundary there is hidden. Instances on no way
+/// are passed, with all below them: where the ways cover the tree, there is no cause there. An instance on a way has a cause at
+/// it or below, and is looked at no further. It answers false where there is no old node.
 pub fn is_idle(
     tree: &FiberTree<Fiber>,
     old: Option<FiberId>,

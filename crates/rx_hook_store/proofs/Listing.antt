@@ -1,5 +1,5 @@
--- Instances with work are pushed, one after the other.
-use Rattle.std.proofs.Common.{◌≡◌, ◌<◌, ◌^◌, ℕ, ℤ, Bool, true, false, ◌||◌, nat_eq, Option, Some, None, List, [], ◌∷◌, refl, ap, ◌∙◌, sym}
+-- Instances with work are put in a set, one after the other.
+use Rattle.std.proofs.Common.{◌≡◌, ◌<◌, ◌^◌, ℕ, ℤ, Bool, true, false, cond, ◌||◌, nat_eq, Option, Some, None, List, [], ◌∷◌, refl, ap, ◌∙◌, sym}
 use Rattle.rx_lane.specs.Lanes.{Lanes}
 use Rattle.rx_base.specs.declared.cut.Cut.{Cut}
 use Rattle.rx_hooks.specs.declared.hook.Hook.{Hook}
@@ -7,7 +7,7 @@ use Rattle.rx_meaning.specs.Fresh.{Sight, hook_values}
 use Rattle.rx_meaning.specs.Settled.{done_values, includes, known_by}
 use Rattle.rx_hook_store.specs.Working.{AreIdle, HaveWork}
 use Rattle.rx_hook_store.specs.Gives.{GivesValues, has_work_in}
-use Rattle.rx_hook_store.proofs.Stores.{KeptBy}
+use Rattle.rx_hook_store.proofs.Stores.{KeptBy, same_number}
 use Rattle.rx_hook_store.proofs.Working.{sees_committed}
 
 -- what is found is what is there
@@ -23,11 +23,11 @@ pub not_both_ways : (b : Bool) → b ≡ true → b ≡ false → ⊥
 not_both_ways true t f = let g : ⊥ = cc in g
 not_both_ways false t f = let g : ⊥ = cc in g
 
--- a number that is left or pushed still is where the first one that is left is pushed
-pub push_more : (n x : ℕ) (left rest before after : List ℕ) → left ≡ x ∷ rest → (includes left n || includes before n) ≡ true → (nat_eq n x ≡ true → includes after n ≡ true)
-    → (includes before n ≡ true → includes after n ≡ true) → (includes rest n || includes after n) ≡ true
-push_more n x left rest before after first now here others =
-    go (nat_eq n x) (includes rest n) (includes before n) (includes after n) (sym (ap (λ (l : List ℕ). includes l n || includes before n) first) ∙ now) here others
+-- a number that is left or put among others still is where the first one that is left is put
+pub put_more : (n x : ℕ) (left rest : List ℕ) (before after : Bool) → left ≡ x ∷ rest → (includes left n || before) ≡ true → (nat_eq n x ≡ true → after ≡ true)
+    → (before ≡ true → after ≡ true) → (includes rest n || after) ≡ true
+put_more n x left rest before after first now here others =
+    go (nat_eq n x) (includes rest n) before after (sym (ap (λ (l : List ℕ). includes l n || before) first) ∙ now) here others
   where
     go : (a b c d : Bool) → ((a || b) || c) ≡ true → (a ≡ true → d ≡ true) → (c ≡ true → d ≡ true) → (b || d) ≡ true
     go a true c d h here others = refl
@@ -35,13 +35,17 @@ push_more n x left rest before after first now here others =
     go false false true d h here others = others refl
     go false false false d h here others = cc
 
--- where none is left it is pushed
-pub none_left : (n : ℕ) (left numbers : List ℕ) → left ≡ [] → (includes left n || includes numbers n) ≡ true → includes numbers n ≡ true
-none_left n left numbers none is = sym (ap (λ (l : List ℕ). includes l n || includes numbers n) none) ∙ is
+-- what is among these since a number was put there is that number, or was among them before
+pub put_only : (number n : ℕ) (new old : Bool) (A : Type 0) → new ≡ cond (nat_eq number n) true old → new ≡ true → (number ≡ n → A) → (old ≡ true → A) → A
+put_only number n new old A is on here before = go (nat_eq number n) refl
+  where
+    go : (b : Bool) → nat_eq number n ≡ b → A
+    go true e = here (same_number number n e)
+    go false e = before (sym (is ∙ ap (λ b. cond b true old) e) ∙ on)
 
--- at first each one is left
-pub all_left : (n : ℕ) (left numbers : List ℕ) → includes left n ≡ true → (includes left n || includes numbers n) ≡ true
-all_left n left numbers is = ap (λ b. b || includes numbers n) is
+-- where none is left it is put
+pub none_left : (n : ℕ) (left : List ℕ) (put : Bool) → left ≡ [] → (includes left n || put) ≡ true → put ≡ true
+none_left n left put none is = sym (ap (λ (l : List ℕ). includes l n || put) none) ∙ is
 
 -- hooks in which there is work are not idle
 pub never_idle : (lanes : Lanes) (cut : Cut) (hooks : List Hook) → cut.updates < 2 ^ 64 → HaveWork lanes cut hooks → AreIdle hooks → ⊥

@@ -19,7 +19,7 @@ ghost use Rattle.rx_hook_store.specs.Store.{kept_hooks};
 ghost use Rattle.rx_hook_store.specs.Gives.{GivesValues, has_news_in, has_work_in};
 ghost use Rattle.rx_hook_store.specs.Rendered.{IsRendered, KeepsInstance, RendersHooks};
 ghost use Rattle.rx_hook_store.specs.Changing.{ChangesHooks, dispatched_hook, lanes_linked};
-ghost use Rattle.rx_hook_store.specs.Working.{AreAllWorking, HaveWork};
+ghost use Rattle.rx_hook_store.specs.Working.{AreAllWorking, AreOnlyWorking, HaveWork};
 ghost use Rattle.std.specs.HashSet.{contains};
 ghost use Rattle.std.specs.Map.{lookup};
 
@@ -82,53 +82,59 @@ fn send(
     }
 }
 
-// Pushes the number of an instance, if a render has work in its hooks.
-fn push_working(
-    numbers: &mut Vec<u64>,
+// Puts the number of an instance among these, if a render has work in its hooks.
+fn put_working(
+    numbers: &mut HashSet<u64>,
     hooks: &HashMap<u64, Hooks>,
     instance: u64,
     lanes: Lanes,
     cut: Cut,
 ) -> Result<(), AllocError>
-    ensures here { OnOk result ((kept : List Hook) → lookup (nat_eq instance) hooks.now.entries ≡ Some kept → HaveWork lanes cut kept → includes numbers.new.items instance ≡ true) }
-    ensures others { (n : ℕ) → includes numbers.old.items n ≡ true → includes numbers.new.items n ≡ true }
+    ensures here { OnOk result ((kept : List Hook) → lookup (nat_eq instance) hooks.now.entries ≡ Some kept → HaveWork lanes cut kept → contains nat_eq numbers.new instance ≡ true) }
+    ensures others { OnOk result ((n : ℕ) → contains nat_eq numbers.old n ≡ true → contains nat_eq numbers.new n ≡ true) }
+    ensures only { OnOk result (AreOnlyWorking lanes cut (λ n. lookup (nat_eq n) hooks.now.entries) (contains nat_eq numbers.old)
+        → AreOnlyWorking lanes cut (λ n. lookup (nat_eq n) hooks.now.entries) (contains nat_eq numbers.new)) }
 {
     if let Some(kept) = hooks.get(&instance)
         && kept.work(lanes, cut) != Work::Nothing
     {
-        numbers.push(instance)?;
+        numbers.insert(instance)?;
     }
     Ok(())
 }
 
-// Pushes the numbers of those of the listed instances in whose hooks a render has work.
-fn push_listed(
-    numbers: &mut Vec<u64>,
+// Puts the numbers of those of the listed instances among these in whose hooks a render has work.
+fn put_listed(
+    numbers: &mut HashSet<u64>,
     hooks: &HashMap<u64, Hooks>,
     listed: &HashSet<u64>,
     lanes: Lanes,
     cut: Cut,
 ) -> Result<(), AllocError>
-    ensures { OnOk result ((n : ℕ) (kept : List Hook) → contains nat_eq listed.now n ≡ true → lookup (nat_eq n) hooks.now.entries ≡ Some kept → HaveWork lanes cut kept
-        → includes numbers.new.items n ≡ true) }
+    ensures all { OnOk result ((n : ℕ) (kept : List Hook) → contains nat_eq listed.now n ≡ true → lookup (nat_eq n) hooks.now.entries ≡ Some kept → HaveWork lanes cut kept
+        → contains nat_eq numbers.new n ≡ true) }
+    ensures only { OnOk result (AreOnlyWorking lanes cut (λ n. lookup (nat_eq n) hooks.now.entries) (contains nat_eq numbers.old)
+        → AreOnlyWorking lanes cut (λ n. lookup (nat_eq n) hooks.now.entries) (contains nat_eq numbers.new)) }
 {
     'listing: for instance in listed.iter() {
-        push_working(numbers, hooks, *instance, lanes, cut)?;
+        put_working(numbers, hooks, *instance, lanes, cut)?;
     }
     Ok(())
 }
 
-// Pushes the numbers of all instances in whose hooks a render has work.
-fn push_all(
-    numbers: &mut Vec<u64>,
+// Puts the numbers of all instances among these in whose hooks a render has work.
+fn put_all(
+    numbers: &mut HashSet<u64>,
     hooks: &HashMap<u64, Hooks>,
     lanes: Lanes,
     cut: Cut,
 ) -> Result<(), AllocError>
-    ensures { OnOk result ((n : ℕ) (kept : List Hook) → lookup (nat_eq n) hooks.now.entries ≡ Some kept → HaveWork lanes cut kept → includes numbers.new.items n ≡ true) }
+    ensures all { OnOk result ((n : ℕ) (kept : List Hook) → lookup (nat_eq n) hooks.now.entries ≡ Some kept → HaveWork lanes cut kept → contains nat_eq numbers.new n ≡ true) }
+    ensures only { OnOk result (AreOnlyWorking lanes cut (λ n. lookup (nat_eq n) hooks.now.entries) (contains nat_eq numbers.old)
+        → AreOnlyWorking lanes cut (λ n. lookup (nat_eq n) hooks.now.entries) (contains nat_eq numbers.new)) }
 {
-    'pushing: for instance in hooks.keys() {
-        push_working(numbers, hooks, *instance, lanes, cut)?;
+    'putting: for instance in hooks.keys() {
+        put_working(numbers, hooks, *instance, lanes, cut)?;
     }
     Ok(())
 }
@@ -271,20 +277,21 @@ impl HookStore {
         hooks.work(lanes, cut) == Work::New
     }
 
-    /// The numbers of the instances in whose hooks a render for these lanes at this cut has work; others may be among them.
-    /// It asks those alone that may have queued updates.
+    /// The numbers of the instances in whose hooks a render for these lanes at this cut has work. It asks those alone that may
+    /// have queued updates.
     ///
     /// # Errors
     ///
     /// Want of memory alone.
-    pub fn working(&self, alloc: Global, lanes: Lanes, cut: Cut) -> Result<Vec<u64>, AllocError>
-        ensures { IfOk result (λ numbers. AreAllWorking lanes cut (kept_hooks self.now) numbers.items) }
+    pub fn working(&self, alloc: Global, lanes: Lanes, cut: Cut) -> Result<HashSet<u64>, AllocError>
+        ensures all { IfOk result (λ numbers. AreAllWorking lanes cut (kept_hooks self.now) (contains nat_eq numbers)) }
+        ensures only { IfOk result (λ numbers. AreOnlyWorking lanes cut (kept_hooks self.now) (contains nat_eq numbers)) }
     {
-        let mut numbers = Vec::new(alloc);
+        let mut numbers = HashSet::new(alloc);
         if self.busy.all {
-            push_all(&mut numbers, &self.hooks, lanes, cut)?;
+            put_all(&mut numbers, &self.hooks, lanes, cut)?;
         } else {
-            push_listed(&mut numbers, &self.hooks, &self.busy.numbers, lanes, cut)?;
+            put_listed(&mut numbers, &self.hooks, &self.busy.numbers, lanes, cut)?;
         }
         Ok(numbers)
     }

@@ -57,7 +57,8 @@ fn a_dispatch_is_rendered(rt: HostRuntime) -> Result<(), Fail> {
     assert!(rt; store.has_news(7, lanes, cut));
     assert!(rt; !store.has_news(7, Lanes::none(), cut));
     let working = store.working(rt.alloc(), lanes, cut)?;
-    assert_eq!(rt; working.as_slice(), [7].as_slice());
+    assert!(rt; working.contains(&7));
+    assert_eq!(rt; working.len(), 1);
     assert!(rt; store.working(rt.alloc(), Lanes::none(), cut)?.is_empty());
     store.owe_instance(7, lanes, cut);
     assert!(rt; store.has_work(7, lanes, cut));

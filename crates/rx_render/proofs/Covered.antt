@@ -1,5 +1,5 @@
 -- Ways cover a tree: when a render starts, and while updates come that lie behind its cut.
-use Rattle.std.specs.Prelude.{◌≡◌, ℕ, ℤ, Bool, true, false, List, ◌++◌, Option, Some, None, IsSome, option_map, refl, ◌<◌, ◌^◌}
+use Rattle.std.specs.Prelude.{◌≡◌, ℕ, Bool, true, false, List, ◌++◌, Option, Some, None, IsSome, option_map, refl}
 use Rattle.std.proofs.Common.{sym, ap, ◌∙◌, subst}
 use Rattle.rx_base.specs.declared.cut.Cut.{Cut}
 use Rattle.rx_lane.specs.Lanes.{Lanes}
@@ -19,7 +19,9 @@ use Rattle.render_laws.specs.OldNodes.{OldHas}
 use Rattle.render_laws.specs.SameSight.{AllAfter}
 use Rattle.run_laws.proofs.IdleLater.{idle_later}
 use Rattle.rx_ways.specs.Ways.{Covers, CoversIn, CoversIf, IsQuiet}
-use Rattle.rx_hook_store.specs.Gives.{GivesValues, has_work_in}
+use Rattle.rx_hook_store.specs.Gives.{has_work_in}
+use Rattle.rx_hook_store.specs.Working.{AreAllWorking}
+use Rattle.rx_hook_store.proofs.Working.{sees_committed}
 use Rattle.rx_model.specs.State.{Progress, State}
 use Rattle.rx_model.specs.Committing.{sight_of}
 use Rattle.rx_model.specs.HooksOf.{KeepsAllHooks}
@@ -53,15 +55,28 @@ module _ (way : ℕ → Bool) (s : Sight) (new : List Posted) (more : List Resol
 
 -- The start of a render
 
--- an instance that is not one of these sees the values that are committed
-abbrev pub AreCommitted : (stirred : ℕ → Bool) → (kept : ℕ → Option (List Hook)) → Type 0
-AreCommitted stirred kept =
-    (s : Sight) (n : ℕ) (initials : List ℤ) → stirred n ≡ false → s.cut.updates < 2 ^ 64 → GivesValues s kept n initials → hook_values s n initials ≡ done_values s.program (known_by s) n initials
+-- in the hooks of an instance that is not one of these a render with these lanes at this cut has no work
+abbrev pub HaveNoWork : (working : ℕ → Bool) → (kept : ℕ → Option (List Hook)) → Lanes → Cut → Type 0
+HaveNoWork working kept lanes cut =
+    (n : ℕ) (answers : Answers) (hooks : List Hook) (histories : List HookHistory) → working n ≡ false → kept n ≡ Some hooks → HooksStandFor answers hooks histories → has_work_in lanes cut histories ≡ false
 
-module _ (way stirred : ℕ → Bool) (kept : ℕ → Option (List Hook)) (committed : AreCommitted stirred kept) (s : Sight) (tree : Option Node) (below : s.cut.updates < 2 ^ 64) (gives : GivesAll s tree kept) where
+-- that is so where each in whose hooks it has work is one of these
+pub others_rest : (working : ℕ → Bool) (kept : ℕ → Option (List Hook)) (lanes : Lanes) (cut : Cut) → AreAllWorking lanes cut kept working → HaveNoWork working kept lanes cut
+others_rest working kept lanes cut all n answers hooks histories off have stand = go (has_work_in lanes cut histories) refl
+  where
+    go : (b : Bool) → has_work_in lanes cut histories ≡ b → has_work_in lanes cut histories ≡ false
+    go false is = is
+    go true is =
+        let on = all n hooks have (record { answers = answers; histories = histories; stand = stand; has = is }) in
+        let f : true ≡ false = sym on ∙ off in
+        cc
+
+module _ (way stirred : ℕ → Bool) (kept : ℕ → Option (List Hook)) (s : Sight) (tree : Option Node) (calm : HaveNoWork stirred kept s.lanes s.cut) (gives : GivesAll s tree kept) where
   instance_idle : (i : Instance) → IfMounted tree (Some i) → (n : ℕ) → i.number ≡ Some n → stirred n ≡ false → HasCommittedValues s i
   instance_idle i has n is quiet =
-      let same : hook_values s n i.initials ≡ done_values s.program (known_by s) n i.initials = committed s n i.initials quiet below (gives_instance s tree kept gives (Some i) has i n refl is) in
+      let same : hook_values s n i.initials ≡ done_values s.program (known_by s) n i.initials =
+      sees_committed s.lanes s.cut n kept false (λ answers hooks histories have stand. sym (calm n answers hooks histories quiet have stand)) s i.initials refl refl
+      (gives_instance s tree kept gives (Some i) has i n refl is) refl in
       ap (option_map (λ k. hook_values s k i.initials)) is ∙ (ap Some same ∙ ap (option_map (λ k. done_values s.program (known_by s) k i.initials)) (sym is))
 
   mark_idle : (m : Mark) → IfMounted tree (instance_in m) → IsQuiet stirred m → IsIdleMark s m
@@ -138,11 +153,6 @@ module _ (way : ℕ → Bool) (P Q : Mark → Type 0) (more : (m : Mark) → P m
   covers_if (Some x) h = covers_more x h
 
 -- No update is due
-
--- in the hooks of an instance that is not one of these no render at this cut has work
-abbrev pub HaveNoWork : (stirred : ℕ → Bool) → (kept : ℕ → Option (List Hook)) → Lanes → Cut → Type 0
-HaveNoWork stirred kept lanes cut =
-    (n : ℕ) (answers : Answers) (hooks : List Hook) (histories : List HookHistory) → stirred n ≡ false → kept n ≡ Some hooks → HooksStandFor answers hooks histories → has_work_in lanes cut histories ≡ false
 
 module _ (way stirred : ℕ → Bool) (p : Program) (st : State) (g : Progress) (kept : ℕ → Option (List Hook)) (keeps : KeepsAllHooks p st kept) (calm : HaveNoWork stirred kept g.lanes g.cut) where
   quiet_rests : (m : Mark) → IsQuiet stirred m → Rests kept g.lanes g.cut m

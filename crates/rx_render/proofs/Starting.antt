@@ -101,8 +101,8 @@ pub record StandsAtRoot (lanes : Lanes) (cut : Cut) (resources : List (Option �
   pub lanes_are : new.lanes ≡ lanes
   pub cut_is : new.cut ≡ cut
   pub resources_are : new.resources ≡ resources
-  pub covers : (s : Sight) (tree : Option Node) → s.cut ≡ cut → GivesAll s tree (kept_hooks old.hooks) → plain ≡ trimmed_if tree → CoversIf (is_way new.ways) (IsIdleMark s) tree
-  pub undue : (p : Program) (st : State) (g : Progress) → g.cut ≡ cut → KeepsAllHooks p st (kept_hooks old.hooks) → plain ≡ trimmed_if st.tree → CoversIf (is_way new.ways) (IsUndue (sight_of p st g)) st.tree
+  pub covers : (s : Sight) (tree : Option Node) → s.lanes ≡ lanes → s.cut ≡ cut → GivesAll s tree (kept_hooks old.hooks) → plain ≡ trimmed_if tree → CoversIf (is_way new.ways) (IsIdleMark s) tree
+  pub undue : (p : Program) (st : State) (g : Progress) → g.lanes ≡ lanes → g.cut ≡ cut → KeepsAllHooks p st (kept_hooks old.hooks) → plain ≡ trimmed_if st.tree → CoversIf (is_way new.ways) (IsUndue (sight_of p st g)) st.tree
   pub units : new.units ≡ 0
   pub bodies : new.bodies ≡ 0
   pub id : ℕ
@@ -140,7 +140,7 @@ start_renders lanes cut resources plain old new r draws bounded st is =
       settled = is.settled;
       waits = is.waits;
       reads = is.reads;
-      covers = r.covers s st.tree (sym is.cut_is) (start_gives lanes cut resources plain old st is) is.shown;
+      covers = r.covers s st.tree refl (sym is.cut_is) (start_gives lanes cut resources plain old st is) is.shown;
       come = record {
         cursor = start s st.tree;
         comes = rw (r.at, r.contexts_are) (comes_to_start s st.tree new.trees r.id r.value tree (root_waits old.program new.trees.current st.tree r.value r.origin tree is.rooted r.place r.element r.stage (λ so. sym r.clones ∙ so)) r.here);
@@ -156,7 +156,7 @@ start_renders lanes cut resources plain old new r draws bounded st is =
         are = subst (λ a. HasFlags new.trees a []) (sym r.at) (root_flags new.trees r.id r.value r.origin r.stage r.stood r.clones r.here);
         few = subst (λ b. Costs s st.tree b [] (start s st.tree)) (sym r.bodies) (start_costs s st.tree);
         enough = subst (λ b. PassesNone s st.tree b (start s st.tree)) (sym r.bodies) (start_passes s st.tree);
-        undue = r.undue old.program st (starting st lanes) (sym is.cut_is) is.keeps is.shown;
+        undue = r.undue old.program st (starting st lanes) refl (sym is.cut_is) is.keeps is.shown;
       };
     }
 
@@ -169,8 +169,8 @@ module _ (lanes : Lanes) (cut : Cut) (resources : List (Option ℤ)) (plain : Op
       → t ≡ record inside.trees { draft = made id v (first inside.trees.current) (taken shapes.none) (taken shapes.none) }
       → (origin : Origin) → origin.cloned ≡ is_some (first inside.trees.current) → origin.stood ≡ true → v ≡ record { place = 0; element = root; stage = waiting origin } → root ≡ root_element inside.program
       → st ≡ contexts.opening given → given ≡ defaults → defaults ≡ default_contexts inside.program
-      → ((s : Sight) (tree : Option Node) → s.cut ≡ cut → GivesAll s tree (kept_hooks inside.hooks) → plain ≡ trimmed_if tree → CoversIf (is_way ways) (IsIdleMark s) tree)
-      → ((p : Program) (st : State) (g : Progress) → g.cut ≡ cut → KeepsAllHooks p st (kept_hooks inside.hooks) → plain ≡ trimmed_if st.tree → CoversIf (is_way ways) (IsUndue (sight_of p st g)) st.tree)
+      → ((s : Sight) (tree : Option Node) → s.lanes ≡ lanes → s.cut ≡ cut → GivesAll s tree (kept_hooks inside.hooks) → plain ≡ trimmed_if tree → CoversIf (is_way ways) (IsIdleMark s) tree)
+      → ((p : Program) (st : State) (g : Progress) → g.lanes ≡ lanes → g.cut ≡ cut → KeepsAllHooks p st (kept_hooks inside.hooks) → plain ≡ trimmed_if st.tree → CoversIf (is_way ways) (IsUndue (sight_of p st g)) st.tree)
       → StandsAtRoot lanes cut resources plain old started
   root_stands was v root given defaults grown origin cloned_is stood_is value element stack same all covers undue =
       let program : inside.program ≡ old.program = ap (λ r. r.program) was in
@@ -182,8 +182,8 @@ module _ (lanes : Lanes) (cut : Cut) (resources : List (Option ℤ)) (plain : Op
         lanes_are = refl;
         cut_is = refl;
         resources_are = refl;
-        covers = λ s tree at gives. covers s tree at (subst (λ (r : Rendering). GivesAll s tree (kept_hooks r.hooks)) (sym was) gives);
-        undue = λ p st g at keeps. undue p st g at (subst (λ (r : Rendering). KeepsAllHooks p st (kept_hooks r.hooks)) (sym was) keeps);
+        covers = λ s tree with at gives. covers s tree with at (subst (λ (r : Rendering). GivesAll s tree (kept_hooks r.hooks)) (sym was) gives);
+        undue = λ p st g with at keeps. undue p st g with at (subst (λ (r : Rendering). KeepsAllHooks p st (kept_hooks r.hooks)) (sym was) keeps);
         units = refl;
         bodies = refl;
         id = id;

@@ -1,5 +1,5 @@
 -- Which render of the machine is in progress.
-use Rattle.std.specs.Prelude.{◌≡◌, ℕ, ◌≤◌, ◌++◌, List, [], ℤ, Option, Some, IfSome, length, slice_get}
+use Rattle.std.specs.Prelude.{◌≡◌, ℕ, ◌≤◌, ◌++◌, Bool, true, List, [], ℤ, Option, Some, IfSome, length, slice_get}
 use Rattle.rx_base.specs.declared.cut.Cut.{Cut}
 use Rattle.rx_lane.specs.Lanes.{Lanes}
 use Rattle.rx_ast.specs.Syntax.{Program}
@@ -19,6 +19,8 @@ use Rattle.rx_model.specs.Laws.{IsBounded}
 use Rattle.rx_fiber.specs.Reading.{IsTreeOf}
 use Rattle.rx_hook_store.specs.Store.{Kept, kept_hooks}
 use Rattle.rx_hook_store.specs.Gives.{GivesValues}
+use Rattle.rx_hook_store.specs.Working.{AreOnlyWorking}
+use Rattle.rx_ways.specs.Leads.{leads}
 use Rattle.rx_ways.specs.Ways.{CoversIf, is_way}
 use Rattle.render_laws.specs.InProgress.{InProgress}
 use Rattle.render_laws.specs.OldNodes.{CursorHas}
@@ -131,6 +133,12 @@ pub record IsStartOf (st : State) (lanes : Lanes) (cut : Cut) (resources : List 
   pub shown : old ≡ trimmed_if st.tree
   pub numbered : IfNumbered old
   pub apart : (next : ℕ) × HasOwnNumbers next old
+
+-- A cause stands at the instance with this number or below it, where these instances alone stir, in whose hooks a render for these lanes at this cut has work; or a boundary there is hidden.
+pub record LeadsToWork (lanes : Lanes) (cut : Cut) (kept : ℕ → Option (List Hook)) (n : ℕ) (tree : Option Node) : Type 0 where
+  pub these : ℕ → Bool
+  pub work : AreOnlyWorking lanes cut kept these
+  pub leads_there : leads these n tree ≡ true
 
 -- a render can start
 pub record CanStart (lanes : Lanes) (cut : Cut) (resources : List (Option ℤ)) (old : Option Node) (v : Rendering) : Type 0 where

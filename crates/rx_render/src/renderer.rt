@@ -36,7 +36,7 @@ ghost use Rattle.rx_settle.specs.Settling.{CanSettle, IsSettlingOf};
 ghost use Rattle.rx_render.specs.declared.at.At.TheVariants.{Over};
 ghost use Rattle.rx_render.specs.LastUnit.{is_over};
 ghost use Rattle.rx_render.specs.Rendering.{IsIdle, IfLeft, left_of};
-ghost use Rattle.rx_render.specs.Renders.{CanStart, GivesAll, IsStartOf, IsUnderWay, Renders, with_hooks};
+ghost use Rattle.rx_render.specs.Renders.{CanStart, GivesAll, IsStartOf, IsUnderWay, LeadsToWork, Renders, with_hooks};
 ghost use Rattle.rx_render.specs.Turning.{GoesOn, GivesUp, BreaksOff};
 ghost use Rattle.rx_render.specs.TurningLaws.{goes_on_same, goes_on_join, gives_up_after};
 
@@ -80,6 +80,7 @@ pub struct Renderer {
     lanes: Lanes,
     cut: Cut,
     ways: Ways,
+    hints: Ways,
     at: At,
     units: u64,
     bodies: u64,
@@ -135,6 +136,7 @@ impl Renderer {
                 resolutions: 0,
             },
             ways: Ways::new(alloc),
+            hints: Ways::new(alloc),
             at: At::Over,
             units: 0,
             bodies: 0,
@@ -238,20 +240,37 @@ impl Renderer {
         self.at = At::Over;
     }
 
-    // The ways on which the next render may find a cause: `old` is the current tree as a plain one, and since the last render
-    // started updates were sent along these ways.
-    fn find_ways(&self, old: Option<&Node>, sent: &Ways) -> Result<Ways, AllocError>
+    // The ways to all instances that may have queued updates: `old` is the current tree as a plain one, and since the last
+    // render started updates were sent along these ways. A render only takes hints from them.
+    fn find_hints(&self, old: Option<&Node>, sent: &Ways) -> Result<Ways, AllocError>
         requires numbered { IfNumbered (option_copied old) }
         requires apart { (next : ℕ) × HasOwnNumbers next (option_copied old) }
-        ensures idle { IfOk result (λ w. (s : Sight) (tree : Option trees.Node) → s.cut.updates < 2 ^ 64 → GivesAll s tree (kept_hooks self.now.hooks)
-            → option_copied old.entry ≡ trimmed_if tree → CoversIf (is_way w) (IsIdleMark s) tree) }
-        ensures undue { IfOk result (λ w. (p : Program) (st : State) (g : Progress) → g.cut.updates < 2 ^ 64 → KeepsAllHooks p st (kept_hooks self.now.hooks)
-            → option_copied old.entry ≡ trimmed_if st.tree → CoversIf (is_way w) (IsUndue (sight_of p st g)) st.tree) }
     {
         match self.hooks.stirred() {
-            Some(stirred) => find_ways(self.alloc, old, stirred, &self.ways, sent),
+            Some(stirred) => find_ways(self.alloc, old, stirred, &self.hints, sent),
             None => Ok(Ways::everything(self.alloc)),
         }
+    }
+
+    // The ways on which a render for these lanes at this cut finds a cause: `old` is the current tree as a plain one, and
+    // these hints may lead there.
+    fn find_ways(
+        &self,
+        old: Option<&Node>,
+        hints: &Ways,
+        lanes: Lanes,
+        cut: Cut,
+    ) -> Result<Ways, AllocError>
+        requires numbered { IfNumbered (option_copied old) }
+        requires apart { (next : ℕ) × HasOwnNumbers next (option_copied old) }
+        ensures idle { IfOk result (λ w. (s : Sight) (tree : Option trees.Node) → s.lanes ≡ lanes → s.cut ≡ cut → GivesAll s tree (kept_hooks self.now.hooks)
+            → option_copied old.entry ≡ trimmed_if tree → CoversIf (is_way w) (IsIdleMark s) tree) }
+        ensures undue { IfOk result (λ w. (p : Program) (st : State) (g : Progress) → g.lanes ≡ lanes → g.cut ≡ cut → KeepsAllHooks p st (kept_hooks self.now.hooks)
+            → option_copied old.entry ≡ trimmed_if st.tree → CoversIf (is_way w) (IsUndue (sight_of p st g)) st.tree) }
+        ensures lead { IfOk result (λ w. (n : ℕ) → is_way w n ≡ true → LeadsToWork lanes cut (kept_hooks self.now.hooks) n (option_copied old.entry)) }
+    {
+        let working = self.hooks.working(self.alloc, lanes, cut)?;
+        find_ways(self.alloc, old, &working, hints, hints)
     }
 
     /// Discards what is in progress, and starts a render with these lanes at this cut, which sees these values of the
@@ -277,10 +296,14 @@ impl Renderer {
         ensures program { self.new.program ≡ self.old.program }
         ensures current { self.new.trees.current ≡ self.old.trees.current }
         ensures hooks { self.new.hooks ≡ self.old.hooks }
+
+        // An instance stands on a way only where it, or one below it, has work for this render, or a boundary there is hidden.
+        ensures ways { OnOk result ((n : ℕ) → is_way self.new.ways n ≡ true → LeadsToWork lanes cut (kept_hooks self.old.hooks) n (option_copied old.entry)) }
         ensures idle { OnErr result (IsIdle self.new) }
     {
         self.discard();
-        let ways = self.find_ways(old, sent)?;
+        let hints = self.find_hints(old, sent)?;
+        let ways = self.find_ways(old, &hints, lanes, cut)?;
         let defaults = default_contexts(self.alloc, &self.checked)?;
         let contexts = ContextStack::new(self.alloc, &defaults)?;
         let root = root_element(self.alloc, &self.checked)?;
@@ -298,6 +321,7 @@ impl Renderer {
         self.lanes = lanes;
         self.cut = cut;
         self.ways = ways;
+        self.hints = hints;
         self.at = At::Begins(id);
         self.units = 0;
         self.bodies = 0;

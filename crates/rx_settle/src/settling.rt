@@ -7,7 +7,7 @@ ghost use Rattle.rx_elem.specs.Spots as spots;
 ghost use Rattle.rx_elem.specs.Trees as trees;
 ghost use Rattle.rx_hooks.specs.declared.hook.Hook.{Hook};
 ghost use Rattle.rx_pruned.specs.Pruned.{ArePruned};
-ghost use Rattle.rx_meaning.specs.Settled.{DoneBefore, includes};
+ghost use Rattle.rx_meaning.specs.Settled.{DoneBefore};
 ghost use Rattle.rx_model.specs.State.{Progress, State};
 ghost use Rattle.rx_model.specs.Committing.{committed_state};
 ghost use Rattle.rx_model.specs.HooksOf.{KeepsAllHooks};
@@ -39,18 +39,6 @@ fn numbers_of(alloc: Global, instances: &[Mounted]) -> Result<HashSet<u64>, Allo
     Ok(known)
 }
 
-// True where all these numbers are known.
-fn are_known(numbers: &[u64], known: &HashSet<u64>) -> bool
-    ensures { result ≡ true → (n : ℕ) → includes numbers.now n ≡ true → contains nat_eq known.now n ≡ true }
-{
-    'finding: for number in numbers {
-        if !known.contains(number) {
-            return false;
-        }
-    }
-    true
-}
-
 // True where each instance in whose hooks a render has work is one of a tree.
 fn has_all_working(
     alloc: Global,
@@ -65,7 +53,7 @@ fn has_all_working(
     let instances = mounted(alloc, Some(tree))?;
     let known = numbers_of(alloc, &instances)?;
     let working = store.working(alloc, lanes, cut)?;
-    Ok(are_known(&working, &known))
+    Ok(working.is_subset(&known))
 }
 
 // Settles the hooks of the instances of a tree, and drops those of the instances of an old one that it has no longer.

@@ -115,10 +115,10 @@ fn walk_along(
     Ok(ways)
 }
 
-/// The instances of a committed tree at or above one that may have queued updates, or a hidden boundary. The walk goes into
-/// what these hints tell, and into what hides a boundary; React goes by `childLanes` so. The hints are not trusted: where it
-/// has not found each instance that may have updates, it is taken once more over the whole tree. Numbers occur at most once
-/// in a tree, so that where it has, it passed none by.
+/// The instances of a committed tree at or above one that stirs, or a hidden boundary. Those stir that a caller looks for: that
+/// may have queued updates, or that have work for a render. The walk goes into what these hints tell, and into what hides a
+/// boundary; React goes by `childLanes` so. The hints are not trusted: where it has not found each instance that stirs, it is
+/// taken once more over the whole tree. Numbers occur at most once in a tree, so that where it has, it passed none by.
 ///
 /// # Errors
 ///

@@ -6,7 +6,7 @@ use std::alloc::Global;
 use std::collections::HashSet;
 use std::marker::Model;
 
-/// The numbers of the instances that stand on a way: at or above one that may have queued updates, or a hidden boundary
+/// The numbers of the instances that stand on a way: at or above one with queued updates or with work, or a hidden boundary
 /// (React marks them by `childLanes`). Where memory is wanting for one of them, it is all instances.
 #[derive(Drop)]
 pub struct Ways {

@@ -8,10 +8,10 @@ use Rattle.rx_hook_store.specs.Store.{kept_hooks}
 use Rattle.rx_fiber.proofs.OldReads.{some_held, rest_held}
 use Rattle.rx_causes.specs.Marks.{is_spared, begun_mark}
 use Rattle.rx_causes.specs.Scenes.{KeepsHooks}
-use Rattle.rx_causes.specs.Idle.{HasCauseAt, HasNoCauseAt}
+use Rattle.rx_causes.specs.Idle.{HasNoCauseAt, LeadsAt}
 use Rattle.rx_causes.proofs.Walks.{stage_here, each_parts, but_joins, some_joins, behind_smaller}
 use Rattle.rx_causes.proofs.idle.+any_cause.Goals as goal
-use Rattle.rx_causes.proofs.idle.+any_cause.Goals.{else-not-is_spared-via-then-not-is_spared+else-any_cause, then-has_cause, else-has_cause, else-not-is_spared-via-else-not-is_spared}
+use Rattle.rx_causes.proofs.idle.+any_cause.Goals.{else-not-is_spared-via-then-not-is_spared+else-any_cause, then-leads, else-leads, else-not-is_spared-via-else-not-is_spared}
 
 pub walking-preserved : goal.walking-preserved
 walking-preserved t c =
@@ -34,12 +34,12 @@ walking-preserved t c =
       none = λ rest.
           c.walking.invariant.none
           (elim c.else-not-is_spared.branch [
-            | else-not-is_spared-via-then-not-is_spared+else-any_cause w ↦ elim w.if-has_cause.branch [
-              | then-has_cause u ↦ absurd (let q : true ≡ false = sym u.if-has_cause.true ∙ (sym u.value-is ∙ w.if-any_cause.false) in let r : ⊥ = cc in r)
-              | else-has_cause u ↦
+            | else-not-is_spared-via-then-not-is_spared+else-any_cause w ↦ elim w.if-leads.branch [
+              | then-leads u ↦ absurd (let q : true ≡ false = sym u.if-leads.true ∙ (sym u.value-is ∙ w.if-any_cause.false) in let r : ⊥ = cc in r)
+              | else-leads u ↦
                   but_joins trees linked i held v here u.first_child.result (u.first_child.ensures.current held) behind behind_is next c.in-Some.is way Free
                   (inr (
-                    stage_here trees linked i held v here child refl behind behind_is next c.in-Some.is Free _ c.stage-stage.ensures (w.has_cause.ensures.none u.if-has_cause.false),
+                    stage_here trees linked i held v here child refl behind behind_is next c.in-Some.is Free _ c.stage-stage.ensures (w.leads.ensures.none u.if-leads.false),
                     u.any_cause.ensures.none (sym u.value-is ∙ w.if-any_cause.false),
                   ))
                   rest
@@ -50,6 +50,6 @@ walking-preserved t c =
           ]);
       some = λ rest.
           c.walking.invariant.some
-          (some_joins trees linked i held v here child refl behind behind_is next c.in-Some.is (HasCauseAt (kept_hooks c.args.hooks.now) c.args.scene.now.lanes c.args.scene.now.cut) (inr (inr rest)));
+          (some_joins trees linked i held v here child refl behind behind_is next c.in-Some.is (LeadsAt way (kept_hooks c.args.hooks.now) c.args.scene.now.lanes c.args.scene.now.cut) (inr (inr rest)));
       within = omega (arith, c.walking.invariant.within, smaller);
     }

@@ -6,7 +6,7 @@ use Rattle.rx_hook_store.specs.Store.{kept_hooks}
 use Rattle.rx_causes.specs.Marks.{EachFiberBut, SomeFiber}
 use Rattle.rx_causes.specs.Scenes.{KeepsHooks}
 use Rattle.rx_causes.specs.Hidden.{ForEachFiber}
-use Rattle.rx_causes.specs.Idle.{HasCauseAt, HasNoCauseAt}
+use Rattle.rx_causes.specs.Idle.{HasNoCauseAt, LeadsAt}
 use Rattle.rx_causes.proofs.idle.+any_cause.Given as goal
 
 abbrev pub decreases-any_cause : goal.decreases-any_cause
@@ -19,8 +19,8 @@ invariant-walking l = record {
   kept : ForEachFiber (KeepsHooks (kept_hooks l.hooks)) (list_from l.tree.current l.next);
   none : EachFiberBut (is_way l.scene.ways.now) (HasNoCauseAt (kept_hooks l.hooks) l.scene.lanes l.scene.cut) (list_from l.tree.current l.next)
       → EachFiberBut (is_way l.scene.ways.now) (HasNoCauseAt (kept_hooks l.hooks) l.scene.lanes l.scene.cut) (list_from l.tree.current l.initial.next);
-  some : SomeFiber (HasCauseAt (kept_hooks l.hooks) l.scene.lanes l.scene.cut) (list_from l.tree.current l.next)
-      → SomeFiber (HasCauseAt (kept_hooks l.hooks) l.scene.lanes l.scene.cut) (list_from l.tree.current l.initial.next);
+  some : SomeFiber (LeadsAt (is_way l.scene.ways.now) (kept_hooks l.hooks) l.scene.lanes l.scene.cut) (list_from l.tree.current l.next)
+      → SomeFiber (LeadsAt (is_way l.scene.ways.now) (kept_hooks l.hooks) l.scene.lanes l.scene.cut) (list_from l.tree.current l.initial.next);
   within : size (list_from l.tree.current l.next) ≤ size (list_from l.tree.current l.initial.next);
 }
 

@@ -114,7 +114,7 @@ returns-then-not-has_cause-clause-cause c busy x was =
     inr
     (tree_cause trees c.args.old i c.in-Some.is v (list_from trees c.first_child.result) (list_from trees behind)
     (list_at_links trees c.facts.ensures.linked i held v (c.value.ensures.current held) c.first_child.result (c.first_child.ensures.current held) behind refl)
-    (kept_hooks c.args.hooks.now) c.args.scene.now.lanes c.args.scene.now.cut x was (inr (c.any_cause.ensures.some (told_again c.any_cause.result busy))))
+    (kept_hooks c.args.hooks.now) c.args.scene.now.lanes c.args.scene.now.cut x was (is_way c.args.scene.now.ways.now) (inr (c.any_cause.ensures.some (told_again c.any_cause.result busy))))
 
 pub returns-else-not-has_cause-clause-cause : goal.returns-else-not-has_cause-clause-cause
 returns-else-not-has_cause-clause-cause c busy x was =
@@ -127,9 +127,9 @@ returns-else-not-has_cause-clause-cause c busy x was =
       | then-not-is_anew w ↦
           inr
           (tree_cause trees c.args.old i c.in-Some.is v (kids_of trees i) (rest_of trees i) (list_here trees c.facts.ensures.linked i held v (c.value.ensures.current held))
-          (kept_hooks c.args.hooks.now) c.args.scene.now.lanes c.args.scene.now.cut x was
-          (inl (subst (λ stage. HasCauseAt (kept_hooks c.args.hooks.now) c.args.scene.now.lanes c.args.scene.now.cut (begun_mark stage)) c.stage-stage.ensures
-          (w.has_cause.ensures.some (told_again w.has_cause.result (sym w.value-is ∙ busy))))))
+          (kept_hooks c.args.hooks.now) c.args.scene.now.lanes c.args.scene.now.cut x was (is_way c.args.scene.now.ways.now)
+          (inl (inr (subst (λ stage. HasCauseAt (kept_hooks c.args.hooks.now) c.args.scene.now.lanes c.args.scene.now.cut (begun_mark stage)) c.stage-stage.ensures
+          (w.has_cause.ensures.some (told_again w.has_cause.result (sym w.value-is ∙ busy)))))))
       | else-not-is_anew w ↦
           inl
           (ap (λ m. is_anew c.args.component c.args.contexts.now (option_and_then instance_in m)) (sym (marked ∙ mark_is trees c.args.old (Some x) was))

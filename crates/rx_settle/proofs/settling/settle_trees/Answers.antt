@@ -1,4 +1,4 @@
-use Rattle.std.proofs.Common.{◌≡◌, ◌∙◌, ℕ, List, Some, None, Result, Ok, Err, IsSome, false, slice_get, sym, ap, subst, refl}
+use Rattle.std.proofs.Common.{◌≡◌, ◌∙◌, List, Some, Result, Ok, Err, IsSome, slice_get, sym, ap, subst, refl}
 use Rattle.std.specs.Result.{OnErr}
 use Rattle.rx_elem.specs.Spots.{Mounted}
 use Rattle.rx_hook_store.specs.Store.{kept_hooks}

@@ -2,34 +2,41 @@ use Rattle.std.specs.Prelude.{nat_eq}
 use Rattle.std.proofs.Common.{subst, sym}
 use Rattle.std.specs.HashSet.{contains}
 use Rattle.rx_model.specs.HooksOf.{KeepsAllHooks}
-use Rattle.rx_model.specs.Committing.{sight_of}
 use Rattle.rx_hook_store.specs.Store.{kept_hooks}
+use Rattle.rx_hook_store.specs.Working.{AreOnlyWorking}
 use Rattle.rx_ways.specs.Ways.{is_way}
-use Rattle.commit_laws.specs.Idle.{IsIdleMark}
-use Rattle.cost_laws.specs.Required.{IsUndue}
 use Rattle.rx_render.specs.Rendering.{Rendering}
 use Rattle.rx_render.specs.Renders.{GivesAll}
 use Rattle.rx_render.proofs.Advancing.{if_ok}
-use Rattle.rx_render.proofs.Covered.{all_covered, start_covered, start_undue}
+use Rattle.rx_render.proofs.Covered.{others_rest, start_covered, start_undue}
 use Rattle.rx_render.proofs.renderer.Renderer.find_ways.Goals as goal
 
-pub returns-in-Some-clause-idle : goal.returns-in-Some-clause-idle
-returns-in-Some-clause-idle c =
+pub returns-clause-idle : goal.returns-clause-idle
+returns-clause-idle c =
+    let kept = kept_hooks c.self.inside.hooks in
+    let working = contains nat_eq c.in_ok-working.working in
+    let calm = others_rest working kept c.args.lanes c.args.cut c.in_ok-working.ensures.all in
     if_ok c.find_ways.result
-    (λ w covers s tree below gives plain.
-    start_covered (is_way w) (contains nat_eq c.in-Some.stirred.now) (kept_hooks c.self.inside.hooks) c.in-Some.ensures.values s tree below
+    (λ w covers s tree lanes_are cut_is gives plain.
+    start_covered (is_way w) working kept s tree (rw (lanes_are, cut_is) calm)
     (subst (λ (v : Rendering). GivesAll s tree (kept_hooks v.hooks)) (sym c.self.view_is) gives) (covers tree plain)) c.find_ways.ensures.covers
 
-pub returns-in-Some-clause-undue : goal.returns-in-Some-clause-undue
-returns-in-Some-clause-undue c =
+pub returns-clause-undue : goal.returns-clause-undue
+returns-clause-undue c =
+    let kept = kept_hooks c.self.inside.hooks in
+    let working = contains nat_eq c.in_ok-working.working in
+    let calm = others_rest working kept c.args.lanes c.args.cut c.in_ok-working.ensures.all in
     if_ok c.find_ways.result
-    (λ w covers p st g below keeps plain.
-    start_undue (is_way w) (contains nat_eq c.in-Some.stirred.now) p st g (kept_hooks c.self.inside.hooks)
-    (subst (λ (v : Rendering). KeepsAllHooks p st (kept_hooks v.hooks)) (sym c.self.view_is) keeps)
-    (λ n answers hooks histories off have stand. c.in-Some.ensures.rest n answers hooks histories g.lanes g.cut off have stand below) (covers st.tree plain)) c.find_ways.ensures.covers
+    (λ w covers p st g lanes_are cut_is keeps plain.
+    start_undue (is_way w) working p st g kept
+    (subst (λ (v : Rendering). KeepsAllHooks p st (kept_hooks v.hooks)) (sym c.self.view_is) keeps) (rw (lanes_are, cut_is) calm) (covers st.tree plain)) c.find_ways.ensures.covers
 
-pub returns-in-None-clause-idle : goal.returns-in-None-clause-idle
-returns-in-None-clause-idle c s tree below gives plain = all_covered (is_way c.everything.result) c.everything.ensures (IsIdleMark s) tree
-
-pub returns-in-None-clause-undue : goal.returns-in-None-clause-undue
-returns-in-None-clause-undue c p st g below keeps plain = all_covered (is_way c.everything.result) c.everything.ensures (IsUndue (sight_of p st g)) st.tree
+pub returns-clause-lead : goal.returns-clause-lead
+returns-clause-lead c =
+    let working = contains nat_eq c.in_ok-working.working in
+    if_ok c.find_ways.result
+    (λ w exact n on. record {
+      these = working;
+      work = subst (λ (v : Rendering). AreOnlyWorking c.args.lanes c.args.cut (kept_hooks v.hooks) working) c.self.view_is c.in_ok-working.ensures.only;
+      leads_there = exact n on;
+    }) c.find_ways.ensures.exact

@@ -1,8 +1,7 @@
-use Rattle.std.specs.Prelude.{is_some, true, ◌<◌, ◌^◌}
+use Rattle.std.specs.Prelude.{is_some, true}
 use Rattle.std.specs.Option.{option_copied}
-use Rattle.std.proofs.Common.{ap, ◌∙◌, refl, subst, sym, arith}
+use Rattle.std.proofs.Common.{ap, ◌∙◌, refl, subst}
 use Rattle.rx_model.specs.HooksOf.{KeepsAllHooks}
-use Rattle.rx_base.specs.declared.cut.Cut.{Cut}
 use Rattle.rx_model.specs.Laws.{IsBounded}
 use Rattle.rx_hook_store.specs.Store.{kept_hooks}
 use Rattle.rx_render.specs.Rendering.{Rendering}
@@ -15,8 +14,8 @@ invariant_of-self-2 c =
     let root = root_stands c.args.lanes c.args.cut c.args.resources.items (option_copied c.args.old) c.args.self.now _ c.start.new.self c.in_ok-id.id c.in_ok-contexts.contexts c.in_ok-ways.ways (c.self.view_is ∙ c.discard.ensures)
     c.new-2.result c.in_ok-root.root c.deref.result.now c.in_ok-defaults.defaults.items c.in_ok-id.ensures.ok (record { cloned = c.is_some-cloned.result; stood = true }) (c.is_some-cloned.ensures ∙ ap is_some c.current.ensures) refl c.new-2.ensures c.in_ok-root.ensures c.in_ok-contexts.ensures
     c.deref.ensures.value c.in_ok-defaults.ensures
-    (λ s tree at gives. c.in_ok-ways.ensures.idle s tree (subst (λ (k : Cut). k.updates < 2 ^ 64) (sym at) (omega arith)) (subst (λ (v : Rendering). GivesAll s tree (kept_hooks v.hooks)) c.self.view_is gives))
-    (λ p st g at keeps. c.in_ok-ways.ensures.undue p st g (subst (λ (k : Cut). k.updates < 2 ^ 64) (sym at) (omega arith)) (subst (λ (v : Rendering). KeepsAllHooks p st (kept_hooks v.hooks)) c.self.view_is keeps)) in
+    (λ s tree with at gives. c.in_ok-ways.ensures.idle s tree with at (subst (λ (v : Rendering). GivesAll s tree (kept_hooks v.hooks)) c.self.view_is gives))
+    (λ p st g with at keeps. c.in_ok-ways.ensures.undue p st g with at (subst (λ (v : Rendering). KeepsAllHooks p st (kept_hooks v.hooks)) c.self.view_is keeps)) in
     start_rendering c.args.lanes c.args.cut c.args.resources.items (option_copied c.args.old) c.args.self.now _ c.in_ok-id.id root c.cursors_are_drawn.ensures.start c.self.invariant.known c.self.invariant.bounded c.requires
 
 pub returns-clause-started : goal.returns-clause-started
@@ -25,6 +24,6 @@ returns-clause-started c st is =
     let root = root_stands c.args.lanes c.args.cut c.args.resources.items (option_copied c.args.old) c.args.self.now _ c.start.new.self c.in_ok-id.id c.in_ok-contexts.contexts c.in_ok-ways.ways was
     c.new-2.result c.in_ok-root.root c.deref.result.now c.in_ok-defaults.defaults.items c.in_ok-id.ensures.ok (record { cloned = c.is_some-cloned.result; stood = true }) (c.is_some-cloned.ensures ∙ ap is_some c.current.ensures) refl c.new-2.ensures c.in_ok-root.ensures c.in_ok-contexts.ensures
     c.deref.ensures.value c.in_ok-defaults.ensures
-    (λ s tree at gives. c.in_ok-ways.ensures.idle s tree (subst (λ (k : Cut). k.updates < 2 ^ 64) (sym at) (omega arith)) (subst (λ (v : Rendering). GivesAll s tree (kept_hooks v.hooks)) c.self.view_is gives))
-    (λ p st g at keeps. c.in_ok-ways.ensures.undue p st g (subst (λ (k : Cut). k.updates < 2 ^ 64) (sym at) (omega arith)) (subst (λ (v : Rendering). KeepsAllHooks p st (kept_hooks v.hooks)) c.self.view_is keeps)) in
+    (λ s tree with at gives. c.in_ok-ways.ensures.idle s tree with at (subst (λ (v : Rendering). GivesAll s tree (kept_hooks v.hooks)) c.self.view_is gives))
+    (λ p st g with at keeps. c.in_ok-ways.ensures.undue p st g with at (subst (λ (v : Rendering). KeepsAllHooks p st (kept_hooks v.hooks)) c.self.view_is keeps)) in
     start_renders c.args.lanes c.args.cut c.args.resources.items (option_copied c.args.old) c.args.self.now _ root c.cursors_are_drawn.ensures.start (subst IsBounded root.program c.self.invariant.bounded) st is
