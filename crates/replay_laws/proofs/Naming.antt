@@ -23,6 +23,7 @@ use Rattle.rx_meaning.specs.Body.{Inputs, Taken, attr_in, body_of, elements_of, 
 use Rattle.rx_meaning.specs.Body as body
 use Rattle.rx_forest.specs.Hosts.{with_attr, by_name}
 use Rattle.rx_forest.specs.HostOps.{attr_named}
+use Rattle.commit_laws.proofs.Naming.{HasComponents, number_named}
 use Rattle.host_laws.specs.Related.{HaveOwnNames}
 use Rattle.host_laws.proofs.Placing.{neither}
 use Rattle.replay_laws.specs.Attributes.{attribute_names, StandOnce, SlotAttributesApart, SlotsAttributesApart}
@@ -42,39 +43,6 @@ abbrev mutual
   pub AllNamed : Program → Elements → Type 0
   AllNamed p elements.none = Unit {0}
   AllNamed p (elements.more e es) = Named p e × AllNamed p es
-
--- a program has a component
-abbrev pub HasComponents : Program → Type 0
-HasComponents p = 0 < length (components p)
-
-got_some : {X : Type 0} (xs : List X) (k : ℕ) → k < length xs → is_some (slice_get xs k) ≡ true
-got_some [] k h = absurd (omega arith)
-got_some (x ∷ xs) zero h = refl
-got_some (x ∷ xs) (suc k) h = got_some xs k (omega arith)
-
-pub some_got : {X : Type 0} (xs : List X) (k : ℕ) → is_some (slice_get xs k) ≡ true → 0 < length xs
-some_got [] k h = absurd (cc h)
-some_got (x ∷ xs) k h = omega arith
-
-names_length : (cs : List Component) → length (map (λ c. c.name) cs) ≡ length cs
-names_length [] = refl
-names_length (c ∷ cs) = omega (arith, names_length cs)
-
-place_within : (names : List Name) (name : Name) → 0 < length names → (k : ℕ) (b : Bool) → nat_lt k (length names) ≡ b → unwrap_or (cond b (Some k) None) 0 < length names
-place_within names name some k true e = grind (arith, nat_tests)
-place_within names name some k false e = some
-
-number_within : (p : Program) (name : Name) → HasComponents p → component_number p name < length (components p)
-number_within p name some =
-    let same = names_length (components p) in
-    let h : place_among (map (λ c. c.name) (components p)) name < length (map (λ c. c.name) (components p)) =
-    place_within (map (λ c. c.name) (components p)) name (omega arith)
-    (position_or_len (bytes_eq name) (map (λ c. c.name) (components p)))
-    (nat_lt (position_or_len (bytes_eq name) (map (λ c. c.name) (components p))) (length (map (λ c. c.name) (components p)))) refl in
-    omega arith
-
-number_named : (p : Program) (name : Name) → HasComponents p → is_some (component_at p (component_number p name)) ≡ true
-number_named p name some = got_some (components p) (component_number p name) (number_within p name some)
 
 -- Attributes
 

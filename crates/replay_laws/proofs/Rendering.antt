@@ -21,7 +21,8 @@ use Rattle.rx_elem.proofs.Equality.{same_kind-self}
 use Rattle.replay_laws.specs.Attributes.{AttributesApart}
 use Rattle.rx_meaning.specs.Levels.{Fits, body_depth, elements_depth}
 use Rattle.rx_meaning.proofs.Depths.{ShapeFits, shape_fits}
-use Rattle.replay_laws.proofs.Naming.{AllNamed, HasComponents, Named, body_named, listed_named, some_got}
+use Rattle.commit_laws.proofs.Naming.{HasComponents, some_got}
+use Rattle.replay_laws.proofs.Naming.{AllNamed, Named, body_named, listed_named}
 use Rattle.replay_laws.proofs.Growing.{MarkGrows, Grows, Grows_in}
 use Rattle.replay_laws.proofs.OldLists.{IfOld, EachIn, children_find_themselves}
 use Rattle.replay_laws.proofs.Fine.{is_hostlike, AttrsOwn, IsFine, AllFine, NumberBelow, IsBelow, AllBelow, fine_no_null, same_hostlike}
@@ -83,7 +84,7 @@ child_at d before (child x os) zero = refl
 child_at d before (child x os) (suc q) = child_at d (before ++ element_of x ∷ []) os q
 
 -- a child is of the kind of its old node
-kind_found : (os : Forest) (c : Child) (q : Option ℕ) → position (is_same_child c) (identified (elements_in os)) ≡ q → IfSameKind c.element (option_and_then (node_at os) q)
+pub kind_found : (os : Forest) (c : Child) (q : Option ℕ) → position (is_same_child c) (identified (elements_in os)) ≡ q → IfSameKind c.element (option_and_then (node_at os) q)
 kind_found os c None h = tt
 kind_found os c (Some q) h = go (node_at os q) (child_at c [] os q)
   where

@@ -1,17 +1,16 @@
 -- Each instance of a tree of a program has a value at mount for each hook of its component.
-use Rattle.std.proofs.Common.{◌≡◌, ℕ, ℤ, zero, suc, ◌+◌, true, Option, Some, None, List, [], ◌∷◌, ◌++◌, length, map, get_or, refl, sym, ap, ◌∙◌, subst, arith}
+use Rattle.std.proofs.Common.{◌≡◌, ℕ, ℤ, zero, suc, ◌+◌, true, Option, Some, None, List, [], ◌∷◌, ◌++◌, length, map, refl, sym, ap, ◌∙◌, subst, arith}
 use Rattle.std.specs.Prelude.{filter_map, nat_eq, option_and_then, position, slice_get, slice_set}
 use Rattle.std.specs.List.{cons_option, zip}
 use Rattle.std.specs.Option.{option_flatten, option_map, option_map_or}
 use Rattle.std.proofs.lemmas.Bool.Decides.{nat_tests}
 use Rattle.std.proofs.lemmas.List.{length-append}
-use Rattle.std.proofs.lemmas.List.Quantifiers.{position-Some}
 use Rattle.rx_ast.specs.Syntax.{Component, Program, Statement, body_slots, constant, context, effect, reducer, state, use_resource}
 use Rattle.rx_rules.specs.Names.{component_at, hook_in, hooks_of}
 use Rattle.rx_elem.specs.Compare.{node_at, old_nodes}
 use Rattle.rx_elem.specs.Elements.{Element, Elements, Kind, kind_of, listed, of_comp, same_kind}
 use Rattle.rx_elem.specs.Elements as elements
-use Rattle.rx_elem.specs.Identity.{Child, identified, identities_after, is_same_child, same_identity}
+use Rattle.rx_elem.specs.Identity.{Child, identified, identities_after, is_same_child}
 use Rattle.rx_elem.specs.Numbers.{Numbers, numbered, numbered_host, numbered_in, numbered_instance, numbered_mark}
 use Rattle.rx_elem.specs.Spots.{Around, Mounted, Spot, around_children, at_root, mounted, mounted_as, mounted_in, spot_mark, spots, spots_in}
 use Rattle.rx_elem.specs.Trees.{Forest, Instance, Mark, Node, child, children_if, element_of, elements_in, fallback_if, instance_in, node, none, of_boundary, of_host, of_instance, places, plain, vacant}
@@ -20,8 +19,8 @@ use Rattle.rx_elem.specs.declared.effect.EffectRecord.{EffectRecord}
 use Rattle.rx_elem.proofs.Equality.{same_kind-self}
 use Rattle.rx_meaning.specs.Body.{Body, Frame, Inputs, Taken, and_then, body_of, finished, opening_frame, ready, stopped_at, take_all, take_one, taken, wait, with_hook, with_resource}
 use Rattle.rx_meaning.specs.Fresh.{Contexts, IsTree, Part, Place, Places, Sight, all_made, before, default_contexts, depth_limit, empty, fresh, given, inputs_at, instance_after, made, none_yet, old_host, old_instance, one_waits, over, over_boundary, part, place, place_of, render_all, render_part, rendered, root_element, shape_of, shape_of_body, shape_of_component, waits}
-use Rattle.host_laws.proofs.IdentityLaws.{both}
 use Rattle.commit_laws.proofs.QuietTree.{root_stays}
+use Rattle.replay_laws.proofs.Rendering.{IfSameKind, kind_found}
 
 -- ---- what holds of an instance
 
@@ -53,11 +52,6 @@ abbrev mutual
 abbrev pub IfHas : Program → Option Node → Type 0
 IfHas p None = Unit {0}
 IfHas p (Some n) = TreeHas p n
-
--- an old node is of the kind of an element
-abbrev IfKind : Element → Option Node → Type 0
-IfKind e None = Unit {0}
-IfKind e (Some o) = same_kind (kind_of e) (kind_of (element_of o)) ≡ true
 
 abbrev PlaceHas : Program → Place → Type 0
 PlaceHas p empty = Unit {0}
@@ -140,41 +134,11 @@ found_has : (p : Program) (ns : Forest) → AllHave p ns → (q : Option ℕ) �
 found_has p ns h None = tt
 found_has p ns h (Some q) = got_has p ns h q
 
--- the element of an old child is that of its node
-abbrev IfElementIs : Element → Option Node → Type 0
-IfElementIs e None = Unit {0}
-IfElementIs e (Some x) = element_of x ≡ e
-
-child_at : (d : Child) (earlier : List Element) (os : Forest) (q : ℕ)
-    → IfElementIs (get_or (map (λ c. let d : Child = record { identity = c.0; element = c.1 } in d) (zip (identities_after earlier (elements_in os)) (elements_in os))) q d).element
-    (option_flatten (slice_get (places os) q))
-child_at d earlier none q = tt
-child_at d earlier (vacant os) zero = tt
-child_at d earlier (vacant os) (suc q) = child_at d (earlier ++ elements.null ∷ []) os q
-child_at d earlier (child x os) zero = refl
-child_at d earlier (child x os) (suc q) = child_at d (earlier ++ element_of x ∷ []) os q
-
--- a child is of the kind of its old node
-kind_found : (os : Forest) (c : Child) (q : Option ℕ) → position (is_same_child c) (identified (elements_in os)) ≡ q → IfKind c.element (option_and_then (node_at os) q)
-kind_found os c None h = tt
-kind_found os c (Some q) h = go (node_at os q) (child_at c [] os q)
-  where
-    old : Child
-    old = get_or (identified (elements_in os)) q c
-
-    kinds : same_kind (kind_of c.element) (kind_of old.element) ≡ true
-    kinds = (both (same_identity c.identity old.identity) (same_kind (kind_of c.element) (kind_of old.element))
-        (position-Some (is_same_child c) (identified (elements_in os)) q c h).1).1
-
-    go : (o : Option Node) → IfElementIs old.element o → IfKind c.element o
-    go None same = tt
-    go (Some x) same = subst (λ e. same_kind (kind_of c.element) (kind_of e) ≡ true) (sym same) kinds
-
 -- each old node has its hooks, and is of the kind of its element
 abbrev AllOld : Program → List Element → List (Option Node) → Type 0
 AllOld p [] os = Unit {0}
 AllOld p (e ∷ es) [] = ⊥
-AllOld p (e ∷ es) (o ∷ os) = IfHas p o × IfKind e o × AllOld p es os
+AllOld p (e ∷ es) (o ∷ os) = IfHas p o × IfSameKind e o × AllOld p es os
 
 all_old : (p : Program) (os : Forest) → AllHave p os → (earlier es : List Element)
     → AllOld p es (map (option_and_then (node_at os)) (map (λ c. position (is_same_child c) (identified (elements_in os)))
@@ -205,7 +169,7 @@ before_has p (waits a) xs h k = tt
 
 -- the places below have their hooks, whatever they are rendered against
 abbrev BelowHas : ℕ → Sight → Type 0
-BelowHas n s = (cs : Contexts) (e : Element) (old : Option Node) → IfHas s.program old → IfKind e old → PlaceHas s.program (rendered n s cs e old)
+BelowHas n s = (cs : Contexts) (e : Element) (old : Option Node) → IfHas s.program old → IfSameKind e old → PlaceHas s.program (rendered n s cs e old)
 
 all_have : (n : ℕ) (s : Sight) → BelowHas n s → (cs : Contexts) (es : List Element) (os : List (Option Node)) → AllOld s.program es os
     → PlacesHave s.program (render_all (rendered n s cs) (zip es os))
@@ -242,12 +206,12 @@ old_mark_has p c e (of_boundary b) i h same at = cc
 old_mark_has p c e plain i h same at = cc
 
 old_instance_has : (p : Program) (c : ℕ) (key : _) (props : List ℤ) (kids : Elements) (old : Option Node) (i : Instance) → IfHas p old
-    → IfKind (elements.comp c key props kids) old → old_instance old ≡ Some i → HasHooks p c i.initials
+    → IfSameKind (elements.comp c key props kids) old → old_instance old ≡ Some i → HasHooks p c i.initials
 old_instance_has p c key props kids None i h same at = cc
 old_instance_has p c key props kids (Some (node e m ns fs)) i h same at = old_mark_has p c e m i h.0 same at
 
 module _ (n : ℕ) (s : Sight) (below : BelowHas n s) where
-  comp_has : (cs : Contexts) (c : ℕ) (key : _) (props : List ℤ) (kids : Elements) (old : Option Node) → IfHas s.program old → IfKind (elements.comp c key props kids) old
+  comp_has : (cs : Contexts) (c : ℕ) (key : _) (props : List ℤ) (kids : Elements) (old : Option Node) → IfHas s.program old → IfSameKind (elements.comp c key props kids) old
       → PlaceHas s.program (place_of (rendered n s) (elements.comp c key props kids) old (shape_of s cs (elements.comp c key props kids) old))
   comp_has cs c key props kids old h same = found (component_at s.program c) refl
     where
@@ -277,7 +241,7 @@ module _ (n : ℕ) (s : Sight) (below : BelowHas n s) where
   one_has : (e : Element) (m : Mark) (q : Part) → MarkHas s.program e m → AllHave s.program q.old → PlaceHas s.program (over e m (render_part (rendered n s) q))
   one_has e m q h k = over_has s.program e m (render_part (rendered n s) q) h (list_has n s below q k)
 
-  place_has : (cs : Contexts) (e : Element) (old : Option Node) → IfHas s.program old → IfKind e old → PlaceHas s.program (place (rendered n s) s cs e old)
+  place_has : (cs : Contexts) (e : Element) (old : Option Node) → IfHas s.program old → IfSameKind e old → PlaceHas s.program (place (rendered n s) s cs e old)
   place_has cs elements.null old h same = tt
   place_has cs (elements.text t) old h same = one_has (elements.text t) (of_host (old_host old)) (part cs [] none) tt tt
   place_has cs (elements.host name key attrs es) old h same =
@@ -329,14 +293,14 @@ mutual
 
 -- ---- trees of a program
 
-root_kind : (p : Program) (tree : Option Node) → IsTree p tree → IfKind (root_element p) tree
+root_kind : (p : Program) (tree : Option Node) → IsTree p tree → IfSameKind (root_element p) tree
 root_kind p tree none_yet = tt
 root_kind p tree (given s old n next same t h) =
     let at : element_of (numbered next n).1 ≡ root_element p = subst (λ (q : Program). element_of (numbered next n).1 ≡ root_element q) same (root_stays s old n next h) in
     subst (λ (e : Element). same_kind (kind_of (root_element p)) (kind_of e) ≡ true) (sym at) (same_kind-self (root_element p) refl)
 
 -- what fresh rendering gives
-fresh_has : (s : Sight) (old : Option Node) (n : Node) → IfHas s.program old → IfKind (root_element s.program) old → fresh s old ≡ made n → TreeHas s.program n
+fresh_has : (s : Sight) (old : Option Node) (n : Node) → IfHas s.program old → IfSameKind (root_element s.program) old → fresh s old ≡ made n → TreeHas s.program n
 unfolding fresh
 fresh_has s old n h kind is = subst (PlaceHas s.program) is (rendered_has depth_limit s (default_contexts s.program) (root_element s.program) old h kind)
 
@@ -345,7 +309,7 @@ trees_have : (p : Program) (tree : Option Node) → IsTree p tree → IfHas p tr
 trees_have p tree none_yet = tt
 trees_have p tree (given s old n next same t h) =
     let before : IfHas s.program old = subst (λ (q : Program). IfHas q old) (sym same) (trees_have p old t) in
-    let kind : IfKind (root_element s.program) old = subst (λ (q : Program). IfKind (root_element q) old) (sym same) (root_kind p old t) in
+    let kind : IfSameKind (root_element s.program) old = subst (λ (q : Program). IfSameKind (root_element q) old) (sym same) (root_kind p old t) in
     subst (λ (q : Program). TreeHas q (numbered next n).1) same (tree_numbered s.program next n (fresh_has s old n before kind h))
 
 -- ---- mounted instances
