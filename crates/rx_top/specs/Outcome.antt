@@ -75,7 +75,7 @@ pub record IsReport (p : Program) (steps : List Step) (options : Options) (bytes
   pub reports : Reports p steps options bytes bodies
   pub quiet : IsTrue (is_quiet reports.run.whole.after) → ShowsEverything p reports.run.whole.after
 
--- The bytes are such a report, and each render of its run pays: it evaluates as many bodies at most as places have a cause or lie below one that has, and as many at least, once it is finished, as places have a cause of their own.
+-- The bytes are such a report, and each render of its run pays: it evaluates as many bodies at most as places have a cause or lie below one that has, and as many at least, once it is finished, as places have a cause of their own, what hidden boundaries keep that wait still left out.
 pub record IsPaidReport (p : Program) (steps : List Step) (options : Options) (bytes : List ℕ) (bodies : ℕ) : Type 0 where
   pub report : IsReport p steps options bytes bodies
   pub pays : RunPaid p opening steps report.reports.run.whole
