@@ -1,5 +1,5 @@
 // Laws of what the beginning of a place costs.
-ghost use Rattle.std.specs.Prelude.{◌≡◌, ◌≤◌, ℕ, suc, Bool, List, Option, Some, if◌then◌else◌};
+ghost use Rattle.std.specs.Prelude.{◌≤◌, ℕ, suc, Bool, List, Option, Some, if◌then◌else◌};
 ghost use Rattle.rx_ast.specs.Syntax.{Program};
 ghost use Rattle.rx_ctx.specs.Contexts.{Stack};
 ghost use Rattle.rx_elem.specs.Elements.{Element};

@@ -1,5 +1,5 @@
 // Laws of the definitions.
-ghost use Rattle.std.specs.Prelude.{◌<◌, ◌≡◌, ◌&&◌, not, map, ℕ, ℤ, Bool, true, false, List, [], ◌∷◌, ◌++◌, Option, Some, ◌≤◌, length, is_some};
+ghost use Rattle.std.specs.Prelude.{◌≡◌, ◌&&◌, not, map, ℕ, ℤ, true, false, List, [], ◌∷◌, ◌++◌, Option, Some, ◌≤◌, length, is_some};
 ghost use Rattle.std.specs.List.{list_any};
 ghost use Rattle.rx_base.specs.Awaits.{Awaits, resource_limit};
 ghost use Rattle.rx_base.specs.Awaits as awaits;

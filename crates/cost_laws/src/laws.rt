@@ -1,5 +1,5 @@
 // Laws of what a render costs.
-ghost use Rattle.std.specs.Prelude.{◌≡◌, ℕ, ◌+◌, ◌++◌, ◌≤◌, false, true, suc, [], ◌∷◌, List, Option, Some};
+ghost use Rattle.std.specs.Prelude.{◌≡◌, ℕ, ◌+◌, ◌++◌, ◌≤◌, true, suc, [], ◌∷◌, List, Option, Some};
 ghost use Rattle.rx_base.specs.Awaits.{Awaits};
 ghost use Rattle.rx_elem.specs.Elements.{Element};
 ghost use Rattle.rx_elem.specs.Trees.{Mark, Node, element_of};

@@ -1,5 +1,5 @@
 // Laws of the definitions: a tree and the same tree without the vacant places at the ends of its lists answer alike.
-ghost use Rattle.std.specs.Prelude.{◌≡◌, ℕ, List, Option, Some, length};
+ghost use Rattle.std.specs.Prelude.{◌≡◌, ℕ, List, Option, length};
 ghost use Rattle.rx_base.specs.Awaits.{Awaits};
 ghost use Rattle.rx_base.specs.declared.cut.Cut.{Cut};
 ghost use Rattle.rx_lane.specs.Lanes.{Lanes};

@@ -1,5 +1,5 @@
 // Laws of rendering.
-ghost use Rattle.std.specs.Prelude.{◌≡◌, ℕ, suc, ◌+◌, ◌-◌, [], IfSome, ◌*◌, ◌<◌, ◌≤◌, false, List, ◌++◌, Option, Some, length};
+ghost use Rattle.std.specs.Prelude.{◌≡◌, ℕ, suc, ◌+◌, ◌*◌, ◌<◌, ◌≤◌, false, List, ◌++◌, Option, Some, length};
 ghost use Rattle.std.specs.List.{AllByRecursion};
 ghost use Rattle.rx_base.specs.Awaits.{Awaits};
 ghost use Rattle.rx_ast.specs.Syntax.{Program};

@@ -1,5 +1,5 @@
 // The lines that tell of a refusal.
-ghost use Rattle.std.specs.Prelude.{◌≡◌, ◌≢◌, [], ◌∷◌, ◌++◌, codes, decimal, IfOk, OnOk};
+ghost use Rattle.std.specs.Prelude.{◌≡◌, ◌≢◌, [], ◌∷◌, ◌++◌, codes, IfOk, OnOk};
 ghost use Rattle.rx_accept.specs.Lines.{count_word, then_number, refusal_text, cause_text, program_line as program_line_of, IsScriptLine};
 
 use crate::cause::Cause;

@@ -1,5 +1,5 @@
 // The nodes of fibers.
-ghost use Rattle.std.specs.Prelude.{◌≡◌, ◌≢◌, ◌+◌, ◌<◌, ◌≤◌, ◌^◌, ℕ, Some, None, IsSome, IfSome, OnOk, OnErr, IfOk, Option, option_map};
+ghost use Rattle.std.specs.Prelude.{◌≡◌, ◌≢◌, ◌+◌, ◌<◌, ◌^◌, ℕ, Some, None, IfSome, OnOk, Option, option_map};
 ghost use Rattle.std.specs.Borrow.{Lends, sem};
 ghost use Rattle.slab.specs.Slab.{get, slab_len, HasRoomFor};
 ghost use Rattle.rx_arena.specs.Nodes.{at, IsLive, Keeps, new_node, with_child, with_sibling, with_up, with_value, with_alternate, cut_node, alternate_in, Changes, Pairs, Releases, AreMutual};

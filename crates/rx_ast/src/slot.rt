@@ -1,7 +1,7 @@
 // What stands in a place of a body.
 ghost use Rattle.std.specs.Prelude.{◌≡◌, IfOk, MatchOption, Some, None};
-ghost use Rattle.rx_ast.specs.Syntax.{null, words, number_of, children as given_children, repeated, choice, enclosed, parentheses, braces, at_once, by_tag, no_slots, slots_of, slots, inner_slots, attributes, slot_key, key_in, key_of};
-ghost use Rattle.rx_ast.specs.SlotView.{tagged, key_place_of};
+ghost use Rattle.rx_ast.specs.Syntax.{null, words, number_of, children as given_children, repeated, choice, enclosed, parentheses, braces, at_once, by_tag, no_slots, slots_of, slots, inner_slots, attributes, slot_key};
+ghost use Rattle.rx_ast.specs.SlotView.{tagged};
 
 use crate::attribute::{Attribute, KeyPlace, key_among};
 use crate::expr::Expr;

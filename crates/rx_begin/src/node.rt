@@ -1,5 +1,5 @@
 // A node begins over its children.
-ghost use Rattle.std.specs.Prelude.{◌≡◌, true, false, IfOk, OnOk, IfSome, IsSome, option_and_then, option_map};
+ghost use Rattle.std.specs.Prelude.{◌≡◌, IfOk, OnOk, IfSome, IsSome, option_and_then, option_map};
 ghost use Rattle.rx_lists.specs.Shapes.{Holds};
 ghost use Rattle.rx_elem.specs.Trees.{host_number, instance_in};
 ghost use Rattle.rx_links.specs.Drafts.{Makes, old_of};

@@ -1,5 +1,5 @@
 // A node of the finished tree beside the old one that it was made for.
-ghost use Rattle.std.specs.Prelude.{◌≡◌, ℕ, Bool, true, false, ◌||◌, IfSome, IfOk, OnOk, Some, Option, option_and_then};
+ghost use Rattle.std.specs.Prelude.{◌≡◌, ℕ, Bool, true, false, ◌||◌, IfSome, IfOk, Some, Option, option_and_then};
 ghost use Rattle.rx_elem.specs.Trees as trees;
 ghost use Rattle.rx_elem.specs.Trees.{node, none, forest, element_of, mark_of, host_number};
 ghost use Rattle.rx_elem.specs.Compare.{node_at};

@@ -1,5 +1,5 @@
 // All checks of a program, in their order.
-ghost use Rattle.std.specs.Prelude.{◌≡◌, ◌≤◌, ◌⊎◌, [], ◌∷◌, IfOk, MatchOption, MatchResult, Some, None, option_map, option_and_then, filter_map, length, slice_get};
+ghost use Rattle.std.specs.Prelude.{◌≡◌, ◌≤◌, [], ◌∷◌, IfOk, MatchOption, MatchResult, Some, None, option_map, option_and_then, filter_map, length, slice_get};
 ghost use Rattle.rx_rules.specs.Names.{component_names, component_number, root_name};
 ghost use Rattle.rx_rules.specs.Bounds.{body_by, node_bound, node_limit, depth_bound};
 ghost use Rattle.rx_names.specs.Listed.{IsListed, function_names};

@@ -1,5 +1,5 @@
 // A stack of what providers give.
-ghost use Rattle.std.specs.Prelude.{◌≡◌, ◌<◌, [], ◌∷◌, length, slice_set, IfOk, OnOk, OnErr, MatchOption};
+ghost use Rattle.std.specs.Prelude.{◌≡◌, ◌<◌, [], length, slice_set, IfOk, OnOk, OnErr, MatchOption};
 ghost use Rattle.rx_ctx.specs.Contexts.{below, opening, value_at, values_at};
 
 use rx_base::Int;

@@ -1,5 +1,5 @@
 // What a component's body evaluates to.
-ghost use Rattle.std.specs.Prelude.{◌≡◌, IfOk, min};
+ghost use Rattle.std.specs.Prelude.{◌≡◌, IfOk};
 ghost use Rattle.rx_elem.specs.Elements as elements;
 ghost use Rattle.rx_elem.specs.ElementView.{element_seen};
 

@@ -1,6 +1,5 @@
 // What elements are given.
-ghost use Rattle.std.specs.Prelude.{◌≡◌, IfOk, Option, Some, None, MatchOption, map, filter_map, option_map};
-ghost use Rattle.std.specs.Option.{option_map_or};
+ghost use Rattle.std.specs.Prelude.{◌≡◌, IfOk, Option, Some, None, MatchOption, map, filter_map};
 ghost use Rattle.rx_rules.specs.Names.{integer_in};
 ghost use Rattle.rx_meaning.specs.Expressions.{value_in};
 ghost use Rattle.rx_meaning.specs.Body.{attr_in, prop_named, props_of, key_value};

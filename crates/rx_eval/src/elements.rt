@@ -1,9 +1,7 @@
 // What slots give.
-ghost use Rattle.std.specs.Prelude.{◌≡◌, ◌≤◌, IfOk, length, map, pos};
-ghost use Rattle.std.specs.List.{range_with_len};
+ghost use Rattle.std.specs.Prelude.{◌≡◌, ◌≤◌, IfOk, pos};
 ghost use Rattle.std.specs.Fmt.{signed_decimal};
-ghost use Rattle.rx_ast.specs.Syntax.{slots_of, inner_slots, repeated, at_once, no_slots};
-ghost use Rattle.rx_ast.specs.SlotView.{tagged};
+ghost use Rattle.rx_ast.specs.Syntax.{slots_of, repeated};
 ghost use Rattle.rx_elem.specs.Elements.{text, list, gathered};
 ghost use Rattle.rx_meaning.specs.Body.{element_of, elements_of, turns};
 ghost use Rattle.rx_eval.specs.Loops.{HasShortLoops, HaveShortLoops};

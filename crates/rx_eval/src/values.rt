@@ -1,5 +1,5 @@
 // What expressions are worth.
-ghost use Rattle.std.specs.Prelude.{◌≡◌, ◌<◌, ◌≤◌, ◌-◌, ◌++◌, List, MatchOption, Some, None, Contains, length, take};
+ghost use Rattle.std.specs.Prelude.{◌≡◌, ◌<◌, ◌≤◌, ◌-◌, ◌++◌, MatchOption, Some, None, Contains, length, take};
 ghost use Rattle.std.specs.List.{zip};
 ghost use Rattle.std.specs.Int.{w32};
 ghost use Rattle.rx_ast.specs.Syntax.{exprs_of, functions};

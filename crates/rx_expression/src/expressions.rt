@@ -1,5 +1,5 @@
 // Expressions.
-ghost use Rattle.std.specs.Prelude.{◌≡◌, ◌<◌, ◌≤◌, suc};
+ghost use Rattle.std.specs.Prelude.{◌<◌, ◌≤◌, suc};
 ghost use Rattle.rx_lex.specs.Spans.{kinds_of};
 ghost use Rattle.rx_lex.specs.declared.token.Sign.TheVariants as sign;
 ghost use Rattle.rx_grammar.specs.Steps.{is_mark, all_of};

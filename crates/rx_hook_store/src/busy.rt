@@ -1,11 +1,8 @@
 // Which instances may have queued updates.
-ghost use Rattle.std.specs.Prelude.{◌≡◌, ◌&&◌, ℕ, true, false, nat_eq, IsTrue, IfOk, OnOk, List, Some};
-ghost use Rattle.std.specs.Map.{lookup};
+ghost use Rattle.std.specs.Prelude.{◌≡◌, ◌&&◌, ℕ, true, false, nat_eq};
 ghost use Rattle.rx_base.specs.declared.cut.Cut.{Cut};
-ghost use Rattle.rx_hooks.specs.declared.hook.Hook.{Hook};
-ghost use Rattle.rx_meaning.specs.Settled.{includes};
 ghost use Rattle.rx_hook_store.specs.Busy.{is_listed};
-ghost use Rattle.rx_hook_store.specs.Working.{AreAllWorking, AreIdle, HaveWork};
+ghost use Rattle.rx_hook_store.specs.Working.{AreIdle};
 
 use rx_base::Cut;
 use rx_hooks::Hooks;

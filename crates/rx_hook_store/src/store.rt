@@ -10,7 +10,7 @@ ghost use Rattle.rx_hooks.specs.declared.hook.Hook.{Hook};
 ghost use Rattle.rx_hooks.specs.Hooks.{HookHistory, HooksStandFor, changed_at, committed_hook, owed_hook};
 ghost use Rattle.rx_meaning.specs.Expressions.{answers_of};
 ghost use Rattle.rx_meaning.specs.Fresh.{Sight, hook_values};
-ghost use Rattle.rx_meaning.specs.Settled.{DoneBefore, done_values, includes, known_by};
+ghost use Rattle.rx_meaning.specs.Settled.{DoneBefore, done_values, known_by};
 ghost use Rattle.rx_model.specs.State.{State, committed_values, linked_lanes, opening};
 ghost use Rattle.rx_model.specs.Accepting.{dispatched_for, lane_of};
 ghost use Rattle.rx_model.specs.HooksOf.{KeepsAllHooks};

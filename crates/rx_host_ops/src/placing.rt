@@ -1,5 +1,5 @@
 // Where placed hosts go.
-ghost use Rattle.std.specs.Prelude.{◌≡◌, ℕ, List, IfOk, nat_eq};
+ghost use Rattle.std.specs.Prelude.{◌≡◌, IfOk};
 ghost use Rattle.std.specs.HashSet.{contains};
 ghost use Rattle.rx_forest.specs.HostOps as forest;
 

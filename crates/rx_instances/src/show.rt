@@ -1,5 +1,5 @@
 // The hooks of all instances, with their committed values.
-ghost use Rattle.std.specs.Prelude.{◌≡◌, ◌<◌, ◌^◌, ◌++◌, ◌∷◌, OnOk, OnErr, IfOk, length, map, take};
+ghost use Rattle.std.specs.Prelude.{◌≡◌, ◌<◌, ◌++◌, ◌∷◌, OnOk, OnErr, IfOk, map, take};
 ghost use Rattle.std.specs.Option.{option_copied};
 ghost use Rattle.rx_ast.specs.Syntax.{Program};
 ghost use Rattle.rx_elem.specs.Spots.{mounted};

@@ -1,5 +1,5 @@
 // A source and a sink in memory, which fail in the calls that they were told.
-ghost use Rattle.std.specs.Prelude.{◌≡◌, ◌≤◌, ◌<◌, ◌+◌, ◌-◌, ◌↔◌, ◌⊎◌, [], List, ℕ, length, drop, take, min, IfOk, IsErr, OnErr, Contains, Some};
+ghost use Rattle.std.specs.Prelude.{◌≡◌, ◌≤◌, ◌<◌, ◌+◌, ◌-◌, ◌↔◌, ◌⊎◌, [], length, drop, take, min, IfOk, IsErr, OnErr, Contains, Some};
 ghost use Rattle.std.specs.Io.{ReadsAtMost, WritesAtMost};
 ghost use Rattle.std.specs.Io.KnownBytes.{ReadConsumes, WriteAppends};
 ghost use Rattle.rx_io.specs.Causes.{HasCause};

@@ -1,6 +1,6 @@
 // From a text to its tokens.
 
-ghost use Rattle.std.specs.Prelude.{◌≡◌, ◌≢◌, ◌+◌, ◌<◌, ◌^◌, ◌++◌, ◌∷◌, [], List, ℕ, All, IfOk, IfErr, OnOk, MatchResult, length};
+ghost use Rattle.std.specs.Prelude.{◌≡◌, ◌≢◌, ◌+◌, ◌<◌, ◌^◌, ◌++◌, ◌∷◌, [], List, All, IfOk, IfErr, OnOk, MatchResult, length};
 ghost use Rattle.rx_lex.specs.Tokens.{AreTokensBelow, AreTokensOf, IsUncovered, Piece, StandsFirst, end_mark, kind_of, kinds};
 ghost use Rattle.rx_lex.specs.Spans.{seen_if, span_at, tokens_of};
 ghost use Rattle.rx_lex.specs.Faults.{IsFault, IsFaultBelow};

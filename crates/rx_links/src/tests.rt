@@ -1,5 +1,4 @@
 // Trees with numbers in them.
-ghost use Rattle.std.specs.Prelude.{◌≡◌};
 
 use super::*;
 use std::alloc::AllocError;

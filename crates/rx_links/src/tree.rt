@@ -1,5 +1,5 @@
 // The current tree and the tree in progress.
-ghost use Rattle.std.specs.Prelude.{◌≡◌, ◌+◌, ◌⊎◌, ℕ, None, Some, Option, IfSome, IfOk, OnOk, OnErr, All};
+ghost use Rattle.std.specs.Prelude.{◌≡◌, ◌+◌, ◌⊎◌, ℕ, None, Some, Option, IfSome, IfOk, OnErr, All};
 ghost use Rattle.rx_lists.specs.Shapes.{none, first, ids, Holds, IsTop, size};
 ghost use Rattle.rx_links.specs.Drafts.{Draft, taken, made, entry, Fits, HasMadeKids, IsTopUnused, kids_of, clone_of, old_of, Makes, made_size, IsUnused, IsOpen, IsBare, valued, grown, inserted, taking, grafted, old_kids};
 ghost use Rattle.rx_links.specs.Readers.{IsIn, IsLinked, value_of, rest_of, parent_of, made_value_of, made_kids_of, made_rest_of, made_parent_of, old_list};

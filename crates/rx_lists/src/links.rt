@@ -1,8 +1,8 @@
 // Links of links.
-ghost use Rattle.std.specs.Prelude.{◌≡◌, ℕ, None, Some, IfSome, Option};
-ghost use Rattle.rx_arena.specs.Nodes.{IsLive, AreMutual};
+ghost use Rattle.std.specs.Prelude.{◌≡◌, None, Some, IfSome, Option};
+ghost use Rattle.rx_arena.specs.Nodes.{IsLive};
 ghost use Rattle.rx_lists.specs.Reads.{alternate_at};
-ghost use Rattle.rx_lists.specs.Links.{child_at, child_under};
+ghost use Rattle.rx_lists.specs.Links.{child_under};
 
 use rx_arena::{Arena, FiberId};
 

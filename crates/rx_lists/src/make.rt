@@ -1,5 +1,5 @@
 // New nodes, each the alternate of an old one or of none.
-ghost use Rattle.std.specs.Prelude.{◌≡◌, ◌≢◌, ℕ, None, Some, IfSome, Option};
+ghost use Rattle.std.specs.Prelude.{◌≡◌, ◌≢◌, None, Some, IfSome, Option};
 ghost use Rattle.slab.specs.Slab.{HasRoomFor};
 ghost use Rattle.rx_arena.specs.Nodes.{IsLive};
 ghost use Rattle.rx_lists.specs.Reads.{alternate_at};

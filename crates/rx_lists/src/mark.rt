@@ -1,5 +1,5 @@
 // Values that are written, and marks on a way or on a list.
-ghost use Rattle.std.specs.Prelude.{◌≡◌, ℕ, Some, IfSome, Option, List};
+ghost use Rattle.std.specs.Prelude.{◌≡◌, Some, IfSome, Option};
 ghost use Rattle.rx_arena.specs.Nodes.{IsLive, Changes};
 ghost use Rattle.rx_lists.specs.Reads.{limit, shape_of};
 ghost use Rattle.rx_lists.specs.Shapes.{is_among, holds};

@@ -1,5 +1,5 @@
 // Releasing lists of fibers.
-ghost use Rattle.std.specs.Prelude.{◌≡◌, ℕ, Option};
+ghost use Rattle.std.specs.Prelude.{◌≡◌, Option};
 ghost use Rattle.rx_arena.specs.Nodes.{IsLive};
 ghost use Rattle.rx_lists.specs.Shapes.{Holds};
 ghost use Rattle.rx_lists.specs.Links.{same_link};

@@ -1,5 +1,5 @@
 // Return links to the fibers that took children over.
-ghost use Rattle.std.specs.Prelude.{◌≡◌, ℕ, Option};
+ghost use Rattle.std.specs.Prelude.{Option};
 ghost use Rattle.rx_lists.specs.Reads.{limit, shape_of, IsRead};
 ghost use Rattle.rx_lists.specs.Shapes.{IsTree};
 ghost use Rattle.rx_lists.specs.Adopted.{CanAdopt, Relinks, Adopts};

@@ -1,5 +1,4 @@
 // Lists with numbers in them.
-ghost use Rattle.std.specs.Prelude.{◌≡◌, ◌∷◌, []};
 
 use super::*;
 use rx_arena::Arena;

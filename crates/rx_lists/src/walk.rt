@@ -1,5 +1,5 @@
 // Walks over a whole list.
-ghost use Rattle.std.specs.Prelude.{◌≡◌, ◌++◌, ℕ, OnOk, Option, List};
+ghost use Rattle.std.specs.Prelude.{◌≡◌, ◌++◌, OnOk, Option};
 ghost use Rattle.rx_lists.specs.Reads.{limit, shape_of, IsRead};
 ghost use Rattle.rx_lists.specs.Shapes.{ids};
 

@@ -4,7 +4,7 @@ ghost use Rattle.rx_elem.specs.Trees.{forest};
 ghost use Rattle.rx_elem.specs.Spots.{spots, spots_in};
 ghost use Rattle.rx_effect.specs.EffectLog.{around_old, destroyed_at, destroyed_in, destroyed_by_hiding};
 ghost use Rattle.rx_node.specs.MarkView.{mark_seen};
-ghost use Rattle.rx_compare.specs.ComparedView.{around_seen, gone_seen, change_seen};
+ghost use Rattle.rx_compare.specs.ComparedView.{around_seen, gone_seen};
 ghost use Rattle.rx_log.specs.Phases.{phase_seen, destroyed_of};
 
 use crate::line::{Phase, add_lines};

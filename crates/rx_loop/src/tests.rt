@@ -1,5 +1,5 @@
 // A toy piece of work in turns.
-ghost use Rattle.std.specs.Prelude.{◌≡◌, ◌+◌, ◌<◌, ◌≤◌, ◌^◌};
+ghost use Rattle.std.specs.Prelude.{◌≡◌, ◌+◌, ◌<◌, ◌^◌};
 
 use super::{Driven, Unit, Units, drive};
 use rx_base::Steps;

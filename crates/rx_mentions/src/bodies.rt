@@ -1,5 +1,5 @@
 // The mentions of declarations.
-ghost use Rattle.std.specs.Prelude.{◌≡◌, false, List, [], ◌∷◌, ◌++◌, OnOk, IfOk, length, fold, flat_map};
+ghost use Rattle.std.specs.Prelude.{◌≡◌, false, [], ◌∷◌, ◌++◌, OnOk, IfOk, fold, flat_map};
 ghost use Rattle.rx_ast.specs.Syntax.{body_slots};
 ghost use Rattle.rx_mentions.specs.Mention as mention;
 ghost use Rattle.rx_mentions.specs.Mentions.{bound, after_parameter, after_line, after_statement, parameter_name, expr_mentions, slots_mentions, names_mentions, lines_mentions, function_mentions, parameters_mentions, pair_mentions, statement_mentions, statements_mentions, component_mentions, declaration_mentions, declarations_mentions, mentions};

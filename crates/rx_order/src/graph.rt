@@ -1,5 +1,5 @@
 // Which numbers lead to themselves.
-ghost use Rattle.std.specs.Prelude.{◌≡◌, [], IfOk, MatchOption, Some, None, false, IsTrue, length, map, filter_map, slice_index_or};
+ghost use Rattle.std.specs.Prelude.{◌≡◌, [], IfOk, MatchOption, Some, None, false, IsTrue, length, slice_index_or};
 ghost use Rattle.rx_order.specs.Graphs.{first, leads_to, name_on_cycle, cycle_names, leads, lead_round, lead_rounds, IsFinished};
 
 use crate::order::Order;

@@ -1,5 +1,5 @@
 // From tokens to a program.
-ghost use Rattle.std.specs.Prelude.{◌≡◌, List, IfOk, IfErr, MatchResult};
+ghost use Rattle.std.specs.Prelude.{◌≡◌, IfOk, IfErr, MatchResult};
 ghost use Rattle.rx_lex.specs.Tokens.{kinds};
 ghost use Rattle.rx_lex.specs.Spans.{kinds_of, tokens_of};
 ghost use Rattle.rx_ast.specs.Syntax.{Program};

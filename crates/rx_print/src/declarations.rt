@@ -1,5 +1,5 @@
 // How declarations are written.
-ghost use Rattle.std.specs.Prelude.{◌≡◌, List, [], ◌∷◌, ◌++◌, OnOk, map};
+ghost use Rattle.std.specs.Prelude.{◌≡◌, [], ◌∷◌, ◌++◌, OnOk, map};
 ghost use Rattle.std.specs.List.{flat_map};
 ghost use Rattle.rx_ast.specs.Syntax.{of_context, of_function, of_component};
 ghost use Rattle.rx_print.specs.Printing.{expr_tokens, slots_tokens, parameter_token, separated, parameters_tokens, default_tokens, line_tokens, fragment_tokens, body_tokens, declaration_tokens};

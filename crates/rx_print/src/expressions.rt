@@ -1,5 +1,5 @@
 // How expressions are written.
-ghost use Rattle.std.specs.Prelude.{◌≡◌, List, [], ◌∷◌, ◌++◌, OnOk};
+ghost use Rattle.std.specs.Prelude.{◌≡◌, ◌++◌, OnOk};
 ghost use Rattle.rx_ast.specs.Syntax.{exprs_of};
 ghost use Rattle.rx_ast.specs.ExprView.{links_of};
 ghost use Rattle.rx_print.specs.Printing.{prefix_sign, operator_sign, expr_tokens, links_tokens, exprs_tokens};

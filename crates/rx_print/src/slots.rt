@@ -1,5 +1,5 @@
 // How slots are written.
-ghost use Rattle.std.specs.Prelude.{◌≡◌, List, [], ◌∷◌, ◌++◌, OnOk};
+ghost use Rattle.std.specs.Prelude.{◌≡◌, [], ◌∷◌, ◌++◌, OnOk};
 ghost use Rattle.std.specs.List.{flat_map};
 ghost use Rattle.rx_ast.specs.Syntax.{slots_of};
 ghost use Rattle.rx_ast.specs.SlotView.{key_place_of};

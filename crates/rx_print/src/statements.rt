@@ -1,5 +1,5 @@
 // How statements are written.
-ghost use Rattle.std.specs.Prelude.{◌≡◌, List, [], ◌∷◌, ◌++◌, OnOk};
+ghost use Rattle.std.specs.Prelude.{◌≡◌, [], ◌∷◌, ◌++◌, OnOk};
 ghost use Rattle.std.specs.List.{flat_map};
 ghost use Rattle.rx_ast.specs.Syntax.{context as context_from, use_resource, effect as effect_with};
 ghost use Rattle.rx_print.specs.Printing.{expr_tokens, binding as bound, statement_tokens};

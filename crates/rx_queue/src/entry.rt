@@ -1,6 +1,6 @@
 // An update in its hook's history.
 ghost use Rattle.std.specs.Prelude.{◌≡◌};
-ghost use Rattle.rx_queue.specs.History.{is_included, is_new, is_owed_before, is_done, is_open, noted, settled, owed_after, was_included};
+ghost use Rattle.rx_queue.specs.History.{is_included, is_new, is_owed_before, is_done, is_open, noted, settled, owed_after};
 
 use crate::update::Update;
 use rx_base::Cut;

@@ -1,5 +1,5 @@
 // The queue of a hook.
-ghost use Rattle.std.specs.Prelude.{◌≡◌, ◌≤◌, ◌+◌, ◌++◌, ◌∷◌, [], List, length, drop, map, OnOk, OnErr};
+ghost use Rattle.std.specs.Prelude.{◌≡◌, drop, map, OnOk, OnErr};
 ghost use Rattle.std.specs.List.{list_any, prefix_len};
 ghost use Rattle.rx_queue.specs.declared.queue.Processed.{Processed};
 ghost use Rattle.rx_queue.specs.History.{Answers, AllDone, History, IsAboveDone, committed as committed_history, committed_value, in_order, is_done, is_new, is_owed_before, marked_owed as marked_history, noted, opening, owed_after, pending_of, processed as processed_history, pushed, settled, state_from, state_of, was_included};

@@ -1,5 +1,5 @@
 // The hooks of new instances.
-ghost use Rattle.std.specs.Prelude.{◌≡◌, IfOk, OnOk, length};
+ghost use Rattle.std.specs.Prelude.{IfOk, OnOk, length};
 ghost use Rattle.rx_settle.specs.Made.{AreMadeFor, HasMade};
 
 use rx_hooks::Hooks;

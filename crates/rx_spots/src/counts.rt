@@ -1,5 +1,5 @@
 // How much there is of a tree.
-ghost use Rattle.std.specs.Prelude.{◌≡◌, ◌^◌, ◌-◌, min, if◌then◌else◌};
+ghost use Rattle.std.specs.Prelude.{◌≡◌, ◌^◌, ◌-◌, min};
 ghost use Rattle.std.specs.Option.{option_copied};
 ghost use Rattle.rx_elem.specs.ElementSize.{held};
 ghost use Rattle.rx_elem.specs.Spots as spots;

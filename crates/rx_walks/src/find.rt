@@ -1,5 +1,5 @@
 // Current fibers, found by their places.
-ghost use Rattle.std.specs.Prelude.{◌≡◌, ℕ, None, Some, Option, IfSome};
+ghost use Rattle.std.specs.Prelude.{◌≡◌, None, Option, IfSome};
 ghost use Rattle.rx_lists.specs.Shapes.{Holds};
 ghost use Rattle.rx_walks.specs.Paths.{found};
 

@@ -1,5 +1,5 @@
 // Lists of siblings in the current tree.
-ghost use Rattle.std.specs.Prelude.{◌≡◌, ◌++◌, ℕ, Option, IfSome, OnOk, IfOk};
+ghost use Rattle.std.specs.Prelude.{◌≡◌, Option, IfOk};
 ghost use Rattle.rx_lists.specs.Shapes.{first, Holds};
 ghost use Rattle.rx_links.specs.Drafts.{kids_of};
 ghost use Rattle.rx_links.specs.Readers.{list_from};

@@ -1,5 +1,5 @@
 // Laws of the definitions: what stayed the same has no part in the operations of a commit.
-ghost use Rattle.std.specs.Prelude.{◌≡◌, List, [], Option, Some};
+ghost use Rattle.std.specs.Prelude.{◌≡◌, [], Option, Some};
 ghost use Rattle.rx_elem.specs.Trees.{Node};
 ghost use Rattle.rx_elem.specs.Compare.{changes, compare_trees};
 ghost use Rattle.rx_forest.specs.Hosts.{hosts};
