@@ -1,18 +1,17 @@
 -- What a program's elements name: components that are declared, and attributes each of a name of its own.
-use Rattle.std.specs.Prelude.{◌≡◌, ℕ, suc, zero, ◌<◌, Bool, true, false, cond, List, [], ◌∷◌, ℤ, Some, None, pos, is_some, filter_map, length, map, nat_lt, slice_get, unwrap_or, bytes_eq, refl}
-use Rattle.std.specs.List.{position_or_len, range_with_len}
+use Rattle.std.specs.Prelude.{◌≡◌, ℕ, Bool, true, false, cond, List, [], ◌∷◌, ℤ, Some, None, pos, is_some, filter_map, map, bytes_eq, refl}
+use Rattle.std.specs.List.{range_with_len}
 use Rattle.std.specs.Cmp.Lexicographic.{slice_cmp}
 use Rattle.std.specs.Ordering.{nat_cmp, match_ordering}
 use Rattle.std.specs.declared.cmp.Ordering.{Ordering}
 use Rattle.std.specs.declared.cmp.Ordering.TheVariants.{Less, Equal, Greater}
-use Rattle.std.proofs.Common.{arith, sym, subst}
-use Rattle.std.proofs.lemmas.Bool.Decides.{nat_tests}
+use Rattle.std.proofs.Common.{sym, subst}
 use Rattle.std.proofs.lemmas.Slice.Eq.{bytes_eq-Decides}
 use Rattle.rx_base.specs.Values.{Name}
 use Rattle.rx_base.specs.Arithmetic.{is_zero}
 use Rattle.rx_ast.specs.Syntax.{Component, Program, Slot, Slots, Attribute, key, computed, literal, body_slots, components}
 use Rattle.rx_ast.specs.Syntax as syntax
-use Rattle.rx_rules.specs.Names.{component_at, component_number, place_among, has_name}
+use Rattle.rx_rules.specs.Names.{component_at, has_name}
 use Rattle.rx_elem.specs.Elements.{Element, Elements, gathered, listed}
 use Rattle.rx_elem.specs.Elements as elements
 use Rattle.rx_elem.specs.declared.attr.Attr.{Attr}

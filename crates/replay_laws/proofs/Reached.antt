@@ -26,8 +26,8 @@ use Rattle.rx_model.specs.State.{State, Progress, opening, instance_found}
 use Rattle.rx_model.specs.Stretch.{Stretch, silent, followed_by}
 use Rattle.rx_model.specs.Accepting.{in_event, dispatched_to, resolved_as, between_events}
 use Rattle.rx_model.specs.Committing.{passive_run, starting, sight_of, committed_state, ended_by}
-use Rattle.rx_model.specs.Turns.{GoesOn, Continues, TurnBy, choice_of}
-use Rattle.rx_model.specs.Machine.{Flushes, FlushSync, StepTo}
+use Rattle.rx_model.specs.Turns.{AnyRender, GoesOn, Continues, TurnBy, choice_of}
+use Rattle.rx_model.specs.Machine.{IsAtRest, Flushes, FlushSync, StepTo}
 use Rattle.rx_model.specs.Laws.{IsReached, IsReachedBy, MovesTo}
 use Rattle.rx_lines.specs.Lines.{Counts}
 use Rattle.host_laws.proofs.Replay.{commit_replays}
@@ -89,34 +89,34 @@ ended_holds p s g counts tree (c ∷ cs) gives h = go (only_transitions g.lanes)
 
 -- Turns
 
-going_holds : (p : Program) (s : State) (g : Progress) (budget : Option ℕ) (r : Stretch) → GoesOn p s g budget r → Holds p s → Holds p r.after
-going_holds p s g budget r (inl f) h =
+going_holds : (p : Program) (s : State) (g : Progress) (budget : Option ℕ) (r : Stretch) → GoesOn AnyRender p s g budget r → Holds p s → Holds p r.after
+going_holds p s g budget r (inl f, _) h =
     same_holds p r _ f.stretch_is (ended_holds p s g f.counts f.tree (newly_hidden s.tree f.tree) f.rendered h)
-going_holds p s g budget r (inr y) h = same_holds p r _ y.stretch_is h
+going_holds p s g budget r (inr y, _) h = same_holds p r _ y.stretch_is h
 
-turn_holds : (p : Program) (s : State) (c : Choice) (budget : Option ℕ) (r : Stretch) → TurnBy p s c budget r → Holds p s → Holds p r.after
+turn_holds : (p : Program) (s : State) (c : Choice) (budget : Option ℕ) (r : Stretch) → TurnBy AnyRender p s c budget r → Holds p s → Holds p r.after
 turn_holds p s choice.None budget r is h = same_holds p r (silent s) is h
 turn_holds p s choice.Keep budget r on h = go s.progress on
   where
-    go : (x : Option Progress) → Continues p s x budget r → Holds p r.after
+    go : (x : Option Progress) → Continues AnyRender p s x budget r → Holds p r.after
     go None k = absurd k
     go (Some g) k = going_holds p s g budget r k h
 turn_holds p s (choice.Start lanes) budget r starts h =
     same_holds p r (followed_by (passive_run s) starts.rest) starts.stretch_is
     (going_holds p (passive_run s).after (starting s lanes) budget starts.rest starts.begins h)
 
-flushes_hold : (n : ℕ) (p : Program) (s : State) (r : Stretch) → Flushes n p s r → Holds p s → Holds p r.after
+flushes_hold : (n : ℕ) (p : Program) (s : State) (r : Stretch) → Flushes AnyRender IsAtRest n p s r → Holds p s → Holds p r.after
 flushes_hold zero p s r t h = same_holds p r (silent s) t.1 h
 flushes_hold (suc n) p s r t h =
     same_holds p r (followed_by t.1 t.2) t.5 (flushes_hold n p t.1.after t.2 t.4 (turn_holds p s (choice_of s) None t.1 t.3 h))
 
-sync_holds : (b : Bool) (p : Program) (s : State) (r : Stretch) → FlushSync b p s r → Holds p s → Holds p r.after
+sync_holds : (b : Bool) (p : Program) (s : State) (r : Stretch) → FlushSync AnyRender b p s r → Holds p s → Holds p r.after
 sync_holds true p s r t h = turn_holds p s (choice_of s) None r t h
 sync_holds false p s r t h = same_holds p r (silent s) t h
 
 -- Steps
 
-step_holds : (p : Program) (s : State) (x : Step) (r : Stretch) → StepTo p s x r → Holds p s → Holds p r.after
+step_holds : (p : Program) (s : State) (x : Step) (r : Stretch) → StepTo AnyRender p s x r → Holds p s → Holds p r.after
 step_holds p s (step.Dispatch d) r t h =
     same_holds p r _ t (alike_holds p (dispatched_to p s d (instance_found p s.tree (path_of d))).after s (dispatched_tree p s d (instance_found p s.tree (path_of d))) h)
 step_holds p s (step.Resolve name v) r t h =

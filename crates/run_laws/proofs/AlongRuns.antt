@@ -20,7 +20,7 @@ use Rattle.rx_model.specs.Committing.{committed_state, ended, ended_by, passive_
 use Rattle.rx_model.specs.Laws.{Always, IsReached}
 use Rattle.rx_model.specs.State.{Progress, State, hook_number, instance_found, opening}
 use Rattle.rx_model.specs.Stretch.{Stretch, followed_by, silent}
-use Rattle.rx_model.specs.Turns.{Continues, GoesOn, TurnBy, choice_of, gone_on}
+use Rattle.rx_model.specs.Turns.{AnyRender, Continues, GoesOn, TurnBy, choice_of, gone_on}
 use Rattle.rx_queue.specs.Journal.{Target, hook, same_target}
 use Rattle.rx_queue.specs.declared.update.Op.{Op}
 use Rattle.rx_lines.specs.Lines.{Counts}
@@ -87,17 +87,17 @@ module _ (p : Program) (deep : depth_bound p ≤ depth_limit) (declared : ReadsD
           passive_keeps (committed_state s g (numbered s.numbers new)) (lanes_of.has g.lanes lane.Sync)
           (resources_seen (sight_of p s g), g.cut, commit_carries p s.journal s.numbers s.tree g.lanes g.cut new deep declared resources last c r gives_new, tt)
 
-  going_keeps : (s : State) (g : Progress) (budget : Option ℕ) (r : Stretch) → GoesOn p s g budget r
+  going_keeps : (s : State) (g : Progress) (budget : Option ℕ) (r : Stretch) → GoesOn AnyRender p s g budget r
       → (resources : List (Option ℤ)) (last : Cut) → Carries p s.journal s.numbers s.tree resources last → RendersOn p s.journal resources last g.lanes g.cut → IsCarried p r.after
-  going_keeps s g budget r (inl f) resources last c on = same_after (IsCarried p) r (ended s g f.counts f.tree) f.stretch_is (ended_keeps s g f.counts f.tree f.rendered resources last c on)
-  going_keeps s g budget r (inr y) resources last c on =
+  going_keeps s g budget r (inl f, _) resources last c on = same_after (IsCarried p) r (ended s g f.counts f.tree) f.stretch_is (ended_keeps s g f.counts f.tree f.rendered resources last c on)
+  going_keeps s g budget r (inr y, _) resources last c on =
       same_after (IsCarried p) r (record { lines = []; bodies = y.bodies; after = record s { progress = Some (gone_on g y.budget y.bodies) } }) y.stretch_is (resources, last, c, on)
 
-  pub turn_keeps : (s : State) (c : Choice) (budget : Option ℕ) (r : Stretch) → TurnBy p s c budget r → IsCarried p s → IsCarried p r.after
+  pub turn_keeps : (s : State) (c : Choice) (budget : Option ℕ) (r : Stretch) → TurnBy AnyRender p s c budget r → IsCarried p s → IsCarried p r.after
   turn_keeps s choice.None budget r is c = same_after (IsCarried p) r (silent s) is c
   turn_keeps s choice.Keep budget r on c = go s.progress c.3 on
     where
-      go : (x : Option Progress) → IfSome x (λ g. RendersOn p s.journal c.0 c.1 g.lanes g.cut) → Continues p s x budget r → IsCarried p r.after
+      go : (x : Option Progress) → IfSome x (λ g. RendersOn p s.journal c.0 c.1 g.lanes g.cut) → Continues AnyRender p s x budget r → IsCarried p r.after
       go None e h = absurd h
       go (Some g) e h = going_keeps s g budget r h c.0 c.1 c.2 e
   turn_keeps s (choice.Start lanes) budget r starts c =

@@ -29,7 +29,7 @@ use Rattle.rx_model.specs.Kept.{IsSet, NoUpdateIsLost}
 use Rattle.rx_model.specs.Laws.{IsReached}
 use Rattle.rx_model.specs.State.{Progress, State, linked_lanes, opening}
 use Rattle.rx_model.specs.Stretch.{Stretch, followed_by, silent}
-use Rattle.rx_model.specs.Turns.{Continues, GoesOn, TurnBy, choice_of, gone_on}
+use Rattle.rx_model.specs.Turns.{AnyRender, Continues, GoesOn, TurnBy, choice_of, gone_on}
 use Rattle.rx_queue.specs.Journal.{Posted, Resolution, Target, has_later, resolved_by, resolved_now, resolved_since}
 use Rattle.rx_queue.specs.declared.update.Op.{Op}
 use Rattle.rx_lines.specs.Lines.{Counts}
@@ -275,29 +275,29 @@ module _ (p : Program) (deep : depth_bound p ≤ depth_limit) (declared : ReadsD
 
   -- Turns
 
-  going_kept : (s : State) (g : Progress) (budget : Option ℕ) (r : Stretch) → GoesOn p s g budget r
+  going_kept : (s : State) (g : Progress) (budget : Option ℕ) (r : Stretch) → GoesOn AnyRender p s g budget r
       → (resources : List (Option ℤ)) (last : Cut) → Carries p s.journal s.numbers s.tree resources last → RendersOn p s.journal resources last g.lanes g.cut
       → DueIn s.schedule g.lanes → Keeps s → Keeps r.after
-  going_kept s g budget r (inl f) resources last c on due h =
+  going_kept s g budget r (inl f, _) resources last c on due h =
       same_after Keeps r (ended s g f.counts f.tree) f.stretch_is (ended_kept s g f.counts f.tree f.rendered resources last c on due h)
-  going_kept s g budget r (inr y) resources last c on due h =
+  going_kept s g budget r (inr y, _) resources last c on due h =
       same_after Keeps r (record { lines = []; bodies = y.bodies; after = record s { progress = Some (gone_on g y.budget y.bodies) } }) y.stretch_is
       (h.0, h.1, h.2, h.3, h.4, due)
 
   -- a turn, where a render that starts is due
-  turn_by_kept : (s : State) (x : Choice) → ((lanes : Lanes) → x ≡ choice.Start lanes → DueIn s.schedule lanes) → (budget : Option ℕ) (r : Stretch) → TurnBy p s x budget r
+  turn_by_kept : (s : State) (x : Choice) → ((lanes : Lanes) → x ≡ choice.Start lanes → DueIn s.schedule lanes) → (budget : Option ℕ) (r : Stretch) → TurnBy AnyRender p s x budget r
       → IsCarried p s → Keeps s → Keeps r.after
   turn_by_kept s choice.None due budget r is c h = same_after Keeps r (silent s) is h
   turn_by_kept s choice.Keep due budget r on c h = go s.progress c.3 h.5 on
     where
-      go : (x : Option Progress) → IfSome x (λ g. RendersOn p s.journal c.0 c.1 g.lanes g.cut) → IfSome x (λ g. DueIn s.schedule g.lanes) → Continues p s x budget r → Keeps r.after
+      go : (x : Option Progress) → IfSome x (λ g. RendersOn p s.journal c.0 c.1 g.lanes g.cut) → IfSome x (λ g. DueIn s.schedule g.lanes) → Continues AnyRender p s x budget r → Keeps r.after
       go None e d k = absurd k
       go (Some g) e d k = going_kept s g budget r k c.0 c.1 c.2 e d h
   turn_by_kept s (choice.Start lanes) due budget r starts c h =
       same_after Keeps r (followed_by (passive_run s) starts.rest) starts.stretch_is
       (going_kept (passive_run s).after (starting s lanes) budget starts.rest starts.begins c.0 c.1 c.2 (start_renders p s.journal s.numbers s.tree lanes c.0 c.1 c.2) (due lanes refl) h)
 
-  turn_kept : (s : State) (budget : Option ℕ) (r : Stretch) → TurnBy p s (choice_of s) budget r → IsCarried p s → Keeps s → Keeps r.after
+  turn_kept : (s : State) (budget : Option ℕ) (r : Stretch) → TurnBy AnyRender p s (choice_of s) budget r → IsCarried p s → Keeps s → Keeps r.after
   turn_kept s budget r t c h =
       turn_by_kept s (choice_of s) (λ lanes e. start_due s.schedule (option_map (λ g. g.lanes) s.progress) lanes e) budget r t c h
 

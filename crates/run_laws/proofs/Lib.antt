@@ -13,3 +13,4 @@ pub mod KeptRuns
 pub mod KeptFacts
 pub mod QuietEnds
 pub mod IdleLater
+pub mod UnslicedEnds

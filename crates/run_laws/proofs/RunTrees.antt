@@ -23,7 +23,7 @@ use Rattle.rx_model.specs.State.{State, Progress}
 use Rattle.rx_model.specs.Stretch.{Stretch, silent, followed_by}
 use Rattle.rx_model.specs.Accepting.{in_event, dispatched_to, resolved_as}
 use Rattle.rx_model.specs.Committing.{passive_run, starting, sight_of, committed_state, ended_by}
-use Rattle.rx_model.specs.Turns.{GoesOn, Continues, TurnBy, choice_of}
+use Rattle.rx_model.specs.Turns.{AnyRender, GoesOn, Continues, TurnBy, choice_of}
 use Rattle.rx_model.specs.Kept.{TreeIsBounded, RendersAreBounded}
 use Rattle.rx_model.specs.Laws.{IsBounded, IsReached}
 use Rattle.rx_lines.specs.Lines.{Counts}
@@ -75,16 +75,16 @@ ended_holds p s g counts tree (c ∷ cs) gives h = go (only_transitions g.lanes)
 
 -- Turns
 
-going_holds : (p : Program) (s : State) (g : Progress) (budget : Option ℕ) (r : Stretch) → GoesOn p s g budget r → Holds p s → Holds p r.after
-going_holds p s g budget r (inl f) h =
+going_holds : (p : Program) (s : State) (g : Progress) (budget : Option ℕ) (r : Stretch) → GoesOn AnyRender p s g budget r → Holds p s → Holds p r.after
+going_holds p s g budget r (inl f, _) h =
     same_after (Holds p) r _ f.stretch_is (ended_holds p s g f.counts f.tree (newly_hidden s.tree f.tree) f.rendered h)
-going_holds p s g budget r (inr y) h = same_after (Holds p) r _ y.stretch_is h
+going_holds p s g budget r (inr y, _) h = same_after (Holds p) r _ y.stretch_is h
 
-turn_holds : (p : Program) (s : State) (c : Choice) (budget : Option ℕ) (r : Stretch) → TurnBy p s c budget r → Holds p s → Holds p r.after
+turn_holds : (p : Program) (s : State) (c : Choice) (budget : Option ℕ) (r : Stretch) → TurnBy AnyRender p s c budget r → Holds p s → Holds p r.after
 turn_holds p s choice.None budget r is h = same_after (Holds p) r (silent s) is h
 turn_holds p s choice.Keep budget r on h = go s.progress on
   where
-    go : (x : Option Progress) → Continues p s x budget r → Holds p r.after
+    go : (x : Option Progress) → Continues AnyRender p s x budget r → Holds p r.after
     go None k = absurd k
     go (Some g) k = going_holds p s g budget r k h
 turn_holds p s (choice.Start lanes) budget r starts h =

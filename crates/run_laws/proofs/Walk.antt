@@ -17,8 +17,8 @@ use Rattle.rx_model.specs.State.{State, instance_found, opening}
 use Rattle.rx_model.specs.Stretch.{Stretch, followed_by, silent}
 use Rattle.rx_model.specs.Accepting.{between_events, dispatched_to, resolved_as}
 use Rattle.rx_model.specs.Committing.{passive_run}
-use Rattle.rx_model.specs.Turns.{TurnBy, choice_of}
-use Rattle.rx_model.specs.Machine.{FlushSync, Flushes, StepTo}
+use Rattle.rx_model.specs.Turns.{AnyRender, TurnBy, choice_of}
+use Rattle.rx_model.specs.Machine.{IsAtRest, FlushSync, Flushes, StepTo}
 use Rattle.rx_model.specs.Laws.{IsReached, IsReachedBy, MovesTo, without_render}
 
 -- what a fact needs to hold all along: the start has it, and it is kept
@@ -27,7 +27,7 @@ pub record IsKeptAlong (p : Program) (Holds : State → Type 0) : Type 0 where
   pub between : (s : State) → Holds s → Holds (between_events s)
   pub ticks : (s : State) (n : ℕ) → Holds s → Holds (record (between_events s) { now = n })
   pub passive : (s : State) → Holds s → Holds (passive_run s).after
-  pub turns : (s : State) (budget : Option ℕ) (r : Stretch) → TurnBy p s (choice_of s) budget r → Holds s → Holds r.after
+  pub turns : (s : State) (budget : Option ℕ) (r : Stretch) → TurnBy AnyRender p s (choice_of s) budget r → Holds s → Holds r.after
   pub dispatches : (s : State) (d : Dispatch) (x : Option Mounted) → instance_found p s.tree (path_of d) ≡ x → Holds s → Holds (dispatched_to p s d x).after
   pub resolves : (s : State) (name : Name) (v : ℤ) (x : Option ℤ) → Holds s → Holds (resolved_as p s name v x).after
   pub discards : (s : State) → Holds s → Holds (without_render s)
@@ -37,15 +37,15 @@ pub same_after : (Holds : State → Type 0) (r q : Stretch) → r ≡ q → Hold
 same_after Holds r q e h = subst (λ (x : Stretch). Holds x.after) (sym e) h
 
 module _ (p : Program) (Holds : State → Type 0) (kept : IsKeptAlong p Holds) where
-  flushes_keep : (n : ℕ) (s : State) (r : Stretch) → Flushes n p s r → Holds s → Holds r.after
+  flushes_keep : (n : ℕ) (s : State) (r : Stretch) → Flushes AnyRender IsAtRest n p s r → Holds s → Holds r.after
   flushes_keep zero s r t h = same_after Holds r (silent s) t.1 h
   flushes_keep (suc n) s r t h = same_after Holds r (followed_by t.1 t.2) t.5 (flushes_keep n t.1.after t.2 t.4 (kept.turns s None t.1 t.3 h))
 
-  sync_keeps : (b : Bool) (s : State) (r : Stretch) → FlushSync b p s r → Holds s → Holds r.after
+  sync_keeps : (b : Bool) (s : State) (r : Stretch) → FlushSync AnyRender b p s r → Holds s → Holds r.after
   sync_keeps true s r t h = kept.turns s None r t h
   sync_keeps false s r t h = same_after Holds r (silent s) t h
 
-  step_keeps : (s : State) (x : Step) (r : Stretch) → StepTo p s x r → Holds s → Holds r.after
+  step_keeps : (s : State) (x : Step) (r : Stretch) → StepTo AnyRender p s x r → Holds s → Holds r.after
   step_keeps s (step.Dispatch d) r t h = same_after Holds r _ t (kept.dispatches s d (instance_found p s.tree (path_of d)) refl h)
   step_keeps s (step.Resolve name v) r t h =
       same_after Holds r _ t (kept.resolves (between_events s) name v (resolved_now s.journal (resource_number p name)) (kept.between s h))

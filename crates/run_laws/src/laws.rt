@@ -19,9 +19,10 @@ ghost use Rattle.commit_laws.specs.WaitsAgain.{IfWaitsAgain};
 ghost use Rattle.rx_model.specs.State.{State, Progress};
 ghost use Rattle.rx_model.specs.Committing.{sight_of, starting};
 ghost use Rattle.rx_model.specs.Committing as committing;
-ghost use Rattle.rx_model.specs.Turns.{unit_bound, Finishes, Yields, gone_on};
+ghost use Rattle.rx_model.specs.Turns.{AnyRender, unit_bound, Finishes, Yields, gone_on};
 ghost use Rattle.rx_model.specs.Laws.{IsBounded, NodeBound, Always, KeptFacts, QuietLaw};
 ghost use Rattle.run_laws.specs.Carried.{IsCarried, RestsOnSettled};
+ghost use Rattle.run_laws.specs.Unsliced.{UnslicedLaw};
 
 /// Some program is within all bounds: one with a choice of boundaries around keyed leaves, which has twelve nodes at most.
 pub fn premises_are_met()
@@ -88,4 +89,10 @@ pub fn kept_facts()
 /// render with all lanes would give.
 pub fn quiet_ends()
     ensures { (p : Program) → QuietLaw p }
+{}
+
+/// Two runs of a script without sliced work, from the same state, end in the same state and write the same lines but for the
+/// counts: a turn that isn't sliced can only finish, and the tree that it finishes is one.
+pub fn unsliced_runs_end_alike()
+    ensures { (p : Program) → UnslicedLaw AnyRender AnyRender p }
 {}

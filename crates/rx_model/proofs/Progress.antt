@@ -34,8 +34,8 @@ use Rattle.rx_model.specs.State.{State, Progress, opening, instance_found}
 use Rattle.rx_model.specs.Stretch.{Stretch, silent, followed_by}
 use Rattle.rx_model.specs.Accepting.{accepted, dispatched, dispatched_to, dispatched_for, in_event, lane_of, next_update, op_of, target_of, resolved, resolved_as, between_events}
 use Rattle.rx_model.specs.Committing.{passive_run, starting, sight_of, committed_state, ended, ended_by}
-use Rattle.rx_model.specs.Turns.{unit_bound, slice_of, Finishes, Yields, gone_on, Continues, TurnBy, Turn, choice_of}
-use Rattle.rx_model.specs.Machine.{Flushes, Flush, FlushSync, StepTo}
+use Rattle.rx_model.specs.Turns.{AnyRender, unit_bound, slice_of, Finishes, Yields, gone_on, Continues, TurnBy, Turn, choice_of}
+use Rattle.rx_model.specs.Machine.{IsAtRest, Flushes, Flush, FlushSync, StepTo}
 use Rattle.rx_model.specs.Kept.{CanGoOn}
 use Rattle.rx_model.specs.Laws.{NeverWaits, GoesOnFrom}
 use Rattle.rx_model.proofs.LaneSets.{has-first, has-one, length-where-le, length-minus-falls}
@@ -280,7 +280,7 @@ some_going p s g (Some (suc n)) never few left can =
     (ended s g (one_unit_more g) f.0, inl f.1, ended-can p s g (one_unit_more g) (outcome g.lanes s.tree f.0) can)
 
 abbrev SomeTurn : Program → State → Choice → Option ℕ → Type 0
-SomeTurn p s c budget = (r : Stretch) × TurnBy p s c budget r × CanGoOn p r.after
+SomeTurn p s c budget = (r : Stretch) × TurnBy AnyRender p s c budget r × CanGoOn p r.after
 
 -- where a render is to go on, there is one
 keep-some : (s : State) → choice_of s ≡ choice.Keep → s.progress ≡ None → ⊥
@@ -294,11 +294,12 @@ can-passive p s can = record { below = can.below; due = can.due }
 some_turn : (p : Program) (s : State) (budget : Option ℕ) → NeverWaits p → CanGoOn p s → SomeTurn p s (choice_of s) budget
 some_turn p s budget never can = by_choice (choice_of s) refl
   where
-    keep : (x : Option Progress) → s.progress ≡ x → choice_of s ≡ choice.Keep → (r : Stretch) × Continues p s x budget r × CanGoOn p r.after
+    keep : (x : Option Progress) → s.progress ≡ x → choice_of s ≡ choice.Keep → (r : Stretch) × Continues AnyRender p s x budget r × CanGoOn p r.after
     keep None f e = absurd (keep-some s e f)
     keep (Some g) f e =
         let due : (g.bodies ≤ g.units) × (g.units < unit_bound p) = subst (λ (x : Option Progress). IfSome x (λ g. (g.bodies ≤ g.units) × (g.units < unit_bound p))) f can.due in
-        some_going p s g (slice_of s g budget) never due.0 due.1 can
+        let r = some_going p s g (slice_of s g budget) never due.0 due.1 can in
+        (r.0, (r.1, tt), r.2)
 
     by_choice : (c : Choice) → choice_of s ≡ c → SomeTurn p s c budget
     by_choice choice.None e = (silent s, refl, can)
@@ -307,12 +308,12 @@ some_turn p s budget never can = by_choice (choice_of s) refl
         let t : State = (passive_run s).after in
         let g : Progress = starting s lanes in
         let r = some_going p t g (slice_of t g budget) never (omega arith) (omega arith) (can-passive p s can) in
-        (followed_by (passive_run s) r.0, record { rest = r.0; begins = r.1; stretch_is = refl }, r.2)
+        (followed_by (passive_run s) r.0, record { rest = r.0; begins = (r.1, tt); stretch_is = refl }, r.2)
 
 -- ---- a flush
 
 abbrev SomeFlush : ℕ → Program → State → Type 0
-SomeFlush limit p s = (k : ℕ) × (r : Stretch) × (k ≤ limit) × Flushes k p s r × CanGoOn p r.after
+SomeFlush limit p s = (k : ℕ) × (r : Stretch) × (k ≤ limit) × Flushes AnyRender IsAtRest k p s r × CanGoOn p r.after
 
 start-is-some : (c : Choice) (lanes : Lanes) → c ≡ choice.Start lanes → c ≢ choice.None
 start-is-some c lanes e f = absurd (cc)
@@ -323,7 +324,7 @@ keep-is-some c e f = absurd (cc)
 -- a render that starts in a flush, and the state after it
 pub record Started (p : Program) (s : State) (lanes : Lanes) : Type 0 where
   pub whole : Stretch
-  pub turn : TurnBy p s (choice.Start lanes) None whole
+  pub turn : TurnBy AnyRender p s (choice.Start lanes) None whole
   pub can : CanGoOn p whole.after
   pub none : whole.after.progress ≡ None
   pub free_is : free whole.after ≡ minus (free s) lanes
@@ -336,7 +337,7 @@ some_started p s lanes never can =
     let rest : Stretch = ended t g (one_unit_more g) f.0 in
     record {
       whole = followed_by (passive_run s) rest;
-      turn = record { rest = rest; begins = inl f.1; stretch_is = refl };
+      turn = record { rest = rest; begins = (inl f.1, tt); stretch_is = refl };
       can = ended-can p t g (one_unit_more g) (outcome g.lanes t.tree f.0) (can-passive p s can);
       none = ended-none t g (one_unit_more g) (outcome g.lanes t.tree f.0);
       free_is = free-ended t g (one_unit_more g) (outcome g.lanes t.tree f.0) refl can.below;
@@ -357,7 +358,7 @@ flush-from-start limit p s lanes later never can none few e =
       suc rest.0,
       followed_by first.whole rest.1,
       omega (arith, rest.2),
-      (start-is-some (choice_of s) lanes e, first.whole, rest.1, subst (λ (c : Choice). TurnBy p s c None first.whole) (sym e) first.turn, rest.3, refl),
+      (start-is-some (choice_of s) lanes e, first.whole, rest.1, subst (λ (c : Choice). TurnBy AnyRender p s c None first.whole) (sym e) first.turn, rest.3, refl),
       rest.4,
     )
 
@@ -378,13 +379,13 @@ some_flushes (suc limit) p s never can none few = by_choice (some_flushes limit 
     by_choice later (choice.Start lanes) e = flush-from-start limit p s lanes later never can none few e
 
 abbrev SomeStep : Program → State → Step → Type 0
-SomeStep p s x = (r : Stretch) × StepTo p s x r × CanGoOn p r.after
+SomeStep p s x = (r : Stretch) × StepTo AnyRender p s x r × CanGoOn p r.after
 
 abbrev FlushFrom : Program → State → Type 0
-FlushFrom p s = (r : Stretch) × Flush p s r × CanGoOn p r.after
+FlushFrom p s = (r : Stretch) × Flush AnyRender p s r × CanGoOn p r.after
 
 -- a first render, and then those that a flush finishes with none in progress
-flush-after : (p : Program) (s : State) (first : Stretch) → NeverWaits p → choice_of s ≢ choice.None → Turn p s None first → CanGoOn p first.after → first.after.progress ≡ None → FlushFrom p s
+flush-after : (p : Program) (s : State) (first : Stretch) → NeverWaits p → choice_of s ≢ choice.None → Turn AnyRender p s None first → CanGoOn p first.after → first.after.progress ≡ None → FlushFrom p s
 flush-after p s first never some turn can none =
     let rest = some_flushes 20 p first.after never can none (length-where-le _) in
     (followed_by first rest.1, (suc rest.0, omega (arith, rest.2), (some, first, rest.1, turn, rest.3, refl)), rest.4)
@@ -399,7 +400,7 @@ some_flush p s never can = by_choice (choice_of s) refl
         let due : (g.bodies ≤ g.units) × (g.units < unit_bound p) = subst (λ (x : Option Progress). IfSome x (λ g. (g.bodies ≤ g.units) × (g.units < unit_bound p))) f can.due in
         let finish = some_finish p s g None never due.0 due.1 tt in
         let first : Stretch = ended s g (one_unit_more g) finish.0 in
-        let turn : Turn p s None first = subst (λ (c : Choice). TurnBy p s c None first) (sym e) (subst (λ (x : Option Progress). Continues p s x None first) (sym f) (inl finish.1)) in
+        let turn : Turn AnyRender p s None first = subst (λ (c : Choice). TurnBy AnyRender p s c None first) (sym e) (subst (λ (x : Option Progress). Continues AnyRender p s x None first) (sym f) (inl finish.1, tt)) in
         flush-after p s first never (keep-is-some (choice_of s) e) turn
         (ended-can p s g (one_unit_more g) (outcome g.lanes s.tree finish.0) can) (ended-none s g (one_unit_more g) (outcome g.lanes s.tree finish.0))
 
@@ -408,7 +409,7 @@ some_flush p s never can = by_choice (choice_of s) refl
     by_choice choice.Keep e = keep s.progress refl e
     by_choice (choice.Start lanes) e =
         let first : Started p s lanes = some_started p s lanes never can in
-        flush-after p s first.whole never (start-is-some (choice_of s) lanes e) (subst (λ (c : Choice). TurnBy p s c None first.whole) (sym e) first.turn) first.can first.none
+        flush-after p s first.whole never (start-is-some (choice_of s) lanes e) (subst (λ (c : Choice). TurnBy AnyRender p s c None first.whole) (sym e) first.turn) first.can first.none
 
 -- ---- steps
 
@@ -440,7 +441,7 @@ pub resolved-can : (p : Program) (s : State) (name : Name) (x : ℤ) (o : Option
 resolved-can p s name x None can = record { below = can.below; due = can.due }
 resolved-can p s name x (Some y) can = can
 
-sync-step : (b : Bool) (p : Program) (s : State) → NeverWaits p → CanGoOn p s → (r : Stretch) × FlushSync b p s r × CanGoOn p r.after
+sync-step : (b : Bool) (p : Program) (s : State) → NeverWaits p → CanGoOn p s → (r : Stretch) × FlushSync AnyRender b p s r × CanGoOn p r.after
 sync-step true p s never can = some_turn p s None never can
 sync-step false p s never can = (silent s, refl, can)
 

@@ -12,30 +12,31 @@ use Rattle.rx_sched.specs.declared.choice.Choice.{Choice}
 use Rattle.rx_sched.specs.declared.choice.Choice.TheVariants as choice
 use Rattle.rx_queue.specs.Journal.{resolved_now}
 use Rattle.rx_meaning.specs.Outcome.{outcome}
-use Rattle.rx_model.specs.State.{State, Progress, opening, instance_found}
+use Rattle.rx_model.specs.State.{State, Progress, instance_found}
 use Rattle.rx_model.specs.Stretch.{Stretch, silent, followed_by}
 use Rattle.rx_model.specs.Accepting.{between_events}
 use Rattle.rx_model.specs.Committing.{passive_run, starting}
-use Rattle.rx_model.specs.Turns.{unit_bound, GoesOn, Continues, TurnBy, choice_of}
-use Rattle.rx_model.specs.Machine.{Flushes, FlushSync, StepTo}
+use Rattle.rx_model.specs.Turns.{OfRender, AnyRender, unit_bound, GoesOn, Continues, TurnBy, choice_of}
+use Rattle.rx_model.specs.Machine.{IsAtRest, Flushes, FlushSync, StepTo, RunTo}
 use Rattle.rx_model.specs.Kept.{CanGoOn}
 use Rattle.rx_model.specs.Laws.{AppNeverWaits, DiscardsReach, IsReached, IsReachedBy, MovesTo, Progresses, RunsReach, StartIsReached}
+use Rattle.rx_model.proofs.AskingLess.{any-run}
 use Rattle.rx_model.proofs.Progress.{ended-can, can-passive, can-between, dispatched-can, resolved-can, opening_can, goes_on_from}
 
 -- a stretch that is another one ends in a state that can go on, where that does
 same-can : (p : Program) (r q : Stretch) → r ≡ q → CanGoOn p q.after → CanGoOn p r.after
 same-can p r q e can = subst (λ (x : Stretch). CanGoOn p x.after) (sym e) can
 
-going-keeps : (p : Program) (s : State) (g : Progress) (budget : Option ℕ) (r : Stretch) → g.bodies ≤ g.units → GoesOn p s g budget r → CanGoOn p s → CanGoOn p r.after
-going-keeps p s g budget r few (inl f) can = same-can p r _ f.stretch_is (ended-can p s g f.counts (outcome g.lanes s.tree f.tree) can)
-going-keeps p s g budget r few (inr y) can =
+going-keeps : (p : Program) (s : State) (g : Progress) (budget : Option ℕ) (r : Stretch) → g.bodies ≤ g.units → GoesOn AnyRender p s g budget r → CanGoOn p s → CanGoOn p r.after
+going-keeps p s g budget r few (inl f, _) can = same-can p r _ f.stretch_is (ended-can p s g f.counts (outcome g.lanes s.tree f.tree) can)
+going-keeps p s g budget r few (inr y, _) can =
     same-can p r _ y.stretch_is (record { below = can.below; due = (omega (arith, few, y.one_a_unit), y.in_bound) })
 
-turn-keeps : (p : Program) (s : State) (c : Choice) (budget : Option ℕ) (r : Stretch) → TurnBy p s c budget r → CanGoOn p s → CanGoOn p r.after
+turn-keeps : (p : Program) (s : State) (c : Choice) (budget : Option ℕ) (r : Stretch) → TurnBy AnyRender p s c budget r → CanGoOn p s → CanGoOn p r.after
 turn-keeps p s choice.None budget r is can = same-can p r (silent s) is can
 turn-keeps p s choice.Keep budget r on can = go s.progress refl on
   where
-    go : (x : Option Progress) → s.progress ≡ x → Continues p s x budget r → CanGoOn p r.after
+    go : (x : Option Progress) → s.progress ≡ x → Continues AnyRender p s x budget r → CanGoOn p r.after
     go None e h = absurd h
     go (Some g) e h =
         let due : (g.bodies ≤ g.units) × (g.units < unit_bound p) = subst (λ (x : Option Progress). IfSome x (λ g. (g.bodies ≤ g.units) × (g.units < unit_bound p))) e can.due in
@@ -44,16 +45,16 @@ turn-keeps p s (choice.Start lanes) budget r starts can =
     same-can p r (followed_by (passive_run s) starts.rest) starts.stretch_is
     (going-keeps p (passive_run s).after (starting s lanes) budget starts.rest (omega arith) starts.begins (can-passive p s can))
 
-flushes-keep : (n : ℕ) (p : Program) (s : State) (r : Stretch) → Flushes n p s r → CanGoOn p s → CanGoOn p r.after
+flushes-keep : (n : ℕ) (p : Program) (s : State) (r : Stretch) → Flushes AnyRender IsAtRest n p s r → CanGoOn p s → CanGoOn p r.after
 flushes-keep zero p s r h can = same-can p r (silent s) h.1 can
 flushes-keep (suc n) p s r h can =
     same-can p r (followed_by h.1 h.2) h.5 (flushes-keep n p h.1.after h.2 h.4 (turn-keeps p s (choice_of s) None h.1 h.3 can))
 
-sync-keeps : (b : Bool) (p : Program) (s : State) (r : Stretch) → FlushSync b p s r → CanGoOn p s → CanGoOn p r.after
+sync-keeps : (b : Bool) (p : Program) (s : State) (r : Stretch) → FlushSync AnyRender b p s r → CanGoOn p s → CanGoOn p r.after
 sync-keeps true p s r h can = turn-keeps p s (choice_of s) None r h can
 sync-keeps false p s r h can = same-can p r (silent s) h can
 
-step-keeps : (p : Program) (s : State) (x : Step) (r : Stretch) → StepTo p s x r → CanGoOn p s → CanGoOn p r.after
+step-keeps : (p : Program) (s : State) (x : Step) (r : Stretch) → StepTo AnyRender p s x r → CanGoOn p s → CanGoOn p r.after
 step-keeps p s (step.Dispatch d) r h can = same-can p r _ h (dispatched-can p s d (instance_found p s.tree (path_of d)) can)
 step-keeps p s (step.Resolve name v) r h can =
     same-can p r _ h (resolved-can p (between_events s) name v (resolved_now s.journal (resource_number p name)) (can-between p s can))
@@ -83,7 +84,7 @@ pub start-reached : (p : Program) → StartIsReached p
 start-reached p = ([], refl)
 
 -- after a step of a state that can be reached one can be reached
-pub step-reached : (p : Program) (s : State) (x : Step) (r : Stretch) → IsReached p s → StepTo p s x r → IsReached p r.after
+pub step-reached : (p : Program) (s : State) (x : Step) (r : Stretch) → IsReached p s → StepTo AnyRender p s x r → IsReached p r.after
 step-reached p s x r h step = (Some x ∷ h.0, (s, h.1, (r, step, refl)))
 
 -- and so after each run
@@ -91,6 +92,10 @@ pub runs-reach : (p : Program) → RunsReach p
 runs-reach p s h [] r run = subst (λ (q : Stretch). IsReached p q.after) (sym run) h
 runs-reach p s h (x ∷ xs) r run =
     subst (λ (q : Stretch). IsReached p q.after) (sym run.4) (runs-reach p run.0.after (step-reached p s x run.0 h run.2) xs run.1 run.3)
+
+-- whatever is asked of its renders
+pub asked-runs-reach : (Asked : OfRender) (p : Program) (s : State) → IsReached p s → (steps : List Step) (r : Stretch) → RunTo Asked p s steps r → IsReached p r.after
+asked-runs-reach Asked p s h steps r run = runs-reach p s h steps r (any-run Asked p s steps r run)
 
 -- and where a render is discarded
 pub discards-reach : (p : Program) → DiscardsReach p
