@@ -1,5 +1,5 @@
 -- The run of a script that takes one unit more wherever it finishes a render, and yields wherever it may, as a function.
-use Rattle.std.proofs.Common.{◌≡◌, ◌⊎◌, inl, inr, ℕ, zero, suc, ◌+◌, ◌<◌, ◌≤◌, Bool, true, false, cond, List, [], ◌∷◌, ◌++◌, refl, sym, ap, ◌∙◌, subst, arith, Option, Some, None}
+use Rattle.std.proofs.Common.{◌≡◌, ◌⊎◌, inl, inr, ℕ, zero, suc, ◌+◌, ◌≤◌, Bool, true, false, cond, List, [], ◌∷◌, ◌++◌, refl, sym, ◌∙◌, subst, arith, Option, Some, None}
 use Rattle.std.specs.Prelude.{◌&&◌, if◌then◌else◌, IfSome, nat_lt, nat_le, option_map, option_and_then}
 use Rattle.std.proofs.lemmas.Bool.Decides.{nat_tests}
 use Rattle.rx_base.specs.Values.{Text}
@@ -18,8 +18,8 @@ use Rattle.rx_model.specs.State.{State, Progress, opening, state_lines, end_line
 use Rattle.rx_model.specs.Stretch.{Stretch, writes, silent, followed_by}
 use Rattle.rx_model.specs.Accepting.{dispatched, resolved, between_events}
 use Rattle.rx_model.specs.Committing.{passive_run, starting, sight_of, ended}
-use Rattle.rx_model.specs.Turns.{unit_bound, slice_of, Finishes, Yields, gone_on, GoesOn, Continues, TurnBy, Turn, choice_of}
-use Rattle.rx_model.specs.Machine.{Flushes, Flush, FlushSync, StepTo, RunTo, Reports}
+use Rattle.rx_model.specs.Turns.{AnyRender, unit_bound, slice_of, Finishes, Yields, gone_on, Continues, TurnBy, choice_of}
+use Rattle.rx_model.specs.Machine.{IsAtRest, Flushes, FlushSync, StepTo, RunTo}
 use Rattle.machine_examples.specs.Writes.{Writes}
 
 -- ---- what is chosen
@@ -88,7 +88,7 @@ stepped p s step.Event = Some (silent (between_events s))
 stepped p s step.State = Some (writes (state_lines p s) (between_events s))
 stepped p s step.Tree = Some (writes (tree_lines (hosts s.tree)) (between_events s))
 
-abbrev chosen_run : Program → State → List Step → Option Stretch
+abbrev pub chosen_run : Program → State → List Step → Option Stretch
 chosen_run p s [] = Some (silent s)
 chosen_run p s (x ∷ xs) = option_and_then (and_on (λ t. chosen_run p t xs)) (stepped p s x)
 
@@ -140,9 +140,9 @@ going-tells p s g (Some (suc n)) r h = pick (nat_lt (g.units + suc n) (unit_boun
         })
     pick false e h = inl (finished-tells p s g (Some (suc n)) r (omega arith) h)
 
-continued-tells : (p : Program) (s : State) (o : Option Progress) (budget : Option ℕ) (r : Stretch) → continued p s o budget ≡ Some r → Continues p s o budget r
+continued-tells : (p : Program) (s : State) (o : Option Progress) (budget : Option ℕ) (r : Stretch) → continued p s o budget ≡ Some r → Continues AnyRender p s o budget r
 continued-tells p s None budget r h = absurd (cc h)
-continued-tells p s (Some g) budget r h = going-tells p s g (slice_of s g budget) r h
+continued-tells p s (Some g) budget r h = (going-tells p s g (slice_of s g budget) r h, tt)
 
 -- what maps to a stretch came from one
 mapped-tells : (f : Stretch → Stretch) (o : Option Stretch) (r : Stretch) → option_map f o ≡ Some r → (q : Stretch) × (o ≡ Some q) × (r ≡ f q)
@@ -154,17 +154,17 @@ joined-tells : (next : State → Option Stretch) (o : Option Stretch) (r : Stret
 joined-tells next None r h = absurd (cc h)
 joined-tells next (Some first) r h = let m = mapped-tells (followed_by first) (next first.after) r h in (first, m.0, refl, m.1, m.2)
 
-turn-tells : (p : Program) (s : State) (c : Choice) (budget : Option ℕ) (r : Stretch) → turn_by p s c budget ≡ Some r → TurnBy p s c budget r
+turn-tells : (p : Program) (s : State) (c : Choice) (budget : Option ℕ) (r : Stretch) → turn_by p s c budget ≡ Some r → TurnBy AnyRender p s c budget r
 turn-tells p s choice.None budget r h = sym (some_inj _ _ h)
 turn-tells p s choice.Keep budget r h = continued-tells p s s.progress budget r h
 turn-tells p s (choice.Start lanes) budget r h =
     let t : State = (passive_run s).after in
     let g : Progress = starting s lanes in
     let m = mapped-tells (followed_by (passive_run s)) (going p t g (slice_of t g budget)) r h in
-    record { rest = m.0; begins = going-tells p t g (slice_of t g budget) m.0 m.1; stretch_is = m.2 }
+    record { rest = m.0; begins = (going-tells p t g (slice_of t g budget) m.0 m.1, tt); stretch_is = m.2 }
 
 abbrev FlushOf : ℕ → Program → State → Stretch → Type 0
-FlushOf n p s r = (k : ℕ) × (k ≤ n) × Flushes k p s r
+FlushOf n p s r = (k : ℕ) × (k ≤ n) × Flushes AnyRender IsAtRest k p s r
 
 -- one render and the flush behind it
 more : (n : ℕ) (p : Program) (s : State) (next : State → Option Stretch) (c : Choice) (r : Stretch) → choice_of s ≡ c → (c ≡ choice.None → ⊥)
@@ -172,7 +172,7 @@ more : (n : ℕ) (p : Program) (s : State) (next : State → Option Stretch) (c 
 more n p s next c r e some rest h =
     let j = joined-tells next (turn_by p s c None) r h in
     let f = rest j.0.after j.1 j.3 in
-    let first : TurnBy p s (choice_of s) None j.0 = subst (λ (x : Choice). TurnBy p s x None j.0) (sym e) (turn-tells p s c None j.0 j.2) in (
+    let first : TurnBy AnyRender p s (choice_of s) None j.0 = subst (λ (x : Choice). TurnBy AnyRender p s x None j.0) (sym e) (turn-tells p s c None j.0 j.2) in (
       suc f.0,
       omega (arith, f.1),
       (λ none. some (sym e ∙ none), j.0, j.1, first, f.2, j.4),
@@ -196,11 +196,11 @@ flush-tells (suc n) p s r h = by (flush-tells n p) (choice_of s) refl h
     by rest choice.Keep e h = more n p s (flushed n p) choice.Keep r e (λ x. cc) rest h
     by rest (choice.Start lanes) e h = more n p s (flushed n p) (choice.Start lanes) r e (λ x. cc) rest h
 
-sync-tells : (pending : Bool) (p : Program) (s : State) (r : Stretch) → flushed_sync pending p s ≡ Some r → FlushSync pending p s r
+sync-tells : (pending : Bool) (p : Program) (s : State) (r : Stretch) → flushed_sync pending p s ≡ Some r → FlushSync AnyRender pending p s r
 sync-tells true p s r h = turn-tells p s (choice_of s) None r h
 sync-tells false p s r h = sym (some_inj _ _ h)
 
-step-tells : (p : Program) (s : State) (x : Step) (r : Stretch) → stepped p s x ≡ Some r → StepTo p s x r
+step-tells : (p : Program) (s : State) (x : Step) (r : Stretch) → stepped p s x ≡ Some r → StepTo AnyRender p s x r
 step-tells p s (step.Dispatch d) r h = sym (some_inj _ _ h)
 step-tells p s (step.Resolve name x) r h = sym (some_inj _ _ h)
 step-tells p s (step.Tick n) r h = sym (some_inj _ _ h)
@@ -212,11 +212,11 @@ step-tells p s step.Event r h = sym (some_inj _ _ h)
 step-tells p s step.State r h = sym (some_inj _ _ h)
 step-tells p s step.Tree r h = sym (some_inj _ _ h)
 
-run-tells : (p : Program) (s : State) (steps : List Step) (r : Stretch) → chosen_run p s steps ≡ Some r → RunTo p s steps r
+pub run-tells : (p : Program) (s : State) (steps : List Step) (r : Stretch) → chosen_run p s steps ≡ Some r → RunTo AnyRender p s steps r
 run-tells p s [] r h = sym (some_inj _ _ h)
 run-tells p s (x ∷ xs) r h = go (λ t q. run-tells p t xs q)
   where
-    go : ((t : State) (q : Stretch) → chosen_run p t xs ≡ Some q → RunTo p t xs q) → RunTo p s (x ∷ xs) r
+    go : ((t : State) (q : Stretch) → chosen_run p t xs ≡ Some q → RunTo AnyRender p t xs q) → RunTo AnyRender p s (x ∷ xs) r
     go rest =
         let j = joined-tells (λ t. chosen_run p t xs) (stepped p s x) r h in
         (j.0, j.1, step-tells p s x j.0 j.2, rest j.0.after j.1 j.3, j.4)

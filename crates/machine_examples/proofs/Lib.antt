@@ -7,3 +7,4 @@ mod ContextsComputed
 mod SlicesComputed
 mod BoundariesComputed
 mod TransitionsComputed
+mod SyncComputed

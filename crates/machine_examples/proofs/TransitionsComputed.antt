@@ -1,5 +1,5 @@
 -- Each example of `Transitions` by computing the run.
-use Rattle.std.proofs.Common.{false, true, refl}
+use Rattle.std.proofs.Common.{false, refl}
 use Rattle.std.specs.Fmt.{digits}
 use Rattle.rx_base.specs.Awaits.{awaits_where}
 use Rattle.rx_lane.specs.Lanes.{lanes_where}

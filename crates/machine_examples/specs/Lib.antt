@@ -8,3 +8,4 @@ pub mod Contexts
 pub mod Slices
 pub mod Boundaries
 pub mod Transitions
+pub mod Sync

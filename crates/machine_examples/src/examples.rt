@@ -6,6 +6,7 @@ ghost use Rattle.machine_examples.specs.Effects.{ChangeAndRemoval, SyncRunsPassi
 ghost use Rattle.machine_examples.specs.Contexts.{InsideAndOutside, PlacedTwice};
 ghost use Rattle.machine_examples.specs.Slices.{MustFinish, Yields, Interrupted, NotInterrupted, Expired, NotExpired};
 ghost use Rattle.machine_examples.specs.Boundaries.{FirstWait, LaterResolution, ResolvedTwice, WaitingFallback, HiddenHosts, HidingAndShowing};
+ghost use Rattle.machine_examples.specs.Sync.{AllSyncPremises, SyncPremises};
 ghost use Rattle.machine_examples.specs.Transitions.{Owed, Deferred, DeferredThenResolved, NewDeadline, Linked};
 
 /// Mounting, unmounting and the values of expressions (react.dev, Preserving and Resetting State).
@@ -73,4 +74,10 @@ pub fn transitions()
     ensures deferred_then_resolved { DeferredThenResolved }
     ensures new_deadline { NewDeadline }
     ensures linked { Linked }
+{}
+
+/// A script whose runs meet the premises of the law of Sync, so that it speaks of something.
+pub fn sync()
+    ensures premises { SyncPremises }
+    ensures all_sync { AllSyncPremises }
 {}
