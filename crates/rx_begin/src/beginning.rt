@@ -199,6 +199,8 @@ pub fn begin<L: Ledger>(
     ensures few { IfOk result (λ b. (s : Sight) (n : ℕ) (fs : List Frame) (cs : Contexts) (e : elements.Element) (old : Option Node) → IsSceneOf scene.now s → StandsAt tree.old contexts.old (Some at) (at_place (suc n) fs cs e old)
         → (if b.1 then 1 else 0) ≤ next_counts each_body s (at_place (suc n) fs cs e old)) }
     ensures rises { steps.old ≤ steps.new }
+    // However it ends, no second body is counted.
+    ensures at_most_one { steps.new ≤ steps.old + 1 }
     ensures still { (s : Sight) (k : ℕ) (initials : List ℤ) → IsSceneOf scene.now s → GivesValues s (kept_hooks hooks.old) k initials → GivesValues s (kept_hooks hooks.new) k initials }
     ensures states { (st : State) → DoneBefore scene.now.cut st.journal.updates → KeepsAllHooks scene.now.checked.now st (kept_hooks hooks.old) → KeepsAllHooks scene.now.checked.now st (kept_hooks hooks.new) }
 {

@@ -117,6 +117,7 @@ fn body_at<L: Ledger>(
         → option_map (λ d. body_of s.program d (inputs_at s contexts.now props.now kids old)) (component_at s.program component) ≡ Some (body_seen b)) }
     ensures once { OnOk result (steps.new ≡ steps.old + 1) }
     ensures rises { steps.old ≤ steps.new }
+    ensures at_most_one { steps.new ≤ steps.old + 1 }
     ensures still { (s : Sight) (k : ℕ) (initials : List ℤ) → IsSceneOf scene.now s → GivesValues s (kept_hooks hooks.old) k initials → GivesValues s (kept_hooks hooks.new) k initials }
     ensures states { (st : State) → DoneBefore scene.now.cut st.journal.updates → KeepsAllHooks scene.now.checked.now st (kept_hooks hooks.old) → KeepsAllHooks scene.now.checked.now st (kept_hooks hooks.new) }
 {
@@ -306,6 +307,7 @@ pub(crate) fn begin_component<L: Ledger>(
     ensures taken { IfOk result (λ b. is_taken b.0 ≡ true → b.1 ≡ false) }
     ensures exact { IfOk result (λ b. cloned ≡ true → TellsCalm scene.now (kept_hooks hooks.old) contexts.now (option_and_then instance_in (mark_at tree.old.current (old_of tree.old.draft at))) (not b.1)) }
     ensures rises { steps.old ≤ steps.new }
+    ensures at_most_one { steps.new ≤ steps.old + 1 }
     ensures still { (s : Sight) (k : ℕ) (initials : List ℤ) → IsSceneOf scene.now s → GivesValues s (kept_hooks hooks.old) k initials → GivesValues s (kept_hooks hooks.new) k initials }
     ensures states { (st : State) → DoneBefore scene.now.cut st.journal.updates → KeepsAllHooks scene.now.checked.now st (kept_hooks hooks.old) → KeepsAllHooks scene.now.checked.now st (kept_hooks hooks.new) }
 {

@@ -1,5 +1,6 @@
 // What is known of a place's fiber beside the current one, and whether it takes the old children over.
 ghost use Rattle.std.specs.Prelude.{◌≡◌, true, false, Some, ◌⊎◌, IsSome, option_and_then};
+ghost use Rattle.rx_elem.specs.Elements.{same_element};
 ghost use Rattle.rx_elem.specs.Trees.{Node, instance_in};
 ghost use Rattle.rx_ctx.specs.Contexts.{values_at};
 ghost use Rattle.rx_links.specs.Drafts.{old_of};
@@ -23,11 +24,20 @@ ghost use Rattle.rx_begin.specs.Origins.{HasCauseToBegin, TellsSteady};
 use crate::kind::gives_same;
 use rx_causes::{Scene, is_idle, reads_hold};
 use rx_ctx::ContextStack;
+use rx_elem::Element;
 use rx_fiber::{Fiber, Origin, hides};
 use rx_hook_store::HookStore;
 use rx_links::{FiberId, FiberTree};
 
-// Whether the element of a place's fiber is that of the current fiber for which it was made, given again.
+// Whether an element is the current one, given again; for a boundary that is hidden also one that was made anew and is equal
+// (react.dev, Suspense): it is not tried again because what is around it was evaluated.
+fn is_known(element: &Element, current: &Element, hidden: bool) -> bool
+    ensures { result ≡ true → same_element element.now current.now ≡ true }
+{
+    element.is_again(current) || hidden && element.same(current)
+}
+
+// Whether the element of a place's fiber is that of the current fiber for which it was made, given again or known to be equal.
 fn is_again(tree: &FiberTree<Fiber>, at: FiberId) -> bool
     requires { IsBareAt tree.now at }
     ensures { result ≡ true → (v : fibers.Fiber) → Some v ≡ made_value_of tree.now.draft at → IsElementOf tree.now.current (old_of tree.now.draft at) v.element }
@@ -35,7 +45,10 @@ fn is_again(tree: &FiberTree<Fiber>, at: FiberId) -> bool
     tree.place_facts();
     tree.facts();
     match tree.alternate(at) {
-        Some(old) => tree.value(at).element().is_again(tree.value(old).element()),
+        Some(old) => {
+            let hidden = hides(tree.value(old).stage());
+            is_known(tree.value(at).element(), tree.value(old).element(), hidden)
+        }
         None => false,
     }
 }

@@ -45,6 +45,10 @@ pub fn drive<U: Units, L: Ledger>(
 
     ensures given_up { OnErr result (U.gives_up units.old units.new) }
     ensures rises { steps.old ≤ steps.new }
+
+    // However it ends, it counts at most one body for each unit that was left, and for each of its slice.
+    ensures within { steps.new ≤ steps.old + U.left units.old }
+    ensures in_slice { sliced ≡ true → steps.new ≤ steps.old + budget }
 {
     let mut used: u64 = 0;
     'driving: loop {

@@ -33,7 +33,7 @@ pub trait Units {
     /// What holds between a moment of the work and the moment after memory ran out.
     ghost gives_up: { Self → Self → Type 0 };
 
-    /// Does one unit, and counts the body that it evaluates, if it evaluates one.
+    /// Does one unit, and counts the body that it evaluates, if it evaluates one: however it ends, it counts no second one.
     ///
     /// # Errors
     ///
@@ -47,7 +47,8 @@ pub trait Units {
         ensures each { OnOk result (bodies self.new ≤ bodies self.old + 1) }
         ensures onward { OnOk result (goes_on self.old self.new) }
         ensures given_up { OnErr result (gives_up self.old self.new) }
-        ensures rises { steps.old ≤ steps.new };
+        ensures rises { steps.old ≤ steps.new }
+        ensures at_most_one { steps.new ≤ steps.old + 1 };
 
     ghost starts: { (x : Self) → goes_on x x };
 

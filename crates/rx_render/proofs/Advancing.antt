@@ -49,7 +49,7 @@ use Rattle.cost_laws.specs.Left.{Flags, flag, outer}
 use Rattle.cost_laws.specs.Required.{IsUndue}
 use Rattle.flag_laws.specs.Flagged.{FlagsAtEnd, FlagsAtPlace}
 use Rattle.begin_laws.specs.Telling.{TellsIf}
-use Rattle.rx_render.specs.Costing.{CausesAt, HasFlags, Paid, Pays}
+use Rattle.rx_render.specs.Costing.{CausesAt, HasFlags, Paid, UnitPays}
 use Rattle.rx_render.specs.Costing as paying
 use Rattle.rx_render.specs.declared.at.At.{At}
 use Rattle.rx_render.specs.declared.at.At.TheVariants.{Begins, Completes}
@@ -188,7 +188,7 @@ module _ (s : Sight) (t new : Trees Fiber) (st' : Stack) (p n : ℕ) (fs : List 
 module _ (s : Sight) (t new last : Trees Fiber) (st' : Stack) (p n : ℕ) (fs : List Frame) (cs : Contexts) (e : Element) (old : Option Node) (a : Awaits) (us : Flags) (next : At) (linked : IsLinked t.current)
     (h : IsHiddenAgain s t new st' p n fs cs e old a) where
   hidden_pays : (bodies : ℕ) → bodies ≡ 0 → waits_still s old ≡ true
-      → Pays s t.current bodies us (at_place (suc n) fs cs e old) (below_boundary s (flag us) old ∷ us) (open_part n fs (falling e old a) (part cs (fallback_in e ∷ []) (fallback_if old)))
+      → UnitPays s t.current bodies us (at_place (suc n) fs cs e old) (below_boundary s (flag us) old ∷ us) (open_part n fs (falling e old a) (part cs (fallback_in e ∷ []) (fallback_if old)))
   hidden_pays bodies none still =
       let so : waits_still s (Some (node (elements.boundary h.key h.fallback h.given) (of_boundary (Hidden a)) h.kept h.shown)) ≡ true =
       ap (waits_still s) (sym (h.was ∙ ap (λ x. Some (node x (of_boundary (Hidden a)) h.kept h.shown)) h.boundary)) ∙ still
@@ -231,9 +231,9 @@ module _ (s : Sight) (t new : Trees Fiber) (st' : Stack) (p n : ℕ) (fs : List 
       there.undue way (rested h.node (subst (IsOld t.current (old_of t.draft p)) h.was h.old_is)) covered
 
   taken_pays : (way : ℕ → Bool) (kept : ℕ → Option (List Hook)) (us : Flags) (bodies : ℕ) → bodies ≡ 0 → RestsThere s way kept t p → CausesAt s way kept (at_place (suc n) fs cs e old)
-      → Pays s t.current bodies us (at_place (suc n) fs cs e old) us (arrive (suc n) fs (Some h.node))
+      → UnitPays s t.current bodies us (at_place (suc n) fs cs e old) us (arrive (suc n) fs (Some h.node))
   taken_pays way kept us bodies none rested causes =
-      subst (λ o. Pays s t.current bodies us (at_place (suc n) fs cs e o) us (arrive (suc n) fs (Some h.node))) (sym h.was)
+      subst (λ o. UnitPays s t.current bodies us (at_place (suc n) fs cs e o) us (arrive (suc n) fs (Some h.node))) (sym h.was)
       (paying.past_subtree none linked h.stood (subst (IsOld t.current (old_of t.draft p)) h.was h.old_is) h.same h.idle (taken_undue way kept rested causes))
 
 module _ (s : Sight) (way : ℕ → Bool) (kept : ℕ → Option (List Hook)) (t : Trees Fiber) (st : Stack) (new : Trees Fiber) (st' : Stack) (id bodies : ℕ) where

@@ -46,7 +46,7 @@ use Rattle.rx_render.specs.Mounting.{GoesWith}
 use Rattle.rx_render.specs.GivenContexts.{CursorGiven}
 use Rattle.rx_render.specs.Rendering.{Rendering, IfLeft, units_left, left_of, ComesTo, to_place, to_end, to_tree, to_wait}
 use Rattle.rx_render.specs.Renders.{Sees, GivesAll, HasCome, HasCosts, Renders, IsUnderWay, IsRendering}
-use Rattle.rx_render.specs.Turning.{GoesOn, BreaksOff, GivesUp}
+use Rattle.rx_render.specs.Turning.{Proceeds, UnitBreaksOff, GivesUp}
 use Rattle.rx_render.specs.LastUnit.{unit_before, is_over}
 use Rattle.cost_laws.specs.Costs.{Costs}
 use Rattle.cost_laws.specs.Required.{IsUndue, PassesNone}
@@ -209,7 +209,7 @@ module _ (old new : Rendering) (evaluated : ℕ) (step : Stepped old new evaluat
         costs = step_costs p st g (renders_sees p st g old r) r.keeps (renders_give p st g old r) r.current r.settled r.waits r.reads r.covers r.come r.costs;
       }
 
-  pub step_goes_on : GoesOn old new
+  pub step_goes_on : Proceeds old new
   step_goes_on =
       record {
         program = step.program;
@@ -302,17 +302,17 @@ module _ (v : Rendering) (is : IsRendering v) (left : 0 < left_of v) where
 
 -- What a unit leaves, from the value that was opened
 
-units_of : (at : At) (bound units : ℕ) → 0 < units_left at bound units → units_left at bound units ≡ suc bound - units
+units_of : (at : At) (bound units : ℕ) → 0 < units_left at bound units → units_left at bound units ≡ bound - units
 units_of (Begins id) bound units h = refl
 units_of (Completes id) bound units h = refl
 units_of Over bound units h = absurd (omega (arith, h))
 
-units_most : (at : At) (bound units : ℕ) → units_left at bound units ≤ suc bound - units
+units_most : (at : At) (bound units : ℕ) → units_left at bound units ≤ bound - units
 units_most (Begins id) bound units = omega arith
 units_most (Completes id) bound units = omega arith
 units_most Over bound units = omega arith
 
-units_last : (at : At) (bound units : ℕ) → units < bound → MatchUnit (unit_before at) (units_left at bound (suc units) ≡ 0) (0 < units_left at bound (suc units))
+units_last : (at : At) (bound units : ℕ) → IfLeft at (units < bound) → MatchUnit (unit_before at) (units_left at bound units ≡ 0) (0 < units_left at bound units)
 units_last (Begins id) bound units h = omega (arith, h)
 units_last (Completes id) bound units h = omega (arith, h)
 units_last Over bound units h = refl
@@ -337,6 +337,22 @@ stepped inside t hooks st next evaluated same current keeps still advances =
       still = still;
       advances = λ s sees. subst (λ n. Advances s (is_way inside.ways) (kept_hooks inside.hooks) inside.trees inside.contexts inside.at n t st next) (sym same) (advances s sees);
     }
+
+-- a fact that follows where a unit is left
+then_left : (at : At) {A : Type 0} (B : Type 0) → IfLeft at A → (A → IfLeft at B) → IfLeft at B
+then_left (Begins id) B a f = f a
+then_left (Completes id) B a f = f a
+then_left Over B a f = tt
+
+-- where a unit is left of a rendering, fewer were taken than its render may take
+rendering_bounded : (v : Rendering) → IsRendering v → IfLeft v.at (v.units < unit_bound v.program)
+rendering_bounded v is =
+    then_left v.at (v.units < unit_bound v.program) is.under_way
+    (λ way. subst (λ p. IfLeft v.at (v.units < unit_bound p)) way.sees.program (come_bounded way.sight way.tree v (subst IsBounded (sym way.sees.program) is.bounded) way.come))
+
+-- no more units are left of a rendering than its render may take
+pub left_within : (v : Rendering) → left_of v ≤ unit_bound v.program
+left_within v = omega (arith, units_most v.at (unit_bound v.program) v.units)
 
 -- few units are left of a rendering
 pub few_left : (v : Rendering) → IsRendering v → left_of v < 2 ^ 64
@@ -391,20 +407,20 @@ module _ (value inside : Rendering) (same : inside ≡ value) (is : IsRendering 
   -- what broke off
   pub breaks : (new : Rendering) → new.program ≡ inside.program → new.trees.current ≡ inside.trees.current → new.at ≡ Over
       → ((st : State) → DoneBefore inside.cut st.journal.updates → KeepsAllHooks inside.program st (kept_hooks inside.hooks) → KeepsAllHooks inside.program st (kept_hooks new.hooks))
-      → BreaksOff value new
+      → UnitBreaksOff value new
   breaks new program current over keeps =
-      subst (λ v. BreaksOff v new) same
+      subst (λ v. UnitBreaksOff v new) same
       (record { program = program; current = current; keeps = λ st done h. subst (λ p. KeepsAllHooks p st (kept_hooks new.hooks)) (sym program) (keeps st done h); over = over })
 
   module _ (new : Rendering) (evaluated : ℕ) (step : Stepped inside new evaluated) (draws : DrawsOn) where
-    pub steps_on : GoesOn value new
-    steps_on = subst (λ v. GoesOn v new) same (step_goes_on inside new evaluated step draws is.known inside_left)
+    pub steps_on : Proceeds value new
+    steps_on = subst (λ v. Proceeds v new) same (step_goes_on inside new evaluated step draws is.known inside_left)
 
     pub steps_to : IsRendering new
     steps_to = step_rendering inside new evaluated step draws is inside_left
 
-    abbrev left_is : left_of value ≡ suc (unit_bound inside.program) - inside.units
-    left_is = subst (λ v. left_of v ≡ suc (unit_bound inside.program) - inside.units) same (units_of inside.at (unit_bound inside.program) inside.units inside_left)
+    abbrev left_is : left_of value ≡ unit_bound inside.program - inside.units
+    left_is = subst (λ v. left_of v ≡ unit_bound inside.program - inside.units) same (units_of inside.at (unit_bound inside.program) inside.units inside_left)
 
     abbrev new_left : left_of new ≡ units_left new.at (unit_bound inside.program) (suc inside.units)
     new_left = ap (λ p. units_left new.at (unit_bound p) new.units) step.program ∙ ap (units_left new.at (unit_bound inside.program)) step.units
@@ -416,11 +432,11 @@ module _ (value inside : Rendering) (same : inside ≡ value) (is : IsRendering 
         omega (arith, left_is, new_left, a, b)
 
     pub last : (u : work.Unit) → u ≡ unit_before new.at → MatchUnit u (left_of new ≡ 0) (0 < left_of new)
-    last u e = rw (e, new_left) (units_last new.at (unit_bound inside.program) inside.units (unit_below inside is inside_left))
+    last u e = rw e (units_last new.at (unit_bound new.program) new.units (rendering_bounded new steps_to))
 
     pub ticks : (before after : ℕ) → after ≡ before + evaluated → after + value.bodies ≡ before + new.bodies
     ticks before after f = let c : value.bodies ≡ inside.bodies = ap (λ v. v.bodies) (sym same) in omega (arith, f, c, step.bodies)
 
 -- what broke off and is discarded is given up
-pub given_up : (x m n : Rendering) → BreaksOff x m → n ≡ record m { trees = record m.trees { draft = taken shapes.none }; at = Over } → GivesUp x n
+pub given_up : (x m n : Rendering) → UnitBreaksOff x m → n ≡ record m { trees = record m.trees { draft = taken shapes.none }; at = Over } → GivesUp x n
 given_up x m n b e = subst (GivesUp x) (sym e) (record { program = b.program; current = b.current; keeps = b.keeps; idle = record { over = refl; empty = refl } })

@@ -44,7 +44,7 @@ use Rattle.begin_laws.proofs.Costing.{allows, may, new_clear, opens_so, serves, 
 use Rattle.rx_render.specs.declared.at.At.{At}
 use Rattle.rx_render.specs.declared.at.At.TheVariants.{Begins, Completes}
 use Rattle.rx_render.specs.Advancing.{at_after, at_opened}
-use Rattle.rx_render.specs.Costing.{HasFlags, Paid, Pays}
+use Rattle.rx_render.specs.Costing.{HasFlags, Paid, UnitPays}
 use Rattle.rx_render.specs.Costing as paying
 use Rattle.rx_render.proofs.Advancing.{AreFew, PaysOpened, PaysWaiting}
 

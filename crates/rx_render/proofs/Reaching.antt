@@ -41,7 +41,7 @@ use Rattle.cost_laws.specs.Required.{IsUndue, PassesNone, required}
 use Rattle.cost_laws.proofs.CostLaws.{attempt_costs, take_costs, unit_costs}
 use Rattle.cost_laws.proofs.Requiring.{attempt_passes, take_passes, unit_passes}
 use Rattle.cost_laws.proofs.Resting.{nothing_rests}
-use Rattle.rx_render.specs.Costing.{Pays}
+use Rattle.rx_render.specs.Costing.{UnitPays}
 use Rattle.rx_render.specs.Costing as paying
 use Rattle.rx_render.specs.GivenContexts.{given_contexts, CursorGiven}
 use Rattle.rx_render.specs.Advancing.{Goes, by_unit, past_attempt, past_subtree}
@@ -179,7 +179,7 @@ module _ (s : Sight) (tree : Option Node) (current : Shape Fiber) (is : IsTreeOf
   as_many none = omega (arith, none)
 
   -- it is no more than may be evaluated
-  pub pays_few : (c d : Cursor) (us vs : Flags) → Pays s current evaluated us c vs d → Reaches s tree units bodies c → Costs s tree bodies us c → Costs s tree (bodies + evaluated) vs d
+  pub pays_few : (c d : Cursor) (us vs : Flags) → UnitPays s current evaluated us c vs d → Reaches s tree units bodies c → Costs s tree bodies us c → Costs s tree (bodies + evaluated) vs d
   pays_few c _ us _ (paying.by_unit may few least) h costs = unit_costs s tree bodies us c h.goes.stands may costs evaluated few
   pays_few _ _ us _ (paying.past_attempt {n = n} {fs = fs} {cs = cs} {key = key} {f = f} {es = es} {a = a} {ns = ns} {kept = kept} {o = o} none linked stood was unresolved agree still) h costs =
       subst (λ b. Costs s tree b (below_boundary s (flag us) (Some (node (boundary key f es) (of_boundary (Hidden a)) ns kept)) ∷ us)
@@ -191,7 +191,7 @@ module _ (s : Sight) (tree : Option Node) (current : Shape Fiber) (is : IsTreeOf
       (take_costs s tree bodies (suc n) us fs cs e x (renders_at n fs cs x e o same linked stood was idle h) costs)
 
   -- and passes over nothing that has to be
-  pub pays_enough : (c d : Cursor) (us vs : Flags) → Pays s current evaluated us c vs d → Reaches s tree units bodies c → PassesNone s tree bodies c → PassesNone s tree (bodies + evaluated) d
+  pub pays_enough : (c d : Cursor) (us vs : Flags) → UnitPays s current evaluated us c vs d → Reaches s tree units bodies c → PassesNone s tree bodies c → PassesNone s tree (bodies + evaluated) d
   pays_enough c _ us _ (paying.by_unit may few least) h enough = unit_passes s tree bodies evaluated c least enough
   pays_enough _ _ us _ (paying.past_attempt {n = n} {fs = fs} {cs = cs} {key = key} {f = f} {es = es} {a = a} {ns = ns} {kept = kept} {o = o} none linked stood was unresolved agree still) h enough =
       subst (λ b. PassesNone s tree b (open_part n fs (falling (boundary key f es) (Some (node (boundary key f es) (of_boundary (Hidden a)) ns kept)) a) (part cs (f ∷ []) kept))) (as_many none)

@@ -42,20 +42,20 @@ CausesAt s way kept (at_end levels fs o done) = Unit {0}
 CausesAt s way kept (ended p) = Unit {0}
 
 -- What a unit pays that comes from one cursor to another, with these flags before and after: it evaluates what it has to and only what it may, and tries no boundary that is left out. Past an attempt it evaluates nothing, and the boundary waits still; past a subtree it evaluates nothing, and no update of the subtree's instances is due.
-pub data Pays (s : Sight) (current : Shape Fiber) (bodies : ℕ) (us : Flags) : (before : Cursor) → Flags → (after : Cursor) → Type 0 where
-  by_unit : {c : Cursor} → MayGo s us c → bodies ≤ next_allowed s us c → next_required s c ≤ bodies → Pays s current bodies us c (unit_flags s us c) (unit s c)
+pub data UnitPays (s : Sight) (current : Shape Fiber) (bodies : ℕ) (us : Flags) : (before : Cursor) → Flags → (after : Cursor) → Type 0 where
+  by_unit : {c : Cursor} → MayGo s us c → bodies ≤ next_allowed s us c → next_required s c ≤ bodies → UnitPays s current bodies us c (unit_flags s us c) (unit s c)
   past_attempt : {n : ℕ} {fs : List Frame} {cs : Contexts} {key : Key} {f : Element} {es : Elements} {a : Awaits} {ns kept : Forest} {o : Option ℕ}
       → bodies ≡ 0 → IsLinked current → StoodAt current (given_along fs) o → IsOld current o (Some (node (boundary key f es) (of_boundary (Hidden a)) ns kept))
       → AreUnresolved s a → AllValuesAgree (without_lanes s) s ns → waits_still s (Some (node (boundary key f es) (of_boundary (Hidden a)) ns kept)) ≡ true
-      → Pays s current bodies us (at_place (suc n) fs cs (boundary key f es) (Some (node (boundary key f es) (of_boundary (Hidden a)) ns kept)))
+      → UnitPays s current bodies us (at_place (suc n) fs cs (boundary key f es) (Some (node (boundary key f es) (of_boundary (Hidden a)) ns kept)))
       (below_boundary s (flag us) (Some (node (boundary key f es) (of_boundary (Hidden a)) ns kept)) ∷ us)
       (open_part n fs (falling (boundary key f es) (Some (node (boundary key f es) (of_boundary (Hidden a)) ns kept)) a) (part cs (f ∷ []) kept))
   past_subtree : {n : ℕ} {fs : List Frame} {cs : Contexts} {e : Element} {x : Node} {o : Option ℕ}
       → bodies ≡ 0 → IsLinked current → StoodAt current (given_along fs) o ⊎ ReadsHold cs x → IsOld current o (Some x) → element_of x ≡ e → IsIdle s x → ForEach (IsUndue s) x
-      → Pays s current bodies us (at_place (suc n) fs cs e (Some x)) us (arrive (suc n) fs (Some x))
+      → UnitPays s current bodies us (at_place (suc n) fs cs e (Some x)) us (arrive (suc n) fs (Some x))
 
 -- so many bodies are paid where the parts come to a cursor, and these are the flags there
 pub record Paid (s : Sight) (current : Shape Fiber) (bodies : ℕ) (us : Flags) (before : Cursor) (after : Cursor) (t : Trees Fiber) (at : At) : Type 0 where
   pub flags : Flags
   pub are : HasFlags t at flags
-  pub pays : Pays s current bodies us before flags after
+  pub pays : UnitPays s current bodies us before flags after

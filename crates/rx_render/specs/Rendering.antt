@@ -1,5 +1,5 @@
 -- A render in progress, as contracts see it.
-use Rattle.std.specs.Prelude.{◌≡◌, ℕ, suc, ◌-◌, List, ℤ, Option, Some, None}
+use Rattle.std.specs.Prelude.{◌≡◌, ℕ, ◌-◌, List, ℤ, Option, Some, None}
 use Rattle.rx_base.specs.Awaits.{Awaits}
 use Rattle.rx_base.specs.declared.cut.Cut.{Cut}
 use Rattle.rx_lane.specs.Lanes.{Lanes}
@@ -41,8 +41,8 @@ IfLeft Over A = Unit {0}
 
 -- how many units are left at most, of so many in all
 abbrev pub units_left : At → (bound units : ℕ) → ℕ
-units_left (Begins id) bound units = suc bound - units
-units_left (Completes id) bound units = suc bound - units
+units_left (Begins id) bound units = bound - units
+units_left (Completes id) bound units = bound - units
 units_left Over bound units = 0
 
 -- how many units of a render are left at most
@@ -50,7 +50,7 @@ abbrev pub left_of : Rendering → ℕ
 left_of v = units_left v.at (unit_bound v.program) v.units
 
 -- nothing is in progress
-pub record IsIdle (v : Rendering) : Type 0 where
+pub record HasNoRender (v : Rendering) : Type 0 where
   pub over : v.at ≡ Over
   pub empty : v.trees.draft ≡ taken shapes.none
 

@@ -5,7 +5,7 @@ use Rattle.rx_model.specs.State.{State, Progress}
 use Rattle.rx_model.specs.HooksOf.{KeepsAllHooks}
 use Rattle.rx_hook_store.specs.Store.{kept_hooks}
 use Rattle.rx_render.specs.declared.at.At.TheVariants.{Over}
-use Rattle.rx_render.specs.Rendering.{Rendering, IsIdle}
+use Rattle.rx_render.specs.Rendering.{Rendering, HasNoRender}
 use Rattle.rx_render.specs.Renders.{Renders}
 
 -- hooks that stood for a state still do, where what is done lies before the cut
@@ -13,7 +13,7 @@ abbrev pub KeepsHooks : (before after : Rendering) → Type 0
 KeepsHooks x y = (st : State) → DoneBefore x.cut st.journal.updates → KeepsAllHooks x.program st (kept_hooks x.hooks) → KeepsAllHooks y.program st (kept_hooks y.hooks)
 
 -- a rendering goes on: the program, the current tree and what the render sees stay, hooks stand for what they stood for, and a render that was in progress still is
-pub record GoesOn (x y : Rendering) : Type 0 where
+pub record Proceeds (x y : Rendering) : Type 0 where
   pub program : y.program ≡ x.program
   pub current : y.trees.current ≡ x.trees.current
   pub lanes : y.lanes ≡ x.lanes
@@ -23,7 +23,7 @@ pub record GoesOn (x y : Rendering) : Type 0 where
   pub renders : (st : State) (g : Progress) → Renders x.program st g x → Renders y.program st g y
 
 -- a unit breaks off: the program and the current tree stay, hooks stand for what they stood for, and no unit is left
-pub record BreaksOff (x y : Rendering) : Type 0 where
+pub record UnitBreaksOff (x y : Rendering) : Type 0 where
   pub program : y.program ≡ x.program
   pub current : y.trees.current ≡ x.trees.current
   pub keeps : KeepsHooks x y
@@ -34,4 +34,4 @@ pub record GivesUp (x y : Rendering) : Type 0 where
   pub program : y.program ≡ x.program
   pub current : y.trees.current ≡ x.trees.current
   pub keeps : KeepsHooks x y
-  pub idle : IsIdle y
+  pub idle : HasNoRender y

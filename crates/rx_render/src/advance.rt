@@ -121,6 +121,7 @@ fn begin_place<L: Ledger>(
     ensures still { (s : Sight) (k : ℕ) (initials : List ℤ) → IsSceneOf scene.now s → GivesValues s (kept_hooks hooks.old) k initials → GivesValues s (kept_hooks hooks.new) k initials }
     ensures states { (st : State) → DoneBefore scene.now.cut st.journal.updates → KeepsAllHooks scene.now.checked.now st (kept_hooks hooks.old) → KeepsAllHooks scene.now.checked.now st (kept_hooks hooks.new) }
     ensures rises { steps.old ≤ steps.new }
+    ensures at_most_one { steps.new ≤ steps.old + 1 }
 {
     tree.facts();
     let (begun, evaluated) = begin(alloc, tree, id, scene, hooks, contexts, steps)?;
@@ -167,6 +168,7 @@ pub(crate) fn advance<L: Ledger>(
     ensures still { (s : Sight) (k : ℕ) (initials : List ℤ) → IsSceneOf scene.now s → GivesValues s (kept_hooks hooks.old) k initials → GivesValues s (kept_hooks hooks.new) k initials }
     ensures states { (st : State) → DoneBefore scene.now.cut st.journal.updates → KeepsAllHooks scene.now.checked.now st (kept_hooks hooks.old) → KeepsAllHooks scene.now.checked.now st (kept_hooks hooks.new) }
     ensures rises { steps.old ≤ steps.new }
+    ensures at_most_one { steps.new ≤ steps.old + 1 }
 {
     match at {
         At::Begins(id) => begin_place(alloc, tree, id, scene, hooks, contexts, steps),

@@ -22,6 +22,7 @@ ghost use Rattle.cost_laws.specs.Required.{IsUndue};
 ghost use Rattle.rx_ways.specs.Ways.{CoversIf, is_way};
 ghost use Rattle.rx_model.specs.Committing.{committed_state, sight_of, starting};
 ghost use Rattle.rx_model.specs.Laws.{IsBounded};
+ghost use Rattle.rx_model.specs.Turns.{unit_bound};
 ghost use Rattle.rx_model.specs.HooksOf.{KeepsAllHooks};
 ghost use Rattle.rx_fiber.specs.Reading.{IsTreeOf};
 ghost use Rattle.rx_pruned.specs.Besides.{IsBeside};
@@ -35,10 +36,10 @@ ghost use Rattle.rx_settle.specs.Passes.{has_instance};
 ghost use Rattle.rx_settle.specs.Settling.{CanSettle, IsSettlingOf};
 ghost use Rattle.rx_render.specs.declared.at.At.TheVariants.{Over};
 ghost use Rattle.rx_render.specs.LastUnit.{is_over};
-ghost use Rattle.rx_render.specs.Rendering.{IsIdle, IfLeft, left_of};
+ghost use Rattle.rx_render.specs.Rendering.{HasNoRender, IfLeft, left_of};
 ghost use Rattle.rx_render.specs.Renders.{CanStart, GivesAll, IsStartOf, IsUnderWay, LeadsToWork, Renders, with_hooks};
-ghost use Rattle.rx_render.specs.Turning.{GoesOn, GivesUp, BreaksOff};
-ghost use Rattle.rx_render.specs.TurningLaws.{goes_on_same, goes_on_join, gives_up_after};
+ghost use Rattle.rx_render.specs.Turning.{Proceeds, GivesUp, UnitBreaksOff};
+ghost use Rattle.rx_render.specs.TurningLaws.{proceeds_same, proceeds_join, gives_up_after};
 
 use crate::advance::advance;
 use crate::at::{At, is_over, unit_before};
@@ -119,7 +120,7 @@ impl Renderer {
         ensures program { IfOk result (λ r. r.program ≡ checked) }
         ensures current { IfOk result (λ r. r.trees.current ≡ none) }
         ensures hooks { IfOk result (λ r. KeepsAllHooks r.program opening (kept_hooks r.hooks)) }
-        ensures idle { IfOk result (λ r. IsIdle r) }
+        ensures idle { IfOk result (λ r. HasNoRender r) }
     {
         checked.program();
         let contexts = ContextStack::new(alloc, &[])?;
@@ -143,11 +144,12 @@ impl Renderer {
         })
     }
 
-    /// What always holds: the program is accepted, and few units are left.
+    /// What always holds: the program is accepted, and no more units are left than a render may take.
     pub fn facts(&self)
         ensures known { unknowns self.now.program ≡ [] }
         ensures bounded { IsBounded self.now.program }
         ensures few { left_of self.now < 2 ^ 64 }
+        ensures within { left_of self.now ≤ unit_bound self.now.program }
     {
         let _ = &self.units;
     }
@@ -299,7 +301,7 @@ impl Renderer {
 
         // An instance stands on a way only where it, or one below it, has work for this render, or a boundary there is hidden.
         ensures ways { OnOk result ((n : ℕ) → is_way self.new.ways n ≡ true → LeadsToWork lanes cut (kept_hooks self.old.hooks) n (option_copied old.entry)) }
-        ensures idle { OnErr result (IsIdle self.new) }
+        ensures idle { OnErr result (HasNoRender self.new) }
     {
         self.discard();
         let hints = self.find_hints(old, sent)?;
@@ -456,9 +458,10 @@ impl Renderer {
         ensures counts { OnOk result (self.new.units ≡ self.old.units + 1) }
         ensures ticks { OnOk result (steps.new + self.old.bodies ≡ steps.old + self.new.bodies) }
         ensures each { OnOk result (self.new.bodies ≤ self.old.bodies + 1) }
-        ensures onward { OnOk result (GoesOn self.old self.new) }
-        ensures stopped { OnErr result (BreaksOff self.old self.new) }
+        ensures onward { OnOk result (Proceeds self.old self.new) }
+        ensures stopped { OnErr result (UnitBreaksOff self.old self.new) }
         ensures rises { steps.old ≤ steps.new }
+        ensures at_most_one { steps.new ≤ steps.old + 1 }
     {
         cursors_are_drawn();
         let at = self.at;
@@ -494,7 +497,7 @@ impl Units for Renderer {
 
     ghost bodies = { λ v. v.bodies };
 
-    ghost goes_on = { GoesOn };
+    ghost goes_on = { Proceeds };
 
     ghost gives_up = { GivesUp };
 
@@ -508,9 +511,9 @@ impl Units for Renderer {
         }
     }
 
-    ghost starts = { goes_on_same };
+    ghost starts = { proceeds_same };
 
-    ghost joins = { goes_on_join };
+    ghost joins = { proceeds_join };
 
     ghost breaks_off = { gives_up_after };
 }
