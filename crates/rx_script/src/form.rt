@@ -209,10 +209,10 @@ pub(crate) fn read_form(alloc: Global, words: &[&[u8]]) -> Result<Option<Form>, 
 }
 
 /// The greatest time of a tick, and the greatest budget of a turn.
-const GREATEST_COUNT: u64 = 1_000_000;
+pub(crate) const GREATEST_COUNT: u64 = 1_000_000;
 
 /// Whether a number is an integer of 32 bits.
-fn fits_width(value: i64) -> bool
+pub(crate) fn fits_width(value: i64) -> bool
     ensures { result ≡ is_of_width value }
 {
     -(1 << 31) <= value && value < 1 << 31

@@ -1,5 +1,6 @@
 // What the steps of a script name.
 ghost use Rattle.std.specs.Prelude.{◌≡◌};
+ghost use Rattle.rx_step.specs.declared.step.Step.TheVariants as step;
 ghost use Rattle.rx_script.specs.Lines.{has_targets as are_targets_there, hook_at, is_reducer as is_one_of_reducer, is_state as is_one_of_state, is_updater as is_one_of_two, target_from, target_of};
 
 use rx_base::Name;
@@ -73,16 +74,25 @@ fn is_updater(checked: &Checked, name: &Name) -> bool
     }
 }
 
+/// Whether all that a dispatch names is there.
+pub(crate) fn has_dispatch_targets(checked: &Checked, dispatch: &Dispatch) -> bool
+    ensures { result ≡ are_targets_there checked.now (step.Dispatch dispatch.now) }
+{
+    match dispatch {
+        Dispatch::Set(_, path, name, _) => is_state(hook(checked, path, name)),
+        Dispatch::Call(_, path, name, function, _) => {
+            is_state(hook(checked, path, name)) && is_updater(checked, function)
+        }
+        Dispatch::Send(_, path, name, _) => is_reducer(hook(checked, path, name)),
+    }
+}
+
 /// Whether all that a step names is there.
 pub(crate) fn has_targets(checked: &Checked, step: &Step) -> bool
     ensures { result ≡ are_targets_there checked.now step.now }
 {
     match step {
-        Step::Dispatch(Dispatch::Set(_, path, name, _)) => is_state(hook(checked, path, name)),
-        Step::Dispatch(Dispatch::Call(_, path, name, function, _)) => {
-            is_state(hook(checked, path, name)) && is_updater(checked, function)
-        }
-        Step::Dispatch(Dispatch::Send(_, path, name, _)) => is_reducer(hook(checked, path, name)),
+        Step::Dispatch(dispatch) => has_dispatch_targets(checked, dispatch),
         Step::Resolve(name, _) => checked.resource(name.text()).is_some(),
         Step::Tick(_)
         | Step::Work(_)

@@ -1,0 +1,51 @@
+// Whether a step that no line was read for fits a program.
+ghost use Rattle.std.specs.Prelude.{◌≡◌, ◌&&◌};
+ghost use Rattle.rx_step.specs.declared.step.Step.TheVariants as step;
+ghost use Rattle.rx_script.specs.Lines.{has_targets as are_targets_there, in_bounds};
+
+use crate::form::{GREATEST_COUNT, fits_width};
+use crate::path::is_path_in_bounds;
+use crate::targets::{has_dispatch_targets, has_targets};
+use rx_check::Checked;
+use rx_step::{Dispatch, Step};
+
+// Whether the numbers of a dispatch are in their bounds.
+fn is_dispatch_in_bounds(dispatch: &Dispatch) -> bool
+    ensures { result ≡ in_bounds (step.Dispatch dispatch.now) }
+{
+    match dispatch {
+        Dispatch::Set(_, path, _, value)
+        | Dispatch::Call(_, path, _, _, value)
+        | Dispatch::Send(_, path, _, value) => fits_width(value.value()) && is_path_in_bounds(path),
+    }
+}
+
+// Whether the numbers of a step are in their bounds.
+fn is_step_in_bounds(step: &Step) -> bool
+    ensures { result ≡ in_bounds step.now }
+{
+    match step {
+        Step::Dispatch(dispatch) => is_dispatch_in_bounds(dispatch),
+        Step::Resolve(_, value) => fits_width(value.value()),
+        Step::Tick(time) => *time <= GREATEST_COUNT,
+        Step::Work(budget) => 1 <= *budget && *budget <= GREATEST_COUNT,
+        Step::Flush | Step::FlushSync | Step::Passive | Step::Event | Step::State | Step::Tree =>
+            true,
+    }
+}
+
+/// Whether a dispatch is one that a line of a script may be: all that it names is in the program, and its numbers are in
+/// their bounds.
+pub fn dispatch_fits(checked: &Checked, dispatch: &Dispatch) -> bool
+    ensures { result ≡ (are_targets_there checked.now (step.Dispatch dispatch.now) && in_bounds (step.Dispatch dispatch.now)) }
+{
+    has_dispatch_targets(checked, dispatch) && is_dispatch_in_bounds(dispatch)
+}
+
+/// Whether a step is one that a line of a script may be: all that it names is in the program, and its numbers are in their
+/// bounds.
+pub fn step_fits(checked: &Checked, step: &Step) -> bool
+    ensures { result ≡ (are_targets_there checked.now step.now && in_bounds step.now) }
+{
+    has_targets(checked, step) && is_step_in_bounds(step)
+}
