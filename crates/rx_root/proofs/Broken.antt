@@ -19,7 +19,8 @@ use Rattle.rx_model.specs.State.{State, Progress}
 use Rattle.rx_model.specs.Stretch.{Stretch, silent, followed_by}
 use Rattle.rx_model.specs.Committing.{passive_run}
 use Rattle.rx_model.specs.HooksOf.{KeepsAllHooks}
-use Rattle.rx_model.specs.Turns.{choice_of}
+use Rattle.rx_model.specs.Breaking.{FlushBreaksOff, HasBegun, TurnBreaksOff}
+use Rattle.rx_model.specs.Turns.{Turn, choice_of, unit_bound}
 use Rattle.rx_model.specs.Laws.{without_render}
 use Rattle.rx_model.proofs.Reached.{discards-reach}
 use Rattle.rx_fiber.specs.Reading.{IsTreeOf}
@@ -29,13 +30,12 @@ use Rattle.rx_commit.specs.Shown.{Shown, Shows}
 use Rattle.rx_commit.specs.Written.{passive_lines, with_lines}
 use Rattle.rx_render.specs.Rendering.{Rendering}
 use Rattle.rx_render.specs.Renders.{with_hooks}
-use Rattle.rx_render.specs.Turning.{GoesOn, GivesUp, KeepsHooks}
+use Rattle.rx_render.specs.Turning.{Proceeds, GivesUp, KeepsHooks}
 use Rattle.rx_render.specs.TurningLaws.{keeps_join}
 use Rattle.rx_root.specs.Rooted.{Rooted}
-use Rattle.rx_root.specs.Stands.{HasRoomFor, StandsBy, StandsButForRender, StandsWith, Stands}
-use Rattle.rx_root.specs.Paying.{TurnPaid}
-use Rattle.rx_root.specs.Turning.{Breaks, GaveUp, HasBroken, HasRoomForTurns, KeepsShown, LeavesRoom, Takes}
-use Rattle.rx_root.specs.Breaking.{BreaksOff, BreaksOffWithin, HasBegun, TurnBreaksOff}
+use Rattle.rx_root.specs.Stands.{HasRoomFor, StandsBy, StandsButForRender, StandsForSome, StandsWith, Stands}
+use Rattle.rx_root.specs.Paying.{Pays}
+use Rattle.rx_root.specs.Turning.{GaveUp, HasBroken, HasRoomForTurns, KeepsShown, LeavesRoom, Takes}
 use Rattle.rx_root.proofs.TurnLines.{with_none, with_both}
 use Rattle.rx_root.proofs.TurnReached.{reached_passive}
 use Rattle.rx_root.proofs.TurnRoom.{Grows, room_after}
@@ -77,7 +77,7 @@ gave_up_units v w is up =
     }
 
 -- units went on, and then it was given up
-pub gave_up_after : (v m w : Rooted) → m ≡ record v { rendering = m.rendering } → GoesOn v.rendering m.rendering → GaveUp m w → GaveUp v w
+pub gave_up_after : (v m w : Rooted) → m ≡ record v { rendering = m.rendering } → Proceeds v.rendering m.rendering → GaveUp m w → GaveUp v w
 gave_up_after v m w is on up =
     let shown : m.shown ≡ v.shown = ap (λ (z : Rooted). z.shown) is in
     record {
@@ -305,20 +305,16 @@ discarded_stands p s v w h is =
     (subst (λ (sch : Schedule). Stands p (without_render s) (record v { rendering = discarded v.rendering; schedule = sch })) (sym h.schedule)
     (moved_stands p s _ v s.schedule None (discarded v.rendering) h (discards-reach p s h.reached) refl refl h.keeps (record { over = refl; empty = refl })))
 
-begun_bodies : (s : State) (r : Stretch) → HasBegun s r → r.bodies ≡ 0
-begun_bodies s r (inl is) = ap (λ (x : Stretch). x.bodies) is
-begun_bodies s r (inr (lanes, e, is)) = ap (λ (x : Stretch). x.bodies) is
-
 -- so the turn breaks off
 pub turn_breaks : (p : Program) (s : State) (x v : Rooted) (w : Rendering) (log new : Written) (steps counted : ℕ) → v ≡ x → HasBroken p (λ r. (choice_of s ≢ choice.None) × HasBegun s r) x log new
-    → w ≡ discarded v.rendering → steps ≤ counted → Breaks p (TurnBreaksOff s) (record v { rendering = w }) log new steps counted
-turn_breaks p s x v w log new steps counted same h is rises =
+    → w ≡ discarded v.rendering → steps ≤ counted → counted ≤ steps + unit_bound p → Takes p (TurnBreaksOff p s) (record v { rendering = w }) log new steps counted
+turn_breaks p s x v w log new steps counted same h is rises few =
     let b = subst (λ (z : Rooted). HasBroken p (λ r. (choice_of s ≢ choice.None) × HasBegun s r) z log new) (sym same) h in
     record {
-      stretch = record b.stretch { after = without_render b.stretch.after };
-      asked = record { some = b.asked.0; begun = b.stretch; has_begun = b.asked.1; stretch_is = refl };
+      stretch = record b.stretch { bodies = counted - steps; after = without_render b.stretch.after };
+      asked = record { some = b.asked.0; begun = b.stretch; has_begun = b.asked.1; wasted = counted - steps; in_bound = omega (arith, few); stretch_is = refl };
       done = record { stands = discarded_stands p b.stretch.after v w b.stands is; written = b.written };
-      bodies = omega (arith, begun_bodies s b.stretch b.asked.1, rises);
+      bodies = omega (arith, rises);
     }
 
 -- Room
@@ -331,13 +327,13 @@ begun_grows s r (inr (lanes, e, is)) =
     subst (λ (x : Stretch). Grows s (without_render x.after)) (sym is)
     (record { commits = omega arith; instances = omega arith; hosts = omega arith; updates = refl; resolutions = refl })
 
-broken_grows : (s : State) (r : Stretch) → TurnBreaksOff s r → Grows s r.after
-broken_grows s r b = subst (λ (x : Stretch). Grows s x.after) (sym b.stretch_is) (begun_grows s b.begun b.has_begun)
+broken_grows : (p : Program) (s : State) (r : Stretch) → TurnBreaksOff p s r → Grows s r.after
+broken_grows p s r b = subst (λ (x : Stretch). Grows s x.after) (sym b.stretch_is) (begun_grows s b.begun b.has_begun)
 
 -- a turn that breaks off leaves room
-pub broken_leaves : (p : Program) (s : State) (v w : Rooted) (log new : Written) (steps counted : ℕ) → Stands p s v → Breaks p (TurnBreaksOff s) w log new steps counted → LeavesRoom 1 v w
+pub broken_leaves : (p : Program) (s : State) (v w : Rooted) (log new : Written) (steps counted : ℕ) → Stands p s v → Takes p (TurnBreaksOff p s) w log new steps counted → LeavesRoom 1 v w
 broken_leaves p s v w log new steps counted h b =
-    let grows = broken_grows s b.stretch b.asked in
+    let grows = broken_grows p s b.stretch b.asked in
     record {
       room = λ more room.
           let same : 1 + more ≡ suc more = omega arith in
@@ -349,18 +345,18 @@ broken_leaves p s v w log new steps counted h b =
 -- Flushes
 
 -- its first turn breaks off
-pub flush_breaks : (p : Program) (s : State) (limit : ℕ) (w : Rooted) (log new : Written) (steps counted : ℕ) → 1 ≤ limit → Breaks p (TurnBreaksOff s) w log new steps counted
-    → Breaks p (BreaksOffWithin limit p s) w log new steps counted
+pub flush_breaks : (p : Program) (s : State) (limit : ℕ) (w : Rooted) (log new : Written) (steps counted : ℕ) → 1 ≤ limit → Takes p (TurnBreaksOff p s) w log new steps counted
+    → Takes p (FlushBreaksOff Pays limit p s) w log new steps counted
 flush_breaks p s limit w log new steps counted few b =
     record { stretch = b.stretch; asked = (0, omega (arith, few), b.asked); done = b.done; bodies = b.bodies }
 
 flush_breaks_suc : (p : Program) (s : State) (limit : ℕ) (x w : Rooted) (log mid new : Written) (steps between counted : ℕ) → choice_of s ≢ choice.None
-    → (first : Takes p (TurnPaid p s None) x log mid steps between) → Breaks p (BreaksOffWithin limit p first.stretch.after) w mid new between counted
-    → Breaks p (BreaksOffWithin (suc limit) p s) w log new steps counted
+    → (first : Takes p (Turn Pays p s None) x log mid steps between) → Takes p (FlushBreaksOff Pays limit p first.stretch.after) w mid new between counted
+    → Takes p (FlushBreaksOff Pays (suc limit) p s) w log new steps counted
 flush_breaks_suc p s limit x w log mid new steps between counted some first rest =
     record {
       stretch = followed_by first.stretch rest.stretch;
-      asked = (suc rest.asked.0, omega (arith, rest.asked.1), (some, first.stretch, rest.stretch, first.asked.0, rest.asked.2, refl));
+      asked = (suc rest.asked.0, omega (arith, rest.asked.1), (some, first.stretch, rest.stretch, first.asked, rest.asked.2, refl));
       done = record {
         stands = rest.done.stands;
         written = rest.done.written ∙ ap (λ (r : Written). with_lines r rest.stretch.lines) first.done.written ∙ with_both log first.stretch.lines rest.stretch.lines;
@@ -370,48 +366,91 @@ flush_breaks_suc p s limit x w log mid new steps between counted some first rest
 
 -- one that follows does
 pub flush_breaks_later : (limit : ℕ) (p : Program) (s : State) (x w : Rooted) (log mid new : Written) (steps between counted : ℕ) → 1 ≤ limit → choice_of s ≢ choice.None
-    → (first : Takes p (TurnPaid p s None) x log mid steps between) → Breaks p (BreaksOffWithin (limit - 1) p first.stretch.after) w mid new between counted
-    → Breaks p (BreaksOffWithin limit p s) w log new steps counted
+    → (first : Takes p (Turn Pays p s None) x log mid steps between) → Takes p (FlushBreaksOff Pays (limit - 1) p first.stretch.after) w mid new between counted
+    → Takes p (FlushBreaksOff Pays limit p s) w log new steps counted
 flush_breaks_later limit p s x w log mid new steps between counted some_left some first rest =
     let sum : suc (limit - 1) ≡ limit = omega (arith, some_left) in
-    subst (λ (n : ℕ). Breaks p (BreaksOffWithin n p s) w log new steps counted) sum (flush_breaks_suc p s (limit - 1) x w log mid new steps between counted some first rest)
+    subst (λ (n : ℕ). Takes p (FlushBreaksOff Pays n p s) w log new steps counted) sum (flush_breaks_suc p s (limit - 1) x w log mid new steps between counted some first rest)
 
 -- a flush of Sync alone
-pub sync_breaks : (p : Program) (s : State) (w : Rooted) (log new : Written) (steps counted : ℕ) → has s.schedule.pending lane.Sync ≡ true → Breaks p (TurnBreaksOff s) w log new steps counted
-    → Breaks p (λ r. (has s.schedule.pending lane.Sync ≡ true) × TurnBreaksOff s r) w log new steps counted
+pub sync_breaks : (p : Program) (s : State) (w : Rooted) (log new : Written) (steps counted : ℕ) → has s.schedule.pending lane.Sync ≡ true → Takes p (TurnBreaksOff p s) w log new steps counted
+    → Takes p (λ r. (has s.schedule.pending lane.Sync ≡ true) × TurnBreaksOff p s r) w log new steps counted
 sync_breaks p s w log new steps counted e b = record { stretch = b.stretch; asked = (e, b.asked); done = b.done; bodies = b.bodies }
 
 -- Steps
 
--- what a step has done where it breaks off
-abbrev pub Broken : Program → State → Step → Rooted → Written → Written → ℕ → ℕ → Type 0
-Broken p s x w log new steps counted =
-    (r : Stretch) × BreaksOff p s x r × Stands p r.after w × (new ≡ with_lines log r.lines) × (steps + r.bodies ≤ counted)
+-- a root that stands for a state stands for some
+pub for_some : (p : Program) (s : State) (v : Rooted) → Stands p s v → StandsForSome v
+for_some p s v h = (s, subst (λ (q : Program). Stands q s v) (sym h.program) h)
 
-pub broken_as : (p : Program) (s : State) (x y : Step) (w : Rooted) (log new : Written) (steps counted : ℕ) → y ≡ x → Breaks p (BreaksOff p s x) w log new steps counted → Broken p s y w log new steps counted
-broken_as p s x y w log new steps counted e b =
-    subst (λ (z : Step). Broken p s z w log new steps counted) (sym e) (b.stretch, b.asked, b.done.stands, b.done.written, b.bodies)
+-- however a call that renders ends, its root stands for some state
+pub either_some : {T E : Type 0} (r : Result T E) (p : Program) (s : State) (v w : Rooted) (asks breaks : State → Stretch → Type 0) (log new : Written) (steps counted : ℕ) → Stands p s v
+    → OnOk r ((s : State) → Stands p s v → Takes p (asks s) w log new steps counted) → OnErr r ((s : State) → Stands p s v → Takes p (breaks s) w log new steps counted)
+    → StandsForSome w
+either_some (Ok x) p s v w asks breaks log new steps counted h ok err = let t = ok s h in for_some p t.stretch.after w t.done.stands
+either_some (Err e) p s v w asks breaks log new steps counted h ok err = let t = err s h in for_some p t.stretch.after w t.done.stands
 
--- a step that renders nothing
-pub aside_broken : (p : Program) (s : State) (x y : Step) (w : Rooted) (log new : Written) (steps : ℕ) → y ≡ x → BreaksOff p s x (silent s) → Stands p s w → new ≡ log → Broken p s y w log new steps steps
-aside_broken p s x y w log new steps e asked h same =
-    subst (λ (z : Step). Broken p s z w log new steps steps) (sym e) (silent s, asked, h, same ∙ sym (with_none log), omega arith)
-
--- however a step of rendering ends, its program stays
+-- and its program stays
 pub either_program : {T E : Type 0} (r : Result T E) (p : Program) (s : State) (v w : Rooted) (asks breaks : State → Stretch → Type 0) (log new : Written) (steps counted : ℕ) → Stands p s v
-    → OnOk r ((s : State) → Stands p s v → Takes p (asks s) w log new steps counted) → OnErr r ((s : State) → Stands p s v → Breaks p (breaks s) w log new steps counted)
+    → OnOk r ((s : State) → Stands p s v → Takes p (asks s) w log new steps counted) → OnErr r ((s : State) → Stands p s v → Takes p (breaks s) w log new steps counted)
     → w.rendering.program ≡ p
 either_program (Ok x) p s v w asks breaks log new steps counted h ok err = (ok s h).done.stands.program
 either_program (Err e) p s v w asks breaks log new steps counted h ok err = (err s h).done.stands.program
+
+-- the same where a call renders nothing
+pub aside_some : {T E : Type 0} (r : Result T E) (p : Program) (s : State) (v w : Rooted) (asks breaks : State → Stretch → Type 0) (log new : Written) → Stands p s v
+    → OnOk r ((s : State) (n : ℕ) → Stands p s v → Takes p (asks s) w log new n n) → OnErr r ((s : State) (n : ℕ) → Stands p s v → Takes p (breaks s) w log new n n)
+    → StandsForSome w
+aside_some (Ok x) p s v w asks breaks log new h ok err = let t = ok s 0 h in for_some p t.stretch.after w t.done.stands
+aside_some (Err e) p s v w asks breaks log new h ok err = let t = err s 0 h in for_some p t.stretch.after w t.done.stands
+
+pub aside_program : {T E : Type 0} (r : Result T E) (p : Program) (s : State) (v w : Rooted) (asks breaks : State → Stretch → Type 0) (log new : Written) → Stands p s v
+    → OnOk r ((s : State) (n : ℕ) → Stands p s v → Takes p (asks s) w log new n n) → OnErr r ((s : State) (n : ℕ) → Stands p s v → Takes p (breaks s) w log new n n)
+    → w.rendering.program ≡ p
+aside_program (Ok x) p s v w asks breaks log new h ok err = (ok s 0 h).done.stands.program
+aside_program (Err e) p s v w asks breaks log new h ok err = (err s 0 h).done.stands.program
+
+-- a step, whichever it is
+pub step_as : (asks : Step → Stretch → Type 0) (p : Program) (x y : Step) (v : Rooted) (log new : Written) (steps counted : ℕ) → y ≡ x → Takes p (asks x) v log new steps counted → Takes p (asks y) v log new steps counted
+step_as asks p x y v log new steps counted e t = subst (λ (z : Step). Takes p (asks z) v log new steps counted) (sym e) t
+
+-- a step that renders nothing, and does nothing
+pub nothing_taken : (asks : Stretch → Type 0) (p : Program) (s : State) (w : Rooted) (log new : Written) (steps : ℕ) → asks (silent s) → Stands p s w → new ≡ log → Takes p asks w log new steps steps
+nothing_taken asks p s w log new steps asked h same =
+    record { stretch = silent s; asked = asked; done = record { stands = h; written = same ∙ sym (with_none log) }; bodies = omega arith }
 
 -- what holds whichever way a call ends
 pub by_result : {T E : Type 0} (r : Result T E) (A : Type 0) → OnOk r A → OnErr r A → A
 by_result (Ok x) A ok err = ok
 by_result (Err e) A ok err = err
 
--- room for one step more is room without it, where no number changed
-pub room_less : (v w : Rooted) → w.updates ≡ v.updates → w.resolutions ≡ v.resolutions → w.commits ≡ v.commits → w.numbers ≡ v.numbers → (k : ℕ) → HasRoomFor (suc k) v → HasRoomFor k w
-room_less v w updates resolutions commits numbers k h =
+-- room is kept where no number changes
+pub room_same : (v w : Rooted) → w.updates ≡ v.updates → w.resolutions ≡ v.resolutions → w.commits ≡ v.commits → w.numbers ≡ v.numbers → (k : ℕ) → HasRoomFor k v → HasRoomFor k w
+room_same v w updates resolutions commits numbers k h =
+    let instances : w.numbers.instance ≡ v.numbers.instance = ap (λ (m : Numbers). m.instance) numbers in
+    let hosts : w.numbers.host ≡ v.numbers.host = ap (λ (m : Numbers). m.host) numbers in
+    record {
+      updates = omega (arith, updates, h.updates);
+      resolutions = omega (arith, resolutions, h.resolutions);
+      commits = omega (arith, commits, h.commits);
+      instances = omega (arith, instances, h.instances);
+      hosts = omega (arith, hosts, h.hosts);
+    }
+
+-- room for one step more is room without it
+pub room_less : (v : Rooted) (k : ℕ) → HasRoomFor (suc k) v → HasRoomFor k v
+room_less v k h =
+    record {
+      updates = omega (arith, h.updates);
+      resolutions = omega (arith, h.resolutions);
+      commits = omega (arith, h.commits);
+      instances = omega (arith, h.instances);
+      hosts = omega (arith, h.hosts);
+    }
+
+-- one update or one resolution takes the room of one step
+pub room_sent : (v w : Rooted) → w.updates ≤ v.updates + 1 → w.resolutions ≤ v.resolutions + 1 → w.commits ≡ v.commits → w.numbers ≡ v.numbers → (k : ℕ) → HasRoomFor (suc k) v → HasRoomFor k w
+room_sent v w updates resolutions commits numbers k h =
     let instances : w.numbers.instance ≡ v.numbers.instance = ap (λ (m : Numbers). m.instance) numbers in
     let hosts : w.numbers.host ≡ v.numbers.host = ap (λ (m : Numbers). m.host) numbers in
     record {

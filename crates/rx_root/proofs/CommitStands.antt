@@ -30,7 +30,7 @@ use Rattle.rx_commit.specs.Shown.{Shown, Shows}
 use Rattle.rx_commit.specs.Written.{passive_lines, lines_of, with_lines}
 use Rattle.rx_settle.specs.Settling.{IsSettlingOf}
 use Rattle.rx_render.specs.declared.at.At.TheVariants.{Over}
-use Rattle.rx_render.specs.Rendering.{Rendering, IsIdle}
+use Rattle.rx_render.specs.Rendering.{Rendering, HasNoRender}
 use Rattle.rx_render.specs.Renders.{with_hooks}
 use Rattle.rx_root.specs.Rooted.{Rooted}
 use Rattle.rx_root.specs.Stands.{StandsBy, Stands}
@@ -56,7 +56,7 @@ pub record IsCommitted (p : Program) (s : State) (g : Progress) (tree : Node) (w
   pub current : IsTreeOf (Some (numbered s.numbers tree).1) w.trees.current
   pub numbered_all : IsAllNumbered w.trees
   pub keeps : KeepsAllHooks p (committed_state s g (numbered s.numbers tree)) (kept_hooks w.hooks)
-  pub idle : IsIdle w
+  pub idle : HasNoRender w
 
 -- the state after a commit, with these passive effects pending
 committed_with : (p : Program) (s : State) (asks : Rooted → Type 0) (g : Progress) (tree : Node) (passive : Passive) (v : Rooted) (w : Rendering) (shown : Shown)

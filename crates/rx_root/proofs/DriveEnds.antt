@@ -16,7 +16,7 @@ use Rattle.rx_render.specs.declared.at.At.{At}
 use Rattle.rx_render.specs.declared.at.At.TheVariants.{Begins, Completes, Over}
 use Rattle.rx_render.specs.Rendering.{Rendering, IfLeft, units_left, left_of}
 use Rattle.rx_render.specs.Renders.{Renders}
-use Rattle.rx_render.specs.Turning.{GoesOn}
+use Rattle.rx_render.specs.Turning.{Proceeds}
 use Rattle.rx_render.proofs.Later.{renders_as, renders_same}
 use Rattle.rx_render.proofs.Ending.{renders_end, renders_bounded}
 use Rattle.rx_root.specs.Rooted.{Rooted}
@@ -25,7 +25,7 @@ use Rattle.rx_root.specs.Turning.{HasFinished, HasYielded}
 use Rattle.rx_root.proofs.TurnStands.{moved_stands}
 
 -- a render in progress still is
-on_renders : (p : Program) (s : State) (g : Progress) (x y : Rendering) → x.program ≡ p → GoesOn x y → Renders p s g x → Renders p s g y
+on_renders : (p : Program) (s : State) (g : Progress) (x y : Rendering) → x.program ≡ p → Proceeds x y → Renders p s g x → Renders p s g y
 on_renders p s g x y same e h =
     subst (λ (q : Program). Renders q s g y) (e.program ∙ same) (e.renders s g (subst (λ (q : Program). Renders q s g x) (sym same) h))
 
@@ -63,7 +63,7 @@ slice_is (Some n) used is e = ap (λ (k : ℕ). Some k) (sym e)
 -- what the units of a turn leave, and how many bodies were evaluated
 pub record HasGone (p : Program) (s : State) (g : Progress) (v : Rooted) (w : Rendering) (used steps counted : ℕ) : Type 0 where
   pub stands : StandsWith p s (Some g) v
-  pub onward : GoesOn v.rendering w
+  pub onward : Proceeds v.rendering w
   pub units : w.units ≡ v.rendering.units + used
   pub some : 0 < used
   pub each : w.bodies ≤ v.rendering.bodies + used
@@ -198,7 +198,7 @@ pub driven_as : {E : Type 0} (r : Result Driven E) (before v : Rooted) (w : Rend
     → IsBounded v.rendering.program
     → budget ≡ unwrap_or slice 1 → sliced ≡ is_some slice → IfOk r (Ends v.rendering w budget sliced) → IfOk r (λ d. Both d (λ used. w.units ≡ v.rendering.units + used))
     → IfOk r (λ d. Both d (λ used. 0 < used)) → IfOk r (λ d. Both d (λ used. w.bodies ≤ v.rendering.bodies + used))
-    → OnOk r (counted + v.rendering.bodies ≡ steps + w.bodies) → OnOk r (GoesOn v.rendering w) → steps ≤ counted
+    → OnOk r (counted + v.rendering.bodies ≡ steps + w.bodies) → OnOk r (Proceeds v.rendering w) → steps ≤ counted
     → IfOk r (λ d. MatchDriven d
     (λ used. (p : Program) (s : State) (g : Progress) → StandsWith p s (Some g) before → HasFinished p s g slice (record v { rendering = w }) steps counted)
     (λ used. (p : Program) (s : State) (g : Progress) → StandsWith p s (Some g) before → HasYielded p s g slice (record v { rendering = w }) steps counted))

@@ -23,3 +23,4 @@ pub mod StepRoom
 pub mod Broken
 pub mod Live
 pub mod Findable
+pub mod Fitting

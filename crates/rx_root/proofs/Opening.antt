@@ -18,7 +18,7 @@ use Rattle.rx_fiber.specs.Reading.{IsTreeOf, gap, no_more}
 use Rattle.rx_hook_store.specs.Store.{kept_hooks}
 use Rattle.rx_hook_store.specs.Commits.{LinksBelow}
 use Rattle.rx_commit.specs.Shown.{Shown, Shows}
-use Rattle.rx_render.specs.Rendering.{IsIdle, Rendering}
+use Rattle.rx_render.specs.Rendering.{HasNoRender, Rendering}
 use Rattle.rx_root.specs.Rooted.{Rooted}
 use Rattle.rx_root.specs.Stands.{Stands}
 
@@ -56,7 +56,7 @@ opening_root rd shown schedule values later =
 
 -- it stands for the opening state
 pub opening_stands : (p : Program) (rd : Rendering) (shown : Shown) (schedule : Schedule) (values : List (Option ℤ)) (later : Lanes) → rd.program ≡ p → rd.trees.current ≡ none
-    → KeepsAllHooks rd.program opening (kept_hooks rd.hooks) → IsIdle rd → Shows None no_passive shown → schedule ≡ opening_schedule → values ≡ values_now p opening.journal → LinksBelow opening
+    → KeepsAllHooks rd.program opening (kept_hooks rd.hooks) → HasNoRender rd → Shows None no_passive shown → schedule ≡ opening_schedule → values ≡ values_now p opening.journal → LinksBelow opening
     → Stands p opening (opening_root rd shown schedule values later)
 opening_stands p rd shown schedule values later same current keeps idle shows first are below =
     record {

@@ -7,20 +7,10 @@ use Rattle.rx_model.specs.Machine.{flush_limit}
 use Rattle.rx_root.specs.Rooted.{Rooted}
 use Rattle.rx_root.specs.Stands.{HasRoomFor, Stands}
 use Rattle.rx_root.specs.Turning.{HasRoomForTurns, LeavesRoom, StandsBetween}
-use Rattle.rx_root.proofs.Taken.{between_stands}
 
 -- the event has ended
-pub stands_between : (p : Program) (s : State) (v w : Rooted) → Stands p s v → w ≡ record v { event = None } → StandsBetween w
-stands_between p s v w h is =
-    record {
-      program = p;
-      state = between_events s;
-      stands = subst (λ (r : Rooted). Stands p (between_events s) r) (sym is) (between_stands p s v h);
-      between = refl;
-    }
-
-pub after_event : (p : Program) (s : State) (v w : Rooted) → Stands p s v → w ≡ record v { event = None } → Stands p (between_events s) w
-after_event p s v w h is = subst (λ (r : Rooted). Stands p (between_events s) r) (sym is) (between_stands p s v h)
+pub stands_between : (p : Program) (s : State) (w : Rooted) → Stands p (between_events s) w → StandsBetween w
+stands_between p s w h = record { program = p; state = between_events s; stands = h; between = refl }
 
 -- room for a step is room for its turns
 turns_room : (v : Rooted) (n : ℕ) → n ≤ flush_limit → HasRoomFor 1 v → HasRoomForTurns n (record v { event = None })

@@ -16,8 +16,9 @@ use Rattle.rx_model.specs.State.{State, Progress}
 use Rattle.rx_model.specs.Stretch.{Stretch, silent}
 use Rattle.rx_model.specs.Accepting.{between_events}
 use Rattle.rx_model.specs.Committing.{passive_run, starting, committed_state, ended_by}
-use Rattle.rx_model.specs.Turns.{unit_bound, Finishes, GoesOn, Continues, TurnBy, Turn, choice_of}
+use Rattle.rx_model.specs.Turns.{AnyRender, OfRender, unit_bound, Finishes, GoesOn, Continues, TurnBy, Turn, choice_of}
 use Rattle.rx_model.specs.Laws.{IsReached}
+use Rattle.rx_model.proofs.AskingLess.{any-turn}
 use Rattle.rx_model.proofs.Reached.{step-reached}
 
 -- a render that is finished at once is finished in a slice of so many units as a render takes at most
@@ -41,19 +42,19 @@ finishes_within p s g slice r fits f =
     within (Some n) h = omega (arith, h, f.in_bound)
 
 -- so a turn without a budget is one with a budget that no render uses up
-goes_within : (p : Program) (s : State) (g : Progress) (r : Stretch) → GoesOn p s g None r → GoesOn p s g (Some (unit_bound p)) r
-goes_within p s g r (inl f) = inl (by_test (is_sliced s.schedule g.lanes s.now))
+goes_within : (p : Program) (s : State) (g : Progress) (r : Stretch) → GoesOn AnyRender p s g None r → GoesOn AnyRender p s g (Some (unit_bound p)) r
+goes_within p s g r (inl f, asked) = (inl (by_test (is_sliced s.schedule g.lanes s.now)), tt)
   where
     by_test : (b : Bool) → Finishes p s g (cond b (Some (unit_bound p)) None) r
     by_test true = finishes_within p s g (Some (unit_bound p)) r (omega arith) f
     by_test false = f
-goes_within p s g r (inr y) = absurd (let e : None ≡ Some y.budget = y.sliced in cc)
+goes_within p s g r (inr y, asked) = absurd (let e : None ≡ Some y.budget = y.sliced in cc)
 
-continues_within : (p : Program) (s : State) (x : Option Progress) (r : Stretch) → Continues p s x None r → Continues p s x (Some (unit_bound p)) r
+continues_within : (p : Program) (s : State) (x : Option Progress) (r : Stretch) → Continues AnyRender p s x None r → Continues AnyRender p s x (Some (unit_bound p)) r
 continues_within p s None r h = h
 continues_within p s (Some g) r h = goes_within p s g r h
 
-turn_within : (p : Program) (s : State) (c : Choice) (r : Stretch) → TurnBy p s c None r → TurnBy p s c (Some (unit_bound p)) r
+turn_within : (p : Program) (s : State) (c : Choice) (r : Stretch) → TurnBy AnyRender p s c None r → TurnBy AnyRender p s c (Some (unit_bound p)) r
 turn_within p s choice.None r h = h
 turn_within p s choice.Keep r h = continues_within p s s.progress r h
 turn_within p s (choice.Start lanes) r h =
@@ -63,14 +64,14 @@ turn_within p s (choice.Start lanes) r h =
 pub same_between : (s : State) → s.event ≡ None → s ≡ between_events s
 same_between s h = ap (λ (e : Option Lane). record s { event = e }) h
 
-work_reached : (p : Program) (s : State) (budget : Option ℕ) (r : Stretch) → IsReached p s → Turn p (between_events s) budget r → IsReached p r.after
+work_reached : (p : Program) (s : State) (budget : Option ℕ) (r : Stretch) → IsReached p s → Turn AnyRender p (between_events s) budget r → IsReached p r.after
 work_reached p s (Some n) r h t = step-reached p s (step.Work n) r h t
 work_reached p s None r h t =
     step-reached p s (step.Work (unit_bound p)) r h (turn_within p (between_events s) (choice_of (between_events s)) r t)
 
 -- the state after a turn is one that a run comes to, where the state before is
-pub reached_turn : (p : Program) (s : State) (budget : Option ℕ) (r : Stretch) → IsReached p s → s.event ≡ None → Turn p s budget r → IsReached p r.after
-reached_turn p s budget r h none t = work_reached p s budget r h (subst (λ (u : State). Turn p u budget r) (same_between s none) t)
+pub reached_turn : (A : OfRender) (p : Program) (s : State) (budget : Option ℕ) (r : Stretch) → IsReached p s → s.event ≡ None → Turn A p s budget r → IsReached p r.after
+reached_turn A p s budget r h none t = work_reached p s budget r h (subst (λ (u : State). Turn AnyRender p u budget r) (same_between s none) (any-turn A p s budget r t))
 
 -- and so is the state after the pending passive effects ran
 pub reached_passive : (p : Program) (s : State) → IsReached p s → s.event ≡ None → IsReached p (passive_run s).after
@@ -88,20 +89,20 @@ ended_event : (s : State) (g : Progress) (counts : Counts) (o : Outcome) → (en
 ended_event s g counts (commit new) = sync_event (has g.lanes lane.Sync) (committed_state s g (numbered s.numbers new))
 ended_event s g counts (defer waits) = refl
 
-goes_event : (p : Program) (s : State) (g : Progress) (budget : Option ℕ) (r : Stretch) → GoesOn p s g budget r → r.after.event ≡ s.event
-goes_event p s g budget r (inl f) = ap (λ (x : Stretch). x.after.event) f.stretch_is ∙ ended_event s g f.counts (outcome g.lanes s.tree f.tree)
-goes_event p s g budget r (inr y) = ap (λ (x : Stretch). x.after.event) y.stretch_is
+goes_event : (A : OfRender) (p : Program) (s : State) (g : Progress) (budget : Option ℕ) (r : Stretch) → GoesOn A p s g budget r → r.after.event ≡ s.event
+goes_event A p s g budget r (inl f, asked) = ap (λ (x : Stretch). x.after.event) f.stretch_is ∙ ended_event s g f.counts (outcome g.lanes s.tree f.tree)
+goes_event A p s g budget r (inr y, asked) = ap (λ (x : Stretch). x.after.event) y.stretch_is
 
-continues_event : (p : Program) (s : State) (x : Option Progress) (budget : Option ℕ) (r : Stretch) → Continues p s x budget r → r.after.event ≡ s.event
-continues_event p s None budget r h = absurd h
-continues_event p s (Some g) budget r h = goes_event p s g budget r h
+continues_event : (A : OfRender) (p : Program) (s : State) (x : Option Progress) (budget : Option ℕ) (r : Stretch) → Continues A p s x budget r → r.after.event ≡ s.event
+continues_event A p s None budget r h = absurd h
+continues_event A p s (Some g) budget r h = goes_event A p s g budget r h
 
-turn_event_by : (p : Program) (s : State) (c : Choice) (budget : Option ℕ) (r : Stretch) → TurnBy p s c budget r → r.after.event ≡ s.event
-turn_event_by p s choice.None budget r h = ap (λ (x : Stretch). x.after.event) h
-turn_event_by p s choice.Keep budget r h = continues_event p s s.progress budget r h
-turn_event_by p s (choice.Start lanes) budget r h =
-    ap (λ (x : Stretch). x.after.event) h.stretch_is ∙ goes_event p (passive_run s).after (starting s lanes) budget h.rest h.begins
+turn_event_by : (A : OfRender) (p : Program) (s : State) (c : Choice) (budget : Option ℕ) (r : Stretch) → TurnBy A p s c budget r → r.after.event ≡ s.event
+turn_event_by A p s choice.None budget r h = ap (λ (x : Stretch). x.after.event) h
+turn_event_by A p s choice.Keep budget r h = continues_event A p s s.progress budget r h
+turn_event_by A p s (choice.Start lanes) budget r h =
+    ap (λ (x : Stretch). x.after.event) h.stretch_is ∙ goes_event A p (passive_run s).after (starting s lanes) budget h.rest h.begins
 
 -- a turn between two events ends between two events
-pub turn_event : (p : Program) (s : State) (budget : Option ℕ) (r : Stretch) → s.event ≡ None → Turn p s budget r → r.after.event ≡ None
-turn_event p s budget r none t = turn_event_by p s (choice_of s) budget r t ∙ none
+pub turn_event : (A : OfRender) (p : Program) (s : State) (budget : Option ℕ) (r : Stretch) → s.event ≡ None → Turn A p s budget r → r.after.event ≡ None
+turn_event A p s budget r none t = turn_event_by A p s (choice_of s) budget r t ∙ none

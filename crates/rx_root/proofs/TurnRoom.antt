@@ -16,7 +16,7 @@ use Rattle.rx_lines.specs.Lines.{Counts}
 use Rattle.rx_model.specs.State.{State, Progress}
 use Rattle.rx_model.specs.Stretch.{Stretch, silent}
 use Rattle.rx_model.specs.Committing.{passive_run, starting, sight_of, committed_state, schedule_deferred, ended, ended_by}
-use Rattle.rx_model.specs.Turns.{gone_on, GoesOn, Continues, TurnBy, Turn, choice_of}
+use Rattle.rx_model.specs.Turns.{OfRender, gone_on, GoesOn, Continues, TurnBy, Turn, choice_of}
 use Rattle.rx_model.specs.Laws.{IsBounded, IsReached}
 use Rattle.run_laws.proofs.AlongRuns.{commit_is}
 use Rattle.rx_root.specs.Rooted.{Rooted}
@@ -69,25 +69,25 @@ ended_grows p bounded s g counts tree reached gives = go (outcome g.lanes s.tree
 same_grows : (s : State) (r q : Stretch) → r ≡ q → Grows s q.after → Grows s r.after
 same_grows s r q e h = subst (λ (x : Stretch). Grows s x.after) (sym e) h
 
-goes_grows : (p : Program) → IsBounded p → (s : State) (g : Progress) (budget : Option ℕ) (r : Stretch) → IsReached p s → GoesOn p s g budget r → Grows s r.after
-goes_grows p bounded s g budget r reached (inl f) = same_grows s r _ f.stretch_is (ended_grows p bounded s g f.counts f.tree reached f.rendered)
-goes_grows p bounded s g budget r reached (inr y) = same_grows s r _ y.stretch_is (moved_grows s s.schedule (Some (gone_on g y.budget y.bodies)))
+goes_grows : (A : OfRender) (p : Program) → IsBounded p → (s : State) (g : Progress) (budget : Option ℕ) (r : Stretch) → IsReached p s → GoesOn A p s g budget r → Grows s r.after
+goes_grows A p bounded s g budget r reached (inl f, asked) = same_grows s r _ f.stretch_is (ended_grows p bounded s g f.counts f.tree reached f.rendered)
+goes_grows A p bounded s g budget r reached (inr y, asked) = same_grows s r _ y.stretch_is (moved_grows s s.schedule (Some (gone_on g y.budget y.bodies)))
 
-continues_grows : (p : Program) → IsBounded p → (s : State) (x : Option Progress) (budget : Option ℕ) (r : Stretch) → IsReached p s → Continues p s x budget r → Grows s r.after
-continues_grows p bounded s None budget r reached h = absurd h
-continues_grows p bounded s (Some g) budget r reached h = goes_grows p bounded s g budget r reached h
+continues_grows : (A : OfRender) (p : Program) → IsBounded p → (s : State) (x : Option Progress) (budget : Option ℕ) (r : Stretch) → IsReached p s → Continues A p s x budget r → Grows s r.after
+continues_grows A p bounded s None budget r reached h = absurd h
+continues_grows A p bounded s (Some g) budget r reached h = goes_grows A p bounded s g budget r reached h
 
-turn_grows_by : (p : Program) → IsBounded p → (s : State) (c : Choice) (budget : Option ℕ) (r : Stretch) → IsReached p s → IsReached p (passive_run s).after → TurnBy p s c budget r → Grows s r.after
-turn_grows_by p bounded s choice.None budget r reached then h = same_grows s r (silent s) h (none_grows s)
-turn_grows_by p bounded s choice.Keep budget r reached then h = continues_grows p bounded s s.progress budget r reached h
-turn_grows_by p bounded s (choice.Start lanes) budget r reached then h =
-    let on = goes_grows p bounded (passive_run s).after (starting s lanes) budget h.rest then h.begins in
+turn_grows_by : (A : OfRender) (p : Program) → IsBounded p → (s : State) (c : Choice) (budget : Option ℕ) (r : Stretch) → IsReached p s → IsReached p (passive_run s).after → TurnBy A p s c budget r → Grows s r.after
+turn_grows_by A p bounded s choice.None budget r reached then h = same_grows s r (silent s) h (none_grows s)
+turn_grows_by A p bounded s choice.Keep budget r reached then h = continues_grows A p bounded s s.progress budget r reached h
+turn_grows_by A p bounded s (choice.Start lanes) budget r reached then h =
+    let on = goes_grows A p bounded (passive_run s).after (starting s lanes) budget h.rest then h.begins in
     subst (λ (x : Stretch). Grows s x.after) (sym h.stretch_is)
     (record { commits = on.commits; instances = on.instances; hosts = on.hosts; updates = on.updates; resolutions = on.resolutions })
 
 -- so much a turn grows
-pub turn_grows : (p : Program) → IsBounded p → (s : State) (budget : Option ℕ) (r : Stretch) → IsReached p s → IsReached p (passive_run s).after → Turn p s budget r → Grows s r.after
-turn_grows p bounded s budget r reached then h = turn_grows_by p bounded s (choice_of s) budget r reached then h
+pub turn_grows : (A : OfRender) (p : Program) → IsBounded p → (s : State) (budget : Option ℕ) (r : Stretch) → IsReached p s → IsReached p (passive_run s).after → Turn A p s budget r → Grows s r.after
+turn_grows A p bounded s budget r reached then h = turn_grows_by A p bounded s (choice_of s) budget r reached then h
 
 -- and it leaves room for the turns that follow
 pub room_after : (p : Program) (s t : State) (a b : Rooted → Type 0) (v w : Rooted) (turns : ℕ) → StandsBy p s a v → StandsBy p t b w → Grows s t → HasRoomForTurns (suc turns) v → HasRoomForTurns turns w

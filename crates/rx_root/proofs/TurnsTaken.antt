@@ -16,13 +16,14 @@ use Rattle.rx_lines.specs.Lines.{Line, Counts, Written}
 use Rattle.rx_model.specs.State.{State, Progress}
 use Rattle.rx_model.specs.Stretch.{Stretch, silent, followed_by}
 use Rattle.rx_model.specs.Committing.{passive_run, starting, committed_state, bodies_since, ended, ended_by}
-use Rattle.rx_model.specs.Turns.{slice_of, gone_on, GoesOn, Continues, TurnBy, Turn, choice_of}
+use Rattle.rx_model.specs.Turns.{AnyRender, OfRender, slice_of, gone_on, GoesOn, Continues, TurnBy, Turn, choice_of}
+use Rattle.rx_model.specs.Machine.{FlushSync, FlushWithin}
 use Rattle.rx_model.specs.Kept.{IsSet}
 use Rattle.rx_model.specs.Laws.{IsReached}
 use Rattle.rx_commit.specs.Written.{passive_lines, with_lines}
 use Rattle.rx_root.specs.Rooted.{Rooted}
 use Rattle.rx_root.specs.Stands.{StandsWith, Stands}
-use Rattle.rx_root.specs.Paying.{ChoicePays, FlushPaidWithin, FlushSyncPaid, GoesOnPaid, Pays, ProgressPays, TurnPaid}
+use Rattle.rx_root.specs.Paying.{Pays}
 use Rattle.rx_root.specs.Turning.{counts_of, HasDone, Takes, LeadsOn, HasFinished, HasYielded}
 use Rattle.rx_root.proofs.TurnReached.{reached_turn}
 use Rattle.rx_root.proofs.TurnLines.{with_none, with_both}
@@ -75,32 +76,23 @@ start_is_set s lanes e = starts_set s.schedule (first_lanes s.schedule) (option_
 pub stands_some : (p : Program) (s : State) (g : Progress) (v : Rooted) → s.progress ≡ Some g → Stands p s v → StandsWith p s (Some g) v
 stands_some p s g v e h = subst (λ (x : Option Progress). StandsWith p s x v) e h
 
-pub continues_turn : (p : Program) (s : State) (g : Progress) (budget : Option ℕ) (r : Stretch) → choice_of s ≡ choice.Keep → s.progress ≡ Some g → GoesOn p s g budget r → Turn p s budget r
-continues_turn p s g budget r e f h =
-    subst (λ (c : Choice). TurnBy p s c budget r) (sym e) (subst (λ (x : Option Progress). Continues p s x budget r) (sym f) h)
+pub continues_turn : (A : OfRender) (p : Program) (s : State) (g : Progress) (budget : Option ℕ) (r : Stretch) → choice_of s ≡ choice.Keep → s.progress ≡ Some g → GoesOn A p s g budget r → Turn A p s budget r
+continues_turn A p s g budget r e f h =
+    subst (λ (c : Choice). TurnBy A p s c budget r) (sym e) (subst (λ (x : Option Progress). Continues A p s x budget r) (sym f) h)
 
-pub starts_turn : (p : Program) (s : State) (lanes : Lanes) (budget : Option ℕ) (rest : Stretch) → choice_of s ≡ choice.Start lanes
-    → GoesOn p (passive_run s).after (starting s lanes) budget rest → Turn p s budget (followed_by (passive_run s) rest)
-starts_turn p s lanes budget rest e h =
-    subst (λ (c : Choice). TurnBy p s c budget (followed_by (passive_run s) rest)) (sym e) (record { rest = rest; begins = h; stretch_is = refl })
-
-continues_pays : (p : Program) (s : State) (g : Progress) (r : Stretch) → choice_of s ≡ choice.Keep → s.progress ≡ Some g → Pays p s g r → ChoicePays p s (choice_of s) r
-continues_pays p s g r e f h = subst (λ (c : Choice). ChoicePays p s c r) (sym e) (subst (λ (x : Option Progress). ProgressPays p s x r) (sym f) h)
-
-starts_pays : (p : Program) (s : State) (lanes : Lanes) (rest : Stretch) → choice_of s ≡ choice.Start lanes → Pays p (passive_run s).after (starting s lanes) rest
-    → ChoicePays p s (choice_of s) (followed_by (passive_run s) rest)
-starts_pays p s lanes rest e h =
-    let pays : Pays p (passive_run s).after (starting s lanes) (followed_by (passive_run s) rest) = record { few = omega (arith, h.few); enough = λ over. let most = h.enough over in omega (arith, most) } in
-    subst (λ (c : Choice). ChoicePays p s c (followed_by (passive_run s) rest)) (sym e) pays
+pub starts_turn : (A : OfRender) (p : Program) (s : State) (lanes : Lanes) (budget : Option ℕ) (rest : Stretch) → choice_of s ≡ choice.Start lanes
+    → GoesOn A p (passive_run s).after (starting s lanes) budget rest → Turn A p s budget (followed_by (passive_run s) rest)
+starts_turn A p s lanes budget rest e h =
+    subst (λ (c : Choice). TurnBy A p s c budget (followed_by (passive_run s) rest)) (sym e) (record { rest = rest; begins = h; stretch_is = refl })
 
 -- so what a render leads to is reached
 pub keep_leads : (p : Program) (s : State) (g : Progress) (budget : Option ℕ) → IsReached p s → s.event ≡ None → choice_of s ≡ choice.Keep → s.progress ≡ Some g → LeadsOn p s g budget
-keep_leads p s g budget reached none e f r h = reached_turn p s budget r reached none (continues_turn p s g budget r e f h)
+keep_leads p s g budget reached none e f r h = reached_turn AnyRender p s budget r reached none (continues_turn AnyRender p s g budget r e f h)
 
 pub start_leads : (p : Program) (s : State) (lanes : Lanes) (budget : Option ℕ) → IsReached p s → s.event ≡ None → choice_of s ≡ choice.Start lanes
     → LeadsOn p (passive_run s).after (starting s lanes) budget
 start_leads p s lanes budget reached none e r h =
-    reached_turn p s budget (followed_by (passive_run s) r) reached none (starts_turn p s lanes budget r e h)
+    reached_turn AnyRender p s budget (followed_by (passive_run s) r) reached none (starts_turn AnyRender p s lanes budget r e h)
 
 -- A render that goes on
 
@@ -115,7 +107,7 @@ ended_bodies s g counts (commit new) =
 ended_bodies s g counts (defer waits) = refl
 
 pub goes_finished : (p : Program) (s : State) (g : Progress) (budget : Option ℕ) (v w : Rooted) (log new : Written) (steps counted : ℕ)
-    → (h : HasFinished p s g (slice_of s g budget) v steps counted) → HasDone p (ended s g (counts_of v) h.tree) w log new → Takes p (GoesOnPaid p s g budget) w log new steps counted
+    → (h : HasFinished p s g (slice_of s g budget) v steps counted) → HasDone p (ended s g (counts_of v) h.tree) w log new → Takes p (GoesOn Pays p s g budget) w log new steps counted
 goes_finished p s g budget v w log new steps counted h done =
     let since = ended_bodies s g (counts_of v) (outcome g.lanes s.tree h.tree) in
     let pays : Pays p s g (ended s g (counts_of v) h.tree) =
@@ -127,38 +119,38 @@ goes_still : (s : State) (g : Progress) (budget bodies : ℕ) (r : Stretch) → 
 goes_still s g budget bodies r e over = let f : Some (gone_on g budget bodies) ≡ None = sym (ap (λ (x : Stretch). x.after.progress) e) ∙ over in cc
 
 pub goes_yielded : (p : Program) (s : State) (g : Progress) (budget : Option ℕ) (v : Rooted) (log : Written) (steps counted : ℕ) → LeadsOn p s g budget
-    → HasYielded p s g (slice_of s g budget) v steps counted → Takes p (GoesOnPaid p s g budget) v log log steps counted
+    → HasYielded p s g (slice_of s g budget) v steps counted → Takes p (GoesOn Pays p s g budget) v log log steps counted
 goes_yielded p s g budget v log steps counted leads h =
     record {
       stretch = h.stretch;
       asked = (inr h.yields, record { few = h.allowed; enough = λ over. absurd (goes_still s g h.yields.budget h.yields.bodies h.stretch h.yields.stretch_is over) });
-      done = record { stands = h.stands (leads h.stretch (inr h.yields)); written = sym (ap (λ (ls : List Line). with_lines log ls) h.silently ∙ with_none log) };
+      done = record { stands = h.stands (leads h.stretch (inr h.yields, tt)); written = sym (ap (λ (ls : List Line). with_lines log ls) h.silently ∙ with_none log) };
       bodies = h.bodies;
     }
 
 -- A turn
 
-pub takes_none : (p : Program) (s : State) (budget : Option ℕ) (v : Rooted) (log : Written) (steps : ℕ) → Stands p s v → choice_of s ≡ choice.None → Takes p (TurnPaid p s budget) v log log steps steps
+pub takes_none : (p : Program) (s : State) (budget : Option ℕ) (v : Rooted) (log : Written) (steps : ℕ) → Stands p s v → choice_of s ≡ choice.None → Takes p (Turn Pays p s budget) v log log steps steps
 takes_none p s budget v log steps h e =
     record {
       stretch = silent s;
-      asked = (subst (λ (c : Choice). TurnBy p s c budget (silent s)) (sym e) refl, subst (λ (c : Choice). ChoicePays p s c (silent s)) (sym e) tt);
+      asked = subst (λ (c : Choice). TurnBy Pays p s c budget (silent s)) (sym e) refl;
       done = record { stands = h; written = sym (with_none log) };
       bodies = sym (add-zero steps);
     }
 
 pub takes_on : (p : Program) (s : State) (g : Progress) (budget : Option ℕ) (v : Rooted) (log new : Written) (steps counted : ℕ) → choice_of s ≡ choice.Keep → s.progress ≡ Some g
-    → Takes p (GoesOnPaid p s g budget) v log new steps counted → Takes p (TurnPaid p s budget) v log new steps counted
+    → Takes p (GoesOn Pays p s g budget) v log new steps counted → Takes p (Turn Pays p s budget) v log new steps counted
 takes_on p s g budget v log new steps counted e f h =
-    record { stretch = h.stretch; asked = (continues_turn p s g budget h.stretch e f h.asked.0, continues_pays p s g h.stretch e f h.asked.1); done = h.done; bodies = h.bodies }
+    record { stretch = h.stretch; asked = continues_turn Pays p s g budget h.stretch e f h.asked; done = h.done; bodies = h.bodies }
 
 pub takes_start : (p : Program) (s : State) (lanes : Lanes) (budget : Option ℕ) (v : Rooted) (log mid new : Written) (steps counted : ℕ) → choice_of s ≡ choice.Start lanes
-    → mid ≡ with_lines log (passive_lines s.passive) → Takes p (GoesOnPaid p (passive_run s).after (starting s lanes) budget) v mid new steps counted
-    → Takes p (TurnPaid p s budget) v log new steps counted
+    → mid ≡ with_lines log (passive_lines s.passive) → Takes p (GoesOn Pays p (passive_run s).after (starting s lanes) budget) v mid new steps counted
+    → Takes p (Turn Pays p s budget) v log new steps counted
 takes_start p s lanes budget v log mid new steps counted e passive h =
     record {
       stretch = followed_by (passive_run s) h.stretch;
-      asked = (starts_turn p s lanes budget h.stretch e h.asked.0, starts_pays p s lanes h.stretch e h.asked.1);
+      asked = starts_turn Pays p s lanes budget h.stretch e h.asked;
       done = record {
         stands = h.done.stands;
         written = h.done.written ∙ ap (λ (r : Written). with_lines r h.stretch.lines) passive ∙ with_both log (passive_lines s.passive) h.stretch.lines;
@@ -172,7 +164,7 @@ takes_start p s lanes budget v log mid new steps counted e passive h =
 -- A flush
 
 pub flush_none : (p : Program) (s : State) (limit : ℕ) (v : Rooted) (log : Written) (steps : ℕ) → Stands p s v → choice_of s ≡ choice.None
-    → Takes p (FlushPaidWithin limit p s) v log log steps steps
+    → Takes p (FlushWithin Pays limit p s) v log log steps steps
 flush_none p s limit v log steps h e =
     record {
       stretch = silent s;
@@ -182,8 +174,8 @@ flush_none p s limit v log steps h e =
     }
 
 pub flush_more : (p : Program) (s : State) (limit : ℕ) (v w : Rooted) (log mid new : Written) (steps between counted : ℕ) → choice_of s ≢ choice.None
-    → (first : Takes p (TurnPaid p s None) v log mid steps between) → Takes p (FlushPaidWithin limit p first.stretch.after) w mid new between counted
-    → Takes p (FlushPaidWithin (suc limit) p s) w log new steps counted
+    → (first : Takes p (Turn Pays p s None) v log mid steps between) → Takes p (FlushWithin Pays limit p first.stretch.after) w mid new between counted
+    → Takes p (FlushWithin Pays (suc limit) p s) w log new steps counted
 flush_more p s limit v w log mid new steps between counted some first rest =
     record {
       stretch = followed_by first.stretch rest.stretch;
@@ -196,15 +188,15 @@ flush_more p s limit v w log mid new steps between counted some first rest =
     }
 
 pub sync_none : (p : Program) (s : State) (v : Rooted) (log : Written) (steps : ℕ) → Stands p s v → has s.schedule.pending lane.Sync ≡ false
-    → Takes p (FlushSyncPaid (has s.schedule.pending lane.Sync) p s) v log log steps steps
+    → Takes p (FlushSync Pays (has s.schedule.pending lane.Sync) p s) v log log steps steps
 sync_none p s v log steps h e =
-    subst (λ (b : Bool). Takes p (FlushSyncPaid b p s) v log log steps steps) (sym e)
+    subst (λ (b : Bool). Takes p (FlushSync Pays b p s) v log log steps steps) (sym e)
     (record { stretch = silent s; asked = refl; done = record { stands = h; written = sym (with_none log) }; bodies = sym (add-zero steps) })
 
 pub sync_turn : (p : Program) (s : State) (v : Rooted) (log new : Written) (steps counted : ℕ) → has s.schedule.pending lane.Sync ≡ true
-    → Takes p (TurnPaid p s None) v log new steps counted → Takes p (FlushSyncPaid (has s.schedule.pending lane.Sync) p s) v log new steps counted
+    → Takes p (Turn Pays p s None) v log new steps counted → Takes p (FlushSync Pays (has s.schedule.pending lane.Sync) p s) v log new steps counted
 sync_turn p s v log new steps counted e h =
-    subst (λ (b : Bool). Takes p (FlushSyncPaid b p s) v log new steps counted) (sym e)
+    subst (λ (b : Bool). Takes p (FlushSync Pays b p s) v log new steps counted) (sym e)
     (record { stretch = h.stretch; asked = h.asked; done = h.done; bodies = h.bodies })
 
 -- What a call promises on its Ok

@@ -3,4 +3,3 @@ pub mod Stands
 pub mod Turning
 pub mod Taking
 pub mod Paying
-pub mod Breaking

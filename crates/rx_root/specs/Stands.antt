@@ -17,7 +17,7 @@ use Rattle.rx_read.specs.Numbering.{IsAllNumbered}
 use Rattle.rx_hook_store.specs.Store.{kept_hooks}
 use Rattle.rx_hook_store.specs.Commits.{LinksBelow}
 use Rattle.rx_commit.specs.Shown.{Shows}
-use Rattle.rx_render.specs.Rendering.{IsIdle, IfLeft}
+use Rattle.rx_render.specs.Rendering.{HasNoRender, IfLeft}
 use Rattle.rx_render.specs.Renders.{Renders}
 use Rattle.rx_root.specs.Rooted.{Rooted}
 
@@ -33,7 +33,7 @@ pub record GoesOnWith (p : Program) (s : State) (g : Progress) (v : Rooted) : Ty
 
 -- a root has the render that the machine has in progress, if there is one
 abbrev pub HasProgress : Program → State → Option Progress → Rooted → Type 0
-HasProgress p s None v = IsIdle v.rendering
+HasProgress p s None v = HasNoRender v.rendering
 HasProgress p s (Some g) v = GoesOnWith p s g v
 
 -- only resources of the program have values
@@ -67,6 +67,10 @@ StandsWith p s progress v = StandsBy p s (HasProgress p s progress) v
 -- a root stands for a state of the machine that a run comes to, with its render
 abbrev pub Stands : Program → State → Rooted → Type 0
 Stands p s v = StandsWith p s s.progress v
+
+-- a root stands for some state of the machine
+abbrev pub StandsForSome : Rooted → Type 0
+StandsForSome v = (s : State) × Stands v.rendering.program s v
 
 -- A root stands for a state of the machine that a run comes to, but for its render: one that was in progress is given up.
 abbrev pub StandsButForRender : Program → State → Rooted → Type 0

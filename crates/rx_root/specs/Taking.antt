@@ -10,7 +10,6 @@ use Rattle.rx_step.specs.declared.step.Dispatch.{Dispatch}
 use Rattle.rx_step.specs.declared.step.LaneWord.{LaneWord}
 use Rattle.rx_step.specs.declared.step.LaneWord.TheVariants as word
 use Rattle.rx_step.specs.declared.step.Step.{Step}
-use Rattle.rx_step.specs.declared.step.Step.TheVariants as step
 use Rattle.rx_step.specs.Steps.{hook_name, path_of}
 use Rattle.rx_script.specs.Lines.{has_targets, in_bounds}
 use Rattle.rx_model.specs.State.{State, hook_number, instance_found}
@@ -25,19 +24,6 @@ CanTake p x = (has_targets p x ≡ true) × (in_bounds x ≡ true)
 -- each of the steps can be taken
 abbrev pub AllCanTake : Program → List Step → Type 0
 AllCanTake p steps = AllByRecursion (CanTake p) steps
-
--- a step renders nothing
-abbrev pub IsAside : Step → Type 0
-IsAside (step.Dispatch d) = Unit {0}
-IsAside (step.Resolve name x) = Unit {0}
-IsAside (step.Tick n) = Unit {0}
-IsAside (step.Work n) = ⊥
-IsAside step.Flush = ⊥
-IsAside step.FlushSync = ⊥
-IsAside step.Passive = Unit {0}
-IsAside step.Event = Unit {0}
-IsAside step.State = Unit {0}
-IsAside step.Tree = Unit {0}
 
 -- ---- dispatches
 

@@ -19,8 +19,8 @@ use Rattle.rx_lines.specs.Lines.{Counts, Written}
 use Rattle.rx_model.specs.State.{State, Progress}
 use Rattle.rx_model.specs.Stretch.{Stretch}
 use Rattle.rx_model.specs.Committing.{sight_of, bodies_since, ended}
-use Rattle.rx_model.specs.Turns.{Finishes, Yields, GoesOn}
-use Rattle.rx_model.specs.Machine.{Flushes}
+use Rattle.rx_model.specs.Turns.{AnyRender, Finishes, Yields, GoesOn}
+use Rattle.rx_model.specs.Machine.{FlushWithin}
 use Rattle.rx_model.specs.Kept.{IsSet}
 use Rattle.rx_model.specs.Laws.{IsReached}
 use Rattle.run_laws.specs.Carried.{values_now}
@@ -120,7 +120,7 @@ pub record Takes (p : Program) (asks : Stretch → Type 0) (v : Rooted) (log new
 
 -- each stretch in which a render goes on ends in a state that a run comes to
 abbrev pub LeadsOn : Program → State → Progress → (budget : Option ℕ) → Type 0
-LeadsOn p s g budget = (r : Stretch) → GoesOn p s g budget r → IsReached p r.after
+LeadsOn p s g budget = (r : Stretch) → GoesOn AnyRender p s g budget r → IsReached p r.after
 
 -- the passive effects that a commit leaves pending: none, where it has the lane Sync
 abbrev pub passive_left : Lanes → Passive → Passive
@@ -177,7 +177,7 @@ pub record CanShow (tree : Node) (v : Shown) : Type 0 where
 
 -- so many renders at most are left to finish until nothing is to be rendered
 abbrev pub CanFlush : (limit : ℕ) → Program → State → Type 0
-CanFlush limit p s = (n : ℕ) × (n ≤ limit) × (r : Stretch) × Flushes n p s r
+CanFlush limit p s = (r : Stretch) × FlushWithin AnyRender limit p s r
 
 -- it stands for some state between two events, from which so many renders at most are left to finish
 pub record FlushesFrom (limit : ℕ) (v : Rooted) : Type 0 where
@@ -218,10 +218,3 @@ pub record HasBroken (p : Program) (asks : Stretch → Type 0) (v : Rooted) (log
   pub asked : asks stretch
   pub stands : StandsButForRender p stretch.after v
   pub written : new ≡ with_lines log stretch.lines
-
--- A stretch of which this holds is all that was done: the root stands for the state after it, its lines are written, and no more bodies belong to it than were counted.
-pub record Breaks (p : Program) (asks : Stretch → Type 0) (v : Rooted) (log new : Written) (steps counted : ℕ) : Type 0 where
-  pub stretch : Stretch
-  pub asked : asks stretch
-  pub done : HasDone p stretch v log new
-  pub bodies : steps + stretch.bodies ≤ counted

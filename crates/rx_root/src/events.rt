@@ -1,27 +1,28 @@
-// What happens outside of renders: dispatches, resolutions, the clock, passive effects, and what is printed.
-ghost use Rattle.std.specs.Prelude.{◌≡◌, ◌+◌, ◌<◌, ◌≤◌, ◌^◌, ℕ, true, Some, None, IsSomeAnd, IsTrue, OnErr, OnOk, bytes_eq, is_some, length, position, slice_get, slice_set};
+// Events, and what they send.
+ghost use Rattle.std.specs.Prelude.{◌≡◌, ◌+◌, ◌<◌, ◌≤◌, ◌^◌, ◌↔◌, ℕ, ℤ, suc, true, Some, None, IfOk, IsErrOf, IsSomeAnd, IsTrue, OnErr, OnOk, bytes_eq, is_some, length, position, slice_get, slice_set};
 ghost use Rattle.rx_lane.specs.Lanes.{is_transition};
 ghost use Rattle.rx_rules.specs.Names.{resource_number, resources};
 ghost use Rattle.rx_elem.specs.Spots.{Mounted, mounted};
-ghost use Rattle.rx_effect.specs.EffectLog.{no_passive};
 ghost use Rattle.rx_forest.specs.Hosts.{hosts};
 ghost use Rattle.rx_lines.specs.Lines.{tree_lines};
-ghost use Rattle.rx_queue.specs.Journal.{hook};
+ghost use Rattle.rx_queue.specs.Journal.{hook, resolved_now};
 ghost use Rattle.rx_sched.specs.Deadlines.{later};
 ghost use Rattle.rx_sched.specs.Schedule.{Schedule, after_resolution};
 ghost use Rattle.rx_meaning.specs.Outcome.{is_awaited};
-ghost use Rattle.rx_model.specs.State.{State, state_lines};
-ghost use Rattle.rx_model.specs.Accepting.{dispatched_for, lane_of as lane_in};
+ghost use Rattle.rx_model.specs.State.{State, instance_found, state_lines};
+ghost use Rattle.rx_model.specs.Accepting.{between_events, dispatched, dispatched_for, lane_of as lane_in, resolved};
+ghost use Rattle.rx_model.specs.Committing.{passive_run};
 ghost use Rattle.rx_model.specs.Laws.{IsReached};
-ghost use Rattle.rx_model.specs.Machine.{StepTo};
 ghost use Rattle.rx_hook_store.specs.Store.{kept_hooks};
-ghost use Rattle.rx_commit.specs.Written.{passive_lines, with_lines};
+ghost use Rattle.rx_commit.specs.Written.{with_lines};
 ghost use Rattle.rx_render.specs.Rendering.{IfLeft};
+ghost use Rattle.rx_step.specs.Steps.{path_of};
 ghost use Rattle.rx_step.specs.declared.step.Step.TheVariants as step;
-ghost use Rattle.rx_root.specs.Stands.{Stands};
-ghost use Rattle.rx_root.specs.Turning.{Takes};
+ghost use Rattle.rx_root.specs.Stands.{HasRoomFor, Stands, StandsForSome};
+ghost use Rattle.rx_root.specs.Turning.{HasDone};
 ghost use Rattle.rx_root.specs.Taking.{CanTake, IsTargetOf, claimed_by, root_accepted};
 
+use crate::errors::{DispatchError, ResolveError};
 use crate::root::Root;
 use end_laws::ends_are_not_read;
 use rx_base::{Int, Name};
@@ -55,44 +56,57 @@ fn take_back(lanes: &mut RootLanes)
 }
 
 impl Root {
-    /// Time passes, and an event ends.
-    pub(crate) fn tick(&mut self, time: u64)
-        ensures { self.new ≡ record self.old { now = later self.old.now time; event = None } }
+    /// Time passes, in milliseconds, and an event ends. The time now is held at the greatest `u64`. What is pending with a
+    /// deadline that the time now has reached is rendered without slices from then on.
+    pub fn tick(&mut self, time: u64)
+        requires stands { StandsForSome self.old }
+        ensures after { (s : State) → Stands self.old.rendering.program s self.old → Stands self.old.rendering.program (record (between_events s) { now = later s.now time }) self.new }
+        ensures changes { self.new ≡ record self.old { now = later self.old.now time; event = None } }
+        ensures stands { StandsForSome self.new }
+        ensures room { (k : ℕ) → HasRoomFor k self.old → HasRoomFor k self.new }
     {
         self.now = self.now.saturating_add(time);
         self.event = None;
     }
 
-    /// An event ends.
-    pub(crate) fn end_event(&mut self)
-        ensures { self.new ≡ record self.old { event = None } }
+    /// An event ends: the next transition takes a lane of its own (react.dev, startTransition).
+    pub fn end_event(&mut self)
+        requires stands { StandsForSome self.old }
+        ensures after { (s : State) → Stands self.old.rendering.program s self.old → Stands self.old.rendering.program (between_events s) self.new }
+        ensures changes { self.new ≡ record self.old { event = None } }
+        ensures stands { StandsForSome self.new }
+        ensures room { (k : ℕ) → HasRoomFor k self.old → HasRoomFor k self.new }
     {
         self.event = None;
     }
 
-    /// Runs the passive effects that are pending (react.dev, useEffect), and an event ends. An `Err` changes nothing.
+    /// Runs the passive effects that are pending, whose lines the report gets, and an event ends (react.dev, useEffect). After
+    /// an `Err` nothing was run: the root and the report are as they were.
     ///
     /// # Errors
     ///
     /// Want of memory alone.
-    pub(crate) fn passive(&mut self, log: &mut Report) -> Result<(), AllocError>
-        ensures ran { OnOk result (self.new ≡ record self.old { shown = record self.old.shown { passive = no_passive }; event = None }) }
-        ensures written { OnOk result (log.new ≡ with_lines log.old (passive_lines self.old.shown.passive)) }
+    pub fn passive(&mut self, log: &mut Report) -> Result<(), AllocError>
+        requires stands { StandsForSome self.old }
+        ensures ok { OnOk result ((s : State) → Stands self.old.rendering.program s self.old → HasDone self.old.rendering.program (passive_run (between_events s)) self.new log.old log.new) }
         ensures same { OnErr result (self.new ≡ self.old) }
         ensures unchanged { OnErr result (log.new ≡ log.old) }
+        ensures stands { StandsForSome self.new }
+        ensures program { self.new.rendering.program ≡ self.old.rendering.program }
+        ensures room { (k : ℕ) → HasRoomFor k self.old → HasRoomFor k self.new }
     {
         self.shown.flush_passive(log)?;
         self.event = None;
         Ok(())
     }
 
-    /// Writes the hooks of all instances, with their committed values (react.dev, State as a Snapshot). An `Err` leaves the
-    /// report as it was.
+    /// Writes the hooks of all instances, with their committed values (react.dev, State as a Snapshot). After an `Err` the
+    /// report is as it was.
     ///
     /// # Errors
     ///
     /// Want of memory alone.
-    pub(crate) fn states(&self, log: &mut Report) -> Result<(), AllocError>
+    pub fn states(&self, log: &mut Report) -> Result<(), AllocError>
         requires { (s : State) × Stands self.now.rendering.program s self.now }
         ensures ok { OnOk result ((s : State) → Stands self.entry.now.rendering.program s self.entry.now → log.new ≡ with_lines log.old (state_lines self.entry.now.rendering.program s)) }
         ensures err { OnErr result (log.new ≡ log.old) }
@@ -107,12 +121,12 @@ impl Root {
         )
     }
 
-    /// Writes the tree of hosts. An `Err` leaves the report as it was.
+    /// Writes the tree of hosts (react.dev, Render and Commit). After an `Err` the report is as it was.
     ///
     /// # Errors
     ///
     /// Want of memory alone.
-    pub(crate) fn tree(&self, log: &mut Report) -> Result<(), AllocError>
+    pub fn tree(&self, log: &mut Report) -> Result<(), AllocError>
         ensures ok { OnOk result ((s : State) → Stands self.entry.now.rendering.program s self.entry.now → log.new ≡ with_lines log.old (tree_lines (hosts s.tree))) }
         ensures err { OnErr result (log.new ≡ log.old) }
     {
@@ -125,7 +139,7 @@ impl Root {
     // The hook that a dispatch is for, and what the dispatch does to it, if its path leads to an instance. Notes the instances
     // on the path.
     fn target(&mut self, dispatch: &Dispatch) -> Option<Sent>
-        requires { (s : State) × Stands self.old.rendering.program s self.old }
+        requires { StandsForSome self.old }
         ensures target { (s : State) → Stands self.old.rendering.program s self.old → CanTake self.old.rendering.program (step.Dispatch dispatch.now)
             → IsTargetOf self.old.rendering.program s dispatch.now result }
         ensures same { self.new ≡ self.old }
@@ -227,32 +241,36 @@ impl Root {
         }
     }
 
-    /// Sends an update to the hook that a dispatch is for (react.dev, useState and useReducer), or writes that there is no such
-    /// instance. An `Err` changes nothing of what the root stands for.
+    /// Sends an update to the hook that a dispatch is for (react.dev, useState and useReducer), and answers the update's number,
+    /// from 0 on in the order in which they are accepted. A transition goes on with the lane of its event, or claims the next
+    /// one (react.dev, startTransition). Nothing is rendered.
     ///
     /// # Errors
     ///
-    /// Want of memory alone.
-    pub(crate) fn dispatch(
-        &mut self,
-        dispatch: &Dispatch,
-        log: &mut Report,
-    ) -> Result<(), AllocError>
-        requires stands { (s : State) × Stands self.old.rendering.program s self.old }
+    /// `NoInstance` exactly where the path leads to no instance of the committed tree: then nothing has changed. Want of memory:
+    /// then the root stands for what it stood for.
+    pub fn dispatch(&mut self, dispatch: &Dispatch) -> Result<u64, DispatchError>
+        requires stands { StandsForSome self.old }
         requires fits { CanTake self.old.rendering.program (step.Dispatch dispatch.now) }
-        requires room { self.old.updates < 2 ^ 62 }
-        ensures ok { OnOk result ((s : State) (n : ℕ) → Stands self.old.rendering.program s self.old
-            → Takes self.old.rendering.program (StepTo self.old.rendering.program s (step.Dispatch dispatch.now)) self.new log.old log.new n n) }
+        requires room { HasRoomFor 1 self.old }
+        ensures ok { IfOk result (λ number. (s : State) → Stands self.old.rendering.program s self.old
+            → (number ≡ length s.journal.updates) × Stands self.old.rendering.program (dispatched self.old.rendering.program s dispatch.now).after self.new) }
+        ensures no_instance { (s : State) → Stands self.old.rendering.program s self.old
+            → IsErrOf result DispatchError.NoInstance ↔ (instance_found self.old.rendering.program s.tree (path_of dispatch.now) ≡ None) }
+        ensures same { IsErrOf result DispatchError.NoInstance → self.new ≡ self.old }
         ensures err { OnErr result ((s : State) → Stands self.old.rendering.program s self.old → Stands self.old.rendering.program s self.new) }
-        ensures unchanged { OnErr result (log.new ≡ log.old) }
-        ensures same { self.new ≡ record self.old { rendering = self.new.rendering; schedule = self.new.schedule; updates = self.new.updates; event = self.new.event; later = self.new.later } }
+        ensures stands { StandsForSome self.new }
         ensures program { self.new.rendering.program ≡ self.old.rendering.program }
-        ensures one { self.new.updates ≤ self.old.updates + 1 }
+        ensures left { (k : ℕ) → HasRoomFor (suc k) self.old → HasRoomFor k self.new }
     {
         hooks_are_there();
+        let number = self.updates;
         match self.target(dispatch) {
-            None => log.no_instance_line(dispatch_path(dispatch)),
-            Some(sent) => self.send(dispatch_word(dispatch), sent),
+            None => Err(DispatchError::NoInstance),
+            Some(sent) => {
+                self.send(dispatch_word(dispatch), sent)?;
+                Ok(number)
+            }
         }
     }
 
@@ -284,39 +302,34 @@ impl Root {
         self.resolutions += 1;
     }
 
-    /// Gives a resource its value (react.dev, use), or writes the one that it has already; and an event ends. An `Err` changes
-    /// nothing.
+    /// Gives a resource its value (react.dev, use), and an event ends. What waits for it may be rendered again.
     ///
     /// # Errors
     ///
-    /// Want of memory alone.
-    pub(crate) fn resolve(
-        &mut self,
-        name: &Name,
-        value: Int,
-        log: &mut Report,
-    ) -> Result<(), AllocError>
-        requires stands { (s : State) × Stands self.old.rendering.program s self.old }
+    /// `Already` exactly where the resource has that value: then nothing has changed, save that the event has ended.
+    pub fn resolve(&mut self, name: &Name, value: Int) -> Result<(), ResolveError>
+        requires stands { StandsForSome self.old }
         requires fits { is_some (position (bytes_eq name.now) (resources self.old.rendering.program)) ≡ true }
-        requires room { self.old.resolutions < 2 ^ 62 }
-        ensures ok { OnOk result ((s : State) (n : ℕ) → Stands self.old.rendering.program s self.old
-            → Takes self.old.rendering.program (StepTo self.old.rendering.program s (step.Resolve name.now value)) self.new log.old log.new n n) }
-        ensures err { OnErr result (self.new ≡ self.old) }
-        ensures unchanged { OnErr result (log.new ≡ log.old) }
-        ensures same { self.new ≡ record self.old { schedule = self.new.schedule; resolutions = self.new.resolutions; values = self.new.values; event = self.new.event } }
-        ensures one { self.new.resolutions ≤ self.old.resolutions + 1 }
+        requires room { HasRoomFor 1 self.old }
+        ensures after { (s : State) → Stands self.old.rendering.program s self.old
+            → Stands self.old.rendering.program (resolved self.old.rendering.program (between_events s) name.now value).after self.new }
+        ensures already { (s : State) (known : ℤ) → Stands self.old.rendering.program s self.old
+            → IsErrOf result (ResolveError.Already known) ↔ (resolved_now s.journal (resource_number self.old.rendering.program name.now) ≡ Some known) }
+        ensures same { OnErr result (self.new ≡ record self.old { event = None }) }
+        ensures stands { StandsForSome self.new }
+        ensures program { self.new.rendering.program ≡ self.old.rendering.program }
+        ensures left { (k : ℕ) → HasRoomFor (suc k) self.old → HasRoomFor k self.new }
     {
         let number = self.resource(name);
         match self.values[number as usize] {
             Some(known) => {
-                log.already_line(name, known)?;
-                self.end_event();
-                Ok(())
+                self.event = None;
+                Err(ResolveError::Already { value: known })
             }
             None => {
                 let waits = self.is_awaited(number);
                 self.give(number, value, waits);
-                self.end_event();
+                self.event = None;
                 Ok(())
             }
         }

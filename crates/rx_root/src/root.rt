@@ -1,6 +1,7 @@
 // The machine: a program, and its state between two steps.
-ghost use Rattle.std.specs.Prelude.{◌≡◌, ◌∷◌, ◌+◌, ◌*◌, ◌≤◌, [], true, None, Some, IfOk, OnErr, OnOk};
+ghost use Rattle.std.specs.Prelude.{◌≡◌, ◌∷◌, ◌+◌, ◌*◌, ◌≤◌, ◌↔◌, [], true, None, Some, IfOk, IsTrue, OnErr, OnOk, bytes_eq, is_some, length, position};
 ghost use Rattle.rx_rules.specs.Bounds.{node_bound};
+ghost use Rattle.rx_rules.specs.Names.{resources};
 ghost use Rattle.rx_elem.specs.Spots.{hidden_count as hidden_in, node_count};
 ghost use Rattle.rx_lists.specs.Shapes.{none, size};
 ghost use Rattle.rx_links.specs.Drafts.{made_size, taken};
@@ -12,12 +13,15 @@ ghost use Rattle.rx_model.specs.Laws.{ShowsEverything};
 ghost use Rattle.rx_render.specs.Renders.{HasCome};
 ghost use Rattle.run_laws.specs.Carried.{values_now};
 ghost use Rattle.rx_commit.specs.Written.{with_lines};
-ghost use Rattle.rx_root.specs.Stands.{Stands};
+ghost use Rattle.rx_step.specs.declared.step.Step.TheVariants as steps;
+ghost use Rattle.rx_root.specs.Stands.{HasRoomFor, Stands, StandsForSome};
+ghost use Rattle.rx_root.specs.Taking.{CanTake};
 
+use crate::turns::FLUSH_LIMIT;
 use end_laws::ends_are_not_read;
 use room_laws::fibers_have_room;
 use run_laws::quiet_ends;
-use rx_base::Int;
+use rx_base::{Int, Name};
 use rx_check::Checked;
 use rx_commit::Shown;
 use rx_fiber::Fiber;
@@ -28,10 +32,18 @@ use rx_read::Numbers;
 use rx_render::Renderer;
 use rx_report::Report;
 use rx_sched::RootLanes;
+use rx_script::{dispatch_fits, step_fits};
 use rx_spots as spots;
+use rx_step::{Dispatch, Step};
 use rx_ways::Ways;
 use std::alloc::{AllocError, Global};
 use std::marker::Model;
+
+// The numbers of a root stay below this one.
+const NUMBER_LIMIT: u64 = 1 << 62;
+
+// No tree has more nodes.
+const NODE_LIMIT: u64 = 4096;
 
 /// A root (react.dev, createRoot): a program with its committed tree, the hooks of its instances, what is pending, and the
 /// render in progress, if there is one.
@@ -84,7 +96,8 @@ fn no_values(alloc: Global, checked: &Checked) -> Result<Vec<Option<Int>>, Alloc
 }
 
 impl Root {
-    /// A root before its first render (react.dev, createRoot): there is no tree, and `Default` is pending.
+    /// A root before its first render (react.dev, createRoot): there is no tree, and `Default` is pending. It has the room for
+    /// the values of all resources of the program.
     ///
     /// # Errors
     ///
@@ -92,6 +105,8 @@ impl Root {
     pub fn new(alloc: Global, checked: Checked) -> Result<Root, AllocError>
         ensures stands { IfOk result (λ r. Stands checked opening r) }
         ensures program { IfOk result (λ r. r.rendering.program ≡ checked) }
+        ensures values { IfOk result (λ r. length r.values ≡ length (resources checked)) }
+        ensures some { IfOk result (λ r. StandsForSome r) }
     {
         links_are_below();
         let values = no_values(alloc, &checked)?;
@@ -114,6 +129,44 @@ impl Root {
             later: Lanes::none(),
             sent: Ways::new(alloc),
         })
+    }
+
+    /// Whether one more step may be taken: the numbers that come next stay below 2 to the 62nd power with all that one step may
+    /// add to them. Those are one update or resolution, or 24 commits, each of at most 4,096 new instances and hosts. No script
+    /// comes near that.
+    pub fn has_room(&self) -> bool
+        ensures { IsTrue result ↔ HasRoomFor 1 self.entry.now }
+    {
+        let nodes = NODE_LIMIT * FLUSH_LIMIT;
+        self.updates < NUMBER_LIMIT - 1
+            && self.resolutions < NUMBER_LIMIT - 1
+            && self.commits < NUMBER_LIMIT - FLUSH_LIMIT
+            && self.numbers.instance < NUMBER_LIMIT - nodes
+            && self.numbers.host < NUMBER_LIMIT - nodes
+    }
+
+    /// Whether a dispatch is one for this program: its path names components from `App` on, the last of which has the hook, of
+    /// the kind that the dispatch wants; its function takes a state and an argument; and no place in the path is above 4,095.
+    /// Whether there is such an instance, `dispatch` tells.
+    pub fn can_dispatch(&self, dispatch: &Dispatch) -> bool
+        ensures { IsTrue result ↔ CanTake self.entry.now.rendering.program (steps.Dispatch dispatch.now) }
+    {
+        dispatch_fits(self.renderer.checked(), dispatch)
+    }
+
+    /// Whether the program has a resource of this name.
+    pub fn has_resource(&self, name: &Name) -> bool
+        ensures { result ≡ is_some (position (bytes_eq name.now) (resources self.entry.now.rendering.program)) }
+    {
+        self.renderer.checked().resource(name.text()).is_some()
+    }
+
+    /// Whether a step is one for this program: all that it names is there, and its numbers are in their bounds (the time of a
+    /// tick up to 1,000,000, the budget of a turn from 1 to that).
+    pub fn can_take(&self, step: &Step) -> bool
+        ensures { IsTrue result ↔ CanTake self.entry.now.rendering.program step.now }
+    {
+        step_fits(self.renderer.checked(), step)
     }
 
     /// The lanes that have something to render.

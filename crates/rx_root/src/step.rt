@@ -1,143 +1,164 @@
 // The steps of a script, one by one.
-ghost use Rattle.std.specs.Prelude.{◌≡◌, ◌+◌, ◌<◌, ◌≤◌, ℕ, suc, true, Some, OnErr, OnOk};
-ghost use Rattle.rx_lane.specs.declared.lane.Lane.TheVariants as lane;
-ghost use Rattle.rx_lane.specs.Lanes.{has};
+ghost use Rattle.std.specs.Prelude.{◌≡◌, ◌≤◌, ℕ, suc, true, OnErr, OnOk, bytes_eq, is_some, position};
+ghost use Rattle.rx_rules.specs.Names.{resources};
+ghost use Rattle.rx_lines.specs.Lines.{already, with_line};
 ghost use Rattle.rx_model.specs.State.{State};
-ghost use Rattle.rx_model.specs.Stretch.{Stretch};
-ghost use Rattle.rx_model.specs.Accepting.{between_events};
-ghost use Rattle.rx_model.specs.Machine.{StepTo, flush_limit};
-ghost use Rattle.rx_commit.specs.Written.{with_lines};
-ghost use Rattle.rx_root.specs.Stands.{HasRoomFor, Stands};
-ghost use Rattle.rx_root.specs.Taking.{CanTake, IsAside};
-ghost use Rattle.rx_root.specs.Turning.{Breaks, Takes};
-ghost use Rattle.rx_root.specs.Paying.{FlushPaidWithin, FlushSyncPaid, StepPaid, TurnPaid};
-ghost use Rattle.rx_root.specs.Breaking.{BreaksOff, BreaksOffWithin, TurnBreaksOff};
+ghost use Rattle.rx_model.specs.Breaking.{BreaksOff};
+ghost use Rattle.rx_model.specs.Machine.{StepTo};
+ghost use Rattle.rx_step.specs.declared.step.Step.TheVariants as step;
+ghost use Rattle.rx_root.specs.Paying.{Pays};
+ghost use Rattle.rx_root.specs.Stands.{HasRoomFor, Stands, StandsForSome};
+ghost use Rattle.rx_root.specs.Taking.{CanTake};
+ghost use Rattle.rx_root.specs.Turning.{Takes};
 
+use crate::errors::DispatchError;
 use crate::root::Root;
-use rx_base::Steps;
+use rx_base::{Int, Name, Steps};
+use rx_instances::dispatch_path;
+use rx_lane::Lane;
 use rx_report::Report;
-use rx_step::Step;
+use rx_step::{Dispatch, Step};
 use std::alloc::AllocError;
 use std::sync::ledger::Ledger;
 
 impl Root {
-    // An event ends, and then one turn is taken with this budget.
-    fn take_work<L: Ledger>(
-        &mut self,
-        units: u64,
-        log: &mut Report,
-        steps: &mut Steps<L>,
-    ) -> Result<(), AllocError>
-        requires stands { (s : State) × Stands self.old.rendering.program s self.old }
-        requires positive { 0 < units }
+    // A dispatch is sent, or the line is written that there is no such instance.
+    fn take_dispatch(&mut self, dispatch: &Dispatch, log: &mut Report) -> Result<(), AllocError>
+        requires stands { StandsForSome self.old }
+        requires fits { CanTake self.old.rendering.program (step.Dispatch dispatch.now) }
         requires room { HasRoomFor 1 self.old }
-        ensures ok { OnOk result ((s : State) → Stands self.old.rendering.program s self.old
-            → Takes self.old.rendering.program (TurnPaid self.old.rendering.program (between_events s) (Some units)) self.new log.old log.new steps.old steps.new) }
-        ensures breaks { OnErr result ((s : State) → Stands self.old.rendering.program s self.old
-            → Breaks self.old.rendering.program (TurnBreaksOff (between_events s)) self.new log.old log.new steps.old steps.new) }
+        ensures ok { OnOk result ((s : State) (n : ℕ) → Stands self.old.rendering.program s self.old
+            → Takes self.old.rendering.program (StepTo Pays self.old.rendering.program s (step.Dispatch dispatch.now)) self.new log.old log.new n n) }
+        ensures broken { OnErr result ((s : State) (n : ℕ) → Stands self.old.rendering.program s self.old
+            → Takes self.old.rendering.program (BreaksOff Pays self.old.rendering.program s (step.Dispatch dispatch.now)) self.new log.old log.new n n) }
         ensures left { (k : ℕ) → HasRoomFor (suc k) self.old → HasRoomFor k self.new }
-        ensures rises { steps.old ≤ steps.new }
     {
-        self.end_event();
-        self.work(units, log, steps)
+        match self.dispatch(dispatch) {
+            Ok(_) => Ok(()),
+            Err(DispatchError::NoInstance) => log.no_instance_line(dispatch_path(dispatch)),
+            Err(DispatchError::OutOfMemory) => Err(AllocError),
+        }
     }
 
-    // An event ends, and then all is rendered that there is to render.
-    fn take_flush<L: Ledger>(
+    // The line is written that a resource has this value already. Where it is not, the event is this one again.
+    fn tell_already(
         &mut self,
+        name: &Name,
+        known: Int,
+        event: Option<Lane>,
         log: &mut Report,
-        steps: &mut Steps<L>,
     ) -> Result<(), AllocError>
-        requires stands { (s : State) × Stands self.old.rendering.program s self.old }
-        requires room { HasRoomFor 1 self.old }
-        ensures ok { OnOk result ((s : State) → Stands self.old.rendering.program s self.old
-            → Takes self.old.rendering.program (FlushPaidWithin flush_limit self.old.rendering.program (between_events s)) self.new log.old log.new steps.old steps.new) }
-        ensures breaks { OnErr result ((s : State) → Stands self.old.rendering.program s self.old
-            → Breaks self.old.rendering.program (BreaksOffWithin flush_limit self.old.rendering.program (between_events s)) self.new log.old log.new steps.old steps.new) }
-        ensures left { (k : ℕ) → HasRoomFor (suc k) self.old → HasRoomFor k self.new }
-        ensures rises { steps.old ≤ steps.new }
+        ensures same { OnOk result (self.new ≡ self.old) }
+        ensures written { OnOk result (log.new ≡ with_line log.old (already name.now known)) }
+        ensures back { OnErr result (self.new ≡ record self.old { event = event }) }
+        ensures unchanged { OnErr result (log.new ≡ log.old) }
     {
-        self.end_event();
-        self.flush(log, steps)
+        match log.already_line(name, known) {
+            Ok(()) => Ok(()),
+            Err(error) => {
+                self.event = event;
+                Err(error)
+            }
+        }
     }
 
-    // An event ends, and then what is pending with the lane Sync is rendered.
-    fn take_flush_sync<L: Ledger>(
+    // A resource gets its value, or the line is written that it has one; then an event ends.
+    fn take_resolution(
         &mut self,
+        name: &Name,
+        value: Int,
         log: &mut Report,
-        steps: &mut Steps<L>,
     ) -> Result<(), AllocError>
-        requires stands { (s : State) × Stands self.old.rendering.program s self.old }
+        requires stands { StandsForSome self.old }
+        requires fits { is_some (position (bytes_eq name.now) (resources self.old.rendering.program)) ≡ true }
         requires room { HasRoomFor 1 self.old }
-        ensures ok { OnOk result ((s : State) → Stands self.old.rendering.program s self.old
-            → Takes self.old.rendering.program (FlushSyncPaid (has s.schedule.pending lane.Sync) self.old.rendering.program (between_events s)) self.new log.old log.new steps.old steps.new) }
-        ensures breaks { OnErr result ((s : State) → Stands self.old.rendering.program s self.old
-            → Breaks self.old.rendering.program (λ r. (has s.schedule.pending lane.Sync ≡ true) × TurnBreaksOff (between_events s) r) self.new log.old log.new steps.old steps.new) }
+        ensures ok { OnOk result ((s : State) (n : ℕ) → Stands self.old.rendering.program s self.old
+            → Takes self.old.rendering.program (StepTo Pays self.old.rendering.program s (step.Resolve name.now value)) self.new log.old log.new n n) }
+        ensures broken { OnErr result ((s : State) (n : ℕ) → Stands self.old.rendering.program s self.old
+            → Takes self.old.rendering.program (BreaksOff Pays self.old.rendering.program s (step.Resolve name.now value)) self.new log.old log.new n n) }
         ensures left { (k : ℕ) → HasRoomFor (suc k) self.old → HasRoomFor k self.new }
-        ensures rises { steps.old ≤ steps.new }
     {
+        let event = self.event;
+        match self.resolve(name, value) {
+            Ok(()) => Ok(()),
+            Err(error) => self.tell_already(name, error.value(), event, log),
+        }
+    }
+
+    // The hooks of all instances are written, and an event ends.
+    fn take_states(&mut self, log: &mut Report) -> Result<(), AllocError>
+        requires stands { StandsForSome self.old }
+        ensures ok { OnOk result ((s : State) (n : ℕ) → Stands self.old.rendering.program s self.old
+            → Takes self.old.rendering.program (StepTo Pays self.old.rendering.program s step.State) self.new log.old log.new n n) }
+        ensures broken { OnErr result ((s : State) (n : ℕ) → Stands self.old.rendering.program s self.old
+            → Takes self.old.rendering.program (BreaksOff Pays self.old.rendering.program s step.State) self.new log.old log.new n n) }
+        ensures left { (k : ℕ) → HasRoomFor (suc k) self.old → HasRoomFor k self.new }
+    {
+        self.states(log)?;
         self.end_event();
-        self.flush_sync(log, steps)
+        Ok(())
+    }
+
+    // The tree of hosts is written, and an event ends.
+    fn take_tree(&mut self, log: &mut Report) -> Result<(), AllocError>
+        requires stands { StandsForSome self.old }
+        ensures ok { OnOk result ((s : State) (n : ℕ) → Stands self.old.rendering.program s self.old
+            → Takes self.old.rendering.program (StepTo Pays self.old.rendering.program s step.Tree) self.new log.old log.new n n) }
+        ensures broken { OnErr result ((s : State) (n : ℕ) → Stands self.old.rendering.program s self.old
+            → Takes self.old.rendering.program (BreaksOff Pays self.old.rendering.program s step.Tree) self.new log.old log.new n n) }
+        ensures left { (k : ℕ) → HasRoomFor (suc k) self.old → HasRoomFor k self.new }
+    {
+        self.tree(log)?;
+        self.end_event();
+        Ok(())
     }
 
     /// Takes a step of a script: the root stands for the state of the machine after it, the report has its lines, and the
     /// counter the bodies that it evaluated. Each of its renders evaluates as many bodies at most as places have a cause or lie
     /// below one that has, and one that is finished as many at least as places have a cause of their own, what hidden boundaries
-    /// keep that wait still left out (react.dev, Render and Commit). After an `Err` of a step that renders, the root stands for
-    /// the state after the
-    /// renders that the step finished and the passive effects that it ran, whose lines the report has, and no render is in
-    /// progress; so the step may be called again. An `Err` of any other step changes nothing of what the root stands for, nor
-    /// the report.
+    /// keep that wait still left out (react.dev, Render and Commit). A dispatch whose path leads to no instance, and a
+    /// resolution of a resource that has its value, write a line.
     ///
     /// # Errors
     ///
-    /// Want of memory alone.
+    /// Want of memory alone. After that of a step that renders, the root stands for the state after the renders that the step
+    /// finished and the passive effects that it ran, whose lines the report has, and no render is in progress; the counter has
+    /// the bodies that were evaluated in vain too. That of any other step changes nothing of what the root stands for, nor the
+    /// report. So the step may be taken again.
     pub fn step<L: Ledger>(
         &mut self,
         step: &Step,
         log: &mut Report,
         steps: &mut Steps<L>,
     ) -> Result<(), AllocError>
-        requires stands { (s : State) × Stands self.old.rendering.program s self.old }
+        requires stands { StandsForSome self.old }
         requires fits { CanTake self.old.rendering.program step.now }
         requires room { HasRoomFor 1 self.old }
         ensures ok { OnOk result ((s : State) → Stands self.old.rendering.program s self.old
-            → (r : Stretch) × StepTo self.old.rendering.program s step.now r × Stands self.old.rendering.program r.after self.new
-            × (log.new ≡ with_lines log.old r.lines) × (steps.new ≡ steps.old + r.bodies) × StepPaid self.old.rendering.program s step.now r) }
+            → Takes self.old.rendering.program (StepTo Pays self.old.rendering.program s step.now) self.new log.old log.new steps.old steps.new) }
         ensures broken { OnErr result ((s : State) → Stands self.old.rendering.program s self.old
-            → (r : Stretch) × BreaksOff self.old.rendering.program s step.now r × Stands self.old.rendering.program r.after self.new
-            × (log.new ≡ with_lines log.old r.lines) × (steps.old + r.bodies ≤ steps.new)) }
+            → Takes self.old.rendering.program (BreaksOff Pays self.old.rendering.program s step.now) self.new log.old log.new steps.old steps.new) }
+        ensures stands { StandsForSome self.new }
         ensures program { self.new.rendering.program ≡ self.old.rendering.program }
         ensures left { (k : ℕ) → HasRoomFor (suc k) self.old → HasRoomFor k self.new }
-        ensures stays { OnErr result (IsAside step.now → (s : State) → Stands self.old.rendering.program s self.old → Stands self.old.rendering.program s self.new) }
-        ensures unchanged { OnErr result (IsAside step.now → log.new ≡ log.old) }
-        ensures rises { steps.old ≤ steps.new }
     {
         match step {
-            Step::Dispatch(dispatch) => self.dispatch(dispatch, log),
-            Step::Resolve(name, value) => self.resolve(name, *value, log),
+            Step::Dispatch(dispatch) => self.take_dispatch(dispatch, log),
+            Step::Resolve(name, value) => self.take_resolution(name, *value, log),
             Step::Tick(time) => {
                 self.tick(*time);
                 Ok(())
             }
-            Step::Work(budget) => self.take_work(*budget, log, steps),
-            Step::Flush => self.take_flush(log, steps),
-            Step::FlushSync => self.take_flush_sync(log, steps),
+            Step::Work(budget) => self.work(*budget, log, steps),
+            Step::Flush => self.flush(log, steps),
+            Step::FlushSync => self.flush_sync(log, steps),
             Step::Passive => self.passive(log),
             Step::Event => {
                 self.end_event();
                 Ok(())
             }
-            Step::State => {
-                self.states(log)?;
-                self.end_event();
-                Ok(())
-            }
-            Step::Tree => {
-                self.tree(log)?;
-                self.end_event();
-                Ok(())
-            }
+            Step::State => self.take_states(log),
+            Step::Tree => self.take_tree(log),
         }
     }
 }

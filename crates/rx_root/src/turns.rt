@@ -21,8 +21,9 @@ ghost use Rattle.rx_model.specs.Stretch.{silent};
 ghost use Rattle.rx_sched.specs.declared.choice.Choice.TheVariants as choices;
 ghost use Rattle.rx_settle.specs.Settling.{CanSettle, IsSettlingOf};
 ghost use Rattle.rx_hook_store.specs.Store.{kept_hooks};
-ghost use Rattle.rx_model.specs.Turns.{slice_of, choice_of};
-ghost use Rattle.rx_model.specs.Machine.{flush_limit};
+ghost use Rattle.rx_model.specs.Breaking.{FlushBreaksOff, HasBegun, TurnBreaksOff};
+ghost use Rattle.rx_model.specs.Turns.{GoesOn, Turn, choice_of, slice_of, unit_bound};
+ghost use Rattle.rx_model.specs.Machine.{FlushWithin};
 ghost use Rattle.rx_model.specs.Kept.{IsSet};
 ghost use Rattle.rx_model.specs.Laws.{IsBounded, IsReached};
 ghost use Rattle.rx_pruned.specs.Besides.{IsBeside};
@@ -31,11 +32,10 @@ ghost use Rattle.rx_commit.specs.Shown.{Prepares, Shows, outcome_as};
 ghost use Rattle.rx_commit.specs.Written.{lines_of, passive_lines, with_lines};
 ghost use Rattle.rx_render.specs.declared.at.At.TheVariants.{Over};
 ghost use Rattle.rx_render.specs.Renders.{with_hooks};
-ghost use Rattle.rx_render.specs.Turning.{GoesOn as Onward, GivesUp, KeepsHooks};
-ghost use Rattle.rx_root.specs.Breaking.{BreaksOffWithin, HasBegun, TurnBreaksOff};
+ghost use Rattle.rx_render.specs.Turning.{GivesUp, KeepsHooks, Proceeds};
 ghost use Rattle.rx_root.specs.Stands.{Stands, StandsWith};
-ghost use Rattle.rx_root.specs.Paying.{FlushPaidWithin, FlushSyncPaid, GoesOnPaid, TurnPaid};
-ghost use Rattle.rx_root.specs.Turning.{Breaks, CanFollow, CanShow, FlushesFrom, GaveUp, HasBroken, HasDone, HasFinished, HasNumbered, HasRoomForTurns, HasSomeProgress, HasYielded, IsAtSomeEnd, IsPrepared, IsPreparedFor, KnowsSince, KnowsSinceSome, LeadsOn, LeavesRoom, StandsAtEnd, StandsBetween, Takes, counts_of, is_new, is_news, passive_left};
+ghost use Rattle.rx_root.specs.Paying.{Pays};
+ghost use Rattle.rx_root.specs.Turning.{CanFollow, CanShow, FlushesFrom, GaveUp, HasBroken, HasDone, HasFinished, HasNumbered, HasRoomForTurns, HasSomeProgress, HasYielded, IsAtSomeEnd, IsPrepared, IsPreparedFor, KnowsSince, KnowsSinceSome, LeadsOn, LeavesRoom, StandsAtEnd, StandsBetween, Takes, counts_of, is_new, is_news, passive_left};
 
 use crate::root::Root;
 use rx_base::{Awaits, Cut, Int, Steps};
@@ -52,7 +52,7 @@ use std::alloc::{AllocError, Global};
 use std::sync::ledger::Ledger;
 
 // No flush finishes more renders.
-const FLUSH_LIMIT: u64 = 24;
+pub(crate) const FLUSH_LIMIT: u64 = 24;
 
 // Whether one of these resources has a value by now, and had none before.
 fn has_news(values: &[Option<Int>], seen: &[Option<Int>], waits: &Awaits) -> bool
@@ -101,7 +101,7 @@ fn end_passive_of(shown: &mut Shown, lanes: Lanes)
 
 impl Root {
     // What holds of the program: it meets every check.
-    fn facts(&self)
+    pub(crate) fn facts(&self)
         ensures accepted { IsAccepted self.entry.now.rendering.program }
         ensures bounded { IsBounded self.entry.now.rendering.program }
     {
@@ -176,9 +176,10 @@ impl Root {
             (λ used. (p : syntax.Program) (s : State) (g : Progress) → StandsWith p s (Some g) self.old → HasFinished p s g slice self.new steps.old steps.new)
             (λ used. (p : syntax.Program) (s : State) (g : Progress) → StandsWith p s (Some g) self.old → HasYielded p s g slice self.new steps.old steps.new)) }
         ensures rest { self.new ≡ record self.old { rendering = self.new.rendering } }
-        ensures onward { OnOk result (Onward self.old.rendering self.new.rendering) }
+        ensures onward { OnOk result (Proceeds self.old.rendering self.new.rendering) }
         ensures given_up { OnErr result (GivesUp self.old.rendering self.new.rendering) }
         ensures rises { steps.old ≤ steps.new }
+        ensures few { steps.new ≤ steps.old + unit_bound self.old.rendering.program }
     {
         self.renderer.facts();
         drive(
@@ -435,10 +436,11 @@ impl Root {
         requires room { HasRoomForTurns 1 self.old }
         requires positive { IfSome budget (λ n. 0 < n) }
         ensures takes { OnOk result ((p : syntax.Program) (s : State) (g : Progress) → StandsWith p s (Some g) self.old → LeadsOn p s g budget
-            → Takes p (GoesOnPaid p s g budget) self.new log.old log.new steps.old steps.new) }
+            → Takes p (GoesOn Pays p s g budget) self.new log.old log.new steps.old steps.new) }
         ensures gave_up { OnErr result (GaveUp self.old self.new) }
         ensures unchanged { OnErr result (log.new ≡ log.old) }
         ensures rises { steps.old ≤ steps.new }
+        ensures few { steps.new ≤ steps.old + unit_bound self.old.rendering.program }
     {
         let slice = self.slice(budget);
         match self.drive(slice, steps)? {
@@ -457,9 +459,10 @@ impl Root {
         requires stands { StandsBetween self.old }
         requires room { HasRoomForTurns 1 self.old }
         requires positive { IfSome budget (λ n. 0 < n) }
-        ensures takes { OnOk result ((p : syntax.Program) (s : State) → Stands p s self.old → s.event ≡ None → Takes p (TurnPaid p s budget) self.new log.old log.new steps.old steps.new) }
+        ensures takes { OnOk result ((p : syntax.Program) (s : State) → Stands p s self.old → s.event ≡ None → Takes p (Turn Pays p s budget) self.new log.old log.new steps.old steps.new) }
         ensures broken { OnErr result ((p : syntax.Program) (s : State) → Stands p s self.old → s.event ≡ None → HasBroken p (λ r. (choice_of s ≢ choices.None) × HasBegun s r) self.new log.old log.new) }
         ensures rises { steps.old ≤ steps.new }
+        ensures few { steps.new ≤ steps.old + unit_bound self.old.rendering.program }
     {
         match self.choice() {
             Choice::None => Ok(()),
@@ -473,7 +476,7 @@ impl Root {
 
     // One turn: what is most urgent is rendered, and committed where it is finished (react.dev, Render and Commit). With a
     // budget it may yield, where it renders transitions or retries and none has waited too long.
-    fn turn<L: Ledger>(
+    pub(crate) fn turn<L: Ledger>(
         &mut self,
         budget: Option<u64>,
         log: &mut Report,
@@ -482,8 +485,8 @@ impl Root {
         requires stands { StandsBetween self.old }
         requires room { HasRoomForTurns 1 self.old }
         requires positive { IfSome budget (λ n. 0 < n) }
-        ensures takes { OnOk result ((p : syntax.Program) (s : State) → Stands p s self.old → s.event ≡ None → Takes p (TurnPaid p s budget) self.new log.old log.new steps.old steps.new) }
-        ensures breaks { OnErr result ((p : syntax.Program) (s : State) → Stands p s self.old → s.event ≡ None → Breaks p (TurnBreaksOff s) self.new log.old log.new steps.old steps.new) }
+        ensures takes { OnOk result ((p : syntax.Program) (s : State) → Stands p s self.old → s.event ≡ None → Takes p (Turn Pays p s budget) self.new log.old log.new steps.old steps.new) }
+        ensures breaks { OnErr result ((p : syntax.Program) (s : State) → Stands p s self.old → s.event ≡ None → Takes p (TurnBreaksOff p s) self.new log.old log.new steps.old steps.new) }
         ensures leaves { LeavesRoom 1 self.old self.new }
         ensures rises { steps.old ≤ steps.new }
     {
@@ -497,31 +500,8 @@ impl Root {
         }
     }
 
-    /// One turn with a budget of so many units, which counts only where what is rendered is cut into slices (react.dev,
-    /// startTransition).
-    ///
-    /// # Errors
-    ///
-    /// Want of memory alone. Then nothing is in progress, and what was finished stays.
-    pub(crate) fn work<L: Ledger>(
-        &mut self,
-        units: u64,
-        log: &mut Report,
-        steps: &mut Steps<L>,
-    ) -> Result<(), AllocError>
-        requires stands { StandsBetween self.old }
-        requires room { HasRoomForTurns 1 self.old }
-        requires positive { 0 < units }
-        ensures takes { OnOk result ((p : syntax.Program) (s : State) → Stands p s self.old → s.event ≡ None → Takes p (TurnPaid p s (Some units)) self.new log.old log.new steps.old steps.new) }
-        ensures breaks { OnErr result ((p : syntax.Program) (s : State) → Stands p s self.old → s.event ≡ None → Breaks p (TurnBreaksOff s) self.new log.old log.new steps.old steps.new) }
-        ensures leaves { LeavesRoom 1 self.old self.new }
-        ensures rises { steps.old ≤ steps.new }
-    {
-        self.turn(Some(units), log, steps)
-    }
-
     // Takes turns that aren't sliced until nothing is left to render, so many at most.
-    fn finish_renders<L: Ledger>(
+    pub(crate) fn finish_renders<L: Ledger>(
         &mut self,
         limit: u64,
         log: &mut Report,
@@ -529,8 +509,8 @@ impl Root {
     ) -> Result<(), AllocError>
         requires flushes { FlushesFrom limit self.old }
         requires room { HasRoomForTurns limit self.old }
-        ensures takes { OnOk result ((p : syntax.Program) (s : State) → Stands p s self.old → s.event ≡ None → Takes p (FlushPaidWithin limit p s) self.new log.old log.new steps.old steps.new) }
-        ensures breaks { OnErr result ((p : syntax.Program) (s : State) → Stands p s self.old → s.event ≡ None → Breaks p (BreaksOffWithin limit p s) self.new log.old log.new steps.old steps.new) }
+        ensures takes { OnOk result ((p : syntax.Program) (s : State) → Stands p s self.old → s.event ≡ None → Takes p (FlushWithin Pays limit p s) self.new log.old log.new steps.old steps.new) }
+        ensures breaks { OnErr result ((p : syntax.Program) (s : State) → Stands p s self.old → s.event ≡ None → Takes p (FlushBreaksOff Pays limit p s) self.new log.old log.new steps.old steps.new) }
         ensures leaves { LeavesRoom limit self.old self.new }
         ensures rises { steps.old ≤ steps.new }
     {
@@ -539,50 +519,5 @@ impl Root {
         }
         self.turn(None, log, steps)?;
         self.finish_renders(limit - 1, log, steps)
-    }
-
-    /// Takes turns that aren't sliced until nothing is left to render.
-    ///
-    /// # Errors
-    ///
-    /// Want of memory alone. Then nothing is in progress, and what was finished stays.
-    pub(crate) fn flush<L: Ledger>(
-        &mut self,
-        log: &mut Report,
-        steps: &mut Steps<L>,
-    ) -> Result<(), AllocError>
-        requires stands { StandsBetween self.old }
-        requires room { HasRoomForTurns flush_limit self.old }
-        ensures takes { OnOk result ((p : syntax.Program) (s : State) → Stands p s self.old → s.event ≡ None → Takes p (FlushPaidWithin flush_limit p s) self.new log.old log.new steps.old steps.new) }
-        ensures breaks { OnErr result ((p : syntax.Program) (s : State) → Stands p s self.old → s.event ≡ None → Breaks p (BreaksOffWithin flush_limit p s) self.new log.old log.new steps.old steps.new) }
-        ensures leaves { LeavesRoom flush_limit self.old self.new }
-        ensures rises { steps.old ≤ steps.new }
-    {
-        self.facts();
-        self.finish_renders(FLUSH_LIMIT, log, steps)
-    }
-
-    /// One turn that isn't sliced, where Sync is pending (react.dev, flushSync).
-    ///
-    /// # Errors
-    ///
-    /// Want of memory alone. Then nothing is in progress, and what was finished stays.
-    pub(crate) fn flush_sync<L: Ledger>(
-        &mut self,
-        log: &mut Report,
-        steps: &mut Steps<L>,
-    ) -> Result<(), AllocError>
-        requires stands { StandsBetween self.old }
-        requires room { HasRoomForTurns 1 self.old }
-        ensures takes { OnOk result ((p : syntax.Program) (s : State) → Stands p s self.old → s.event ≡ None
-            → Takes p (FlushSyncPaid (has s.schedule.pending lane.Sync) p s) self.new log.old log.new steps.old steps.new) }
-        ensures breaks { OnErr result ((p : syntax.Program) (s : State) → Stands p s self.old → s.event ≡ None → Breaks p (λ r. (has s.schedule.pending lane.Sync ≡ true) × TurnBreaksOff s r) self.new log.old log.new steps.old steps.new) }
-        ensures leaves { LeavesRoom 1 self.old self.new }
-        ensures rises { steps.old ≤ steps.new }
-    {
-        if self.lanes.pending().has(Lane::Sync) {
-            return self.turn(None, log, steps);
-        }
-        Ok(())
     }
 }

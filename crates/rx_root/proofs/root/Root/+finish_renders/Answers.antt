@@ -1,6 +1,7 @@
 use Rattle.std.proofs.Common.{◌≢◌, ◌≤◌, ◌-◌, None, sym, ◌∙◌, arith}
 use Rattle.rx_sched.specs.declared.choice.Choice.TheVariants as choice
 use Rattle.rx_model.specs.Turns.{choice_of}
+use Rattle.rx_root.specs.Paying.{Pays}
 use Rattle.rx_root.proofs.Broken.{any_err, flush_breaks, flush_breaks_later, on_err}
 use Rattle.rx_root.proofs.TurnReached.{turn_event}
 use Rattle.rx_root.proofs.TurnsTaken.{on_ok, flush_none}
@@ -64,13 +65,13 @@ returns g t c =
           let turn = c.in_ok-turn.ensures.takes p s h none in
           let busy : choice_of s ≢ choice.None = λ e. c.in_default.not-None (c.choice.ensures p s h ∙ e) in
           flush_takes c.args.limit p s c.turn.new.self c.finish_renders.new.self c.args.log.now c.turn.new.log c.finish_renders.new.log c.args.steps.now c.turn.new.steps c.finish_renders.new.steps few busy
-          turn (rest p turn.stretch.after turn.done.stands (turn_event p s None turn.stretch none turn.asked.0))) c.finish_renders.ensures.takes;
+          turn (rest p turn.stretch.after turn.done.stands (turn_event Pays p s None turn.stretch none turn.asked))) c.finish_renders.ensures.takes;
       breaks = on_err c.finish_renders.result _ _
           (λ rest p s h none.
           let turn = c.in_ok-turn.ensures.takes p s h none in
           let busy : choice_of s ≢ choice.None = λ e. c.in_default.not-None (c.choice.ensures p s h ∙ e) in
           flush_breaks_later c.args.limit p s c.turn.new.self c.finish_renders.new.self c.args.log.now c.turn.new.log c.finish_renders.new.log c.args.steps.now c.turn.new.steps c.finish_renders.new.steps few
-          busy turn (rest p turn.stretch.after turn.done.stands (turn_event p s None turn.stretch none turn.asked.0))) c.finish_renders.ensures.breaks;
+          busy turn (rest p turn.stretch.after turn.done.stands (turn_event Pays p s None turn.stretch none turn.asked))) c.finish_renders.ensures.breaks;
       leaves = leaves_more c.args.limit c.args.self.now c.turn.new.self c.finish_renders.new.self few c.in_ok-turn.ensures.leaves c.finish_renders.ensures.leaves;
       rises = omega (arith, c.turn.ensures.rises, c.finish_renders.ensures.rises);
     }

@@ -1,24 +1,18 @@
-use Rattle.std.proofs.Common.{◌≡◌, ℕ, ◌<◌, ◌∙◌, ap, sym, subst, length, List, Some, slice_get}
-use Rattle.std.specs.Prelude.{OnErr, OnOk}
-use Rattle.rx_elem.specs.Spots.{Mounted, mounted}
-use Rattle.rx_model.specs.State.{State}
-use Rattle.rx_model.specs.Machine.{StepTo}
-use Rattle.rx_step.specs.declared.step.Step.TheVariants as step
-use Rattle.rx_root.specs.Rooted.{Rooted}
-use Rattle.rx_root.specs.Turning.{Takes}
+use Rattle.std.proofs.Common.{◌≡◌, ℕ, ◌<◌, ◌∙◌, ap, refl, sym, subst, length, List, Some, slice_get}
 use Rattle.std.specs.Option.{IsSomeAnd}
+use Rattle.rx_elem.specs.Spots.{Mounted, mounted}
 use Rattle.rx_hooks.specs.declared.hook.Hook.{Hook}
-use Rattle.rx_lines.specs.Lines.{no_instance, with_line}
+use Rattle.rx_hook_store.specs.Store.{kept_hooks}
 use Rattle.rx_queue.specs.Journal.{hook}
 use Rattle.rx_step.specs.declared.step.LaneWord.{LaneWord}
-use Rattle.rx_step.specs.Steps.{Path}
+use Rattle.rx_model.specs.State.{State}
 use Rattle.rx_model.specs.Accepting.{dispatched_for}
 use Rattle.rx_model.specs.Laws.{IsReached}
-use Rattle.rx_begin.proofs.Begins.{on_ok}
-use Rattle.rx_hook_store.specs.Store.{kept_hooks}
-use Rattle.rx_root.specs.Stands.{Stands}
+use Rattle.rx_root.specs.Rooted.{Rooted}
+use Rattle.rx_root.specs.Stands.{HasRoomFor, Stands}
 use Rattle.rx_root.specs.Taking.{IsFor}
-use Rattle.rx_root.proofs.Taken.{refused_taken, sent_reached, sent_taken}
+use Rattle.rx_root.proofs.Broken.{any_err, for_some, room_less}
+use Rattle.rx_root.proofs.Taken.{dispatch_stands, sent_reached}
 use Rattle.rx_root.proofs.root.Root.dispatch.Goals as goal
 
 pub send-requires-clause-hook : goal.send-requires-clause-hook
@@ -34,33 +28,43 @@ send-requires-clause-hook c =
     subst (λ (w : Rooted). IsSomeAnd (kept_hooks w.rendering.hooks sent.instance) (λ (hooks : List Hook). sent.place < length hooks)) (sym c.in-Some.ensures.same)
     (subst (λ (n : ℕ). IsSomeAnd (kept_hooks v.rendering.hooks n) (λ (hooks : List Hook). sent.place < length hooks)) (sym is.number) there)
 
-pub returns-in-None-clause-ok : goal.returns-in-None-clause-ok
-returns-in-None-clause-ok c =
-    on_ok c.no_instance_line.result _ _
-    (λ are s n h.
-    let v = c.args.self.now in
-    subst (λ (w : Rooted). Takes v.rendering.program (StepTo v.rendering.program s (step.Dispatch c.args.dispatch.now)) w c.args.log.now c.no_instance_line.new.self n n) (sym c.in-None.ensures.same)
-    (refused_taken v.rendering.program s c.args.dispatch.now v c.args.log.now c.no_instance_line.new.self n h (c.in-None.ensures.target s h c.requires.fits)
-    (are ∙ ap (λ (x : Path). with_line c.args.log.now (no_instance x)) c.dispatch_path.ensures)))
-    c.no_instance_line.ensures.written
+pub returns-in-None-clause-no_instance : goal.returns-in-None-clause-no_instance
+returns-in-None-clause-no_instance c s h = (λ is. c.in-None.ensures.target s h c.requires.fits, λ none. refl)
 
-pub returns-in-Some-clause-ok : goal.returns-in-Some-clause-ok
-returns-in-Some-clause-ok c =
-    on_ok c.send.result _ _
-    (λ f s n h.
+pub returns-in-None-clause-err : goal.returns-in-None-clause-err
+returns-in-None-clause-err c s h = subst (λ (w : Rooted). Stands c.args.self.now.rendering.program s w) (sym c.in-None.ensures.same) h
+
+pub returns-in-None-clause-stands : goal.returns-in-None-clause-stands
+returns-in-None-clause-stands c = for_some c.args.self.now.rendering.program c.requires.stands.0 c.target.new.self (returns-in-None-clause-err c c.requires.stands.0 c.requires.stands.1)
+
+pub returns-in-None-clause-left : goal.returns-in-None-clause-left
+returns-in-None-clause-left c k h = subst (HasRoomFor k) (sym c.in-None.ensures.same) (room_less c.args.self.now k h)
+
+pub returns-in_ok-send-in-Some-clause-ok : goal.returns-in_ok-send-in-Some-clause-ok
+returns-in_ok-send-in-Some-clause-ok c s h =
     let p = c.args.self.now.rendering.program in
     let d = c.args.dispatch.now in
     let w = c.send.new.self in
     let sent = c.in-Some.sent in
     let is : IsFor p s d sent = c.in-Some.ensures.target s h c.requires.fits in
+    let f =
+    subst (λ (v : Rooted). (s : State) (k : ℕ) (m : Mounted) → Stands v.rendering.program s v → slice_get (mounted s.tree) k ≡ Some m → m.number ≡ sent.instance
+    → IsReached v.rendering.program (dispatched_for s c.dispatch_word.result (hook sent.instance sent.place) sent.op)
+    → Stands v.rendering.program (dispatched_for s c.dispatch_word.result (hook sent.instance sent.place) sent.op) w) c.in-Some.ensures.same c.in_ok-send-in-Some.ensures.ok in
     let goes =
     subst (λ (x : LaneWord). IsReached p (dispatched_for s x (hook sent.instance sent.place) sent.op) → Stands p (dispatched_for s x (hook sent.instance sent.place) sent.op) w) c.dispatch_word.ensures
     (λ r. f s is.place_in_tree is.instance h is.there (sym is.number) r) in
-    sent_taken p s d sent w c.args.log.now n is (goes (sent_reached p s d sent h.reached is)))
-    (subst (λ (v : Rooted). OnOk c.send.result ((s : State) (k : ℕ) (m : Mounted) → Stands v.rendering.program s v → slice_get (mounted s.tree) k ≡ Some m → m.number ≡ c.in-Some.sent.instance
-    → IsReached v.rendering.program (dispatched_for s c.dispatch_word.result (hook c.in-Some.sent.instance c.in-Some.sent.place) c.in-Some.sent.op)
-    → Stands v.rendering.program (dispatched_for s c.dispatch_word.result (hook c.in-Some.sent.instance c.in-Some.sent.place) c.in-Some.sent.op) c.send.new.self)) c.in-Some.ensures.same c.send.ensures.ok)
+    (ap (λ (v : Rooted). v.updates) c.self.view_is ∙ h.updates, dispatch_stands p s d sent w is (goes (sent_reached p s d sent h.reached is)))
 
-pub returns-in-Some-clause-err : goal.returns-in-Some-clause-err
-returns-in-Some-clause-err c =
-    subst (λ (v : Rooted). OnErr c.send.result ((s : State) → Stands v.rendering.program s v → Stands v.rendering.program s c.send.new.self)) c.in-Some.ensures.same c.send.ensures.err
+pub returns-in_ok-send-in-Some-clause-stands : goal.returns-in_ok-send-in-Some-clause-stands
+returns-in_ok-send-in-Some-clause-stands c = for_some c.args.self.now.rendering.program _ c.send.new.self (returns-in_ok-send-in-Some-clause-ok c c.requires.stands.0 c.requires.stands.1).1
+
+pub returns-in_err-send-in-Some-clause-err : goal.returns-in_err-send-in-Some-clause-err
+returns-in_err-send-in-Some-clause-err c =
+    any_err c.from_residual.result _
+    (subst (λ (v : Rooted). (s : State) → Stands v.rendering.program s v → Stands v.rendering.program s c.send.new.self) c.in-Some.ensures.same c.in_err-send-in-Some.ensures.err)
+
+pub returns-in_err-send-in-Some-clause-stands : goal.returns-in_err-send-in-Some-clause-stands
+returns-in_err-send-in-Some-clause-stands c =
+    for_some c.args.self.now.rendering.program _ c.send.new.self
+    (subst (λ (v : Rooted). (s : State) → Stands v.rendering.program s v → Stands v.rendering.program s c.send.new.self) c.in-Some.ensures.same c.in_err-send-in-Some.ensures.err c.requires.stands.0 c.requires.stands.1)

@@ -1,9 +1,10 @@
-use Rattle.std.proofs.Common.{sym, subst, Some}
+use Rattle.std.proofs.Common.{◌+◌, ◌≤◌, sym, subst, arith, Some}
+use Rattle.rx_model.specs.Turns.{unit_bound}
 use Rattle.rx_root.specs.Rooted.{Rooted}
 use Rattle.rx_root.specs.Stands.{StandsWith}
 use Rattle.rx_root.specs.contracts.root.Root.{the_view}
 use Rattle.rx_root.proofs.DriveEnds.{some_left, driven_as}
-use Rattle.rx_render.specs.Turning.{GoesOn, GivesUp}
+use Rattle.rx_render.specs.Turning.{Proceeds, GivesUp}
 use Rattle.rx_root.proofs.Broken.{on_err}
 use Rattle.rx_root.proofs.TurnsTaken.{on_ok}
 use Rattle.rx_root.proofs.root.Root.drive.Goals as goal
@@ -21,7 +22,12 @@ returns-clause-ends g c =
     c.drive.ensures.onward c.drive.ensures.rises
 
 pub returns-clause-onward : goal.returns-clause-onward
-returns-clause-onward g c = on_ok c.drive.result _ _ (λ h. subst (λ (v : Rooted). GoesOn v.rendering c.drive.new.units) c.self.view_is h) c.drive.ensures.onward
+returns-clause-onward g c = on_ok c.drive.result _ _ (λ h. subst (λ (v : Rooted). Proceeds v.rendering c.drive.new.units) c.self.view_is h) c.drive.ensures.onward
 
 pub returns-clause-given_up : goal.returns-clause-given_up
 returns-clause-given_up g c = on_err c.drive.result _ _ (λ h. subst (λ (v : Rooted). GivesUp v.rendering c.drive.new.units) c.self.view_is h) c.drive.ensures.given_up
+
+pub returns-clause-few : goal.returns-clause-few
+returns-clause-few g c =
+    let most : c.drive.new.steps ≤ c.args.steps.now + unit_bound (the_view c.self.inside).rendering.program = omega (arith, c.drive.ensures.within, c.facts.ensures.within) in
+    subst (λ (v : Rooted). c.drive.new.steps ≤ c.args.steps.now + unit_bound v.rendering.program) c.self.view_is most

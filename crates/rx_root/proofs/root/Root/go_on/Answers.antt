@@ -20,7 +20,7 @@ returns-in-Finished-clause-takes g c =
     let f =
     subst (λ (slice : Option ℕ). HasFinished p s x slice c.drive.new.self c.args.steps.now c.drive.new.steps) (c.slice-slice.ensures.slice p s x h) (ends p s x h) in
     goes_finished p s x c.args.budget c.drive.new.self c.finish.new.self c.args.log.now c.finish.new.log c.args.steps.now c.drive.new.steps f
-    (done p s x f.tree f.stands (leads (ended s x (counts_of c.drive.new.self) f.tree) (inl f.finishes)))) c.finish.ensures.done
+    (done p s x f.tree f.stands (leads (ended s x (counts_of c.drive.new.self) f.tree) (inl f.finishes, tt)))) c.finish.ensures.done
 
 pub returns-in-Yielded-clause-takes : goal.returns-in-Yielded-clause-takes
 returns-in-Yielded-clause-takes g c =

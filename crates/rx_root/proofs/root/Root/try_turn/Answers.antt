@@ -1,4 +1,6 @@
-use Rattle.std.proofs.Common.{sym, ap, ◌∙◌}
+use Rattle.std.proofs.Common.{◌+◌, ◌≤◌, sym, ap, ◌∙◌, subst}
+use Rattle.rx_ast.specs.Syntax.{Program}
+use Rattle.rx_model.specs.Turns.{unit_bound}
 use Rattle.rx_effect.specs.EffectLog.{Passive}
 use Rattle.rx_model.specs.Committing.{passive_run, starting}
 use Rattle.rx_commit.specs.Written.{passive_lines, with_lines}
@@ -71,3 +73,10 @@ returns-in_ok-start-in-Start-clause-broken g c =
     (c.in_ok-start-in-Start.ensures.starts p s h none (start_is_set s lanes e))
     (same ∙ c.in_ok-start-in-Start.ensures.written ∙ ap (λ (q : Passive). with_lines c.args.log.now (passive_lines q)) h.shows.passive_is) up)
     c.go_on-in-Start.ensures.gave_up c.go_on-in-Start.ensures.unchanged
+
+pub returns-in_ok-start-in-Start-clause-few : goal.returns-in_ok-start-in-Start-clause-few
+returns-in_ok-start-in-Start-clause-few g c =
+    let is = c.requires.stands in
+    let set = start_is_set is.state c.in-Start.lanes (sym (c.in-Start.ensures is.program is.state is.stands)) in
+    let begun = c.in_ok-start-in-Start.ensures.starts is.program is.state is.stands is.between set in
+    subst (λ (q : Program). c.go_on-in-Start.new.steps ≤ c.args.steps.now + unit_bound q) (begun.program ∙ sym is.stands.program) c.go_on-in-Start.ensures.few

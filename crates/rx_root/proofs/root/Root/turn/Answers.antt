@@ -1,3 +1,6 @@
+use Rattle.std.proofs.Common.{◌≤◌, ◌+◌, subst}
+use Rattle.rx_ast.specs.Syntax.{Program}
+use Rattle.rx_model.specs.Turns.{unit_bound}
 use Rattle.rx_root.specs.contracts.root.Root.{the_view}
 use Rattle.rx_root.proofs.Broken.{broken_leaves, turn_breaks}
 use Rattle.rx_root.proofs.FlushSteps.{turn_leaves}
@@ -11,8 +14,9 @@ returns-in-Ok-clause-leaves g c =
 
 pub returns-in-Err-clause-breaks : goal.returns-in-Err-clause-breaks
 returns-in-Err-clause-breaks g c = λ p s h none.
+    let few = subst (λ (q : Program). c.try_turn.new.steps ≤ c.args.steps.now + unit_bound q) h.program c.try_turn.ensures.few in
     turn_breaks p s c.try_turn.new.self (the_view c.self.inside) c.discard.new.self c.args.log.now c.try_turn.new.log c.args.steps.now c.try_turn.new.steps c.self.view_is
-    (c.in-Err.ensures.broken p s h none) c.discard.ensures c.try_turn.ensures.rises
+    (c.in-Err.ensures.broken p s h none) c.discard.ensures c.try_turn.ensures.rises few
 
 pub returns-in-Err-clause-leaves : goal.returns-in-Err-clause-leaves
 returns-in-Err-clause-leaves g c =
