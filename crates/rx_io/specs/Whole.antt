@@ -1,5 +1,5 @@
 -- What reading a source to its end, and writing a whole piece, do.
-use Rattle.std.specs.Prelude.{ℕ, ◌≡◌, ◌≤◌, ◌+◌, List, length, ◌++◌}
+use Rattle.std.specs.Prelude.{ℕ, ◌≡◌, ◌≤◌, ◌<◌, ◌+◌, List, length, ◌++◌}
 use Rattle.std.specs.declared.option.Option.{Option}
 use Rattle.std.specs.Io.KnownBytes.{Appends}
 use Rattle.rx_io.specs.declared.whole.ReadError.{ReadError}
@@ -15,6 +15,10 @@ Refuses limit TooLong taken = length taken ≡ limit + 1
 Refuses limit Failed taken = length taken ≤ limit
 Refuses limit OutOfMemory taken = length taken ≤ limit + 1
 
--- known bytes grew by a part of the piece that it begins with
-abbrev pub AppendsPrefix : Option (List ℕ) → Option (List ℕ) → List ℕ → Type 0
-AppendsPrefix old new piece = (part : List ℕ) × (rest : List ℕ) × (piece ≡ part ++ rest) × Appends old new part
+-- a beginning of a text, and not all of it
+abbrev pub IsPartOf : (part whole : List ℕ) → Type 0
+IsPartOf part whole = (lost : List ℕ) × (whole ≡ part ++ lost) × (0 < length lost)
+
+-- known bytes grew by a beginning of the piece, and not all of it
+abbrev pub AppendsPart : Option (List ℕ) → Option (List ℕ) → List ℕ → Type 0
+AppendsPart old new piece = (part : List ℕ) × IsPartOf part piece × Appends old new part

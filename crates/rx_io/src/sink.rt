@@ -19,8 +19,8 @@ pub trait Sink {
     ///
     /// # Errors
     ///
-    /// `Failed`, only where the count of faults rose in this call. Nothing was written then, and the next call may
-    /// succeed. A writer that takes nothing of a piece that isn't empty has failed.
+    /// `Failed`: the count of faults rises then, and stays where the call succeeds. Nothing was written, and the next call
+    /// may succeed. A writer that takes nothing of a piece that isn't empty has failed.
     fn write(&mut self, from: &[u8]) -> Result<usize, Failed>
         ensures bound { WritesAtMost result from.now }
         ensures some { 0 < length from.now → IfOk result (λ n. 0 < n) }

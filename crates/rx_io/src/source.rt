@@ -22,19 +22,20 @@ pub trait Source {
     ///
     /// # Errors
     ///
-    /// `Failed`, only where the count of faults rose in this call. Nothing was taken then, and the next call may succeed.
+    /// `Failed`: the count of faults rises then, and stays where the call succeeds. Nothing was taken, and the next call
+    /// may succeed.
     fn read(&mut self, into: &mut [u8]) -> Result<usize, Failed>
         ensures bound { ReadsAtMost result into.new }
         ensures bytes { ReadConsumes (left self.old) (left self.new) result into.new }
         ensures cause { HasCause (faults self.old) (faults self.new) result };
 }
 
-/// Copies as many bytes as there are and fit to the front of `into`, and says how many.
-pub(crate) fn copy_front(from: &[u8], into: &mut [u8]) -> usize
-    ensures count { result ≡ min (length from.now) (length into.old) }
+/// Copies as many bytes as there are and fit, and `most` at most, to the front of `into`, and says how many.
+pub(crate) fn copy_front(from: &[u8], into: &mut [u8], most: usize) -> usize
+    ensures count { result ≡ min (min (length from.now) (length into.old)) most }
     ensures front { take result into.new ≡ take result from.now }
 {
-    let count = from.len().min(into.len());
+    let count = from.len().min(into.len()).min(most);
     into[..count].copy_from_slice(&from[..count]);
     count
 }

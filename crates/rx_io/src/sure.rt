@@ -25,7 +25,7 @@ impl Source for SureSource<'_> {
     ghost faults = { λ _. 0 };
 
     fn read(&mut self, into: &mut [u8]) -> Result<usize, Failed> {
-        let count = copy_front(self.left, into);
+        let count = copy_front(self.left, into, usize::MAX);
         self.left = &self.left[count..];
         Ok(count)
     }

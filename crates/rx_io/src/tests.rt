@@ -64,6 +64,33 @@ fn reads_memory_to_its_end(rt: HostRuntime) -> Result<(), Fail> {
 }
 
 #[test]
+fn a_source_is_asked_no_more_once_it_ended(rt: HostRuntime) -> Result<(), Fail> {
+    let alloc = rt.alloc();
+    let mut src = MemSource::new(alloc, b"abc", &[3])?;
+    assert_eq!(rt; read_all(alloc, &mut src, 9)?.as_slice(), b"abc".as_slice());
+    let mut piece = [0; 1];
+    assert_eq!(rt; src.read(&mut piece), Err(Failed), "the third call");
+    Ok(())
+}
+
+#[test]
+fn each_call_moves_a_piece_at_most(rt: HostRuntime) -> Result<(), Fail> {
+    let alloc = rt.alloc();
+    let mut src = MemSource::new(alloc, b"abcde", &[5])?;
+    src.pieces(2);
+    let mut piece = [0; 4];
+    assert_eq!(rt; src.read(&mut piece), Ok(2));
+    assert_eq!(rt; read_all(alloc, &mut src, 9)?.as_slice(), b"cde".as_slice());
+    let mut out = MemSink::new(alloc, 9, &[4])?;
+    out.pieces(2);
+    assert_eq!(rt; out.write(b"abcd"), Ok(2));
+    assert_eq!(rt; write_all(&mut out, b"cde"), Ok(()));
+    assert_eq!(rt; out.bytes(), b"abcde".as_slice());
+    assert_eq!(rt; write_all(&mut out, b"f"), Err(Failed), "the fourth call");
+    Ok(())
+}
+
+#[test]
 fn a_read_that_fails_in_mid_stream_takes_nothing(rt: HostRuntime) -> Result<(), Fail> {
     let alloc = rt.alloc();
     let mut src = MemSource::new(alloc, b"abc", &[2])?;
@@ -108,20 +135,38 @@ fn a_std_sink_gives_its_writer_the_bytes(rt: HostRuntime) -> Result<(), Fail> {
     Ok(())
 }
 
-/// Bytes of more than one buffer of a system, none like those beside it.
-fn many_bytes(alloc: Global) -> Result<Vec<u8>, AllocError> {
-    (0..70_000u32).map(|i| (i % 251) as u8).collect(alloc)
+/// So many bytes, none like those beside it.
+fn many_bytes(alloc: Global, count: u32) -> Result<Vec<u8>, AllocError> {
+    (0..count).map(|i| (i % 251) as u8).collect(alloc)
 }
 
 #[test]
 fn a_large_piece_is_moved_whole(rt: HostRuntime) -> Result<(), Fail> {
     let alloc = rt.alloc();
-    let many = many_bytes(alloc)?;
+    let many = many_bytes(alloc, 150_000)?;
     let mut src = StdSource::new(many.as_slice());
-    let read = read_all(alloc, &mut src, 70_000)?;
+    let read = read_all(alloc, &mut src, 150_000)?;
     assert_eq!(rt; read.as_slice(), many.as_slice());
     let mut written = Vec::new(alloc);
     assert_eq!(rt; write_all(&mut StdSink::new(&mut written), &many), Ok(()));
     assert_eq!(rt; written.as_slice(), many.as_slice());
+    Ok(())
+}
+
+/// Sizes of buffers and pieces, small and large.
+const SIZES: [u32; 8] = [1, 2, 99, 100, 101, 4096, 65_537, 150_000];
+
+#[test]
+fn a_buffer_and_a_piece_of_any_size_are_taken(rt: HostRuntime) -> Result<(), Fail> {
+    let alloc = rt.alloc();
+    for size in SIZES {
+        let piece = many_bytes(alloc, size)?;
+        let mut buffer = many_bytes(alloc, size)?;
+        let mut src = StdSource::new(piece.as_slice());
+        assert_eq!(rt; src.read(&mut buffer), Ok(size as usize), "{size} read");
+        let mut written = Vec::new(alloc);
+        let taken = StdSink::new(&mut written).write(&piece);
+        assert_eq!(rt; taken, Ok(size as usize), "{size} written");
+    }
     Ok(())
 }

@@ -3,7 +3,7 @@ ghost use Rattle.std.specs.Prelude.{◌≡◌, ◌+◌, ◌<◌, ◌≤◌, List
 ghost use Rattle.std.specs.Io.KnownBytes.{Consumes, IsAtEnd, Appends};
 ghost use Rattle.rx_io.specs.declared.whole.ReadError.TheVariants.{Failed as ReadFailed, OutOfMemory};
 ghost use Rattle.rx_io.specs.Causes.{Rose, HasCause};
-ghost use Rattle.rx_io.specs.Whole.{TookFor, Refuses, AppendsPrefix};
+ghost use Rattle.rx_io.specs.Whole.{TookFor, Refuses, AppendsPart};
 
 use crate::sink::Sink;
 use crate::source::{Failed, Source};
@@ -47,8 +47,10 @@ pub fn read_all<S: Source>(alloc: Global, src: &mut S, limit: usize) -> Result<V
     ensures taken { (taken : List ℕ) × Consumes (S.left src.old) (S.left src.new) taken
         × MatchResult result (λ bytes. TookFor limit bytes.items taken) (λ e. Refuses limit e taken) }
     ensures end { OnOk result (IsAtEnd (S.left src.new)) }
-    ensures later { S.faults src.old ≤ S.faults src.new }
+
+    // The count of faults rose where it failed, and stayed where it did not.
     ensures failed { IsErrOf result ReadError.Failed → Rose (S.faults src.old) (S.faults src.new) }
+    ensures kept { (IsErrOf result ReadError.Failed → ⊥) → S.faults src.new ≡ S.faults src.old }
 {
     let mut bytes = Vec::new(alloc);
     let mut piece = [0u8; 4096];
@@ -63,14 +65,15 @@ pub fn read_all<S: Source>(alloc: Global, src: &mut S, limit: usize) -> Result<V
     Err(ReadError::TooLong)
 }
 
-/// Writes the whole piece.
+/// Writes the whole piece, and of an empty one nothing.
 ///
 /// # Errors
 ///
-/// `Failed`, only where the sink's count of faults rose in this call. A prefix of the piece was written then.
+/// `Failed`, exactly where the sink failed in this call, as its count of faults tells. A prefix of the piece was written
+/// then, and not all of it.
 pub fn write_all<K: Sink>(out: &mut K, piece: &[u8]) -> Result<(), Failed>
     ensures ok { OnOk result (Appends (K.written out.old) (K.written out.new) piece.now) }
-    ensures err { OnErr result (AppendsPrefix (K.written out.old) (K.written out.new) piece.now) }
+    ensures err { OnErr result (AppendsPart (K.written out.old) (K.written out.new) piece.now) }
     ensures cause { HasCause (K.faults out.old) (K.faults out.new) result }
 {
     let mut done = 0;
