@@ -1,201 +1,202 @@
 -- What is due for an input, and what is written for it.
-use Rattle.std.proofs.Common.{◌≡◌, ◌∙◌, ℕ, ◌≤◌, ◌⊎◌, inl, inr, sym, ap, refl, Bool, true, false, List, ◌++◌, append-nil, Option, Some, None, IfSome, length, subst, arith}
+use Rattle.std.proofs.Common.{◌≡◌, ◌≢◌, ◌∙◌, ℕ, ◌+◌, ◌≤◌, ◌<◌, ◌⊎◌, inl, inr, sym, ap, refl, Bool, true, false, List, [], ◌++◌, append-nil, length-append, Option, Some, None, is_some, IfSome, length, subst, arith}
 use Rattle.std.specs.Io.KnownBytes.{Appends, Consumes, IsAtEnd}
+use Rattle.std.proofs.KnownBytes.{Appends-nil}
 use Rattle.rx_base.specs.Values.{Text}
-use Rattle.rx_io.specs.Whole.{AppendsPrefix}
+use Rattle.rx_io.specs.Whole.{AppendsPart}
 use Rattle.rx_ast.specs.Syntax.{Program}
-use Rattle.rx_rules.specs.Bounds.{node_bound, depth_bound}
 use Rattle.rx_step.specs.declared.step.Step.{Step}
 use Rattle.rx_lines.specs.Lines.{Options}
-use Rattle.rx_accept.specs.Judgements.{Judgement, accepted, program_refused, script_refused, IsJudged}
+use Rattle.rx_accept.specs.Judgements.{Judgement, accepted, IsJudged}
 use Rattle.rx_words.specs.declared.task.Task.{Task}
 use Rattle.rx_words.specs.declared.task.Task.TheVariants.{Read, Gen}
 use Rattle.rx_words.specs.declared.task.Reading.{Reading}
 use Rattle.rx_words.specs.declared.task.Reading.TheVariants.{Run, Check}
-use Rattle.rx_words.specs.Words.{task_of}
+use Rattle.rx_words.specs.Words.{is_valid, reads, task_of}
 use Rattle.rx_top.specs.declared.status.Status.{Status}
 use Rattle.rx_top.specs.declared.status.Status.TheVariants.{Done, Usage, ReadFault, WriteFault, TooLong, ProgramRefused, ScriptRefused, OutOfMemory}
-use Rattle.rx_top.specs.Outcome.{accepted_line, IsAccepted, IsRefused, IsDueFor, IsDueTo, IsDue, IsReport, IsPaidReport, Reporting, IsWork, IsOutput, IsSomeOutput, IsTextFor, IsBegun, IsAnswer, Gives, limit, Writes, WritesPart, WritesSome}
+use Rattle.rx_top.specs.Running.{CountsShort}
+use Rattle.rx_top.specs.Outcome.{limit, status_of, is_cut_short, Gives, IsDue, usage, too_long, judged, generated, Writes, IsLine, IsLostLine, OrNothing, IsLostOutput, IsShortWork, IsShortOutput, IsLost, lost_output, IsLostSummary, IsGenerated, IsSummary, IsShort, nothing, short_output, short_summary, IsShortSummary}
 
 -- an input is this, and nothing else
 abbrev pub IsAlone : List ℕ → Judgement → Type 0
 IsAlone input j = (k : Judgement) → IsJudged input k → k ≡ j
 
--- an input that is accepted is done
-pub due-accepted : (input : List ℕ) (p : Program) (steps : List Step) → IsAlone input (accepted p steps) → (due : Status) → IsDueFor input due → due ≡ Done
-due-accepted input p steps alone Done d = refl
-due-accepted input p steps alone ProgramRefused d = let clash : program_refused d.0 ≡ accepted p steps = alone (program_refused d.0) d.1 in cc
-due-accepted input p steps alone ScriptRefused d = let clash : script_refused d.0 ≡ accepted p steps = alone (script_refused d.0) d.1 in cc
-due-accepted input p steps alone Usage d = absurd d.1
-due-accepted input p steps alone ReadFault d = absurd d.1
-due-accepted input p steps alone WriteFault d = absurd d.1
-due-accepted input p steps alone TooLong d = absurd d.1
-due-accepted input p steps alone OutOfMemory d = absurd d.1
-
--- a refused program is refused
-pub due-refused_program : (input : List ℕ) (line : Text) → IsAlone input (program_refused line) → (due : Status) → IsDueFor input due → due ≡ ProgramRefused
-due-refused_program input line alone Done d = let clash : accepted d.program d.steps ≡ program_refused line = alone (accepted d.program d.steps) d.judged in cc
-due-refused_program input line alone ProgramRefused d = refl
-due-refused_program input line alone ScriptRefused d = let clash : script_refused d.0 ≡ program_refused line = alone (script_refused d.0) d.1 in cc
-due-refused_program input line alone Usage d = absurd d.1
-due-refused_program input line alone ReadFault d = absurd d.1
-due-refused_program input line alone WriteFault d = absurd d.1
-due-refused_program input line alone TooLong d = absurd d.1
-due-refused_program input line alone OutOfMemory d = absurd d.1
-
--- a refused script is refused
-pub due-refused_script : (input : List ℕ) (line : Text) → IsAlone input (script_refused line) → (due : Status) → IsDueFor input due → due ≡ ScriptRefused
-due-refused_script input line alone Done d = let clash : accepted d.program d.steps ≡ script_refused line = alone (accepted d.program d.steps) d.judged in cc
-due-refused_script input line alone ProgramRefused d = let clash : program_refused d.0 ≡ script_refused line = alone (program_refused d.0) d.1 in cc
-due-refused_script input line alone ScriptRefused d = refl
-due-refused_script input line alone Usage d = absurd d.1
-due-refused_script input line alone ReadFault d = absurd d.1
-due-refused_script input line alone WriteFault d = absurd d.1
-due-refused_script input line alone TooLong d = absurd d.1
-due-refused_script input line alone OutOfMemory d = absurd d.1
+-- the status that is due for what an input alone is judged to be
+pub gives-alone : (input : List ℕ) (j : Judgement) → IsAlone input j → (answer : Status) → Gives (status_of j) answer → (k : Judgement) → IsJudged input k → Gives (status_of k) answer
+gives-alone input j alone answer gives k found = subst (λ d. Gives d answer) (ap (λ i. status_of i) (sym (alone k found))) gives
 
 -- What is written
 
--- what a run writes is the work of `run` with these options
-pub run-work : (Report : Reporting) (counts ops : Bool) (reading : Reading) (p : Program) (steps : List Step) (o : Options) → reading ≡ Run counts ops → o ≡ record { counts = counts; ops = ops }
-    → (X : (List ℕ → ℕ → Type 0) → Type 0) → X (Report p steps o) → X (IsWork Report reading p steps)
-run-work Report counts ops reading p steps o is shown X holds = subst (λ t. X (IsWork Report t p steps)) (sym is) (subst (λ q. X (Report p steps q)) shown holds)
+-- nothing was written
+pub nothing-written : (P : List ℕ → ℕ → Type 0) (w : Option (List ℕ)) (used_old used : ℕ) → used ≡ used_old → Writes w w used_old used (OrNothing P)
+nothing-written P w used_old used same = ([], 0, inl (refl, refl), Appends-nil w, omega (arith, same))
 
--- the line of the bounds is the work of `check`
-pub check-work : (Report : Reporting) (reading : Reading) (p : Program) (steps : List Step) (line : List ℕ) → reading ≡ Check → line ≡ accepted_line (node_bound p) (depth_bound p) (length steps)
-    → IsWork Report reading p steps line 0
-check-work Report reading p steps line is told = subst (λ t. IsWork Report t p steps line 0) (sym is) (told, refl)
+-- what is written, or nothing
+pub or-nothing : (P : List ℕ → ℕ → Type 0) (w u : Option (List ℕ)) (used_old used : ℕ) → Writes w u used_old used P → Writes w u used_old used (OrNothing P)
+or-nothing P w u used_old used wrote = (wrote.0, wrote.1, inr wrote.2, wrote.3, wrote.4)
 
--- the work on what is accepted is its output
-pub work-done : (reading : Reading) (input : List ℕ) (a : IsAccepted input) (w u : Option (List ℕ)) (used_old used : ℕ) (answer : Status) → answer ≡ Done
-    → Writes w u used_old used (IsWork IsPaidReport reading a.program a.steps) → Writes w u used_old used (IsOutput IsPaidReport reading input answer)
-work-done reading input a w u used_old used answer is done = rw is (done.0, done.1, (a, done.2), done.3, done.4)
+-- a whole line
+pub line-whole : (line : Text) (w u : Option (List ℕ)) (used : ℕ) → Appends w u line → Writes w u used used (IsLine line)
+line-whole line w u used wrote = (line, 0, (refl, refl), wrote, omega arith)
 
-pub work-part : (reading : Reading) (input : List ℕ) (a : IsAccepted input) (w u : Option (List ℕ)) → WritesPart w u (IsWork IsReport reading a.program a.steps)
-    → WritesPart w u (IsSomeOutput reading input)
-work-part reading input a w u part = (part.0, part.1, part.2, (Done, (a, part.3)), part.4)
+-- a part of a line
+pub line-lost : (line : Text) (w u : Option (List ℕ)) (used : ℕ) → AppendsPart w u line → Writes w u used used (IsLostLine line)
+line-lost line w u used wrote = (wrote.0, 0, (wrote.1, refl), wrote.2, omega arith)
 
-pub work-some : (reading : Reading) (input : List ℕ) (a : IsAccepted input) (w u : Option (List ℕ)) → WritesSome w u (IsWork IsReport reading a.program a.steps)
-    → WritesSome w u (IsSomeOutput reading input)
-work-some reading input a w u (inl kept) = inl kept
-work-some reading input a w u (inr part) = inr (work-part reading input a w u part)
+-- what `run` writes is its work, with these options
+pub run-work : (Kind : Options → List ℕ → ℕ → Type 0) (Work : Reading → List ℕ → ℕ → Type 0) (counts ops : Bool) (reading : Reading) (o : Options) → reading ≡ Run counts ops → o ≡ record { counts = counts; ops = ops }
+    → ((part : List ℕ) (bodies : ℕ) → Kind (record { counts = counts; ops = ops }) part bodies → Work (Run counts ops) part bodies)
+    → (w u : Option (List ℕ)) (used_old used : ℕ) → Writes w u used_old used (Kind o) → Writes w u used_old used (Work reading)
+run-work Kind Work counts ops reading o is shown does w u used_old used wrote =
+    (wrote.0, wrote.1, subst (λ t. Work t wrote.0 wrote.1) (sym is) (does wrote.0 wrote.1 (subst (λ q. Kind q wrote.0 wrote.1) shown wrote.2)), wrote.3, wrote.4)
 
--- the output of a program that is refused
-pub program-done : (reading : Reading) (input : List ℕ) (line : Text) → IsRefused input ProgramRefused line → (w u : Option (List ℕ)) (used : ℕ) (answer : Status)
-    → answer ≡ ProgramRefused → Appends w u line → Writes w u used used (IsOutput IsPaidReport reading input answer)
-program-done reading input line r w u used answer is wrote = rw is (line, 0, (r, refl), wrote, omega arith)
+-- the work of `check`
+pub check-work : (Work : Reading → List ℕ → ℕ → Type 0) (reading : Reading) → reading ≡ Check → (w u : Option (List ℕ)) (used_old used : ℕ) → Writes w u used_old used (Work Check)
+    → Writes w u used_old used (Work reading)
+check-work Work reading is w u used_old used wrote = (wrote.0, wrote.1, subst (λ t. Work t wrote.0 wrote.1) (sym is) wrote.2, wrote.3, wrote.4)
 
-pub program-part : (reading : Reading) (input : List ℕ) (line : Text) → IsRefused input ProgramRefused line → (w u : Option (List ℕ)) → AppendsPrefix w u line
-    → WritesPart w u (IsSomeOutput reading input)
-program-part reading input line r w u part =
-    (part.0, part.1, 0, (ProgramRefused, (subst (IsRefused input ProgramRefused) part.2 r, refl)), part.3)
+-- what finds no memory in the work on an input that is accepted
+pub work-short : (reading : Reading) (input : List ℕ) (p : Program) (steps : List Step) → IsJudged input (accepted p steps) → (part : List ℕ) (bodies : ℕ) → IsShortWork reading p steps part bodies
+    → OrNothing (IsShortOutput reading input) part bodies
+work-short reading input p steps found part bodies work = inr (record { program = p; steps = steps; judged = found; work = work })
 
--- the output of a script that is refused
-pub script-done : (reading : Reading) (input : List ℕ) (line : Text) → IsRefused input ScriptRefused line → (w u : Option (List ℕ)) (used : ℕ) (answer : Status)
-    → answer ≡ ScriptRefused → Appends w u line → Writes w u used used (IsOutput IsPaidReport reading input answer)
-script-done reading input line r w u used answer is wrote = rw is (line, 0, (r, refl), wrote, omega arith)
+-- What is due
 
-pub script-part : (reading : Reading) (input : List ℕ) (line : Text) → IsRefused input ScriptRefused line → (w u : Option (List ℕ)) → AppendsPrefix w u line
-    → WritesPart w u (IsSomeOutput reading input)
-script-part reading input line r w u part =
-    (part.0, part.1, 0, (ScriptRefused, (subst (IsRefused input ScriptRefused) part.2 r, refl)), part.3)
+-- words that aren't valid ask for no input
+reads-nothing : (t : Option Task) → is_some t ≡ false → reads t ≡ true → ⊥
+reads-nothing None invalid asks = let clash : false ≡ true = asks in cc
+reads-nothing (Some t) invalid asks = let clash : true ≡ false = invalid in cc
 
--- a whole line that was to be written, of which a part was
-pub line-part : (P : List ℕ → ℕ → Type 0) (line : List ℕ) (bodies : ℕ) → P line bodies → (w u : Option (List ℕ)) → AppendsPrefix w u line → WritesPart w u P
-line-part P line bodies holds w u part = (part.0, part.1, bodies, subst (λ l. P l bodies) part.2 holds, part.3)
+-- words that aren't valid
+pub due-invalid : (words : List Text) (input : List ℕ) (answer : Status) → is_valid words ≡ false → Gives Usage answer → (due : Status) → IsDue words input due → Gives due answer
+due-invalid words input answer invalid gives _ (usage h) = gives
+due-invalid words input answer invalid gives _ (too_long asks h) = absurd (reads-nothing (task_of words) invalid asks)
+due-invalid words input answer invalid gives _ (judged reading j task within h) = let clash : true ≡ false = rw task at invalid in cc
+due-invalid words input answer invalid gives _ (generated n task) = let clash : true ≡ false = rw task at invalid in cc
 
--- The answer
-
--- what isn't a fault is the status that is due
-pub answer-is : (due answer : Status) → Gives due answer → IsAnswer answer → answer ≡ due
-answer-is due Done g a = g
-answer-is due Usage g a = g
-answer-is due TooLong g a = g
-answer-is due ProgramRefused g a = g
-answer-is due ScriptRefused g a = g
-answer-is due ReadFault g a = absurd a
-answer-is due WriteFault g a = absurd a
-answer-is due OutOfMemory g a = absurd a
-
--- what is due for a task that reads, and an input that isn't too long
+-- an input that is read, and isn't too long
 pub due-reading : (words : List Text) (reading : Reading) (input : List ℕ) (answer : Status) → task_of words ≡ Some (Read reading) → length input ≤ limit
-    → ((due : Status) → IsDueFor input due → Gives due answer) → (due : Status) → IsDue words input due → Gives due answer
-due-reading words reading input answer is within gives due d = by_case due d where
-  here : (due : Status) → IsDueTo (task_of words) input due → Gives due answer
-  here due d = gives due (subst (λ t. IsDueTo t input due) is d).1
+    → ((j : Judgement) → IsJudged input j → Gives (status_of j) answer) → (due : Status) → IsDue words input due → Gives due answer
+due-reading words reading input answer is within gives _ (usage h) = let clash : true ≡ false = rw is at h in cc
+due-reading words reading input answer is within gives _ (too_long asks h) = absurd (omega (arith, within, h))
+due-reading words reading input answer is within gives _ (judged r j task few h) = gives j h
+due-reading words reading input answer is within gives _ (generated n task) = let clash : Some (Read reading) ≡ Some (Gen n) = sym is ∙ task in cc
 
-  by_case : (due : Status) → IsDue words input due → Gives due answer
-  by_case Usage d = let clash : true ≡ false = rw is at d in cc
-  by_case TooLong d = absurd (omega (arith, within, d.1))
-  by_case Done d = here Done d
-  by_case ProgramRefused d = here ProgramRefused d
-  by_case ScriptRefused d = here ScriptRefused d
-  by_case ReadFault d = here ReadFault d
-  by_case WriteFault d = here WriteFault d
-  by_case OutOfMemory d = here OutOfMemory d
-
--- what is due for a generated run
-pub due-generated : (words : List Text) (n : ℕ) (input : List ℕ) (answer : Status) → task_of words ≡ Some (Gen n) → Gives Done answer
+-- an input that is too long
+pub due-long : (words : List Text) (reading : Reading) (input : List ℕ) (answer : Status) → task_of words ≡ Some (Read reading) → limit < length input → Gives TooLong answer
     → (due : Status) → IsDue words input due → Gives due answer
-due-generated words n input answer is gives due d = by_case due d where
-  here : (due : Status) → IsDueTo (task_of words) input due → Gives due answer
-  here due d = subst (λ s. Gives s answer) (sym (subst (λ t. IsDueTo t input due) is d)) gives
+due-long words reading input answer is long gives _ (usage h) = let clash : true ≡ false = rw is at h in cc
+due-long words reading input answer is long gives _ (too_long asks h) = gives
+due-long words reading input answer is long gives _ (judged r j task few h) = absurd (omega (arith, long, few))
+due-long words reading input answer is long gives _ (generated n task) = let clash : Some (Read reading) ≡ Some (Gen n) = sym is ∙ task in cc
 
-  by_case : (due : Status) → IsDue words input due → Gives due answer
-  by_case Usage d = let clash : true ≡ false = rw is at d in cc
-  by_case TooLong d = let clash : false ≡ true = rw is at d.0 in cc
-  by_case Done d = here Done d
-  by_case ProgramRefused d = here ProgramRefused d
-  by_case ScriptRefused d = here ScriptRefused d
-  by_case ReadFault d = here ReadFault d
-  by_case WriteFault d = here WriteFault d
-  by_case OutOfMemory d = here OutOfMemory d
+-- a generated run
+pub due-generated : (words : List Text) (n : ℕ) (input : List ℕ) (answer : Status) → task_of words ≡ Some (Gen n) → Gives Done answer → (due : Status) → IsDue words input due → Gives due answer
+due-generated words n input answer is gives _ (usage h) = let clash : true ≡ false = rw is at h in cc
+due-generated words n input answer is gives _ (too_long asks h) = let clash : false ≡ true = rw is at asks in cc
+due-generated words n input answer is gives _ (judged r j task few h) = let clash : Some (Gen n) ≡ Some (Read r) = sym is ∙ task in cc
+due-generated words n input answer is gives _ (generated m task) = gives
 
--- what was read is all that the source had, where it told it
+-- an answer that was cut short is free
+pub due-free : (words : List Text) (input : List ℕ) (answer : Status) → is_cut_short answer ≡ true → (due : Status) → IsDue words input due → Gives due answer
+due-free words input answer cut due d whole = let clash : true ≡ false = sym cut ∙ whole in cc
+
+-- the status that is due is the answer, where the source tells its bytes
+abbrev pub IsExact : List Text → Option (List ℕ) → Status → Type 0
+IsExact words old answer = IfSome old (λ all. (due : Status) → IsDue words all due → Gives due answer)
+
+-- whatever the source tells
+pub exact-by : (words : List Text) (old : Option (List ℕ)) (answer : Status) → ((input : List ℕ) (due : Status) → IsDue words input due → Gives due answer) → IsExact words old answer
+exact-by words None answer gives = tt
+exact-by words (Some all) answer gives = gives all
+
+-- what was read is all that the source had
 pub exact-all : (words : List Text) (reading : Reading) (old new : Option (List ℕ)) (input : List ℕ) (answer : Status) → task_of words ≡ Some (Read reading)
-    → Consumes old new input → IsAtEnd new → length input ≤ limit → ((due : Status) → IsDueFor input due → Gives due answer)
-    → IfSome old (λ all. (due : Status) → IsDue words all due → Gives due answer)
+    → Consumes old new input → IsAtEnd new → length input ≤ limit → ((j : Judgement) → IsJudged input j → Gives (status_of j) answer) → IsExact words old answer
 exact-all words reading None new input answer valid taken end within gives = tt
 exact-all words reading (Some all) None input answer valid taken end within gives = absurd taken
 exact-all words reading (Some all) (Some rest) input answer valid taken end within gives =
     let same : input ≡ all = sym (taken ∙ ap (λ l. input ++ l) end ∙ append-nil input) in
     subst (λ l. (due : Status) → IsDue words l due → Gives due answer) same (due-reading words reading input answer valid within gives)
 
-pub exact-generated : (words : List Text) (n : ℕ) (old : Option (List ℕ)) (answer : Status) → task_of words ≡ Some (Gen n) → Gives Done answer
-    → IfSome old (λ all. (due : Status) → IsDue words all due → Gives due answer)
-exact-generated words n None answer is gives = tt
-exact-generated words n (Some all) answer is gives = due-generated words n all answer is gives
+-- what was read is more than may be
+pub exact-long : (words : List Text) (reading : Reading) (old new : Option (List ℕ)) (input : List ℕ) (answer : Status) → task_of words ≡ Some (Read reading)
+    → Consumes old new input → length input ≡ limit + 1 → Gives TooLong answer → IsExact words old answer
+exact-long words reading None new input answer valid taken long gives = tt
+exact-long words reading (Some all) None input answer valid taken long gives = absurd taken
+exact-long words reading (Some all) (Some rest) input answer valid taken long gives =
+    let longer : limit < length all = omega (arith, long, ap (λ (l : List ℕ). length l) taken, length-append input rest) in
+    due-long words reading all answer valid longer gives
 
-finished : (answer : Status) → Gives Done answer → (answer ≡ ReadFault → ⊥) → (answer ≡ WriteFault → ⊥) → (answer ≡ Done) ⊎ (answer ≡ OutOfMemory)
+finished : (answer : Status) → Gives Done answer → answer ≢ ReadFault → answer ≢ WriteFault → (answer ≡ Done) ⊎ (answer ≡ OutOfMemory)
 finished Done g r w = inl refl
 finished OutOfMemory g r w = inr refl
 finished ReadFault g r w = absurd (r refl)
 finished WriteFault g r w = absurd (w refl)
-finished Usage g r w = cc
-finished TooLong g r w = cc
-finished ProgramRefused g r w = cc
-finished ScriptRefused g r w = cc
+finished Usage g r w = inl (g refl)
+finished TooLong g r w = inl (g refl)
+finished ProgramRefused g r w = inl (g refl)
+finished ScriptRefused g r w = inl (g refl)
 
 -- with no new fault, what is accepted is done, or memory was wanting
-pub complete-all : (words : List Text) (old : Option (List ℕ)) (answer : Status) (A B : Type 0)
-    → IfSome old (λ all. (due : Status) → IsDue words all due → Gives due answer) → (answer ≡ ReadFault → ⊥) → (answer ≡ WriteFault → B)
+pub complete : (words : List Text) (old : Option (List ℕ)) (answer : Status) (A B : Type 0) → IsExact words old answer → (answer ≡ ReadFault → A) → (answer ≡ WriteFault → B)
     → IfSome old (λ all. IsDue words all Done → ¬ A → ¬ B → (answer ≡ Done) ⊎ (answer ≡ OutOfMemory))
-complete-all words None answer A B exact no_read cause = tt
-complete-all words (Some all) answer A B exact no_read cause = λ due no_a no_b. finished answer (exact Done due) no_read (λ h. no_b (cause h))
+complete words None answer A B exact read write = tt
+complete words (Some all) answer A B exact read write = λ due no_a no_b. finished answer (exact Done due) (λ h. no_a (read h)) (λ h. no_b (write h))
 
--- The beginning of what is due
+-- Where the call was cut short
 
-pub begun-part : (words : List Text) (task : Task) (old new w u : Option (List ℕ)) → task_of words ≡ Some task → WritesPart w u (IsTextFor task old new)
-    → WritesPart w u (IsBegun words old new)
-begun-part words task old new w u valid part = (part.0, part.1, part.2, inr (inr (task, valid, part.3)), part.4)
+pub lost-by : (words : List Text) (old new w u : Option (List ℕ)) (used_old used : ℕ) (P : List ℕ → ℕ → Type 0) → ((part : List ℕ) (bodies : ℕ) → P part bodies → IsLost words old new part bodies)
+    → Writes w u used_old used P → Writes w u used_old used (IsLost words old new)
+lost-by words old new w u used_old used P by wrote = (wrote.0, wrote.1, by wrote.0 wrote.1 wrote.2, wrote.3, wrote.4)
 
--- what was read to its end, and began to be answered
-pub read-part : (reading : Reading) (old new w u : Option (List ℕ)) (input : List ℕ) → Consumes old new input → IsAtEnd new → length input ≤ limit
-    → WritesPart w u (IsSomeOutput reading input) → WritesPart w u (IsTextFor (Read reading) old new)
-read-part reading old new w u input taken end within part = (part.0, part.1, part.2, (input, taken, end, (within, part.3)), part.4)
+-- of the output of an input that was read
+pub lost-reading : (words : List Text) (reading : Reading) (old new w u : Option (List ℕ)) (used_old used : ℕ) (input : List ℕ) → task_of words ≡ Some (Read reading) → Consumes old new input → IsAtEnd new
+    → length input ≤ limit → (j : Judgement) → IsJudged input j → Writes w u used_old used (IsLostOutput reading j) → Writes w u used_old used (IsLost words old new)
+lost-reading words reading old new w u used_old used input valid taken end within j found wrote =
+    (wrote.0, wrote.1, lost_output reading valid (input, taken, end, (within, j, found, wrote.2)), wrote.3, wrote.4)
 
-pub read-some : (words : List Text) (reading : Reading) (old new w u : Option (List ℕ)) (input : List ℕ) → task_of words ≡ Some (Read reading) → Consumes old new input
-    → IsAtEnd new → length input ≤ limit → WritesSome w u (IsSomeOutput reading input) → WritesSome w u (IsBegun words old new)
-read-some words reading old new w u input valid taken end within (inl kept) = inl kept
-read-some words reading old new w u input valid taken end within (inr part) =
-    inr (begun-part words (Read reading) old new w u valid (read-part reading old new w u input taken end within part))
+-- what finds no memory: nothing, or of the output of an input that was read
+pub short-reading : (words : List Text) (reading : Reading) (old new w u : Option (List ℕ)) (used_old used : ℕ) (input : List ℕ) → task_of words ≡ Some (Read reading) → Consumes old new input → IsAtEnd new
+    → length input ≤ limit → Writes w u used_old used (OrNothing (IsShortOutput reading input)) → Writes w u used_old used (IsShort words old new)
+short-reading words reading old new w u used_old used input valid taken end within wrote = (wrote.0, wrote.1, by wrote.2, wrote.3, wrote.4)
+  where
+    by : OrNothing (IsShortOutput reading input) wrote.0 wrote.1 → IsShort words old new wrote.0 wrote.1
+    by (inl none) = nothing none
+    by (inr h) = short_output reading valid (input, taken, end, (within, h))
+
+-- nothing, or of a summary
+pub short-generated : (words : List Text) (n : ℕ) (old new w u : Option (List ℕ)) (used_old used : ℕ) → task_of words ≡ Some (Gen n) → Writes w u used_old used (OrNothing (IsShortSummary n))
+    → Writes w u used_old used (IsShort words old new)
+short-generated words n old new w u used_old used valid wrote = (wrote.0, wrote.1, by wrote.2, wrote.3, wrote.4)
+  where
+    by : OrNothing (IsShortSummary n) wrote.0 wrote.1 → IsShort words old new wrote.0 wrote.1
+    by (inl none) = nothing none
+    by (inr h) = short_summary n valid h
+
+-- nothing at all
+pub short-nothing : (words : List Text) (old new w : Option (List ℕ)) (used : ℕ) → Writes w w used used (IsShort words old new)
+short-nothing words old new w used = ([], 0, nothing (refl, refl), Appends-nil w, omega arith)
+
+-- a generated run that finds no memory, before it or in it
+pub summary-short : (n : ℕ) (p : Program) (steps : List Step) (used_old used : ℕ) → IsGenerated n p steps → CountsShort p steps used_old used
+    → (used ≡ used_old) ⊎ ((bodies : ℕ) × IsShortSummary n [] bodies × (used ≡ used_old + bodies))
+summary-short n p steps used_old used made (inl same) = inl same
+summary-short n p steps used_old used made (inr h) =
+    inr (h.1, record { program = p; steps = steps; generated = made; report = h.0; breaks = h.2; nothing = refl }, h.4)
+
+-- what is written of a summary where memory runs out
+pub summary-nothing : (n : ℕ) (w : Option (List ℕ)) (used_old used : ℕ) → (used ≡ used_old) ⊎ ((bodies : ℕ) × IsShortSummary n [] bodies × (used ≡ used_old + bodies))
+    → Writes w w used_old used (OrNothing (IsShortSummary n))
+summary-nothing n w used_old used (inl same) = nothing-written (IsShortSummary n) w used_old used same
+summary-nothing n w used_old used (inr h) = ([], h.0, inr h.1, Appends-nil w, h.2)
+
+-- a summary that was written, or a part of it
+pub summary-whole : (n : ℕ) (text : List ℕ) (w u : Option (List ℕ)) (used_old used : ℕ) → ((bodies : ℕ) × IsSummary n text bodies × (used ≡ used_old + bodies)) → Appends w u text
+    → Writes w u used_old used (IsSummary n)
+summary-whole n text w u used_old used h wrote = (text, h.0, h.1, wrote, h.2)
+
+pub summary-lost : (n : ℕ) (text : List ℕ) (w u : Option (List ℕ)) (used_old used : ℕ) → ((bodies : ℕ) × IsSummary n text bodies × (used ≡ used_old + bodies)) → AppendsPart w u text
+    → Writes w u used_old used (IsLostSummary n)
+summary-lost n text w u used_old used h wrote = (wrote.0, h.0, record { text = text; summary = h.1; is_part = wrote.1 }, wrote.2, h.2)

@@ -3,3 +3,4 @@ pub mod Reported
 pub mod Due
 pub mod Summed
 pub mod Sizes
+pub mod OneLine

@@ -10,6 +10,7 @@ use Rattle.rx_gen.specs.Generated.{summary_text}
 use Rattle.rx_model.specs.State.{State}
 use Rattle.rx_model.specs.Stretch.{Stretch}
 use Rattle.rx_model.specs.Machine.{StepTo}
+use Rattle.rx_root.specs.Paying.{Pays}
 use Rattle.rx_root.specs.Rooted.{Rooted}
 use Rattle.rx_root.specs.Stands.{Stands}
 use Rattle.rx_top.specs.Outcome.{plain, tree_bytes, summary_of}
@@ -24,7 +25,7 @@ behind_head : (s : State) → drop 5 (report_bytes plain (tree_lines (hosts s.tr
 behind_head s = head_bytes (drop 1 (tree_lines (hosts s.tree)))
 
 -- what is read of a root after it has printed its hosts sums up what was before
-pub summed : (n : ℕ) (p : Program) (s : State) (r : Stretch) (root : Rooted) (updates commits nodes : ℕ) (tree bytes : Text) → StepTo p s step.Tree r → Stands p r.after root
+pub summed : (n : ℕ) (p : Program) (s : State) (r : Stretch) (root : Rooted) (updates commits nodes : ℕ) (tree bytes : Text) → StepTo Pays p s step.Tree r → Stands p r.after root
     → updates ≡ root.updates → commits ≡ root.commits → nodes ≡ node_count r.after.tree → tree ≡ drop 5 bytes → bytes ≡ report_bytes plain r.lines
     → summary_text n updates commits nodes tree ≡ summary_of n s
 summed n p s r root updates commits nodes tree bytes is stands u c m t b =

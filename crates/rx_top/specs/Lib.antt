@@ -1,3 +1,4 @@
 pub mod Codes
 pub mod Outcome
+pub mod Reports
 pub mod Running

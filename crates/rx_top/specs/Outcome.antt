@@ -1,21 +1,23 @@
 -- What the top call answers and writes, for the words and the input.
-use Rattle.std.specs.Prelude.{ℕ, ◌≡◌, ◌+◌, ◌<◌, ◌≤◌, ◌⊎◌, List, [], ◌∷◌, ◌++◌, length, true, false, codes, Option, Some, None, IsTrue, drop}
-use Rattle.std.specs.Io.KnownBytes.{Appends, Keeps, Consumes, IsAtEnd}
+use Rattle.std.specs.Prelude.{ℕ, ◌≡◌, ◌≢◌, ◌+◌, ◌<◌, ◌≤◌, ◌⊎◌, List, [], ◌∷◌, ◌++◌, length, Bool, true, false, codes, Option, Some, drop}
+use Rattle.std.specs.Io.KnownBytes.{Appends, Consumes, IsAtEnd}
 use Rattle.rx_base.specs.Values.{Text}
+use Rattle.rx_io.specs.Causes.{Rose}
+use Rattle.rx_io.specs.Whole.{IsPartOf}
 use Rattle.rx_ast.specs.Syntax.{Program}
 use Rattle.rx_rules.specs.Bounds.{node_bound, depth_bound}
 use Rattle.rx_step.specs.declared.step.Step.{Step}
 use Rattle.rx_accept.specs.Lines.{then_number}
-use Rattle.rx_accept.specs.Judgements.{IsJudged, accepted, program_refused, script_refused}
+use Rattle.rx_accept.specs.Judgements.{Judgement, IsJudged, accepted, program_refused, script_refused}
 use Rattle.rx_elem.specs.Spots.{node_count}
 use Rattle.rx_forest.specs.Hosts.{hosts}
 use Rattle.rx_lines.specs.Lines.{Options, tree_lines, report_bytes}
-use Rattle.rx_model.specs.State.{State, opening, is_quiet}
+use Rattle.rx_model.specs.State.{State, opening}
 use Rattle.rx_model.specs.Stretch.{Stretch}
-use Rattle.rx_model.specs.Machine.{RunTo, Reports}
-use Rattle.rx_model.specs.Laws.{ShowsEverything}
-use Rattle.rx_root.specs.Paying.{RunPaid}
-use Rattle.rx_gen.specs.Generated.{program_text, script_text, summary_text}
+use Rattle.rx_model.specs.Machine.{RunTo}
+use Rattle.rx_root.specs.Paying.{Pays}
+use Rattle.rx_gen.specs.Generated.{summary_text}
+use Rattle.gen_laws.specs.Meant.{generated_input}
 use Rattle.rx_words.specs.Words.{is_valid, reads_input, task_of}
 use Rattle.rx_words.specs.declared.task.Task.{Task}
 use Rattle.rx_words.specs.declared.task.Task.TheVariants.{Read, Gen}
@@ -23,6 +25,7 @@ use Rattle.rx_words.specs.declared.task.Reading.{Reading}
 use Rattle.rx_words.specs.declared.task.Reading.TheVariants.{Run, Check}
 use Rattle.rx_top.specs.declared.status.Status.{Status}
 use Rattle.rx_top.specs.declared.status.Status.TheVariants.{Done, Usage, ReadFault, WriteFault, TooLong, ProgramRefused, ScriptRefused, OutOfMemory}
+use Rattle.rx_top.specs.Reports.{IsReport, IsLostReport, IsShortReport, BreaksOffAt}
 
 -- the line for words that aren't valid
 abbrev pub usage_line : Text
@@ -41,64 +44,108 @@ accepted_line nodes levels steps =
 abbrev pub limit : ℕ
 limit = 1048576
 
--- the input is accepted, with its program and its steps
-pub record IsAccepted (input : List ℕ) : Type 0 where
+-- What is due
+
+-- the status that is due for an input that isn't too long, by what it is judged to be
+abbrev pub status_of : Judgement → Status
+status_of (accepted p steps) = Done
+status_of (program_refused line) = ProgramRefused
+status_of (script_refused line) = ScriptRefused
+
+-- The status that is due for the words and the input: words that aren't valid are refused, an input of valid words that is too long is, and one that isn't is judged; a generated run reads nothing, and is done.
+pub data IsDue (words : List Text) (input : List ℕ) : Status → Type 0 where
+  usage : is_valid words ≡ false → IsDue words input Usage
+  too_long : reads_input words ≡ true → limit < length input → IsDue words input TooLong
+  judged : (reading : Reading) (j : Judgement) → task_of words ≡ Some (Read reading) → length input ≤ limit → IsJudged input j → IsDue words input (status_of j)
+  generated : (rounds : ℕ) → task_of words ≡ Some (Gen rounds) → IsDue words input Done
+
+-- a fault of the source or the sink, or want of memory, has cut the call short
+abbrev pub is_cut_short : Status → Bool
+is_cut_short Done = false
+is_cut_short Usage = false
+is_cut_short ReadFault = true
+is_cut_short WriteFault = true
+is_cut_short TooLong = false
+is_cut_short ProgramRefused = false
+is_cut_short ScriptRefused = false
+is_cut_short OutOfMemory = true
+
+-- where nothing has cut the call short, it is answered with the status that is due
+abbrev pub Gives : (due answer : Status) → Type 0
+Gives due answer = is_cut_short answer ≡ false → answer ≡ due
+
+-- the count of faults of the sink rose where the answer is a write fault, and stayed where it is another
+pub record TellsFaults (before now : ℕ) (answer : Status) : Type 0 where
+  pub rose : answer ≡ WriteFault → Rose before now
+  pub kept : answer ≢ WriteFault → now ≡ before
+
+-- What was read and written
+
+-- a text with P was written, and so many bodies were counted
+abbrev pub Writes : Option (List ℕ) → Option (List ℕ) → ℕ → ℕ → (List ℕ → ℕ → Type 0) → Type 0
+Writes old new used_old used_new P = (text : List ℕ) × (bodies : ℕ) × P text bodies × Appends old new text × (used_new ≡ used_old + bodies)
+
+-- what was read has P
+abbrev pub Reads : Option (List ℕ) → Option (List ℕ) → (List ℕ → Type 0) → Type 0
+Reads old new P = (input : List ℕ) × Consumes old new input × P input
+
+-- the same, to the end of the source
+abbrev pub ReadsAll : Option (List ℕ) → Option (List ℕ) → (List ℕ → Type 0) → Type 0
+ReadsAll old new P = (input : List ℕ) × Consumes old new input × IsAtEnd new × P input
+
+-- an input that isn't too long was read to the end of the source, it is judged to be this, and P holds of it
+abbrev pub ReadsJudged : Option (List ℕ) → Option (List ℕ) → (Judgement → Type 0) → Type 0
+ReadsJudged old new P = ReadsAll old new (λ input. (length input ≤ limit) × (j : Judgement) × IsJudged input j × P j)
+
+-- this line is written, and no body is evaluated
+abbrev pub IsLine : Text → List ℕ → ℕ → Type 0
+IsLine line text bodies = (text ≡ line) × (bodies ≡ 0)
+
+-- a part of this line is written, and no body is evaluated
+abbrev pub IsLostLine : Text → List ℕ → ℕ → Type 0
+IsLostLine line part bodies = IsPartOf part line × (bodies ≡ 0)
+
+-- The work on an input
+
+-- What is written for a program that is accepted and the steps of its script, and how many bodies are evaluated for it: `check` writes the one line of its bounds; `run` writes the report of a run of the fresh machine, each of whose renders pays.
+abbrev pub IsWork : Reading → Program → List Step → List ℕ → ℕ → Type 0
+IsWork Check p steps text bodies = IsLine (accepted_line (node_bound p) (depth_bound p) (length steps)) text bodies
+IsWork (Run counts ops) p steps text bodies = IsReport Pays p steps (record { counts = counts; ops = ops }) text bodies
+
+-- what is written for an input that is judged to be this, and how many bodies are evaluated for it
+abbrev pub IsOutput : Reading → Judgement → List ℕ → ℕ → Type 0
+IsOutput reading (accepted p steps) text bodies = IsWork reading p steps text bodies
+IsOutput reading (program_refused line) text bodies = IsLine line text bodies
+IsOutput reading (script_refused line) text bodies = IsLine line text bodies
+
+-- what is written of the work where the sink fails
+abbrev pub IsLostWork : Reading → Program → List Step → List ℕ → ℕ → Type 0
+IsLostWork Check p steps part bodies = IsLostLine (accepted_line (node_bound p) (depth_bound p) (length steps)) part bodies
+IsLostWork (Run counts ops) p steps part bodies = IsLostReport p steps (record { counts = counts; ops = ops }) part bodies
+
+-- what is written of the output where the sink fails
+abbrev pub IsLostOutput : Reading → Judgement → List ℕ → ℕ → Type 0
+IsLostOutput reading (accepted p steps) part bodies = IsLostWork reading p steps part bodies
+IsLostOutput reading (program_refused line) part bodies = IsLostLine line part bodies
+IsLostOutput reading (script_refused line) part bodies = IsLostLine line part bodies
+
+-- nothing is written and no body is evaluated, or this holds
+abbrev pub OrNothing : (List ℕ → ℕ → Type 0) → List ℕ → ℕ → Type 0
+OrNothing P part bodies = IsLine [] part bodies ⊎ P part bodies
+
+-- what is written of the work where memory runs out: nothing, before a body is evaluated; or, of `run`, a report that is cut off
+abbrev pub IsShortWork : Reading → Program → List Step → List ℕ → ℕ → Type 0
+IsShortWork Check p steps part bodies = IsLine [] part bodies
+IsShortWork (Run counts ops) p steps part bodies = OrNothing (IsShortReport p steps (record { counts = counts; ops = ops })) part bodies
+
+-- what is written where memory runs out, of the work on an input that is accepted
+pub record IsShortOutput (reading : Reading) (input : List ℕ) (part : List ℕ) (bodies : ℕ) : Type 0 where
   pub program : Program
   pub steps : List Step
   pub judged : IsJudged input (accepted program steps)
-
--- the program of the input is refused with this line, or its script is
-abbrev pub IsRefused : List ℕ → Status → Text → Type 0
-IsRefused input ProgramRefused line = IsJudged input (program_refused line)
-IsRefused input ScriptRefused line = IsJudged input (script_refused line)
-IsRefused input _ line = ⊥
-
--- the status that is due for an input that isn't too long
-abbrev pub IsDueFor : List ℕ → Status → Type 0
-IsDueFor input Done = IsAccepted input
-IsDueFor input due = (line : Text) × IsRefused input due line
-
--- the status that is due for a task and an input: a generated run reads nothing, and is done
-abbrev pub IsDueTo : Option Task → List ℕ → Status → Type 0
-IsDueTo None input due = ⊥
-IsDueTo (Some (Read reading)) input due = (length input ≤ limit) × IsDueFor input due
-IsDueTo (Some (Gen n)) input due = due ≡ Done
-
--- the status that is due for the words and the input
-abbrev pub IsDue : List Text → List ℕ → Status → Type 0
-IsDue words input Usage = is_valid words ≡ false
-IsDue words input TooLong = (reads_input words ≡ true) × (limit < length input)
-IsDue words input due = IsDueTo (task_of words) input due
-
--- The bytes are the report of a run of the fresh machine, which evaluates so many bodies. Where its end is quiet, every hook and the whole tree show all updates.
-pub record IsReport (p : Program) (steps : List Step) (options : Options) (bytes : List ℕ) (bodies : ℕ) : Type 0 where
-  pub reports : Reports p steps options bytes bodies
-  pub quiet : IsTrue (is_quiet reports.run.whole.after) → ShowsEverything p reports.run.whole.after
-
--- The bytes are such a report, and each render of its run pays: it evaluates as many bodies at most as places have a cause or lie below one that has, and as many at least, once it is finished, as places have a cause of their own, what hidden boundaries keep that wait still left out.
-pub record IsPaidReport (p : Program) (steps : List Step) (options : Options) (bytes : List ℕ) (bodies : ℕ) : Type 0 where
-  pub report : IsReport p steps options bytes bodies
-  pub pays : RunPaid p opening steps report.reports.run.whole
-
--- what is asked of a report, of which a run evaluates so many bodies
-abbrev pub Reporting : Type 1
-Reporting = Program → List Step → Options → List ℕ → ℕ → Type 0
-
--- What is written for a program that is accepted and the steps of its script, and how many bodies are evaluated for it: `check` writes the one line of its bounds; `run` writes the report of a run of the fresh machine.
-abbrev pub IsWork : Reporting → Reading → Program → List Step → List ℕ → ℕ → Type 0
-IsWork Report Check p steps text bodies = (text ≡ accepted_line (node_bound p) (depth_bound p) (length steps)) × (bodies ≡ 0)
-IsWork Report (Run counts ops) p steps text bodies = Report p steps (record { counts = counts; ops = ops }) text bodies
-
--- what is written for an input that isn't too long, and how many bodies are evaluated for it
-abbrev pub IsOutput : Reporting → Reading → List ℕ → Status → List ℕ → ℕ → Type 0
-IsOutput Report reading input Done text bodies = (a : IsAccepted input) × IsWork Report reading a.program a.steps text bodies
-IsOutput Report reading input due text bodies = IsRefused input due text × (bodies ≡ 0)
+  pub work : IsShortWork reading program steps part bodies
 
 -- The generated run
-
--- the input of a generated run: the generated program, and a script of so many rounds
-abbrev pub generated_input : (rounds : ℕ) → List ℕ
-generated_input n = program_text ++ codes "---\n" ++ script_text n
 
 -- a report that shows neither counts nor operations
 abbrev pub plain : Options
@@ -112,73 +159,56 @@ tree_bytes s = report_bytes plain (drop 1 (tree_lines (hosts s.tree)))
 abbrev pub summary_of : (rounds : ℕ) → State → Text
 summary_of n s = summary_text n (length s.journal.updates) s.commits (node_count s.tree) (tree_bytes s)
 
+-- the program and the steps of a generated run
+abbrev pub IsGenerated : (rounds : ℕ) → Program → List Step → Type 0
+IsGenerated n program steps = IsJudged (generated_input n) (accepted program steps)
+
 -- The text sums up a run of the fresh machine, of the generated program on the steps of its script, each of whose renders pays.
 pub record IsSummary (rounds : ℕ) (text : List ℕ) (bodies : ℕ) : Type 0 where
-  pub input : IsAccepted (generated_input rounds)
+  pub program : Program
+  pub steps : List Step
+  pub generated : IsGenerated rounds program steps
   pub whole : Stretch
-  pub runs : RunTo input.program opening input.steps whole
-  pub pays : RunPaid input.program opening input.steps whole
+  pub runs : RunTo Pays program opening steps whole
   pub text_is : text ≡ summary_of rounds whole.after
   pub bodies_are : bodies ≡ whole.bodies
 
+-- what is written of a summary where the sink fails: the run is over by then
+pub record IsLostSummary (rounds : ℕ) (part : List ℕ) (bodies : ℕ) : Type 0 where
+  pub text : List ℕ
+  pub summary : IsSummary rounds text bodies
+  pub is_part : IsPartOf part text
+
+-- Nothing is written of a summary where memory runs out within a step of the generated run, or behind the last one. What its report would be is cut off there.
+pub record IsShortSummary (rounds : ℕ) (part : List ℕ) (bodies : ℕ) : Type 0 where
+  pub program : Program
+  pub steps : List Step
+  pub generated : IsGenerated rounds program steps
+  pub report : List ℕ
+  pub breaks : BreaksOffAt program steps plain report bodies
+  pub nothing : part ≡ []
+
 -- Answers
-
--- the answer is the status that is due, or a read fault, a write fault or want of memory
-abbrev pub Gives : Status → Status → Type 0
-Gives due ReadFault = Unit {0}
-Gives due WriteFault = Unit {0}
-Gives due OutOfMemory = Unit {0}
-Gives due answer = answer ≡ due
-
--- the answer is no fault and no want of memory
-abbrev pub IsAnswer : Status → Type 0
-IsAnswer ReadFault = ⊥
-IsAnswer WriteFault = ⊥
-IsAnswer OutOfMemory = ⊥
-IsAnswer answer = Unit {0}
-
--- a text with P was written, and so many bodies were counted
-abbrev pub Writes : Option (List ℕ) → Option (List ℕ) → ℕ → ℕ → (List ℕ → ℕ → Type 0) → Type 0
-Writes old new used_old used_new P = (text : List ℕ) × (bodies : ℕ) × P text bodies × Appends old new text × (used_new ≡ used_old + bodies)
-
--- the beginning of a text with P was written
-abbrev pub WritesPart : Option (List ℕ) → Option (List ℕ) → (List ℕ → ℕ → Type 0) → Type 0
-WritesPart old new P = (part : List ℕ) × (rest : List ℕ) × (bodies : ℕ) × P (part ++ rest) bodies × Appends old new part
-
--- nothing was written, or the beginning of a text with P
-abbrev pub WritesSome : Option (List ℕ) → Option (List ℕ) → (List ℕ → ℕ → Type 0) → Type 0
-WritesSome old new P = Keeps old new ⊎ WritesPart old new P
-
--- what was read has P
-abbrev pub Reads : Option (List ℕ) → Option (List ℕ) → (List ℕ → Type 0) → Type 0
-Reads old new P = (input : List ℕ) × Consumes old new input × P input
-
--- the same, to the end of the source
-abbrev pub ReadsAll : Option (List ℕ) → Option (List ℕ) → (List ℕ → Type 0) → Type 0
-ReadsAll old new P = (input : List ℕ) × Consumes old new input × IsAtEnd new × P input
-
--- some output of this task and this input
-abbrev pub IsSomeOutput : Reading → List ℕ → List ℕ → ℕ → Type 0
-IsSomeOutput reading input text bodies = (due : Status) × IsOutput IsReport reading input due text bodies
 
 -- An input was read whole, and what was written is its output with this status.
 abbrev pub Answers : Reading → Status → (left_old left_new written_old written_new : Option (List ℕ)) → (used_old used_new : ℕ) → Type 0
 Answers reading due left_old left_new written_old written_new used_old used_new =
-    ReadsAll left_old left_new (λ input. (length input ≤ limit) × Writes written_old written_new used_old used_new (IsOutput IsPaidReport reading input due))
+    ReadsJudged left_old left_new (λ j. (status_of j ≡ due) × Writes written_old written_new used_old used_new (IsOutput reading j))
 
 -- A task's work was done: an input was read whole, and its output written; or a generated run was summed up.
 abbrev pub Does : Task → (left_old left_new written_old written_new : Option (List ℕ)) → (used_old used_new : ℕ) → Type 0
 Does (Read reading) left_old left_new written_old written_new used_old used_new = Answers reading Done left_old left_new written_old written_new used_old used_new
 Does (Gen n) left_old left_new written_old written_new used_old used_new = Writes written_old written_new used_old used_new (IsSummary n)
 
--- the text is the whole output for a task and what was read
-abbrev pub IsTextFor : Task → Option (List ℕ) → Option (List ℕ) → List ℕ → ℕ → Type 0
-IsTextFor (Read reading) old new text bodies = ReadsAll old new (λ input. (length input ≤ limit) × IsSomeOutput reading input text bodies)
-IsTextFor (Gen n) old new text bodies = IsSummary n text bodies
+-- What is written where the sink fails, and how many bodies are evaluated until then: a part of the line for words that aren't valid, or for an input that is too long; of the output of an input that was read whole; or of a summary.
+pub data IsLost (words : List Text) (left_old left_new : Option (List ℕ)) (part : List ℕ) (bodies : ℕ) : Type 0 where
+  lost_usage : is_valid words ≡ false → IsLostLine usage_line part bodies → IsLost words left_old left_new part bodies
+  lost_too_long : reads_input words ≡ true → Reads left_old left_new (λ input. length input ≡ limit + 1) → IsLostLine too_long_line part bodies → IsLost words left_old left_new part bodies
+  lost_output : (reading : Reading) → task_of words ≡ Some (Read reading) → ReadsJudged left_old left_new (λ j. IsLostOutput reading j part bodies) → IsLost words left_old left_new part bodies
+  lost_summary : (rounds : ℕ) → task_of words ≡ Some (Gen rounds) → IsLostSummary rounds part bodies → IsLost words left_old left_new part bodies
 
--- The output that is due for the words and what was read, of which a beginning was written: the line for words that
--- aren't valid; for those that are, the line for an input that is too long, or the output of the whole input, or a summary.
-abbrev pub IsBegun : List Text → Option (List ℕ) → Option (List ℕ) → List ℕ → ℕ → Type 0
-IsBegun words old new text bodies = ((is_valid words ≡ false) × (text ≡ usage_line))
-    ⊎ ((reads_input words ≡ true) × Reads old new (λ input. length input ≡ limit + 1) × (text ≡ too_long_line))
-    ⊎ ((task : Task) × (task_of words ≡ Some task) × IsTextFor task old new text bodies)
+-- What is written where memory runs out, and how many bodies are evaluated until then: nothing, before a run; or some of the output of an input that was read whole, or of a summary.
+pub data IsShort (words : List Text) (left_old left_new : Option (List ℕ)) (part : List ℕ) (bodies : ℕ) : Type 0 where
+  nothing : IsLine [] part bodies → IsShort words left_old left_new part bodies
+  short_output : (reading : Reading) → task_of words ≡ Some (Read reading) → ReadsAll left_old left_new (λ input. (length input ≤ limit) × IsShortOutput reading input part bodies) → IsShort words left_old left_new part bodies
+  short_summary : (rounds : ℕ) → task_of words ≡ Some (Gen rounds) → IsShortSummary rounds part bodies → IsShort words left_old left_new part bodies

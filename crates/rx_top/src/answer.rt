@@ -1,15 +1,17 @@
 // What an input gives.
-ghost use Rattle.std.specs.Prelude.{◌≡◌, ◌<◌, ◌^◌, length};
-ghost use Rattle.std.specs.Io.KnownBytes.{Appends, Keeps};
-ghost use Rattle.rx_io.specs.Causes.{Rose};
-ghost use Rattle.rx_io.specs.Whole.{AppendsPrefix};
+ghost use Rattle.std.specs.Prelude.{◌≡◌, ◌≢◌, ◌<◌, ◌^◌, length, false};
+ghost use Rattle.std.specs.Io.KnownBytes.{Appends};
+ghost use Rattle.rx_io.specs.Whole.{AppendsPart};
+ghost use Rattle.rx_accept.specs.Judgements.{Judgement, IsJudged};
 ghost use Rattle.rx_rules.specs.Bounds.{node_bound, depth_bound};
 ghost use Rattle.rx_model.specs.State.{opening};
 ghost use Rattle.rx_model.specs.Laws.{IsBounded};
+ghost use Rattle.rx_root.specs.Paying.{Pays};
 ghost use Rattle.rx_root.specs.Stands.{Stands};
 ghost use Rattle.rx_root.specs.Taking.{AllCanTake};
 ghost use Rattle.rx_top.specs.declared.status.Status.{Status};
-ghost use Rattle.rx_top.specs.Outcome.{accepted_line as accepted_line_of, IsDueFor, IsOutput, IsPaidReport, IsReport, IsSomeOutput, IsWork, Gives, IsAnswer, Writes, WritesPart, WritesSome};
+ghost use Rattle.rx_top.specs.Outcome.{accepted_line as accepted_line_of, status_of, is_cut_short, Gives, TellsFaults, Writes, OrNothing, IsWork, IsOutput, IsLostWork, IsLostOutput, IsShortWork, IsShortOutput};
+ghost use Rattle.rx_top.specs.Reports.{IsReport, IsLostReport, IsShortReport};
 
 use crate::lines::accepted_line;
 use crate::run::{RunError, run_steps};
@@ -19,6 +21,7 @@ use rx_accept::{Verdict, accept};
 use rx_base::Steps;
 use rx_check::Checked;
 use rx_io::{Sink, write_all};
+use rx_model::progresses;
 use rx_report::Report;
 use rx_root::{Root, steps_can_be_taken};
 use rx_step::Step;
@@ -28,13 +31,13 @@ use std::sync::ledger::Ledger;
 
 /// Writes a whole line and answers this, unless the sink fails.
 pub(crate) fn tell<K: Sink>(out: &mut K, line: &[u8], answer: Status) -> Status
-    requires { IsAnswer answer }
+    requires { is_cut_short answer ≡ false }
     ensures gives { Gives answer result }
-    ensures no_read { result ≡ Status.ReadFault → ⊥ }
-    ensures no_memory { result ≡ Status.OutOfMemory → ⊥ }
-    ensures done { IsAnswer result → Appends (K.written out.old) (K.written out.new) line.now }
-    ensures fault_part { result ≡ Status.WriteFault → AppendsPrefix (K.written out.old) (K.written out.new) line.now }
-    ensures cause { result ≡ Status.WriteFault → Rose (K.faults out.old) (K.faults out.new) }
+    ensures no_read { result ≢ Status.ReadFault }
+    ensures no_memory { result ≢ Status.OutOfMemory }
+    ensures done { is_cut_short result ≡ false → Appends (K.written out.old) (K.written out.new) line.now }
+    ensures lost { result ≡ Status.WriteFault → AppendsPart (K.written out.old) (K.written out.new) line.now }
+    ensures faults { TellsFaults (K.faults out.old) (K.faults out.new) result }
 {
     match write_all(out, line) {
         Ok(()) => answer,
@@ -62,13 +65,14 @@ fn run_root<K: Sink, L: Ledger>(
     requires fits { AllCanTake root.old.rendering.program script.now }
     requires few { length script.now < 2 ^ 32 }
     ensures gives { Gives Status.Done result }
-    ensures no_read { result ≡ Status.ReadFault → ⊥ }
-    ensures done { result ≡ Status.Done → Writes (K.written out.old) (K.written out.new) steps.old steps.new (IsPaidReport root.old.rendering.program script.now log.old.options) }
-    ensures fault_part { result ≡ Status.WriteFault → WritesPart (K.written out.old) (K.written out.new) (IsReport root.old.rendering.program script.now log.old.options) }
-    ensures memory_part { result ≡ Status.OutOfMemory → WritesPart (K.written out.old) (K.written out.new) (IsReport root.old.rendering.program script.now log.old.options) }
-    ensures cause { result ≡ Status.WriteFault → Rose (K.faults out.old) (K.faults out.new) }
+    ensures no_read { result ≢ Status.ReadFault }
+    ensures done { result ≡ Status.Done → Writes (K.written out.old) (K.written out.new) steps.old steps.new (IsReport Pays root.old.rendering.program script.now log.old.options) }
+    ensures lost { result ≡ Status.WriteFault → Writes (K.written out.old) (K.written out.new) steps.old steps.new (IsLostReport root.old.rendering.program script.now log.old.options) }
+    ensures short { result ≡ Status.OutOfMemory → Writes (K.written out.old) (K.written out.new) steps.old steps.new (IsShortReport root.old.rendering.program script.now log.old.options) }
+    ensures faults { TellsFaults (K.faults out.old) (K.faults out.new) result }
 {
     quiet_ends();
+    progresses();
     match run_steps(root, script, log, out, steps) {
         Ok(()) => {}
         Err(RunError::Failed) => return Status::WriteFault,
@@ -97,11 +101,11 @@ fn run_program<K: Sink, L: Ledger>(
     requires fits { AllCanTake checked script.now }
     requires few { length script.now < 2 ^ 32 }
     ensures gives { Gives Status.Done result }
-    ensures no_read { result ≡ Status.ReadFault → ⊥ }
-    ensures done { result ≡ Status.Done → Writes (K.written out.old) (K.written out.new) steps.old steps.new (IsPaidReport checked script.now log.old.options) }
-    ensures fault_part { result ≡ Status.WriteFault → WritesPart (K.written out.old) (K.written out.new) (IsReport checked script.now log.old.options) }
-    ensures memory_part { result ≡ Status.OutOfMemory → WritesSome (K.written out.old) (K.written out.new) (IsReport checked script.now log.old.options) }
-    ensures cause { result ≡ Status.WriteFault → Rose (K.faults out.old) (K.faults out.new) }
+    ensures no_read { result ≢ Status.ReadFault }
+    ensures done { result ≡ Status.Done → Writes (K.written out.old) (K.written out.new) steps.old steps.new (IsReport Pays checked script.now log.old.options) }
+    ensures lost { result ≡ Status.WriteFault → Writes (K.written out.old) (K.written out.new) steps.old steps.new (IsLostReport checked script.now log.old.options) }
+    ensures short { result ≡ Status.OutOfMemory → Writes (K.written out.old) (K.written out.new) steps.old steps.new (OrNothing (IsShortReport checked script.now log.old.options)) }
+    ensures faults { TellsFaults (K.faults out.old) (K.faults out.new) result }
 {
     program_is_bounded(&checked);
     match Root::new(alloc, checked) {
@@ -113,11 +117,11 @@ fn run_program<K: Sink, L: Ledger>(
 /// Tells the bounds of a program that is accepted, and how many steps its script has.
 fn tell_accepted<K: Sink>(alloc: Global, checked: &Checked, count: u64, out: &mut K) -> Status
     ensures gives { Gives Status.Done result }
-    ensures no_read { result ≡ Status.ReadFault → ⊥ }
-    ensures done { IsAnswer result → Appends (K.written out.old) (K.written out.new) (accepted_line_of (node_bound checked.now) (depth_bound checked.now) count) }
-    ensures fault_part { result ≡ Status.WriteFault → AppendsPrefix (K.written out.old) (K.written out.new) (accepted_line_of (node_bound checked.now) (depth_bound checked.now) count) }
-    ensures memory_part { result ≡ Status.OutOfMemory → Keeps (K.written out.old) (K.written out.new) }
-    ensures cause { result ≡ Status.WriteFault → Rose (K.faults out.old) (K.faults out.new) }
+    ensures no_read { result ≢ Status.ReadFault }
+    ensures done { is_cut_short result ≡ false → Appends (K.written out.old) (K.written out.new) (accepted_line_of (node_bound checked.now) (depth_bound checked.now) count) }
+    ensures lost { result ≡ Status.WriteFault → AppendsPart (K.written out.old) (K.written out.new) (accepted_line_of (node_bound checked.now) (depth_bound checked.now) count) }
+    ensures short { result ≡ Status.OutOfMemory → out.new ≡ out.old }
+    ensures faults { TellsFaults (K.faults out.old) (K.faults out.new) result }
 {
     match accepted_line(alloc, checked.bound(), checked.depth(), count) {
         Ok(line) => tell(out, &line, Status::Done),
@@ -137,11 +141,11 @@ fn answer_accepted<K: Sink, L: Ledger>(
     requires fits { AllCanTake checked script.now }
     requires few { length script.now < 2 ^ 32 }
     ensures gives { Gives Status.Done result }
-    ensures no_read { result ≡ Status.ReadFault → ⊥ }
-    ensures done { IsAnswer result → Writes (K.written out.old) (K.written out.new) steps.old steps.new (IsWork IsPaidReport reading checked script.now) }
-    ensures fault_part { result ≡ Status.WriteFault → WritesPart (K.written out.old) (K.written out.new) (IsWork IsReport reading checked script.now) }
-    ensures memory_part { result ≡ Status.OutOfMemory → WritesSome (K.written out.old) (K.written out.new) (IsWork IsReport reading checked script.now) }
-    ensures cause { result ≡ Status.WriteFault → Rose (K.faults out.old) (K.faults out.new) }
+    ensures no_read { result ≢ Status.ReadFault }
+    ensures done { is_cut_short result ≡ false → Writes (K.written out.old) (K.written out.new) steps.old steps.new (IsWork reading checked script.now) }
+    ensures lost { result ≡ Status.WriteFault → Writes (K.written out.old) (K.written out.new) steps.old steps.new (IsLostWork reading checked script.now) }
+    ensures short { result ≡ Status.OutOfMemory → Writes (K.written out.old) (K.written out.new) steps.old steps.new (IsShortWork reading checked script.now) }
+    ensures faults { TellsFaults (K.faults out.old) (K.faults out.new) result }
 {
     match reading {
         Reading::Run { counts, ops } => {
@@ -161,12 +165,14 @@ pub(crate) fn answer<K: Sink, L: Ledger>(
     steps: &mut Steps<L>,
 ) -> Status
     requires { length input.now < 2 ^ 32 }
-    ensures gives { (due : Status) → IsDueFor input.now due → Gives due result }
-    ensures no_read { result ≡ Status.ReadFault → ⊥ }
-    ensures done { IsAnswer result → Writes (K.written out.old) (K.written out.new) steps.old steps.new (IsOutput IsPaidReport reading input.now result) }
-    ensures fault_part { result ≡ Status.WriteFault → WritesPart (K.written out.old) (K.written out.new) (IsSomeOutput reading input.now) }
-    ensures memory_part { result ≡ Status.OutOfMemory → WritesSome (K.written out.old) (K.written out.new) (IsSomeOutput reading input.now) }
-    ensures cause { result ≡ Status.WriteFault → Rose (K.faults out.old) (K.faults out.new) }
+    ensures gives { (j : Judgement) → IsJudged input.now j → Gives (status_of j) result }
+    ensures no_read { result ≢ Status.ReadFault }
+    ensures done { is_cut_short result ≡ false → (j : Judgement) × IsJudged input.now j × (status_of j ≡ result)
+        × Writes (K.written out.old) (K.written out.new) steps.old steps.new (IsOutput reading j) }
+    ensures lost { result ≡ Status.WriteFault → (j : Judgement) × IsJudged input.now j
+        × Writes (K.written out.old) (K.written out.new) steps.old steps.new (IsLostOutput reading j) }
+    ensures short { result ≡ Status.OutOfMemory → Writes (K.written out.old) (K.written out.new) steps.old steps.new (OrNothing (IsShortOutput reading input.now)) }
+    ensures faults { TellsFaults (K.faults out.old) (K.faults out.new) result }
 {
     steps_can_be_taken();
     match accept(alloc, input) {

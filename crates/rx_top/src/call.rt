@@ -2,12 +2,12 @@
 ghost use Rattle.std.specs.Prelude.{◌≡◌, ◌≢◌, ◌⊎◌, ◌≤◌, ◌+◌, ℕ, length, false, true, Some, IfSome};
 ghost use Rattle.std.specs.Io.KnownBytes.{Appends};
 ghost use Rattle.rx_io.specs.Causes.{Rose};
-ghost use Rattle.rx_io.specs.Whole.{AppendsPrefix};
+ghost use Rattle.rx_io.specs.Whole.{AppendsPart};
 ghost use Rattle.rx_words.specs.declared.task.Task.{Task};
 ghost use Rattle.rx_words.specs.declared.task.Reading.{Reading};
 ghost use Rattle.rx_words.specs.Words.{is_valid, reads_input, task_of, texts};
 ghost use Rattle.rx_top.specs.declared.status.Status.{Status};
-ghost use Rattle.rx_top.specs.Outcome.{limit, usage_line, too_long_line, Answers, Does, IsDue, IsBegun, Gives, Reads, WritesPart, WritesSome};
+ghost use Rattle.rx_top.specs.Outcome.{limit, usage_line, too_long_line, Answers, Does, Gives, IsDue, IsLost, IsShort, Reads, TellsFaults, Writes};
 
 use crate::answer::answer;
 use crate::status::Status;
@@ -26,8 +26,8 @@ fn refuse_words<K: Sink>(out: &mut K) -> Status
     ensures no_read { result ≢ Status.ReadFault }
     ensures no_memory { result ≢ Status.OutOfMemory }
     ensures done { result ≡ Status.Usage → Appends (K.written out.old) (K.written out.new) usage_line }
-    ensures fault_part { result ≡ Status.WriteFault → AppendsPrefix (K.written out.old) (K.written out.new) usage_line }
-    ensures cause { result ≡ Status.WriteFault → Rose (K.faults out.old) (K.faults out.new) }
+    ensures lost { result ≡ Status.WriteFault → AppendsPart (K.written out.old) (K.written out.new) usage_line }
+    ensures faults { TellsFaults (K.faults out.old) (K.faults out.new) result }
 {
     match write_all(
         out,
@@ -75,10 +75,14 @@ pub fn top<S: Source, K: Sink, L: Ledger>(
 
     // 3: the source failed, the sink was not touched, and no body was evaluated.
     ensures read_fault { result ≡ Status.ReadFault → Rose (S.faults src.old) (S.faults src.new) × (out.new ≡ out.old) × (steps.new ≡ steps.old) }
+    ensures no_read_fault { result ≢ Status.ReadFault → S.faults src.new ≡ S.faults src.old }
 
-    // 4: the sink failed, and what was written begins the output.
+    // 4: the sink failed, and what was written begins the output, of which some is lost. Of a report that is all lines of
+    // the steps that were taken before the last one and a part of its own lines, or of the end line; so the lines of each
+    // step are written before the next one is taken. The steps rose by the bodies of the steps that were taken.
     ensures write_fault { result ≡ Status.WriteFault → Rose (K.faults out.old) (K.faults out.new)
-        × WritesPart (K.written out.old) (K.written out.new) (IsBegun (texts words.now) (S.left src.old) (S.left src.new)) }
+        × Writes (K.written out.old) (K.written out.new) steps.old steps.new (IsLost (texts words.now) (S.left src.old) (S.left src.new)) }
+    ensures no_write_fault { result ≢ Status.WriteFault → K.faults out.new ≡ K.faults out.old }
 
     // 5: one byte more was taken than may be, and no body was evaluated.
     ensures too_long { result ≡ Status.TooLong → (reads_input (texts words.now) ≡ true)
@@ -94,9 +98,11 @@ pub fn top<S: Source, K: Sink, L: Ledger>(
     ensures script_refused { result ≡ Status.ScriptRefused → (reading : Reading) × (task_of (texts words.now) ≡ Some (Task.Read reading))
         × Answers reading Status.ScriptRefused (S.left src.old) (S.left src.new) (K.written out.old) (K.written out.new) steps.old steps.new }
 
-    // 8: what was written begins the output.
-    ensures memory { result ≡ Status.OutOfMemory → WritesSome (K.written out.old) (K.written out.new)
-        (IsBegun (texts words.now) (S.left src.old) (S.left src.new)) }
+    // 8: nothing was written, before a run; or what was written begins a report, and is all lines of the steps that were
+    // taken before one that found no memory, or before the end line. The steps rose by the bodies of these steps, and those
+    // of the render that found none.
+    ensures memory { result ≡ Status.OutOfMemory → Writes (K.written out.old) (K.written out.new) steps.old steps.new
+        (IsShort (texts words.now) (S.left src.old) (S.left src.new)) }
 
     // The status is the one that is due for the words and the input, or 3, 4 or 8.
     ensures exact { IfSome (S.left src.old) (λ input. (due : Status) → IsDue (texts words.now) input due → Gives due result) }

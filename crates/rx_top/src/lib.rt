@@ -3,12 +3,14 @@
 
 mod answer;
 mod call;
+mod laws;
 mod lines;
 mod run;
 mod status;
 mod summary;
 
 pub use call::top;
+pub use laws::summary_is_one;
 pub use status::Status;
 
 #[cfg(test)]

@@ -1,15 +1,16 @@
 // Running the steps of a script, each step's lines written at once.
-ghost use Rattle.std.specs.Prelude.{◌≡◌, ◌≤◌, ◌+◌, ℕ, length, OnOk, OnErr, IsErrOf};
+ghost use Rattle.std.specs.Prelude.{◌≡◌, ◌+◌, ℕ, length, OnOk, IsErrOf};
 ghost use Rattle.rx_io.specs.Causes.{Rose};
 ghost use Rattle.rx_model.specs.State.{State};
-ghost use Rattle.rx_model.specs.Laws.{IsBounded};
-ghost use Rattle.rx_root.specs.Stands.{Stands, HasRoomFor};
+ghost use Rattle.rx_root.specs.Paying.{Pays};
+ghost use Rattle.rx_root.specs.Stands.{Stands, StandsForSome, HasRoomFor};
 ghost use Rattle.rx_root.specs.Taking.{AllCanTake};
-ghost use Rattle.rx_top.specs.Running.{BeginsRun, WritesRun};
+ghost use Rattle.rx_top.specs.Outcome.{Writes};
+ghost use Rattle.rx_top.specs.Reports.{StepLosesLines, StepBreaksOff};
+ghost use Rattle.rx_top.specs.Running.{WritesRun};
 
 use rx_base::Steps;
 use rx_io::{Failed, Sink, write_all};
-use rx_model::progresses;
 use rx_report::Report;
 use rx_root::Root;
 use rx_step::Step;
@@ -45,7 +46,8 @@ impl From<AllocError> for RunError {
     }
 }
 
-/// Runs the steps in order. The lines of a step are written behind it; those of a step that fails are not written.
+/// Runs the steps in order. The lines of a step are written before the next one is taken; of a step that finds no memory
+/// none is.
 pub(crate) fn run_steps<K: Sink, L: Ledger>(
     root: &mut Root,
     script: &[Step],
@@ -53,8 +55,7 @@ pub(crate) fn run_steps<K: Sink, L: Ledger>(
     out: &mut K,
     steps: &mut Steps<L>,
 ) -> Result<(), RunError>
-    requires bounded { IsBounded root.old.rendering.program }
-    requires stands { (s : State) × Stands root.old.rendering.program s root.old }
+    requires stands { StandsForSome root.old }
     requires fits { AllCanTake root.old.rendering.program script.now }
     requires room { HasRoomFor (length script.now) root.old }
     ensures ok { OnOk result ((s : State) → Stands root.old.rendering.program s root.old
@@ -63,13 +64,16 @@ pub(crate) fn run_steps<K: Sink, L: Ledger>(
     ensures options { OnOk result (log.new.options ≡ log.old.options) }
     ensures left { OnOk result ((k : ℕ) → HasRoomFor (length script.now + k) root.old → HasRoomFor k root.new) }
 
-    // What was written begins the lines of some run.
-    ensures err { OnErr result ((s : State) → Stands root.old.rendering.program s root.old
-        → BeginsRun root.old.rendering.program log.old.options s script.now (K.written out.old) (K.written out.new)) }
-    ensures later { K.faults out.old ≤ K.faults out.new }
+    // The sink failed: a part of a step's lines was written.
+    ensures lost { IsErrOf result RunError.Failed → (s : State) → Stands root.old.rendering.program s root.old
+        → Writes (K.written out.old) (K.written out.new) steps.old steps.new (StepLosesLines Pays root.old.rendering.program s script.now log.old.options) }
+
+    // A step found no memory: the lines of those before it were written.
+    ensures short { IsErrOf result RunError.OutOfMemory → (s : State) → Stands root.old.rendering.program s root.old
+        → Writes (K.written out.old) (K.written out.new) steps.old steps.new (StepBreaksOff Pays root.old.rendering.program s script.now log.old.options) }
     ensures failed { IsErrOf result RunError.Failed → Rose (K.faults out.old) (K.faults out.new) }
+    ensures kept { (IsErrOf result RunError.Failed → ⊥) → K.faults out.new ≡ K.faults out.old }
 {
-    progresses();
     'script: for step in script {
         log.cut(0);
         root.step(step, log, steps)?;

@@ -1,22 +1,20 @@
 // A generated run, summed up.
-ghost use Rattle.std.specs.Prelude.{◌≡◌, ◌≤◌, ◌+◌, ◌<◌, ◌^◌, length, drop, IfOk, OnOk, ℕ};
-ghost use Rattle.std.specs.Io.KnownBytes.{Keeps};
-ghost use Rattle.rx_io.specs.Causes.{Rose};
+ghost use Rattle.std.specs.Prelude.{◌≡◌, ◌≢◌, ◌≤◌, ◌+◌, ◌<◌, ◌^◌, ◌⊎◌, [], length, drop, false, None, IfOk, OnErr, OnOk, ℕ};
 ghost use Rattle.rx_model.specs.State.{State, opening};
-ghost use Rattle.rx_model.specs.Stretch.{Stretch};
-ghost use Rattle.rx_model.specs.Laws.{IsBounded};
-ghost use Rattle.rx_model.specs.Machine.{RunTo};
-ghost use Rattle.rx_root.specs.Paying.{RunPaid};
+ghost use Rattle.rx_root.specs.Paying.{Pays};
+ghost use Rattle.rx_root.specs.Stands.{Stands, StandsForSome, HasRoomFor};
 ghost use Rattle.rx_root.specs.Taking.{AllCanTake};
 ghost use Rattle.rx_words.specs.Words.{most_rounds};
-ghost use Rattle.rx_top.specs.Running.{SumsUp};
-ghost use Rattle.rx_root.specs.Stands.{Stands, HasRoomFor};
 ghost use Rattle.rx_top.specs.declared.status.Status.{Status};
-ghost use Rattle.rx_top.specs.Outcome.{generated_input, plain, summary_of, IsSummary, Gives, IsAnswer, Writes, WritesPart};
+ghost use Rattle.gen_laws.specs.Meant.{generated_input};
+ghost use Rattle.rx_top.specs.Outcome.{is_cut_short, plain, summary_of, Gives, IsLostSummary, IsShortSummary, IsSummary, OrNothing, TellsFaults, Writes};
+ghost use Rattle.rx_top.specs.Reports.{BreaksOffAt, StepBreaksOff};
+ghost use Rattle.rx_top.specs.Running.{CountsShort, SumsUp, WritesRun};
 
-use crate::answer::{program_is_bounded, tell};
-use crate::run::run_steps;
+use crate::answer::tell;
+use crate::run::{RunError, run_steps};
 use crate::status::Status;
+use gen_laws::generated_input_is_accepted;
 use rx_accept::{Verdict, accept};
 use rx_base::{Steps, Str};
 use rx_check::Checked;
@@ -46,20 +44,23 @@ fn run_silently<L: Ledger>(
     log: &mut Report,
     steps: &mut Steps<L>,
 ) -> Result<(), AllocError>
-    requires bounded { IsBounded root.old.rendering.program }
-    requires stands { (s : State) × Stands root.old.rendering.program s root.old }
+    requires stands { StandsForSome root.old }
     requires fits { AllCanTake root.old.rendering.program script.now }
     requires room { HasRoomFor (length script.now) root.old }
     ensures ok { OnOk result ((s : State) → Stands root.old.rendering.program s root.old
-        → (r : Stretch) × RunTo root.old.rendering.program s script.now r
-        × RunPaid root.old.rendering.program s script.now r × (steps.new ≡ steps.old + r.bodies) × Stands root.old.rendering.program r.after root.new) }
+        → WritesRun root.old.rendering.program log.old.options s script.now None None steps.old steps.new root.new) }
     ensures program { OnOk result (root.new.rendering.program ≡ root.old.rendering.program) }
     ensures options { OnOk result (log.new.options ≡ log.old.options) }
     ensures left { OnOk result ((k : ℕ) → HasRoomFor (length script.now + k) root.old → HasRoomFor k root.new) }
+    ensures short { OnErr result ((s : State) → Stands root.old.rendering.program s root.old
+        → Writes None None steps.old steps.new (StepBreaksOff Pays root.old.rendering.program s script.now log.old.options)) }
 {
     match run_steps(root, script, log, &mut SureSink, steps) {
         Ok(()) => Ok(()),
-        Err(_) => Err(AllocError),
+        Err(RunError::OutOfMemory) => Err(AllocError),
+
+        // It never fails.
+        Err(RunError::Failed) => Err(AllocError),
     }
 }
 
@@ -81,10 +82,11 @@ fn sum_up<L: Ledger>(
     log: &mut Report,
     steps: &mut Steps<L>,
 ) -> Result<Str, AllocError>
-    requires stands { (s : State) × Stands root.old.rendering.program s root.old }
+    requires stands { StandsForSome root.old }
     requires room { HasRoomFor 1 root.old }
     requires options { log.old.options ≡ plain }
-    ensures { IfOk result (λ line. ((s : State) → Stands root.old.rendering.program s root.old → line ≡ summary_of rounds s) × (steps.new ≡ steps.old)) }
+    ensures ok { IfOk result (λ line. (s : State) → Stands root.old.rendering.program s root.old → line ≡ summary_of rounds s) }
+    ensures steps { steps.new ≡ steps.old }
 {
     log.cut(0);
     root.step(&Step::Tree, log, steps)?;
@@ -107,11 +109,11 @@ fn run_and_sum_up<L: Ledger>(
     script: &[Step],
     steps: &mut Steps<L>,
 ) -> Result<Str, AllocError>
-    requires bounded { IsBounded root.old.rendering.program }
     requires stands { Stands root.old.rendering.program opening root.old }
     requires fits { AllCanTake root.old.rendering.program script.now }
     requires few { length script.now < 2 ^ 32 }
-    ensures { IfOk result (λ line. SumsUp root.old.rendering.program script.now rounds line steps.old steps.new) }
+    ensures ok { IfOk result (λ line. SumsUp root.old.rendering.program script.now rounds line steps.old steps.new) }
+    ensures short { OnErr result (Writes None None steps.old steps.new (BreaksOffAt root.old.rendering.program script.now plain)) }
 {
     let mut log = Report::new(alloc, false, false);
     run_silently(root, script, &mut log, steps)?;
@@ -128,9 +130,9 @@ fn summarize_accepted<L: Ledger>(
 ) -> Result<Str, AllocError>
     requires fits { AllCanTake checked script.now }
     requires few { length script.now < 2 ^ 32 }
-    ensures { IfOk result (λ line. SumsUp checked script.now rounds line steps.old steps.new) }
+    ensures ok { IfOk result (λ line. SumsUp checked script.now rounds line steps.old steps.new) }
+    ensures short { OnErr result (CountsShort checked script.now steps.old steps.new) }
 {
-    program_is_bounded(&checked);
     match Root::new(alloc, checked) {
         Ok(mut root) => run_and_sum_up(alloc, rounds, &mut root, script, steps),
         Err(error) => Err(error),
@@ -140,16 +142,19 @@ fn summarize_accepted<L: Ledger>(
 /// The line that sums up the generated run of so many rounds, and the bodies that it evaluates.
 fn summarize<L: Ledger>(alloc: Global, rounds: u32, steps: &mut Steps<L>) -> Result<Str, AllocError>
     requires { rounds ≤ most_rounds }
-    ensures { IfOk result (λ line. (bodies : ℕ) × IsSummary rounds line bodies × (steps.new ≡ steps.old + bodies)) }
+    ensures ok { IfOk result (λ line. (bodies : ℕ) × IsSummary rounds line bodies × (steps.new ≡ steps.old + bodies)) }
+    ensures short { OnErr result ((steps.new ≡ steps.old) ⊎ ((bodies : ℕ) × IsShortSummary rounds [] bodies × (steps.new ≡ steps.old + bodies))) }
 {
     steps_can_be_taken();
+    generated_input_is_accepted();
     let input = input_of(alloc, rounds)?;
     match accept(alloc, &input)? {
         Verdict::Accepted {
             checked,
             steps: script,
         } => summarize_accepted(alloc, rounds, checked, &script, steps),
-        _ => Err(AllocError),
+        // The generated input is accepted.
+        Verdict::ProgramRefused(_) | Verdict::ScriptRefused(_) => unreachable!(),
     }
 }
 
@@ -162,11 +167,11 @@ pub(crate) fn write_summary<K: Sink, L: Ledger>(
 ) -> Status
     requires { rounds ≤ most_rounds }
     ensures gives { Gives Status.Done result }
-    ensures no_read { result ≡ Status.ReadFault → ⊥ }
-    ensures done { IsAnswer result → Writes (K.written out.old) (K.written out.new) steps.old steps.new (IsSummary rounds) }
-    ensures fault_part { result ≡ Status.WriteFault → WritesPart (K.written out.old) (K.written out.new) (IsSummary rounds) }
-    ensures memory_part { result ≡ Status.OutOfMemory → Keeps (K.written out.old) (K.written out.new) }
-    ensures cause { result ≡ Status.WriteFault → Rose (K.faults out.old) (K.faults out.new) }
+    ensures no_read { result ≢ Status.ReadFault }
+    ensures done { is_cut_short result ≡ false → Writes (K.written out.old) (K.written out.new) steps.old steps.new (IsSummary rounds) }
+    ensures lost { result ≡ Status.WriteFault → Writes (K.written out.old) (K.written out.new) steps.old steps.new (IsLostSummary rounds) }
+    ensures short { result ≡ Status.OutOfMemory → Writes (K.written out.old) (K.written out.new) steps.old steps.new (OrNothing (IsShortSummary rounds)) }
+    ensures faults { TellsFaults (K.faults out.old) (K.faults out.new) result }
 {
     match summarize(alloc, rounds, steps) {
         Ok(line) => tell(out, line.text().as_bytes(), Status::Done),

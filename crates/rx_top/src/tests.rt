@@ -1,5 +1,5 @@
 // Rows: words, input, failing reads and writes, and the status and the bytes that are wanted.
-ghost use Rattle.std.specs.Prelude.{◌≡◌};
+ghost use Rattle.std.specs.Prelude.{◌≡◌, ◌<◌};
 
 use super::*;
 use rx_base::Steps;
@@ -9,6 +9,7 @@ use std::marker::Brand;
 use std::sync::ledger::{Blank, Ledger};
 use std::test::Fail;
 
+#[derive(Clone, Copy)]
 struct Row<'a> {
     words: &'a [&'a str],
     input: &'a str,
@@ -21,7 +22,8 @@ struct Row<'a> {
 const TWO_COUNTERS: &str =
     "function Counter({start}) { const [n, setN] = useState(start); return <p>{n}</p>; } function App() { return <div><Counter start={1}/><Counter start={2}/></div>; }\n---\nflush\nset sync App/Counter@1 n 7\nflush\ntree\nstate\n";
 
-const ROWS: [Row<'static>; 8] = [
+/// Rows that are run in pieces, and with each read and each write failing in turn.
+const WHOLE: [Row<'static>; 3] = [
     // Two counters: the second is set.
     Row {
         words: &["run"],
@@ -31,6 +33,27 @@ const ROWS: [Row<'static>; 8] = [
         status: 0,
         output: "commit 1 Default\ncommit 2 Sync\ntree\n  div\n    p\n      \"1\"\n    p\n      \"7\"\nstate\n  [1] App\n  [2] Counter n=1\n  [3] Counter n=7\nend quiet\n",
     },
+    // Updates of content that is hidden are owed until it is shown.
+    Row {
+        words: &["run"],
+        input: "function app(s, a) { return s * 10 + a; } function Wait() { const u = use(\"r\"); return <b>{u}</b>; } function Box({w}) { const [s, setS] = useState(0); return <p>{s}{w ? <Wait/> : null}</p>; } function App() { const [w, setW] = useState(0); return <Suspense fallback={<i/>}><Box w={w}/></Suspense>; }\n---\nflush\nset sync App w 1\ncall default App/Box s app 1\nflush\nstate\ncall default App/Box s app 2\ncall sync App/Box s app 3\nresolve r 5\nflushsync\nstate\nflush\nstate\n",
+        failing_reads: &[],
+        failing_writes: &[],
+        status: 0,
+        output: "commit 1 Default\ncommit 2 Sync\ncommit 3 Default\nstate\n  [1] App w=1\n  [2] Box s=0 hidden\ncommit 4 Sync\nstate\n  [1] App w=1\n  [2] Box s=13\n  [3] Wait\ncommit 5 Default\ncommit 6 Retry\nstate\n  [1] App w=1\n  [2] Box s=123\n  [3] Wait\nend quiet\n",
+    },
+    // Effects run in their order.
+    Row {
+        words: &["run"],
+        input: "function Kid({v}) { useLayoutEffect(\"kl\", [v]); useEffect(\"kp\", [v]); return <i/>; } function App() { const [v, setV] = useState(0); const [g, setG] = useState(1); useLayoutEffect(\"al\", [v]); useEffect(\"ap\", [v]); return <div><Kid v={v}/>{g ? <Kid v={9}/> : null}</div>; }\n---\nwork 1\nset default App v 1\nset default App g 0\nwork 1\npassive\n",
+        failing_reads: &[],
+        failing_writes: &[],
+        status: 0,
+        output: "commit 1 Default\nlayout + [2] \"kl\" 0\nlayout + [3] \"kl\" 9\nlayout + [1] \"al\" 0\npassive + [2] \"kp\" 0\npassive + [3] \"kp\" 9\npassive + [1] \"ap\" 0\ncommit 2 Default\nlayout - [3] \"kl\" 9\nlayout - [2] \"kl\" 0\nlayout - [1] \"al\" 0\nlayout + [2] \"kl\" 1\nlayout + [1] \"al\" 1\npassive - [3] \"kp\" 9\npassive - [2] \"kp\" 0\npassive - [1] \"ap\" 0\npassive + [2] \"kp\" 1\npassive + [1] \"ap\" 1\nend quiet\n",
+    },
+];
+
+const ROWS: [Row<'static>; 7] = [
     // A transition yields after a unit, and an update of Sync comes first.
     Row {
         words: &["run"],
@@ -95,24 +118,144 @@ const ROWS: [Row<'static>; 8] = [
     },
 ];
 
-fn answer<L: Ledger>(alloc: Global, row: &Row, blank: Blank) -> Result<(u8, Vec<u8>), AllocError>
+/// Rows whose reports with counts are those without, once the counts are cut out.
+const COUNTED: [&str; 2] = [
+    // An update of Sync comes before a transition that has begun.
+    "function Cell({v}) { return <i>{v}</i>; } function App() { const [v, setV] = useState(0); const [w, setW] = useState(0); useLayoutEffect(\"v\", [v]); return <div>{w}{for (k < 20, 20) <Cell key={k} v={v}/>}</div>; }\n---\nflush\nset transition App v 1\nwork 3\nset sync App w 7\nflush\n",
+    // A resource gets its value after a render that waits for it has begun.
+    "function User() { const u = use(\"user\"); return <b>{u}</b>; } function App() { const [s, setS] = useState(0); return <div>{s ? <Suspense fallback={<i/>}><User/></Suspense> : null}</div>; }\n---\nflush\nset transition App s 1\nwork 1\nresolve user 8\nflush\ntree\n",
+];
+
+/// So many bytes at most are moved in a call of the source and of the sink.
+fn answer<L: Ledger>(
+    alloc: Global,
+    row: &Row,
+    piece: u64,
+    blank: Blank,
+) -> Result<(u8, Vec<u8>), AllocError>
     requires name { blank.name ≡ L.name }
     requires parts { blank.parts ≡ L.parts }
     requires one { blank.parts ≡ 1 }
+    requires some { 0 < piece }
 {
     let mut src = MemSource::new(alloc, row.input.as_bytes(), row.failing_reads)?;
+    src.pieces(piece);
     let mut out = MemSink::new(alloc, 10_000, row.failing_writes)?;
+    out.pieces(piece);
     let mut steps = Steps::<L>::new(blank);
     let status = top(alloc, row.words, &mut src, &mut out, &mut steps);
     Ok((status.code(), out.bytes().to_vec(alloc)?))
 }
 
+/// The status and the bytes of a row.
+fn outcome(alloc: Global, row: &Row, piece: u64) -> Result<(u8, Vec<u8>), AllocError>
+    requires { 0 < piece }
+{
+    answer::<Brand>(alloc, row, piece, Blank::new(1))
+}
+
 #[test]
 fn each_row_has_its_status_and_output(rt: HostRuntime) -> Result<(), Fail> {
     for (i, row) in ROWS.iter().enumerate() {
-        let (status, output) = answer::<Brand>(rt.alloc(), row, Blank::new(1))?;
+        let (status, output) = outcome(rt.alloc(), row, 10_000)?;
         assert_eq!(rt; status, row.status, "row {i}");
         assert_eq!(rt; output.as_slice(), row.output.as_bytes(), "row {i}");
+    }
+    Ok(())
+}
+
+#[test]
+fn pieces_of_any_size_give_the_same_bytes(rt: HostRuntime) -> Result<(), Fail> {
+    for piece in [1u64, 2, 7, 10_000] {
+        for (i, row) in WHOLE.iter().enumerate() {
+            let (status, output) = outcome(rt.alloc(), row, piece)?;
+            assert_eq!(rt; status, 0, "row {i} in pieces of {piece}");
+            assert_eq!(rt;
+                output.as_slice(),
+                row.output.as_bytes(),
+                "row {i} in pieces of {piece}"
+            );
+        }
+    }
+    Ok(())
+}
+
+#[test]
+fn each_read_that_fails_is_told_and_nothing_is_written(rt: HostRuntime) -> Result<(), Fail> {
+    for (i, row) in WHOLE.iter().enumerate() {
+        // The source is read in calls of a hundred bytes, and once more at its end.
+        let calls = row.input.len().div_ceil(100) as u64 + 1;
+        for call in 1..calls + 2 {
+            let failing = Row {
+                failing_reads: &[call],
+                ..*row
+            };
+            let (status, output) = outcome(rt.alloc(), &failing, 100)?;
+            if call <= calls {
+                assert_eq!(rt; status, 3, "row {i}, read {call}");
+                assert_eq!(rt; output.as_slice(), b"".as_slice(), "row {i}, read {call}");
+            } else {
+                assert_eq!(rt; status, 0, "row {i}, read {call}");
+            }
+        }
+    }
+    Ok(())
+}
+
+#[test]
+fn each_write_that_fails_is_told_and_a_prefix_is_written(rt: HostRuntime) -> Result<(), Fail> {
+    for (i, row) in WHOLE.iter().enumerate() {
+        let mut ended = false;
+        for call in 1..30u64 {
+            let failing = Row {
+                failing_writes: &[call],
+                ..*row
+            };
+            let (status, output) = outcome(rt.alloc(), &failing, 50)?;
+            let is_prefix = row.output.as_bytes().starts_with(&output);
+            assert!(rt; is_prefix, "row {i}, write {call}");
+            ended = output.len() == row.output.len();
+            assert_eq!(rt; status, if ended { 0 } else { 4 }, "row {i}, write {call}");
+        }
+        assert!(rt; ended, "row {i}");
+    }
+    Ok(())
+}
+
+/// A report without its counts.
+fn without_counts(alloc: Global, report: &[u8]) -> Result<String, Fail> {
+    let mut rest = String::new(alloc);
+    for line in str::from_utf8(report)?.lines() {
+        rest.push_str(line.split(" units ").next().unwrap_or(line))?;
+        rest.push('\n')?;
+    }
+    Ok(rest)
+}
+
+#[test]
+fn counts_are_all_that_a_report_with_counts_has_more(rt: HostRuntime) -> Result<(), Fail> {
+    let alloc = rt.alloc();
+    for (i, input) in COUNTED.iter().enumerate() {
+        let plain = Row {
+            words: &["run"],
+            input,
+            failing_reads: &[],
+            failing_writes: &[],
+            status: 0,
+            output: "",
+        };
+        let counted = Row {
+            words: &["run", "--counts"],
+            ..plain
+        };
+        let (_, without) = outcome(alloc, &plain, 10_000)?;
+        let (_, with) = outcome(alloc, &counted, 10_000)?;
+        assert!(rt; without.len() < with.len(), "row {i}");
+        assert_eq!(rt;
+            without_counts(alloc, &with)?.as_bytes(),
+            without.as_slice(),
+            "row {i}"
+        );
     }
     Ok(())
 }
