@@ -1,11 +1,11 @@
 // What is shown.
-ghost use Rattle.std.specs.Prelude.{◌≡◌, ◌≤◌, length, Option, Some, None, IfOk, OnErr, OnOk};
+ghost use Rattle.std.specs.Prelude.{◌≡◌, Option, Some, None, IfOk, OnErr, OnOk};
 ghost use Rattle.std.specs.Option.{option_copied};
 ghost use Rattle.rx_elem.specs.Trees.{Node};
 ghost use Rattle.rx_elem.specs.Compare.{compare_trees};
 ghost use Rattle.rx_effect.specs.EffectLog as effects;
 ghost use Rattle.rx_effect.specs.EffectLog.{no_passive, passive_of};
-ghost use Rattle.rx_forest.specs.Forests.{CanBeReplayed, Replays, forest_of};
+ghost use Rattle.rx_forest.specs.Forests.{forest_of};
 ghost use Rattle.rx_forest.specs.Hosts.{hosts};
 ghost use Rattle.rx_host.specs.Kept.{forest_kept};
 ghost use Rattle.rx_lines.specs.Lines.{tree_lines};
@@ -23,8 +23,7 @@ use crate::writing::{add_passive, cut_back};
 use prune_laws::pruned_trees_compare_alike;
 use rx_base::Awaits;
 use rx_compare::{Outcome, compare_trees, outcome_of};
-use rx_forest::HostOp;
-use rx_host::HostTree;
+use rx_host::{HostTree, apply_all};
 use rx_lane::Lanes;
 use rx_log::Passive;
 use rx_node as node;
@@ -54,17 +53,6 @@ impl Model for Shown {
     ghost coded = { Prim.hlevel (codes, node_code) };
 
     ghost view = { λ s. record { tree = s.tree; hosts = s.hosts; passive = passive_seen s.passive } };
-}
-
-// Does what these operations say, one after another, for which there is room.
-fn apply_all(hosts: &mut HostTree, ops: Vec<HostOp>)
-    requires room { length ops.items ≤ hosts.old.spare }
-    requires can_be_made { CanBeReplayed (forest_kept hosts.old) ops.items }
-    ensures { Replays (forest_kept hosts.old) ops.items (forest_kept hosts.new) }
-{
-    'ops: for op in ops {
-        hosts.apply(op);
-    }
 }
 
 impl Shown {

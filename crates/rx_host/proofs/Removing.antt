@@ -172,7 +172,7 @@ under-whole f n m itself = itself
 under-whole f n m (below {m = p} u among) = below (under-whole f n p u) (was n m (f.children p) among)
 
 -- below a host without children is nothing else
-alone : (h : HostForest) (n : ℕ) → h.children n ≡ [] → (m : ℕ) → IsUnder h n m → nat_eq m n ≡ true
+pub alone : (h : HostForest) (n : ℕ) → h.children n ≡ [] → (m : ℕ) → IsUnder h n m → nat_eq m n ≡ true
 alone h n childless m itself = self n
 alone h n childless m (below {m = p} u among) =
     let up : nat_eq p n ≡ true = alone h n childless p u in

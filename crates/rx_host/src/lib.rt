@@ -11,5 +11,5 @@ mod tree;
 
 pub use attrs::AttrList;
 pub use entry::{HostKind, HostView};
-pub use replaying::replay;
+pub use replaying::{apply_all, replay};
 pub use tree::HostTree;

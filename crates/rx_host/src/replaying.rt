@@ -25,8 +25,8 @@ pub fn replay(alloc: Global, tree: &mut HostTree, ops: &[HostOp]) -> Result<(), 
     Ok(())
 }
 
-// Does what these operations say, for which there is room.
-fn apply_all(tree: &mut HostTree, ops: Vec<HostOp>)
+/// Does what these operations say, one after another, for which there is room: it takes no memory.
+pub fn apply_all(tree: &mut HostTree, ops: Vec<HostOp>)
     requires room { length ops.items ≤ tree.old.spare }
     requires can_be_made { CanBeReplayed (forest_kept tree.old) ops.items }
     ensures { Replays (forest_kept tree.old) ops.items (forest_kept tree.new) }

@@ -2,9 +2,11 @@
 use crate::report::Report;
 use rx_base::{Int, Ints, Name, Str};
 use rx_effect::LogLine;
+use rx_elem::AttrValue;
 use rx_forest::HostOp;
 use rx_host::HostTree;
 use rx_lane::{Lane, Lanes};
+use std::alloc::{AllocError, Global};
 use std::test::Fail;
 
 #[test]
@@ -20,16 +22,55 @@ fn renders_with_their_counts(rt: HostRuntime) -> Result<(), Fail> {
     Ok(())
 }
 
-#[test]
-fn an_operation_where_it_is_asked_for(rt: HostRuntime) -> Result<(), Fail> {
-    let mut report = Report::new(rt.alloc(), false, true);
-    let op = HostOp::Place {
-        host: 4,
-        parent: 1,
-        before: Some(2),
+// The operation with this line.
+fn operation(alloc: Global, line: usize) -> Result<HostOp, AllocError> {
+    let op = match line {
+        0 => HostOp::Remove(9),
+        1 => HostOp::Create(4, Name::new(alloc, "li")?),
+        2 => HostOp::CreateText(5, Str::new(alloc, "a b")?),
+        3 => HostOp::Place {
+            host: 4,
+            parent: 1,
+            before: Some(2),
+        },
+        4 => HostOp::Place {
+            host: 5,
+            parent: 4,
+            before: None,
+        },
+        5 => HostOp::UnsetAttr(1, Name::new(alloc, "id")?),
+        6 => HostOp::SetAttr(1, Name::new(alloc, "n")?, AttrValue::Number(Int::of(-3))),
+        7 => HostOp::SetText(5, Str::new(alloc, "c")?),
+        8 => HostOp::Hide(1),
+        _ => HostOp::Show(1),
     };
-    report.op_line(&op)?;
-    assert!(rt; report.bytes() == b"op place #4 under #1 before #2\n".as_slice());
+    Ok(op)
+}
+
+const OPERATION_LINES: [&str; 10] = [
+    "op remove #9\n",
+    "op create #4 li\n",
+    "op text #5 \"a b\"\n",
+    "op place #4 under #1 before #2\n",
+    "op place #5 under #4 at end\n",
+    "op unattr #1 id\n",
+    "op attr #1 n -3\n",
+    "op settext #5 \"c\"\n",
+    "op hide #1\n",
+    "op show #1\n",
+];
+
+#[test]
+fn each_operation_where_it_is_asked_for(rt: HostRuntime) -> Result<(), Fail> {
+    for (at, line) in OPERATION_LINES.iter().enumerate() {
+        let op = operation(rt.alloc(), at)?;
+        let mut shown = Report::new(rt.alloc(), false, true);
+        shown.op_line(&op)?;
+        assert_eq!(rt; shown.bytes(), line.as_bytes());
+        let mut silent = Report::new(rt.alloc(), true, false);
+        silent.op_line(&op)?;
+        assert_eq!(rt; silent.len(), 0);
+    }
     Ok(())
 }
 

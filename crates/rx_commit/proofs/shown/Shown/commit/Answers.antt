@@ -8,7 +8,7 @@ returns c = λ tree next stands is_commit is.
     record {
       tree_is = ap Some (ap (λ p. p.tree) c.prepared.view_is ∙ is.tree_is);
       hosts_are =
-          committed-here tree next (forest_kept c.self.inside.hosts) (forest_kept c.apply_all.new.hosts) c.prepared.inside.ops.items
+          committed-here tree next (forest_kept c.self.inside.hosts) (forest_kept c.apply_all.new.tree) c.prepared.inside.ops.items
           (ap (λ v. forest_kept v.hosts) c.self.view_is ∙ stands) (ap (λ p. p.ops) c.prepared.view_is ∙ is.ops_are) is_commit c.apply_all.ensures;
       passive_is = ap (λ p. p.passive) c.prepared.view_is ∙ is.passive_is;
     }
