@@ -13,6 +13,3 @@ mod turns;
 pub use errors::{DispatchError, ResolveError};
 pub use laws::steps_can_be_taken;
 pub use root::Root;
-
-#[cfg(test)]
-mod tests;
