@@ -10,19 +10,36 @@ use Rattle.rx_elem.specs.Trees.{Node, children_of, mark_of, node, of_boundary, o
 use Rattle.commit_laws.specs.HiddenWaits.{IfNumbered, Numbered}
 use Rattle.rx_meaning.specs.Settled.{HasOwnNumbers, number_of, times_numbered}
 use Rattle.rx_model.specs.State.{find_from, instance_found, is_step, step_to}
-use Rattle.rx_instances.specs.declared.find.Found.{Found}
-use Rattle.rx_instances.specs.Nearest.{found_as, is_named, named, nearest, nearest_if, nearest_in, told}
+use Rattle.rx_instances.specs.Nearest.{Told, found_as, is_named, named, nearest, nearest_if, nearest_in, node_at, node_from, told}
 use Rattle.rx_instances.proofs.Nearest.{Has, all_told, each_filter, found_below, has_below, near_below, near_each, near_each_in, numbered_others}
 
 -- what the parts of a path that are left lead to, from node to node
-abbrev pub led_from : Program → Node → Path → Option Found
+abbrev pub led_from : Program → Node → Path → Option Told
 led_from p n [] = told n
 led_from p n (part ∷ parts) = option_and_then (λ x. led_from p x parts) (slice_get (named p part.0 (nearest_in (children_of n))) part.1)
 
 -- and so from the root of a tree
-abbrev pub led : Program → Option Node → Path → Option Found
+abbrev pub led : Program → Option Node → Path → Option Told
 led p tree [] = None
 led p tree (part ∷ parts) = option_and_then (λ x. led_from p x parts) (slice_get (named p part.0 (nearest_if tree)) part.1)
+
+-- that is what is told of the node to which they lead
+from_told : (p : Program) (n : Node) (path : Path) → led_from p n path ≡ option_and_then told (node_from p n path)
+from_told p n [] = refl
+from_told p n (part ∷ parts) = go (λ x. from_told p x parts) (slice_get (named p part.0 (nearest_in (children_of n))) part.1)
+  where
+    go : ((x : Node) → led_from p x parts ≡ option_and_then told (node_from p x parts)) → (s : Option Node)
+        → option_and_then (λ x. led_from p x parts) s ≡ option_and_then told (option_and_then (λ x. node_from p x parts) s)
+    go later None = refl
+    go later (Some x) = later x
+
+pub led_told : (p : Program) (tree : Option Node) (path : Path) → led p tree path ≡ option_and_then told (node_at p tree path)
+led_told p tree [] = refl
+led_told p tree (part ∷ parts) = go (slice_get (named p part.0 (nearest_if tree)) part.1)
+  where
+    go : (s : Option Node) → option_and_then (λ x. led_from p x parts) s ≡ option_and_then told (option_and_then (λ x. node_from p x parts) s)
+    go None = refl
+    go (Some x) = from_told p x parts
 
 -- the same among the mounted instances
 abbrev find_rest : Program → List Mounted → Mounted → Path → Option Mounted
@@ -39,12 +56,12 @@ found_first p all o part [] = go (step_to p all o part)
 found_first p all o part (q ∷ parts) = refl
 
 -- the number of an instance is the one that is told of it
-pub told_number : (n : Node) (f : Found) → told n ≡ Some f → number_of (mark_of n) ≡ Some f.number
+pub told_number : (n : Node) (f : Told) → told n ≡ Some f → number_of (mark_of n) ≡ Some f.number
 told_number (node e (of_instance i) ns fs) f is = go i.number is
   where
-    go : (r : Option ℕ) → option_map (λ n. let y : Found = record { number = n; component = i.component } in y) r ≡ Some f → r ≡ Some f.number
+    go : (r : Option ℕ) → option_map (λ n. let y : Told = record { number = n; component = i.component } in y) r ≡ Some f → r ≡ Some f.number
     go None is = absurd (none-some f is)
-    go (Some n) is = ap (λ (g : Found). Some g.number) (same_Some (record { number = n; component = i.component }) f is)
+    go (Some n) is = ap (λ (g : Told). Some g.number) (same_Some (record { number = n; component = i.component }) f is)
 told_number (node e (of_host h) ns fs) f is = absurd (none-some f is)
 told_number (node e (of_boundary b) ns fs) f is = absurd (none-some f is)
 told_number (node e plain ns fs) f is = absurd (none-some f is)
@@ -55,7 +72,7 @@ one_step : (p : Program) (all : List Mounted) (o : Option ℕ) (ns : List Node) 
     → option_map (λ m. Some (found_as m)) (step_to p all o part) ≡ option_map told (slice_get (named p part.0 ns) part.1)
 one_step p all o ns part are =
     sym (slice_get-map (λ (m : Mounted). Some (found_as m)) (filter (is_step p o part.0) all) part.1)
-    ∙ ap (λ (xs : List (Option Found)). slice_get xs part.1) are
+    ∙ ap (λ (xs : List (Option Told)). slice_get xs part.1) are
     ∙ slice_get-map told (named p part.0 ns) part.1
 
 module _ (p : Program) (x : Node) (numbered : Numbered x) (once : (n : ℕ) → times_numbered n x ≤ 1) where

@@ -16,15 +16,14 @@ use Rattle.rx_elem.specs.Trees.{Forest, Instance, Mark, Node, child, children_of
 use Rattle.commit_laws.specs.HiddenWaits.{AllNumbered, IsNumbered, Numbered}
 use Rattle.rx_meaning.specs.Settled.{is_numbered_so, number_of, times_numbered, times_numbered_in}
 use Rattle.rx_model.specs.State.{is_step, name_of}
-use Rattle.rx_instances.specs.declared.find.Found.{Found}
-use Rattle.rx_instances.specs.Nearest.{found_as, itself_or, named, nearest, nearest_in, told}
+use Rattle.rx_instances.specs.Nearest.{Told, found_as, itself_or, named, nearest, nearest_in, told}
 
 -- what is told of the mounted instances of a name right below this owner, among those at some spots
-abbrev pub right_below : Program → Name → (owner : Option ℕ) → List Spot → List (Option Found)
+abbrev pub right_below : Program → Name → (owner : Option ℕ) → List Spot → List (Option Told)
 right_below p name o ss = map (λ m. Some (found_as m)) (filter (is_step p o name) (mounted_at ss))
 
 -- what is told of the nodes of a name among these
-abbrev pub all_told : Program → Name → List Node → List (Option Found)
+abbrev pub all_told : Program → Name → List Node → List (Option Told)
 all_told p name ns = map told (named p name ns)
 
 -- ---- numbers
@@ -206,7 +205,7 @@ module _ (p : Program) (name : Name) where
       ≡ right_below p name o (spot a (node e m ns fs)) ++ (right_below p name o (spots_in (around_children a m) ns) ++ right_below p name o (spots_in a fs))
   parts o a e m ns fs =
       below-append o (spot a (node e m ns fs)) (spots_in (around_children a m) ns ++ spots_in a fs)
-      ∙ ap (λ (xs : List (Option Found)). right_below p name o (spot a (node e m ns fs)) ++ xs) (below-append o (spots_in (around_children a m) ns) (spots_in a fs))
+      ∙ ap (λ (xs : List (Option Told)). right_below p name o (spot a (node e m ns fs)) ++ xs) (below-append o (spots_in (around_children a m) ns) (spots_in a fs))
 
   -- a node whose owner is another
   own_none : (o : Option ℕ) (a : Around) (e : Element) (m : Mark) (ns fs : Forest) → (a.owner ≡ o → ⊥) → right_below p name o (spot a (node e m ns fs)) ≡ []

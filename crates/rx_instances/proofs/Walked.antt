@@ -13,9 +13,8 @@ use Rattle.commit_laws.specs.HiddenWaits.{IfNumbered}
 use Rattle.rx_meaning.specs.Settled.{HasOwnNumbers, number_of}
 use Rattle.rx_model.specs.State.{instance_found}
 use Rattle.rx_ways.specs.Ways.{Ways, is_way}
-use Rattle.rx_instances.specs.declared.find.Found.{Found}
-use Rattle.rx_instances.specs.Nearest.{found_as, named, nearest_if, nearest_in, told}
-use Rattle.rx_instances.proofs.Led.{all_led, led, led_from, told_number}
+use Rattle.rx_instances.specs.Nearest.{Told, found_as, named, nearest_if, nearest_in, node_at, node_from, told}
+use Rattle.rx_instances.proofs.Led.{all_led, led, led_from, led_told, told_number}
 
 -- a number is less than another one, or not
 by_order : {P : Type 0} (k w : ℕ) → (k < w → P) → (w ≤ k → P) → P
@@ -32,20 +31,20 @@ pub record Puts (n : Node) (old new : Ways) : Type 0 where
 
 -- So many parts of a path were walked, to this node: whatever follows leads on from it, and each instance that so many parts or fewer lead to is on the ways, beside those from before.
 pub record Walked (p : Program) (tree : Option Node) (path : Path) (w : ℕ) (n : Node) (old new : Ways) : Type 0 where
-  pub leads : (more : Path) → led p tree (take w path ++ more) ≡ led_from p n more
-  pub way : (k : ℕ) (f : Found) → k < w → led p tree (take (suc k) path) ≡ Some f → is_way new f.number ≡ true
+  pub leads : (more : Path) → node_at p tree (take w path ++ more) ≡ node_from p n more
+  pub way : (k : ℕ) (f : Told) → k < w → led p tree (take (suc k) path) ≡ Some f → is_way new f.number ≡ true
   pub grows : (m : ℕ) → is_way old m ≡ true → is_way new m ≡ true
 
-put_told : (n : Node) (old new : Ways) (f : Found) → Puts n old new → told n ≡ Some f → is_way new f.number ≡ true
+put_told : (n : Node) (old new : Ways) (f : Told) → Puts n old new → told n ≡ Some f → is_way new f.number ≡ true
 put_told n old new f puts is = puts.here f.number (told_number n f is)
 
 module _ (p : Program) (tree : Option Node) where
   -- the first part leads to a node
   first_leads : (path rest : Path) (part : Name × ℕ) (n : Node) → path ≡ part ∷ rest → Some n ≡ slice_get (named p part.0 (nearest_if tree)) part.1
-      → (more : Path) → led p tree (take 1 path ++ more) ≡ led_from p n more
+      → (more : Path) → node_at p tree (take 1 path ++ more) ≡ node_from p n more
   first_leads path rest part n is at more =
-      ap (λ (q : Path). led p tree (take 1 q ++ more)) is
-      ∙ ap (option_and_then (λ (x : Node). led_from p x more)) (sym at)
+      ap (λ (q : Path). node_at p tree (take 1 q ++ more)) is
+      ∙ ap (option_and_then (λ (x : Node). node_from p x more)) (sym at)
 
   pub walked_first : (path rest : Path) (part : Name × ℕ) (n : Node) (old new : Ways) → path ≡ part ∷ rest → Some n ≡ slice_get (named p part.0 (nearest_if tree)) part.1
       → Puts n old new → Walked p tree path 1 n old new
@@ -69,20 +68,20 @@ module _ (p : Program) (tree : Option Node) where
       → led p tree path ≡ None
   none_first path rest part is at = ap (led p tree) is ∙ ap (option_and_then (λ (x : Node). led_from p x rest)) (sym at)
 
-  pub none_prefix : (path rest : Path) (part : Name × ℕ) (k : ℕ) (f : Found) → path ≡ part ∷ rest → None ≡ slice_get (named p part.0 (nearest_if tree)) part.1
+  pub none_prefix : (path rest : Path) (part : Name × ℕ) (k : ℕ) (f : Told) → path ≡ part ∷ rest → None ≡ slice_get (named p part.0 (nearest_if tree)) part.1
       → led p tree (take (suc k) path) ≡ Some f → ⊥
   none_prefix path rest part k f is at e =
       none-some f (sym (none_first (take (suc k) path) (take k rest) part (ap (take (suc k)) is) at) ∙ e)
 
   -- a further part leads to a node
-  part_leads : (path : Path) (w : ℕ) (n x : Node) (part : Name × ℕ) → ((more : Path) → led p tree (take w path ++ more) ≡ led_from p n more)
+  part_leads : (path : Path) (w : ℕ) (n x : Node) (part : Name × ℕ) → ((more : Path) → node_at p tree (take w path ++ more) ≡ node_from p n more)
       → w < length path → part ≡ get_or path w part → Some x ≡ slice_get (named p part.0 (nearest_in (children_of n))) part.1
-      → (more : Path) → led p tree (take (w + 1) path ++ more) ≡ led_from p x more
+      → (more : Path) → node_at p tree (take (w + 1) path ++ more) ≡ node_from p x more
   part_leads path w n x part leads lt is at more =
-      ap (λ (q : Path). led p tree (q ++ more)) (take_more path w part lt ∙ ap (λ (q : Name × ℕ). take w path ++ q ∷ []) (sym is))
-      ∙ ap (led p tree) (append_assoc (take w path) (part ∷ []) more)
+      ap (λ (q : Path). node_at p tree (q ++ more)) (take_more path w part lt ∙ ap (λ (q : Name × ℕ). take w path ++ q ∷ []) (sym is))
+      ∙ ap (node_at p tree) (append_assoc (take w path) (part ∷ []) more)
       ∙ leads (part ∷ more)
-      ∙ ap (option_and_then (λ (y : Node). led_from p y more)) (sym at)
+      ∙ ap (option_and_then (λ (y : Node). node_from p y more)) (sym at)
 
   pub walked_more : (path : Path) (w : ℕ) (n x : Node) (part : Name × ℕ) (old now new : Ways) → Walked p tree path w n old now
       → w < length path → part ≡ get_or path w part → Some x ≡ slice_get (named p part.0 (nearest_in (children_of n))) part.1
@@ -102,18 +101,20 @@ module _ (p : Program) (tree : Option Node) where
       here : (k : ℕ) → suc k ≡ w + 1 → led p tree (take (suc k) path) ≡ told x
       here k same =
           ap (λ j. led p tree (take j path)) same
-          ∙ ap (led p tree) (sym (none_more (take (w + 1) path)))
-          ∙ part_leads path w n x part walked.leads lt is at []
+          ∙ led_told p tree (take (w + 1) path)
+          ∙ ap (option_and_then told) (ap (node_at p tree) (sym (none_more (take (w + 1) path))) ∙ part_leads path w n x part walked.leads lt is at [])
 
   -- a further part leads nowhere, and so does the path
-  none_after : (path : Path) (w : ℕ) (n : Node) (part : Name × ℕ) → ((more : Path) → led p tree (take w path ++ more) ≡ led_from p n more)
+  none_after : (path : Path) (w : ℕ) (n : Node) (part : Name × ℕ) → ((more : Path) → node_at p tree (take w path ++ more) ≡ node_from p n more)
       → w < length path → part ≡ get_or path w part → None ≡ slice_get (named p part.0 (nearest_in (children_of n))) part.1
       → led p tree path ≡ None
   none_after path w n part leads lt is at =
-      ap (led p tree) (sym (take-append-drop w path))
+      led_told p tree path
+      ∙ ap (option_and_then told)
+      (ap (node_at p tree) (sym (take-append-drop w path))
       ∙ leads (drop w path)
-      ∙ ap (led_from p n) (drop_more path w part lt ∙ ap (λ (q : Name × ℕ). q ∷ drop (w + 1) path) (sym is))
-      ∙ ap (option_and_then (λ (y : Node). led_from p y (drop (w + 1) path))) (sym at)
+      ∙ ap (node_from p n) (drop_more path w part lt ∙ ap (λ (q : Name × ℕ). q ∷ drop (w + 1) path) (sym is))
+      ∙ ap (option_and_then (λ (y : Node). node_from p y (drop (w + 1) path))) (sym at))
 
   pub walked_nowhere : (path : Path) (w : ℕ) (n : Node) (part : Name × ℕ) (old new : Ways) → Walked p tree path w n old new
       → w < length path → part ≡ get_or path w part → None ≡ slice_get (named p part.0 (nearest_in (children_of n))) part.1
@@ -123,7 +124,7 @@ module _ (p : Program) (tree : Option Node) where
   -- what the first parts of such a path lead to was put
   pub nowhere_way : (path : Path) (w : ℕ) (n : Node) (part : Name × ℕ) (old new : Ways) → Walked p tree path w n old new
       → w < length path → part ≡ get_or path w part → None ≡ slice_get (named p part.0 (nearest_in (children_of n))) part.1
-      → (k : ℕ) (f : Found) → k < length path → led p tree (take (suc k) path) ≡ Some f → is_way new f.number ≡ true
+      → (k : ℕ) (f : Told) → k < length path → led p tree (take (suc k) path) ≡ Some f → is_way new f.number ≡ true
   nowhere_way path w n part old new walked lt is at k f below e =
       by_order k w
       (λ before. walked.way k f before e)
@@ -134,13 +135,13 @@ module _ (p : Program) (tree : Option Node) where
           let long : w < length (take (suc k) path) = omega (arith, length-take-le (suc k) path (omega (arith, below)), after) in
           let same : take w (take (suc k) path) ≡ take w path = take-take w (suc k) path (omega (arith, after)) in
           none_after (take (suc k) path) w n part
-          (λ more. ap (λ (q : Path). led p tree (q ++ more)) same ∙ walked.leads more)
+          (λ more. ap (λ (q : Path). node_at p tree (q ++ more)) same ∙ walked.leads more)
           long (is ∙ sym (get_or-take (suc k) path w part (omega (arith, after)))) at
 
   -- the whole path was walked
-  pub walked_whole : (path : Path) (w : ℕ) (n : Node) (old new : Ways) → Walked p tree path w n old new → length path ≤ w → led p tree path ≡ told n
+  pub walked_whole : (path : Path) (w : ℕ) (n : Node) (old new : Ways) → Walked p tree path w n old new → length path ≤ w → node_at p tree path ≡ Some n
   walked_whole path w n old new walked all =
-      ap (led p tree) (sym (none_more (take w path) ∙ take_all w path all)) ∙ walked.leads []
+      ap (node_at p tree) (sym (none_more (take w path) ∙ take_all w path all)) ∙ walked.leads []
     where
       none_more : (q : Path) → q ++ [] ≡ q
       none_more q = search rules

@@ -1,4 +1,6 @@
 pub mod Kinds
 pub mod Nearest
+pub mod NearFibers
+pub mod MountedFibers
+pub mod CountedFibers
 pub mod Shown
-pub mod Example

@@ -1,151 +1,187 @@
 // The instance that a path leads to.
-ghost use Rattle.std.specs.Prelude.{◌≡◌, ◌<◌, ℕ, suc, true, Some, [], ◌∷◌, if◌then◌else◌, length, option_map, slice_get, take};
+ghost use Rattle.std.specs.Prelude.{◌≡◌, ◌<◌, ℕ, suc, true, None, Option, Some, [], ◌∷◌, IfSome, if◌then◌else◌, length, option_map, option_and_then, slice_get, take};
 ghost use Rattle.std.specs.Option.{option_copied};
 ghost use Rattle.commit_laws.specs.HiddenWaits.{IfNumbered};
-ghost use Rattle.rx_elem.specs.Trees.{children_of, forest, mark_of};
+ghost use Rattle.rx_elem.specs.Trees as trees;
+ghost use Rattle.rx_elem.specs.Trees.{mark_of};
 ghost use Rattle.rx_elem.specs.Spots.{Mounted};
+ghost use Rattle.rx_lists.specs.Shapes.{Holds};
+ghost use Rattle.rx_links.specs.Readers.{list_from};
+ghost use Rattle.rx_fiber.specs.OldLists.{primary_list};
+ghost use Rattle.rx_fiber.specs.Reading.{IsOld, IsTreeOf};
 ghost use Rattle.rx_meaning.specs.Settled.{HasOwnNumbers, number_of};
 ghost use Rattle.rx_model.specs.State.{instance_found};
-ghost use Rattle.rx_instances.specs.Nearest.{Counts, found_as, itself_or, named, nearest, nearest_if, nearest_in, told};
+ghost use Rattle.rx_node.specs.MarkView.{instance_seen};
+ghost use Rattle.rx_instances.specs.Nearest.{found_as};
+ghost use Rattle.rx_instances.specs.NearFibers.{Counts, IsFoundAt, found_by, instance_at, near_fibers, near_first, told_in};
 ghost use Rattle.rx_ways.specs.Ways.{is_way};
 
 use crate::names::name_of;
 use rx_base::Name;
 use rx_check::Checked;
-use rx_node::{Mark, Node};
+use rx_fiber::{Fiber, Stage, old_primary};
+use rx_links::{FiberId, FiberTree};
+use rx_node::{Instance, Mark};
 use rx_ways::Ways;
 
-/// An instance of a committed tree: its number, and its component, by its number in the order of the text.
+/// An instance of the committed tree: its number; its component, by its number in the order of the text; and its current fiber.
 #[derive(Clone, Copy)]
 pub struct Found {
     pub number: u64,
     pub component: u32,
+    pub fiber: FiberId,
 }
 
-// What is told of a node that is an instance, from its first commit on.
-fn told(node: &Node) -> Option<Found>
-    ensures { result ≡ told node.now }
+// The instance of which a fiber is, if it is of one.
+pub(crate) fn instance_of(fiber: &Fiber) -> Option<&Instance>
+    ensures { option_map instance_seen (option_copied result) ≡ instance_at fiber.now.stage }
 {
-    match node.mark() {
-        Mark::Instance(instance) => Some(Found {
-            number: instance.number?,
-            component: instance.component,
-        }),
+    match fiber.stage() {
+        Stage::Begun(Mark::Instance(instance)) => Some(instance),
         _ => None,
     }
 }
 
-// Finds this node where it counts and none is left to come before it.
-fn count<'a>(node: &'a Node, counts: bool, left: &mut u64) -> Option<&'a Node>
-    ensures { Counts (if counts then (node.now ∷ []) else []) (option_copied result) left.old left.new }
+// What is told of a fiber that is of an instance, from its first commit on.
+fn told(id: FiberId, fiber: &Fiber) -> Option<Found>
+    ensures { result ≡ option_and_then (found_by id) (instance_at fiber.now.stage) }
+{
+    let instance = instance_of(fiber)?;
+    Some(Found {
+        number: instance.number?,
+        component: instance.component,
+        fiber: id,
+    })
+}
+
+// Finds this fiber where it counts and none is left to come before it.
+fn count(id: FiberId, counts: bool, left: &mut u64) -> Option<FiberId>
+    ensures { Counts (if counts then (id ∷ []) else []) result left.old left.new }
 {
     if !counts {
         return None;
     }
     if *left == 0 {
-        return Some(node);
+        return Some(id);
     }
     *left -= 1;
     None
 }
 
-// Looks at a node itself where it is an instance, and else for the nearest ones below it.
+// Looks at a fiber itself where it is of an instance, and else for the nearest ones below it.
 #[cycle(looking)]
-fn look_at<'a>(checked: &Checked, node: &'a Node, name: &Name, left: &mut u64) -> Option<&'a Node>
-    ensures { Counts (named checked.now name.now (itself_or (mark_of node.now) node.now (nearest_in (children_of node.now)))) (option_copied result) left.old left.new }
-{
-    match node.mark() {
-        Mark::Instance(instance) => {
-            let counts = name_of(checked, instance.component) == name.text();
-            count(node, counts, left)
-        }
-        _ => look_in(checked, node.children(), name, left),
-    }
-}
-
-// Looks for an instance of a component of this name among the nearest ones from a node on: the one that so many come before.
-#[cycle(looking)]
-fn look_from<'a>(checked: &Checked, node: &'a Node, name: &Name, left: &mut u64) -> Option<&'a Node>
-    ensures { Counts (named checked.now name.now (nearest node.now)) (option_copied result) left.old left.new }
-{
-    match look_at(checked, node, name, left) {
-        Some(found) => Some(found),
-        None => look_in(checked, node.fallback(), name, left),
-    }
-}
-
-#[cycle(looking)]
-fn look_in<'a>(
+fn look_at(
     checked: &Checked,
-    places: &'a [Option<Node>],
+    tree: &FiberTree<Fiber>,
+    id: FiberId,
     name: &Name,
     left: &mut u64,
-) -> Option<&'a Node>
-    ensures { Counts (named checked.now name.now (nearest_in (forest places.now))) (option_copied result) left.old left.new }
+) -> Option<FiberId>
+    requires { Holds tree.now.current id }
+    ensures held { IfSome result (Holds tree.now.current) }
+    ensures counts { Counts (near_first checked.now name.now (list_from tree.now.current (Some id))) result left.old left.new }
 {
-    for place in places {
-        if let Some(node) = place {
-            if let Some(found) = look_from(checked, node, name, left) {
-                return Some(found);
-            }
+    tree.facts();
+    match instance_of(tree.value(id)) {
+        Some(instance) => {
+            let counts = name_of(checked, instance.component) == name.text();
+            count(id, counts, left)
         }
+        None => look_in(checked, tree, tree.first_child(id), name, left),
+    }
+}
+
+// Looks for an instance of a component of this name among the nearest ones in a list of current fibers: the one that so many
+// come before. The fiber of a fallback comes right behind that of its boundary, so that tree order is the order of the links.
+#[cycle(looking)]
+fn look_in(
+    checked: &Checked,
+    tree: &FiberTree<Fiber>,
+    first: Option<FiberId>,
+    name: &Name,
+    left: &mut u64,
+) -> Option<FiberId>
+    requires { IfSome first (Holds tree.now.current) }
+    ensures held { IfSome result (Holds tree.now.current) }
+    ensures counts { Counts (near_fibers checked.now name.now (list_from tree.now.current first)) result left.old left.new }
+{
+    tree.facts();
+    let mut next = first;
+    'siblings: while let Some(id) = next {
+        if let Some(found) = look_at(checked, tree, id, name, left) {
+            return Some(found);
+        }
+        next = tree.next_sibling(id);
     }
     None
 }
 
-// The instance that the first part of a path leads to.
-fn first<'a>(checked: &Checked, tree: Option<&'a Node>, part: &(Name, u64)) -> Option<&'a Node>
-    ensures { option_copied result ≡ slice_get (named checked.now part.now.0 (nearest_if (option_copied tree.entry))) part.now.1 }
+// The fiber of the instance that the first part of a path leads to.
+fn first(checked: &Checked, tree: &FiberTree<Fiber>, part: &(Name, u64)) -> Option<FiberId>
+    ensures held { IfSome result (Holds tree.now.current) }
+    ensures at { result ≡ slice_get (near_fibers checked.now part.now.0 tree.now.current) part.now.1 }
+{
+    tree.facts();
+    let (name, number) = part;
+    let mut left = *number;
+    look_in(checked, tree, tree.current(), name, &mut left)
+}
+
+// The fiber of the instance that a further part of a path leads to, from that of the one before it.
+fn next(
+    checked: &Checked,
+    tree: &FiberTree<Fiber>,
+    id: FiberId,
+    part: &(Name, u64),
+) -> Option<FiberId>
+    requires { Holds tree.now.current id }
+    ensures held { IfSome result (Holds tree.now.current) }
+    ensures at { result ≡ slice_get (near_fibers checked.now part.now.0 (primary_list (list_from tree.now.current (Some id)))) part.now.1 }
 {
     let (name, number) = part;
     let mut left = *number;
-    look_from(checked, tree?, name, &mut left)
+    look_in(checked, tree, old_primary(tree, Some(id)), name, &mut left)
 }
 
-// The instance that a further part of a path leads to, from the one before it.
-fn next<'a>(checked: &Checked, node: &'a Node, part: &(Name, u64)) -> Option<&'a Node>
-    ensures { option_copied result ≡ slice_get (named checked.now part.now.0 (nearest_in (children_of node.now))) part.now.1 }
-{
-    let (name, number) = part;
-    let mut left = *number;
-    look_in(checked, node.children(), name, &mut left)
-}
-
-// Puts a node that is an instance on the ways, from its first commit on.
-fn put(node: &Node, sent: &mut Ways)
-    ensures here { (n : ℕ) → number_of (mark_of node.now) ≡ Some n → is_way sent.new n ≡ true }
+// Puts the instance of a fiber on the ways, from its first commit on.
+fn put(tree: &FiberTree<Fiber>, id: FiberId, sent: &mut Ways)
+    requires { Holds tree.now.current id }
+    ensures here { (x : trees.Node) (n : ℕ) → IsOld tree.now.current (Some id) (Some x) → number_of (mark_of x) ≡ Some n → is_way sent.new n ≡ true }
     ensures others { (n : ℕ) → is_way sent.old n ≡ true → is_way sent.new n ≡ true }
 {
-    if let Some(number) = node.mark().instance_number() {
-        sent.add(number);
+    if let Some(found) = told(id, tree.value(id)) {
+        sent.add(found.number);
     }
 }
 
 /// The instance that a path leads to: from the root, each part names the so-many-th instance of a component right below the
-/// one before, counted from 0 in tree order. It puts each instance on the way, itself too, on the ways that updates were
-/// sent along. It takes time in proportion to what is rendered by the bodies of the instances on the way, however large the
-/// tree is.
+/// one before, counted from 0 in tree order. It goes over the current fibers, and tells the one of the instance. It puts each
+/// instance on the way, itself too, on the ways that updates were sent along. It takes time in proportion to what is rendered
+/// by the bodies of the instances on the way, however large the tree is.
 pub fn find_instance(
     checked: &Checked,
-    tree: Option<&Node>,
+    tree: &FiberTree<Fiber>,
     path: &[(Name, u64)],
     sent: &mut Ways,
 ) -> Option<Found>
-    requires numbered { IfNumbered (option_copied tree) }
-    requires apart { (next : ℕ) × HasOwnNumbers next (option_copied tree) }
-    ensures found { result ≡ option_map found_as (instance_found checked.now (option_copied tree.entry) path.now) }
+    ensures found { (y : Option trees.Node) (next : ℕ) → IsTreeOf y tree.now.current → IfNumbered y → HasOwnNumbers next y
+        → option_map told_in result ≡ option_map found_as (instance_found checked.now y path.now) }
+
+    // Its fiber is the current one of the node that the path leads to.
+    ensures fiber { (y : Option trees.Node) → IsTreeOf y tree.now.current → IfSome result (IsFoundAt checked.now y path.now tree.now.current) }
     ensures grows { (n : ℕ) → is_way sent.old n ≡ true → is_way sent.new n ≡ true }
 
     // Also where the whole path leads nowhere, each instance is put that its first parts lead to.
-    ensures way { (k : ℕ) (m : Mounted) → k < length path.now → instance_found checked.now (option_copied tree.entry) (take (suc k) path.now) ≡ Some m
-        → is_way sent.new m.number ≡ true }
+    ensures way { (y : Option trees.Node) (next k : ℕ) (m : Mounted) → IsTreeOf y tree.now.current → IfNumbered y → HasOwnNumbers next y → k < length path.now
+        → instance_found checked.now y (take (suc k) path.now) ≡ Some m → is_way sent.new m.number ≡ true }
 {
+    tree.facts();
     let (part, rest) = path.split_first()?;
-    let mut found = first(checked, tree, part)?;
-    put(found, sent);
+    let mut id = first(checked, tree, part)?;
+    put(tree, id, sent);
     'walking: for part in rest {
-        found = next(checked, found, part)?;
-        put(found, sent);
+        id = next(checked, tree, id, part)?;
+        put(tree, id, sent);
     }
-    told(found)
+    told(id, tree.value(id))
 }

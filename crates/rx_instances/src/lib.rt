@@ -1,14 +1,17 @@
-//! The instances of a committed tree: the one that a path leads to, what a dispatch does to its hook, and the lines that show
-//! the hooks of all.
+//! What is read of a committed tree from its fibers: the instance that a path leads to, what a dispatch does to its hook, the
+//! lines that show the hooks of all instances, and how much there is of the tree.
 #![tactic(auto)]
 
+mod counts;
 mod dispatch;
 mod find;
+mod mounted;
 mod names;
 mod show;
 #[cfg(test)]
 mod tests;
 
+pub use counts::{hidden_count, node_count};
 pub use dispatch::{dispatch_hook, dispatch_op, dispatch_path, dispatch_word};
 pub use find::{Found, find_instance};
 pub use names::hook_place;

@@ -1,21 +1,21 @@
 // The hooks of all instances, with their committed values.
 ghost use Rattle.std.specs.Prelude.{◌≡◌, ◌<◌, ◌++◌, ◌∷◌, OnOk, OnErr, IfOk, map, take};
-ghost use Rattle.std.specs.Option.{option_copied};
 ghost use Rattle.rx_ast.specs.Syntax.{Program};
-ghost use Rattle.rx_elem.specs.Spots.{mounted};
+ghost use Rattle.rx_fiber.specs.Reading.{IsTreeOf};
 ghost use Rattle.rx_hook_store.specs.Store.{kept_hooks};
 ghost use Rattle.rx_lines.specs.Lines as report;
 ghost use Rattle.rx_model.specs.HooksOf.{KeepsAllHooks};
 ghost use Rattle.rx_model.specs.State.{State, committed_values, state_line, state_lines};
 ghost use Rattle.rx_instances.specs.Shown.{GoesOn, KeepsOne, KeepsThese, with_lines};
 
+use crate::mounted::{Mounted, read_mounted};
 use crate::names::{hooks_at, name_of};
 use rx_base::{Int, Name};
 use rx_check::Checked;
+use rx_fiber::Fiber;
 use rx_hook_store::{HookStore, hooks_are_there};
-use rx_node::Node;
+use rx_links::FiberTree;
 use rx_report::Report;
-use rx_spots::{Mounted, mounted};
 use std::alloc::{AllocError, Global};
 
 // The committed values of the first hooks of an instance: so many, or all where there are fewer.
@@ -78,7 +78,7 @@ fn show_these(
     Ok(())
 }
 
-/// The lines that show the hooks of all instances of a committed tree, in tree order, each hook with its committed value
+/// The lines that show the hooks of all instances of the current fibers, in tree order, each hook with its committed value
 /// (react.dev, State as a Snapshot). An `Err` leaves the report as it was.
 ///
 /// # Errors
@@ -88,16 +88,16 @@ pub fn show_hooks(
     alloc: Global,
     log: &mut Report,
     checked: &Checked,
-    tree: Option<&Node>,
+    tree: &FiberTree<Fiber>,
     hooks: &HookStore,
 ) -> Result<(), AllocError>
-    requires { (s : State) × ((mounted (option_copied tree) ≡ mounted s.tree) × KeepsAllHooks checked.now s (kept_hooks hooks.now)) }
-    ensures ok { OnOk result ((s : State) → mounted (option_copied tree.entry) ≡ mounted s.tree → KeepsAllHooks checked.now s (kept_hooks hooks.now)
+    requires { (s : State) × (IsTreeOf s.tree tree.now.current × KeepsAllHooks checked.now s (kept_hooks hooks.now)) }
+    ensures ok { OnOk result ((s : State) → IsTreeOf s.tree tree.now.current → KeepsAllHooks checked.now s (kept_hooks hooks.now)
         → log.new ≡ record log.old { bytes = log.old.bytes ++ report.report_bytes log.old.options (state_lines checked.now s) }) }
     ensures err { OnErr result (log.new ≡ log.old) }
 {
     let len = log.len();
-    let all = mounted(alloc, tree)?;
+    let all = read_mounted(alloc, tree)?;
     let shown = show_these(alloc, log, checked, hooks, &all);
     if shown.is_err() {
         log.cut(len);

@@ -1,14 +1,13 @@
 // An instance is looked up, and hooks are shown.
-ghost use Rattle.std.specs.Prelude.{◌≡◌, IfOk};
-ghost use Rattle.rx_instances.specs.Example.{counted};
-
 use super::*;
 use rx_ast::{Body, Component, Declaration, Expr, Program, Slot, Statement};
 use rx_base::{Int, Ints, Name};
 use rx_check::{Checked, check};
 use rx_elem::{Element, ElementKind};
+use rx_fiber::{Fiber, Stage};
 use rx_hook_store::HookStore;
-use rx_node::{Instance, Mark, Node};
+use rx_links::FiberTree;
+use rx_node::{Instance, Mark};
 use rx_report::Report;
 use rx_step::{Dispatch, LaneWord, Path};
 use rx_ways::Ways;
@@ -41,10 +40,8 @@ fn counter(alloc: Global) -> Result<Program, AllocError> {
     Ok(Program::new(declarations))
 }
 
-// The tree of the counter.
-fn counted(alloc: Global) -> Result<Node, AllocError>
-    ensures { IfOk result (λ n. n ≡ counted) }
-{
+// The fibers of the counter.
+fn counted(alloc: Global) -> Result<FiberTree<Fiber>, AllocError> {
     let mut initials = Vec::new(alloc);
     initials.push(Int::of(0))?;
     let instance = Instance {
@@ -55,8 +52,10 @@ fn counted(alloc: Global) -> Result<Node, AllocError>
         effects: Rc::new(alloc, Vec::new(alloc))?,
     };
     let element = Element::new(alloc, ElementKind::Null)?;
-    let mark = Mark::Instance(instance);
-    Node::new(alloc, element, mark, Vec::new(alloc), Vec::new(alloc))
+    let mut tree = FiberTree::new(alloc);
+    tree.start(Fiber::new(0, element, Stage::Begun(Mark::Instance(instance))))?;
+    tree.swap();
+    Ok(tree)
 }
 
 // `set n = 7` of the counter.
@@ -73,17 +72,20 @@ fn a_path_leads_to_an_instance(rt: HostRuntime) -> Result<(), Fail> {
     let tree = counted(rt.alloc())?;
     let dispatch = set_seven(rt.alloc())?;
     let mut sent = Ways::new(rt.alloc());
-    let found = find_instance(&checked, Some(&tree), dispatch_path(&dispatch), &mut sent);
+    let found = find_instance(&checked, &tree, dispatch_path(&dispatch), &mut sent);
     assert_eq!(rt; found.map(|f| f.number), Some(1));
     assert!(rt; sent.has(1));
+    assert_eq!(rt; node_count(&tree), 1);
+    assert_eq!(rt; hidden_count(&tree), 0);
     Ok(())
 }
 
 // What is shown of a machine at its start.
 fn shown(alloc: Global, checked: &Checked) -> Result<Report, AllocError> {
+    let tree = FiberTree::new(alloc);
     let hooks = HookStore::new(alloc);
     let mut report = Report::new(alloc, false, false);
-    show_hooks(alloc, &mut report, checked, None, &hooks)?;
+    show_hooks(alloc, &mut report, checked, &tree, &hooks)?;
     Ok(report)
 }
 

@@ -11,7 +11,8 @@ use Rattle.end_laws.specs.Trimmed.{trimmed, trimmed_if, trimmed_in, vacant_befor
 use Rattle.rx_model.specs.State.{State}
 use Rattle.rx_model.specs.Laws.{IsBounded, IsReached}
 use Rattle.rx_instances.specs.declared.find.Found.{Found}
-use Rattle.rx_instances.specs.Nearest.{found_as}
+use Rattle.rx_instances.specs.Nearest.{Told, found_as}
+use Rattle.rx_instances.specs.NearFibers.{told_in}
 use Rattle.run_laws.proofs.AlongRuns.{reached_carries}
 
 vacant_times : (n : ℕ) (ns : Forest) → times_numbered_in n (vacant_before ns) ≡ times_numbered_in n ns
@@ -52,18 +53,23 @@ trimmed_numbered_if None h = h
 trimmed_numbered_if (Some x) h = trimmed_numbered x h
 
 -- so it is in each state that a run comes to
+pub state_numbered : (p : Program) → IsBounded p → (s : State) → IsReached p s → IfNumbered s.tree × HasOwnNumbers s.numbers.instance s.tree
+state_numbered p bounded s reached =
+    let carried = reached_carries p bounded.shallow bounded.declared s reached in (carried.2.numbered, carried.2.sound.own_numbers)
+
+-- and in what is shown of it
 pub shown_numbered : (p : Program) → IsBounded p → (s : State) → IsReached p s → IfNumbered (trimmed_if s.tree) × HasOwnNumbers s.numbers.instance (trimmed_if s.tree)
 shown_numbered p bounded s reached =
-    let carried = reached_carries p bounded.shallow bounded.declared s reached in
-    let own = carried.2.sound.own_numbers in (
-      trimmed_numbered_if s.tree carried.2.numbered,
+    let numbered = state_numbered p bounded s reached in
+    let own = numbered.1 in (
+      trimmed_numbered_if s.tree numbered.0,
       λ n. (omega (arith, trimmed_times_if n s.tree, (own n).0), λ above. trimmed_times_if n s.tree ∙ (own n).1 above),
     )
 
 -- what is told of an instance that was found is told of the one that a path leads to
-pub found_one : (o : Option Mounted) (f : Found) → Some f ≡ option_map found_as o → (m : Mounted) × (o ≡ Some m) × (f.number ≡ m.number) × (f.component ≡ m.component)
-found_one None f is = absurd (none-some f (sym is))
-found_one (Some m) f is = let same = same_Some f (found_as m) is in (m, refl, ap (λ (g : Found). g.number) same, ap (λ (g : Found). g.component) same)
+pub found_one : (o : Option Mounted) (f : Found) → Some (told_in f) ≡ option_map found_as o → (m : Mounted) × (o ≡ Some m) × (f.number ≡ m.number) × (f.component ≡ m.component)
+found_one None f is = absurd (none-some (told_in f) (sym is))
+found_one (Some m) f is = let same = same_Some (told_in f) (found_as m) is in (m, refl, ap (λ (g : Told). g.number) same, ap (λ (g : Told). g.component) same)
 
 pub found_none : (o : Option Mounted) → None ≡ option_map found_as o → o ≡ None
 found_none None is = refl

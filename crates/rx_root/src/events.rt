@@ -111,12 +111,11 @@ impl Root {
         ensures ok { OnOk result ((s : State) → Stands self.entry.now.rendering.program s self.entry.now → log.new ≡ with_lines log.old (state_lines self.entry.now.rendering.program s)) }
         ensures err { OnErr result (log.new ≡ log.old) }
     {
-        ends_are_not_read();
         show_hooks(
             self.alloc,
             log,
             self.renderer.checked(),
-            self.shown.tree(),
+            self.renderer.fibers(),
             self.renderer.hooks(),
         )
     }
@@ -144,13 +143,12 @@ impl Root {
             → IsTargetOf self.old.rendering.program s dispatch.now result }
         ensures same { self.new ≡ self.old }
     {
-        ends_are_not_read();
         self.renderer.facts();
         let checked = self.renderer.checked();
         checked.program();
         let found = find_instance(
             checked,
-            self.shown.tree(),
+            self.renderer.fibers(),
             dispatch_path(dispatch),
             &mut self.sent,
         )?;

@@ -18,7 +18,6 @@ ghost use Rattle.rx_root.specs.Stands.{HasRoomFor, Stands, StandsForSome};
 ghost use Rattle.rx_root.specs.Taking.{CanTake};
 
 use crate::turns::FLUSH_LIMIT;
-use end_laws::ends_are_not_read;
 use room_laws::fibers_have_room;
 use run_laws::quiet_ends;
 use rx_base::{Int, Name};
@@ -26,6 +25,7 @@ use rx_check::Checked;
 use rx_commit::Shown;
 use rx_fiber::Fiber;
 use rx_hook_store::links_are_below;
+use rx_instances as instances;
 use rx_lane::{Lane, Lanes};
 use rx_links::FiberTree;
 use rx_read::Numbers;
@@ -33,7 +33,6 @@ use rx_render::Renderer;
 use rx_report::Report;
 use rx_sched::RootLanes;
 use rx_script::{dispatch_fits, step_fits};
-use rx_spots as spots;
 use rx_step::{Dispatch, Step};
 use rx_ways::Ways;
 use std::alloc::{AllocError, Global};
@@ -181,8 +180,7 @@ impl Root {
         ensures { (s : State) → Stands self.entry.now.rendering.program s self.entry.now → result ≡ hidden_in s.tree }
     {
         self.renderer.facts();
-        ends_are_not_read();
-        spots::hidden_count(self.shown.tree())
+        instances::hidden_count(self.renderer.fibers())
     }
 
     /// How many nodes the committed tree has.
@@ -190,8 +188,7 @@ impl Root {
         ensures { (s : State) → Stands self.entry.now.rendering.program s self.entry.now → result ≡ node_count s.tree }
     {
         self.renderer.facts();
-        ends_are_not_read();
-        spots::node_count(self.shown.tree())
+        instances::node_count(self.renderer.fibers())
     }
 
     /// The two trees of fibers (react.dev, Render and Commit): the current one stands for the committed tree, and the other one

@@ -115,8 +115,8 @@ impl Root {
 
     /// Takes a step of a script: the root stands for the state of the machine after it, the report has its lines, and the
     /// counter the bodies that it evaluated. Each of its renders evaluates as many bodies at most as places have a cause or lie
-    /// below one that has, and one that is finished as many at least as places have a cause of their own, what hidden boundaries
-    /// keep that wait still left out (react.dev, Render and Commit). A dispatch whose path leads to no instance, and a
+    /// below one that has, and one that is finished as many at least as places have a cause of their own, what untouched hidden
+    /// boundaries keep left out (react.dev, Render and Commit). A dispatch whose path leads to no instance, and a
     /// resolution of a resource that has its value, write a line.
     ///
     /// # Errors

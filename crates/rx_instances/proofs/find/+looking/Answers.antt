@@ -1,46 +1,36 @@
-use Rattle.std.proofs.Common.{◌+◌, arith, sym, subst}
-use Rattle.std.specs.Option.{option_copied}
-use Rattle.rx_elem.specs.Trees.{Forest, forest}
-use Rattle.rx_instances.specs.Nearest.{Counts, named, nearest_in}
-use Rattle.rx_instances.proofs.Counting.{LeadsOn, counts-fallback, counts-own, height-get, leads-found, leads-more, leads-nowhere, leads-vacant, rest_of}
+use Rattle.std.proofs.Common.{arith}
+use Rattle.rx_links.specs.Readers.{list_from}
+use Rattle.rx_fiber.proofs.OldReads.{rest_held, some_held}
+use Rattle.rx_instances.specs.NearFibers.{near_fibers}
+use Rattle.rx_instances.proofs.Counting.{leads-found, leads-more, leads-nowhere, rest_smaller}
 use Rattle.rx_instances.proofs.find.+looking.Goals as goal
-use Rattle.rx_instances.proofs.find.+looking.Goals.{look_in-in-Some+in_default-look_from, look_in-in_default}
 
-pub look_from-returns-in-Some : goal.look_from-returns-in-Some
-look_from-returns-in-Some t c = counts-own c.args.checked.now c.args.name.now c.args.node.now c.in-Some.found.now c.args.left.now c.look_at.new.left c.in-Some.ensures
+pub look_in-returns-in-Some-look_at-clause-counts : goal.look_in-returns-in-Some-look_at-clause-counts
+look_in-returns-in-Some-look_at-clause-counts t c =
+    let current = c.args.tree.now.current in
+    let all = near_fibers c.args.checked.now c.args.name.now (list_from current c.args.first) in
+    leads-found c.args.checked.now c.args.name.now current c.facts.ensures.linked c.siblings.next c.in-Some.id c.in-Some-look_at.found all c.args.left.now c.siblings.left
+    c.look_at.new.left (some_held current c.siblings.next c.in-Some.id c.siblings.invariant.held c.in-Some.is) c.in-Some.is c.siblings.invariant.leads c.in-Some-look_at.ensures.counts
 
-pub look_from-returns-in-None : goal.look_from-returns-in-None
-look_from-returns-in-None t c =
-    counts-fallback c.args.checked.now c.args.name.now c.args.node.now (option_copied c.look_in.result) c.args.left.now c.look_at.new.left c.look_in.new.left c.in-None.ensures
-    (subst (λ (f : Forest). Counts (named c.args.checked.now c.args.name.now (nearest_in f)) (option_copied c.look_in.result) c.look_at.new.left c.look_in.new.left) c.fallback.ensures.all c.look_in.ensures)
+pub look_in-siblings-preserved : goal.look_in-siblings-preserved
+look_in-siblings-preserved t c =
+    let current = c.args.tree.now.current in
+    let linked = c.facts.ensures.linked in
+    let i = c.in-Some.id in
+    let h = some_held current c.siblings.next i c.siblings.invariant.held c.in-Some.is in
+    let all = near_fibers c.args.checked.now c.args.name.now (list_from current c.args.first) in
+    let beyond = c.next_sibling-next.ensures.current h in
+    let smaller = rest_smaller current linked i c.siblings.next c.next_sibling-next.result h c.in-Some.is beyond in
+    record {
+      held = rw beyond (rest_held current linked i h);
+      leads =
+          leads-more c.args.checked.now c.args.name.now current linked c.siblings.next c.next_sibling-next.result i all c.args.left.now c.siblings.left c.look_at.new.left h c.in-Some.is beyond
+          c.siblings.invariant.leads c.in_default-look_at.ensures.counts;
+      within = omega (arith, c.siblings.invariant.within, smaller);
+    }
 
-pub look_in-look_from-requires : goal.look_in-look_from-requires
-look_in-look_from-requires t c =
-    (omega (arith, height-get c.args.places.now c.loop-place.place-index c.place-item.result c.in-Some.node c.loop-place-test.true c.place-item.is c.in-Some.is), tt)
-
-pub look_in-returns-in-Some-look_from : goal.look_in-returns-in-Some-look_from
-look_in-returns-in-Some-look_from t c =
-    leads-found c.args.checked.now c.args.name.now c.args.places.now c.loop-place.place-index c.place-item.result c.in-Some.node c.in-Some-look_from.found.now
-    (named c.args.checked.now c.args.name.now (nearest_in (forest c.args.places.now))) c.args.left.now c.loop-place.left c.look_from.new.left
-    c.loop-place-test.true c.place-item.is c.in-Some.is c.loop-place.invariant c.in-Some-look_from.ensures
-
-pub look_in-loop-place-preserved : goal.look_in-loop-place-preserved
-look_in-loop-place-preserved t c =
-    let p = c.args.checked.now in
-    let name = c.args.name.now in
-    let all = named p name (nearest_in (forest c.args.places.now)) in
-    elim c.match-place.branch [
-      | look_in-in-Some+in_default-look_from w ↦
-          subst (LeadsOn all (rest_of p name c.args.places.now (c.loop-place.place-index + 1)) c.args.left.now) (sym w.left-is)
-          (leads-more p name c.args.places.now c.loop-place.place-index c.place-item.result w.in-Some.node all c.args.left.now c.loop-place.left w.look_from.new.left
-          c.loop-place-test.true c.place-item.is w.in-Some.is c.loop-place.invariant w.in_default-look_from.ensures)
-      | look_in-in_default w ↦
-          subst (LeadsOn all (rest_of p name c.args.places.now (c.loop-place.place-index + 1)) c.args.left.now) (sym w.left-is)
-          (leads-vacant p name c.args.places.now c.loop-place.place-index c.place-item.result all c.args.left.now c.loop-place.left
-          c.loop-place-test.true c.place-item.is w.in_default.is c.loop-place.invariant)
-    ]
-
-pub look_in-returns : goal.look_in-returns
-look_in-returns t c =
-    leads-nowhere c.args.checked.now c.args.name.now c.args.places.now c.loop-place.place-index (named c.args.checked.now c.args.name.now (nearest_in (forest c.args.places.now))) c.args.left.now c.loop-place.left
-    c.loop-place-test.false c.loop-place.invariant
+pub look_in-returns-clause-counts : goal.look_in-returns-clause-counts
+look_in-returns-clause-counts t c =
+    let current = c.args.tree.now.current in
+    let all = near_fibers c.args.checked.now c.args.name.now (list_from current c.args.first) in
+    leads-nowhere c.args.checked.now c.args.name.now current c.facts.ensures.linked c.siblings.next all c.args.left.now c.siblings.left c.in_default.is c.siblings.invariant.leads

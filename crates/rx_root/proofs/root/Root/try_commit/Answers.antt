@@ -81,6 +81,12 @@ show-requires-clause-ready c =
           (subst IsAccepted e.stands.program c.facts.ensures.accepted) c.in_ok-beside.beside.tree (c.in_ok-beside.ensures.tree e.program e.state e.progress e.tree e.stands));
     }
 
+pub commit-requires : goal.commit-requires
+commit-requires c =
+    let e = c.requires.end in
+    let over = numbered_over e.program e.state e.progress e.tree c.args.self.now c.number.new.self e.stands (c.in_ok-beside.ensures.numbers e.program e.state e.progress e.tree e.stands) in
+    ap (λ (v : Rooted). v.rendering.at) (c.self-2.view_is ∙ c.show.ensures.rest) ∙ (ap (λ (v : Rooted). v.rendering.at) c.in_ok-prepared.ensures.rest ∙ over)
+
 pub returns-in_err-beside-clause-gave_up : goal.returns-in_err-beside-clause-gave_up
 returns-in_err-beside-clause-gave_up c = any_err c.from_residual.result _ (numbered_gave_up c.args.self.now c.number.new.self c.number.new.self c.number.ensures.rest (gave_up_same c.number.new.self))
 
