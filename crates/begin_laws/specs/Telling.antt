@@ -8,6 +8,7 @@ use Rattle.rx_links.specs.Drafts.{Trees, old_of}
 use Rattle.rx_links.specs.Readers.{made_value_of}
 use Rattle.rx_meaning.specs.Fresh.{Contexts, Sight}
 use Rattle.rx_fiber.specs.Fibers.{Fiber, is_cloned, is_stood}
+use Rattle.rx_fiber.specs.Surround.{IsElementOf}
 use Rattle.rx_meaning.specs.Again.{AreUnresolved}
 use Rattle.commit_laws.specs.Each as marks
 use Rattle.rx_ways.specs.Ways.{Covers}
@@ -40,9 +41,10 @@ pub record TellsBody (scene : Scene) (kept : ℕ → Option (List Hook)) (t : Tr
   pub calm : (v : Fiber) → Some v ≡ made_value_of t.draft id → IsSome (parts_in v.element) → evaluated ≡ false → TellsCalm scene kept cs (option_and_then instance_in (mark_at t.current (old_of t.draft id))) true
   pub exact : (v : Fiber) → Some v ≡ made_value_of t.draft id → IsSome (parts_in v.element) → is_cloned v.stage ≡ true → TellsCalm scene kept cs (option_and_then instance_in (mark_at t.current (old_of t.draft id))) (not evaluated)
 
--- A hidden boundary's children are tried only for a cause, where its fiber is a clone that stood.
+-- A hidden boundary's children are tried only for a cause, where its element is that of the current fiber, and that stands where the same values of contexts are given.
 abbrev pub TellsTries : Scene → (kept : ℕ → Option (List Hook)) → Trees Fiber → (id : ℕ) → Type 0
-TellsTries scene kept t id = (v : Fiber) → Some v ≡ made_value_of t.draft id → parts_in v.element ≡ None → is_cloned v.stage ≡ true → is_stood v.stage ≡ true → IsCauseToTry scene kept t id
+TellsTries scene kept t id =
+    (v : Fiber) → Some v ≡ made_value_of t.draft id → parts_in v.element ≡ None → IsElementOf t.current (old_of t.draft id) v.element → is_stood v.stage ≡ true → IsCauseToTry scene kept t id
 
 -- A fiber is begun over these children: they stood exactly where the fiber is steady, and are clones where it is one whose body is not evaluated and whose old node hides nothing.
 pub record OpensKids (t new : Trees Fiber) (id : ℕ) (evaluated : Bool) : Type 0 where

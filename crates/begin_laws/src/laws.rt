@@ -24,8 +24,8 @@ ghost use Rattle.rx_begin.specs.Beginning.{HasLists};
 ghost use Rattle.begin_laws.specs.Mounting.{HasInstances};
 ghost use Rattle.begin_laws.specs.Telling.{OpensKids, TellsBody, TellsCauses, TellsIf, TellsTries};
 
-/// A unit that begins a place evaluates its body where it has to, and only where it may; it opens lists whose fibers are clear
-/// where they lie below no cause.
+/// A unit that begins a place evaluates its body where it has to, and only where it may, and tries no untouched boundary; it opens
+/// lists whose fibers are as their flags tell.
 pub fn places_cost()
     ensures bodies { (s : Sight) (scene : Scene) (kept : ℕ → Option (List Hook)) (t : Trees Fiber) (st : Stack) (id n : ℕ) (fs : List Frame) (cs : Contexts) (e : Element) (old : Option Node) (us : Flags) (evaluated : Bool)
         → IsSceneOf scene s → Fits t → StandsAt t st (Some id) (at_place (suc n) fs cs e old) → TellsIf s kept old → FlagsAtPlace t id us → TellsBody scene kept t cs id evaluated

@@ -7,24 +7,25 @@ use Rattle.rx_elem.specs.Elements.{Element}
 use Rattle.rx_elem.specs.Elements as elements
 use Rattle.rx_elem.specs.Trees.{Node, none, forest}
 use Rattle.rx_meaning.specs.Fresh.{Sight, Contexts, made, waits, Places, all_made, one_waits, over_boundary, render_all, rendered, Part, Shape, absent, waiting, one_list, two_lists, shape_of, render_part, place_of}
-use Rattle.rx_meaning.specs.Counts.{try_all, count_part}
+use Rattle.rx_meaning.specs.Counts.{try_all, count_part, if_waits}
 use Rattle.rx_meaning.specs.Touched.{children_with_old}
 use Rattle.rx_meaning.specs.Cursor.{given_by, is_null, Open, around, trying, falling, Frame, Cursor, at_place, at_end, ended, come_to, open_part, arrive, past, unwind, begin, finished, unit, start}
 use Rattle.rx_meaning.specs.Rest.{onto, from_open}
 use Rattle.render_laws.proofs.Resuming.{onto_push, onto_waits, onto_made, open_made, null_is_empty}
-use Rattle.cost_laws.specs.Allowed.{allow_shape, allowed, whole_allowed, below_boundary}
+use Rattle.cost_laws.specs.Allowed.{Flag, after_attempt, allow_shape, allowed, below_boundary, in_fallback, whole_allowed}
+use Rattle.cost_laws.specs.Untouched.{is_untouched}
 use Rattle.cost_laws.specs.Left.{Flags, flag, outer, allow_open, allow_around, left_allowed, unwound_by, unwound, begun_flags, unit_flags, begins_allowed, next_allowed, MayTry, MayGo}
 
-null_allows : (n : ℕ) (s : Sight) (under : Bool) (cs : Contexts) (e : Element) (old : Option Node) → is_null e ≡ true → allowed n s under cs e old ≡ 0
+null_allows : (n : ℕ) (s : Sight) (u : Flag) (cs : Contexts) (e : Element) (old : Option Node) → is_null e ≡ true → allowed n s u cs e old ≡ 0
 unfolding allowed
-null_allows zero s under cs e old h = refl
-null_allows (suc n) s under cs elements.null old h = refl
-null_allows (suc n) s under cs (elements.text t) old h = absurd (cc h)
-null_allows (suc n) s under cs (elements.host name k attrs es) old h = absurd (cc h)
-null_allows (suc n) s under cs (elements.comp c k ps es) old h = absurd (cc h)
-null_allows (suc n) s under cs (elements.list es) old h = absurd (cc h)
-null_allows (suc n) s under cs (elements.boundary k f es) old h = absurd (cc h)
-null_allows (suc n) s under cs (elements.provider c k x es) old h = absurd (cc h)
+null_allows zero s u cs e old h = refl
+null_allows (suc n) s u cs elements.null old h = refl
+null_allows (suc n) s u cs (elements.text t) old h = absurd (cc h)
+null_allows (suc n) s u cs (elements.host name k attrs es) old h = absurd (cc h)
+null_allows (suc n) s u cs (elements.comp c k ps es) old h = absurd (cc h)
+null_allows (suc n) s u cs (elements.list es) old h = absurd (cc h)
+null_allows (suc n) s u cs (elements.boundary k f es) old h = absurd (cc h)
+null_allows (suc n) s u cs (elements.provider c k x es) old h = absurd (cc h)
 
 -- what an open node and those around it allow, from what its list gives
 abbrev allows_from : ℕ → Sight → Flags → List Frame → Open → Places → ℕ
@@ -36,11 +37,11 @@ abbrev list_allows : ℕ → Sight → Flags → List Frame → Open → Context
 list_allows n s us fs o cs done xs =
     try_all (allowed n s (flag us) cs) (rendered n s cs) xs + allows_from n s us fs o (onto done (render_all (rendered n s cs) xs))
 
-open_allows : (n : ℕ) (s : Sight) (under : Bool) (o : Open) (done : List (Option Node))
-    → allow_open (allowed n s) (rendered n s) under o (all_made (forest done)) ≡ 0
-open_allows n s under (around e m) done = refl
-open_allows n s under (trying e old f) done = refl
-open_allows n s under (falling e old a) done = refl
+open_allows : (n : ℕ) (s : Sight) (u : Flag) (o : Open) (done : List (Option Node))
+    → allow_open (allowed n s) (rendered n s) u o (all_made (forest done)) ≡ 0
+open_allows n s u (around e m) done = refl
+open_allows n s u (trying e old f) done = refl
+open_allows n s u (falling e old a) done = refl
 
 end_allows : (n : ℕ) (s : Sight) (us : Flags) (fs : List Frame) (o : Open) (done : List (Option Node))
     → allow_around (suc n) s fs (outer us) (made (finished o done)) ≡ 0 + allows_from n s us fs o (onto done (all_made none))
@@ -83,7 +84,7 @@ past_allows : (n : ℕ) (s : Sight) (us : Flags) (fs : List Frame) (o : Open) (a
     → ((b : Awaits) → left_allowed s (unwound fs (outer us)) (unwind (suc n) fs b) ≡ allow_around (suc n) s fs (outer us) (waits b))
     → left_allowed s (unwound_by o us (unwound fs (outer us))) (past o a (unwind (suc n) fs) (open_part n fs)) ≡ allows_from n s us fs o (one_waits a)
 past_allows n s us fs (around e m) a out = omega (arith, out a)
-past_allows n s us fs (trying e old f) a out = omega (arith, part_allows n s us fs (falling e old a) f)
+past_allows n s us fs (trying e old f) a out = omega (arith, part_allows n s (after_attempt (flag us) ∷ outer us) fs (falling e old a) f)
 past_allows n s us fs (falling e old b) a out = omega (arith, out (awaits.union b a))
 
 unwind_allows : (n : ℕ) (s : Sight) (us : Flags) (fs : List Frame) (a : Awaits) → left_allowed s (unwound fs us) (unwind n fs a) ≡ allow_around n s fs us (waits a)
@@ -93,15 +94,27 @@ unwind_allows n s us (f ∷ fs) a =
     past_allows n s us fs f.node a (unwind_allows (suc n) s (outer us) fs)
     ∙ rw (onto_waits f.done a) (omega arith)
 
-begin_allows : (n : ℕ) (s : Sight) (us : Flags) (fs : List Frame) (cs : Contexts) (e : Element) (old : Option Node) (shape : Shape) → MayTry s (flag us) old shape
+-- the fallback of a boundary that is tried has what its children leave it
+tried_fallback : (s : Sight) (u : Flag) (e : Element) (old : Option Node) → is_untouched s u.stood e old ≡ false → in_fallback s u e old ≡ after_attempt (below_boundary s u e old)
+tried_fallback s u e old h = λ i. record { under = (below_boundary s u e old).under; stood = h i }
+
+begin_allows : (n : ℕ) (s : Sight) (us : Flags) (fs : List Frame) (cs : Contexts) (e : Element) (old : Option Node) (shape : Shape) → MayTry s (flag us) e old shape
     → allow_shape (allowed n s) (rendered n s) s (flag us) cs e old shape + allow_around (suc n) s fs us (place_of (rendered n s) e old shape)
     ≡ begins_allowed s (flag us) cs e old shape + left_allowed s (begun_flags s fs us cs e old shape) (begin n fs e old shape)
 begin_allows n s us fs cs e old absent h = omega (arith, arrive_allows (suc n) s us fs None)
 begin_allows n s us fs cs e old (waiting r) h = omega (arith, unwind_allows (suc n) s us fs (awaits.one r))
 begin_allows n s us fs cs e old (one_list m p) h = omega (arith, part_allows n s (begun_flags s fs us cs e old (one_list m p)) fs (around e m) p)
-begin_allows n s us fs cs e old (two_lists p f) h = rw h (omega (arith, part_allows n s (begun_flags s fs us cs e old (two_lists p f)) fs (trying e old f) p))
+begin_allows n s us fs cs e old (two_lists p f) h =
+    let u = below_boundary s (flag us) e old in
+    let tried : cond (is_untouched s (flag us).stood e old) 0 (count_part (allowed n s u) (rendered n s) p) ≡ count_part (allowed n s u) (rendered n s) p =
+    ap (λ b. cond b 0 (count_part (allowed n s u) (rendered n s) p)) h
+    in
+    let after : if_waits (render_part (rendered n s) p) (count_part (allowed n s (in_fallback s (flag us) e old)) (rendered n s) f) ≡ if_waits (render_part (rendered n s) p) (count_part (allowed n s (after_attempt u)) (rendered n s) f) =
+    ap (λ w. if_waits (render_part (rendered n s) p) (count_part (allowed n s w) (rendered n s) f)) (tried_fallback s (flag us) e old h)
+    in
+    omega (arith, tried, after, part_allows n s (u ∷ us) fs (trying e old f) p)
 
-place_allows : (n : ℕ) (s : Sight) (us : Flags) (fs : List Frame) (cs : Contexts) (e : Element) (old : Option Node) → MayTry s (flag us) old (shape_of s cs e old)
+place_allows : (n : ℕ) (s : Sight) (us : Flags) (fs : List Frame) (cs : Contexts) (e : Element) (old : Option Node) → MayTry s (flag us) e old (shape_of s cs e old)
     → allowed (suc n) s (flag us) cs e old + allow_around (suc n) s fs us (rendered (suc n) s cs e old)
     ≡ begins_allowed s (flag us) cs e old (shape_of s cs e old) + left_allowed s (begun_flags s fs us cs e old (shape_of s cs e old)) (begin n fs e old (shape_of s cs e old))
 unfolding allowed rendered
@@ -140,19 +153,19 @@ taken_allows s us n fs cs e o again =
 
 -- A boundary whose children would wait again
 
-fallback_at : (s : Sight) (under : Bool) (n : ℕ) (cs : Contexts) (e : Element) (o : Option Node) (p f : Part) (a : Awaits) → shape_of s cs e o ≡ two_lists p f
+fallback_at : (s : Sight) (u : Flag) (n : ℕ) (cs : Contexts) (e : Element) (o : Option Node) (p f : Part) (a : Awaits) → shape_of s cs e o ≡ two_lists p f
     → render_part (rendered n s) p ≡ one_waits a
-    → (count_part (allowed n s (below_boundary s under o)) (rendered n s) f ≤ allowed (suc n) s under cs e o)
+    → (count_part (allowed n s (in_fallback s u e o)) (rendered n s) f ≤ allowed (suc n) s u cs e o)
     × (rendered (suc n) s cs e o ≡ over_boundary e o (one_waits a) (render_part (rendered n s) f))
 unfolding allowed rendered
-fallback_at s under n cs e o p f a shape waited =
+fallback_at s u n cs e o p f a shape waited =
     (rw (shape, waited) (omega arith), rw (shape, waited) refl)
 
 -- An attempt that is left out leaves no more than there was.
 pub attempt_allows : (s : Sight) (us : Flags) (n : ℕ) (fs : List Frame) (cs : Contexts) (e : Element) (o : Option Node) (p f : Part) (a : Awaits) → shape_of s cs e o ≡ two_lists p f
     → render_part (rendered n s) p ≡ one_waits a
-    → left_allowed s (below_boundary s (flag us) o ∷ us) (open_part n fs (falling e o a) f) ≤ left_allowed s us (at_place (suc n) fs cs e o)
+    → left_allowed s (in_fallback s (flag us) e o ∷ us) (open_part n fs (falling e o a) f) ≤ left_allowed s us (at_place (suc n) fs cs e o)
 attempt_allows s us n fs cs e o p f a shape waited =
     let at = fallback_at s (flag us) n cs e o p f a shape waited in
     let around_it : allow_around (suc n) s fs us (rendered (suc n) s cs e o) ≡ allow_around (suc n) s fs us (over_boundary e o (one_waits a) (render_part (rendered n s) f)) = ap (allow_around (suc n) s fs us) at.1 in
-    omega (arith, at.0, around_it, allowed_at s us (suc n) fs cs e o, part_allows n s (below_boundary s (flag us) o ∷ us) fs (falling e o a) f)
+    omega (arith, at.0, around_it, allowed_at s us (suc n) fs cs e o, part_allows n s (in_fallback s (flag us) e o ∷ us) fs (falling e o a) f)

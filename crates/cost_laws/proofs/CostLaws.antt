@@ -9,7 +9,7 @@ use Rattle.rx_meaning.specs.Fresh.{Sight, Contexts, Place, made, one_waits, Part
 use Rattle.rx_meaning.specs.Touched.{children_with_old}
 use Rattle.rx_meaning.specs.Cursor.{Frame, falling, Cursor, at_place, ended, open_part, arrive, start, unit, StandsAtNode}
 use Rattle.render_laws.specs.SameSight.{SeesSame}
-use Rattle.cost_laws.specs.Allowed.{below_boundary, whole_allowed}
+use Rattle.cost_laws.specs.Allowed.{in_fallback, whole_allowed}
 use Rattle.cost_laws.specs.Left.{Flags, flag, MayGo, next_allowed, unit_flags}
 use Rattle.cost_laws.specs.Costs.{Costs}
 use Rattle.cost_laws.specs.SameWork.{SeesSameWork}
@@ -37,10 +37,10 @@ take_costs s old bodies n us fs cs e o again h =
 pub attempt_costs : (s : Sight) (old : Option Node) (bodies n : ℕ) (us : Flags) (fs : List Frame) (cs : Contexts) (e : Element)
     (o : Option Node) (p f : Part) (a : Awaits) → shape_of s cs e o ≡ two_lists p f
     → render_part (rendered n s) p ≡ one_waits a → Costs s old bodies us (at_place (suc n) fs cs e o)
-    → Costs s old bodies (below_boundary s (flag us) o ∷ us) (open_part n fs (falling e o a) f)
+    → Costs s old bodies (in_fallback s (flag us) e o ∷ us) (open_part n fs (falling e o a) f)
 attempt_costs s old bodies n us fs cs e o p f a shape waited h =
     record {
-      flagged = come_flagged (below_boundary s (flag us) o ∷ us) n fs (falling e o a) f.contexts [] (children_with_old f) tt h.flagged;
+      flagged = come_flagged (in_fallback s (flag us) e o ∷ us) n fs (falling e o a) f.contexts [] (children_with_old f) tt h.flagged;
       bound = omega (arith, h.bound, attempt_allows s us n fs cs e o p f a shape waited);
     }
 

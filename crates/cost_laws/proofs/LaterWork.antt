@@ -18,7 +18,8 @@ use Rattle.rx_meaning.specs.Touched.{is_read_anew}
 use Rattle.render_laws.specs.SameSight.{SeesSame, AllAfter}
 use Rattle.render_laws.proofs.LaterEntries.{renders_same, shape_same, AllFail, late_fail}
 use Rattle.cost_laws.specs.Causes.{has_cause, has_value, instance_news, is_called, is_due, is_news, news_at, news_in, some_update, waits_still}
-use Rattle.cost_laws.specs.Allowed.{Allows, below_boundary, below_node, is_left_out, own_body, allow_shape, allowed, whole_allowed}
+use Rattle.cost_laws.specs.Allowed.{Allows, Flag, above_root, allow_shape, allowed, below_boundary, below_node, in_fallback, is_caused, own_body, whole_allowed}
+use Rattle.cost_laws.specs.Untouched.{is_element_of, is_retried, is_untouched, stands_below}
 use Rattle.cost_laws.specs.Left.{Flags, flag, outer, allow_open, allow_around, left_allowed}
 use Rattle.cost_laws.specs.SameWork.{SeesSameWork}
 
@@ -67,36 +68,46 @@ module _ (s : Sight) (j : Journal) (same : SeesSame s j) (work : SeesSameWork s 
   still_same None = refl
   still_same (Some n) = waiting_same n (boundary_in (mark_of n))
 
-  boundary_same : (under : Bool) (old : Option Node) → below_boundary s under old ≡ below_boundary seen under old
-  boundary_same under old = ap (λ b. under || (was_hidden old && not b)) (still_same old)
+  -- The same are untouched.
+  pub untouched_same : (stood : Bool) (e : Element) (old : Option Node) → is_untouched s stood e old ≡ is_untouched seen stood e old
+  untouched_same stood e old = ap (λ b. stood && (is_element_of e old && b)) (still_same old)
 
-  out_same : (under : Bool) (old : Option Node) → is_left_out s under old ≡ is_left_out seen under old
-  out_same under old = ap (λ b. not under && b) (still_same old)
+  retried_same : (stood : Bool) (e : Element) (old : Option Node) → is_retried s stood e old ≡ is_retried seen stood e old
+  retried_same stood e old = ap (λ b. was_hidden old && not b) (untouched_same stood e old)
 
-  node_same : (under : Bool) (cs : Contexts) (e : Element) (old : Option Node) → below_node s under cs e old ≡ below_node seen under cs e old
-  node_same under cs e old = ap (λ b. under || b) (cause_same cs e old)
+  boundary_same : (u : Flag) (e : Element) (old : Option Node) → below_boundary s u e old ≡ below_boundary seen u e old
+  boundary_same u e old = λ i. record { under = u.under || retried_same u.stood e old i; stood = stands_below u.stood e old }
 
-  own_same : (under : Bool) (cs : Contexts) (e : Element) (old : Option Node) → own_body s under cs e old ≡ own_body seen under cs e old
-  own_same under cs e old = ap (λ b. cond b (one_if_component e) 0) (node_same under cs e old)
+  fallback_same : (u : Flag) (e : Element) (old : Option Node) → in_fallback s u e old ≡ in_fallback seen u e old
+  fallback_same u e old = λ i. record { under = u.under || retried_same u.stood e old i; stood = untouched_same u.stood e old i }
 
-  place_same : (allow : Allows) (below : Contexts → Renders) (under : Bool) (cs : Contexts) (e : Element) (old : Option Node) (shape : Shape)
-      → allow_shape allow below s under cs e old shape ≡ allow_shape allow below seen under cs e old shape
-  place_same allow below under cs e old absent = refl
-  place_same allow below under cs e old (waiting r) = own_same under cs e old
-  place_same allow below under cs e old (one_list m p) = λ i. own_same under cs e old i + count_part (allow (node_same under cs e old i)) below p
-  place_same allow below under cs e old (two_lists p f) =
-      λ i. cond (out_same under old i) 0 (count_part (allow (boundary_same under old i)) below p)
-      + if_waits (render_part below p) (count_part (allow (boundary_same under old i)) below f)
+  caused_same : (u : Flag) (cs : Contexts) (e : Element) (old : Option Node) → is_caused s u cs e old ≡ is_caused seen u cs e old
+  caused_same u cs e old = ap (λ b. u.under || b) (cause_same cs e old)
 
-  allowed_same : (n : ℕ) (under : Bool) (cs : Contexts) (e : Element) (old : Option Node) → allowed n s under cs e old ≡ allowed n seen under cs e old
+  node_same : (u : Flag) (cs : Contexts) (e : Element) (old : Option Node) → below_node s u cs e old ≡ below_node seen u cs e old
+  node_same u cs e old = λ i. record { under = caused_same u cs e old i; stood = stands_below u.stood e old }
+
+  own_same : (u : Flag) (cs : Contexts) (e : Element) (old : Option Node) → own_body s u cs e old ≡ own_body seen u cs e old
+  own_same u cs e old = ap (λ b. cond b (one_if_component e) 0) (caused_same u cs e old)
+
+  place_same : (allow : Allows) (below : Contexts → Renders) (u : Flag) (cs : Contexts) (e : Element) (old : Option Node) (shape : Shape)
+      → allow_shape allow below s u cs e old shape ≡ allow_shape allow below seen u cs e old shape
+  place_same allow below u cs e old absent = refl
+  place_same allow below u cs e old (waiting r) = own_same u cs e old
+  place_same allow below u cs e old (one_list m p) = λ i. own_same u cs e old i + count_part (allow (node_same u cs e old i)) below p
+  place_same allow below u cs e old (two_lists p f) =
+      λ i. cond (untouched_same u.stood e old i) 0 (count_part (allow (boundary_same u e old i)) below p)
+      + if_waits (render_part below p) (count_part (allow (fallback_same u e old i)) below f)
+
+  allowed_same : (n : ℕ) (u : Flag) (cs : Contexts) (e : Element) (old : Option Node) → allowed n s u cs e old ≡ allowed n seen u cs e old
   unfolding allowed
-  allowed_same zero under cs e old = refl
-  allowed_same (suc n) under cs e old =
-      place_same (allowed n s) (rendered n s) under cs e old (shape_of s cs e old)
-      ∙ (λ i. allow_shape (λ u ds f o. allowed_same n u ds f o i) (renders_same s j same n i) seen under cs e old (shape_same s j same cs e old i))
+  allowed_same zero u cs e old = refl
+  allowed_same (suc n) u cs e old =
+      place_same (allowed n s) (rendered n s) u cs e old (shape_of s cs e old)
+      ∙ (λ i. allow_shape (λ w ds f o. allowed_same n w ds f o i) (renders_same s j same n i) seen u cs e old (shape_same s j same cs e old i))
 
   allows_same : (n : ℕ) → allowed n s ≡ allowed n seen
-  allows_same n = λ i under cs e old. allowed_same n under cs e old i
+  allows_same n = λ i u cs e old. allowed_same n u cs e old i
 
   around_allows_same : (n : ℕ) (fs : List Frame) (us : Flags) (p : Place) → allow_around n s fs us p ≡ allow_around n seen fs us p
   around_allows_same n [] us p = refl
@@ -119,7 +130,7 @@ module _ (s : Sight) (j : Journal) (same : SeesSame s j) (work : SeesSameWork s 
   -- What a whole render may evaluate is the same.
   pub whole_allowed_same : (old : Option Node) → whole_allowed s old ≡ whole_allowed seen old
   unfolding whole_allowed
-  whole_allowed_same old = allowed_same depth_limit false (default_contexts s.program) (root_element s.program) old
+  whole_allowed_same old = allowed_same depth_limit above_root (default_contexts s.program) (root_element s.program) old
 
 -- Longer journals
 

@@ -14,8 +14,9 @@ use Rattle.rx_meaning.specs.Touched.{contexts_below}
 use Rattle.commit_laws.specs.Each.{ForEach, ForEachIn}
 use Rattle.commit_laws.specs.Idle.{AllIdle, IsIdle, IsIdleMark}
 use Rattle.commit_laws.proofs.TakeOver.{idle_shape, settled_no_null}
-use Rattle.cost_laws.specs.Causes.{is_called, is_due, some_update, waits_still}
+use Rattle.cost_laws.specs.Causes.{is_called, is_due, some_update}
 use Rattle.cost_laws.specs.Required.{IsUndue, called_body, require_shape, required}
+use Rattle.cost_laws.specs.Untouched.{is_untouched, stands_below}
 
 -- Causes
 
@@ -77,75 +78,75 @@ stands_then (made n) k h = h
 stands_then (waits a) k h = refl
 
 -- a place rests: nothing is required of it, and it doesn't wait
-abbrev Rests : ℕ → Sight → Contexts → Element → Option Node → Type 0
-Rests n s cs e old = (required n s cs e old ≡ 0) × Stands (rendered n s cs e old)
+abbrev Rests : ℕ → Sight → (stood : Bool) → Contexts → Element → Option Node → Type 0
+Rests n s stood cs e old = (required n s stood cs e old ≡ 0) × Stands (rendered n s cs e old)
 
 -- the places of a list rest
-abbrev AllRest : ℕ → Sight → Contexts → List (Element × Option Node) → Type 0
-AllRest n s cs xs = (try_all (required n s cs) (rendered n s cs) xs ≡ 0) × AllStand (render_all (rendered n s cs) xs)
+abbrev AllRest : ℕ → Sight → (stood : Bool) → Contexts → List (Element × Option Node) → Type 0
+AllRest n s stood cs xs = (try_all (required n s stood cs) (rendered n s cs) xs ≡ 0) × AllStand (render_all (rendered n s cs) xs)
 
 -- the children of a node rest
-abbrev PartRests : ℕ → Sight → Part → Type 0
-PartRests n s p = (count_part (required n s) (rendered n s) p ≡ 0) × AllStand (render_part (rendered n s) p)
+abbrev PartRests : ℕ → Sight → (stood : Bool) → Part → Type 0
+PartRests n s stood p = (count_part (required n s stood) (rendered n s) p ≡ 0) × AllStand (render_part (rendered n s) p)
 
 nothing_if : (b : Bool) (k : ℕ) → k ≡ 0 → cond b 0 k ≤ 0
 nothing_if true k h = omega arith
 nothing_if false k h = omega (arith, h)
 
 -- what is required at a place is nothing, and it doesn't wait, by what stands there
-abbrev ShapeRests : ℕ → Sight → Contexts → Element → Option Node → Shape → Type 0
-ShapeRests n s cs e old shape = (require_shape (required n s) (rendered n s) s cs e old shape ≡ 0) × Stands (place_of (rendered n s) e old shape)
+abbrev ShapeRests : ℕ → Sight → (stood : Bool) → Contexts → Element → Option Node → Shape → Type 0
+ShapeRests n s stood cs e old shape = (require_shape (required n s) (rendered n s) s stood cs e old shape ≡ 0) × Stands (place_of (rendered n s) e old shape)
 
-one_rests : (n : ℕ) (s : Sight) (cs : Contexts) (e : Element) (old : Option Node) (m : Mark) (p : Part) → called_body s cs e old ≡ 0 → PartRests n s p
-    → ShapeRests n s cs e old (one_list m p)
-one_rests n s cs e old m p body h = (omega (arith, body, h.0), over_stands e m (render_part (rendered n s) p) h.1)
+one_rests : (n : ℕ) (s : Sight) (stood : Bool) (cs : Contexts) (e : Element) (old : Option Node) (m : Mark) (p : Part) → called_body s cs e old ≡ 0 → PartRests n s (stands_below stood e old) p
+    → ShapeRests n s stood cs e old (one_list m p)
+one_rests n s stood cs e old m p body h = (omega (arith, body, h.0), over_stands e m (render_part (rendered n s) p) h.1)
 
-two_rest : (n : ℕ) (s : Sight) (cs : Contexts) (e : Element) (old : Option Node) (p f : Part) → PartRests n s p → ShapeRests n s cs e old (two_lists p f)
-two_rest n s cs e old p f h = (
+two_rest : (n : ℕ) (s : Sight) (stood : Bool) (cs : Contexts) (e : Element) (old : Option Node) (p f : Part) → PartRests n s (stands_below stood e old) p → ShapeRests n s stood cs e old (two_lists p f)
+two_rest n s stood cs e old p f h = (
   omega (
     arith,
-    nothing_if (waits_still s old) (count_part (required n s) (rendered n s) p) h.0,
-    no_fallback (render_part (rendered n s) p) (count_part (required n s) (rendered n s) f) h.1,
+    nothing_if (is_untouched s stood e old) (count_part (required n s (stands_below stood e old)) (rendered n s) p) h.0,
+    no_fallback (render_part (rendered n s) p) (count_part (required n s (is_untouched s stood e old)) (rendered n s) f) h.1,
   ),
   boundary_stands e old (render_part (rendered n s) p) (render_part (rendered n s) f) h.1,
 )
 
-kept_rests : (n : ℕ) (s : Sight) (cs : Contexts) (e : Element) (old : Option Node) (m : Mark) (ns fs : Forest)
-    → called_body s cs e old ≡ 0 → PartRests n s (part (contexts_below e cs) (elements_in ns) ns) → ShapeRests n s cs e old (kept_shape cs e m ns fs)
-kept_rests n s cs elements.null old m ns fs body h = (refl, tt)
-kept_rests n s cs (elements.text t) old m ns fs body h = one_rests n s cs (elements.text t) old m (part cs (elements_in ns) ns) body h
-kept_rests n s cs (elements.host x key attrs es) old m ns fs body h = one_rests n s cs (elements.host x key attrs es) old m (part cs (elements_in ns) ns) body h
-kept_rests n s cs (elements.comp c key props given) old m ns fs body h = one_rests n s cs (elements.comp c key props given) old m (part cs (elements_in ns) ns) body h
-kept_rests n s cs (elements.list es) old m ns fs body h = one_rests n s cs (elements.list es) old m (part cs (elements_in ns) ns) body h
-kept_rests n s cs (elements.boundary key f es) old m ns fs body h =
-    two_rest n s cs (elements.boundary key f es) old (part cs (elements_in ns) ns) (part cs (f ∷ []) fs) h
-kept_rests n s cs (elements.provider c key x es) old m ns fs body h =
-    one_rests n s cs (elements.provider c key x es) old m (part (contexts_below (elements.provider c key x es) cs) (elements_in ns) ns) body h
+kept_rests : (n : ℕ) (s : Sight) (stood : Bool) (cs : Contexts) (e : Element) (old : Option Node) (m : Mark) (ns fs : Forest)
+    → called_body s cs e old ≡ 0 → PartRests n s (stands_below stood e old) (part (contexts_below e cs) (elements_in ns) ns) → ShapeRests n s stood cs e old (kept_shape cs e m ns fs)
+kept_rests n s stood cs elements.null old m ns fs body h = (refl, tt)
+kept_rests n s stood cs (elements.text t) old m ns fs body h = one_rests n s stood cs (elements.text t) old m (part cs (elements_in ns) ns) body h
+kept_rests n s stood cs (elements.host x key attrs es) old m ns fs body h = one_rests n s stood cs (elements.host x key attrs es) old m (part cs (elements_in ns) ns) body h
+kept_rests n s stood cs (elements.comp c key props given) old m ns fs body h = one_rests n s stood cs (elements.comp c key props given) old m (part cs (elements_in ns) ns) body h
+kept_rests n s stood cs (elements.list es) old m ns fs body h = one_rests n s stood cs (elements.list es) old m (part cs (elements_in ns) ns) body h
+kept_rests n s stood cs (elements.boundary key f es) old m ns fs body h =
+    two_rest n s stood cs (elements.boundary key f es) old (part cs (elements_in ns) ns) (part cs (f ∷ []) fs) h
+kept_rests n s stood cs (elements.provider c key x es) old m ns fs body h =
+    one_rests n s stood cs (elements.provider c key x es) old m (part (contexts_below (elements.provider c key x es) cs) (elements_in ns) ns) body h
 
 -- a list against its own elements rests where its places do
-own_part_rests : (n : ℕ) (s : Sight) (cs : Contexts) (ns : Forest) → NoNull ns → AllRest n s cs (zip (elements_in ns) (places ns))
-    → PartRests n s (part cs (elements_in ns) ns)
-own_part_rests n s cs ns there h = rw (matches_itself ns there) h
+own_part_rests : (n : ℕ) (s : Sight) (stood : Bool) (cs : Contexts) (ns : Forest) → NoNull ns → AllRest n s stood cs (zip (elements_in ns) (places ns))
+    → PartRests n s stood (part cs (elements_in ns) ns)
+own_part_rests n s stood cs ns there h = rw (matches_itself ns there) h
 
 -- Trees
 
-first_rests : (n : ℕ) (s : Sight) (cs : Contexts) (e : Element) (old : Option Node) (xs : List (Element × Option Node)) → Rests n s cs e old → AllRest n s cs xs
-    → AllRest n s cs ((e, old) ∷ xs)
-first_rests n s cs e old xs h k = (
-  omega (arith, h.0, stands_then (rendered n s cs e old) (try_all (required n s cs) (rendered n s cs) xs) k.0),
+first_rests : (n : ℕ) (s : Sight) (stood : Bool) (cs : Contexts) (e : Element) (old : Option Node) (xs : List (Element × Option Node)) → Rests n s stood cs e old → AllRest n s stood cs xs
+    → AllRest n s stood cs ((e, old) ∷ xs)
+first_rests n s stood cs e old xs h k = (
+  omega (arith, h.0, stands_then (rendered n s cs e old) (try_all (required n s stood cs) (rendered n s cs) xs) k.0),
   before_stands (rendered n s cs e old) (render_all (rendered n s cs) xs) h.1 k.1,
 )
 
-gap_rests : (n : ℕ) (s : Sight) (cs : Contexts) → Rests n s cs elements.null None
+gap_rests : (n : ℕ) (s : Sight) (stood : Bool) (cs : Contexts) → Rests n s stood cs elements.null None
 unfolding required rendered
-gap_rests zero s cs = (refl, tt)
-gap_rests (suc n) s cs = (refl, tt)
+gap_rests zero s stood cs = (refl, tt)
+gap_rests (suc n) s stood cs = (refl, tt)
 
-place_rests : (n : ℕ) (s : Sight) (cs : Contexts) (e : Element) (m : Mark) (ns fs : Forest) → shape_of s cs e (Some (node e m ns fs)) ≡ kept_shape cs e m ns fs
-    → ShapeRests n s cs e (Some (node e m ns fs)) (kept_shape cs e m ns fs)
-    → Rests (suc n) s cs e (Some (node e m ns fs))
+place_rests : (n : ℕ) (s : Sight) (stood : Bool) (cs : Contexts) (e : Element) (m : Mark) (ns fs : Forest) → shape_of s cs e (Some (node e m ns fs)) ≡ kept_shape cs e m ns fs
+    → ShapeRests n s stood cs e (Some (node e m ns fs)) (kept_shape cs e m ns fs)
+    → Rests (suc n) s stood cs e (Some (node e m ns fs))
 unfolding required rendered
-place_rests n s cs e m ns fs shape h = rw shape h
+place_rests n s stood cs e m ns fs shape h = rw shape h
 
 -- nothing of an idle tree is hidden, so all of it reads the contexts of its place
 reads_below : (s : Sight) (m : Mark) (A : Type 0) → IsIdleMark s m → IfHidden (is_hidden m) (Unit {0}) A → A
@@ -155,30 +156,30 @@ reads_below s plain A idle reads = reads
 reads_below s (of_boundary Shown) A idle reads = reads
 reads_below s (of_boundary (Hidden a)) A idle reads = absurd idle
 
-no_level_rests : (s : Sight) (cs : Contexts) (e : Element) (old : Option Node) → Rests zero s cs e old
+no_level_rests : (s : Sight) (stood : Bool) (cs : Contexts) (e : Element) (old : Option Node) → Rests zero s stood cs e old
 unfolding required rendered
-no_level_rests s cs e old = (refl, tt)
+no_level_rests s stood cs e old = (refl, tt)
 
 mutual
-  tree_rests : (n : ℕ) (s : Sight) (cs : Contexts) (x : Node) → IsSettled s.program (known_by s) x → IsIdle s x → ForEach (IsUndue s) x → ReadsHold cs x
-      → Rests n s cs (element_of x) (Some x)
-  tree_rests zero s cs (node e m ns fs) settled idle undue reads = no_level_rests s cs e (Some (node e m ns fs))
-  tree_rests (suc n) s cs (node e m ns fs) settled idle undue reads =
-      place_rests n s cs e m ns fs (idle_shape s cs e m ns fs settled.0 idle.0 reads.0)
-      (kept_rests n s cs e (Some (node e m ns fs)) m ns fs (body_rests s cs e m ns fs settled.0 undue.0 reads.0)
-      (own_part_rests n s (contexts_below e cs) ns (settled_no_null s.program (known_by s) ns settled.1)
-      (trees_rest n s (contexts_below e cs) ns settled.1 idle.1 undue.1 (reads_below s m (AllReadsHold (contexts_below e cs) ns) idle.0 reads.1))))
+  tree_rests : (n : ℕ) (s : Sight) (stood : Bool) (cs : Contexts) (x : Node) → IsSettled s.program (known_by s) x → IsIdle s x → ForEach (IsUndue s) x → ReadsHold cs x
+      → Rests n s stood cs (element_of x) (Some x)
+  tree_rests zero s stood cs (node e m ns fs) settled idle undue reads = no_level_rests s stood cs e (Some (node e m ns fs))
+  tree_rests (suc n) s stood cs (node e m ns fs) settled idle undue reads =
+      place_rests n s stood cs e m ns fs (idle_shape s cs e m ns fs settled.0 idle.0 reads.0)
+      (kept_rests n s stood cs e (Some (node e m ns fs)) m ns fs (body_rests s cs e m ns fs settled.0 undue.0 reads.0)
+      (own_part_rests n s (stands_below stood e (Some (node e m ns fs))) (contexts_below e cs) ns (settled_no_null s.program (known_by s) ns settled.1)
+      (trees_rest n s (stands_below stood e (Some (node e m ns fs))) (contexts_below e cs) ns settled.1 idle.1 undue.1 (reads_below s m (AllReadsHold (contexts_below e cs) ns) idle.0 reads.1))))
 
-  trees_rest : (n : ℕ) (s : Sight) (cs : Contexts) (ns : Forest) → AllSettled s.program (known_by s) ns → AllIdle s ns → ForEachIn (IsUndue s) ns → AllReadsHold cs ns
-      → AllRest n s cs (zip (elements_in ns) (places ns))
-  trees_rest n s cs none settled idle undue reads = (refl, tt)
-  trees_rest n s cs (vacant ns) settled idle undue reads =
-      first_rests n s cs elements.null None (zip (elements_in ns) (places ns)) (gap_rests n s cs) (trees_rest n s cs ns settled idle undue reads)
-  trees_rest n s cs (child x ns) settled idle undue reads =
-      first_rests n s cs (element_of x) (Some x) (zip (elements_in ns) (places ns))
-      (tree_rests n s cs x settled.0 idle.0 undue.0 reads.0) (trees_rest n s cs ns settled.1 idle.1 undue.1 reads.1)
+  trees_rest : (n : ℕ) (s : Sight) (stood : Bool) (cs : Contexts) (ns : Forest) → AllSettled s.program (known_by s) ns → AllIdle s ns → ForEachIn (IsUndue s) ns → AllReadsHold cs ns
+      → AllRest n s stood cs (zip (elements_in ns) (places ns))
+  trees_rest n s stood cs none settled idle undue reads = (refl, tt)
+  trees_rest n s stood cs (vacant ns) settled idle undue reads =
+      first_rests n s stood cs elements.null None (zip (elements_in ns) (places ns)) (gap_rests n s stood cs) (trees_rest n s stood cs ns settled idle undue reads)
+  trees_rest n s stood cs (child x ns) settled idle undue reads =
+      first_rests n s stood cs (element_of x) (Some x) (zip (elements_in ns) (places ns))
+      (tree_rests n s stood cs x settled.0 idle.0 undue.0 reads.0) (trees_rest n s stood cs ns settled.1 idle.1 undue.1 reads.1)
 
 -- Nothing is required of a tree that is idle, whose instances have each included update done, and in which reads hold.
-pub nothing_rests : (s : Sight) (cs : Contexts) (x : Node) (n : ℕ) → IsSettled s.program (known_by s) x
-    → IsIdle s x → ForEach (IsUndue s) x → ReadsHold cs x → required n s cs (element_of x) (Some x) ≡ 0
-nothing_rests s cs x n settled idle undue reads = (tree_rests n s cs x settled idle undue reads).0
+pub nothing_rests : (s : Sight) (stood : Bool) (cs : Contexts) (x : Node) (n : ℕ) → IsSettled s.program (known_by s) x
+    → IsIdle s x → ForEach (IsUndue s) x → ReadsHold cs x → required n s stood cs (element_of x) (Some x) ≡ 0
+nothing_rests s stood cs x n settled idle undue reads = (tree_rests n s stood cs x settled idle undue reads).0

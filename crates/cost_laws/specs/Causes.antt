@@ -6,7 +6,7 @@ use Rattle.rx_base.specs.Awaits.{Awaits}
 use Rattle.rx_susp.specs.Boundary.{awaits_of, hides}
 use Rattle.rx_elem.specs.Elements.{Element}
 use Rattle.rx_elem.specs.Elements as elements
-use Rattle.rx_elem.specs.Trees.{Forest, Instance, Node, boundary_in, child, children_of, instance_in, mark_of, node, none, vacant, was_hidden}
+use Rattle.rx_elem.specs.Trees.{Forest, Instance, Node, boundary_in, child, children_of, instance_in, mark_of, node, none, vacant}
 use Rattle.rx_queue.specs.History.{stands_done}
 use Rattle.rx_queue.specs.Journal.{Posted, hook, is_included, is_new, updates_of}
 use Rattle.rx_meaning.specs.Fresh.{Contexts, Sight, old_instance, resources_seen}
@@ -68,7 +68,3 @@ abbrev mutual
 abbrev pub waits_still : Sight → Option Node → Bool
 waits_still s None = false
 waits_still s (Some old) = option_map_or (λ state. hides state && not (has_value s (awaits_of state) || news_in s (children_of old))) (boundary_in (mark_of old)) false
-
--- a boundary's place has a cause: it was hidden, and something new has come for it
-abbrev pub is_retried : Sight → Option Node → Bool
-is_retried s old = was_hidden old && not (waits_still s old)

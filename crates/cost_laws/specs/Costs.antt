@@ -1,16 +1,16 @@
 -- What holds of the bodies of a render in progress.
-use Rattle.std.specs.Prelude.{◌≡◌, ℕ, ◌+◌, ◌≤◌, false, Bool, List, [], ◌∷◌, Option}
+use Rattle.std.specs.Prelude.{◌≡◌, ℕ, ◌+◌, ◌≤◌, false, List, [], ◌∷◌, Option}
 use Rattle.rx_elem.specs.Trees.{Node, was_hidden}
 use Rattle.rx_meaning.specs.Cursor.{Open, around, trying, falling, Frame, Cursor, at_place, at_end, ended}
 use Rattle.rx_meaning.specs.Fresh.{Sight}
-use Rattle.cost_laws.specs.Allowed.{whole_allowed}
+use Rattle.cost_laws.specs.Allowed.{Flag, whole_allowed}
 use Rattle.cost_laws.specs.Left.{Flags, flag, outer, left_allowed}
 
 -- a boundary that tries its children was shown, or is new, where these don't lie below a cause
-abbrev pub OpenFlagged : (under : Bool) → Open → Type 0
-OpenFlagged under (around e m) = Unit {0}
-OpenFlagged under (trying e old f) = under ≡ false → was_hidden old ≡ false
-OpenFlagged under (falling e old a) = Unit {0}
+abbrev pub OpenFlagged : Flag → Open → Type 0
+OpenFlagged u (around e m) = Unit {0}
+OpenFlagged u (trying e old f) = u.under ≡ false → was_hidden old ≡ false
+OpenFlagged u (falling e old a) = Unit {0}
 
 -- the same for open nodes, innermost first
 abbrev pub FramesFlagged : Flags → List Frame → Type 0

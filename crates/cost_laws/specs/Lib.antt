@@ -1,4 +1,5 @@
 pub mod Causes
+pub mod Untouched
 pub mod Allowed
 pub mod Left
 pub mod Costs

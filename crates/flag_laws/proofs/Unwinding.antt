@@ -18,6 +18,7 @@ use Rattle.rx_fiber.specs.Surround.{above_list, IsOpenAs, opens, tries, falls, I
 use Rattle.rx_fiber.specs.Surround as surround
 use Rattle.rx_fiber.specs.Unwound.{IsWithin, is_trying}
 use Rattle.rx_complete.specs.Ends.{Outer, nearest}
+use Rattle.cost_laws.specs.Allowed.{after_attempt}
 use Rattle.cost_laws.specs.Left.{Flags, flag, outer, unwound, unwound_by}
 use Rattle.cost_laws.specs.Costs.{FramesFlagged, OpenFlagged}
 use Rattle.flag_laws.specs.Flagged.{IsFlagged, at_root, inside, FlagsHere, HasUnwound}
@@ -36,7 +37,8 @@ shown_list c _ _ (reading.of {j = j} {n = n} {x = x} {s = s} at first (next is m
 
 -- what a wait comes to, in these flags
 abbrev Out : Shape Fiber → Outer → Flags → Type 0
-Out c u vs = IsFlagged u.around u.rest (outer vs) × (flag vs ≡ false → fallback_list (list_from c u.old) ≡ shapes.none) × (vs ≡ flag vs ∷ outer vs)
+Out c u vs =
+    IsFlagged u.around u.rest (outer vs) × ((flag vs).under ≡ false → fallback_list (list_from c u.old) ≡ shapes.none) × ((flag vs).stood ≡ false) × (vs ≡ flag vs ∷ outer vs)
 
 nearest_above : (k : Around Fiber) → nearest k ≡ nearest (above_list k)
 nearest_above top = refl
@@ -44,34 +46,28 @@ nearest_above (below id v o rs k) = refl
 nearest_above (after id v o ks k) = nearest_above k
 
 open_out : (c : Shape Fiber) (v : Fiber) (o : Option ℕ) (cs : Contexts) (x : Open) → IsOpenAs c v o cs x → (q : ℕ) (rest : Draft Fiber) (k : Around Fiber) (us vs : Flags) (u : Outer)
-    → IsFlagged k rest (outer us) → us ≡ flag us ∷ outer us → OpenFlagged (flag us) x → nearest (below q v o rest k) ≡ Some u → (nearest k ≡ Some u → Out c u vs) → Out c u (unwound_by x us vs)
-open_out c v o cs _ (opens {m = m} element mark shown) q rest k us vs u out some ok near further = further (rw mark at near)
-open_out c v o cs _ (falls element mark gone) q rest k us vs u out some ok near further = further (rw mark at near)
-open_out c v o cs _ (tries {old = old} element s is was) q rest k us vs u out some ok near further =
+    → IsFlagged k rest (outer us) → OpenFlagged (flag us) x → nearest (below q v o rest k) ≡ Some u → (nearest k ≡ Some u → Out c u vs) → Out c u (unwound_by x us vs)
+open_out c v o cs _ (opens {m = m} element mark shown) q rest k us vs u out ok near further = further (rw mark at near)
+open_out c v o cs _ (falls element mark gone) q rest k us vs u out ok near further = further (rw mark at near)
+open_out c v o cs _ (tries {old = old} element s is was) q rest k us vs u out ok near further =
     let b : is_trying v.stage ≡ true = ap is_trying s in
     let e : Some (record { around = k; id = q; value = v; old = o; rest = rest }) ≡ Some u = rw b at near in
     let same : record { around = k; id = q; value = v; old = o; rest = rest } ≡ u = cc in
-    subst (λ (w : Outer). Out c w us) same (out, (λ clean. shown_list c o old was (ok clean)), some)
+    subst (λ (w : Outer). Out c w (after_attempt (flag us) ∷ outer us)) same (out, (λ clean. shown_list c o old was (ok clean)), refl, refl)
 
 -- the flags of a list, and those around the fiber above it
 around_is : (k : Around Fiber) (d : Draft Fiber) (us : Flags) (l : Around Fiber) → above_list k ≡ l → IsFlagged k d us → (q : ℕ) (v : Fiber) (o : Option ℕ) (rest : Draft Fiber) (k₁ : Around Fiber) → l ≡ below q v o rest k₁
     → IsFlagged k₁ rest (outer us)
-around_is k d _ l same (at_root at bare clear) q v o rest k₁ up = absurd (let e = sym at ∙ (same ∙ up) in let n : ⊥ = cc in n)
-around_is k d _ l same (inside {k₁ = j} {rest = ls} {us = us} at bare clear out) q v o rest k₁ up =
+around_is k d _ l same (at_root at bare told) q v o rest k₁ up = absurd (let e = sym at ∙ (same ∙ up) in let n : ⊥ = cc in n)
+around_is k d _ l same (inside {k₁ = j} {rest = ls} {us = us} at bare told out) q v o rest k₁ up =
     let e = sym at ∙ (same ∙ up) in
     let a : j ≡ k₁ = cc in
     let b : ls ≡ rest = cc in
     subst (λ x. IsFlagged x rest us) a (subst (λ x. IsFlagged j x us) b out)
 
--- a list below a fiber has a flag
-some_flag : (k : Around Fiber) (d : Draft Fiber) (us : Flags) (l : Around Fiber) → above_list k ≡ l → IsFlagged k d us → (q : ℕ) (v : Fiber) (o : Option ℕ) (rest : Draft Fiber) (k₁ : Around Fiber) → l ≡ below q v o rest k₁
-    → us ≡ flag us ∷ outer us
-some_flag k d _ l same (at_root at bare clear) q v o rest k₁ up = absurd (let e = sym at ∙ (same ∙ up) in let n : ⊥ = cc in n)
-some_flag k d _ l same (inside at bare clear out) q v o rest k₁ up = refl
-
 ahead : (k : Around Fiber) (d : Draft Fiber) (us : Flags) (id : ℕ) (v : Fiber) (o : Option ℕ) (ks : Draft Fiber) → IsFlagged (after id v o ks k) d us → IsFlagged k d us
-ahead k d _ id v o ks (at_root up bare clear) = at_root up bare clear
-ahead k d _ id v o ks (inside up bare clear out) = inside up bare clear out
+ahead k d _ id v o ks (at_root up bare told) = at_root up bare told
+ahead k d _ id v o ks (inside up bare told out) = inside up bare told out
 
 -- a wait goes out along the open nodes
 mutual
@@ -84,11 +80,11 @@ mutual
 
   list_out : (c : Shape Fiber) (k l : Around Fiber) (q : ℕ) (x : Open) (cs : Contexts) (fs : List Frame) (d : Draft Fiber) (us : Flags) → IsListOf c k q x cs fs → above_list l ≡ above_list k → IsFlagged l d us
       → OpenFlagged (flag us) x → FramesFlagged (outer us) fs → (u : Outer) → nearest l ≡ Some u → Out c u (unwound_by x us (unwound fs (outer us)))
-  list_out c k l q x cs fs d us (of_node {k₁ = k₁} {v = v} {o = o} {rest = rest} above opened around) same is ok oks u near =
+  list_out c k l q x cs fs d us (of_node {k₁ = k₁} {v = v} {o = o} {rest = rest} above opened own around) same is ok oks u near =
       let out = around_is l d us (above_list k) same is q v o rest k₁ above in
-      open_out c v o cs x opened q rest k₁ us (unwound fs (outer us)) u out (some_flag l d us (above_list k) same is q v o rest k₁ above) ok (sym (ap nearest (same ∙ above)) ∙ (sym (nearest_above l) ∙ near))
+      open_out c v o cs x opened q rest k₁ us (unwound fs (outer us)) u out ok (sym (ap nearest (same ∙ above)) ∙ (sym (nearest_above l) ∙ near))
       (λ further. goes_out c k₁ k₁ v.place rest fs rest (outer us) around refl out oks u further)
-  list_out c k l q _ cs fs d us (of_fallback {k₁ = k₁} {b = b} {v = v} {w = w} {o = o} {p = p} {kept = kept} {rest = rest} above kept_as around) same is ok oks u near =
+  list_out c k l q _ cs fs d us (of_fallback {k₁ = k₁} {b = b} {v = v} {w = w} {o = o} {p = p} {kept = kept} {rest = rest} above kept_as own behind around) same is ok oks u near =
       let out = around_is l d us (above_list k) same is q w p rest (after b v o (taken kept) k₁) above in
       let st = kept_as.stage in
       let further : nearest (below q w p rest (after b v o (taken kept) k₁)) ≡ Some u = sym (ap nearest (same ∙ above)) ∙ (sym (nearest_above l) ∙ near) in
@@ -101,6 +97,7 @@ unwinds t new st p kids fs us fits h w ok u near here =
     let out = goes_out t.current w.beside h.around w.place w.later fs h.rest us w.surrounds (ap above_list same ∙ w.same_list) h.flagged ok u near in
     record {
       flags = record { around = u.around; value = u.value; old = u.old; rest = u.rest; here = here; flagged = out.0 };
-      some = out.2;
+      some = out.3;
+      unknown = out.2;
       shown = out.1;
     }

@@ -62,7 +62,7 @@ pub fn top<S: Source, K: Sink, L: Ledger>(
     // the steps of the script in it. For `gen` it is the line that sums up such a run of the generated program and script.
     // The steps rose by the bodies that this run evaluates, and in `check` by none. Each render of the run evaluates as many
     // bodies at most as places have a cause or lie below one that has; and as many at least, once it is finished, as places
-    // have a cause of their own, what hidden boundaries keep that wait still left out.
+    // have a cause of their own, what untouched hidden boundaries keep left out.
     ensures done { result ≡ Status.Done → (task : Task) × (task_of (texts words.now) ≡ Some task)
         × Does task (S.left src.old) (S.left src.new) (K.written out.old) (K.written out.new) steps.old steps.new }
 
