@@ -64,8 +64,8 @@ mutual
 
   list_made : {c : Shape Fiber} {k : Around Fiber} {q : ℕ} {x : Open} {cs : Contexts} {fs : List Frame} → IsListOf c k q x cs fs
       → made_around (above_list k) ≤ open_places x + places_around fs
-  list_made (of_node {x = x} above is within) = omega (arith, ap made_around above, open_there x, around_made within)
-  list_made (of_fallback {old = old} above is within) =
+  list_made (of_node {x = x} above is own within) = omega (arith, ap made_around above, open_there x, around_made within)
+  list_made (of_fallback {old = old} above is own behind within) =
       omega (arith, ap made_around above, some_there (children_if old) is.keeps, around_made within)
 
 -- no more fibers are made than a render in progress has places

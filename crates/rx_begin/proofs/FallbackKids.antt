@@ -9,13 +9,16 @@ use Rattle.rx_lists.specs.Shapes.{Shape, none}
 use Rattle.rx_links.specs.Drafts.{taken, Trees, entry, kids_under, old_of}
 use Rattle.rx_links.specs.Places.{after}
 use Rattle.rx_links.specs.Readers.{list_from}
-use Rattle.rx_fiber.specs.Fibers.{Fiber, begun}
+use Rattle.rx_fiber.specs.Fibers.{Fiber, begun, joined, own_subtree}
+use Rattle.rx_fiber.specs.Subtrees.{subtrees_of}
+use Rattle.rx_fiber.proofs.Gathered.{gathered_under}
 use Rattle.rx_fiber.specs.OldLists.{fallback_list}
 use Rattle.rx_fiber.specs.Unwound.{is_trying}
 use Rattle.rx_begin.specs.Children.{HasMadeFrom}
 use Rattle.rx_begin.specs.Nodes.{HasList}
-use Rattle.rx_begin.specs.Opening.{HasFallback, HasFallbackKids, HasKept, alone, beside, given_as, given_elements, given_fibers, opened_at}
+use Rattle.rx_begin.specs.Opening.{HasFallback, HasFallbackKids, HasKept, alone, beside, given_as, given_elements, given_fibers, hidden_over, kept_below, opened_at}
 use Rattle.rx_begin.specs.declared.opening.Opened.{Opened}
+use Rattle.rx_begin.proofs.Making.{KnowsPlaces}
 use Rattle.rx_begin.proofs.Origins.{NoFiber, cloned_none, kids_new, kids_wait, matched_none}
 
 -- where the old fallback has no fibers, none is given
@@ -35,12 +38,14 @@ module _ (t new : Trees Fiber) (p : ℕ) (a : Awaits) (given : Option (List Elem
       (λ e. kids_new t.current (given_as given) 0 (given_elements given s) (given_fibers given s) list.kids list.are (given_none given s (is ∙ e))) list.stands
       (answer ∙ ap (λ x. opened_at x p) list.first_is)
 
-  pub beside_kids : (u w : Trees Fiber) (r : Option ℕ) (id : ℕ) → HasKept t u p a → HasFallback u w p r a id
+  pub beside_kids : KnowsPlaces t → (u w : Trees Fiber) (r : Option ℕ) (id : ℕ) → HasKept t u p a → HasFallback u w p r a id
       → (done : HasMadeFrom (given_as given) 0 w new id (given_elements given s) (given_fibers given s)) → link ≡ entry done.kids → f ≡ opened_at link id → HasFallbackKids (given_as given) t new p f
-  beside_kids u w r id kept put done first answer =
-      beside done.kids (hidden_one a) (λ o. kids_under t.current o) id put.value r (λ v. refl) (ap is_trying put.stage)
+  beside_kids knows u w r id kept put done first answer =
+      beside done.kids (hidden_over a (kept_below t p)) (λ o. kids_under t.current o) id put.value r (λ v. refl) (ap is_trying put.stage)
       (kids_wait w.current (given_as given) 0 (given_elements given s) (given_fibers given s) done.kids done.are)
       (λ e. kids_new w.current (given_as given) 0 (given_elements given s) (given_fibers given s) done.kids done.are (given_none given s (is ∙ e)))
       (λ k v o rs e.
-      done.stands (after p (hidden_one a v) o (taken (kids_under t.current o)) k) put.value r rs (put.stands k (hidden_one a v) o (taken (kids_under t.current o)) rs (kept k v o rs e)).1)
+      done.stands (after p (hidden_over a (kept_below t p) v) o (taken (kids_under t.current o)) k) put.value r rs (put.stands k (hidden_over a (kept_below t p) v) o (taken (kids_under t.current o)) rs (kept k v o rs e)).1)
+      (λ k v o rs e g.
+      (ap (λ x. joined (own_subtree (begun (of_boundary (Hidden a)))) (subtrees_of (kids_under t.current x))) (knows k p v o (taken none) rs e).old, gathered_under t.current o g))
       (answer ∙ ap (λ x. opened_at x id) first)

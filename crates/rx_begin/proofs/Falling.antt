@@ -9,7 +9,7 @@ use Rattle.rx_elem.specs.Trees.{Node, children_if, fallback_if, of_boundary}
 use Rattle.rx_elem.specs.Compare.{old_nodes}
 use Rattle.rx_susp.specs.declared.boundary.BoundaryState.TheVariants.{Hidden}
 use Rattle.rx_lists.specs.Shapes.{Shape, none, first, Holds, IsTop}
-use Rattle.rx_links.specs.Drafts.{Draft, taken, made, Trees, Makes, entry, old_of, kids_under, IsBare, IsMadeList, old_kids, Fits, taking, valued, inserted}
+use Rattle.rx_links.specs.Drafts.{Draft, taken, made, Trees, Makes, entry, old_of, kids_under, IsBare, IsMadeList, IsUnused, old_kids, Fits, taking, valued, inserted}
 use Rattle.rx_links.specs.Places.{Around, after, placed, IsAt}
 use Rattle.rx_links.specs.Readers.{list_from, old_list, IsLinked, made_value_of, made_value_in, made_kids_of, made_kids_in}
 use Rattle.rx_meaning.specs.Fresh.{Part, part}
@@ -21,21 +21,23 @@ use Rattle.rx_fiber.specs.declared.stage.StageChange.TheVariants as change
 use Rattle.rx_fiber.specs.OldLists.{primary_list, fallback_list, matched}
 use Rattle.rx_fiber.specs.Reading.{has_node}
 use Rattle.rx_fiber.specs.Stood.{given_in, given_more}
-use Rattle.rx_fiber.specs.Surround.{given_along, AreNext, IsAround, fallback_in, is_boundary}
+use Rattle.rx_fiber.specs.Surround.{given_along, AreNext, IsAround, IsOfNode, IsOldBehind, fallback_in, is_boundary}
 use Rattle.rx_fiber.specs.Standing.{IsStack, opened, StandsAt}
 use Rattle.rx_fiber.specs.Unwound.{IsLeftAt}
 use Rattle.rx_fiber.proofs.Coming.{come_at}
 use Rattle.rx_fiber.proofs.Matching.{matched_old}
-use Rattle.rx_fiber.proofs.OldLists.{primary_is, fallback_is, kept_is, has_node_is}
+use Rattle.rx_fiber.proofs.OldLists.{primary_is, fallback_is, kept_is, has_node_is, old_of_node}
 use Rattle.rx_fiber.proofs.Opening.{falls_alone, falls_beside}
 use Rattle.rx_fiber.proofs.Stacking.{unchanged}
 use Rattle.rx_fiber.specs.declared.stage.Origin.{Origin}
 use Rattle.rx_begin.specs.Children.{AreMade, HasMadeFrom}
 use Rattle.rx_begin.specs.Nodes.{IsBareAt, IsBareBeside, HasList}
-use Rattle.rx_begin.specs.Opening.{IsLeft, left, KeepsNode, HasOpenedAs, opened_at, fallback_behind, HasKept, HasFallback}
+use Rattle.rx_begin.specs.Opening.{IsLeft, left, KeepsNode, HasOpenedAs, opened_at, fallback_behind, HasKept, HasFallback, hidden_over, kept_below}
+use Rattle.rx_fiber.specs.declared.subtree.Subtree.{Subtree}
 use Rattle.rx_begin.specs.declared.opening.Opened.{Opened}
 use Rattle.rx_begin.proofs.Making.{KnowsPlaces, made_list}
 use Rattle.rx_begin.proofs.Beside.{alone_tops, beside_tops, sibling_top}
+use Rattle.rx_begin.proofs.FreeFallback.{old_behind, fallback_free}
 use Rattle.rx_begin.proofs.Starts.{nexts, leads}
 use Rattle.rx_begin.proofs.Waiting.{all_wait}
 
@@ -86,6 +88,10 @@ module _ (t : Trees Fiber) (st : Stack) (p : ℕ) (a : Awaits) (c : Cursor) (l :
   surrounds_new : (new : Trees Fiber) → new.current ≡ t.current → IsAround new.current l.around l.value.place l.rest l.frames
   surrounds_new new same = subst (λ k. IsAround k l.around l.value.place l.rest l.frames) (sym same) l.surrounds
 
+  -- it was made for the fiber of a node
+  own_new : (new : Trees Fiber) → new.current ≡ t.current → IsOfNode new.current l.old
+  own_new new same = subst (λ k. IsOfNode k l.old) (sym same) (old_of_node t.current l.old l.node l.was)
+
   stack_new : IsStack st ((falling l.value.element l.node a, values_at st) ∷ opened l.frames)
   stack_new = unchanged st (falling l.value.element l.node a) (opened l.frames) (boundary_gives l.value.element l.boundary) l.stack
 
@@ -101,18 +107,18 @@ module _ (t : Trees Fiber) (st : Stack) (p : ℕ) (a : Awaits) (c : Cursor) (l :
       (opens_so new (opened_at (entry done.kids) p)
       (has_fallen new st p l.levels l.frames l.value.element l.node a its_list done.kids (made_list 0 es os done.kids done.are)
       (falls_alone new st l.around p l.levels (record l.value { stage = begun (of_boundary (Hidden a)) }) l.old done.kids l.rest l.frames l.value.element l.node a its_list
-      (done.stands l.around l.value l.old l.rest l.here) refl refl gone next (surrounds_new new done.current) stack_new)
+      (done.stands l.around l.value l.old l.rest l.here) refl refl gone (own_new new done.current) next (surrounds_new new done.current) stack_new)
       next))
 
   -- one that keeps something has it in a fiber of its own
   pub left_beside : (origin : Origin) (u w new : Trees Fiber) (r : Option ℕ) (q : ℕ) (es : List Element) (os : List (Option ℕ)) (link : Option ℕ) → HasKept t u p a → u.current ≡ t.current
       → (put : HasFallback u w p r a q) → (done : HasMadeFrom origin 0 w new q es os) → ((d : Draft Fiber) → AreMade t.current origin 0 es os d → BeginsNext d) → link ≡ entry done.kids
-      → has_node (children_if l.node) ≡ true → HasOpenedAs new st c (opened_at link q)
-  left_beside origin u w new r q es os link kept same put done begins link_is some =
+      → has_node (children_if l.node) ≡ true → r ≡ fallback_behind (list_from t.current l.old) → HasOpenedAs new st c (opened_at link q)
+  left_beside origin u w new r q es os link kept same put done begins link_is some behind =
       let current : new.current ≡ t.current = done.current ∙ (put.current ∙ same) in
       let are : AreMade t.current origin 0 es os done.kids = subst (λ k. AreMade k origin 0 es os done.kids) (put.current ∙ same) done.are in
       let next = kids_next new done.kids current (begins done.kids are) in
-      let v : Fiber = record l.value { stage = begun (of_boundary (Hidden a)) } in
+      let v : Fiber = hidden_over a (kept_below t p) l.value in
       let keeps : Shape Fiber = kids_under t.current l.old in
       let (element, there) = put.stands l.around v l.old (taken keeps) l.rest (kept l.around l.value l.old l.rest l.here) in
       subst (λ x. HasOpenedAs new st c (opened_at x q)) (sym link_is)
@@ -127,6 +133,7 @@ module _ (t : Trees Fiber) (st : Stack) (p : ℕ) (a : Awaits) (c : Cursor) (l :
         keeps = some;
         are = kept_is t.current linked l.old l.node l.was some;
       })
+      (own_new new current) (subst (λ k. IsOldBehind k l.old r) (sym current) (old_behind t.current l.old r behind))
       next (surrounds_new new current) stack_new)
       next))
 
@@ -182,9 +189,11 @@ module _ (t u : Trees Fiber) (p : ℕ) (knows : KnowsPlaces t) (took : u ≡ rec
   pub took_made : IsBareAt t p → KnowsPlaces u → Makes u.draft p
   took_made b knows_u = (knows_u b.around p b.value b.old (taken (kids_under t.current b.old)) b.rest (took_so b.around b.value b.old b.rest b.here)).makes
 
-  pub kept_so : (new : Trees Fiber) (a : Awaits) → KnowsPlaces u → new ≡ record u { draft = valued p (changed (change.Hide a)) u.draft } → HasKept t new p a
-  kept_so new a knows_u hid k v o rs e =
-      ap (λ x. x.draft) hid ∙ (knows_u k p v o (taken (kids_under t.current o)) rs (took_so k v o rs e)).value (changed (change.Hide a))
+  pub kept_so : (new : Trees Fiber) (a : Awaits) (under : Subtree) → under ≡ kept_below t p → KnowsPlaces u → new ≡ record u { draft = valued p (changed (change.Hide a under)) u.draft }
+      → HasKept t new p a
+  kept_so new a under is knows_u hid k v o rs e =
+      subst (λ x. new.draft ≡ placed k (made p (hidden_over a x v) o (taken (kids_under t.current o)) rs)) is
+      (ap (λ x. x.draft) hid ∙ (knows_u k p v o (taken (kids_under t.current o)) rs (took_so k v o rs e)).value (changed (change.Hide a under)))
 
 pub bare_is : (t : Trees Fiber) (p : ℕ) → KnowsPlaces t → IsBareAt t p → IsBare t.draft p
 bare_is t p knows b = (knows b.around p b.value b.old (taken none) b.rest b.here).bare refl
@@ -209,7 +218,7 @@ module _ (t u : Trees Fiber) (p : ℕ) (a : Awaits) (o : Option ℕ) (is_left : 
   pub kept_made : KnowsPlaces u → Makes u.draft p
   kept_made knows_u = elim is_left [
     | left l ↦
-        (knows_u l.around p (record l.value { stage = begun (of_boundary (Hidden a)) }) l.old (taken (kids_under t.current l.old)) l.rest (kept l.around l.value l.old l.rest l.here)).makes
+        (knows_u l.around p (hidden_over a (kept_below t p) l.value) l.old (taken (kids_under t.current l.old)) l.rest (kept l.around l.value l.old l.rest l.here)).makes
   ]
 
   pub held_old : IfSome o (Holds u.current)
@@ -222,8 +231,18 @@ module _ (t u : Trees Fiber) (p : ℕ) (a : Awaits) (o : Option ℕ) (is_left : 
   pub kept_sibling : (r : Option ℕ) → KnowsPlaces u → Fits u → IsLinked u.current → r ≡ fallback_behind (list_from t.current o) → IfSome r (IsTop (old_list u p))
   kept_sibling r knows_u fits linked e = elim is_left [
     | left l ↦
-        sibling_top u fits linked knows_u l.around p (record l.value { stage = begun (of_boundary (Hidden a)) }) l.old r (taken (kids_under t.current l.old)) l.rest
+        sibling_top u fits linked knows_u l.around p (hidden_over a (kept_below t p) l.value) l.old r (taken (kids_under t.current l.old)) l.rest
         (kept l.around l.value l.old l.rest l.here) (e ∙ (ap (λ k. fallback_behind (list_from k o)) (sym same) ∙ ap (λ q. fallback_behind (list_from u.current q)) (left_old t _ p a _ l knows o same_old)))
+  ]
+
+  -- no fiber is made for the old fallback's yet
+  pub kept_free : (r : Option ℕ) → KnowsPlaces u → Fits u → IsLinked u.current → r ≡ fallback_behind (list_from t.current o) → IfSome r (IsUnused u.draft)
+  kept_free r knows_u fits linked e = elim is_left [
+    | left l ↦
+        fallback_free u fits linked knows_u l.around p l.value.place (hidden_over a (kept_below t p) l.value) l.old r (kids_under t.current l.old) l.rest l.frames
+        (kept l.around l.value l.old l.rest l.here) (subst (λ k. IsAround k l.around l.value.place l.rest l.frames) (sym same) l.surrounds)
+        (subst (λ k. IsOfNode k l.old) (sym same) (old_of_node t.current l.old l.node l.was))
+        (e ∙ (ap (λ k. fallback_behind (list_from k o)) (sym same) ∙ ap (λ q. fallback_behind (list_from u.current q)) (left_old t _ p a _ l knows o same_old)))
   ]
 
   -- the fallback's fiber has room for its list
@@ -234,7 +253,7 @@ module _ (t u : Trees Fiber) (p : ℕ) (a : Awaits) (o : Option ℕ) (is_left : 
         let current : w.current ≡ t.current = put.current ∙ same in
         let behind : r ≡ fallback_behind (list_from t.current l.old) =
         e ∙ ap (λ x. fallback_behind (list_from t.current x)) (left_old t _ p a _ l knows o same_old) in
-        let v : Fiber = record l.value { stage = begun (of_boundary (Hidden a)) } in
+        let v : Fiber = hidden_over a (kept_below t p) l.value in
         record {
           around = after p v l.old (taken (kids_under t.current l.old)) l.around;
           value = put.value;

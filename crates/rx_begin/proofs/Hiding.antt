@@ -131,6 +131,9 @@ module _ (s : Sight) (kept : ℕ → Option (List Hook)) (t : Trees Fiber) (st :
               agree = waits.same;
               old_is = subst (λ q. IsOld t.current q old) (sym at_it.old) is_old;
               stood = stands;
+              told = λ u there.
+                  let one : v ≡ u = (let q : Some v ≡ Some u = value ∙ sym there in cc) in
+                  sym (ap (λ y. is_stood y.stage) one) ∙ (sym stood_is ∙ too);
               left = l;
               again = record {
                 same = subst (λ c. IsElementOf c o w.element) (sym current) (subst (λ y. IsElementOf t.current o y) (sym is.element) (subst (λ q. IsElementOf t.current q e) at_it.old element));

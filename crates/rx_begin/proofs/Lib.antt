@@ -12,6 +12,7 @@ pub mod Bodies
 pub mod Keeping
 pub mod Hiding
 pub mod Beside
+pub mod FreeFallback
 pub mod Falling
 pub mod OldFallback
 pub mod FallbackKids

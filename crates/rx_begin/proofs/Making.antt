@@ -11,7 +11,7 @@ use Rattle.rx_lists.specs.Shapes as shapes
 use Rattle.rx_links.specs.Drafts.{Draft, taken, made, Trees, IsMadeList, IsTopUnused, IsOpen, IsUnused, old_kids, kids_under}
 use Rattle.rx_links.specs.Places.{Around, placed, IsAt}
 use Rattle.rx_meaning.specs.Cursor.{is_null}
-use Rattle.rx_fiber.specs.Fibers.{Fiber, waiting}
+use Rattle.rx_fiber.specs.Fibers.{Fiber, waiting, nothing}
 use Rattle.rx_fiber.specs.Surround.{IsElementOf}
 use Rattle.rx_fiber.specs.declared.stage.Origin.{Origin}
 use Rattle.rx_begin.specs.Children.{IsMade, AreMade, no_more, gap, next, IsClone, AreClones, HasRoomFor, HasAdded, one, HasMadeFrom}
@@ -113,7 +113,7 @@ none_yet origin t p n es os e f = record {
   current = refl;
 }
 
-pub is_fiber : (c : Shape Fiber) (o : Option ℕ) (v : Fiber) (n : ℕ) (e f : Element) (origin : Origin) → v ≡ record { place = n; element = f; stage = waiting origin } → f ≡ e
+pub is_fiber : (c : Shape Fiber) (o : Option ℕ) (v : Fiber) (n : ℕ) (e f : Element) (origin : Origin) → v ≡ record { place = n; element = f; stage = waiting origin; subtree = nothing } → f ≡ e
     → (origin.cloned ≡ true → IsElementOf c o e) → IsMade c origin o v n e
 is_fiber c o v n e f origin is same clones =
     record { at = ap (λ u. u.place) is; element = ap (λ u. u.element) is ∙ same; stage = ap (λ u. u.stage) is; same = clones }

@@ -1,8 +1,12 @@
 -- What is known of a place that begins, by its fiber and its current one.
 use Rattle.std.specs.Prelude.{◌≡◌, ℕ, zero, suc, Bool, true, false, List, [], ◌∷◌, Option, Some, None, Result, Ok, Err, IfOk, IfSome, IsSome, slice_get, option_map, option_and_then}
-use Rattle.std.specs.Option.{option_flatten}
+use Rattle.std.specs.Option.{option_flatten, option_map_or}
 use Rattle.std.proofs.Common.{refl, sym, ap, ◌∙◌, subst}
-use Rattle.rx_elem.specs.Elements.{Element}
+use Rattle.rx_base.specs.Awaits.{Awaits}
+use Rattle.rx_susp.specs.declared.boundary.BoundaryState.TheVariants.{Hidden}
+use Rattle.rx_elem.specs.Elements.{Element, same_element}
+use Rattle.rx_elem.specs.Trees.{Node, is_hidden, mark_of, of_boundary}
+use Rattle.rx_elem.proofs.Equality.{same_element-self}
 use Rattle.rx_lists.specs.Shapes.{Holds, Shape, IsTop}
 use Rattle.rx_lists.specs.Shapes as shapes
 use Rattle.rx_links.specs.Drafts.{Draft, taken, made, Makes, Trees, old_of, valued}
@@ -12,9 +16,12 @@ use Rattle.rx_hooks.specs.declared.hook.Hook.{Hook}
 use Rattle.rx_fiber.specs.Fibers.{Fiber, Stage, as_cloned, as_matched}
 use Rattle.rx_fiber.specs.FiberView.{changed}
 use Rattle.rx_fiber.specs.declared.stage.StageChange.TheVariants as change
-use Rattle.rx_fiber.specs.OldLists.{matched, old_elements, old_fibers, primary_list}
+use Rattle.rx_fiber.specs.OldLists.{hides_in, matched, old_elements, old_fibers, primary_list}
+use Rattle.rx_fiber.specs.Reading.{IsOld}
 use Rattle.rx_fiber.proofs.OldTops.{fiber_top}
 use Rattle.rx_causes.specs.Marks.{keeps_children, mark_at}
+use Rattle.rx_causes.proofs.Causes.{told_again}
+use Rattle.rx_causes.proofs.Marks.{mark_is}
 use Rattle.rx_fiber.specs.declared.stage.Origin.{Origin}
 use Rattle.rx_causes.specs.declared.scene.Scene.{Scene}
 use Rattle.rx_fiber.specs.Surround.{IsElementOf}
@@ -29,6 +36,7 @@ use Rattle.rx_begin.specs.declared.node.Begun.TheVariants.{Suspended}
 use Rattle.rx_begin.proofs.Making.{KnowsPlaces}
 use Rattle.rx_begin.proofs.Nodes.{bare_made}
 use Rattle.rx_begin.proofs.Bodies.{begun_anew}
+use Rattle.rx_begin.proofs.Standing.{mark_hides}
 use Rattle.rx_begin.proofs.Matched.{matched_top}
 
 module _ (t : Trees Fiber) (p : ℕ) (knows : KnowsPlaces t) (bare : IsBareAt t p) (o : Option ℕ) (old : ℕ) (same : o ≡ old_of t.draft p) (is : o ≡ Some old) where
@@ -46,6 +54,33 @@ module _ (t : Trees Fiber) (p : ℕ) (knows : KnowsPlaces t) (bare : IsBareAt t 
   again_is w u v reads_made reads here element =
       let so : w ≡ v = (let f : Some w ≡ Some v = reads_made (bare_made t p knows bare) ∙ sym here in cc) in
       ap (option_map (λ (x : Fiber). x.element)) (current_value u reads) ∙ ap Some (sym element ∙ ap (λ (x : Fiber). x.element) so)
+
+  -- where it has that of the current fiber, so have both values
+  pub known_again : (w u v : Fiber) → (Makes t.draft p → Some w ≡ made_value_of t.draft p) → (Holds t.current old → Some u ≡ value_of t.current old) → Some v ≡ made_value_of t.draft p
+      → IsElementOf t.current (old_of t.draft p) v.element → w.element ≡ u.element
+  known_again w u v reads_made reads here element =
+      let so : w ≡ v = (let f : Some w ≡ Some v = reads_made (bare_made t p knows bare) ∙ sym here in cc) in
+      let its : u.element ≡ v.element = (let f : Some u.element ≡ Some v.element = sym (ap (option_map (λ (x : Fiber). x.element)) (current_value u reads)) ∙ element in cc) in
+      ap (λ (x : Fiber). x.element) so ∙ sym its
+
+  -- the current fiber of what hides its children hides them
+  pub known_hidden : (u : Fiber) → (Holds t.current old → Some u ≡ value_of t.current old) → keeps_children true (mark_at t.current (old_of t.draft p)) ≡ false → hides_in u.stage ≡ true
+  known_hidden u reads so = sym (mark_hides t.current (old_of t.draft p) u (current_value u reads)) ∙ told_again (option_map_or is_hidden (mark_at t.current (old_of t.draft p)) false) so
+
+-- equal elements are the same
+pub equal_same : (e f : Element) → e ≡ f → same_element e f ≡ true
+equal_same e f is = subst (λ x. same_element e x ≡ true) is (same_element-self e)
+
+-- what has no current fiber has none of its element
+pub no_element : (t : Trees Fiber) (p : ℕ) (o : Option ℕ) (e : Element) → o ≡ old_of t.draft p → o ≡ None → IsElementOf t.current (old_of t.draft p) e → ⊥
+no_element t p o e same none element =
+    let f : None ≡ Some e = sym (ap (λ x. option_map (λ (v : Fiber). v.element) (option_and_then (value_of t.current) x)) (sym same ∙ none)) ∙ element in
+    let q : ⊥ = cc in
+    q
+
+-- what was a hidden boundary keeps no children that are shown
+pub hides_there : (c : Shape Fiber) (o : Option ℕ) (x : Node) (a : Awaits) → IsOld c o (Some x) → mark_of x ≡ of_boundary (Hidden a) → keeps_children true (mark_at c o) ≡ false
+hides_there c o x a was is = ap (keeps_children true) (mark_is c o (Some x) was ∙ ap Some is)
 
 -- the fibers that are made for a list wait, with no children, as is known of them
 pub kids_wait : (c : Shape Fiber) (origin : Origin) (n : ℕ) (es : List Element) (os : List (Option ℕ)) (d : Draft Fiber) → AreMade c origin n es os d → AllWait origin d

@@ -18,12 +18,12 @@ use Rattle.rx_fiber.specs.Fibers as stage
 use Rattle.rx_fiber.specs.OldLists.{primary_list, matched}
 use Rattle.rx_fiber.specs.Reading.{IsOld}
 use Rattle.rx_fiber.specs.Stood.{given_more}
-use Rattle.rx_fiber.specs.Surround.{open_element, given_along, AreNext, IsAround, fallback_in, is_boundary}
+use Rattle.rx_fiber.specs.Surround.{open_element, given_along, AreNext, IsAround, IsOfNode, fallback_in, is_boundary}
 use Rattle.rx_fiber.specs.Surround as surround
 use Rattle.rx_fiber.specs.Standing.{IsStack, opened, StandsAt, begins}
 use Rattle.rx_fiber.specs.Unwound.{IsWithin}
 use Rattle.rx_fiber.proofs.Coming.{come_at}
-use Rattle.rx_fiber.proofs.OldLists.{primary_is}
+use Rattle.rx_fiber.proofs.OldLists.{primary_is, old_of_node}
 use Rattle.rx_fiber.proofs.Matching.{AreOld, matched_old}
 use Rattle.rx_fiber.proofs.Opening.{opens_one, tries_children}
 use Rattle.rx_fiber.proofs.Unwinding.{place_within}
@@ -98,7 +98,8 @@ module _ (s : Sight) (t : Trees Fiber) (st : Stack) (new : Trees Fiber) (st' : S
         let surrounds' : IsAround new.current k v.place rs fs =
         subst (λ c. IsAround c k v.place rs fs) (sym done.current) (subst (λ place. IsAround t.current k place rs fs) (sym is.at) surrounds) in
         comes_to answer (around e m) list done.kids done.answer_is (ap (cursor.begin n fs e old) shape)
-        (opens_one new st' k p n (record v { stage = begun m }) o done.kids rs fs e m list (done.stands k v o rs here) is.element refl shown kids surrounds' (stacks values stack))
+        (opens_one new st' k p n (record v { stage = begun m }) o done.kids rs fs e m list (done.stands k v o rs here) is.element refl shown
+        (subst (λ c. IsOfNode c o) (sym done.current) (old_of_node t.current o old was)) kids surrounds' (stacks values stack))
         kids (subst (λ x. HasLists x) (sym shape) tt)
 
     -- a boundary

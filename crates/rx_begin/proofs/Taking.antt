@@ -9,8 +9,8 @@ use Rattle.rx_elem.specs.Trees as trees
 use Rattle.rx_hooks.specs.declared.hook.Hook.{Hook}
 use Rattle.rx_lists.specs.Shapes.{Shape, fiber}
 use Rattle.rx_lists.specs.Shapes as shapes
-use Rattle.rx_links.specs.Drafts.{taken, made, Trees, kids_of, kids_under, list_at, old_kids, old_of, shape_or_none, taking}
-use Rattle.rx_links.specs.Places.{placed}
+use Rattle.rx_links.specs.Drafts.{Draft, taken, made, Makes, Trees, kids_of, kids_under, list_at, old_kids, old_of, shape_or_none, taking, valued}
+use Rattle.rx_links.specs.Places.{Around, placed, IsAt}
 use Rattle.rx_links.specs.Readers.{IsLinked, made_value_in, made_value_of}
 use Rattle.rx_meaning.specs.Cursor.{Frame, at_place}
 use Rattle.rx_meaning.specs.Fresh.{Contexts, Sight}
@@ -19,16 +19,20 @@ use Rattle.commit_laws.specs.Idle.{IsIdle, IsIdleMark}
 use Rattle.rx_ways.specs.Ways.{Covers, CoversIf}
 use Rattle.rx_fiber.specs.Fibers.{Fiber, begun, is_stood}
 use Rattle.rx_fiber.specs.declared.stage.Origin.{Origin}
+use Rattle.rx_fiber.specs.declared.stage.StageChange.TheVariants as change
+use Rattle.rx_fiber.specs.declared.subtree.Subtree.{Subtree}
+use Rattle.rx_fiber.specs.FiberView.{changed}
+use Rattle.rx_fiber.specs.Subtrees.{subtree_at}
 use Rattle.rx_fiber.specs.Reading.{IsFor, whole, alone, beside, IsOld, of, next}
 use Rattle.rx_fiber.specs.Stood.{StoodAt}
-use Rattle.rx_fiber.specs.Surround.{IsAround, IsElementOf, given_along}
+use Rattle.rx_fiber.specs.Surround.{IsAround, IsElementOf, IsOfNode, given_along}
 use Rattle.rx_fiber.specs.Standing.{StandsAt, begins}
-use Rattle.rx_fiber.proofs.OldLists.{kids_are}
+use Rattle.rx_fiber.proofs.OldLists.{kids_are, old_of_node}
 use Rattle.rx_causes.specs.Marks.{mark_at}
 use Rattle.rx_causes.specs.Scenes.{GivesHooks}
 use Rattle.rx_causes.specs.Hidden.{ForEach, GivesHooksIf}
 use Rattle.rx_causes.proofs.Marks.{mark_is}
-use Rattle.rx_begin.specs.Nodes.{HasStage, HasTaken}
+use Rattle.rx_begin.specs.Nodes.{IsBareAt, HasStage, HasTaken, taken_as}
 use Rattle.rx_begin.specs.Bodies.{StoodIn}
 use Rattle.rx_begin.specs.Beginning.{IsTakenOver}
 use Rattle.rx_begin.proofs.ByElement.{old_at, values_here}
@@ -40,16 +44,32 @@ use Rattle.rx_begin.proofs.Standing.{IsAgain, clone_same, stands_so, stood_here}
 -- The fiber
 
 module _ (t u : Trees Fiber) (p : ℕ) (knows : KnowsPlaces t) (took : u ≡ record t { draft = taking p (old_kids t p) t.draft }) (knows_u : KnowsPlaces u) where
-  -- it has the children of its old one, and gets the mark of that one
-  pub taken_so : (new : Trees Fiber) (m : Mark) → Some m ≡ mark_at t.current (old_of t.draft p) → HasStage u new p (begun m) → HasTaken t new p
-  taken_so new m mark changes k v o rs n e is =
+  took_here : (k : Around Fiber) (v : Fiber) (o : Option ℕ) (rs : Draft Fiber) → t.draft ≡ placed k (made p v o (taken shapes.none) rs) → IsAt u k p v o (taken (kids_under t.current o)) rs
+  took_here k v o rs e = knows_u k p v o (taken (kids_under t.current o)) rs (took_so t u p knows took k v o rs e)
+
+  marked_so : (mid : Trees Fiber) (m : Mark) → HasStage u mid p (begun m) → (k : Around Fiber) (v : Fiber) (o : Option ℕ) (rs : Draft Fiber) → t.draft ≡ placed k (made p v o (taken shapes.none) rs)
+      → mid.draft ≡ placed k (made p (record v { stage = begun m }) o (taken (kids_under t.current o)) rs)
+  marked_so mid m changes k v o rs e =
+      let there = took_here k v o rs e in
+      ap (λ x. x.draft) (changes v (ap made_value_in there.list)) ∙ there.value (λ w. record v { stage = begun m })
+
+  pub marked_made : (mid : Trees Fiber) (m : Mark) → HasStage u mid p (begun m) → KnowsPlaces mid → IsBareAt t p → Makes mid.draft p
+  marked_made mid m changes knows_mid b =
+      (knows_mid b.around p (record b.value { stage = begun m }) b.old (taken (kids_under t.current b.old)) b.rest (marked_so mid m changes b.around b.value b.old b.rest b.here)).makes
+
+  -- it has the children of its old one, and gets the mark of that one, and what is kept on it
+  pub taken_so : (mid new : Trees Fiber) (m : Mark) (under : Subtree) → Some m ≡ mark_at t.current (old_of t.draft p) → under ≡ subtree_at t.current (old_of t.draft p)
+      → HasStage u mid p (begun m) → KnowsPlaces mid → new ≡ record mid { draft = valued p (changed (change.Complete under)) mid.draft } → HasTaken t new p
+  taken_so mid new m under mark kept changes knows_mid done k v o rs n e is =
       let at = knows k p v o (taken shapes.none) rs e in
       let kids : Shape Fiber = kids_under t.current o in
-      let here = took_so t u p knows took k v o rs e in
-      let there = knows_u k p v o (taken kids) rs here in
+      let here = marked_so mid m changes k v o rs e in
+      let there = knows_mid k p (record v { stage = begun m }) o (taken kids) rs here in
       let same : m ≡ n = (let f : Some m ≡ Some n = mark ∙ (ap (mark_at t.current) at.old ∙ is) in cc) in
-      subst (λ l. new.draft ≡ placed k (made p (record v { stage = begun l }) o (taken kids) rs)) same
-      (ap (λ x. x.draft) (changes v (ap made_value_in there.list)) ∙ there.value (λ w. record v { stage = begun m }))
+      let same_kept : under ≡ subtree_at t.current o = kept ∙ ap (subtree_at t.current) at.old in
+      subst (λ l. new.draft ≡ placed k (made p (taken_as l (subtree_at t.current o) v) o (taken kids) rs)) same
+      (subst (λ b. new.draft ≡ placed k (made p (taken_as m b v) o (taken kids) rs)) same_kept
+      (ap (λ x. x.draft) done ∙ there.value (changed (change.Complete under))))
 
 -- Its node
 
@@ -64,17 +84,17 @@ idle_shown : (s : Sight) (x : Node) → IsIdle s x → is_hidden (mark_of x) ≡
 idle_shown s (node e m ns fs) h = idle_mark s m h.0
 
 -- with the children of the old node's fiber it stands for that node again, where that one hides nothing
-stands_again : (c : Shape Fiber) (o : Option ℕ) (x : Node) → IsLinked c → IsOld c o (Some x) → is_hidden (mark_of x) ≡ false
-    → (v : Fiber) (q : ℕ) (tail : Shape Fiber) → v.element ≡ element_of x → IsFor v.place x (fiber q (record v { stage = begun (mark_of x) }) (kids_under c o) tail) tail
-stands_again c _ _ linked (of {j = j} {n = n} {x = x} {s = s} here leads (next {rest = rest} is a)) shown v q tail same = by_fibers n x s rest is here leads shown same
+stands_again : (under : Subtree) (c : Shape Fiber) (o : Option ℕ) (x : Node) → IsLinked c → IsOld c o (Some x) → is_hidden (mark_of x) ≡ false
+    → (v : Fiber) (q : ℕ) (tail : Shape Fiber) → v.element ≡ element_of x → IsFor v.place x (fiber q (taken_as (mark_of x) under v) (kids_under c o) tail) tail
+stands_again under c _ _ linked (of {j = j} {n = n} {x = x} {s = s} here leads (next {rest = rest} is a)) shown v q tail same = by_fibers n x s rest is here leads shown same
   where
     by_fibers : (n : ℕ) (x : Node) (s rest : Shape Fiber) → IsFor n x s rest → list_at c j ≡ Some s → shapes.first s ≡ Some j → is_hidden (mark_of x) ≡ false → v.element ≡ element_of x
-        → IsFor v.place x (fiber q (record v { stage = begun (mark_of x) }) (kids_of c j) tail) tail
+        → IsFor v.place x (fiber q (taken_as (mark_of x) under v) (kids_of c j) tail) tail
     by_fibers n _ _ rest (whole {id = id} {v = w} {e = e} {m = m} {ns = ns} {ks = ks} is shown a) here leads shows same =
         let i : id ≡ j = cc in
         let kids : kids_of c j ≡ ks =
         ap (kids_of c) (sym i) ∙ kids_are c id w ks rest linked (ap (λ k. shape_or_none (list_at c k)) i ∙ ap shape_or_none here) in
-        subst (λ l. IsFor v.place (node e m ns trees.none) (fiber q (record v { stage = begun m }) l tail) tail) (sym kids)
+        subst (λ l. IsFor v.place (node e m ns trees.none) (fiber q (taken_as m under v) l tail) tail) (sym kids)
         (whole (record { at = refl; element = same; stage = refl }) shown a)
     by_fibers n _ _ rest (alone {m = m} is hidden gone a) here leads shows same = absurd (let q : ⊥ = cc in q)
     by_fibers n _ _ rest (beside {m = m} is hidden some a s f) here leads shows same = absurd (let q : ⊥ = cc in q)
@@ -114,12 +134,13 @@ module _ (s : Sight) (kept : ℕ → Option (List Hook)) (t : Trees Fiber) (st :
               stood = stands;
               passed = record {
                 around = k;
-                value = record w { stage = begun (mark_of x) };
+                value = taken_as (mark_of x) (subtree_at t.current o) w;
                 old = o;
                 kids = kids_under t.current o;
                 rest = rs;
                 here = took k w o rs (mark_of x) here (mark_is t.current o (Some x) its);
-                is_for = λ tail. stands_again t.current o x linked its (idle_shown s x idle) w p tail (is.element ∙ sym same);
+                is_for = λ tail. stands_again (subtree_at t.current o) t.current o x linked its (idle_shown s x idle) w p tail (is.element ∙ sym same);
+                of_node = subst (λ c. IsOfNode c o) (sym current) (old_of_node t.current o (Some x) its);
                 surrounds = subst (λ c. IsAround c k w.place rs fs) (sym current) (subst (λ place. IsAround t.current k place rs fs) (sym is.at) surrounds);
                 stack = rw stacks stack;
               };

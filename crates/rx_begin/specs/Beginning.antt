@@ -10,6 +10,7 @@ use Rattle.rx_susp.specs.declared.boundary.BoundaryState.TheVariants.{Hidden}
 use Rattle.rx_hooks.specs.declared.hook.Hook.{Hook}
 use Rattle.rx_lists.specs.Shapes as shapes
 use Rattle.rx_links.specs.Drafts.{taken, Trees, old_of}
+use Rattle.rx_links.specs.Readers.{made_value_of}
 use Rattle.rx_meaning.specs.Again.{AllValuesAgree, AreUnresolved}
 use Rattle.rx_meaning.specs.Fresh.{Sight, Contexts, Shape, absent, one_list, part, shape_of, two_lists, waiting}
 use Rattle.rx_meaning.specs.Settled.{IfSettled, ReadsHold, known_by}
@@ -17,7 +18,7 @@ use Rattle.rx_meaning.specs.Cursor.{Frame, Cursor, falling, at_place, at_end, en
 use Rattle.commit_laws.specs.Idle.{IsIdle, IsIdleMark}
 use Rattle.commit_laws.specs.WaitsAgain.{without_lanes}
 use Rattle.rx_ways.specs.Ways.{CoversIf}
-use Rattle.rx_fiber.specs.Fibers.{Fiber}
+use Rattle.rx_fiber.specs.Fibers.{Fiber, is_stood}
 use Rattle.rx_fiber.specs.Passed.{IsPassed}
 use Rattle.rx_fiber.specs.Reading.{IsOld}
 use Rattle.rx_fiber.specs.Stood.{StoodAt}
@@ -48,7 +49,7 @@ IsEnd (at_place levels fs cs e old) = ⊥
 IsEnd (at_end levels fs o done) = Unit {0}
 IsEnd (ended p) = ⊥
 
--- The place is that of a hidden boundary, with its element and where it stood, which waits still for these: its children are not tried, and its fallback opens next.
+-- The place is that of a hidden boundary, with its element and where it stood, as its fiber tells, which waits still for these: its children are not tried, and its fallback opens next.
 pub record IsHiddenAgain (s : Sight) (t new : Trees Fiber) (st' : Stack) (p n : ℕ) (fs : List Frame) (cs : Contexts) (e : Element) (old : Option Node) (a : Awaits) : Type 0 where
   pub key : Key
   pub fallback : Element
@@ -61,6 +62,7 @@ pub record IsHiddenAgain (s : Sight) (t new : Trees Fiber) (st' : Stack) (p n : 
   pub agree : AllValuesAgree (without_lanes s) s kept
   pub old_is : IsOld t.current (old_of t.draft p) old
   pub stood : StoodAt t.current (given_along fs) (old_of t.draft p)
+  pub told : (v : Fiber) → Some v ≡ made_value_of t.draft p → is_stood v.stage ≡ true
   pub left : IsLeftAt new st' p (taken shapes.none) a (open_part n fs (falling e old a) (part cs (fallback_in e ∷ []) (fallback_if old)))
   pub again : HasOldFallback new.current (given_along left.frames) left.old left.node left.value.element
 

@@ -10,7 +10,9 @@ use Rattle.rx_lists.specs.Shapes as shapes
 use Rattle.rx_links.specs.Drafts.{Draft, taken, made, Trees, entry, kids_under, valued}
 use Rattle.rx_links.specs.Places.{Around, placed}
 use Rattle.rx_links.specs.Readers.{list_from, made_value_of}
-use Rattle.rx_fiber.specs.Fibers.{Stage, Fiber, waiting, begun, trying, as_matched}
+use Rattle.rx_fiber.specs.declared.subtree.Subtree.{Subtree}
+use Rattle.rx_fiber.specs.Fibers.{Stage, Fiber, waiting, begun, trying, as_matched, joined, marked_subtree}
+use Rattle.rx_fiber.specs.Subtrees.{subtree_at}
 use Rattle.rx_causes.specs.Marks.{mark_at}
 use Rattle.rx_fiber.specs.declared.stage.Origin.{Origin}
 use Rattle.rx_begin.specs.Children.{AreMade}
@@ -66,11 +68,15 @@ pub record HasOpened (origin : Origin) (before after : Trees Fiber) (p : ℕ) (s
   pub current : after.current ≡ before.current
   pub answer_is : answer ≡ begun_over kids
 
--- a made fiber that had no children has the mark of its old one, and the children of that one as they stand; nothing else is changed
+-- a fiber with the mark of its old one, and with what is kept on that
+abbrev pub taken_as : Mark → Subtree → Fiber → Fiber
+taken_as m under v = record v { stage = begun m; subtree = joined (marked_subtree m) under }
+
+-- a made fiber that had no children has the mark of its old one, what is kept on that, and the children of that one as they stand; nothing else is changed
 abbrev pub HasTaken : (before after : Trees Fiber) → (p : ℕ) → Type 0
 HasTaken t new p =
     (k : Around Fiber) (v : Fiber) (o : Option ℕ) (rs : Draft Fiber) (m : Mark) → t.draft ≡ placed k (made p v o (taken shapes.none) rs) → mark_at t.current o ≡ Some m
-    → new.draft ≡ placed k (made p (record v { stage = begun m }) o (taken (kids_under t.current o)) rs)
+    → new.draft ≡ placed k (made p (taken_as m (subtree_at t.current o) v) o (taken (kids_under t.current o)) rs)
 
 -- the number, the props and the children of a component's element
 abbrev pub parts_in : Element → Option (ℕ × (List ℤ × List Element))

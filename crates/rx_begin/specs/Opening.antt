@@ -11,12 +11,14 @@ use Rattle.rx_links.specs.Drafts.{Draft, taken, made, Trees, entry, kids_under, 
 use Rattle.rx_links.specs.Places.{Around, placed}
 use Rattle.rx_links.specs.Readers.{list_from}
 use Rattle.rx_meaning.specs.Cursor.{Cursor}
-use Rattle.rx_fiber.specs.Fibers.{Fiber, as_cloned, as_matched, begun, fallback}
+use Rattle.rx_fiber.specs.declared.subtree.Subtree.{Subtree}
+use Rattle.rx_fiber.specs.Fibers.{Fiber, as_cloned, as_matched, begun, fallback, joined, own_subtree}
 use Rattle.rx_fiber.specs.declared.stage.Origin.{Origin}
 use Rattle.rx_fiber.specs.OldLists.{begins_fallback, fallback_list, matched, old_elements, old_fibers}
 use Rattle.rx_fiber.specs.Reading.{has_node}
 use Rattle.rx_fiber.specs.Surround.{fallback_in}
 use Rattle.rx_fiber.specs.Standing.{StandsAt}
+use Rattle.rx_fiber.specs.Subtrees.{IsGathered, IsGatheredOver, subtrees_of}
 use Rattle.rx_fiber.specs.Unwound.{IsLeftAt, is_trying}
 use Rattle.rx_begin.specs.Again.{HasOldFallback}
 use Rattle.rx_begin.specs.Beginning.{IsPlace, IsEnd}
@@ -47,11 +49,19 @@ abbrev pub fallback_behind : Shape Fiber → Option ℕ
 fallback_behind shapes.none = None
 fallback_behind (shapes.fiber id v ks rs) = if begins_fallback rs then first rs else None
 
+-- a fiber that hides what it keeps, with this at or below that
+abbrev pub hidden_over : Awaits → Subtree → Fiber → Fiber
+hidden_over a under v = record v { stage = begun (of_boundary (Hidden a)); subtree = joined (own_subtree (begun (of_boundary (Hidden a)))) under }
+
+-- what is at or below the children of the current fiber that a made one is for
+abbrev pub kept_below : Trees Fiber → ℕ → Subtree
+kept_below t p = subtrees_of (kids_under t.current (old_of t.draft p))
+
 -- a fiber that had no children keeps those of the one that it was made for, and hides them
 abbrev pub HasKept : (before after : Trees Fiber) → (p : ℕ) → Awaits → Type 0
 HasKept t new p a =
     (k : Around Fiber) (v : Fiber) (o : Option ℕ) (rs : Draft Fiber) → t.draft ≡ placed k (made p v o (taken shapes.none) rs)
-    → new.draft ≡ placed k (made p (record v { stage = begun (of_boundary (Hidden a)) }) o (taken (kids_under t.current o)) rs)
+    → new.draft ≡ placed k (made p (hidden_over a (kept_below t p) v) o (taken (kids_under t.current o)) rs)
 
 -- a fiber of a fallback stands right behind that of its boundary
 pub record HasFallback (before after : Trees Fiber) (p : ℕ) (old : Option ℕ) (a : Awaits) (id : ℕ) : Type 0 where
@@ -81,7 +91,7 @@ abbrev pub given_as : (given : Option (List Element)) → Origin
 given_as None = as_cloned true
 given_as (Some es) = as_matched false
 
--- A boundary's fallback has fibers that wait, and of which so much is known; where the old fallback has none, each is made for no current fiber. They stand below the boundary's own fiber, or below one right behind it, where that one keeps a list; neither tries its children.
+-- A boundary's fallback has fibers that wait, and of which so much is known; where the old fallback has none, each is made for no current fiber. They stand below the boundary's own fiber, or below one right behind it, where that one keeps a list; neither tries its children. The boundary's fiber has gathered what it keeps.
 pub data HasFallbackKids (origin : Origin) (before after : Trees Fiber) (q : ℕ) : Opened → Type 0 where
   alone : {f : Opened} (kids : Draft Fiber) (value : Fiber → Fiber) → ((v : Fiber) → is_trying (value v).stage ≡ false) → AllWait origin kids
       → (fallback_list (list_from before.current (old_of before.draft q)) ≡ shapes.none → AllNew kids)
@@ -92,4 +102,5 @@ pub data HasFallbackKids (origin : Origin) (before after : Trees Fiber) (q : ℕ
       → (fallback_list (list_from before.current (old_of before.draft q)) ≡ shapes.none → AllNew kids)
       → ((k : Around Fiber) (v : Fiber) (o : Option ℕ) (rs : Draft Fiber) → before.draft ≡ placed k (made q v o (taken shapes.none) rs)
       → after.draft ≡ placed k (made q (value v) o (taken (kept o)) (made id w old kids rs)))
+      → ((k : Around Fiber) (v : Fiber) (o : Option ℕ) (rs : Draft Fiber) → before.draft ≡ placed k (made q v o (taken shapes.none) rs) → IsGathered before.current → IsGatheredOver (value v) (kept o))
       → f ≡ opened_at (entry kids) id → HasFallbackKids origin before after q f

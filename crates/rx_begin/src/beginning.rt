@@ -139,8 +139,8 @@ fn begin_or_hide(
 /// a provider gives its value; the fibers of all children are made, each for the old child of its identity and type. Where the
 /// fiber is a clone, and its component has no cause to be rendered anew, the body is skipped, and the children are clones of the
 /// old ones (react.dev, useState: React skips the component); so is that of a fiber whose element was given again. Where the
-/// clone is a hidden boundary's, stands where the same values of contexts are given, and nothing new has come for what it waits
-/// for and keeps, its children are not tried. Where nothing in the tree of a clone's old node has a cause, and what was read there
+/// place is a hidden boundary's, has an element equal to the current one, stands where the same values of contexts are given, and
+/// nothing new has come for what it waits for and keeps, its children are not tried. Where nothing in the tree of a clone's old node has a cause, and what was read there
 /// of the contexts is what they give, the old children are taken over as they stand (react.dev, useContext: React finds the
 /// readers, also below components that it skips). The current tree stays as it is. Also answered is whether a body was evaluated.
 ///
@@ -170,10 +170,10 @@ pub fn begin<L: Ledger>(
         → TellsCalm scene.now (kept_hooks hooks.old) (values_at contexts.old) (option_and_then instance_in (mark_at tree.old.current (old_of tree.old.draft at))) true) }
     ensures exact { IfOk result (λ b. (v : fibers.Fiber) → Some v ≡ made_value_of tree.old.draft at → IsSome (parts_in v.element) → is_cloned v.stage ≡ true
         → TellsCalm scene.now (kept_hooks hooks.old) (values_at contexts.old) (option_and_then instance_in (mark_at tree.old.current (old_of tree.old.draft at))) (not b.1)) }
-    // A hidden boundary's children are tried only where its fiber is no clone, or may stand where other values of contexts are
-    // given, or there is a cause.
-    ensures tries { IfOk result (λ b. (v : fibers.Fiber) → Some v ≡ made_value_of tree.old.draft at → parts_in v.element ≡ None → is_cloned v.stage ≡ true → is_stood v.stage ≡ true → awaited_again b.0 ≡ None
-        → IsCauseToTry scene.now (kept_hooks hooks.old) tree.old at) }
+    // A hidden boundary's children are tried only where its element is another one than that of its current fiber, or it may stand
+    // where other values of contexts are given, or there is a cause.
+    ensures tries { IfOk result (λ b. (v : fibers.Fiber) → Some v ≡ made_value_of tree.old.draft at → parts_in v.element ≡ None → IsElementOf tree.old.current (old_of tree.old.draft at) v.element → is_stood v.stage ≡ true
+        → awaited_again b.0 ≡ None → IsCauseToTry scene.now (kept_hooks hooks.old) tree.old at) }
     // Where they are not tried, there is no news in what it keeps.
     ensures news { IfOk result (λ b. IsSome (awaited_again b.0) → (x : Node) → IsOld tree.old.current (old_of tree.old.draft at) (Some x)
         → ForEachIn (λ i. TellsNews (kept_hooks hooks.old) scene.now.lanes scene.now.cut i false) (children_of x)) }

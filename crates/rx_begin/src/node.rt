@@ -8,13 +8,14 @@ ghost use Rattle.rx_fiber.specs.Fibers.{as_cloned, as_matched};
 ghost use Rattle.rx_fiber.specs.FiberView.{stage_seen};
 ghost use Rattle.rx_node.specs.MarkView.{instance_seen, mark_seen};
 ghost use Rattle.rx_fiber.specs.OldLists.{matched, old_elements, old_fibers, primary_list};
+ghost use Rattle.rx_fiber.specs.Subtrees.{subtree_at};
 ghost use Rattle.rx_causes.specs.Marks.{keeps_children, mark_at};
 ghost use Rattle.rx_begin.specs.Nodes.{IsBareAt, IsBareBeside, HasStage, HasList, HasOpened, HasTaken, begun_from};
 
 use crate::children::{clone_children, make_children};
 use rx_base::Awaits;
 use rx_elem::Element;
-use rx_fiber::{Fiber, Stage, old_primary};
+use rx_fiber::{Fiber, Stage, StageChange, Subtree, old_primary};
 use rx_links::{FiberId, FiberTree};
 use rx_node::{Instance, Mark};
 use std::alloc::{AllocError, Global};
@@ -81,6 +82,17 @@ pub(crate) fn old_instance(
     }
 }
 
+// What is kept on a current fiber, if it is there.
+fn old_subtree(tree: &FiberTree<Fiber>, old: Option<FiberId>) -> Subtree
+    requires { IfSome old (Holds tree.now.current) }
+    ensures { result ≡ subtree_at tree.now.current old }
+{
+    match old {
+        Some(id) => tree.value(id).subtree(),
+        None => Subtree::nothing(),
+    }
+}
+
 // Changes the stage of a made fiber.
 fn set_stage(tree: &mut FiberTree<Fiber>, at: FiberId, stage: Stage) -> Result<(), AllocError>
     requires { Makes tree.old.draft at }
@@ -89,8 +101,8 @@ fn set_stage(tree: &mut FiberTree<Fiber>, at: FiberId, stage: Stage) -> Result<(
 {
     let fiber = tree.value(at);
     let element = fiber.element().copy()?;
-    let place = fiber.place();
-    tree.set_value(at, Fiber::new(place, element, stage));
+    let begun = Fiber::new(fiber.place(), element, stage).with_subtree(fiber.subtree());
+    tree.set_value(at, begun);
     Ok(())
 }
 
@@ -188,7 +200,7 @@ pub(crate) fn keep_node(
     Ok(begun_from(first))
 }
 
-// A fiber takes over the children of its old node, whose mark it gets.
+// A fiber takes over the children of its old node, whose mark it gets, and with them what is at or below these.
 pub(crate) fn take_node(tree: &mut FiberTree<Fiber>, at: FiberId) -> Result<(), AllocError>
     requires bare { IsBareAt tree.old at }
     requires there { IsSome (mark_at tree.old.current (old_of tree.old.draft at)) }
@@ -200,7 +212,11 @@ pub(crate) fn take_node(tree: &mut FiberTree<Fiber>, at: FiberId) -> Result<(), 
         Some(mark) => mark.copy()?,
         None => unreachable!(),
     };
+    let below = old_subtree(tree, tree.alternate(at));
     tree.take_over(at);
     tree.place_facts();
-    set_stage(tree, at, Stage::Begun(mark))
+    set_stage(tree, at, Stage::Begun(mark))?;
+    tree.place_facts();
+    tree.mark_made(at, &StageChange::Complete(below));
+    Ok(())
 }

@@ -19,7 +19,7 @@ use crate::children::{clone_children, make_children};
 use crate::node::{open_clones, open_list};
 use rx_base::Awaits;
 use rx_elem::{Element, ElementKind};
-use rx_fiber::{Fiber, Stage, StageChange, old_fallback, old_primary};
+use rx_fiber::{Fiber, Stage, StageChange, kids_subtree, old_fallback, old_primary};
 use rx_links::{FiberId, FiberTree};
 use rx_node::Mark;
 use rx_susp::BoundaryState;
@@ -61,21 +61,6 @@ fn old_beside(tree: &FiberTree<Fiber>, old: Option<FiberId>) -> Option<FiberId>
     }
 }
 
-// No fiber is made for it yet, as none is before its boundary opens its fallback.
-fn unused(tree: &FiberTree<Fiber>, old: Option<FiberId>) -> Result<Option<FiberId>, AllocError>
-    requires { IfSome old (Holds tree.now.current) }
-    ensures same { IfOk result (λ r. r ≡ old) }
-    ensures unused { IfOk result (λ r. IfSome r (IsUnused tree.now.draft)) }
-{
-    match old {
-        None => Ok(None),
-        Some(id) => match tree.alternate(id) {
-            None => Ok(Some(id)),
-            Some(_) => Err(AllocError),
-        },
-    }
-}
-
 // A boundary's fiber takes over what the boundary keeps, and hides it.
 fn keep_primary(tree: &mut FiberTree<Fiber>, at: FiberId, awaits: Awaits)
     requires { IsBareAt tree.old at }
@@ -83,9 +68,10 @@ fn keep_primary(tree: &mut FiberTree<Fiber>, at: FiberId, awaits: Awaits)
     ensures current { tree.new.current ≡ tree.old.current }
 {
     tree.place_facts();
+    let below = kids_subtree(tree, tree.alternate(at));
     tree.take_over(at);
     tree.place_facts();
-    tree.mark_made(at, &StageChange::Hide(awaits));
+    tree.mark_made(at, &StageChange::Hide(awaits, below));
 }
 
 // Puts the fiber of a fallback right behind that of its boundary.
@@ -198,11 +184,10 @@ fn fall_beside(
     tree.place_facts();
     tree.facts();
     let first_old = old_fallback(tree, tree.alternate(at));
-    let behind = old_beside(tree, tree.alternate(at));
+    let beside = old_beside(tree, tree.alternate(at));
     keep_primary(tree, at, awaits);
     tree.place_facts();
     tree.facts();
-    let beside = unused(tree, behind)?;
     let id = put_fallback(tree, at, awaits, beside)?;
     tree.place_facts();
     make_listed(alloc, tree, id, given, first_old)?;

@@ -32,7 +32,8 @@ use rx_links::{FiberId, FiberTree};
 // Whether an element is the current one, given again; for a boundary that is hidden also one that was made anew and is equal
 // (react.dev, Suspense): it is not tried again because what is around it was evaluated.
 fn is_known(element: &Element, current: &Element, hidden: bool) -> bool
-    ensures { result ≡ true → same_element element.now current.now ≡ true }
+    ensures same { result ≡ true → same_element element.now current.now ≡ true }
+    ensures hides { hidden ≡ true → same_element element.now current.now ≡ true → result ≡ true }
 {
     element.is_again(current) || hidden && element.same(current)
 }
@@ -40,7 +41,9 @@ fn is_known(element: &Element, current: &Element, hidden: bool) -> bool
 // Whether the element of a place's fiber is that of the current fiber for which it was made, given again or known to be equal.
 fn is_again(tree: &FiberTree<Fiber>, at: FiberId) -> bool
     requires { IsBareAt tree.now at }
-    ensures { result ≡ true → (v : fibers.Fiber) → Some v ≡ made_value_of tree.now.draft at → IsElementOf tree.now.current (old_of tree.now.draft at) v.element }
+    ensures same { result ≡ true → (v : fibers.Fiber) → Some v ≡ made_value_of tree.now.draft at → IsElementOf tree.now.current (old_of tree.now.draft at) v.element }
+    ensures hides { (v : fibers.Fiber) → Some v ≡ made_value_of tree.now.draft at → IsElementOf tree.now.current (old_of tree.now.draft at) v.element
+        → keeps_children true (mark_at tree.now.current (old_of tree.now.draft at)) ≡ false → result ≡ true }
 {
     tree.place_facts();
     tree.facts();
@@ -60,6 +63,9 @@ pub(crate) fn origin_of(tree: &FiberTree<Fiber>, at: FiberId) -> Origin
     requires { IsBareAt tree.now at }
     ensures cloned { result.cloned ≡ true → (v : fibers.Fiber) → Some v ≡ made_value_of tree.now.draft at → (is_cloned v.stage ≡ true) ⊎ IsElementOf tree.now.current (old_of tree.now.draft at) v.element }
     ensures clones { (v : fibers.Fiber) → Some v ≡ made_value_of tree.now.draft at → is_cloned v.stage ≡ true → result.cloned ≡ true }
+    // So it does where its old node hides its children, and has an equal element.
+    ensures hides { (v : fibers.Fiber) → Some v ≡ made_value_of tree.now.draft at → IsElementOf tree.now.current (old_of tree.now.draft at) v.element
+        → keeps_children true (mark_at tree.now.current (old_of tree.now.draft at)) ≡ false → result.cloned ≡ true }
     ensures stood { (v : fibers.Fiber) → Some v ≡ made_value_of tree.now.draft at → result.stood ≡ is_stood v.stage }
 {
     tree.place_facts();

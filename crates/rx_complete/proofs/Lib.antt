@@ -1,5 +1,6 @@
 pub mod Leading
 pub mod Completed
+pub mod Gathering
 pub mod Passing
 pub mod Depths
 pub mod Waiting

@@ -1,10 +1,10 @@
 -- What is completed next, and where the render comes from there.
-use Rattle.std.specs.Prelude.{ℕ, List, Option, Some, None, if◌then◌else◌}
+use Rattle.std.specs.Prelude.{◌≡◌, ℕ, List, Option, Some, None, if◌then◌else◌}
 use Rattle.rx_ctx.specs.Contexts.{Stack}
 use Rattle.rx_elem.specs.Elements.{Element}
 use Rattle.rx_elem.specs.Trees.{Node}
-use Rattle.rx_links.specs.Drafts.{Draft, Trees, entry}
-use Rattle.rx_links.specs.Places.{Around, top, below, after}
+use Rattle.rx_links.specs.Drafts.{Draft, made, Trees, entry, IsMadeList}
+use Rattle.rx_links.specs.Places.{Around, top, below, after, placed}
 use Rattle.rx_links.specs.Readers.{made_rest_of, made_parent_of}
 use Rattle.rx_meaning.specs.Fresh.{Contexts, Place}
 use Rattle.rx_meaning.specs.Cursor.{Open, Frame, Cursor, at_place, at_end, ended}
@@ -17,6 +17,16 @@ use Rattle.rx_complete.specs.declared.completing.Next.TheVariants.{Sibling, Pare
 -- the fiber's list is done, and its node is completed next
 pub data IsAtEnd (t : Trees Fiber) (st : Stack) (q : ℕ) : Type 0 where
   ends : {levels : ℕ} {fs : List Frame} {x : Open} {done : List (Option Node)} → StandsAt t st (Some q) (at_end levels fs x done) → IsAtEnd t st q
+
+-- the children of a made fiber are all made
+pub record HasMadeList (t : Trees Fiber) (q : ℕ) : Type 0 where
+  pub around : Around Fiber
+  pub value : Fiber
+  pub old : Option ℕ
+  pub kids : Draft Fiber
+  pub rest : Draft Fiber
+  pub here : t.draft ≡ placed around (made q value old kids rest)
+  pub all_made : IsMadeList kids
 
 -- the fiber lies in the list of an open node, or is the root
 pub data IsOpenBelow (t : Trees Fiber) (st : Stack) (p : ℕ) : Type 0 where

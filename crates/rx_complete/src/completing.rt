@@ -2,7 +2,8 @@
 ghost use Rattle.std.specs.Prelude.{◌≡◌, ℕ, List, ◌∷◌, Option, Some};
 ghost use Rattle.rx_ctx.specs.Contexts.{Stack};
 ghost use Rattle.rx_elem.specs.Trees.{Node};
-ghost use Rattle.rx_links.specs.Drafts.{Makes, valued};
+ghost use Rattle.rx_links.specs.Drafts.{Makes, grafted, valued};
+ghost use Rattle.rx_links.specs.Readers.{made_kids_of};
 ghost use Rattle.rx_meaning.specs.Fresh.{Sight, Contexts};
 ghost use Rattle.rx_meaning.specs.Cursor.{Open, Frame, arrive, at_end, unit};
 ghost use Rattle.rx_fiber.specs.FiberView.{changed};
@@ -10,11 +11,12 @@ ghost use Rattle.rx_fiber.specs.declared.stage.StageChange.TheVariants as change
 ghost use Rattle.rx_fiber.specs.Passed.{IsPassed};
 ghost use Rattle.rx_fiber.specs.Surround.{open_element};
 ghost use Rattle.rx_fiber.specs.Standing.{StandsAt, IsStack};
-ghost use Rattle.rx_complete.specs.Ends.{IsAtEnd, fiber_in, next_after, LeadsTo};
+ghost use Rattle.rx_fiber.specs.Subtrees.{subtrees_of};
+ghost use Rattle.rx_complete.specs.Ends.{IsAtEnd, HasMadeList, fiber_in, next_after, LeadsTo};
 
 use rx_ctx::ContextStack;
 use rx_elem::{Element, ElementKind};
-use rx_fiber::{Fiber, StageChange};
+use rx_fiber::{Fiber, StageChange, Subtree};
 use rx_links::{FiberId, FiberTree};
 
 /// The fiber to which a render comes from a node that is done.
@@ -50,20 +52,36 @@ fn next_of(tree: &FiberTree<Fiber>, at: FiberId) -> Next
     }
 }
 
+// What is kept on the children of a fiber, all of which are made, taken together.
+fn gather(tree: &FiberTree<Fiber>, at: FiberId) -> Subtree
+    requires { HasMadeList tree.now at }
+    ensures { result ≡ subtrees_of (grafted (made_kids_of tree.now.draft at)) }
+{
+    tree.place_facts();
+    let mut below = Subtree::nothing();
+    let mut next = tree.first_child(at);
+    'gathering: while let Some(id) = next {
+        below = below.join(tree.value(id).subtree());
+        next = tree.next_sibling(id);
+    }
+    below
+}
+
 /// Completes the node of a fiber whose children are done, as one unit of a render: a boundary whose children were tried is
-/// shown, a provider is left, and the render comes to the next sibling, or else to the parent. Takes no memory, and leaves
-/// the current tree as it is.
+/// shown, a provider is left, and the render comes to the next sibling, or else to the parent. What is at or below the children
+/// is gathered on the fiber (React: `bubbleProperties`). Takes no memory, and leaves the current tree as it is.
 pub fn complete(tree: &mut FiberTree<Fiber>, at: FiberId, contexts: &mut ContextStack) -> Next
     requires { IsAtEnd tree.old contexts.old at }
     ensures stands { (s : Sight) (levels : ℕ) (fs : List Frame) (x : Open) (done : List (Option Node)) → StandsAt tree.old contexts.old (Some at) (at_end levels fs x done) → StandsAt tree.new contexts.new (fiber_in result) (unit s (at_end levels fs x done)) }
     ensures leads { (s : Sight) (levels : ℕ) (fs : List Frame) (x : Open) (done : List (Option Node)) → StandsAt tree.old contexts.old (Some at) (at_end levels fs x done) → LeadsTo result (unit s (at_end levels fs x done)) }
     ensures next { result ≡ next_after tree.old.draft at }
     ensures current { tree.new.current ≡ tree.old.current }
-    ensures marked { tree.new ≡ record tree.old { draft = valued at (changed change.Complete) tree.old.draft } }
+    ensures marked { tree.new ≡ record tree.old { draft = valued at (changed (change.Complete (subtrees_of (grafted (made_kids_of tree.old.draft at))))) tree.old.draft } }
 {
     tree.place_facts();
     leave(tree.value(at).element(), contexts);
-    tree.mark_made(at, &StageChange::Complete);
+    let below = gather(tree, at);
+    tree.mark_made(at, &StageChange::Complete(below));
     tree.place_facts();
     next_of(tree, at)
 }

@@ -10,15 +10,16 @@ use Rattle.rx_elem.specs.Spots.{at_root, spots_in, node_count}
 use Rattle.rx_elem.specs.Trees.{Node, none, forest, of_boundary, children_if}
 use Rattle.rx_lists.specs.Shapes.{Shape, fiber}
 use Rattle.rx_lists.specs.Shapes as shapes
-use Rattle.rx_links.specs.Drafts.{Draft, taken, made, made_size, Trees, grafted}
+use Rattle.rx_links.specs.Drafts.{Draft, taken, made, made_size, Trees, grafted, IsMadeList}
 use Rattle.rx_links.specs.Places.{Around, top, below, after, placed, up_of}
 use Rattle.rx_meaning.specs.Fresh.{Contexts}
 use Rattle.rx_meaning.specs.Cursor.{Open, trying, falling, Frame, at_end, arrive, finished}
 use Rattle.rx_meaning.specs.Cursor as cursor
 use Rattle.rx_fiber.specs.Fibers.{Fiber, completed, completed_stage}
+use Rattle.rx_fiber.specs.declared.subtree.Subtree.{Subtree}
 use Rattle.rx_fiber.specs.Reading.{has_node, AreFor, IsFor, whole, alone, beside}
 use Rattle.rx_fiber.specs.Reading as reading
-use Rattle.rx_fiber.specs.Surround.{AreDone, IsOpenAs, opens, tries, falls, IsAround, of_node, of_fallback, behind_earlier, made_earlier, above_list, open_element}
+use Rattle.rx_fiber.specs.Surround.{IsOfNode, IsOldBehind, AreDone, IsOpenAs, opens, tries, falls, IsAround, of_node, of_fallback, behind_earlier, made_earlier, above_list, open_element}
 use Rattle.rx_fiber.specs.Standing.{IsStack, opened, StandsAt, completes}
 use Rattle.rx_fiber.proofs.Few.{node_parts, some_there}
 use Rattle.rx_fiber.proofs.Arriving.{one_done, two_done, next_at, arrives}
@@ -40,8 +41,8 @@ grafted_list (below id v o rs k) d = refl
 grafted_list (after id v o ks k) d = grafted_list k (made id v o ks d)
 
 -- a list that is done is that of its nodes
-pub list_done : (k : Around Fiber) (n : ℕ) (done : List (Option Node)) → AreDone k n done → AreFor 0 (forest done) (grafted (whole_list k (taken shapes.none)))
-list_done k n done before =
+pub list_done : (c : Shape Fiber) (k : Around Fiber) (n : ℕ) (done : List (Option Node)) → AreDone c k n done → AreFor 0 (forest done) (grafted (whole_list k (taken shapes.none)))
+list_done c k n done before =
     subst (λ s. AreFor 0 (forest done) s) (sym (grafted_list k (taken shapes.none)))
     (subst (λ l. AreFor 0 (forest l) (behind_earlier k shapes.none)) (append-nil done) (before.are [] shapes.none reading.no_more))
 
@@ -51,8 +52,8 @@ made_list (below id v o rs k) d = omega arith
 made_list (after id v o ks k) d = omega (arith, made_list k (made id v o ks d))
 
 -- and no more fibers are made for it than these have nodes
-pub list_few : (k : Around Fiber) (n : ℕ) (done : List (Option Node)) → AreDone k n done → made_size (whole_list k (taken shapes.none)) ≤ length (spots_in at_root (forest done))
-list_few k n done before = omega (arith, made_list k (taken shapes.none), before.few)
+pub list_few : (c : Shape Fiber) (k : Around Fiber) (n : ℕ) (done : List (Option Node)) → AreDone c k n done → made_size (whole_list k (taken shapes.none)) ≤ length (spots_in at_root (forest done))
+list_few c k n done before = omega (arith, made_list k (taken shapes.none), before.few)
 
 -- an open node has its list when it is completed, and itself
 finished_few : (x : Open) (done : List (Option Node)) → suc (length (spots_in at_root (forest done))) ≤ node_count (Some (finished x done))
@@ -65,12 +66,18 @@ kept_few : (e : Element) (old : Option Node) (a : Awaits) (done : List (Option N
     → suc (suc (length (spots_in at_root (forest done)))) ≤ node_count (Some (finished (falling e old a) done))
 kept_few e old a done some = omega (arith, node_parts e (of_boundary (Hidden a)) (children_if old) (forest done), some_there (children_if old) some)
 
+-- a list of made fibers is one with those before it too
+pub whole_made : (k : Around Fiber) (d : Draft Fiber) → IsMadeList d → IsMadeList (whole_list k d)
+whole_made top d m = m
+whole_made (below id v o rs k) d m = m
+whole_made (after id v o ks k) d m = whole_made k (made id v o ks d) m
+
 -- a list that is done stands for the node of its fiber, once that one is completed
-pub node_finished : (c : Shape Fiber) (v : Fiber) (o : Option ℕ) (cs : Contexts) (x : Open) (q : ℕ) (done : List (Option Node)) (ks rest : Shape Fiber)
-    → IsOpenAs c v o cs x → AreFor 0 (forest done) ks → IsFor v.place (finished x done) (fiber q (completed v) ks rest) rest
-node_finished c v o cs x q done ks rest (opens e m shown) a = whole (record { at = refl; element = e; stage = ap completed_stage m }) shown a
-node_finished c v o cs x q done ks rest (tries e s b old) a = whole (record { at = refl; element = e; stage = ap completed_stage s }) refl a
-node_finished c v o cs x q done ks rest (falls e m empty) a = alone (record { at = refl; element = e; stage = ap completed_stage m }) refl empty a
+pub node_finished : (under : Subtree) (c : Shape Fiber) (v : Fiber) (o : Option ℕ) (cs : Contexts) (x : Open) (q : ℕ) (done : List (Option Node)) (ks rest : Shape Fiber)
+    → IsOpenAs c v o cs x → AreFor 0 (forest done) ks → IsFor v.place (finished x done) (fiber q (completed under v) ks rest) rest
+node_finished under c v o cs x q done ks rest (opens e m shown) a = whole (record { at = refl; element = e; stage = ap completed_stage m }) shown a
+node_finished under c v o cs x q done ks rest (tries e s b old) a = whole (record { at = refl; element = e; stage = ap completed_stage s }) refl a
+node_finished under c v o cs x q done ks rest (falls e m empty) a = alone (record { at = refl; element = e; stage = ap completed_stage m }) refl empty a
 
 pub opens_element : (c : Shape Fiber) (v : Fiber) (o : Option ℕ) (cs : Contexts) (x : Open) → IsOpenAs c v o cs x → v.element ≡ open_element x
 opens_element c v o cs x (opens e m shown) = e
@@ -91,12 +98,13 @@ pub record Completes (t : Trees Fiber) (q : ℕ) (fs : List Frame) (x : Open) (d
   pub surrounds : IsAround t.current first place rest fs
   pub parent : up_of around ≡ up_of first
   pub element : value.element ≡ open_element x
-  pub arrives : (new : Trees Fiber) (st : Stack) (levels : ℕ) → new.current ≡ t.current → new.draft ≡ placed around (made q (completed value) old kids rest)
+  pub all_made : IsMadeList kids
+  pub arrives : (under : Subtree) (new : Trees Fiber) (st : Stack) (levels : ℕ) → new.current ≡ t.current → new.draft ≡ placed around (made q (completed under value) old kids rest)
       → IsStack st (opened fs) → StandsAt new st (next_at around rest) (arrive levels fs (Some (finished x done)))
 
 pub completing : (t : Trees Fiber) (st : Stack) (q levels : ℕ) (fs : List Frame) (x : Open) (done : List (Option Node))
     → StandsAt t st (Some q) (at_end levels fs x done) → Completes t q fs x done
-completing t st q levels fs x done (completes {n = n} {k = k} here before (of_node {k₁ = k₁} {v = v} {o = o} {rest = rest} {cs = cs} above is around) stack) =
+completing t st q levels fs x done (completes {n = n} {k = k} here before (of_node {k₁ = k₁} {v = v} {o = o} {rest = rest} {cs = cs} above is own around) stack) =
     let ks : Draft Fiber = whole_list k (taken shapes.none) in
     record {
       around = k₁;
@@ -110,14 +118,15 @@ completing t st q levels fs x done (completes {n = n} {k = k} here before (of_no
       rest = rest;
       here = here ∙ (placed_list k (taken shapes.none) ∙ ap (λ a. placed a ks) above);
       element = opens_element t.current v o cs x is;
-      arrives = λ new st levels same there stack.
-          arrives new st k₁ (after q (completed v) o ks k₁) v.place levels rest fs (finished x done) there refl
-          (λ earlier are. one_done k₁ v.place earlier (finished x done) q (completed v) o ks are
-          (λ more. node_finished t.current v o cs x q done (grafted ks) more is (list_done k n done before))
-          (omega (arith, list_few k n done before, finished_few x done)))
+      all_made = whole_made k (taken shapes.none) refl;
+      arrives = λ under new st levels same there stack.
+          arrives new st k₁ (after q (completed under v) o ks k₁) v.place levels rest fs (finished x done) there refl
+          (λ earlier are. one_done new.current k₁ v.place earlier (finished x done) q (completed under v) o ks are (subst (λ c. IsOfNode c o) (sym same) own)
+          (λ more. node_finished under t.current v o cs x q done (grafted ks) more is (list_done t.current k n done before))
+          (omega (arith, list_few t.current k n done before, finished_few x done)))
           (subst (λ c. IsAround c k₁ v.place rest fs) (sym same) around) stack;
     }
-completing t st q levels fs x done (completes {n = n} {k = k} here before (of_fallback {k₁ = k₁} {b = b} {v = v} {w = w} {o = o} {p = p} {kept = kept} {rest = rest} {e = e} {old = old} {a = a} above is around) stack) =
+completing t st q levels fs x done (completes {n = n} {k = k} here before (of_fallback {k₁ = k₁} {b = b} {v = v} {w = w} {o = o} {p = p} {kept = kept} {rest = rest} {e = e} {old = old} {a = a} above is own behind around) stack) =
     let ks : Draft Fiber = whole_list k (taken shapes.none) in
     record {
       around = after b v o (taken kept) k₁;
@@ -131,10 +140,11 @@ completing t st q levels fs x done (completes {n = n} {k = k} here before (of_fa
       rest = rest;
       here = here ∙ (placed_list k (taken shapes.none) ∙ ap (λ a. placed a ks) above);
       element = is.element;
-      arrives = λ new st levels same there stack.
-          arrives new st k₁ (after q (completed w) p ks (after b v o (taken kept) k₁)) v.place levels rest fs (finished x done) there refl
-          (λ earlier are. two_done k₁ v.place earlier (finished x done) b q v (completed w) o p (taken kept) ks are
-          (λ more. beside is.of refl is.keeps is.are (ap completed_stage is.stage) (list_done k n done before))
-          (omega (arith, list_few k n done before, kept_few e old a done is.keeps)))
+      all_made = whole_made k (taken shapes.none) refl;
+      arrives = λ under new st levels same there stack.
+          arrives new st k₁ (after q (completed under w) p ks (after b v o (taken kept) k₁)) v.place levels rest fs (finished x done) there refl
+          (λ earlier are. two_done new.current k₁ v.place earlier (finished x done) b q v (completed under w) o p (taken kept) ks are (subst (λ c. IsOfNode c o) (sym same) own) (subst (λ c. IsOldBehind c o p) (sym same) behind)
+          (λ more. beside is.of refl is.keeps is.are (ap completed_stage is.stage) (list_done t.current k n done before))
+          (omega (arith, list_few t.current k n done before, kept_few e old a done is.keeps)))
           (subst (λ c. IsAround c k₁ v.place rest fs) (sym same) around) stack;
     }

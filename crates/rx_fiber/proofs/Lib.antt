@@ -9,6 +9,7 @@ pub mod OldLists
 pub mod Matching
 pub mod Unwinding
 pub mod OldReads
+pub mod Gathered
 pub mod OldPlaces
 pub mod OldTops
 pub mod Stood

@@ -166,6 +166,12 @@ module _ (c : Shape Fiber) (linked : IsLinked c) where
       node_kept n _ _ rest (beside {id = id} {jd = jd} {v = v} {w = w} {ns = ns} {ks = ks} {ws = ws} is hidden some a s b) more l f =
           let q : id ≡ j = cc in subst (λ i. AreFor 0 ns (kids_of c i)) q (subst (λ k. AreFor 0 ns k) (sym (kids_are c id v ks (fiber jd w ws rest) linked l)) a)
 
+-- the current fiber of a node is not that of a fallback
+pub old_of_node : (c : Shape Fiber) (o : Option ℕ) (old : Option Node) → IsOld c o old → begins_fallback (list_from c o) ≡ false
+old_of_node c _ _ new = refl
+old_of_node c _ _ (of {j = j} {n = n} {x = x} {ns = ns} {s = s} here leads a) =
+    ap (λ l. begins_fallback (shape_or_none l)) here ∙ no_fallback n s (list_begins n (trees.child x ns) s a)
+
 -- a list of places has a node where its list of fibers is not empty
 pub has_node_is : (n : ℕ) (ns : Forest) (s : Shape Fiber) → AreFor n ns s → has_node ns ≡ is_some (first s)
 has_node_is n _ _ no_more = refl

@@ -145,7 +145,7 @@ list_outside : (t : Trees Fiber) (st : Stack) (p : ℕ) (done : List (Option Nod
     (fs : List Frame) (i : Around Fiber) (u : Fiber) (r : Option ℕ) (us ls : Draft Fiber) (j : Around Fiber) (q : ℕ)
     → t.draft ≡ placed i (made p u r us ls) → above_list i ≡ above_list j → IsListOf t.current j q x cs fs → IsStack st ((x, cs) ∷ opened fs)
     → Outside t st p (record { node = x; contexts = cs; done = done; rest = left }) fs
-list_outside t st p done left x cs fs i u r us ls j q starts same (of_node {k₁ = k₁} {v = v} {o = o} {rest = rest} above is surrounds) stack =
+list_outside t st p done left x cs fs i u r us ls j q starts same (of_node {k₁ = k₁} {v = v} {o = o} {rest = rest} above is own surrounds) stack =
     let ks : Draft Fiber = whole_list i (made p u r us ls) in
     let up : above_list i ≡ below q v o rest k₁ = same ∙ above in
     let at : t.draft ≡ placed k₁ (made q v o ks rest) = starts ∙ (placed_list i (made p u r us ls) ∙ ap (λ k. placed k ks) up) in
@@ -184,7 +184,7 @@ list_outside t st p done left x cs fs i u r us ls j q starts same (of_node {k₁
       left = λ in_it new ls levels a same there. left_open t st k₁ q v o rest cs x fs is surrounds stack in_it new ls levels a same there;
     }
 list_outside t st p done left _ cs fs i u r us ls j q starts same
-    (of_fallback {k₁ = k₁} {b = b} {v = v} {w = w} {o = o} {p = s} {kept = keeps} {rest = rest} {e = e} {old = old} {a = a} above is surrounds) stack =
+    (of_fallback {k₁ = k₁} {b = b} {v = v} {w = w} {o = o} {p = s} {kept = keeps} {rest = rest} {e = e} {old = old} {a = a} above is own behind surrounds) stack =
     falling_outside t st p done left cs e old a fs i u r us ls k₁ q b v w o s keeps rest starts (same ∙ above) is surrounds
 
 -- The fiber outside of one is open, and the wait goes past it or stops there.

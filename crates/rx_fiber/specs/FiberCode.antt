@@ -8,6 +8,7 @@ use Rattle.rx_elem.specs.ElementCode.{element_code}
 use Rattle.rx_elem.specs.Trees.{Mark}
 use Rattle.rx_node.specs.NodeCode.{mark_code}
 use Rattle.rx_fiber.specs.Fibers.{Stage, waiting, begun, trying, fallback, Fiber}
+use Rattle.rx_fiber.specs.declared.subtree.Subtree.{Subtree}
 
 abbrev numbers : Coded (List ℕ)
 numbers = coded_list coded_ℕ
@@ -36,8 +37,13 @@ stage_back (fallback a) = refl
 abbrev stage_code : Coded Stage
 stage_code = code_by StageParts (coded⊎ (coded⊎ (coded× coded_bool coded_bool) mark_code) (coded_option numbers)) of_stage to_stage stage_back
 
+abbrev subtree_code : Coded Subtree
+subtree_code =
+    code_by (Bool × (Bool × Bool)) (coded× coded_bool (coded× coded_bool coded_bool))
+    (λ s. (s.reads, (s.hides, s.instances))) (λ p. record { reads = p.0; hides = p.1.0; instances = p.1.1 }) (λ _. refl)
+
 -- a fiber as it is stored, from which it can be read back
 abbrev pub fiber_code : Coded Fiber
 fiber_code =
-    code_by (ℕ × (Element × Stage)) (coded× coded_ℕ (coded× element_code stage_code))
-    (λ v. (v.place, (v.element, v.stage))) (λ p. record { place = p.0; element = p.1.0; stage = p.1.1 }) (λ _. refl)
+    code_by (ℕ × (Element × (Stage × Subtree))) (coded× coded_ℕ (coded× element_code (coded× stage_code subtree_code)))
+    (λ v. (v.place, (v.element, (v.stage, v.subtree)))) (λ p. record { place = p.0; element = p.1.0; stage = p.1.1.0; subtree = p.1.1.1 }) (λ _. refl)

@@ -1,6 +1,6 @@
 -- A fiber of the code as plain data.
 use Rattle.rx_fiber.specs.Fibers as fibers
-use Rattle.rx_fiber.specs.Fibers.{completed_stage, numbered_stage}
+use Rattle.rx_fiber.specs.Fibers.{completed, numbered_stage, joined, own_subtree}
 use Rattle.rx_elem.specs.Trees.{of_boundary}
 use Rattle.rx_node.specs.MarkView.{mark_seen}
 use Rattle.rx_fiber.specs.declared.stage.Stage.{Stage}
@@ -16,13 +16,10 @@ stage_seen (stage.Begun m) = fibers.begun (mark_seen m)
 stage_seen stage.Trying = fibers.trying
 stage_seen (stage.Fallback a) = fibers.fallback a
 
--- a stage after a change
-abbrev pub changed_stage : StageChange → fibers.Stage → fibers.Stage
-changed_stage change.Complete s = completed_stage s
-changed_stage change.Try s = fibers.trying
-changed_stage (change.Hide a) s = fibers.begun (of_boundary (boundary.Hidden a))
-changed_stage (change.Number n) s = numbered_stage n s
-
--- a fiber whose stage is changed
+-- a fiber after a change
 abbrev pub changed : StageChange → fibers.Fiber → fibers.Fiber
-changed by v = record v { stage = changed_stage by v.stage }
+changed (change.Complete below) v = completed below v
+changed change.Try v = record v { stage = fibers.trying }
+changed (change.Hide a below) v =
+    record v { stage = fibers.begun (of_boundary (boundary.Hidden a)); subtree = joined (own_subtree (fibers.begun (of_boundary (boundary.Hidden a)))) below }
+changed (change.Number n) v = record v { stage = numbered_stage n v.stage }

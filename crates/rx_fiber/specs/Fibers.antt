@@ -1,10 +1,12 @@
 -- What a fiber holds beside its links.
-use Rattle.std.specs.Prelude.{ℕ, Bool, true, false, Some}
+use Rattle.std.specs.Prelude.{◌==◌, ◌||◌, ℕ, Bool, true, false, not, Some, is_some, length}
+use Rattle.std.specs.Option.{option_map_or}
 use Rattle.rx_susp.specs.declared.boundary.BoundaryState.TheVariants.{Shown}
 use Rattle.rx_base.specs.Awaits.{Awaits}
 use Rattle.rx_elem.specs.Elements.{Element}
-use Rattle.rx_elem.specs.Trees.{Mark, of_instance, of_host, of_boundary, plain}
+use Rattle.rx_elem.specs.Trees.{Mark, of_instance, of_host, of_boundary, plain, instance_in, is_hidden}
 use Rattle.rx_fiber.specs.declared.stage.Origin.{Origin}
+use Rattle.rx_fiber.specs.declared.subtree.Subtree.{Subtree}
 
 -- how far a fiber has come
 pub data Stage : Type 0 where
@@ -39,11 +41,32 @@ is_stood (begun m) = false
 is_stood trying = false
 is_stood (fallback a) = false
 
--- a fiber: its place among the children of its parent, its element, and how far it has come
+-- a fiber: its place among the children of its parent, its element, how far it has come, and once it is done what is at or below it
 pub record Fiber : Type 0 where
   pub place : ℕ
   pub element : Element
   pub stage : Stage
+  pub subtree : Subtree
+
+-- neither a read of a context, nor a hidden boundary, nor an instance
+abbrev pub nothing : Subtree
+nothing = record { reads = false; hides = false; instances = false }
+
+-- what one of two tells, or the other
+abbrev pub joined : Subtree → Subtree → Subtree
+joined a b = record { reads = a.reads || b.reads; hides = a.hides || b.hides; instances = a.instances || b.instances }
+
+-- what a node tells of itself, by its mark: an instance, whether it reads a context; a boundary, whether it is hidden
+abbrev pub marked_subtree : Mark → Subtree
+marked_subtree m =
+    record { reads = option_map_or (λ i. not (length i.reads == 0)) (instance_in m) false; hides = is_hidden m; instances = is_some (instance_in m) }
+
+-- what a fiber tells of itself
+abbrev pub own_subtree : Stage → Subtree
+own_subtree (waiting c) = nothing
+own_subtree (begun m) = marked_subtree m
+own_subtree trying = nothing
+own_subtree (fallback a) = nothing
 
 -- a node is completed: a boundary whose children were tried is shown, and nothing else changes
 abbrev pub completed_stage : Stage → Stage
@@ -52,9 +75,9 @@ completed_stage (begun m) = begun m
 completed_stage trying = begun (of_boundary Shown)
 completed_stage (fallback a) = fallback a
 
--- the fiber of a node that is completed
-abbrev pub completed : Fiber → Fiber
-completed v = record v { stage = completed_stage v.stage }
+-- the fiber of a node that is completed, with this at or below its children
+abbrev pub completed : Subtree → Fiber → Fiber
+completed below v = record v { stage = completed_stage v.stage; subtree = joined (own_subtree (completed_stage v.stage)) below }
 
 -- the mark of an instance or a host with this number
 abbrev pub with_number : ℕ → Mark → Mark

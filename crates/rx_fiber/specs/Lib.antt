@@ -5,6 +5,7 @@ pub mod Reading
 pub mod OldLists
 pub mod Stood
 pub mod Surround
+pub mod Subtrees
 pub mod Standing
 pub mod Unwound
 pub mod Passed

@@ -8,7 +8,7 @@ use Rattle.rx_links.specs.Places.{Around, placed}
 use Rattle.rx_meaning.specs.Cursor.{Frame}
 use Rattle.rx_fiber.specs.Fibers.{Fiber}
 use Rattle.rx_fiber.specs.Reading.{IsFor}
-use Rattle.rx_fiber.specs.Surround.{IsAround}
+use Rattle.rx_fiber.specs.Surround.{IsAround, IsOfNode}
 use Rattle.rx_fiber.specs.Standing.{IsStack, opened}
 
 -- The made fiber has taken over children of the current tree, and stands with them for this node, which is done; these nodes are open around it.
@@ -20,5 +20,6 @@ pub record IsPassed (t : Trees Fiber) (st : Stack) (q : ℕ) (fs : List Frame) (
   pub rest : Draft Fiber
   pub here : t.draft ≡ placed around (made q value old (taken kids) rest)
   pub is_for : (tail : Shape Fiber) → IsFor value.place x (fiber q value kids tail) tail
+  pub of_node : IsOfNode t.current old
   pub surrounds : IsAround t.current around value.place rest fs
   pub stack : IsStack st (opened fs)

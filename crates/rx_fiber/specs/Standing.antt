@@ -33,6 +33,6 @@ pub data StandsAt (t : Trees Fiber) (st : Stack) : (at : Option ℕ) → Cursor 
       → t.draft ≡ placed k (made p v o (taken shapes.none) rs) → IsWaiting t.current (given_along fs) o v n e → IsOld t.current o old → IsAround t.current k n rs fs
       → values_at st ≡ cs → IsStack st (opened fs) → StandsAt t st (Some p) (at_place levels fs cs e old)
   completes : {levels n q : ℕ} {k : Around Fiber} {fs : List Frame} {cs : Contexts} {x : Open} {done : List (Option Node)}
-      → t.draft ≡ placed k (taken shapes.none) → AreDone k n done → IsListOf t.current k q x cs fs
+      → t.draft ≡ placed k (taken shapes.none) → AreDone t.current k n done → IsListOf t.current k q x cs fs
       → IsStack st ((x, cs) ∷ opened fs) → StandsAt t st (Some q) (at_end levels fs x done)
   over : {x : Node} → IsTreeOf (Some x) (grafted t.draft) → made_size t.draft ≤ node_count (Some x) → st.given ≡ [] → StandsAt t st None (ended (fresh.made x))

@@ -10,12 +10,13 @@ use Rattle.rx_lists.specs.Shapes.{Shape, fiber}
 use Rattle.rx_lists.specs.Shapes as shapes
 use Rattle.rx_links.specs.Drafts.{Draft, taken, made, made_size, grafted}
 use Rattle.rx_links.specs.Places.{Around, top, below, after}
-use Rattle.rx_links.specs.Readers.{value_of}
+use Rattle.rx_links.specs.Readers.{value_of, list_from}
 use Rattle.rx_meaning.specs.Fresh.{Contexts, part}
 use Rattle.rx_meaning.specs.Cursor.{Open, around, trying, falling, Frame, is_null}
 use Rattle.rx_fiber.specs.Fibers.{Fiber, waiting, begun}
 use Rattle.rx_fiber.specs.Fibers as stage
 use Rattle.rx_fiber.specs.declared.stage.Origin.{Origin}
+use Rattle.rx_fiber.specs.OldLists.{begins_fallback}
 use Rattle.rx_fiber.specs.Reading.{has_node, IsOf, AreFor, IsOld}
 use Rattle.rx_fiber.specs.Stood.{given_in, given_more, StoodAt}
 
@@ -64,10 +65,36 @@ made_earlier top = 0
 made_earlier (below id v o rs k) = 0
 made_earlier (after id v o ks k) = suc (made_size ks) + made_earlier k
 
--- The earlier siblings of a place stand for what is done: whatever follows from the place on, the list stands for both. No more fibers are made for them than they have nodes.
-pub record AreDone (k : Around Fiber) (place : ℕ) (done : List (Option Node)) : Type 0 where
+-- the current fiber for which the nearest earlier sibling of a place was made, if there is one
+abbrev pub old_before : Around Fiber → Option ℕ
+old_before top = None
+old_before (below id v o rs k) = None
+old_before (after id v o ks k) = o
+
+-- the fiber right behind the first of a list
+abbrev pub second : Shape Fiber → Option ℕ
+second shapes.none = None
+second (shapes.fiber id v ks rs) = shapes.first rs
+
+-- a current fiber, if it is there, is not that of a fallback
+abbrev pub IsOfNode : Shape Fiber → Option ℕ → Type 0
+IsOfNode current o = begins_fallback (list_from current o) ≡ false
+
+-- a current fiber, if it is that of a fallback, stands right behind this one
+abbrev pub IsOldBehind : Shape Fiber → (before o : Option ℕ) → Type 0
+IsOldBehind current before o = begins_fallback (list_from current o) ≡ true → second (list_from current before) ≡ o
+
+-- an earlier sibling of a place that was made for the current fiber of a fallback stands right behind the fiber made for that of its boundary
+abbrev pub AreOldBehind : Shape Fiber → Around Fiber → Type 0
+AreOldBehind current top = Unit {0}
+AreOldBehind current (below id v o rs k) = Unit {0}
+AreOldBehind current (after id v o ks k) = IsOldBehind current (old_before k) o × AreOldBehind current k
+
+-- The earlier siblings of a place stand for what is done: whatever follows from the place on, the list stands for both. No more fibers are made for them than they have nodes, and one is made for an old fallback only where the one before it is for the boundary.
+pub record AreDone (current : Shape Fiber) (k : Around Fiber) (place : ℕ) (done : List (Option Node)) : Type 0 where
   pub are : (xs : List (Option Node)) (s : Shape Fiber) → AreFor place (forest xs) s → AreFor 0 (forest (done ++ xs)) (behind_earlier k s)
   pub few : made_earlier k ≤ length (spots.spots_in spots.at_root (forest done))
+  pub olds : AreOldBehind current k
 
 -- the element of an open node
 abbrev pub open_element : Open → Element
@@ -126,13 +153,13 @@ mutual
   pub data IsAround (current : Shape Fiber) : Around Fiber → (place : ℕ) → (rs : Draft Fiber) → List Frame → Type 0 where
     at_root : IsAround current top 0 (taken shapes.none) []
     inside : {k : Around Fiber} {n q : ℕ} {rs : Draft Fiber} {f : Frame} {fs : List Frame}
-        → AreDone k n f.done → AreNext current (given_along (f ∷ fs)) (suc n) f.rest rs → IsListOf current k q f.node f.contexts fs → IsAround current k n rs (f ∷ fs)
+        → AreDone current k n f.done → AreNext current (given_along (f ∷ fs)) (suc n) f.rest rs → IsListOf current k q f.node f.contexts fs → IsAround current k n rs (f ∷ fs)
 
   -- the list that is surrounded so is that of an open node, in these contexts, and is among the children of q
   pub data IsListOf (current : Shape Fiber) : Around Fiber → (q : ℕ) → Open → Contexts → List Frame → Type 0 where
     of_node : {k k₁ : Around Fiber} {q : ℕ} {v : Fiber} {o : Option ℕ} {rest : Draft Fiber} {x : Open} {cs : Contexts} {fs : List Frame}
-        → above_list k ≡ below q v o rest k₁ → IsOpenAs current v o cs x → IsAround current k₁ v.place rest fs → IsListOf current k q x cs fs
+        → above_list k ≡ below q v o rest k₁ → IsOpenAs current v o cs x → IsOfNode current o → IsAround current k₁ v.place rest fs → IsListOf current k q x cs fs
     of_fallback : {k k₁ : Around Fiber} {q b : ℕ} {v w : Fiber} {o p : Option ℕ} {kept : Shape Fiber} {rest : Draft Fiber} {cs : Contexts} {fs : List Frame}
         {e : Element} {old : Option Node} {a : Awaits}
-        → above_list k ≡ below q w p rest (after b v o (taken kept) k₁) → IsKeptAs v w kept e old a → IsAround current k₁ v.place rest fs
+        → above_list k ≡ below q w p rest (after b v o (taken kept) k₁) → IsKeptAs v w kept e old a → IsOfNode current o → IsOldBehind current o p → IsAround current k₁ v.place rest fs
         → IsListOf current k q (falling e old a) cs fs

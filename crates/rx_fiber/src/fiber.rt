@@ -1,22 +1,24 @@
 // A fiber's value.
 ghost use Rattle.std.specs.Prelude.{◌≡◌};
 ghost use Rattle.rx_fiber.specs.Fibers as fibers;
-ghost use Rattle.rx_fiber.specs.Fibers.{is_cloned, is_stood};
+ghost use Rattle.rx_fiber.specs.Fibers.{is_cloned, is_stood, nothing};
 ghost use Rattle.rx_fiber.specs.FiberView.{stage_seen, changed};
 
 use crate::stage::{Stage, StageChange};
+use crate::subtree::{Subtree, own_subtree};
 use rx_elem::Element;
 use rx_node::Mark;
 use rx_susp::BoundaryState;
 use std::marker::Model;
 
 /// What a fiber holds beside its links: its place among the children of its parent, counted from 0 with the places that are
-/// `null`; the element that stands there; and how far it has come.
+/// `null`; the element that stands there; how far it has come; and once it is done what is at or below it.
 #[derive(Drop)]
 pub struct Fiber {
     place: u32,
     element: Element,
     stage: Stage,
+    subtree: Subtree,
 }
 
 impl Model for Fiber {
@@ -29,18 +31,31 @@ impl Model for Fiber {
 
     ghost use Rattle.rx_fiber.specs.FiberView.{stage_seen};
 
-    ghost view = { λ v. record { place = v.place; element = v.element; stage = stage_seen v.stage } };
+    ghost view = { λ v. record { place = v.place; element = v.element; stage = stage_seen v.stage; subtree = v.subtree } };
 }
 
 impl Fiber {
     /// A fiber of this place.
     pub fn new(place: u32, element: Element, stage: Stage) -> Fiber
-        ensures { result ≡ record { place = place; element = element; stage = stage_seen stage } }
+        ensures { result ≡ record { place = place; element = element; stage = stage_seen stage; subtree = nothing } }
     {
         Fiber {
             place,
             element,
             stage,
+            subtree: Subtree::nothing(),
+        }
+    }
+
+    /// The same fiber, with this at or below it.
+    pub fn with_subtree(self, subtree: Subtree) -> Fiber
+        ensures { result ≡ record self { subtree = subtree } }
+    {
+        Fiber {
+            place: self.place,
+            element: self.element,
+            stage: self.stage,
+            subtree,
         }
     }
 
@@ -63,6 +78,13 @@ impl Fiber {
         ensures { stage_seen result.now ≡ self.now.stage }
     {
         &self.stage
+    }
+
+    /// What is at or below it, once it is done.
+    pub fn subtree(&self) -> Subtree
+        ensures { result ≡ self.now.subtree }
+    {
+        self.subtree
     }
 
     /// Whether it waits with the element of the current fiber for which it was made.
@@ -91,14 +113,16 @@ impl Fiber {
         ensures { self.new ≡ changed by self.old }
     {
         match by {
-            StageChange::Complete => {
+            StageChange::Complete(below) => {
                 if let Stage::Trying = self.stage {
                     self.stage = Stage::Begun(Mark::Boundary(BoundaryState::Shown));
                 }
+                self.subtree = own_subtree(&self.stage).join(below);
             }
             StageChange::Try => self.stage = Stage::Trying,
-            StageChange::Hide(awaits) => {
+            StageChange::Hide(awaits, below) => {
                 self.stage = Stage::Begun(Mark::Boundary(BoundaryState::Hidden(awaits)));
+                self.subtree = own_subtree(&self.stage).join(below);
             }
             StageChange::Number(number) => self.stage.give_number(number),
         }

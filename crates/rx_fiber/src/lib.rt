@@ -4,9 +4,13 @@
 mod fiber;
 mod old;
 mod stage;
+mod subtree;
 #[cfg(test)]
 mod tests;
 
 pub use fiber::Fiber;
-pub use old::{OldChildren, hides, is_fallback, old_children, old_fallback, old_primary};
+pub use old::{
+    OldChildren, hides, is_fallback, kids_subtree, old_children, old_fallback, old_primary,
+};
 pub use stage::{Origin, Stage, StageChange};
+pub use subtree::Subtree;

@@ -2,12 +2,15 @@
 ghost use Rattle.std.specs.Prelude.{◌≡◌, ◌-◌, ◌++◌, length, Option, None, Some, IfSome, IfOk, OnOk};
 ghost use Rattle.rx_elem.specs.Elements as elements;
 ghost use Rattle.rx_lists.specs.Shapes.{Holds};
+ghost use Rattle.rx_links.specs.Drafts.{kids_under};
 ghost use Rattle.rx_links.specs.Readers.{list_from};
 ghost use Rattle.rx_fiber.specs.FiberView.{stage_seen};
 ghost use Rattle.rx_fiber.specs.OldLists.{is_fallback, hides_in, begins_fallback, primary_list, fallback_list, filled, told, old_elements, old_fibers};
+ghost use Rattle.rx_fiber.specs.Subtrees.{subtrees_of};
 
 use crate::fiber::Fiber;
 use crate::stage::Stage;
+use crate::subtree::Subtree;
 use rx_elem::{Element, ElementKind};
 use rx_links::{FiberId, FiberTree};
 use rx_node::Mark;
@@ -143,4 +146,31 @@ pub fn old_children(
         next = tree.next_sibling(id);
     }
     Ok(children)
+}
+
+// What is kept on the fibers of a current list, taken together.
+fn list_subtree(tree: &FiberTree<Fiber>, first: Option<FiberId>) -> Subtree
+    requires { IfSome first (Holds tree.now.current) }
+    ensures { result ≡ subtrees_of (list_from tree.now.current first) }
+{
+    tree.facts();
+    let mut below = Subtree::nothing();
+    let mut next = first;
+    'gathering: while let Some(id) = next {
+        below = below.join(tree.value(id).subtree());
+        next = tree.next_sibling(id);
+    }
+    below
+}
+
+/// What is kept on the children of a current fiber, taken together; nothing where there is no fiber.
+pub fn kids_subtree(tree: &FiberTree<Fiber>, old: Option<FiberId>) -> Subtree
+    requires { IfSome old (Holds tree.now.current) }
+    ensures { result ≡ subtrees_of (kids_under tree.now.current old) }
+{
+    tree.facts();
+    match old {
+        Some(id) => list_subtree(tree, tree.first_child(id)),
+        None => Subtree::nothing(),
+    }
 }

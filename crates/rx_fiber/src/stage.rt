@@ -3,6 +3,7 @@ ghost use Rattle.std.specs.Prelude.{◌≡◌};
 ghost use Rattle.rx_fiber.specs.Fibers.{numbered_stage};
 ghost use Rattle.rx_fiber.specs.FiberView.{stage_seen};
 
+use crate::subtree::Subtree;
 use rx_base::Awaits;
 use rx_node::Mark;
 
@@ -31,12 +32,12 @@ pub enum Stage {
 /// A change of the stage in place, which takes no memory.
 #[derive(Clone, Copy)]
 pub enum StageChange {
-    /// Its list is done: a boundary whose children were tried is shown, and nothing else changes.
-    Complete,
+    /// Its list is done: a boundary whose children were tried is shown. This is at or below its children.
+    Complete(Subtree),
     /// A boundary begins to try its children.
     Try,
-    /// A boundary hides its children, which wait for these resources.
-    Hide(Awaits),
+    /// A boundary hides its children, which wait for these resources. This is at or below what it keeps.
+    Hide(Awaits, Subtree),
     /// An instance or a host gets this number, by which later commits know it.
     Number(u64),
 }

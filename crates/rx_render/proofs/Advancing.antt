@@ -1,5 +1,5 @@
 -- Where a unit of each kind comes to.
-use Rattle.std.specs.Prelude.{◌≡◌, ℕ, zero, suc, ◌+◌, ◌≤◌, Bool, true, false, List, [], ◌∷◌, filter, nat_eq, Option, Some, None, Result, Ok, Err, IfOk, OnOk, OnErr, refl}
+use Rattle.std.specs.Prelude.{◌≡◌, ℕ, zero, suc, ◌+◌, ◌≤◌, Bool, true, false, ◌&&◌, List, [], ◌∷◌, filter, nat_eq, Option, Some, None, Result, Ok, Err, IfOk, OnOk, OnErr, refl}
 use Rattle.std.specs.List.{range_with_len}
 use Rattle.std.proofs.Common.{sym, ap, ◌∙◌, subst, arith, add-one}
 use Rattle.rx_base.specs.Awaits.{Awaits, one, nothing, awaits_where}
@@ -11,12 +11,14 @@ use Rattle.rx_elem.specs.Trees.{Node, node, Forest, of_boundary, fallback_if, In
 use Rattle.rx_elem.specs.Trees as trees
 use Rattle.rx_hooks.specs.declared.hook.Hook.{Hook}
 use Rattle.rx_lists.specs.Shapes as shapes
-use Rattle.rx_links.specs.Drafts.{Trees, Makes, taken, old_of}
-use Rattle.rx_links.specs.Readers.{IsLinked}
+use Rattle.rx_elem.proofs.Equality.{same_element-self}
+use Rattle.rx_links.specs.Drafts.{Fits, Trees, Makes, taken, old_of}
+use Rattle.rx_links.specs.Readers.{IsLinked, made_value_in, made_value_of}
+use Rattle.rx_links.proofs.Placed.{is-at}
 use Rattle.rx_meaning.specs.Fresh.{Sight, Contexts, part, shape_of, waiting}
 use Rattle.rx_meaning.specs.Cursor.{Open, falling, Frame, Cursor, at_place, at_end, ended, open_part, arrive, unit, unwind}
 use Rattle.rx_meaning.specs.Counts.{each_body, next_counts}
-use Rattle.rx_fiber.specs.Fibers.{Fiber}
+use Rattle.rx_fiber.specs.Fibers.{Fiber, is_stood}
 use Rattle.rx_fiber.specs.Passed.{IsPassed}
 use Rattle.rx_fiber.specs.Reading.{IsOld}
 use Rattle.rx_fiber.specs.Standing.{StandsAt}
@@ -42,11 +44,12 @@ use Rattle.rx_meaning.specs.Settled.{IfSettled, known_by}
 use Rattle.rx_ways.specs.Ways.{CoversIf}
 use Rattle.rx_causes.specs.Idle.{Rests}
 use Rattle.rx_causes.specs.Marks.{EachBut}
-use Rattle.cost_laws.specs.Allowed.{below_boundary}
+use Rattle.cost_laws.specs.Allowed.{Flag, in_fallback}
 use Rattle.cost_laws.specs.Causes.{waits_still}
 use Rattle.cost_laws.specs.Costs.{FramesFlagged}
 use Rattle.cost_laws.specs.Left.{Flags, flag, outer}
 use Rattle.cost_laws.specs.Required.{IsUndue}
+use Rattle.cost_laws.specs.Untouched.{is_element_of, is_untouched}
 use Rattle.flag_laws.specs.Flagged.{FlagsAtEnd, FlagsAtPlace}
 use Rattle.begin_laws.specs.Telling.{TellsIf}
 use Rattle.rx_render.specs.Costing.{CausesAt, HasFlags, Paid, UnitPays}
@@ -128,6 +131,21 @@ waits_there s kept t id old e a ns fs was old_is tells unresolved none =
     let there : TellsIf s kept (Some (node e (of_boundary (Hidden a)) ns fs)) = subst (TellsIf s kept) was tells in
     ap (waits_still s) was ∙ there.waits a refl unresolved (none (node e (of_boundary (Hidden a)) ns fs) (subst (IsOld t.current (old_of t.draft id)) was old_is))
 
+-- where its fiber tells that it stands as it did, and it has its element, it is untouched
+all_three : (a b c : Bool) → a ≡ true → b ≡ true → c ≡ true → (a && (b && c)) ≡ true
+all_three a b c f g h = rw (f, g, h) refl
+
+untouched_there : (s : Sight) (stood : Bool) (e : Element) (old : Option Node) (a : Awaits) (ns fs : Forest) → old ≡ Some (node e (of_boundary (Hidden a)) ns fs) → stood ≡ true → waits_still s old ≡ true
+    → is_untouched s stood e old ≡ true
+untouched_there s stood e old a ns fs was so still =
+    all_three stood (is_element_of e old) (waits_still s old) so (ap (is_element_of e) was ∙ same_element-self e) still
+
+-- what its fiber tells is told of its list
+told_there : (t : Trees Fiber) (id : ℕ) (us : Flags) → Fits t → FlagsAtPlace t id us → ((v : Fiber) → Some v ≡ made_value_of t.draft id → is_stood v.stage ≡ true) → (flag us).stood ≡ true
+told_there t id us fits h told =
+    let at = is-at t fits h.flags.around id h.flags.value h.flags.old (taken shapes.none) h.flags.rest h.flags.here in
+    sym h.stood ∙ told h.flags.value (sym (ap made_value_in at.list))
+
 -- a unit that begins the place of a fiber evaluates at most so many bodies
 abbrev pub AreFew : Sight → Trees Fiber → Stack → (id bodies : ℕ) → Type 0
 AreFew s t st id bodies =
@@ -187,24 +205,24 @@ module _ (s : Sight) (t new : Trees Fiber) (st' : Stack) (p n : ℕ) (fs : List 
 -- what it pays there, by the flags that its fallback opens with
 module _ (s : Sight) (t new last : Trees Fiber) (st' : Stack) (p n : ℕ) (fs : List Frame) (cs : Contexts) (e : Element) (old : Option Node) (a : Awaits) (us : Flags) (next : At) (linked : IsLinked t.current)
     (h : IsHiddenAgain s t new st' p n fs cs e old a) where
-  hidden_pays : (bodies : ℕ) → bodies ≡ 0 → waits_still s old ≡ true
-      → UnitPays s t.current bodies us (at_place (suc n) fs cs e old) (below_boundary s (flag us) old ∷ us) (open_part n fs (falling e old a) (part cs (fallback_in e ∷ []) (fallback_if old)))
-  hidden_pays bodies none still =
-      let so : waits_still s (Some (node (elements.boundary h.key h.fallback h.given) (of_boundary (Hidden a)) h.kept h.shown)) ≡ true =
-      ap (waits_still s) (sym (h.was ∙ ap (λ x. Some (node x (of_boundary (Hidden a)) h.kept h.shown)) h.boundary)) ∙ still
+  hidden_pays : (bodies : ℕ) → bodies ≡ 0 → is_untouched s (flag us).stood e old ≡ true
+      → UnitPays s t.current bodies us (at_place (suc n) fs cs e old) (in_fallback s (flag us) e old ∷ us) (open_part n fs (falling e old a) (part cs (fallback_in e ∷ []) (fallback_if old)))
+  hidden_pays bodies none out =
+      let so : is_untouched s (flag us).stood (elements.boundary h.key h.fallback h.given) (Some (node (elements.boundary h.key h.fallback h.given) (of_boundary (Hidden a)) h.kept h.shown)) ≡ true =
+      subst (λ x. is_untouched s (flag us).stood x (Some (node x (of_boundary (Hidden a)) h.kept h.shown)) ≡ true) h.boundary (subst (λ o. is_untouched s (flag us).stood e o ≡ true) h.was out)
       in
       rw (h.was, h.boundary) (paying.past_attempt none linked h.stood (hidden_old s t new st' p n fs cs e old a linked h) h.unresolved h.agree so)
 
-  hidden_paid : (bodies : ℕ) → bodies ≡ 0 → waits_still s old ≡ true → HasFlags last next (below_boundary s (flag us) old ∷ us)
+  hidden_paid : (bodies : ℕ) → bodies ≡ 0 → is_untouched s (flag us).stood e old ≡ true → HasFlags last next (in_fallback s (flag us) e old ∷ us)
       → Paid s t.current bodies us (at_place (suc n) fs cs e old) (open_part n fs (falling e old a) (part cs (fallback_in e ∷ []) (fallback_if old))) last next
-  hidden_paid bodies none still flags = record { flags = below_boundary s (flag us) old ∷ us; are = flags; pays = hidden_pays bodies none still }
+  hidden_paid bodies none out flags = record { flags = in_fallback s (flag us) e old ∷ us; are = flags; pays = hidden_pays bodies none out }
 
 module _ (s : Sight) (way : ℕ → Bool) (kept : ℕ → Option (List Hook)) (t : Trees Fiber) (st : Stack) (new : Trees Fiber) (st' : Stack) (id bodies : ℕ) where
-  pub hidden_advances : (a : Awaits) (last : Trees Fiber) (next : At) → AreFew s t st id bodies → IsLinked t.current → BeginsPlace s way kept t st new st' id (answers.Hidden a)
+  pub hidden_advances : (a : Awaits) (last : Trees Fiber) (next : At) → AreFew s t st id bodies → Fits t → IsLinked t.current → BeginsPlace s way kept t st new st' id (answers.Hidden a)
       → ((c : Cursor) → (l : IsLeftAt new st' id (taken shapes.none) a c) → HasOldFallback new.current (given_along l.frames) l.old l.node l.value.element → ComesTo last st' next c)
-      → HasNoNewsThere s kept t id → ((us : Flags) (u : Bool) → FlagsAtPlace t id us → HasFlags last next (u ∷ us)) → Advances s way kept t st (Begins id) bodies last st' next
-  hidden_advances a last next few linked begins comes none_new opened _ (to_place {levels = zero} h) level gives = absurd (omega (arith, level))
-  hidden_advances a last next few linked begins comes none_new opened _ (to_place {levels = suc n} {fs = fs} {cs = cs} {e = e} {old = old} h) level gives =
+      → HasNoNewsThere s kept t id → ((us : Flags) (u : Flag) → u.stood ≡ true → FlagsAtPlace t id us → HasFlags last next (u ∷ us)) → Advances s way kept t st (Begins id) bodies last st' next
+  hidden_advances a last next few fits linked begins comes none_new opened _ (to_place {levels = zero} h) level gives = absurd (omega (arith, level))
+  hidden_advances a last next few fits linked begins comes none_new opened _ (to_place {levels = suc n} {fs = fs} {cs = cs} {e = e} {old = old} h) level gives =
       let b = begins n fs cs e old h gives.0 gives.1 gives.2 in
       let none = boundary_none s bodies n fs cs e old b.key b.fallback b.given b.boundary (few n fs cs e old h) in
       record {
@@ -212,7 +230,9 @@ module _ (s : Sight) (way : ℕ → Bool) (kept : ℕ → Option (List Hook)) (t
         goes = hidden_goes s t new st' id n fs cs e old a linked b bodies none;
         comes = comes _ b.left b.again;
         paid = λ us causes flagged are.
-            hidden_paid s t new last st' id n fs cs e old a us next linked b bodies none (waits_there s kept t id old e a b.kept b.shown b.was b.old_is causes.0 b.unresolved none_new) (opened us (below_boundary s (flag us) old) are);
+            let still = waits_there s kept t id old e a b.kept b.shown b.was b.old_is causes.0 b.unresolved none_new in
+            let out = untouched_there s (flag us).stood e old a b.kept b.shown b.was (told_there t id us fits are b.told) still in
+            hidden_paid s t new last st' id n fs cs e old a us next linked b bodies none out (opened us (in_fallback s (flag us) e old) out are);
       }
 
 -- past a subtree that is taken over

@@ -44,16 +44,16 @@ Ends t s old units bodies =
     (x : Node) × IsTreeOf (Some x) (grafted t.draft) × (fresh s old ≡ made x) × (bodies < units) × (whole_required s old ≤ bodies) × (bodies ≤ whole_allowed s old)
 
 ends_as : (p : Program) → IsBounded p → (s : Sight) (old : Option Node) → s.program ≡ p → (units bodies : ℕ) (t : Trees Fiber) (st : Stack) (at : At) (c : Cursor)
-    → ComesTo t st at c → at ≡ Over → InProgress s old units bodies c → PassesNone s old bodies c → (us : Flags) → Costs s old bodies us c → Ends t s old units bodies
-ends_as p bounded s old same units bodies t st _ c (to_place h) e g none us costs = absurd (let f : ⊥ = cc in f)
-ends_as p bounded s old same units bodies t st _ c (to_end h) e g none us costs = absurd (let f : ⊥ = cc in f)
-ends_as p bounded s old same units bodies t st _ _ (to_tree (over {x = x} tree few empty)) e g none us costs =
-    let (made_it, fewer) = holds_last g in (x, tree, made_it, fewer, last_passes s old bodies (made x) none, last_costs s old bodies us (made x) costs)
-ends_as p bounded s old same units bodies t st _ _ (to_wait {a = a}) e g none us costs = absurd (no_wait p bounded s old same units bodies a g)
+    → ComesTo t st at c → at ≡ Over → InProgress s old units bodies c → (us : Flags) → PassesNone s old bodies us c → Costs s old bodies us c → Ends t s old units bodies
+ends_as p bounded s old same units bodies t st _ c (to_place h) e g us none costs = absurd (let f : ⊥ = cc in f)
+ends_as p bounded s old same units bodies t st _ c (to_end h) e g us none costs = absurd (let f : ⊥ = cc in f)
+ends_as p bounded s old same units bodies t st _ _ (to_tree (over {x = x} tree few empty)) e g us none costs =
+    let (made_it, fewer) = holds_last g in (x, tree, made_it, fewer, last_passes s old bodies us (made x) none, last_costs s old bodies us (made x) costs)
+ends_as p bounded s old same units bodies t st _ _ (to_wait {a = a}) e g us none costs = absurd (no_wait p bounded s old same units bodies a g)
 
 pub renders_end : (p : Program) → IsBounded p → (st : State) (g : Progress) (v : Rendering) → Renders p st g v → v.at ≡ Over
     → Ends v.trees (sight_of p st g) st.tree v.units v.bodies
-renders_end p bounded st g v r e = ends_as p bounded (sight_of p st g) st.tree refl v.units v.bodies v.trees v.contexts v.at r.come.cursor r.come.comes e r.come.goes r.costs.enough r.costs.flags r.costs.few
+renders_end p bounded st g v r e = ends_as p bounded (sight_of p st g) st.tree refl v.units v.bodies v.trees v.contexts v.at r.come.cursor r.come.comes e r.come.goes r.costs.flags r.costs.enough r.costs.few
 
 bounded_as : (s : Sight) (old : Option Node) → IsBounded s.program → (units bodies : ℕ) (t : Trees Fiber) (st : Stack) (at : At) (c : Cursor)
     → ComesTo t st at c → InProgress s old units bodies c → IfLeft at (units < unit_bound s.program)

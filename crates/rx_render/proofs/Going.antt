@@ -10,7 +10,7 @@ use Rattle.rx_elem.specs.Elements.{Element}
 use Rattle.rx_elem.specs.Trees.{Instance, Node, node, Forest, none, vacant, child, instance_in}
 use Rattle.rx_hooks.specs.declared.hook.Hook.{Hook}
 use Rattle.rx_lists.specs.Shapes as shapes
-use Rattle.rx_links.specs.Drafts.{taken, Trees}
+use Rattle.rx_links.specs.Drafts.{grafted, taken, Trees}
 use Rattle.rx_meaning.specs.Fresh.{Sight, Contexts, default_contexts}
 use Rattle.rx_meaning.specs.Cursor.{Open, Frame, Cursor, at_place, at_end, ended, is_null, unit, HasLevel}
 use Rattle.rx_meaning.specs.Cursor as cursors
@@ -23,6 +23,7 @@ use Rattle.rx_model.specs.Turns.{unit_bound}
 use Rattle.rx_fiber.specs.Fibers.{Fiber}
 use Rattle.rx_fiber.specs.Reading.{IsTreeOf}
 use Rattle.rx_fiber.specs.Standing.{StandsAt, begins}
+use Rattle.rx_fiber.specs.Subtrees.{IsGathered}
 use Rattle.rx_fiber.specs.Surround.{given_along}
 use Rattle.rx_complete.specs.Ends.{ends}
 use Rattle.rx_hook_store.specs.Store.{Kept, kept_hooks}
@@ -46,6 +47,7 @@ use Rattle.rx_render.specs.Mounting.{GoesWith}
 use Rattle.rx_render.specs.GivenContexts.{CursorGiven}
 use Rattle.rx_render.specs.Rendering.{Rendering, IfLeft, units_left, left_of, ComesTo, to_place, to_end, to_tree, to_wait}
 use Rattle.rx_render.specs.Renders.{Sees, GivesAll, HasCome, HasCosts, Renders, IsUnderWay, IsRendering}
+use Rattle.rx_render.specs.Gathers.{IsGathering}
 use Rattle.rx_render.specs.Turning.{Proceeds, UnitBreaksOff, GivesUp}
 use Rattle.rx_render.specs.LastUnit.{unit_before, is_over}
 use Rattle.cost_laws.specs.Costs.{Costs}
@@ -172,7 +174,7 @@ module _ (old new : Rendering) (evaluated : ℕ) (step : Stepped old new evaluat
         flags = paid.flags;
         are = paid.are;
         few = subst (λ b. Costs s st.tree b paid.flags next.next) (sym step.bodies) (pays_few s st.tree old.trees.current current settled waits reads draws checked old.units old.bodies evaluated c next.next costs.flags paid.flags paid.pays at costs.few);
-        enough = subst (λ b. PassesNone s st.tree b next.next) (sym step.bodies) (pays_enough s st.tree old.trees.current current settled waits reads draws checked old.units old.bodies evaluated c next.next costs.flags paid.flags paid.pays at costs.enough);
+        enough = subst (λ b. PassesNone s st.tree b paid.flags next.next) (sym step.bodies) (pays_enough s st.tree old.trees.current current settled waits reads draws checked old.units old.bodies evaluated c next.next costs.flags paid.flags paid.pays at costs.enough);
         undue = subst (λ w. CoversIf (is_way w) (IsUndue s) st.tree) (sym step.ways) costs.undue;
       }
 
@@ -241,13 +243,19 @@ if_left (Begins id) a = a
 if_left (Completes id) a = a
 if_left Over a = tt
 
+-- what is done is gathered along a unit
+abbrev pub GathersOn : (old new : Rendering) → Type 0
+GathersOn old new = IsGathered old.trees.current → IsGathering old.trees old.at → IsGathering new.trees new.at
+
 -- a rendering that a render is in progress of is one
-pub step_rendering : (old new : Rendering) (evaluated : ℕ) → Stepped old new evaluated → DrawsOn → IsRendering old → 0 < left_of old → IsRendering new
-step_rendering old new evaluated step draws is left =
+pub step_rendering : (old new : Rendering) (evaluated : ℕ) → Stepped old new evaluated → DrawsOn → GathersOn old new → IsRendering old → 0 < left_of old → IsRendering new
+step_rendering old new evaluated step draws gathers is left =
     record {
       known = subst (λ p. unknowns p ≡ []) (sym step.program) is.known;
       bounded = subst IsBounded (sym step.program) is.bounded;
       under_way = if_left new.at (step_way old new evaluated step draws is.known left (is_left old.at (unit_bound old.program) old.units left is.under_way));
+      gathered = subst IsGathered (sym step.current) is.gathered;
+      gathering = gathers is.gathered is.gathering;
     }
 
 -- What a unit needs
@@ -380,14 +388,29 @@ some_left v is e =
     some_units v.at (unit_bound v.program) v.units
     (subst (λ p. v.units < unit_bound p) way.sees.program (if_busy v.at (come_bounded way.sight way.tree v (subst IsBounded (sym way.sees.program) is.bounded) way.come) e)) e
 
--- a rendering that is over is one
-pub over_rendering : (old new : Rendering) → IsRendering old → new.program ≡ old.program → new.at ≡ Over → IsRendering new
-over_rendering old new is same over =
+-- a rendering that is over is one, where its trees are gathered
+pub ended_rendering : (old new : Rendering) → IsRendering old → new.program ≡ old.program → new.at ≡ Over → IsGathered new.trees.current → IsGathered (grafted new.trees.draft) → IsRendering new
+ended_rendering old new is same over current draft =
     record {
       known = subst (λ p. unknowns p ≡ []) (sym same) is.known;
       bounded = subst IsBounded (sym same) is.bounded;
       under_way = subst (λ a. IfLeft a (IsUnderWay new)) (sym over) tt;
+      gathered = current;
+      gathering = subst (IsGathering new.trees) (sym over) draft;
     }
+
+-- and one of which the current tree stayed
+pub over_rendering : (old new : Rendering) → IsRendering old → new.program ≡ old.program → new.at ≡ Over → new.trees.current ≡ old.trees.current → IsGathered (grafted new.trees.draft) → IsRendering new
+over_rendering old new is same over current draft = ended_rendering old new is same over (subst IsGathered (sym current) is.gathered) draft
+
+-- one of which the draft was dropped
+pub dropped_rendering : (old new : Rendering) → IsRendering old → new.program ≡ old.program → new.at ≡ Over → new.trees ≡ record old.trees { draft = taken shapes.none } → IsRendering new
+dropped_rendering old new is same over trees =
+    over_rendering old new is same over (ap (λ t. t.current) trees) (subst (λ t. IsGathered (grafted t.draft)) (sym trees) tt)
+
+-- what is there where no unit is left is gathered
+pub over_gathered : (v : Rendering) → IsRendering v → v.at ≡ Over → IsGathered (grafted v.trees.draft)
+over_gathered v is over = subst (IsGathering v.trees) over is.gathering
 
 module _ (value inside : Rendering) (same : inside ≡ value) (is : IsRendering inside) (left : 0 < left_of value) where
   abbrev pub inside_left : 0 < left_of inside
@@ -412,12 +435,12 @@ module _ (value inside : Rendering) (same : inside ≡ value) (is : IsRendering 
       subst (λ v. UnitBreaksOff v new) same
       (record { program = program; current = current; keeps = λ st done h. subst (λ p. KeepsAllHooks p st (kept_hooks new.hooks)) (sym program) (keeps st done h); over = over })
 
-  module _ (new : Rendering) (evaluated : ℕ) (step : Stepped inside new evaluated) (draws : DrawsOn) where
+  module _ (new : Rendering) (evaluated : ℕ) (step : Stepped inside new evaluated) (draws : DrawsOn) (gathers : GathersOn inside new) where
     pub steps_on : Proceeds value new
     steps_on = subst (λ v. Proceeds v new) same (step_goes_on inside new evaluated step draws is.known inside_left)
 
     pub steps_to : IsRendering new
-    steps_to = step_rendering inside new evaluated step draws is inside_left
+    steps_to = step_rendering inside new evaluated step draws gathers is inside_left
 
     abbrev left_is : left_of value ≡ unit_bound inside.program - inside.units
     left_is = subst (λ v. left_of v ≡ unit_bound inside.program - inside.units) same (units_of inside.at (unit_bound inside.program) inside.units inside_left)

@@ -87,7 +87,7 @@ costs_later s j same work tree v hooks c h =
       flags = h.flags;
       are = h.are;
       few = later_costs s j tree v.bodies h.flags c same work h.few;
-      enough = later_passes s j tree v.bodies c same work h.enough;
+      enough = later_passes s j tree v.bodies h.flags c same work h.enough;
       undue = covers_if (is_way v.ways) (IsUndue s) (IsUndue (record s { journal = j })) (λ m u. undue_later s j m work u) tree h.undue;
     }
 

@@ -11,6 +11,7 @@ pub mod Waiting
 pub mod Idle
 pub mod Advancing
 pub mod Paying
+pub mod Gathering
 pub mod Reaching
 pub mod Going
 pub mod Covered

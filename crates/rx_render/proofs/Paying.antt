@@ -34,13 +34,14 @@ use Rattle.rx_begin.specs.Origins.{AllNew, AllWait, HasKids, TellsSteady}
 use Rattle.rx_begin.specs.declared.node.Begun.{Begun}
 use Rattle.rx_begin.specs.declared.node.Begun.TheVariants.{Child, Leaf}
 use Rattle.rx_begin.specs.declared.opening.Opened.{Opened}
+use Rattle.cost_laws.specs.Allowed.{Flag}
 use Rattle.cost_laws.specs.Costs.{FramesFlagged}
 use Rattle.cost_laws.specs.Left.{Flags, begun_flags, flag, outer, unit_flags, unwound}
-use Rattle.flag_laws.specs.Flagged.{AllClear, FlagsAfter, FlagsAtEnd, FlagsAtPlace, FlagsHere, FlagsOpened, HasUnwound}
+use Rattle.flag_laws.specs.Flagged.{AllClear, AllStood, AreTold, FlagsAfter, FlagsAtEnd, FlagsAtPlace, FlagsHere, FlagsOpened, HasUnwound}
 use Rattle.flag_laws.proofs.Going.{completes, opens, opens_beside, passes}
 use Rattle.flag_laws.proofs.Unwinding.{unwinds}
 use Rattle.begin_laws.specs.Telling.{OpensKids, TellsBody, TellsTries}
-use Rattle.begin_laws.proofs.Costing.{allows, may, new_clear, opens_so, serves, wait_bare, wait_clear}
+use Rattle.begin_laws.proofs.Costing.{allows, may, new_clear, opens_so, serves, wait_bare, wait_clear, wait_stood}
 use Rattle.rx_render.specs.declared.at.At.{At}
 use Rattle.rx_render.specs.declared.at.At.TheVariants.{Begins, Completes}
 use Rattle.rx_render.specs.Advancing.{at_after, at_opened}
@@ -62,20 +63,23 @@ opened_flags t q us None h = h
 opened_flags t q us (Some id) h = h
 
 -- a fallback opens below a boundary
-module _ (origin : Origin) (t new : Trees Fiber) (q : ℕ) (us : Flags) (u : Bool) (here : FlagsHere t q (taken shapes.none) us) where
-  pub fallback_flags : (f : Opened) → HasFallbackKids origin t new q f
-      → (u ≡ false → (d : Draft Fiber) → AllWait origin d → (fallback_list (list_from t.current (old_of t.draft q)) ≡ shapes.none → AllNew d) → AllClear d) → HasFlags new (at_opened f) (u ∷ us)
-  fallback_flags f (alone kids value still all new_if stands is) clear =
-      subst (λ x. HasFlags new (at_opened x) (u ∷ us)) (sym is)
-      (opened_flags new q (u ∷ us) (entry kids) (opens t new q us u kids value here stands (wait_bare origin kids all) (λ f. clear f kids all new_if)))
-  fallback_flags f (beside kids value kept id w old still too all new_if stands is) clear =
-      subst (λ x. HasFlags new (at_opened x) (u ∷ us)) (sym is)
-      (opened_flags new id (u ∷ us) (entry kids) (opens_beside t new q id us u kids value w old kept here stands (wait_bare origin kids all) (λ f. clear f kids all new_if)))
+module _ (origin : Origin) (t new : Trees Fiber) (q : ℕ) (us : Flags) (u : Flag) (here : FlagsHere t q (taken shapes.none) us) (stood : origin.stood ≡ u.stood)
+    (clear : u.under ≡ false → (d : Draft Fiber) → AllWait origin d → (fallback_list (list_from t.current (old_of t.draft q)) ≡ shapes.none → AllNew d) → AllClear d) where
+  told_kids : (kids : Draft Fiber) → AllWait origin kids → (fallback_list (list_from t.current (old_of t.draft q)) ≡ shapes.none → AllNew kids) → AreTold u kids
+  told_kids kids all new_if = ((λ f. clear f kids all new_if), subst (λ b. AllStood b kids) stood (wait_stood origin kids all))
 
--- a boundary that waits still opens its fallback over clones that stood
+  pub fallback_flags : (f : Opened) → HasFallbackKids origin t new q f → HasFlags new (at_opened f) (u ∷ us)
+  fallback_flags f (alone kids value still all new_if stands is) =
+      subst (λ x. HasFlags new (at_opened x) (u ∷ us)) (sym is)
+      (opened_flags new q (u ∷ us) (entry kids) (opens t new q us u kids value here stands (wait_bare origin kids all) (told_kids kids all new_if)))
+  fallback_flags f (beside kids value kept id w old still too all new_if stands over is) =
+      subst (λ x. HasFlags new (at_opened x) (u ∷ us)) (sym is)
+      (opened_flags new id (u ∷ us) (entry kids) (opens_beside t new q id us u kids value w old kept here stands (wait_bare origin kids all) (told_kids kids all new_if)))
+
+-- an untouched boundary opens its fallback over clones that stood
 pub again_flags : (t tried new : Trees Fiber) (id : ℕ) (f : Opened) → Fits t → tried ≡ record t { draft = valued id (changed change.Try) t.draft } → HasFallbackKids (as_cloned true) tried new id f
-    → (us : Flags) (u : Bool) → FlagsAtPlace t id us → HasFlags new (at_opened f) (u ∷ us)
-again_flags t tried new id f fits is kids us u h =
+    → (us : Flags) (u : Flag) → u.stood ≡ true → FlagsAtPlace t id us → HasFlags new (at_opened f) (u ∷ us)
+again_flags t tried new id f fits is kids us u stood h =
     let at = is-at t fits h.flags.around id h.flags.value h.flags.old (taken shapes.none) h.flags.rest h.flags.here in
     let here : FlagsHere tried id (taken shapes.none) us = record {
       around = h.flags.around;
@@ -85,14 +89,14 @@ again_flags t tried new id f fits is kids us u h =
       here = ap (λ x. x.draft) is ∙ at.value (changed change.Try);
       flagged = h.flags.flagged;
     } in
-    fallback_flags (as_cloned true) tried new id us u here f kids (λ clean d all new_if. wait_clear (as_cloned true) refl refl d all)
+    fallback_flags (as_cloned true) tried new id us u here (sym stood) (λ clean d all new_if. wait_clear (as_cloned true) refl d all) f kids
 
 -- a node that is completed
-pub end_flags : (t new : Trees Fiber) (id : ℕ) (r : Next) → Fits t → new ≡ record t { draft = valued id (changed change.Complete) t.draft } → r ≡ next_after t.draft id → (us : Flags) → FlagsAtEnd t id us
+pub end_flags : (t new : Trees Fiber) (id : ℕ) (r : Next) (m : Fiber → Fiber) → Fits t → new ≡ record t { draft = valued id m t.draft } → r ≡ next_after t.draft id → (us : Flags) → FlagsAtEnd t id us
     → HasFlags new (at_after r) (outer us)
-end_flags t new id r fits is next us h =
+end_flags t new id r m fits is next us h =
     subst (λ x. HasFlags new (at_after x) (outer us)) (sym next)
-    (after_flags new (outer us) (next_after t.draft id) (completes t new id us (changed change.Complete) fits h (ap (λ x. x.draft) is)))
+    (after_flags new (outer us) (next_after t.draft id) (completes t new id us m fits h (ap (λ x. x.draft) is)))
 
 -- old children that are taken over
 pub passed_flags : (t new : Trees Fiber) (id : ℕ) (r : Next) → Fits t → Fits new → HasTaken t new id → r ≡ next_after new.draft id → (us : Flags) (x : Node) → FlagsAtPlace t id us
@@ -123,8 +127,8 @@ module _ (t : Trees Fiber) (fits : Fits t) (st : Stack) (p : ℕ) (fs : List Fra
       let at = is-at dropped fits_dropped u.around q u.value u.old (taken shapes.none) u.rest here in
       let flags : FlagsHere dropped q (taken shapes.none) (outer (unwound fs us)) = subst (λ i. FlagsHere dropped i (taken shapes.none) (outer (unwound fs us))) id w.flags in
       subst (HasFlags new (at_opened f)) (sym w.some)
-      (fallback_flags (as_matched false) dropped new q (outer (unwound fs us)) (flag (unwound fs us)) flags f kids
-      (λ clean d all new_if. new_clear d (new_if (ap (λ c. fallback_list (list_from c (old_of dropped.draft q))) current ∙ (ap (λ o. fallback_list (list_from t.current o)) at.old ∙ w.shown clean)))))
+      (fallback_flags (as_matched false) dropped new q (outer (unwound fs us)) (flag (unwound fs us)) flags (sym w.unknown)
+      (λ clean d all new_if. new_clear d (new_if (ap (λ c. fallback_list (list_from c (old_of dropped.draft q))) current ∙ (ap (λ o. fallback_list (list_from t.current o)) at.old ∙ w.shown clean)))) f kids)
 
 -- What is paid
 

@@ -125,7 +125,7 @@ pub sent_rendering : {T E : Type 0} (result : Result T E) (old : Rendering) (hoo
     → OnOk result (ChangesHooks (changed_at place (dispatched_hook w u pending)) i (kept_hooks old.hooks) (kept_hooks hooks))
     → OnErr result ((n : ℕ) → kept_hooks hooks n ≡ kept_hooks old.hooks n) → IfLeft old.at (old.cut.updates ≤ u.number) → IsRendering old → IsRendering (with_hooks old hooks)
 sent_rendering result old hooks w u pending place i ok err later is =
-    record { known = is.known; bounded = is.bounded; under_way = both_left old.at is.under_way later goes }
+    record { known = is.known; bounded = is.bounded; under_way = both_left old.at is.under_way later goes; gathered = is.gathered; gathering = is.gathering }
   where
     gives : (s : Sight) → s.cut.updates ≤ u.number → (k : ℕ) (initials : List ℤ) → GivesValues s (kept_hooks old.hooks) k initials → GivesValues s (kept_hooks hooks) k initials
     gives s late k initials g = go result ok err

@@ -19,7 +19,8 @@ use Rattle.rx_model.specs.State.{Progress, State}
 use Rattle.rx_model.specs.Committing.{sight_of, starting}
 use Rattle.rx_model.specs.HooksOf.{KeepsAllHooks}
 use Rattle.rx_model.specs.Laws.{IsBounded}
-use Rattle.rx_fiber.specs.Fibers.{Fiber, is_cloned, is_stood, waiting}
+use Rattle.rx_fiber.specs.Fibers.{Fiber, is_cloned, is_stood, waiting, nothing}
+use Rattle.rx_fiber.specs.Subtrees.{IsGathered}
 use Rattle.rx_fiber.specs.declared.stage.Origin.{Origin}
 use Rattle.rx_fiber.specs.Reading.{IsTreeOf, IsOld, of, next}
 use Rattle.rx_fiber.specs.Reading as reading
@@ -44,6 +45,7 @@ use Rattle.flag_laws.specs.Flagged.{FlagsAtPlace, IsClear}
 use Rattle.flag_laws.specs.Flagged as flagged
 use Rattle.rx_render.specs.Costing.{HasFlags}
 use Rattle.rx_render.specs.declared.at.At.TheVariants.{Begins, Over}
+use Rattle.rx_render.specs.Gathers.{IsGathering}
 use Rattle.rx_render.specs.Rendering.{Rendering, IfLeft, ComesTo, to_place}
 use Rattle.rx_render.specs.Renders.{GivesAll, Renders, IsStartOf, CanStart, IsUnderWay, IsRendering}
 use Rattle.rx_render.proofs.Contexts.{start_given}
@@ -81,17 +83,18 @@ comes_to_start : (s : Sight) (old : Option Node) (t : Trees Fiber) (id : ℕ) (v
 unfolding start
 comes_to_start s old t id v tree waits here = to_place (starts s old t id v tree waits here)
 
--- the root's list lies below no cause
+-- nothing is above the root's list, and its fiber stood
 root_flags : (t : Trees Fiber) (id : ℕ) (v : Fiber) (origin : Origin) → v.stage ≡ waiting origin → origin.stood ≡ true → origin.cloned ≡ is_some (first t.current)
     → t.draft ≡ made id v (first t.current) (taken shapes.none) (taken shapes.none) → FlagsAtPlace t id []
 root_flags t id v origin stage stood cloned here = record {
-  flags = record { around = top; value = v; old = first t.current; rest = taken shapes.none; here = here; flagged = flagged.at_root refl refl tt };
+  flags = record { around = top; value = v; old = first t.current; rest = taken shapes.none; here = here; flagged = flagged.at_root refl refl ((λ clean. tt), tt) };
   clear = λ clean. by_old (first t.current) refl;
+  stood = ap is_stood stage ∙ stood;
 }
   where
     by_old : (o : Option ℕ) → first t.current ≡ o → IsClear v (first t.current)
     by_old None e = inl e
-    by_old (Some i) e = inr (ap is_cloned stage ∙ (cloned ∙ ap is_some e), ap is_stood stage ∙ stood)
+    by_old (Some i) e = inr (ap is_cloned stage ∙ (cloned ∙ ap is_some e))
 
 -- a rendering whose root waits for its first unit
 pub record StandsAtRoot (lanes : Lanes) (cut : Cut) (resources : List (Option ℤ)) (plain : Option Node) (old new : Rendering) : Type 0 where
@@ -155,7 +158,7 @@ start_renders lanes cut resources plain old new r draws bounded st is =
         flags = [];
         are = subst (λ a. HasFlags new.trees a []) (sym r.at) (root_flags new.trees r.id r.value r.origin r.stage r.stood r.clones r.here);
         few = subst (λ b. Costs s st.tree b [] (start s st.tree)) (sym r.bodies) (start_costs s st.tree);
-        enough = subst (λ b. PassesNone s st.tree b (start s st.tree)) (sym r.bodies) (start_passes s st.tree);
+        enough = subst (λ b. PassesNone s st.tree b [] (start s st.tree)) (sym r.bodies) (start_passes s st.tree);
         undue = r.undue old.program st (starting st lanes) refl (sym is.cut_is) is.keeps is.shown;
       };
     }
@@ -167,7 +170,7 @@ module _ (lanes : Lanes) (cut : Cut) (resources : List (Option ℤ)) (plain : Op
 
   pub root_stands : inside ≡ record old { trees = record old.trees { draft = taken shapes.none }; at = Over } → (v : Fiber) (root : Element) (given defaults : List ℤ)
       → t ≡ record inside.trees { draft = made id v (first inside.trees.current) (taken shapes.none) (taken shapes.none) }
-      → (origin : Origin) → origin.cloned ≡ is_some (first inside.trees.current) → origin.stood ≡ true → v ≡ record { place = 0; element = root; stage = waiting origin } → root ≡ root_element inside.program
+      → (origin : Origin) → origin.cloned ≡ is_some (first inside.trees.current) → origin.stood ≡ true → v ≡ record { place = 0; element = root; stage = waiting origin; subtree = nothing } → root ≡ root_element inside.program
       → st ≡ contexts.opening given → given ≡ defaults → defaults ≡ default_contexts inside.program
       → ((s : Sight) (tree : Option Node) → s.lanes ≡ lanes → s.cut ≡ cut → GivesAll s tree (kept_hooks inside.hooks) → plain ≡ trimmed_if tree → CoversIf (is_way ways) (IsIdleMark s) tree)
       → ((p : Program) (st : State) (g : Progress) → g.lanes ≡ lanes → g.cut ≡ cut → KeepsAllHooks p st (kept_hooks inside.hooks) → plain ≡ trimmed_if st.tree → CoversIf (is_way ways) (IsUndue (sight_of p st g)) st.tree)
@@ -201,8 +204,8 @@ module _ (lanes : Lanes) (cut : Cut) (resources : List (Option ℤ)) (plain : Op
 
 -- a rendering that has started is one
 pub start_rendering : (lanes : Lanes) (cut : Cut) (resources : List (Option ℤ)) (plain : Option Node) (old new : Rendering) (id : ℕ) → StandsAtRoot lanes cut resources plain old new → DrawsStart
-    → unknowns new.program ≡ [] → IsBounded new.program → CanStart lanes cut resources plain old → IsRendering new
-start_rendering lanes cut resources plain old new id r draws known bounded can =
+    → unknowns new.program ≡ [] → IsBounded new.program → IsGathered new.trees.current → CanStart lanes cut resources plain old → IsRendering new
+start_rendering lanes cut resources plain old new id r draws known bounded current can =
     record {
       known = known;
       bounded = bounded;
@@ -210,4 +213,7 @@ start_rendering lanes cut resources plain old new id r draws known bounded can =
           (renders_under_way can.state (starting can.state lanes) new
           (subst (λ p. Renders p can.state (starting can.state lanes) new) (sym r.program)
           (start_renders lanes cut resources plain old new r draws (subst IsBounded r.program bounded) can.state can.is)));
+      gathered = current;
+      gathering = subst (IsGathering new.trees) (sym r.at)
+          (record { around = top; value = r.value; old = first new.trees.current; rest = taken shapes.none; here = r.here; gathered = tt; follow = refl });
     }

@@ -20,10 +20,10 @@ use Rattle.rx_fiber.specs.Reading.{IsOld}
 use Rattle.rx_fiber.specs.Stood.{StoodAt}
 use Rattle.rx_fiber.specs.Surround.{given_along}
 use Rattle.rx_ways.specs.Ways.{CoversIf}
-use Rattle.cost_laws.specs.Allowed.{below_boundary}
-use Rattle.cost_laws.specs.Causes.{waits_still}
+use Rattle.cost_laws.specs.Allowed.{in_fallback}
 use Rattle.cost_laws.specs.Left.{Flags, MayGo, flag, next_allowed, unit_flags}
 use Rattle.cost_laws.specs.Required.{IsUndue, next_required}
+use Rattle.cost_laws.specs.Untouched.{is_untouched}
 use Rattle.flag_laws.specs.Flagged.{FlagsAtEnd, FlagsAtPlace}
 use Rattle.begin_laws.specs.Telling.{TellsIf}
 use Rattle.rx_render.specs.declared.at.At.{At}
@@ -41,14 +41,15 @@ CausesAt s way kept (at_place levels fs cs e old) = TellsIf s kept old × Covers
 CausesAt s way kept (at_end levels fs o done) = Unit {0}
 CausesAt s way kept (ended p) = Unit {0}
 
--- What a unit pays that comes from one cursor to another, with these flags before and after: it evaluates what it has to and only what it may, and tries no boundary that is left out. Past an attempt it evaluates nothing, and the boundary waits still; past a subtree it evaluates nothing, and no update of the subtree's instances is due.
+-- What a unit pays that comes from one cursor to another, with these flags before and after: it evaluates what it has to and only what it may, and tries no untouched boundary. Past an attempt it evaluates nothing, and the boundary is untouched; past a subtree it evaluates nothing, and no update of the subtree's instances is due.
 pub data UnitPays (s : Sight) (current : Shape Fiber) (bodies : ℕ) (us : Flags) : (before : Cursor) → Flags → (after : Cursor) → Type 0 where
   by_unit : {c : Cursor} → MayGo s us c → bodies ≤ next_allowed s us c → next_required s c ≤ bodies → UnitPays s current bodies us c (unit_flags s us c) (unit s c)
   past_attempt : {n : ℕ} {fs : List Frame} {cs : Contexts} {key : Key} {f : Element} {es : Elements} {a : Awaits} {ns kept : Forest} {o : Option ℕ}
       → bodies ≡ 0 → IsLinked current → StoodAt current (given_along fs) o → IsOld current o (Some (node (boundary key f es) (of_boundary (Hidden a)) ns kept))
-      → AreUnresolved s a → AllValuesAgree (without_lanes s) s ns → waits_still s (Some (node (boundary key f es) (of_boundary (Hidden a)) ns kept)) ≡ true
+      → AreUnresolved s a → AllValuesAgree (without_lanes s) s ns
+      → is_untouched s (flag us).stood (boundary key f es) (Some (node (boundary key f es) (of_boundary (Hidden a)) ns kept)) ≡ true
       → UnitPays s current bodies us (at_place (suc n) fs cs (boundary key f es) (Some (node (boundary key f es) (of_boundary (Hidden a)) ns kept)))
-      (below_boundary s (flag us) (Some (node (boundary key f es) (of_boundary (Hidden a)) ns kept)) ∷ us)
+      (in_fallback s (flag us) (boundary key f es) (Some (node (boundary key f es) (of_boundary (Hidden a)) ns kept)) ∷ us)
       (open_part n fs (falling (boundary key f es) (Some (node (boundary key f es) (of_boundary (Hidden a)) ns kept)) a) (part cs (f ∷ []) kept))
   past_subtree : {n : ℕ} {fs : List Frame} {cs : Contexts} {e : Element} {x : Node} {o : Option ℕ}
       → bodies ≡ 0 → IsLinked current → StoodAt current (given_along fs) o ⊎ ReadsHold cs x → IsOld current o (Some x) → element_of x ≡ e → IsIdle s x → ForEach (IsUndue s) x

@@ -3,6 +3,7 @@ pub mod GivenContexts
 pub mod TreesCode
 pub mod Rendering
 pub mod Costing
+pub mod Gathers
 pub mod Renders
 pub mod Turning
 pub mod TurningLaws

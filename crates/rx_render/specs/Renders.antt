@@ -17,6 +17,7 @@ use Rattle.rx_model.specs.Committing.{sight_of, starting}
 use Rattle.rx_model.specs.HooksOf.{KeepsAllHooks}
 use Rattle.rx_model.specs.Laws.{IsBounded}
 use Rattle.rx_fiber.specs.Reading.{IsTreeOf}
+use Rattle.rx_fiber.specs.Subtrees.{IsGathered}
 use Rattle.rx_hook_store.specs.Store.{Kept, kept_hooks}
 use Rattle.rx_hook_store.specs.Gives.{GivesValues}
 use Rattle.rx_hook_store.specs.Working.{AreOnlyWorking}
@@ -38,6 +39,7 @@ use Rattle.begin_laws.specs.Mounting.{HasInstances}
 use Rattle.rx_render.specs.Mounting.{GoesWith}
 use Rattle.rx_render.specs.GivenContexts.{CursorGiven}
 use Rattle.rx_render.specs.Rendering.{Rendering, IfLeft, ComesTo}
+use Rattle.rx_render.specs.Gathers.{IsGathering}
 use Rattle.rx_render.specs.Costing.{HasFlags}
 
 -- a rendering sees what a render sees
@@ -70,7 +72,7 @@ pub record HasCosts (s : Sight) (tree : Option Node) (v : Rendering) (c : Cursor
   pub flags : Flags
   pub are : HasFlags v.trees v.at flags
   pub few : Costs s tree v.bodies flags c
-  pub enough : PassesNone s tree v.bodies c
+  pub enough : PassesNone s tree v.bodies flags c
   pub undue : CoversIf (is_way v.ways) (IsUndue s) tree
 
 -- a cut has nothing before it that has yet to come
@@ -118,6 +120,9 @@ pub record IsRendering (v : Rendering) : Type 0 where
   pub known : unknowns v.program ≡ []
   pub bounded : IsBounded v.program
   pub under_way : IfLeft v.at (IsUnderWay v)
+  -- what is at or below its fibers is gathered on those of the current tree, and on those of the draft that are done
+  pub gathered : IsGathered v.trees.current
+  pub gathering : IsGathering v.trees v.at
 
 -- what a render that starts now needs: the current tree is the committed one, which is settled, has the root's element at its root, hidden boundaries that wait again and reads that hold, and is this plain one, whose instances have numbers of their own; the hooks are those of its instances, the cut has all before it, and the resources are what it sees
 pub record IsStartOf (st : State) (lanes : Lanes) (cut : Cut) (resources : List (Option ℤ)) (old : Option Node) (v : Rendering) : Type 0 where

@@ -1,5 +1,5 @@
 // One unit of a render, over its parts.
-ghost use Rattle.std.specs.Prelude.{◌≡◌, ◌+◌, ◌≤◌, ℕ, ℤ, List, Option, Some, IfOk, if◌then◌else◌};
+ghost use Rattle.std.specs.Prelude.{◌≡◌, ◌+◌, ◌≤◌, ℕ, ℤ, List, Option, Some, IfOk, OnErr, if◌then◌else◌};
 ghost use Rattle.rx_base.specs.Awaits.{one};
 ghost use Rattle.rx_elem.specs.Trees.{Node};
 ghost use Rattle.rx_meaning.specs.Fresh.{Sight};
@@ -22,6 +22,8 @@ ghost use Rattle.rx_ways.specs.Ways.{is_way};
 ghost use Rattle.rx_render.specs.Rendering.{ComesTo};
 ghost use Rattle.rx_render.specs.Costing.{HasFlags};
 ghost use Rattle.rx_render.specs.Advancing.{at_after, at_opened, CanBegin, IsReadyAt, Advances};
+ghost use Rattle.rx_fiber.specs.Subtrees.{IsGathered};
+ghost use Rattle.rx_render.specs.Gathers.{IsGathering};
 
 use crate::at::At;
 use rx_base::{Awaits, Steps};
@@ -73,13 +75,15 @@ fn complete_node(tree: &mut FiberTree<Fiber>, id: FiberId, contexts: &mut Contex
     requires { IsAtEnd tree.old contexts.old id }
     ensures comes { (s : Sight) (levels : ℕ) (fs : List Frame) (o : Open) (done : List (Option Node)) → StandsAt tree.old contexts.old (Some id) (at_end levels fs o done) → ComesTo tree.new contexts.new result (unit s (at_end levels fs o done)) }
     ensures flags { (us : Flags) → FlagsAtEnd tree.old id us → HasFlags tree.new result (outer us) }
+    ensures gathered { IsGathering tree.old (At.Completes id) → IsGathering tree.new result }
     ensures current { tree.new.current ≡ tree.old.current }
 {
     tree.facts();
     at_after(complete(tree, id, contexts))
 }
 
-// A place waits: what is tried around it is given up, and the fallback of the nearest boundary opens.
+// A place waits: what is tried around it is given up, and the fallback of the nearest boundary opens. Where none stands above,
+// nothing is left in progress.
 fn suspend(
     alloc: Global,
     tree: &mut FiberTree<Fiber>,
@@ -90,12 +94,16 @@ fn suspend(
     requires { IsOpenBelow tree.old contexts.old id }
     ensures comes { IfOk result (λ a. (levels : ℕ) (fs : List Frame) → IsWithin tree.old contexts.old id fs → ComesTo tree.new contexts.new a (unwind levels fs (one resource))) }
     ensures flags { IfOk result (λ a. (fs : List Frame) (us : Flags) → FlagsHere tree.old id (taken none) us → IsWithin tree.old contexts.old id fs → FramesFlagged us fs → HasFlags tree.new a (unwound fs us)) }
+    ensures gathered { IfOk result (λ a. IsGathered tree.old.current → IsGathering tree.old (At.Begins id) → IsGathering tree.new a) }
     ensures current { tree.new.current ≡ tree.old.current }
 {
     tree.facts();
     let mut awaits = awaits_for(resource);
     match unwind_to_boundary(tree, id, contexts, &mut awaits) {
-        None => Ok(At::Over),
+        None => {
+            tree.discard();
+            Ok(At::Over)
+        }
         Some(boundary) => {
             tree.facts();
             let opened = open_fallback(alloc, tree, boundary, awaits)?;
@@ -116,6 +124,7 @@ fn begin_place<L: Ledger>(
 ) -> Result<(At, bool), AllocError>
     requires { CanBegin scene.now (kept_hooks hooks.old) tree.old contexts.old id }
     ensures comes { IfOk result (λ a. (s : Sight) → IsSceneOf scene.now s → Advances s (is_way scene.now.ways.now) (kept_hooks hooks.old) tree.old contexts.old (At.Begins id) (if a.1 then 1 else 0) tree.new contexts.new a.0) }
+    ensures gathered { IfOk result (λ a. IsGathered tree.old.current → IsGathering tree.old (At.Begins id) → IsGathering tree.new a.0) }
     ensures ticks { IfOk result (λ a. steps.new ≡ steps.old + (if a.1 then 1 else 0)) }
     ensures current { tree.new.current ≡ tree.old.current }
     ensures still { (s : Sight) (k : ℕ) (initials : List ℤ) → IsSceneOf scene.now s → GivesValues s (kept_hooks hooks.old) k initials → GivesValues s (kept_hooks hooks.new) k initials }
@@ -144,15 +153,8 @@ fn begin_place<L: Ledger>(
     }
 }
 
-/// Begins the place of a fiber, or completes its node, as one unit of a render. Where its body waits, what is tried around it
-/// is given up, and the fallback of the nearest boundary opens within the same unit (react.dev, Suspense); where a hidden
-/// boundary waits still, its fallback opens at once, and where a subtree is taken over the render passes on to what follows it
-/// (React's bailout). Also answered is whether a body was evaluated.
-///
-/// # Errors
-///
-/// Want of memory alone. Then the render is to be given up.
-pub(crate) fn advance<L: Ledger>(
+// Begins the place of a fiber, or completes its node.
+fn try_advance<L: Ledger>(
     alloc: Global,
     tree: &mut FiberTree<Fiber>,
     at: At,
@@ -163,6 +165,7 @@ pub(crate) fn advance<L: Ledger>(
 ) -> Result<(At, bool), AllocError>
     requires { IsReadyAt scene.now (kept_hooks hooks.old) tree.old contexts.old at }
     ensures comes { IfOk result (λ a. (s : Sight) → IsSceneOf scene.now s → Advances s (is_way scene.now.ways.now) (kept_hooks hooks.old) tree.old contexts.old at (if a.1 then 1 else 0) tree.new contexts.new a.0) }
+    ensures gathered { IfOk result (λ a. IsGathered tree.old.current → IsGathering tree.old at → IsGathering tree.new a.0) }
     ensures ticks { IfOk result (λ a. steps.new ≡ steps.old + (if a.1 then 1 else 0)) }
     ensures current { tree.new.current ≡ tree.old.current }
     ensures still { (s : Sight) (k : ℕ) (initials : List ℤ) → IsSceneOf scene.now s → GivesValues s (kept_hooks hooks.old) k initials → GivesValues s (kept_hooks hooks.new) k initials }
@@ -174,5 +177,42 @@ pub(crate) fn advance<L: Ledger>(
         At::Begins(id) => begin_place(alloc, tree, id, scene, hooks, contexts, steps),
         At::Completes(id) => Ok((complete_node(tree, id, contexts), false)),
         At::Over => unreachable!(),
+    }
+}
+
+/// Begins the place of a fiber, or completes its node, as one unit of a render. Where its body waits, what is tried around it
+/// is given up, and the fallback of the nearest boundary opens within the same unit (react.dev, Suspense); where a hidden
+/// boundary waits still, its fallback opens at once, and where a subtree is taken over the render passes on to what follows it
+/// (React's bailout). Also answered is whether a body was evaluated.
+///
+/// # Errors
+///
+/// Out of memory alone. Then nothing is left in progress.
+pub(crate) fn advance<L: Ledger>(
+    alloc: Global,
+    tree: &mut FiberTree<Fiber>,
+    at: At,
+    scene: &Scene,
+    hooks: &mut HookStore,
+    contexts: &mut ContextStack,
+    steps: &mut Steps<L>,
+) -> Result<(At, bool), AllocError>
+    requires { IsReadyAt scene.now (kept_hooks hooks.old) tree.old contexts.old at }
+    ensures comes { IfOk result (λ a. (s : Sight) → IsSceneOf scene.now s → Advances s (is_way scene.now.ways.now) (kept_hooks hooks.old) tree.old contexts.old at (if a.1 then 1 else 0) tree.new contexts.new a.0) }
+    ensures gathered { IfOk result (λ a. IsGathered tree.old.current → IsGathering tree.old at → IsGathering tree.new a.0) }
+    ensures ticks { IfOk result (λ a. steps.new ≡ steps.old + (if a.1 then 1 else 0)) }
+    ensures current { tree.new.current ≡ tree.old.current }
+    ensures still { (s : Sight) (k : ℕ) (initials : List ℤ) → IsSceneOf scene.now s → GivesValues s (kept_hooks hooks.old) k initials → GivesValues s (kept_hooks hooks.new) k initials }
+    ensures states { (st : State) → DoneBefore scene.now.cut st.journal.updates → KeepsAllHooks scene.now.checked.now st (kept_hooks hooks.old) → KeepsAllHooks scene.now.checked.now st (kept_hooks hooks.new) }
+    ensures rises { steps.old ≤ steps.new }
+    ensures at_most_one { steps.new ≤ steps.old + 1 }
+    ensures dropped { OnErr result (tree.new.draft ≡ taken none) }
+{
+    match try_advance(alloc, tree, at, scene, hooks, contexts, steps) {
+        Ok(next) => Ok(next),
+        Err(error) => {
+            tree.discard();
+            Err(error)
+        }
     }
 }

@@ -34,8 +34,8 @@ pub fn renders_stay()
 {}
 
 /// Where no unit is left, the tree in progress is that of the node that fresh rendering gives, and there were fewer bodies
-/// than units. They are as many at least as places have a cause of their own, what hidden boundaries keep that wait still left
-/// out, and as many at most as places have a cause or lie below one that has.
+/// than units. They are as many at least as places have a cause of their own, what untouched hidden boundaries keep left out,
+/// and as many at most as places have a cause or lie below one that has.
 pub fn renders_end()
     ensures { (p : Program) → IsBounded p → (st : State) (g : Progress) (v : Rendering) → Renders p st g v → v.at ≡ Over
         → (x : Node) × IsTreeOf (Some x) (grafted v.trees.draft) × (fresh (sight_of p st g) st.tree ≡ made x) × (v.bodies < v.units)

@@ -405,6 +405,7 @@ impl Renderer {
 
     /// The finished tree becomes the current one, and nothing is in progress (react.dev, Render and Commit).
     pub fn commit(&mut self)
+        requires { self.old.at ≡ Over }
         ensures { self.new ≡ record self.old { trees = record { current = grafted self.old.trees.draft; draft = taken none }; at = Over } }
     {
         self.fibers.swap();

@@ -14,7 +14,7 @@ use Rattle.rx_begin.proofs.Keeping.{parts_here, no_parts, counts_so, if_both}
 use Rattle.std.specs.Prelude.{true, not, None, is_some, option_map, option_and_then}
 use Rattle.rx_begin.proofs.ByElement.{if_ok}
 use Rattle.rx_begin.specs.Beginning.{awaited_again, is_taken}
-use Rattle.rx_begin.proofs.Origins.{is_none, not_both, other_kids, other_tried, other_takes_not, other_no_body}
+use Rattle.rx_begin.proofs.Origins.{hides_there, is_none, not_both, other_kids, other_tried, other_takes_not, other_no_body}
 use Rattle.rx_begin.proofs.Taking.{taken_over}
 use Rattle.rx_begin.proofs.Begins.{place_kept, place_olds, place_tree, place_there, place_context, place_props, begins_body, begins_other, counts_one, made_at}
 use Rattle.rx_begin.proofs.beginning.begin.Goals as goal
@@ -83,7 +83,9 @@ returns-in-Some-clause-tries g c =
     c.begin_component.ensures.once
 
 pub returns-clause-tries : goal.returns-clause-tries
-returns-clause-tries g c v here none so too = c.in_ok-begun-in-None.ensures.tries (c.origin_of-origin.ensures.clones v here so) (c.origin_of-origin.ensures.stood v here ∙ too)
+returns-clause-tries g c v here none same too again x a was is =
+    c.in_ok-begun-in-None.ensures.tries (c.origin_of-origin.ensures.hides v here same (hides_there c.args.tree.now.current (old_of c.args.tree.now.draft c.args.at) x a was is))
+    (c.origin_of-origin.ensures.stood v here ∙ too) again x a was is
 
 pub returns-in-Some-clause-none : goal.returns-in-Some-clause-none
 returns-in-Some-clause-none g c =
@@ -156,7 +158,7 @@ returns-then-takes_over-clause-exact g c v here some so =
     ∙ some))
 
 pub returns-then-takes_over-clause-tries : goal.returns-then-takes_over-clause-tries
-returns-then-takes_over-clause-tries g c v here none so too again x a was is =
+returns-then-takes_over-clause-tries g c v here none same too again x a was is =
     absurd (not_hidden c.args.tree.now.current (old_of c.args.tree.now.draft c.args.at) x a (c.takes_over.ensures.shown c.if-takes_over.true) was is)
 
 pub returns-in-Some-clause-causes : goal.returns-in-Some-clause-causes

@@ -5,13 +5,34 @@ use Rattle.rx_links.specs.Drafts.{kids_of}
 use Rattle.rx_elem.specs.Trees.{instance_in}
 use Rattle.rx_ways.specs.Ways.{is_way}
 use Rattle.rx_hook_store.specs.Store.{kept_hooks}
-use Rattle.rx_fiber.proofs.OldReads.{some_held, rest_held}
+use Rattle.rx_links.specs.Readers.{rest_of}
+use Rattle.rx_fiber.proofs.OldReads.{some_held, kids_held, rest_held}
 use Rattle.rx_causes.specs.Marks.{is_spared, begun_mark}
 use Rattle.rx_causes.specs.Scenes.{KeepsHooks}
 use Rattle.rx_causes.specs.Idle.{HasNoCauseAt, LeadsAt}
-use Rattle.rx_causes.proofs.Walks.{stage_here, each_parts, but_joins, some_joins, behind_smaller}
+use Rattle.rx_causes.proofs.Walks.{stage_here, child_smaller, each_parts, but_joins, some_joins, behind_smaller}
 use Rattle.rx_causes.proofs.idle.+any_cause.Goals as goal
 use Rattle.rx_causes.proofs.idle.+any_cause.Goals.{else-not-is_spared-via-then-not-is_spared+else-any_cause, then-leads, else-leads, else-not-is_spared-via-else-not-is_spared}
+
+pub any_cause-requires : goal.any_cause-requires
+any_cause-requires t c =
+    let trees = c.args.tree.now.current in
+    let linked = c.facts.ensures.linked in
+    let i = c.in-Some.id in
+    let held = some_held trees c.walking.next i c.walking.invariant.held c.in-Some.is in
+    let v = c.value.result.now in
+    let here = c.value.ensures.current held in
+    let child = c.first_child.result in
+    let child_is = c.first_child.ensures.current held in
+    let behind = first (rest_of trees i) in
+    let next = c.walking.next in
+    let smaller = child_smaller trees linked i held v here child child_is behind refl next c.in-Some.is in (
+      omega (arith, c.decreases, c.walking.invariant.within, smaller),
+      (
+        subst (λ o. IfSome o (Holds trees)) (sym child_is) (kids_held trees linked i held),
+        (each_parts trees linked i held v here child child_is behind refl next c.in-Some.is (λ m. KeepsHooks (kept_hooks c.args.hooks.now) (option_and_then instance_in m)) c.walking.invariant.kept).1,
+      ),
+    )
 
 pub walking-preserved : goal.walking-preserved
 walking-preserved t c =

@@ -1,4 +1,4 @@
-use Rattle.std.specs.Prelude.{◌≡◌, false, IsSome, if◌then◌else◌}
+use Rattle.std.specs.Prelude.{◌≡◌, false, true, IsSome, if◌then◌else◌}
 use Rattle.std.proofs.Common.{refl, sym, ap, subst}
 use Rattle.rx_base.specs.Awaits.{Awaits}
 use Rattle.rx_elem.specs.Trees.{children_of}
@@ -14,6 +14,11 @@ use Rattle.rx_begin.specs.Beginning.{BeginsPlace, awaited_again, is_taken}
 use Rattle.rx_render.specs.declared.at.At.TheVariants.{Begins}
 use Rattle.rx_render.specs.Advancing.{at_opened, Advances}
 use Rattle.rx_render.proofs.Advancing.{can_begin, waits_below, child_advances, leaf_advances, waits_advances, hidden_left, hidden_advances, taken_made, taken_advances, opened_comes}
+use Rattle.rx_fiber.specs.Subtrees.{IsGathered}
+use Rattle.rx_links.specs.Drafts.{Trees}
+use Rattle.rx_fiber.specs.Fibers.{Fiber, as_cloned}
+use Rattle.rx_render.specs.Gathers.{GatheredHere, IsGathering}
+use Rattle.rx_render.proofs.Gathering.{child_gathered, leaf_gathered, again_gathered, passed_gathered, taken_node}
 use Rattle.rx_render.proofs.Paying.{again_flags, child_paid, leaf_paid, passed_flags, waits_paid}
 use Rattle.rx_render.proofs.advance.begin_place.Goals as goal
 
@@ -30,7 +35,7 @@ returns-in-Child-clause-comes g c s sees =
     child_advances s (is_way c.args.scene.now.ways.now) (kept_hooks c.args.hooks.now) c.args.tree.now c.args.contexts.now c.begin.new.tree c.begin.new.contexts c.args.id _ (λ n fs cs e old. c.in_ok-begun.ensures.few s n fs cs e old sees) c.in-Child.child
     (subst (BeginsPlace s (is_way c.args.scene.now.ways.now) (kept_hooks c.args.hooks.now) c.args.tree.now c.args.contexts.now c.begin.new.tree c.begin.new.contexts c.args.id) c.in-Child.is (c.in_ok-begun.ensures.begun s sees))
     (child_paid s c.args.scene.now sees (kept_hooks c.args.hooks.now) c.args.tree.now c.args.contexts.now c.args.id c.in_ok-begun.evaluated c.facts.ensures.fits
-    (record { none = c.in_ok-begun.ensures.none; calm = c.in_ok-begun.ensures.calm; exact = c.in_ok-begun.ensures.exact }) (λ n fs cs e old. c.in_ok-begun.ensures.few s n fs cs e old sees) (λ v there none cloned stood. c.in_ok-begun.ensures.tries v there none cloned stood (ap awaited_again c.in-Child.is))
+    (record { none = c.in_ok-begun.ensures.none; calm = c.in_ok-begun.ensures.calm; exact = c.in_ok-begun.ensures.exact }) (λ n fs cs e old. c.in_ok-begun.ensures.few s n fs cs e old sees) (λ v there none same stood. c.in_ok-begun.ensures.tries v there none same stood (ap awaited_again c.in-Child.is))
     c.begin.new.tree c.in_ok-begun.begun c.in-Child.child c.in-Child.is c.in_ok-begun.ensures.kids)
 
 pub returns-in-Leaf-clause-comes : goal.returns-in-Leaf-clause-comes
@@ -38,7 +43,7 @@ returns-in-Leaf-clause-comes g c s sees =
     leaf_advances s (is_way c.args.scene.now.ways.now) (kept_hooks c.args.hooks.now) c.args.tree.now c.args.contexts.now c.begin.new.tree c.begin.new.contexts c.args.id _ (λ n fs cs e old. c.in_ok-begun.ensures.few s n fs cs e old sees)
     (subst (BeginsPlace s (is_way c.args.scene.now.ways.now) (kept_hooks c.args.hooks.now) c.args.tree.now c.args.contexts.now c.begin.new.tree c.begin.new.contexts c.args.id) c.in-Leaf.is (c.in_ok-begun.ensures.begun s sees))
     (leaf_paid s c.args.scene.now sees (kept_hooks c.args.hooks.now) c.args.tree.now c.args.contexts.now c.args.id c.in_ok-begun.evaluated c.facts.ensures.fits
-    (record { none = c.in_ok-begun.ensures.none; calm = c.in_ok-begun.ensures.calm; exact = c.in_ok-begun.ensures.exact }) (λ n fs cs e old. c.in_ok-begun.ensures.few s n fs cs e old sees) (λ v there none cloned stood. c.in_ok-begun.ensures.tries v there none cloned stood (ap awaited_again c.in-Leaf.is))
+    (record { none = c.in_ok-begun.ensures.none; calm = c.in_ok-begun.ensures.calm; exact = c.in_ok-begun.ensures.exact }) (λ n fs cs e old. c.in_ok-begun.ensures.few s n fs cs e old sees) (λ v there none same stood. c.in_ok-begun.ensures.tries v there none same stood (ap awaited_again c.in-Leaf.is))
     c.begin.new.tree c.in_ok-begun.begun c.in-Leaf.is c.in_ok-begun.ensures.kids)
 
 pub returns-in_ok-at-in-Suspended-clause-comes : goal.returns-in_ok-at-in-Suspended-clause-comes
@@ -48,7 +53,7 @@ returns-in_ok-at-in-Suspended-clause-comes g c s sees =
     (subst (BeginsPlace s (is_way c.args.scene.now.ways.now) (kept_hooks c.args.hooks.now) c.args.tree.now c.args.contexts.now c.begin.new.tree c.begin.new.contexts c.args.id) c.in-Suspended.is (c.in_ok-begun.ensures.begun s sees))
     c.in_ok-at-in-Suspended.ensures.comes
     (waits_paid s c.args.scene.now sees (kept_hooks c.args.hooks.now) c.args.tree.now c.args.contexts.now c.args.id c.in_ok-begun.evaluated c.facts.ensures.fits
-    (record { none = c.in_ok-begun.ensures.none; calm = c.in_ok-begun.ensures.calm; exact = c.in_ok-begun.ensures.exact }) (λ n fs cs e old. c.in_ok-begun.ensures.few s n fs cs e old sees) (λ v there none cloned stood. c.in_ok-begun.ensures.tries v there none cloned stood (ap awaited_again c.in-Suspended.is))
+    (record { none = c.in_ok-begun.ensures.none; calm = c.in_ok-begun.ensures.calm; exact = c.in_ok-begun.ensures.exact }) (λ n fs cs e old. c.in_ok-begun.ensures.few s n fs cs e old sees) (λ v there none same stood. c.in_ok-begun.ensures.tries v there none same stood (ap awaited_again c.in-Suspended.is))
     c.begin.new.tree c.begin.new.contexts c.in-Suspended.resource c.suspend.new.tree c.in_ok-at-in-Suspended.at (c.in_ok-begun.ensures.waits c.in-Suspended.resource c.in-Suspended.is) c.in_ok-at-in-Suspended.ensures.flags)
 
 pub open_old_fallback-requires : goal.open_old_fallback-requires
@@ -66,7 +71,7 @@ returns-in_ok-opened-in-Hidden-clause-comes g c s sees =
     let opened = c.in_ok-opened-in-Hidden.opened in
     subst (Advances s (is_way c.args.scene.now.ways.now) (kept_hooks c.args.hooks.now) c.args.tree.now c.args.contexts.now (Begins c.args.id) _ c.open_old_fallback.new.tree st) (sym c.at_opened.ensures)
     (hidden_advances s (is_way c.args.scene.now.ways.now) (kept_hooks c.args.hooks.now) c.args.tree.now c.args.contexts.now c.begin.new.tree st c.args.id _ c.in-Hidden.awaits c.open_old_fallback.new.tree (at_opened opened)
-    (λ n fs cs e old. c.in_ok-begun.ensures.few s n fs cs e old sees) c.facts.ensures.linked
+    (λ n fs cs e old. c.in_ok-begun.ensures.few s n fs cs e old sees) c.facts.ensures.fits c.facts.ensures.linked
     (subst (BeginsPlace s (is_way c.args.scene.now.ways.now) (kept_hooks c.args.hooks.now) c.args.tree.now c.args.contexts.now c.begin.new.tree st c.args.id) c.in-Hidden.is (c.in_ok-begun.ensures.begun s sees))
     (λ d l again. opened_comes c.open_old_fallback.new.tree st opened d (c.in_ok-opened-in-Hidden.ensures.opened st d l again))
     (λ x was. subst (λ l. ForEachIn (λ i. TellsNews (kept_hooks c.args.hooks.now) l s.cut i false) (children_of x)) (sym sees.lanes)
@@ -89,3 +94,30 @@ returns-in-Taken-clause-comes g c s sees =
     (subst (λ k. EachBut (is_way c.args.scene.now.ways.now) (Rests (kept_hooks c.args.hooks.now) c.args.scene.now.lanes k) x) (sym sees.cut) (c.in_ok-begun.ensures.rests (ap is_taken c.in-Taken.is) x was)))
     (passed_flags c.args.tree.now c.begin.new.tree c.args.id c.pass.result c.facts.ensures.fits c.facts-in-Taken.ensures.fits (c.in_ok-begun.ensures.taken_over (ap is_taken c.in-Taken.is)) c.pass.ensures.next)
     (λ levels fs x. c.pass.ensures.stands st levels fs x) (λ levels fs x. c.pass.ensures.leads st levels fs x))
+
+pub returns-in-Child-clause-gathered : goal.returns-in-Child-clause-gathered
+returns-in-Child-clause-gathered g c current h =
+    child_gathered c.args.tree.now c.begin.new.tree c.args.id c.facts.ensures.fits c.in_ok-begun.evaluated c.in_ok-begun.begun c.in_ok-begun.ensures.kids h c.in-Child.child c.in-Child.is
+
+pub returns-in-Leaf-clause-gathered : goal.returns-in-Leaf-clause-gathered
+returns-in-Leaf-clause-gathered g c current h =
+    leaf_gathered c.args.tree.now c.begin.new.tree c.args.id c.facts.ensures.fits c.in_ok-begun.evaluated c.in_ok-begun.begun c.in_ok-begun.ensures.kids h c.in-Leaf.is
+
+pub returns-in_ok-at-in-Suspended-clause-gathered : goal.returns-in_ok-at-in-Suspended-clause-gathered
+returns-in_ok-at-in-Suspended-clause-gathered g c current h =
+    let same = sym (c.in_ok-begun.ensures.waits c.in-Suspended.resource c.in-Suspended.is) in
+    c.in_ok-at-in-Suspended.ensures.gathered (subst (λ (t : Trees Fiber). IsGathered t.current) same current) (subst (λ t. GatheredHere t c.args.id) same h)
+
+pub returns-in_ok-opened-in-Hidden-clause-gathered : goal.returns-in_ok-opened-in-Hidden-clause-gathered
+returns-in_ok-opened-in-Hidden-clause-gathered g c current h =
+    subst (IsGathering c.open_old_fallback.new.tree) (sym c.at_opened.ensures)
+    (again_gathered (as_cloned true) c.args.tree.now c.begin.new.tree c.open_old_fallback.new.tree c.args.id c.in_ok-opened-in-Hidden.opened c.facts.ensures.fits
+    (c.in_ok-begun.ensures.tried (is_again c.in-Hidden.is)) c.in_ok-opened-in-Hidden.ensures.kids current h)
+
+pub returns-in-Taken-clause-gathered : goal.returns-in-Taken-clause-gathered
+returns-in-Taken-clause-gathered g c current h =
+    let (x, was) = taken_node c.args.scene.now (kept_hooks c.args.hooks.now) c.args.tree.now c.args.contexts.now c.begin.new.tree c.begin.new.contexts c.args.id c.requires
+    (λ s sees. subst (BeginsPlace s (is_way c.args.scene.now.ways.now) (kept_hooks c.args.hooks.now) c.args.tree.now c.args.contexts.now c.begin.new.tree c.begin.new.contexts c.args.id) c.in-Taken.is (c.in_ok-begun.ensures.begun s sees)) in
+    subst (IsGathering c.begin.new.tree) (sym c.at_after.ensures)
+    (passed_gathered c.args.tree.now c.begin.new.tree c.args.id c.pass.result c.facts.ensures.fits c.facts-in-Taken.ensures.fits c.facts.ensures.linked
+    (c.in_ok-begun.ensures.taken_over (ap is_taken c.in-Taken.is)) c.pass.ensures.next x was current h)

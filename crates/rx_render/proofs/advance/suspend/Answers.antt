@@ -1,7 +1,7 @@
-use Rattle.std.proofs.Common.{sym, ap, ◌∙◌, subst}
+use Rattle.std.proofs.Common.{false, sym, ap, ◌∙◌, subst}
 use Rattle.rx_base.specs.Awaits.{one}
 use Rattle.rx_lists.specs.Shapes.{none}
-use Rattle.rx_links.specs.Drafts.{taken}
+use Rattle.rx_links.specs.Drafts.{grafted, taken}
 use Rattle.rx_meaning.specs.Cursor.{unwind}
 use Rattle.rx_fiber.specs.Unwound.{IsLeftAt}
 use Rattle.rx_render.specs.declared.at.At.TheVariants.{Over}
@@ -9,6 +9,10 @@ use Rattle.rx_render.specs.Rendering.{ComesTo, to_wait}
 use Rattle.rx_render.proofs.Advancing.{stopped, opened_comes}
 use Rattle.cost_laws.specs.Left.{unwound}
 use Rattle.rx_render.specs.Costing.{HasFlags}
+use Rattle.rx_fiber.specs.Fibers.{as_matched}
+use Rattle.rx_fiber.specs.Subtrees.{IsGathered}
+use Rattle.rx_render.specs.Gathers.{IsGathering}
+use Rattle.rx_render.proofs.Gathering.{unwound_gathered}
 use Rattle.rx_render.proofs.Paying.{unwound_flags}
 use Rattle.rx_render.proofs.advance.suspend.Goals as goal
 
@@ -20,7 +24,7 @@ open_fallback-requires c =
 pub returns-in-None-clause-comes : goal.returns-in-None-clause-comes
 returns-in-None-clause-comes c levels fs w =
     let left = c.in-None.ensures.left levels fs w in
-    subst (ComesTo c.unwind_to_boundary.new.tree c.unwind_to_boundary.new.contexts Over) (sym (ap (unwind levels fs) (sym c.awaits_for-awaits.ensures) ∙ left.0)) to_wait
+    subst (ComesTo c.discard.new.self c.unwind_to_boundary.new.contexts Over) (sym (ap (unwind levels fs) (sym c.awaits_for-awaits.ensures) ∙ left.0)) to_wait
 
 pub returns-in_ok-opened-in-Some-clause-comes : goal.returns-in_ok-opened-in-Some-clause-comes
 returns-in_ok-opened-in-Some-clause-comes c levels fs w =
@@ -36,3 +40,12 @@ returns-in_ok-opened-in-Some-clause-flags c fs us h within framed =
     subst (λ a. HasFlags c.open_fallback.new.tree a (unwound fs us)) (sym c.at_opened.ensures)
     (unwound_flags c.args.tree.now c.facts.ensures.fits c.args.contexts.now c.args.id fs us h within framed c.unwind_to_boundary.new.tree c.open_fallback.new.tree c.in-Some.boundary
     c.in_ok-opened-in-Some.opened c.facts-in-Some.ensures.fits c.unwind_to_boundary.ensures.current (c.in-Some.ensures.nearest h.around h.value h.old (taken none) h.rest h.here) c.in_ok-opened-in-Some.ensures.kids)
+
+pub returns-in-None-clause-gathered : goal.returns-in-None-clause-gathered
+returns-in-None-clause-gathered c current h = subst (λ x. IsGathered (grafted x.draft)) (sym c.discard.ensures) tt
+
+pub returns-in_ok-opened-in-Some-clause-gathered : goal.returns-in_ok-opened-in-Some-clause-gathered
+returns-in_ok-opened-in-Some-clause-gathered c current h =
+    subst (IsGathering c.open_fallback.new.tree) (sym c.at_opened.ensures)
+    (unwound_gathered (as_matched false) c.args.tree.now c.unwind_to_boundary.new.tree c.open_fallback.new.tree c.in-Some.boundary c.args.id c.in_ok-opened-in-Some.opened h
+    c.unwind_to_boundary.ensures.current (c.in-Some.ensures.nearest h.around h.value h.old (taken none) h.rest h.here) c.in_ok-opened-in-Some.ensures.kids current)

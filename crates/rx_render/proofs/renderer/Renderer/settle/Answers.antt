@@ -3,7 +3,7 @@ use Rattle.std.proofs.Common.{Option, refl, sym, ap, subst, ◌∙◌}
 use Rattle.rx_elem.specs.Trees.{Node}
 use Rattle.rx_pruned.specs.Pruned.{ArePruned}
 use Rattle.rx_render.specs.contracts.renderer.Renderer.{the_view}
-use Rattle.rx_render.proofs.Going.{over_rendering}
+use Rattle.rx_render.proofs.Going.{over_gathered, over_rendering}
 use Rattle.rx_render.proofs.Settling.{can_settle, then_settled, then_stand_on, then_renders_on}
 use Rattle.rx_render.proofs.renderer.Renderer.settle.Goals as goal
 
@@ -16,7 +16,8 @@ settle_hooks-requires-clause-pruned c =
     subst (λ (o : Option Node). ArePruned (option_copied c.args.old) beside.tree o beside.pruned_new) (sym c.as_ref.ensures.value) c.requires.beside
 
 pub invariant_of-self : goal.invariant_of-self
-invariant_of-self c = over_rendering (the_view c.self.inside) _ c.self.invariant refl (ap (λ v. v.at) c.self.view_is ∙ c.requires.over)
+invariant_of-self c = over_rendering (the_view c.self.inside) _ c.self.invariant refl (ap (λ v. v.at) c.self.view_is ∙ c.requires.over) refl
+    (over_gathered (the_view c.self.inside) c.self.invariant (ap (λ v. v.at) c.self.view_is ∙ c.requires.over))
 
 pub returns-clause-settled : goal.returns-clause-settled
 returns-clause-settled c =

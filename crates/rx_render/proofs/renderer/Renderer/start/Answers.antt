@@ -1,6 +1,9 @@
 use Rattle.std.specs.Prelude.{is_some, true}
 use Rattle.std.specs.Option.{option_copied}
-use Rattle.std.proofs.Common.{ap, ◌∙◌, refl, subst}
+use Rattle.std.proofs.Common.{ap, ◌∙◌, refl, subst, sym}
+use Rattle.rx_links.specs.Drafts.{Trees}
+use Rattle.rx_fiber.specs.Fibers.{Fiber}
+use Rattle.rx_fiber.specs.Subtrees.{IsGathered}
 use Rattle.rx_model.specs.HooksOf.{KeepsAllHooks}
 use Rattle.rx_model.specs.Laws.{IsBounded}
 use Rattle.rx_hook_store.specs.Store.{kept_hooks}
@@ -16,7 +19,8 @@ invariant_of-self-2 c =
     c.deref.ensures.value c.in_ok-defaults.ensures
     (λ s tree with at gives. c.in_ok-ways.ensures.idle s tree with at (subst (λ (v : Rendering). GivesAll s tree (kept_hooks v.hooks)) c.self.view_is gives))
     (λ p st g with at keeps. c.in_ok-ways.ensures.undue p st g with at (subst (λ (v : Rendering). KeepsAllHooks p st (kept_hooks v.hooks)) c.self.view_is keeps)) in
-    start_rendering c.args.lanes c.args.cut c.args.resources.items (option_copied c.args.old) c.args.self.now _ c.in_ok-id.id root c.cursors_are_drawn.ensures.start c.self.invariant.known c.self.invariant.bounded c.requires
+    start_rendering c.args.lanes c.args.cut c.args.resources.items (option_copied c.args.old) c.args.self.now _ c.in_ok-id.id root c.cursors_are_drawn.ensures.start c.self.invariant.known c.self.invariant.bounded
+    (subst (λ (t : Trees Fiber). IsGathered t.current) (sym c.in_ok-id.ensures.ok) c.self.invariant.gathered) c.requires
 
 pub returns-clause-started : goal.returns-clause-started
 returns-clause-started c st is =

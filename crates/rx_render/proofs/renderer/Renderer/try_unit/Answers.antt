@@ -1,5 +1,7 @@
 use Rattle.std.specs.Prelude.{if◌then◌else◌}
-use Rattle.std.proofs.Common.{◌+◌, ◌≤◌, Bool, true, false, refl, sym, ap, ◌∙◌, arith}
+use Rattle.std.proofs.Common.{◌+◌, ◌≤◌, Bool, true, false, refl, sym, ap, ◌∙◌, arith, subst}
+use Rattle.rx_links.specs.Drafts.{grafted}
+use Rattle.rx_fiber.specs.Subtrees.{IsGathered}
 use Rattle.rx_render.specs.declared.at.At.TheVariants.{Over}
 use Rattle.rx_render.specs.Rendering.{Rendering}
 use Rattle.rx_render.specs.contracts.renderer.Renderer.{the_view}
@@ -13,7 +15,9 @@ advance-requires g c =
     (λ s sees. record { program = sees.program; resources = c.deref.ensures.value ∙ sees.resources; lanes = sees.lanes; cut = sees.cut }) refl refl
 
 pub invariant_of-self : goal.invariant_of-self
-invariant_of-self g c = over_rendering (the_view c.self.inside) _ c.self.invariant refl refl
+invariant_of-self g c =
+    over_rendering (the_view c.self.inside) _ c.self.invariant refl refl c.in_err-next.ensures.current
+    (subst (λ d. IsGathered (grafted d)) (sym c.in_err-next.ensures.dropped) tt)
 
 pub invariant_of-self-2 : goal.invariant_of-self-2
 invariant_of-self-2 g c =
@@ -21,7 +25,7 @@ invariant_of-self-2 g c =
     (record (the_view c.self.inside) { trees = c.advance.new.tree; hooks = c.advance.new.hooks; contexts = c.advance.new.contexts; at = c.in_ok-next.next; units = c.self.inside.units + 1; bodies = c.self.inside.bodies + c.one_if.result })
     c.one_if.result (stepped (the_view c.self.inside) c.advance.new.tree c.advance.new.hooks c.advance.new.contexts c.in_ok-next.next c.one_if.result c.one_if.ensures c.in_ok-next.ensures.current c.in_ok-next.ensures.states
     (λ s k initials sees. c.in_ok-next.ensures.still s k initials (record { program = sees.program; resources = c.deref.ensures.value ∙ sees.resources; lanes = sees.lanes; cut = sees.cut }))
-    (λ s sees. c.in_ok-next.ensures.comes s (record { program = sees.program; resources = c.deref.ensures.value ∙ sees.resources; lanes = sees.lanes; cut = sees.cut }))) (record { unit = c.cursors_are_drawn.ensures.unit; attempt = c.cursors_are_drawn.ensures.skips_attempt; subtree = c.cursors_are_drawn.ensures.takes_over })
+    (λ s sees. c.in_ok-next.ensures.comes s (record { program = sees.program; resources = c.deref.ensures.value ∙ sees.resources; lanes = sees.lanes; cut = sees.cut }))) (record { unit = c.cursors_are_drawn.ensures.unit; attempt = c.cursors_are_drawn.ensures.skips_attempt; subtree = c.cursors_are_drawn.ensures.takes_over }) c.in_ok-next.ensures.gathered
 
 pub returns-clause-falls : goal.returns-clause-falls
 returns-clause-falls g c =
@@ -29,7 +33,7 @@ returns-clause-falls g c =
     (record (the_view c.self.inside) { trees = c.advance.new.tree; hooks = c.advance.new.hooks; contexts = c.advance.new.contexts; at = c.in_ok-next.next; units = c.self.inside.units + 1; bodies = c.self.inside.bodies + c.one_if.result })
     c.one_if.result (stepped (the_view c.self.inside) c.advance.new.tree c.advance.new.hooks c.advance.new.contexts c.in_ok-next.next c.one_if.result c.one_if.ensures c.in_ok-next.ensures.current c.in_ok-next.ensures.states
     (λ s k initials sees. c.in_ok-next.ensures.still s k initials (record { program = sees.program; resources = c.deref.ensures.value ∙ sees.resources; lanes = sees.lanes; cut = sees.cut }))
-    (λ s sees. c.in_ok-next.ensures.comes s (record { program = sees.program; resources = c.deref.ensures.value ∙ sees.resources; lanes = sees.lanes; cut = sees.cut }))) (record { unit = c.cursors_are_drawn.ensures.unit; attempt = c.cursors_are_drawn.ensures.skips_attempt; subtree = c.cursors_are_drawn.ensures.takes_over })
+    (λ s sees. c.in_ok-next.ensures.comes s (record { program = sees.program; resources = c.deref.ensures.value ∙ sees.resources; lanes = sees.lanes; cut = sees.cut }))) (record { unit = c.cursors_are_drawn.ensures.unit; attempt = c.cursors_are_drawn.ensures.skips_attempt; subtree = c.cursors_are_drawn.ensures.takes_over }) c.in_ok-next.ensures.gathered
 
 pub returns-clause-last : goal.returns-clause-last
 returns-clause-last g c =
@@ -37,7 +41,7 @@ returns-clause-last g c =
     (record (the_view c.self.inside) { trees = c.advance.new.tree; hooks = c.advance.new.hooks; contexts = c.advance.new.contexts; at = c.in_ok-next.next; units = c.self.inside.units + 1; bodies = c.self.inside.bodies + c.one_if.result })
     c.one_if.result (stepped (the_view c.self.inside) c.advance.new.tree c.advance.new.hooks c.advance.new.contexts c.in_ok-next.next c.one_if.result c.one_if.ensures c.in_ok-next.ensures.current c.in_ok-next.ensures.states
     (λ s k initials sees. c.in_ok-next.ensures.still s k initials (record { program = sees.program; resources = c.deref.ensures.value ∙ sees.resources; lanes = sees.lanes; cut = sees.cut }))
-    (λ s sees. c.in_ok-next.ensures.comes s (record { program = sees.program; resources = c.deref.ensures.value ∙ sees.resources; lanes = sees.lanes; cut = sees.cut }))) (record { unit = c.cursors_are_drawn.ensures.unit; attempt = c.cursors_are_drawn.ensures.skips_attempt; subtree = c.cursors_are_drawn.ensures.takes_over })
+    (λ s sees. c.in_ok-next.ensures.comes s (record { program = sees.program; resources = c.deref.ensures.value ∙ sees.resources; lanes = sees.lanes; cut = sees.cut }))) (record { unit = c.cursors_are_drawn.ensures.unit; attempt = c.cursors_are_drawn.ensures.skips_attempt; subtree = c.cursors_are_drawn.ensures.takes_over }) c.in_ok-next.ensures.gathered
     c.unit_before.result c.unit_before.ensures
 
 pub returns-clause-ticks : goal.returns-clause-ticks
@@ -46,7 +50,7 @@ returns-clause-ticks g c =
     (record (the_view c.self.inside) { trees = c.advance.new.tree; hooks = c.advance.new.hooks; contexts = c.advance.new.contexts; at = c.in_ok-next.next; units = c.self.inside.units + 1; bodies = c.self.inside.bodies + c.one_if.result })
     c.one_if.result (stepped (the_view c.self.inside) c.advance.new.tree c.advance.new.hooks c.advance.new.contexts c.in_ok-next.next c.one_if.result c.one_if.ensures c.in_ok-next.ensures.current c.in_ok-next.ensures.states
     (λ s k initials sees. c.in_ok-next.ensures.still s k initials (record { program = sees.program; resources = c.deref.ensures.value ∙ sees.resources; lanes = sees.lanes; cut = sees.cut }))
-    (λ s sees. c.in_ok-next.ensures.comes s (record { program = sees.program; resources = c.deref.ensures.value ∙ sees.resources; lanes = sees.lanes; cut = sees.cut }))) (record { unit = c.cursors_are_drawn.ensures.unit; attempt = c.cursors_are_drawn.ensures.skips_attempt; subtree = c.cursors_are_drawn.ensures.takes_over })
+    (λ s sees. c.in_ok-next.ensures.comes s (record { program = sees.program; resources = c.deref.ensures.value ∙ sees.resources; lanes = sees.lanes; cut = sees.cut }))) (record { unit = c.cursors_are_drawn.ensures.unit; attempt = c.cursors_are_drawn.ensures.skips_attempt; subtree = c.cursors_are_drawn.ensures.takes_over }) c.in_ok-next.ensures.gathered
     c.args.steps.now c.advance.new.steps
     (c.in_ok-next.ensures.ticks ∙ ap (λ n. c.args.steps.now + n) (sym c.one_if.ensures))
 
@@ -64,7 +68,7 @@ returns-clause-onward g c =
     (record (the_view c.self.inside) { trees = c.advance.new.tree; hooks = c.advance.new.hooks; contexts = c.advance.new.contexts; at = c.in_ok-next.next; units = c.self.inside.units + 1; bodies = c.self.inside.bodies + c.one_if.result })
     c.one_if.result (stepped (the_view c.self.inside) c.advance.new.tree c.advance.new.hooks c.advance.new.contexts c.in_ok-next.next c.one_if.result c.one_if.ensures c.in_ok-next.ensures.current c.in_ok-next.ensures.states
     (λ s k initials sees. c.in_ok-next.ensures.still s k initials (record { program = sees.program; resources = c.deref.ensures.value ∙ sees.resources; lanes = sees.lanes; cut = sees.cut }))
-    (λ s sees. c.in_ok-next.ensures.comes s (record { program = sees.program; resources = c.deref.ensures.value ∙ sees.resources; lanes = sees.lanes; cut = sees.cut }))) (record { unit = c.cursors_are_drawn.ensures.unit; attempt = c.cursors_are_drawn.ensures.skips_attempt; subtree = c.cursors_are_drawn.ensures.takes_over })
+    (λ s sees. c.in_ok-next.ensures.comes s (record { program = sees.program; resources = c.deref.ensures.value ∙ sees.resources; lanes = sees.lanes; cut = sees.cut }))) (record { unit = c.cursors_are_drawn.ensures.unit; attempt = c.cursors_are_drawn.ensures.skips_attempt; subtree = c.cursors_are_drawn.ensures.takes_over }) c.in_ok-next.ensures.gathered
 
 pub returns-in_err-next-clause-stopped : goal.returns-in_err-next-clause-stopped
 returns-in_err-next-clause-stopped g c =

@@ -1,0 +1,317 @@
+-- What is at or below fibers is gathered along a render.
+use Rattle.std.specs.Prelude.{List, ◌≡◌, ℕ, Bool, true, false, Option, Some, None, IfSome, option_and_then, if◌then◌else◌}
+use Rattle.std.specs.Option.{option_map_or}
+use Rattle.std.proofs.Common.{refl, sym, ap, ◌∙◌, subst}
+use Rattle.rx_ctx.specs.Contexts.{Stack}
+use Rattle.rx_elem.specs.Numbers.{Numbers, numbered_instance, numbered_mark}
+use Rattle.rx_elem.specs.Trees.{Mark, Node, mark_of, of_instance, of_host, of_boundary, plain}
+use Rattle.rx_hooks.specs.declared.hook.Hook.{Hook}
+use Rattle.rx_lists.specs.Shapes.{Shape, fiber, Holds}
+use Rattle.rx_lists.specs.Shapes as shapes
+use Rattle.rx_links.specs.Drafts.{Draft, taken, made, Fits, Trees, entry, grafted, kids_of, kids_under, old_of, valued}
+use Rattle.rx_links.specs.Places.{Around, top, below, after, placed, up_of}
+use Rattle.rx_links.specs.Readers.{IsLinked, made_kids_in, made_kids_of, made_value_in, made_value_of}
+use Rattle.rx_links.proofs.Placed.{is-at}
+use Rattle.rx_meaning.specs.Fresh.{Sight}
+use Rattle.rx_fiber.specs.declared.stage.Origin.{Origin}
+use Rattle.rx_fiber.specs.declared.stage.StageChange.TheVariants as change
+use Rattle.rx_fiber.specs.Fibers.{Fiber, Stage, waiting, begun, trying, fallback, is_cloned, joined, nothing, marked_subtree, own_subtree, completed_stage}
+use Rattle.rx_fiber.specs.FiberView.{changed}
+use Rattle.rx_fiber.specs.Reading.{IsOld}
+use Rattle.rx_fiber.specs.Subtrees.{IsGathered, IsGatheredOver, subtree_at, subtrees_of}
+use Rattle.rx_fiber.specs.Surround.{above_list, behind_earlier}
+use Rattle.rx_fiber.specs.Unwound.{is_trying}
+use Rattle.rx_fiber.proofs.Completing.{whole_list, placed_list, grafted_list}
+use Rattle.rx_fiber.proofs.Gathered.{gathered_over, joined_same}
+use Rattle.rx_complete.specs.Ends.{Outer, nearest, next_by, next_after}
+use Rattle.rx_complete.specs.declared.completing.Next.{Next}
+use Rattle.rx_complete.proofs.Leading.{next_is}
+use Rattle.rx_causes.specs.declared.scene.Scene.{Scene}
+use Rattle.rx_causes.specs.Marks.{begun_mark, keeps_children, mark_at}
+use Rattle.rx_causes.specs.Scenes.{IsSceneOf}
+use Rattle.rx_causes.proofs.Marks.{mark_is}
+use Rattle.rx_ways.specs.Ways.{is_way}
+use Rattle.rx_begin.specs.Beginning.{BeginsPlace, is_opened}
+use Rattle.rx_begin.specs.Nodes.{HasTaken, begun_over, taken_as}
+use Rattle.rx_begin.specs.Opening.{HasFallbackKids, alone, beside, opened_at}
+use Rattle.rx_begin.specs.Origins.{AllWait, HasKids, TellsSteady}
+use Rattle.rx_begin.specs.declared.node.Begun.{Begun}
+use Rattle.rx_begin.specs.declared.node.Begun.TheVariants.{Child, Leaf}
+use Rattle.rx_begin.specs.declared.node.Begun.TheVariants as answers
+use Rattle.rx_begin.specs.declared.opening.Opened.{Opened}
+use Rattle.flag_laws.specs.Flagged.{AllBare}
+use Rattle.begin_laws.proofs.Costing.{wait_bare}
+use Rattle.rx_read.specs.Numbering.{numbered_at, numbered_draft, numbered_fiber}
+use Rattle.rx_render.specs.declared.at.At.{At}
+use Rattle.rx_render.specs.declared.at.At.TheVariants.{Begins, Completes, Over}
+use Rattle.rx_render.specs.Advancing.{at_after, at_opened, CanBegin}
+use Rattle.rx_render.specs.Gathers.{AroundGathered, GatheredHere, GatheredAtEnd, IsGathering}
+
+-- Around a place
+
+behind_gathered : (k : Around Fiber) (s : Shape Fiber) → AroundGathered k → IsGathered s → IsGathered (behind_earlier k s)
+behind_gathered top s a g = g
+behind_gathered (below id v o rs k) s a g = g
+behind_gathered (after id v o ks k) s a g = behind_gathered k (fiber id v (grafted ks) s) a.1 (a.0.0, a.0.1, g)
+
+root_list : (k : Around Fiber) (d : Draft Fiber) → up_of k ≡ None → grafted (placed k d) ≡ behind_earlier k (grafted d)
+root_list top d e = refl
+root_list (below id v o rs k) d e = absurd (let q : ⊥ = cc in q)
+root_list (after id v o ks k) d e = root_list k (made id v o ks d) e
+
+out_gathered : (k : Around Fiber) → AroundGathered k → AroundGathered (above_list k)
+out_gathered top a = a
+out_gathered (below id v o rs k) a = a
+out_gathered (after id v o ks k) a = out_gathered k a.1
+
+abbrev outer_at : ℕ → Fiber → Option ℕ → Draft Fiber → Around Fiber → Outer
+outer_at id v o rs k = record { around = k; id = id; value = v; old = o; rest = rs }
+
+nearest_gathered : (k : Around Fiber) (u : Outer) → AroundGathered k → nearest k ≡ Some u → AllBare u.rest × AroundGathered u.around
+nearest_gathered top u a e = absurd (let q : ⊥ = cc in q)
+nearest_gathered (below id v o rs k) u a e = by_test (is_trying v.stage) e (nearest_gathered k u a.1)
+  where
+    by_test : (b : Bool) → (if b then Some (outer_at id v o rs k) else nearest k) ≡ Some u → (nearest k ≡ Some u → AllBare u.rest × AroundGathered u.around)
+        → AllBare u.rest × AroundGathered u.around
+    by_test true e above = let q : outer_at id v o rs k ≡ u = cc in subst (λ (x : Outer). AllBare x.rest × AroundGathered x.around) q a
+    by_test false e above = above e
+nearest_gathered (after id v o ks k) u a e = nearest_gathered k u a.1 e
+
+-- the fiber above a list
+record Above (k : Around Fiber) (i : ℕ) : Type 0 where
+  pub around : Around Fiber
+  pub value : Fiber
+  pub old : Option ℕ
+  pub rest : Draft Fiber
+  pub up : above_list k ≡ below i value old rest around
+
+above_at : (k : Around Fiber) (i : ℕ) → up_of k ≡ Some i → Above k i
+above_at top i e = absurd (let q : ⊥ = cc in q)
+above_at (below id v o rs k) i e =
+    let s : id ≡ i = cc in
+    record { around = k; value = v; old = o; rest = rs; up = ap (λ x. below x v o rs k) s }
+above_at (after id v o ks k) i e =
+    let u = above_at k i e in
+    record { around = u.around; value = u.value; old = u.old; rest = u.rest; up = u.up }
+
+-- After a node that is done
+
+after_node : (t : Trees Fiber) (k : Around Fiber) (q : ℕ) (v : Fiber) (o : Option ℕ) (kids rest : Draft Fiber) → t.draft ≡ placed k (made q v o kids rest) → AroundGathered k → IsGatheredOver v (grafted kids) → AllBare rest
+    → IsGathering t (at_after (next_by (entry rest) (up_of k)))
+after_node t k q v o kids (made id w p ks rs) here around over bare = record {
+  around = after q v o kids k;
+  value = w;
+  old = p;
+  rest = rs;
+  here = here ∙ ap (λ x. placed k (made q v o kids (made id w p x rs))) bare.0;
+  gathered = (over, around);
+  follow = bare.1;
+}
+after_node t k q v o kids (taken s) here around over bare =
+    subst (λ x. IsGathering t (at_after (next_by (entry (taken x)) (up_of k)))) (sym bare) (by_up (up_of k) refl)
+  where
+    there : t.draft ≡ placed k (made q v o kids (taken shapes.none))
+    there = here ∙ ap (λ x. placed k (made q v o kids (taken x))) bare
+
+    by_up : (u : Option ℕ) → up_of k ≡ u → IsGathering t (at_after (next_by None u))
+    by_up None e =
+        subst IsGathered (sym (ap grafted there ∙ root_list k (made q v o kids (taken shapes.none)) e))
+        (behind_gathered k (fiber q v (grafted kids) shapes.none) around (over.0, over.1, tt))
+    by_up (Some i) e =
+        let u = above_at k i e in
+        record {
+          inner = after q v o kids k;
+          here = there;
+          around = u.around;
+          value = u.value;
+          old = u.old;
+          rest = u.rest;
+          up = u.up;
+          gathered = (over, around);
+        }
+
+-- a node that is completed
+pub end_gathered : (t new : Trees Fiber) (q : ℕ) (r : Next) → Fits t → new ≡ record t { draft = valued q (changed (change.Complete (subtrees_of (grafted (made_kids_of t.draft q))))) t.draft }
+    → r ≡ next_after t.draft q → GatheredAtEnd t q → IsGathering new (at_after r)
+end_gathered t new q r fits is next h =
+    let kids : Draft Fiber = whole_list h.inner (taken shapes.none) in
+    let here : t.draft ≡ placed h.around (made q h.value h.old kids h.rest) =
+    h.here ∙ (placed_list h.inner (taken shapes.none) ∙ ap (λ k. placed k kids) h.up)
+    in
+    let at = is-at t fits h.around q h.value h.old kids h.rest here in
+    let tells : made_kids_of t.draft q ≡ kids = ap made_kids_in at.list in
+    let outside : AllBare h.rest × AroundGathered h.around = subst AroundGathered h.up (out_gathered h.inner h.gathered) in
+    let all : IsGathered (grafted kids) = subst IsGathered (sym (grafted_list h.inner (taken shapes.none))) (behind_gathered h.inner shapes.none h.gathered tt) in
+    subst (λ x. IsGathering new (at_after x)) (sym (next ∙ next_is t h.around q h.value h.old kids h.rest at))
+    (after_node new h.around q (changed (change.Complete (subtrees_of (grafted (made_kids_of t.draft q)))) h.value) h.old kids h.rest
+    (ap (λ x. x.draft) is ∙ at.value (changed (change.Complete (subtrees_of (grafted (made_kids_of t.draft q)))))) outside.1
+    (ap (λ d. joined (own_subtree (completed_stage h.value.stage)) (subtrees_of (grafted d))) tells, all) outside.0)
+
+-- Old children that are taken over
+
+begun_of : (s : Stage) (m : Mark) → begun_mark s ≡ Some m → s ≡ begun m
+begun_of (waiting c) m e = absurd (let q : ⊥ = cc in q)
+begun_of (begun n) m e = ap begun (let q : n ≡ m = cc in q)
+begun_of trying m e = absurd (let q : ⊥ = cc in q)
+begun_of (fallback a) m e = absurd (let q : ⊥ = cc in q)
+
+taken_over : (c : Shape Fiber) → IsLinked c → (o : Option ℕ) → IfSome o (Holds c) → IsGathered c → (m : Mark) → mark_at c o ≡ Some m → (v : Fiber)
+    → IsGatheredOver (taken_as m (subtree_at c o) v) (kids_under c o)
+taken_over c linked None held g m e v = absurd (let f : None ≡ Some m = e in let q : ⊥ = cc in q)
+taken_over c linked (Some j) held g m e v =
+    let (w, w_is, list) = linked.list j held in
+    let over = gathered_over c linked j held g w w_is in
+    let mark : begun_mark w.stage ≡ Some m = sym (ap (option_and_then (λ u. begun_mark u.stage)) w_is) ∙ e in
+    let own : own_subtree w.stage ≡ marked_subtree m = ap own_subtree (begun_of w.stage m mark) in
+    let kept : subtree_at c (Some j) ≡ w.subtree = ap (λ x. option_map_or (λ u. u.subtree) x nothing) w_is in (
+      ap (joined (marked_subtree m)) (kept ∙ (over.0 ∙ ap (λ x. joined x (subtrees_of (kids_of c j))) own)) ∙ joined_same (marked_subtree m) (subtrees_of (kids_of c j)),
+      over.1,
+    )
+
+pub passed_gathered : (t new : Trees Fiber) (id : ℕ) (r : Next) → Fits t → Fits new → IsLinked t.current → HasTaken t new id → r ≡ next_after new.draft id → (x : Node)
+    → IsOld t.current (old_of t.draft id) (Some x) → IsGathered t.current → GatheredHere t id → IsGathering new (at_after r)
+passed_gathered t new id r fits fits_new linked takes next x was current h =
+    let at = is-at t fits h.around id h.value h.old (taken shapes.none) h.rest h.here in
+    let marked : mark_at t.current h.old ≡ Some (mark_of x) = ap (mark_at t.current) (sym at.old) ∙ mark_is t.current (old_of t.draft id) (Some x) was in
+    let v : Fiber = taken_as (mark_of x) (subtree_at t.current h.old) h.value in
+    let kids : Draft Fiber = taken (kids_under t.current h.old) in
+    let there : new.draft ≡ placed h.around (made id v h.old kids h.rest) = takes h.around h.value h.old h.rest (mark_of x) h.here marked in
+    subst (λ y. IsGathering new (at_after y)) (sym (next ∙ next_is new h.around id v h.old kids h.rest (is-at new fits_new h.around id v h.old kids h.rest there)))
+    (after_node new h.around id v h.old kids h.rest there h.gathered (taken_over t.current linked h.old at.old_held current (mark_of x) marked h.value) h.follow)
+
+-- what was taken over has an old node
+pub taken_node : (scene : Scene) (kept : ℕ → Option (List Hook)) (t : Trees Fiber) (st : Stack) (new : Trees Fiber) (st' : Stack) (id : ℕ) → CanBegin scene kept t st id
+    → ((s : Sight) → IsSceneOf scene s → BeginsPlace s (is_way scene.ways.now) kept t st new st' id answers.Taken) → (x : Node) × IsOld t.current (old_of t.draft id) (Some x)
+taken_node scene kept t st new st' id can begins =
+    let b = begins can.sight can.sees can.levels can.frames can.contexts_are can.element can.old can.stands can.gives can.settled can.covers in
+    (b.node, subst (IsOld t.current (old_of t.draft id)) b.was b.old_is)
+
+-- At what is opened
+
+open_gathered : (new : Trees Fiber) (k : Around Fiber) (p : ℕ) (v : Fiber) (o : Option ℕ) (kids rest : Draft Fiber) → new.draft ≡ placed k (made p v o kids rest) → AroundGathered k → AllBare rest → AllBare kids
+    → IsGathering new (at_opened (opened_at (entry kids) p))
+open_gathered new k p v o (made id w q ks rs) rest here around follow bare = record {
+  around = below p v o rest k;
+  value = w;
+  old = q;
+  rest = rs;
+  here = here ∙ ap (λ x. placed k (made p v o (made id w q x rs) rest)) bare.0;
+  gathered = (follow, around);
+  follow = bare.1;
+}
+open_gathered new k p v o (taken s) rest here around follow bare =
+    subst (λ x. IsGathering new (at_opened (opened_at (entry (taken x)) p))) (sym bare)
+    (record {
+      inner = below p v o rest k;
+      here = here ∙ ap (λ x. placed k (made p v o (taken x) rest)) bare;
+      around = k;
+      value = v;
+      old = o;
+      rest = rest;
+      up = refl;
+      gathered = (follow, around);
+    })
+
+begun_first : (d : Draft Fiber) (i : ℕ) → Child i ≡ begun_over d → entry d ≡ Some i
+begun_first (taken s) i e = absurd (let q : ⊥ = cc in q)
+begun_first (made id v o ks rs) i e = let q : i ≡ id = cc in ap Some (sym q)
+
+begun_none : (d : Draft Fiber) → AllBare d → Leaf ≡ begun_over d → entry d ≡ None
+begun_none (taken s) bare e = ap shapes.first bare
+begun_none (made id v o ks rs) bare e = absurd (let q : ⊥ = cc in q)
+
+module _ (t new : Trees Fiber) (id : ℕ) (fits : Fits t) (evaluated : Bool) (b : Begun)
+    (says : (v : Fiber) → Some v ≡ made_value_of t.draft id → is_opened b ≡ true
+    → (cloned steady : Bool) × TellsSteady t.current (old_of t.draft id) v steady
+    × (is_cloned v.stage ≡ true → evaluated ≡ false → keeps_children true (mark_at t.current (old_of t.draft id)) ≡ true → cloned ≡ true)
+    × ((h : HasKids (record { cloned = cloned; stood = steady }) t new id) × (b ≡ begun_over h.kids))) (here : GatheredHere t id) where
+  its_value : Some here.value ≡ made_value_of t.draft id
+  its_value = sym (ap made_value_in (is-at t fits here.around id here.value here.old (taken shapes.none) here.rest here.here).list)
+
+  pub child_gathered : (child : ℕ) → b ≡ Child child → GatheredHere new child
+  child_gathered child is =
+      let (cloned, steady, steadiness, clones, (kids, over)) = says here.value its_value (ap is_opened is) in
+      subst (λ f. IsGathering new (at_opened (opened_at f id))) (begun_first kids.kids child (sym is ∙ over))
+      (open_gathered new here.around id (kids.value here.value) here.old kids.kids here.rest (kids.stands here.around here.value here.old here.rest here.here) here.gathered here.follow
+      (wait_bare (record { cloned = cloned; stood = steady }) kids.kids kids.all))
+
+  pub leaf_gathered : b ≡ Leaf → GatheredAtEnd new id
+  leaf_gathered is =
+      let (cloned, steady, steadiness, clones, (kids, over)) = says here.value its_value (ap is_opened is) in
+      let bare : AllBare kids.kids = wait_bare (record { cloned = cloned; stood = steady }) kids.kids kids.all in
+      subst (λ f. IsGathering new (at_opened (opened_at f id))) (begun_none kids.kids bare (sym is ∙ over))
+      (open_gathered new here.around id (kids.value here.value) here.old kids.kids here.rest (kids.stands here.around here.value here.old here.rest here.here) here.gathered here.follow bare)
+
+-- a fallback
+fallback_gathered : (origin : Origin) (t new : Trees Fiber) (q : ℕ) → GatheredHere t q → IsGathered t.current → (f : Opened) → HasFallbackKids origin t new q f → IsGathering new (at_opened f)
+fallback_gathered origin t new q h current f (alone kids value still all new_if stands is) =
+    subst (λ x. IsGathering new (at_opened x)) (sym is)
+    (open_gathered new h.around q (value h.value) h.old kids h.rest (stands h.around h.value h.old h.rest h.here) h.gathered h.follow (wait_bare origin kids all))
+fallback_gathered origin t new q h current f (beside kids value kept id w old still too all new_if stands over is) =
+    subst (λ x. IsGathering new (at_opened x)) (sym is)
+    (open_gathered new (after q (value h.value) h.old (taken (kept h.old)) h.around) id w old kids h.rest (stands h.around h.value h.old h.rest h.here)
+    (over h.around h.value h.old h.rest h.here current, h.gathered) h.follow (wait_bare origin kids all))
+
+-- that of a boundary that waits still
+pub again_gathered : (origin : Origin) (t tried new : Trees Fiber) (id : ℕ) (f : Opened) → Fits t → tried ≡ record t { draft = valued id (changed change.Try) t.draft } → HasFallbackKids origin tried new id f
+    → IsGathered t.current → GatheredHere t id → IsGathering new (at_opened f)
+again_gathered origin t tried new id f fits is kids current h =
+    let at = is-at t fits h.around id h.value h.old (taken shapes.none) h.rest h.here in
+    let here : GatheredHere tried id = record {
+      around = h.around;
+      value = changed change.Try h.value;
+      old = h.old;
+      rest = h.rest;
+      here = ap (λ x. x.draft) is ∙ at.value (changed change.Try);
+      gathered = h.gathered;
+      follow = h.follow;
+    } in
+    fallback_gathered origin tried new id here (subst IsGathered (sym (ap (λ x. x.current) is)) current) f kids
+
+-- that of the nearest boundary outside of a place that waits
+pub unwound_gathered : (origin : Origin) (t dropped new : Trees Fiber) (q p : ℕ) (f : Opened) (h : GatheredHere t p) → dropped.current ≡ t.current
+    → ((u : Outer) × (nearest h.around ≡ Some u) × (u.id ≡ q) × (dropped.draft ≡ placed u.around (made q u.value u.old (taken shapes.none) u.rest)))
+    → HasFallbackKids origin dropped new q f → IsGathered t.current → IsGathering new (at_opened f)
+unwound_gathered origin t dropped new q p f h same found kids current =
+    let (u, near, id, here) = found in
+    let outside = nearest_gathered h.around u h.gathered near in
+    fallback_gathered origin dropped new q
+    (record { around = u.around; value = u.value; old = u.old; rest = u.rest; here = here; gathered = outside.1; follow = outside.0 }) (subst IsGathered (sym same) current) f kids
+
+-- Where numbers are given
+
+mark_same : (next : Numbers) (m : Mark) → marked_subtree (numbered_mark next m).1 ≡ marked_subtree m
+mark_same next (of_instance i) = by_number i.number
+  where
+    by_number : (n : Option ℕ) → marked_subtree (numbered_instance next i n).1 ≡ marked_subtree (of_instance i)
+    by_number None = refl
+    by_number (Some n) = refl
+mark_same next (of_host None) = refl
+mark_same next (of_host (Some n)) = refl
+mark_same next (of_boundary b) = refl
+mark_same next plain = refl
+
+stage_same : (next : Numbers) (v : Fiber) (s : Stage) → v.stage ≡ s → ((numbered_at next v s).1.subtree ≡ v.subtree) × (own_subtree (numbered_at next v s).1.stage ≡ own_subtree v.stage)
+stage_same next v (waiting c) e = (refl, refl)
+stage_same next v (begun m) e = (refl, mark_same next m ∙ sym (ap own_subtree e))
+stage_same next v trying e = (refl, refl)
+stage_same next v (fallback a) e = (refl, refl)
+
+kept_same : (next : Numbers) (d : Draft Fiber) → subtrees_of (grafted (numbered_draft next d).1) ≡ subtrees_of (grafted d)
+kept_same next (taken s) = refl
+kept_same next (made id v o ks rs) =
+    let own = numbered_fiber next v in
+    let under = numbered_draft own.0 ks in
+    ap (λ x. joined x (subtrees_of (grafted (numbered_draft under.0 rs).1))) (stage_same next v v.stage refl).0 ∙ ap (joined v.subtree) (kept_same under.0 rs)
+
+pub numbered_gathered : (next : Numbers) (d : Draft Fiber) → IsGathered (grafted d) → IsGathered (grafted (numbered_draft next d).1)
+numbered_gathered next (taken s) g = g
+numbered_gathered next (made id v o ks rs) g =
+    let own = numbered_fiber next v in
+    let under = numbered_draft own.0 ks in
+    let same = stage_same next v v.stage refl in (
+      same.0
+          ∙ (g.0 ∙ (ap (λ x. joined x (subtrees_of (grafted ks))) (sym same.1) ∙ ap (joined (own_subtree own.1.stage)) (sym (kept_same own.0 ks)))),
+      numbered_gathered own.0 ks g.1,
+      numbered_gathered under.0 rs g.2,
+    )

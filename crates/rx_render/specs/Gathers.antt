@@ -1,0 +1,44 @@
+-- Where a render in progress has gathered what is at or below its fibers.
+use Rattle.std.specs.Prelude.{◌≡◌, ℕ, Option}
+use Rattle.rx_lists.specs.Shapes.{none}
+use Rattle.rx_links.specs.Drafts.{Draft, taken, made, Trees, grafted}
+use Rattle.rx_links.specs.Places.{Around, top, below, after, placed}
+use Rattle.rx_fiber.specs.Fibers.{Fiber}
+use Rattle.rx_fiber.specs.Subtrees.{IsGathered, IsGatheredOver}
+use Rattle.rx_fiber.specs.Surround.{above_list}
+use Rattle.flag_laws.specs.Flagged.{AllBare}
+use Rattle.rx_render.specs.declared.at.At.{At}
+use Rattle.rx_render.specs.declared.at.At.TheVariants.{Begins, Completes, Over}
+
+-- The earlier siblings of a place are gathered, and so are those of each fiber around it. What follows these fibers has no children yet.
+abbrev pub AroundGathered : Around Fiber → Type 0
+AroundGathered top = Unit {0}
+AroundGathered (below id v o rs k) = AllBare rs × AroundGathered k
+AroundGathered (after id v o ks k) = IsGatheredOver v (grafted ks) × AroundGathered k
+
+-- what is done around a made fiber that has no children yet is gathered
+pub record GatheredHere (t : Trees Fiber) (p : ℕ) : Type 0 where
+  pub around : Around Fiber
+  pub value : Fiber
+  pub old : Option ℕ
+  pub rest : Draft Fiber
+  pub here : t.draft ≡ placed around (made p value old (taken none) rest)
+  pub gathered : AroundGathered around
+  pub follow : AllBare rest
+
+-- what is done around the end of a list is gathered, where the node of this fiber is completed next
+pub record GatheredAtEnd (t : Trees Fiber) (q : ℕ) : Type 0 where
+  pub inner : Around Fiber
+  pub here : t.draft ≡ placed inner (taken none)
+  pub around : Around Fiber
+  pub value : Fiber
+  pub old : Option ℕ
+  pub rest : Draft Fiber
+  pub up : above_list inner ≡ below q value old rest around
+  pub gathered : AroundGathered inner
+
+-- what is done is gathered, where the next unit does this; where no unit is left, all that is there is
+abbrev pub IsGathering : Trees Fiber → At → Type 0
+IsGathering t (Begins id) = GatheredHere t id
+IsGathering t (Completes id) = GatheredAtEnd t id
+IsGathering t Over = IsGathered (grafted t.draft)
