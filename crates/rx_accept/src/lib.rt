@@ -2,14 +2,10 @@
 #![tactic(auto)]
 
 mod accepting;
-#[cfg(test)]
-mod cases;
 mod cause;
 pub mod laws;
 mod lines;
 mod program;
-#[cfg(test)]
-mod tests;
 mod verdict;
 
 pub use accepting::accept;

@@ -3,8 +3,6 @@
 
 mod prepared;
 mod shown;
-#[cfg(test)]
-mod tests;
 mod writing;
 
 pub use prepared::Prepared;

@@ -6,8 +6,6 @@ mod compare;
 mod compared;
 mod lists;
 mod outcome;
-#[cfg(test)]
-mod tests;
 
 pub use around::Around;
 pub use compare::compare_trees;

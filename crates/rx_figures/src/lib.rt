@@ -4,8 +4,6 @@
 mod costs;
 mod figures;
 mod held;
-#[cfg(test)]
-mod tests;
 
 pub use costs::cost_over;
 pub use figures::{Figures, root_figures};

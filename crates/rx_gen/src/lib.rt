@@ -4,8 +4,6 @@
 mod pieces;
 mod rounds;
 mod summing;
-#[cfg(test)]
-mod tests;
 
 pub use rounds::generate;
 pub use summing::summary;

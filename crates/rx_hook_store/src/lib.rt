@@ -4,8 +4,6 @@
 mod busy;
 mod laws;
 mod store;
-#[cfg(test)]
-mod tests;
 
 pub use laws::{
     committed_keeps_hooks, hooks_are_there, keeps_give, links_are_below, what_is_kept_stays,

@@ -5,8 +5,6 @@ mod attrs;
 mod entry;
 mod replaying;
 mod table;
-#[cfg(test)]
-mod tests;
 mod tree;
 
 pub use attrs::AttrList;

@@ -9,8 +9,6 @@ mod known;
 mod placed;
 mod placing;
 mod reading;
-#[cfg(test)]
-mod tests;
 
 pub use between::ops_between;
 pub use host::Host;

@@ -8,8 +8,6 @@ mod lexer;
 mod signs;
 mod spans;
 mod strings;
-#[cfg(test)]
-mod tests;
 mod token;
 mod words;
 

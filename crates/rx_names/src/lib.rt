@@ -6,8 +6,6 @@ mod index;
 mod listing;
 mod names;
 mod table;
-#[cfg(test)]
-mod tests;
 
 pub use borrowed::BorrowedNames;
 pub use index::Index;

@@ -3,8 +3,6 @@
 
 mod mark;
 mod node;
-#[cfg(test)]
-mod tests;
 
 pub use mark::{Instance, Mark};
 pub use node::Node;

@@ -5,8 +5,6 @@ mod declarations;
 mod error;
 mod parser;
 mod statements;
-#[cfg(test)]
-mod tests;
 
 pub use error::ParseError;
 pub use parser::parse;

@@ -6,8 +6,6 @@ mod expressions;
 mod printer;
 mod slots;
 mod statements;
-#[cfg(test)]
-mod tests;
 
 ghost use Rattle.std.specs.Prelude.{◌≡◌, ℕ, [], ◌∷◌, ◌++◌, take, IfOk};
 ghost use Rattle.rx_print.specs.Printing.{program_tokens};

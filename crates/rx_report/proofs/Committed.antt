@@ -63,7 +63,7 @@ content_in_order (elements.host n k attrs es) c is own =
     let same : tag n (by_name attrs) ≡ c = cc in
     subst IsByName same (put_by_name attrs (subst OwnNames (sym same) own))
 content_in_order (elements.comp n k ps es) c is own = absurd (cc)
-content_in_order (elements.list es) c is own = absurd (cc)
+content_in_order (elements.list marked es) c is own = absurd (cc)
 content_in_order (elements.boundary k f es) c is own = absurd (cc)
 content_in_order (elements.provider n k x es) c is own = absurd (cc)
 

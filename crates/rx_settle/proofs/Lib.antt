@@ -5,4 +5,3 @@ mod Making
 mod Apart
 mod Numbers
 mod Whole
-mod First

@@ -1,4 +1,3 @@
 pub mod Settling
 pub mod Made
 pub mod Passes
-pub mod Example

@@ -5,7 +5,5 @@ mod keeping;
 mod made;
 mod rendering;
 mod settling;
-#[cfg(test)]
-mod tests;
 
 pub use settling::settle_hooks;

@@ -6,8 +6,6 @@ mod boundaries;
 mod counts;
 mod instance;
 mod listing;
-#[cfg(test)]
-mod tests;
 
 pub use around::Around;
 pub use boundaries::awaited;

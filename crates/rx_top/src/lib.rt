@@ -12,6 +12,3 @@ mod summary;
 pub use call::top;
 pub use laws::summary_is_one;
 pub use status::Status;
-
-#[cfg(test)]
-mod tests;

@@ -1,4 +1,3 @@
 pub mod Ways
 pub mod Leads
 pub mod Walk
-pub mod Example

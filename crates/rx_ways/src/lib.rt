@@ -2,8 +2,6 @@
 #![tactic(auto)]
 
 mod finding;
-#[cfg(test)]
-mod tests;
 mod ways;
 
 pub use finding::find_ways;

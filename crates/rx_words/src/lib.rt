@@ -5,8 +5,6 @@ mod reading;
 mod rounds;
 mod spelling;
 mod task;
-#[cfg(test)]
-mod tests;
 
 pub use reading::read_words;
 pub use task::{Reading, Task};

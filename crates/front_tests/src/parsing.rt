@@ -1,0 +1,39 @@
+// Programs that are read, and places of faults.
+
+use rx_lex::lex;
+use rx_parse::{ParseError, parse};
+use std::test::Fail;
+
+/// The place of the fault of a text, if it has one.
+fn place_of(rt: &HostRuntime, text: &str) -> Result<Option<usize>, Fail> {
+    let tokens = lex(rt.alloc(), text)?;
+    match parse(rt.alloc(), &tokens) {
+        Ok(_) => Ok(None),
+        Err(ParseError::Syntax { at }) => Ok(Some(at)),
+        Err(ParseError::OutOfMemory) => Ok(Some(usize::MAX)),
+    }
+}
+
+#[test]
+fn texts_have_these_places(rt: HostRuntime) -> Result<(), Fail> {
+    let cases = [
+        (
+            "function App() { return <main key={1}>{for (i < 3, 8) <b>{i}</b>}</main>; }",
+            None,
+        ),
+        (
+            "const C = createContext(-1); function f(a, b) { return a < b ? 1 : f(b, a); }",
+            None,
+        ),
+        ("function App() { return <a></b>; }", Some(29)),
+        ("function App() { return <a>; }", Some(27)),
+        (
+            "function App() { return (<><C.Provider value={1}/></>);",
+            Some(55),
+        ),
+    ];
+    for (text, place) in cases {
+        assert_eq!(rt; place_of(&rt, text)?, place);
+    }
+    Ok(())
+}

@@ -1,0 +1,2 @@
+mod FirstCommit
+mod FirstRender

@@ -1,0 +1,2 @@
+pub mod FirstTree
+pub mod TwoInstances

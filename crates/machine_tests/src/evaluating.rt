@@ -1,0 +1,107 @@
+// A body, by example.
+ghost use Rattle.std.specs.Prelude.{◌≡◌};
+
+use rx_ast::{
+    Body as Returned, Component, Declaration, Element, Expr, Function, Link, Operator, Program,
+    Slot, Statement, Tag,
+};
+use rx_base::{Int, Name, Steps};
+use rx_check::{Checked, check};
+use rx_eval::{Body, Inputs, apply_fn, eval_body, init_hooks};
+use std::alloc::{AllocError, Global};
+use std::marker::Brand;
+use std::sync::ledger::{Blank, Ledger};
+use std::test::Fail;
+
+/// `function add(s, a) { return s + a; }`
+fn add(alloc: Global) -> Result<Function, AllocError> {
+    let mut parameters = Vec::new(alloc);
+    parameters.push(Name::new(alloc, "s")?)?;
+    parameters.push(Name::new(alloc, "a")?)?;
+    let mut links = Vec::new(alloc);
+    links.push(Link {
+        operator: Operator::Add,
+        operand: Expr::variable(Name::new(alloc, "a")?),
+    })?;
+    let first = Expr::variable(Name::new(alloc, "s")?);
+    let sum = Expr::chain(alloc, first, links)?;
+    Ok(Function::new(Name::new(alloc, "add")?, parameters, Vec::new(alloc), sum))
+}
+
+/// `function App() { const [n, send] = useReducer(add, 3); return <p/>; }`
+fn app(alloc: Global) -> Result<Component, AllocError> {
+    let mut statements = Vec::new(alloc);
+    statements.push(Statement::reducer(
+        Name::new(alloc, "n")?,
+        Name::new(alloc, "send")?,
+        Name::new(alloc, "add")?,
+        Expr::number(3),
+    ))?;
+    let paragraph = Element::ended(Tag::Host {
+        name: Name::new(alloc, "p")?,
+        attributes: Vec::new(alloc),
+    });
+    Ok(Component::new(
+        Name::new(alloc, "App")?,
+        false,
+        Vec::new(alloc),
+        statements,
+        Returned::slot(Slot::element(paragraph)),
+    ))
+}
+
+/// A program with a reducer.
+fn counter(alloc: Global) -> Result<Program, AllocError> {
+    let mut declarations = Vec::new(alloc);
+    declarations.push(Declaration::function(add(alloc)?))?;
+    declarations.push(Declaration::component(app(alloc)?))?;
+    Ok(Program::new(declarations))
+}
+
+/// How many elements and initial values the root gives at mount.
+fn mounted<L: Ledger>(
+    alloc: Global,
+    checked: &Checked,
+    steps: &mut Steps<L>,
+) -> Result<usize, AllocError> {
+    let inputs = Inputs {
+        props: &[],
+        children: &[],
+        hooks: None,
+        contexts: &[],
+        resources: &[],
+    };
+    let Some(root) = checked.program().component(0) else {
+        return Ok(0);
+    };
+    if !root.parameters().is_empty() {
+        return Ok(0);
+    }
+    match eval_body(alloc, checked, 0, &inputs, steps)? {
+        Body::Wait(_) => Ok(0),
+        Body::Ready { elements, .. } => {
+            let initials = init_hooks(alloc, checked, 0, &inputs)?;
+            let values = initials.as_slice();
+            Ok(if values.len() == 1 { elements.len() } else { 0 })
+        }
+    }
+}
+
+/// The same, counting bodies for a ledger.
+fn counted<L: Ledger>(alloc: Global, checked: &Checked, blank: Blank) -> Result<usize, AllocError>
+    requires name { blank.name ≡ L.name }
+    requires parts { blank.parts ≡ L.parts }
+    requires one { blank.parts ≡ 1 }
+{
+    let mut steps: Steps<L> = Steps::new(blank);
+    mounted(alloc, checked, &mut steps)
+}
+
+#[test]
+fn a_body_is_evaluated(rt: HostRuntime) -> Result<(), Fail> {
+    let program = counter(rt.alloc())?;
+    let checked = check(rt.alloc(), program)?;
+    assert_eq!(rt; counted::<Brand>(rt.alloc(), &checked, Blank::new(1))?, 1);
+    assert_eq!(rt; apply_fn(&checked, 0, Int::of(3), Int::of(4)).value(), 7);
+    Ok(())
+}
