@@ -96,7 +96,7 @@ own_carried c visible kept v B D carry (elements.host n key attrs es) m ns fs ms
 own_carried c visible kept v B D carry (elements.comp k key props given) m ns fs ms gs a b x y seen own =
     let carried = carry k props given own.0 (elements_in ns) (subst (λ (q : Mark). NumberSeen visible kept v (number_of (numbered_mark c q).1)) own.1 seen) own.2 in
     (carried.0, ap (λ (q : Mark). (numbered_mark c q).1) own.1 ∙ carried.1, subst (λ (es : List Element). D k props given carried.0 es) (sym a) carried.2, y own.3)
-own_carried c visible kept v B D carry (elements.list es) m ns fs ms gs a b x y seen own =
+own_carried c visible kept v B D carry (elements.list marked es) m ns fs ms gs a b x y seen own =
     (ap (λ (q : Mark). (numbered_mark c q).1) own.0, a ∙ own.1, y own.2)
 own_carried c visible kept v B D carry (elements.boundary key f es) m ns fs ms gs a b x y seen (inl own) =
     inl (ap (λ (q : Mark). (numbered_mark c q).1) own.0, a ∙ own.1, y own.2)

@@ -136,8 +136,8 @@ place_hides n s below cs (elements.host name key attrs es) old h =
     over_hides n s cs cs (elements.host name key attrs es) (of_host _) (render_list (rendered n s cs) (listed es) (children_if old))
     (list_hides n s below cs (listed es) (children_if old) (children_numbered old h)) (λ ns all. (tt, all, tt))
 place_hides n s below cs (elements.comp c key props given) old h = component_hides n s below cs c key props given old h (component_at s.program c)
-place_hides n s below cs (elements.list es) old h =
-    over_hides n s cs cs (elements.list es) plain (render_list (rendered n s cs) (listed es) (children_if old))
+place_hides n s below cs (elements.list marked es) old h =
+    over_hides n s cs cs (elements.list marked es) plain (render_list (rendered n s cs) (listed es) (children_if old))
     (list_hides n s below cs (listed es) (children_if old) (children_numbered old h)) (λ ns all. (tt, all, tt))
 place_hides n s below cs (elements.boundary key f es) old h =
     parts_hide n s cs key f es old h (render_list (rendered n s cs) (listed es) (children_if old)) (render_list (rendered n s cs) (f ∷ []) (fallback_if old)) refl
@@ -202,7 +202,7 @@ own_numbered n s cs c d elements.null m ns h = tt
 own_numbered n s cs c d (elements.text t) m ns h = tt
 own_numbered n s cs c d (elements.host name key attrs es) m ns h = tt
 own_numbered n s cs c d (elements.comp k key props given) m ns h = tt
-own_numbered n s cs c d (elements.list es) m ns h = tt
+own_numbered n s cs c d (elements.list marked es) m ns h = tt
 own_numbered n s cs c d (elements.boundary key f es) (of_instance i) ns h = go i.number
   where
     go : (k : Option ℕ) → OwnWaits n s cs (elements.boundary key f es) (numbered_instance c i k).1 (numbered_in d ns).1

@@ -60,7 +60,7 @@ zero_is_null p elements.null h = refl
 zero_is_null p (elements.text t) h = absurd (omega arith)
 zero_is_null p (elements.host n key attrs es) h = absurd (omega arith)
 zero_is_null p (elements.comp c key props es) h = absurd (omega arith)
-zero_is_null p (elements.list es) h = absurd (omega arith)
+zero_is_null p (elements.list marked es) h = absurd (omega arith)
 zero_is_null p (elements.boundary key f es) h = absurd (omega arith)
 zero_is_null p (elements.provider c key x es) h = absurd (omega arith)
 
@@ -110,7 +110,7 @@ own_number p k (elements.comp c key props given) m ns fs own i h =
     let there : Some own.0 ≡ Some i = sym (ap instance_in own.1) ∙ h in
     let same : own.0 ≡ i = cc in
     (own.2.instance, ap (λ (j : Instance). j.number) (sym same) ∙ own.2.is_numbered)
-own_number p k (elements.list es) m ns fs own i h = absurd (no_instance (instance_in m) i (ap instance_in own.0) h)
+own_number p k (elements.list marked es) m ns fs own i h = absurd (no_instance (instance_in m) i (ap instance_in own.0) h)
 own_number p k (elements.boundary key f es) m ns fs (inl own) i h = absurd (no_instance (instance_in m) i (ap instance_in own.0) h)
 own_number p k (elements.boundary key f es) m ns fs (inr own) i h = absurd (no_instance (instance_in m) i (ap instance_in own.1) h)
 own_number p k (elements.provider c key x es) m ns fs own i h = absurd (no_instance (instance_in m) i (ap instance_in own.0) h)
@@ -229,9 +229,9 @@ module _ (s : Sight) (k : Known) (declared : ReadsDeclared s.program) (some : Ha
       (list_is n s k below cs (listed es) (children_if old) full (listed_named s.program es named) (shape_fits n s cs (elements.host name key attrs es) old fits) (children_settled s.program k old settled))
       (λ ns elems all. ((old_host old, refl, elems, refl), all, tt))
   place_is n below cs (elements.comp c key props given) old full named fits settled = comp_is n below cs full c key props given old named fits settled
-  place_is n below cs (elements.list es) old full named fits settled =
-      over_is s k cs cs (elements.list es) plain (listed es) (render_list (rendered n s cs) (listed es) (children_if old))
-      (list_is n s k below cs (listed es) (children_if old) full (listed_named s.program es named) (shape_fits n s cs (elements.list es) old fits) (children_settled s.program k old settled))
+  place_is n below cs (elements.list marked es) old full named fits settled =
+      over_is s k cs cs (elements.list marked es) plain (listed es) (render_list (rendered n s cs) (listed es) (children_if old))
+      (list_is n s k below cs (listed es) (children_if old) full (listed_named s.program es named) (shape_fits n s cs (elements.list marked es) old fits) (children_settled s.program k old settled))
       (λ ns elems all. ((refl, elems, refl), all, tt))
   place_is n below cs (elements.boundary key f es) old full named fits settled =
       let parts = shape_fits n s cs (elements.boundary key f es) old fits in

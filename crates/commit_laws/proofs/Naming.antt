@@ -24,7 +24,7 @@ abbrev mutual
   Named p (elements.text t) = Unit {0}
   Named p (elements.host n k attrs es) = AllNamed p es
   Named p (elements.comp c k ps es) = (is_some (component_at p c) ≡ true) × AllNamed p es
-  Named p (elements.list es) = AllNamed p es
+  Named p (elements.list marked es) = AllNamed p es
   Named p (elements.boundary k f es) = Named p f × AllNamed p es
   Named p (elements.provider c k x es) = AllNamed p es
 

@@ -173,9 +173,9 @@ module _ (s : Sight) (some : HasComponents s.program) where
       over_holds s (elements.host name key attrs es) (of_host (old_host old)) old (listed es) (render_list (rendered n s cs) (listed es) (children_if old)) refl (nothing_open s)
       (list_holds n s below cs (listed es) (children_if old) (listed_named s.program es named) (shape_fits n s cs (elements.host name key attrs es) old fits))
   place_holds n below cs (elements.comp c key props given) old named fits = comp_holds n below cs c key props given old named fits
-  place_holds n below cs (elements.list es) old named fits =
-      over_holds s (elements.list es) plain old (listed es) (render_list (rendered n s cs) (listed es) (children_if old)) refl (nothing_open s)
-      (list_holds n s below cs (listed es) (children_if old) (listed_named s.program es named) (shape_fits n s cs (elements.list es) old fits))
+  place_holds n below cs (elements.list marked es) old named fits =
+      over_holds s (elements.list marked es) plain old (listed es) (render_list (rendered n s cs) (listed es) (children_if old)) refl (nothing_open s)
+      (list_holds n s below cs (listed es) (children_if old) (listed_named s.program es named) (shape_fits n s cs (elements.list marked es) old fits))
   place_holds n below cs (elements.boundary key f es) old named fits =
       let parts = shape_fits n s cs (elements.boundary key f es) old fits in
       parts_hold s (elements.boundary key f es) f (listed es) old (render_list (rendered n s cs) (listed es) (children_if old)) (render_list (rendered n s cs) (f ∷ []) (fallback_if old))

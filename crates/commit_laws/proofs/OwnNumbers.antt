@@ -244,7 +244,7 @@ place_counts n s f h cs elements.null old = tt
 place_counts n s f h cs (elements.text t) old = omega arith
 place_counts n s f h cs (elements.host name key attrs es) old = plain_count n (f cs) (h cs) (elements.host name key attrs es) (of_host _) refl (listed es) old
 place_counts n s f h cs (elements.comp c key props es) old = component_counts n s f cs c (h cs) (elements.comp c key props es) props es old (component_at s.program c)
-place_counts n s f h cs (elements.list es) old = plain_count n (f cs) (h cs) (elements.list es) plain refl (listed es) old
+place_counts n s f h cs (elements.list marked es) old = plain_count n (f cs) (h cs) (elements.list marked es) plain refl (listed es) old
 place_counts n s f h cs (elements.boundary key e es) old =
     parts_count n (elements.boundary key e es) old (render_list (f cs) (listed es) (children_if old)) (render_list (f cs) (e ∷ []) (fallback_if old))
     (list_counts n (f cs) (h cs) (listed es) (children_if old)) (list_counts n (f cs) (h cs) (e ∷ []) (fallback_if old))

@@ -1,7 +1,7 @@
 -- What the test of two elements tells: they are equal.
 use Rattle.std.specs.Cmp.Lexicographic.{pointwise}
 use Rattle.std.specs.Ordering.{int_eq}
-use Rattle.std.specs.Prelude.{Bool, List, None, Some, [], bytes_eq, nat_eq, refl, true, ℕ, ℤ, ◌&&◌, ◌∷◌, ◌≡◌}
+use Rattle.std.specs.Prelude.{Bool, List, None, Some, [], bytes_eq, false, nat_eq, refl, true, ℕ, ℤ, ◌&&◌, ◌∷◌, ◌≡◌}
 use Rattle.std.proofs.Common.{ap}
 use Rattle.std.proofs.lemmas.Bool.Decides.{Decides-int_eq}
 use Rattle.std.proofs.lemmas.Slice.Eq.{bytes_eq-Decides}
@@ -72,7 +72,10 @@ mutual
       let c : ps ≡ qs = lists_tell int_eq same_int ps qs t.2 in
       let d : es ≡ fs = all_tell es fs t.3 in
       λ i. elements.comp (a i) (b i) (c i) (d i)
-  elements_tell (elements.list es) (elements.list fs) h = ap elements.list (all_tell es fs h)
+  elements_tell (elements.list true es) (elements.list true fs) h = ap (elements.list true) (all_tell es fs h)
+  elements_tell (elements.list false es) (elements.list false fs) h = ap (elements.list false) (all_tell es fs h)
+  elements_tell (elements.list true es) (elements.list false fs) h = absurd (cc h)
+  elements_tell (elements.list false es) (elements.list true fs) h = absurd (cc h)
   elements_tell (elements.boundary k e es) (elements.boundary l f fs) h =
       let t = three (same_key k l) (same_element e f) (same_elements es fs) h in
       let a : k ≡ l = keys_tell k l t.0 in

@@ -30,7 +30,7 @@ own_reads s cs elements.null m ns fs own = absurd own
 own_reads s cs (elements.text t) m ns fs own = rw own.1 refl
 own_reads s cs (elements.host n key attrs es) m ns fs own = rw own.1 refl
 own_reads s cs (elements.comp c key props given) m ns fs own = rw own.1 own.2.was_read
-own_reads s cs (elements.list es) m ns fs own = rw own.0 refl
+own_reads s cs (elements.list marked es) m ns fs own = rw own.0 refl
 own_reads s cs (elements.boundary key f es) m ns fs (inl own) = rw own.0 refl
 own_reads s cs (elements.boundary key f es) m ns fs (inr own) = rw own.1 refl
 own_reads s cs (elements.provider c key x es) m ns fs own = rw own.0 refl
@@ -116,7 +116,7 @@ own_goes p k l f elements.null m ns fs own = own
 own_goes p k l f (elements.text t) m ns fs own = own
 own_goes p k l f (elements.host n key attrs es) m ns fs own = own
 own_goes p k l f (elements.comp c key props given) m ns fs own = (own.0, own.1, f c props given own.0 (elements_in ns) own.2, own.3)
-own_goes p k l f (elements.list es) m ns fs own = own
+own_goes p k l f (elements.list marked es) m ns fs own = own
 own_goes p k l f (elements.boundary key e es) m ns fs own = own
 own_goes p k l f (elements.provider c key x es) m ns fs own = own
 

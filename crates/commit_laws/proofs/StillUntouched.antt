@@ -60,8 +60,8 @@ below_untouched visit below s at (elements.comp c key props given) m ns fs own c
     touched_so x same h =
         let calm_instance : has_cause s at.contexts (of_instance own.0) ≡ false = rw same at h in
         subst (λ (y : Mark). touched_instance s at.contexts (instance_in y) ≡ false) (sym same) calm_instance
-below_untouched visit below s at (elements.list es) m ns fs own calm there again =
-    (refl, there (record (setting_below (Some (node (elements.list es) m ns fs)) at) { contexts = at.contexts }) refl)
+below_untouched visit below s at (elements.list marked es) m ns fs own calm there again =
+    (refl, there (record (setting_below (Some (node (elements.list marked es) m ns fs)) at) { contexts = at.contexts }) refl)
 below_untouched visit below s at (elements.boundary key f es) m ns fs own calm there again =
     let old : Option Node = Some (node (elements.boundary key f es) m ns fs) in
     let below_here : Setting = setting_below old at in

@@ -97,7 +97,7 @@ own_not_null p k elements.null m ns fs h = absurd h
 own_not_null p k (elements.text t) m ns fs h = refl
 own_not_null p k (elements.host n key attrs es) m ns fs h = refl
 own_not_null p k (elements.comp c key props given) m ns fs h = refl
-own_not_null p k (elements.list es) m ns fs h = refl
+own_not_null p k (elements.list marked es) m ns fs h = refl
 own_not_null p k (elements.boundary key f es) m ns fs h = refl
 own_not_null p k (elements.provider c key x es) m ns fs h = refl
 
@@ -147,7 +147,7 @@ idle_shape s cs (elements.comp c key props given) m ns fs own idle reads =
     let values : HasCommittedValues s own.0 = rw own.1 at idle in
     let calm : read_anew cs own.0.reads ≡ false = rw own.1 at reads in
     rw own.1 (instance_again s cs c key props given own.0 ns fs own.2 values calm)
-idle_shape s cs (elements.list es) m ns fs own idle reads = rw (own.0, own.1) refl
+idle_shape s cs (elements.list marked es) m ns fs own idle reads = rw (own.0, own.1) refl
 idle_shape s cs (elements.boundary key f es) m ns fs (inl own) idle reads = rw own.1 refl
 idle_shape s cs (elements.boundary key f es) m ns fs (inr own) idle reads = absurd (hidden_not_idle s m own.0 idle own.1)
 idle_shape s cs (elements.provider c key x es) m ns fs own idle reads = rw (own.0, own.1) refl
@@ -168,7 +168,7 @@ place_of_kept below p k s cs elements.null m ns fs own idle found again = absurd
 place_of_kept below p k s cs (elements.text t) m ns fs own idle found again = rw (found, again, own.3) refl
 place_of_kept below p k s cs (elements.host n key attrs es) m ns fs own idle found again = rw (found, again, own.3) refl
 place_of_kept below p k s cs (elements.comp c key props given) m ns fs own idle found again = rw (found, again, own.3) refl
-place_of_kept below p k s cs (elements.list es) m ns fs own idle found again = rw (found, again, own.2) refl
+place_of_kept below p k s cs (elements.list marked es) m ns fs own idle found again = rw (found, again, own.2) refl
 place_of_kept below p k s cs (elements.boundary key f es) m ns fs (inl own) idle found again = rw (found, again, own.0, own.2) refl
 place_of_kept below p k s cs (elements.boundary key f es) m ns fs (inr own) idle found again = absurd (hidden_not_idle s m own.0 idle own.1)
 place_of_kept below p k s cs (elements.provider c key x es) m ns fs own idle found again = rw (found, again, own.2) refl
@@ -180,7 +180,7 @@ kept_fits n p cs elements.null m ns fs present h = absurd (cc present)
 kept_fits n p cs (elements.text t) m ns fs present h = h
 kept_fits n p cs (elements.host x key attrs es) m ns fs present h = h
 kept_fits n p cs (elements.comp c key props given) m ns fs present h = h
-kept_fits n p cs (elements.list es) m ns fs present h = h
+kept_fits n p cs (elements.list marked es) m ns fs present h = h
 kept_fits n p cs (elements.boundary key f es) m ns fs present h = h.0
 kept_fits n p cs (elements.provider c key x es) m ns fs present h = h
 

@@ -198,7 +198,7 @@ module _ (s : Sight) (j : _) (l : _) (c : _) (small : WaitsAreSmall s.program) (
   shape_again cs (elements.text x) old h = refl
   shape_again cs (elements.host n key attrs es) old h = refl
   shape_again cs (elements.comp k key props given) old h = comp_again cs k props given old h (component_at s.program k) refl
-  shape_again cs (elements.list es) old h = refl
+  shape_again cs (elements.list marked es) old h = refl
   shape_again cs (elements.boundary key f es) old h = refl
   shape_again cs (elements.provider k key x es) old h = refl
 
@@ -238,7 +238,7 @@ module _ (s : Sight) (j : _) (l : _) (c : _) (small : WaitsAreSmall s.program) (
   shape_olds cs (elements.text x) old h = tt
   shape_olds cs (elements.host n key attrs es) old h = children_agree s later old h
   shape_olds cs (elements.comp k key props given) old h = component_olds cs k props given old (component_at s.program k) h
-  shape_olds cs (elements.list es) old h = children_agree s later old h
+  shape_olds cs (elements.list marked es) old h = children_agree s later old h
   shape_olds cs (elements.boundary key f es) old h = (children_agree s later old h, fallback_agrees s later old h)
   shape_olds cs (elements.provider k key x es) old h = children_agree s later old h
 

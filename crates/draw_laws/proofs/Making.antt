@@ -135,7 +135,7 @@ module _ (Q R : ℕ → List ℤ → Type 0) where
   shape_made s cs (elements.text t) old h = (tt, refl)
   shape_made s cs (elements.host name key attrs es) old h = (tt, refl)
   shape_made s cs (elements.comp c key props given) old h = component_made s cs c props given old (component_at s.program c) (λ i n e f. h c i n refl e f)
-  shape_made s cs (elements.list es) old h = (tt, refl)
+  shape_made s cs (elements.list marked es) old h = (tt, refl)
   shape_made s cs (elements.boundary key f es) old h = tt
   shape_made s cs (elements.provider c key x es) old h = (tt, refl)
 

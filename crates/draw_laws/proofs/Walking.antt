@@ -89,7 +89,7 @@ module _ (s : Sight) (known : unknowns s.program ≡ []) where
   shape_drawn cs (elements.text t) old h = tt
   shape_drawn cs (elements.host name key attrs es) old h = listed_drawn s.program es h
   shape_drawn cs (elements.comp c key props given) old h = component_drawn cs c props given old h.1 (component_at s.program c) refl
-  shape_drawn cs (elements.list es) old h = listed_drawn s.program es h
+  shape_drawn cs (elements.list marked es) old h = listed_drawn s.program es h
   shape_drawn cs (elements.boundary key f es) old h = (listed_drawn s.program es h.1, (h.0, tt))
   shape_drawn cs (elements.provider c key x es) old h = listed_drawn s.program es h.1
 

@@ -12,7 +12,7 @@ abbrev mutual
   IsDrawn p (elements.text t) = Unit {0}
   IsDrawn p (elements.host n k attrs es) = AreDrawn p es
   IsDrawn p (elements.comp c k ps es) = (option_map (λ d. length (prop_names d)) (component_at p c) ≡ Some (length ps)) × AreDrawn p es
-  IsDrawn p (elements.list es) = AreDrawn p es
+  IsDrawn p (elements.list marked es) = AreDrawn p es
   IsDrawn p (elements.boundary k f es) = IsDrawn p f × AreDrawn p es
   IsDrawn p (elements.provider c k x es) = (c < length (contexts p)) × AreDrawn p es
 

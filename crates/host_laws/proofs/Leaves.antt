@@ -35,7 +35,7 @@ module _ (all : List Host) where
       let element : is_element c ≡ true = ap is_element (sym same) in
       below (or_right (nat_eq n 0) _ (rw own element))
   element_holds a (elements.comp i k ps es) n c is own ns leaf below = absurd (cc)
-  element_holds a (elements.list es) n c is own ns leaf below = absurd (cc)
+  element_holds a (elements.list marked es) n c is own ns leaf below = absurd (cc)
   element_holds a (elements.boundary k f es) n c is own ns leaf below = absurd (cc)
   element_holds a (elements.provider i k x es) n c is own ns leaf below = absurd (cc)
 

@@ -107,7 +107,7 @@ HasNone elements.null ns = Unit {0}
 HasNone (elements.text t) ns = ns ≡ none
 HasNone (elements.host n k attrs es) ns = Unit {0}
 HasNone (elements.comp c k ps es) ns = Unit {0}
-HasNone (elements.list es) ns = Unit {0}
+HasNone (elements.list marked es) ns = Unit {0}
 HasNone (elements.boundary k f es) ns = Unit {0}
 HasNone (elements.provider c k x es) ns = Unit {0}
 

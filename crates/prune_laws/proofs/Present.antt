@@ -12,7 +12,7 @@ own_present p k elements.null m ns fs h = absurd h
 own_present p k (elements.text t) m ns fs h = refl
 own_present p k (elements.host n key attrs es) m ns fs h = refl
 own_present p k (elements.comp c key props es) m ns fs h = refl
-own_present p k (elements.list es) m ns fs h = refl
+own_present p k (elements.list marked es) m ns fs h = refl
 own_present p k (elements.boundary key f es) m ns fs h = refl
 own_present p k (elements.provider c key x es) m ns fs h = refl
 

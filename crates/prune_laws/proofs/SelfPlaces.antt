@@ -28,7 +28,7 @@ absent_is_null elements.null h = refl
 absent_is_null (elements.text t) h = absurd (cc h)
 absent_is_null (elements.host n k attrs es) h = absurd (cc h)
 absent_is_null (elements.comp c k ps es) h = absurd (cc h)
-absent_is_null (elements.list es) h = absurd (cc h)
+absent_is_null (elements.list marked es) h = absurd (cc h)
 absent_is_null (elements.boundary k f es) h = absurd (cc h)
 absent_is_null (elements.provider c k x es) h = absurd (cc h)
 

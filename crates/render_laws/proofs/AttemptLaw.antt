@@ -166,7 +166,7 @@ module _ (s : Sight) (apart : IsPlain s.program) (d : ℕ) (t : Contexts → Att
   place_small cs a (elements.comp n k props es) old c o =
       let kids = come_listed d s.program c.1 es c.5 c.6 in
       comp_small cs a n c.0 c.1 c.2 c.3 c.4 props es kids.0 kids.1 old o
-  place_small cs a (elements.list es) old c o = node_small cs a c.0 c.1 c.2 es c.3 c.4 old o
+  place_small cs a (elements.list marked es) old c o = node_small cs a c.0 c.1 c.2 es c.3 c.4 old o
   place_small cs a (elements.boundary k e es) old c o =
       small_append (alts_size a) (list_attempts (t cs) (f cs) (listed es) (children_if old)) (list_attempts (t cs) (f cs) (e ∷ []) (fallback_if old))
       (node_small cs a c.0 (fixed (next c.1 end) c.2) c.3 es c.4 c.5 old o)

@@ -70,7 +70,7 @@ abbrev mutual
   Comes d p a (elements.host n k attrs es) = (q : Plan) × (f : Plan) × Has q f a × IsFew q es × AllCome d p q es
   Comes d p a (elements.comp c k ps es) =
       (m : ℕ) × (q : Plan) × (f : Plan) × (d ≤ m) × Has (body_plan m p c q) f a × IsFew q es × AllCome d p q es × IsDeclared p c
-  Comes d p a (elements.list es) = (q : Plan) × (f : Plan) × Has q f a × IsFew q es × AllCome d p q es
+  Comes d p a (elements.list marked es) = (q : Plan) × (f : Plan) × Has q f a × IsFew q es × AllCome d p q es
   Comes d p a (elements.boundary k e es) =
       (q : Plan) × (b : Alts) × (c : Alts) × Has q (fixed (next b end) c) a × IsFew q es × AllCome d p q es × Comes d p (cond (is_keyed e) c b) e
   Comes d p a (elements.provider c k x es) = (q : Plan) × (f : Plan) × Has q f a × IsFew q es × AllCome d p q es
@@ -87,7 +87,7 @@ comes_within d p a b w elements.null h = tt
 comes_within d p a b w (elements.text t) h = (h.0, h.1, w h.0 h.1 h.2)
 comes_within d p a b w (elements.host n k attrs es) h = (h.0, h.1, w h.0 h.1 h.2, h.3, h.4)
 comes_within d p a b w (elements.comp c k ps es) h = (h.0, h.1, h.2, h.3, w (body_plan h.0 p c h.1) h.2 h.4, h.5, h.6, h.7)
-comes_within d p a b w (elements.list es) h = (h.0, h.1, w h.0 h.1 h.2, h.3, h.4)
+comes_within d p a b w (elements.list marked es) h = (h.0, h.1, w h.0 h.1 h.2, h.3, h.4)
 comes_within d p a b w (elements.boundary k e es) h = (h.0, h.1, h.2, w h.0 (fixed (next h.1 end) h.2) h.3, h.4, h.5, h.6)
 comes_within d p a b w (elements.provider c k x es) h = (h.0, h.1, w h.0 h.1 h.2, h.3, h.4)
 
@@ -98,7 +98,7 @@ mutual
   comes_less d p a (elements.text t) h = h
   comes_less d p a (elements.host n k attrs es) h = (h.0, h.1, h.2, h.3, all_come_less d p h.0 es h.4)
   comes_less d p a (elements.comp c k ps es) h = (h.0, h.1, h.2, (omega (arith, h.3)), h.4, h.5, all_come_less d p h.1 es h.6, h.7)
-  comes_less d p a (elements.list es) h = (h.0, h.1, h.2, h.3, all_come_less d p h.0 es h.4)
+  comes_less d p a (elements.list marked es) h = (h.0, h.1, h.2, h.3, all_come_less d p h.0 es h.4)
   comes_less d p a (elements.boundary k e es) h =
       (h.0, h.1, h.2, h.3, h.4, all_come_less d p h.0 es h.5, comes_less d p (cond (is_keyed e) h.2 h.1) e h.6)
   comes_less d p a (elements.provider c k x es) h = (h.0, h.1, h.2, h.3, all_come_less d p h.0 es h.4)

@@ -20,7 +20,7 @@ null_counts w (suc n) s cs elements.null old h = refl
 null_counts w (suc n) s cs (elements.text t) old h = absurd (cc h)
 null_counts w (suc n) s cs (elements.host name k attrs es) old h = absurd (cc h)
 null_counts w (suc n) s cs (elements.comp c k ps es) old h = absurd (cc h)
-null_counts w (suc n) s cs (elements.list es) old h = absurd (cc h)
+null_counts w (suc n) s cs (elements.list marked es) old h = absurd (cc h)
 null_counts w (suc n) s cs (elements.boundary k f es) old h = absurd (cc h)
 null_counts w (suc n) s cs (elements.provider c k x es) old h = absurd (cc h)
 

@@ -51,7 +51,7 @@ nothing_is_deeper s cs m n elements.null old b = empty_at m ∙ sym (empty_at n)
 nothing_is_deeper s cs m n (elements.text t) old b = absurd (omega arith)
 nothing_is_deeper s cs m n (elements.host name k attrs es) old b = absurd (omega arith)
 nothing_is_deeper s cs m n (elements.comp c k ps es) old b = absurd (omega arith)
-nothing_is_deeper s cs m n (elements.list es) old b = absurd (omega arith)
+nothing_is_deeper s cs m n (elements.list marked es) old b = absurd (omega arith)
 nothing_is_deeper s cs m n (elements.boundary k f es) old b = absurd (omega arith)
 nothing_is_deeper s cs m n (elements.provider c k x es) old b = absurd (omega arith)
 

@@ -102,7 +102,7 @@ module _ (P : Node → Type 0) (down : GoesDown P) where
   shape_has s cs (elements.text t) old h = tt
   shape_has s cs (elements.host name key attrs es) old h = primary_has old h
   shape_has s cs (elements.comp c key props given) old h = component_has s cs c props given old (component_at s.program c) h
-  shape_has s cs (elements.list es) old h = primary_has old h
+  shape_has s cs (elements.list marked es) old h = primary_has old h
   shape_has s cs (elements.boundary key f es) old h = (primary_has old h, fallback_has old h)
   shape_has s cs (elements.provider c key x es) old h = primary_has old h
 

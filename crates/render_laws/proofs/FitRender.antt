@@ -147,7 +147,7 @@ module _ (s : Sight) (apart : IsPlain s.program) (d : ℕ) (f : Contexts → Ren
   place_fits cs a (elements.comp c k props es) old h o =
       let kids = come_listed d s.program h.1 es h.5 h.6 in
       comp_fits cs a c h.0 h.1 h.2 h.3 h.4 props es kids.0 kids.1 h.7 (elements.comp c k props es) old o
-  place_fits cs a (elements.list es) old h o = node_fits cs a h.0 h.1 h.2 es h.3 h.4 (elements.list es) trees.plain old o
+  place_fits cs a (elements.list marked es) old h o = node_fits cs a h.0 h.1 h.2 es h.3 h.4 (elements.list marked es) trees.plain old o
   place_fits cs a (elements.boundary k e es) old h o =
       let c = come_listed d s.program h.0 es h.4 h.5 in
       parts_fit a (elements.boundary k e es) old

@@ -57,7 +57,7 @@ module _ (s : Sight) (j : Journal) (same : SeesSame s j) where
   shape_same cs (elements.text t) old = refl
   shape_same cs (elements.host name key attrs es) old = refl
   shape_same cs (elements.comp c key props given) old = component_same cs c props given old (component_at s.program c)
-  shape_same cs (elements.list es) old = refl
+  shape_same cs (elements.list marked es) old = refl
   shape_same cs (elements.boundary key f es) old = refl
   shape_same cs (elements.provider c key x es) old = refl
 

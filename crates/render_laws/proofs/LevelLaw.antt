@@ -78,7 +78,7 @@ not_deepest p elements.null h k = absurd (cc k)
 not_deepest p (elements.text t) h k = absurd (omega arith)
 not_deepest p (elements.host name key attrs es) h k = absurd (omega arith)
 not_deepest p (elements.comp c key ps es) h k = absurd (omega arith)
-not_deepest p (elements.list es) h k = absurd (omega arith)
+not_deepest p (elements.list marked es) h k = absurd (omega arith)
 not_deepest p (elements.boundary key f es) h k = absurd (omega arith)
 not_deepest p (elements.provider c key x es) h k = absurd (omega arith)
 

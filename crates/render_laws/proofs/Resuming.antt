@@ -41,7 +41,7 @@ null_is_empty (suc n) s cs elements.null old h = refl
 null_is_empty (suc n) s cs (elements.text t) old h = absurd (cc h)
 null_is_empty (suc n) s cs (elements.host name k attrs es) old h = absurd (cc h)
 null_is_empty (suc n) s cs (elements.comp c k ps es) old h = absurd (cc h)
-null_is_empty (suc n) s cs (elements.list es) old h = absurd (cc h)
+null_is_empty (suc n) s cs (elements.list marked es) old h = absurd (cc h)
 null_is_empty (suc n) s cs (elements.boundary k f es) old h = absurd (cc h)
 null_is_empty (suc n) s cs (elements.provider c k x es) old h = absurd (cc h)
 

@@ -24,7 +24,7 @@ touched_here s at (elements.host n k attrs es) old = refl
 touched_here s at (elements.comp c k ps es) old =
     one_visit (record { address = at.address; component = Some c; touched = touched_instance s at.contexts (old_instance old); spared = at.spared })
     (touched_instance s at.contexts (old_instance old)) refl
-touched_here s at (elements.list es) old = refl
+touched_here s at (elements.list marked es) old = refl
 touched_here s at (elements.boundary k f es) old = refl
 touched_here s at (elements.provider c k x es) old = refl
 

@@ -123,7 +123,7 @@ module _ (s : Sight) (plain : IsPlain s.program) (m : ℕ) (one : m ≤ 1) (d : 
   place_tried cs a (elements.comp n k props es) old c =
       let kids = come_listed d s.program c.1 es c.5 c.6 in
       omega (arith, has_size c.4, comp_tried cs n c.0 c.1 c.3 props es kids.0 kids.1 (elements.comp n k props es) old)
-  place_tried cs a (elements.list es) old c =
+  place_tried cs a (elements.list marked es) old c =
       omega (arith, has_size c.2, children_tried cs c.0 es c.3 c.4 (children_if old), if_made_nothing (render_list (f cs) (listed es) (children_if old)))
   place_tried cs a (elements.boundary k e es) old c =
       omega (
@@ -155,7 +155,7 @@ all_tried m one zero s plain cs a elements.null old c = omega arith
 all_tried m one zero s plain cs a (elements.text t) old c = omega (arith, has_size c.2)
 all_tried m one zero s plain cs a (elements.host n k attrs es) old c = omega (arith, has_size c.2)
 all_tried m one zero s plain cs a (elements.comp n k props es) old c = omega (arith, has_size c.4)
-all_tried m one zero s plain cs a (elements.list es) old c = omega (arith, has_size c.2)
+all_tried m one zero s plain cs a (elements.list marked es) old c = omega (arith, has_size c.2)
 all_tried m one zero s plain cs a (elements.boundary k e es) old c = omega (arith, has_size c.3)
 all_tried m one zero s plain cs a (elements.provider n k x es) old c = omega (arith, has_size c.2)
 all_tried m one (suc n) s plain cs a e old c =

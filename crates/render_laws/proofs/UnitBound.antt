@@ -100,7 +100,7 @@ one_body elements.null = omega arith
 one_body (elements.text t) = omega arith
 one_body (elements.host n k attrs es) = omega arith
 one_body (elements.comp c k ps es) = omega arith
-one_body (elements.list es) = omega arith
+one_body (elements.list marked es) = omega arith
 one_body (elements.boundary k f es) = omega arith
 one_body (elements.provider c k x es) = omega arith
 

@@ -124,7 +124,7 @@ body_here s at elements.null old = refl
 body_here s at (elements.text x) old = refl
 body_here s at (elements.host n k attrs es) old = refl
 body_here s at (elements.comp c k ps es) old = refl
-body_here s at (elements.list es) old = refl
+body_here s at (elements.list marked es) old = refl
 body_here s at (elements.boundary k f es) old = refl
 body_here s at (elements.provider c k x es) old = refl
 

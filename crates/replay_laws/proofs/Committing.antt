@@ -70,7 +70,7 @@ content_there elements.null h = absurd (cc)
 content_there (elements.text t) h = (_, refl)
 content_there (elements.host n k attrs es) h = (_, refl)
 content_there (elements.comp c k ps es) h = absurd (cc)
-content_there (elements.list es) h = absurd (cc)
+content_there (elements.list marked es) h = absurd (cc)
 content_there (elements.boundary k f es) h = absurd (cc)
 content_there (elements.provider c k x es) h = absurd (cc)
 
@@ -120,7 +120,7 @@ none_stays c elements.null ns h = tt
 none_stays c (elements.text t) ns h = ap (λ (x : Forest). (numbered_in c x).1) h
 none_stays c (elements.host n k attrs es) ns h = tt
 none_stays c (elements.comp i k ps es) ns h = tt
-none_stays c (elements.list es) ns h = tt
+none_stays c (elements.list marked es) ns h = tt
 none_stays c (elements.boundary k f es) ns h = tt
 none_stays c (elements.provider i k x es) ns h = tt
 

@@ -25,7 +25,7 @@ bare_alike elements.null c is own = absurd (cc)
 bare_alike (elements.text t) c is own = subst (λ c. AreAlike (bare c) c) (same_Some _ _ is) tt
 bare_alike (elements.host n k attrs es) c is own = subst (λ c. AreAlike (bare c) c) (same_Some _ _ is) (refl, own)
 bare_alike (elements.comp n k ps es) c is own = absurd (cc)
-bare_alike (elements.list es) c is own = absurd (cc)
+bare_alike (elements.list marked es) c is own = absurd (cc)
 bare_alike (elements.boundary k f es) c is own = absurd (cc)
 bare_alike (elements.provider n k x es) c is own = absurd (cc)
 

@@ -224,7 +224,7 @@ zero_is_null p elements.null h = refl
 zero_is_null p (elements.text t) h = absurd (omega arith)
 zero_is_null p (elements.host n key attrs es) h = absurd (omega arith)
 zero_is_null p (elements.comp c key props es) h = absurd (omega arith)
-zero_is_null p (elements.list es) h = absurd (omega arith)
+zero_is_null p (elements.list marked es) h = absurd (omega arith)
 zero_is_null p (elements.boundary key f es) h = absurd (omega arith)
 zero_is_null p (elements.provider c key x es) h = absurd (omega arith)
 
@@ -280,10 +280,10 @@ module _ (next : ℕ) (s : Sight) (apart : AttributesApart s.program) (some : Ha
       (list_grows n below cs (listed es) (children_if o) (listed_named s.program es named.1) (shape_fits n s cs (elements.host name key attrs es) o fits) (children_old next o old))
       refl refl named.0 (λ ns h. tt) (old_host_below next o old) (host_grows next (elements.host name key attrs es) o refl old kind)
   place_grows n below cs (elements.comp c key props given) o named fits old kind = comp_grows n below cs c key props given o named fits old kind
-  place_grows n below cs (elements.list es) o named fits old kind =
-      over_grows next (elements.list es) plain o (listed es) (render_list (rendered n s cs) (listed es) (children_if o))
-      (list_grows n below cs (listed es) (children_if o) (listed_named s.program es named) (shape_fits n s cs (elements.list es) o fits) (children_old next o old))
-      refl refl tt (λ ns h. tt) tt (other_grows next (elements.list es) None o refl old kind)
+  place_grows n below cs (elements.list marked es) o named fits old kind =
+      over_grows next (elements.list marked es) plain o (listed es) (render_list (rendered n s cs) (listed es) (children_if o))
+      (list_grows n below cs (listed es) (children_if o) (listed_named s.program es named) (shape_fits n s cs (elements.list marked es) o fits) (children_old next o old))
+      refl refl tt (λ ns h. tt) tt (other_grows next (elements.list marked es) None o refl old kind)
   place_grows n below cs (elements.boundary key f es) o named fits old kind =
       let parts = shape_fits n s cs (elements.boundary key f es) o fits in
       boundary_grows next key f es o (render_list (rendered n s cs) (listed es) (children_if o)) (render_list (rendered n s cs) (f ∷ []) (fallback_if o)) old kind

@@ -29,7 +29,7 @@ comes_room n p a elements.null h = omega arith
 comes_room n p a (elements.text t) h = has_room h.2
 comes_room n p a (elements.host name k attrs es) h = has_room h.2
 comes_room n p a (elements.comp c k ps es) h = has_room h.4
-comes_room n p a (elements.list es) h = has_room h.2
+comes_room n p a (elements.list marked es) h = has_room h.2
 comes_room n p a (elements.boundary k e es) h = has_room h.3
 comes_room n p a (elements.provider c k x es) h = has_room h.2
 

@@ -26,7 +26,7 @@ is_null-null elements.null h = refl
 is_null-null (elements.text t) h = absurd (cc h)
 is_null-null (elements.host n k attrs es) h = absurd (cc h)
 is_null-null (elements.comp c k ps es) h = absurd (cc h)
-is_null-null (elements.list es) h = absurd (cc h)
+is_null-null (elements.list marked es) h = absurd (cc h)
 is_null-null (elements.boundary k f es) h = absurd (cc h)
 is_null-null (elements.provider c k x es) h = absurd (cc h)
 
@@ -159,7 +159,7 @@ module _ (s : Sight) (plain : IsPlain s.program) (n : ℕ) (a : Alts) (old : Opt
   shape_fits cs (elements.comp i k props es) c =
       let kids = come_listed n s.program c.1 es c.5 c.6 in
       component_comes cs i c.0 c.1 c.2 c.3 c.4 props es kids.0 kids.1 c.7 (elements.comp i k props es)
-  shape_fits cs (elements.list es) c = node_comes s.program cs n a c.0 c.1 c.2 es c.3 c.4 old o
+  shape_fits cs (elements.list marked es) c = node_comes s.program cs n a c.0 c.1 c.2 es c.3 c.4 old o
   shape_fits cs (elements.boundary k e es) c =
       let kids = node_comes s.program cs n a c.0 (fixed (next c.1 end) c.2) c.3 es c.4 c.5 old o in (
         kids.0,

@@ -58,8 +58,8 @@ children_fit n s k cs (elements.host name key attrs es) m ns fs shown own calm f
 children_fit n s k cs (elements.comp c key props given) m ns fs shown own calm fits =
     let calm_instance : read_anew cs own.0.reads ≡ false = subst (λ (x : Mark). reads_another cs x ≡ false) own.1 calm in
     instance_fits n s.program k cs c key props given own.0 (elements_in ns) own.2 calm_instance fits
-children_fit n s k cs (elements.list es) m ns fs shown own calm fits =
-    fits_as n s.program (elements_in ns) (listed es) own.1 (shape_fits n s cs (elements.list es) None fits)
+children_fit n s k cs (elements.list marked es) m ns fs shown own calm fits =
+    fits_as n s.program (elements_in ns) (listed es) own.1 (shape_fits n s cs (elements.list marked es) None fits)
 children_fit n s k cs (elements.boundary key f es) m ns fs shown (inl own) calm fits =
     let both = shape_fits n s cs (elements.boundary key f es) None fits in fits_as n s.program (elements_in ns) (listed es) own.1 both.0
 children_fit n s k cs (elements.boundary key f es) m ns fs shown (inr own) calm fits = absurd (clash own.0 own.1)
@@ -79,7 +79,7 @@ fallback_fits n s k cs elements.null m ns fs own fits = absurd own
 fallback_fits n s k cs (elements.text t) m ns fs own fits = nothing_fits n s.program fs own.3
 fallback_fits n s k cs (elements.host name key attrs es) m ns fs own fits = nothing_fits n s.program fs own.3
 fallback_fits n s k cs (elements.comp c key props given) m ns fs own fits = nothing_fits n s.program fs own.3
-fallback_fits n s k cs (elements.list es) m ns fs own fits = nothing_fits n s.program fs own.2
+fallback_fits n s k cs (elements.list marked es) m ns fs own fits = nothing_fits n s.program fs own.2
 fallback_fits n s k cs (elements.boundary key f es) m ns fs (inl own) fits = nothing_fits n s.program fs own.2
 fallback_fits n s k cs (elements.boundary key f es) m ns fs (inr own) fits =
     let both = shape_fits n s cs (elements.boundary key f es) None fits in fits_as n s.program (elements_in fs) (f ∷ []) own.2 both.1

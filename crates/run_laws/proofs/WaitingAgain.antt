@@ -93,7 +93,7 @@ module _ (s : Sight) (j : Journal) (same : SeesSame s j) (still : SeesSame (with
   own_later cs (elements.text t) m ns h = tt
   own_later cs (elements.host name key attrs es) m ns h = tt
   own_later cs (elements.comp c key props given) m ns h = tt
-  own_later cs (elements.list es) m ns h = tt
+  own_later cs (elements.list marked es) m ns h = tt
   own_later cs (elements.provider c key x es) m ns h = tt
   own_later cs (elements.boundary key f es) (of_instance i) ns h = tt
   own_later cs (elements.boundary key f es) (of_host x) ns h = tt
@@ -182,7 +182,7 @@ module _ (p : Program) (j : Journal) (lanes : Lanes) (cut last : Cut) (tree : No
   own_again n cs (elements.text t) m ns w there fits = tt
   own_again n cs (elements.host name key attrs es) m ns w there fits = tt
   own_again n cs (elements.comp x key props given) m ns w there fits = tt
-  own_again n cs (elements.list es) m ns w there fits = tt
+  own_again n cs (elements.list marked es) m ns w there fits = tt
   own_again n cs (elements.provider x key v es) m ns w there fits = tt
   own_again n cs (elements.boundary key f es) (of_instance i) ns w there fits = tt
   own_again n cs (elements.boundary key f es) (of_host x) ns w there fits = tt

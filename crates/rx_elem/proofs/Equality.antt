@@ -1,5 +1,5 @@
 -- What stands for a node is of one kind with itself, and each element is equal to itself: no clause of the tests is missing.
-use Rattle.std.specs.Prelude.{◌≡◌, ℕ, true, List, [], ◌∷◌, ℤ, Some, None, nat_eq, bytes_eq, refl}
+use Rattle.std.specs.Prelude.{◌≡◌, ℕ, true, false, List, [], ◌∷◌, ℤ, Some, None, nat_eq, bytes_eq, refl}
 use Rattle.std.specs.Ordering.{int_eq}
 use Rattle.std.specs.Cmp.Lexicographic.{pointwise}
 use Rattle.std.proofs.lemmas.Slice.Eq.{bytes_eq-Decides}
@@ -24,7 +24,7 @@ same_kind-self null h = absurd (cc)
 same_kind-self (text t) h = refl
 same_kind-self (host n k attrs es) h = bytes-self n
 same_kind-self (comp c k ps es) h = nat-self c
-same_kind-self (list es) h = refl
+same_kind-self (list mark es) h = refl
 same_kind-self (boundary k f es) h = refl
 same_kind-self (provider c k x es) h = nat-self c
 
@@ -51,7 +51,8 @@ mutual
   same_element-self (text t) = bytes-self t
   same_element-self (host n k attrs es) = rw (bytes-self n, key-self k, attrs-self attrs, same_elements-self es) refl
   same_element-self (comp c k ps es) = rw (nat-self c, key-self k, ints-self ps, same_elements-self es) refl
-  same_element-self (list es) = same_elements-self es
+  same_element-self (list true es) = same_elements-self es
+  same_element-self (list false es) = same_elements-self es
   same_element-self (boundary k f es) = rw (key-self k, same_element-self f, same_elements-self es) refl
   same_element-self (provider c k x es) = rw (nat-self c, key-self k, int-self x, same_elements-self es) refl
 

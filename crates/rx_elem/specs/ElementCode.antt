@@ -1,6 +1,6 @@
 -- How the logic stores elements.
 use Rattle.std.specs.Prelude.{◌≡◌, ℕ, List, ℤ, Option, ◌⊎◌, refl}
-use Rattle.std.specs.Coded.{Coded, code_by, coded×, coded⊎, coded_ℕ, coded_ℤ, coded_list, coded_option}
+use Rattle.std.specs.Coded.{Coded, code_by, coded×, coded⊎, coded_bool, coded_ℕ, coded_ℤ, coded_list, coded_option}
 use Rattle.std.proofs.Common.{inl, inr}
 use base.Stored.{Gv, gnil, gnum, gcons}
 use mathlib.Core.Path.{ap}
@@ -72,7 +72,7 @@ abbrev mutual
   stored (text t) = gcons (gnum 1) (bytes.code t)
   stored (host n k attrs es) = gcons (gnum 2) (gcons (bytes.code n) (gcons (keys.code k) (gcons (attributes.code attrs) (stored_in es))))
   stored (comp c k ps es) = gcons (gnum 3) (gcons (gnum c) (gcons (keys.code k) (gcons (integers.code ps) (stored_in es))))
-  stored (list es) = gcons (gnum 4) (stored_in es)
+  stored (list b es) = gcons (gnum 4) (gcons (coded_bool.code b) (stored_in es))
   stored (boundary k f es) = gcons (gnum 5) (gcons (keys.code k) (gcons (stored f) (stored_in es)))
   stored (provider c k x es) = gcons (gnum 6) (gcons (gnum c) (gcons (keys.code k) (gcons (coded_ℤ.code x) (stored_in es))))
 
@@ -88,7 +88,7 @@ mutual
       λ i. host (bytes.inj m n (ap (λ g. head (tail g)) p) i) (keys.inj k l (ap (λ g. head (third g)) p) i) (attributes.inj attrs others (ap (λ g. head (fourth g)) p) i) (stored_in_one es fs (ap fifth p) i)
   stored_one (comp c k ps es) (comp d l qs fs) p =
       λ i. comp (number (head (tail (p i)))) (keys.inj k l (ap (λ g. head (third g)) p) i) (integers.inj ps qs (ap (λ g. head (fourth g)) p) i) (stored_in_one es fs (ap fifth p) i)
-  stored_one (list es) (list fs) p = ap list (stored_in_one es fs (ap tail p))
+  stored_one (list b es) (list c fs) p = λ i. list (coded_bool.inj b c (ap (λ g. head (tail g)) p) i) (stored_in_one es fs (ap third p) i)
   stored_one (boundary k e es) (boundary l f fs) p =
       λ i. boundary (keys.inj k l (ap (λ g. head (tail g)) p) i) (stored_one e f (ap (λ g. head (third g)) p) i) (stored_in_one es fs (ap fourth p) i)
   stored_one (provider c k x es) (provider d l y fs) p =

@@ -9,7 +9,7 @@ abbrev mutual
   size (text t) = 1
   size (host n k attrs es) = suc (size_in es)
   size (comp c k ps es) = suc (size_in es)
-  size (list es) = suc (size_in es)
+  size (list mark es) = suc (size_in es)
   size (boundary k f es) = suc (size f + size_in es)
   size (provider c k x es) = suc (size_in es)
 

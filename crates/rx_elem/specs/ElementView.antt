@@ -10,6 +10,6 @@ element_seen Null = elements.null
 element_seen (Text t) = elements.text t
 element_seen (Host name key attrs es) = elements.host name key attrs.items (gathered es.items)
 element_seen (Comp c key props es) = elements.comp c key props (gathered es.items)
-element_seen (List es) = elements.list (gathered es.items)
+element_seen (List marked es) = elements.list marked (gathered es.items)
 element_seen (Boundary key fallback es) = elements.boundary key fallback (gathered es.items)
 element_seen (Provider c key given es) = elements.provider c key given (gathered es.items)

@@ -1,4 +1,5 @@
 -- What a body evaluates to: elements, which say what stands in each place of a tree.
+use mathlib.Core.Bool.{beq}
 use Rattle.std.specs.Prelude.{ℕ, suc, max, Bool, true, false, ◌&&◌, List, [], ◌∷◌, ℤ, Option, None, nat_eq, bytes_eq}
 use Rattle.std.specs.Option.{option_eq}
 use Rattle.std.specs.Ordering.{int_eq}
@@ -22,8 +23,8 @@ mutual
     host : Name → Key → List Attr → Elements → Element
     -- an element of a component, with its props and the children that it is given
     comp : (number : ℕ) → Key → (props : List ℤ) → (children : Elements) → Element
-    -- the children of a `for`, or those that stand for `children`
-    list : Elements → Element
+    -- the children of a `for`; or, where it is marked, those that stand for `children`
+    list : (mark : Bool) → Elements → Element
     -- a Suspense boundary
     boundary : Key → (fallback : Element) → (primary : Elements) → Element
     -- a provider of a context
@@ -51,7 +52,7 @@ abbrev mutual
   depth (text t) = 0
   depth (host n k attrs es) = suc (depth_in es)
   depth (comp c k ps es) = suc (depth_in es)
-  depth (list es) = suc (depth_in es)
+  depth (list mark es) = suc (depth_in es)
   depth (boundary k f es) = suc (max (depth f) (depth_in es))
   depth (provider c k x es) = suc (depth_in es)
 
@@ -66,7 +67,7 @@ key_of null = None
 key_of (text t) = None
 key_of (host n k attrs es) = k
 key_of (comp c k ps es) = k
-key_of (list es) = None
+key_of (list mark es) = None
 key_of (boundary k f es) = k
 key_of (provider c k x es) = k
 
@@ -87,7 +88,7 @@ kind_of null = absent
 kind_of (text t) = of_text
 kind_of (host n k attrs es) = of_host n
 kind_of (comp c k ps es) = of_comp c
-kind_of (list es) = of_list
+kind_of (list mark es) = of_list
 kind_of (boundary k f es) = of_boundary
 kind_of (provider c k x es) = of_provider c
 
@@ -97,9 +98,19 @@ is_present null = false
 is_present (text t) = true
 is_present (host n k attrs es) = true
 is_present (comp c k ps es) = true
-is_present (list es) = true
+is_present (list mark es) = true
 is_present (boundary k f es) = true
 is_present (provider c k x es) = true
+
+-- an element is a list that stands for `children`
+abbrev pub stands_for_children : Element → Bool
+stands_for_children null = false
+stands_for_children (text t) = false
+stands_for_children (host n k attrs es) = false
+stands_for_children (comp c k ps es) = false
+stands_for_children (list mark es) = mark
+stands_for_children (boundary k f es) = false
+stands_for_children (provider c k x es) = false
 
 -- two kinds of node agree; what is absent agrees with nothing
 abbrev pub same_kind : Kind → Kind → Bool
@@ -134,7 +145,7 @@ abbrev mutual
   same_element (host m k attrs es) (host n l others fs) =
       bytes_eq m n && (same_key k l && (pointwise same_attr attrs others && same_elements es fs))
   same_element (comp c k ps es) (comp d l qs fs) = nat_eq c d && (same_key k l && (pointwise int_eq ps qs && same_elements es fs))
-  same_element (list es) (list fs) = same_elements es fs
+  same_element (list mark es) (list other fs) = beq mark other && same_elements es fs
   same_element (boundary k e es) (boundary l f fs) = same_key k l && (same_element e f && same_elements es fs)
   same_element (provider c k x es) (provider d l y fs) = nat_eq c d && (same_key k l && (int_eq x y && same_elements es fs))
   same_element _ _ = false

@@ -28,8 +28,8 @@ pub enum ElementKind {
     Host(Name, Option<Int>, Vec<Attr>, Vec<Element>),
     /// An element of a component, with its props and the children that it is given.
     Comp(u32, Option<Int>, Ints, Vec<Element>),
-    /// The children of a `for`, or those that stand for `children`.
-    List(Vec<Element>),
+    /// The children of a `for`, or those that stand for `children`, where the mark is true.
+    List(bool, Vec<Element>),
     /// A Suspense boundary: its key, its fallback and its children.
     Boundary(Option<Int>, Element, Vec<Element>),
     /// A provider of a context, with the value that it gives.
@@ -85,10 +85,5 @@ impl Element {
     {
         let kind = self.kind.clone()?;
         Ok(Element { kind })
-    }
-
-    // Whether both handles lead to one place of memory. It is a hint: no clause tells what it answers.
-    pub(crate) fn shares(&self, other: &Element) -> bool {
-        Rc::ptr_eq(&self.kind, &other.kind)
     }
 }

@@ -30,11 +30,3 @@ fn equal_elements_are_the_same(rt: HostRuntime) -> Result<(), Fail> {
     assert_eq!(rt; element.size(), 2);
     Ok(())
 }
-
-#[test]
-fn an_element_is_given_again_by_its_handles(rt: HostRuntime) -> Result<(), Fail> {
-    let element = paragraph(rt.alloc(), "a")?;
-    assert!(rt; element.is_again(&element.copy()?));
-    assert!(rt; !element.is_again(&paragraph(rt.alloc(), "a")?));
-    Ok(())
-}

@@ -1,6 +1,6 @@
 // What tells whether two elements are of one node.
 ghost use Rattle.std.specs.Prelude.{◌≡◌};
-ghost use Rattle.rx_elem.specs.Elements.{is_present, key_of, kind_of, same_kind};
+ghost use Rattle.rx_elem.specs.Elements.{is_present, key_of, kind_of, same_kind, stands_for_children};
 
 use crate::element::{Element, ElementKind};
 use rx_base::Int;
@@ -11,7 +11,7 @@ impl Element {
         ensures { result ≡ key_of self.now }
     {
         match self.kind() {
-            ElementKind::Null | ElementKind::Text(_) | ElementKind::List(_) => None,
+            ElementKind::Null | ElementKind::Text(_) | ElementKind::List(_, _) => None,
             ElementKind::Host(_, key, _, _) => *key,
             ElementKind::Comp(_, key, _, _) => *key,
             ElementKind::Boundary(key, _, _) => *key,
@@ -29,6 +29,16 @@ impl Element {
         }
     }
 
+    /// True for the list that stands for `children` in what a body gives (react.dev, Passing JSX as children).
+    pub fn stands_for_children(&self) -> bool
+        ensures { result ≡ stands_for_children self.now }
+    {
+        match self.kind() {
+            ElementKind::List(mark, _) => *mark,
+            _ => false,
+        }
+    }
+
     /// True where a node of this element and one of the other can be one, beside their identity (react.dev, Preserving and
     /// Resetting State).
     pub fn is_same_kind(&self, other: &Element) -> bool
@@ -38,7 +48,7 @@ impl Element {
             (ElementKind::Text(_), ElementKind::Text(_)) => true,
             (ElementKind::Host(m, _, _, _), ElementKind::Host(n, _, _, _)) => m.text() == n.text(),
             (ElementKind::Comp(c, _, _, _), ElementKind::Comp(d, _, _, _)) => *c == *d,
-            (ElementKind::List(_), ElementKind::List(_)) => true,
+            (ElementKind::List(_, _), ElementKind::List(_, _)) => true,
             (ElementKind::Boundary(_, _, _), ElementKind::Boundary(_, _, _)) => true,
             (ElementKind::Provider(c, _, _, _), ElementKind::Provider(d, _, _, _)) => *c == *d,
             _ => false,

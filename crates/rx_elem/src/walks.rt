@@ -53,7 +53,9 @@ impl Element {
                     && props.as_slice() == others.as_slice()
                     && same_children(es, fs)
             }
-            (ElementKind::List(es), ElementKind::List(fs)) => same_children(es, fs),
+            (ElementKind::List(mark, es), ElementKind::List(other, fs)) => {
+                *mark == *other && same_children(es, fs)
+            }
             (ElementKind::Boundary(k, e, es), ElementKind::Boundary(l, f, fs)) => {
                 *k == *l && e.same(f) && same_children(es, fs)
             }
@@ -62,14 +64,6 @@ impl Element {
             }
             _ => false,
         }
-    }
-
-    /// Whether both are handles of one element, as it is given again where what gave it was not evaluated anew. An equal one that
-    /// was made anew is another (react.dev, memo: React compares the elements themselves, and not what is in them).
-    pub fn is_again(&self, other: &Element) -> bool
-        ensures { result ≡ true → same_element self.now other.now ≡ true }
-    {
-        self.shares(other) && self.same(other)
     }
 
     /// How many elements it is, with those below it; held at the greatest `u64`.
@@ -81,7 +75,7 @@ impl Element {
             ElementKind::Null | ElementKind::Text(_) => 1,
             ElementKind::Host(_, _, _, es) => size_of_all(es).saturating_add(1),
             ElementKind::Comp(_, _, _, es) => size_of_all(es).saturating_add(1),
-            ElementKind::List(es) => size_of_all(es).saturating_add(1),
+            ElementKind::List(_, es) => size_of_all(es).saturating_add(1),
             ElementKind::Boundary(_, fallback, es) => fallback
                 .size()
                 .saturating_add(size_of_all(es))

@@ -1,5 +1,5 @@
 // What slots give.
-ghost use Rattle.std.specs.Prelude.{◌≡◌, ◌≤◌, IfOk, pos};
+ghost use Rattle.std.specs.Prelude.{◌≡◌, ◌≤◌, IfOk, pos, true};
 ghost use Rattle.std.specs.Fmt.{signed_decimal};
 ghost use Rattle.rx_ast.specs.Syntax.{slots_of, repeated};
 ghost use Rattle.rx_elem.specs.Elements.{text, list, gathered};
@@ -26,13 +26,13 @@ fn number(alloc: Global, value: Int) -> Result<Element, AllocError>
 
 /// The children that a component is given, where it places them (react.dev, Passing JSX as children). They are shared.
 fn placed(alloc: Global, children: &[Element]) -> Result<Element, AllocError>
-    ensures { IfOk result (λ e. e ≡ list (gathered children.now)) }
+    ensures { IfOk result (λ e. e ≡ list true (gathered children.now)) }
 {
     let mut copies = Vec::new(alloc);
     for child in children {
         copies.push(child.copy()?)?;
     }
-    Element::new(alloc, ElementKind::List(copies))
+    Element::new(alloc, ElementKind::List(true, copies))
 }
 
 /// How many turns a `for` makes.
@@ -111,7 +111,7 @@ fn repetition_of(
         let env = (&*env).with(&repetition.index, index_value(index));
         items.push(element(alloc, evaluator, children, &env, &repetition.item)?)?;
     }
-    Element::new(alloc, ElementKind::List(items))
+    Element::new(alloc, ElementKind::List(false, items))
 }
 
 /// An element with what it is given.

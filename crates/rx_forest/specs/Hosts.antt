@@ -38,7 +38,7 @@ content_of elements.null = None
 content_of (elements.text t) = Some (letters t)
 content_of (elements.host n k attrs es) = Some (tag n (by_name attrs))
 content_of (elements.comp c k ps es) = None
-content_of (elements.list es) = None
+content_of (elements.list marked es) = None
 content_of (elements.boundary k f es) = None
 content_of (elements.provider c k x es) = None
 

@@ -116,7 +116,7 @@ mutual
   element_no_less f g h (elements.text t) = omega arith
   element_no_less f g h (elements.host n k attrs es) = omega (arith, elements_no_less f g h es)
   element_no_less f g h (elements.comp c k ps es) = omega (arith, elements_no_less f g h es, h c)
-  element_no_less f g h (elements.list es) = omega (arith, elements_no_less f g h es)
+  element_no_less f g h (elements.list marked es) = omega (arith, elements_no_less f g h es)
   element_no_less f g h (elements.boundary k e es) = omega (arith, elements_no_less f g h es, element_no_less f g h e)
   element_no_less f g h (elements.provider c k x es) = omega (arith, elements_no_less f g h es)
 
@@ -184,7 +184,7 @@ shape_fits n s cs (elements.host name key attrs es) old b = children_fit n s.pro
 shape_fits n s cs (elements.comp c k ps es) old b =
     component_fits n s cs c ps es old (component_at s.program c)
     (rw (gathered-listed es) (omega (arith, b, deep_body n s.program c, elements_no_less (body_depth n s.program) (body_depth (suc n) s.program) (more_levels n s.program) es)))
-shape_fits n s cs (elements.list es) old b = children_fit n s.program es (omega arith)
+shape_fits n s cs (elements.list marked es) old b = children_fit n s.program es (omega arith)
 shape_fits n s cs (elements.boundary k f es) old b = (
   children_fit n s.program es (omega arith),
   omega (arith, element_no_less (body_depth n s.program) (body_depth (suc n) s.program) (more_levels n s.program) f),
@@ -196,6 +196,6 @@ not_deepest p elements.null h k = absurd (cc k)
 not_deepest p (elements.text t) h k = absurd (omega arith)
 not_deepest p (elements.host name key attrs es) h k = absurd (omega arith)
 not_deepest p (elements.comp c key ps es) h k = absurd (omega arith)
-not_deepest p (elements.list es) h k = absurd (omega arith)
+not_deepest p (elements.list marked es) h k = absurd (omega arith)
 not_deepest p (elements.boundary key f es) h k = absurd (omega arith)
 not_deepest p (elements.provider c key x es) h k = absurd (omega arith)

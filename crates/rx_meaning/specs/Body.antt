@@ -1,5 +1,5 @@
 -- What a component's body gives: it waits for a resource, or it is ready with its elements.
-use Rattle.std.specs.Prelude.{ℕ, ◌+◌, List, [], ◌∷◌, ◌++◌, ℤ, pos, negsuc, Option, Some, None, min, map, filter_map, unwrap_or, option_map, if◌then◌else◌, bytes_eq, slice_get, slice_index_or}
+use Rattle.std.specs.Prelude.{ℕ, ◌+◌, true, false, List, [], ◌∷◌, ◌++◌, ℤ, pos, negsuc, Option, Some, None, min, map, filter_map, unwrap_or, option_map, if◌then◌else◌, bytes_eq, slice_get, slice_index_or}
 use Rattle.std.specs.List.{zip, range_with_len}
 use Rattle.std.specs.Option.{option_map_or}
 use Rattle.std.specs.Fmt.{signed_decimal}
@@ -125,9 +125,9 @@ abbrev mutual
   element_of p kids env syntax.null = elements.null
   element_of p kids env (syntax.words t) = elements.text t
   element_of p kids env (syntax.number_of e) = elements.text (signed_decimal (value_in p env e))
-  element_of p kids env syntax.children = elements.list (gathered kids)
+  element_of p kids env syntax.children = elements.list true (gathered kids)
   element_of p kids env (syntax.repeated index bound limit s) =
-      elements.list (gathered (map (λ k. element_of p kids ((index, pos k) ∷ env) s) (range_with_len 0 (turns (value_in p env bound) limit))))
+      elements.list false (gathered (map (λ k. element_of p kids ((index, pos k) ∷ env) s) (range_with_len 0 (turns (value_in p env bound) limit))))
   element_of p kids env (syntax.choice c s t) =
       if is_zero (value_in p env c) then element_of p kids env t else element_of p kids env s
   element_of p kids env (syntax.host name attrs w ss) =

@@ -32,7 +32,7 @@ one_if_component elements.null = 0
 one_if_component (elements.text t) = 0
 one_if_component (elements.host n k attrs es) = 0
 one_if_component (elements.comp c k ps es) = 1
-one_if_component (elements.list es) = 0
+one_if_component (elements.list marked es) = 0
 one_if_component (elements.boundary k f es) = 0
 one_if_component (elements.provider c k x es) = 0
 

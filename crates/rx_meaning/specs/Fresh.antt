@@ -155,7 +155,7 @@ shape_of s cs elements.null old = absent
 shape_of s cs (elements.text t) old = one_list (trees.of_host (old_host old)) (part cs [] trees.none)
 shape_of s cs (elements.host name key attrs es) old = one_list (trees.of_host (old_host old)) (part cs (listed es) (children_if old))
 shape_of s cs (elements.comp c key props kids) old = shape_of_component s cs c props kids old (component_at s.program c)
-shape_of s cs (elements.list es) old = one_list trees.plain (part cs (listed es) (children_if old))
+shape_of s cs (elements.list marked es) old = one_list trees.plain (part cs (listed es) (children_if old))
 shape_of s cs (elements.boundary key fallback es) old =
     two_lists (part cs (listed es) (children_if old)) (part cs (fallback ∷ []) (fallback_if old))
 shape_of s cs (elements.provider c key x es) old = one_list trees.plain (part (slice_set cs c x) (listed es) (children_if old))

@@ -13,7 +13,7 @@ abbrev mutual
   element_depth depths (elements.text t) = 1
   element_depth depths (elements.host n k attrs es) = 1 + elements_depth depths es
   element_depth depths (elements.comp c k ps es) = 1 + (depths c + elements_depth depths es)
-  element_depth depths (elements.list es) = 1 + elements_depth depths es
+  element_depth depths (elements.list marked es) = 1 + elements_depth depths es
   element_depth depths (elements.boundary k f es) = 1 + max (elements_depth depths es) (element_depth depths f)
   element_depth depths (elements.provider c k x es) = 1 + elements_depth depths es
 

@@ -50,7 +50,7 @@ IsOwnBy asks (elements.text t) m ns fs = (h : Option ℕ) × (m ≡ of_host h) �
 IsOwnBy asks (elements.host n key attrs es) m ns fs = (h : Option ℕ) × (m ≡ of_host h) × (elements_in ns ≡ listed es) × (fs ≡ none)
 IsOwnBy asks (elements.comp c key props given) m ns fs =
     (i : Instance) × (m ≡ of_instance i) × asks c props given i (elements_in ns) × (fs ≡ none)
-IsOwnBy asks (elements.list es) m ns fs = (m ≡ plain) × (elements_in ns ≡ listed es) × (fs ≡ none)
+IsOwnBy asks (elements.list marked es) m ns fs = (m ≡ plain) × (elements_in ns ≡ listed es) × (fs ≡ none)
 IsOwnBy asks (elements.boundary key f es) m ns fs =
     ((m ≡ of_boundary Shown) × (elements_in ns ≡ listed es) × (fs ≡ none)) ⊎ ((a : Awaits) × (m ≡ of_boundary (Hidden a)) × (elements_in fs ≡ f ∷ []))
 IsOwnBy asks (elements.provider c key x es) m ns fs = (m ≡ plain) × (elements_in ns ≡ listed es) × (fs ≡ none)
@@ -104,7 +104,7 @@ kept_shape cs elements.null m ns fs = absent
 kept_shape cs (elements.text t) m ns fs = one_list m (part cs (elements_in ns) ns)
 kept_shape cs (elements.host n key attrs es) m ns fs = one_list m (part cs (elements_in ns) ns)
 kept_shape cs (elements.comp c key props given) m ns fs = one_list m (part cs (elements_in ns) ns)
-kept_shape cs (elements.list es) m ns fs = one_list m (part cs (elements_in ns) ns)
+kept_shape cs (elements.list marked es) m ns fs = one_list m (part cs (elements_in ns) ns)
 kept_shape cs (elements.boundary key f es) m ns fs = two_lists (part cs (elements_in ns) ns) (part cs (f ∷ []) fs)
 kept_shape cs (elements.provider c key x es) m ns fs = one_list m (part (slice_set cs c x) (elements_in ns) ns)
 

@@ -122,7 +122,7 @@ contexts_below elements.null cs = cs
 contexts_below (elements.text t) cs = cs
 contexts_below (elements.host n k attrs es) cs = cs
 contexts_below (elements.comp c k ps es) cs = cs
-contexts_below (elements.list es) cs = cs
+contexts_below (elements.list marked es) cs = cs
 contexts_below (elements.boundary k f es) cs = cs
 contexts_below (elements.provider c k x es) cs = slice_set cs c x
 
@@ -165,7 +165,7 @@ component_in elements.null = None
 component_in (elements.text t) = None
 component_in (elements.host n k attrs es) = None
 component_in (elements.comp c k ps es) = Some c
-component_in (elements.list es) = None
+component_in (elements.list marked es) = None
 component_in (elements.boundary k f es) = None
 component_in (elements.provider c k x es) = None
 

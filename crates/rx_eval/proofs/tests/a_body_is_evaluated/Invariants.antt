@@ -1,4 +1,0 @@
-use Rattle.rx_eval.proofs.tests.a_body_is_evaluated.Given as goal
-
-abbrev pub ghosts-counted : goal.ghosts-counted
-ghosts-counted g a = record { name = a.blank.name; parts = a.blank.parts }
