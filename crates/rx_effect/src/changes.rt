@@ -5,8 +5,8 @@ ghost use Rattle.rx_effect.specs.EffectLog.{differs, effect_changes};
 use rx_elem::EffectRecord;
 use std::alloc::{AllocError, Global};
 
-// Whether a dependency has another value.
-fn differ(old: &EffectRecord, new: &EffectRecord) -> bool
+/// Whether an effect runs again: a dependency has another value (react.dev, useEffect).
+pub fn differ(old: &EffectRecord, new: &EffectRecord) -> bool
     ensures { result ≡ differs (old.now, new.now) }
 {
     old.values.as_slice() != new.values.as_slice()

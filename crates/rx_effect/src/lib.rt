@@ -6,5 +6,5 @@ mod log;
 #[cfg(test)]
 mod tests;
 
-pub use changes::effect_changes;
+pub use changes::{differ, effect_changes};
 pub use log::LogLine;

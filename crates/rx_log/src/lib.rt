@@ -6,7 +6,5 @@ mod destroy;
 mod line;
 mod log;
 mod past;
-#[cfg(test)]
-mod tests;
 
 pub use log::{Passive, layout_log, passive_effects};

@@ -9,7 +9,7 @@ ghost use Rattle.rx_log.specs.Phases.{phase_seen, old_or_new};
 
 use rx_base::{Ints, Str};
 use rx_compare::Change;
-use rx_effect::LogLine;
+use rx_effect::{LogLine, differ};
 use rx_elem::EffectRecord;
 use rx_node::Mark;
 use std::alloc::{AllocError, Global};
@@ -101,12 +101,6 @@ pub(crate) fn add_lines(
         add_line(alloc, lines, phase, created, mark, effect)?;
     }
     Ok(())
-}
-
-fn differ(old: &EffectRecord, new: &EffectRecord) -> bool
-    ensures { result ≡ differs (old.now, new.now) }
-{
-    old.values.as_slice() != new.values.as_slice()
 }
 
 // Goes on with the line of an effect of a node that differs: of the new one at its creation, else of the old one.
