@@ -2,4 +2,4 @@ pub mod Marks
 pub mod Walks
 pub mod Still
 pub mod Causes
-pub mod ContextReads
+pub mod Free

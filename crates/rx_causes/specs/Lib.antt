@@ -2,4 +2,3 @@ pub mod Scenes
 pub mod Marks
 pub mod Hidden
 pub mod Idle
-pub mod Reads

@@ -1,11 +1,12 @@
 -- The marks of some trees, and of the fibers that stand for them, and what holds of them.
-use Rattle.std.specs.Prelude.{◌≡◌, ℕ, Bool, true, false, not, ◌&&◌, Option, Some, None, ◌⊎◌, option_and_then}
+use Rattle.std.specs.Prelude.{◌≡◌, ℕ, Bool, true, false, not, ◌&&◌, ◌||◌, Option, Some, None, ◌⊎◌, option_and_then}
 use Rattle.std.specs.Option.{option_map_or}
 use Rattle.rx_elem.specs.Trees.{Forest, Mark, Node, child, is_hidden, node, none, vacant}
 use Rattle.rx_lists.specs.Shapes.{Shape, fiber}
 use Rattle.rx_lists.specs.Shapes as shapes
 use Rattle.rx_links.specs.Readers.{value_of}
 use Rattle.rx_meaning.specs.Settled.{number_of}
+use Rattle.rx_fiber.specs.declared.subtree.Subtree.{Subtree}
 use Rattle.rx_fiber.specs.Fibers.{Fiber, Stage, waiting, begun, trying, fallback}
 
 -- The mark of an old node
@@ -14,7 +15,7 @@ use Rattle.rx_fiber.specs.Fibers.{Fiber, Stage, waiting, begun, trying, fallback
 abbrev pub begun_mark : Stage → Option Mark
 begun_mark (waiting c) = None
 begun_mark (begun m) = Some m
-begun_mark trying = None
+begun_mark (trying c) = None
 begun_mark (fallback a) = None
 
 -- the mark of an old node, by its current fiber
@@ -46,6 +47,14 @@ EachFiber P (fiber id v ks rs) = P (begun_mark v.stage) × EachFiber P ks × Eac
 -- the mark of a fiber is that of an instance with a number that stands on no way
 abbrev pub is_spared : (way : ℕ → Bool) → Option Mark → Bool
 is_spared way m = option_map_or (λ n. not (way n)) (option_and_then number_of m) false
+
+-- what a fiber keeps tells that neither an instance nor a hidden boundary is at or below it
+abbrev pub is_free : Subtree → Bool
+is_free s = not (s.instances || s.hides)
+
+-- a fiber is passed: it is free, or its instance stands on no way
+abbrev pub is_passed : (way : ℕ → Bool) → Fiber → Bool
+is_passed way v = is_free v.subtree || is_spared way (begun_mark v.stage)
 
 -- it is that of an instance with a number that stands on a way
 abbrev pub stands_on_way : (way : ℕ → Bool) → Option Mark → Bool

@@ -8,9 +8,10 @@ ghost use Rattle.commit_laws.specs.Idle.{IsIdle, IsIdleMark};
 ghost use Rattle.rx_fiber.specs.FiberView.{stage_seen};
 ghost use Rattle.rx_node.specs.MarkView.{mark_seen};
 ghost use Rattle.rx_fiber.specs.Reading.{IsOld};
+ghost use Rattle.rx_fiber.specs.Subtrees.{IsGathered};
 ghost use Rattle.rx_ways.specs.Ways.{Covers, is_way};
 ghost use Rattle.rx_hook_store.specs.Store.{kept_hooks};
-ghost use Rattle.rx_causes.specs.Marks.{begun_mark, keeps_children, mark_at, EachBut, EachFiberBut, SomeFiber, is_spared, stands_on_way};
+ghost use Rattle.rx_causes.specs.Marks.{begun_mark, keeps_children, mark_at, EachBut, EachFiberBut, SomeFiber, is_passed, is_spared, stands_on_way};
 ghost use Rattle.rx_causes.specs.Scenes.{GivesHooks, IsSceneOf, KeepsHooks, TellsCalm};
 ghost use Rattle.rx_causes.specs.Hidden.{ForEach, ForEachFiber, instance_at};
 ghost use Rattle.rx_causes.specs.Idle.{HasCause, HasCauseAt, HasCauseIn, LeadsAt, HasNoCause, HasNoCauseAt, KeepsTree, Rests, is_anew};
@@ -64,6 +65,14 @@ fn is_spared(stage: &Stage, scene: &Scene) -> bool
     }
 }
 
+// Whether a fiber is passed: neither an instance nor a hidden boundary is at or below it, or its instance stands on no way.
+fn is_passed(fiber: &Fiber, scene: &Scene) -> bool
+    ensures { result ≡ is_passed (is_way scene.now.ways.now) fiber.now }
+{
+    let below = fiber.subtree();
+    !(below.instances || below.hides) || is_spared(fiber.stage(), scene)
+}
+
 // Whether the instance of a fiber stands on a way: then there is a cause at the fiber or below.
 fn stands_on_way(stage: &Stage, scene: &Scene) -> bool
     ensures { result ≡ stands_on_way (is_way scene.now.ways.now) (begun_mark (stage_seen stage.now)) }
@@ -86,8 +95,8 @@ fn leads(stage: &Stage, scene: &Scene, hooks: &HookStore) -> bool
     stands_on_way(stage, scene) || has_cause(stage, scene, hooks)
 }
 
-// Whether a fiber in a current list or below leads to a cause. Those of instances that stand on no way are passed, and what is
-// below one that leads to a cause is not looked at.
+// Whether a fiber in a current list or below leads to a cause. Those are passed of instances that stand on no way, and such as
+// have no instance and no hidden boundary at or below them; and what is below one that leads to a cause is not looked at.
 fn any_cause(
     tree: &FiberTree<Fiber>,
     first: Option<FiberId>,
@@ -95,6 +104,7 @@ fn any_cause(
     hooks: &HookStore,
 ) -> bool
     requires held { IfSome first (Holds tree.now.current) }
+    requires gathered { IsGathered tree.now.current }
     requires kept { ForEachFiber (KeepsHooks (kept_hooks hooks.now)) (list_from tree.now.current first) }
     ensures none { result ≡ false → EachFiberBut (is_way scene.now.ways.now) (HasNoCauseAt (kept_hooks hooks.now) scene.now.lanes scene.now.cut) (list_from tree.now.current first) }
     ensures some { result ≡ true → SomeFiber (LeadsAt (is_way scene.now.ways.now) (kept_hooks hooks.now) scene.now.lanes scene.now.cut) (list_from tree.now.current first) }
@@ -102,9 +112,10 @@ fn any_cause(
     tree.facts();
     let mut next = first;
     'walking: while let Some(id) = next {
-        let stage = tree.value(id).stage();
-        if !is_spared(stage, scene)
-            && (leads(stage, scene, hooks) || any_cause(tree, tree.first_child(id), scene, hooks))
+        let fiber = tree.value(id);
+        if !is_passed(fiber, scene)
+            && (leads(fiber.stage(), scene, hooks)
+                || any_cause(tree, tree.first_child(id), scene, hooks))
         {
             return true;
         }
@@ -125,8 +136,9 @@ fn is_anew(stage: &Stage, component: bool, contexts: &[Int]) -> bool
 
 /// Whether nothing in the tree of an old node, by its current fiber, has a cause to be rendered here: the node's own instance
 /// reads what it read and has no work, no instance below stands on a way, and no boundary there is hidden. Instances on no way
-/// are passed, with all below them: where the ways cover the tree, there is no cause there. An instance on a way has a cause at
-/// it or below, and is looked at no further. It answers false where there is no old node.
+/// are passed, with all below them: where the ways cover the tree, there is no cause there. So is what has no instance and no
+/// hidden boundary at or below it, as its fiber keeps (React: `subtreeFlags`). An instance on a way has a cause at it or below,
+/// and is looked at no further. It answers false where there is no old node.
 pub fn is_idle(
     tree: &FiberTree<Fiber>,
     old: Option<FiberId>,
@@ -136,6 +148,7 @@ pub fn is_idle(
     contexts: &[Int],
 ) -> bool
     requires held { IfSome old (Holds tree.now.current) }
+    requires gathered { IsGathered tree.now.current }
     requires kept { KeepsTree (kept_hooks hooks.now) tree.now.current old }
     ensures there { result ≡ true → IsSome (mark_at tree.now.current old) }
     ensures shown { result ≡ true → keeps_children true (mark_at tree.now.current old) ≡ true }

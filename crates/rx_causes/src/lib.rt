@@ -1,4 +1,4 @@
-//! Which causes there are to render the tree of an old node: walks over current fibers.
+//! Which causes there are to render the tree of an old node: what its current fiber keeps, and walks over those below.
 #![tactic(auto)]
 
 mod hidden;
@@ -8,5 +8,5 @@ mod scene;
 
 pub use hidden::waits_still;
 pub use idle::is_idle;
-pub use reading::{read_anew, reads_hold};
+pub use reading::{read_anew, reads_nothing};
 pub use scene::Scene;

@@ -10,9 +10,10 @@ use Rattle.rx_fiber.proofs.OldReads.{some_held, kids_held, rest_held}
 use Rattle.rx_causes.specs.Marks.{is_spared, begun_mark}
 use Rattle.rx_causes.specs.Scenes.{KeepsHooks}
 use Rattle.rx_causes.specs.Idle.{HasNoCauseAt, LeadsAt}
+use Rattle.rx_causes.proofs.Free.{passed_here}
 use Rattle.rx_causes.proofs.Walks.{stage_here, child_smaller, each_parts, but_joins, some_joins, behind_smaller}
 use Rattle.rx_causes.proofs.idle.+any_cause.Goals as goal
-use Rattle.rx_causes.proofs.idle.+any_cause.Goals.{else-not-is_spared-via-then-not-is_spared+else-any_cause, then-leads, else-leads, else-not-is_spared-via-else-not-is_spared}
+use Rattle.rx_causes.proofs.idle.+any_cause.Goals.{else-not-is_passed-via-then-not-is_passed+else-any_cause, then-leads, else-leads, else-not-is_passed-via-else-not-is_passed}
 
 pub any_cause-requires : goal.any_cause-requires
 any_cause-requires t c =
@@ -20,8 +21,8 @@ any_cause-requires t c =
     let linked = c.facts.ensures.linked in
     let i = c.in-Some.id in
     let held = some_held trees c.walking.next i c.walking.invariant.held c.in-Some.is in
-    let v = c.value.result.now in
-    let here = c.value.ensures.current held in
+    let v = c.value-fiber.result.now in
+    let here = c.value-fiber.ensures.current held in
     let child = c.first_child.result in
     let child_is = c.first_child.ensures.current held in
     let behind = first (rest_of trees i) in
@@ -30,7 +31,7 @@ any_cause-requires t c =
       omega (arith, c.decreases, c.walking.invariant.within, smaller),
       (
         subst (λ o. IfSome o (Holds trees)) (sym child_is) (kids_held trees linked i held),
-        (each_parts trees linked i held v here child child_is behind refl next c.in-Some.is (λ m. KeepsHooks (kept_hooks c.args.hooks.now) (option_and_then instance_in m)) c.walking.invariant.kept).1,
+        (c.requires.gathered, (each_parts trees linked i held v here child child_is behind refl next c.in-Some.is (λ m. KeepsHooks (kept_hooks c.args.hooks.now) (option_and_then instance_in m)) c.walking.invariant.kept).1),
       ),
     )
 
@@ -40,8 +41,8 @@ walking-preserved t c =
     let linked = c.facts.ensures.linked in
     let i = c.in-Some.id in
     let held = some_held trees c.walking.next i c.walking.invariant.held c.in-Some.is in
-    let v = c.value.result.now in
-    let here = c.value.ensures.current held in
+    let v = c.value-fiber.result.now in
+    let here = c.value-fiber.ensures.current held in
     let child = first (kids_of trees i) in
     let behind = c.next_sibling-next.result in
     let behind_is = c.next_sibling-next.ensures.current held in
@@ -54,23 +55,44 @@ walking-preserved t c =
       kept = (each_parts trees linked i held v here child refl behind behind_is next c.in-Some.is (λ m. KeepsHooks (kept_hooks c.args.hooks.now) (option_and_then instance_in m)) c.walking.invariant.kept).2;
       none = λ rest.
           c.walking.invariant.none
-          (elim c.else-not-is_spared.branch [
-            | else-not-is_spared-via-then-not-is_spared+else-any_cause w ↦ elim w.if-leads.branch [
+          (elim c.else-not-is_passed.branch [
+            | else-not-is_passed-via-then-not-is_passed+else-any_cause w ↦ elim w.if-leads.branch [
               | then-leads u ↦ absurd (let q : true ≡ false = sym u.if-leads.true ∙ (sym u.value-is ∙ w.if-any_cause.false) in let r : ⊥ = cc in r)
               | else-leads u ↦
                   but_joins trees linked i held v here u.first_child.result (u.first_child.ensures.current held) behind behind_is next c.in-Some.is way Free
                   (inr (
-                    stage_here trees linked i held v here child refl behind behind_is next c.in-Some.is Free _ c.stage-stage.ensures (w.leads.ensures.none u.if-leads.false),
+                    stage_here trees linked i held v here child refl behind behind_is next c.in-Some.is Free _ w.stage.ensures (w.leads.ensures.none u.if-leads.false),
                     u.any_cause.ensures.none (sym u.value-is ∙ w.if-any_cause.false),
                   ))
                   rest
             ]
-            | else-not-is_spared-via-else-not-is_spared w ↦
+            | else-not-is_passed-via-else-not-is_passed w ↦
                 but_joins trees linked i held v here child refl behind behind_is next c.in-Some.is way Free
-                (inl (ap (λ s. is_spared way (begun_mark s)) (sym c.stage-stage.ensures) ∙ (sym c.is_spared.ensures ∙ w.if-not-is_spared.false))) rest
+                (passed_here trees linked c.requires.gathered i held v here child refl behind behind_is way (kept_hooks c.args.hooks.now) c.args.scene.now.lanes c.args.scene.now.cut (sym c.is_passed.ensures ∙ w.if-not-is_passed.false)) rest
           ]);
       some = λ rest.
           c.walking.invariant.some
           (some_joins trees linked i held v here child refl behind behind_is next c.in-Some.is (LeadsAt way (kept_hooks c.args.hooks.now) c.args.scene.now.lanes c.args.scene.now.cut) (inr (inr rest)));
       within = omega (arith, c.walking.invariant.within, smaller);
     }
+
+pub returns-then-any_cause-clause-some : goal.returns-then-any_cause-clause-some
+returns-then-any_cause-clause-some t c found =
+    let trees = c.args.tree.now.current in
+    let linked = c.facts.ensures.linked in
+    let i = c.in-Some.id in
+    let held = some_held trees c.walking.next i c.walking.invariant.held c.in-Some.is in
+    let v = c.value-fiber.result.now in
+    let here = c.value-fiber.ensures.current held in
+    let child = first (kids_of trees i) in
+    let behind = first (rest_of trees i) in
+    let Leads = LeadsAt (is_way c.args.scene.now.ways.now) (kept_hooks c.args.hooks.now) c.args.scene.now.lanes c.args.scene.now.cut in
+    c.walking.invariant.some
+    (elim c.if-leads.branch [
+      | then-leads w ↦
+          some_joins trees linked i held v here child refl behind refl c.walking.next c.in-Some.is Leads
+          (inl (stage_here trees linked i held v here child refl behind refl c.walking.next c.in-Some.is Leads _ c.stage.ensures (c.leads.ensures.some w.if-leads.true)))
+      | else-leads w ↦
+          some_joins trees linked i held v here w.first_child.result (w.first_child.ensures.current held) behind refl c.walking.next c.in-Some.is Leads
+          (inr (inl (w.any_cause.ensures.some (sym w.value-is ∙ c.if-any_cause.true))))
+    ])

@@ -1,10 +1,10 @@
-use Rattle.std.proofs.Common.{◌≡◌, true, false, Some, option_and_then, refl, sym, ap, subst, inl, inr, ◌∙◌}
+use Rattle.std.proofs.Common.{◌≡◌, true, false, Some, IfSome, option_and_then, refl, sym, ap, subst, inl, inr, ◌∙◌}
 use Rattle.rx_elem.specs.Trees.{instance_in}
-use Rattle.rx_lists.specs.Shapes.{first}
+use Rattle.rx_lists.specs.Shapes.{Holds, first}
 use Rattle.rx_links.specs.Drafts.{kids_of}
 use Rattle.rx_links.specs.Readers.{list_from, rest_of}
 use Rattle.rx_fiber.proofs.OldPlaces.{list_here}
-use Rattle.rx_fiber.proofs.OldReads.{some_held}
+use Rattle.rx_fiber.proofs.OldReads.{kids_held, some_held}
 use Rattle.rx_ways.specs.Ways.{is_way}
 use Rattle.rx_hook_store.specs.Store.{kept_hooks}
 use Rattle.rx_causes.specs.Marks.{begun_mark, mark_at}
@@ -26,6 +26,13 @@ has_cause-requires c =
     let v = c.value.result.now in
     subst (λ stage. KeepsHooks (kept_hooks c.args.hooks.now) (instance_at stage)) (sym c.stage-stage.ensures)
     (keeps_fibers trees c.args.old i c.in-Some.is v (kids_of trees i) (rest_of trees i) (list_here trees c.facts.ensures.linked i held v (c.value.ensures.current held)) (kept_hooks c.args.hooks.now) c.requires.kept).0
+
+pub any_cause-requires-clause-held : goal.any_cause-requires-clause-held
+any_cause-requires-clause-held c =
+    let trees = c.args.tree.now.current in
+    let i = c.in-Some.id in
+    let held = some_held trees c.args.old i c.requires.held c.in-Some.is in
+    subst (λ o. IfSome o (Holds trees)) (sym (c.first_child.ensures.current held)) (kids_held trees c.facts.ensures.linked i held)
 
 pub any_cause-requires-clause-kept : goal.any_cause-requires-clause-kept
 any_cause-requires-clause-kept c =
