@@ -8,11 +8,12 @@ use Rattle.rx_ast.specs.Syntax.{Component}
 use Rattle.rx_rules.specs.Names.{component_at}
 use Rattle.rx_ctx.specs.Contexts.{Stack}
 use Rattle.rx_susp.specs.declared.boundary.BoundaryState.TheVariants.{Shown, Hidden}
-use Rattle.rx_elem.specs.Elements.{Element, Elements, Key}
+use Rattle.rx_elem.specs.Elements.{Element, Elements, Key, same_element, stands_for_children}
 use Rattle.rx_elem.specs.Elements as elements
 use Rattle.rx_elem.specs.Trees.{Mark, Node, node, element_of, mark_of, instance_in, is_hidden, Forest, of_instance, of_host, of_boundary, plain, was_hidden}
 use Rattle.rx_hooks.specs.declared.hook.Hook.{Hook}
-use Rattle.rx_elem.proofs.Deciding.{and_passes, same_itself, same_number}
+use Rattle.rx_elem.proofs.Deciding.{and_passes, both_hold, same_itself, same_number}
+use Rattle.rx_elem.proofs.Equality.{same_element-self}
 use Rattle.rx_lists.specs.Shapes.{Shape}
 use Rattle.rx_lists.specs.Shapes as shapes
 use Rattle.rx_links.specs.Drafts.{Draft, taken, made, Fits, Trees, entry, old_of}
@@ -22,10 +23,11 @@ use Rattle.rx_links.proofs.Placed.{is-at}
 use Rattle.rx_meaning.specs.Body.{Body, body_of, wait, ready}
 use Rattle.rx_meaning.specs.Counts.{begins_as, each_body, next_counts}
 use Rattle.rx_meaning.specs.Cursor.{Frame, at_place}
+use Rattle.rx_meaning.specs.Generations.{generation_below}
 use Rattle.rx_meaning.specs.Fresh.{Contexts, Sight, inputs_at, old_instance, shape_of, shape_of_component, shape_of_body}
 use Rattle.rx_meaning.specs.Settled.{IfSettled, IsOwn, Known, known_by}
 use Rattle.rx_ast.specs.Syntax.{Program}
-use Rattle.rx_fiber.specs.Fibers.{Fiber, is_cloned, is_stood}
+use Rattle.rx_fiber.specs.Fibers.{Fiber, generation_of, is_stood, origin_of}
 use Rattle.rx_fiber.specs.declared.stage.Origin.{Origin}
 use Rattle.rx_fiber.specs.OldLists.{hides_in}
 use Rattle.rx_fiber.specs.Reading.{IsOld, new as none_old, next, of as some_old}
@@ -38,16 +40,15 @@ use Rattle.rx_causes.specs.Scenes.{IsSceneOf, TellsCalm}
 use Rattle.rx_causes.proofs.Causes.{shown_again}
 use Rattle.rx_causes.proofs.Marks.{mark_is, old_instance_is}
 use Rattle.commit_laws.proofs.SameElements.{elements_tell}
-use Rattle.cost_laws.specs.Causes.{has_cause, is_called, waits_still}
-use Rattle.cost_laws.specs.Untouched.{gives_same, is_element_of, is_retried, is_untouched, same_given, stands_below, value_given}
-use Rattle.cost_laws.specs.Allowed.{Flag, below_boundary, below_node, is_caused}
-use Rattle.cost_laws.specs.Left.{Flags, MayGo, MayTry, begins_allowed, begun_flags, flag, next_allowed, unit_flags}
-use Rattle.cost_laws.specs.Required.{begins_required, called_body, next_required}
-use Rattle.flag_laws.specs.Flagged.{AllBare, AllClear, AllStood, AreTold, FlagsAtPlace, FlagsOpened, IsClear}
+use Rattle.cost_laws.specs.Causes.{is_called, waits_still}
+use Rattle.cost_laws.specs.Untouched.{gives_same, is_element_of, is_untouched, same_given, stands_below, value_given}
+use Rattle.cost_laws.specs.Evaluated.{Flag, below_boundary, below_node, is_again, is_evaluated, own_body}
+use Rattle.cost_laws.specs.Left.{Flags, MayGo, MayTry, begins_evaluated, begun_flags, flag, next_evaluated, unit_flags}
+use Rattle.flag_laws.specs.Flagged.{AllBare, AreTold, FlagsAtPlace, FlagsOpened, IsTold, KeepsTold}
 use Rattle.flag_laws.proofs.Going.{opens}
 use Rattle.rx_begin.specs.Beginning.{HasLists}
 use Rattle.rx_begin.specs.Nodes.{parts_in}
-use Rattle.rx_begin.specs.Origins.{AllNew, AllWait, IsSteady, TellsSteady}
+use Rattle.rx_begin.specs.Origins.{AllWait, IsAgain, IsSteady, TellsAgain, TellsSteady}
 use Rattle.rx_begin.specs.Others.{IsCauseToTry}
 use Rattle.rx_begin.proofs.Keeping.{node_element, stood_in}
 use Rattle.rx_begin.proofs.Standing.{mark_hides}
@@ -59,17 +60,9 @@ pub wait_bare : (origin : Origin) (d : Draft Fiber) → AllWait origin d → All
 wait_bare origin (taken s) h = h
 wait_bare origin (made id v o ks rs) h = (h.1, wait_bare origin rs h.2)
 
-pub new_clear : (d : Draft Fiber) → AllNew d → AllClear d
-new_clear (taken s) h = tt
-new_clear (made id v o ks rs) h = (inl h.0, new_clear rs h.1)
-
-pub wait_clear : (origin : Origin) → origin.cloned ≡ true → (d : Draft Fiber) → AllWait origin d → AllClear d
-wait_clear origin cloned (taken s) h = tt
-wait_clear origin cloned (made id v o ks rs) h = (inr (ap is_cloned h.0 ∙ cloned), wait_clear origin cloned rs h.2)
-
-pub wait_stood : (origin : Origin) (d : Draft Fiber) → AllWait origin d → AllStood origin.stood d
-wait_stood origin (taken s) h = tt
-wait_stood origin (made id v o ks rs) h = (ap is_stood h.0, wait_stood origin rs h.2)
+pub wait_told : (origin : Origin) (u : Flag) → origin.generation ≡ u.generation → origin.stood ≡ u.stood → (d : Draft Fiber) → AllWait origin d → AreTold u d
+wait_told origin u generation stood (taken s) h = tt
+wait_told origin u generation stood (made id v o ks rs) h = ((ap generation_of h.0 ∙ generation, ap is_stood h.0 ∙ stood), wait_told origin u generation stood rs h.2)
 
 -- What elements give
 
@@ -78,7 +71,7 @@ given_is elements.null = refl
 given_is (elements.text t) = refl
 given_is (elements.host n k attrs es) = refl
 given_is (elements.comp c k ps es) = refl
-given_is (elements.list es) = refl
+given_is (elements.list marked es) = refl
 given_is (elements.boundary k f es) = refl
 given_is (elements.provider c k x es) = refl
 
@@ -116,6 +109,35 @@ old_element c _ _ (some_old {j = j} {n = n} {x = x} {s = s} here leads (next {re
 equal_element : (c : Shape Fiber) (o : Option ℕ) (old : Option Node) (e : Element) → IsOld c o old → is_element_of e old ≡ true → IsElementOf c o e
 equal_element c o None e was h = absurd (cc h)
 equal_element c o (Some x) e was h = subst (IsElementOf c o) (sym (elements_tell e (element_of x) h)) (old_element c o x was)
+
+same_test : (a b : Bool) → (a ≡ true → b ≡ true) → (b ≡ true → a ≡ true) → a ≡ b
+same_test true b f g = sym (f refl)
+same_test false true f g = g refl
+same_test false false f g = refl
+
+-- the element of the current fiber is equal to that of its node
+element_equal : (c : Shape Fiber) (o : Option ℕ) (old : Option Node) (e : Element) → IsOld c o old → IsElementOf c o e → is_element_of e old ≡ true
+element_equal c _ _ e none_old h = absurd (let q : ⊥ = cc in q)
+element_equal c o (Some x) e was h =
+    let both : Some (element_of x) ≡ Some e = sym (old_element c o x was) ∙ h in
+    let same : element_of x ≡ e = cc in
+    subst (λ y. same_element e y ≡ true) (sym same) (same_element-self e)
+
+-- a test tells whether the element of a place is given again exactly as what is told of the place does
+pub again_is : (c : Shape Fiber) (o : Option ℕ) (v : Fiber) (u : Flag) (e : Element) (old : Option Node) (b : Bool) → IsOld c o old → v.element ≡ e → generation_of v.stage ≡ u.generation → TellsAgain c o v b
+    → b ≡ is_again u e old
+again_is c o v u e old b was element told tells = same_test b (is_again u e old) there back
+  where
+    there : b ≡ true → is_again u e old ≡ true
+    there so =
+        let a : IsAgain c o v = tells.0 so in
+        let zeroth : nat_eq u.generation 0 ≡ true = subst (λ g. nat_eq g 0 ≡ true) (sym (sym told ∙ a.generation)) refl in
+        both_hold (nat_eq u.generation 0) (is_element_of e old) zeroth (element_equal c o old e was (subst (IsElementOf c o) element a.same))
+
+    back : is_again u e old ≡ true → b ≡ true
+    back so =
+        let a = and_passes (nat_eq u.generation 0) (is_element_of e old) so in
+        tells.1 (record { generation = told ∙ same_number u.generation 0 a.0; same = subst (IsElementOf c o) (sym element) (equal_element c o old e was a.1) })
 
 hidden_is : (c : Shape Fiber) (o : Option ℕ) (x : Node) (w : Fiber) → IsOld c o (Some x) → option_and_then (value_of c) o ≡ Some w → is_hidden (mark_of x) ≡ hides_in w.stage
 hidden_is c o x w was there = sym (ap (λ m. option_map_or is_hidden m false) (mark_is c o (Some x) was)) ∙ mark_hides c o w there
@@ -158,11 +180,6 @@ stands_steady c o v stood e (Some x) was element told h =
     let b = and_passes (not (is_hidden (mark_of x))) (gives_same e (Some x)) a.1 in
     steady_by c o v e x was element (told ∙ a.0) (shown_again (is_hidden (mark_of x)) b.0) b.1 (option_and_then (value_of c) o) refl (old_element c o x was)
 
-same_test : (a b : Bool) → (a ≡ true → b ≡ true) → (b ≡ true → a ≡ true) → a ≡ b
-same_test true b f g = sym (f refl)
-same_test false true f g = g refl
-same_test false false f g = refl
-
 steady_is : (c : Shape Fiber) (o : Option ℕ) (v : Fiber) (stood : Bool) (e : Element) (old : Option Node) (steady : Bool) → IsOld c o old → v.element ≡ e → is_stood v.stage ≡ stood → TellsSteady c o v steady
     → steady ≡ stands_below stood e old
 steady_is c o v stood e old steady was element told tells =
@@ -197,24 +214,14 @@ lists_of_component : (s : Sight) (cs : Contexts) (c : ℕ) (ps : List ℤ) (kids
 lists_of_component s cs c ps kids old None us fs e h = absurd h
 lists_of_component s cs c ps kids old (Some d) us fs e h = lists_of_body cs c old (body_of s.program d (inputs_at s cs ps kids (old_instance old))) s us fs e h
 
-allowed_body : (s : Sight) (u : Flag) (cs : Contexts) (c : ℕ) (k : Key) (ps : List ℤ) (kids : Elements) (old : Option Node) (b : Body) → is_caused s u cs (elements.comp c k ps kids) old ≡ true
-    → 1 ≤ begins_allowed s u cs (elements.comp c k ps kids) old (shape_of_body cs c old b)
-allowed_body s u cs c k ps kids old (wait r) h = rw h (omega arith)
-allowed_body s u cs c k ps kids old (ready es effects initials reads) h = rw h (omega arith)
+counted_body : (s : Sight) (u : Flag) (cs : Contexts) (c : ℕ) (e : Element) (old : Option Node) (b : Body) (count : ℕ) → count ≡ own_body s u cs e old → count ≡ begins_evaluated s u cs e old (shape_of_body cs c old b)
+counted_body s u cs c e old (wait r) count h = h
+counted_body s u cs c e old (ready es effects initials reads) count h = h
 
-allowed_component : (s : Sight) (u : Flag) (cs : Contexts) (c : ℕ) (k : Key) (ps : List ℤ) (kids : Elements) (old : Option Node) (d : Option Component) → is_caused s u cs (elements.comp c k ps kids) old ≡ true
-    → 1 ≤ begins_as each_body cs (elements.comp c k ps kids) old (shape_of_component s cs c ps kids old d) → 1 ≤ begins_allowed s u cs (elements.comp c k ps kids) old (shape_of_component s cs c ps kids old d)
-allowed_component s u cs c k ps kids old None h few = absurd (omega (arith, few))
-allowed_component s u cs c k ps kids old (Some d) h few = allowed_body s u cs c k ps kids old (body_of s.program d (inputs_at s cs ps kids (old_instance old))) h
-
-required_body : (s : Sight) (cs : Contexts) (e : Element) (c : ℕ) (old : Option Node) (b : Body) (count : ℕ) → called_body s cs e old ≤ count → begins_required s cs e old (shape_of_body cs c old b) ≤ count
-required_body s cs e c old (wait r) count h = h
-required_body s cs e c old (ready es effects initials reads) count h = h
-
-required_component : (s : Sight) (cs : Contexts) (e : Element) (c : ℕ) (ps : List ℤ) (kids : Elements) (old : Option Node) (d : Option Component) (count : ℕ) → called_body s cs e old ≤ count
-    → begins_required s cs e old (shape_of_component s cs c ps kids old d) ≤ count
-required_component s cs e c ps kids old None count h = omega arith
-required_component s cs e c ps kids old (Some d) count h = required_body s cs e c old (body_of s.program d (inputs_at s cs ps kids (old_instance old))) count h
+counted_component : (s : Sight) (u : Flag) (cs : Contexts) (e : Element) (c : ℕ) (ps : List ℤ) (kids : Elements) (old : Option Node) (d : Option Component) (count : ℕ) → count ≡ own_body s u cs e old
+    → count ≤ begins_as each_body cs e old (shape_of_component s cs c ps kids old d) → count ≡ begins_evaluated s u cs e old (shape_of_component s cs c ps kids old d)
+counted_component s u cs e c ps kids old None count h few = omega (arith, few)
+counted_component s u cs e c ps kids old (Some d) count h few = counted_body s u cs c e old (body_of s.program d (inputs_at s cs ps kids (old_instance old))) count h
 
 may_body : (s : Sight) (u : Flag) (cs : Contexts) (e : Element) (c : ℕ) (old : Option Node) (b : Body) → MayTry s u e old (shape_of_body cs c old b)
 may_body s u cs e c old (wait r) = tt
@@ -230,7 +237,7 @@ own_shown p k elements.null m ns fs own other = absurd own
 own_shown p k (elements.text t) m ns fs own other = ap is_hidden own.1
 own_shown p k (elements.host n key attrs es) m ns fs own other = ap is_hidden own.1
 own_shown p k (elements.comp c key ps es) m ns fs own other = ap is_hidden own.1
-own_shown p k (elements.list es) m ns fs own other = ap is_hidden own.0
+own_shown p k (elements.list marked es) m ns fs own other = ap is_hidden own.0
 own_shown p k (elements.boundary key f es) m ns fs own other = absurd (other key f es refl)
 own_shown p k (elements.provider c key x es) m ns fs own other = ap is_hidden own.0
 
@@ -262,76 +269,43 @@ module _ (s : Sight) (scene : Scene) (kept : ℕ → Option (List Hook)) (t : Tr
       let same_old : h.flags.old ≡ o = cc in
       (same, same_old)
 
-  clear_here : (us : Flags) → FlagsAtPlace t id us → (flag us).under ≡ false → IsClear v o
-  clear_here us h clean =
-      let same = value_here us h in subst (λ x. IsClear v x) same.1 (subst (λ x. IsClear x h.flags.old) same.0 (h.clear clean))
+  told_here : (us : Flags) → FlagsAtPlace t id us → IsTold (flag us) v
+  told_here us h = subst (IsTold (flag us)) (value_here us h).0 h.told
 
-  stood_here : (us : Flags) → FlagsAtPlace t id us → is_stood v.stage ≡ (flag us).stood
-  stood_here us h = sym (ap (λ x. is_stood x.stage) (value_here us h).0) ∙ h.stood
+  element_here : (x : Element) → e ≡ x → v.element ≡ x
+  element_here x form = is.element ∙ form
 
-  -- there is no old node where there is no old fiber
-  none_there : o ≡ None → old ≡ None
-  none_there gone = go o old gone was
-    where
-      go : (x : Option ℕ) (y : Option Node) → x ≡ None → IsOld t.current x y → y ≡ None
-      go _ _ e none_old = refl
-      go _ _ e (some_old a b c) = absurd (let q : ⊥ = cc in q)
+  again_here : (us : Flags) → FlagsAtPlace t id us → (x : Element) → e ≡ x → (b : Bool) → TellsAgain t.current (old_of t.draft id) v b → b ≡ is_again (flag us) x old
+  again_here us h x form b tells_b = again_is t.current (old_of t.draft id) v (flag us) x old b was_at (element_here x form) (told_here us h).0 tells_b
 
   module _ (evaluated : Bool) (body : TellsBody scene kept t cs id evaluated) where
-    -- a component whose body is evaluated is called, where its fiber is clear
-    called_where : IsClear v o → IsSome (parts_in e) → evaluated ≡ true → is_called s cs (old_instance old) ≡ true
-    called_where clear some so = elim clear [
-      | inl gone ↦ ap (λ x. is_called s cs (old_instance x)) (none_there gone)
-      | inr cloned ↦ called_is (not true)
-          (subst (λ b. TellsCalm scene kept cs (option_and_then instance_in (mark_at t.current (old_of t.draft id))) (not b)) so (body.exact v value_is (subst (λ x. IsSome (parts_in x)) (sym is.element) some) cloned))
-    ]
+    none_where : (x : Element) → e ≡ x → parts_in x ≡ None → evaluated ≡ false
+    none_where x form gone = body.none v value_is (ap parts_in (element_here x form) ∙ gone)
 
-    below_where : (us : Flags) → FlagsAtPlace t id us → (c : ℕ) (key : Key) (ps : List ℤ) (kids : Elements) → e ≡ elements.comp c key ps kids → evaluated ≡ true → is_caused s (flag us) cs (elements.comp c key ps kids) old ≡ true
-    below_where us h c key ps kids form so = go (flag us).under refl
-      where
-        go : (u : Bool) → (flag us).under ≡ u → (u || is_called s cs (old_instance old)) ≡ true
-        go true f = refl
-        go false f = called_where (clear_here us h f) (subst (λ x. IsSome (parts_in x)) (sym form) refl) so
+    called_or : (evaluated called again : Bool) → (again ≡ true → called ≡ not (not evaluated)) → (again ≡ false → evaluated ≡ true) → evaluated ≡ (called || not again)
+    called_or true called true calm anew = sym (ap (λ b. b || false) (calm refl))
+    called_or false called true calm anew = sym (ap (λ b. b || false) (calm refl))
+    called_or evaluated true false calm anew = anew refl
+    called_or evaluated false false calm anew = anew refl
 
-    none_where : parts_in e ≡ None → evaluated ≡ false
-    none_where gone = body.none v value_is (ap parts_in is.element ∙ gone)
+    -- a component's body is evaluated exactly where that is told
+    evaluated_is : (us : Flags) → FlagsAtPlace t id us → (c : ℕ) (key : Key) (ps : List ℤ) (kids : Elements) → e ≡ elements.comp c key ps kids → evaluated ≡ is_evaluated s (flag us) cs (elements.comp c key ps kids) old
+    evaluated_is us h c key ps kids form =
+        let (again, tells_again, calm, anew) = body.some v value_is (subst (λ x. IsSome (parts_in x)) (sym (element_here (elements.comp c key ps kids) form)) refl) in
+        let same : again ≡ is_again (flag us) (elements.comp c key ps kids) old = again_here us h (elements.comp c key ps kids) form again tells_again in
+        called_or evaluated (is_called s cs (old_instance old)) again (λ so. called_is (not evaluated) (calm so)) anew ∙ ap (λ b. is_called s cs (old_instance old) || not b) same
 
-    not_both : {b : Bool} → b ≡ false → b ≡ true → ⊥
-    not_both f g = cc
-
-    bodies_allowed : (us : Flags) → FlagsAtPlace t id us → (x : Element) → e ≡ x → (b : Bool) → evaluated ≡ b → (if b then 1 else 0) ≤ next_counts each_body s (at_place (suc n) fs cs x old)
-        → (if b then 1 else 0) ≤ next_allowed s us (at_place (suc n) fs cs x old)
-    bodies_allowed us h x form false f few = omega arith
-    bodies_allowed us h elements.null form true f few = absurd (not_both (none_where (ap parts_in form)) f)
-    bodies_allowed us h (elements.text a) form true f few = absurd (not_both (none_where (ap parts_in form)) f)
-    bodies_allowed us h (elements.host a b c d) form true f few = absurd (not_both (none_where (ap parts_in form)) f)
-    bodies_allowed us h (elements.comp c key ps kids) form true f few =
-        allowed_component s (flag us) cs c key ps kids old (component_at s.program c) (below_where us h c key ps kids form f) few
-    bodies_allowed us h (elements.list a) form true f few = absurd (not_both (none_where (ap parts_in form)) f)
-    bodies_allowed us h (elements.boundary a b c) form true f few = absurd (not_both (none_where (ap parts_in form)) f)
-    bodies_allowed us h (elements.provider a b c d) form true f few = absurd (not_both (none_where (ap parts_in form)) f)
-
-    -- a component that is called is evaluated
-    called_served : IsSome (parts_in e) → (b : Bool) → evaluated ≡ b → cond (is_called s cs (old_instance old)) 1 0 ≤ (if b then 1 else 0)
-    called_served some true f = at_most (is_called s cs (old_instance old))
-      where
-        at_most : (b : Bool) → cond b 1 0 ≤ 1
-        at_most true = omega arith
-        at_most false = omega arith
-    called_served some false f =
-        let none : is_called s cs (old_instance old) ≡ false = called_is true (body.calm v value_is (subst (λ x. IsSome (parts_in x)) (sym is.element) some) f) in
-        rw none (omega arith)
-
-    bodies_served : (x : Element) → e ≡ x → next_required s (at_place (suc n) fs cs x old) ≤ (if evaluated then 1 else 0)
-    bodies_served elements.null form = omega arith
-    bodies_served (elements.text a) form = omega arith
-    bodies_served (elements.host a b c d) form = omega arith
-    bodies_served (elements.comp c key ps kids) form =
-        required_component s cs (elements.comp c key ps kids) c ps kids old (component_at s.program c) (if evaluated then 1 else 0)
-        (called_served (subst (λ x. IsSome (parts_in x)) (sym form) refl) evaluated refl)
-    bodies_served (elements.list a) form = omega arith
-    bodies_served (elements.boundary a b c) form = omega arith
-    bodies_served (elements.provider a b c d) form = omega arith
+    bodies_counted : (us : Flags) → FlagsAtPlace t id us → (x : Element) → e ≡ x → (if evaluated then 1 else 0) ≤ next_counts each_body s (at_place (suc n) fs cs x old)
+        → (if evaluated then 1 else 0) ≡ next_evaluated s us (at_place (suc n) fs cs x old)
+    bodies_counted us h elements.null form few = rw (none_where elements.null form refl) refl
+    bodies_counted us h (elements.text a) form few = rw (none_where (elements.text a) form refl) refl
+    bodies_counted us h (elements.host a b c d) form few = rw (none_where (elements.host a b c d) form refl) refl
+    bodies_counted us h (elements.comp c key ps kids) form few =
+        counted_component s (flag us) cs (elements.comp c key ps kids) c ps kids old (component_at s.program c) (if evaluated then 1 else 0)
+        (ap (λ b. if b then 1 else 0) (evaluated_is us h c key ps kids form)) few
+    bodies_counted us h (elements.list a b) form few = rw (none_where (elements.list a b) form refl) refl
+    bodies_counted us h (elements.boundary a b c) form few = rw (none_where (elements.boundary a b c) form refl) refl
+    bodies_counted us h (elements.provider a b c d) form few = rw (none_where (elements.provider a b c d) form refl) refl
 
   module _ (us : Flags) (h : FlagsAtPlace t id us) where
     -- what is tried is not untouched
@@ -344,14 +318,14 @@ module _ (s : Sight) (scene : Scene) (kept : ℕ → Option (List Hook)) (t : Tr
         go true g =
             let its : IsElementOf t.current (old_of t.draft id) e = equal_element t.current (old_of t.draft id) old e was_at g in
             old_waits s scene kept sees t id old tells was_at
-            (tries v value_is (ap parts_in is.element ∙ none) (subst (IsElementOf t.current (old_of t.draft id)) (sym is.element) its) (stood_here us h ∙ f))
+            (tries v value_is (ap parts_in is.element ∙ none) (subst (IsElementOf t.current (old_of t.draft id)) (sym is.element) its) ((told_here us h).1 ∙ f))
 
     may_go : TellsTries scene kept t id → (x : Element) → e ≡ x → MayGo s us (at_place (suc n) fs cs x old)
     may_go tries elements.null form = tt
     may_go tries (elements.text a) form = tt
     may_go tries (elements.host a b c d) form = tt
     may_go tries (elements.comp c key ps kids) form = may_component s (flag us) cs (elements.comp c key ps kids) c ps kids old (component_at s.program c)
-    may_go tries (elements.list a) form = tt
+    may_go tries (elements.list a b) form = tt
     may_go tries (elements.provider a b c d) form = tt
     may_go tries (elements.boundary a b c) form = subst (λ x. is_untouched s (flag us).stood x old ≡ false) form (tried_not tries (ap parts_in form) (flag us).stood refl)
 
@@ -359,111 +333,112 @@ module _ (s : Sight) (scene : Scene) (kept : ℕ → Option (List Hook)) (t : Tr
       opened_value : opened.value ≡ v
       opened_value = let q : Some opened.value ≡ Some v = opened.is ∙ sym value_is in cc
 
-      -- the old node of a clone has its element
-      has_element : is_cloned v.stage ≡ true → IsElementOf t.current o e
-      has_element cloned = is.same (sym (ap is_cloned is.stage) ∙ cloned)
+      value_at : opened.value.element ≡ e
+      value_at = ap (λ u. u.element) opened_value ∙ is.element
 
-      other_shown : is_cloned v.stage ≡ true → ((key : Key) (f : Element) (es : Elements) → e ≡ elements.boundary key f es → ⊥) → was_hidden old ≡ false
-      other_shown cloned other = go old was settled
+      -- an old node of the same element hides nothing where that is no boundary's
+      other_shown : IsElementOf t.current (old_of t.draft id) e → ((key : Key) (f : Element) (es : Elements) → e ≡ elements.boundary key f es → ⊥) → was_hidden old ≡ false
+      other_shown has other = go old was_at settled
         where
-          go : (x : Option Node) → IsOld t.current o x → IfSettled s.program (known_by s) x → was_hidden x ≡ false
+          go : (x : Option Node) → IsOld t.current (old_of t.draft id) x → IfSettled s.program (known_by s) x → was_hidden x ≡ false
           go None is_old own = refl
           go (Some (node f m ns gs)) is_old own =
-              let same : Some f ≡ Some e = stood_in t.current o (Some (node f m ns gs)) e is_old (has_element cloned) in
+              let same : Some f ≡ Some e = stood_in t.current (old_of t.draft id) (Some (node f m ns gs)) e is_old has in
               let eq : f ≡ e = cc in
               own_shown s.program (known_by s) f m ns gs own.0 (λ key g es form. other key g es (sym eq ∙ form))
 
-      hides_none : was_hidden old ≡ false → option_map_or is_hidden (mark_at t.current (old_of t.draft id)) false ≡ false
-      hides_none shown = ap (λ m. option_map_or is_hidden m false) (mark_is t.current (old_of t.draft id) old was_at) ∙ (as_was old ∙ shown)
+      keeps_is : keeps_children true (mark_at t.current (old_of t.draft id)) ≡ not (was_hidden old)
+      keeps_is = ap not (ap (λ m. option_map_or is_hidden m false) (mark_is t.current (old_of t.draft id) old was_at) ∙ as_was old)
         where
           as_was : (x : Option Node) → option_map_or is_hidden (option_map mark_of x) false ≡ was_hidden x
           as_was None = refl
           as_was (Some x) = refl
 
-      -- the children of a clone are clones, where its body is not evaluated and its old node hides nothing
-      clone_clear : is_cloned v.stage ≡ true → evaluated ≡ false → was_hidden old ≡ false → AllClear opened.kids.kids
-      clone_clear cloned none shown =
-          let keeps : keeps_children true (mark_at t.current (old_of t.draft id)) ≡ true = ap not (hides_none shown) in
-          let same : opened.cloned ≡ true = opened.clones (ap (λ u. is_cloned u.stage) opened_value ∙ cloned) none keeps in
-          wait_clear (record { cloned = opened.cloned; stood = opened.steady }) same opened.kids.kids opened.kids.all
+      again_told : (x : Element) → e ≡ x → opened.again ≡ is_again (flag us) x old
+      again_told x form = again_here us h x form opened.again (subst (λ w. TellsAgain t.current (old_of t.draft id) w opened.again) opened_value opened.telling)
 
-      kids_clear : (flag us).under ≡ false → evaluated ≡ false → (is_cloned v.stage ≡ true → was_hidden old ≡ false) → AllClear opened.kids.kids
-      kids_clear clean none shown = elim (clear_here us h clean) [
-        | inl gone ↦ new_clear opened.kids.kids (opened.kids.new (at.old ∙ gone))
-        | inr cloned ↦ clone_clear cloned none (shown cloned)
-      ]
+      both_if : (a b : Bool) → (a ≡ true → b ≡ true) → (a && b) ≡ a
+      both_if true b f = f refl
+      both_if false b f = refl
+
+      -- what is given again is kept, but by a hidden boundary
+      again_kept : (x : Element) → e ≡ x → ((key : Key) (f : Element) (es : Elements) → x ≡ elements.boundary key f es → ⊥)
+          → (opened.again && keeps_children true (mark_at t.current (old_of t.draft id))) ≡ is_again (flag us) x old
+      again_kept x form other =
+          both_if opened.again (keeps_children true (mark_at t.current (old_of t.draft id)))
+          (λ so.
+          let a = opened.telling.0 so in
+          let has : IsElementOf t.current (old_of t.draft id) e = subst (IsElementOf t.current (old_of t.draft id)) value_at a.same in
+          keeps_is ∙ ap not (other_shown has (λ key g es q. other key g es (sym form ∙ q))))
+          ∙ again_told x form
+
+      -- the kids are of the generation below
+      kids_generation : (x : Element) → e ≡ x → (b c : Bool) → evaluated ≡ b → (opened.again && keeps_children true (mark_at t.current (old_of t.draft id))) ≡ c
+          → opened.origin.generation ≡ generation_below b c (stands_for_children x) (flag us).generation
+      kids_generation x form b c so again =
+          opened.generation
+          ∙ (ap (λ z. generation_below z (opened.again && keeps_children true (mark_at t.current (old_of t.draft id))) (stands_for_children opened.value.element) (generation_of opened.value.stage)) so
+          ∙ (ap (λ z. generation_below b z (stands_for_children opened.value.element) (generation_of opened.value.stage)) again
+          ∙ (ap (λ z. generation_below b c (stands_for_children z) (generation_of opened.value.stage)) (value_at ∙ form)
+          ∙ ap (λ z. generation_below b c (stands_for_children x) z) (ap (λ w. generation_of w.stage) opened_value ∙ (told_here us h).0))))
 
       -- they stand exactly where the places below do
-      kids_stood : (x : Element) → e ≡ x → AllStood (stands_below (flag us).stood x old) opened.kids.kids
+      kids_stood : (x : Element) → e ≡ x → opened.origin.stood ≡ stands_below (flag us).stood x old
       kids_stood x form =
-          let steady : opened.steady ≡ stands_below (flag us).stood x old =
-          steady_is t.current (old_of t.draft id) opened.value (flag us).stood x old opened.steady was_at (ap (λ u. u.element) opened_value ∙ (is.element ∙ form)) (ap (λ u. is_stood u.stage) opened_value ∙ stood_here us h)
-          opened.steadiness
-          in
-          subst (λ b. AllStood b opened.kids.kids) steady (wait_stood (record { cloned = opened.cloned; stood = opened.steady }) opened.kids.kids opened.kids.all)
+          steady_is t.current (old_of t.draft id) opened.value (flag us).stood x old opened.origin.stood was_at (value_at ∙ form) (ap (λ u. is_stood u.stage) opened_value ∙ (told_here us h).1) opened.steadiness
 
-      open_as : (u : Flag) → AreTold u opened.kids.kids → FlagsOpened new id (u ∷ us) (entry opened.kids.kids)
-      open_as u told = opens t new id us u opened.kids.kids opened.kids.value h.flags opened.kids.stands (wait_bare (record { cloned = opened.cloned; stood = opened.steady }) opened.kids.kids opened.kids.all) told
+      keeps_told : (l : Around Fiber) (w : Fiber) (q : Option ℕ) (ls : Draft Fiber) → t.draft ≡ placed l (made id w q (taken shapes.none) ls)
+          → (new.draft ≡ placed l (made id (opened.kids.value w) q opened.kids.kids ls)) × KeepsTold (flag us) (opened.kids.value w)
+      keeps_told l w q ls there =
+          let one = (is-at t fits l id w q (taken shapes.none) ls there).list in
+          let both : Some (made id w q (taken shapes.none) ls) ≡ Some (made id v o (taken shapes.none) rs) = sym one ∙ at.list in
+          let same : w ≡ v = cc in (
+            opened.kids.stands l w q ls there,
+            (λ tries.
+                let its = opened.kids.keeps l w q ls there tries ∙ ap (λ u. origin_of u.stage) same in (
+                  ap (λ (c : Origin). c.generation) its ∙ (told_here us h).0,
+                  ap (λ (c : Origin). c.stood) its ∙ (ap (λ x. (origin_of x).stood) is.stage ∙ (sym (ap is_stood is.stage) ∙ (told_here us h).1)),
+                )),
+          )
 
-      or_parts : (a b : Bool) → (a || b) ≡ false → (a ≡ false) × (b ≡ false)
-      or_parts false false f = (refl, refl)
-      or_parts true b f = absurd (cc f)
-      or_parts false true f = absurd (cc f)
+      open_as : (u : Flag) → opened.origin.generation ≡ u.generation → opened.origin.stood ≡ u.stood → FlagsOpened new id (u ∷ us) (entry opened.kids.kids)
+      open_as u generation stood =
+          opens t new id us u opened.kids.kids opened.kids.value h.flags keeps_told (wait_bare opened.origin opened.kids.kids opened.kids.all)
+          (wait_told opened.origin u generation stood opened.kids.kids opened.kids.all)
 
-      plain_opens : (x : Element) → e ≡ x → parts_in x ≡ None → ((key : Key) (f : Element) (es : Elements) → x ≡ elements.boundary key f es → ⊥)
+      plain_opens : (x : Element) → e ≡ x → parts_in x ≡ None → is_evaluated s (flag us) cs x old ≡ false → ((key : Key) (f : Element) (es : Elements) → x ≡ elements.boundary key f es → ⊥)
           → FlagsOpened new id (below_node s (flag us) cs x old ∷ us) (entry opened.kids.kids)
-      plain_opens x form gone other =
-          open_as (below_node s (flag us) cs x old) (
-            (λ f.
-                kids_clear (or_parts (flag us).under (has_cause s cs x old) f).0 (none_where evaluated body (ap parts_in form ∙ gone))
-                (λ cloned. other_shown cloned (λ key g es q. other key g es (sym form ∙ q)))),
-            kids_stood x form,
-          )
+      plain_opens x form gone none other =
+          open_as (below_node s (flag us) cs x old)
+          (kids_generation x form (is_evaluated s (flag us) cs x old) (is_again (flag us) x old) (none_where evaluated body x form gone ∙ sym none) (again_kept x form other))
+          (kids_stood x form)
 
-      retried_shown : (a b : Bool) → (a && not b) ≡ false → b ≡ false → a ≡ false
-      retried_shown false b f g = refl
-      retried_shown true false f g = absurd (cc f)
-      retried_shown true true f g = absurd (cc g)
-
-      unit_opens : (x : Element) → e ≡ x → MayGo s us (at_place (suc n) fs cs x old) → HasLists (shape_of s cs x old) → FlagsOpened new id (unit_flags s us (at_place (suc n) fs cs x old)) (entry opened.kids.kids)
-      unit_opens elements.null form may lists = absurd lists
-      unit_opens (elements.text a) form may lists = plain_opens (elements.text a) form refl (λ key f es q. cc)
-      unit_opens (elements.host a b c d) form may lists = plain_opens (elements.host a b c d) form refl (λ key f es q. cc)
-      unit_opens (elements.list a) form may lists = plain_opens (elements.list a) form refl (λ key f es q. cc)
-      unit_opens (elements.provider a b c d) form may lists = plain_opens (elements.provider a b c d) form refl (λ key f es q. cc)
-      unit_opens (elements.boundary a b c) form may lists =
-          open_as (below_boundary s (flag us) (elements.boundary a b c) old) (
-            (λ f.
-                let parts = or_parts (flag us).under (is_retried s (flag us).stood (elements.boundary a b c) old) f in
-                kids_clear parts.0 (none_where evaluated body (ap parts_in form)) (λ cloned. retried_shown (was_hidden old) (is_untouched s (flag us).stood (elements.boundary a b c) old) parts.1 may)),
-            kids_stood (elements.boundary a b c) form,
-          )
-      unit_opens (elements.comp c key ps kids) form may lists =
+      unit_opens : (x : Element) → e ≡ x → HasLists (shape_of s cs x old) → FlagsOpened new id (unit_flags s us (at_place (suc n) fs cs x old)) (entry opened.kids.kids)
+      unit_opens elements.null form lists = absurd lists
+      unit_opens (elements.text a) form lists = plain_opens (elements.text a) form refl refl (λ key f es q. cc)
+      unit_opens (elements.host a b c d) form lists = plain_opens (elements.host a b c d) form refl refl (λ key f es q. cc)
+      unit_opens (elements.list a b) form lists = plain_opens (elements.list a b) form refl refl (λ key f es q. cc)
+      unit_opens (elements.provider a b c d) form lists = plain_opens (elements.provider a b c d) form refl refl (λ key f es q. cc)
+      unit_opens (elements.boundary a b c) form lists =
+          open_as (below_boundary (flag us) (elements.boundary a b c) old)
+          (kids_generation (elements.boundary a b c) form false (is_again (flag us) (elements.boundary a b c) old && not (was_hidden old)) (none_where evaluated body (elements.boundary a b c) form refl)
+          (ap (λ z. z && keeps_children true (mark_at t.current (old_of t.draft id))) (again_told (elements.boundary a b c) form)
+          ∙ ap (λ z. is_again (flag us) (elements.boundary a b c) old && z) keeps_is))
+          (kids_stood (elements.boundary a b c) form)
+      unit_opens (elements.comp c key ps kids) form lists =
           subst (λ (fl : Flags). FlagsOpened new id fl (entry opened.kids.kids)) (sym (lists_of_component s cs c ps kids old (component_at s.program c) us fs (elements.comp c key ps kids) lists))
-          (open_as (below_node s (flag us) cs (elements.comp c key ps kids) old) (
-            (λ f.
-                let parts = or_parts (flag us).under (is_called s cs (old_instance old)) f in
-                kids_clear parts.0 (not_evaluated parts.0 parts.1 evaluated refl) (λ cloned. other_shown cloned (λ k2 f2 es q. let z = sym form ∙ q in cc))),
-            kids_stood (elements.comp c key ps kids) form,
-          ))
-        where
-          not_evaluated : (flag us).under ≡ false → is_called s cs (old_instance old) ≡ false → (b : Bool) → evaluated ≡ b → evaluated ≡ false
-          not_evaluated clean calm false f = f
-          not_evaluated clean calm true f = absurd (not_both evaluated body calm (called_where evaluated body (clear_here us h clean) (subst (λ x. IsSome (parts_in x)) (sym form) refl) f))
+          (open_as (below_node s (flag us) cs (elements.comp c key ps kids) old)
+          (kids_generation (elements.comp c key ps kids) form (is_evaluated s (flag us) cs (elements.comp c key ps kids) old) (is_again (flag us) (elements.comp c key ps kids) old)
+          (evaluated_is evaluated body us h c key ps kids form) (again_kept (elements.comp c key ps kids) form (λ k2 f2 es q. cc)))
+          (kids_stood (elements.comp c key ps kids) form))
 
 -- The laws
 
-pub allows : (s : Sight) (scene : Scene) (kept : ℕ → Option (List Hook)) (t : Trees Fiber) (st : Stack) (id n : ℕ) (fs : List Frame) (cs : Contexts) (e : Element) (old : Option Node) (us : Flags) (evaluated : Bool)
+pub counts : (s : Sight) (scene : Scene) (kept : ℕ → Option (List Hook)) (t : Trees Fiber) (st : Stack) (id n : ℕ) (fs : List Frame) (cs : Contexts) (e : Element) (old : Option Node) (us : Flags) (evaluated : Bool)
     → IsSceneOf scene s → Fits t → StandsAt t st (Some id) (at_place (suc n) fs cs e old) → TellsIf s kept old → FlagsAtPlace t id us → TellsBody scene kept t cs id evaluated
-    → (if evaluated then 1 else 0) ≤ next_counts each_body s (at_place (suc n) fs cs e old) → (if evaluated then 1 else 0) ≤ next_allowed s us (at_place (suc n) fs cs e old)
-allows s scene kept t st id n fs cs e old us evaluated sees fits (begins {n = place} {v = v} {o = o} {rs = rs} {k = k} here is was surrounds values stack) tells h body few =
-    bodies_allowed s scene kept t id n place v o rs k fs cs e old sees fits here is was tells evaluated body us h e refl evaluated refl few
-
-pub serves : (s : Sight) (scene : Scene) (kept : ℕ → Option (List Hook)) (t : Trees Fiber) (st : Stack) (id n : ℕ) (fs : List Frame) (cs : Contexts) (e : Element) (old : Option Node) (evaluated : Bool)
-    → IsSceneOf scene s → Fits t → StandsAt t st (Some id) (at_place (suc n) fs cs e old) → TellsIf s kept old → TellsBody scene kept t cs id evaluated
-    → next_required s (at_place (suc n) fs cs e old) ≤ (if evaluated then 1 else 0)
-serves s scene kept t st id n fs cs e old evaluated sees fits (begins {n = place} {v = v} {o = o} {rs = rs} {k = k} here is was surrounds values stack) tells body =
-    bodies_served s scene kept t id n place v o rs k fs cs e old sees fits here is was tells evaluated body e refl
+    → (if evaluated then 1 else 0) ≤ next_counts each_body s (at_place (suc n) fs cs e old) → (if evaluated then 1 else 0) ≡ next_evaluated s us (at_place (suc n) fs cs e old)
+counts s scene kept t st id n fs cs e old us evaluated sees fits (begins {n = place} {v = v} {o = o} {rs = rs} {k = k} here is was surrounds values stack) tells h body few =
+    bodies_counted s scene kept t id n place v o rs k fs cs e old sees fits here is was tells evaluated body us h e refl few
 
 pub may : (s : Sight) (scene : Scene) (kept : ℕ → Option (List Hook)) (t : Trees Fiber) (st : Stack) (id n : ℕ) (fs : List Frame) (cs : Contexts) (e : Element) (old : Option Node) (us : Flags)
     → IsSceneOf scene s → Fits t → StandsAt t st (Some id) (at_place (suc n) fs cs e old) → TellsIf s kept old → FlagsAtPlace t id us → TellsTries scene kept t id → MayGo s us (at_place (suc n) fs cs e old)
@@ -474,4 +449,4 @@ pub opens_so : (s : Sight) (scene : Scene) (kept : ℕ → Option (List Hook)) (
     → IsSceneOf scene s → Fits t → StandsAt t st (Some id) (at_place (suc n) fs cs e old) → IfSettled s.program (known_by s) old → TellsIf s kept old → FlagsAtPlace t id us → TellsBody scene kept t cs id evaluated
     → MayGo s us (at_place (suc n) fs cs e old) → HasLists (shape_of s cs e old) → (k : OpensKids t new id evaluated) → FlagsOpened new id (unit_flags s us (at_place (suc n) fs cs e old)) (entry k.kids.kids)
 opens_so s scene kept t new st id n fs cs e old us evaluated sees fits (begins {n = place} {v = v} {o = o} {rs = rs} {k = k} here is was surrounds values stack) settled tells h body goes lists opened =
-    unit_opens s scene kept t id n place v o rs k fs cs e old sees fits here is was tells us h evaluated body settled new opened e refl goes lists
+    unit_opens s scene kept t id n place v o rs k fs cs e old sees fits here is was tells us h evaluated body settled new opened e refl lists

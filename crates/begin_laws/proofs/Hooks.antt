@@ -33,7 +33,7 @@ use Rattle.rx_causes.specs.Hidden.{ForEachIn, HasCauseToTry, HasNews, HasValueOf
 use Rattle.rx_causes.specs.Hidden as hidden
 use Rattle.rx_causes.specs.Idle.{Rests}
 use Rattle.cost_laws.specs.Causes.{has_value, instance_news, is_called, is_due, is_news, news_at, news_in, some_update, waits_still}
-use Rattle.cost_laws.specs.Required.{IsUndue}
+use Rattle.cost_laws.specs.Undue.{IsUndue}
 use Rattle.begin_laws.specs.Mounting.{HasInstances, HasInstancesIn, IfMounted, IsMountedIn}
 use Rattle.begin_laws.specs.Telling.{TellsCauses}
 

@@ -1,13 +1,16 @@
 -- What the kept hooks tell of the causes at a place, and what the beginning of a place tells of the bodies that it evaluates.
-use Rattle.std.specs.Prelude.{◌≡◌, ℕ, Bool, true, false, not, List, Option, Some, None, IsSome, option_and_then}
+use Rattle.std.specs.Prelude.{◌≡◌, ℕ, Bool, true, false, not, ◌&&◌, List, Option, Some, None, IsSome, option_and_then}
 use Rattle.rx_base.specs.Awaits.{Awaits}
+use Rattle.rx_elem.specs.Elements.{stands_for_children}
 use Rattle.rx_elem.specs.Trees.{Node, children_of, instance_in, mark_of, of_boundary}
 use Rattle.rx_susp.specs.declared.boundary.BoundaryState.TheVariants.{Hidden}
 use Rattle.rx_hooks.specs.declared.hook.Hook.{Hook}
 use Rattle.rx_links.specs.Drafts.{Trees, old_of}
 use Rattle.rx_links.specs.Readers.{made_value_of}
 use Rattle.rx_meaning.specs.Fresh.{Contexts, Sight}
-use Rattle.rx_fiber.specs.Fibers.{Fiber, is_cloned, is_stood}
+use Rattle.rx_meaning.specs.Generations.{generation_below}
+use Rattle.rx_fiber.specs.Fibers.{Fiber, generation_of, is_stood}
+use Rattle.rx_fiber.specs.declared.stage.Origin.{Origin}
 use Rattle.rx_fiber.specs.Surround.{IsElementOf}
 use Rattle.rx_meaning.specs.Again.{AreUnresolved}
 use Rattle.commit_laws.specs.Each as marks
@@ -18,9 +21,9 @@ use Rattle.rx_causes.specs.Marks.{EachBut, keeps_children, mark_at}
 use Rattle.rx_causes.specs.Scenes.{IsSceneOf, TellsCalm, TellsNews}
 use Rattle.rx_causes.specs.declared.scene.Scene.{Scene}
 use Rattle.cost_laws.specs.Causes.{is_called, waits_still}
-use Rattle.cost_laws.specs.Required.{IsUndue}
+use Rattle.cost_laws.specs.Undue.{IsUndue}
 use Rattle.rx_begin.specs.Nodes.{parts_in}
-use Rattle.rx_begin.specs.Origins.{HasKids, TellsSteady}
+use Rattle.rx_begin.specs.Origins.{HasKids, TellsAgain, TellsSteady}
 use Rattle.rx_begin.specs.Others.{IsCauseToTry}
 
 -- Kept hooks tell which causes an old node has: whether its component is called; of a hidden boundary, that something new has come for it, and that nothing has; and of which instances in its tree no update is due.
@@ -35,23 +38,24 @@ abbrev pub TellsIf : Sight → (kept : ℕ → Option (List Hook)) → Option No
 TellsIf s kept None = Unit {0}
 TellsIf s kept (Some x) = TellsCauses s kept x
 
--- The beginning of the place of a fiber tells whether it evaluated a body: that of no component evaluates none, and that of a component skips its body only where the instance is calm, and a clone's where it is calm.
+-- The beginning of the place of a fiber tells whether it evaluated a body: that of no component evaluates none, and that of a component its body, unless its element is the current one, given again, and its instance is calm.
 pub record TellsBody (scene : Scene) (kept : ℕ → Option (List Hook)) (t : Trees Fiber) (cs : Contexts) (id : ℕ) (evaluated : Bool) : Type 0 where
   pub none : (v : Fiber) → Some v ≡ made_value_of t.draft id → parts_in v.element ≡ None → evaluated ≡ false
-  pub calm : (v : Fiber) → Some v ≡ made_value_of t.draft id → IsSome (parts_in v.element) → evaluated ≡ false → TellsCalm scene kept cs (option_and_then instance_in (mark_at t.current (old_of t.draft id))) true
-  pub exact : (v : Fiber) → Some v ≡ made_value_of t.draft id → IsSome (parts_in v.element) → is_cloned v.stage ≡ true → TellsCalm scene kept cs (option_and_then instance_in (mark_at t.current (old_of t.draft id))) (not evaluated)
+  pub some : (v : Fiber) → Some v ≡ made_value_of t.draft id → IsSome (parts_in v.element) → (again : Bool) × TellsAgain t.current (old_of t.draft id) v again
+      × (again ≡ true → TellsCalm scene kept cs (option_and_then instance_in (mark_at t.current (old_of t.draft id))) (not evaluated)) × (again ≡ false → evaluated ≡ true)
 
 -- A hidden boundary's children are tried only for a cause, where its element is that of the current fiber, and that stands where the same values of contexts are given.
 abbrev pub TellsTries : Scene → (kept : ℕ → Option (List Hook)) → Trees Fiber → (id : ℕ) → Type 0
 TellsTries scene kept t id =
     (v : Fiber) → Some v ≡ made_value_of t.draft id → parts_in v.element ≡ None → IsElementOf t.current (old_of t.draft id) v.element → is_stood v.stage ≡ true → IsCauseToTry scene kept t id
 
--- A fiber is begun over these children: they stood exactly where the fiber is steady, and are clones where it is one whose body is not evaluated and whose old node hides nothing.
+-- A fiber is begun over these children: they stood exactly where the fiber is steady, and are of the generation below it.
 pub record OpensKids (t new : Trees Fiber) (id : ℕ) (evaluated : Bool) : Type 0 where
   pub value : Fiber
   pub is : Some value ≡ made_value_of t.draft id
-  pub cloned : Bool
-  pub steady : Bool
-  pub steadiness : TellsSteady t.current (old_of t.draft id) value steady
-  pub clones : is_cloned value.stage ≡ true → evaluated ≡ false → keeps_children true (mark_at t.current (old_of t.draft id)) ≡ true → cloned ≡ true
-  pub kids : HasKids (record { cloned = cloned; stood = steady }) t new id
+  pub origin : Origin
+  pub steadiness : TellsSteady t.current (old_of t.draft id) value origin.stood
+  pub again : Bool
+  pub telling : TellsAgain t.current (old_of t.draft id) value again
+  pub generation : origin.generation ≡ generation_below evaluated (again && keeps_children true (mark_at t.current (old_of t.draft id))) (stands_for_children value.element) (generation_of value.stage)
+  pub kids : HasKids origin t new id

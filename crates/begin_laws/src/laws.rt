@@ -1,5 +1,5 @@
 // Laws of what the beginning of a place costs.
-ghost use Rattle.std.specs.Prelude.{◌≤◌, ℕ, suc, Bool, List, Option, Some, if◌then◌else◌};
+ghost use Rattle.std.specs.Prelude.{◌≡◌, ◌≤◌, ℕ, suc, Bool, List, Option, Some, if◌then◌else◌};
 ghost use Rattle.rx_ast.specs.Syntax.{Program};
 ghost use Rattle.rx_ctx.specs.Contexts.{Stack};
 ghost use Rattle.rx_elem.specs.Elements.{Element};
@@ -14,8 +14,7 @@ ghost use Rattle.rx_fiber.specs.Fibers.{Fiber};
 ghost use Rattle.rx_fiber.specs.Standing.{StandsAt};
 ghost use Rattle.rx_causes.specs.declared.scene.Scene.{Scene};
 ghost use Rattle.rx_causes.specs.Scenes.{IsSceneOf};
-ghost use Rattle.cost_laws.specs.Left.{Flags, MayGo, next_allowed, unit_flags};
-ghost use Rattle.cost_laws.specs.Required.{next_required};
+ghost use Rattle.cost_laws.specs.Left.{Flags, MayGo, next_evaluated, unit_flags};
 ghost use Rattle.flag_laws.specs.Flagged.{FlagsAtPlace, FlagsOpened};
 ghost use Rattle.rx_model.specs.State.{Progress, State};
 ghost use Rattle.rx_model.specs.Committing.{sight_of};
@@ -24,16 +23,13 @@ ghost use Rattle.rx_begin.specs.Beginning.{HasLists};
 ghost use Rattle.begin_laws.specs.Mounting.{HasInstances};
 ghost use Rattle.begin_laws.specs.Telling.{OpensKids, TellsBody, TellsCauses, TellsIf, TellsTries};
 
-/// A unit that begins a place evaluates its body where it has to, and only where it may, and tries no untouched boundary; it opens
-/// lists whose fibers are as their flags tell.
+/// A unit that begins a place evaluates its body exactly where that is told, and tries no untouched boundary; it opens lists whose
+/// fibers are as their flags tell.
 pub fn places_cost()
     ensures bodies { (s : Sight) (scene : Scene) (kept : ℕ → Option (List Hook)) (t : Trees Fiber) (st : Stack) (id n : ℕ) (fs : List Frame) (cs : Contexts) (e : Element) (old : Option Node) (us : Flags) (evaluated : Bool)
         → IsSceneOf scene s → Fits t → StandsAt t st (Some id) (at_place (suc n) fs cs e old) → TellsIf s kept old → FlagsAtPlace t id us → TellsBody scene kept t cs id evaluated
         → (if evaluated then 1 else 0) ≤ next_counts each_body s (at_place (suc n) fs cs e old)
-        → (if evaluated then 1 else 0) ≤ next_allowed s us (at_place (suc n) fs cs e old) }
-    ensures served { (s : Sight) (scene : Scene) (kept : ℕ → Option (List Hook)) (t : Trees Fiber) (st : Stack) (id n : ℕ) (fs : List Frame) (cs : Contexts) (e : Element) (old : Option Node) (evaluated : Bool)
-        → IsSceneOf scene s → Fits t → StandsAt t st (Some id) (at_place (suc n) fs cs e old) → TellsIf s kept old → TellsBody scene kept t cs id evaluated
-        → next_required s (at_place (suc n) fs cs e old) ≤ (if evaluated then 1 else 0) }
+        → (if evaluated then 1 else 0) ≡ next_evaluated s us (at_place (suc n) fs cs e old) }
     ensures tries { (s : Sight) (scene : Scene) (kept : ℕ → Option (List Hook)) (t : Trees Fiber) (st : Stack) (id n : ℕ) (fs : List Frame) (cs : Contexts) (e : Element) (old : Option Node) (us : Flags)
         → IsSceneOf scene s → Fits t → StandsAt t st (Some id) (at_place (suc n) fs cs e old) → TellsIf s kept old → FlagsAtPlace t id us → TellsTries scene kept t id
         → MayGo s us (at_place (suc n) fs cs e old) }

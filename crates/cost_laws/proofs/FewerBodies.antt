@@ -1,13 +1,15 @@
--- A render may evaluate no more bodies than it evaluates where each place is evaluated.
-use Rattle.std.specs.Prelude.{ℕ, zero, suc, ◌+◌, ◌≤◌, Bool, true, false, cond, List, [], ◌∷◌, Option}
+-- A render evaluates no more bodies than where each place is evaluated.
+use Rattle.std.specs.Prelude.{ℕ, zero, suc, ◌+◌, ◌≤◌, Bool, true, false, not, ◌||◌, cond, List, [], ◌∷◌, Option}
 use Rattle.std.proofs.Common.{arith}
 use Rattle.rx_elem.specs.Elements.{Element}
+use Rattle.rx_elem.specs.Elements as elements
 use Rattle.rx_elem.specs.Trees.{Node}
 use Rattle.rx_meaning.specs.Fresh.{Sight, Contexts, Renders, Place, empty, made, waits, Places, all_made, one_waits, rendered, depth_limit, default_contexts, root_element, Part, Shape, absent, waiting, one_list, two_lists, shape_of, render_part}
 use Rattle.rx_meaning.specs.Counts.{Tries, unless_waits, if_waits, if_made, try_all, each_body, one_if_component, count_part, count_shape, counted, whole}
 use Rattle.rx_meaning.specs.Touched.{children_with_old}
 use Rattle.render_laws.proofs.UnitBound.{if_made_nothing}
-use Rattle.cost_laws.specs.Allowed.{Allows, Flag, above_root, allow_shape, allowed, below_boundary, below_node, in_fallback, is_caused, own_body, whole_allowed}
+use Rattle.cost_laws.specs.Causes.{has_cause}
+use Rattle.cost_laws.specs.Evaluated.{Evaluates, Flag, above_root, below_boundary, below_node, evaluate_shape, evaluated, in_fallback, is_again, own_body, whole_evaluated}
 use Rattle.cost_laws.specs.Untouched.{is_untouched}
 
 -- one count is at most another
@@ -29,12 +31,18 @@ pub part_less : (f g : Contexts → Tries) (below : Contexts → Renders) → ((
     → count_part f below p ≤ count_part g below p
 part_less f g below h p = all_less (f p.contexts) (g p.contexts) (below p.contexts) (h p.contexts) (children_with_old p)
 
-cond_less : (b : Bool) (n : ℕ) → cond b n 0 ≤ n
-cond_less true n = omega arith
-cond_less false n = omega arith
+one_less : (b : Bool) → cond b 1 0 ≤ 1
+one_less true = omega arith
+one_less false = omega arith
 
 own_less : (s : Sight) (u : Flag) (cs : Contexts) (e : Element) (old : Option Node) → own_body s u cs e old ≤ one_if_component e
-own_less s u cs e old = cond_less (is_caused s u cs e old) (one_if_component e)
+own_less s u cs elements.null old = omega arith
+own_less s u cs (elements.text t) old = omega arith
+own_less s u cs (elements.host n k attrs es) old = omega arith
+own_less s u cs (elements.comp c k ps es) old = one_less (has_cause s cs (elements.comp c k ps es) old || not (is_again u (elements.comp c k ps es) old))
+own_less s u cs (elements.list marked es) old = omega arith
+own_less s u cs (elements.boundary k f es) old = omega arith
+own_less s u cs (elements.provider c k x es) old = omega arith
 
 lists_less : (b : Bool) (ps qs : Places) (x y u v w : ℕ) → x ≤ y → u ≤ v
     → cond b 0 x + if_waits ps u ≤ w + (y + (if_made ps 0 + if_waits ps (v + if_made qs 0)))
@@ -43,26 +51,26 @@ lists_less false (all_made ns) qs x y u v w h k = omega arith
 lists_less true (one_waits a) qs x y u v w h k = omega arith
 lists_less false (one_waits a) qs x y u v w h k = omega arith
 
-shape_less : (f : Allows) (g : Contexts → Tries) (below : Contexts → Renders) → ((u : Flag) (cs : Contexts) → IsLess (f u cs) (g cs))
+shape_less : (f : Evaluates) (g : Contexts → Tries) (below : Contexts → Renders) → ((u : Flag) (cs : Contexts) → IsLess (f u cs) (g cs))
     → (s : Sight) (u : Flag) (cs : Contexts) (e : Element) (old : Option Node) (shape : Shape)
-    → allow_shape f below s u cs e old shape ≤ count_shape each_body g below cs e old shape
+    → evaluate_shape f below s u cs e old shape ≤ count_shape each_body g below cs e old shape
 shape_less f g below h s u cs e old absent = omega arith
 shape_less f g below h s u cs e old (waiting r) = own_less s u cs e old
 shape_less f g below h s u cs e old (one_list m p) =
     omega (arith, own_less s u cs e old, part_less (f (below_node s u cs e old)) g below (h (below_node s u cs e old)) p, if_made_nothing (render_part below p))
 shape_less f g below h s u cs e old (two_lists p q) =
     lists_less (is_untouched s u.stood e old) (render_part below p) (render_part below q)
-    (count_part (f (below_boundary s u e old)) below p) (count_part g below p) (count_part (f (in_fallback s u e old)) below q) (count_part g below q) (one_if_component e)
-    (part_less (f (below_boundary s u e old)) g below (h (below_boundary s u e old)) p)
+    (count_part (f (below_boundary u e old)) below p) (count_part g below p) (count_part (f (in_fallback s u e old)) below q) (count_part g below q) (one_if_component e)
+    (part_less (f (below_boundary u e old)) g below (h (below_boundary u e old)) p)
     (part_less (f (in_fallback s u e old)) g below (h (in_fallback s u e old)) q)
 
-allowed_less : (n : ℕ) (s : Sight) (u : Flag) (cs : Contexts) → IsLess (allowed n s u cs) (counted each_body n s cs)
-unfolding allowed counted
-allowed_less zero s u cs e old = omega arith
-allowed_less (suc n) s u cs e old =
-    shape_less (allowed n s) (counted each_body n s) (rendered n s) (allowed_less n s) s u cs e old (shape_of s cs e old)
+evaluated_less : (n : ℕ) (s : Sight) (u : Flag) (cs : Contexts) → IsLess (evaluated n s u cs) (counted each_body n s cs)
+unfolding evaluated counted
+evaluated_less zero s u cs e old = omega arith
+evaluated_less (suc n) s u cs e old =
+    shape_less (evaluated n s) (counted each_body n s) (rendered n s) (evaluated_less n s) s u cs e old (shape_of s cs e old)
 
--- A whole render may evaluate at most the bodies that it evaluates where no place is spared.
-pub whole_less : (s : Sight) (old : Option Node) → whole_allowed s old ≤ whole each_body s old
-unfolding whole_allowed whole
-whole_less s old = allowed_less depth_limit s above_root (default_contexts s.program) (root_element s.program) old
+-- A whole render evaluates at most the bodies that it would where no place is spared.
+pub whole_less : (s : Sight) (old : Option Node) → whole_evaluated s old ≤ whole each_body s old
+unfolding whole_evaluated whole
+whole_less s old = evaluated_less depth_limit s above_root (default_contexts s.program) (root_element s.program) old

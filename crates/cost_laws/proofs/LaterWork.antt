@@ -1,27 +1,29 @@
--- What a render may evaluate is the same for two sights that see the same work, and a longer journal shows no other work.
+-- What a render evaluates is the same for two sights that see the same work, and a longer journal shows no other work.
 use Rattle.std.specs.Prelude.{◌≡◌, ℕ, zero, suc, ◌+◌, Bool, true, false, not, ◌&&◌, ◌||◌, cond, List, [], ◌∷◌, ◌++◌, ℤ, Option, Some, None, filter, is_some, slice_index_or, refl}
 use Rattle.std.specs.List.{enumerate_from, list_any}
 use Rattle.std.specs.Option.{option_map_or}
-use Rattle.std.proofs.Common.{ap, ◌∙◌}
+use Rattle.std.proofs.Common.{ap, sym, ◌∙◌}
 use Rattle.rx_susp.specs.declared.boundary.BoundaryState.{BoundaryState}
 use Rattle.rx_susp.specs.Boundary.{awaits_of, hides}
-use Rattle.rx_elem.specs.Elements.{Element}
+use Rattle.rx_elem.specs.Elements.{Element, stands_for_children}
 use Rattle.rx_elem.specs.Elements as elements
-use Rattle.rx_elem.specs.Trees.{Forest, Instance, Node, boundary_in, child, children_of, instance_in, mark_of, node, none, vacant, was_hidden}
+use Rattle.rx_elem.specs.Trees.{Forest, Instance, Mark, Node, boundary_in, child, children_of, instance_in, mark_of, node, none, of_boundary, of_host, of_instance, plain, vacant}
 use Rattle.rx_queue.specs.Journal.{Journal, Posted, Resolution, Target, hook, is_included, same_target, updates_of}
 use Rattle.rx_queue.specs.History.{stands_done, stands_open}
 use Rattle.rx_meaning.specs.Fresh.{Sight, Contexts, Renders, Place, made, rendered, depth_limit, default_contexts, root_element, old_instance, Shape, absent, waiting, one_list, two_lists, shape_of, render_part}
-use Rattle.rx_meaning.specs.Counts.{count_part, if_waits, one_if_component, unless_waits, try_all}
+use Rattle.rx_meaning.specs.Counts.{count_part, if_waits, unless_waits, try_all}
 use Rattle.rx_meaning.specs.Cursor.{Frame, Cursor, at_place, at_end, ended, finished}
 use Rattle.rx_meaning.specs.Rest.{from_open, list_from}
-use Rattle.rx_meaning.specs.Touched.{is_read_anew}
+use Rattle.rx_meaning.specs.Generations.{generation_below}
+use Rattle.rx_meaning.specs.Touched.{component_in, is_read_anew}
 use Rattle.render_laws.specs.SameSight.{SeesSame, AllAfter}
 use Rattle.render_laws.proofs.LaterEntries.{renders_same, shape_same, AllFail, late_fail}
 use Rattle.cost_laws.specs.Causes.{has_cause, has_value, instance_news, is_called, is_due, is_news, news_at, news_in, some_update, waits_still}
-use Rattle.cost_laws.specs.Allowed.{Allows, Flag, above_root, allow_shape, allowed, below_boundary, below_node, in_fallback, is_caused, own_body, whole_allowed}
-use Rattle.cost_laws.specs.Untouched.{is_element_of, is_retried, is_untouched, stands_below}
-use Rattle.cost_laws.specs.Left.{Flags, flag, outer, allow_open, allow_around, left_allowed}
+use Rattle.cost_laws.specs.Evaluated.{Evaluates, Flag, above_root, after_attempt, below_boundary, below_node, beside_kept, evaluate_shape, evaluated, in_fallback, is_again, is_evaluated, own_body, whole_evaluated}
+use Rattle.cost_laws.specs.Untouched.{is_element_of, is_untouched, stands_below}
+use Rattle.cost_laws.specs.Left.{Flags, flag, outer, evaluate_open, evaluate_around, left_evaluated}
 use Rattle.cost_laws.specs.SameWork.{SeesSameWork}
+use Rattle.cost_laws.specs.Undue.{IsUndue}
 
 module _ (s : Sight) (j : Journal) (same : SeesSame s j) (work : SeesSameWork s j) where
   -- the sight with the other journal
@@ -54,7 +56,7 @@ module _ (s : Sight) (j : Journal) (same : SeesSame s j) (work : SeesSameWork s 
   cause_same cs (elements.text t) old = refl
   cause_same cs (elements.host n k attrs es) old = refl
   cause_same cs (elements.comp c k ps es) old = called_same cs (old_instance old)
-  cause_same cs (elements.list es) old = refl
+  cause_same cs (elements.list marked es) old = refl
   cause_same cs (elements.boundary k f es) old = refl
   cause_same cs (elements.provider c k x es) old = refl
 
@@ -72,65 +74,60 @@ module _ (s : Sight) (j : Journal) (same : SeesSame s j) (work : SeesSameWork s 
   pub untouched_same : (stood : Bool) (e : Element) (old : Option Node) → is_untouched s stood e old ≡ is_untouched seen stood e old
   untouched_same stood e old = ap (λ b. stood && (is_element_of e old && b)) (still_same old)
 
-  retried_same : (stood : Bool) (e : Element) (old : Option Node) → is_retried s stood e old ≡ is_retried seen stood e old
-  retried_same stood e old = ap (λ b. was_hidden old && not b) (untouched_same stood e old)
-
-  boundary_same : (u : Flag) (e : Element) (old : Option Node) → below_boundary s u e old ≡ below_boundary seen u e old
-  boundary_same u e old = λ i. record { under = u.under || retried_same u.stood e old i; stood = stands_below u.stood e old }
-
   fallback_same : (u : Flag) (e : Element) (old : Option Node) → in_fallback s u e old ≡ in_fallback seen u e old
-  fallback_same u e old = λ i. record { under = u.under || retried_same u.stood e old i; stood = untouched_same u.stood e old i }
+  fallback_same u e old = ap (λ b. cond b beside_kept (after_attempt u e old)) (untouched_same u.stood e old)
 
-  caused_same : (u : Flag) (cs : Contexts) (e : Element) (old : Option Node) → is_caused s u cs e old ≡ is_caused seen u cs e old
-  caused_same u cs e old = ap (λ b. u.under || b) (cause_same cs e old)
+  called_here : (u : Flag) (cs : Contexts) (e : Element) (old : Option Node) → is_evaluated s u cs e old ≡ is_evaluated seen u cs e old
+  called_here u cs e old = ap (λ b. is_some (component_in e) && (b || not (is_again u e old))) (cause_same cs e old)
 
   node_same : (u : Flag) (cs : Contexts) (e : Element) (old : Option Node) → below_node s u cs e old ≡ below_node seen u cs e old
-  node_same u cs e old = λ i. record { under = caused_same u cs e old i; stood = stands_below u.stood e old }
+  node_same u cs e old =
+      λ i. record { generation = generation_below (called_here u cs e old i) (is_again u e old) (stands_for_children e) u.generation; stood = stands_below u.stood e old }
 
   own_same : (u : Flag) (cs : Contexts) (e : Element) (old : Option Node) → own_body s u cs e old ≡ own_body seen u cs e old
-  own_same u cs e old = ap (λ b. cond b (one_if_component e) 0) (caused_same u cs e old)
+  own_same u cs e old = ap (λ b. cond b 1 0) (called_here u cs e old)
 
-  place_same : (allow : Allows) (below : Contexts → Renders) (u : Flag) (cs : Contexts) (e : Element) (old : Option Node) (shape : Shape)
-      → allow_shape allow below s u cs e old shape ≡ allow_shape allow below seen u cs e old shape
-  place_same allow below u cs e old absent = refl
-  place_same allow below u cs e old (waiting r) = own_same u cs e old
-  place_same allow below u cs e old (one_list m p) = λ i. own_same u cs e old i + count_part (allow (node_same u cs e old i)) below p
-  place_same allow below u cs e old (two_lists p f) =
-      λ i. cond (untouched_same u.stood e old i) 0 (count_part (allow (boundary_same u e old i)) below p)
-      + if_waits (render_part below p) (count_part (allow (fallback_same u e old i)) below f)
+  place_same : (evaluate : Evaluates) (below : Contexts → Renders) (u : Flag) (cs : Contexts) (e : Element) (old : Option Node) (shape : Shape)
+      → evaluate_shape evaluate below s u cs e old shape ≡ evaluate_shape evaluate below seen u cs e old shape
+  place_same evaluate below u cs e old absent = refl
+  place_same evaluate below u cs e old (waiting r) = own_same u cs e old
+  place_same evaluate below u cs e old (one_list m p) = λ i. own_same u cs e old i + count_part (evaluate (node_same u cs e old i)) below p
+  place_same evaluate below u cs e old (two_lists p f) =
+      λ i. cond (untouched_same u.stood e old i) 0 (count_part (evaluate (below_boundary u e old)) below p)
+      + if_waits (render_part below p) (count_part (evaluate (fallback_same u e old i)) below f)
 
-  allowed_same : (n : ℕ) (u : Flag) (cs : Contexts) (e : Element) (old : Option Node) → allowed n s u cs e old ≡ allowed n seen u cs e old
-  unfolding allowed
-  allowed_same zero u cs e old = refl
-  allowed_same (suc n) u cs e old =
-      place_same (allowed n s) (rendered n s) u cs e old (shape_of s cs e old)
-      ∙ (λ i. allow_shape (λ w ds f o. allowed_same n w ds f o i) (renders_same s j same n i) seen u cs e old (shape_same s j same cs e old i))
+  evaluated_same : (n : ℕ) (u : Flag) (cs : Contexts) (e : Element) (old : Option Node) → evaluated n s u cs e old ≡ evaluated n seen u cs e old
+  unfolding evaluated
+  evaluated_same zero u cs e old = refl
+  evaluated_same (suc n) u cs e old =
+      place_same (evaluated n s) (rendered n s) u cs e old (shape_of s cs e old)
+      ∙ (λ i. evaluate_shape (λ w ds f o. evaluated_same n w ds f o i) (renders_same s j same n i) seen u cs e old (shape_same s j same cs e old i))
 
-  allows_same : (n : ℕ) → allowed n s ≡ allowed n seen
-  allows_same n = λ i u cs e old. allowed_same n u cs e old i
+  evaluates_same : (n : ℕ) → evaluated n s ≡ evaluated n seen
+  evaluates_same n = λ i u cs e old. evaluated_same n u cs e old i
 
-  around_allows_same : (n : ℕ) (fs : List Frame) (us : Flags) (p : Place) → allow_around n s fs us p ≡ allow_around n seen fs us p
-  around_allows_same n [] us p = refl
-  around_allows_same n (f ∷ fs) us p =
-      ap (λ k. unless_waits p (try_all (allowed n s (flag us) f.contexts) (rendered n s f.contexts) f.rest) + (allow_open (allowed n s) (rendered n s) (flag us) f.node (list_from (rendered n s) f p) + k))
-      (around_allows_same (suc n) fs (outer us) (from_open (rendered n s) f.node (list_from (rendered n s) f p)))
-      ∙ (λ i. unless_waits p (try_all (allows_same n i (flag us) f.contexts) (renders_same s j same n i f.contexts) f.rest)
-      + (allow_open (allows_same n i) (renders_same s j same n i) (flag us) f.node (list_from (renders_same s j same n i) f p)
-      + allow_around (suc n) seen fs (outer us) (from_open (renders_same s j same n i) f.node (list_from (renders_same s j same n i) f p))))
+  around_evaluates_same : (n : ℕ) (fs : List Frame) (us : Flags) (p : Place) → evaluate_around n s fs us p ≡ evaluate_around n seen fs us p
+  around_evaluates_same n [] us p = refl
+  around_evaluates_same n (f ∷ fs) us p =
+      ap (λ k. unless_waits p (try_all (evaluated n s (flag us) f.contexts) (rendered n s f.contexts) f.rest) + (evaluate_open (evaluated n s) (rendered n s) (flag (outer us)) f.node (list_from (rendered n s) f p) + k))
+      (around_evaluates_same (suc n) fs (outer us) (from_open (rendered n s) f.node (list_from (rendered n s) f p)))
+      ∙ (λ i. unless_waits p (try_all (evaluates_same n i (flag us) f.contexts) (renders_same s j same n i f.contexts) f.rest)
+      + (evaluate_open (evaluates_same n i) (renders_same s j same n i) (flag (outer us)) f.node (list_from (renders_same s j same n i) f p)
+      + evaluate_around (suc n) seen fs (outer us) (from_open (renders_same s j same n i) f.node (list_from (renders_same s j same n i) f p))))
 
   -- What is left to evaluate is the same.
-  pub left_allowed_same : (us : Flags) (c : Cursor) → left_allowed s us c ≡ left_allowed seen us c
-  unfolding left_allowed
-  left_allowed_same us (at_place n fs cs e old) =
-      ap (λ k. allowed n s (flag us) cs e old + k) (around_allows_same n fs us (rendered n s cs e old))
-      ∙ (λ i. allowed_same n (flag us) cs e old i + allow_around n seen fs us (renders_same s j same n i cs e old))
-  left_allowed_same us (at_end n fs o done) = around_allows_same n fs (outer us) (made (finished o done))
-  left_allowed_same us (ended p) = refl
+  pub left_evaluated_same : (us : Flags) (c : Cursor) → left_evaluated s us c ≡ left_evaluated seen us c
+  unfolding left_evaluated
+  left_evaluated_same us (at_place n fs cs e old) =
+      ap (λ k. evaluated n s (flag us) cs e old + k) (around_evaluates_same n fs us (rendered n s cs e old))
+      ∙ (λ i. evaluated_same n (flag us) cs e old i + evaluate_around n seen fs us (renders_same s j same n i cs e old))
+  left_evaluated_same us (at_end n fs o done) = around_evaluates_same n fs (outer us) (made (finished o done))
+  left_evaluated_same us (ended p) = refl
 
-  -- What a whole render may evaluate is the same.
-  pub whole_allowed_same : (old : Option Node) → whole_allowed s old ≡ whole_allowed seen old
-  unfolding whole_allowed
-  whole_allowed_same old = allowed_same depth_limit above_root (default_contexts s.program) (root_element s.program) old
+  -- What a whole render evaluates is the same.
+  pub whole_evaluated_same : (old : Option Node) → whole_evaluated s old ≡ whole_evaluated seen old
+  unfolding whole_evaluated
+  whole_evaluated_same old = evaluated_same depth_limit above_root (default_contexts s.program) (root_element s.program) old
 
 -- Longer journals
 
@@ -158,3 +155,10 @@ longer_sees_same_work s new more late =
       due = λ t. any_more (is_included s.lanes s.cut) (λ u. not (stands_done u.standing)) (λ u. same_target t u.target) s.journal.updates new (late_fail s new late);
       news = λ t. any_more (is_included s.lanes s.cut) (λ u. stands_open u.standing) (λ u. same_target t u.target) s.journal.updates new (late_fail s new late);
     }
+
+-- An instance of which each included update is done is one for another journal that shows the same work.
+pub undue_later : (s : Sight) (j : Journal) (m : Mark) → SeesSameWork s j → IsUndue s m → IsUndue (record s { journal = j }) m
+undue_later s j (of_instance i) work h = (h.0, h.1, sym (λ k. list_any (λ x. work.due (hook h.0 x.0) k) (enumerate_from 0 i.initials)) ∙ h.2)
+undue_later s j (of_host n) work h = tt
+undue_later s j (of_boundary b) work h = tt
+undue_later s j plain work h = tt

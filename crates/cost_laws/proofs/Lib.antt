@@ -1,9 +1,10 @@
-pub mod Allowing
-pub mod Flagging
+pub mod Counting
 pub mod FewerBodies
 pub mod LaterWork
 pub mod CostLaws
-pub mod Requiring
-pub mod LaterCauses
-pub mod RequiredWithin
 pub mod Resting
+pub mod Each
+pub mod ComingCounts
+pub mod ComingOnce
+pub mod CommittedHooks
+pub mod Caused

@@ -1,22 +1,25 @@
--- What a render has to evaluate of a tree that rests.
-use Rattle.std.specs.Prelude.{◌≡◌, ℕ, zero, suc, ◌≤◌, Bool, true, false, cond, List, [], ◌∷◌, Option, Some, None, refl}
+-- A render evaluates nothing of a tree that rests.
+use Rattle.std.specs.Prelude.{◌≡◌, ℕ, zero, suc, Bool, true, false, not, ◌&&◌, ◌||◌, cond, List, [], ◌∷◌, Option, Some, None, is_some, refl}
 use Rattle.std.specs.List.{zip}
-use Rattle.std.proofs.Common.{arith, subst}
+use Rattle.std.proofs.Common.{ap, arith, subst}
 use Rattle.rx_susp.specs.declared.boundary.BoundaryState.TheVariants.{Hidden, Shown}
-use Rattle.rx_elem.specs.Elements.{Element}
+use Rattle.rx_elem.specs.Elements.{Element, stands_for_children}
 use Rattle.rx_elem.specs.Elements as elements
 use Rattle.rx_elem.specs.Trees.{Forest, Instance, Mark, Node, child, element_of, elements_in, is_hidden, node, none, of_boundary, of_host, of_instance, places, plain, vacant}
+use Rattle.rx_elem.proofs.Equality.{same_element-self}
 use Rattle.rx_elem.proofs.SelfMatch.{NoNull, matches_itself}
 use Rattle.rx_meaning.specs.Fresh.{Sight, Contexts, Place, empty, made, waits, Places, all_made, one_waits, before, over, over_boundary, Part, part, Shape, one_list, two_lists, place_of, rendered, render_all, render_part, shape_of}
 use Rattle.rx_meaning.specs.Counts.{count_part, if_waits, try_all, unless_waits}
 use Rattle.rx_meaning.specs.Settled.{AllReadsHold, AllSettled, IfHidden, IsOwn, IsSettled, ReadsHold, kept_shape, known_by, read_anew, reads_another}
-use Rattle.rx_meaning.specs.Touched.{contexts_below}
+use Rattle.rx_meaning.specs.Generations.{generation_below, own_generation}
+use Rattle.rx_meaning.specs.Touched.{component_in, contexts_below}
 use Rattle.commit_laws.specs.Each.{ForEach, ForEachIn}
 use Rattle.commit_laws.specs.Idle.{AllIdle, IsIdle, IsIdleMark}
 use Rattle.commit_laws.proofs.TakeOver.{idle_shape, settled_no_null}
-use Rattle.cost_laws.specs.Causes.{is_called, is_due, some_update}
-use Rattle.cost_laws.specs.Required.{IsUndue, called_body, require_shape, required}
-use Rattle.cost_laws.specs.Untouched.{is_untouched, stands_below}
+use Rattle.cost_laws.specs.Causes.{has_cause, is_called, is_due, some_update}
+use Rattle.cost_laws.specs.Evaluated.{Flag, below_boundary, below_node, evaluate_shape, evaluated, in_fallback, is_again, is_evaluated, own_body}
+use Rattle.cost_laws.specs.Undue.{IsUndue}
+use Rattle.cost_laws.specs.Untouched.{is_untouched}
 
 -- Causes
 
@@ -28,7 +31,7 @@ undue_calm : (s : Sight) (cs : Contexts) (i : Instance) → IsUndue s (of_instan
 undue_calm s cs i h calm = not_called s cs i h.0 h.1 h.2 calm
 
 body_rests : (s : Sight) (cs : Contexts) (e : Element) (m : Mark) (ns fs : Forest) → IsOwn s.program (known_by s) e m ns fs → IsUndue s m → reads_another cs m ≡ false
-    → called_body s cs e (Some (node e m ns fs)) ≡ 0
+    → has_cause s cs e (Some (node e m ns fs)) ≡ false
 body_rests s cs elements.null m ns fs own undue calm = refl
 body_rests s cs (elements.text t) m ns fs own undue calm = refl
 body_rests s cs (elements.host n key attrs es) m ns fs own undue calm = refl
@@ -36,9 +39,56 @@ body_rests s cs (elements.comp c key props given) m ns fs own undue calm =
     let here : IsUndue s (of_instance own.0) = subst (IsUndue s) own.1 undue in
     let reads : read_anew cs own.0.reads ≡ false = rw own.1 at calm in
     rw (own.1, undue_calm s cs own.0 here reads) refl
-body_rests s cs (elements.list es) m ns fs own undue calm = refl
+body_rests s cs (elements.list marked es) m ns fs own undue calm = refl
 body_rests s cs (elements.boundary key f es) m ns fs own undue calm = refl
 body_rests s cs (elements.provider c key x es) m ns fs own undue calm = refl
+
+-- Flags
+
+-- where its element is of generation 0, that of an old node is given again
+given_again : (u : Flag) (e : Element) (m : Mark) (ns fs : Forest) → u.generation ≡ 0 → is_again u e (Some (node e m ns fs)) ≡ true
+given_again u e m ns fs zeroth = rw (zeroth, same_element-self e) refl
+
+nothing_evaluated : (component cause again : Bool) → cause ≡ false → again ≡ true → (component && (cause || not again)) ≡ false
+nothing_evaluated true cause again h k = rw (h, k) refl
+nothing_evaluated false cause again h k = refl
+
+-- Where its element is of generation 0 and it has no cause, the body of an old node's place is not evaluated.
+pub not_evaluated : (s : Sight) (u : Flag) (cs : Contexts) (e : Element) (m : Mark) (ns fs : Forest) → u.generation ≡ 0 → has_cause s cs e (Some (node e m ns fs)) ≡ false
+    → is_evaluated s u cs e (Some (node e m ns fs)) ≡ false
+not_evaluated s u cs e m ns fs zeroth calm =
+    nothing_evaluated (is_some (component_in e)) (has_cause s cs e (Some (node e m ns fs))) (is_again u e (Some (node e m ns fs))) calm (given_again u e m ns fs zeroth)
+
+generation_kept : (evaluated again for_children : Bool) (g : ℕ) → evaluated ≡ false → again ≡ true → generation_below evaluated again for_children g ≡ 0
+generation_kept false true true g h k = refl
+generation_kept false true false g h k = refl
+generation_kept true again for_children g h k = absurd (cc h)
+generation_kept false false for_children g h k = absurd (cc k)
+
+-- Then the elements of its children are of generation 0 too.
+pub node_zeroth : (s : Sight) (u : Flag) (cs : Contexts) (e : Element) (m : Mark) (ns fs : Forest) → u.generation ≡ 0 → has_cause s cs e (Some (node e m ns fs)) ≡ false
+    → (below_node s u cs e (Some (node e m ns fs))).generation ≡ 0
+node_zeroth s u cs e m ns fs zeroth calm =
+    generation_kept (is_evaluated s u cs e (Some (node e m ns fs))) (is_again u e (Some (node e m ns fs))) (stands_for_children e) u.generation
+    (not_evaluated s u cs e m ns fs zeroth calm) (given_again u e m ns fs zeroth)
+
+own_kept : (again hidden : Bool) (g : ℕ) → again ≡ true → hidden ≡ false → own_generation (again && not hidden) g ≡ 0
+own_kept true false g h k = refl
+own_kept true true g h k = absurd (cc k)
+own_kept false hidden g h k = absurd (cc h)
+
+-- So are those of a boundary that is shown.
+pub boundary_zeroth : (u : Flag) (e : Element) (m : Mark) (ns fs : Forest) → u.generation ≡ 0 → is_hidden m ≡ false
+    → (below_boundary u e (Some (node e m ns fs))).generation ≡ 0
+boundary_zeroth u e m ns fs zeroth shown =
+    own_kept (is_again u e (Some (node e m ns fs))) (is_hidden m) u.generation (given_again u e m ns fs zeroth) shown
+
+idle_shown : (s : Sight) (m : Mark) → IsIdleMark s m → is_hidden m ≡ false
+idle_shown s (of_instance i) idle = refl
+idle_shown s (of_host h) idle = refl
+idle_shown s plain idle = refl
+idle_shown s (of_boundary Shown) idle = refl
+idle_shown s (of_boundary (Hidden a)) idle = absurd idle
 
 -- Places
 
@@ -77,76 +127,83 @@ stands_then empty k h = h
 stands_then (made n) k h = h
 stands_then (waits a) k h = refl
 
--- a place rests: nothing is required of it, and it doesn't wait
-abbrev Rests : ℕ → Sight → (stood : Bool) → Contexts → Element → Option Node → Type 0
-Rests n s stood cs e old = (required n s stood cs e old ≡ 0) × Stands (rendered n s cs e old)
+-- a place rests: nothing is evaluated at it and below it, and it doesn't wait
+abbrev Rests : ℕ → Sight → Flag → Contexts → Element → Option Node → Type 0
+Rests n s u cs e old = (evaluated n s u cs e old ≡ 0) × Stands (rendered n s cs e old)
 
 -- the places of a list rest
-abbrev AllRest : ℕ → Sight → (stood : Bool) → Contexts → List (Element × Option Node) → Type 0
-AllRest n s stood cs xs = (try_all (required n s stood cs) (rendered n s cs) xs ≡ 0) × AllStand (render_all (rendered n s cs) xs)
+abbrev AllRest : ℕ → Sight → Flag → Contexts → List (Element × Option Node) → Type 0
+AllRest n s u cs xs = (try_all (evaluated n s u cs) (rendered n s cs) xs ≡ 0) × AllStand (render_all (rendered n s cs) xs)
 
 -- the children of a node rest
-abbrev PartRests : ℕ → Sight → (stood : Bool) → Part → Type 0
-PartRests n s stood p = (count_part (required n s stood) (rendered n s) p ≡ 0) × AllStand (render_part (rendered n s) p)
+abbrev PartRests : ℕ → Sight → Flag → Part → Type 0
+PartRests n s u p = (count_part (evaluated n s u) (rendered n s) p ≡ 0) × AllStand (render_part (rendered n s) p)
 
-nothing_if : (b : Bool) (k : ℕ) → k ≡ 0 → cond b 0 k ≤ 0
-nothing_if true k h = omega arith
-nothing_if false k h = omega (arith, h)
+nothing_if : (b : Bool) (k : ℕ) → k ≡ 0 → cond b 0 k ≡ 0
+nothing_if true k h = refl
+nothing_if false k h = h
 
--- what is required at a place is nothing, and it doesn't wait, by what stands there
-abbrev ShapeRests : ℕ → Sight → (stood : Bool) → Contexts → Element → Option Node → Shape → Type 0
-ShapeRests n s stood cs e old shape = (require_shape (required n s) (rendered n s) s stood cs e old shape ≡ 0) × Stands (place_of (rendered n s) e old shape)
+-- nothing is evaluated at a place and below it, and it doesn't wait, by what stands there
+abbrev ShapeRests : ℕ → Sight → Flag → Contexts → Element → Option Node → Shape → Type 0
+ShapeRests n s u cs e old shape = (evaluate_shape (evaluated n s) (rendered n s) s u cs e old shape ≡ 0) × Stands (place_of (rendered n s) e old shape)
 
-one_rests : (n : ℕ) (s : Sight) (stood : Bool) (cs : Contexts) (e : Element) (old : Option Node) (m : Mark) (p : Part) → called_body s cs e old ≡ 0 → PartRests n s (stands_below stood e old) p
-    → ShapeRests n s stood cs e old (one_list m p)
-one_rests n s stood cs e old m p body h = (omega (arith, body, h.0), over_stands e m (render_part (rendered n s) p) h.1)
+one_rests : (n : ℕ) (s : Sight) (u : Flag) (cs : Contexts) (e : Element) (old : Option Node) (m : Mark) (p : Part) → own_body s u cs e old ≡ 0
+    → PartRests n s (below_node s u cs e old) p → ShapeRests n s u cs e old (one_list m p)
+one_rests n s u cs e old m p body h = (omega (arith, body, h.0), over_stands e m (render_part (rendered n s) p) h.1)
 
-two_rest : (n : ℕ) (s : Sight) (stood : Bool) (cs : Contexts) (e : Element) (old : Option Node) (p f : Part) → PartRests n s (stands_below stood e old) p → ShapeRests n s stood cs e old (two_lists p f)
-two_rest n s stood cs e old p f h = (
+two_rest : (n : ℕ) (s : Sight) (u : Flag) (cs : Contexts) (e : Element) (old : Option Node) (p f : Part) → PartRests n s (below_boundary u e old) p
+    → ShapeRests n s u cs e old (two_lists p f)
+two_rest n s u cs e old p f h = (
   omega (
     arith,
-    nothing_if (is_untouched s stood e old) (count_part (required n s (stands_below stood e old)) (rendered n s) p) h.0,
-    no_fallback (render_part (rendered n s) p) (count_part (required n s (is_untouched s stood e old)) (rendered n s) f) h.1,
+    nothing_if (is_untouched s u.stood e old) (count_part (evaluated n s (below_boundary u e old)) (rendered n s) p) h.0,
+    no_fallback (render_part (rendered n s) p) (count_part (evaluated n s (in_fallback s u e old)) (rendered n s) f) h.1,
   ),
   boundary_stands e old (render_part (rendered n s) p) (render_part (rendered n s) f) h.1,
 )
 
-kept_rests : (n : ℕ) (s : Sight) (stood : Bool) (cs : Contexts) (e : Element) (old : Option Node) (m : Mark) (ns fs : Forest)
-    → called_body s cs e old ≡ 0 → PartRests n s (stands_below stood e old) (part (contexts_below e cs) (elements_in ns) ns) → ShapeRests n s stood cs e old (kept_shape cs e m ns fs)
-kept_rests n s stood cs elements.null old m ns fs body h = (refl, tt)
-kept_rests n s stood cs (elements.text t) old m ns fs body h = one_rests n s stood cs (elements.text t) old m (part cs (elements_in ns) ns) body h
-kept_rests n s stood cs (elements.host x key attrs es) old m ns fs body h = one_rests n s stood cs (elements.host x key attrs es) old m (part cs (elements_in ns) ns) body h
-kept_rests n s stood cs (elements.comp c key props given) old m ns fs body h = one_rests n s stood cs (elements.comp c key props given) old m (part cs (elements_in ns) ns) body h
-kept_rests n s stood cs (elements.list es) old m ns fs body h = one_rests n s stood cs (elements.list es) old m (part cs (elements_in ns) ns) body h
-kept_rests n s stood cs (elements.boundary key f es) old m ns fs body h =
-    two_rest n s stood cs (elements.boundary key f es) old (part cs (elements_in ns) ns) (part cs (f ∷ []) fs) h
-kept_rests n s stood cs (elements.provider c key x es) old m ns fs body h =
-    one_rests n s stood cs (elements.provider c key x es) old m (part (contexts_below (elements.provider c key x es) cs) (elements_in ns) ns) body h
+kept_rests : (n : ℕ) (s : Sight) (u : Flag) (cs : Contexts) (e : Element) (old : Option Node) (m : Mark) (ns fs : Forest)
+    → own_body s u cs e old ≡ 0 → (below_node s u cs e old).generation ≡ 0 → (below_boundary u e old).generation ≡ 0
+    → ((v : Flag) → v.generation ≡ 0 → PartRests n s v (part (contexts_below e cs) (elements_in ns) ns)) → ShapeRests n s u cs e old (kept_shape cs e m ns fs)
+kept_rests n s u cs elements.null old m ns fs body one two h = (refl, tt)
+kept_rests n s u cs (elements.text t) old m ns fs body one two h =
+    one_rests n s u cs (elements.text t) old m (part cs (elements_in ns) ns) body (h (below_node s u cs (elements.text t) old) one)
+kept_rests n s u cs (elements.host x key attrs es) old m ns fs body one two h =
+    one_rests n s u cs (elements.host x key attrs es) old m (part cs (elements_in ns) ns) body (h (below_node s u cs (elements.host x key attrs es) old) one)
+kept_rests n s u cs (elements.comp c key props given) old m ns fs body one two h =
+    one_rests n s u cs (elements.comp c key props given) old m (part cs (elements_in ns) ns) body (h (below_node s u cs (elements.comp c key props given) old) one)
+kept_rests n s u cs (elements.list marked es) old m ns fs body one two h =
+    one_rests n s u cs (elements.list marked es) old m (part cs (elements_in ns) ns) body (h (below_node s u cs (elements.list marked es) old) one)
+kept_rests n s u cs (elements.boundary key f es) old m ns fs body one two h =
+    two_rest n s u cs (elements.boundary key f es) old (part cs (elements_in ns) ns) (part cs (f ∷ []) fs) (h (below_boundary u (elements.boundary key f es) old) two)
+kept_rests n s u cs (elements.provider c key x es) old m ns fs body one two h =
+    one_rests n s u cs (elements.provider c key x es) old m (part (contexts_below (elements.provider c key x es) cs) (elements_in ns) ns) body
+    (h (below_node s u cs (elements.provider c key x es) old) one)
 
 -- a list against its own elements rests where its places do
-own_part_rests : (n : ℕ) (s : Sight) (stood : Bool) (cs : Contexts) (ns : Forest) → NoNull ns → AllRest n s stood cs (zip (elements_in ns) (places ns))
-    → PartRests n s stood (part cs (elements_in ns) ns)
-own_part_rests n s stood cs ns there h = rw (matches_itself ns there) h
+own_part_rests : (n : ℕ) (s : Sight) (u : Flag) (cs : Contexts) (ns : Forest) → NoNull ns → AllRest n s u cs (zip (elements_in ns) (places ns))
+    → PartRests n s u (part cs (elements_in ns) ns)
+own_part_rests n s u cs ns there h = rw (matches_itself ns there) h
 
 -- Trees
 
-first_rests : (n : ℕ) (s : Sight) (stood : Bool) (cs : Contexts) (e : Element) (old : Option Node) (xs : List (Element × Option Node)) → Rests n s stood cs e old → AllRest n s stood cs xs
-    → AllRest n s stood cs ((e, old) ∷ xs)
-first_rests n s stood cs e old xs h k = (
-  omega (arith, h.0, stands_then (rendered n s cs e old) (try_all (required n s stood cs) (rendered n s cs) xs) k.0),
+first_rests : (n : ℕ) (s : Sight) (u : Flag) (cs : Contexts) (e : Element) (old : Option Node) (xs : List (Element × Option Node)) → Rests n s u cs e old → AllRest n s u cs xs
+    → AllRest n s u cs ((e, old) ∷ xs)
+first_rests n s u cs e old xs h k = (
+  omega (arith, h.0, stands_then (rendered n s cs e old) (try_all (evaluated n s u cs) (rendered n s cs) xs) k.0),
   before_stands (rendered n s cs e old) (render_all (rendered n s cs) xs) h.1 k.1,
 )
 
-gap_rests : (n : ℕ) (s : Sight) (stood : Bool) (cs : Contexts) → Rests n s stood cs elements.null None
-unfolding required rendered
-gap_rests zero s stood cs = (refl, tt)
-gap_rests (suc n) s stood cs = (refl, tt)
+gap_rests : (n : ℕ) (s : Sight) (u : Flag) (cs : Contexts) → Rests n s u cs elements.null None
+unfolding evaluated rendered
+gap_rests zero s u cs = (refl, tt)
+gap_rests (suc n) s u cs = (refl, tt)
 
-place_rests : (n : ℕ) (s : Sight) (stood : Bool) (cs : Contexts) (e : Element) (m : Mark) (ns fs : Forest) → shape_of s cs e (Some (node e m ns fs)) ≡ kept_shape cs e m ns fs
-    → ShapeRests n s stood cs e (Some (node e m ns fs)) (kept_shape cs e m ns fs)
-    → Rests (suc n) s stood cs e (Some (node e m ns fs))
-unfolding required rendered
-place_rests n s stood cs e m ns fs shape h = rw shape h
+place_rests : (n : ℕ) (s : Sight) (u : Flag) (cs : Contexts) (e : Element) (m : Mark) (ns fs : Forest) → shape_of s cs e (Some (node e m ns fs)) ≡ kept_shape cs e m ns fs
+    → ShapeRests n s u cs e (Some (node e m ns fs)) (kept_shape cs e m ns fs)
+    → Rests (suc n) s u cs e (Some (node e m ns fs))
+unfolding evaluated rendered
+place_rests n s u cs e m ns fs shape h = rw shape h
 
 -- nothing of an idle tree is hidden, so all of it reads the contexts of its place
 reads_below : (s : Sight) (m : Mark) (A : Type 0) → IsIdleMark s m → IfHidden (is_hidden m) (Unit {0}) A → A
@@ -156,30 +213,32 @@ reads_below s plain A idle reads = reads
 reads_below s (of_boundary Shown) A idle reads = reads
 reads_below s (of_boundary (Hidden a)) A idle reads = absurd idle
 
-no_level_rests : (s : Sight) (stood : Bool) (cs : Contexts) (e : Element) (old : Option Node) → Rests zero s stood cs e old
-unfolding required rendered
-no_level_rests s stood cs e old = (refl, tt)
+no_level_rests : (s : Sight) (u : Flag) (cs : Contexts) (e : Element) (old : Option Node) → Rests zero s u cs e old
+unfolding evaluated rendered
+no_level_rests s u cs e old = (refl, tt)
 
 mutual
-  tree_rests : (n : ℕ) (s : Sight) (stood : Bool) (cs : Contexts) (x : Node) → IsSettled s.program (known_by s) x → IsIdle s x → ForEach (IsUndue s) x → ReadsHold cs x
-      → Rests n s stood cs (element_of x) (Some x)
-  tree_rests zero s stood cs (node e m ns fs) settled idle undue reads = no_level_rests s stood cs e (Some (node e m ns fs))
-  tree_rests (suc n) s stood cs (node e m ns fs) settled idle undue reads =
-      place_rests n s stood cs e m ns fs (idle_shape s cs e m ns fs settled.0 idle.0 reads.0)
-      (kept_rests n s stood cs e (Some (node e m ns fs)) m ns fs (body_rests s cs e m ns fs settled.0 undue.0 reads.0)
-      (own_part_rests n s (stands_below stood e (Some (node e m ns fs))) (contexts_below e cs) ns (settled_no_null s.program (known_by s) ns settled.1)
-      (trees_rest n s (stands_below stood e (Some (node e m ns fs))) (contexts_below e cs) ns settled.1 idle.1 undue.1 (reads_below s m (AllReadsHold (contexts_below e cs) ns) idle.0 reads.1))))
+  tree_rests : (n : ℕ) (s : Sight) (u : Flag) (cs : Contexts) (x : Node) → u.generation ≡ 0 → IsSettled s.program (known_by s) x → IsIdle s x → ForEach (IsUndue s) x → ReadsHold cs x
+      → Rests n s u cs (element_of x) (Some x)
+  tree_rests zero s u cs (node e m ns fs) zeroth settled idle undue reads = no_level_rests s u cs e (Some (node e m ns fs))
+  tree_rests (suc n) s u cs (node e m ns fs) zeroth settled idle undue reads =
+      let calm = body_rests s cs e m ns fs settled.0 undue.0 reads.0 in
+      place_rests n s u cs e m ns fs (idle_shape s cs e m ns fs settled.0 idle.0 reads.0)
+      (kept_rests n s u cs e (Some (node e m ns fs)) m ns fs (ap (λ b. cond b 1 0) (not_evaluated s u cs e m ns fs zeroth calm))
+      (node_zeroth s u cs e m ns fs zeroth calm) (boundary_zeroth u e m ns fs zeroth (idle_shown s m idle.0))
+      (λ v h. own_part_rests n s v (contexts_below e cs) ns (settled_no_null s.program (known_by s) ns settled.1)
+      (trees_rest n s v (contexts_below e cs) ns h settled.1 idle.1 undue.1 (reads_below s m (AllReadsHold (contexts_below e cs) ns) idle.0 reads.1))))
 
-  trees_rest : (n : ℕ) (s : Sight) (stood : Bool) (cs : Contexts) (ns : Forest) → AllSettled s.program (known_by s) ns → AllIdle s ns → ForEachIn (IsUndue s) ns → AllReadsHold cs ns
-      → AllRest n s stood cs (zip (elements_in ns) (places ns))
-  trees_rest n s stood cs none settled idle undue reads = (refl, tt)
-  trees_rest n s stood cs (vacant ns) settled idle undue reads =
-      first_rests n s stood cs elements.null None (zip (elements_in ns) (places ns)) (gap_rests n s stood cs) (trees_rest n s stood cs ns settled idle undue reads)
-  trees_rest n s stood cs (child x ns) settled idle undue reads =
-      first_rests n s stood cs (element_of x) (Some x) (zip (elements_in ns) (places ns))
-      (tree_rests n s stood cs x settled.0 idle.0 undue.0 reads.0) (trees_rest n s stood cs ns settled.1 idle.1 undue.1 reads.1)
+  trees_rest : (n : ℕ) (s : Sight) (u : Flag) (cs : Contexts) (ns : Forest) → u.generation ≡ 0 → AllSettled s.program (known_by s) ns → AllIdle s ns → ForEachIn (IsUndue s) ns → AllReadsHold cs ns
+      → AllRest n s u cs (zip (elements_in ns) (places ns))
+  trees_rest n s u cs none zeroth settled idle undue reads = (refl, tt)
+  trees_rest n s u cs (vacant ns) zeroth settled idle undue reads =
+      first_rests n s u cs elements.null None (zip (elements_in ns) (places ns)) (gap_rests n s u cs) (trees_rest n s u cs ns zeroth settled idle undue reads)
+  trees_rest n s u cs (child x ns) zeroth settled idle undue reads =
+      first_rests n s u cs (element_of x) (Some x) (zip (elements_in ns) (places ns))
+      (tree_rests n s u cs x zeroth settled.0 idle.0 undue.0 reads.0) (trees_rest n s u cs ns zeroth settled.1 idle.1 undue.1 reads.1)
 
--- Nothing is required of a tree that is idle, whose instances have each included update done, and in which reads hold.
-pub nothing_rests : (s : Sight) (stood : Bool) (cs : Contexts) (x : Node) (n : ℕ) → IsSettled s.program (known_by s) x
-    → IsIdle s x → ForEach (IsUndue s) x → ReadsHold cs x → required n s stood cs (element_of x) (Some x) ≡ 0
-nothing_rests s stood cs x n settled idle undue reads = (tree_rests n s stood cs x settled idle undue reads).0
+-- Nothing is evaluated of a tree whose elements are given again, that is idle, whose instances have each included update done, and in which reads hold.
+pub nothing_rests : (s : Sight) (u : Flag) (cs : Contexts) (x : Node) (n : ℕ) → u.generation ≡ 0 → IsSettled s.program (known_by s) x
+    → IsIdle s x → ForEach (IsUndue s) x → ReadsHold cs x → evaluated n s u cs (element_of x) (Some x) ≡ 0
+nothing_rests s u cs x n zeroth settled idle undue reads = (tree_rests n s u cs x zeroth settled idle undue reads).0

@@ -39,7 +39,7 @@ has_cause s cs elements.null old = false
 has_cause s cs (elements.text t) old = false
 has_cause s cs (elements.host n k attrs es) old = false
 has_cause s cs (elements.comp c k ps es) old = is_called s cs (old_instance old)
-has_cause s cs (elements.list es) old = false
+has_cause s cs (elements.list marked es) old = false
 has_cause s cs (elements.boundary k f es) old = false
 has_cause s cs (elements.provider c k x es) old = false
 

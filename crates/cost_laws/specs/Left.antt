@@ -1,4 +1,4 @@
--- How many bodies a render may still evaluate from where it stands.
+-- How many bodies a render evaluates still from where it stands.
 use Rattle.std.specs.Prelude.{◌≡◌, ℕ, zero, suc, ◌+◌, false, List, [], ◌∷◌, Option}
 use Rattle.rx_elem.specs.Elements.{Element}
 use Rattle.rx_elem.specs.Trees.{Node}
@@ -6,7 +6,7 @@ use Rattle.rx_meaning.specs.Counts.{count_part, if_waits, try_all, unless_waits}
 use Rattle.rx_meaning.specs.Cursor.{Open, around, trying, falling, Frame, Cursor, at_place, at_end, ended, finished}
 use Rattle.rx_meaning.specs.Fresh.{Sight, Contexts, Renders, Place, made, Places, rendered, Shape, absent, waiting, one_list, two_lists, shape_of}
 use Rattle.rx_meaning.specs.Rest.{from_open, list_from}
-use Rattle.cost_laws.specs.Allowed.{Allows, Flag, above_root, after_attempt, allowed, below_boundary, below_node, own_body}
+use Rattle.cost_laws.specs.Evaluated.{Evaluates, Flag, above_root, after_attempt, below_boundary, below_node, evaluated, own_body, whole_evaluated}
 use Rattle.cost_laws.specs.Untouched.{is_untouched}
 
 -- for each list that is open, innermost first, what is told of its places
@@ -23,32 +23,32 @@ abbrev pub outer : Flags → Flags
 outer [] = []
 outer (u ∷ us) = us
 
--- what an open node allows once its list is done or waits: a boundary's fallback
-abbrev pub allow_open : Allows → (Contexts → Renders) → Flag → Open → Places → ℕ
-allow_open allow below u (around e m) ps = 0
-allow_open allow below u (trying e old f) ps = if_waits ps (count_part (allow (after_attempt u)) below f)
-allow_open allow below u (falling e old a) ps = 0
+-- what an open node evaluates once its list is done or waits, by what is told of its own place: a boundary's fallback
+abbrev pub evaluate_open : Evaluates → (Contexts → Renders) → Flag → Open → Places → ℕ
+evaluate_open evaluate below u (around e m) ps = 0
+evaluate_open evaluate below u (trying e old f) ps = if_waits ps (count_part (evaluate (after_attempt u e old)) below f)
+evaluate_open evaluate below u (falling e old a) ps = 0
 
 -- around a place that gave this
-abbrev pub allow_around : ℕ → Sight → List Frame → Flags → Place → ℕ
-allow_around levels s [] us p = 0
-allow_around levels s (f ∷ fs) us p =
-    unless_waits p (try_all (allowed levels s (flag us) f.contexts) (rendered levels s f.contexts) f.rest)
-    + (allow_open (allowed levels s) (rendered levels s) (flag us) f.node (list_from (rendered levels s) f p)
-    + allow_around (suc levels) s fs (outer us) (from_open (rendered levels s) f.node (list_from (rendered levels s) f p)))
+abbrev pub evaluate_around : ℕ → Sight → List Frame → Flags → Place → ℕ
+evaluate_around levels s [] us p = 0
+evaluate_around levels s (f ∷ fs) us p =
+    unless_waits p (try_all (evaluated levels s (flag us) f.contexts) (rendered levels s f.contexts) f.rest)
+    + (evaluate_open (evaluated levels s) (rendered levels s) (flag (outer us)) f.node (list_from (rendered levels s) f p)
+    + evaluate_around (suc levels) s fs (outer us) (from_open (rendered levels s) f.node (list_from (rendered levels s) f p)))
 
 -- from a cursor on; at the end of a list its own flag comes first still
-unfoldable pub left_allowed : Sight → Flags → Cursor → ℕ
-left_allowed s us (at_place levels fs cs e old) = allowed levels s (flag us) cs e old + allow_around levels s fs us (rendered levels s cs e old)
-left_allowed s us (at_end levels fs o done) = allow_around levels s fs (outer us) (made (finished o done))
-left_allowed s us (ended p) = 0
+unfoldable pub left_evaluated : Sight → Flags → Cursor → ℕ
+left_evaluated s us (at_place levels fs cs e old) = evaluated levels s (flag us) cs e old + evaluate_around levels s fs us (rendered levels s cs e old)
+left_evaluated s us (at_end levels fs o done) = evaluate_around levels s fs (outer us) (made (finished o done))
+left_evaluated s us (ended p) = 0
 
 -- Where the flags go
 
 -- what a wait leaves of the flags: those from the fallback of the nearest boundary on that tries its children
 abbrev pub unwound_by : Open → Flags → Flags → Flags
 unwound_by (around e m) us out = out
-unwound_by (trying e old f) us out = after_attempt (flag us) ∷ outer us
+unwound_by (trying e old f) us out = after_attempt (flag (outer us)) e old ∷ outer us
 unwound_by (falling e old a) us out = out
 
 -- the same for these open nodes
@@ -61,7 +61,7 @@ abbrev pub begun_flags : Sight → List Frame → Flags → Contexts → Element
 begun_flags s fs us cs e old absent = us
 begun_flags s fs us cs e old (waiting r) = unwound fs us
 begun_flags s fs us cs e old (one_list m p) = below_node s (flag us) cs e old ∷ us
-begun_flags s fs us cs e old (two_lists p f) = below_boundary s (flag us) e old ∷ us
+begun_flags s fs us cs e old (two_lists p f) = below_boundary (flag us) e old ∷ us
 
 -- the flags after a unit
 abbrev pub unit_flags : Sight → Flags → Cursor → Flags
@@ -70,21 +70,21 @@ unit_flags s us (at_place (suc levels) fs cs e old) = begun_flags s fs us cs e o
 unit_flags s us (at_end levels fs o done) = outer us
 unit_flags s us (ended p) = us
 
--- What a unit allows
+-- What a unit evaluates
 
 -- the body of a place that begins, by what stands there
-abbrev pub begins_allowed : Sight → Flag → Contexts → Element → Option Node → Shape → ℕ
-begins_allowed s u cs e old absent = 0
-begins_allowed s u cs e old (waiting r) = own_body s u cs e old
-begins_allowed s u cs e old (one_list m p) = own_body s u cs e old
-begins_allowed s u cs e old (two_lists p f) = 0
+abbrev pub begins_evaluated : Sight → Flag → Contexts → Element → Option Node → Shape → ℕ
+begins_evaluated s u cs e old absent = 0
+begins_evaluated s u cs e old (waiting r) = own_body s u cs e old
+begins_evaluated s u cs e old (one_list m p) = own_body s u cs e old
+begins_evaluated s u cs e old (two_lists p f) = 0
 
--- the bodies that the next unit may evaluate
-abbrev pub next_allowed : Sight → Flags → Cursor → ℕ
-next_allowed s us (at_place zero fs cs e old) = 0
-next_allowed s us (at_place (suc levels) fs cs e old) = begins_allowed s (flag us) cs e old (shape_of s cs e old)
-next_allowed s us (at_end levels fs o done) = 0
-next_allowed s us (ended p) = 0
+-- the bodies that the next unit evaluates
+abbrev pub next_evaluated : Sight → Flags → Cursor → ℕ
+next_evaluated s us (at_place zero fs cs e old) = 0
+next_evaluated s us (at_place (suc levels) fs cs e old) = begins_evaluated s (flag us) cs e old (shape_of s cs e old)
+next_evaluated s us (at_end levels fs o done) = 0
+next_evaluated s us (ended p) = 0
 
 -- an untouched boundary's children are not tried
 abbrev pub MayTry : Sight → Flag → Element → Option Node → Shape → Type 0
@@ -99,3 +99,9 @@ MayGo s us (at_place zero fs cs e old) = Unit {0}
 MayGo s us (at_place (suc levels) fs cs e old) = MayTry s (flag us) e old (shape_of s cs e old)
 MayGo s us (at_end levels fs o done) = Unit {0}
 MayGo s us (ended p) = Unit {0}
+
+-- What a render costs
+
+-- a render that has evaluated so many bodies has evaluated each that it had to, and no other: with those that are left they are those of the whole
+abbrev pub Costs : Sight → Option Node → (bodies : ℕ) → Flags → Cursor → Type 0
+Costs s old bodies us c = bodies + left_evaluated s us c ≡ whole_evaluated s old

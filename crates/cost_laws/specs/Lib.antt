@@ -1,7 +1,7 @@
 pub mod Causes
 pub mod Untouched
-pub mod Allowed
+pub mod Evaluated
 pub mod Left
-pub mod Costs
+pub mod Undue
 pub mod SameWork
-pub mod Required
+pub mod Places

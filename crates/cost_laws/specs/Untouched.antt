@@ -15,7 +15,7 @@ value_given elements.null = None
 value_given (elements.text t) = None
 value_given (elements.host n k attrs es) = None
 value_given (elements.comp c k ps es) = None
-value_given (elements.list es) = None
+value_given (elements.list marked es) = None
 value_given (elements.boundary k f es) = None
 value_given (elements.provider c k x es) = Some (c, x)
 

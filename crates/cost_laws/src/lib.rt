@@ -1,6 +1,6 @@
-//! Laws of what a render costs: it evaluates the bodies of places that have a cause, and of places below one that has.
+//! Laws of what a render costs: it evaluates the bodies of components that have a cause, and of those whose element was made anew.
 #![tactic(auto)]
 
 mod laws;
 
-pub use laws::{bodies_have_causes, causes_have_bodies};
+pub use laws::bodies_are_counted;

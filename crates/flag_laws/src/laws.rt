@@ -9,10 +9,9 @@ ghost use Rattle.rx_meaning.specs.Cursor.{Frame};
 ghost use Rattle.rx_fiber.specs.Fibers.{Fiber};
 ghost use Rattle.rx_fiber.specs.Unwound.{IsWithin};
 ghost use Rattle.rx_complete.specs.Ends.{Outer, nearest, next_after};
-ghost use Rattle.cost_laws.specs.Allowed.{Flag};
-ghost use Rattle.cost_laws.specs.Left.{Flags, outer};
-ghost use Rattle.cost_laws.specs.Costs.{FramesFlagged};
-ghost use Rattle.flag_laws.specs.Flagged.{AllBare, AreTold, FlagsAfter, FlagsAtEnd, FlagsHere, FlagsOpened, HasUnwound};
+ghost use Rattle.cost_laws.specs.Evaluated.{Flag};
+ghost use Rattle.cost_laws.specs.Left.{Flags, flag, outer};
+ghost use Rattle.flag_laws.specs.Flagged.{AllBare, AreTold, KeepsTold, FlagsAfter, FlagsAtEnd, FlagsHere, FlagsOpened, HasUnwound};
 
 /// Where a unit leads, the flags of the lists that are open go along: past a node that is completed or taken over, to the
 /// children or the fallback of one that is opened, and out of what a wait drops.
@@ -22,13 +21,13 @@ pub fn flags_are_kept()
     ensures passes { (t : Trees Fiber) (q : ℕ) (kids : Draft Fiber) (us : Flags) → Fits t → FlagsHere t q kids us
         → FlagsAfter t us (next_after t.draft q) }
     ensures opens { (t new : Trees Fiber) (p : ℕ) (us : Flags) (u : Flag) (kids : Draft Fiber) (m : Fiber → Fiber) → FlagsHere t p (taken shapes.none) us
-        → ((k : Around Fiber) (v : Fiber) (o : Option ℕ) (rs : Draft Fiber) → t.draft ≡ placed k (made p v o (taken shapes.none) rs) → new.draft ≡ placed k (made p (m v) o kids rs))
+        → ((k : Around Fiber) (v : Fiber) (o : Option ℕ) (rs : Draft Fiber) → t.draft ≡ placed k (made p v o (taken shapes.none) rs) → (new.draft ≡ placed k (made p (m v) o kids rs)) × KeepsTold (flag us) (m v))
         → AllBare kids → AreTold u kids → FlagsOpened new p (u ∷ us) (entry kids) }
     ensures opens_beside { (t new : Trees Fiber) (p id : ℕ) (us : Flags) (u : Flag) (kids : Draft Fiber) (m : Fiber → Fiber) (w : Fiber) (old : Option ℕ) (kept : Option ℕ → Shape Fiber)
         → FlagsHere t p (taken shapes.none) us
         → ((k : Around Fiber) (v : Fiber) (o : Option ℕ) (rs : Draft Fiber) → t.draft ≡ placed k (made p v o (taken shapes.none) rs) → new.draft ≡ placed k (made p (m v) o (taken (kept o)) (made id w old kids rs)))
-        → AllBare kids → AreTold u kids → FlagsOpened new id (u ∷ us) (entry kids) }
-    ensures unwinds { (t new : Trees Fiber) (st : Stack) (p : ℕ) (kids : Draft Fiber) (fs : List Frame) (us : Flags) → Fits t → (h : FlagsHere t p kids us) → IsWithin t st p fs → FramesFlagged us fs
+        → KeepsTold (flag us) w → AllBare kids → AreTold u kids → FlagsOpened new id (u ∷ us) (entry kids) }
+    ensures unwinds { (t new : Trees Fiber) (st : Stack) (p : ℕ) (kids : Draft Fiber) (fs : List Frame) (us : Flags) → Fits t → (h : FlagsHere t p kids us) → IsWithin t st p fs
         → (u : Outer) → nearest h.around ≡ Some u → new.draft ≡ placed u.around (made u.id u.value u.old (taken shapes.none) u.rest)
-        → HasUnwound t new u.id u.old fs us }
+        → HasUnwound t new u.id u.value u.old fs us }
 {}

@@ -9,13 +9,16 @@ use Rattle.rx_elem.specs.Elements.{Element, Elements, Key, listed}
 use Rattle.rx_elem.specs.Elements as elements
 use Rattle.rx_elem.specs.Trees.{Node, host_number, instance_in}
 use Rattle.rx_hooks.specs.declared.hook.Hook.{Hook}
-use Rattle.rx_links.specs.Drafts.{Trees, Makes, old_of}
+use Rattle.rx_lists.specs.Shapes.{Holds}
+use Rattle.rx_lists.specs.Shapes as shapes
+use Rattle.rx_links.specs.Drafts.{Trees, Makes, old_of, taken}
 use Rattle.rx_links.specs.Readers.{made_value_of, IsLinked}
 use Rattle.rx_meaning.specs.Body.{Body, wait, ready, body_of}
 use Rattle.rx_meaning.specs.Counts.{each_body, begins_as, one_if_component, next_counts}
 use Rattle.rx_meaning.specs.Cursor.{Frame, at_place, is_null}
 use Rattle.rx_meaning.specs.Fresh.{Sight, Contexts, Shape, absent, waiting, one_list, two_lists, shape_of, shape_of_body, shape_of_component, inputs_at, old_instance}
-use Rattle.rx_fiber.specs.Fibers.{Fiber, is_stood}
+use Rattle.rx_fiber.specs.Fibers.{Fiber, is_stood, origin_of}
+use Rattle.rx_fiber.specs.Fibers as stage
 use Rattle.rx_fiber.specs.declared.stage.Origin.{Origin}
 use Rattle.rx_meaning.specs.Settled.{IfSettled, known_by}
 use Rattle.rx_fiber.specs.Reading.{IsOld}
@@ -32,7 +35,7 @@ use Rattle.rx_begin.specs.Others.{HasBegunOther}
 use Rattle.rx_begin.specs.Others as others
 use Rattle.rx_begin.proofs.Hiding.{own_keeps, own_gives, kids_keep, hidden_again}
 use Rattle.rx_begin.specs.Bodies.{StoodIn, HasShape}
-use Rattle.rx_begin.specs.Origins.{IsSteady}
+use Rattle.rx_begin.specs.Origins.{IsSteady, KnowsClone}
 use Rattle.rx_begin.specs.Beginning.{IsAtPlace, stands, HasBegun, BeginsPlace}
 use Rattle.rx_begin.specs.declared.node.Begun.{Begun}
 use Rattle.rx_begin.proofs.Lists.{same_parts}
@@ -41,7 +44,7 @@ use Rattle.rx_begin.proofs.Nodes.{bare_made}
 use Rattle.rx_begin.proofs.Bodies.{kept_if}
 use Rattle.rx_begin.proofs.ByElement.{element_at, old_at, bare_at, Opens, from_matched, from_clones, other_begun, body_begun}
 use Rattle.rx_begin.proofs.Keeping.{stood_in, old_no_null, kept_children}
-use Rattle.rx_begin.proofs.Standing.{IsAgain, KidsStand, clone_same, kids_stand}
+use Rattle.rx_begin.proofs.Standing.{KidsStand, KnowsElement, clone_again, kids_stand, same_here, stood_here, waits_here}
 
 pub on_ok : {A E : Type 0} (r : Result A E) (P Q : Type 0) → (P → Q) → OnOk r P → OnOk r Q
 on_ok (Ok a) P Q f h = f h
@@ -68,7 +71,7 @@ context_given p elements.null m d f = tt
 context_given p (elements.text t) m d f = tt
 context_given p (elements.host n k attrs es) m d f = tt
 context_given p (elements.comp c k ps es) m d f = tt
-context_given p (elements.list es) m d f = tt
+context_given p (elements.list marked es) m d f = tt
 context_given p (elements.boundary k g es) m d f = tt
 context_given p (elements.provider c k x es) m d f = subst (λ l. c < l) (sym f) d.0
 
@@ -77,7 +80,7 @@ props_given : (p : Program) (e : Element) (c : ℕ) (props : List ℤ) (es : Lis
 props_given p elements.null c props es d f = cc
 props_given p (elements.text t) c props es d f = cc
 props_given p (elements.host n k attrs xs) c props es d f = cc
-props_given p (elements.list xs) c props es d f = cc
+props_given p (elements.list marked xs) c props es d f = cc
 props_given p (elements.boundary k g xs) c props es d f = cc
 props_given p (elements.provider b k x xs) c props es d f = cc
 props_given p (elements.comp b k ps kids) c props es d f =
@@ -103,6 +106,28 @@ module _ (p : Program) (kept : ℕ → Option (List Hook)) (t : Trees Fiber) (st
     | stands {n = n} {fs = fs} {cs = cs} {e = e} {old = old} at there drawn keeps ↦
         (record { node = old; was = old_at t st q n fs cs e old knows at; keeps = keeps })
   ]
+
+  -- the fiber that it was made for is held
+  pub place_held : (o : Option ℕ) → o ≡ old_of t.draft q → IfSome o (Holds t.current)
+  place_held o is = let b = place_bare p kept t st q at_it in let its = knows b.around q b.value b.old (taken shapes.none) b.rest b.here in subst (λ x. IfSome x (Holds t.current)) (sym (is ∙ its.old)) its.old_held
+
+  -- a clone's element is given again
+  pub place_clone : KnowsClone t q
+  place_clone = elim at_it [
+    | stands {n = n} {fs = fs} {cs = cs} {e = e} {old = old} at there drawn keeps ↦
+        clone_again t st q n fs cs e old knows at
+  ]
+
+  -- the fiber waits
+  pub place_waits : (v : Fiber) → Some v ≡ made_value_of t.draft q → (c : Origin) × (v.stage ≡ stage.waiting c)
+  place_waits v value = elim at_it [
+    | stands {n = n} {fs = fs} {cs = cs} {e = e} {old = old} at there drawn keeps ↦
+        waits_here t st q n fs cs e old knows at v value
+  ]
+
+  -- where it stood is told with what is known of it
+  pub place_stood : (v : Fiber) → Some v ≡ made_value_of t.draft q → (origin_of v.stage).stood ≡ is_stood v.stage
+  place_stood v value = let (c, is) = place_waits v value in ap (λ s. (origin_of s).stood) is ∙ sym (ap is_stood is)
 
   module _ (v : Fiber) (element : Element) (value : Some v ≡ made_value_of t.draft q) (is : element ≡ v.element) where
     pub place_drawn : IsDrawn p element
@@ -130,25 +155,25 @@ module _ (s : Sight) (kept : ℕ → Option (List Hook)) (t : Trees Fiber) (st :
   its_element : (n : ℕ) (fs : List Frame) (cs : Contexts) (e : Element) (old : Option Node) → StandsAt t st (Some p) (at_place (suc n) fs cs e old) → element ≡ e
   its_element n fs cs e old at = is ∙ element_at t st p n fs cs e old knows at v value
 
-  -- what counts as a clone stands in its old node
-  stood_so : (n : ℕ) (fs : List Frame) (cs : Contexts) (e : Element) (old : Option Node) → StandsAt t st (Some p) (at_place (suc n) fs cs e old) → (cloned : Bool) → IsAgain t p v cloned → cloned ≡ true → StoodIn old e
-  stood_so n fs cs e old at cloned again so = stood_in t.current (old_of t.draft p) old e (old_at t st p n fs cs e old knows at) (clone_same t st p n fs cs e old knows at v value cloned again so)
+  -- what is given again stands in its old node
+  stood_so : (n : ℕ) (fs : List Frame) (cs : Contexts) (e : Element) (old : Option Node) → StandsAt t st (Some p) (at_place (suc n) fs cs e old) → (again : Bool) → KnowsElement t p v again → again ≡ true → StoodIn old e
+  stood_so n fs cs e old at again its so = stood_in t.current (old_of t.draft p) old e (old_at t st p n fs cs e old knows at) (same_here t st p n fs cs e old knows at v value again its so)
 
-  pub begins_body : (cloned steady : Bool) → IsAgain t p v cloned → (steady ≡ true → IsSteady t.current (old_of t.draft p) v) → (c : ℕ) (props : List ℤ) (es : List Element) (here : Contexts) → parts_in element ≡ Some (c, (props, es)) → here ≡ values_at st → st' ≡ st
+  pub begins_body : (again steady : Bool) (generation : ℕ) → KnowsElement t p v again → (steady ≡ true → IsSteady t.current (old_of t.draft p) v) → (c : ℕ) (props : List ℤ) (es : List Element) (here : Contexts) → parts_in element ≡ Some (c, (props, es)) → here ≡ values_at st → st' ≡ st
       → ((old : Option Node) (key : Key) (kids : Elements) → IsOld t.current (old_of t.draft p) old → GivesHooks s kept (old_instance old) → IfSettled s.program (known_by s) old
-      → (cloned ≡ true → StoodIn old (elements.comp c key props kids)) → listed kids ≡ es → HasShape cloned steady (shape_of_component s here c props kids old (component_at s.program c)) here old t new p answer) → BeginsPlace s way kept t st new st' p answer
-  begins_body cloned steady again steadies c props es here parts same stacks has n fs cs e old at gives settled covers =
+      → (again ≡ true → StoodIn old (elements.comp c key props kids)) → listed kids ≡ es → HasShape again steady generation (shape_of_component s here c props kids old (component_at s.program c)) here old t new p answer) → BeginsPlace s way kept t st new st' p answer
+  begins_body again steady generation its steadies c props es here parts same stacks has n fs cs e old at gives settled covers =
       let x : element ≡ e = its_element n fs cs e old at in
-      body_begun s t st new st' p n fs cs e old linked knows at answer (old_no_null s.program (known_by s) old settled) cloned steady
+      body_begun s t st new st' p n fs cs e old linked knows at answer (old_no_null s.program (known_by s) old settled) again steady generation
       (kids_stand t st p n fs cs e old knows at v value (element_at t st p n fs cs e old knows at v value) steady steadies) c props es here (ap parts_in (sym x) ∙ parts) same
       (λ key kids f g.
-      has old key kids (old_at t st p n fs cs e old knows at) (own_gives s kept old gives) settled (λ so. subst (StoodIn old) (sym f) (stood_so n fs cs e old at cloned again so)) g)
+      has old key kids (old_at t st p n fs cs e old knows at) (own_gives s kept old gives) settled (λ so. subst (StoodIn old) (sym f) (stood_so n fs cs e old at again its so)) g)
       stacks
 
-  pub begins_other : (scene : Scene) (origin : Origin) (steady : Bool) → IsSceneOf scene s → IsAgain t p v origin.cloned → origin.stood ≡ is_stood v.stage → (steady ≡ true → IsSteady t.current (old_of t.draft p) v) → is_null element ≡ false → parts_in element ≡ None
-      → new.current ≡ t.current → HasBegunOther scene kept t st new st' p element origin steady answer → BeginsPlace s way kept t st new st' p answer
-  begins_other scene origin steady sees again stood_is steadies there none current has n fs cs e old at gives settled covers =
-      by_case answer (subst (λ y. HasBegunOther scene kept t st new st' p y origin steady answer) x has)
+  pub begins_other : (scene : Scene) (origin : Origin) (again steady : Bool) (generation : ℕ) → IsSceneOf scene s → KnowsElement t p v again → origin.stood ≡ is_stood v.stage → (steady ≡ true → IsSteady t.current (old_of t.draft p) v) → is_null element ≡ false → parts_in element ≡ None
+      → new.current ≡ t.current → HasBegunOther scene kept t st new st' p element origin again steady generation answer → BeginsPlace s way kept t st new st' p answer
+  begins_other scene origin again steady generation sees its stood_is steadies there none current has n fs cs e old at gives settled covers =
+      by_case answer (subst (λ y. HasBegunOther scene kept t st new st' p y origin again steady generation answer) x has)
     where
       x : element ≡ e
       x = its_element n fs cs e old at
@@ -159,20 +184,20 @@ module _ (s : Sight) (kept : ℕ → Option (List Hook)) (t : Trees Fiber) (st :
       stand : KidsStand t p fs e steady
       stand = kids_stand t st p n fs cs e old knows at v value (element_at t st p n fs cs e old knows at v value) steady steadies
 
-      opened : (b : Begun) → Opens s t st new st' p n fs cs e old linked knows at b (begun_stage e number) (begun_children e) → st' ≡ begun_stack e st → HasBegun s t st new st' p n fs cs e old b
+      opened : (b : Begun) → Opens s t st new st' p n fs cs e old linked knows at b (begun_stage e origin number) (begun_children e) → st' ≡ begun_stack e st → HasBegun s t st new st' p n fs cs e old b
       opened b done stacks =
-          other_begun s t st new st' p n fs cs e old linked knows at b number (old_of t.draft p) (ap is_null (sym x) ∙ there) (ap parts_in (sym x) ∙ none) refl refl done stacks
+          other_begun s t st new st' p n fs cs e old linked knows at b origin number (old_of t.draft p) (λ so. stood_here t st p n fs cs e old knows at v value (sym stood_is ∙ so)) (ap is_null (sym x) ∙ there) (ap parts_in (sym x) ∙ none) refl refl done stacks
 
-      by_case : (b : Begun) → HasBegunOther scene kept t st new st' p e origin steady b → HasBegun s t st new st' p n fs cs e old b
+      by_case : (b : Begun) → HasBegunOther scene kept t st new st' p e origin again steady generation b → HasBegun s t st new st' p n fs cs e old b
       by_case b (others.keeps h kept_so stacks) =
           opened b
-          (from_clones s t st new st' p n fs cs e old linked knows at b (begun_stage e number) (begun_children e) steady stand (old_no_null s.program (known_by s) old settled)
-          (kept_children s.program (known_by s) t.current (old_of t.draft p) old e origin.cloned (old_at t st p n fs cs e old knows at) settled
-          (λ so. stood_so n fs cs e old at origin.cloned again so) (ap parts_in (sym x) ∙ none) h) kept_so)
+          (from_clones s t st new st' p n fs cs e old linked knows at b (begun_stage e origin number) (begun_children e) steady stand (old_no_null s.program (known_by s) old settled)
+          (kept_children s.program (known_by s) t.current (old_of t.draft p) old e again (old_at t st p n fs cs e old knows at) settled
+          (λ so. stood_so n fs cs e old at again its so) (ap parts_in (sym x) ∙ none) h) kept_so)
           stacks
-      by_case b (others.opens not done stacks) = opened b (from_matched s t st new st' p n fs cs e old linked knows at b (begun_stage e number) (begun_children e) steady stand done) stacks
-      by_case _ (others.hides {a = a} so too mark waits tried stacks) =
-          hidden_again s kept t st new st' p n fs cs e old a knows at v value origin again stood_is so too mark (λ y. waits s y sees) gives settled current tried stacks
+      by_case b (others.opens not done stacks) = opened b (from_matched s t st new st' p n fs cs e old linked knows at b (begun_stage e origin number) (begun_children e) steady generation stand done) stacks
+      by_case _ (others.hides {a = a} same too mark waits tried stacks) =
+          hidden_again s kept t st new st' p n fs cs e old a knows at v value origin same stood_is too mark (λ y. waits s y sees) gives settled current tried stacks
 
 -- How many bodies are evaluated
 
@@ -187,7 +212,7 @@ no_body elements.null h = refl
 no_body (elements.text t) h = refl
 no_body (elements.host n k attrs es) h = refl
 no_body (elements.comp c k ps es) h = cc
-no_body (elements.list es) h = refl
+no_body (elements.list marked es) h = refl
 no_body (elements.boundary k f es) h = refl
 no_body (elements.provider c k x es) h = refl
 
@@ -205,7 +230,7 @@ one_counted : (s : Sight) (e : Element) (cs : Contexts) (old : Option Node) (c :
 one_counted s elements.null cs old c props es m h f = cc
 one_counted s (elements.text t) cs old c props es m h f = cc
 one_counted s (elements.host n k attrs xs) cs old c props es m h f = cc
-one_counted s (elements.list xs) cs old c props es m h f = cc
+one_counted s (elements.list marked xs) cs old c props es m h f = cc
 one_counted s (elements.boundary k g xs) cs old c props es m h f = cc
 one_counted s (elements.provider b k x xs) cs old c props es m h f = cc
 one_counted s (elements.comp b k ps kids) cs old c props es m h f =

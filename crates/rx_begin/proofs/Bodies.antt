@@ -68,11 +68,11 @@ pub instance_at : (c : Shape Fiber) (alternate o : Option ℕ) (old : Option Nod
 instance_at c alternate o old i same was is = is ∙ (ap (λ q. option_and_then instance_in (mark_at c q)) same ∙ old_instance_is c o old was)
 
 -- what stands at the place of a component, by its body
-pub evaluated : (s : Sight) (cs : Contexts) (c : ℕ) (props : List ℤ) (kids : Elements) (old : Option Node) (b : Body) (t new : Trees Fiber) (p : ℕ) (answer : Begun) (cloned steady : Bool)
+pub evaluated : (s : Sight) (cs : Contexts) (c : ℕ) (props : List ℤ) (kids : Elements) (old : Option Node) (b : Body) (t new : Trees Fiber) (p : ℕ) (answer : Begun) (again steady : Bool) (generation : ℕ)
     → option_map (λ d. body_of s.program d (inputs_at s cs props kids (old_instance old))) (component_at s.program c) ≡ Some b
-    → HasShape cloned steady (shape_of_body cs c old b) cs old t new p answer → HasShape cloned steady (shape_of_component s cs c props kids old (component_at s.program c)) cs old t new p answer
-evaluated s cs c props kids old b t new p answer cloned steady gives has =
-    subst (λ x. HasShape cloned steady x cs old t new p answer) (sym (shape_is s cs c props kids old (component_at s.program c) b gives)) has
+    → HasShape again steady generation (shape_of_body cs c old b) cs old t new p answer → HasShape again steady generation (shape_of_component s cs c props kids old (component_at s.program c)) cs old t new p answer
+evaluated s cs c props kids old b t new p answer again steady generation gives has =
+    subst (λ x. HasShape again steady generation x cs old t new p answer) (sym (shape_is s cs c props kids old (component_at s.program c) b gives)) has
 
 -- What is begun over its own children
 

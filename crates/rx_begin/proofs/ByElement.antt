@@ -25,7 +25,7 @@ use Rattle.rx_fiber.specs.Fibers as stage
 use Rattle.rx_fiber.specs.OldLists.{primary_list, matched, old_elements, old_fibers}
 use Rattle.rx_fiber.specs.Reading.{IsOld}
 use Rattle.rx_fiber.specs.Stood.{given_in, given_more}
-use Rattle.rx_fiber.specs.Surround.{given_along, AreNext, fallback_in, is_boundary}
+use Rattle.rx_fiber.specs.Surround.{given_along, AreNext, StandsIf, fallback_in, is_boundary}
 use Rattle.rx_fiber.proofs.OldLists.{primary_is}
 use Rattle.rx_fiber.specs.Standing.{IsStack, opened, StandsAt, begins}
 use Rattle.rx_fiber.proofs.Stacking.{pushed, unchanged}
@@ -82,16 +82,17 @@ module _ (s : Sight) (t : Trees Fiber) (st : Stack) (new : Trees Fiber) (st' : S
     pub nexts : AreNext t.current (given_more e (given_along fs)) 0 (zip es (old_nodes (children_if old) es)) opened.kids
 
   -- children that are matched with the old ones
-  pub from_matched : (m : Stage) (es : List Element) (steady : Bool) → KidsStand t p fs e steady → HasOpened (as_matched steady) t new p m es (matched (primary_list (list_from t.current (old_of t.draft p))) es) answer
+  pub from_matched : (m : Stage) (es : List Element) (steady : Bool) (generation : ℕ) → KidsStand t p fs e steady → HasOpened (as_matched steady generation) t new p m es (matched (primary_list (list_from t.current (old_of t.draft p))) es) answer
       → Opens m es
-  from_matched m es steady stand done = record {
+  from_matched m es steady generation stand done = record {
     given = es;
     olds = matched (primary_list (list_from t.current (old_of t.draft p))) es;
-    origin = as_matched steady;
+    origin = as_matched steady generation;
     opened = done;
     nexts =
         nexts t.current (given_more e (given_along fs)) 0 es (matched (primary_list (list_from t.current (old_of t.draft p))) es) (old_nodes (children_if old) es) done.kids
-        (all_wait t.current (given_more e (given_along fs)) (as_matched steady) 0 es (matched (primary_list (list_from t.current (old_of t.draft p))) es) done.kids
+        (all_wait t.current (given_more e (given_along fs)) (as_matched steady generation) 0 es (matched (primary_list (list_from t.current (old_of t.draft p))) es) done.kids
+        (λ so. absurd (let q : ⊥ = cc in q))
         (λ so i j is. let (place, there, here) = matched_at (primary_list (list_from t.current (old_of t.draft p))) es i j is in stand so place j here) done.are)
         (olds_of s t st new st' p n fs cs e old linked knows (old_of t.draft p) es (old_at t st p n fs cs e old knows at));
   }
@@ -109,7 +110,7 @@ module _ (s : Sight) (t : Trees Fiber) (st : Stack) (new : Trees Fiber) (st' : S
         (kept_next t.current linked (given_more e (given_along fs)) (children_if old) (primary_list (list_from t.current (old_of t.draft p)))
         (primary_is t.current linked (old_of t.draft p) old (old_at t st p n fs cs e old knows at)) no_null done.kids
         (all_wait t.current (given_more e (given_along fs)) (as_cloned steady) 0 (old_elements (primary_list (list_from t.current (old_of t.draft p)))) (old_fibers (primary_list (list_from t.current (old_of t.draft p)))) done.kids
-        (λ so i j is. stand so i j (ap option_flatten is)) done.are));
+        (λ so. refl) (λ so i j is. stand so i j (ap option_flatten is)) done.are));
   }
 
   again : (m l : Stage) (es xs : List Element) → m ≡ l → es ≡ xs → Opens m es → Opens l xs
@@ -149,8 +150,8 @@ module _ (s : Sight) (t : Trees Fiber) (st : Stack) (new : Trees Fiber) (st' : S
       (subst (λ y. shape_of s cs y old ≡ one_list (of_host (old_host old)) (part cs (listed es) (children_if old))) is refl)
       (subst (λ y. given_in y ≡ None) is refl) refl refl refl (host_mark number o f g) refl done stacks
 
-  pub list_begun : (es : Elements) → elements.list es ≡ e → Opens (begun plain) (listed es) → st' ≡ st → HasBegun s t st new st' p n fs cs e old answer
-  list_begun es is done stacks =
+  pub list_begun : (marked : Bool) (es : Elements) → elements.list marked es ≡ e → Opens (begun plain) (listed es) → st' ≡ st → HasBegun s t st new st' p n fs cs e old answer
+  list_begun marked es is done stacks =
       plain_begun plain (begun plain) (listed es) (part cs (listed es) (children_if old))
       (subst (λ y. shape_of s cs y old ≡ one_list plain (part cs (listed es) (children_if old))) is refl)
       (subst (λ y. given_in y ≡ None) is refl) refl refl refl refl refl done stacks
@@ -166,63 +167,63 @@ module _ (s : Sight) (t : Trees Fiber) (st : Stack) (new : Trees Fiber) (st' : S
       (subst (λ l. IsStack (contexts.below c x st) ((around e plain, slice_set l c x) ∷ opened fs)) values
       (pushed st (around e plain) (opened fs) c x (subst (λ y. given_in y ≡ Some (c, x)) is refl) stack)))
 
-  pub boundary_begun : (key : Key) (f : Element) (es : Elements) → elements.boundary key f es ≡ e → Opens stage.trying (listed es) → st' ≡ st → HasBegun s t st new st' p n fs cs e old answer
-  boundary_begun key f es is done stacks =
-      begun_trying s t st new st' p n fs cs e old linked knows done.origin answer (listed es) done.given done.olds done.opened done.nexts at
-      (subst (λ y. is_boundary y ≡ true) is refl)
+  pub boundary_begun : (key : Key) (f : Element) (es : Elements) (own : Origin) → (own.stood ≡ true → StandsIf t.current (given_along fs) (old_of t.draft p)) → elements.boundary key f es ≡ e → Opens (stage.trying own) (listed es) → st' ≡ st → HasBegun s t st new st' p n fs cs e old answer
+  boundary_begun key f es own stood is done stacks =
+      begun_trying s t st new st' p n fs cs e old linked knows done.origin own answer (listed es) done.given done.olds done.opened done.nexts at
+      (subst (λ y. is_boundary y ≡ true) is refl) stood
       (subst (λ y. shape_of s cs y old ≡ two_lists (part cs (listed es) (children_if old)) (part cs (fallback_in y ∷ []) (fallback_if old))) is refl)
       (λ values stack.
       let x : Open = trying e old (part cs (fallback_in e ∷ []) (fallback_if old)) in
       subst (λ q. IsStack q ((x, cs) ∷ opened fs)) (sym stacks)
       (subst (λ l. IsStack st ((x, l) ∷ opened fs)) values (unchanged st x (opened fs) (subst (λ y. given_in y ≡ None) is refl) stack)))
 
-  pub comp_begun : NoNull (children_if old) → (cloned steady : Bool) → KidsStand t p fs e steady → (c : ℕ) (key : Key) (props : List ℤ) (kids : Elements) (contexts_here : Contexts) → elements.comp c key props kids ≡ e → contexts_here ≡ values_at st
-      → HasShape cloned steady (shape_of_component s contexts_here c props kids old (component_at s.program c)) contexts_here old t new p answer → st' ≡ st → HasBegun s t st new st' p n fs cs e old answer
-  comp_begun no_null cloned steady stand c key props kids here is same has stacks = by_shape (subst (λ l. HasShape cloned steady (shape_of_component s l c props kids old (component_at s.program c)) l old t new p answer) (same ∙ values_here t st p n fs cs e old at) has)
+  pub comp_begun : NoNull (children_if old) → (is_again steady : Bool) (generation : ℕ) → KidsStand t p fs e steady → (c : ℕ) (key : Key) (props : List ℤ) (kids : Elements) (contexts_here : Contexts) → elements.comp c key props kids ≡ e → contexts_here ≡ values_at st
+      → HasShape is_again steady generation (shape_of_component s contexts_here c props kids old (component_at s.program c)) contexts_here old t new p answer → st' ≡ st → HasBegun s t st new st' p n fs cs e old answer
+  comp_begun no_null is_again steady generation stand c key props kids here is same has stacks = by_shape (subst (λ l. HasShape is_again steady generation (shape_of_component s l c props kids old (component_at s.program c)) l old t new p answer) (same ∙ values_here t st p n fs cs e old at) has)
     where
       shape_is : shape_of s cs e old ≡ shape_of_component s cs c props kids old (component_at s.program c)
       shape_is = subst (λ y. shape_of s cs y old ≡ shape_of_component s cs c props kids old (component_at s.program c)) is refl
 
-      by_shape : HasShape cloned steady (shape_of_component s cs c props kids old (component_at s.program c)) cs old t new p answer → HasBegun s t st new st' p n fs cs e old answer
+      by_shape : HasShape is_again steady generation (shape_of_component s cs c props kids old (component_at s.program c)) cs old t new p answer → HasBegun s t st new st' p n fs cs e old answer
       by_shape (waits r shape trees_same answer_is) =
           subst (λ a. HasBegun s t st new st' p n fs cs e old a) (sym answer_is) (begun_waiting s t st new st' p n fs cs e old r at (shape_is ∙ shape) trees_same stacks)
       by_shape (opens o) =
           plain_begun o.mark (begun o.mark) o.list.elements o.list (shape_is ∙ o.shape_is) (subst (λ y. given_in y ≡ None) is refl) o.contexts o.was o.shown refl refl
-          (from_matched (begun o.mark) o.list.elements steady stand o.opened) stacks
+          (from_matched (begun o.mark) o.list.elements steady generation stand o.opened) stacks
       by_shape (keeps o) =
           plain_begun o.mark (begun o.mark) (elements_in (children_if old)) (part cs (elements_in (children_if old)) (children_if old)) (shape_is ∙ o.shape_is) (subst (λ y. given_in y ≡ None) is refl) refl refl o.shown refl refl
           (from_clones (begun o.mark) (elements_in (children_if old)) steady stand no_null refl o.opened) stacks
 
   -- a place of no component
-  pub other_begun : (number o : Option ℕ) → is_null e ≡ false → parts_in e ≡ None → number ≡ option_and_then host_number (mark_at t.current o) → o ≡ old_of t.draft p
-      → Opens (begun_stage e number) (begun_children e) → st' ≡ begun_stack e st → HasBegun s t st new st' p n fs cs e old answer
-  other_begun number o there none f g done stacks = by_element e refl
+  pub other_begun : (own : Origin) (number o : Option ℕ) → (own.stood ≡ true → StandsIf t.current (given_along fs) (old_of t.draft p)) → is_null e ≡ false → parts_in e ≡ None → number ≡ option_and_then host_number (mark_at t.current o) → o ≡ old_of t.draft p
+      → Opens (begun_stage e own number) (begun_children e) → st' ≡ begun_stack e st → HasBegun s t st new st' p n fs cs e old answer
+  other_begun own number o stood there none f g done stacks = by_element e refl
     where
       by_element : (x : Element) → x ≡ e → HasBegun s t st new st' p n fs cs e old answer
       by_element elements.null h = absurd (let q : is_null elements.null ≡ false = ap is_null h ∙ there in let r : ⊥ = cc in r)
       by_element (elements.text y) h =
-          text_begun y number o h f g (again (begun_stage e number) (begun (of_host number)) (begun_children e) [] (ap (λ z. begun_stage z number) (sym h)) (ap begun_children (sym h)) done)
+          text_begun y number o h f g (again (begun_stage e own number) (begun (of_host number)) (begun_children e) [] (ap (λ z. begun_stage z own number) (sym h)) (ap begun_children (sym h)) done)
           (stacks ∙ ap (λ z. begun_stack z st) (sym h))
       by_element (elements.host name key attrs es) h =
           host_begun name key attrs es number o h f g
-          (again (begun_stage e number) (begun (of_host number)) (begun_children e) (listed es) (ap (λ z. begun_stage z number) (sym h)) (ap begun_children (sym h)) done)
+          (again (begun_stage e own number) (begun (of_host number)) (begun_children e) (listed es) (ap (λ z. begun_stage z own number) (sym h)) (ap begun_children (sym h)) done)
           (stacks ∙ ap (λ z. begun_stack z st) (sym h))
       by_element (elements.comp c key props kids) h = absurd (let q : parts_in (elements.comp c key props kids) ≡ None = ap parts_in h ∙ none in let r : ⊥ = cc in r)
-      by_element (elements.list es) h =
-          list_begun es h (again (begun_stage e number) (begun plain) (begun_children e) (listed es) (ap (λ z. begun_stage z number) (sym h)) (ap begun_children (sym h)) done)
+      by_element (elements.list marked es) h =
+          list_begun marked es h (again (begun_stage e own number) (begun plain) (begun_children e) (listed es) (ap (λ z. begun_stage z own number) (sym h)) (ap begun_children (sym h)) done)
           (stacks ∙ ap (λ z. begun_stack z st) (sym h))
       by_element (elements.boundary key fallback es) h =
-          boundary_begun key fallback es h (again (begun_stage e number) stage.trying (begun_children e) (listed es) (ap (λ z. begun_stage z number) (sym h)) (ap begun_children (sym h)) done)
+          boundary_begun key fallback es own stood h (again (begun_stage e own number) (stage.trying own) (begun_children e) (listed es) (ap (λ z. begun_stage z own number) (sym h)) (ap begun_children (sym h)) done)
           (stacks ∙ ap (λ z. begun_stack z st) (sym h))
       by_element (elements.provider c key x es) h =
-          provider_begun c key x es h (again (begun_stage e number) (begun plain) (begun_children e) (listed es) (ap (λ z. begun_stage z number) (sym h)) (ap begun_children (sym h)) done)
+          provider_begun c key x es h (again (begun_stage e own number) (begun plain) (begun_children e) (listed es) (ap (λ z. begun_stage z own number) (sym h)) (ap begun_children (sym h)) done)
           (stacks ∙ ap (λ z. begun_stack z st) (sym h))
 
   -- a component's place
-  pub body_begun : NoNull (children_if old) → (cloned steady : Bool) → KidsStand t p fs e steady → (c : ℕ) (props : List ℤ) (es : List Element) (here : Contexts) → parts_in e ≡ Some (c, (props, es)) → here ≡ values_at st
-      → ((key : Key) (kids : Elements) → elements.comp c key props kids ≡ e → listed kids ≡ es → HasShape cloned steady (shape_of_component s here c props kids old (component_at s.program c)) here old t new p answer) → st' ≡ st
+  pub body_begun : NoNull (children_if old) → (is_again steady : Bool) (generation : ℕ) → KidsStand t p fs e steady → (c : ℕ) (props : List ℤ) (es : List Element) (here : Contexts) → parts_in e ≡ Some (c, (props, es)) → here ≡ values_at st
+      → ((key : Key) (kids : Elements) → elements.comp c key props kids ≡ e → listed kids ≡ es → HasShape is_again steady generation (shape_of_component s here c props kids old (component_at s.program c)) here old t new p answer) → st' ≡ st
       → HasBegun s t st new st' p n fs cs e old answer
-  body_begun no_null cloned steady stand c props es here parts same has stacks = by_element e refl
+  body_begun no_null is_again steady generation stand c props es here parts same has stacks = by_element e refl
     where
       none_here : (x : Element) → x ≡ e → parts_in x ≡ None → HasBegun s t st new st' p n fs cs e old answer
       none_here x h none = absurd (let q : parts_in x ≡ Some (c, (props, es)) = ap parts_in h ∙ parts in let r : ⊥ = cc in r)
@@ -231,10 +232,10 @@ module _ (s : Sight) (t : Trees Fiber) (st : Stack) (new : Trees Fiber) (st' : S
       by_element elements.null h = none_here elements.null h refl
       by_element (elements.text y) h = none_here (elements.text y) h refl
       by_element (elements.host name key attrs kids) h = none_here (elements.host name key attrs kids) h refl
-      by_element (elements.list kids) h = none_here (elements.list kids) h refl
+      by_element (elements.list marked kids) h = none_here (elements.list marked kids) h refl
       by_element (elements.boundary key fallback kids) h = none_here (elements.boundary key fallback kids) h refl
       by_element (elements.provider d key x kids) h = none_here (elements.provider d key x kids) h refl
       by_element (elements.comp d key others kids) h =
           let (q0, q1, q2) = same_parts d c others props (listed kids) es (ap parts_in h ∙ parts) in
           let x : elements.comp c key props kids ≡ e = subst (λ i. elements.comp i key props kids ≡ e) q0 (subst (λ ps. elements.comp d key ps kids ≡ e) q1 h) in
-          comp_begun no_null cloned steady stand c key props kids here x same (has key kids x q2) stacks
+          comp_begun no_null is_again steady generation stand c key props kids here x same (has key kids x q2) stacks

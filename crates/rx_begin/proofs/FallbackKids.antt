@@ -1,5 +1,5 @@
 -- The fibers that are made for a fallback's list wait, below the boundary's fiber or beside what that one keeps.
-use Rattle.std.specs.Prelude.{◌≡◌, ℕ, List, Option, Some, None}
+use Rattle.std.specs.Prelude.{◌≡◌, ℕ, Bool, List, Option, Some, None}
 use Rattle.std.proofs.Common.{refl, ap, ◌∙◌}
 use Rattle.rx_base.specs.Awaits.{Awaits}
 use Rattle.rx_elem.specs.Elements.{Element}
@@ -30,20 +30,20 @@ given_none (Some es) s e = matched_none s es e
 abbrev hidden_one : Awaits → Fiber → Fiber
 hidden_one a v = record v { stage = begun (of_boundary (Hidden a)) }
 
-module _ (t new : Trees Fiber) (p : ℕ) (a : Awaits) (given : Option (List Element)) (s : Shape Fiber) (link : Option ℕ) (f : Opened) (is : s ≡ fallback_list (list_from t.current (old_of t.draft p))) where
-  pub alone_kids : HasList (given_as given) t new p (begun (of_boundary (Hidden a))) (given_elements given s) (given_fibers given s) link → f ≡ opened_at link p
-      → HasFallbackKids (given_as given) t new p f
+module _ (t new : Trees Fiber) (p : ℕ) (a : Awaits) (given : Option (List Element)) (stood : Bool) (generation : ℕ) (s : Shape Fiber) (link : Option ℕ) (f : Opened) (is : s ≡ fallback_list (list_from t.current (old_of t.draft p))) where
+  pub alone_kids : HasList (given_as given stood generation) t new p (begun (of_boundary (Hidden a))) (given_elements given s) (given_fibers given s) link → f ≡ opened_at link p
+      → HasFallbackKids (given_as given stood generation) t new p f
   alone_kids list answer =
-      alone list.kids (hidden_one a) (λ v. refl) (kids_wait t.current (given_as given) 0 (given_elements given s) (given_fibers given s) list.kids list.are)
-      (λ e. kids_new t.current (given_as given) 0 (given_elements given s) (given_fibers given s) list.kids list.are (given_none given s (is ∙ e))) list.stands
+      alone list.kids (hidden_one a) (λ v. refl) (kids_wait t.current (given_as given stood generation) 0 (given_elements given s) (given_fibers given s) list.kids list.are)
+      (λ e. kids_new t.current (given_as given stood generation) 0 (given_elements given s) (given_fibers given s) list.kids list.are (given_none given s (is ∙ e))) list.stands
       (answer ∙ ap (λ x. opened_at x p) list.first_is)
 
   pub beside_kids : KnowsPlaces t → (u w : Trees Fiber) (r : Option ℕ) (id : ℕ) → HasKept t u p a → HasFallback u w p r a id
-      → (done : HasMadeFrom (given_as given) 0 w new id (given_elements given s) (given_fibers given s)) → link ≡ entry done.kids → f ≡ opened_at link id → HasFallbackKids (given_as given) t new p f
+      → (done : HasMadeFrom (given_as given stood generation) 0 w new id (given_elements given s) (given_fibers given s)) → link ≡ entry done.kids → f ≡ opened_at link id → HasFallbackKids (given_as given stood generation) t new p f
   beside_kids knows u w r id kept put done first answer =
       beside done.kids (hidden_over a (kept_below t p)) (λ o. kids_under t.current o) id put.value r (λ v. refl) (ap is_trying put.stage)
-      (kids_wait w.current (given_as given) 0 (given_elements given s) (given_fibers given s) done.kids done.are)
-      (λ e. kids_new w.current (given_as given) 0 (given_elements given s) (given_fibers given s) done.kids done.are (given_none given s (is ∙ e)))
+      (kids_wait w.current (given_as given stood generation) 0 (given_elements given s) (given_fibers given s) done.kids done.are)
+      (λ e. kids_new w.current (given_as given stood generation) 0 (given_elements given s) (given_fibers given s) done.kids done.are (given_none given s (is ∙ e)))
       (λ k v o rs e.
       done.stands (after p (hidden_over a (kept_below t p) v) o (taken (kids_under t.current o)) k) put.value r rs (put.stands k (hidden_over a (kept_below t p) v) o (taken (kids_under t.current o)) rs (kept k v o rs e)).1)
       (λ k v o rs e g.

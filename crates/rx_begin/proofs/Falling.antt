@@ -1,5 +1,5 @@
 -- A boundary's fallback opens, alone or beside what the boundary keeps.
-use Rattle.std.specs.Prelude.{◌≡◌, ℕ, ℤ, true, false, List, [], ◌∷◌, Option, Some, None, IfSome, is_some}
+use Rattle.std.specs.Prelude.{◌≡◌, ℕ, ℤ, Bool, true, false, List, [], ◌∷◌, Option, Some, None, IfSome, is_some, slice_get}
 use Rattle.std.proofs.Common.{refl, sym, ap, ◌∙◌, subst}
 use Rattle.rx_base.specs.Awaits.{Awaits}
 use Rattle.rx_ctx.specs.Contexts.{Stack, values_at}
@@ -15,13 +15,13 @@ use Rattle.rx_links.specs.Readers.{list_from, old_list, IsLinked, made_value_of,
 use Rattle.rx_meaning.specs.Fresh.{Part, part}
 use Rattle.rx_meaning.specs.Cursor.{Cursor, Frame, falling, open_part}
 use Rattle.rx_meaning.specs.Touched.{children_with_old}
-use Rattle.rx_fiber.specs.Fibers.{Fiber, as_matched, begun, fallback}
+use Rattle.rx_fiber.specs.Fibers.{Fiber, as_matched, begun, fallback, is_cloned, origin_of}
 use Rattle.rx_fiber.specs.FiberView.{changed}
 use Rattle.rx_fiber.specs.declared.stage.StageChange.TheVariants as change
 use Rattle.rx_fiber.specs.OldLists.{primary_list, fallback_list, matched}
 use Rattle.rx_fiber.specs.Reading.{has_node}
-use Rattle.rx_fiber.specs.Stood.{given_in, given_more}
-use Rattle.rx_fiber.specs.Surround.{given_along, AreNext, IsAround, IsOfNode, IsOldBehind, fallback_in, is_boundary}
+use Rattle.rx_fiber.specs.Stood.{StoodAt, given_in, given_more, one_more}
+use Rattle.rx_fiber.specs.Surround.{given_along, AreNext, IsAround, IsOfNode, IsOldBehind, StandsIf, fallback_in, is_boundary}
 use Rattle.rx_fiber.specs.Standing.{IsStack, opened, StandsAt}
 use Rattle.rx_fiber.specs.Unwound.{IsLeftAt}
 use Rattle.rx_fiber.proofs.Coming.{come_at}
@@ -29,13 +29,16 @@ use Rattle.rx_fiber.proofs.Matching.{matched_old}
 use Rattle.rx_fiber.proofs.OldLists.{primary_is, fallback_is, kept_is, has_node_is, old_of_node}
 use Rattle.rx_fiber.proofs.Opening.{falls_alone, falls_beside}
 use Rattle.rx_fiber.proofs.Stacking.{unchanged}
+use Rattle.rx_fiber.proofs.Stood.{fallback_stands}
 use Rattle.rx_fiber.specs.declared.stage.Origin.{Origin}
 use Rattle.rx_begin.specs.Children.{AreMade, HasMadeFrom}
 use Rattle.rx_begin.specs.Nodes.{IsBareAt, IsBareBeside, HasList}
 use Rattle.rx_begin.specs.Opening.{IsLeft, left, KeepsNode, HasOpenedAs, opened_at, fallback_behind, HasKept, HasFallback, hidden_over, kept_below}
+use Rattle.rx_begin.specs.Origins.{KnowsClone}
 use Rattle.rx_fiber.specs.declared.subtree.Subtree.{Subtree}
 use Rattle.rx_begin.specs.declared.opening.Opened.{Opened}
 use Rattle.rx_begin.proofs.Making.{KnowsPlaces, made_list}
+use Rattle.rx_begin.proofs.Matched.{matched_at}
 use Rattle.rx_begin.proofs.Beside.{alone_tops, beside_tops, sibling_top}
 use Rattle.rx_begin.proofs.FreeFallback.{old_behind, fallback_free}
 use Rattle.rx_begin.proofs.Starts.{nexts, leads}
@@ -46,7 +49,7 @@ boundary_gives elements.null h = refl
 boundary_gives (elements.text t) h = refl
 boundary_gives (elements.host n k attrs es) h = refl
 boundary_gives (elements.comp c k ps es) h = refl
-boundary_gives (elements.list es) h = refl
+boundary_gives (elements.list marked es) h = refl
 boundary_gives (elements.boundary k f es) h = refl
 boundary_gives (elements.provider c k x es) h = cc
 
@@ -73,13 +76,20 @@ module _ (t : Trees Fiber) (st : Stack) (p : ℕ) (a : Awaits) (c : Cursor) (l :
   abbrev pub BeginsNext : Draft Fiber → Type 0
   BeginsNext d = AreNext t.current its_given 0 (children_with_old its_list) d
 
+  -- the old fibers of the fallback stand where its new ones will, where that of the boundary stands where it does
+  olds_stand : StandsIf t.current (given_along l.frames) l.old → (i j : ℕ) → slice_get its_olds i ≡ Some (Some j) → StoodAt t.current its_given (Some j)
+  olds_stand stands i j is =
+      let (place, there, here) = matched_at (fallback_list (list_from t.current l.old)) (fallback_in l.value.element ∷ []) i j is in
+      subst (λ g. StoodAt t.current (one_more g (given_along l.frames)) (Some j)) (sym (boundary_gives l.value.element l.boundary))
+      (fallback_stands t.current (given_along l.frames) l.value.element l.old place j stands here)
+
   -- so do those that are matched with the old ones
-  pub matched_next : (es : List Element) (os : List (Option ℕ)) → es ≡ fallback_in l.value.element ∷ [] → os ≡ its_olds → (d : Draft Fiber) → AreMade t.current (as_matched false) 0 es os d → BeginsNext d
-  matched_next es os es_are os_are d are =
-      let here : AreMade t.current (as_matched false) 0 (fallback_in l.value.element ∷ []) its_olds d =
-      subst (λ x. AreMade t.current (as_matched false) 0 x its_olds d) es_are (subst (λ x. AreMade t.current (as_matched false) 0 es x d) os_are are) in
+  pub matched_next : (stood : Bool) (generation : ℕ) → (stood ≡ true → StandsIf t.current (given_along l.frames) l.old) → (es : List Element) (os : List (Option ℕ)) → es ≡ fallback_in l.value.element ∷ [] → os ≡ its_olds → (d : Draft Fiber) → AreMade t.current (as_matched stood generation) 0 es os d → BeginsNext d
+  matched_next stood generation stands es os es_are os_are d are =
+      let here : AreMade t.current (as_matched stood generation) 0 (fallback_in l.value.element ∷ []) its_olds d =
+      subst (λ x. AreMade t.current (as_matched stood generation) 0 x its_olds d) es_are (subst (λ x. AreMade t.current (as_matched stood generation) 0 es x d) os_are are) in
       nexts t.current its_given 0 (fallback_in l.value.element ∷ []) its_olds (old_nodes (fallback_if l.node) (fallback_in l.value.element ∷ [])) d
-      (all_wait t.current its_given (as_matched false) 0 (fallback_in l.value.element ∷ []) its_olds d (λ so. absurd (let q : ⊥ = cc in q)) here)
+      (all_wait t.current its_given (as_matched stood generation) 0 (fallback_in l.value.element ∷ []) its_olds d (λ so. absurd (let q : ⊥ = cc in q)) (λ so. olds_stand (stands so)) here)
       (matched_old t.current linked (fallback_if l.node) (fallback_list (list_from t.current l.old)) (fallback_is t.current linked l.old l.node l.was) (fallback_in l.value.element ∷ []))
 
   kids_next : (new : Trees Fiber) (d : Draft Fiber) → new.current ≡ t.current → BeginsNext d → AreNext new.current its_given 0 (children_with_old its_list) d
@@ -149,6 +159,14 @@ module _ (t : Trees Fiber) (st : Stack) (p : ℕ) (a : Awaits) (c : Cursor) (l :
 pub left_bare : (t : Trees Fiber) (p : ℕ) (a : Awaits) → IsLeft t p a → IsBareAt t p
 left_bare t p a (left l) = record { around = l.around; value = l.value; old = l.old; rest = l.rest; here = l.here }
 
+-- a boundary that tries its children is no clone
+pub left_clone : (t : Trees Fiber) (p : ℕ) (a : Awaits) → IsLeft t p a → KnowsPlaces t → KnowsClone t p
+left_clone t p a (left l) knows v here clone =
+    let f : made_value_of t.draft p ≡ Some l.value = ap made_value_in (knows l.around p l.value l.old (taken none) l.rest l.here).list in
+    let same : v ≡ l.value = cc in
+    let not : is_cloned v.stage ≡ false = ap is_cloned (ap (λ u. u.stage) same ∙ l.stage) in
+    absurd (let q : true ≡ false = sym clone ∙ not in let r : ⊥ = cc in r)
+
 -- the fiber that it was made for
 module _ (t : Trees Fiber) (st : Stack) (p : ℕ) (a : Awaits) (c : Cursor) (l : IsLeftAt t st p (taken none) a c) (knows : KnowsPlaces t) where
   left_at : IsAt t l.around p l.value l.old (taken none) l.rest
@@ -162,6 +180,13 @@ module _ (t : Trees Fiber) (st : Stack) (p : ℕ) (a : Awaits) (c : Cursor) (l :
       let f : made_value_of t.draft p ≡ Some l.value = ap made_value_in left_at.list in
       let same : v ≡ l.value = cc in
       ap (λ u. u.element) same
+
+  -- what is known of its place is what the boundary has kept
+  pub left_origin : (v : Fiber) → Some v ≡ made_value_of t.draft p → origin_of v.stage ≡ l.origin
+  left_origin v e =
+      let f : made_value_of t.draft p ≡ Some l.value = ap made_value_in left_at.list in
+      let same : v ≡ l.value = cc in
+      ap (λ u. origin_of u.stage) same ∙ ap origin_of l.stage
 
 -- a boundary that keeps nothing has room for its fallback's list
 pub room_alone : (t : Trees Fiber) (p : ℕ) (a : Awaits) (o first : Option ℕ) → IsLeft t p a → KeepsNode t p a false → KnowsPlaces t → IsLinked t.current → o ≡ old_of t.draft p

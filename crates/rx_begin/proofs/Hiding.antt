@@ -1,4 +1,4 @@
--- A hidden boundary whose fiber is cloned, and which waits still, is not tried.
+-- A hidden boundary that has its element still, and waits still, is not tried.
 use Rattle.std.specs.Prelude.{◌≡◌, ℕ, suc, Bool, true, false, List, [], ◌∷◌, Option, Some, None, Result, Ok, Err, IfOk, OnOk, option_and_then, option_map}
 use Rattle.std.proofs.Common.{refl, sym, ap, ◌∙◌, subst, inl, inr}
 use Rattle.rx_base.specs.Awaits.{Awaits}
@@ -22,7 +22,7 @@ use Rattle.rx_fiber.specs.FiberView.{changed}
 use Rattle.rx_fiber.specs.declared.stage.StageChange.TheVariants as change
 use Rattle.rx_fiber.specs.Reading.{IsOld}
 use Rattle.rx_fiber.specs.Stood.{StoodAt}
-use Rattle.rx_fiber.specs.Surround.{IsElementOf, IsAround, given_along, fallback_in, is_boundary}
+use Rattle.rx_fiber.specs.Surround.{IsElementOf, IsAround, StandsIf, given_along, fallback_in, is_boundary}
 use Rattle.rx_fiber.specs.Standing.{StandsAt, begins}
 use Rattle.rx_fiber.specs.Unwound.{IsLeftAt}
 use Rattle.rx_fiber.specs.OldLists.{primary_list, matched, old_elements, old_fibers}
@@ -40,11 +40,11 @@ use Rattle.rx_begin.specs.Beginning.{IsHiddenAgain}
 use Rattle.rx_begin.proofs.ByElement.{old_at}
 use Rattle.rx_begin.proofs.Keeping.{stood_in}
 use Rattle.rx_begin.proofs.Making.{KnowsPlaces}
-use Rattle.rx_begin.proofs.Standing.{IsAgain, clone_same, stands_so, stood_here}
+use Rattle.rx_begin.proofs.Standing.{stands_so, stood_here}
 
 -- What begins as no hidden boundary
 
-module _ (scene : Scene) (kept : ℕ → Option (List Hook)) (t : Trees Fiber) (st : Stack) (new : Trees Fiber) (st' : Stack) (p : ℕ) (e : Element) (origin : Origin) (steady : Bool) where
+module _ (scene : Scene) (kept : ℕ → Option (List Hook)) (t : Trees Fiber) (st : Stack) (new : Trees Fiber) (st' : Stack) (p : ℕ) (e : Element) (origin : Origin) (again steady : Bool) (generation : ℕ) where
   abbrev mark : Option Mark
   mark = mark_at t.current (old_of t.draft p)
 
@@ -52,13 +52,13 @@ module _ (scene : Scene) (kept : ℕ → Option (List Hook)) (t : Trees Fiber) (
   olds = primary_list (list_from t.current (old_of t.draft p))
 
   pub other_begins : {E : Type 0} (r : Result Begun E)
-      → IfOk r (λ b. keeps_children origin.cloned mark ≡ true → HasOpened (as_cloned steady) t new p (begun_stage e (option_and_then host_number mark)) (old_elements olds) (old_fibers olds) b)
-      → IfOk r (λ b. keeps_children origin.cloned mark ≡ false → HasOpened (as_matched steady) t new p (begun_stage e (option_and_then host_number mark)) (begun_children e) (matched olds (begun_children e)) b)
-      → OnOk r (st' ≡ begun_stack e st) → IfOk r (λ b. HasBegunOther scene kept t st new st' p e origin steady b)
+      → IfOk r (λ b. keeps_children again mark ≡ true → HasOpened (as_cloned steady) t new p (begun_stage e origin (option_and_then host_number mark)) (old_elements olds) (old_fibers olds) b)
+      → IfOk r (λ b. keeps_children again mark ≡ false → HasOpened (as_matched steady generation) t new p (begun_stage e origin (option_and_then host_number mark)) (begun_children e) (matched olds (begun_children e)) b)
+      → OnOk r (st' ≡ begun_stack e st) → IfOk r (λ b. HasBegunOther scene kept t st new st' p e origin again steady generation b)
   other_begins (Err f) k o stacks = tt
-  other_begins (Ok b) k o stacks = by_kept (keeps_children origin.cloned mark) refl
+  other_begins (Ok b) k o stacks = by_kept (keeps_children again mark) refl
     where
-      by_kept : (q : Bool) → keeps_children origin.cloned mark ≡ q → HasBegunOther scene kept t st new st' p e origin steady b
+      by_kept : (q : Bool) → keeps_children again mark ≡ q → HasBegunOther scene kept t st new st' p e origin again steady generation b
       by_kept true h = others.keeps h (k h) stacks
       by_kept false h = others.opens h (o h) stacks
 
@@ -83,20 +83,20 @@ own_boundary p k elements.null a ns fs own = absurd own
 own_boundary p k (elements.text t) a ns fs own = absurd (let f = own.1 in let q : ⊥ = cc in q)
 own_boundary p k (elements.host n key attrs es) a ns fs own = absurd (let f = own.1 in let q : ⊥ = cc in q)
 own_boundary p k (elements.comp c key props given) a ns fs own = absurd (let f = own.1 in let q : ⊥ = cc in q)
-own_boundary p k (elements.list es) a ns fs own = absurd (let f = own.0 in let q : ⊥ = cc in q)
+own_boundary p k (elements.list marked es) a ns fs own = absurd (let f = own.0 in let q : ⊥ = cc in q)
 own_boundary p k (elements.provider c key x es) a ns fs own = absurd (let f = own.0 in let q : ⊥ = cc in q)
 own_boundary p k (elements.boundary key f es) a ns fs (inl own) = absurd (let g = own.0 in let q : ⊥ = cc in q)
 own_boundary p k (elements.boundary key f es) a ns fs (inr own) = (key, f, es, refl)
 
 module _ (s : Sight) (kept : ℕ → Option (List Hook)) (t : Trees Fiber) (st : Stack) (new : Trees Fiber) (st' : Stack) (p n : ℕ) (fs : List Frame) (cs : Contexts) (e : Element) (old : Option Node) (a : Awaits)
-    (knows : KnowsPlaces t) (at : StandsAt t st (Some p) (at_place (suc n) fs cs e old)) (v : Fiber) (value : Some v ≡ made_value_of t.draft p) (origin : Origin) (again : IsAgain t p v origin.cloned)
+    (knows : KnowsPlaces t) (at : StandsAt t st (Some p) (at_place (suc n) fs cs e old)) (v : Fiber) (value : Some v ≡ made_value_of t.draft p) (origin : Origin) (element : IsElementOf t.current (old_of t.draft p) e)
     (stood_is : origin.stood ≡ is_stood v.stage) where
   -- from the old node
-  by_node : (x : Node) → old ≡ Some x → origin.cloned ≡ true → origin.stood ≡ true → mark_of x ≡ of_boundary (Hidden a) → StoodIn (Some x) e → IfSettled s.program (known_by s) (Some x) → WaitsStill s a x → new.current ≡ t.current
-      → new ≡ record t { draft = valued p (changed change.Try) t.draft } → st' ≡ st → IsHiddenAgain s t new st' p n fs cs e old a
-  by_node (node f m ns ws) was so too mark stood settled waits current tried stacks =
-      let element = clone_same t st p n fs cs e old knows at v value origin.cloned again so in
+  by_node : (x : Node) → old ≡ Some x → origin.stood ≡ true → mark_of x ≡ of_boundary (Hidden a) → StoodIn (Some x) e → IfSettled s.program (known_by s) (Some x) → WaitsStill s a x → new.current ≡ t.current
+      → new ≡ record t { draft = valued p (changed (change.Try origin)) t.draft } → st' ≡ st → IsHiddenAgain s t new st' p n fs cs e old a
+  by_node (node f m ns ws) was too mark stood settled waits current tried stacks =
       let stands = stands_so t.current (given_along fs) (old_of t.draft p) e element (stood_here t st p n fs cs e old knows at v value (sym stood_is ∙ too)) in
+      let stands_if : origin.stood ≡ true → StandsIf t.current (given_along fs) (old_of t.draft p) = λ so. stood_here t st p n fs cs e old knows at v value (sym stood_is ∙ so) in
       elim at [
         | begins {v = w} {o = o} {rs = rs} {k = k} here is is_old surrounds values stack ↦ (
             let same : f ≡ e = cc in
@@ -105,16 +105,18 @@ module _ (s : Sight) (kept : ℕ → Option (List Hook)) (t : Trees Fiber) (st :
             let at_it = knows k p w o (taken shapes.none) rs here in
             let l : IsLeftAt new st' p (taken shapes.none) a (open_part n fs (falling e old a) (part cs (fallback_in e ∷ []) (fallback_if old))) = record {
               around = k;
-              value = changed change.Try w;
+              value = changed (change.Try origin) w;
               old = o;
+              origin = origin;
               rest = rs;
               levels = n;
               frames = fs;
               node = old;
-              here = ap (λ y. y.draft) tried ∙ at_it.value (changed change.Try);
+              here = ap (λ y. y.draft) tried ∙ at_it.value (changed (change.Try origin));
               stage = refl;
               boundary = ap is_boundary (is.element ∙ e_is);
               was = subst (λ c. IsOld c o old) (sym current) is_old;
+              stands = λ so. subst (λ c. StandsIf c (given_along fs) o) (sym current) (subst (λ q. StandsIf t.current (given_along fs) q) at_it.old (stands_if so));
               surrounds = subst (λ c. IsAround c k w.place rs fs) (sym current) (subst (λ place. IsAround t.current k place rs fs) (sym is.at) surrounds);
               stack = rw stacks stack;
               opens = rw (is.element, stacks, values) refl;
@@ -147,10 +149,10 @@ module _ (s : Sight) (kept : ℕ → Option (List Hook)) (t : Trees Fiber) (st :
       ]
 
   -- Its fallback opens next.
-  pub hidden_again : origin.cloned ≡ true → origin.stood ≡ true → mark_at t.current (old_of t.draft p) ≡ Some (of_boundary (Hidden a))
+  pub hidden_again : origin.stood ≡ true → mark_at t.current (old_of t.draft p) ≡ Some (of_boundary (Hidden a))
       → ((x : Node) → IsOld t.current (old_of t.draft p) (Some x) → GivesHooksIn s kept (children_of x) → WaitsStill s a x) → GivesHooksIf s kept old → IfSettled s.program (known_by s) old
-      → new.current ≡ t.current → new ≡ record t { draft = valued p (changed change.Try) t.draft } → st' ≡ st → IsHiddenAgain s t new st' p n fs cs e old a
-  hidden_again so too mark waits gives settled current tried stacks =
+      → new.current ≡ t.current → new ≡ record t { draft = valued p (changed (change.Try origin)) t.draft } → st' ≡ st → IsHiddenAgain s t new st' p n fs cs e old a
+  hidden_again too mark waits gives settled current tried stacks =
       by_old old refl
     where
       by_old : (o : Option Node) → old ≡ o → IsHiddenAgain s t new st' p n fs cs e old a
@@ -160,7 +162,7 @@ module _ (s : Sight) (kept : ℕ → Option (List Hook)) (t : Trees Fiber) (st :
       by_old (Some (node f m ns ws)) g =
           let x : Node = node f m ns ws in
           let h : Some m ≡ Some (of_boundary (Hidden a)) = sym (ap (option_map mark_of) g) ∙ (sym (mark_is t.current (old_of t.draft p) old (old_at t st p n fs cs e old knows at)) ∙ mark) in
-          by_node x g so too (let q : m ≡ of_boundary (Hidden a) = cc in q)
-          (subst (λ y. StoodIn y e) g (stood_in t.current (old_of t.draft p) old e (old_at t st p n fs cs e old knows at) (clone_same t st p n fs cs e old knows at v value origin.cloned again so)))
+          by_node x g too (let q : m ≡ of_boundary (Hidden a) = cc in q)
+          (subst (λ y. StoodIn y e) g (stood_in t.current (old_of t.draft p) old e (old_at t st p n fs cs e old knows at) element))
           (subst (IfSettled s.program (known_by s)) g settled)
           (waits x (subst (IsOld t.current (old_of t.draft p)) g (old_at t st p n fs cs e old knows at)) (subst (GivesHooksIf s kept) g gives).1) current tried stacks

@@ -57,7 +57,7 @@ own_children p k elements.null m ns fs own none_in shown = absurd own
 own_children p k (elements.text t) m ns fs own none_in shown = sym (ap elements_in own.2)
 own_children p k (elements.host n key attrs es) m ns fs own none_in shown = sym own.2
 own_children p k (elements.comp c key props given) m ns fs own none_in shown = absurd (let q : ⊥ = cc in q)
-own_children p k (elements.list es) m ns fs own none_in shown = sym own.1
+own_children p k (elements.list marked es) m ns fs own none_in shown = sym own.1
 own_children p k (elements.boundary key f es) m ns fs (inl own) none_in shown = sym own.1
 own_children p k (elements.boundary key f es) m ns fs (inr own) none_in shown = absurd (let q : true ≡ false = sym (ap is_hidden own.1) ∙ shown in let r : ⊥ = cc in r)
 own_children p k (elements.provider c key x es) m ns fs own none_in shown = sym own.1
@@ -146,11 +146,6 @@ none_calm kept scene cs o gone = record {
 pub parts_here : (t : Trees Fiber) (q : ℕ) (w v : Fiber) (e : Element) (x : Option (ℕ × (List ℤ × List Element))) → Some w ≡ made_value_of t.draft q → Some v ≡ made_value_of t.draft q → e ≡ w.element
     → parts_in e ≡ x → parts_in v.element ≡ x
 parts_here t q w v e x is here same parts = let so : w ≡ v = cc in ap (λ u. parts_in u.element) (sym so) ∙ (ap parts_in (sym same) ∙ parts)
-
--- a body that is not evaluated is that of what counts as a clone
-pub counts_so : (cloned evaluated : Bool) → (cloned ≡ false → evaluated ≡ true) → evaluated ≡ false → cloned ≡ true
-counts_so true evaluated anew none = refl
-counts_so false evaluated anew none = absurd (let q : true ≡ false = sym (anew refl) ∙ none in let r : ⊥ = cc in r)
 
 pub if_both : {A E : Type 0} (r : Result A E) (P Q : A → Type 0) {R : A → Type 0} → ((a : A) → P a → R a → Q a) → IfOk r P → IfOk r R → IfOk r Q
 if_both (Ok a) P Q f h g = f a h g

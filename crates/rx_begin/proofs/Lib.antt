@@ -5,6 +5,7 @@ pub mod Waiting
 pub mod Cloning
 pub mod Nodes
 pub mod Origins
+pub mod Generations
 pub mod Standing
 pub mod Starts
 pub mod ByElement

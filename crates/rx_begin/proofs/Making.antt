@@ -26,7 +26,7 @@ null_absent elements.null = refl
 null_absent (elements.text t) = refl
 null_absent (elements.host n k attrs es) = refl
 null_absent (elements.comp c k ps es) = refl
-null_absent (elements.list es) = refl
+null_absent (elements.list marked es) = refl
 null_absent (elements.boundary k f es) = refl
 null_absent (elements.provider c k x es) = refl
 

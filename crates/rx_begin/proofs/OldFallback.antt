@@ -1,8 +1,8 @@
 -- The fibers that are made for a fallback's list begin next, clones of the old ones too.
-use Rattle.std.specs.Prelude.{◌≡◌, ℕ, true, false, List, [], ◌∷◌, Option, Some, None, option_and_then, option_map, slice_get}
+use Rattle.std.specs.Prelude.{◌≡◌, ℕ, Bool, true, false, List, [], ◌∷◌, Option, Some, None, option_and_then, option_map, slice_get}
 use Rattle.std.specs.Option.{option_flatten, option_map_or}
 use Rattle.std.specs.List.{zip}
-use Rattle.std.proofs.Common.{sym, ap, ◌∙◌, subst, inl, inr}
+use Rattle.std.proofs.Common.{refl, sym, ap, ◌∙◌, subst, inl, inr}
 use Rattle.rx_base.specs.Awaits.{Awaits}
 use Rattle.rx_ast.specs.Syntax.{Program}
 use Rattle.rx_ctx.specs.Contexts.{Stack}
@@ -44,7 +44,7 @@ own_fallback p k elements.null m ns fs own boundary hidden = cc
 own_fallback p k (elements.text t) m ns fs own boundary hidden = cc
 own_fallback p k (elements.host n key attrs es) m ns fs own boundary hidden = cc
 own_fallback p k (elements.comp c key props given) m ns fs own boundary hidden = cc
-own_fallback p k (elements.list es) m ns fs own boundary hidden = cc
+own_fallback p k (elements.list marked es) m ns fs own boundary hidden = cc
 own_fallback p k (elements.boundary key f es) m ns fs (inl own) boundary hidden = absurd (let q : true ≡ false = sym hidden ∙ ap is_hidden own.0 in let r : ⊥ = cc in r)
 own_fallback p k (elements.boundary key f es) m ns fs (inr own) boundary hidden = own.2
 own_fallback p k (elements.provider c key x es) m ns fs own boundary hidden = cc
@@ -75,22 +75,22 @@ module _ (t : Trees Fiber) (st : Stack) (p : ℕ) (a : Awaits) (c : Cursor) (l :
       stood_in_fallback t.current (given_along l.frames) l.value.element l.old i j h.stood h.same (λ v value. hides_if t.current l.old l.node v l.was h.hidden value) (ap option_flatten is)
 
   -- clones begin next
-  cloned_next : HasOldFallback t.current (given_along l.frames) l.old l.node l.value.element → (d : Draft Fiber) → AreMade t.current (as_cloned true) 0 (old_elements its_old) (old_fibers its_old) d
+  cloned_next : HasOldFallback t.current (given_along l.frames) l.old l.node l.value.element → (stood : Bool) (d : Draft Fiber) → AreMade t.current (as_cloned stood) 0 (old_elements its_old) (old_fibers its_old) d
       → BeginsNext t st p a c l linked d
-  cloned_next h d are =
+  cloned_next h stood d are =
       let own = fallback_is_own h.program h.known l.value.element l.node h.settled (stood_in t.current l.old l.node l.value.element l.was h.same) l.boundary h.hidden in
       let gives : given_along l.frames ≡ one_more (given_in l.value.element) (given_along l.frames) = ap (λ g. one_more g (given_along l.frames)) (sym (boundary_gives l.value.element l.boundary)) in
       subst (λ ws. AreNext t.current ws 0 (zip (fallback_in l.value.element ∷ []) (old_nodes (fallback_if l.node) (fallback_in l.value.element ∷ []))) d) gives
       (subst (λ es. AreNext t.current (given_along l.frames) 0 (zip es (old_nodes (fallback_if l.node) es)) d) own.0
       (kept_next t.current linked (given_along l.frames) (fallback_if l.node) its_old (fallback_is t.current linked l.old l.node l.was) own.1 d
-      (all_wait t.current (given_along l.frames) (as_cloned true) 0 (old_elements its_old) (old_fibers its_old) d (λ so. clones_stand h) are)))
+      (all_wait t.current (given_along l.frames) (as_cloned stood) 0 (old_elements its_old) (old_fibers its_old) d (λ so. refl) (λ so. clones_stand h) are)))
 
   -- So do those of the elements that are given, and clones where none are.
-  pub given_next : (given : Option (List Element)) → IsFallbackOf t.current (given_along l.frames) l.old l.node l.value.element given → (s : Shape Fiber) → s ≡ its_old
-      → (d : Draft Fiber) → AreMade t.current (given_as given) 0 (given_elements given s) (given_fibers given s) d → BeginsNext t st p a c l linked d
-  given_next None h s is d are = cloned_next h d (subst (λ x. AreMade t.current (as_cloned true) 0 (old_elements x) (old_fibers x) d) is are)
-  given_next (Some es) h s is d are =
-      matched_next t st p a c l linked es (matched s es) h (ap (λ x. matched x es) is ∙ ap (matched its_old) h) d are
+  pub given_next : (given : Option (List Element)) (stood : Bool) (generation : ℕ) → IsFallbackOf t.current (given_along l.frames) l.old l.node l.value.element given stood → (s : Shape Fiber) → s ≡ its_old
+      → (d : Draft Fiber) → AreMade t.current (given_as given stood generation) 0 (given_elements given s) (given_fibers given s) d → BeginsNext t st p a c l linked d
+  given_next None stood generation h s is d are = cloned_next h stood d (subst (λ x. AreMade t.current (as_cloned stood) 0 (old_elements x) (old_fibers x) d) is are)
+  given_next (Some es) stood generation h s is d are =
+      matched_next t st p a c l linked stood generation h.1 es (matched s es) h.0 (ap (λ x. matched x es) is ∙ ap (matched its_old) h.0) d are
 
 -- the old list of the fallback is that of the definition
 pub same_old : (t u : Trees Fiber) (old o first : Option ℕ) → list_from t.current first ≡ fallback_list (list_from t.current o) → o ≡ old → u.current ≡ t.current

@@ -1,42 +1,42 @@
 -- What is known of a place that begins, by its fiber and its current one.
-use Rattle.std.specs.Prelude.{◌≡◌, ℕ, zero, suc, Bool, true, false, List, [], ◌∷◌, Option, Some, None, Result, Ok, Err, IfOk, IfSome, IsSome, slice_get, option_map, option_and_then}
-use Rattle.std.specs.Option.{option_flatten, option_map_or}
+use Rattle.std.specs.Prelude.{◌≡◌, ℕ, zero, suc, Bool, true, false, cond, List, [], ◌∷◌, Option, Some, None, Result, Ok, Err, IfOk, IfSome, IsSome, slice_get, option_map, option_and_then}
+use Rattle.std.specs.Option.{option_flatten}
 use Rattle.std.proofs.Common.{refl, sym, ap, ◌∙◌, subst}
 use Rattle.rx_base.specs.Awaits.{Awaits}
 use Rattle.rx_susp.specs.declared.boundary.BoundaryState.TheVariants.{Hidden}
 use Rattle.rx_elem.specs.Elements.{Element, same_element}
-use Rattle.rx_elem.specs.Trees.{Node, is_hidden, mark_of, of_boundary}
+use Rattle.rx_elem.specs.Elements as elements
+use Rattle.rx_elem.specs.Trees.{Mark, Node, host_number, mark_of, of_boundary}
 use Rattle.rx_elem.proofs.Equality.{same_element-self}
 use Rattle.rx_lists.specs.Shapes.{Holds, Shape, IsTop}
 use Rattle.rx_lists.specs.Shapes as shapes
-use Rattle.rx_links.specs.Drafts.{Draft, taken, made, Makes, Trees, old_of, valued}
-use Rattle.rx_links.specs.Readers.{list_from, made_value_of, value_of}
+use Rattle.rx_links.specs.Drafts.{Draft, taken, made, Trees, old_of, valued}
+use Rattle.rx_links.specs.Places.{Around, placed}
+use Rattle.rx_links.specs.Readers.{list_from, made_value_in, made_value_of, value_of}
 use Rattle.rx_ctx.specs.Contexts.{Stack}
 use Rattle.rx_hooks.specs.declared.hook.Hook.{Hook}
-use Rattle.rx_fiber.specs.Fibers.{Fiber, Stage, as_cloned, as_matched}
+use Rattle.rx_fiber.specs.Fibers.{Fiber, Stage, as_cloned, as_matched, begun, generation_of, origin_of, waiting}
 use Rattle.rx_fiber.specs.FiberView.{changed}
 use Rattle.rx_fiber.specs.declared.stage.StageChange.TheVariants as change
-use Rattle.rx_fiber.specs.OldLists.{hides_in, matched, old_elements, old_fibers, primary_list}
+use Rattle.rx_fiber.specs.OldLists.{matched, old_elements, old_fibers, primary_list}
 use Rattle.rx_fiber.specs.Reading.{IsOld}
 use Rattle.rx_fiber.proofs.OldTops.{fiber_top}
 use Rattle.rx_causes.specs.Marks.{keeps_children, mark_at}
-use Rattle.rx_causes.proofs.Causes.{told_again}
 use Rattle.rx_causes.proofs.Marks.{mark_is}
 use Rattle.rx_fiber.specs.declared.stage.Origin.{Origin}
 use Rattle.rx_causes.specs.declared.scene.Scene.{Scene}
 use Rattle.rx_fiber.specs.Surround.{IsElementOf}
+use Rattle.rx_fiber.specs.Unwound.{is_trying}
 use Rattle.rx_begin.specs.Children.{AreMade, no_more, gap, next}
-use Rattle.rx_begin.specs.Nodes.{IsBareAt, HasOpened, begun_over}
-use Rattle.rx_begin.specs.Origins.{AllWait, AllNew, HasKids}
+use Rattle.rx_begin.specs.Nodes.{IsBareAt, HasOpened, begun_children, begun_over, begun_stage}
+use Rattle.rx_begin.specs.Origins.{AllWait, AllNew, HasKids, IsAgain, TellsAgain}
 use Rattle.rx_begin.specs.Beginning.{awaited_again, is_opened, is_taken}
 use Rattle.rx_begin.specs.Others.{HasBegunOther}
 use Rattle.rx_begin.specs.Others as others
 use Rattle.rx_begin.specs.declared.node.Begun.{Begun}
 use Rattle.rx_begin.specs.declared.node.Begun.TheVariants.{Suspended}
 use Rattle.rx_begin.proofs.Making.{KnowsPlaces}
-use Rattle.rx_begin.proofs.Nodes.{bare_made}
 use Rattle.rx_begin.proofs.Bodies.{begun_anew}
-use Rattle.rx_begin.proofs.Standing.{mark_hides}
 use Rattle.rx_begin.proofs.Matched.{matched_top}
 
 module _ (t : Trees Fiber) (p : ℕ) (knows : KnowsPlaces t) (bare : IsBareAt t p) (o : Option ℕ) (old : ℕ) (same : o ≡ old_of t.draft p) (is : o ≡ Some old) where
@@ -49,23 +49,15 @@ module _ (t : Trees Fiber) (p : ℕ) (knows : KnowsPlaces t) (bare : IsBareAt t 
   current_value u reads = ap (option_and_then (value_of t.current)) (sym same ∙ is) ∙ sym (reads current_held)
 
   -- an element that is the same is that of the current fiber
-  pub again_is : (w u v : Fiber) → (Makes t.draft p → Some w ≡ made_value_of t.draft p) → (Holds t.current old → Some u ≡ value_of t.current old) → Some v ≡ made_value_of t.draft p → w.element ≡ u.element
-      → IsElementOf t.current (old_of t.draft p) v.element
-  again_is w u v reads_made reads here element =
-      let so : w ≡ v = (let f : Some w ≡ Some v = reads_made (bare_made t p knows bare) ∙ sym here in cc) in
-      ap (option_map (λ (x : Fiber). x.element)) (current_value u reads) ∙ ap Some (sym element ∙ ap (λ (x : Fiber). x.element) so)
+  pub equal_is : (u : Fiber) (e : Element) → (Holds t.current old → Some u ≡ value_of t.current old) → e ≡ u.element → IsElementOf t.current (old_of t.draft p) e
+  equal_is u e reads element = ap (option_map (λ (x : Fiber). x.element)) (current_value u reads) ∙ ap Some (sym element)
 
-  -- where it has that of the current fiber, so have both values
-  pub known_again : (w u v : Fiber) → (Makes t.draft p → Some w ≡ made_value_of t.draft p) → (Holds t.current old → Some u ≡ value_of t.current old) → Some v ≡ made_value_of t.draft p
-      → IsElementOf t.current (old_of t.draft p) v.element → w.element ≡ u.element
-  known_again w u v reads_made reads here element =
-      let so : w ≡ v = (let f : Some w ≡ Some v = reads_made (bare_made t p knows bare) ∙ sym here in cc) in
-      let its : u.element ≡ v.element = (let f : Some u.element ≡ Some v.element = sym (ap (option_map (λ (x : Fiber). x.element)) (current_value u reads)) ∙ element in cc) in
-      ap (λ (x : Fiber). x.element) so ∙ sym its
-
-  -- the current fiber of what hides its children hides them
-  pub known_hidden : (u : Fiber) → (Holds t.current old → Some u ≡ value_of t.current old) → keeps_children true (mark_at t.current (old_of t.draft p)) ≡ false → hides_in u.stage ≡ true
-  known_hidden u reads so = sym (mark_hides t.current (old_of t.draft p) u (current_value u reads)) ∙ told_again (option_map_or is_hidden (mark_at t.current (old_of t.draft p)) false) so
+  -- where it is that of the current fiber, it is the same
+  pub is_equal : (u : Fiber) (e : Element) → (Holds t.current old → Some u ≡ value_of t.current old) → IsElementOf t.current (old_of t.draft p) e → e ≡ u.element
+  is_equal u e reads element =
+      let f : Some u.element ≡ Some e = sym (ap (option_map (λ (x : Fiber). x.element)) (current_value u reads)) ∙ element in
+      let its : u.element ≡ e = cc in
+      sym its
 
 -- equal elements are the same
 pub equal_same : (e f : Element) → e ≡ f → same_element e f ≡ true
@@ -128,32 +120,62 @@ OldList t p = primary_list (list_from t.current (old_of t.draft p))
 pub no_list : (t : Trees Fiber) (p : ℕ) → old_of t.draft p ≡ None → OldList t p ≡ shapes.none
 no_list t p e = ap (λ o. primary_list (list_from t.current o)) e
 
+-- where a stage is that of a boundary that comes to try its children, it keeps what is known of its place
+abbrev pub KeepsPlace : Trees Fiber → (p : ℕ) → Stage → Type 0
+KeepsPlace t p stage =
+    (k : Around Fiber) (v : Fiber) (o : Option ℕ) (rs : Draft Fiber) → t.draft ≡ placed k (made p v o (taken shapes.none) rs) → is_trying stage ≡ true → origin_of stage ≡ origin_of v.stage
+
+-- what is begun with a mark tries nothing
+pub marked_keeps : (t : Trees Fiber) (p : ℕ) (m : Mark) → KeepsPlace t p (begun m)
+marked_keeps t p m k v o rs e tries = absurd (let q : ⊥ = cc in q)
+
+-- another element's fiber keeps what is known of its place
+pub element_keeps : (t : Trees Fiber) (p : ℕ) → KnowsPlaces t → (e : Element) (own : Origin) (n : Option ℕ) → ((v : Fiber) → Some v ≡ made_value_of t.draft p → own ≡ origin_of v.stage) → KeepsPlace t p (begun_stage e own n)
+element_keeps t p knows elements.null own n is k v o rs e tries = absurd (let q : ⊥ = cc in q)
+element_keeps t p knows (elements.text x) own n is k v o rs e tries = absurd (let q : ⊥ = cc in q)
+element_keeps t p knows (elements.host name key attrs es) own n is k v o rs e tries = absurd (let q : ⊥ = cc in q)
+element_keeps t p knows (elements.comp c key props es) own n is k v o rs e tries = absurd (let q : ⊥ = cc in q)
+element_keeps t p knows (elements.list marked es) own n is k v o rs e tries = absurd (let q : ⊥ = cc in q)
+element_keeps t p knows (elements.boundary key f es) own n is k v o rs e tries = is v (sym (ap made_value_in (knows k p v o (taken shapes.none) rs e).list))
+element_keeps t p knows (elements.provider c key x es) own n is k v o rs e tries = absurd (let q : ⊥ = cc in q)
+
 -- A fiber is begun over children that wait.
 abbrev pub OpensOver : Origin → Trees Fiber → Trees Fiber → ℕ → Begun → Type 0
 OpensOver origin t new p b = (h : HasKids origin t new p) × (b ≡ begun_over h.kids)
 
-pub opened_kids : (origin : Origin) (t new : Trees Fiber) (p : ℕ) (stage : Stage) (es : List Element) (os : List (Option ℕ)) (b : Begun) → (old_of t.draft p ≡ None → NoFiber os)
+pub opened_kids : (origin : Origin) (t new : Trees Fiber) (p : ℕ) (stage : Stage) (es : List Element) (os : List (Option ℕ)) (b : Begun) → KeepsPlace t p stage → (old_of t.draft p ≡ None → NoFiber os)
     → HasOpened origin t new p stage es os b → OpensOver origin t new p b
-opened_kids origin t new p stage es os b none h = (
+opened_kids origin t new p stage es os b keeps none h = (
   record {
     kids = h.kids;
     value = λ v. record v { stage = stage };
     stands = h.stands;
     all = kids_wait t.current origin 0 es os h.kids h.are;
     new = λ e. kids_new t.current origin 0 es os h.kids h.are (none e);
+    keeps = keeps;
   },
   h.answer_is,
 )
 
 -- so where they are matched with the old ones, and where they are clones of these
-pub matched_kids : (t new : Trees Fiber) (p : ℕ) (stage : Stage) (es : List Element) (steady : Bool) (b : Begun) → HasOpened (as_matched steady) t new p stage es (matched (OldList t p) es) b
-    → OpensOver (as_matched steady) t new p b
-matched_kids t new p stage es steady b h = opened_kids (as_matched steady) t new p stage es (matched (OldList t p) es) b (λ e. matched_none (OldList t p) es (no_list t p e)) h
+pub matched_kids : (t new : Trees Fiber) (p : ℕ) (stage : Stage) (es : List Element) (steady : Bool) (generation : ℕ) (b : Begun) → KeepsPlace t p stage → HasOpened (as_matched steady generation) t new p stage es (matched (OldList t p) es) b
+    → OpensOver (as_matched steady generation) t new p b
+matched_kids t new p stage es steady generation b keeps h =
+    opened_kids (as_matched steady generation) t new p stage es (matched (OldList t p) es) b keeps (λ e. matched_none (OldList t p) es (no_list t p e)) h
 
-pub cloned_kids : (t new : Trees Fiber) (p : ℕ) (stage : Stage) (steady : Bool) (b : Begun) → HasOpened (as_cloned steady) t new p stage (old_elements (OldList t p)) (old_fibers (OldList t p)) b
+pub cloned_kids : (t new : Trees Fiber) (p : ℕ) (stage : Stage) (steady : Bool) (b : Begun) → KeepsPlace t p stage → HasOpened (as_cloned steady) t new p stage (old_elements (OldList t p)) (old_fibers (OldList t p)) b
     → OpensOver (as_cloned steady) t new p b
-cloned_kids t new p stage steady b h =
-    opened_kids (as_cloned steady) t new p stage (old_elements (OldList t p)) (old_fibers (OldList t p)) b (λ e. cloned_none (OldList t p) (no_list t p e)) h
+cloned_kids t new p stage steady b keeps h =
+    opened_kids (as_cloned steady) t new p stage (old_elements (OldList t p)) (old_fibers (OldList t p)) b keeps (λ e. cloned_none (OldList t p) (no_list t p e)) h
+
+-- so is what is begun with a mark
+pub matched_marked : (t new : Trees Fiber) (p : ℕ) (m : Mark) (es : List Element) (steady : Bool) (generation : ℕ) (b : Begun) → HasOpened (as_matched steady generation) t new p (begun m) es (matched (OldList t p) es) b
+    → OpensOver (as_matched steady generation) t new p b
+matched_marked t new p m es steady generation b h = matched_kids t new p (begun m) es steady generation b (marked_keeps t p m) h
+
+pub cloned_marked : (t new : Trees Fiber) (p : ℕ) (m : Mark) (steady : Bool) (b : Begun) → HasOpened (as_cloned steady) t new p (begun m) (old_elements (OldList t p)) (old_fibers (OldList t p)) b
+    → OpensOver (as_cloned steady) t new p b
+cloned_marked t new p m steady b h = cloned_kids t new p (begun m) steady b (marked_keeps t p m) h
 
 -- What is begun over its own children waits for nothing.
 over_waits_not : (kids : Draft Fiber) → awaited_again (begun_over kids) ≡ None
@@ -181,32 +203,72 @@ pub opened_takes_not : (origin : Origin) (t new : Trees Fiber) (p : ℕ) (b : Be
 opened_takes_not origin t new p b h = ap is_taken h.1 ∙ begun_anew h.0.kids
 
 -- The place of no component
-module _ (scene : Scene) (kept : ℕ → Option (List Hook)) (t : Trees Fiber) (st : Stack) (new : Trees Fiber) (st' : Stack) (p : ℕ) (e : Element) (origin : Origin) (steady : Bool) where
-  -- is begun over clones where it counts as one, and its old node hides nothing
-  pub other_kids : (b : Begun) → HasBegunOther scene kept t st new st' p e origin steady b → is_opened b ≡ true
-      → (cloned : Bool) × (origin.cloned ≡ true → keeps_children true (mark_at t.current (old_of t.draft p)) ≡ true → cloned ≡ true) × OpensOver (record { cloned = cloned; stood = steady }) t new p b
-  other_kids b (others.keeps h opened stacks) is = (true, (λ so clear. refl), cloned_kids t new p _ steady b opened)
-  other_kids b (others.opens not opened stacks) is = (
-    false,
-    (λ so clear. sym not ∙ (ap (λ c. keeps_children c (mark_at t.current (old_of t.draft p))) so ∙ clear)),
-    matched_kids t new p _ _ steady b opened,
-  )
-  other_kids _ (others.hides so too mark waits tried stacks) is = absurd (let q : ⊥ = cc in q)
+module _ (scene : Scene) (kept : ℕ → Option (List Hook)) (t : Trees Fiber) (st : Stack) (new : Trees Fiber) (st' : Stack) (p : ℕ) (e : Element) (origin : Origin) (again steady : Bool) (generation : ℕ)
+    (knows : KnowsPlaces t) (own : (v : Fiber) → Some v ≡ made_value_of t.draft p → origin ≡ origin_of v.stage) where
+  -- the stage that it is begun with
+  abbrev its_stage : Stage
+  its_stage = begun_stage e origin (option_and_then host_number (mark_at t.current (old_of t.draft p)))
+
+  stage_keeps : KeepsPlace t p its_stage
+  stage_keeps = element_keeps t p knows e origin (option_and_then host_number (mark_at t.current (old_of t.draft p))) own
+
+  over_clones : (b : Begun) → HasOpened (as_cloned steady) t new p its_stage (old_elements (OldList t p)) (old_fibers (OldList t p)) b → OpensOver (as_cloned steady) t new p b
+  over_clones b h = cloned_kids t new p its_stage steady b stage_keeps h
+
+  over_own : (b : Begun) → HasOpened (as_matched steady generation) t new p its_stage (begun_children e) (matched (OldList t p) (begun_children e)) b → OpensOver (as_matched steady generation) t new p b
+  over_own b h = matched_kids t new p its_stage (begun_children e) steady generation b stage_keeps h
+
+  -- is begun over clones where its element is given again, and its old node hides nothing, and else over children of this generation
+  pub other_kids : (b : Begun) → HasBegunOther scene kept t st new st' p e origin again steady generation b → is_opened b ≡ true
+      → (c : Origin) × (c.stood ≡ steady) × (c.generation ≡ cond (keeps_children again (mark_at t.current (old_of t.draft p))) 0 generation) × OpensOver c t new p b
+  other_kids b (others.keeps h opened stacks) is = (as_cloned steady, refl, sym (ap (λ k. cond k 0 generation) h), over_clones b opened)
+  other_kids b (others.opens not opened stacks) is = (as_matched steady generation, refl, sym (ap (λ k. cond k 0 generation) not), over_own b opened)
+  other_kids _ (others.hides same too mark waits tried stacks) is = absurd (let q : ⊥ = cc in q)
 
   -- comes to try its children where it waits still
-  pub other_tried : (b : Begun) → HasBegunOther scene kept t st new st' p e origin steady b → IsSome (awaited_again b) → new ≡ record t { draft = valued p (changed change.Try) t.draft }
-  other_tried b (others.keeps h opened stacks) is = absurd (is_none (awaited_again b) (opened_waits_not (as_cloned steady) t new p b (cloned_kids t new p _ steady b opened)) is)
-  other_tried b (others.opens not opened stacks) is = absurd (is_none (awaited_again b) (opened_waits_not (as_matched steady) t new p b (matched_kids t new p _ _ steady b opened)) is)
-  other_tried _ (others.hides so too mark waits tried stacks) is = tried
+  pub other_tried : (b : Begun) → HasBegunOther scene kept t st new st' p e origin again steady generation b → IsSome (awaited_again b) → new ≡ record t { draft = valued p (changed (change.Try origin)) t.draft }
+  other_tried b (others.keeps h opened stacks) is = absurd (is_none (awaited_again b) (opened_waits_not (as_cloned steady) t new p b (over_clones b opened)) is)
+  other_tried b (others.opens not opened stacks) is = absurd (is_none (awaited_again b) (opened_waits_not (as_matched steady generation) t new p b (over_own b opened)) is)
+  other_tried _ (others.hides same too mark waits tried stacks) is = tried
 
   -- takes nothing over
-  pub other_takes_not : (b : Begun) → HasBegunOther scene kept t st new st' p e origin steady b → is_taken b ≡ false
-  other_takes_not b (others.keeps h opened stacks) = opened_takes_not (as_cloned steady) t new p b (cloned_kids t new p _ steady b opened)
-  other_takes_not b (others.opens not opened stacks) = opened_takes_not (as_matched steady) t new p b (matched_kids t new p _ _ steady b opened)
-  other_takes_not _ (others.hides so too mark waits tried stacks) = refl
+  pub other_takes_not : (b : Begun) → HasBegunOther scene kept t st new st' p e origin again steady generation b → is_taken b ≡ false
+  other_takes_not b (others.keeps h opened stacks) = opened_takes_not (as_cloned steady) t new p b (over_clones b opened)
+  other_takes_not b (others.opens not opened stacks) = opened_takes_not (as_matched steady generation) t new p b (over_own b opened)
+  other_takes_not _ (others.hides same too mark waits tried stacks) = refl
 
   -- and has no body that waits
-  pub other_no_body : (b : Begun) → HasBegunOther scene kept t st new st' p e origin steady b → (r : ℕ) → b ≡ Suspended r → ⊥
-  other_no_body b (others.keeps h opened stacks) r is = opened_no_body (as_cloned steady) t new p b (cloned_kids t new p _ steady b opened) r is
-  other_no_body b (others.opens not opened stacks) r is = opened_no_body (as_matched steady) t new p b (matched_kids t new p _ _ steady b opened) r is
-  other_no_body _ (others.hides so too mark waits tried stacks) r is = let q : ⊥ = cc in q
+  pub other_no_body : (b : Begun) → HasBegunOther scene kept t st new st' p e origin again steady generation b → (r : ℕ) → b ≡ Suspended r → ⊥
+  other_no_body b (others.keeps h opened stacks) r is = opened_no_body (as_cloned steady) t new p b (over_clones b opened) r is
+  other_no_body b (others.opens not opened stacks) r is = opened_no_body (as_matched steady generation) t new p b (over_own b opened) r is
+  other_no_body _ (others.hides same too mark waits tried stacks) r is = let q : ⊥ = cc in q
+
+-- What is known of the place's fiber
+
+module _ (t : Trees Fiber) (p : ℕ) (w v : Fiber) (reads : Some w ≡ made_value_of t.draft p) (here : Some v ≡ made_value_of t.draft p) where
+  pub same_fiber : w ≡ v
+  same_fiber = let f : Some w ≡ Some v = reads ∙ sym here in cc
+
+  -- what is known of its place is what it waits with
+  pub waits_with : (own c : Origin) → own ≡ origin_of w.stage → v.stage ≡ waiting c → own ≡ c
+  waits_with own c is waits = is ∙ (ap (λ (u : Fiber). origin_of u.stage) same_fiber ∙ ap origin_of waits)
+
+-- what is told of a place's element is told of its fiber
+pub element_is_again : (c : Shape Fiber) (o : Option ℕ) (v : Fiber) (e : Element) (again : Bool) → TellsAgain c o v again → e ≡ v.element → again ≡ true → IsElementOf c o e
+element_is_again c o v e again tells is so = subst (IsElementOf c o) (sym is) (tells.0 so).same
+
+-- one that is no clone, and of a later generation, is not given again
+pub later_not_again : (c : Shape Fiber) (o : Option ℕ) (v : Fiber) (g : ℕ) → g ≡ generation_of v.stage → (g ≡ 0 → ⊥) → TellsAgain c o v false
+later_not_again c o v g is later = (λ so. absurd (let q : ⊥ = cc in q), λ h. absurd (later (is ∙ h.generation)))
+
+-- a clone is given again
+pub clone_is_again : (c : Shape Fiber) (o : Option ℕ) (v : Fiber) → IsAgain c o v → TellsAgain c o v true
+clone_is_again c o v h = (λ so. h, λ i. refl)
+
+-- and one of the first generation where it is equal
+pub equal_is_again : (c : Shape Fiber) (o : Option ℕ) (v : Fiber) (g : ℕ) (e : Element) (b : Bool) → g ≡ generation_of v.stage → g ≡ 0 → e ≡ v.element → (b ≡ true → IsElementOf c o e) → (IsElementOf c o e → b ≡ true)
+    → TellsAgain c o v b
+equal_is_again c o v g e b is none element equal all = (
+  λ so. record { generation = sym is ∙ none; same = subst (IsElementOf c o) element (equal so) },
+  λ h. all (subst (IsElementOf c o) (sym element) h.same),
+)

@@ -7,7 +7,8 @@ use Rattle.rx_elem.specs.Elements.{Element}
 use Rattle.rx_elem.specs.Trees.{Node, Mark, is_hidden, children_if, fallback_if}
 use Rattle.rx_elem.specs.Compare.{old_nodes}
 use Rattle.rx_lists.specs.Shapes.{Shape}
-use Rattle.rx_links.specs.Drafts.{Draft, taken, made, Trees}
+use Rattle.rx_lists.specs.Shapes as shapes
+use Rattle.rx_links.specs.Drafts.{Draft, taken, made, Trees, old_of}
 use Rattle.rx_links.specs.Readers.{list_from, IsLinked}
 use Rattle.rx_meaning.specs.Fresh.{Sight, Contexts, Part, part, one_list, two_lists, waiting, shape_of}
 use Rattle.rx_meaning.specs.Cursor.{Open, around, trying, Frame, Cursor, at_place, come_to, open_part, unit}
@@ -18,7 +19,7 @@ use Rattle.rx_fiber.specs.Fibers as stage
 use Rattle.rx_fiber.specs.OldLists.{primary_list, matched}
 use Rattle.rx_fiber.specs.Reading.{IsOld}
 use Rattle.rx_fiber.specs.Stood.{given_more}
-use Rattle.rx_fiber.specs.Surround.{open_element, given_along, AreNext, IsAround, IsOfNode, fallback_in, is_boundary}
+use Rattle.rx_fiber.specs.Surround.{open_element, given_along, AreNext, IsAround, IsOfNode, StandsIf, fallback_in, is_boundary}
 use Rattle.rx_fiber.specs.Surround as surround
 use Rattle.rx_fiber.specs.Standing.{IsStack, opened, StandsAt, begins}
 use Rattle.rx_fiber.specs.Unwound.{IsWithin}
@@ -103,19 +104,22 @@ module _ (s : Sight) (t : Trees Fiber) (st : Stack) (new : Trees Fiber) (st' : S
         kids (subst (λ x. HasLists x) (sym shape) tt)
 
     -- a boundary
-    pub begun_trying : (origin : Origin) (answer : Begun) (es given : List Element) (os : List (Option ℕ)) → (done : HasOpened origin t new p stage.trying given os answer)
-        → AreNext t.current (given_more e (given_along fs)) 0 (children_with_old (part cs es (children_if old))) done.kids → StandsAt t st (Some p) (at_place (suc n) fs cs e old) → is_boundary e ≡ true
+    pub begun_trying : (origin own : Origin) (answer : Begun) (es given : List Element) (os : List (Option ℕ)) → (done : HasOpened origin t new p (stage.trying own) given os answer)
+        → AreNext t.current (given_more e (given_along fs)) 0 (children_with_old (part cs es (children_if old))) done.kids → StandsAt t st (Some p) (at_place (suc n) fs cs e old) → is_boundary e ≡ true → (own.stood ≡ true → StandsIf t.current (given_along fs) (old_of t.draft p))
         → shape_of s cs e old ≡ two_lists (part cs es (children_if old)) (part cs (fallback_in e ∷ []) (fallback_if old))
         → (values_at st ≡ cs → IsStack st (opened fs) → IsStack st' ((trying e old (part cs (fallback_in e ∷ []) (fallback_if old)), cs) ∷ opened fs))
         → HasBegun s t st new st' p n fs cs e old answer
-    begun_trying origin answer es given os done beside (begins {v = v} {o = o} {rs = rs} {k = k} here is was surrounds values stack) boundary shape stacks =
+    begun_trying origin own answer es given os done beside (begins {v = v} {o = o} {rs = rs} {k = k} here is was surrounds values stack) boundary stood shape stacks =
         let list : Part = part cs es (children_if old) in
         let kids = subst (λ c. AreNext c (given_more e (given_along fs)) 0 (children_with_old list) done.kids) (sym done.current) beside in
         let surrounds' : IsAround new.current k v.place rs fs =
         subst (λ c. IsAround c k v.place rs fs) (sym done.current) (subst (λ place. IsAround t.current k place rs fs) (sym is.at) surrounds) in
         let was' : IsOld new.current o old = subst (λ c. IsOld c o old) (sym done.current) was in
+        let stands : own.stood ≡ true → StandsIf new.current (given_along fs) o =
+        λ so. subst (λ c. StandsIf c (given_along fs) o) (sym done.current) (subst (λ q. StandsIf t.current (given_along fs) q) (knows k p v o (taken shapes.none) rs here).old (stood so))
+        in
         comes_to answer (trying e old (part cs (fallback_in e ∷ []) (fallback_if old))) list done.kids done.answer_is (ap (cursor.begin n fs e old) shape)
-        (tries_children new st' k p n (record v { stage = stage.trying }) o done.kids rs fs e old cs es (done.stands k v o rs here) is.element refl boundary was' kids surrounds' (stacks values stack))
+        (tries_children new st' k p n (record v { stage = stage.trying own }) o done.kids rs fs e old cs es own (done.stands k v o rs here) is.element refl boundary was' stands kids surrounds' (stacks values stack))
         kids (subst (λ x. HasLists x) (sym shape) tt)
 
   -- a body that waits

@@ -1,4 +1,4 @@
--- A clone whose old node is idle takes the old children over.
+-- What is given again, and whose old node is idle, takes the old children over.
 use Rattle.std.specs.Prelude.{◌≡◌, ℕ, suc, Bool, true, false, List, Option, Some, None, ◌⊎◌, IsSome, option_map}
 use Rattle.std.proofs.Common.{refl, sym, ap, ◌∙◌, subst, inl, inr}
 use Rattle.rx_ctx.specs.Contexts.{Stack, values_at}
@@ -18,7 +18,6 @@ use Rattle.rx_meaning.specs.Settled.{ReadsHold}
 use Rattle.commit_laws.specs.Idle.{IsIdle, IsIdleMark}
 use Rattle.rx_ways.specs.Ways.{Covers, CoversIf}
 use Rattle.rx_fiber.specs.Fibers.{Fiber, begun, is_stood}
-use Rattle.rx_fiber.specs.declared.stage.Origin.{Origin}
 use Rattle.rx_fiber.specs.declared.stage.StageChange.TheVariants as change
 use Rattle.rx_fiber.specs.declared.subtree.Subtree.{Subtree}
 use Rattle.rx_fiber.specs.FiberView.{changed}
@@ -39,7 +38,7 @@ use Rattle.rx_begin.proofs.ByElement.{old_at, values_here}
 use Rattle.rx_begin.proofs.Falling.{took_so}
 use Rattle.rx_begin.proofs.Keeping.{stood_in}
 use Rattle.rx_begin.proofs.Making.{KnowsPlaces}
-use Rattle.rx_begin.proofs.Standing.{IsAgain, clone_same, stands_so, stood_here}
+use Rattle.rx_begin.proofs.Standing.{KnowsElement, same_here, stands_so, stood_here}
 
 -- The fiber
 
@@ -100,18 +99,18 @@ stands_again under c _ _ linked (of {j = j} {n = n} {x = x} {s = s} here leads (
     by_fibers n _ _ rest (beside {m = m} is hidden some a s f) here leads shows same = absurd (let q : ⊥ = cc in q)
 
 module _ (s : Sight) (kept : ℕ → Option (List Hook)) (t : Trees Fiber) (st : Stack) (new : Trees Fiber) (st' : Stack) (p n : ℕ) (fs : List Frame) (cs : Contexts) (e : Element) (old : Option Node)
-    (linked : IsLinked t.current) (knows : KnowsPlaces t) (at : StandsAt t st (Some p) (at_place (suc n) fs cs e old)) (v : Fiber) (value : Some v ≡ made_value_of t.draft p) (origin : Origin)
-    (again : IsAgain t p v origin.cloned) (stood_is : origin.stood ≡ is_stood v.stage) (so : origin.cloned ≡ true) (took : HasTaken t new p) (current : new.current ≡ t.current) (stacks : st' ≡ st) where
+    (linked : IsLinked t.current) (knows : KnowsPlaces t) (at : StandsAt t st (Some p) (at_place (suc n) fs cs e old)) (v : Fiber) (value : Some v ≡ made_value_of t.draft p)
+    (again : Bool) (its : KnowsElement t p v again) (so : again ≡ true) (stood : Bool) (stood_is : stood ≡ is_stood v.stage) (took : HasTaken t new p) (current : new.current ≡ t.current) (stacks : st' ≡ st) where
   -- it has the element of its current fiber
   element_here : IsElementOf t.current (old_of t.draft p) e
-  element_here = clone_same t st p n fs cs e old knows at v value origin.cloned again so
+  element_here = same_here t st p n fs cs e old knows at v value again its so
 
   -- that one stands where the same values are given, or what was read there holds
-  stood_or_read : (x : Node) → old ≡ Some x → (origin.stood ≡ false → (y : Node) → IsOld t.current (old_of t.draft p) (Some y) → ReadsHold (values_at st) y)
+  stood_or_read : (x : Node) → old ≡ Some x → (stood ≡ false → (y : Node) → IsOld t.current (old_of t.draft p) (Some y) → ReadsHold (values_at st) y)
       → StoodAt t.current (given_along fs) (old_of t.draft p) ⊎ ReadsHold cs x
-  stood_or_read x was reads = by_stood origin.stood refl
+  stood_or_read x was reads = by_stood stood refl
     where
-      by_stood : (b : Bool) → origin.stood ≡ b → StoodAt t.current (given_along fs) (old_of t.draft p) ⊎ ReadsHold cs x
+      by_stood : (b : Bool) → stood ≡ b → StoodAt t.current (given_along fs) (old_of t.draft p) ⊎ ReadsHold cs x
       by_stood true f = inl (stands_so t.current (given_along fs) (old_of t.draft p) e element_here (stood_here t st p n fs cs e old knows at v value (sym stood_is ∙ f)))
       by_stood false f =
           inr (subst (λ l. ReadsHold l x) (values_here t st p n fs cs e old at)
@@ -119,7 +118,7 @@ module _ (s : Sight) (kept : ℕ → Option (List Hook)) (t : Trees Fiber) (st :
 
   -- from the old node
   by_node : (x : Node) → old ≡ Some x → StoodIn (Some x) e → IsIdle s x → StoodAt t.current (given_along fs) (old_of t.draft p) ⊎ ReadsHold cs x → IsTakenOver s t new st' p fs cs e old
-  by_node x was stood idle stands =
+  by_node x was stood_there idle stands =
       let same : element_of x ≡ e = cc in
       elim at [
         | begins {v = w} {o = o} {rs = rs} {k = k} here is is_old surrounds values stack ↦ (
@@ -149,7 +148,7 @@ module _ (s : Sight) (kept : ℕ → Option (List Hook)) (t : Trees Fiber) (st :
 
   -- It is done.
   pub taken_over : (way : ℕ → Bool) → IsSome (mark_at t.current (old_of t.draft p)) → ((x : Node) → IsOld t.current (old_of t.draft p) (Some x) → ForEach (GivesHooks s kept) x → Covers way (IsIdleMark s) x → IsIdle s x)
-      → (origin.stood ≡ false → (x : Node) → IsOld t.current (old_of t.draft p) (Some x) → ReadsHold (values_at st) x) → GivesHooksIf s kept old → CoversIf way (IsIdleMark s) old → IsTakenOver s t new st' p fs cs e old
+      → (stood ≡ false → (x : Node) → IsOld t.current (old_of t.draft p) (Some x) → ReadsHold (values_at st) x) → GivesHooksIf s kept old → CoversIf way (IsIdleMark s) old → IsTakenOver s t new st' p fs cs e old
   taken_over way there idle reads gives covers = by_old old refl
     where
       by_old : (o : Option Node) → old ≡ o → IsTakenOver s t new st' p fs cs e old

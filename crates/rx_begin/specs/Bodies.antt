@@ -13,29 +13,29 @@ use Rattle.rx_begin.specs.declared.node.Begun.{Begun}
 use Rattle.rx_begin.specs.declared.node.Begun.TheVariants.{Suspended}
 
 -- what stands there is a node with one list, in these contexts, and its fiber is begun beside the old one's children
-pub record IsOpened (steady : Bool) (shape : Shape) (cs : Contexts) (old : Option Node) (before after : Trees Fiber) (p : ℕ) (answer : Begun) : Type 0 where
+pub record IsOpened (steady : Bool) (generation : ℕ) (shape : Shape) (cs : Contexts) (old : Option Node) (before after : Trees Fiber) (p : ℕ) (answer : Begun) : Type 0 where
   pub mark : Mark
   pub list : Part
   pub shape_is : shape ≡ one_list mark list
   pub contexts : list.contexts ≡ cs
   pub was : list.old ≡ children_if old
   pub shown : is_hidden mark ≡ false
-  pub opened : HasOpened (as_matched steady) before after p (begun mark) list.elements (matched (primary_list (list_from before.current (old_of before.draft p))) list.elements) answer
+  pub opened : HasOpened (as_matched steady generation) before after p (begun mark) list.elements (matched (primary_list (list_from before.current (old_of before.draft p))) list.elements) answer
 
 -- this element stands in an old node
 abbrev pub StoodIn : Option Node → Element → Type 0
 StoodIn old e = option_map element_of old ≡ Some e
 
--- what stands there is a node with the children of the old one, and its fiber, which is cloned, is begun over clones of these
-pub record IsKept (cloned steady : Bool) (shape : Shape) (cs : Contexts) (old : Option Node) (before after : Trees Fiber) (p : ℕ) (answer : Begun) : Type 0 where
+-- what stands there is a node with the children of the old one, and its fiber, whose element is given again, is begun over clones of these
+pub record IsKept (again steady : Bool) (shape : Shape) (cs : Contexts) (old : Option Node) (before after : Trees Fiber) (p : ℕ) (answer : Begun) : Type 0 where
   pub mark : Mark
   pub shape_is : shape ≡ one_list mark (part cs (elements_in (children_if old)) (children_if old))
   pub shown : is_hidden mark ≡ false
-  pub keeps : keeps_children cloned (mark_at before.current (old_of before.draft p)) ≡ true
+  pub keeps : keeps_children again (mark_at before.current (old_of before.draft p)) ≡ true
   pub opened : HasOpened (as_cloned steady) before after p (begun mark) (old_elements (primary_list (list_from before.current (old_of before.draft p)))) (old_fibers (primary_list (list_from before.current (old_of before.draft p)))) answer
 
--- A component's place is begun, that of a fiber that is cloned or not: its body waits, and no fiber is changed, or its node is begun, anew or over clones of the children of its old one.
-pub data HasShape (cloned steady : Bool) (shape : Shape) (cs : Contexts) (old : Option Node) (before after : Trees Fiber) (p : ℕ) (answer : Begun) : Type 0 where
-  waits : (r : ℕ) → shape ≡ waiting r → after ≡ before → answer ≡ Suspended r → HasShape cloned steady shape cs old before after p answer
-  opens : IsOpened steady shape cs old before after p answer → HasShape cloned steady shape cs old before after p answer
-  keeps : IsKept cloned steady shape cs old before after p answer → HasShape cloned steady shape cs old before after p answer
+-- A component's place is begun, whether its element is given again or not: its body waits, and no fiber is changed, or its node is begun, anew or over clones of the children of its old one.
+pub data HasShape (again steady : Bool) (generation : ℕ) (shape : Shape) (cs : Contexts) (old : Option Node) (before after : Trees Fiber) (p : ℕ) (answer : Begun) : Type 0 where
+  waits : (r : ℕ) → shape ≡ waiting r → after ≡ before → answer ≡ Suspended r → HasShape again steady generation shape cs old before after p answer
+  opens : IsOpened steady generation shape cs old before after p answer → HasShape again steady generation shape cs old before after p answer
+  keeps : IsKept again steady shape cs old before after p answer → HasShape again steady generation shape cs old before after p answer

@@ -11,7 +11,7 @@ use Rattle.rx_links.specs.Drafts.{Draft, taken, made, Trees, entry, kids_under, 
 use Rattle.rx_links.specs.Places.{Around, placed}
 use Rattle.rx_links.specs.Readers.{list_from, made_value_of}
 use Rattle.rx_fiber.specs.declared.subtree.Subtree.{Subtree}
-use Rattle.rx_fiber.specs.Fibers.{Stage, Fiber, waiting, begun, trying, as_matched, joined, marked_subtree}
+use Rattle.rx_fiber.specs.Fibers.{Stage, Fiber, waiting, begun, trying, joined, marked_subtree}
 use Rattle.rx_fiber.specs.Subtrees.{subtree_at}
 use Rattle.rx_causes.specs.Marks.{mark_at}
 use Rattle.rx_fiber.specs.declared.stage.Origin.{Origin}
@@ -84,19 +84,19 @@ parts_in elements.null = None
 parts_in (elements.text t) = None
 parts_in (elements.host name k attrs es) = None
 parts_in (elements.comp c k ps es) = Some (c, (ps, listed es))
-parts_in (elements.list es) = None
+parts_in (elements.list marked es) = None
 parts_in (elements.boundary k f es) = None
 parts_in (elements.provider c k x es) = None
 
--- how far the fiber of another element has come once it is begun, where a host of before has this number
-abbrev pub begun_stage : Element → (number : Option ℕ) → Stage
-begun_stage elements.null n = waiting (as_matched false)
-begun_stage (elements.text t) n = begun (of_host n)
-begun_stage (elements.host name k attrs es) n = begun (of_host n)
-begun_stage (elements.comp c k ps es) n = waiting (as_matched false)
-begun_stage (elements.list es) n = begun plain
-begun_stage (elements.boundary k f es) n = trying
-begun_stage (elements.provider c k x es) n = begun plain
+-- how far the fiber of another element has come once it is begun, where so much is known of its place and a host of before has this number
+abbrev pub begun_stage : Element → Origin → (number : Option ℕ) → Stage
+begun_stage elements.null origin n = waiting origin
+begun_stage (elements.text t) origin n = begun (of_host n)
+begun_stage (elements.host name k attrs es) origin n = begun (of_host n)
+begun_stage (elements.comp c k ps es) origin n = waiting origin
+begun_stage (elements.list marked es) origin n = begun plain
+begun_stage (elements.boundary k f es) origin n = trying origin
+begun_stage (elements.provider c k x es) origin n = begun plain
 
 -- the children that it is begun over
 abbrev pub begun_children : Element → List Element
@@ -104,7 +104,7 @@ begun_children elements.null = []
 begun_children (elements.text t) = []
 begun_children (elements.host name k attrs es) = listed es
 begun_children (elements.comp c k ps es) = []
-begun_children (elements.list es) = listed es
+begun_children (elements.list marked es) = listed es
 begun_children (elements.boundary k f es) = listed es
 begun_children (elements.provider c k x es) = listed es
 
@@ -114,7 +114,7 @@ begun_stack elements.null st = st
 begun_stack (elements.text t) st = st
 begun_stack (elements.host name k attrs es) st = st
 begun_stack (elements.comp c k ps es) st = st
-begun_stack (elements.list es) st = st
+begun_stack (elements.list marked es) st = st
 begun_stack (elements.boundary k f es) st = st
 begun_stack (elements.provider c k x es) st = contexts.below c x st
 
@@ -124,6 +124,6 @@ given_context elements.null = None
 given_context (elements.text t) = None
 given_context (elements.host name k attrs es) = None
 given_context (elements.comp c k ps es) = None
-given_context (elements.list es) = None
+given_context (elements.list marked es) = None
 given_context (elements.boundary k f es) = None
 given_context (elements.provider c k x es) = Some c

@@ -16,7 +16,7 @@ use Rattle.rx_fiber.specs.Fibers.{Fiber, as_cloned, as_matched, begun, fallback,
 use Rattle.rx_fiber.specs.declared.stage.Origin.{Origin}
 use Rattle.rx_fiber.specs.OldLists.{begins_fallback, fallback_list, matched, old_elements, old_fibers}
 use Rattle.rx_fiber.specs.Reading.{has_node}
-use Rattle.rx_fiber.specs.Surround.{fallback_in}
+use Rattle.rx_fiber.specs.Surround.{fallback_in, StandsIf}
 use Rattle.rx_fiber.specs.Standing.{StandsAt}
 use Rattle.rx_fiber.specs.Subtrees.{IsGathered, IsGatheredOver, subtrees_of}
 use Rattle.rx_fiber.specs.Unwound.{IsLeftAt, is_trying}
@@ -71,10 +71,10 @@ pub record HasFallback (before after : Trees Fiber) (p : ℕ) (old : Option ℕ)
       → (value.element ≡ v.element) × (after.draft ≡ placed k (made p v o ks (made id value old (taken shapes.none) rs)))
   pub current : after.current ≡ before.current
 
--- a fallback's list has these elements, which are the fallback of the boundary's element alone; where none are given, it has those of the old fallback
-abbrev pub IsFallbackOf : Shape Fiber → List (ℕ × ℤ) → Option ℕ → Option Node → Element → (given : Option (List Element)) → Type 0
-IsFallbackOf current ws o old e None = HasOldFallback current ws o old e
-IsFallbackOf current ws o old e (Some es) = es ≡ fallback_in e ∷ []
+-- a fallback's list has these elements, which are the fallback of the boundary's element alone, and where they stood the boundary's current fiber, if it is there, stands where these values are given; where none are given, it has those of the old fallback
+abbrev pub IsFallbackOf : Shape Fiber → List (ℕ × ℤ) → Option ℕ → Option Node → Element → (given : Option (List Element)) (stood : Bool) → Type 0
+IsFallbackOf current ws o old e None stood = HasOldFallback current ws o old e
+IsFallbackOf current ws o old e (Some es) stood = (es ≡ fallback_in e ∷ []) × (stood ≡ true → StandsIf current ws o)
 
 -- the elements that its fibers get, beside the list of the old fallback
 abbrev pub given_elements : (given : Option (List Element)) → Shape Fiber → List Element
@@ -86,10 +86,10 @@ abbrev pub given_fibers : (given : Option (List Element)) → Shape Fiber → Li
 given_fibers None s = old_fibers s
 given_fibers (Some es) s = matched s es
 
--- what is known of them: they are clones that stand as these did, or elements that may be others
-abbrev pub given_as : (given : Option (List Element)) → Origin
-given_as None = as_cloned true
-given_as (Some es) = as_matched false
+-- what is known of them: they are clones, or elements that may be others, of this generation; either may have stood
+abbrev pub given_as : (given : Option (List Element)) (stood : Bool) (generation : ℕ) → Origin
+given_as None stood generation = as_cloned stood
+given_as (Some es) stood generation = as_matched stood generation
 
 -- A boundary's fallback has fibers that wait, and of which so much is known; where the old fallback has none, each is made for no current fiber. They stand below the boundary's own fiber, or below one right behind it, where that one keeps a list; neither tries its children. The boundary's fiber has gathered what it keeps.
 pub data HasFallbackKids (origin : Origin) (before after : Trees Fiber) (q : ℕ) : Opened → Type 0 where

@@ -1,20 +1,22 @@
 -- What is known of a place that begins beside its old node, and what is a cause to begin it.
-use Rattle.std.specs.Prelude.{◌≡◌, ℕ, Bool, true, false, List, Option, Some, None, ◌⊎◌, option_and_then}
+use Rattle.std.specs.Prelude.{◌≡◌, ℕ, Bool, true, false, List, Option, Some, None, ◌⊎◌, cond, option_and_then}
 use Rattle.rx_elem.specs.Trees.{Node}
 use Rattle.rx_hooks.specs.declared.hook.Hook.{Hook}
 use Rattle.rx_lists.specs.Shapes.{Shape}
 use Rattle.rx_lists.specs.Shapes as shapes
 use Rattle.rx_links.specs.Drafts.{Draft, taken, made, Trees, old_of}
 use Rattle.rx_links.specs.Places.{Around, placed}
-use Rattle.rx_links.specs.Readers.{value_of}
+use Rattle.rx_links.specs.Readers.{made_value_of, value_of}
 use Rattle.rx_meaning.specs.Fresh.{Contexts}
-use Rattle.rx_fiber.specs.Fibers.{Fiber, waiting, is_stood}
+use Rattle.rx_fiber.specs.Fibers.{Fiber, as_cloned, as_matched, generation_of, is_cloned, is_stood, origin_of, waiting}
 use Rattle.rx_fiber.specs.declared.stage.Origin.{Origin}
 use Rattle.rx_fiber.specs.OldLists.{hides_in}
 use Rattle.rx_fiber.specs.Reading.{IsOld}
 use Rattle.rx_fiber.specs.Stood.{given_in}
+use Rattle.rx_fiber.specs.Subtrees.{subtree_at}
+use Rattle.rx_fiber.specs.Surround.{IsElementOf}
+use Rattle.rx_fiber.specs.Unwound.{is_trying}
 use Rattle.rx_causes.specs.Idle.{HasCauseIn}
-use Rattle.rx_causes.specs.Reads.{MayReadAnew}
 use Rattle.rx_causes.specs.declared.scene.Scene.{Scene}
 
 -- A fiber that waits stood, and its current fiber hides nothing and gives the same to the contexts below it. So the children of that one stand where those of the fiber will.
@@ -28,6 +30,23 @@ pub record IsSteady (current : Shape Fiber) (o : Option ℕ) (v : Fiber) : Type 
 -- a test tells whether a place is steady
 abbrev pub TellsSteady : Shape Fiber → Option ℕ → Fiber → Bool → Type 0
 TellsSteady current o v b = (b ≡ true → IsSteady current o v) × (IsSteady current o v → b ≡ true)
+
+-- the element of a place's fiber is that of the current fiber for which it was made, given again
+pub record IsAgain (current : Shape Fiber) (o : Option ℕ) (v : Fiber) : Type 0 where
+  pub generation : generation_of v.stage ≡ 0
+  pub same : IsElementOf current o v.element
+
+-- a test tells whether it is
+abbrev pub TellsAgain : Shape Fiber → Option ℕ → Fiber → Bool → Type 0
+TellsAgain current o v b = (b ≡ true → IsAgain current o v) × (IsAgain current o v → b ≡ true)
+
+-- where the fiber of a place is a clone, its element is given again
+abbrev pub KnowsClone : Trees Fiber → ℕ → Type 0
+KnowsClone t p = (v : Fiber) → Some v ≡ made_value_of t.draft p → is_cloned v.stage ≡ true → IsAgain t.current (old_of t.draft p) v
+
+-- what is known of the children of a component's place: they may be others where a body was evaluated, and are of this generation, or else they are clones
+abbrev pub kids_as : (evaluated stood : Bool) (generation : ℕ) → Origin
+kids_as evaluated stood generation = cond evaluated (as_matched stood generation) (as_cloned stood)
 
 -- each fiber that is made for a list waits, with no children, and so much is known of each
 abbrev pub AllWait : Origin → Draft Fiber → Type 0
@@ -46,8 +65,10 @@ pub record HasKids (origin : Origin) (before after : Trees Fiber) (p : ℕ) : Ty
   pub stands : (k : Around Fiber) (v : Fiber) (o : Option ℕ) (rs : Draft Fiber) → before.draft ≡ placed k (made p v o (taken shapes.none) rs) → after.draft ≡ placed k (made p (value v) o kids rs)
   pub all : AllWait origin kids
   pub new : old_of before.draft p ≡ None → AllNew kids
+  -- where the fiber comes to try its children, it keeps what is known of its place
+  pub keeps : (k : Around Fiber) (v : Fiber) (o : Option ℕ) (rs : Draft Fiber) → before.draft ≡ placed k (made p v o (taken shapes.none) rs) → is_trying (value v).stage ≡ true → origin_of (value v).stage ≡ origin_of v.stage
 
--- there is a cause to begin a clone's place: the tree of its old node leads to one, or, where that may stand where other values of contexts are given, an instance that may read another one there
+-- there is a cause to begin a place whose element is given again: the tree of its old node leads to one, or, where that may stand where other values of contexts are given, an instance at or below it reads a context
 abbrev pub HasCauseToBegin : Scene → (kept : ℕ → Option (List Hook)) → Contexts → (component stood : Bool) → Shape Fiber → Option ℕ → Type 0
 HasCauseToBegin scene kept cs component stood current o =
-    HasCauseIn scene kept cs component current o ⊎ ((stood ≡ false) × ((x : Node) → IsOld current o (Some x) → MayReadAnew cs x))
+    HasCauseIn scene kept cs component current o ⊎ ((stood ≡ false) × ((subtree_at current o).reads ≡ true))

@@ -1,17 +1,20 @@
 // A place begins.
-ghost use Rattle.std.specs.Prelude.{◌≡◌, ◌+◌, ◌<◌, ◌≤◌, suc, ℕ, ℤ, Bool, true, false, not, List, Option, Some, None, ◌⊎◌, length, IfOk, IsSome, IfSome, OnOk, is_some, if◌then◌else◌, option_and_then};
+ghost use Rattle.std.specs.Prelude.{◌≡◌, ◌+◌, ◌<◌, ◌≤◌, suc, ℕ, ℤ, Bool, true, false, not, ◌&&◌, List, Option, Some, None, length, IfOk, IsSome, IfSome, OnOk, is_some, if◌then◌else◌, option_and_then};
 ghost use Rattle.rx_ast.specs.Syntax as syntax;
 ghost use Rattle.rx_ctx.specs.Contexts.{values_at};
 ghost use Rattle.rx_elem.specs.Elements as elements;
+ghost use Rattle.rx_elem.specs.Elements.{stands_for_children};
 ghost use Rattle.rx_elem.specs.Trees.{Node, host_number, instance_in, children_of, of_boundary};
 ghost use Rattle.rx_susp.specs.declared.boundary.BoundaryState.TheVariants.{Hidden};
 ghost use Rattle.rx_fiber.specs.Reading.{IsOld};
 ghost use Rattle.rx_links.specs.Drafts.{old_of, valued};
 ghost use Rattle.rx_links.specs.Readers.{list_from, made_value_of};
 ghost use Rattle.rx_fiber.specs.Fibers as fibers;
-ghost use Rattle.rx_fiber.specs.Fibers.{as_cloned, as_matched, is_cloned, is_stood};
+ghost use Rattle.rx_fiber.specs.Fibers.{as_cloned, as_matched, generation_of, is_stood, waiting};
+ghost use Rattle.rx_fiber.specs.declared.stage.Origin.{Origin};
 ghost use Rattle.rx_fiber.specs.FiberView.{changed};
 ghost use Rattle.rx_fiber.specs.declared.stage.StageChange.TheVariants as change;
+ghost use Rattle.rx_fiber.specs.Subtrees.{IsGathered};
 ghost use Rattle.rx_fiber.specs.Surround.{IsElementOf};
 ghost use Rattle.rx_fiber.specs.OldLists.{matched, old_elements, old_fibers, primary_list};
 ghost use Rattle.rx_causes.specs.Marks.{EachBut, mark_at, keeps_children};
@@ -22,6 +25,7 @@ ghost use Rattle.rx_begin.specs.Nodes.{IsBareAt, HasOpened, HasTaken, begun_over
 ghost use Rattle.rx_meaning.specs.Fresh.{Sight, Contexts};
 ghost use Rattle.rx_meaning.specs.Cursor.{Frame, at_place};
 ghost use Rattle.rx_meaning.specs.Counts.{each_body, next_counts};
+ghost use Rattle.rx_meaning.specs.Generations.{generation_below};
 ghost use Rattle.rx_meaning.specs.Settled.{DoneBefore};
 ghost use Rattle.rx_model.specs.State.{State};
 ghost use Rattle.rx_model.specs.HooksOf.{KeepsAllHooks};
@@ -30,14 +34,15 @@ ghost use Rattle.rx_ways.specs.Ways.{is_way};
 ghost use Rattle.rx_hook_store.specs.Store.{kept_hooks};
 ghost use Rattle.rx_hook_store.specs.Gives.{GivesValues};
 ghost use Rattle.rx_begin.specs.Others.{HasBegunOther, IsCauseToTry};
-ghost use Rattle.rx_begin.specs.Origins.{HasCauseToBegin, HasKids, TellsSteady};
+ghost use Rattle.rx_begin.specs.Origins.{HasCauseToBegin, HasKids, IsAgain, TellsAgain, TellsSteady};
 ghost use Rattle.rx_begin.specs.declared.node.Begun.TheVariants.{Suspended};
 ghost use Rattle.rx_begin.specs.Beginning.{IsAtPlace, BeginsPlace, awaited_again, is_opened, is_taken};
 
 use crate::body::begin_component;
+use crate::generation::generation_below;
 use crate::kind::{begun_children, begun_stage, enter, is_component, parts_of};
 use crate::node::{Begun, keep_node, keeps_children, old_host, open_node, take_node};
-use crate::origin::{is_steady, origin_of, takes_over};
+use crate::origin::{is_again, is_hidden_again, is_steady, takes_over};
 use rx_base::{Awaits, Steps};
 use rx_causes::{Scene, waits_still};
 use rx_ctx::ContextStack;
@@ -54,16 +59,18 @@ fn begin_other(
     tree: &mut FiberTree<Fiber>,
     at: FiberId,
     element: &Element,
-    cloned: bool,
+    origin: Origin,
+    again: bool,
     steady: bool,
+    generation: u32,
     contexts: &mut ContextStack,
 ) -> Result<Begun, AllocError>
     requires bare { IsBareAt tree.old at }
     requires context { IfSome (given_context element.now) (λ c. c < length (values_at contexts.old)) }
-    ensures kept { IfOk result (λ b. keeps_children cloned (mark_at tree.old.current (old_of tree.old.draft at)) ≡ true
-        → HasOpened (as_cloned steady) tree.old tree.new at (begun_stage element.now (option_and_then host_number (mark_at tree.old.current (old_of tree.old.draft at))))
+    ensures kept { IfOk result (λ b. keeps_children again (mark_at tree.old.current (old_of tree.old.draft at)) ≡ true
+        → HasOpened (as_cloned steady) tree.old tree.new at (begun_stage element.now origin (option_and_then host_number (mark_at tree.old.current (old_of tree.old.draft at))))
         (old_elements (primary_list (list_from tree.old.current (old_of tree.old.draft at)))) (old_fibers (primary_list (list_from tree.old.current (old_of tree.old.draft at)))) b) }
-    ensures opened { IfOk result (λ b. keeps_children cloned (mark_at tree.old.current (old_of tree.old.draft at)) ≡ false → HasOpened (as_matched steady) tree.old tree.new at (begun_stage element.now (option_and_then host_number (mark_at tree.old.current (old_of tree.old.draft at)))) (begun_children element.now)
+    ensures opened { IfOk result (λ b. keeps_children again (mark_at tree.old.current (old_of tree.old.draft at)) ≡ false → HasOpened (as_matched steady generation) tree.old tree.new at (begun_stage element.now origin (option_and_then host_number (mark_at tree.old.current (old_of tree.old.draft at)))) (begun_children element.now)
         (matched (primary_list (list_from tree.old.current (old_of tree.old.draft at))) (begun_children element.now)) b) }
     ensures stack { OnOk result (contexts.new ≡ begun_stack element.now contexts.old) }
     ensures current { tree.new.current ≡ tree.old.current }
@@ -71,33 +78,47 @@ fn begin_other(
     tree.place_facts();
     enter(element, contexts)?;
     let number = old_host(tree, tree.alternate(at));
-    let stage = begun_stage(element, number);
-    if keeps_children(tree, tree.alternate(at), cloned) {
+    let stage = begun_stage(element, origin, number);
+    if keeps_children(tree, tree.alternate(at), again) {
         keep_node(alloc, tree, at, stage, steady)
     } else {
-        open_node(alloc, tree, at, stage, begun_children(element), steady)
+        open_node(
+            alloc,
+            tree,
+            at,
+            stage,
+            begun_children(element),
+            steady,
+            generation,
+        )
     }
 }
 
-// What the boundary of a clone waits for still, if it is hidden, and stands where the same values of contexts are given: nothing
-// new has come for which its children are to be tried.
+// What a boundary waits for still, if it is hidden, has an element equal to the current one, and stands where the same values of
+// contexts are given: nothing new has come for which its children are to be tried.
 fn still_awaited(
     tree: &FiberTree<Fiber>,
     at: FiberId,
+    element: &Element,
     origin: Origin,
+    again: bool,
     scene: &Scene,
     hooks: &HookStore,
 ) -> Option<Awaits>
     requires bare { IsBareAt tree.now at }
     requires kept { KeepsOld (kept_hooks hooks.now) tree.now.current (old_of tree.now.draft at) }
-    ensures cloned { IfSome result (λ a. origin.cloned ≡ true) }
+    requires again { again ≡ true → IsElementOf tree.now.current (old_of tree.now.draft at) element.now }
+    ensures same { IfSome result (λ a. IsElementOf tree.now.current (old_of tree.now.draft at) element.now) }
     ensures stood { IfSome result (λ a. origin.stood ≡ true) }
     ensures hidden { IfSome result (λ a. mark_at tree.now.current (old_of tree.now.draft at) ≡ Some (of_boundary (Hidden a))) }
     ensures waits { IfSome result (λ a. (s : Sight) (x : Node) → IsSceneOf scene.now s → IsOld tree.now.current (old_of tree.now.draft at) (Some x) → GivesHooksIn s (kept_hooks hooks.now) (children_of x) → WaitsStill s a x) }
     ensures news { IfSome result (λ a. (x : Node) → IsOld tree.now.current (old_of tree.now.draft at) (Some x) → ForEachIn (λ i. TellsNews (kept_hooks hooks.now) scene.now.lanes scene.now.cut i false) (children_of x)) }
-    ensures tries { origin.cloned ≡ true → origin.stood ≡ true → result ≡ None → IsCauseToTry scene.now (kept_hooks hooks.now) tree.now at }
+    ensures tries { IsElementOf tree.now.current (old_of tree.now.draft at) element.now → origin.stood ≡ true → result ≡ None → IsCauseToTry scene.now (kept_hooks hooks.now) tree.now at }
 {
-    if !origin.cloned || !origin.stood {
+    if !origin.stood {
+        return None;
+    }
+    if !is_hidden_again(tree, at, element, again) {
         return None;
     }
     tree.place_facts();
@@ -111,38 +132,44 @@ fn begin_or_hide(
     at: FiberId,
     element: &Element,
     origin: Origin,
+    again: bool,
     steady: bool,
+    generation: u32,
     scene: &Scene,
     hooks: &HookStore,
     contexts: &mut ContextStack,
 ) -> Result<Begun, AllocError>
     requires bare { IsBareAt tree.old at }
+    requires again { again ≡ true → IsElementOf tree.old.current (old_of tree.old.draft at) element.now }
     requires context { IfSome (given_context element.now) (λ c. c < length (values_at contexts.old)) }
     requires kept { KeepsOld (kept_hooks hooks.now) tree.old.current (old_of tree.old.draft at) }
-    ensures begun { IfOk result (λ b. HasBegunOther scene.now (kept_hooks hooks.now) tree.old contexts.old tree.new contexts.new at element.now origin steady b) }
-    ensures tries { IfOk result (λ b. origin.cloned ≡ true → origin.stood ≡ true → awaited_again b ≡ None → IsCauseToTry scene.now (kept_hooks hooks.now) tree.old at) }
+    ensures begun { IfOk result (λ b. HasBegunOther scene.now (kept_hooks hooks.now) tree.old contexts.old tree.new contexts.new at element.now origin again steady generation b) }
+    ensures tries { IfOk result (λ b. IsElementOf tree.old.current (old_of tree.old.draft at) element.now → origin.stood ≡ true → awaited_again b ≡ None → IsCauseToTry scene.now (kept_hooks hooks.now) tree.old at) }
     ensures news { IfOk result (λ b. IsSome (awaited_again b) → (x : Node) → IsOld tree.old.current (old_of tree.old.draft at) (Some x)
         → ForEachIn (λ i. TellsNews (kept_hooks hooks.now) scene.now.lanes scene.now.cut i false) (children_of x)) }
     ensures current { tree.new.current ≡ tree.old.current }
 {
-    match still_awaited(tree, at, origin, scene, hooks) {
+    match still_awaited(tree, at, element, origin, again, scene, hooks) {
         Some(awaits) => {
             tree.place_facts();
-            tree.mark_made(at, &StageChange::Try);
+            tree.mark_made(at, &StageChange::Try(origin));
             Ok(Begun::Hidden(awaits))
         }
-        None => begin_other(alloc, tree, at, element, origin.cloned, steady, contexts),
+        None => begin_other(
+            alloc, tree, at, element, origin, again, steady, generation, contexts,
+        ),
     }
 }
 
 /// Begins the place of a fiber, as one unit of a render (react.dev, Render and Commit): a component's body is evaluated, once;
 /// a provider gives its value; the fibers of all children are made, each for the old child of its identity and type. Where the
-/// fiber is a clone, and its component has no cause to be rendered anew, the body is skipped, and the children are clones of the
-/// old ones (react.dev, useState: React skips the component); so is that of a fiber whose element was given again. Where the
-/// place is a hidden boundary's, has an element equal to the current one, stands where the same values of contexts are given, and
-/// nothing new has come for what it waits for and keeps, its children are not tried. Where nothing in the tree of a clone's old node has a cause, and what was read there
-/// of the contexts is what they give, the old children are taken over as they stand (react.dev, useContext: React finds the
-/// readers, also below components that it skips). The current tree stays as it is. Also answered is whether a body was evaluated.
+/// element is the current one, given again, and its component has no cause to be rendered anew, the body is skipped, and the
+/// children are clones of the old ones (react.dev, useState: React skips the component). Where the place is a hidden boundary's,
+/// has an element equal to the current one, stands where the same values of contexts are given, and nothing new has come for what
+/// it waits for and keeps, its children are not tried. Where the element is given again, nothing in the tree of the old node has a
+/// cause, and it stands where the same values of contexts are given or nothing there reads one, the old children are taken over as they stand (react.dev,
+/// useContext: React finds the readers, also below components that it skips). The current tree stays as it is. Also answered is
+/// whether a body was evaluated.
 ///
 /// # Errors
 ///
@@ -157,19 +184,18 @@ pub fn begin<L: Ledger>(
     steps: &mut Steps<L>,
 ) -> Result<(Begun, bool), AllocError>
     requires place { IsAtPlace scene.now.checked.now (kept_hooks hooks.old) tree.old contexts.old at }
+    requires gathered { IsGathered tree.old.current }
     requires contexts { length (values_at contexts.old) ≡ length (syntax.contexts scene.now.checked.now) }
     ensures begun { IfOk result (λ b. (s : Sight) → IsSceneOf scene.now s → BeginsPlace s (is_way scene.now.ways.now) (kept_hooks hooks.old) tree.old contexts.old tree.new contexts.new at b.0) }
     ensures current { tree.new.current ≡ tree.old.current }
     ensures bodies { IfOk result (λ b. steps.new ≡ steps.old + (if b.1 then 1 else 0)) }
-    // A component's body is skipped only where its element is that of the current fiber, and its old instance is calm; a clone's
-    // exactly where that is calm. No other element has one.
+    // A component's body is skipped exactly where its element is that of the current fiber, given again, and its old instance is
+    // calm. No other element has one.
     ensures none { IfOk result (λ b. (v : fibers.Fiber) → Some v ≡ made_value_of tree.old.draft at → parts_in v.element ≡ None → b.1 ≡ false) }
-    ensures same { IfOk result (λ b. (v : fibers.Fiber) → Some v ≡ made_value_of tree.old.draft at → IsSome (parts_in v.element) → b.1 ≡ false
-        → (is_cloned v.stage ≡ true) ⊎ IsElementOf tree.old.current (old_of tree.old.draft at) v.element) }
-    ensures calm { IfOk result (λ b. (v : fibers.Fiber) → Some v ≡ made_value_of tree.old.draft at → IsSome (parts_in v.element) → b.1 ≡ false
-        → TellsCalm scene.now (kept_hooks hooks.old) (values_at contexts.old) (option_and_then instance_in (mark_at tree.old.current (old_of tree.old.draft at))) true) }
-    ensures exact { IfOk result (λ b. (v : fibers.Fiber) → Some v ≡ made_value_of tree.old.draft at → IsSome (parts_in v.element) → is_cloned v.stage ≡ true
-        → TellsCalm scene.now (kept_hooks hooks.old) (values_at contexts.old) (option_and_then instance_in (mark_at tree.old.current (old_of tree.old.draft at))) (not b.1)) }
+    ensures body { IfOk result (λ b. (v : fibers.Fiber) → Some v ≡ made_value_of tree.old.draft at → IsSome (parts_in v.element)
+        → (again : Bool) × TellsAgain tree.old.current (old_of tree.old.draft at) v again
+        × (again ≡ true → TellsCalm scene.now (kept_hooks hooks.old) (values_at contexts.old) (option_and_then instance_in (mark_at tree.old.current (old_of tree.old.draft at))) (not b.1))
+        × (again ≡ false → b.1 ≡ true)) }
     // A hidden boundary's children are tried only where its element is another one than that of its current fiber, or it may stand
     // where other values of contexts are given, or there is a cause.
     ensures tries { IfOk result (λ b. (v : fibers.Fiber) → Some v ≡ made_value_of tree.old.draft at → parts_in v.element ≡ None → IsElementOf tree.old.current (old_of tree.old.draft at) v.element → is_stood v.stage ≡ true
@@ -177,24 +203,28 @@ pub fn begin<L: Ledger>(
     // Where they are not tried, there is no news in what it keeps.
     ensures news { IfOk result (λ b. IsSome (awaited_again b.0) → (x : Node) → IsOld tree.old.current (old_of tree.old.draft at) (Some x)
         → ForEachIn (λ i. TellsNews (kept_hooks hooks.old) scene.now.lanes scene.now.cut i false) (children_of x)) }
-    // The children that are made wait as ones that stood exactly where the place is steady. They are clones where the fiber is one,
-    // its body was not evaluated, and its old node hides nothing; and made for no current fiber where the fiber is.
+    // The children that are made wait as ones that stood exactly where the place is steady, and are of the generation below it; a
+    // hidden boundary counts as one that was made anew. They are made for no current fiber where the fiber is.
     ensures kids { IfOk result (λ b. (v : fibers.Fiber) → Some v ≡ made_value_of tree.old.draft at → is_opened b.0 ≡ true
-        → (cloned steady : Bool) × TellsSteady tree.old.current (old_of tree.old.draft at) v steady
-        × (is_cloned v.stage ≡ true → b.1 ≡ false → keeps_children true (mark_at tree.old.current (old_of tree.old.draft at)) ≡ true → cloned ≡ true)
-        × ((h : HasKids (record { cloned = cloned; stood = steady }) tree.old tree.new at) × (b.0 ≡ begun_over h.kids))) }
+        → (origin : Origin) × (again : Bool) × TellsSteady tree.old.current (old_of tree.old.draft at) v origin.stood
+        × TellsAgain tree.old.current (old_of tree.old.draft at) v again
+        × (origin.generation ≡ generation_below b.1 (again && keeps_children true (mark_at tree.old.current (old_of tree.old.draft at))) (stands_for_children v.element) (generation_of v.stage))
+        × ((h : HasKids origin tree.old tree.new at) × (b.0 ≡ begun_over h.kids))) }
     // A hidden boundary that waits still is to try its children, of which none is made; old children stand as they are; and where a
     // body waits, all is as it was.
-    ensures tried { IfOk result (λ b. IsSome (awaited_again b.0) → tree.new ≡ record tree.old { draft = valued at (changed change.Try) tree.old.draft }) }
+    ensures tried { IfOk result (λ b. IsSome (awaited_again b.0) → (v : fibers.Fiber) (c : Origin) → Some v ≡ made_value_of tree.old.draft at → v.stage ≡ waiting c
+        → tree.new ≡ record tree.old { draft = valued at (changed (change.Try c)) tree.old.draft }) }
     ensures taken_over { IfOk result (λ b. is_taken b.0 ≡ true → HasTaken tree.old tree.new at) }
     ensures waits { IfOk result (λ b. (r : ℕ) → b.0 ≡ Suspended r → tree.new ≡ tree.old) }
-    // Old children are taken over with no body evaluated; and the tree of the old node rests, but for what is passed.
+    // Old children are taken over only where the element is given again, with no body evaluated; and the tree of the old node
+    // rests, but for what is passed.
+    ensures again { IfOk result (λ b. is_taken b.0 ≡ true → (v : fibers.Fiber) → Some v ≡ made_value_of tree.old.draft at → IsAgain tree.old.current (old_of tree.old.draft at) v) }
     ensures taken { IfOk result (λ b. is_taken b.0 ≡ true → b.1 ≡ false) }
     ensures rests { IfOk result (λ b. is_taken b.0 ≡ true → (x : Node) → IsOld tree.old.current (old_of tree.old.draft at) (Some x)
         → EachBut (is_way scene.now.ways.now) (Rests (kept_hooks hooks.old) scene.now.lanes scene.now.cut) x) }
-    // A clone is begun over clones only where there is a cause in the tree of its old node, or an instance there stands on a way;
-    // else its old children are taken over.
-    ensures causes { IfOk result (λ b. (v : fibers.Fiber) → Some v ≡ made_value_of tree.old.draft at → is_cloned v.stage ≡ true → is_taken b.0 ≡ false
+    // What is given again is begun over its own children only where there is a cause in the tree of its old node, or an instance
+    // there stands on a way; else its old children are taken over.
+    ensures causes { IfOk result (λ b. (v : fibers.Fiber) → Some v ≡ made_value_of tree.old.draft at → IsAgain tree.old.current (old_of tree.old.draft at) v → is_taken b.0 ≡ false
         → HasCauseToBegin scene.now (kept_hooks hooks.old) (values_at contexts.old) (is_some (parts_in v.element)) (is_stood v.stage) tree.old.current (old_of tree.old.draft at)) }
     ensures few { IfOk result (λ b. (s : Sight) (n : ℕ) (fs : List Frame) (cs : Contexts) (e : elements.Element) (old : Option Node) → IsSceneOf scene.now s → StandsAt tree.old contexts.old (Some at) (at_place (suc n) fs cs e old)
         → (if b.1 then 1 else 0) ≤ next_counts each_body s (at_place (suc n) fs cs e old)) }
@@ -206,23 +236,41 @@ pub fn begin<L: Ledger>(
 {
     tree.place_facts();
     tree.facts();
-    let origin = origin_of(tree, at);
+    let again = is_again(tree, at);
     let fiber = tree.value(at);
+    let origin = fiber.origin();
     let element = fiber.element().copy()?;
     let component = is_component(&element);
-    if takes_over(tree, at, origin, component, scene, hooks, contexts) {
+    if takes_over(
+        tree,
+        at,
+        again,
+        origin.stood,
+        component,
+        scene,
+        hooks,
+        contexts,
+    ) {
         take_node(tree, at)?;
         return Ok((Begun::Taken, false));
     }
     let steady = is_steady(tree, at);
+    let kept = keeps_children(tree, tree.alternate(at), again);
+    let generation = generation_below(
+        component,
+        kept,
+        element.stands_for_children(),
+        origin.generation,
+    );
     match parts_of(&element) {
         Some(parts) => begin_component(
             alloc,
             tree,
             at,
             scene,
-            origin.cloned,
+            again,
             steady,
+            generation,
             parts.component,
             parts.props,
             parts.children,
@@ -232,7 +280,8 @@ pub fn begin<L: Ledger>(
         ),
         None => {
             let begun = begin_or_hide(
-                alloc, tree, at, &element, origin, steady, scene, hooks, contexts,
+                alloc, tree, at, &element, origin, again, steady, generation, scene, hooks,
+                contexts,
             )?;
             Ok((begun, false))
         }

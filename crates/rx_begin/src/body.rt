@@ -20,12 +20,12 @@ ghost use Rattle.rx_hook_store.specs.Gives.{GivesValues};
 ghost use Rattle.rx_links.specs.Readers.{list_from};
 ghost use Rattle.rx_fiber.specs.Fibers.{as_cloned, as_matched, begun};
 ghost use Rattle.rx_fiber.specs.OldLists.{primary_list, old_elements, old_fibers};
-ghost use Rattle.rx_causes.specs.Marks.{mark_at};
+ghost use Rattle.rx_causes.specs.Marks.{keeps_children, mark_at};
 ghost use Rattle.rx_causes.specs.Scenes.{IsSceneOf, IsCalmAt, TellsCalm, GivesHooks, number_in};
 ghost use Rattle.rx_begin.specs.Nodes.{IsBareAt, HasOpened, begun_over};
 ghost use Rattle.rx_begin.specs.Bodies.{StoodIn, HasShape};
 ghost use Rattle.rx_begin.specs.Beginning.{awaited_again, is_opened, is_taken};
-ghost use Rattle.rx_begin.specs.Origins.{HasKids};
+ghost use Rattle.rx_begin.specs.Origins.{HasKids, kids_as};
 ghost use Rattle.rx_begin.specs.declared.node.Begun.TheVariants.{Suspended};
 
 use crate::node::{Begun, keep_node, old_instance, open_node};
@@ -174,7 +174,7 @@ fn number_of(instance: &Option<Instance>) -> Option<u64>
     }
 }
 
-// A component's fiber is begun over what its body gives.
+// A component's fiber is begun over what its body gives, elements of this generation.
 fn open_body(
     alloc: Global,
     tree: &mut FiberTree<Fiber>,
@@ -183,12 +183,13 @@ fn open_body(
     old: Option<Instance>,
     body: Body,
     steady: bool,
+    generation: u32,
 ) -> Result<Begun, AllocError>
     requires bare { IsBareAt tree.old at }
-    ensures opened { IfOk result (λ b. (cs : Contexts) (node : Option Node) (cloned : Bool) → option_map instance_seen old ≡ old_instance node → HasShape cloned steady (shape_of_body cs component node (body_seen body)) cs node tree.old tree.new at b) }
+    ensures opened { IfOk result (λ b. (cs : Contexts) (node : Option Node) (again : Bool) → option_map instance_seen old ≡ old_instance node → HasShape again steady generation (shape_of_body cs component node (body_seen body)) cs node tree.old tree.new at b) }
     ensures anew { IfOk result (λ b. is_taken b ≡ false) }
     ensures own { IfOk result (λ b. awaited_again b ≡ None) }
-    ensures kids { IfOk result (λ b. is_opened b ≡ true → (h : HasKids (as_matched steady) tree.old tree.new at) × (b ≡ begun_over h.kids)) }
+    ensures kids { IfOk result (λ b. is_opened b ≡ true → (h : HasKids (as_matched steady generation) tree.old tree.new at) × (b ≡ begun_over h.kids)) }
     ensures waits { IfOk result (λ b. (r : ℕ) → b ≡ Suspended r → tree.new ≡ tree.old) }
     ensures current { tree.new.current ≡ tree.old.current }
 {
@@ -202,7 +203,7 @@ fn open_body(
         } => {
             let instance = instance_after(alloc, component, old, initials, reads, effects)?;
             let stage = Stage::Begun(Mark::Instance(instance));
-            open_node(alloc, tree, at, stage, &elements, steady)
+            open_node(alloc, tree, at, stage, &elements, steady, generation)
         }
     }
 }
@@ -228,22 +229,22 @@ fn is_calm(instance: &Option<Instance>, scene: &Scene, hooks: &HookStore, contex
     }
 }
 
-// Whether a body is skipped: the fiber is a clone, and its instance has no cause to be rendered anew.
+// Whether a body is skipped: the element is given again, and its instance has no cause to be rendered anew.
 fn is_skipped(
-    cloned: bool,
+    again: bool,
     instance: &Option<Instance>,
     scene: &Scene,
     hooks: &HookStore,
     contexts: &[Int],
 ) -> bool
     requires { IfSome (number_in (option_map instance_seen instance.now)) (λ n. IsSome (kept_hooks hooks.now n)) }
-    ensures cloned { result ≡ true → cloned ≡ true }
+    ensures again { result ≡ true → again ≡ true }
     ensures there { result ≡ true → IsSome instance.now }
-    ensures exact { cloned ≡ true → TellsCalm scene.now (kept_hooks hooks.now) contexts.now (option_map instance_seen instance.now) result }
+    ensures exact { again ≡ true → TellsCalm scene.now (kept_hooks hooks.now) contexts.now (option_map instance_seen instance.now) result }
     ensures calm { result ≡ true → (s : Sight) → IsSceneOf scene.now s → GivesHooks s (kept_hooks hooks.now) (option_map instance_seen instance.now)
         → (i : trees.Instance) × (option_map instance_seen instance.now ≡ Some i) × IsCalmAt s contexts.now i }
 {
-    if cloned {
+    if again {
         is_calm(instance, scene, hooks, contexts)
     } else {
         false
@@ -277,14 +278,16 @@ fn keep_body(
     }
 }
 
-// A component's place begins: its body is evaluated, once, unless it has no cause to be.
+// A component's place begins: its body is evaluated, once, unless it has no cause to be. What the body gives is of this
+// generation.
 pub(crate) fn begin_component<L: Ledger>(
     alloc: Global,
     tree: &mut FiberTree<Fiber>,
     at: FiberId,
     scene: &Scene,
-    cloned: bool,
+    again: bool,
     steady: bool,
+    generation: u32,
     component: u32,
     props: &Ints,
     children: &[Element],
@@ -296,16 +299,17 @@ pub(crate) fn begin_component<L: Ledger>(
     requires given { option_map (λ d. length (prop_names d)) (component_at scene.now.checked.now component) ≡ Some (length props.now) }
     requires kept { IfSome (number_in (option_and_then instance_in (mark_at tree.old.current (old_of tree.old.draft at)))) (λ n. IsSome (kept_hooks hooks.old n)) }
     ensures evaluated { IfOk result (λ b. (s : Sight) (old : Option Node) (key : Key) (kids : Elements) → IsSceneOf scene.now s → IsOld tree.old.current (old_of tree.old.draft at) old → GivesHooks s (kept_hooks hooks.old) (old_instance old)
-        → IfSettled s.program (known_by s) old → (cloned ≡ true → StoodIn old (elements.comp component key props.now kids))
-        → listed kids ≡ children.now → HasShape cloned steady (shape_of_component s contexts.now component props.now kids old (component_at s.program component)) contexts.now old tree.old tree.new at b.0) }
+        → IfSettled s.program (known_by s) old → (again ≡ true → StoodIn old (elements.comp component key props.now kids))
+        → listed kids ≡ children.now → HasShape again steady generation (shape_of_component s contexts.now component props.now kids old (component_at s.program component)) contexts.now old tree.old tree.new at b.0) }
     ensures current { tree.new.current ≡ tree.old.current }
     ensures own { IfOk result (λ b. (is_taken b.0 ≡ false) × (awaited_again b.0 ≡ None)) }
-    ensures kids { IfOk result (λ b. is_opened b.0 ≡ true → (h : HasKids (record { cloned = not b.1; stood = steady }) tree.old tree.new at) × (b.0 ≡ begun_over h.kids)) }
+    ensures kids { IfOk result (λ b. is_opened b.0 ≡ true → (h : HasKids (kids_as b.1 steady generation) tree.old tree.new at) × (b.0 ≡ begun_over h.kids)) }
     ensures waits { IfOk result (λ b. (r : ℕ) → b.0 ≡ Suspended r → tree.new ≡ tree.old) }
     ensures once { IfOk result (λ b. steps.new ≡ steps.old + (if b.1 then 1 else 0)) }
-    ensures anew { IfOk result (λ b. cloned ≡ false → b.1 ≡ true) }
+    ensures anew { IfOk result (λ b. again ≡ false → b.1 ≡ true) }
+    ensures kept { IfOk result (λ b. b.1 ≡ false → keeps_children again (mark_at tree.old.current (old_of tree.old.draft at)) ≡ true) }
     ensures taken { IfOk result (λ b. is_taken b.0 ≡ true → b.1 ≡ false) }
-    ensures exact { IfOk result (λ b. cloned ≡ true → TellsCalm scene.now (kept_hooks hooks.old) contexts.now (option_and_then instance_in (mark_at tree.old.current (old_of tree.old.draft at))) (not b.1)) }
+    ensures exact { IfOk result (λ b. again ≡ true → TellsCalm scene.now (kept_hooks hooks.old) contexts.now (option_and_then instance_in (mark_at tree.old.current (old_of tree.old.draft at))) (not b.1)) }
     ensures rises { steps.old ≤ steps.new }
     ensures at_most_one { steps.new ≤ steps.old + 1 }
     ensures still { (s : Sight) (k : ℕ) (initials : List ℤ) → IsSceneOf scene.now s → GivesValues s (kept_hooks hooks.old) k initials → GivesValues s (kept_hooks hooks.new) k initials }
@@ -313,7 +317,7 @@ pub(crate) fn begin_component<L: Ledger>(
 {
     tree.place_facts();
     let old = old_instance(tree, tree.alternate(at))?;
-    if is_skipped(cloned, &old, scene, hooks, contexts) {
+    if is_skipped(again, &old, scene, hooks, contexts) {
         let begun = keep_body(alloc, tree, at, old, steady)?;
         return Ok((begun, false));
     }
@@ -321,6 +325,6 @@ pub(crate) fn begin_component<L: Ledger>(
     let body = body_at(
         alloc, scene, component, props, children, number, hooks, contexts, steps,
     )?;
-    let begun = open_body(alloc, tree, at, component, old, body, steady)?;
+    let begun = open_body(alloc, tree, at, component, old, body, steady, generation)?;
     Ok((begun, true))
 }

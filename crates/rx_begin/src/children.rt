@@ -126,7 +126,7 @@ fn make_all(
 /// Makes the fibers of a list of children below a made fiber that has none: each element that is not `null` gets one, at its
 /// place, for the old child of its identity and type in the current list that begins with a fiber, or a new one. They are made
 /// from the last to the first (react.dev, Preserving and Resetting State). `stood` tells whether the old ones stand where the
-/// same values of contexts are given.
+/// same values of contexts are given; the elements are of this generation.
 ///
 /// # Errors
 ///
@@ -138,10 +138,11 @@ pub(crate) fn make_children(
     elements: &[Element],
     first_old: Option<FiberId>,
     stood: bool,
+    generation: u32,
 ) -> Result<(), AllocError>
     requires held { IfSome first_old (Holds tree.old.current) }
     requires beside { IsBareBeside tree.old at first_old }
-    ensures made { OnOk result (HasMadeFrom (as_matched stood) 0 tree.old tree.new at elements.now (matched (list_from tree.old.current first_old) elements.now)) }
+    ensures made { OnOk result (HasMadeFrom (as_matched stood generation) 0 tree.old tree.new at elements.now (matched (list_from tree.old.current first_old) elements.now)) }
     ensures current { tree.new.current ≡ tree.old.current }
 {
     tree.facts();
@@ -149,6 +150,7 @@ pub(crate) fn make_children(
     let origin = Origin {
         cloned: false,
         stood,
+        generation,
     };
     make_all(tree, at, elements, &olds, origin)
 }
@@ -178,6 +180,7 @@ pub(crate) fn clone_children(
     let origin = Origin {
         cloned: true,
         stood,
+        generation: 0,
     };
     make_all(tree, at, &known.elements, &known.fibers, origin)
 }

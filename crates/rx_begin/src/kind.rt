@@ -43,18 +43,15 @@ pub(crate) fn is_component(element: &Element) -> bool
     matches!(element.kind(), ElementKind::Comp(_, _, _, _))
 }
 
-/// How far the fiber of another element has come once it is begun.
-pub(crate) fn begun_stage(element: &Element, number: Option<u64>) -> Stage
-    ensures { stage_seen result ≡ begun_stage element.now number }
+/// How far the fiber of another element has come once it is begun, where so much is known of its place.
+pub(crate) fn begun_stage(element: &Element, origin: Origin, number: Option<u64>) -> Stage
+    ensures { stage_seen result ≡ begun_stage element.now origin number }
 {
     match element.kind() {
-        ElementKind::Null | ElementKind::Comp(_, _, _, _) => Stage::Waiting(Origin {
-            cloned: false,
-            stood: false,
-        }),
+        ElementKind::Null | ElementKind::Comp(_, _, _, _) => Stage::Waiting(origin),
         ElementKind::Text(_) | ElementKind::Host(_, _, _, _) => Stage::Begun(Mark::Host(number)),
-        ElementKind::List(_) | ElementKind::Provider(_, _, _, _) => Stage::Begun(Mark::Plain),
-        ElementKind::Boundary(_, _, _) => Stage::Trying,
+        ElementKind::List(_, _) | ElementKind::Provider(_, _, _, _) => Stage::Begun(Mark::Plain),
+        ElementKind::Boundary(_, _, _) => Stage::Trying(origin),
     }
 }
 
@@ -65,7 +62,7 @@ pub(crate) fn begun_children(element: &Element) -> &[Element]
 {
     match element.kind() {
         ElementKind::Host(_, _, _, children) => children,
-        ElementKind::List(children) => children,
+        ElementKind::List(_, children) => children,
         ElementKind::Boundary(_, _, children) => children,
         ElementKind::Provider(_, _, _, children) => children,
         _ => &[],

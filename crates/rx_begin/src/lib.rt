@@ -4,6 +4,7 @@
 mod beginning;
 mod body;
 mod children;
+mod generation;
 mod kind;
 mod node;
 mod opening;

@@ -46,14 +46,14 @@ fn old_mark(tree: &FiberTree<Fiber>, old: Option<FiberId>) -> Option<&Mark>
     }
 }
 
-// Whether a place keeps the children of its old node: it is cloned, and no boundary that hides them.
-pub(crate) fn keeps_children(tree: &FiberTree<Fiber>, old: Option<FiberId>, cloned: bool) -> bool
+// Whether a place keeps the children of its old node: its element is given again, and it is no boundary that hides them.
+pub(crate) fn keeps_children(tree: &FiberTree<Fiber>, old: Option<FiberId>, again: bool) -> bool
     requires { IfSome old (Holds tree.now.current) }
-    ensures { result ≡ keeps_children cloned (mark_at tree.now.current old) }
+    ensures { result ≡ keeps_children again (mark_at tree.now.current old) }
 {
     match old_mark(tree, old) {
-        Some(mark) => cloned && !mark.is_hidden(),
-        None => cloned,
+        Some(mark) => again && !mark.is_hidden(),
+        None => again,
     }
 }
 
@@ -106,7 +106,8 @@ fn set_stage(tree: &mut FiberTree<Fiber>, at: FiberId, stage: Stage) -> Result<(
     Ok(())
 }
 
-// A fiber is begun with this stage over these children, each made for its old one in a list of the current tree.
+// A fiber is begun with this stage over these children, which are of this generation, each made for its old one in a list of the
+// current tree.
 pub(crate) fn open_list(
     alloc: Global,
     tree: &mut FiberTree<Fiber>,
@@ -115,13 +116,14 @@ pub(crate) fn open_list(
     elements: &[Element],
     first_old: Option<FiberId>,
     stood: bool,
+    generation: u32,
 ) -> Result<Option<FiberId>, AllocError>
     requires held { IfSome first_old (Holds tree.old.current) }
     requires beside { IsBareBeside tree.old at first_old }
-    ensures opened { IfOk result (λ first. HasList (as_matched stood) tree.old tree.new at (stage_seen stage) elements.now (matched (list_from tree.old.current first_old) elements.now) first) }
+    ensures opened { IfOk result (λ first. HasList (as_matched stood generation) tree.old tree.new at (stage_seen stage) elements.now (matched (list_from tree.old.current first_old) elements.now) first) }
     ensures current { tree.new.current ≡ tree.old.current }
 {
-    make_children(alloc, tree, at, elements, first_old, stood)?;
+    make_children(alloc, tree, at, elements, first_old, stood, generation)?;
     tree.place_facts();
     set_stage(tree, at, stage)?;
     tree.place_facts();
@@ -158,8 +160,8 @@ fn begun_from(first: Option<FiberId>) -> Begun
     }
 }
 
-// A fiber is begun beside the children of its old node; where it is steady, these stand where the same values of contexts are
-// given.
+// A fiber is begun beside the children of its old node, over elements of this generation; where it is steady, the old children
+// stand where the same values of contexts are given.
 pub(crate) fn open_node(
     alloc: Global,
     tree: &mut FiberTree<Fiber>,
@@ -167,15 +169,18 @@ pub(crate) fn open_node(
     stage: Stage,
     elements: &[Element],
     steady: bool,
+    generation: u32,
 ) -> Result<Begun, AllocError>
     requires bare { IsBareAt tree.old at }
-    ensures opened { IfOk result (λ b. HasOpened (as_matched steady) tree.old tree.new at (stage_seen stage) elements.now (matched (primary_list (list_from tree.old.current (old_of tree.old.draft at))) elements.now) b) }
+    ensures opened { IfOk result (λ b. HasOpened (as_matched steady generation) tree.old tree.new at (stage_seen stage) elements.now (matched (primary_list (list_from tree.old.current (old_of tree.old.draft at))) elements.now) b) }
     ensures current { tree.new.current ≡ tree.old.current }
 {
     tree.place_facts();
     tree.facts();
     let first_old = old_primary(tree, tree.alternate(at));
-    let first = open_list(alloc, tree, at, stage, elements, first_old, steady)?;
+    let first = open_list(
+        alloc, tree, at, stage, elements, first_old, steady, generation,
+    )?;
     Ok(begun_from(first))
 }
 

@@ -1,22 +1,27 @@
 // The fallback of a boundary opens.
-ghost use Rattle.std.specs.Prelude.{◌≡◌, ◌∷◌, [], true, false, IfOk, IfSome, OnOk};
+ghost use Rattle.std.specs.Prelude.{◌≡◌, ◌∷◌, [], Bool, Some, true, false, IfOk, IfSome, OnOk};
 ghost use Rattle.std.specs.Option.{option_copied};
 ghost use Rattle.rx_ctx.specs.Contexts.{Stack};
 ghost use Rattle.rx_lists.specs.Shapes.{Holds, IsTop, none};
-ghost use Rattle.rx_links.specs.Drafts.{taken, Makes, IsUnused};
-ghost use Rattle.rx_links.specs.Readers.{list_from, old_list};
+ghost use Rattle.rx_links.specs.Drafts.{taken, Makes, IsUnused, old_of};
+ghost use Rattle.rx_links.specs.Readers.{list_from, made_value_of, old_list};
 ghost use Rattle.rx_meaning.specs.Cursor.{Cursor};
-ghost use Rattle.rx_fiber.specs.Fibers.{as_cloned, as_matched};
+ghost use Rattle.rx_meaning.specs.Generations.{own_generation};
+ghost use Rattle.rx_fiber.specs.Fibers as fibers;
+ghost use Rattle.rx_fiber.specs.Fibers.{as_cloned, as_matched, generation_of, origin_of};
 ghost use Rattle.rx_fiber.specs.FiberView.{stage_seen};
 ghost use Rattle.rx_fiber.specs.Surround.{fallback_in, given_along};
 ghost use Rattle.rx_fiber.specs.Unwound.{IsLeftAt};
 ghost use Rattle.rx_begin.specs.Children.{HasMadeFrom};
 ghost use Rattle.rx_begin.specs.Nodes.{IsBareAt, IsBareBeside, HasList};
 ghost use Rattle.rx_begin.specs.Again.{HasOldFallback};
+ghost use Rattle.rx_begin.specs.Origins.{TellsAgain};
 ghost use Rattle.rx_begin.specs.Opening.{IsLeft, KeepsNode, HasOpenedAs, fallback_behind, opened_at, HasKept, HasFallback, HasFallbackKids, IsFallbackOf, given_as, given_elements, given_fibers};
 
 use crate::children::{clone_children, make_children};
+use crate::generation::own_generation;
 use crate::node::{open_clones, open_list};
+use crate::origin::is_again;
 use rx_base::Awaits;
 use rx_elem::{Element, ElementKind};
 use rx_fiber::{Fiber, Stage, StageChange, kids_subtree, old_fallback, old_primary};
@@ -103,23 +108,26 @@ fn opened_at(first: Option<FiberId>, at: FiberId) -> Opened
     }
 }
 
-// Makes the fibers of a fallback's list below a made fiber that has no children: those of these elements, or where none are given
-// clones of the old ones.
+// Makes the fibers of a fallback's list below a made fiber that has no children: those of these elements, of this generation, or
+// where none are given clones of the old ones. `stood` tells whether the old ones stand where the same values of contexts are
+// given.
 fn make_listed(
     alloc: Global,
     tree: &mut FiberTree<Fiber>,
     at: FiberId,
     given: Option<&[Element]>,
+    stood: bool,
+    generation: u32,
     first_old: Option<FiberId>,
 ) -> Result<(), AllocError>
     requires held { IfSome first_old (Holds tree.old.current) }
     requires beside { IsBareBeside tree.old at first_old }
-    ensures made { OnOk result (HasMadeFrom (given_as (option_copied given.entry)) 0 tree.old tree.new at (given_elements (option_copied given.entry) (list_from tree.old.current first_old)) (given_fibers (option_copied given.entry) (list_from tree.old.current first_old))) }
+    ensures made { OnOk result (HasMadeFrom (given_as (option_copied given.entry) stood generation) 0 tree.old tree.new at (given_elements (option_copied given.entry) (list_from tree.old.current first_old)) (given_fibers (option_copied given.entry) (list_from tree.old.current first_old))) }
     ensures current { tree.new.current ≡ tree.old.current }
 {
     match given {
-        Some(elements) => make_children(alloc, tree, at, elements, first_old, false),
-        None => clone_children(alloc, tree, at, first_old, true),
+        Some(elements) => make_children(alloc, tree, at, elements, first_old, stood, generation),
+        None => clone_children(alloc, tree, at, first_old, stood),
     }
 }
 
@@ -130,16 +138,20 @@ fn open_listed(
     at: FiberId,
     stage: Stage,
     given: Option<&[Element]>,
+    stood: bool,
+    generation: u32,
     first_old: Option<FiberId>,
 ) -> Result<Option<FiberId>, AllocError>
     requires held { IfSome first_old (Holds tree.old.current) }
     requires beside { IsBareBeside tree.old at first_old }
-    ensures opened { IfOk result (λ first. HasList (given_as (option_copied given.entry)) tree.old tree.new at (stage_seen stage) (given_elements (option_copied given.entry) (list_from tree.old.current first_old)) (given_fibers (option_copied given.entry) (list_from tree.old.current first_old)) first) }
+    ensures opened { IfOk result (λ first. HasList (given_as (option_copied given.entry) stood generation) tree.old tree.new at (stage_seen stage) (given_elements (option_copied given.entry) (list_from tree.old.current first_old)) (given_fibers (option_copied given.entry) (list_from tree.old.current first_old)) first) }
     ensures current { tree.new.current ≡ tree.old.current }
 {
     match given {
-        Some(elements) => open_list(alloc, tree, at, stage, elements, first_old, false),
-        None => open_clones(alloc, tree, at, stage, first_old, true),
+        Some(elements) => open_list(
+            alloc, tree, at, stage, elements, first_old, stood, generation,
+        ),
+        None => open_clones(alloc, tree, at, stage, first_old, stood),
     }
 }
 
@@ -150,19 +162,21 @@ fn fall_alone(
     at: FiberId,
     awaits: Awaits,
     given: Option<&[Element]>,
+    stood: bool,
+    generation: u32,
 ) -> Result<Opened, AllocError>
     requires bare { IsBareAt tree.old at }
     requires left { IsLeft tree.old at awaits }
     requires gone { KeepsNode tree.old at awaits false }
-    ensures opened { IfOk result (λ f. (st : Stack) (c : Cursor) → (l : IsLeftAt tree.old st at (taken none) awaits c) → IsFallbackOf tree.old.current (given_along l.frames) l.old l.node l.value.element (option_copied given.entry) → HasOpenedAs tree.new st c f) }
-    ensures kids { IfOk result (λ f. HasFallbackKids (given_as (option_copied given.entry)) tree.old tree.new at f) }
+    ensures opened { IfOk result (λ f. (st : Stack) (c : Cursor) → (l : IsLeftAt tree.old st at (taken none) awaits c) → IsFallbackOf tree.old.current (given_along l.frames) l.old l.node l.value.element (option_copied given.entry) stood → HasOpenedAs tree.new st c f) }
+    ensures kids { IfOk result (λ f. HasFallbackKids (given_as (option_copied given.entry) stood generation) tree.old tree.new at f) }
     ensures current { tree.new.current ≡ tree.old.current }
 {
     tree.place_facts();
     tree.facts();
     let first_old = old_fallback(tree, tree.alternate(at));
     let stage = Stage::Begun(Mark::Boundary(BoundaryState::Hidden(awaits)));
-    let first = open_listed(alloc, tree, at, stage, given, first_old)?;
+    let first = open_listed(alloc, tree, at, stage, given, stood, generation, first_old)?;
     Ok(opened_at(first, at))
 }
 
@@ -173,12 +187,14 @@ fn fall_beside(
     at: FiberId,
     awaits: Awaits,
     given: Option<&[Element]>,
+    stood: bool,
+    generation: u32,
 ) -> Result<Opened, AllocError>
     requires bare { IsBareAt tree.old at }
     requires left { IsLeft tree.old at awaits }
     requires keeps { KeepsNode tree.old at awaits true }
-    ensures opened { IfOk result (λ f. (st : Stack) (c : Cursor) → (l : IsLeftAt tree.old st at (taken none) awaits c) → IsFallbackOf tree.old.current (given_along l.frames) l.old l.node l.value.element (option_copied given.entry) → HasOpenedAs tree.new st c f) }
-    ensures kids { IfOk result (λ f. HasFallbackKids (given_as (option_copied given.entry)) tree.old tree.new at f) }
+    ensures opened { IfOk result (λ f. (st : Stack) (c : Cursor) → (l : IsLeftAt tree.old st at (taken none) awaits c) → IsFallbackOf tree.old.current (given_along l.frames) l.old l.node l.value.element (option_copied given.entry) stood → HasOpenedAs tree.new st c f) }
+    ensures kids { IfOk result (λ f. HasFallbackKids (given_as (option_copied given.entry) stood generation) tree.old tree.new at f) }
     ensures current { tree.new.current ≡ tree.old.current }
 {
     tree.place_facts();
@@ -190,29 +206,32 @@ fn fall_beside(
     tree.facts();
     let id = put_fallback(tree, at, awaits, beside)?;
     tree.place_facts();
-    make_listed(alloc, tree, id, given, first_old)?;
+    make_listed(alloc, tree, id, given, stood, generation, first_old)?;
     tree.place_facts();
     Ok(opened_at(tree.first_child(id), id))
 }
 
-// A boundary opens its fallback over fibers of these elements, or where none are given over clones of the old ones.
+// A boundary opens its fallback over fibers of these elements, which are of this generation, or where none are given over clones
+// of the old ones. `stood` tells whether its current fiber stands where the same values of contexts are given.
 fn fall(
     alloc: Global,
     tree: &mut FiberTree<Fiber>,
     at: FiberId,
     awaits: Awaits,
     given: Option<&[Element]>,
+    stood: bool,
+    generation: u32,
 ) -> Result<Opened, AllocError>
     requires { IsLeft tree.old at awaits }
-    ensures opened { IfOk result (λ f. (st : Stack) (c : Cursor) → (l : IsLeftAt tree.old st at (taken none) awaits c) → IsFallbackOf tree.old.current (given_along l.frames) l.old l.node l.value.element (option_copied given.entry) → HasOpenedAs tree.new st c f) }
-    ensures kids { IfOk result (λ f. HasFallbackKids (given_as (option_copied given.entry)) tree.old tree.new at f) }
+    ensures opened { IfOk result (λ f. (st : Stack) (c : Cursor) → (l : IsLeftAt tree.old st at (taken none) awaits c) → IsFallbackOf tree.old.current (given_along l.frames) l.old l.node l.value.element (option_copied given.entry) stood → HasOpenedAs tree.new st c f) }
+    ensures kids { IfOk result (λ f. HasFallbackKids (given_as (option_copied given.entry) stood generation) tree.old tree.new at f) }
     ensures current { tree.new.current ≡ tree.old.current }
 {
     tree.place_facts();
     tree.facts();
     match old_primary(tree, tree.alternate(at)) {
-        None => fall_alone(alloc, tree, at, awaits, given),
-        Some(_) => fall_beside(alloc, tree, at, awaits, given),
+        None => fall_alone(alloc, tree, at, awaits, given, stood, generation),
+        Some(_) => fall_beside(alloc, tree, at, awaits, given, stood, generation),
     }
 }
 
@@ -232,12 +251,26 @@ pub fn open_fallback(
 ) -> Result<Opened, AllocError>
     requires { IsLeft tree.old at awaits }
     ensures opened { IfOk result (λ f. (st : Stack) (c : Cursor) → IsLeftAt tree.old st at (taken none) awaits c → HasOpenedAs tree.new st c f) }
-    ensures kids { IfOk result (λ f. HasFallbackKids (as_matched false) tree.old tree.new at f) }
+    // Its fibers wait as ones that stood exactly where the boundary did, and are of the generation of the boundary's element.
+    ensures kids { IfOk result (λ f. (v : fibers.Fiber) → Some v ≡ made_value_of tree.old.draft at → (again : Bool) × TellsAgain tree.old.current (old_of tree.old.draft at) v again
+        × HasFallbackKids (as_matched (origin_of v.stage).stood (own_generation again (generation_of v.stage))) tree.old tree.new at f) }
     ensures current { tree.new.current ≡ tree.old.current }
 {
     tree.place_facts();
-    let fallback = fallback_list(alloc, tree.value(at).element())?;
-    fall(alloc, tree, at, awaits, Some(&fallback))
+    let again = is_again(tree, at);
+    let fiber = tree.value(at);
+    let origin = fiber.origin();
+    let generation = own_generation(again, origin.generation);
+    let fallback = fallback_list(alloc, fiber.element())?;
+    fall(
+        alloc,
+        tree,
+        at,
+        awaits,
+        Some(&fallback),
+        origin.stood,
+        generation,
+    )
 }
 
 /// Opens the fallback of a boundary that was hidden before, has its element still, and waits for these resources again: over
@@ -258,5 +291,5 @@ pub fn open_old_fallback(
     ensures kids { IfOk result (λ f. HasFallbackKids (as_cloned true) tree.old tree.new at f) }
     ensures current { tree.new.current ≡ tree.old.current }
 {
-    fall(alloc, tree, at, awaits, None)
+    fall(alloc, tree, at, awaits, None, true, 0)
 }

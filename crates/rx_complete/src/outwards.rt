@@ -30,7 +30,7 @@ fn past(stage: &Stage, awaits: Awaits) -> Awaits
 fn tries(stage: &Stage) -> bool
     ensures { result ≡ is_trying (stage_seen stage.now) }
 {
-    matches!(stage, Stage::Trying)
+    matches!(stage, Stage::Trying(_))
 }
 
 // The nearest boundary above a fiber that tries its children.

@@ -1,5 +1,5 @@
 -- A node is completed: its list is done, and the render arrives with it.
-use Rattle.std.specs.Prelude.{◌≡◌, ℕ, suc, ◌+◌, ◌≤◌, true, List, [], Option, Some, length}
+use Rattle.std.specs.Prelude.{◌≡◌, ℕ, ℤ, suc, ◌+◌, ◌≤◌, true, List, [], Option, Some, length}
 use Rattle.std.proofs.Common.{arith, refl, sym, ap, ◌∙◌, subst}
 use Rattle.std.proofs.lemmas.List.{append-nil}
 use Rattle.rx_ctx.specs.Contexts.{Stack}
@@ -19,7 +19,7 @@ use Rattle.rx_fiber.specs.Fibers.{Fiber, completed, completed_stage}
 use Rattle.rx_fiber.specs.declared.subtree.Subtree.{Subtree}
 use Rattle.rx_fiber.specs.Reading.{has_node, AreFor, IsFor, whole, alone, beside}
 use Rattle.rx_fiber.specs.Reading as reading
-use Rattle.rx_fiber.specs.Surround.{IsOfNode, IsOldBehind, AreDone, IsOpenAs, opens, tries, falls, IsAround, of_node, of_fallback, behind_earlier, made_earlier, above_list, open_element}
+use Rattle.rx_fiber.specs.Surround.{IsOfNode, IsOldBehind, AreDone, IsOpenAs, opens, tries, falls, IsAround, of_node, of_fallback, behind_earlier, made_earlier, above_list, open_element, given_along}
 use Rattle.rx_fiber.specs.Standing.{IsStack, opened, StandsAt, completes}
 use Rattle.rx_fiber.proofs.Few.{node_parts, some_there}
 use Rattle.rx_fiber.proofs.Arriving.{one_done, two_done, next_at, arrives}
@@ -73,16 +73,16 @@ whole_made (below id v o rs k) d m = m
 whole_made (after id v o ks k) d m = whole_made k (made id v o ks d) m
 
 -- a list that is done stands for the node of its fiber, once that one is completed
-pub node_finished : (under : Subtree) (c : Shape Fiber) (v : Fiber) (o : Option ℕ) (cs : Contexts) (x : Open) (q : ℕ) (done : List (Option Node)) (ks rest : Shape Fiber)
-    → IsOpenAs c v o cs x → AreFor 0 (forest done) ks → IsFor v.place (finished x done) (fiber q (completed under v) ks rest) rest
-node_finished under c v o cs x q done ks rest (opens e m shown) a = whole (record { at = refl; element = e; stage = ap completed_stage m }) shown a
-node_finished under c v o cs x q done ks rest (tries e s b old) a = whole (record { at = refl; element = e; stage = ap completed_stage s }) refl a
-node_finished under c v o cs x q done ks rest (falls e m empty) a = alone (record { at = refl; element = e; stage = ap completed_stage m }) refl empty a
+pub node_finished : (under : Subtree) (c : Shape Fiber) (ws : List (ℕ × ℤ)) (v : Fiber) (o : Option ℕ) (cs : Contexts) (x : Open) (q : ℕ) (done : List (Option Node)) (ks rest : Shape Fiber)
+    → IsOpenAs c ws v o cs x → AreFor 0 (forest done) ks → IsFor v.place (finished x done) (fiber q (completed under v) ks rest) rest
+node_finished under c ws v o cs x q done ks rest (opens e m shown) a = whole (record { at = refl; element = e; stage = ap completed_stage m }) shown a
+node_finished under c ws v o cs x q done ks rest (tries e s b old stands) a = whole (record { at = refl; element = e; stage = ap completed_stage s }) refl a
+node_finished under c ws v o cs x q done ks rest (falls e m empty) a = alone (record { at = refl; element = e; stage = ap completed_stage m }) refl empty a
 
-pub opens_element : (c : Shape Fiber) (v : Fiber) (o : Option ℕ) (cs : Contexts) (x : Open) → IsOpenAs c v o cs x → v.element ≡ open_element x
-opens_element c v o cs x (opens e m shown) = e
-opens_element c v o cs x (tries e s is old) = e
-opens_element c v o cs x (falls e m empty) = e
+pub opens_element : (c : Shape Fiber) (ws : List (ℕ × ℤ)) (v : Fiber) (o : Option ℕ) (cs : Contexts) (x : Open) → IsOpenAs c ws v o cs x → v.element ≡ open_element x
+opens_element c ws v o cs x (opens e m shown) = e
+opens_element c ws v o cs x (tries e s is old stands) = e
+opens_element c ws v o cs x (falls e m empty) = e
 
 -- What the fiber that is completed next is to the two trees: once its value is that of a node that is done, and what its element gave is taken from the stack, the render arrives with its node.
 pub record Completes (t : Trees Fiber) (q : ℕ) (fs : List Frame) (x : Open) (done : List (Option Node)) : Type 0 where
@@ -117,12 +117,12 @@ completing t st q levels fs x done (completes {n = n} {k = k} here before (of_no
       kids = ks;
       rest = rest;
       here = here ∙ (placed_list k (taken shapes.none) ∙ ap (λ a. placed a ks) above);
-      element = opens_element t.current v o cs x is;
+      element = opens_element t.current (given_along fs) v o cs x is;
       all_made = whole_made k (taken shapes.none) refl;
       arrives = λ under new st levels same there stack.
           arrives new st k₁ (after q (completed under v) o ks k₁) v.place levels rest fs (finished x done) there refl
           (λ earlier are. one_done new.current k₁ v.place earlier (finished x done) q (completed under v) o ks are (subst (λ c. IsOfNode c o) (sym same) own)
-          (λ more. node_finished under t.current v o cs x q done (grafted ks) more is (list_done t.current k n done before))
+          (λ more. node_finished under t.current (given_along fs) v o cs x q done (grafted ks) more is (list_done t.current k n done before))
           (omega (arith, list_few t.current k n done before, finished_few x done)))
           (subst (λ c. IsAround c k₁ v.place rest fs) (sym same) around) stack;
     }

@@ -14,16 +14,17 @@ use Rattle.rx_meaning.specs.Cursor.{Open, around, trying, falling, Frame, open_p
 use Rattle.rx_meaning.specs.Touched.{children_with_old}
 use Rattle.rx_fiber.specs.Fibers.{Fiber, begun}
 use Rattle.rx_fiber.specs.Fibers as stage
+use Rattle.rx_fiber.specs.declared.stage.Origin.{Origin}
 use Rattle.rx_fiber.specs.Reading.{has_node, IsOld}
 use Rattle.rx_fiber.specs.Stood.{given_more}
-use Rattle.rx_fiber.specs.Surround.{open_element, given_along, AreNext, IsOfNode, IsOldBehind, IsOpenAs, opens, tries, falls, IsKeptAs, fallback_in, is_boundary, IsAround, of_node, of_fallback}
+use Rattle.rx_fiber.specs.Surround.{open_element, given_along, AreNext, IsOfNode, IsOldBehind, StandsIf, IsOpenAs, opens, tries, falls, IsKeptAs, fallback_in, is_boundary, IsAround, of_node, of_fallback}
 use Rattle.rx_fiber.specs.Standing.{IsStack, opened, StandsAt}
 use Rattle.rx_fiber.proofs.Coming.{come_at, comes, none_done}
 use Rattle.rx_fiber.proofs.OldLists.{old_of_node}
 
 -- an open node comes to its list, with the fiber that is its own
 opens_node : (t : Trees Fiber) (st : Stack) (k : Around Fiber) (p levels : ℕ) (v : Fiber) (o : Option ℕ) (d rs : Draft Fiber) (fs : List Frame) (x : Open) (list : Part)
-    → t.draft ≡ placed k (made p v o d rs) → IsOpenAs t.current v o list.contexts x → IsOfNode t.current o → AreNext t.current (given_more (open_element x) (given_along fs)) 0 (children_with_old list) d
+    → t.draft ≡ placed k (made p v o d rs) → IsOpenAs t.current (given_along fs) v o list.contexts x → IsOfNode t.current o → AreNext t.current (given_more (open_element x) (given_along fs)) 0 (children_with_old list) d
     → IsAround t.current k v.place rs fs → IsStack st ((x, list.contexts) ∷ opened fs) → StandsAt t st (Some (come_at d p)) (open_part levels fs x list)
 opens_node t st k p levels v o d rs fs x list here is old kids surrounds stack =
     comes t st (below p v o rs k) 0 p levels fs x list.contexts [] (children_with_old list) d here (none_done t.current _ refl (λ s. refl) tt) kids (of_node refl is old surrounds) stack
@@ -37,13 +38,13 @@ opens_one t st k p levels v o d rs fs e m list here element mark shown old kids 
 
 -- A boundary tries its children, and remembers its fallback.
 pub tries_children : (t : Trees Fiber) (st : Stack) (k : Around Fiber) (p levels : ℕ) (v : Fiber) (o : Option ℕ) (d rs : Draft Fiber) (fs : List Frame) (e : Element) (old : Option Node)
-    (cs : Contexts) (es : List Element)
-    → t.draft ≡ placed k (made p v o d rs) → v.element ≡ e → v.stage ≡ stage.trying → is_boundary e ≡ true → IsOld t.current o old
+    (cs : Contexts) (es : List Element) (c : Origin)
+    → t.draft ≡ placed k (made p v o d rs) → v.element ≡ e → v.stage ≡ stage.trying c → is_boundary e ≡ true → IsOld t.current o old → (c.stood ≡ true → StandsIf t.current (given_along fs) o)
     → AreNext t.current (given_more e (given_along fs)) 0 (children_with_old (part cs es (children_if old))) d → IsAround t.current k v.place rs fs
     → IsStack st ((trying e old (part cs (fallback_in e ∷ []) (fallback_if old)), cs) ∷ opened fs)
     → StandsAt t st (Some (come_at d p)) (open_part levels fs (trying e old (part cs (fallback_in e ∷ []) (fallback_if old))) (part cs es (children_if old)))
-tries_children t st k p levels v o d rs fs e old cs es here element trying_now is was kids surrounds stack =
-    opens_node t st k p levels v o d rs fs (trying e old (part cs (fallback_in e ∷ []) (fallback_if old))) (part cs es (children_if old)) here (tries element trying_now is was)
+tries_children t st k p levels v o d rs fs e old cs es c here element trying_now is was stands kids surrounds stack =
+    opens_node t st k p levels v o d rs fs (trying e old (part cs (fallback_in e ∷ []) (fallback_if old))) (part cs es (children_if old)) here (tries element trying_now is was stands)
     (old_of_node t.current o old was) kids surrounds
     stack
 

@@ -1,13 +1,15 @@
 -- Where the children of a current fiber stand, by its element and its stage.
-use Rattle.std.specs.Prelude.{◌≡◌, ℕ, ℤ, true, false, List, Option, Some, None, option_and_then, option_map}
+use Rattle.std.specs.Prelude.{◌≡◌, ℕ, ℤ, Bool, true, false, if◌then◌else◌, List, Option, Some, None, option_and_then, option_map}
 use Rattle.std.proofs.Common.{refl, sym, ap, ◌∙◌, subst}
 use Rattle.rx_elem.specs.Elements.{Element}
-use Rattle.rx_lists.specs.Shapes.{Shape}
-use Rattle.rx_links.specs.Readers.{value_of, list_from}
+use Rattle.rx_lists.specs.Shapes.{Shape, none, fiber}
+use Rattle.rx_links.specs.Drafts.{list_at, shape_or_none}
+use Rattle.rx_links.specs.Readers.{value_in, value_of, list_from}
 use Rattle.rx_fiber.specs.Fibers.{Fiber}
-use Rattle.rx_fiber.specs.OldLists.{hides_in, primary_list, fallback_list, fiber_at}
+use Rattle.rx_fiber.specs.OldLists.{begins_fallback, first_kids, hides_in, primary_list, fallback_list, fiber_at}
 use Rattle.rx_fiber.specs.Stood.{given_in, given_more, one_more, StoodAt, below, in_fallback}
 use Rattle.rx_fiber.specs.Surround.{IsElementOf, StandsIf}
+use Rattle.rx_fiber.proofs.OldTops.{fiber_top}
 
 module _ (c : Shape Fiber) (ws : List (ℕ × ℤ)) (e : Element) where
   -- the fiber of an element has a value
@@ -29,3 +31,19 @@ module _ (c : Shape Fiber) (ws : List (ℕ × ℤ)) (e : Element) where
       → fiber_at (fallback_list (list_from c o)) place ≡ Some i → StoodAt c ws (Some i)
   stood_in_fallback None place i at same hidden is = cc
   stood_in_fallback (Some q) place i at same hidden is = let (v, f, g) = value_with q same in in_fallback place at f (hidden v f) is
+
+  -- One of the fallback of a boundary, which has one only where it is hidden.
+  pub fallback_stands : (o : Option ℕ) (place i : ℕ) → StandsIf c ws o → fiber_at (fallback_list (list_from c o)) place ≡ Some i → StoodAt c ws (Some i)
+  fallback_stands None place i at is = absurd (fiber_top none place i is)
+  fallback_stands (Some q) place i at is = by_list (list_at c q) refl
+    where
+      by_hiding : (v : Fiber) (ks rs : Shape Fiber) → value_of c q ≡ Some v → fiber_at (fallback_list (fiber q v ks rs)) place ≡ Some i → (b : Bool) → hides_in v.stage ≡ b → StoodAt c ws (Some i)
+      by_hiding v ks rs value there true h = in_fallback place at value h is
+      by_hiding v ks rs value there false h =
+          absurd (fiber_top none place i (subst (λ b. fiber_at (if b then (if begins_fallback rs then first_kids rs else ks) else none) place ≡ Some i) h there))
+
+      by_list : (x : Option (Shape Fiber)) → list_at c q ≡ x → StoodAt c ws (Some i)
+      by_list None f = absurd (fiber_top none place i (subst (λ x. fiber_at (fallback_list (shape_or_none x)) place ≡ Some i) f is))
+      by_list (Some none) f = absurd (fiber_top none place i (subst (λ x. fiber_at (fallback_list (shape_or_none x)) place ≡ Some i) f is))
+      by_list (Some (fiber id v ks rs)) f =
+          by_hiding v ks rs (ap value_in f) (subst (λ x. fiber_at (fallback_list (shape_or_none x)) place ≡ Some i) f is) (hides_in v.stage) refl

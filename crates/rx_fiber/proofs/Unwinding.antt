@@ -1,5 +1,5 @@
 -- A wait goes outwards from fiber to fiber, up to the nearest boundary that tries its children.
-use Rattle.std.specs.Prelude.{◌≡◌, ℕ, suc, true, false, List, [], ◌∷◌, Option, Some, None}
+use Rattle.std.specs.Prelude.{◌≡◌, ℕ, ℤ, suc, true, false, List, [], ◌∷◌, Option, Some, None}
 use Rattle.std.proofs.Common.{refl, ap, ◌∙◌}
 use Rattle.rx_base.specs.Awaits.{Awaits}
 use Rattle.rx_ctx.specs.Contexts.{Stack, values_at}
@@ -13,7 +13,7 @@ use Rattle.rx_links.specs.Places.{Around, top, below, after, placed, up_of}
 use Rattle.rx_meaning.specs.Fresh.{Contexts}
 use Rattle.rx_meaning.specs.Cursor.{Open, falling, Frame, at_place, past, open_part, unwind}
 use Rattle.rx_fiber.specs.Fibers.{Fiber}
-use Rattle.rx_fiber.specs.Surround.{above_list, is_boundary, open_element, IsOpenAs, opens, tries, falls, IsAround, at_root, inside, IsKeptAs, IsListOf, of_node, of_fallback}
+use Rattle.rx_fiber.specs.Surround.{above_list, is_boundary, open_element, given_along, IsOpenAs, opens, tries, falls, IsAround, at_root, inside, IsKeptAs, IsListOf, of_node, of_fallback}
 use Rattle.rx_fiber.specs.Stood.{given_in}
 use Rattle.rx_fiber.specs.Standing.{IsStack, opened, StandsAt, begins}
 use Rattle.rx_fiber.specs.Unwound.{IsWithin, is_trying, passed_on, IsLeftAt}
@@ -38,7 +38,7 @@ boundary_gives elements.null h = refl
 boundary_gives (elements.text t) h = refl
 boundary_gives (elements.host n k attrs es) h = refl
 boundary_gives (elements.comp c k ps es) h = refl
-boundary_gives (elements.list es) h = refl
+boundary_gives (elements.list marked es) h = refl
 boundary_gives (elements.boundary k f es) h = refl
 boundary_gives (elements.provider c k x es) h = cc
 
@@ -67,24 +67,25 @@ pub record Outside (t : Trees Fiber) (st : Stack) (p : ℕ) (f : Frame) (fs : Li
   pub left : is_trying value.stage ≡ true → (new : Trees Fiber) (ks : Draft Fiber) (levels : ℕ) (a : Awaits) → new.current ≡ t.current
       → new.draft ≡ placed around (made id value old ks rest) → IsLeftAt new st id ks a (unwind levels (f ∷ fs) a)
 
-outwards_open : (c : Shape Fiber) (v : Fiber) (o : Option ℕ) (cs : Contexts) (x : Open) (fs : List Frame) → IsOpenAs c v o cs x → is_trying v.stage ≡ false → (levels : ℕ) (a : Awaits)
+outwards_open : (c : Shape Fiber) (ws : List (ℕ × ℤ)) (v : Fiber) (o : Option ℕ) (cs : Contexts) (x : Open) (fs : List Frame) → IsOpenAs c ws v o cs x → is_trying v.stage ≡ false → (levels : ℕ) (a : Awaits)
     → past x a (unwind (suc levels) fs) (open_part levels fs) ≡ unwind (suc levels) fs (passed_on v.stage a)
-outwards_open c v o cs _ fs (opens {e = e} {m = m} element mark shown) out levels a = ap (unwind (suc levels) fs) (rw (mark, shown) refl)
-outwards_open c v o cs _ fs (tries element s is old) out levels a = cc (ap is_trying s)
-outwards_open c v o cs _ fs (falls element mark gone) out levels a = ap (unwind (suc levels) fs) (rw mark refl)
+outwards_open c ws v o cs _ fs (opens {e = e} {m = m} element mark shown) out levels a = ap (unwind (suc levels) fs) (rw (mark, shown) refl)
+outwards_open c ws v o cs _ fs (tries element s is old stands) out levels a = cc (ap is_trying s)
+outwards_open c ws v o cs _ fs (falls element mark gone) out levels a = ap (unwind (suc levels) fs) (rw mark refl)
 
 left_open : (t : Trees Fiber) (st : Stack) (k : Around Fiber) (q : ℕ) (v : Fiber) (o : Option ℕ) (rest : Draft Fiber) (cs : Contexts) (x : Open) (fs : List Frame)
-    → IsOpenAs t.current v o cs x → IsAround t.current k v.place rest fs → IsStack st ((x, cs) ∷ opened fs) → is_trying v.stage ≡ true
+    → IsOpenAs t.current (given_along fs) v o cs x → IsAround t.current k v.place rest fs → IsStack st ((x, cs) ∷ opened fs) → is_trying v.stage ≡ true
     → (new : Trees Fiber) (ks : Draft Fiber) (levels : ℕ) (a : Awaits) → new.current ≡ t.current → new.draft ≡ placed k (made q v o ks rest)
     → IsLeftAt new st q ks a (past x a (unwind (suc levels) fs) (open_part levels fs))
 left_open t st k q v o rest cs _ fs (opens element mark shown) surrounds stack in_it new ls levels a same there = cc (ap is_trying mark)
 left_open t st k q v o rest cs _ fs (falls element mark gone) surrounds stack in_it new ls levels a same there = cc (ap is_trying mark)
-left_open t st k q v o rest cs _ fs (tries {e = e} {old = old} element s is was) surrounds stack in_it new ls levels a same there =
+left_open t st k q v o rest cs _ fs (tries {e = e} {old = old} {c = c} element s is was stands) surrounds stack in_it new ls levels a same there =
     let values : values_at st ≡ cs = top_values stack in
     record {
       around = k;
       value = v;
       old = o;
+      origin = c;
       rest = rest;
       levels = levels;
       frames = fs;
@@ -93,6 +94,7 @@ left_open t st k q v o rest cs _ fs (tries {e = e} {old = old} element s is was)
       stage = s;
       boundary = ap is_boundary element ∙ is;
       was = rw same was;
+      stands = λ stood. rw same (stands stood);
       surrounds = rw same surrounds;
       stack = kept st _ cs (opened fs) (boundary_gives e is) stack;
       opens = rw (element, values) refl;
@@ -165,8 +167,8 @@ list_outside t st p done left x cs fs i u r us ls j q starts same (of_node {k₁
       rest = rest;
       here = at;
       deeper = depth_above i ∙ ap depth up;
-      element = opens_element t.current v o cs x is;
-      outwards = λ out levels a. outwards_open t.current v o cs x fs is out levels a;
+      element = opens_element t.current (given_along fs) v o cs x is;
+      outwards = λ out levels a. outwards_open t.current (given_along fs) v o cs x fs is out levels a;
       within = λ new stack. record {
         around = k₁;
         value = v;

@@ -1,6 +1,6 @@
 -- How the logic stores fibers.
-use Rattle.std.specs.Prelude.{◌≡◌, ℕ, Bool, List, Option, Some, None, ◌⊎◌, refl}
-use Rattle.std.specs.Coded.{Coded, code_by, coded×, coded⊎, coded_ℕ, coded_bool, coded_list, coded_option}
+use Rattle.std.specs.Prelude.{◌≡◌, ℕ, Bool, List, ◌⊎◌, refl}
+use Rattle.std.specs.Coded.{Coded, code_by, coded×, coded⊎, coded_ℕ, coded_bool, coded_list}
 use Rattle.std.proofs.Common.{inl, inr}
 use Rattle.rx_base.specs.Awaits.{Awaits}
 use Rattle.rx_elem.specs.Elements.{Element}
@@ -8,34 +8,40 @@ use Rattle.rx_elem.specs.ElementCode.{element_code}
 use Rattle.rx_elem.specs.Trees.{Mark}
 use Rattle.rx_node.specs.NodeCode.{mark_code}
 use Rattle.rx_fiber.specs.Fibers.{Stage, waiting, begun, trying, fallback, Fiber}
+use Rattle.rx_fiber.specs.declared.stage.Origin.{Origin}
 use Rattle.rx_fiber.specs.declared.subtree.Subtree.{Subtree}
 
 abbrev numbers : Coded (List ℕ)
 numbers = coded_list coded_ℕ
 
+abbrev origin_code : Coded Origin
+origin_code =
+    code_by (Bool × (Bool × ℕ)) (coded× coded_bool (coded× coded_bool coded_ℕ))
+    (λ c. (c.cloned, (c.stood, c.generation))) (λ p. record { cloned = p.0; stood = p.1.0; generation = p.1.1 }) (λ _. refl)
+
 abbrev StageParts : Type 0
-StageParts = ((Bool × Bool) ⊎ Mark) ⊎ Option Awaits
+StageParts = (Origin ⊎ Mark) ⊎ (Origin ⊎ Awaits)
 
 abbrev of_stage : Stage → StageParts
-of_stage (waiting c) = inl (inl (c.cloned, c.stood))
+of_stage (waiting c) = inl (inl c)
 of_stage (begun m) = inl (inr m)
-of_stage trying = inr None
-of_stage (fallback a) = inr (Some a)
+of_stage (trying c) = inr (inl c)
+of_stage (fallback a) = inr (inr a)
 
 abbrev to_stage : StageParts → Stage
-to_stage (inl (inl c)) = waiting (record { cloned = c.0; stood = c.1 })
+to_stage (inl (inl c)) = waiting c
 to_stage (inl (inr m)) = begun m
-to_stage (inr None) = trying
-to_stage (inr (Some a)) = fallback a
+to_stage (inr (inl c)) = trying c
+to_stage (inr (inr a)) = fallback a
 
 abbrev stage_back : (s : Stage) → to_stage (of_stage s) ≡ s
 stage_back (waiting c) = refl
 stage_back (begun m) = refl
-stage_back trying = refl
+stage_back (trying c) = refl
 stage_back (fallback a) = refl
 
 abbrev stage_code : Coded Stage
-stage_code = code_by StageParts (coded⊎ (coded⊎ (coded× coded_bool coded_bool) mark_code) (coded_option numbers)) of_stage to_stage stage_back
+stage_code = code_by StageParts (coded⊎ (coded⊎ origin_code mark_code) (coded⊎ origin_code numbers)) of_stage to_stage stage_back
 
 abbrev subtree_code : Coded Subtree
 subtree_code =

@@ -13,13 +13,13 @@ use Rattle.rx_fiber.specs.declared.stage.StageChange.TheVariants as change
 abbrev pub stage_seen : Stage → fibers.Stage
 stage_seen (stage.Waiting c) = fibers.waiting c
 stage_seen (stage.Begun m) = fibers.begun (mark_seen m)
-stage_seen stage.Trying = fibers.trying
+stage_seen (stage.Trying c) = fibers.trying c
 stage_seen (stage.Fallback a) = fibers.fallback a
 
 -- a fiber after a change
 abbrev pub changed : StageChange → fibers.Fiber → fibers.Fiber
 changed (change.Complete below) v = completed below v
-changed change.Try v = record v { stage = fibers.trying }
+changed (change.Try c) v = record v { stage = fibers.trying c }
 changed (change.Hide a below) v =
     record v { stage = fibers.begun (of_boundary (boundary.Hidden a)); subtree = joined (own_subtree (fibers.begun (of_boundary (boundary.Hidden a)))) below }
 changed (change.Number n) v = record v { stage = numbered_stage n v.stage }

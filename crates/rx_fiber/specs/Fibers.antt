@@ -14,32 +14,43 @@ pub data Stage : Type 0 where
   waiting : Origin → Stage
   -- it is begun: a node with this mark, over its children
   begun : Mark → Stage
-  -- a boundary whose children are tried
-  trying : Stage
+  -- a boundary whose children are tried, with what is known of its place
+  trying : Origin → Stage
   -- the fallback of the boundary right before it, which keeps its primary content and waits for these
   fallback : Awaits → Stage
 
--- what is known of a fiber whose element may be another than that of the current fiber for which it was made
-abbrev pub as_matched : (stood : Bool) → Origin
-as_matched stood = record { cloned = false; stood = stood }
+-- what is known of a fiber whose element may be another than that of the current fiber for which it was made; it has this generation
+abbrev pub as_matched : (stood : Bool) (generation : ℕ) → Origin
+as_matched stood generation = record { cloned = false; stood = stood; generation = generation }
 
 -- what is known of a clone
 abbrev pub as_cloned : (stood : Bool) → Origin
-as_cloned stood = record { cloned = true; stood = stood }
+as_cloned stood = record { cloned = true; stood = stood; generation = 0 }
 
 -- it is made for a place that the render has not come to, and cloned: its element is that of the current fiber for which it was made
 abbrev pub is_cloned : Stage → Bool
 is_cloned (waiting c) = c.cloned
 is_cloned (begun m) = false
-is_cloned trying = false
+is_cloned (trying c) = false
 is_cloned (fallback a) = false
 
 -- it is made for a place that the render has not come to, and the current fiber for which it was made, if for one, stands where the same values of contexts are given
 abbrev pub is_stood : Stage → Bool
 is_stood (waiting c) = c.stood
 is_stood (begun m) = false
-is_stood trying = false
+is_stood (trying c) = false
 is_stood (fallback a) = false
+
+-- what is known of the place of a fiber that waits or tries its children
+abbrev pub origin_of : Stage → Origin
+origin_of (waiting c) = c
+origin_of (begun m) = as_matched false 0
+origin_of (trying c) = c
+origin_of (fallback a) = as_matched false 0
+
+-- the generation of its element
+abbrev pub generation_of : Stage → ℕ
+generation_of stage = (origin_of stage).generation
 
 -- a fiber: its place among the children of its parent, its element, how far it has come, and once it is done what is at or below it
 pub record Fiber : Type 0 where
@@ -65,14 +76,14 @@ marked_subtree m =
 abbrev pub own_subtree : Stage → Subtree
 own_subtree (waiting c) = nothing
 own_subtree (begun m) = marked_subtree m
-own_subtree trying = nothing
+own_subtree (trying c) = nothing
 own_subtree (fallback a) = nothing
 
 -- a node is completed: a boundary whose children were tried is shown, and nothing else changes
 abbrev pub completed_stage : Stage → Stage
 completed_stage (waiting c) = waiting c
 completed_stage (begun m) = begun m
-completed_stage trying = begun (of_boundary Shown)
+completed_stage (trying c) = begun (of_boundary Shown)
 completed_stage (fallback a) = fallback a
 
 -- the fiber of a node that is completed, with this at or below its children
@@ -90,5 +101,5 @@ with_number n plain = plain
 abbrev pub numbered_stage : ℕ → Stage → Stage
 numbered_stage n (waiting c) = waiting c
 numbered_stage n (begun m) = begun (with_number n m)
-numbered_stage n trying = trying
+numbered_stage n (trying c) = trying c
 numbered_stage n (fallback a) = fallback a

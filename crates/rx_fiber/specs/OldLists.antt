@@ -12,14 +12,14 @@ use Rattle.rx_fiber.specs.Fibers.{Stage, Fiber, waiting, begun, trying, fallback
 abbrev pub is_fallback : Stage → Bool
 is_fallback (waiting c) = false
 is_fallback (begun m) = false
-is_fallback trying = false
+is_fallback (trying c) = false
 is_fallback (fallback a) = true
 
 -- the stage is that of a boundary that is hidden
 abbrev pub hides_in : Stage → Bool
 hides_in (waiting c) = false
 hides_in (begun m) = is_hidden m
-hides_in trying = false
+hides_in (trying c) = false
 hides_in (fallback a) = false
 
 -- a list begins with the fiber of a fallback

@@ -13,7 +13,7 @@ given_in elements.null = None
 given_in (elements.text t) = None
 given_in (elements.host n k attrs es) = None
 given_in (elements.comp c k ps es) = None
-given_in (elements.list es) = None
+given_in (elements.list marked es) = None
 given_in (elements.boundary k f es) = None
 given_in (elements.provider c k x es) = Some (c, x)
 

@@ -29,7 +29,7 @@ abbrev pub StandsIf : Shape Fiber → List (ℕ × ℤ) → Option ℕ → Type 
 StandsIf current ws None = Unit {0}
 StandsIf current ws (Some i) = StoodAt current ws (Some i)
 
--- the fiber of a place that the render has not come to, made for this current fiber, if for one; where it is cloned, it has the element of that one; where it stood, that one stands where the same values are given
+-- the fiber of a place that the render has not come to, made for this current fiber, if for one; where it is cloned, it has the element of that one, and is of generation 0; where it stood, that one stands where the same values are given
 pub record IsWaiting (current : Shape Fiber) (ws : List (ℕ × ℤ)) (o : Option ℕ) (v : Fiber) (place : ℕ) (e : Element) : Type 0 where
   pub at : v.place ≡ place
   pub element : v.element ≡ e
@@ -37,6 +37,7 @@ pub record IsWaiting (current : Shape Fiber) (ws : List (ℕ × ℤ)) (o : Optio
   pub stage : v.stage ≡ waiting origin
   pub same : origin.cloned ≡ true → IsElementOf current o e
   pub stands : origin.stood ≡ true → StandsIf current ws o
+  pub first : origin.cloned ≡ true → origin.generation ≡ 0
 
 -- The children of a list that are still to begin, from a place on, below providers that give these values: each that isn't null has a fiber, made beside the current fiber of its old node.
 pub data AreNext (current : Shape Fiber) (ws : List (ℕ × ℤ)) : (place : ℕ) → List (Element × Option Node) → Draft Fiber → Type 0 where
@@ -117,7 +118,7 @@ fallback_in elements.null = elements.null
 fallback_in (elements.text t) = elements.null
 fallback_in (elements.host n k attrs es) = elements.null
 fallback_in (elements.comp c k ps es) = elements.null
-fallback_in (elements.list es) = elements.null
+fallback_in (elements.list marked es) = elements.null
 fallback_in (elements.boundary k f es) = f
 fallback_in (elements.provider c k x es) = elements.null
 
@@ -127,17 +128,17 @@ is_boundary elements.null = false
 is_boundary (elements.text t) = false
 is_boundary (elements.host n k attrs es) = false
 is_boundary (elements.comp c k ps es) = false
-is_boundary (elements.list es) = false
+is_boundary (elements.list marked es) = false
 is_boundary (elements.boundary k f es) = true
 is_boundary (elements.provider c k x es) = false
 
--- the fiber is that of an open node, whose list, in these contexts, is among its children; o is the current fiber that it was made for
-pub data IsOpenAs (current : Shape Fiber) (v : Fiber) (o : Option ℕ) (cs : Contexts) : Open → Type 0 where
-  opens : {e : Element} {m : Mark} → v.element ≡ e → v.stage ≡ begun m → is_hidden m ≡ false → IsOpenAs current v o cs (around e m)
-  tries : {e : Element} {old : Option Node} → v.element ≡ e → v.stage ≡ stage.trying → is_boundary e ≡ true → IsOld current o old
-      → IsOpenAs current v o cs (trying e old (part cs (fallback_in e ∷ []) (fallback_if old)))
+-- the fiber is that of an open node, whose list, in these contexts, is among its children; o is the current fiber that it was made for; where a boundary that tries its children stood, that one stands where the same values are given
+pub data IsOpenAs (current : Shape Fiber) (ws : List (ℕ × ℤ)) (v : Fiber) (o : Option ℕ) (cs : Contexts) : Open → Type 0 where
+  opens : {e : Element} {m : Mark} → v.element ≡ e → v.stage ≡ begun m → is_hidden m ≡ false → IsOpenAs current ws v o cs (around e m)
+  tries : {e : Element} {old : Option Node} {c : Origin} → v.element ≡ e → v.stage ≡ stage.trying c → is_boundary e ≡ true → IsOld current o old
+      → (c.stood ≡ true → StandsIf current ws o) → IsOpenAs current ws v o cs (trying e old (part cs (fallback_in e ∷ []) (fallback_if old)))
   falls : {e : Element} {old : Option Node} {a : Awaits} → v.element ≡ e → v.stage ≡ begun (of_boundary (Hidden a)) → has_node (children_if old) ≡ false
-      → IsOpenAs current v o cs (falling e old a)
+      → IsOpenAs current ws v o cs (falling e old a)
 
 -- the fibers are those of a boundary that keeps its primary content, and of its fallback, with the element of the boundary, whose list is among the children of the latter
 pub record IsKeptAs (v w : Fiber) (kept : Shape Fiber) (e : Element) (old : Option Node) (a : Awaits) : Type 0 where
@@ -158,7 +159,7 @@ mutual
   -- the list that is surrounded so is that of an open node, in these contexts, and is among the children of q
   pub data IsListOf (current : Shape Fiber) : Around Fiber → (q : ℕ) → Open → Contexts → List Frame → Type 0 where
     of_node : {k k₁ : Around Fiber} {q : ℕ} {v : Fiber} {o : Option ℕ} {rest : Draft Fiber} {x : Open} {cs : Contexts} {fs : List Frame}
-        → above_list k ≡ below q v o rest k₁ → IsOpenAs current v o cs x → IsOfNode current o → IsAround current k₁ v.place rest fs → IsListOf current k q x cs fs
+        → above_list k ≡ below q v o rest k₁ → IsOpenAs current (given_along fs) v o cs x → IsOfNode current o → IsAround current k₁ v.place rest fs → IsListOf current k q x cs fs
     of_fallback : {k k₁ : Around Fiber} {q b : ℕ} {v w : Fiber} {o p : Option ℕ} {kept : Shape Fiber} {rest : Draft Fiber} {cs : Contexts} {fs : List Frame}
         {e : Element} {old : Option Node} {a : Awaits}
         → above_list k ≡ below q w p rest (after b v o (taken kept) k₁) → IsKeptAs v w kept e old a → IsOfNode current o → IsOldBehind current o p → IsAround current k₁ v.place rest fs

@@ -8,8 +8,9 @@ use Rattle.rx_links.specs.Places.{Around, placed}
 use Rattle.rx_meaning.specs.Fresh.{part}
 use Rattle.rx_meaning.specs.Cursor.{Frame, falling, Cursor, open_part}
 use Rattle.rx_fiber.specs.Fibers.{Stage, Fiber, waiting, begun, trying, fallback}
+use Rattle.rx_fiber.specs.declared.stage.Origin.{Origin}
 use Rattle.rx_fiber.specs.Reading.{IsOld}
-use Rattle.rx_fiber.specs.Surround.{above_list, fallback_in, is_boundary, IsAround}
+use Rattle.rx_fiber.specs.Surround.{above_list, fallback_in, given_along, is_boundary, StandsIf, IsAround}
 use Rattle.rx_fiber.specs.Standing.{IsStack, opened}
 
 -- a fiber lies in the list of the innermost of these open nodes, or is the root
@@ -32,14 +33,14 @@ pub record IsWithin (t : Trees Fiber) (st : Stack) (p : ℕ) (fs : List Frame) :
 abbrev pub is_trying : Stage → Bool
 is_trying (waiting c) = false
 is_trying (begun m) = false
-is_trying trying = true
+is_trying (trying c) = true
 is_trying (fallback a) = false
 
 -- what is waited for outside of a fiber, where these are waited for below it: a fallback that waits passes on what its boundary waits for
 abbrev pub passed_on : Stage → Awaits → Awaits
 passed_on (waiting c) a = a
 passed_on (begun m) a = if is_hidden m then union (awaits_in m) a else a
-passed_on trying a = a
+passed_on (trying c) a = a
 passed_on (fallback b) a = union b a
 
 -- The fiber, with these children, is that of a boundary at which a wait stops, and the render goes on as c: its fallback opens next, while its children wait for these.
@@ -47,14 +48,16 @@ pub record IsLeftAt (t : Trees Fiber) (st : Stack) (q : ℕ) (kids : Draft Fiber
   pub around : Around Fiber
   pub value : Fiber
   pub old : Option ℕ
+  pub origin : Origin
   pub rest : Draft Fiber
   pub levels : ℕ
   pub frames : List Frame
   pub node : Option Node
   pub here : t.draft ≡ placed around (made q value old kids rest)
-  pub stage : value.stage ≡ trying
+  pub stage : value.stage ≡ trying origin
   pub boundary : is_boundary value.element ≡ true
   pub was : IsOld t.current old node
+  pub stands : origin.stood ≡ true → StandsIf t.current (given_along frames) old
   pub surrounds : IsAround t.current around value.place rest frames
   pub stack : IsStack st (opened frames)
   pub opens : c ≡ open_part levels frames (falling value.element node a) (part (values_at st) (fallback_in value.element ∷ []) (fallback_if node))

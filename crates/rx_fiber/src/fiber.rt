@@ -1,10 +1,10 @@
 // A fiber's value.
 ghost use Rattle.std.specs.Prelude.{◌≡◌};
 ghost use Rattle.rx_fiber.specs.Fibers as fibers;
-ghost use Rattle.rx_fiber.specs.Fibers.{is_cloned, is_stood, nothing};
+ghost use Rattle.rx_fiber.specs.Fibers.{is_cloned, is_stood, generation_of, origin_of, nothing};
 ghost use Rattle.rx_fiber.specs.FiberView.{stage_seen, changed};
 
-use crate::stage::{Stage, StageChange};
+use crate::stage::{Origin, Stage, StageChange};
 use crate::subtree::{Subtree, own_subtree};
 use rx_elem::Element;
 use rx_node::Mark;
@@ -108,18 +108,39 @@ impl Fiber {
         }
     }
 
+    /// What is known of its place, while it waits or tries its children.
+    pub fn origin(&self) -> Origin
+        ensures { result ≡ origin_of self.now.stage }
+    {
+        match self.stage {
+            Stage::Waiting(origin) | Stage::Trying(origin) => origin,
+            _ => Origin {
+                cloned: false,
+                stood: false,
+                generation: 0,
+            },
+        }
+    }
+
+    /// The generation of its element, while it waits or tries its children.
+    pub fn generation(&self) -> u32
+        ensures { result ≡ generation_of self.now.stage }
+    {
+        self.origin().generation
+    }
+
     /// Changes the stage.
     pub fn change(&mut self, by: StageChange)
         ensures { self.new ≡ changed by self.old }
     {
         match by {
             StageChange::Complete(below) => {
-                if let Stage::Trying = self.stage {
+                if let Stage::Trying(_) = self.stage {
                     self.stage = Stage::Begun(Mark::Boundary(BoundaryState::Shown));
                 }
                 self.subtree = own_subtree(&self.stage).join(below);
             }
-            StageChange::Try => self.stage = Stage::Trying,
+            StageChange::Try(origin) => self.stage = Stage::Trying(origin),
             StageChange::Hide(awaits, below) => {
                 self.stage = Stage::Begun(Mark::Boundary(BoundaryState::Hidden(awaits)));
                 self.subtree = own_subtree(&self.stage).join(below);

@@ -14,6 +14,9 @@ pub struct Origin {
     pub cloned: bool,
     /// The current fiber, if it was made for one, stands where the same values of contexts are given.
     pub stood: bool,
+    /// The generation of its element: 0 where that is of the current tree, else at least 1 and one more with each body that
+    /// made it from one of these.
+    pub generation: u32,
 }
 
 /// How far a fiber has come in the render that made it.
@@ -23,8 +26,8 @@ pub enum Stage {
     Waiting(Origin),
     /// It is begun: a node with this mark, over its children.
     Begun(Mark),
-    /// A boundary whose children are tried.
-    Trying,
+    /// A boundary whose children are tried, with what is known of its place.
+    Trying(Origin),
     /// The fallback of the boundary right before it, which keeps its primary content and waits for these resources.
     Fallback(Awaits),
 }
@@ -34,8 +37,8 @@ pub enum Stage {
 pub enum StageChange {
     /// Its list is done: a boundary whose children were tried is shown. This is at or below its children.
     Complete(Subtree),
-    /// A boundary begins to try its children.
-    Try,
+    /// A boundary begins to try its children; this is known of its place.
+    Try(Origin),
     /// A boundary hides its children, which wait for these resources. This is at or below what it keeps.
     Hide(Awaits, Subtree),
     /// An instance or a host gets this number, by which later commits know it.

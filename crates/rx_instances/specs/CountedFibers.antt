@@ -8,7 +8,7 @@ use Rattle.rx_spots.specs.Counts.{own_count}
 abbrev pub stage_count : (only_hidden : Bool) → Stage → ℕ
 stage_count only_hidden (waiting c) = 0
 stage_count only_hidden (begun m) = own_count only_hidden m
-stage_count only_hidden trying = 0
+stage_count only_hidden (trying c) = 0
 stage_count only_hidden (fallback a) = 0
 
 -- how many are counted of a list of fibers and below

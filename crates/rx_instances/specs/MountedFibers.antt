@@ -12,7 +12,7 @@ use Rattle.rx_instances.specs.NearFibers.{instance_at}
 abbrev pub around_kids : Around → Stage → (keeps : Bool) → Around
 around_kids a (waiting c) keeps = a
 around_kids a (begun m) keeps = if is_hidden m && not keeps then a else around_children a m
-around_kids a trying keeps = a
+around_kids a (trying c) keeps = a
 around_kids a (fallback w) keeps = a
 
 -- the instance of a fiber, if it is of one that has a number

@@ -15,7 +15,7 @@ use Rattle.rx_instances.specs.declared.find.Found.{Found}
 abbrev pub instance_at : Stage → Option Instance
 instance_at (waiting c) = None
 instance_at (begun m) = instance_in m
-instance_at trying = None
+instance_at (trying c) = None
 instance_at (fallback a) = None
 
 -- a fiber itself where it is of an instance of a component of this name, none where it is of another instance, and else those below it

@@ -8,8 +8,6 @@ mod find;
 mod mounted;
 mod names;
 mod show;
-#[cfg(test)]
-mod tests;
 
 pub use counts::{hidden_count, node_count};
 pub use dispatch::{dispatch_hook, dispatch_op, dispatch_path, dispatch_word};

@@ -24,7 +24,7 @@ mark_kept next plain e = refl
 stage_kept : (next : Numbers) (v : Fiber) (s : Stage) → s ≡ v.stage → stage_lacks s ≡ lack.Nothing → numbered_at next v s ≡ (next, v)
 stage_kept next v (waiting c) q e = refl
 stage_kept next v (begun m) q e = ap (λ own. (own.0, record v { stage = begun own.1 })) (mark_kept next m e) ∙ ap (λ s. (next, record v { stage = s })) q
-stage_kept next v trying q e = refl
+stage_kept next v (trying c) q e = refl
 stage_kept next v (fallback a) q e = refl
 
 -- a fiber that lacks nothing stays as it is
@@ -54,7 +54,7 @@ stage_instance : (next : Numbers) (v : Fiber) (s : Stage) → stage_lacks s ≡ 
     → numbered_at next v s ≡ (past_instance next, record v { stage = numbered_stage next.instance s })
 stage_instance next v (waiting c) e = cc
 stage_instance next v (begun m) e = ap (λ own. (own.0, record v { stage = begun own.1 })) (mark_instance next m e)
-stage_instance next v trying e = cc
+stage_instance next v (trying c) e = cc
 stage_instance next v (fallback a) e = cc
 
 -- a new instance gets the next number of an instance
@@ -78,7 +78,7 @@ stage_host : (next : Numbers) (v : Fiber) (s : Stage) → stage_lacks s ≡ lack
     → numbered_at next v s ≡ (past_host next, record v { stage = numbered_stage next.host s })
 stage_host next v (waiting c) e = cc
 stage_host next v (begun m) e = ap (λ own. (own.0, record v { stage = begun own.1 })) (mark_host next m e)
-stage_host next v trying e = cc
+stage_host next v (trying c) e = cc
 stage_host next v (fallback a) e = cc
 
 -- a new host gets the next number of a host

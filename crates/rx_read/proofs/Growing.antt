@@ -36,7 +36,7 @@ mark_grows next plain = same 1 next
 stage_grows : (next : Numbers) (v : Fiber) (s : Stage) → Grows 1 next (numbered_at next v s).0
 stage_grows next v (waiting c) = same 1 next
 stage_grows next v (begun m) = mark_grows next m
-stage_grows next v trying = same 1 next
+stage_grows next v (trying c) = same 1 next
 stage_grows next v (fallback a) = same 1 next
 
 pub fiber_grows : (next : Numbers) (v : Fiber) → Grows 1 next (numbered_fiber next v).0

@@ -70,7 +70,7 @@ rest_smaller t i v c s l = let e = l.list in rw e (omega arith)
 pub not_begun : (s : declared.Stage) → ((m : code.Mark) → s ≡ variants.Begun m → ⊥) → mark_in (stage_seen s) ≡ None
 not_begun (variants.Waiting c) h = refl
 not_begun (variants.Begun m) h = absurd (h m refl)
-not_begun variants.Trying h = refl
+not_begun (variants.Trying c) h = refl
 not_begun (variants.Fallback a) h = refl
 
 -- a fiber that stands for no node has none

@@ -21,7 +21,7 @@ use Rattle.rx_read.proofs.Links.{IsKept, draft_kept}
 abbrev HasNumber : Stage → Type 0
 HasNumber (waiting c) = Unit {0}
 HasNumber (begun m) = IsNumbered m
-HasNumber trying = Unit {0}
+HasNumber (trying c) = Unit {0}
 HasNumber (fallback a) = Unit {0}
 
 -- so has each fiber of a list
@@ -55,7 +55,7 @@ fiber_same n v h = by_stage v.stage refl h
     by_stage : (s : Stage) → s ≡ v.stage → HasNumber s → numbered_at n v s ≡ (n, v)
     by_stage (waiting c) e h = refl
     by_stage (begun m) e h = ap (λ own. (own.0, record v { stage = begun own.1 })) (mark_same n m h) ∙ ap (λ s. (n, record v { stage = s })) e
-    by_stage trying e h = refl
+    by_stage (trying c) e h = refl
     by_stage (fallback a) e h = refl
 
 -- a list with its numbers stays as it is

@@ -21,5 +21,5 @@ mark_lacks plain = Nothing
 abbrev pub stage_lacks : Stage → Lack
 stage_lacks (waiting c) = Nothing
 stage_lacks (begun m) = mark_lacks m
-stage_lacks trying = Nothing
+stage_lacks (trying c) = Nothing
 stage_lacks (fallback a) = Nothing

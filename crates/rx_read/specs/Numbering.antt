@@ -13,7 +13,7 @@ use Rattle.rx_fiber.specs.Reading.{IsTreeOf}
 abbrev pub numbered_at : Numbers → Fiber → Stage → Numbers × Fiber
 numbered_at next v (waiting c) = (next, v)
 numbered_at next v (begun m) = let own = numbered_mark next m in (own.0, record v { stage = begun own.1 })
-numbered_at next v trying = (next, v)
+numbered_at next v (trying c) = (next, v)
 numbered_at next v (fallback a) = (next, v)
 
 -- a fiber with its number

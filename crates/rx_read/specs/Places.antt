@@ -10,7 +10,7 @@ use Rattle.rx_fiber.specs.OldLists.{is_fallback, filled}
 abbrev pub mark_in : Stage → Option Mark
 mark_in (waiting c) = None
 mark_in (begun m) = Some m
-mark_in trying = None
+mark_in (trying c) = None
 mark_in (fallback a) = None
 
 -- the children of a node whose fiber has these; a hidden boundary with no fiber of its fallback behind it keeps none

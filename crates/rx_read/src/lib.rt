@@ -4,8 +4,6 @@
 mod laws;
 mod numbering;
 mod reading;
-#[cfg(test)]
-mod tests;
 
 pub use laws::current_trees_have_numbers;
 pub use numbering::{Numbers, made_child, number_made};

@@ -12,16 +12,19 @@ use Rattle.rx_elem.specs.Trees as trees
 use Rattle.rx_hooks.specs.declared.hook.Hook.{Hook}
 use Rattle.rx_lists.specs.Shapes as shapes
 use Rattle.rx_elem.proofs.Equality.{same_element-self}
-use Rattle.rx_links.specs.Drafts.{Fits, Trees, Makes, taken, old_of}
+use Rattle.rx_links.specs.Drafts.{Fits, Trees, Makes, taken, old_of, valued}
 use Rattle.rx_links.specs.Readers.{IsLinked, made_value_in, made_value_of}
 use Rattle.rx_links.proofs.Placed.{is-at}
 use Rattle.rx_meaning.specs.Fresh.{Sight, Contexts, part, shape_of, waiting}
 use Rattle.rx_meaning.specs.Cursor.{Open, falling, Frame, Cursor, at_place, at_end, ended, open_part, arrive, unit, unwind}
 use Rattle.rx_meaning.specs.Counts.{each_body, next_counts}
-use Rattle.rx_fiber.specs.Fibers.{Fiber, is_stood}
+use Rattle.rx_fiber.specs.Fibers.{Fiber, generation_of, is_stood, waiting as waits_with}
 use Rattle.rx_fiber.specs.Passed.{IsPassed}
 use Rattle.rx_fiber.specs.Reading.{IsOld}
-use Rattle.rx_fiber.specs.Standing.{StandsAt}
+use Rattle.rx_fiber.specs.FiberView.{changed}
+use Rattle.rx_fiber.specs.declared.stage.Origin.{Origin}
+use Rattle.rx_fiber.specs.declared.stage.StageChange.TheVariants as change
+use Rattle.rx_fiber.specs.Standing.{StandsAt, begins as begins_place}
 use Rattle.rx_fiber.specs.Surround.{fallback_in, given_along}
 use Rattle.rx_fiber.specs.Unwound.{IsWithin, IsLeftAt}
 use Rattle.rx_complete.specs.Ends.{IsOpenBelow, lies, fiber_in, LeadsTo, to_sibling, to_parent, to_none}
@@ -44,11 +47,10 @@ use Rattle.rx_meaning.specs.Settled.{IfSettled, known_by}
 use Rattle.rx_ways.specs.Ways.{CoversIf}
 use Rattle.rx_causes.specs.Idle.{Rests}
 use Rattle.rx_causes.specs.Marks.{EachBut}
-use Rattle.cost_laws.specs.Allowed.{Flag, in_fallback}
+use Rattle.cost_laws.specs.Evaluated.{beside_kept}
 use Rattle.cost_laws.specs.Causes.{waits_still}
-use Rattle.cost_laws.specs.Costs.{FramesFlagged}
 use Rattle.cost_laws.specs.Left.{Flags, flag, outer}
-use Rattle.cost_laws.specs.Required.{IsUndue}
+use Rattle.cost_laws.specs.Undue.{IsUndue}
 use Rattle.cost_laws.specs.Untouched.{is_element_of, is_untouched}
 use Rattle.flag_laws.specs.Flagged.{FlagsAtEnd, FlagsAtPlace}
 use Rattle.begin_laws.specs.Telling.{TellsIf}
@@ -114,7 +116,7 @@ PaysOpened s kept t st new id bodies at =
 abbrev pub PaysWaiting : Sight → (kept : ℕ → Option (List Hook)) → Trees Fiber → Stack → Trees Fiber → Stack → (id bodies r : ℕ) → Trees Fiber → At → Type 0
 PaysWaiting s kept t st new st' id bodies r last at =
     (n : ℕ) (fs : List Frame) (cs : Contexts) (e : Element) (old : Option Node) (us : Flags) → StandsAt t st (Some id) (at_place (suc n) fs cs e old) → TellsIf s kept old → shape_of s cs e old ≡ waiting r
-    → IsWithin new st' id fs → FramesFlagged us fs → FlagsAtPlace t id us → Paid s t.current bodies us (at_place (suc n) fs cs e old) (unit s (at_place (suc n) fs cs e old)) last at
+    → IsWithin new st' id fs → FlagsAtPlace t id us → Paid s t.current bodies us (at_place (suc n) fs cs e old) (unit s (at_place (suc n) fs cs e old)) last at
 
 -- there is no news in what the old node of a fiber keeps
 abbrev pub HasNoNewsThere : Sight → (kept : ℕ → Option (List Hook)) → Trees Fiber → ℕ → Type 0
@@ -144,7 +146,12 @@ untouched_there s stood e old a ns fs was so still =
 told_there : (t : Trees Fiber) (id : ℕ) (us : Flags) → Fits t → FlagsAtPlace t id us → ((v : Fiber) → Some v ≡ made_value_of t.draft id → is_stood v.stage ≡ true) → (flag us).stood ≡ true
 told_there t id us fits h told =
     let at = is-at t fits h.flags.around id h.flags.value h.flags.old (taken shapes.none) h.flags.rest h.flags.here in
-    sym h.stood ∙ told h.flags.value (sym (ap made_value_in at.list))
+    sym h.told.1 ∙ told h.flags.value (sym (ap made_value_in at.list))
+
+generation_there : (t : Trees Fiber) (id : ℕ) (us : Flags) → Fits t → FlagsAtPlace t id us → ((v : Fiber) → Some v ≡ made_value_of t.draft id → generation_of v.stage ≡ 0) → (flag us).generation ≡ 0
+generation_there t id us fits h told =
+    let at = is-at t fits h.flags.around id h.flags.value h.flags.old (taken shapes.none) h.flags.rest h.flags.here in
+    sym h.told.0 ∙ told h.flags.value (sym (ap made_value_in at.list))
 
 -- a unit that begins the place of a fiber evaluates at most so many bodies
 abbrev pub AreFew : Sight → Trees Fiber → Stack → (id bodies : ℕ) → Type 0
@@ -160,7 +167,7 @@ module _ (s : Sight) (way : ℕ → Bool) (kept : ℕ → Option (List Hook)) (t
         next = unit s (at_place (suc n) fs cs e old);
         goes = by_unit (few n fs cs e old h);
         comes = place_comes new st' child _ b.0 b.1;
-        paid = λ us causes flagged are. pays n fs cs e old us h gives.1 causes.0 b.2 are;
+        paid = λ us causes are. pays n fs cs e old us h gives.1 causes.0 b.2 are;
       }
 
   pub leaf_advances : BeginsPlace s way kept t st new st' id Leaf → PaysOpened s kept t st new id bodies (Completes id) → Advances s way kept t st (Begins id) bodies new st' (Completes id)
@@ -171,7 +178,7 @@ module _ (s : Sight) (way : ℕ → Bool) (kept : ℕ → Option (List Hook)) (t
         next = unit s (at_place (suc n) fs cs e old);
         goes = by_unit (few n fs cs e old h);
         comes = end_comes new st' id _ b.0 b.1;
-        paid = λ us causes flagged are. pays n fs cs e old us h gives.1 causes.0 b.2 are;
+        paid = λ us causes are. pays n fs cs e old us h gives.1 causes.0 b.2 are;
       }
 
   pub waits_advances : (r : ℕ) (last : Trees Fiber) (st'' : Stack) (a : At) → BeginsPlace s way kept t st new st' id (Suspended r)
@@ -184,7 +191,7 @@ module _ (s : Sight) (way : ℕ → Bool) (kept : ℕ → Option (List Hook)) (t
         next = unit s (at_place (suc n) fs cs e old);
         goes = by_unit (few n fs cs e old h);
         comes = subst (ComesTo last st'' a) (sym b.1) (comes (suc n) fs b.4);
-        paid = λ us causes flagged are. pays n fs cs e old us h causes.0 b.0 b.4 flagged are;
+        paid = λ us causes are. pays n fs cs e old us h causes.0 b.0 b.4 are;
       }
 
 -- a boundary evaluates none
@@ -206,21 +213,21 @@ module _ (s : Sight) (t new : Trees Fiber) (st' : Stack) (p n : ℕ) (fs : List 
 module _ (s : Sight) (t new last : Trees Fiber) (st' : Stack) (p n : ℕ) (fs : List Frame) (cs : Contexts) (e : Element) (old : Option Node) (a : Awaits) (us : Flags) (next : At) (linked : IsLinked t.current)
     (h : IsHiddenAgain s t new st' p n fs cs e old a) where
   hidden_pays : (bodies : ℕ) → bodies ≡ 0 → is_untouched s (flag us).stood e old ≡ true
-      → UnitPays s t.current bodies us (at_place (suc n) fs cs e old) (in_fallback s (flag us) e old ∷ us) (open_part n fs (falling e old a) (part cs (fallback_in e ∷ []) (fallback_if old)))
+      → UnitPays s t.current bodies us (at_place (suc n) fs cs e old) (beside_kept ∷ us) (open_part n fs (falling e old a) (part cs (fallback_in e ∷ []) (fallback_if old)))
   hidden_pays bodies none out =
       let so : is_untouched s (flag us).stood (elements.boundary h.key h.fallback h.given) (Some (node (elements.boundary h.key h.fallback h.given) (of_boundary (Hidden a)) h.kept h.shown)) ≡ true =
       subst (λ x. is_untouched s (flag us).stood x (Some (node x (of_boundary (Hidden a)) h.kept h.shown)) ≡ true) h.boundary (subst (λ o. is_untouched s (flag us).stood e o ≡ true) h.was out)
       in
       rw (h.was, h.boundary) (paying.past_attempt none linked h.stood (hidden_old s t new st' p n fs cs e old a linked h) h.unresolved h.agree so)
 
-  hidden_paid : (bodies : ℕ) → bodies ≡ 0 → is_untouched s (flag us).stood e old ≡ true → HasFlags last next (in_fallback s (flag us) e old ∷ us)
+  hidden_paid : (bodies : ℕ) → bodies ≡ 0 → is_untouched s (flag us).stood e old ≡ true → HasFlags last next (beside_kept ∷ us)
       → Paid s t.current bodies us (at_place (suc n) fs cs e old) (open_part n fs (falling e old a) (part cs (fallback_in e ∷ []) (fallback_if old))) last next
-  hidden_paid bodies none out flags = record { flags = in_fallback s (flag us) e old ∷ us; are = flags; pays = hidden_pays bodies none out }
+  hidden_paid bodies none out flags = record { flags = beside_kept ∷ us; are = flags; pays = hidden_pays bodies none out }
 
 module _ (s : Sight) (way : ℕ → Bool) (kept : ℕ → Option (List Hook)) (t : Trees Fiber) (st : Stack) (new : Trees Fiber) (st' : Stack) (id bodies : ℕ) where
   pub hidden_advances : (a : Awaits) (last : Trees Fiber) (next : At) → AreFew s t st id bodies → Fits t → IsLinked t.current → BeginsPlace s way kept t st new st' id (answers.Hidden a)
       → ((c : Cursor) → (l : IsLeftAt new st' id (taken shapes.none) a c) → HasOldFallback new.current (given_along l.frames) l.old l.node l.value.element → ComesTo last st' next c)
-      → HasNoNewsThere s kept t id → ((us : Flags) (u : Flag) → u.stood ≡ true → FlagsAtPlace t id us → HasFlags last next (u ∷ us)) → Advances s way kept t st (Begins id) bodies last st' next
+      → HasNoNewsThere s kept t id → ((us : Flags) → FlagsAtPlace t id us → HasFlags last next (beside_kept ∷ us)) → Advances s way kept t st (Begins id) bodies last st' next
   hidden_advances a last next few fits linked begins comes none_new opened _ (to_place {levels = zero} h) level gives = absurd (omega (arith, level))
   hidden_advances a last next few fits linked begins comes none_new opened _ (to_place {levels = suc n} {fs = fs} {cs = cs} {e = e} {old = old} h) level gives =
       let b = begins n fs cs e old h gives.0 gives.1 gives.2 in
@@ -229,10 +236,10 @@ module _ (s : Sight) (way : ℕ → Bool) (kept : ℕ → Option (List Hook)) (t
         next = _;
         goes = hidden_goes s t new st' id n fs cs e old a linked b bodies none;
         comes = comes _ b.left b.again;
-        paid = λ us causes flagged are.
+        paid = λ us causes are.
             let still = waits_there s kept t id old e a b.kept b.shown b.was b.old_is causes.0 b.unresolved none_new in
             let out = untouched_there s (flag us).stood e old a b.kept b.shown b.was (told_there t id us fits are b.told) still in
-            hidden_paid s t new last st' id n fs cs e old a us next linked b bodies none out (opened us (in_fallback s (flag us) e old) out are);
+            hidden_paid s t new last st' id n fs cs e old a us next linked b bodies none out (opened us are);
       }
 
 -- past a subtree that is taken over
@@ -250,29 +257,30 @@ module _ (s : Sight) (t new : Trees Fiber) (st' : Stack) (p n : ℕ) (fs : List 
       let covered : CoversIf way (IsUndue s) (Some h.node) = subst (CoversIf way (IsUndue s)) h.was causes.1 in
       there.undue way (rested h.node (subst (IsOld t.current (old_of t.draft p)) h.was h.old_is)) covered
 
-  taken_pays : (way : ℕ → Bool) (kept : ℕ → Option (List Hook)) (us : Flags) (bodies : ℕ) → bodies ≡ 0 → RestsThere s way kept t p → CausesAt s way kept (at_place (suc n) fs cs e old)
+  taken_pays : (way : ℕ → Bool) (kept : ℕ → Option (List Hook)) (us : Flags) (bodies : ℕ) → bodies ≡ 0 → RestsThere s way kept t p → CausesAt s way kept (at_place (suc n) fs cs e old) → (flag us).generation ≡ 0
       → UnitPays s t.current bodies us (at_place (suc n) fs cs e old) us (arrive (suc n) fs (Some h.node))
-  taken_pays way kept us bodies none rested causes =
+  taken_pays way kept us bodies none rested causes again =
       subst (λ o. UnitPays s t.current bodies us (at_place (suc n) fs cs e o) us (arrive (suc n) fs (Some h.node))) (sym h.was)
-      (paying.past_subtree none linked h.stood (subst (IsOld t.current (old_of t.draft p)) h.was h.old_is) h.same h.idle (taken_undue way kept rested causes))
+      (paying.past_subtree none linked h.stood (subst (IsOld t.current (old_of t.draft p)) h.was h.old_is) h.same h.idle (taken_undue way kept rested causes) again)
 
 module _ (s : Sight) (way : ℕ → Bool) (kept : ℕ → Option (List Hook)) (t : Trees Fiber) (st : Stack) (new : Trees Fiber) (st' : Stack) (id bodies : ℕ) where
-  pub taken_advances : (r : Next) → bodies ≡ 0 → IsLinked t.current → BeginsPlace s way kept t st new st' id answers.Taken → RestsThere s way kept t id → ((us : Flags) (x : Node) → FlagsAtPlace t id us → IsOld t.current (old_of t.draft id) (Some x) → HasFlags new (at_after r) us)
+  pub taken_advances : (r : Next) → bodies ≡ 0 → IsLinked t.current → BeginsPlace s way kept t st new st' id answers.Taken → RestsThere s way kept t id → Fits t → ((v : Fiber) → Some v ≡ made_value_of t.draft id → generation_of v.stage ≡ 0)
+      → ((us : Flags) (x : Node) → FlagsAtPlace t id us → IsOld t.current (old_of t.draft id) (Some x) → HasFlags new (at_after r) us)
       → ((levels : ℕ) (fs : List Frame) (x : Node) → IsPassed new st' id fs x → StandsAt new st' (fiber_in r) (arrive levels fs (Some x)))
       → ((levels : ℕ) (fs : List Frame) (x : Node) → IsPassed new st' id fs x → LeadsTo r (arrive levels fs (Some x)))
       → Advances s way kept t st (Begins id) bodies new st' (at_after r)
-  taken_advances r none linked begins rested passed there leads _ (to_place {levels = zero} h) level gives = absurd (omega (arith, level))
-  taken_advances r none linked begins rested passed there leads _ (to_place {levels = suc n} {fs = fs} {cs = cs} {e = e} {old = old} h) level gives =
+  taken_advances r none linked begins rested fits again passed there leads _ (to_place {levels = zero} h) level gives = absurd (omega (arith, level))
+  taken_advances r none linked begins rested fits again passed there leads _ (to_place {levels = suc n} {fs = fs} {cs = cs} {e = e} {old = old} h) level gives =
       let b = begins n fs cs e old h gives.0 gives.1 gives.2 in
       record {
         next = arrive (suc n) fs (Some b.node);
         goes = taken_goes s t new st' id n fs cs e old linked b bodies none;
         comes = leads_comes new st' r (arrive (suc n) fs (Some b.node)) (leads (suc n) fs b.node b.passed) (there (suc n) fs b.node b.passed);
-        paid = λ us causes flagged are.
+        paid = λ us causes are.
             record {
               flags = us;
               are = passed us b.node are (subst (IsOld t.current (old_of t.draft id)) b.was b.old_is);
-              pays = taken_pays s t new st' id n fs cs e old linked b way kept us bodies none rested causes;
+              pays = taken_pays s t new st' id n fs cs e old linked b way kept us bodies none rested causes (generation_there t id us fits are again);
             };
       }
 
@@ -310,6 +318,16 @@ pub hidden_left : (scene : Scene) (kept : ℕ → Option (List Hook)) (t : Trees
 hidden_left scene kept t st new st' id a can begins =
     let b = begins can.sight can.sees can.levels can.frames can.contexts_are can.element can.old can.stands can.gives can.settled can.covers in left b.left
 
+-- a boundary that is tried keeps what its fiber waited with
+pub hidden_tried : (scene : Scene) (kept : ℕ → Option (List Hook)) (t : Trees Fiber) (st : Stack) (new : Trees Fiber) (id : ℕ) → Fits t → CanBegin scene kept t st id
+    → ((v : Fiber) (c : Origin) → Some v ≡ made_value_of t.draft id → v.stage ≡ waits_with c → new ≡ record t { draft = valued id (changed (change.Try c)) t.draft })
+    → (c : Origin) × (new ≡ record t { draft = valued id (changed (change.Try c)) t.draft })
+hidden_tried scene kept t st new id fits can tells = go can.stands
+  where
+    go : StandsAt t st (Some id) (at_place (suc can.levels) can.frames can.contexts_are can.element can.old) → (c : Origin) × (new ≡ record t { draft = valued id (changed (change.Try c)) t.draft })
+    go (begins_place {v = v} {o = o} {rs = rs} {k = k} here is was surrounds values stack) =
+        (is.origin, tells v is.origin (sym (ap made_value_in (is-at t fits k id v o (taken shapes.none) rs here).list)) is.stage)
+
 -- where a subtree is taken over, its fiber can be passed
 pub taken_made : (scene : Scene) (kept : ℕ → Option (List Hook)) (t : Trees Fiber) (st : Stack) (new : Trees Fiber) (st' : Stack) (id : ℕ) → CanBegin scene kept t st id → KnowsPlaces new
     → ((s : Sight) → IsSceneOf scene s → BeginsPlace s (is_way scene.ways.now) kept t st new st' id answers.Taken) → Makes new.draft id
@@ -326,7 +344,7 @@ end_advances s way kept t st new st' id a f go _ (to_end {levels = levels} {fs =
   next = unit s (at_end levels fs o done);
   goes = by_unit (omega arith);
   comes = f levels fs o done h;
-  paid = λ us causes flagged are. record { flags = outer us; are = go us are; pays = paying.by_unit tt (omega arith) (omega arith) };
+  paid = λ us causes are. record { flags = outer us; are = go us are; pays = paying.by_unit tt refl };
 }
 
 -- Results

@@ -84,7 +84,7 @@ module _ (base : Contexts) where
   shape_given s cs (elements.text t) ws old h = h
   shape_given s cs (elements.host name key attrs es) ws old h = h
   shape_given s cs (elements.comp c key props given) ws old h = component_given s cs c key props given ws old (component_at s.program c) h
-  shape_given s cs (elements.list es) ws old h = h
+  shape_given s cs (elements.list marked es) ws old h = h
   shape_given s cs (elements.boundary key f es) ws old h = (refl, h, h)
   shape_given s cs (elements.provider c key x es) ws old h = ap (λ l. slice_set l c x) h
 

@@ -27,7 +27,7 @@ use Rattle.rx_model.specs.Committing.{sight_of}
 use Rattle.rx_model.specs.HooksOf.{KeepsAllHooks}
 use Rattle.rx_causes.specs.Idle.{Rests}
 use Rattle.rx_causes.specs.Scenes.{TellsWork}
-use Rattle.cost_laws.specs.Required.{IsUndue}
+use Rattle.cost_laws.specs.Undue.{IsUndue}
 use Rattle.begin_laws.proofs.Hooks.{undue_at}
 use Rattle.begin_laws.specs.Mounting.{IfMounted, HasInstances, HasInstancesIn}
 use Rattle.rx_render.specs.Renders.{GivesAll}

@@ -1,6 +1,6 @@
 -- The end of a render, and the units before it.
-use Rattle.std.specs.Prelude.{◌≡◌, ℕ, ◌<◌, ◌≤◌, Option, Some, refl}
-use Rattle.std.proofs.Common.{◌∙◌, arith}
+use Rattle.std.specs.Prelude.{◌≡◌, ℕ, ◌<◌, Option, Some, length, refl}
+use Rattle.std.proofs.Common.{◌∙◌, sym, arith}
 use Rattle.rx_ast.specs.Syntax.{Program}
 use Rattle.rx_ctx.specs.Contexts.{Stack}
 use Rattle.rx_elem.specs.Trees.{Node}
@@ -21,12 +21,11 @@ use Rattle.render_laws.proofs.GoingLaws.{holds_unfinished, holds_last}
 use Rattle.render_laws.proofs.Bounded.{units_within}
 use Rattle.rx_render.specs.declared.at.At.{At}
 use Rattle.rx_render.specs.declared.at.At.TheVariants.{Over}
-use Rattle.cost_laws.specs.Allowed.{whole_allowed}
-use Rattle.cost_laws.specs.Costs.{Costs}
-use Rattle.cost_laws.specs.Left.{Flags}
-use Rattle.cost_laws.specs.Required.{PassesNone, whole_required}
+use Rattle.cost_laws.specs.Left.{Costs, Flags}
+use Rattle.cost_laws.specs.Places.{AreEvaluated, evaluated_places}
 use Rattle.cost_laws.proofs.CostLaws.{last_costs}
-use Rattle.cost_laws.proofs.Requiring.{last_passes}
+use Rattle.cost_laws.proofs.ComingCounts.{places_counted}
+use Rattle.cost_laws.proofs.Caused.{are_evaluated}
 use Rattle.rx_render.specs.Rendering.{Rendering, IfLeft, ComesTo, to_place, to_end, to_tree, to_wait}
 use Rattle.rx_render.specs.Renders.{HasCome, Renders}
 
@@ -41,19 +40,20 @@ no_wait p bounded s old same units bodies a h =
 -- what a render has made where no unit is left
 abbrev Ends : Trees Fiber → Sight → Option Node → (units bodies : ℕ) → Type 0
 Ends t s old units bodies =
-    (x : Node) × IsTreeOf (Some x) (grafted t.draft) × (fresh s old ≡ made x) × (bodies < units) × (whole_required s old ≤ bodies) × (bodies ≤ whole_allowed s old)
+    (x : Node) × IsTreeOf (Some x) (grafted t.draft) × (fresh s old ≡ made x) × (bodies < units) × (bodies ≡ length (evaluated_places s old)) × AreEvaluated s old
 
 ends_as : (p : Program) → IsBounded p → (s : Sight) (old : Option Node) → s.program ≡ p → (units bodies : ℕ) (t : Trees Fiber) (st : Stack) (at : At) (c : Cursor)
-    → ComesTo t st at c → at ≡ Over → InProgress s old units bodies c → (us : Flags) → PassesNone s old bodies us c → Costs s old bodies us c → Ends t s old units bodies
-ends_as p bounded s old same units bodies t st _ c (to_place h) e g us none costs = absurd (let f : ⊥ = cc in f)
-ends_as p bounded s old same units bodies t st _ c (to_end h) e g us none costs = absurd (let f : ⊥ = cc in f)
-ends_as p bounded s old same units bodies t st _ _ (to_tree (over {x = x} tree few empty)) e g us none costs =
-    let (made_it, fewer) = holds_last g in (x, tree, made_it, fewer, last_passes s old bodies us (made x) none, last_costs s old bodies us (made x) costs)
-ends_as p bounded s old same units bodies t st _ _ (to_wait {a = a}) e g us none costs = absurd (no_wait p bounded s old same units bodies a g)
+    → ComesTo t st at c → at ≡ Over → InProgress s old units bodies c → (us : Flags) → Costs s old bodies us c → AreEvaluated s old → Ends t s old units bodies
+ends_as p bounded s old same units bodies t st _ c (to_place h) e g us costs places = absurd (let f : ⊥ = cc in f)
+ends_as p bounded s old same units bodies t st _ c (to_end h) e g us costs places = absurd (let f : ⊥ = cc in f)
+ends_as p bounded s old same units bodies t st _ _ (to_tree (over {x = x} tree few empty)) e g us costs places =
+    let (made_it, fewer) = holds_last g in (x, tree, made_it, fewer, last_costs s old bodies us (made x) costs ∙ sym (places_counted s old), places)
+ends_as p bounded s old same units bodies t st _ _ (to_wait {a = a}) e g us costs places = absurd (no_wait p bounded s old same units bodies a g)
 
 pub renders_end : (p : Program) → IsBounded p → (st : State) (g : Progress) (v : Rendering) → Renders p st g v → v.at ≡ Over
     → Ends v.trees (sight_of p st g) st.tree v.units v.bodies
-renders_end p bounded st g v r e = ends_as p bounded (sight_of p st g) st.tree refl v.units v.bodies v.trees v.contexts v.at r.come.cursor r.come.comes e r.come.goes r.costs.flags r.costs.enough r.costs.few
+renders_end p bounded st g v r e = ends_as p bounded (sight_of p st g) st.tree refl v.units v.bodies v.trees v.contexts v.at r.come.cursor r.come.comes e r.come.goes r.costs.flags r.costs.counted
+    (are_evaluated (sight_of p st g) st.tree r.settled r.done r.rooted)
 
 bounded_as : (s : Sight) (old : Option Node) → IsBounded s.program → (units bodies : ℕ) (t : Trees Fiber) (st : Stack) (at : At) (c : Cursor)
     → ComesTo t st at c → InProgress s old units bodies c → IfLeft at (units < unit_bound s.program)

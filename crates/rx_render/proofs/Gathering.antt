@@ -1,5 +1,5 @@
 -- What is at or below fibers is gathered along a render.
-use Rattle.std.specs.Prelude.{List, ◌≡◌, ℕ, Bool, true, false, Option, Some, None, IfSome, option_and_then, if◌then◌else◌}
+use Rattle.std.specs.Prelude.{List, ◌≡◌, ℕ, Bool, true, false, ◌&&◌, Option, Some, None, IfSome, option_and_then, if◌then◌else◌}
 use Rattle.std.specs.Option.{option_map_or}
 use Rattle.std.proofs.Common.{refl, sym, ap, ◌∙◌, subst}
 use Rattle.rx_ctx.specs.Contexts.{Stack}
@@ -15,7 +15,7 @@ use Rattle.rx_links.proofs.Placed.{is-at}
 use Rattle.rx_meaning.specs.Fresh.{Sight}
 use Rattle.rx_fiber.specs.declared.stage.Origin.{Origin}
 use Rattle.rx_fiber.specs.declared.stage.StageChange.TheVariants as change
-use Rattle.rx_fiber.specs.Fibers.{Fiber, Stage, waiting, begun, trying, fallback, is_cloned, joined, nothing, marked_subtree, own_subtree, completed_stage}
+use Rattle.rx_fiber.specs.Fibers.{Fiber, Stage, waiting, begun, trying, fallback, generation_of, joined, nothing, marked_subtree, own_subtree, completed_stage}
 use Rattle.rx_fiber.specs.FiberView.{changed}
 use Rattle.rx_fiber.specs.Reading.{IsOld}
 use Rattle.rx_fiber.specs.Subtrees.{IsGathered, IsGatheredOver, subtree_at, subtrees_of}
@@ -34,7 +34,9 @@ use Rattle.rx_ways.specs.Ways.{is_way}
 use Rattle.rx_begin.specs.Beginning.{BeginsPlace, is_opened}
 use Rattle.rx_begin.specs.Nodes.{HasTaken, begun_over, taken_as}
 use Rattle.rx_begin.specs.Opening.{HasFallbackKids, alone, beside, opened_at}
-use Rattle.rx_begin.specs.Origins.{AllWait, HasKids, TellsSteady}
+use Rattle.rx_begin.specs.Origins.{AllWait, HasKids, TellsAgain, TellsSteady}
+use Rattle.rx_elem.specs.Elements.{stands_for_children}
+use Rattle.rx_meaning.specs.Generations.{generation_below}
 use Rattle.rx_begin.specs.declared.node.Begun.{Begun}
 use Rattle.rx_begin.specs.declared.node.Begun.TheVariants.{Child, Leaf}
 use Rattle.rx_begin.specs.declared.node.Begun.TheVariants as answers
@@ -152,7 +154,7 @@ end_gathered t new q r fits is next h =
 begun_of : (s : Stage) (m : Mark) → begun_mark s ≡ Some m → s ≡ begun m
 begun_of (waiting c) m e = absurd (let q : ⊥ = cc in q)
 begun_of (begun n) m e = ap begun (let q : n ≡ m = cc in q)
-begun_of trying m e = absurd (let q : ⊥ = cc in q)
+begun_of (trying c) m e = absurd (let q : ⊥ = cc in q)
 begun_of (fallback a) m e = absurd (let q : ⊥ = cc in q)
 
 taken_over : (c : Shape Fiber) → IsLinked c → (o : Option ℕ) → IfSome o (Holds c) → IsGathered c → (m : Mark) → mark_at c o ≡ Some m → (v : Fiber)
@@ -222,23 +224,23 @@ begun_none (made id v o ks rs) bare e = absurd (let q : ⊥ = cc in q)
 
 module _ (t new : Trees Fiber) (id : ℕ) (fits : Fits t) (evaluated : Bool) (b : Begun)
     (says : (v : Fiber) → Some v ≡ made_value_of t.draft id → is_opened b ≡ true
-    → (cloned steady : Bool) × TellsSteady t.current (old_of t.draft id) v steady
-    × (is_cloned v.stage ≡ true → evaluated ≡ false → keeps_children true (mark_at t.current (old_of t.draft id)) ≡ true → cloned ≡ true)
-    × ((h : HasKids (record { cloned = cloned; stood = steady }) t new id) × (b ≡ begun_over h.kids))) (here : GatheredHere t id) where
+    → (origin : Origin) × (again : Bool) × TellsSteady t.current (old_of t.draft id) v origin.stood × TellsAgain t.current (old_of t.draft id) v again
+    × (origin.generation ≡ generation_below evaluated (again && keeps_children true (mark_at t.current (old_of t.draft id))) (stands_for_children v.element) (generation_of v.stage))
+    × ((h : HasKids origin t new id) × (b ≡ begun_over h.kids))) (here : GatheredHere t id) where
   its_value : Some here.value ≡ made_value_of t.draft id
   its_value = sym (ap made_value_in (is-at t fits here.around id here.value here.old (taken shapes.none) here.rest here.here).list)
 
   pub child_gathered : (child : ℕ) → b ≡ Child child → GatheredHere new child
   child_gathered child is =
-      let (cloned, steady, steadiness, clones, (kids, over)) = says here.value its_value (ap is_opened is) in
+      let (origin, again, steadiness, telling, generation, (kids, over)) = says here.value its_value (ap is_opened is) in
       subst (λ f. IsGathering new (at_opened (opened_at f id))) (begun_first kids.kids child (sym is ∙ over))
       (open_gathered new here.around id (kids.value here.value) here.old kids.kids here.rest (kids.stands here.around here.value here.old here.rest here.here) here.gathered here.follow
-      (wait_bare (record { cloned = cloned; stood = steady }) kids.kids kids.all))
+      (wait_bare origin kids.kids kids.all))
 
   pub leaf_gathered : b ≡ Leaf → GatheredAtEnd new id
   leaf_gathered is =
-      let (cloned, steady, steadiness, clones, (kids, over)) = says here.value its_value (ap is_opened is) in
-      let bare : AllBare kids.kids = wait_bare (record { cloned = cloned; stood = steady }) kids.kids kids.all in
+      let (origin, again, steadiness, telling, generation, (kids, over)) = says here.value its_value (ap is_opened is) in
+      let bare : AllBare kids.kids = wait_bare origin kids.kids kids.all in
       subst (λ f. IsGathering new (at_opened (opened_at f id))) (begun_none kids.kids bare (sym is ∙ over))
       (open_gathered new here.around id (kids.value here.value) here.old kids.kids here.rest (kids.stands here.around here.value here.old here.rest here.here) here.gathered here.follow bare)
 
@@ -253,28 +255,29 @@ fallback_gathered origin t new q h current f (beside kids value kept id w old st
     (over h.around h.value h.old h.rest h.here current, h.gathered) h.follow (wait_bare origin kids all))
 
 -- that of a boundary that waits still
-pub again_gathered : (origin : Origin) (t tried new : Trees Fiber) (id : ℕ) (f : Opened) → Fits t → tried ≡ record t { draft = valued id (changed change.Try) t.draft } → HasFallbackKids origin tried new id f
+pub again_gathered : (origin : Origin) (t tried new : Trees Fiber) (id : ℕ) (tries : Origin) (f : Opened) → Fits t → tried ≡ record t { draft = valued id (changed (change.Try tries)) t.draft } → HasFallbackKids origin tried new id f
     → IsGathered t.current → GatheredHere t id → IsGathering new (at_opened f)
-again_gathered origin t tried new id f fits is kids current h =
+again_gathered origin t tried new id tries f fits is kids current h =
     let at = is-at t fits h.around id h.value h.old (taken shapes.none) h.rest h.here in
     let here : GatheredHere tried id = record {
       around = h.around;
-      value = changed change.Try h.value;
+      value = changed (change.Try tries) h.value;
       old = h.old;
       rest = h.rest;
-      here = ap (λ x. x.draft) is ∙ at.value (changed change.Try);
+      here = ap (λ x. x.draft) is ∙ at.value (changed (change.Try tries));
       gathered = h.gathered;
       follow = h.follow;
     } in
     fallback_gathered origin tried new id here (subst IsGathered (sym (ap (λ x. x.current) is)) current) f kids
 
 -- that of the nearest boundary outside of a place that waits
-pub unwound_gathered : (origin : Origin) (t dropped new : Trees Fiber) (q p : ℕ) (f : Opened) (h : GatheredHere t p) → dropped.current ≡ t.current
+pub unwound_gathered : (t dropped new : Trees Fiber) (q p : ℕ) (f : Opened) (h : GatheredHere t p) → Fits dropped → dropped.current ≡ t.current
     → ((u : Outer) × (nearest h.around ≡ Some u) × (u.id ≡ q) × (dropped.draft ≡ placed u.around (made q u.value u.old (taken shapes.none) u.rest)))
-    → HasFallbackKids origin dropped new q f → IsGathered t.current → IsGathering new (at_opened f)
-unwound_gathered origin t dropped new q p f h same found kids current =
+    → ((v : Fiber) → Some v ≡ made_value_of dropped.draft q → (origin : Origin) × HasFallbackKids origin dropped new q f) → IsGathered t.current → IsGathering new (at_opened f)
+unwound_gathered t dropped new q p f h fits same found says current =
     let (u, near, id, here) = found in
     let outside = nearest_gathered h.around u h.gathered near in
+    let (origin, kids) = says u.value (sym (ap made_value_in (is-at dropped fits u.around q u.value u.old (taken shapes.none) u.rest here).list)) in
     fallback_gathered origin dropped new q
     (record { around = u.around; value = u.value; old = u.old; rest = u.rest; here = here; gathered = outside.1; follow = outside.0 }) (subst IsGathered (sym same) current) f kids
 
@@ -294,7 +297,7 @@ mark_same next plain = refl
 stage_same : (next : Numbers) (v : Fiber) (s : Stage) → v.stage ≡ s → ((numbered_at next v s).1.subtree ≡ v.subtree) × (own_subtree (numbered_at next v s).1.stage ≡ own_subtree v.stage)
 stage_same next v (waiting c) e = (refl, refl)
 stage_same next v (begun m) e = (refl, mark_same next m ∙ sym (ap own_subtree e))
-stage_same next v trying e = (refl, refl)
+stage_same next v (trying c) e = (refl, refl)
 stage_same next v (fallback a) e = (refl, refl)
 
 kept_same : (next : Numbers) (d : Draft Fiber) → subtrees_of (grafted (numbered_draft next d).1) ≡ subtrees_of (grafted d)

@@ -50,13 +50,13 @@ use Rattle.rx_render.specs.Renders.{Sees, GivesAll, HasCome, HasCosts, Renders, 
 use Rattle.rx_render.specs.Gathers.{IsGathering}
 use Rattle.rx_render.specs.Turning.{Proceeds, UnitBreaksOff, GivesUp}
 use Rattle.rx_render.specs.LastUnit.{unit_before, is_over}
-use Rattle.cost_laws.specs.Costs.{Costs}
-use Rattle.cost_laws.specs.Required.{IsUndue, PassesNone}
+use Rattle.cost_laws.specs.Left.{Costs}
+use Rattle.cost_laws.specs.Undue.{IsUndue}
 use Rattle.begin_laws.proofs.Hooks.{hooks_tell}
 use Rattle.rx_render.specs.Costing.{CausesAt}
 use Rattle.rx_render.specs.Advancing.{IsReadyAt, GivesAt, Advances}
 use Rattle.rx_render.proofs.Contexts.{as_many, one_each}
-use Rattle.rx_render.proofs.Reaching.{DrawsOn, Reaches, pays_enough, pays_few, reaches}
+use Rattle.rx_render.proofs.Reaching.{DrawsOn, Reaches, pays, reaches}
 use Rattle.rx_render.proofs.Ending.{come_bounded}
 
 -- the element of a place is drawn
@@ -167,14 +167,13 @@ module _ (old new : Rendering) (evaluated : ℕ) (step : Stepped old new evaluat
       let c = come.cursor in
       let level : HasLevel c = fit_has_level s.program c come.goes.fits come.goes.stands in
       let next = step.advances s sees c come.comes level (gives_at s (is_way old.ways) st.tree (kept_hooks old.hooks) gives settled covers c come.olds come.rests) in
-      let paid = next.paid costs.flags (causes_at p st g c keeps come.olds come.rests costs.undue) costs.few.flagged costs.are in
+      let paid = next.paid costs.flags (causes_at p st g c keeps come.olds come.rests costs.undue) costs.are in
       let at : Reaches s st.tree old.units old.bodies c = record { goes = come.goes; drawn = come.drawn; given = come.given; olds = come.olds; rests = come.rests; reached = come.reached } in
       let checked : unknowns s.program ≡ [] = subst (λ q. unknowns q ≡ []) (sym sees.program) known in
       record {
         flags = paid.flags;
         are = paid.are;
-        few = subst (λ b. Costs s st.tree b paid.flags next.next) (sym step.bodies) (pays_few s st.tree old.trees.current current settled waits reads draws checked old.units old.bodies evaluated c next.next costs.flags paid.flags paid.pays at costs.few);
-        enough = subst (λ b. PassesNone s st.tree b paid.flags next.next) (sym step.bodies) (pays_enough s st.tree old.trees.current current settled waits reads draws checked old.units old.bodies evaluated c next.next costs.flags paid.flags paid.pays at costs.enough);
+        counted = subst (λ b. Costs s st.tree b paid.flags next.next) (sym step.bodies) (pays s st.tree old.trees.current current settled waits reads draws checked old.units old.bodies evaluated c next.next costs.flags paid.flags paid.pays at costs.counted);
         undue = subst (λ w. CoversIf (is_way w) (IsUndue s) st.tree) (sym step.ways) costs.undue;
       }
 
@@ -204,6 +203,7 @@ module _ (old new : Rendering) (evaluated : ℕ) (step : Stepped old new evaluat
         done = r.done;
         past = r.past;
         settled = r.settled;
+        rooted = r.rooted;
         waits = r.waits;
         reads = r.reads;
         covers = subst (λ w. CoversIf (is_way w) (IsIdleMark (sight_of p st g)) st.tree) (sym step.ways) r.covers;
@@ -261,12 +261,12 @@ step_rendering old new evaluated step draws gathers is left =
 -- What a unit needs
 
 ready_as : (s : Sight) (tree : Option Node) (v : Rendering) → Sees v s → GivesAll s tree (kept_hooks v.hooks) → IfSettled s.program (known_by s) tree → CoversIf (is_way v.ways) (IsIdleMark s) tree → DrawsPlace → (scene : Scene)
-    → IsSceneOf scene s → scene.checked.now ≡ s.program → scene.ways.now ≡ v.ways
+    → IsSceneOf scene s → scene.checked.now ≡ s.program → scene.ways.now ≡ v.ways → IsGathered v.trees.current
     → (at : At) (c : Cursor) → ComesTo v.trees v.contexts at c → InProgress s tree v.units v.bodies c → CursorDrawn s.program c → CursorGiven (default_contexts s.program) c
     → CursorHas (HasInstances tree) c → CursorHas (GoesWith tree) c → cursors.is_over c ≡ false → IsReadyAt scene (kept_hooks v.hooks) v.trees v.contexts at
-ready_as s tree v see gives settled covers draws scene sees same ways _ _ (to_place {levels = zero} {fs = fs} {cs = cs} {e = e} {old = old} h) goes drawn given olds rests busy =
+ready_as s tree v see gives settled covers draws scene sees same ways gathered _ _ (to_place {levels = zero} {fs = fs} {cs = cs} {e = e} {old = old} h) goes drawn given olds rests busy =
     absurd (let l : HasLevel (at_place zero fs cs e old) = fit_has_level s.program (at_place zero fs cs e old) goes.fits goes.stands in omega (arith, l))
-ready_as s tree v see gives settled covers draws scene sees same ways _ _ (to_place {id = id} {levels = suc n} {fs = fs} {cs = cs} {e = e} {old = old} h) goes drawn given olds rests busy =
+ready_as s tree v see gives settled covers draws scene sees same ways gathered _ _ (to_place {id = id} {levels = suc n} {fs = fs} {cs = cs} {e = e} {old = old} h) goes drawn given olds rests busy =
     record {
       sight = s;
       sees = sees;
@@ -282,13 +282,14 @@ ready_as s tree v see gives settled covers draws scene sees same ways _ _ (to_pl
       settled = (gives_at s (is_way v.ways) tree (kept_hooks v.hooks) gives settled covers (at_place (suc n) fs cs e old) olds rests).1;
       covers = subst (λ w. CoversIf (is_way w) (IsIdleMark s) old) (sym ways) (gives_at s (is_way v.ways) tree (kept_hooks v.hooks) gives settled covers (at_place (suc n) fs cs e old) olds rests).2;
       each = values_are h ∙ (ap length given.0 ∙ (as_many (default_contexts s.program) (given_along fs) ∙ (one_each s.program ∙ ap (λ q. length (contexts q)) (sym same))));
+      gathered = gathered;
     }
   where
     values_are : StandsAt v.trees v.contexts (Some id) (at_place (suc n) fs cs e old) → length (values_at v.contexts) ≡ length cs
     values_are (begins here waits was around values stack) = ap length values
-ready_as s tree v see gives settled covers draws scene sees same ways _ _ (to_end h) goes drawn given olds rests busy = ends h
-ready_as s tree v see gives settled covers draws scene sees same ways _ _ (to_tree h) goes drawn given olds rests busy = absurd (let f : ⊥ = cc in f)
-ready_as s tree v see gives settled covers draws scene sees same ways _ _ to_wait goes drawn given olds rests busy = absurd (let f : ⊥ = cc in f)
+ready_as s tree v see gives settled covers draws scene sees same ways gathered _ _ (to_end h) goes drawn given olds rests busy = ends h
+ready_as s tree v see gives settled covers draws scene sees same ways gathered _ _ (to_tree h) goes drawn given olds rests busy = absurd (let f : ⊥ = cc in f)
+ready_as s tree v see gives settled covers draws scene sees same ways gathered _ _ to_wait goes drawn given olds rests busy = absurd (let f : ⊥ = cc in f)
 
 module _ (v : Rendering) (is : IsRendering v) (left : 0 < left_of v) where
   abbrev pub way : IsUnderWay v
@@ -297,7 +298,7 @@ module _ (v : Rendering) (is : IsRendering v) (left : 0 < left_of v) where
   pub unit_ready : DrawsPlace → (scene : Scene) → ((s : Sight) → Sees v s → IsSceneOf scene s) → scene.checked.now ≡ v.program → scene.ways.now ≡ v.ways → IsReadyAt scene (kept_hooks v.hooks) v.trees v.contexts v.at
   unit_ready draws scene sees same ways =
       let come = way.come in
-      ready_as way.sight way.tree v way.sees way.gives way.settled way.covers draws scene (sees way.sight way.sees) (same ∙ sym way.sees.program) ways v.at come.cursor come.comes come.goes come.drawn come.given come.olds come.rests
+      ready_as way.sight way.tree v way.sees way.gives way.settled way.covers draws scene (sees way.sight way.sees) (same ∙ sym way.sees.program) ways is.gathered v.at come.cursor come.comes come.goes come.drawn come.given come.olds come.rests
       (left_busy v.trees v.contexts v.at come.cursor (unit_bound v.program) v.units come.comes left)
 
   pub unit_below : v.units < unit_bound v.program

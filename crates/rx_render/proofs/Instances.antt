@@ -14,7 +14,7 @@ use Rattle.rx_ast.specs.Syntax.{Program}
 use Rattle.rx_meaning.specs.Settled.{Known, AllSettled, IfSettled}
 use Rattle.commit_laws.specs.Idle.{IsIdleMark}
 use Rattle.rx_ways.specs.Ways.{CoversIf, CoversIn}
-use Rattle.cost_laws.specs.Required.{IsUndue}
+use Rattle.cost_laws.specs.Undue.{IsUndue}
 use Rattle.begin_laws.specs.Mounting.{IsMountedIn, HasInstances, HasInstancesIn}
 use Rattle.rx_render.specs.Mounting.{GoesWith}
 

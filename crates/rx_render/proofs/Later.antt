@@ -1,13 +1,13 @@
 -- What changes nothing of a render in progress: a longer journal, and whatever leaves the journal, the tree and the links.
-use Rattle.std.specs.Prelude.{◌≡◌, ℤ, ℕ, ◌≤◌, Bool, true, false, List, [], ◌∷◌, ◌++◌, Option, length, refl}
+use Rattle.std.specs.Prelude.{◌≡◌, ℤ, ℕ, ◌≤◌, Bool, true, false, List, [], ◌∷◌, ◌++◌, Option, IfSome, length, refl}
 use Rattle.std.proofs.Common.{sym, ap, ◌∙◌, subst, arith}
 use Rattle.std.proofs.lemmas.List.{append-nil, length-append}
 use Rattle.rx_base.specs.declared.cut.Cut.{Cut}
 use Rattle.rx_ast.specs.Syntax.{Program}
-use Rattle.rx_elem.specs.Trees.{Node}
+use Rattle.rx_elem.specs.Trees.{Node, element_of}
 use Rattle.rx_queue.specs.Journal.{Journal, Posted}
 use Rattle.rx_meaning.specs.Cursor.{Cursor}
-use Rattle.rx_meaning.specs.Fresh.{Sight, default_contexts, resources_seen}
+use Rattle.rx_meaning.specs.Fresh.{Sight, default_contexts, resources_seen, root_element}
 use Rattle.rx_meaning.specs.Again.{AllOpen}
 use Rattle.rx_meaning.specs.Settled.{DoneBefore, IfReadsHold, IfSettled, known_by}
 use Rattle.rx_model.specs.State.{State, Progress}
@@ -26,11 +26,10 @@ use Rattle.run_laws.proofs.WaitingAgain.{later_waits_again}
 use Rattle.rx_render.proofs.Covered.{covered_later, covers_if}
 use Rattle.rx_render.proofs.Settled.{settled_later}
 use Rattle.rx_render.specs.Rendering.{Rendering}
-use Rattle.cost_laws.specs.Required.{IsUndue}
+use Rattle.cost_laws.specs.Undue.{IsUndue}
 use Rattle.cost_laws.specs.SameWork.{SeesSameWork}
 use Rattle.cost_laws.proofs.CostLaws.{later_costs}
-use Rattle.cost_laws.proofs.LaterCauses.{later_passes, undue_later}
-use Rattle.cost_laws.proofs.LaterWork.{longer_sees_same_work}
+use Rattle.cost_laws.proofs.LaterWork.{longer_sees_same_work, undue_later}
 use Rattle.rx_render.specs.Renders.{HasCome, HasCosts, IsPast, Renders, IsLater, with_hooks}
 
 -- A longer journal
@@ -86,8 +85,7 @@ costs_later s j same work tree v hooks c h =
     record {
       flags = h.flags;
       are = h.are;
-      few = later_costs s j tree v.bodies h.flags c same work h.few;
-      enough = later_passes s j tree v.bodies h.flags c same work h.enough;
+      counted = later_costs s j tree v.bodies h.flags c same work h.counted;
       undue = covers_if (is_way v.ways) (IsUndue s) (IsUndue (record s { journal = j })) (λ m u. undue_later s j m work u) tree h.undue;
     }
 
@@ -115,6 +113,7 @@ renders_later p st later g v hooks r l keeps =
       done = subst (DoneBefore g.cut) (sym l.updates) (done_longer g.cut st.journal.updates l.new l.opened r.done);
       past = past_longer g.cut g st later l r.past;
       settled = subst (IfSettled p (known_by (sight_of p later g))) (sym l.tree) (settled_later p (sight_of p st g) (sight_of p later g) l.new st.tree l.opened l.updates same.resources r.settled);
+      rooted = subst (λ t. IfSome t (λ x. element_of x ≡ root_element p)) (sym l.tree) r.rooted;
       waits = subst (IfWaitsAgain (sight_of p later g) (default_contexts p)) (sym l.tree)
           (later_waits_again (sight_of p st g) later.journal same (later_sees_without p g st later r.past l) (default_contexts p) st.tree r.waits);
       reads = subst (IfReadsHold (default_contexts p)) (sym l.tree) r.reads;
@@ -159,6 +158,7 @@ module _ (p : Program) (st later : State) (g : Progress) (v : Rendering) (journa
         done = subst (λ j. DoneBefore g.cut j.updates) (sym journal) r.done;
         past = subst (IsPast g.cut) (sym journal) r.past;
         settled = subst (IfSettled p (known_by (sight_of p later g))) (sym tree) (subst (λ s. IfSettled p (known_by s) st.tree) sight r.settled);
+        rooted = subst (λ t. IfSome t (λ x. element_of x ≡ root_element p)) (sym tree) r.rooted;
         waits = subst (IfWaitsAgain (sight_of p later g) (default_contexts p)) (sym tree) (subst (λ s. IfWaitsAgain s (default_contexts p) st.tree) sight r.waits);
         reads = subst (IfReadsHold (default_contexts p)) (sym tree) r.reads;
         covers = subst (CoversIf (is_way v.ways) (IsIdleMark (sight_of p later g))) (sym tree) (subst (λ s. CoversIf (is_way v.ways) (IsIdleMark s) st.tree) sight r.covers);
@@ -181,6 +181,7 @@ renders_as p st g h v lanes cut r =
       done = subst (λ c. DoneBefore c st.journal.updates) (sym cut) r.done;
       past = subst (λ c. IsPast c st.journal) (sym cut) r.past;
       settled = subst (λ s. IfSettled p (known_by s) st.tree) sight r.settled;
+      rooted = r.rooted;
       waits = subst (λ s. IfWaitsAgain s (default_contexts p) st.tree) sight r.waits;
       reads = r.reads;
       covers = subst (λ s. CoversIf (is_way v.ways) (IsIdleMark s) st.tree) sight r.covers;

@@ -18,4 +18,3 @@ pub mod Covered
 pub mod Sending
 pub mod Settling
 pub mod Sizes
-pub mod First

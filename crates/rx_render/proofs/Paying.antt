@@ -1,25 +1,25 @@
 -- What the beginning of a place pays, by the parts of a unit.
-use Rattle.std.specs.Prelude.{◌≡◌, ℕ, suc, Bool, true, false, List, ◌∷◌, Option, Some, None, if◌then◌else◌}
+use Rattle.std.specs.Prelude.{◌≡◌, ℕ, suc, Bool, true, false, ◌&&◌, List, ◌∷◌, Option, Some, None, if◌then◌else◌}
 use Rattle.std.proofs.Common.{refl, sym, ap, ◌∙◌, subst}
 use Rattle.rx_ctx.specs.Contexts.{Stack, values_at}
-use Rattle.rx_elem.specs.Elements.{Element}
+use Rattle.rx_elem.specs.Elements.{Element, stands_for_children}
 use Rattle.rx_elem.specs.Trees.{Node, mark_of}
 use Rattle.rx_hooks.specs.declared.hook.Hook.{Hook}
 use Rattle.rx_lists.specs.Shapes as shapes
 use Rattle.rx_links.specs.Drafts.{Draft, taken, made, Fits, Trees, entry, kids_under, old_of, valued}
 use Rattle.rx_links.specs.Places.{placed}
-use Rattle.rx_links.specs.Readers.{list_from, made_value_in, made_value_of}
+use Rattle.rx_links.specs.Readers.{made_value_in, made_value_of}
 use Rattle.rx_links.proofs.Placed.{is-at}
 use Rattle.rx_meaning.specs.Cursor.{Frame, at_place}
 use Rattle.rx_meaning.specs.Fresh.{Contexts, Sight}
+use Rattle.rx_meaning.specs.Generations.{generation_below, own_generation}
 use Rattle.rx_fiber.specs.FiberView.{changed}
 use Rattle.rx_fiber.specs.declared.stage.StageChange.TheVariants as change
 use Rattle.rx_fiber.specs.declared.stage.Origin.{Origin}
-use Rattle.rx_fiber.specs.Fibers.{Fiber, as_cloned, as_matched, is_cloned}
-use Rattle.rx_fiber.specs.OldLists.{fallback_list}
+use Rattle.rx_fiber.specs.Fibers.{Fiber, as_cloned, as_matched, generation_of, origin_of}
 use Rattle.rx_fiber.specs.Reading.{IsOld}
 use Rattle.rx_fiber.specs.Standing.{StandsAt, begins}
-use Rattle.rx_fiber.specs.Unwound.{IsWithin}
+use Rattle.rx_fiber.specs.Unwound.{IsWithin, is_trying}
 use Rattle.rx_complete.specs.Ends.{Outer, nearest, next_after}
 use Rattle.rx_complete.specs.declared.completing.Next.{Next}
 use Rattle.rx_complete.specs.declared.completing.Next.TheVariants.{Sibling, Parent, Done}
@@ -30,18 +30,17 @@ use Rattle.rx_causes.proofs.Marks.{mark_is}
 use Rattle.rx_begin.specs.Beginning.{is_opened}
 use Rattle.rx_begin.specs.Nodes.{HasTaken, begun_over}
 use Rattle.rx_begin.specs.Opening.{HasFallbackKids, alone, beside, opened_at}
-use Rattle.rx_begin.specs.Origins.{AllNew, AllWait, HasKids, TellsSteady}
+use Rattle.rx_begin.specs.Origins.{AllWait, HasKids, TellsAgain, TellsSteady}
 use Rattle.rx_begin.specs.declared.node.Begun.{Begun}
 use Rattle.rx_begin.specs.declared.node.Begun.TheVariants.{Child, Leaf}
 use Rattle.rx_begin.specs.declared.opening.Opened.{Opened}
-use Rattle.cost_laws.specs.Allowed.{Flag}
-use Rattle.cost_laws.specs.Costs.{FramesFlagged}
+use Rattle.cost_laws.specs.Evaluated.{Flag, after_attempt, beside_kept, is_again}
 use Rattle.cost_laws.specs.Left.{Flags, begun_flags, flag, outer, unit_flags, unwound}
-use Rattle.flag_laws.specs.Flagged.{AllClear, AllStood, AreTold, FlagsAfter, FlagsAtEnd, FlagsAtPlace, FlagsHere, FlagsOpened, HasUnwound}
+use Rattle.flag_laws.specs.Flagged.{KeepsTold, FlagsAfter, FlagsAtEnd, FlagsAtPlace, FlagsHere, FlagsOpened, HasUnwound}
 use Rattle.flag_laws.proofs.Going.{completes, opens, opens_beside, passes}
 use Rattle.flag_laws.proofs.Unwinding.{unwinds}
 use Rattle.begin_laws.specs.Telling.{OpensKids, TellsBody, TellsTries}
-use Rattle.begin_laws.proofs.Costing.{allows, may, new_clear, opens_so, serves, wait_bare, wait_clear, wait_stood}
+use Rattle.begin_laws.proofs.Costing.{again_is, counts, may, opens_so, wait_bare, wait_told}
 use Rattle.rx_render.specs.declared.at.At.{At}
 use Rattle.rx_render.specs.declared.at.At.TheVariants.{Begins, Completes}
 use Rattle.rx_render.specs.Advancing.{at_after, at_opened}
@@ -63,33 +62,33 @@ opened_flags t q us None h = h
 opened_flags t q us (Some id) h = h
 
 -- a fallback opens below a boundary
-module _ (origin : Origin) (t new : Trees Fiber) (q : ℕ) (us : Flags) (u : Flag) (here : FlagsHere t q (taken shapes.none) us) (stood : origin.stood ≡ u.stood)
-    (clear : u.under ≡ false → (d : Draft Fiber) → AllWait origin d → (fallback_list (list_from t.current (old_of t.draft q)) ≡ shapes.none → AllNew d) → AllClear d) where
-  told_kids : (kids : Draft Fiber) → AllWait origin kids → (fallback_list (list_from t.current (old_of t.draft q)) ≡ shapes.none → AllNew kids) → AreTold u kids
-  told_kids kids all new_if = ((λ f. clear f kids all new_if), subst (λ b. AllStood b kids) stood (wait_stood origin kids all))
+module _ (origin : Origin) (t new : Trees Fiber) (q : ℕ) (us : Flags) (u : Flag) (here : FlagsHere t q (taken shapes.none) us) (generation : origin.generation ≡ u.generation) (stood : origin.stood ≡ u.stood) where
+  -- what tries no children keeps nothing
+  keeps_none : (v : Fiber) → is_trying v.stage ≡ false → KeepsTold (flag us) v
+  keeps_none v none tries = absurd (let q : false ≡ true = sym none ∙ tries in let r : ⊥ = cc in r)
 
   pub fallback_flags : (f : Opened) → HasFallbackKids origin t new q f → HasFlags new (at_opened f) (u ∷ us)
   fallback_flags f (alone kids value still all new_if stands is) =
       subst (λ x. HasFlags new (at_opened x) (u ∷ us)) (sym is)
-      (opened_flags new q (u ∷ us) (entry kids) (opens t new q us u kids value here stands (wait_bare origin kids all) (told_kids kids all new_if)))
+      (opened_flags new q (u ∷ us) (entry kids) (opens t new q us u kids value here (λ k v o rs h. (stands k v o rs h, keeps_none (value v) (still v))) (wait_bare origin kids all) (wait_told origin u generation stood kids all)))
   fallback_flags f (beside kids value kept id w old still too all new_if stands over is) =
       subst (λ x. HasFlags new (at_opened x) (u ∷ us)) (sym is)
-      (opened_flags new id (u ∷ us) (entry kids) (opens_beside t new q id us u kids value w old kept here stands (wait_bare origin kids all) (told_kids kids all new_if)))
+      (opened_flags new id (u ∷ us) (entry kids) (opens_beside t new q id us u kids value w old kept here stands (keeps_none w too) (wait_bare origin kids all) (wait_told origin u generation stood kids all)))
 
 -- an untouched boundary opens its fallback over clones that stood
-pub again_flags : (t tried new : Trees Fiber) (id : ℕ) (f : Opened) → Fits t → tried ≡ record t { draft = valued id (changed change.Try) t.draft } → HasFallbackKids (as_cloned true) tried new id f
-    → (us : Flags) (u : Flag) → u.stood ≡ true → FlagsAtPlace t id us → HasFlags new (at_opened f) (u ∷ us)
-again_flags t tried new id f fits is kids us u stood h =
+pub again_flags : (t tried new : Trees Fiber) (id : ℕ) (c : Origin) (f : Opened) → Fits t → tried ≡ record t { draft = valued id (changed (change.Try c)) t.draft } → HasFallbackKids (as_cloned true) tried new id f
+    → (us : Flags) → FlagsAtPlace t id us → HasFlags new (at_opened f) (beside_kept ∷ us)
+again_flags t tried new id c f fits is kids us h =
     let at = is-at t fits h.flags.around id h.flags.value h.flags.old (taken shapes.none) h.flags.rest h.flags.here in
     let here : FlagsHere tried id (taken shapes.none) us = record {
       around = h.flags.around;
-      value = changed change.Try h.flags.value;
+      value = changed (change.Try c) h.flags.value;
       old = h.flags.old;
       rest = h.flags.rest;
-      here = ap (λ x. x.draft) is ∙ at.value (changed change.Try);
+      here = ap (λ x. x.draft) is ∙ at.value (changed (change.Try c));
       flagged = h.flags.flagged;
     } in
-    fallback_flags (as_cloned true) tried new id us u here (sym stood) (λ clean d all new_if. wait_clear (as_cloned true) refl d all) f kids
+    fallback_flags (as_cloned true) tried new id us beside_kept here refl refl f kids
 
 -- a node that is completed
 pub end_flags : (t new : Trees Fiber) (id : ℕ) (r : Next) (m : Fiber → Fiber) → Fits t → new ≡ record t { draft = valued id m t.draft } → r ≡ next_after t.draft id → (us : Flags) → FlagsAtEnd t id us
@@ -115,20 +114,34 @@ passed_flags t new id r fits fits_new takes next us x h was =
     subst (λ y. HasFlags new (at_after y) us) (sym next)
     (after_flags new us (next_after new.draft id) (passes new id (taken (kids_under t.current h.flags.old)) us fits_new there))
 
+-- what opens the fallback of a boundary says of its fibers: they stood exactly where the boundary did, and are of the generation of its own element
+abbrev pub SaysFallback : Trees Fiber → Trees Fiber → ℕ → Opened → Type 0
+SaysFallback t new q f =
+    (v : Fiber) → Some v ≡ made_value_of t.draft q → (again : Bool) × TellsAgain t.current (old_of t.draft q) v again
+    × HasFallbackKids (as_matched (origin_of v.stage).stood (own_generation again (generation_of v.stage))) t new q f
+
 -- out of a place that waits, to the fallback of the nearest boundary
-module _ (t : Trees Fiber) (fits : Fits t) (st : Stack) (p : ℕ) (fs : List Frame) (us : Flags) (h : FlagsHere t p (taken shapes.none) us) (within : IsWithin t st p fs) (framed : FramesFlagged us fs) where
+module _ (t : Trees Fiber) (fits : Fits t) (st : Stack) (p : ℕ) (fs : List Frame) (us : Flags) (h : FlagsHere t p (taken shapes.none) us) (within : IsWithin t st p fs) where
   pub unwound_flags : (dropped new : Trees Fiber) (q : ℕ) (f : Opened) → Fits dropped → dropped.current ≡ t.current
       → ((u : Outer) × (nearest h.around ≡ Some u) × (u.id ≡ q) × (dropped.draft ≡ placed u.around (made q u.value u.old (taken shapes.none) u.rest)))
-      → HasFallbackKids (as_matched false) dropped new q f → HasFlags new (at_opened f) (unwound fs us)
-  unwound_flags dropped new q f fits_dropped current found kids =
+      → SaysFallback dropped new q f → HasFlags new (at_opened f) (unwound fs us)
+  unwound_flags dropped new q f fits_dropped current found says =
       let (u, near, id, here) = found in
       let here_too : dropped.draft ≡ placed u.around (made u.id u.value u.old (taken shapes.none) u.rest) = here ∙ ap (λ i. placed u.around (made i u.value u.old (taken shapes.none) u.rest)) (sym id) in
-      let w : HasUnwound t dropped u.id u.old fs us = unwinds t dropped st p (taken shapes.none) fs us fits h within framed u near here_too in
+      let w : HasUnwound t dropped u.id u.value u.old fs us = unwinds t dropped st p (taken shapes.none) fs us fits h within u near here_too in
       let at = is-at dropped fits_dropped u.around q u.value u.old (taken shapes.none) u.rest here in
       let flags : FlagsHere dropped q (taken shapes.none) (outer (unwound fs us)) = subst (λ i. FlagsHere dropped i (taken shapes.none) (outer (unwound fs us))) id w.flags in
+      let was : IsOld dropped.current (old_of dropped.draft q) w.node =
+      subst (λ o. IsOld dropped.current o w.node) (sym at.old) (subst (λ c. IsOld c u.old w.node) (sym current) w.was)
+      in
+      let (again, telling, kids) = says u.value (sym (ap made_value_in at.list)) in
+      let own = flag (outer (unwound fs us)) in
+      let same : again ≡ is_again own u.value.element w.node = again_is dropped.current (old_of dropped.draft q) u.value own u.value.element w.node again was refl w.kept.0 telling in
+      let generation : own_generation again (generation_of u.value.stage) ≡ own_generation (is_again own u.value.element w.node) own.generation =
+      ap (λ b. own_generation b (generation_of u.value.stage)) same ∙ ap (own_generation (is_again own u.value.element w.node)) w.kept.0
+      in
       subst (HasFlags new (at_opened f)) (sym w.some)
-      (fallback_flags (as_matched false) dropped new q (outer (unwound fs us)) (flag (unwound fs us)) flags (sym w.unknown)
-      (λ clean d all new_if. new_clear d (new_if (ap (λ c. fallback_list (list_from c (old_of dropped.draft q))) current ∙ (ap (λ o. fallback_list (list_from t.current o)) at.old ∙ w.shown clean)))) f kids)
+      (fallback_flags (as_matched (origin_of u.value.stage).stood (own_generation again (generation_of u.value.stage))) dropped new q (outer (unwound fs us)) (after_attempt own u.value.element w.node) flags generation w.kept.1 f kids)
 
 -- What is paid
 
@@ -156,10 +169,10 @@ module _ (s : Sight) (scene : Scene) (sees : IsSceneOf scene s) (kept : ℕ → 
   -- what it says of the children of a place that is opened
   abbrev pub SaysKids : Trees Fiber → Begun → Type 0
   SaysKids new b =
-      (v : Fiber) → Some v ≡ made_value_of t.draft id → is_opened b ≡ true
-      → (cloned steady : Bool) × TellsSteady t.current (old_of t.draft id) v steady
-      × (is_cloned v.stage ≡ true → evaluated ≡ false → keeps_children true (mark_at t.current (old_of t.draft id)) ≡ true → cloned ≡ true)
-      × ((h : HasKids (record { cloned = cloned; stood = steady }) t new id) × (b ≡ begun_over h.kids))
+      (v : Fiber) → Some v ≡ made_value_of t.draft id → is_opened b ≡ true → (origin : Origin) × (again : Bool) × TellsSteady t.current (old_of t.draft id) v origin.stood
+      × TellsAgain t.current (old_of t.draft id) v again
+      × (origin.generation ≡ generation_below evaluated (again && keeps_children true (mark_at t.current (old_of t.draft id))) (stands_for_children v.element) (generation_of v.stage))
+      × ((h : HasKids origin t new id) × (b ≡ begun_over h.kids))
 
   module _ (tries : TellsTries scene kept t id) where
     opened_paid : (new : Trees Fiber) (b : Begun) → is_opened b ≡ true → SaysKids new b → (first : Option ℕ) → ((origin : Origin) (d : Draft Fiber) → AllWait origin d → b ≡ begun_over d → entry d ≡ first)
@@ -167,15 +180,14 @@ module _ (s : Sight) (scene : Scene) (sees : IsSceneOf scene s) (kept : ℕ → 
     opened_paid new b opens_it says first is at as_flags n fs cs e old us h settled tells lists flags =
         let goes = may s scene kept t st id n fs cs e old us sees fits h tells flags tries in
         let (v, there) = value_there n fs cs e old h in
-        let (cloned, steady, steadiness, clones, (kids, over)) = says v there opens_it in
-        let opened : OpensKids t new id evaluated = record { value = v; is = there; cloned = cloned; steady = steady; steadiness = steadiness; clones = clones; kids = kids } in
+        let (origin, again, steadiness, telling, generation, (kids, over)) = says v there opens_it in
+        let opened : OpensKids t new id evaluated = record { value = v; is = there; origin = origin; steadiness = steadiness; again = again; telling = telling; generation = generation; kids = kids } in
         record {
           flags = unit_flags s us (at_place (suc n) fs cs e old);
           are = as_flags (unit_flags s us (at_place (suc n) fs cs e old))
-              (subst (FlagsOpened new id (unit_flags s us (at_place (suc n) fs cs e old))) (is (record { cloned = cloned; stood = steady }) kids.kids kids.all over)
+              (subst (FlagsOpened new id (unit_flags s us (at_place (suc n) fs cs e old))) (is origin kids.kids kids.all over)
               (opens_so s scene kept t new st id n fs cs e old us evaluated sees fits h settled tells flags (body_at n fs cs e old h) goes lists opened));
-          pays = paying.by_unit goes (allows s scene kept t st id n fs cs e old us evaluated sees fits h tells flags (body_at n fs cs e old h) (few n fs cs e old h))
-              (serves s scene kept t st id n fs cs e old evaluated sees fits h tells (body_at n fs cs e old h));
+          pays = paying.by_unit goes (counts s scene kept t st id n fs cs e old us evaluated sees fits h tells flags (body_at n fs cs e old h) (few n fs cs e old h));
         }
 
     pub child_paid : (new : Trees Fiber) (b : Begun) (child : ℕ) → b ≡ Child child → SaysKids new b → PaysOpened s kept t st new id (if evaluated then 1 else 0) (Begins child)
@@ -186,13 +198,12 @@ module _ (s : Sight) (scene : Scene) (sees : IsSceneOf scene s) (kept : ℕ → 
     leaf_paid new b is says = opened_paid new b (ap is_opened is) says None (λ origin d all over. begun_none origin d all (sym is ∙ over)) (Completes id) (λ us h. h)
 
     pub waits_paid : (new : Trees Fiber) (st' : Stack) (r : ℕ) (last : Trees Fiber) (at : At) → new ≡ t
-        → ((fs : List Frame) (us : Flags) → FlagsHere new id (taken shapes.none) us → IsWithin new st' id fs → FramesFlagged us fs → HasFlags last at (unwound fs us))
+        → ((fs : List Frame) (us : Flags) → FlagsHere new id (taken shapes.none) us → IsWithin new st' id fs → HasFlags last at (unwound fs us))
         → PaysWaiting s kept t st new st' id (if evaluated then 1 else 0) r last at
-    waits_paid new st' r last at same out n fs cs e old us h tells shape within framed flags =
+    waits_paid new st' r last at same out n fs cs e old us h tells shape within flags =
         let goes = may s scene kept t st id n fs cs e old us sees fits h tells flags tries in
         record {
           flags = unit_flags s us (at_place (suc n) fs cs e old);
-          are = subst (HasFlags last at) (sym (ap (begun_flags s fs us cs e old) shape)) (out fs us (subst (λ x. FlagsHere x id (taken shapes.none) us) (sym same) flags.flags) within framed);
-          pays = paying.by_unit goes (allows s scene kept t st id n fs cs e old us evaluated sees fits h tells flags (body_at n fs cs e old h) (few n fs cs e old h))
-              (serves s scene kept t st id n fs cs e old evaluated sees fits h tells (body_at n fs cs e old h));
+          are = subst (HasFlags last at) (sym (ap (begun_flags s fs us cs e old) shape)) (out fs us (subst (λ x. FlagsHere x id (taken shapes.none) us) (sym same) flags.flags) within);
+          pays = paying.by_unit goes (counts s scene kept t st id n fs cs e old us evaluated sees fits h tells flags (body_at n fs cs e old h) (few n fs cs e old h));
         }

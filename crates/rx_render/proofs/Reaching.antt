@@ -34,12 +34,10 @@ use Rattle.rx_render.specs.Mounting.{GoesWith}
 use Rattle.rx_meaning.specs.Again.{AllValuesAgree, AreUnresolved}
 use Rattle.commit_laws.specs.Each.{ForEach}
 use Rattle.commit_laws.specs.WaitsAgain.{without_lanes}
-use Rattle.cost_laws.specs.Costs.{Costs}
-use Rattle.cost_laws.specs.Allowed.{in_fallback}
-use Rattle.cost_laws.specs.Left.{Flags, flag}
-use Rattle.cost_laws.specs.Required.{IsUndue, PassesNone, required}
+use Rattle.cost_laws.specs.Evaluated.{Flag, beside_kept, evaluated as evaluates}
+use Rattle.cost_laws.specs.Left.{Costs, Flags, flag}
+use Rattle.cost_laws.specs.Undue.{IsUndue}
 use Rattle.cost_laws.proofs.CostLaws.{attempt_costs, take_costs, unit_costs}
-use Rattle.cost_laws.proofs.Requiring.{attempt_passes, take_passes, unit_passes}
 use Rattle.cost_laws.proofs.Resting.{nothing_rests}
 use Rattle.rx_render.specs.Costing.{UnitPays}
 use Rattle.rx_render.specs.Costing as paying
@@ -169,35 +167,23 @@ module _ (s : Sight) (tree : Option Node) (current : Shape Fiber) (is : IsTreeOf
       let here : cs ≡ given_contexts base (given_along fs) = h.given.0 in
       subst (λ l. ReadsHold l x) (sym here) (reads_here s current linked base tree is reads (given_along fs) o x stood was)
 
-  requires_at : (stood_so : Bool) (n : ℕ) (fs : List Frame) (cs : Contexts) (x : Node) (e : Element) (o : Option ℕ) → element_of x ≡ e → IsLinked current → StoodAt current (given_along fs) o ⊎ ReadsHold cs x → IsOld current o (Some x) → IsIdle s x
-      → ForEach (IsUndue s) x → Reaches s tree units bodies (at_place (suc n) fs cs e (Some x)) → required (suc n) s stood_so cs e (Some x) ≡ 0
-  requires_at stood_so n fs cs x e o same linked stood was idle undue h =
-      subst (λ f. required (suc n) s stood_so cs f (Some x) ≡ 0) same
-      (nothing_rests s stood_so cs x (suc n) (h.rests.0.settles s.program (known_by s) settled) idle undue (reads_at n fs cs x e o linked stood was h))
+  nothing_at : (u : Flag) → u.generation ≡ 0 → (n : ℕ) (fs : List Frame) (cs : Contexts) (x : Node) (e : Element) (o : Option ℕ) → element_of x ≡ e → IsLinked current → StoodAt current (given_along fs) o ⊎ ReadsHold cs x → IsOld current o (Some x) → IsIdle s x
+      → ForEach (IsUndue s) x → Reaches s tree units bodies (at_place (suc n) fs cs e (Some x)) → evaluates (suc n) s u cs e (Some x) ≡ 0
+  nothing_at u again n fs cs x e o same linked stood was idle undue h =
+      subst (λ f. evaluates (suc n) s u cs f (Some x) ≡ 0) same
+      (nothing_rests s u cs x (suc n) again (h.rests.0.settles s.program (known_by s) settled) idle undue (reads_at n fs cs x e o linked stood was h))
 
   as_many : evaluated ≡ 0 → bodies ≡ bodies + evaluated
   as_many none = omega (arith, none)
 
-  -- it is no more than may be evaluated
-  pub pays_few : (c d : Cursor) (us vs : Flags) → UnitPays s current evaluated us c vs d → Reaches s tree units bodies c → Costs s tree bodies us c → Costs s tree (bodies + evaluated) vs d
-  pays_few c _ us _ (paying.by_unit may few least) h costs = unit_costs s tree bodies us c h.goes.stands may costs evaluated few
-  pays_few _ _ us _ (paying.past_attempt {n = n} {fs = fs} {cs = cs} {key = key} {f = f} {es = es} {a = a} {ns = ns} {kept = kept} {o = o} none linked stood was unresolved agree out) h costs =
-      subst (λ b. Costs s tree b (in_fallback s (flag us) (boundary key f es) (Some (node (boundary key f es) (of_boundary (Hidden a)) ns kept)) ∷ us)
+  -- with what is left it is what the whole render evaluates
+  pub pays : (c d : Cursor) (us vs : Flags) → UnitPays s current evaluated us c vs d → Reaches s tree units bodies c → Costs s tree bodies us c → Costs s tree (bodies + evaluated) vs d
+  pays c _ us _ (paying.by_unit may same) h costs = unit_costs s tree bodies evaluated us c may costs same
+  pays _ _ us _ (paying.past_attempt {n = n} {fs = fs} {cs = cs} {key = key} {f = f} {es = es} {a = a} {ns = ns} {kept = kept} {o = o} none linked stood was unresolved agree out) h costs =
+      subst (λ b. Costs s tree b (beside_kept ∷ us)
       (open_part n fs (falling (boundary key f es) (Some (node (boundary key f es) (of_boundary (Hidden a)) ns kept)) a) (part cs (f ∷ []) kept))) (as_many none)
       (attempt_costs s tree bodies n us fs cs (boundary key f es) (Some (node (boundary key f es) (of_boundary (Hidden a)) ns kept)) (part cs (listed es) ns) (part cs (f ∷ []) kept) a refl
-      (waits_at n fs cs key f es a ns kept o linked stood was unresolved agree h) costs)
-  pays_few _ _ us _ (paying.past_subtree {n = n} {fs = fs} {cs = cs} {e = e} {x = x} {o = o} none linked stood was same idle undue) h costs =
+      (waits_at n fs cs key f es a ns kept o linked stood was unresolved agree h) out costs)
+  pays _ _ us _ (paying.past_subtree {n = n} {fs = fs} {cs = cs} {e = e} {x = x} {o = o} none linked stood was same idle undue again) h costs =
       subst (λ b. Costs s tree b us (arrive (suc n) fs (Some x))) (as_many none)
-      (take_costs s tree bodies (suc n) us fs cs e x (renders_at n fs cs x e o same linked stood was idle h) costs)
-
-  -- and passes over nothing that has to be
-  pub pays_enough : (c d : Cursor) (us vs : Flags) → UnitPays s current evaluated us c vs d → Reaches s tree units bodies c → PassesNone s tree bodies us c → PassesNone s tree (bodies + evaluated) vs d
-  pays_enough c _ us _ (paying.by_unit may few least) h enough = unit_passes s tree bodies evaluated us c may least enough
-  pays_enough _ _ us _ (paying.past_attempt {n = n} {fs = fs} {cs = cs} {key = key} {f = f} {es = es} {a = a} {ns = ns} {kept = kept} {o = o} none linked stood was unresolved agree out) h enough =
-      subst (λ b. PassesNone s tree b (in_fallback s (flag us) (boundary key f es) (Some (node (boundary key f es) (of_boundary (Hidden a)) ns kept)) ∷ us)
-      (open_part n fs (falling (boundary key f es) (Some (node (boundary key f es) (of_boundary (Hidden a)) ns kept)) a) (part cs (f ∷ []) kept))) (as_many none)
-      (attempt_passes s tree bodies n us fs cs (boundary key f es) (Some (node (boundary key f es) (of_boundary (Hidden a)) ns kept)) (part cs (listed es) ns) (part cs (f ∷ []) kept) a refl
-      (waits_at n fs cs key f es a ns kept o linked stood was unresolved agree h) out enough)
-  pays_enough _ _ us _ (paying.past_subtree {n = n} {fs = fs} {cs = cs} {e = e} {x = x} {o = o} none linked stood was same idle undue) h enough =
-      subst (λ b. PassesNone s tree b us (arrive (suc n) fs (Some x))) (as_many none)
-      (take_passes s tree bodies (suc n) us fs cs e x (renders_at n fs cs x e o same linked stood was idle h) (requires_at (flag us).stood n fs cs x e o same linked stood was idle undue h) enough)
+      (take_costs s tree bodies (suc n) us fs cs e x (renders_at n fs cs x e o same linked stood was idle h) (nothing_at (flag us) again n fs cs x e o same linked stood was idle undue h) costs)

@@ -209,11 +209,12 @@ with_kept v hooks p st g keeps r =
       done = r.done;
       past = r.past;
       settled = r.settled;
+      rooted = r.rooted;
       waits = r.waits;
       reads = r.reads;
       covers = r.covers;
       come = record { cursor = r.come.cursor; comes = r.come.comes; goes = r.come.goes; drawn = r.come.drawn; given = r.come.given; olds = r.come.olds; rests = r.come.rests; reached = r.come.reached };
-      costs = record { flags = r.costs.flags; are = r.costs.are; few = r.costs.few; enough = r.costs.enough; undue = r.costs.undue };
+      costs = record { flags = r.costs.flags; are = r.costs.are; counted = r.costs.counted; undue = r.costs.undue };
     }
 
 -- so it is where memory ran out

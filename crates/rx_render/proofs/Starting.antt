@@ -19,7 +19,7 @@ use Rattle.rx_model.specs.State.{Progress, State}
 use Rattle.rx_model.specs.Committing.{sight_of, starting}
 use Rattle.rx_model.specs.HooksOf.{KeepsAllHooks}
 use Rattle.rx_model.specs.Laws.{IsBounded}
-use Rattle.rx_fiber.specs.Fibers.{Fiber, is_cloned, is_stood, waiting, nothing}
+use Rattle.rx_fiber.specs.Fibers.{Fiber, generation_of, is_stood, waiting, nothing}
 use Rattle.rx_fiber.specs.Subtrees.{IsGathered}
 use Rattle.rx_fiber.specs.declared.stage.Origin.{Origin}
 use Rattle.rx_fiber.specs.Reading.{IsTreeOf, IsOld, of, next}
@@ -37,11 +37,10 @@ use Rattle.render_laws.proofs.GoingLaws.{start_holds}
 use Rattle.room_laws.specs.Reached as steps
 use Rattle.draw_laws.specs.Cursors.{CursorDrawn}
 use Rattle.rx_links.specs.Places.{top}
-use Rattle.cost_laws.specs.Costs.{Costs}
-use Rattle.cost_laws.specs.Required.{IsUndue, PassesNone}
+use Rattle.cost_laws.specs.Left.{Costs}
+use Rattle.cost_laws.specs.Undue.{IsUndue}
 use Rattle.cost_laws.proofs.CostLaws.{start_costs}
-use Rattle.cost_laws.proofs.Requiring.{start_passes}
-use Rattle.flag_laws.specs.Flagged.{FlagsAtPlace, IsClear}
+use Rattle.flag_laws.specs.Flagged.{FlagsAtPlace}
 use Rattle.flag_laws.specs.Flagged as flagged
 use Rattle.rx_render.specs.Costing.{HasFlags}
 use Rattle.rx_render.specs.declared.at.At.TheVariants.{Begins, Over}
@@ -67,14 +66,15 @@ root_stands_if c None e = tt
 root_stands_if c (Some i) e = at_root e
 
 root_waits : (p : Program) (c : Shape Fiber) (old : Option Node) (v : Fiber) (origin : Origin) → IsTreeOf old c → IfSome old (λ x. element_of x ≡ root_element p) → v.place ≡ 0
-    → v.element ≡ root_element p → v.stage ≡ waiting origin → (origin.cloned ≡ true → is_some (first c) ≡ true) → IsWaiting c [] (first c) v 0 (root_element p)
-root_waits p c old v origin tree rooted place element stage clones = record {
+    → v.element ≡ root_element p → v.stage ≡ waiting origin → (origin.cloned ≡ true → is_some (first c) ≡ true) → origin.generation ≡ 0 → IsWaiting c [] (first c) v 0 (root_element p)
+root_waits p c old v origin tree rooted place element stage clones generation = record {
   at = place;
   element = element;
   origin = origin;
   stage = stage;
   same = λ so. root_same c (first c) old (root_element p) (root_old c old tree) rooted (clones so);
   stands = λ so. root_stands_if c (first c) refl;
+  first = λ so. generation;
 }
 
 comes_to_start : (s : Sight) (old : Option Node) (t : Trees Fiber) (id : ℕ) (v : Fiber)
@@ -83,18 +83,13 @@ comes_to_start : (s : Sight) (old : Option Node) (t : Trees Fiber) (id : ℕ) (v
 unfolding start
 comes_to_start s old t id v tree waits here = to_place (starts s old t id v tree waits here)
 
--- nothing is above the root's list, and its fiber stood
-root_flags : (t : Trees Fiber) (id : ℕ) (v : Fiber) (origin : Origin) → v.stage ≡ waiting origin → origin.stood ≡ true → origin.cloned ≡ is_some (first t.current)
+-- nothing is above the root's list, and its fiber stood, with an element that is always the same
+root_flags : (t : Trees Fiber) (id : ℕ) (v : Fiber) (origin : Origin) → v.stage ≡ waiting origin → origin.stood ≡ true → origin.generation ≡ 0
     → t.draft ≡ made id v (first t.current) (taken shapes.none) (taken shapes.none) → FlagsAtPlace t id []
-root_flags t id v origin stage stood cloned here = record {
-  flags = record { around = top; value = v; old = first t.current; rest = taken shapes.none; here = here; flagged = flagged.at_root refl refl ((λ clean. tt), tt) };
-  clear = λ clean. by_old (first t.current) refl;
-  stood = ap is_stood stage ∙ stood;
+root_flags t id v origin stage stood generation here = record {
+  flags = record { around = top; value = v; old = first t.current; rest = taken shapes.none; here = here; flagged = flagged.at_root refl refl tt };
+  told = (ap generation_of stage ∙ generation, ap is_stood stage ∙ stood);
 }
-  where
-    by_old : (o : Option ℕ) → first t.current ≡ o → IsClear v (first t.current)
-    by_old None e = inl e
-    by_old (Some i) e = inr (ap is_cloned stage ∙ (cloned ∙ ap is_some e))
 
 -- a rendering whose root waits for its first unit
 pub record StandsAtRoot (lanes : Lanes) (cut : Cut) (resources : List (Option ℤ)) (plain : Option Node) (old new : Rendering) : Type 0 where
@@ -116,6 +111,7 @@ pub record StandsAtRoot (lanes : Lanes) (cut : Cut) (resources : List (Option �
   pub stage : value.stage ≡ waiting origin
   pub clones : origin.cloned ≡ is_some (first new.trees.current)
   pub stood : origin.stood ≡ true
+  pub generation : origin.generation ≡ 0
   pub here : new.trees.draft ≡ made id value (first new.trees.current) (taken shapes.none) (taken shapes.none)
   pub at : new.at ≡ Begins id
   pub contexts_are : new.contexts ≡ contexts.opening (default_contexts old.program)
@@ -141,12 +137,13 @@ start_renders lanes cut resources plain old new r draws bounded st is =
       done = rw (← is.cut_is) is.done;
       past = record { updates = omega arith; resolutions = omega arith };
       settled = is.settled;
+      rooted = is.rooted;
       waits = is.waits;
       reads = is.reads;
       covers = r.covers s st.tree refl (sym is.cut_is) (start_gives lanes cut resources plain old st is) is.shown;
       come = record {
         cursor = start s st.tree;
-        comes = rw (r.at, r.contexts_are) (comes_to_start s st.tree new.trees r.id r.value tree (root_waits old.program new.trees.current st.tree r.value r.origin tree is.rooted r.place r.element r.stage (λ so. sym r.clones ∙ so)) r.here);
+        comes = rw (r.at, r.contexts_are) (comes_to_start s st.tree new.trees r.id r.value tree (root_waits old.program new.trees.current st.tree r.value r.origin tree is.rooted r.place r.element r.stage (λ so. sym r.clones ∙ so) r.generation) r.here);
         goes = rw (r.units, r.bodies) (start_holds s st.tree bounded.shallow);
         drawn = draws s st.tree bounded.rooted;
         given = start_given s st.tree;
@@ -156,9 +153,8 @@ start_renders lanes cut resources plain old new r draws bounded st is =
       };
       costs = record {
         flags = [];
-        are = subst (λ a. HasFlags new.trees a []) (sym r.at) (root_flags new.trees r.id r.value r.origin r.stage r.stood r.clones r.here);
-        few = subst (λ b. Costs s st.tree b [] (start s st.tree)) (sym r.bodies) (start_costs s st.tree);
-        enough = subst (λ b. PassesNone s st.tree b [] (start s st.tree)) (sym r.bodies) (start_passes s st.tree);
+        are = subst (λ a. HasFlags new.trees a []) (sym r.at) (root_flags new.trees r.id r.value r.origin r.stage r.stood r.generation r.here);
+        counted = subst (λ b. Costs s st.tree b [] (start s st.tree)) (sym r.bodies) (start_costs s st.tree);
         undue = r.undue old.program st (starting st lanes) refl (sym is.cut_is) is.keeps is.shown;
       };
     }
@@ -170,12 +166,12 @@ module _ (lanes : Lanes) (cut : Cut) (resources : List (Option ℤ)) (plain : Op
 
   pub root_stands : inside ≡ record old { trees = record old.trees { draft = taken shapes.none }; at = Over } → (v : Fiber) (root : Element) (given defaults : List ℤ)
       → t ≡ record inside.trees { draft = made id v (first inside.trees.current) (taken shapes.none) (taken shapes.none) }
-      → (origin : Origin) → origin.cloned ≡ is_some (first inside.trees.current) → origin.stood ≡ true → v ≡ record { place = 0; element = root; stage = waiting origin; subtree = nothing } → root ≡ root_element inside.program
+      → (origin : Origin) → origin.cloned ≡ is_some (first inside.trees.current) → origin.stood ≡ true → origin.generation ≡ 0 → v ≡ record { place = 0; element = root; stage = waiting origin; subtree = nothing } → root ≡ root_element inside.program
       → st ≡ contexts.opening given → given ≡ defaults → defaults ≡ default_contexts inside.program
       → ((s : Sight) (tree : Option Node) → s.lanes ≡ lanes → s.cut ≡ cut → GivesAll s tree (kept_hooks inside.hooks) → plain ≡ trimmed_if tree → CoversIf (is_way ways) (IsIdleMark s) tree)
       → ((p : Program) (st : State) (g : Progress) → g.lanes ≡ lanes → g.cut ≡ cut → KeepsAllHooks p st (kept_hooks inside.hooks) → plain ≡ trimmed_if st.tree → CoversIf (is_way ways) (IsUndue (sight_of p st g)) st.tree)
       → StandsAtRoot lanes cut resources plain old started
-  root_stands was v root given defaults grown origin cloned_is stood_is value element stack same all covers undue =
+  root_stands was v root given defaults grown origin cloned_is stood_is generation_is value element stack same all covers undue =
       let program : inside.program ≡ old.program = ap (λ r. r.program) was in
       let kept : t.current ≡ inside.trees.current = ap (λ u. u.current) grown in
       record {
@@ -197,6 +193,7 @@ module _ (lanes : Lanes) (cut : Cut) (resources : List (Option ℤ)) (plain : Op
         stage = ap (λ u. u.stage) value;
         clones = cloned_is ∙ ap (λ c. is_some (first c)) (sym kept);
         stood = stood_is;
+        generation = generation_is;
         here = ap (λ u. u.draft) grown ∙ ap (λ c. made id v (first c) (taken shapes.none) (taken shapes.none)) (sym kept);
         at = refl;
         contexts_are = stack ∙ ap contexts.opening (same ∙ (all ∙ ap default_contexts program));

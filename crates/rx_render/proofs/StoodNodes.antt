@@ -53,7 +53,7 @@ no_fiber c i h = by_option (Some i) None refl refl h
 hides_as : (v : Stage) (m : Mark) → begun_mark v ≡ Some m → hides_in v ≡ is_hidden m
 hides_as (waiting c) m h = cc
 hides_as (begun k) m h = let q : k ≡ m = cc in ap is_hidden q
-hides_as trying m h = cc
+hides_as (trying c) m h = cc
 hides_as (fallback a) m h = cc
 
 -- the contexts below a node
@@ -62,7 +62,7 @@ below_given base elements.null ws = refl
 below_given base (elements.text t) ws = refl
 below_given base (elements.host n k attrs es) ws = refl
 below_given base (elements.comp c k ps es) ws = refl
-below_given base (elements.list es) ws = refl
+below_given base (elements.list marked es) ws = refl
 below_given base (elements.boundary k f es) ws = refl
 below_given base (elements.provider c k x es) ws = refl
 

@@ -20,6 +20,7 @@ use Rattle.commit_laws.specs.WaitsAgain.{without_lanes}
 use Rattle.rx_fiber.specs.Fibers.{Fiber}
 use Rattle.rx_fiber.specs.Reading.{IsOld}
 use Rattle.rx_fiber.specs.Standing.{StandsAt}
+use Rattle.rx_fiber.specs.Subtrees.{IsGathered}
 use Rattle.rx_fiber.specs.Stood.{StoodAt}
 use Rattle.rx_fiber.specs.Surround.{given_along}
 use Rattle.rx_complete.specs.Ends.{IsAtEnd}
@@ -34,7 +35,6 @@ use Rattle.rx_begin.specs.declared.opening.Opened.{Opened}
 use Rattle.rx_begin.specs.declared.opening.Opened.TheVariants.{First, Empty}
 use Rattle.rx_render.specs.declared.at.At.{At}
 use Rattle.rx_render.specs.declared.at.At.TheVariants.{Begins, Completes, Over}
-use Rattle.cost_laws.specs.Costs.{CursorFlagged}
 use Rattle.cost_laws.specs.Left.{Flags}
 use Rattle.rx_render.specs.Rendering.{ComesTo}
 use Rattle.rx_render.specs.Costing.{CausesAt, HasFlags, Paid}
@@ -66,6 +66,8 @@ pub record CanBegin (scene : Scene) (kept : ℕ → Option (List Hook)) (t : Tre
   pub settled : IfSettled sight.program (known_by sight) old
   pub covers : CoversIf (is_way scene.ways.now) (IsIdleMark sight) old
   pub each : length (values_at st) ≡ length (contexts scene.checked.now)
+  -- the current tree's fibers keep what is at or below them
+  pub gathered : IsGathered t.current
 
 -- a unit can be done
 abbrev pub IsReadyAt : Scene → (kept : ℕ → Option (List Hook)) → Trees Fiber → Stack → At → Type 0
@@ -96,7 +98,7 @@ pub record ComesFrom (s : Sight) (way : ℕ → Bool) (kept : ℕ → Option (Li
   pub next : Cursor
   pub goes : Goes s before.current bodies c next
   pub comes : ComesTo after st at next
-  pub paid : (us : Flags) → CausesAt s way kept c → CursorFlagged us c → HasFlags before from us → Paid s before.current bodies us c next after at
+  pub paid : (us : Flags) → CausesAt s way kept c → HasFlags before from us → Paid s before.current bodies us c next after at
 
 -- the same from each cursor that they may stand for
 abbrev pub Advances : Sight → (way : ℕ → Bool) → (kept : ℕ → Option (List Hook)) → (before : Trees Fiber) → Stack → At → (bodies : ℕ) → (after : Trees Fiber) → Stack → At → Type 0

@@ -6,7 +6,7 @@ use Rattle.rx_meaning.specs.Fresh.{Sight}
 use Rattle.rx_meaning.specs.Settled.{Known, IsSettled, IfSettled}
 use Rattle.commit_laws.specs.Idle.{IsIdleMark}
 use Rattle.rx_ways.specs.Ways.{Covers, CoversIf}
-use Rattle.cost_laws.specs.Required.{IsUndue}
+use Rattle.cost_laws.specs.Undue.{IsUndue}
 
 -- a node is settled where the tree is, and ways that cover the tree for a render cover it
 pub record GoesWith (tree : Option Node) (x : Node) : Type 0 where

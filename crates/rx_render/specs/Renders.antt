@@ -32,9 +32,8 @@ use Rattle.commit_laws.specs.HiddenWaits.{IfNumbered}
 use Rattle.commit_laws.specs.Idle.{IsIdleMark}
 use Rattle.commit_laws.specs.WaitsAgain.{IfWaitsAgain}
 use Rattle.end_laws.specs.Trimmed.{trimmed_if}
-use Rattle.cost_laws.specs.Costs.{Costs}
-use Rattle.cost_laws.specs.Left.{Flags}
-use Rattle.cost_laws.specs.Required.{IsUndue, PassesNone}
+use Rattle.cost_laws.specs.Left.{Costs, Flags}
+use Rattle.cost_laws.specs.Undue.{IsUndue}
 use Rattle.begin_laws.specs.Mounting.{HasInstances}
 use Rattle.rx_render.specs.Mounting.{GoesWith}
 use Rattle.rx_render.specs.GivenContexts.{CursorGiven}
@@ -67,12 +66,11 @@ pub record HasCome (s : Sight) (tree : Option Node) (v : Rendering) : Type 0 whe
   -- a render over the tree comes there
   pub reached : IsReached s.program tree cursor
 
--- What a rendering has cost so far at a cursor: it evaluated no more than what has a cause or lies below a cause, and passed over nothing that it had to evaluate. No update is due where the tree stands on no way.
+-- What a rendering has cost so far at a cursor: with the bodies that are left to it, those of the whole render. No update is due where the tree stands on no way.
 pub record HasCosts (s : Sight) (tree : Option Node) (v : Rendering) (c : Cursor) : Type 0 where
   pub flags : Flags
   pub are : HasFlags v.trees v.at flags
-  pub few : Costs s tree v.bodies flags c
-  pub enough : PassesNone s tree v.bodies flags c
+  pub counted : Costs s tree v.bodies flags c
   pub undue : CoversIf (is_way v.ways) (IsUndue s) tree
 
 -- a cut has nothing before it that has yet to come
@@ -93,6 +91,8 @@ pub record Renders (p : Program) (st : State) (g : Progress) (v : Rendering) : T
   pub past : IsPast g.cut st.journal
   -- the committed tree has what bodies give for what is done
   pub settled : IfSettled p (known_by (sight_of p st g)) st.tree
+  -- over the root's element
+  pub rooted : IfSome st.tree (λ x. element_of x ≡ root_element p)
   -- its hidden boundaries wait again
   pub waits : IfWaitsAgain (sight_of p st g) (default_contexts p) st.tree
   -- and what is shown of it read what the contexts give

@@ -15,7 +15,6 @@ ghost use Rattle.rx_hook_store.specs.Gives.{GivesValues};
 ghost use Rattle.rx_causes.specs.Scenes.{IsSceneOf};
 ghost use Rattle.rx_lists.specs.Shapes.{none};
 ghost use Rattle.rx_links.specs.Drafts.{taken};
-ghost use Rattle.cost_laws.specs.Costs.{FramesFlagged};
 ghost use Rattle.cost_laws.specs.Left.{Flags, outer, unwound};
 ghost use Rattle.flag_laws.specs.Flagged.{FlagsAtEnd, FlagsHere};
 ghost use Rattle.rx_ways.specs.Ways.{is_way};
@@ -93,7 +92,7 @@ fn suspend(
 ) -> Result<At, AllocError>
     requires { IsOpenBelow tree.old contexts.old id }
     ensures comes { IfOk result (λ a. (levels : ℕ) (fs : List Frame) → IsWithin tree.old contexts.old id fs → ComesTo tree.new contexts.new a (unwind levels fs (one resource))) }
-    ensures flags { IfOk result (λ a. (fs : List Frame) (us : Flags) → FlagsHere tree.old id (taken none) us → IsWithin tree.old contexts.old id fs → FramesFlagged us fs → HasFlags tree.new a (unwound fs us)) }
+    ensures flags { IfOk result (λ a. (fs : List Frame) (us : Flags) → FlagsHere tree.old id (taken none) us → IsWithin tree.old contexts.old id fs → HasFlags tree.new a (unwound fs us)) }
     ensures gathered { IfOk result (λ a. IsGathered tree.old.current → IsGathering tree.old (At.Begins id) → IsGathering tree.new a) }
     ensures current { tree.new.current ≡ tree.old.current }
 {

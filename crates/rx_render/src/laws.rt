@@ -1,5 +1,5 @@
 // Laws of renders in progress.
-ghost use Rattle.std.specs.Prelude.{◌≡◌, ◌<◌, ◌≤◌, ℕ, ℤ, Some};
+ghost use Rattle.std.specs.Prelude.{◌≡◌, ◌<◌, ℕ, ℤ, Some, length};
 ghost use Rattle.rx_ast.specs.Syntax.{Program};
 ghost use Rattle.rx_elem.specs.Trees.{Node};
 ghost use Rattle.rx_links.specs.Drafts.{grafted};
@@ -12,8 +12,7 @@ ghost use Rattle.rx_model.specs.Laws.{IsBounded};
 ghost use Rattle.rx_model.specs.Turns.{unit_bound};
 ghost use Rattle.rx_fiber.specs.Reading.{IsTreeOf};
 ghost use Rattle.rx_hook_store.specs.Store.{Kept, kept_hooks};
-ghost use Rattle.cost_laws.specs.Allowed.{whole_allowed};
-ghost use Rattle.cost_laws.specs.Required.{whole_required};
+ghost use Rattle.cost_laws.specs.Places.{AreEvaluated, evaluated_places};
 ghost use Rattle.rx_render.specs.declared.at.At.TheVariants.{Over};
 ghost use Rattle.rx_render.specs.Rendering.{Rendering, IfLeft};
 ghost use Rattle.rx_render.specs.Renders.{Renders, IsLater, with_hooks};
@@ -34,12 +33,12 @@ pub fn renders_stay()
 {}
 
 /// Where no unit is left, the tree in progress is that of the node that fresh rendering gives, and there were fewer bodies
-/// than units. They are as many at least as places have a cause of their own, what untouched hidden boundaries keep left out,
-/// and as many at most as places have a cause or lie below one that has.
+/// than units. These are the bodies of a set of places: each that has a cause is in it, and each in it has one, or lies below a
+/// place that has one or that is tried again; none is there twice.
 pub fn renders_end()
     ensures { (p : Program) → IsBounded p → (st : State) (g : Progress) (v : Rendering) → Renders p st g v → v.at ≡ Over
         → (x : Node) × IsTreeOf (Some x) (grafted v.trees.draft) × (fresh (sight_of p st g) st.tree ≡ made x) × (v.bodies < v.units)
-        × (whole_required (sight_of p st g) st.tree ≤ v.bodies) × (v.bodies ≤ whole_allowed (sight_of p st g) st.tree) }
+        × (v.bodies ≡ length (evaluated_places (sight_of p st g) st.tree)) × AreEvaluated (sight_of p st g) st.tree }
 {}
 
 /// Where a unit is left, fewer were taken than the bound of the machine.

@@ -6,8 +6,6 @@ mod at;
 mod laws;
 mod renderer;
 mod roots;
-#[cfg(test)]
-mod tests;
 
 pub use at::At;
 pub use laws::{later_renders, renders_are_bounded, renders_end, renders_stay};

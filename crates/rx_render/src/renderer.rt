@@ -18,7 +18,7 @@ ghost use Rattle.rx_meaning.specs.Fresh.{IsTree, Sight};
 ghost use Rattle.rx_meaning.specs.Settled.{DoneBefore, HasOwnNumbers};
 ghost use Rattle.commit_laws.specs.HiddenWaits.{IfNumbered};
 ghost use Rattle.commit_laws.specs.Idle.{IsIdleMark};
-ghost use Rattle.cost_laws.specs.Required.{IsUndue};
+ghost use Rattle.cost_laws.specs.Undue.{IsUndue};
 ghost use Rattle.rx_ways.specs.Ways.{CoversIf, is_way};
 ghost use Rattle.rx_model.specs.Committing.{committed_state, sight_of, starting};
 ghost use Rattle.rx_model.specs.Laws.{IsBounded};
@@ -313,6 +313,7 @@ impl Renderer {
         let origin = Origin {
             cloned,
             stood: true,
+            generation: 0,
         };
         let id = self
             .fibers

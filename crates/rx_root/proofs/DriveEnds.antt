@@ -18,6 +18,7 @@ use Rattle.rx_render.specs.Rendering.{Rendering, IfLeft, units_left, left_of}
 use Rattle.rx_render.specs.Renders.{Renders}
 use Rattle.rx_render.specs.Turning.{Proceeds}
 use Rattle.rx_render.proofs.Later.{renders_as, renders_same}
+use Rattle.cost_laws.proofs.ComingCounts.{places_counted}
 use Rattle.rx_render.proofs.Ending.{renders_end, renders_bounded}
 use Rattle.rx_root.specs.Rooted.{Rooted}
 use Rattle.rx_root.specs.Stands.{StandsWith, Stands}
@@ -133,8 +134,8 @@ module _ (p : Program) (bounded : IsBounded p) (s : State) (g : Progress) (slice
           };
         };
         bodies = counted_are;
-        allowed = omega (arith, bodies_rise, end.5);
-        required = omega (arith, bodies_rise, end.4);
+        evaluated = omega (arith, bodies_rise, end.4);
+        are = end.5;
       }
 
   -- what the slice leaves is a render of the machine
@@ -172,7 +173,7 @@ module _ (p : Program) (bounded : IsBounded p) (s : State) (g : Progress) (slice
         stands = yielded_stands ends.0;
         silently = refl;
         bodies = counted_are;
-        allowed = omega (arith, bodies_rise, still.costs.few.bound);
+        few = omega (arith, bodies_rise, still.costs.counted, places_counted (sight_of p s g) s.tree);
       }
 
 -- some unit is left of a render in progress

@@ -247,7 +247,7 @@ module _ (n : ℕ) (s : Sight) (below : BelowHas n s) where
   place_has cs (elements.host name key attrs es) old h same =
       one_has (elements.host name key attrs es) (of_host (old_host old)) (part cs (listed es) (children_if old)) tt (children_have s.program old h)
   place_has cs (elements.comp c key props kids) old h same = comp_has cs c key props kids old h same
-  place_has cs (elements.list es) old h same = one_has (elements.list es) plain (part cs (listed es) (children_if old)) tt (children_have s.program old h)
+  place_has cs (elements.list marked es) old h same = one_has (elements.list marked es) plain (part cs (listed es) (children_if old)) tt (children_have s.program old h)
   place_has cs (elements.boundary key f es) old h same =
       boundary_has s.program (elements.boundary key f es) old (render_part (rendered n s) (part cs (listed es) (children_if old)))
       (render_part (rendered n s) (part cs (f ∷ []) (fallback_if old))) h

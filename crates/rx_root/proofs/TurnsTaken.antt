@@ -111,7 +111,7 @@ pub goes_finished : (p : Program) (s : State) (g : Progress) (budget : Option �
 goes_finished p s g budget v w log new steps counted h done =
     let since = ended_bodies s g (counts_of v) (outcome g.lanes s.tree h.tree) in
     let pays : Pays p s g (ended s g (counts_of v) h.tree) =
-    record { few = omega (arith, since, h.allowed); enough = λ over. omega (arith, since, h.required) } in
+    record { few = omega (arith, since, h.evaluated); all = λ over. omega (arith, since, h.evaluated); are = λ over. h.are } in
     record { stretch = ended s g (counts_of v) h.tree; asked = (inl h.finishes, pays); done = done; bodies = h.bodies ∙ ap (λ (n : ℕ). steps + n) since }
 
 -- what has yielded is still in progress
@@ -123,7 +123,14 @@ pub goes_yielded : (p : Program) (s : State) (g : Progress) (budget : Option ℕ
 goes_yielded p s g budget v log steps counted leads h =
     record {
       stretch = h.stretch;
-      asked = (inr h.yields, record { few = h.allowed; enough = λ over. absurd (goes_still s g h.yields.budget h.yields.bodies h.stretch h.yields.stretch_is over) });
+      asked = (
+        inr h.yields,
+        record {
+          few = h.few;
+          all = λ over. absurd (goes_still s g h.yields.budget h.yields.bodies h.stretch h.yields.stretch_is over);
+          are = λ over. absurd (goes_still s g h.yields.budget h.yields.bodies h.stretch h.yields.stretch_is over);
+        },
+      );
       done = record { stands = h.stands (leads h.stretch (inr h.yields, tt)); written = sym (ap (λ (ls : List Line). with_lines log ls) h.silently ∙ with_none log) };
       bodies = h.bodies;
     }

@@ -1,13 +1,13 @@
--- What a render costs: how many bodies it evaluates, at most and at least.
-use Rattle.std.specs.Prelude.{◌≡◌, ◌+◌, ◌≤◌, None}
+-- What a render costs: the bodies that it evaluates.
+use Rattle.std.specs.Prelude.{◌≡◌, ◌+◌, ◌≤◌, None, length}
 use Rattle.rx_ast.specs.Syntax.{Program}
 use Rattle.rx_model.specs.State.{State, Progress}
 use Rattle.rx_model.specs.Stretch.{Stretch}
 use Rattle.rx_model.specs.Committing.{sight_of}
-use Rattle.cost_laws.specs.Allowed.{whole_allowed}
-use Rattle.cost_laws.specs.Required.{whole_required}
+use Rattle.cost_laws.specs.Places.{AreEvaluated, evaluated_places}
 
--- A render that goes on has evaluated no more bodies in all than may be: those of places that have a cause, or lie below one that has, none twice. Where it is finished, it has evaluated as many as must be: those of places that have a cause of their own, what untouched hidden boundaries keep apart.
+-- A render that goes on has evaluated no more bodies in all than those of the places that the render evaluates. Where it is finished it has evaluated just these: each place that has a cause, and of the others only such as lie below one that has or that is tried again, and none twice.
 pub record Pays (p : Program) (s : State) (g : Progress) (r : Stretch) : Type 0 where
-  pub few : g.bodies + r.bodies ≤ whole_allowed (sight_of p s g) s.tree
-  pub enough : r.after.progress ≡ None → whole_required (sight_of p s g) s.tree ≤ g.bodies + r.bodies
+  pub few : g.bodies + r.bodies ≤ length (evaluated_places (sight_of p s g) s.tree)
+  pub all : r.after.progress ≡ None → g.bodies + r.bodies ≡ length (evaluated_places (sight_of p s g) s.tree)
+  pub are : r.after.progress ≡ None → AreEvaluated (sight_of p s g) s.tree

@@ -24,8 +24,7 @@ use Rattle.rx_model.specs.Machine.{FlushWithin}
 use Rattle.rx_model.specs.Kept.{IsSet}
 use Rattle.rx_model.specs.Laws.{IsReached}
 use Rattle.run_laws.specs.Carried.{values_now}
-use Rattle.cost_laws.specs.Allowed.{whole_allowed}
-use Rattle.cost_laws.specs.Required.{whole_required}
+use Rattle.cost_laws.specs.Places.{AreEvaluated, evaluated_places}
 use Rattle.rx_links.specs.Drafts.{grafted}
 use Rattle.rx_fiber.specs.Reading.{IsTreeOf}
 use Rattle.end_laws.specs.Trimmed.{trimmed}
@@ -140,9 +139,9 @@ pub record HasFinished (p : Program) (s : State) (g : Progress) (slice : Option 
   pub finishes : Finishes p s g slice (ended s g (counts_of v) tree)
   pub stands : StandsBy p s (IsAtEndOf p s g tree) v
   pub bodies : counted ≡ steps + bodies_since g (counts_of v)
-  -- it has evaluated no more bodies than may be, and as many as must be
-  pub allowed : g.bodies + bodies_since g (counts_of v) ≤ whole_allowed (sight_of p s g) s.tree
-  pub required : whole_required (sight_of p s g) s.tree ≤ g.bodies + bodies_since g (counts_of v)
+  -- it has evaluated the bodies of the places that the render evaluates
+  pub evaluated : g.bodies + bodies_since g (counts_of v) ≡ length (evaluated_places (sight_of p s g) s.tree)
+  pub are : AreEvaluated (sight_of p s g) s.tree
 
 -- A render in progress has used up its slice: the root stands for a state with what is left of it, and its bodies are counted.
 pub record HasYielded (p : Program) (s : State) (g : Progress) (slice : Option ℕ) (v : Rooted) (steps counted : ℕ) : Type 0 where
@@ -151,8 +150,8 @@ pub record HasYielded (p : Program) (s : State) (g : Progress) (slice : Option �
   pub stands : IsReached p stretch.after → Stands p stretch.after v
   pub silently : stretch.lines ≡ []
   pub bodies : counted ≡ steps + stretch.bodies
-  -- it has evaluated no more bodies so far than may be
-  pub allowed : g.bodies + stretch.bodies ≤ whole_allowed (sight_of p s g) s.tree
+  -- it has evaluated no more bodies so far than those of the places that the render evaluates
+  pub few : g.bodies + stretch.bodies ≤ length (evaluated_places (sight_of p s g) s.tree)
 
 -- after so many turns at most there is room for those that follow, and nothing was accepted
 pub record LeavesRoom (turns : ℕ) (old new : Rooted) : Type 0 where

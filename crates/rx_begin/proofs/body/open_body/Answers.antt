@@ -5,27 +5,27 @@ use Rattle.rx_begin.specs.Bodies.{waits}
 use Rattle.rx_begin.proofs.Bodies.{opened_anew}
 use Rattle.rx_fiber.specs.Fibers.{as_matched}
 use Rattle.rx_begin.proofs.ByElement.{if_ok}
-use Rattle.rx_begin.proofs.Origins.{matched_kids, opened_waits_not, opened_no_body}
+use Rattle.rx_begin.proofs.Origins.{matched_marked, opened_waits_not, opened_no_body}
 use Rattle.rx_begin.proofs.body.open_body.Goals as goal
 
 pub returns-in-Wait-clause-opened : goal.returns-in-Wait-clause-opened
-returns-in-Wait-clause-opened c cs node cloned same = waits c.in-Wait.resource (ap (λ b. shape_of_body cs c.args.component node (body_seen b)) c.in-Wait.is) refl refl
+returns-in-Wait-clause-opened c cs node again same = waits c.in-Wait.resource (ap (λ b. shape_of_body cs c.args.component node (body_seen b)) c.in-Wait.is) refl refl
 
 pub returns-in_ok-instance-in-Ready-clause-anew : goal.returns-in_ok-instance-in-Ready-clause-anew
 returns-in_ok-instance-in-Ready-clause-anew c = if_ok c.open_node.result _ _ (λ b h. opened_anew _ _ _ _ _ _ _ b h) c.open_node.ensures.opened
 
 pub returns-in_ok-instance-in-Ready-clause-own : goal.returns-in_ok-instance-in-Ready-clause-own
 returns-in_ok-instance-in-Ready-clause-own c =
-    if_ok c.open_node.result _ _ (λ b h. opened_waits_not (as_matched c.args.steady) c.args.tree.now c.open_node.new.tree c.args.at b (matched_kids c.args.tree.now c.open_node.new.tree c.args.at _ _ c.args.steady b h))
+    if_ok c.open_node.result _ _ (λ b h. opened_waits_not (as_matched c.args.steady c.args.generation) c.args.tree.now c.open_node.new.tree c.args.at b (matched_marked c.args.tree.now c.open_node.new.tree c.args.at _ _ c.args.steady c.args.generation b h))
     c.open_node.ensures.opened
 
 pub returns-in_ok-instance-in-Ready-clause-kids : goal.returns-in_ok-instance-in-Ready-clause-kids
 returns-in_ok-instance-in-Ready-clause-kids c =
-    if_ok c.open_node.result _ _ (λ b h is. matched_kids c.args.tree.now c.open_node.new.tree c.args.at _ _ c.args.steady b h) c.open_node.ensures.opened
+    if_ok c.open_node.result _ _ (λ b h is. matched_marked c.args.tree.now c.open_node.new.tree c.args.at _ _ c.args.steady c.args.generation b h) c.open_node.ensures.opened
 
 pub returns-in_ok-instance-in-Ready-clause-waits : goal.returns-in_ok-instance-in-Ready-clause-waits
 returns-in_ok-instance-in-Ready-clause-waits c =
     if_ok c.open_node.result _ _
     (λ b h r is.
-    absurd (opened_no_body (as_matched c.args.steady) c.args.tree.now c.open_node.new.tree c.args.at b (matched_kids c.args.tree.now c.open_node.new.tree c.args.at _ _ c.args.steady b h) r is))
+    absurd (opened_no_body (as_matched c.args.steady c.args.generation) c.args.tree.now c.open_node.new.tree c.args.at b (matched_marked c.args.tree.now c.open_node.new.tree c.args.at _ _ c.args.steady c.args.generation b h) r is))
     c.open_node.ensures.opened

@@ -14,8 +14,8 @@ open_list-requires-clause-beside c =
 
 pub returns-clause-opened : goal.returns-clause-opened
 returns-clause-opened c =
-    subst (λ s. HasOpened (as_matched c.args.steady) c.args.tree.now c.open_list.new.tree c.args.at (stage_seen c.args.stage) c.args.elements.now (matched s c.args.elements.now) c.begun_from.result)
+    subst (λ s. HasOpened (as_matched c.args.steady c.args.generation) c.args.tree.now c.open_list.new.tree c.args.at (stage_seen c.args.stage) c.args.elements.now (matched s c.args.elements.now) c.begun_from.result)
     (c.old_primary-first_old.ensures.list
     ∙ ap (λ o. primary_list (list_from c.args.tree.now.current o)) (c.alternate.ensures.made (bare_made c.args.tree.now c.args.at c.place_facts.ensures c.requires.bare)))
-    (opened_from (as_matched c.args.steady) c.args.tree.now c.open_list.new.tree c.args.at (stage_seen c.args.stage) c.args.elements.now
+    (opened_from (as_matched c.args.steady c.args.generation) c.args.tree.now c.open_list.new.tree c.args.at (stage_seen c.args.stage) c.args.elements.now
     (matched (list_from c.args.tree.now.current c.old_primary-first_old.result) c.args.elements.now) c.in_ok-first.first c.begun_from.result c.in_ok-first.ensures.opened c.begun_from.ensures)

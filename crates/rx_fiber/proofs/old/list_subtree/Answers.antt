@@ -1,10 +1,6 @@
-use Rattle.std.specs.Prelude.{Option, Some}
-use Rattle.std.proofs.Common.{◌∙◌, sym, ap, IfSome, subst, refl}
-use Rattle.rx_lists.specs.Shapes.{Holds}
-use Rattle.rx_links.specs.Readers.{list_from}
+use Rattle.std.proofs.Common.{◌∙◌, ap}
 use Rattle.rx_fiber.specs.Fibers.{joined}
-use Rattle.rx_fiber.specs.Subtrees.{subtrees_of}
-use Rattle.rx_fiber.proofs.Gathered.{one_joined, joined_nothing}
+use Rattle.rx_fiber.proofs.Gathered.{one_joined}
 use Rattle.rx_fiber.proofs.OldReads.{some_held, rest_held}
 use Rattle.rx_fiber.proofs.old.list_subtree.Goals as goal
 

@@ -13,7 +13,7 @@ use Rattle.rx_ways.specs.Ways.{is_way}
 use Rattle.rx_begin.specs.Beginning.{BeginsPlace, awaited_again, is_taken}
 use Rattle.rx_render.specs.declared.at.At.TheVariants.{Begins}
 use Rattle.rx_render.specs.Advancing.{at_opened, Advances}
-use Rattle.rx_render.proofs.Advancing.{can_begin, waits_below, child_advances, leaf_advances, waits_advances, hidden_left, hidden_advances, taken_made, taken_advances, opened_comes}
+use Rattle.rx_render.proofs.Advancing.{can_begin, waits_below, child_advances, leaf_advances, waits_advances, hidden_left, hidden_tried, hidden_advances, taken_made, taken_advances, opened_comes}
 use Rattle.rx_fiber.specs.Subtrees.{IsGathered}
 use Rattle.rx_links.specs.Drafts.{Trees}
 use Rattle.rx_fiber.specs.Fibers.{Fiber, as_cloned}
@@ -25,6 +25,9 @@ use Rattle.rx_render.proofs.advance.begin_place.Goals as goal
 pub begin-requires-clause-place : goal.begin-requires-clause-place
 begin-requires-clause-place g c = can_begin c.args.scene.now (kept_hooks c.args.hooks.now) c.args.tree.now c.args.contexts.now c.args.id c.requires
 
+pub begin-requires-clause-gathered : goal.begin-requires-clause-gathered
+begin-requires-clause-gathered g c = c.requires.gathered
+
 pub suspend-requires : goal.suspend-requires
 suspend-requires g c =
     waits_below c.args.scene.now (kept_hooks c.args.hooks.now) c.args.tree.now c.args.contexts.now c.begin.new.tree c.begin.new.contexts c.args.id c.in-Suspended.resource c.requires
@@ -35,7 +38,7 @@ returns-in-Child-clause-comes g c s sees =
     child_advances s (is_way c.args.scene.now.ways.now) (kept_hooks c.args.hooks.now) c.args.tree.now c.args.contexts.now c.begin.new.tree c.begin.new.contexts c.args.id _ (λ n fs cs e old. c.in_ok-begun.ensures.few s n fs cs e old sees) c.in-Child.child
     (subst (BeginsPlace s (is_way c.args.scene.now.ways.now) (kept_hooks c.args.hooks.now) c.args.tree.now c.args.contexts.now c.begin.new.tree c.begin.new.contexts c.args.id) c.in-Child.is (c.in_ok-begun.ensures.begun s sees))
     (child_paid s c.args.scene.now sees (kept_hooks c.args.hooks.now) c.args.tree.now c.args.contexts.now c.args.id c.in_ok-begun.evaluated c.facts.ensures.fits
-    (record { none = c.in_ok-begun.ensures.none; calm = c.in_ok-begun.ensures.calm; exact = c.in_ok-begun.ensures.exact }) (λ n fs cs e old. c.in_ok-begun.ensures.few s n fs cs e old sees) (λ v there none same stood. c.in_ok-begun.ensures.tries v there none same stood (ap awaited_again c.in-Child.is))
+    (record { none = c.in_ok-begun.ensures.none; some = c.in_ok-begun.ensures.body }) (λ n fs cs e old. c.in_ok-begun.ensures.few s n fs cs e old sees) (λ v there none same stood. c.in_ok-begun.ensures.tries v there none same stood (ap awaited_again c.in-Child.is))
     c.begin.new.tree c.in_ok-begun.begun c.in-Child.child c.in-Child.is c.in_ok-begun.ensures.kids)
 
 pub returns-in-Leaf-clause-comes : goal.returns-in-Leaf-clause-comes
@@ -43,7 +46,7 @@ returns-in-Leaf-clause-comes g c s sees =
     leaf_advances s (is_way c.args.scene.now.ways.now) (kept_hooks c.args.hooks.now) c.args.tree.now c.args.contexts.now c.begin.new.tree c.begin.new.contexts c.args.id _ (λ n fs cs e old. c.in_ok-begun.ensures.few s n fs cs e old sees)
     (subst (BeginsPlace s (is_way c.args.scene.now.ways.now) (kept_hooks c.args.hooks.now) c.args.tree.now c.args.contexts.now c.begin.new.tree c.begin.new.contexts c.args.id) c.in-Leaf.is (c.in_ok-begun.ensures.begun s sees))
     (leaf_paid s c.args.scene.now sees (kept_hooks c.args.hooks.now) c.args.tree.now c.args.contexts.now c.args.id c.in_ok-begun.evaluated c.facts.ensures.fits
-    (record { none = c.in_ok-begun.ensures.none; calm = c.in_ok-begun.ensures.calm; exact = c.in_ok-begun.ensures.exact }) (λ n fs cs e old. c.in_ok-begun.ensures.few s n fs cs e old sees) (λ v there none same stood. c.in_ok-begun.ensures.tries v there none same stood (ap awaited_again c.in-Leaf.is))
+    (record { none = c.in_ok-begun.ensures.none; some = c.in_ok-begun.ensures.body }) (λ n fs cs e old. c.in_ok-begun.ensures.few s n fs cs e old sees) (λ v there none same stood. c.in_ok-begun.ensures.tries v there none same stood (ap awaited_again c.in-Leaf.is))
     c.begin.new.tree c.in_ok-begun.begun c.in-Leaf.is c.in_ok-begun.ensures.kids)
 
 pub returns-in_ok-at-in-Suspended-clause-comes : goal.returns-in_ok-at-in-Suspended-clause-comes
@@ -53,7 +56,7 @@ returns-in_ok-at-in-Suspended-clause-comes g c s sees =
     (subst (BeginsPlace s (is_way c.args.scene.now.ways.now) (kept_hooks c.args.hooks.now) c.args.tree.now c.args.contexts.now c.begin.new.tree c.begin.new.contexts c.args.id) c.in-Suspended.is (c.in_ok-begun.ensures.begun s sees))
     c.in_ok-at-in-Suspended.ensures.comes
     (waits_paid s c.args.scene.now sees (kept_hooks c.args.hooks.now) c.args.tree.now c.args.contexts.now c.args.id c.in_ok-begun.evaluated c.facts.ensures.fits
-    (record { none = c.in_ok-begun.ensures.none; calm = c.in_ok-begun.ensures.calm; exact = c.in_ok-begun.ensures.exact }) (λ n fs cs e old. c.in_ok-begun.ensures.few s n fs cs e old sees) (λ v there none same stood. c.in_ok-begun.ensures.tries v there none same stood (ap awaited_again c.in-Suspended.is))
+    (record { none = c.in_ok-begun.ensures.none; some = c.in_ok-begun.ensures.body }) (λ n fs cs e old. c.in_ok-begun.ensures.few s n fs cs e old sees) (λ v there none same stood. c.in_ok-begun.ensures.tries v there none same stood (ap awaited_again c.in-Suspended.is))
     c.begin.new.tree c.begin.new.contexts c.in-Suspended.resource c.suspend.new.tree c.in_ok-at-in-Suspended.at (c.in_ok-begun.ensures.waits c.in-Suspended.resource c.in-Suspended.is) c.in_ok-at-in-Suspended.ensures.flags)
 
 pub open_old_fallback-requires : goal.open_old_fallback-requires
@@ -69,6 +72,7 @@ pub returns-in_ok-opened-in-Hidden-clause-comes : goal.returns-in_ok-opened-in-H
 returns-in_ok-opened-in-Hidden-clause-comes g c s sees =
     let st = c.begin.new.contexts in
     let opened = c.in_ok-opened-in-Hidden.opened in
+    let tries = hidden_tried c.args.scene.now (kept_hooks c.args.hooks.now) c.args.tree.now c.args.contexts.now c.begin.new.tree c.args.id c.facts.ensures.fits c.requires (c.in_ok-begun.ensures.tried (is_again c.in-Hidden.is)) in
     subst (Advances s (is_way c.args.scene.now.ways.now) (kept_hooks c.args.hooks.now) c.args.tree.now c.args.contexts.now (Begins c.args.id) _ c.open_old_fallback.new.tree st) (sym c.at_opened.ensures)
     (hidden_advances s (is_way c.args.scene.now.ways.now) (kept_hooks c.args.hooks.now) c.args.tree.now c.args.contexts.now c.begin.new.tree st c.args.id _ c.in-Hidden.awaits c.open_old_fallback.new.tree (at_opened opened)
     (λ n fs cs e old. c.in_ok-begun.ensures.few s n fs cs e old sees) c.facts.ensures.fits c.facts.ensures.linked
@@ -76,7 +80,7 @@ returns-in_ok-opened-in-Hidden-clause-comes g c s sees =
     (λ d l again. opened_comes c.open_old_fallback.new.tree st opened d (c.in_ok-opened-in-Hidden.ensures.opened st d l again))
     (λ x was. subst (λ l. ForEachIn (λ i. TellsNews (kept_hooks c.args.hooks.now) l s.cut i false) (children_of x)) (sym sees.lanes)
     (subst (λ k. ForEachIn (λ i. TellsNews (kept_hooks c.args.hooks.now) c.args.scene.now.lanes k i false) (children_of x)) (sym sees.cut) (c.in_ok-begun.ensures.news (is_again c.in-Hidden.is) x was)))
-    (again_flags c.args.tree.now c.begin.new.tree c.open_old_fallback.new.tree c.args.id opened c.facts.ensures.fits (c.in_ok-begun.ensures.tried (is_again c.in-Hidden.is)) c.in_ok-opened-in-Hidden.ensures.kids))
+    (again_flags c.args.tree.now c.begin.new.tree c.open_old_fallback.new.tree c.args.id tries.0 opened c.facts.ensures.fits tries.1 c.in_ok-opened-in-Hidden.ensures.kids))
 
 pub pass-requires : goal.pass-requires
 pass-requires g c =
@@ -91,7 +95,7 @@ returns-in-Taken-clause-comes g c s sees =
     (ap (λ b. if b then 1 else 0) (c.in_ok-begun.ensures.taken (ap is_taken c.in-Taken.is))) c.facts.ensures.linked
     (subst (BeginsPlace s (is_way c.args.scene.now.ways.now) (kept_hooks c.args.hooks.now) c.args.tree.now c.args.contexts.now c.begin.new.tree st c.args.id) c.in-Taken.is (c.in_ok-begun.ensures.begun s sees))
     (λ x was. subst (λ l. EachBut (is_way c.args.scene.now.ways.now) (Rests (kept_hooks c.args.hooks.now) l s.cut) x) (sym sees.lanes)
-    (subst (λ k. EachBut (is_way c.args.scene.now.ways.now) (Rests (kept_hooks c.args.hooks.now) c.args.scene.now.lanes k) x) (sym sees.cut) (c.in_ok-begun.ensures.rests (ap is_taken c.in-Taken.is) x was)))
+    (subst (λ k. EachBut (is_way c.args.scene.now.ways.now) (Rests (kept_hooks c.args.hooks.now) c.args.scene.now.lanes k) x) (sym sees.cut) (c.in_ok-begun.ensures.rests (ap is_taken c.in-Taken.is) x was))) c.facts.ensures.fits (λ v there. (c.in_ok-begun.ensures.again (ap is_taken c.in-Taken.is) v there).generation)
     (passed_flags c.args.tree.now c.begin.new.tree c.args.id c.pass.result c.facts.ensures.fits c.facts-in-Taken.ensures.fits (c.in_ok-begun.ensures.taken_over (ap is_taken c.in-Taken.is)) c.pass.ensures.next)
     (λ levels fs x. c.pass.ensures.stands st levels fs x) (λ levels fs x. c.pass.ensures.leads st levels fs x))
 
@@ -110,9 +114,10 @@ returns-in_ok-at-in-Suspended-clause-gathered g c current h =
 
 pub returns-in_ok-opened-in-Hidden-clause-gathered : goal.returns-in_ok-opened-in-Hidden-clause-gathered
 returns-in_ok-opened-in-Hidden-clause-gathered g c current h =
+    let tries = hidden_tried c.args.scene.now (kept_hooks c.args.hooks.now) c.args.tree.now c.args.contexts.now c.begin.new.tree c.args.id c.facts.ensures.fits c.requires (c.in_ok-begun.ensures.tried (is_again c.in-Hidden.is)) in
     subst (IsGathering c.open_old_fallback.new.tree) (sym c.at_opened.ensures)
-    (again_gathered (as_cloned true) c.args.tree.now c.begin.new.tree c.open_old_fallback.new.tree c.args.id c.in_ok-opened-in-Hidden.opened c.facts.ensures.fits
-    (c.in_ok-begun.ensures.tried (is_again c.in-Hidden.is)) c.in_ok-opened-in-Hidden.ensures.kids current h)
+    (again_gathered (as_cloned true) c.args.tree.now c.begin.new.tree c.open_old_fallback.new.tree c.args.id tries.0 c.in_ok-opened-in-Hidden.opened c.facts.ensures.fits
+    tries.1 c.in_ok-opened-in-Hidden.ensures.kids current h)
 
 pub returns-in-Taken-clause-gathered : goal.returns-in-Taken-clause-gathered
 returns-in-Taken-clause-gathered g c current h =

@@ -9,7 +9,6 @@ use Rattle.rx_render.specs.Rendering.{ComesTo, to_wait}
 use Rattle.rx_render.proofs.Advancing.{stopped, opened_comes}
 use Rattle.cost_laws.specs.Left.{unwound}
 use Rattle.rx_render.specs.Costing.{HasFlags}
-use Rattle.rx_fiber.specs.Fibers.{as_matched}
 use Rattle.rx_fiber.specs.Subtrees.{IsGathered}
 use Rattle.rx_render.specs.Gathers.{IsGathering}
 use Rattle.rx_render.proofs.Gathering.{unwound_gathered}
@@ -36,9 +35,9 @@ returns-in_ok-opened-in-Some-clause-comes c levels fs w =
     (ap (unwind levels fs) c.awaits_for-awaits.ensures) (c.in-Some.ensures.left levels fs w))))
 
 pub returns-in_ok-opened-in-Some-clause-flags : goal.returns-in_ok-opened-in-Some-clause-flags
-returns-in_ok-opened-in-Some-clause-flags c fs us h within framed =
+returns-in_ok-opened-in-Some-clause-flags c fs us h within =
     subst (λ a. HasFlags c.open_fallback.new.tree a (unwound fs us)) (sym c.at_opened.ensures)
-    (unwound_flags c.args.tree.now c.facts.ensures.fits c.args.contexts.now c.args.id fs us h within framed c.unwind_to_boundary.new.tree c.open_fallback.new.tree c.in-Some.boundary
+    (unwound_flags c.args.tree.now c.facts.ensures.fits c.args.contexts.now c.args.id fs us h within c.unwind_to_boundary.new.tree c.open_fallback.new.tree c.in-Some.boundary
     c.in_ok-opened-in-Some.opened c.facts-in-Some.ensures.fits c.unwind_to_boundary.ensures.current (c.in-Some.ensures.nearest h.around h.value h.old (taken none) h.rest h.here) c.in_ok-opened-in-Some.ensures.kids)
 
 pub returns-in-None-clause-gathered : goal.returns-in-None-clause-gathered
@@ -47,5 +46,5 @@ returns-in-None-clause-gathered c current h = subst (λ x. IsGathered (grafted x
 pub returns-in_ok-opened-in-Some-clause-gathered : goal.returns-in_ok-opened-in-Some-clause-gathered
 returns-in_ok-opened-in-Some-clause-gathered c current h =
     subst (IsGathering c.open_fallback.new.tree) (sym c.at_opened.ensures)
-    (unwound_gathered (as_matched false) c.args.tree.now c.unwind_to_boundary.new.tree c.open_fallback.new.tree c.in-Some.boundary c.args.id c.in_ok-opened-in-Some.opened h
-    c.unwind_to_boundary.ensures.current (c.in-Some.ensures.nearest h.around h.value h.old (taken none) h.rest h.here) c.in_ok-opened-in-Some.ensures.kids current)
+    (unwound_gathered c.args.tree.now c.unwind_to_boundary.new.tree c.open_fallback.new.tree c.in-Some.boundary c.args.id c.in_ok-opened-in-Some.opened h c.facts-in-Some.ensures.fits
+    c.unwind_to_boundary.ensures.current (c.in-Some.ensures.nearest h.around h.value h.old (taken none) h.rest h.here) (λ v there. let k = c.in_ok-opened-in-Some.ensures.kids v there in (_, k.2)) current)

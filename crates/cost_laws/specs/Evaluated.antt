@@ -1,0 +1,82 @@
+-- Which bodies a render evaluates: those of components that have a cause, and of those whose element was made anew.
+use Rattle.std.specs.Prelude.{ℕ, zero, suc, ◌+◌, Bool, true, not, ◌&&◌, ◌||◌, cond, nat_eq, is_some, Option}
+use Rattle.rx_elem.specs.Elements.{Element, stands_for_children}
+use Rattle.rx_elem.specs.Trees.{Node, was_hidden}
+use Rattle.rx_meaning.specs.Counts.{Tries, count_part, if_waits}
+use Rattle.rx_meaning.specs.Fresh.{Sight, Contexts, Renders, rendered, depth_limit, default_contexts, root_element, render_part, Shape, absent, waiting, one_list, two_lists, shape_of}
+use Rattle.rx_meaning.specs.Generations.{generation_below, own_generation}
+use Rattle.rx_meaning.specs.Touched.{component_in}
+use Rattle.cost_laws.specs.Causes.{has_cause}
+use Rattle.cost_laws.specs.Untouched.{is_element_of, is_untouched, stands_below}
+
+-- The places above
+
+-- What the places above tell of one: the generation of its element, and whether its old node is visible and stands where the same values of contexts are given.
+pub record Flag : Type 0 where
+  pub generation : ℕ
+  pub stood : Bool
+
+-- nothing stands above the root, whose element is always the same
+abbrev pub above_root : Flag
+above_root = record { generation = 0; stood = true }
+
+-- the element of a place is the committed one, given again
+abbrev pub is_again : Flag → Element → Option Node → Bool
+is_again u e old = nat_eq u.generation 0 && is_element_of e old
+
+-- the place is a component's, and its body is evaluated: the component has a cause, or its element was made anew
+abbrev pub is_evaluated : Sight → Flag → Contexts → Element → Option Node → Bool
+is_evaluated s u cs e old = is_some (component_in e) && (has_cause s cs e old || not (is_again u e old))
+
+-- what is told of the children of a node of no boundary
+abbrev pub below_node : Sight → Flag → Contexts → Element → Option Node → Flag
+below_node s u cs e old =
+    record {
+      generation = generation_below (is_evaluated s u cs e old) (is_again u e old) (stands_for_children e) u.generation;
+      stood = stands_below u.stood e old;
+    }
+
+-- of the children of a boundary; what it kept while it was hidden was made for another element
+abbrev pub below_boundary : Flag → Element → Option Node → Flag
+below_boundary u e old =
+    record { generation = own_generation (is_again u e old && not (was_hidden old)) u.generation; stood = stands_below u.stood e old }
+
+-- of its fallback where its children are not tried, since it is untouched: its element is the committed one, and it stands as the boundary does
+abbrev pub beside_kept : Flag
+beside_kept = record { generation = 0; stood = true }
+
+-- of its fallback once its children were tried: it stands as the boundary does
+abbrev pub after_attempt : Flag → Element → Option Node → Flag
+after_attempt u e old = record { generation = own_generation (is_again u e old) u.generation; stood = u.stood }
+
+-- of its fallback
+abbrev pub in_fallback : Sight → Flag → Element → Option Node → Flag
+in_fallback s u e old = cond (is_untouched s u.stood e old) beside_kept (after_attempt u e old)
+
+-- Bodies
+
+-- the body of a place itself
+abbrev pub own_body : Sight → Flag → Contexts → Element → Option Node → ℕ
+own_body s u cs e old = cond (is_evaluated s u cs e old) 1 0
+
+-- how many bodies are evaluated at a place and below it
+abbrev pub Evaluates : Type 0
+Evaluates = Flag → Contexts → Tries
+
+-- at a place and below it, by what stands there
+abbrev pub evaluate_shape : Evaluates → (Contexts → Renders) → Sight → Flag → Contexts → Element → Option Node → Shape → ℕ
+evaluate_shape evaluate below s u cs e old absent = 0
+evaluate_shape evaluate below s u cs e old (waiting r) = own_body s u cs e old
+evaluate_shape evaluate below s u cs e old (one_list m p) = own_body s u cs e old + count_part (evaluate (below_node s u cs e old)) below p
+evaluate_shape evaluate below s u cs e old (two_lists p f) =
+    cond (is_untouched s u.stood e old) 0 (count_part (evaluate (below_boundary u e old)) below p)
+    + if_waits (render_part below p) (count_part (evaluate (in_fallback s u e old)) below f)
+
+-- at a place and below it, with so many levels
+unfoldable pub evaluated : ℕ → Sight → Evaluates
+evaluated zero s u cs e old = 0
+evaluated (suc levels) s u cs e old = evaluate_shape (evaluated levels s) (rendered levels s) s u cs e old (shape_of s cs e old)
+
+-- in a whole render
+unfoldable pub whole_evaluated : Sight → Option Node → ℕ
+whole_evaluated s old = evaluated depth_limit s above_root (default_contexts s.program) (root_element s.program) old
