@@ -1,5 +1,5 @@
 -- Turns of a root, by the turns of the machine.
-use Rattle.std.specs.Prelude.{◌≡◌, ℕ, ◌+◌, ◌*◌, ◌<◌, ◌≤◌, ◌^◌, Bool, not, ◌&&◌, List, [], ℤ, Option, Some, None, is_some, slice_index_or, if◌then◌else◌}
+use Rattle.std.specs.Prelude.{◌≡◌, ℕ, ◌+◌, ◌*◌, ◌<◌, ◌≤◌, ◌^◌, Bool, not, ◌&&◌, List, [], ℤ, Option, Some, None, is_some, length, slice_index_or, if◌then◌else◌}
 use Rattle.rx_base.specs.Awaits.{Awaits}
 use Rattle.rx_base.specs.Awaits.{has as has_resource}
 use Rattle.rx_lane.specs.declared.lane.Lane.{Lane}
