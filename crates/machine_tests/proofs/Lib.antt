@@ -1,2 +1,1 @@
 mod FirstCommit
-mod FirstRender

@@ -1,7 +1,7 @@
 use Rattle.std.proofs.Common.{refl, ap, ◌∙◌}
 use Rattle.rx_rules.specs.Names.{resources}
-use Rattle.machine_tests.proofs.FirstRender.{first_starts}
-use Rattle.machine_tests.proofs.rendering.first_render.Goals as goal
+use Rattle.render_tests.proofs.FirstRender.{first_starts}
+use Rattle.render_tests.proofs.rendering.first_render.Goals as goal
 
 pub start-requires : goal.start-requires
 start-requires c =

@@ -7,7 +7,7 @@ use Rattle.rx_forest.specs.declared.op.HostOp.TheVariants as op
 use Rattle.rx_forest.specs.Forests.{HostForest, IsUnder, CanBeReplayed, created, placed, valued, tag, letters}
 use Rattle.rx_host.specs.Kept.{no_hosts}
 use Rattle.rx_host.proofs.Removing.{alone}
-use Rattle.machine_tests.proofs.hosts.a_list_is_made.Goals as goal
+use Rattle.tree_tests.proofs.hosts.a_list_is_made.Goals as goal
 
 -- a host without children is not above another one
 apart : (f : HostForest) (n m : ℕ) → f.children n ≡ [] → nat_eq m n ≡ false → IsUnder f n m → ⊥

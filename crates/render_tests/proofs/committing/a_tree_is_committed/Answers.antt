@@ -3,7 +3,7 @@ use Rattle.std.specs.Prelude.{None}
 use Rattle.rx_elem.specs.Trees.{Node}
 use Rattle.rx_effect.specs.EffectLog.{no_passive}
 use Rattle.rx_pruned.specs.Besides.{IsBeside}
-use Rattle.machine_tests.proofs.committing.a_tree_is_committed.Goals as goal
+use Rattle.render_tests.proofs.committing.a_tree_is_committed.Goals as goal
 
 pub outcome-requires : goal.outcome-requires
 outcome-requires g c = subst (λ (t : Option Node). IsBeside t c.in_ok-beside.beside) (sym c.new-shown.ensures.tree_is) c.in_ok-beside.ensures.beside

@@ -6,7 +6,7 @@ use Rattle.rx_elem.specs.Elements as elements
 use Rattle.rx_elem.specs.Trees.{Instance, Node, node, none, child, forest, of_host, of_instance}
 use Rattle.rx_node.specs.MarkView.{instance_seen}
 use Rattle.host_laws.specs.Commits.{IsCommit}
-use Rattle.machine_tests.proofs.committing.first_tree.Goals as goal
+use Rattle.render_tests.proofs.committing.first_tree.Goals as goal
 
 -- a paragraph
 abbrev below : Node
