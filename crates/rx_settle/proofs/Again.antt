@@ -1,5 +1,5 @@
 -- A render that is repeated leaves what is kept as it was.
-use Rattle.std.proofs.Common.{◌≡◌, ℕ, ℤ, ◌+◌, ◌<◌, false, nat_eq, Some, IsSome, List, map, slice_get, refl, sym, ap, ◌∙◌, subst, below_more}
+use Rattle.std.proofs.Common.{◌≡◌, ◌⊎◌, inl, inr, Option, ℕ, ℤ, ◌+◌, ◌<◌, false, nat_eq, Some, IsSome, List, map, slice_get, refl, sym, ap, ◌∙◌, subst, below_more}
 use Rattle.rx_base.specs.declared.cut.Cut.{Cut}
 use Rattle.rx_lane.specs.Lanes.{Lanes}
 use Rattle.rx_ast.specs.Syntax.{Program}
@@ -12,8 +12,8 @@ use Rattle.rx_model.specs.State.{State}
 use Rattle.rx_hook_store.specs.Rendered.{IsRendered, KeepsInstance, RendersHooks}
 use Rattle.rx_hook_store.proofs.Rendering.{above-journal, hooks-rendered}
 use Rattle.rx_hook_store.proofs.Stores.{KeptBy, by_number, keeps-same, rendered-same}
-use Rattle.rx_settle.specs.Passes.{KeepsOn, RendersShown, has_instance}
-use Rattle.rx_settle.proofs.Kept.{other_than}
+use Rattle.rx_settle.specs.Passes.{AreApart, KeepsOn, RendersShown, TellsOf, has_instance}
+use Rattle.rx_settle.proofs.Kept.{other_than, other_way}
 
 -- hooks that are rendered stand for the state as before
 module _ (p : Program) (lanes : Lanes) (cut : Cut) (i : ℕ) (old new : KeptBy) (r : RendersHooks (answers_of p) lanes cut i old new) where
@@ -67,18 +67,31 @@ module _ (p : Program) (lanes : Lanes) (cut : Cut) (first : ℕ) (old now new : 
       }
 
   -- one instance more is rendered
-  pub render_more : (ms : List Mounted) (i : ℕ) (m : Mounted) → slice_get ms i ≡ Some m → RenderedSoFar p lanes cut first old now ms i → KeepsOn p lanes cut now new
+  pub render_more : (ms : List Mounted) → AreApart ms → (i : ℕ) (m : Mounted) → slice_get ms i ≡ Some m → RenderedSoFar p lanes cut first old now ms i → KeepsOn p lanes cut now new
       → RendersShown p lanes cut first now new m → ((n : ℕ) → nat_eq m.number n ≡ false → new n ≡ now n) → RenderedSoFar p lanes cut first old new ms (i + 1)
-  render_more ms i m at so_far further one others =
+  render_more ms apart i m at so_far further one others =
       record {
         goes_on = goes_further so_far.goes_on further;
         rendered = below_more (λ k. (x : Mounted) → slice_get ms k ≡ Some x → RendersShown p lanes cut first old new x) i
-            (λ k lt x there visible below s done keeps. further.stays s x.number x.initials done (so_far.rendered k lt x there visible below s done keeps))
-            (λ x there visible below s done keeps.
+            (λ k lt x there visible below. still x (others x.number (other_way x.number m.number (apart k i x m lt there at))) (so_far.rendered k lt x there visible below))
+            (λ x there visible below.
             let same : m ≡ x = cc in
-            subst (λ (y : Mounted). RendersShown p lanes cut first now new y) same one visible below s done (so_far.goes_on.keeps s x.number x.initials done keeps));
+            since x (subst (λ (y : Mounted). RendersShown p lanes cut first now new y) same one visible below));
         elsewhere = λ n none. others n (other_than ms i m n at none) ∙ so_far.elsewhere n none;
       }
+    where
+      -- of one that was rendered before, or in which there is no work, this is still so
+      still : (x : Mounted) → new x.number ≡ now x.number
+          → TellsOf lanes cut (now x.number) false ⊎ ((s : State) → DoneBefore cut s.journal.updates → KeepsInstance p s old x.number x.initials → IsRendered p s lanes cut now x.number x.initials)
+          → TellsOf lanes cut (new x.number) false ⊎ ((s : State) → DoneBefore cut s.journal.updates → KeepsInstance p s old x.number x.initials → IsRendered p s lanes cut new x.number x.initials)
+      still x same (inl none) = inl (subst (λ (o : Option (List Hook)). TellsOf lanes cut o false) (sym same) none)
+      still x same (inr renders) = inr (λ s done keeps. further.stays s x.number x.initials done (renders s done keeps))
+
+      since : (x : Mounted)
+          → TellsOf lanes cut (new x.number) false ⊎ ((s : State) → DoneBefore cut s.journal.updates → KeepsInstance p s now x.number x.initials → IsRendered p s lanes cut new x.number x.initials)
+          → TellsOf lanes cut (new x.number) false ⊎ ((s : State) → DoneBefore cut s.journal.updates → KeepsInstance p s old x.number x.initials → IsRendered p s lanes cut new x.number x.initials)
+      since x (inl none) = inl none
+      since x (inr renders) = inr (λ s done keeps. renders s done (so_far.goes_on.keeps s x.number x.initials done keeps))
 
 -- ---- where all is as before at first
 
@@ -87,4 +100,9 @@ module _ (p : Program) (lanes : Lanes) (cut : Cut) (first : ℕ) (old now new : 
   goes_on_before h = goes_further p lanes cut first old now new (same_goes_on p lanes cut old now same) h
 
   pub renders_before : (m : Mounted) → RendersShown p lanes cut first now new m → RendersShown p lanes cut first old new m
-  renders_before m h visible below s done keeps = h visible below s done (keeps-same p s m.number old now m.initials (same m.number) keeps)
+  renders_before m h visible below = go (h visible below)
+    where
+      go : TellsOf lanes cut (new m.number) false ⊎ ((s : State) → DoneBefore cut s.journal.updates → KeepsInstance p s now m.number m.initials → IsRendered p s lanes cut new m.number m.initials)
+          → TellsOf lanes cut (new m.number) false ⊎ ((s : State) → DoneBefore cut s.journal.updates → KeepsInstance p s old m.number m.initials → IsRendered p s lanes cut new m.number m.initials)
+      go (inl none) = inl none
+      go (inr renders) = inr (λ s done keeps. renders s done (keeps-same p s m.number old now m.initials (same m.number) keeps))

@@ -6,14 +6,13 @@ use Rattle.rx_lane.specs.Lanes.{Lanes}
 use Rattle.rx_elem.specs.Spots.{Mounted}
 use Rattle.rx_hooks.specs.declared.hook.Hook.{Hook}
 use Rattle.rx_hooks.specs.Hooks.{committed_hook, owed_hook}
-use Rattle.rx_hook_store.specs.Changing.{HooksChange}
 use Rattle.rx_hook_store.proofs.Stores.{KeptBy}
-use Rattle.rx_settle.specs.Passes.{AreApart, AreKept, AreSettled, has_instance}
+use Rattle.rx_settle.specs.Passes.{AreApart, AreKept, AreSettled, ChangesWorking, has_instance}
 
 -- ---- numbers
 
 -- two numbers differ either way
-other_way : (a b : ℕ) → nat_eq a b ≡ false → nat_eq b a ≡ false
+pub other_way : (a b : ℕ) → nat_eq a b ≡ false → nat_eq b a ≡ false
 other_way a b e = grind (arith, nat_tests)
 
 neither : (a b : Bool) → (a || b) ≡ false → (a ≡ false) × (b ≡ false)
@@ -41,15 +40,15 @@ module _ (lanes : Lanes) (cut : Cut) (first : ℕ) where
   settled_after : (m : Mounted) (old now new : KeptBy) → new m.number ≡ now m.number → AreSettled lanes cut first old now m → AreSettled lanes cut first old new m
   settled_after m old now new same h =
       record {
-        shown = λ below visible. subst (λ (o : Option (List Hook)). HooksChange (map committed_hook) (old m.number) o) (sym same) (h.shown below visible);
-        hidden = λ below visible. subst (λ (o : Option (List Hook)). HooksChange (map (owed_hook lanes cut)) (old m.number) o) (sym same) (h.hidden below visible);
+        shown = λ below visible. subst (λ (o : Option (List Hook)). ChangesWorking (map committed_hook) lanes cut (old m.number) o) (sym same) (h.shown below visible);
+        hidden = λ below visible. subst (λ (o : Option (List Hook)). ChangesWorking (map (owed_hook lanes cut)) lanes cut (old m.number) o) (sym same) (h.hidden below visible);
       }
 
   settled_before : (m : Mounted) (old now new : KeptBy) → now m.number ≡ old m.number → AreSettled lanes cut first now new m → AreSettled lanes cut first old new m
   settled_before m old now new same h =
       record {
-        shown = λ below visible. subst (λ (o : Option (List Hook)). HooksChange (map committed_hook) o (new m.number)) same (h.shown below visible);
-        hidden = λ below visible. subst (λ (o : Option (List Hook)). HooksChange (map (owed_hook lanes cut)) o (new m.number)) same (h.hidden below visible);
+        shown = λ below visible. subst (λ (o : Option (List Hook)). ChangesWorking (map committed_hook) lanes cut o (new m.number)) same (h.shown below visible);
+        hidden = λ below visible. subst (λ (o : Option (List Hook)). ChangesWorking (map (owed_hook lanes cut)) lanes cut o (new m.number)) same (h.hidden below visible);
       }
 
   module _ (ms : List Mounted) (apart : AreApart ms) (old now new : KeptBy) (i : ℕ) (m : Mounted) (at : slice_get ms i ≡ Some m) where

@@ -15,14 +15,13 @@ use Rattle.rx_meaning.specs.Settled.{DoneBefore, HasOwnNumbers, TargetsBelow}
 use Rattle.rx_model.specs.State.{Progress, State}
 use Rattle.rx_model.specs.Committing.{committed_state, sight_of}
 use Rattle.rx_model.specs.HooksOf.{KeepsAllHooks}
-use Rattle.rx_hook_store.specs.Changing.{HooksChange}
 use Rattle.rx_hook_store.specs.Commits.{AreMounted, SettlesHooks, hidden, made, shown, untouched}
 use Rattle.rx_hook_store.specs.Gives.{has_work_in}
 use Rattle.rx_meaning.specs.Expressions.{answers_of}
 use Rattle.rx_pruned.specs.Pruned.{ArePruned, later, whole}
 use Rattle.rx_pruned.specs.Pruned as pruning
 use Rattle.pruned_laws.proofs.Within.{are_within}
-use Rattle.rx_hook_store.specs.Rendered.{KeepsInstance}
+use Rattle.rx_hook_store.specs.Rendered.{IsRendered, KeepsInstance}
 use Rattle.rx_hook_store.proofs.Committed.{committed_keeps}
 use Rattle.rx_hook_store.proofs.Staying.{there_is}
 use Rattle.rx_hook_store.proofs.Stores.{KeptBy, all-keep, each-keeps}
@@ -31,7 +30,7 @@ use Rattle.run_laws.proofs.AlongRuns.{reached_carries}
 use Rattle.end_laws.proofs.Read.{mounted_same}
 use Rattle.rx_settle.specs.declared.made.NewHooks.{NewHooks}
 use Rattle.rx_settle.specs.Made.{AreMadeFor, kept_with}
-use Rattle.rx_settle.specs.Passes.{AllSettled, AreApart, AreKept, AreSettled, HasAllWorking, IsSettledOver, KeepsOn, has_instance}
+use Rattle.rx_settle.specs.Passes.{AllSettled, AreApart, AreKept, AreSettled, ChangesWorking, TellsOf, works, rests, HasAllWorking, IsSettledOver, KeepsOn, has_instance}
 use Rattle.rx_settle.specs.Settling.{IsSettlingOf}
 use Rattle.rx_settle.proofs.Apart.{own_apart}
 use Rattle.rx_settle.proofs.Numbers.{is_there, left_in, left_out, own_same, pruned_own}
@@ -102,9 +101,9 @@ module _ (lanes : Lanes) (cut : Cut) (first : ℕ) (ms : List Mounted) (xs : Lis
       record {
         kept = λ k m at. record {
           shown = λ below visible.
-              subst (λ (o : Option (List Hook)). HooksChange (map committed_hook) (old m.number) o) (sym (not_new k m at below)) ((settles k m at).shown below visible);
+              subst (λ (o : Option (List Hook)). ChangesWorking (map committed_hook) lanes cut (old m.number) o) (sym (not_new k m at below)) ((settles k m at).shown below visible);
           hidden = λ below visible.
-              subst (λ (o : Option (List Hook)). HooksChange (map (owed_hook lanes cut)) (old m.number) o) (sym (not_new k m at below)) ((settles k m at).hidden below visible);
+              subst (λ (o : Option (List Hook)). ChangesWorking (map (owed_hook lanes cut)) lanes cut (old m.number) o) (sym (not_new k m at below)) ((settles k m at).hidden below visible);
         };
         made = λ k m at le. its_own k m at (found xs settled m.number (are_made.each_has k m (slice_get_within ms k m at) at le));
       }
@@ -167,9 +166,30 @@ module _ (p : Program) (kept : KeptBy) (old : Option Node) (new : Node) (first :
           → SettlesHooks p s g q.over.rendered last m
       each_settles k m at which = go which
         where
+          -- one in which the render has no work keeps its hooks
+          stays : KeepsInstance p s kept m.number m.initials → TellsOf g.lanes g.cut (q.over.rendered m.number) false → last m.number ≡ q.over.rendered m.number → SettlesHooks p s g q.over.rendered last m
+          stays keeps none same =
+              let now = q.over.goes_on.keeps s m.number m.initials h.done keeps in
+              untouched now (sym (none (answers_of p) now.hooks now.histories now.kept_is now.stand)) same
+
+          shows : m.visible ≡ true → KeepsInstance p s kept m.number m.initials
+              → TellsOf g.lanes g.cut (q.over.rendered m.number) false ⊎ ((t : State) → DoneBefore g.cut t.journal.updates → KeepsInstance p t kept m.number m.initials → IsRendered p t g.lanes g.cut q.over.rendered m.number m.initials)
+              → ChangesWorking (map committed_hook) g.lanes g.cut (q.over.rendered m.number) (last m.number) → SettlesHooks p s g q.over.rendered last m
+          shows is keeps (inr renders) (works all change) = shown is (renders s h.done keeps) change
+          shows is keeps (inl none) (works all change) =
+              let now = q.over.goes_on.keeps s m.number m.initials h.done keeps in
+              let f : true ≡ false = all (answers_of p) now.hooks now.histories now.kept_is now.stand ∙ sym (none (answers_of p) now.hooks now.histories now.kept_is now.stand) in
+              cc
+          shows is keeps r (rests none same) = stays keeps none same
+
+          hides : m.visible ≡ false → KeepsInstance p s kept m.number m.initials → ChangesWorking (map (owed_hook g.lanes g.cut)) g.lanes g.cut (q.over.rendered m.number) (last m.number)
+              → SettlesHooks p s g q.over.rendered last m
+          hides is keeps (works all change) = hidden is (q.over.goes_on.keeps s m.number m.initials h.done keeps) change
+          hides is keeps (rests none same) = stays keeps none same
+
           seen : (v : Bool) → m.visible ≡ v → m.number < s.numbers.instance → KeepsInstance p s kept m.number m.initials → SettlesHooks p s g q.over.rendered last m
-          seen true is below keeps = shown is (q.over.renders k m at is below s h.done keeps) ((q.over.settles.kept k m at).shown below is)
-          seen false is below keeps = hidden is (q.over.goes_on.keeps s m.number m.initials h.done keeps) ((q.over.settles.kept k m at).hidden below is)
+          seen true is below keeps = shows is keeps (q.over.renders k m at is below) ((q.over.settles.kept k m at).shown below is)
+          seen false is below keeps = hides is keeps ((q.over.settles.kept k m at).hidden below is)
 
           by_number : KeepsInstance p s kept m.number m.initials → (m.number < s.numbers.instance) ⊎ (s.numbers.instance ≤ m.number) → SettlesHooks p s g q.over.rendered last m
           by_number keeps (inl below) = seen m.visible refl below keeps

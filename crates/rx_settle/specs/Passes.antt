@@ -1,5 +1,5 @@
 -- What a commit makes of the hooks that are kept, in its two passes over the instances of its tree.
-use Rattle.std.specs.Prelude.{◌≡◌, ◌<◌, ◌≤◌, ℕ, ℤ, Bool, true, false, nat_eq, List, map, Option, Some, None, IsSome, slice_get}
+use Rattle.std.specs.Prelude.{◌≡◌, ◌⊎◌, ◌<◌, ◌≤◌, ℕ, ℤ, Bool, true, false, nat_eq, List, map, Option, Some, None, IsSome, slice_get}
 use Rattle.std.specs.List.{list_any}
 use Rattle.rx_base.specs.declared.cut.Cut.{Cut}
 use Rattle.rx_lane.specs.Lanes.{Lanes}
@@ -7,11 +7,13 @@ use Rattle.rx_ast.specs.Syntax.{Program}
 use Rattle.rx_elem.specs.Spots.{Mounted, mounted}
 use Rattle.rx_elem.specs.Trees.{Node}
 use Rattle.rx_hooks.specs.declared.hook.Hook.{Hook}
-use Rattle.rx_hooks.specs.Hooks.{committed_hook, owed_hook}
+use Rattle.rx_queue.specs.History.{Answers}
+use Rattle.rx_hooks.specs.Hooks.{HookHistory, HooksStandFor, committed_hook, owed_hook}
 use Rattle.rx_meaning.specs.Settled.{DoneBefore}
 use Rattle.rx_model.specs.State.{State}
 use Rattle.rx_hook_store.specs.Changing.{HooksChange}
 use Rattle.rx_hook_store.specs.Commits.{AreMounted}
+use Rattle.rx_hook_store.specs.Gives.{has_work_in}
 use Rattle.rx_hook_store.specs.Rendered.{IsRendered, KeepsInstance}
 use Rattle.rx_hook_store.specs.Working.{HaveWork}
 
@@ -33,23 +35,33 @@ pub record KeepsOn (p : Program) (lanes : Lanes) (cut : Cut) (old new : ℕ → 
   pub keeps : (s : State) (n : ℕ) (initials : List ℤ) → DoneBefore cut s.journal.updates → KeepsInstance p s old n initials → KeepsInstance p s new n initials
   pub stays : (s : State) (n : ℕ) (initials : List ℤ) → DoneBefore cut s.journal.updates → IsRendered p s lanes cut old n initials → IsRendered p s lanes cut new n initials
 
--- an instance that is visible and has a number below the first is rendered
+-- a test tells of hooks that are kept whether a render has work in them, by each history that they stand for
+abbrev pub TellsOf : Lanes → Cut → Option (List Hook) → Bool → Type 0
+TellsOf lanes cut kept work =
+    (answers : Answers) (hooks : List Hook) (histories : List HookHistory) → kept ≡ Some hooks → HooksStandFor answers hooks histories → work ≡ has_work_in lanes cut histories
+
+-- an instance that is visible and has a number below the first is rendered, or a render has no work in its hooks
 abbrev pub RendersShown : Program → (lanes : Lanes) → (cut : Cut) → (first : ℕ) → (old new : ℕ → Option (List Hook)) → Mounted → Type 0
 RendersShown p lanes cut first old new m =
-    m.visible ≡ true → m.number < first → (s : State) → DoneBefore cut s.journal.updates → KeepsInstance p s old m.number m.initials
-    → IsRendered p s lanes cut new m.number m.initials
+    m.visible ≡ true → m.number < first
+    → TellsOf lanes cut (new m.number) false ⊎ ((s : State) → DoneBefore cut s.journal.updates → KeepsInstance p s old m.number m.initials → IsRendered p s lanes cut new m.number m.initials)
 
--- the hooks of an instance with a number below the first are committed where it is visible, and else owed what lies before the cut
+-- hooks in which a render has work change so, and others stay as they are
+pub data ChangesWorking (change : List HookHistory → List HookHistory) (lanes : Lanes) (cut : Cut) (old new : Option (List Hook)) : Type 0 where
+  works : TellsOf lanes cut old true → HooksChange change old new → ChangesWorking change lanes cut old new
+  rests : TellsOf lanes cut old false → new ≡ old → ChangesWorking change lanes cut old new
+
+-- the hooks of an instance with a number below the first in which the render has work are committed where it is visible, and else owed what lies before the cut
 pub record AreSettled (lanes : Lanes) (cut : Cut) (first : ℕ) (old new : ℕ → Option (List Hook)) (m : Mounted) : Type 0 where
-  pub shown : m.number < first → m.visible ≡ true → HooksChange (map committed_hook) (old m.number) (new m.number)
-  pub hidden : m.number < first → m.visible ≡ false → HooksChange (map (owed_hook lanes cut)) (old m.number) (new m.number)
+  pub shown : m.number < first → m.visible ≡ true → ChangesWorking (map committed_hook) lanes cut (old m.number) (new m.number)
+  pub hidden : m.number < first → m.visible ≡ false → ChangesWorking (map (owed_hook lanes cut)) lanes cut (old m.number) (new m.number)
 
 -- so are those of each instance of a list, and those of a new one are as at its mount
 pub record AllSettled (lanes : Lanes) (cut : Cut) (first : ℕ) (old new : ℕ → Option (List Hook)) (ms : List Mounted) : Type 0 where
   pub kept : (k : ℕ) (m : Mounted) → slice_get ms k ≡ Some m → AreSettled lanes cut first old new m
   pub made : (k : ℕ) (m : Mounted) → slice_get ms k ≡ Some m → first ≤ m.number → AreMounted m.initials (new m.number)
 
--- What is kept is settled over some instances: those that are visible are rendered again, all are settled, and those of the old ones that are not among them are dropped. What is kept of any other instance stays.
+-- What is kept is settled over some instances: those that are visible and have work are rendered again, all are settled, and those of the old ones that are not among them are dropped. What is kept of any other instance stays.
 pub record IsSettledOver (p : Program) (lanes : Lanes) (cut : Cut) (first : ℕ) (old new : ℕ → Option (List Hook)) (before ms : List Mounted) : Type 0 where
   pub rendered : ℕ → Option (List Hook)
   pub goes_on : KeepsOn p lanes cut old rendered

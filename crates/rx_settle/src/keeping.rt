@@ -13,7 +13,7 @@ use rx_lane::Lanes;
 use rx_spots::Mounted;
 use std::collections::HashSet;
 
-// Settles the hooks of an instance, if it is not new.
+// Settles the hooks of an instance, if it is not new and the render has work in them.
 fn settle_one(store: &mut HookStore, instance: &Mounted, first: u64, lanes: Lanes, cut: Cut)
     requires { instance.now.number < first → IsSome (kept_hooks store.old instance.now.number) }
     ensures settled { AreSettled lanes cut first (kept_hooks store.old) (kept_hooks store.new) instance.now }
@@ -21,7 +21,7 @@ fn settle_one(store: &mut HookStore, instance: &Mounted, first: u64, lanes: Lane
     ensures spare { store.new.spare ≡ store.old.spare }
 {
     let number = instance.number();
-    if number < first {
+    if number < first && store.has_work(number, lanes, cut) {
         if instance.is_visible() {
             store.commit_instance(number);
         } else {

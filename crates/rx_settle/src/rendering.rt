@@ -2,7 +2,7 @@
 ghost use Rattle.std.specs.Prelude.{◌≡◌, ◌<◌, ℕ, false, nat_eq, OnOk, IsSome, Some, slice_get};
 ghost use Rattle.rx_elem.specs.Spots as spots;
 ghost use Rattle.rx_hook_store.specs.Store.{kept_hooks};
-ghost use Rattle.rx_settle.specs.Passes.{AreKept, KeepsOn, RendersShown, has_instance};
+ghost use Rattle.rx_settle.specs.Passes.{AreApart, AreKept, KeepsOn, RendersShown, has_instance};
 
 use rx_base::Cut;
 use rx_check::Checked;
@@ -12,7 +12,7 @@ use rx_lane::Lanes;
 use rx_spots::Mounted;
 use std::alloc::{AllocError, Global};
 
-// Renders the hooks of an instance, if it is visible and not new.
+// Renders the hooks of an instance, if it is visible and not new, and a render has work in them.
 fn render_one(
     alloc: Global,
     store: &mut HookStore,
@@ -29,16 +29,16 @@ fn render_one(
     ensures spare { store.new.spare ≡ store.old.spare }
 {
     let number = instance.number();
-    if number < first && instance.is_visible() {
+    if number < first && instance.is_visible() && store.has_work(number, lanes, cut) {
         let fold = Evaluator::new(checked);
         let _values = store.render_values(alloc, number, &fold, lanes, cut)?;
     }
     Ok(())
 }
 
-/// Renders the hooks of each visible instance of a tree again that is not new: one with a number below the first. They
-/// were rendered for these lanes at this cut before; so this changes nothing that a render sees, and the commit finds
-/// them rendered.
+/// Renders the hooks of each visible instance of a tree again that is not new, one with a number below the first, if a render
+/// has work in them. They were rendered for these lanes at this cut before; so this changes nothing that a render sees, and the
+/// commit finds them rendered.
 ///
 /// # Errors
 ///
@@ -52,7 +52,8 @@ pub(crate) fn render_shown(
     lanes: Lanes,
     cut: Cut,
 ) -> Result<(), AllocError>
-    requires { AreKept first (kept_hooks store.old) instances.now }
+    requires apart { AreApart instances.now }
+    requires kept { AreKept first (kept_hooks store.old) instances.now }
     ensures keeps { KeepsOn checked.now lanes cut (kept_hooks store.old) (kept_hooks store.new) }
     ensures rendered { OnOk result ((k : ℕ) (m : spots.Mounted) → slice_get instances.now k ≡ Some m → RendersShown checked.now lanes cut first (kept_hooks store.old) (kept_hooks store.new) m) }
     ensures others { (n : ℕ) → has_instance instances.now n ≡ false → kept_hooks store.new n ≡ kept_hooks store.old n }

@@ -39,48 +39,47 @@ fn numbers_of(alloc: Global, instances: &[Mounted]) -> Result<HashSet<u64>, Allo
     Ok(known)
 }
 
-// True where each instance in whose hooks a render has work is one of a tree.
+// True where each instance in whose hooks a render has work is one of these.
 fn has_all_working(
     alloc: Global,
     store: &HookStore,
-    tree: &Node,
+    known: &HashSet<u64>,
     lanes: Lanes,
     cut: Cut,
 ) -> Result<bool, AllocError>
     ensures { IfOk result (λ all. all ≡ true → (n : ℕ) (hooks : List Hook) → kept_hooks store.now n ≡ Some hooks → HaveWork lanes cut hooks
-        → has_instance (spots.mounted (Some tree.now)) n ≡ true) }
+        → contains nat_eq known.now n ≡ true) }
 {
-    let instances = mounted(alloc, Some(tree))?;
-    let known = numbers_of(alloc, &instances)?;
     let working = store.working(alloc, lanes, cut)?;
-    Ok(working.is_subset(&known))
+    Ok(working.is_subset(known))
 }
 
-// Settles the hooks of the instances of a tree, and drops those of the instances of an old one that it has no longer.
+// Settles the hooks of the instances of a tree, whose numbers are known, and drops those of the instances of an old one that it
+// has no longer.
 fn settle_trees(
     alloc: Global,
     store: &mut HookStore,
     checked: &Checked,
     old: Option<&Node>,
-    new: &Node,
+    instances: &[Mounted],
+    known: &HashSet<u64>,
     first: u64,
     lanes: Lanes,
     cut: Cut,
 ) -> Result<(), AllocError>
-    requires apart { AreApart (spots.mounted (Some new.now)) }
-    requires kept { AreKept first (kept_hooks store.old) (spots.mounted (Some new.now)) }
+    requires apart { AreApart instances.now }
+    requires kept { AreKept first (kept_hooks store.old) instances.now }
+    requires known { (n : ℕ) → contains nat_eq known.now n ≡ has_instance instances.now n }
     ensures settled { OnOk result (IsSettledOver checked.now lanes cut first (kept_hooks store.old) (kept_hooks store.new)
-        (spots.mounted (option_copied old.entry)) (spots.mounted (Some new.now))) }
+        (spots.mounted (option_copied old.entry)) instances.now) }
     ensures err { OnErr result ((s : State) → DoneBefore cut s.journal.updates → KeepsAllHooks checked.now s (kept_hooks store.old)
         → KeepsAllHooks checked.now s (kept_hooks store.new)) }
 {
-    let instances = mounted(alloc, Some(new))?;
     let before = mounted(alloc, old)?;
-    let known = numbers_of(alloc, &instances)?;
-    let made = mount_new(alloc, &instances, first)?;
+    let made = mount_new(alloc, instances, first)?;
     store.reserve(made.len() as u64)?;
-    render_shown(alloc, store, checked, &instances, first, lanes, cut)?;
-    settle_all(store, &instances, &before, &known, made, first, lanes, cut);
+    render_shown(alloc, store, checked, instances, first, lanes, cut)?;
+    settle_all(store, instances, &before, known, made, first, lanes, cut);
     Ok(())
 }
 
@@ -117,10 +116,16 @@ pub fn settle_hooks(
     ensures err { OnErr result ((s : State) → DoneBefore cut s.journal.updates → KeepsAllHooks checked.now s (kept_hooks store.old)
         → KeepsAllHooks checked.now s (kept_hooks store.new)) }
 {
-    if has_all_working(alloc, store, pruned_new, lanes, cut)? {
+    let instances = mounted(alloc, Some(pruned_new))?;
+    let known = numbers_of(alloc, &instances)?;
+    if has_all_working(alloc, store, &known, lanes, cut)? {
         return settle_trees(
-            alloc, store, checked, pruned_old, pruned_new, first, lanes, cut,
+            alloc, store, checked, pruned_old, &instances, &known, first, lanes, cut,
         );
     }
-    settle_trees(alloc, store, checked, old, new, first, lanes, cut)
+    let instances = mounted(alloc, Some(new))?;
+    let known = numbers_of(alloc, &instances)?;
+    settle_trees(
+        alloc, store, checked, old, &instances, &known, first, lanes, cut,
+    )
 }

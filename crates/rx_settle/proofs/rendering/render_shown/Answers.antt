@@ -7,14 +7,14 @@ use Rattle.rx_settle.proofs.rendering.render_shown.Goals as goal
 pub render_one-requires : goal.render_one-requires
 render_one-requires c below =
     c.rendering.invariant.so_far.goes_on.there _
-    (c.requires c.rendering.instance-index c.instance-item.result
+    (c.requires.kept c.rendering.instance-index c.instance-item.result
     (slice_get_read c.args.instances.now _ c.rendering.instance-index c.instance-item.result refl c.rendering-test.true c.instance-item.is) below)
 
 pub rendering-preserved : goal.rendering-preserved
 rendering-preserved c = record {
   so_far =
       render_more c.args.checked.now c.args.lanes c.args.cut c.args.first (kept_hooks c.args.store.now) (kept_hooks c.rendering.store) (kept_hooks c.render_one.new.store)
-      c.args.instances.now c.rendering.instance-index c.instance-item.result
+      c.args.instances.now c.requires.apart c.rendering.instance-index c.instance-item.result
       (slice_get_read c.args.instances.now _ c.rendering.instance-index c.instance-item.result refl c.rendering-test.true c.instance-item.is)
       c.rendering.invariant.so_far c.render_one.ensures.keeps c.in_ok-render_one.ensures.rendered c.render_one.ensures.others;
   spare = search rules;

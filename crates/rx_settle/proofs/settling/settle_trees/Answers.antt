@@ -3,7 +3,7 @@ use Rattle.std.specs.Result.{OnErr}
 use Rattle.rx_elem.specs.Spots.{Mounted}
 use Rattle.rx_hook_store.specs.Store.{kept_hooks}
 use Rattle.rx_hook_store.proofs.Staying.{all_stay}
-use Rattle.rx_settle.specs.Passes.{AllSettled, AreApart, has_instance}
+use Rattle.rx_settle.specs.Passes.{has_instance}
 use Rattle.rx_settle.proofs.Again.{goes_on_before, renders_before}
 use Rattle.rx_settle.proofs.Whole.{all_go_on}
 use Rattle.rx_settle.proofs.settling.settle_trees.Goals as goal
@@ -17,10 +17,8 @@ returns-in_err-reserve-clause-err c =
     on_err c.from_residual-in_err-reserve.result
     (λ s done keeps. all_stay s s refl refl c.args.checked.now (kept_hooks c.args.store.now) (kept_hooks c.reserve.new.self) refl c.reserve.ensures.same keeps)
 
-pub render_shown-requires : goal.render_shown-requires
-render_shown-requires c k m at below =
-    subst IsSome (sym (c.reserve.ensures.same m.number))
-    (c.requires.kept k m (subst (λ (ms : List Mounted). slice_get ms k ≡ Some m) (c.deref-3.ensures.value ∙ c.in_ok-instances.ensures) at) below)
+pub render_shown-requires-clause-kept : goal.render_shown-requires-clause-kept
+render_shown-requires-clause-kept c k m at below = subst IsSome (sym (c.reserve.ensures.same m.number)) (c.requires.kept k m at below)
 
 pub returns-in_err-render_shown-clause-err : goal.returns-in_err-render_shown-clause-err
 returns-in_err-render_shown-clause-err c =
@@ -29,20 +27,13 @@ returns-in_err-render_shown-clause-err c =
     (goes_on_before c.args.checked.now c.args.lanes c.args.cut c.args.first (kept_hooks c.args.store.now) (kept_hooks c.reserve.new.self) (kept_hooks c.render_shown.new.store)
     c.reserve.ensures.same c.render_shown.ensures.keeps) done keeps)
 
-pub settle_all-requires-clause-apart : goal.settle_all-requires-clause-apart
-settle_all-requires-clause-apart c = subst AreApart (sym (c.deref-4.ensures.value ∙ c.in_ok-instances.ensures)) c.requires.apart
-
 pub settle_all-requires-clause-kept : goal.settle_all-requires-clause-kept
 settle_all-requires-clause-kept c k m at below =
-    c.render_shown.ensures.keeps.there m.number
-    (subst IsSome (sym (c.reserve.ensures.same m.number))
-    (c.requires.kept k m (subst (λ (ms : List Mounted). slice_get ms k ≡ Some m) (c.deref-4.ensures.value ∙ c.in_ok-instances.ensures) at) below))
+    c.render_shown.ensures.keeps.there m.number (subst IsSome (sym (c.reserve.ensures.same m.number)) (c.requires.kept k m at below))
 
 pub returns-clause-settled : goal.returns-clause-settled
 returns-clause-settled c =
-    let rendered_are = c.deref-3.ensures.value ∙ c.in_ok-instances.ensures in
-    let settled_are = c.deref-4.ensures.value ∙ c.in_ok-instances.ensures in
-    let old_are = c.deref-5.ensures.value ∙ c.in_ok-before.ensures in
+    let old_are = c.deref.ensures.value ∙ c.in_ok-before.ensures in
     record {
       rendered = kept_hooks c.render_shown.new.store;
       goes_on =
@@ -50,14 +41,9 @@ returns-clause-settled c =
           c.reserve.ensures.same c.render_shown.ensures.keeps;
       renders = λ k m at.
           renders_before c.args.checked.now c.args.lanes c.args.cut c.args.first (kept_hooks c.args.store.now) (kept_hooks c.reserve.new.self) (kept_hooks c.render_shown.new.store)
-          c.reserve.ensures.same m (c.in_ok-render_shown.ensures.rendered k m (subst (λ (ms : List Mounted). slice_get ms k ≡ Some m) (sym rendered_are) at));
-      settles =
-          subst (λ (ms : List Mounted). AllSettled c.args.lanes c.args.cut c.args.first (kept_hooks c.render_shown.new.store) (kept_hooks c.settle_all.new.store) ms) settled_are
-          c.settle_all.ensures.settled;
-      gone = λ k m at none.
-          c.settle_all.ensures.gone k m (subst (λ (ms : List Mounted). slice_get ms k ≡ Some m) (sym old_are) at) (ap (λ (ms : List Mounted). has_instance ms m.number) settled_are ∙ none);
-      not_rendered = λ n none.
-          c.render_shown.ensures.others n (ap (λ (ms : List Mounted). has_instance ms n) rendered_are ∙ none) ∙ c.reserve.ensures.same n;
-      others = λ n none free.
-          c.settle_all.ensures.others n (ap (λ (ms : List Mounted). has_instance ms n) settled_are ∙ none) (ap (λ (ms : List Mounted). has_instance ms n) old_are ∙ free);
+          c.reserve.ensures.same m (c.in_ok-render_shown.ensures.rendered k m at);
+      settles = c.settle_all.ensures.settled;
+      gone = λ k m at none. c.settle_all.ensures.gone k m (subst (λ (ms : List Mounted). slice_get ms k ≡ Some m) (sym old_are) at) none;
+      not_rendered = λ n none. c.render_shown.ensures.others n none ∙ c.reserve.ensures.same n;
+      others = λ n none free. c.settle_all.ensures.others n none (ap (λ (ms : List Mounted). has_instance ms n) old_are ∙ free);
     }
