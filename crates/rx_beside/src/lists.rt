@@ -15,20 +15,24 @@ use rx_links::{FiberId, FiberTree};
 use rx_node::Node;
 use std::alloc::{AllocError, Global};
 
-// The children of a node of the finished tree; and those of the old node and of this one, both without what stayed the same.
+// The children of a node of the finished tree; and those of the old node and of this one, both without what stayed the same. Where
+// nothing is known to be left out, the node and the old one can stand for themselves.
 #[derive(Drop)]
 pub(crate) struct Lists {
     pub tree: Vec<Option<Node>>,
     pub pruned_old: Vec<Option<Node>>,
     pub pruned_new: Vec<Option<Node>>,
+    pub whole: bool,
 }
 
-// What stands at a place of the new list; and without what stayed the same the old node, where it is another then, and this one.
+// What stands at a place of the new list; and without what stayed the same the old node, where it is another then, and this one;
+// and whether nothing there is left out.
 #[derive(Drop)]
 pub(crate) struct Slot {
     pub tree: Option<Node>,
     pub pruned_old: Option<Node>,
     pub pruned_new: Option<Node>,
+    pub whole: bool,
 }
 
 // The same node, if there is one, by one handle more.
@@ -77,7 +81,9 @@ pub(crate) fn add_slot(lists: &mut Lists, place: Option<u32>, slot: Slot) -> Res
         tree,
         pruned_old,
         pruned_new,
+        whole,
     } = slot;
+    lists.whole &= whole;
     lists.tree.push(tree)?;
     lists.pruned_new.push(pruned_new)?;
     replace(&mut lists.pruned_old, place, pruned_old);

@@ -24,12 +24,13 @@ use rx_node::{Mark, Node};
 use rx_read::{made_child, read_fiber};
 use std::alloc::{AllocError, Global};
 
-// A node of the finished tree; and the old node and this one, both without what stayed the same.
+// A node of the finished tree; and the old node and this one, both without what stayed the same; and whether nothing is left out.
 #[derive(Drop)]
 pub(crate) struct Pair {
     pub tree: Node,
     pub pruned_old: Node,
     pub pruned_new: Node,
+    pub whole: bool,
 }
 
 // The number of a host or a text.
@@ -129,6 +130,7 @@ fn pair_over(
         tree,
         pruned_old,
         pruned_new,
+        whole: _,
     } = lists;
     let tree = node_over(alloc, element, mark, tree)?;
     let pruned_old = node_over(alloc, old.element(), old.mark(), pruned_old)?;
@@ -137,6 +139,27 @@ fn pair_over(
         tree,
         pruned_old,
         pruned_new,
+        whole: false,
+    })
+}
+
+// The same where nothing is left out: each node is its own, by one handle more.
+fn whole_over(
+    alloc: Global,
+    old: &Node,
+    element: &Element,
+    mark: &Mark,
+    lists: Lists,
+) -> Result<Pair, AllocError>
+    ensures tree { IfOk result (λ p. p.tree ≡ node element.now (mark_seen mark.now) (forest lists.tree.items) none) }
+    ensures pruned { (d : Bool) → IfOk result (λ p. Pruned d old.now p.tree p.pruned_old p.pruned_new) }
+{
+    let tree = node_over(alloc, element, mark, lists.tree)?;
+    Ok(Pair {
+        pruned_old: old.copy()?,
+        pruned_new: tree.copy()?,
+        tree,
+        whole: true,
     })
 }
 
@@ -157,6 +180,7 @@ pub(crate) fn read_whole(
             pruned_old: old.copy()?,
             pruned_new: tree.copy()?,
             tree,
+            whole: true,
         }),
         None => unreachable!(),
     }
@@ -173,12 +197,14 @@ fn same_lists(alloc: Global, old: &[Option<Node>], displaced: bool) -> Result<Li
             tree,
             pruned_old: copy_nodes(alloc, old)?,
             pruned_new: copy_nodes(alloc, old)?,
+            whole: true,
         })
     } else {
         Ok(Lists {
             tree,
             pruned_old: Vec::new(alloc),
             pruned_new: Vec::new(alloc),
+            whole: old.is_empty(),
         })
     }
 }
@@ -206,6 +232,10 @@ pub(crate) fn read_pair(
     {
         let below = displaced_below(displaced, mark);
         let lists = read_lists(alloc, tree, id, old.children(), below)?;
+        if lists.whole {
+            let whole = whole_over(alloc, old, fiber.element(), mark, lists)?;
+            return Ok(whole);
+        }
         let pair = pair_over(alloc, old, fiber.element(), mark, lists)?;
         return Ok(pair);
     }
@@ -254,6 +284,7 @@ fn read_made(
         tree: Vec::with_capacity(alloc, fibers.len())?,
         pruned_old: copy_nodes(alloc, old)?,
         pruned_new: Vec::with_capacity(alloc, fibers.len())?,
+        whole: true,
     };
     'going: for i in 0..fibers.len() {
         let place = matching.places[i];
@@ -284,6 +315,7 @@ fn read_slot(
             tree: None,
             pruned_old: None,
             pruned_new: None,
+            whole: true,
         });
     };
     match was_beside(tree, id, old, place) {
@@ -293,6 +325,7 @@ fn read_slot(
                 tree: Some(pair.tree),
                 pruned_old: Some(pair.pruned_old),
                 pruned_new: Some(pair.pruned_new),
+                whole: pair.whole,
             })
         }
         None => {
@@ -301,6 +334,7 @@ fn read_slot(
                 tree: copy_node(&node)?,
                 pruned_old: None,
                 pruned_new: node,
+                whole: true,
             })
         }
     }

@@ -100,7 +100,7 @@ read_pair-returns-clause-tree t c =
     let g = c.goes_on.ensures c.if-goes_on.true in
     let b = beside_at trees c.facts.ensures.fits c.facts.ensures.linked c.args.id c.requires.made in
     let n = new_node trees c.args.id b v (c.value-fiber.ensures.made c.requires.made) w (sym c.stage.ensures ∙ ap stage_seen c.in-Begun.is) g.new_shown in
-    ap Some (c.in_ok-pair.ensures.tree ∙ ap (λ f. node f w (forest c.in_ok-lists.lists.tree.items) none) c.element.ensures ∙ ap (λ ns. node v.element w ns none) c.in_ok-lists.ensures.tree) ∙ sym n
+    ap Some (c.in_ok-pair.ensures.tree ∙ ap (λ f. node f w (forest c.in_ok-lists.lists.tree.items) none) c.element-2.ensures ∙ ap (λ ns. node v.element w ns none) c.in_ok-lists.ensures.tree) ∙ sym n
 
 pub read_pair-returns-clause-pruned : goal.read_pair-returns-clause-pruned
 read_pair-returns-clause-pruned t c =
@@ -110,8 +110,18 @@ read_pair-returns-clause-pruned t c =
     let go = subst (λ m. GoesOn m w) c.mark.ensures g in
     let o = old_children trees c.facts.ensures.fits c.facts.ensures.linked c.args.id c.requires.made c.args.old.now c.requires.old go.old_shown in
     let lists = subst (λ d. AreLists d (forest c.children.result.now) (forest c.in_ok-lists.lists.tree.items) (forest c.in_ok-lists.lists.pruned_old.items) (forest c.in_ok-lists.lists.pruned_new.items)) c.displaced_below-below.ensures c.in_ok-lists.ensures.pruned in
-    pair_pruned c.args.displaced c.args.old.now _ _ _ c.element.result.now w _ _ _ _ go lists c.children.ensures.all o.1
+    pair_pruned c.args.displaced c.args.old.now _ _ _ c.element-2.result.now w _ _ _ _ go lists c.children.ensures.all o.1
     c.in_ok-pair.ensures.tree c.in_ok-pair.ensures.pruned_old c.in_ok-pair.ensures.pruned_new
+
+pub read_pair-returns-then-lists-clause-tree : goal.read_pair-returns-then-lists-clause-tree
+read_pair-returns-then-lists-clause-tree t c =
+    let trees = c.args.tree.now in
+    let v = c.value-fiber.result.now in
+    let w = mark_seen c.in-Begun.mark in
+    let g = c.goes_on.ensures c.if-goes_on.true in
+    let b = beside_at trees c.facts.ensures.fits c.facts.ensures.linked c.args.id c.requires.made in
+    let n = new_node trees c.args.id b v (c.value-fiber.ensures.made c.requires.made) w (sym c.stage.ensures ∙ ap stage_seen c.in-Begun.is) g.new_shown in
+    ap Some (c.in_ok-whole.ensures.tree ∙ ap (λ f. node f w (forest c.in_ok-lists.lists.tree.items) none) c.element.ensures ∙ ap (λ ns. node v.element w ns none) c.in_ok-lists.ensures.tree) ∙ sym n
 
 pub read_slot-returns-in_default-clause-pruned : goal.read_slot-returns-in_default-clause-pruned
 read_slot-returns-in_default-clause-pruned t c = kept_by _ _ _ _ refl
