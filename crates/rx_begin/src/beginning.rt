@@ -21,7 +21,7 @@ ghost use Rattle.rx_causes.specs.Marks.{EachBut, mark_at, keeps_children};
 ghost use Rattle.rx_causes.specs.Scenes.{IsSceneOf, TellsCalm, TellsNews};
 ghost use Rattle.rx_causes.specs.Hidden.{ForEachIn, GivesHooksIn, KeepsOld, WaitsStill};
 ghost use Rattle.rx_causes.specs.Idle.{Rests};
-ghost use Rattle.rx_begin.specs.Nodes.{IsBareAt, HasOpened, HasTaken, begun_over, parts_in, begun_stage, begun_children, begun_stack, given_context};
+ghost use Rattle.rx_children.specs.Nodes.{IsBareAt, HasOpened, HasTaken, begun_over, parts_in, begun_stage, begun_children, begun_stack, given_context};
 ghost use Rattle.rx_meaning.specs.Fresh.{Sight, Contexts};
 ghost use Rattle.rx_meaning.specs.Cursor.{Frame, at_place};
 ghost use Rattle.rx_meaning.specs.Counts.{each_body, next_counts};
@@ -34,17 +34,19 @@ ghost use Rattle.rx_ways.specs.Ways.{is_way};
 ghost use Rattle.rx_hook_store.specs.Store.{kept_hooks};
 ghost use Rattle.rx_hook_store.specs.Gives.{GivesValues};
 ghost use Rattle.rx_begin.specs.Others.{HasBegunOther, IsCauseToTry};
-ghost use Rattle.rx_begin.specs.Origins.{HasCauseToBegin, HasKids, IsAgain, TellsAgain, TellsSteady};
-ghost use Rattle.rx_begin.specs.declared.node.Begun.TheVariants.{Suspended};
+ghost use Rattle.rx_children.specs.Origins.{HasCauseToBegin, IsAgain, TellsAgain, TellsSteady};
+ghost use Rattle.rx_begin.specs.Kids.{HasKids};
+ghost use Rattle.rx_children.specs.declared.node.Begun.TheVariants.{Suspended};
 ghost use Rattle.rx_begin.specs.Beginning.{IsAtPlace, BeginsPlace, awaited_again, is_opened, is_taken};
 
 use crate::body::begin_component;
-use crate::generation::generation_below;
-use crate::kind::{begun_children, begun_stage, enter, is_component, parts_of};
-use crate::node::{Begun, keep_node, keeps_children, old_host, open_node, take_node};
-use crate::origin::{is_again, is_hidden_again, is_steady, takes_over};
 use rx_base::{Awaits, Steps};
 use rx_causes::{Scene, waits_still};
+use rx_children::{
+    Begun, begun_children, begun_stage, enter, generation_below, is_again, is_component,
+    is_hidden_again, is_steady, keep_node, keeps_children, old_host, open_node, parts_of, take_node,
+    takes_over,
+};
 use rx_ctx::ContextStack;
 use rx_elem::Element;
 use rx_fiber::{Fiber, Origin, StageChange};

@@ -4,9 +4,9 @@ use Rattle.rx_causes.specs.Marks.{keeps_children, mark_at}
 use Rattle.rx_hook_store.specs.Store.{kept_hooks}
 use Rattle.rx_begin.specs.Others.{hides}
 use Rattle.rx_begin.specs.Beginning.{awaited_again}
-use Rattle.rx_begin.proofs.ByElement.{if_ok}
+use Rattle.rx_children.proofs.Results.{if_ok}
 use Rattle.rx_begin.proofs.Hiding.{other_begins}
-use Rattle.rx_begin.proofs.Origins.{begun_waits_not, is_none}
+use Rattle.rx_begin.proofs.Kids.{begun_waits_not, is_none}
 use Rattle.rx_begin.proofs.beginning.begin_or_hide.Goals as goal
 
 pub returns-in-Some-clause-begun : goal.returns-in-Some-clause-begun

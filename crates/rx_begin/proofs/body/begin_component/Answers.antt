@@ -7,10 +7,10 @@ use Rattle.rx_causes.specs.Scenes.{GivesHooks, number_in}
 use Rattle.rx_causes.proofs.Marks.{old_instance_is}
 use Rattle.rx_begin.specs.Bodies.{keeps}
 use Rattle.rx_hook_store.specs.Store.{kept_hooks}
-use Rattle.rx_begin.proofs.Nodes.{bare_made}
+use Rattle.rx_children.proofs.Nodes.{bare_made}
 use Rattle.rx_begin.proofs.Bodies.{evaluated, instance_at}
 use Rattle.rx_fiber.specs.Fibers.{as_cloned}
-use Rattle.rx_begin.proofs.Origins.{opened_takes_not, opened_waits_not, opened_no_body}
+use Rattle.rx_begin.proofs.Kids.{opened_takes_not, opened_waits_not, opened_no_body}
 use Rattle.rx_begin.proofs.Keeping.{calm_shape}
 use Rattle.rx_begin.proofs.Standing.{instance_keeps, instance_there}
 use Rattle.rx_begin.proofs.body.begin_component.Goals as goal
