@@ -26,12 +26,7 @@ fn given_to(generation: u32) -> u32
 
 /// The generation of a node's children, by whether a body was evaluated, whether the node's element was given again, whether it
 /// is a list that stands for `children`, and the generation of its place.
-pub fn generation_below(
-    evaluated: bool,
-    again: bool,
-    for_children: bool,
-    generation: u32,
-) -> u32
+pub fn generation_below(evaluated: bool, again: bool, for_children: bool, generation: u32) -> u32
     ensures { result ≡ generation_below evaluated again for_children generation }
 {
     let own = own_generation(again, generation);

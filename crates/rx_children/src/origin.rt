@@ -64,12 +64,7 @@ pub fn is_again(tree: &FiberTree<Fiber>, at: FiberId) -> bool
 
 /// Whether a place is that of a hidden boundary, and its element is given again or equal to the current one (react.dev,
 /// Suspense): it is not tried again only because what is around it was evaluated.
-pub fn is_hidden_again(
-    tree: &FiberTree<Fiber>,
-    at: FiberId,
-    element: &Element,
-    again: bool,
-) -> bool
+pub fn is_hidden_again(tree: &FiberTree<Fiber>, at: FiberId, element: &Element, again: bool) -> bool
     requires bare { IsBareAt tree.now at }
     requires again { again ≡ true → IsElementOf tree.now.current (old_of tree.now.draft at) element.now }
     ensures same { result ≡ true → IsElementOf tree.now.current (old_of tree.now.draft at) element.now }
