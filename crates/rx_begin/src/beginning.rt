@@ -40,6 +40,7 @@ ghost use Rattle.rx_children.specs.declared.node.Begun.TheVariants.{Suspended};
 ghost use Rattle.rx_begin.specs.Beginning.{IsAtPlace, BeginsPlace, awaited_again, is_opened, is_taken};
 
 use crate::body::begin_component;
+use crate::place::Place;
 use rx_base::{Awaits, Steps};
 use rx_causes::{Scene, waits_still};
 use rx_children::{
@@ -61,18 +62,15 @@ fn begin_other(
     tree: &mut FiberTree<Fiber>,
     at: FiberId,
     element: &Element,
-    origin: Origin,
-    again: bool,
-    steady: bool,
-    generation: u32,
+    place: Place,
     contexts: &mut ContextStack,
 ) -> Result<Begun, AllocError>
     requires bare { IsBareAt tree.old at }
     requires context { IfSome (given_context element.now) (λ c. c < length (values_at contexts.old)) }
-    ensures kept { IfOk result (λ b. keeps_children again (mark_at tree.old.current (old_of tree.old.draft at)) ≡ true
-        → HasOpened (as_cloned steady) tree.old tree.new at (begun_stage element.now origin (option_and_then host_number (mark_at tree.old.current (old_of tree.old.draft at))))
+    ensures kept { IfOk result (λ b. keeps_children place.again (mark_at tree.old.current (old_of tree.old.draft at)) ≡ true
+        → HasOpened (as_cloned place.steady) tree.old tree.new at (begun_stage element.now place.origin (option_and_then host_number (mark_at tree.old.current (old_of tree.old.draft at))))
         (old_elements (primary_list (list_from tree.old.current (old_of tree.old.draft at)))) (old_fibers (primary_list (list_from tree.old.current (old_of tree.old.draft at)))) b) }
-    ensures opened { IfOk result (λ b. keeps_children again (mark_at tree.old.current (old_of tree.old.draft at)) ≡ false → HasOpened (as_matched steady generation) tree.old tree.new at (begun_stage element.now origin (option_and_then host_number (mark_at tree.old.current (old_of tree.old.draft at)))) (begun_children element.now)
+    ensures opened { IfOk result (λ b. keeps_children place.again (mark_at tree.old.current (old_of tree.old.draft at)) ≡ false → HasOpened (as_matched place.steady place.generation) tree.old tree.new at (begun_stage element.now place.origin (option_and_then host_number (mark_at tree.old.current (old_of tree.old.draft at)))) (begun_children element.now)
         (matched (primary_list (list_from tree.old.current (old_of tree.old.draft at))) (begun_children element.now)) b) }
     ensures stack { OnOk result (contexts.new ≡ begun_stack element.now contexts.old) }
     ensures current { tree.new.current ≡ tree.old.current }
@@ -80,9 +78,9 @@ fn begin_other(
     tree.place_facts();
     enter(element, contexts)?;
     let number = old_host(tree, tree.alternate(at));
-    let stage = begun_stage(element, origin, number);
-    if keeps_children(tree, tree.alternate(at), again) {
-        keep_node(alloc, tree, at, stage, steady)
+    let stage = begun_stage(element, place.origin, number);
+    if keeps_children(tree, tree.alternate(at), place.again) {
+        keep_node(alloc, tree, at, stage, place.steady)
     } else {
         open_node(
             alloc,
@@ -90,8 +88,8 @@ fn begin_other(
             at,
             stage,
             begun_children(element),
-            steady,
-            generation,
+            place.steady,
+            place.generation,
         )
     }
 }
@@ -133,33 +131,28 @@ fn begin_or_hide(
     tree: &mut FiberTree<Fiber>,
     at: FiberId,
     element: &Element,
-    origin: Origin,
-    again: bool,
-    steady: bool,
-    generation: u32,
+    place: Place,
     scene: &Scene,
     hooks: &HookStore,
     contexts: &mut ContextStack,
 ) -> Result<Begun, AllocError>
     requires bare { IsBareAt tree.old at }
-    requires again { again ≡ true → IsElementOf tree.old.current (old_of tree.old.draft at) element.now }
+    requires again { place.again ≡ true → IsElementOf tree.old.current (old_of tree.old.draft at) element.now }
     requires context { IfSome (given_context element.now) (λ c. c < length (values_at contexts.old)) }
     requires kept { KeepsOld (kept_hooks hooks.now) tree.old.current (old_of tree.old.draft at) }
-    ensures begun { IfOk result (λ b. HasBegunOther scene.now (kept_hooks hooks.now) tree.old contexts.old tree.new contexts.new at element.now origin again steady generation b) }
-    ensures tries { IfOk result (λ b. IsElementOf tree.old.current (old_of tree.old.draft at) element.now → origin.stood ≡ true → awaited_again b ≡ None → IsCauseToTry scene.now (kept_hooks hooks.now) tree.old at) }
+    ensures begun { IfOk result (λ b. HasBegunOther scene.now (kept_hooks hooks.now) tree.old contexts.old tree.new contexts.new at element.now place.origin place.again place.steady place.generation b) }
+    ensures tries { IfOk result (λ b. IsElementOf tree.old.current (old_of tree.old.draft at) element.now → place.origin.stood ≡ true → awaited_again b ≡ None → IsCauseToTry scene.now (kept_hooks hooks.now) tree.old at) }
     ensures news { IfOk result (λ b. IsSome (awaited_again b) → (x : Node) → IsOld tree.old.current (old_of tree.old.draft at) (Some x)
         → ForEachIn (λ i. TellsNews (kept_hooks hooks.now) scene.now.lanes scene.now.cut i false) (children_of x)) }
     ensures current { tree.new.current ≡ tree.old.current }
 {
-    match still_awaited(tree, at, element, origin, again, scene, hooks) {
+    match still_awaited(tree, at, element, place.origin, place.again, scene, hooks) {
         Some(awaits) => {
             tree.place_facts();
-            tree.mark_made(at, &StageChange::Try(origin));
+            tree.mark_made(at, &StageChange::Try(place.origin));
             Ok(Begun::Hidden(awaits))
         }
-        None => begin_other(
-            alloc, tree, at, element, origin, again, steady, generation, contexts,
-        ),
+        None => begin_other(alloc, tree, at, element, place, contexts),
     }
 }
 
@@ -264,15 +257,19 @@ pub fn begin<L: Ledger>(
         element.stands_for_children(),
         origin.generation,
     );
+    let place = Place {
+        origin,
+        again,
+        steady,
+        generation,
+    };
     match parts_of(&element) {
         Some(parts) => begin_component(
             alloc,
             tree,
             at,
             scene,
-            again,
-            steady,
-            generation,
+            place,
             parts.component,
             parts.props,
             parts.children,
@@ -281,10 +278,7 @@ pub fn begin<L: Ledger>(
             steps,
         ),
         None => {
-            let begun = begin_or_hide(
-                alloc, tree, at, &element, origin, again, steady, generation, scene, hooks,
-                contexts,
-            )?;
+            let begun = begin_or_hide(alloc, tree, at, &element, place, scene, hooks, contexts)?;
             Ok((begun, false))
         }
     }

@@ -3,5 +3,6 @@
 
 mod beginning;
 mod body;
+mod place;
 
 pub use beginning::begin;
