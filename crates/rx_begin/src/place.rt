@@ -1,4 +1,4 @@
-// What is known of a place that begins.
+// A place that begins, beside its current fiber.
 use rx_fiber::Origin;
 
 /// What is known of a place that begins.
