@@ -4,7 +4,7 @@ use Rattle.std.specs.Option.{option_map_or}
 use Rattle.std.specs.Ordering.{int_eq}
 use Rattle.std.proofs.lemmas.Bool.Decides.{Decides-int_eq}
 use Rattle.std.proofs.Common.{refl, sym, ap, ◌∙◌, subst, arith, inl, inr}
-use Rattle.rx_ast.specs.Syntax.{Component}
+use Rattle.rx_ast.specs.Syntax.{Component, Program}
 use Rattle.rx_rules.specs.Names.{component_at}
 use Rattle.rx_ctx.specs.Contexts.{Stack}
 use Rattle.rx_susp.specs.declared.boundary.BoundaryState.TheVariants.{Shown, Hidden}
@@ -26,7 +26,6 @@ use Rattle.rx_meaning.specs.Cursor.{Frame, at_place}
 use Rattle.rx_meaning.specs.Generations.{generation_below}
 use Rattle.rx_meaning.specs.Fresh.{Contexts, Sight, inputs_at, old_instance, shape_of, shape_of_component, shape_of_body}
 use Rattle.rx_meaning.specs.Settled.{IfSettled, IsOwn, Known, known_by}
-use Rattle.rx_ast.specs.Syntax.{Program}
 use Rattle.rx_fiber.specs.Fibers.{Fiber, generation_of, is_stood, origin_of}
 use Rattle.rx_fiber.specs.declared.stage.Origin.{Origin}
 use Rattle.rx_fiber.specs.OldLists.{hides_in}
@@ -47,11 +46,11 @@ use Rattle.cost_laws.specs.Left.{Flags, MayGo, MayTry, begins_evaluated, begun_f
 use Rattle.flag_laws.specs.Flagged.{AllBare, AreTold, FlagsAtPlace, FlagsOpened, IsTold, KeepsTold}
 use Rattle.flag_laws.proofs.Going.{opens}
 use Rattle.rx_begin.specs.Beginning.{HasLists}
-use Rattle.rx_begin.specs.Nodes.{parts_in}
-use Rattle.rx_begin.specs.Origins.{AllWait, IsAgain, IsSteady, TellsAgain, TellsSteady}
+use Rattle.rx_children.specs.Nodes.{parts_in}
+use Rattle.rx_children.specs.Children.{AllWait}
+use Rattle.rx_children.specs.Origins.{IsAgain, IsSteady, TellsAgain, TellsSteady}
 use Rattle.rx_begin.specs.Others.{IsCauseToTry}
-use Rattle.rx_begin.proofs.Keeping.{node_element, stood_in}
-use Rattle.rx_begin.proofs.Standing.{mark_hides}
+use Rattle.rx_children.proofs.OldNodes.{node_element, stood_in, mark_hides}
 use Rattle.begin_laws.specs.Telling.{OpensKids, TellsBody, TellsIf, TellsTries}
 
 -- The fibers of lists

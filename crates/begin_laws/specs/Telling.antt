@@ -22,8 +22,9 @@ use Rattle.rx_causes.specs.Scenes.{IsSceneOf, TellsCalm, TellsNews}
 use Rattle.rx_causes.specs.declared.scene.Scene.{Scene}
 use Rattle.cost_laws.specs.Causes.{is_called, waits_still}
 use Rattle.cost_laws.specs.Undue.{IsUndue}
-use Rattle.rx_begin.specs.Nodes.{parts_in}
-use Rattle.rx_begin.specs.Origins.{HasKids, TellsAgain, TellsSteady}
+use Rattle.rx_children.specs.Nodes.{parts_in}
+use Rattle.rx_begin.specs.Kids.{HasKids}
+use Rattle.rx_children.specs.Origins.{TellsAgain, TellsSteady}
 use Rattle.rx_begin.specs.Others.{IsCauseToTry}
 
 -- Kept hooks tell which causes an old node has: whether its component is called; of a hidden boundary, that something new has come for it, and that nothing has; and of which instances in its tree no update is due.

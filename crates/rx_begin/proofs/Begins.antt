@@ -30,20 +30,20 @@ use Rattle.rx_causes.specs.Scenes.{GivesHooks, IsSceneOf, number_in}
 use Rattle.rx_causes.specs.Hidden.{KeepsOld}
 use Rattle.rx_causes.specs.Idle.{KeepsTree}
 use Rattle.rx_causes.proofs.Marks.{old_instance_is}
-use Rattle.rx_begin.specs.Nodes.{IsBareAt, parts_in, begun_stage, begun_children, begun_stack, given_context}
+use Rattle.rx_children.specs.Nodes.{IsBareAt, parts_in, begun_stage, begun_children, begun_stack, given_context}
 use Rattle.rx_begin.specs.Others.{HasBegunOther}
 use Rattle.rx_begin.specs.Others as others
 use Rattle.rx_begin.proofs.Hiding.{own_keeps, own_gives, kids_keep, hidden_again}
-use Rattle.rx_begin.specs.Bodies.{StoodIn, HasShape}
-use Rattle.rx_begin.specs.Origins.{IsSteady, KnowsClone}
+use Rattle.rx_children.specs.Origins.{StoodIn, IsSteady, KnowsClone}
+use Rattle.rx_begin.specs.Bodies.{HasShape}
 use Rattle.rx_begin.specs.Beginning.{IsAtPlace, stands, HasBegun, BeginsPlace}
-use Rattle.rx_begin.specs.declared.node.Begun.{Begun}
-use Rattle.rx_begin.proofs.Lists.{same_parts}
-use Rattle.rx_begin.proofs.Making.{KnowsPlaces}
-use Rattle.rx_begin.proofs.Nodes.{bare_made}
+use Rattle.rx_children.specs.declared.node.Begun.{Begun}
+use Rattle.rx_begin.proofs.ByElement.{same_parts, element_at, old_at, bare_at, Opens, from_matched, from_clones, other_begun, body_begun}
+use Rattle.rx_children.proofs.Making.{KnowsPlaces}
+use Rattle.rx_children.proofs.Nodes.{bare_made}
 use Rattle.rx_begin.proofs.Bodies.{kept_if}
-use Rattle.rx_begin.proofs.ByElement.{element_at, old_at, bare_at, Opens, from_matched, from_clones, other_begun, body_begun}
-use Rattle.rx_begin.proofs.Keeping.{stood_in, old_no_null, kept_children}
+use Rattle.rx_children.proofs.OldNodes.{stood_in}
+use Rattle.rx_begin.proofs.Keeping.{old_no_null, kept_children}
 use Rattle.rx_begin.proofs.Standing.{KidsStand, KnowsElement, clone_again, kids_stand, same_here, stood_here, waits_here}
 
 pub on_ok : {A E : Type 0} (r : Result A E) (P Q : Type 0) → (P → Q) → OnOk r P → OnOk r Q

@@ -17,10 +17,10 @@ use Rattle.rx_hook_store.specs.Gives.{GivesValues}
 use Rattle.rx_causes.specs.Marks.{mark_at}
 use Rattle.rx_causes.specs.Scenes.{number_in, GivesHooks, KeepsHooks}
 use Rattle.rx_causes.proofs.Marks.{old_instance_is}
-use Rattle.rx_begin.specs.Nodes.{HasOpened, begun_over}
+use Rattle.rx_children.specs.Nodes.{HasOpened, begun_over}
 use Rattle.rx_begin.specs.Bodies.{HasShape}
 use Rattle.rx_begin.specs.Beginning.{is_taken}
-use Rattle.rx_begin.specs.declared.node.Begun.{Begun}
+use Rattle.rx_children.specs.declared.node.Begun.{Begun}
 
 same_inputs : (props : List ℤ) (xs ys : List Element) (v w : Option (List ℤ)) (cs : List ℤ) (r q : List (Option ℤ)) → xs ≡ ys → v ≡ w → r ≡ q
     → (let x : Inputs = record { props = props; children = xs; hooks = v; contexts = cs; resources = r } in x)

@@ -1,5 +1,5 @@
 -- What a place leaves that is begun, by its element.
-use Rattle.std.specs.Prelude.{◌≡◌, ℕ, ℤ, suc, Bool, false, true, List, [], ◌∷◌, Option, Some, None, Result, Ok, Err, IfOk, option_and_then, slice_set}
+use Rattle.std.specs.Prelude.{◌≡◌, ℕ, ℤ, suc, Bool, false, true, List, [], ◌∷◌, Option, Some, None, option_and_then, slice_set}
 use Rattle.std.specs.List.{zip}
 use Rattle.std.specs.Option.{option_flatten}
 use Rattle.std.proofs.Common.{refl, sym, ap, ◌∙◌, subst}
@@ -31,21 +31,27 @@ use Rattle.rx_fiber.specs.Standing.{IsStack, opened, StandsAt, begins}
 use Rattle.rx_fiber.proofs.Stacking.{pushed, unchanged}
 use Rattle.rx_causes.specs.Marks.{mark_at}
 use Rattle.rx_causes.proofs.Marks.{old_host_is}
-use Rattle.rx_begin.specs.Nodes.{IsBareAt, HasOpened, parts_in, begun_stage, begun_children, begun_stack}
+use Rattle.rx_children.specs.Nodes.{IsBareAt, HasOpened, parts_in, begun_stage, begun_children, begun_stack}
 use Rattle.rx_begin.specs.Bodies.{HasShape, waits, opens, keeps}
 use Rattle.rx_begin.specs.Beginning.{HasBegun}
-use Rattle.rx_begin.specs.declared.node.Begun.{Begun}
-use Rattle.rx_begin.proofs.Lists.{same_parts}
-use Rattle.rx_begin.proofs.Making.{KnowsPlaces}
-use Rattle.rx_begin.proofs.Starts.{nexts, olds_of, begun_one, begun_trying, begun_waiting}
-use Rattle.rx_begin.proofs.Cloning.{kept_next}
-use Rattle.rx_begin.proofs.Matched.{matched_at}
-use Rattle.rx_begin.proofs.Waiting.{all_wait}
+use Rattle.rx_children.specs.declared.node.Begun.{Begun}
+use Rattle.rx_children.proofs.Making.{KnowsPlaces}
+use Rattle.rx_children.proofs.Nexts.{nexts}
+use Rattle.rx_begin.proofs.Starts.{olds_of, begun_one, begun_trying, begun_waiting}
+use Rattle.rx_children.proofs.Cloning.{kept_next}
+use Rattle.rx_children.proofs.Matched.{matched_at}
+use Rattle.rx_children.proofs.Waiting.{all_wait}
 use Rattle.rx_begin.proofs.Standing.{KidsStand}
+use Rattle.std.proofs.lemmas.Option.{same_Some}
 
-pub if_ok : {A E : Type 0} (r : Result A E) (P Q : A → Type 0) → ((a : A) → P a → Q a) → IfOk r P → IfOk r Q
-if_ok (Ok a) P Q f h = f a h
-if_ok (Err e) P Q f h = tt
+abbrev pub PartsOf : Type 0
+PartsOf = ℕ × (List ℤ × List Element)
+
+-- the parts of one element are the same one by one
+pub same_parts : (b c : ℕ) (ps props : List ℤ) (xs es : List Element) → (let x : Option PartsOf = Some (b, (ps, xs)) in x) ≡ Some (c, (props, es)) → (b ≡ c) × (ps ≡ props) × (xs ≡ es)
+same_parts b c ps props xs es e =
+    let q : (let x : PartsOf = (b, (ps, xs)) in x) ≡ (c, (props, es)) = same_Some _ _ e in
+    (ap (λ (x : PartsOf). x.0) q, ap (λ (x : PartsOf). x.1.0) q, ap (λ (x : PartsOf). x.1.1) q)
 
 module _ (t : Trees Fiber) (st : Stack) (p n : ℕ) (fs : List Frame) (cs : Contexts) (e : Element) (old : Option Node) where
   -- the fiber's element is the one of the place

@@ -4,7 +4,8 @@ use Rattle.std.proofs.Common.{refl, ap, ◌∙◌, subst}
 use Rattle.rx_lists.specs.Shapes.{Shape}
 use Rattle.rx_meaning.specs.Generations.{generation_below}
 use Rattle.rx_fiber.specs.Fibers.{Fiber}
-use Rattle.rx_begin.specs.Origins.{TellsSteady, kids_as}
+use Rattle.rx_children.specs.Origins.{TellsSteady}
+use Rattle.rx_begin.specs.Kids.{kids_as}
 
 -- the generation that is computed is that of the definition
 pub below_here : (made : ℕ) (component kept listed : Bool) (own : ℕ) (evaluated keeps for_children : Bool) (generation : ℕ) → made ≡ generation_below component kept listed own

@@ -31,16 +31,20 @@ use Rattle.rx_causes.specs.Marks.{mark_at, keeps_children}
 use Rattle.rx_causes.specs.Scenes.{KeepsHooks, GivesHooks}
 use Rattle.rx_causes.specs.Hidden.{KeepsHooksIn, GivesHooksIn, WaitsStill, KeepsHooksIf, GivesHooksIf}
 use Rattle.rx_causes.proofs.Marks.{mark_is}
-use Rattle.rx_begin.specs.Nodes.{HasOpened, begun_stage, begun_children, begun_stack}
-use Rattle.rx_begin.specs.declared.node.Begun.{Begun}
+use Rattle.rx_children.specs.Nodes.{HasOpened, begun_stage, begun_children, begun_stack}
+use Rattle.rx_children.specs.declared.node.Begun.{Begun}
 use Rattle.rx_begin.specs.Others.{HasBegunOther}
 use Rattle.rx_begin.specs.Others as others
-use Rattle.rx_begin.specs.Bodies.{StoodIn}
+use Rattle.rx_children.specs.Origins.{StoodIn}
 use Rattle.rx_begin.specs.Beginning.{IsHiddenAgain}
 use Rattle.rx_begin.proofs.ByElement.{old_at}
-use Rattle.rx_begin.proofs.Keeping.{stood_in}
-use Rattle.rx_begin.proofs.Making.{KnowsPlaces}
+use Rattle.rx_children.proofs.OldNodes.{stood_in}
+use Rattle.rx_children.proofs.Making.{KnowsPlaces}
 use Rattle.rx_begin.proofs.Standing.{stands_so, stood_here}
+
+-- what was a hidden boundary keeps no children that are shown
+pub hides_there : (c : Shape Fiber) (o : Option ℕ) (x : Node) (a : Awaits) → IsOld c o (Some x) → mark_of x ≡ of_boundary (Hidden a) → keeps_children true (mark_at c o) ≡ false
+hides_there c o x a was is = ap (keeps_children true) (mark_is c o (Some x) was ∙ ap Some is)
 
 -- What begins as no hidden boundary
 

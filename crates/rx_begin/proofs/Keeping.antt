@@ -6,46 +6,33 @@ use Rattle.rx_ast.specs.Syntax.{Program, Component}
 use Rattle.rx_rules.specs.Names.{component_at}
 use Rattle.rx_elem.specs.Elements.{Element, Elements, Key, listed}
 use Rattle.rx_elem.specs.Elements as elements
-use Rattle.rx_elem.specs.Trees.{Instance, Mark, of_instance, Node, node, Forest, element_of, elements_in, mark_of, children_if, is_hidden, instance_in}
+use Rattle.rx_elem.specs.Trees.{Instance, Mark, of_instance, Node, node, Forest, elements_in, mark_of, children_if, is_hidden, instance_in}
 use Rattle.rx_elem.proofs.SelfMatch.{NoNull}
 use Rattle.rx_lists.specs.Shapes.{Shape}
-use Rattle.rx_links.specs.Drafts.{Trees, list_at}
-use Rattle.rx_links.specs.Readers.{value_in, made_value_of}
+use Rattle.rx_links.specs.Drafts.{Trees}
+use Rattle.rx_links.specs.Readers.{made_value_of}
 use Rattle.rx_meaning.specs.Body.{body_of, ready}
 use Rattle.rx_meaning.specs.Fresh.{Sight, Contexts, one_list, part, hook_values, inputs_at, instance_after, old_instance, shape_of_body, shape_of_component}
 use Rattle.rx_meaning.specs.Settled.{Known, IsBodyOf, IsOwn, IfSettled, done_values, known_by, read_anew}
 use Rattle.commit_laws.proofs.TakeOver.{settled_no_null}
 use Rattle.rx_fiber.specs.Fibers.{Fiber}
-use Rattle.rx_fiber.specs.Reading.{IsFor, whole, alone, beside, IsOld, new, of, next}
-use Rattle.rx_fiber.specs.Surround.{IsElementOf}
+use Rattle.rx_fiber.specs.Reading.{IsOld}
 use Rattle.rx_causes.specs.declared.scene.Scene.{Scene}
 use Rattle.rx_causes.specs.Marks.{mark_at, keeps_children}
 use Rattle.rx_causes.specs.Scenes.{IsCalmAt, TellsCalm, number_in}
 use Rattle.rx_causes.proofs.Marks.{mark_is}
 use Rattle.rx_causes.proofs.Causes.{shown_again}
-use Rattle.rx_begin.specs.Nodes.{parts_in, begun_children}
+use Rattle.rx_children.specs.Nodes.{parts_in, begun_children}
 use Rattle.rx_queue.specs.History.{Answers}
 use Rattle.rx_hooks.specs.declared.hook.Hook.{Hook}
 use Rattle.rx_hooks.specs.Hooks.{HookHistory, HooksStandFor}
 use Rattle.rx_hook_store.specs.Gives.{has_work_in}
 use Rattle.rx_node.specs.MarkView.{instance_seen}
 use Rattle.rx_node.specs.declared.mark.Instance as code
-use Rattle.rx_begin.specs.Bodies.{StoodIn}
+use Rattle.rx_children.specs.Origins.{StoodIn}
 use Rattle.rx_begin.proofs.Standing.{both_true}
 
--- The element of an old node
-
-pub node_element : (c : Shape Fiber) (j n : ℕ) (x : Node) (s rest : Shape Fiber) → IsFor n x s rest → list_at c j ≡ Some s → option_map (λ v. v.element) (value_in (list_at c j)) ≡ Some (element_of x)
-node_element c j n _ _ rest (whole is shown a) here = ap (λ l. option_map (λ v. v.element) (value_in l)) here ∙ ap Some is.element
-node_element c j n _ _ rest (alone is hidden gone a) here = ap (λ l. option_map (λ v. v.element) (value_in l)) here ∙ ap Some is.element
-node_element c j n _ _ rest (beside is hidden some a s b) here = ap (λ l. option_map (λ v. v.element) (value_in l)) here ∙ ap Some is.element
-
--- it is that of its current fiber
-pub stood_in : (c : Shape Fiber) (o : Option ℕ) (old : Option Node) (e : Element) → IsOld c o old → IsElementOf c o e → StoodIn old e
-stood_in c _ _ e new same = cc
-stood_in c _ _ e (of {j = j} {n = n} {x = x} {s = s} here leads (next {rest = rest} is a)) same = sym (node_element c j n x s rest is here) ∙ same
-
--- Its children
+-- The children of an old node
 
 pub old_no_null : (p : Program) (k : Known) (old : Option Node) → IfSettled p k old → NoNull (children_if old)
 old_no_null p k None h = tt

@@ -1,10 +1,3 @@
-pub mod Lists
-pub mod Making
-pub mod Matched
-pub mod Waiting
-pub mod Cloning
-pub mod Nodes
-pub mod Origins
 pub mod Generations
 pub mod Standing
 pub mod Starts
@@ -12,10 +5,6 @@ pub mod ByElement
 pub mod Bodies
 pub mod Keeping
 pub mod Hiding
-pub mod Beside
-pub mod FreeFallback
-pub mod Falling
-pub mod OldFallback
-pub mod FallbackKids
+pub mod Kids
 pub mod Taking
 pub mod Begins

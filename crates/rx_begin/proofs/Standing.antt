@@ -1,47 +1,40 @@
 -- Where the children of the current fiber stand for which a cloned place was made.
 use Rattle.std.specs.Prelude.{◌≡◌, ℕ, ℤ, suc, Bool, true, false, ◌&&◌, List, Option, Some, None, IsSome, option_and_then, option_map}
-use Rattle.std.specs.Option.{option_map_or}
 use Rattle.std.proofs.Common.{refl, sym, ap, ◌∙◌, subst}
 use Rattle.rx_ctx.specs.Contexts.{Stack}
 use Rattle.rx_elem.specs.Elements.{Element}
-use Rattle.rx_elem.specs.Trees.{Instance, Mark, of_instance, of_host, of_boundary, plain, Node, is_hidden, instance_in}
+use Rattle.rx_elem.specs.Trees.{Instance, Mark, of_instance, of_host, of_boundary, plain, Node, instance_in}
 use Rattle.rx_node.specs.MarkView.{instance_seen}
 use Rattle.rx_node.specs.declared.mark.Instance as code
 use Rattle.rx_lists.specs.Shapes.{Shape}
 use Rattle.rx_lists.specs.Shapes as shapes
 use Rattle.rx_links.specs.Drafts.{taken, Trees, old_of}
-use Rattle.rx_links.specs.Readers.{value_of, list_from, made_value_of, made_value_in}
+use Rattle.rx_links.specs.Readers.{list_from, made_value_of, made_value_in}
 use Rattle.rx_meaning.specs.Cursor.{Frame, at_place}
 use Rattle.rx_meaning.specs.Fresh.{Contexts}
-use Rattle.rx_fiber.specs.Fibers.{Fiber, Stage, waiting, begun, trying, fallback, generation_of, is_cloned, is_stood}
+use Rattle.rx_fiber.specs.Fibers.{Fiber, waiting, generation_of, is_cloned, is_stood}
 use Rattle.rx_fiber.specs.declared.stage.Origin.{Origin}
-use Rattle.rx_fiber.specs.OldLists.{fiber_at, hides_in, primary_list}
+use Rattle.rx_fiber.specs.OldLists.{fiber_at, primary_list}
 use Rattle.rx_fiber.specs.Stood.{given_in, given_more, StoodAt}
 use Rattle.rx_fiber.specs.Surround.{IsElementOf, StandsIf, given_along}
 use Rattle.rx_fiber.specs.Standing.{StandsAt, begins}
 use Rattle.rx_fiber.proofs.Stood.{stood_below}
-use Rattle.rx_causes.specs.Marks.{begun_mark, mark_at, keeps_children}
-use Rattle.rx_begin.specs.Origins.{IsSteady, KnowsClone}
-use Rattle.rx_begin.proofs.Making.{KnowsPlaces}
+use Rattle.rx_causes.specs.Marks.{mark_at, keeps_children}
+use Rattle.rx_children.specs.Origins.{IsSteady, KnowsClone, TellsAgain}
+use Rattle.rx_children.proofs.Making.{KnowsPlaces}
 
 pub both_true : (a b : Bool) → a && b ≡ true → (a ≡ true) × (b ≡ true)
 both_true true true h = (refl, refl)
 both_true true false h = cc
 both_true false b h = cc
 
--- a stage hides what its mark hides
-hides_as : (s : Stage) → option_map_or is_hidden (begun_mark s) false ≡ hides_in s
-hides_as (waiting c) = refl
-hides_as (begun m) = refl
-hides_as (trying c) = refl
-hides_as (fallback a) = refl
-
-pub mark_hides : (c : Shape Fiber) (o : Option ℕ) (v : Fiber) → option_and_then (value_of c) o ≡ Some v → option_map_or is_hidden (mark_at c o) false ≡ hides_in v.stage
-mark_hides c o v e = ap (λ x. option_map_or is_hidden (option_and_then (λ (v : Fiber). begun_mark v.stage) x) false) e ∙ hides_as v.stage
-
 -- What is given again has the element of its current fiber.
 abbrev pub KnowsElement : Trees Fiber → (p : ℕ) → Fiber → (again : Bool) → Type 0
 KnowsElement t p v again = again ≡ true → IsElementOf t.current (old_of t.draft p) v.element
+
+-- what is told of a place's element is told of its fiber
+pub element_is_again : (c : Shape Fiber) (o : Option ℕ) (v : Fiber) (e : Element) (again : Bool) → TellsAgain c o v again → e ≡ v.element → again ≡ true → IsElementOf c o e
+element_is_again c o v e again tells is so = subst (IsElementOf c o) (sym is) (tells.0 so).same
 
 -- That is the element of the place.
 pub same_here : (t : Trees Fiber) (st : Stack) (p n : ℕ) (fs : List Frame) (cs : Contexts) (e : Element) (old : Option Node) → KnowsPlaces t

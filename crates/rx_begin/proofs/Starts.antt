@@ -1,17 +1,15 @@
 -- What a node leaves that is begun over its children.
-use Rattle.std.specs.Prelude.{◌≡◌, ℕ, ℤ, suc, cond, true, false, List, [], ◌∷◌, ◌++◌, Option, Some, None}
-use Rattle.std.specs.List.{zip}
+use Rattle.std.specs.Prelude.{◌≡◌, ℕ, suc, true, false, List, [], ◌∷◌, Option, Some}
 use Rattle.std.proofs.Common.{refl, sym, ap, ◌∙◌, subst}
 use Rattle.rx_ctx.specs.Contexts.{Stack, values_at}
 use Rattle.rx_elem.specs.Elements.{Element}
 use Rattle.rx_elem.specs.Trees.{Node, Mark, is_hidden, children_if, fallback_if}
 use Rattle.rx_elem.specs.Compare.{old_nodes}
-use Rattle.rx_lists.specs.Shapes.{Shape}
 use Rattle.rx_lists.specs.Shapes as shapes
 use Rattle.rx_links.specs.Drafts.{Draft, taken, made, Trees, old_of}
 use Rattle.rx_links.specs.Readers.{list_from, IsLinked}
 use Rattle.rx_meaning.specs.Fresh.{Sight, Contexts, Part, part, one_list, two_lists, waiting, shape_of}
-use Rattle.rx_meaning.specs.Cursor.{Open, around, trying, Frame, Cursor, at_place, come_to, open_part, unit}
+use Rattle.rx_meaning.specs.Cursor.{Open, around, trying, Frame, at_place, open_part, unit}
 use Rattle.rx_meaning.specs.Cursor as cursor
 use Rattle.rx_meaning.specs.Touched.{children_with_old}
 use Rattle.rx_fiber.specs.Fibers.{Fiber, begun}
@@ -20,7 +18,6 @@ use Rattle.rx_fiber.specs.OldLists.{primary_list, matched}
 use Rattle.rx_fiber.specs.Reading.{IsOld}
 use Rattle.rx_fiber.specs.Stood.{given_more}
 use Rattle.rx_fiber.specs.Surround.{open_element, given_along, AreNext, IsAround, IsOfNode, StandsIf, fallback_in, is_boundary}
-use Rattle.rx_fiber.specs.Surround as surround
 use Rattle.rx_fiber.specs.Standing.{IsStack, opened, StandsAt, begins}
 use Rattle.rx_fiber.specs.Unwound.{IsWithin}
 use Rattle.rx_fiber.proofs.Coming.{come_at}
@@ -29,41 +26,12 @@ use Rattle.rx_fiber.proofs.Matching.{AreOld, matched_old}
 use Rattle.rx_fiber.proofs.Opening.{opens_one, tries_children}
 use Rattle.rx_fiber.proofs.Unwinding.{place_within}
 use Rattle.rx_fiber.specs.declared.stage.Origin.{Origin}
-use Rattle.rx_begin.specs.Nodes.{begun_over, HasOpened}
-use Rattle.rx_begin.specs.Beginning.{IsPlace, IsEnd, HasBegun, HasLists}
-use Rattle.rx_begin.specs.declared.node.Begun.{Begun}
-use Rattle.rx_begin.specs.declared.node.Begun.TheVariants.{Child, Leaf, Suspended}
-use Rattle.rx_begin.specs.declared.node.Begun.TheVariants as answers
-use Rattle.rx_begin.proofs.Making.{KnowsPlaces}
-use Rattle.rx_begin.proofs.Waiting.{AreWaiting, no_more, gap, next}
-
--- the children that are made are those that begin next
-pub nexts : (c : Shape Fiber) (ws : List (ℕ × ℤ)) (n : ℕ) (es : List Element) (os : List (Option ℕ)) (xs : List (Option Node)) (d : Draft Fiber) → AreWaiting c ws n es os d → AreOld c os xs → AreNext c ws n (zip es xs) d
-nexts c ws n [] [] [] _ no_more olds = surround.no_more
-nexts c ws n [] [] (x ∷ xs) _ no_more olds = absurd olds
-nexts c ws n [] (o ∷ os) xs d are olds = elim are [ ]
-nexts c ws n (e ∷ es) [] xs d are olds = elim are [ ]
-nexts c ws n (e ∷ es) (o ∷ os) [] d are olds = absurd olds
-nexts c ws n (e ∷ es) (o ∷ os) (x ∷ xs) d (gap null more) olds = surround.gap null (nexts c ws (suc n) es os xs d more olds.1)
-nexts c ws n (e ∷ es) (o ∷ os) (x ∷ xs) (made _ _ _ _ d) (next there waits more) olds = surround.next there waits olds.0 (nexts c ws (suc n) es os xs d more olds.1)
-
--- the cursor is of the form that the answer says
-abbrev pub Leads : Begun → Cursor → Type 0
-Leads (Child id) c = IsPlace c
-Leads Leaf c = IsEnd c
-Leads (Suspended r) c = ⊥
-Leads (answers.Hidden a) c = ⊥
-Leads answers.Taken c = ⊥
-
-pub leads : (c : Shape Fiber) (ws : List (ℕ × ℤ)) (n levels : ℕ) (fs : List Frame) (x : Open) (cs : Contexts) (done : List (Option Node)) (xs : List (Element × Option Node)) (d : Draft Fiber)
-    → AreNext c ws n xs d → Leads (begun_over d) (come_to levels fs x cs done xs)
-leads c ws n levels fs x cs done [] _ surround.no_more = tt
-leads c ws n levels fs x cs done (y ∷ ys) d (surround.gap null more) =
-    subst (λ b. Leads (begun_over d) (cond b (come_to levels fs x cs (done ++ None ∷ []) ys) (at_place levels ((record { node = x; contexts = cs; done = done; rest = ys }) ∷ fs) cs y.0 y.1)))
-    (sym null) (leads c ws (suc n) levels fs x cs (done ++ None ∷ []) ys d more)
-leads c ws n levels fs x cs done (y ∷ ys) (made id _ _ _ _) (surround.next there waits old more) =
-    subst (λ b. Leads (Child id) (cond b (come_to levels fs x cs (done ++ None ∷ []) ys) (at_place levels ((record { node = x; contexts = cs; done = done; rest = ys }) ∷ fs) cs y.0 y.1)))
-    (sym there) tt
+use Rattle.rx_children.specs.Nodes.{begun_over, HasOpened}
+use Rattle.rx_begin.specs.Beginning.{HasBegun, HasLists}
+use Rattle.rx_children.specs.declared.node.Begun.{Begun}
+use Rattle.rx_children.specs.declared.node.Begun.TheVariants.{Suspended}
+use Rattle.rx_children.proofs.Making.{KnowsPlaces}
+use Rattle.rx_children.proofs.Nexts.{Leads, leads}
 
 module _ (s : Sight) (t : Trees Fiber) (st : Stack) (new : Trees Fiber) (st' : Stack) (p n : ℕ) (fs : List Frame) (cs : Contexts) (e : Element) (old : Option Node) where
   pub unit_begins : unit s (at_place (suc n) fs cs e old) ≡ cursor.begin n fs e old (shape_of s cs e old)

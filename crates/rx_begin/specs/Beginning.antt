@@ -14,7 +14,7 @@ use Rattle.rx_links.specs.Readers.{made_value_of}
 use Rattle.rx_meaning.specs.Again.{AllValuesAgree, AreUnresolved}
 use Rattle.rx_meaning.specs.Fresh.{Sight, Contexts, Shape, absent, one_list, part, shape_of, two_lists, waiting}
 use Rattle.rx_meaning.specs.Settled.{IfSettled, ReadsHold, known_by}
-use Rattle.rx_meaning.specs.Cursor.{Frame, Cursor, falling, at_place, at_end, ended, is_null, open_part, unit, unwind}
+use Rattle.rx_meaning.specs.Cursor.{Frame, falling, at_place, is_null, open_part, unit, unwind}
 use Rattle.commit_laws.specs.Idle.{IsIdle, IsIdleMark}
 use Rattle.commit_laws.specs.WaitsAgain.{without_lanes}
 use Rattle.rx_ways.specs.Ways.{CoversIf}
@@ -27,27 +27,16 @@ use Rattle.rx_fiber.specs.Standing.{StandsAt}
 use Rattle.rx_fiber.specs.Unwound.{IsWithin, IsLeftAt}
 use Rattle.draw_laws.specs.Drawn.{IsDrawn}
 use Rattle.rx_causes.specs.Hidden.{KeepsHooksIf, GivesHooksIf}
-use Rattle.rx_begin.specs.Again.{HasOldFallback}
-use Rattle.rx_begin.specs.declared.node.Begun.{Begun}
-use Rattle.rx_begin.specs.declared.node.Begun.TheVariants.{Child, Leaf, Suspended, Taken}
-use Rattle.rx_begin.specs.declared.node.Begun.TheVariants as answers
+use Rattle.rx_children.specs.Again.{HasOldFallback}
+use Rattle.rx_children.specs.declared.node.Begun.{Begun}
+use Rattle.rx_children.specs.declared.node.Begun.TheVariants.{Child, Leaf, Suspended, Taken}
+use Rattle.rx_children.specs.declared.node.Begun.TheVariants as answers
+use Rattle.rx_children.specs.Units.{IsPlace, IsEnd}
 
 -- The render stands at a place of this fiber, which begins next: what stands there is an element that the program draws and for which there is a node, and hooks are kept of all instances of its old node.
 pub data IsAtPlace (p : Program) (kept : ℕ → Option (List Hook)) (t : Trees Fiber) (st : Stack) (q : ℕ) : Type 0 where
   stands : {n : ℕ} {fs : List Frame} {cs : Contexts} {e : Element} {old : Option Node}
       → StandsAt t st (Some q) (at_place (suc n) fs cs e old) → is_null e ≡ false → IsDrawn p e → KeepsHooksIf kept old → IsAtPlace p kept t st q
-
--- the next unit begins a place
-abbrev pub IsPlace : Cursor → Type 0
-IsPlace (at_place levels fs cs e old) = Unit {0}
-IsPlace (at_end levels fs o done) = ⊥
-IsPlace (ended p) = ⊥
-
--- the next unit completes a node
-abbrev pub IsEnd : Cursor → Type 0
-IsEnd (at_place levels fs cs e old) = ⊥
-IsEnd (at_end levels fs o done) = Unit {0}
-IsEnd (ended p) = ⊥
 
 -- The place is that of a hidden boundary, with its element and where it stood, as its fiber tells, which waits still for these: its children are not tried, and its fallback opens next.
 pub record IsHiddenAgain (s : Sight) (t new : Trees Fiber) (st' : Stack) (p n : ℕ) (fs : List Frame) (cs : Contexts) (e : Element) (old : Option Node) (a : Awaits) : Type 0 where

@@ -1,16 +1,15 @@
 -- What stands at a place once its fiber is begun.
-use Rattle.std.specs.Prelude.{◌≡◌, ℕ, Bool, true, false, Option, Some, option_map}
-use Rattle.rx_elem.specs.Elements.{Element}
-use Rattle.rx_elem.specs.Trees.{Node, Mark, element_of, elements_in, children_if, is_hidden}
+use Rattle.std.specs.Prelude.{◌≡◌, ℕ, Bool, true, false, Option}
+use Rattle.rx_elem.specs.Trees.{Node, Mark, elements_in, children_if, is_hidden}
 use Rattle.rx_links.specs.Drafts.{Trees, old_of}
 use Rattle.rx_links.specs.Readers.{list_from}
 use Rattle.rx_meaning.specs.Fresh.{Contexts, Part, part, Shape, waiting, one_list}
 use Rattle.rx_fiber.specs.Fibers.{Fiber, as_cloned, as_matched, begun}
 use Rattle.rx_fiber.specs.OldLists.{primary_list, matched, old_elements, old_fibers}
 use Rattle.rx_causes.specs.Marks.{mark_at, keeps_children}
-use Rattle.rx_begin.specs.Nodes.{HasOpened}
-use Rattle.rx_begin.specs.declared.node.Begun.{Begun}
-use Rattle.rx_begin.specs.declared.node.Begun.TheVariants.{Suspended}
+use Rattle.rx_children.specs.Nodes.{HasOpened}
+use Rattle.rx_children.specs.declared.node.Begun.{Begun}
+use Rattle.rx_children.specs.declared.node.Begun.TheVariants.{Suspended}
 
 -- what stands there is a node with one list, in these contexts, and its fiber is begun beside the old one's children
 pub record IsOpened (steady : Bool) (generation : ℕ) (shape : Shape) (cs : Contexts) (old : Option Node) (before after : Trees Fiber) (p : ℕ) (answer : Begun) : Type 0 where
@@ -21,10 +20,6 @@ pub record IsOpened (steady : Bool) (generation : ℕ) (shape : Shape) (cs : Con
   pub was : list.old ≡ children_if old
   pub shown : is_hidden mark ≡ false
   pub opened : HasOpened (as_matched steady generation) before after p (begun mark) list.elements (matched (primary_list (list_from before.current (old_of before.draft p))) list.elements) answer
-
--- this element stands in an old node
-abbrev pub StoodIn : Option Node → Element → Type 0
-StoodIn old e = option_map element_of old ≡ Some e
 
 -- what stands there is a node with the children of the old one, and its fiber, whose element is given again, is begun over clones of these
 pub record IsKept (again steady : Bool) (shape : Shape) (cs : Contexts) (old : Option Node) (before after : Trees Fiber) (p : ℕ) (answer : Begun) : Type 0 where

@@ -1,9 +1,4 @@
-pub mod Children
-pub mod Nodes
-pub mod Origins
-pub mod PartsView
-pub mod Again
 pub mod Others
 pub mod Bodies
+pub mod Kids
 pub mod Beginning
-pub mod Opening

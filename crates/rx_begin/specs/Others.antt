@@ -20,9 +20,9 @@ use Rattle.rx_causes.specs.declared.scene.Scene.{Scene}
 use Rattle.rx_causes.specs.Marks.{mark_at, keeps_children}
 use Rattle.rx_causes.specs.Scenes.{IsSceneOf}
 use Rattle.rx_causes.specs.Hidden.{GivesHooksIn, HasCauseToTry, WaitsStill}
-use Rattle.rx_begin.specs.Nodes.{HasOpened, begun_stage, begun_children, begun_stack}
-use Rattle.rx_begin.specs.declared.node.Begun.{Begun}
-use Rattle.rx_begin.specs.declared.node.Begun.TheVariants as answers
+use Rattle.rx_children.specs.Nodes.{HasOpened, begun_stage, begun_children, begun_stack}
+use Rattle.rx_children.specs.declared.node.Begun.{Begun}
+use Rattle.rx_children.specs.declared.node.Begun.TheVariants as answers
 
 -- The fiber is begun over clones of its old node's children, or over its own, matched with those; or its old node is a hidden boundary that waits still, and it comes to try its children, of which none is made.
 pub data HasBegunOther (scene : Scene) (kept : ℕ → Option (List Hook)) (t : Trees Fiber) (st : Stack) (new : Trees Fiber) (st' : Stack) (p : ℕ) (e : Element) (origin : Origin) (again steady : Bool) (generation : ℕ) : Begun → Type 0 where

@@ -21,7 +21,7 @@ ghost use Rattle.rx_causes.specs.Marks.{EachBut, mark_at, keeps_children};
 ghost use Rattle.rx_causes.specs.Scenes.{IsSceneOf, TellsCalm, TellsNews};
 ghost use Rattle.rx_causes.specs.Hidden.{ForEachIn, GivesHooksIn, KeepsOld, WaitsStill};
 ghost use Rattle.rx_causes.specs.Idle.{Rests};
-ghost use Rattle.rx_begin.specs.Nodes.{IsBareAt, HasOpened, HasTaken, begun_over, parts_in, begun_stage, begun_children, begun_stack, given_context};
+ghost use Rattle.rx_children.specs.Nodes.{IsBareAt, HasOpened, HasTaken, begun_over, parts_in, begun_stage, begun_children, begun_stack, given_context};
 ghost use Rattle.rx_meaning.specs.Fresh.{Sight, Contexts};
 ghost use Rattle.rx_meaning.specs.Cursor.{Frame, at_place};
 ghost use Rattle.rx_meaning.specs.Counts.{each_body, next_counts};
@@ -34,17 +34,20 @@ ghost use Rattle.rx_ways.specs.Ways.{is_way};
 ghost use Rattle.rx_hook_store.specs.Store.{kept_hooks};
 ghost use Rattle.rx_hook_store.specs.Gives.{GivesValues};
 ghost use Rattle.rx_begin.specs.Others.{HasBegunOther, IsCauseToTry};
-ghost use Rattle.rx_begin.specs.Origins.{HasCauseToBegin, HasKids, IsAgain, TellsAgain, TellsSteady};
-ghost use Rattle.rx_begin.specs.declared.node.Begun.TheVariants.{Suspended};
+ghost use Rattle.rx_children.specs.Origins.{HasCauseToBegin, IsAgain, TellsAgain, TellsSteady};
+ghost use Rattle.rx_begin.specs.Kids.{HasKids};
+ghost use Rattle.rx_children.specs.declared.node.Begun.TheVariants.{Suspended};
 ghost use Rattle.rx_begin.specs.Beginning.{IsAtPlace, BeginsPlace, awaited_again, is_opened, is_taken};
 
 use crate::body::begin_component;
-use crate::generation::generation_below;
-use crate::kind::{begun_children, begun_stage, enter, is_component, parts_of};
-use crate::node::{Begun, keep_node, keeps_children, old_host, open_node, take_node};
-use crate::origin::{is_again, is_hidden_again, is_steady, takes_over};
+use crate::place::Place;
 use rx_base::{Awaits, Steps};
 use rx_causes::{Scene, waits_still};
+use rx_children::{
+    Begun, begun_children, begun_stage, enter, generation_below, is_again, is_component,
+    is_hidden_again, is_steady, keep_node, keeps_children, old_host, open_node, parts_of,
+    take_node, takes_over,
+};
 use rx_ctx::ContextStack;
 use rx_elem::Element;
 use rx_fiber::{Fiber, Origin, StageChange};
@@ -59,18 +62,15 @@ fn begin_other(
     tree: &mut FiberTree<Fiber>,
     at: FiberId,
     element: &Element,
-    origin: Origin,
-    again: bool,
-    steady: bool,
-    generation: u32,
+    place: Place,
     contexts: &mut ContextStack,
 ) -> Result<Begun, AllocError>
     requires bare { IsBareAt tree.old at }
     requires context { IfSome (given_context element.now) (λ c. c < length (values_at contexts.old)) }
-    ensures kept { IfOk result (λ b. keeps_children again (mark_at tree.old.current (old_of tree.old.draft at)) ≡ true
-        → HasOpened (as_cloned steady) tree.old tree.new at (begun_stage element.now origin (option_and_then host_number (mark_at tree.old.current (old_of tree.old.draft at))))
+    ensures kept { IfOk result (λ b. keeps_children place.again (mark_at tree.old.current (old_of tree.old.draft at)) ≡ true
+        → HasOpened (as_cloned place.steady) tree.old tree.new at (begun_stage element.now place.origin (option_and_then host_number (mark_at tree.old.current (old_of tree.old.draft at))))
         (old_elements (primary_list (list_from tree.old.current (old_of tree.old.draft at)))) (old_fibers (primary_list (list_from tree.old.current (old_of tree.old.draft at)))) b) }
-    ensures opened { IfOk result (λ b. keeps_children again (mark_at tree.old.current (old_of tree.old.draft at)) ≡ false → HasOpened (as_matched steady generation) tree.old tree.new at (begun_stage element.now origin (option_and_then host_number (mark_at tree.old.current (old_of tree.old.draft at)))) (begun_children element.now)
+    ensures opened { IfOk result (λ b. keeps_children place.again (mark_at tree.old.current (old_of tree.old.draft at)) ≡ false → HasOpened (as_matched place.steady place.generation) tree.old tree.new at (begun_stage element.now place.origin (option_and_then host_number (mark_at tree.old.current (old_of tree.old.draft at)))) (begun_children element.now)
         (matched (primary_list (list_from tree.old.current (old_of tree.old.draft at))) (begun_children element.now)) b) }
     ensures stack { OnOk result (contexts.new ≡ begun_stack element.now contexts.old) }
     ensures current { tree.new.current ≡ tree.old.current }
@@ -78,9 +78,9 @@ fn begin_other(
     tree.place_facts();
     enter(element, contexts)?;
     let number = old_host(tree, tree.alternate(at));
-    let stage = begun_stage(element, origin, number);
-    if keeps_children(tree, tree.alternate(at), again) {
-        keep_node(alloc, tree, at, stage, steady)
+    let stage = begun_stage(element, place.origin, number);
+    if keeps_children(tree, tree.alternate(at), place.again) {
+        keep_node(alloc, tree, at, stage, place.steady)
     } else {
         open_node(
             alloc,
@@ -88,8 +88,8 @@ fn begin_other(
             at,
             stage,
             begun_children(element),
-            steady,
-            generation,
+            place.steady,
+            place.generation,
         )
     }
 }
@@ -131,33 +131,28 @@ fn begin_or_hide(
     tree: &mut FiberTree<Fiber>,
     at: FiberId,
     element: &Element,
-    origin: Origin,
-    again: bool,
-    steady: bool,
-    generation: u32,
+    place: Place,
     scene: &Scene,
     hooks: &HookStore,
     contexts: &mut ContextStack,
 ) -> Result<Begun, AllocError>
     requires bare { IsBareAt tree.old at }
-    requires again { again ≡ true → IsElementOf tree.old.current (old_of tree.old.draft at) element.now }
+    requires again { place.again ≡ true → IsElementOf tree.old.current (old_of tree.old.draft at) element.now }
     requires context { IfSome (given_context element.now) (λ c. c < length (values_at contexts.old)) }
     requires kept { KeepsOld (kept_hooks hooks.now) tree.old.current (old_of tree.old.draft at) }
-    ensures begun { IfOk result (λ b. HasBegunOther scene.now (kept_hooks hooks.now) tree.old contexts.old tree.new contexts.new at element.now origin again steady generation b) }
-    ensures tries { IfOk result (λ b. IsElementOf tree.old.current (old_of tree.old.draft at) element.now → origin.stood ≡ true → awaited_again b ≡ None → IsCauseToTry scene.now (kept_hooks hooks.now) tree.old at) }
+    ensures begun { IfOk result (λ b. HasBegunOther scene.now (kept_hooks hooks.now) tree.old contexts.old tree.new contexts.new at element.now place.origin place.again place.steady place.generation b) }
+    ensures tries { IfOk result (λ b. IsElementOf tree.old.current (old_of tree.old.draft at) element.now → place.origin.stood ≡ true → awaited_again b ≡ None → IsCauseToTry scene.now (kept_hooks hooks.now) tree.old at) }
     ensures news { IfOk result (λ b. IsSome (awaited_again b) → (x : Node) → IsOld tree.old.current (old_of tree.old.draft at) (Some x)
         → ForEachIn (λ i. TellsNews (kept_hooks hooks.now) scene.now.lanes scene.now.cut i false) (children_of x)) }
     ensures current { tree.new.current ≡ tree.old.current }
 {
-    match still_awaited(tree, at, element, origin, again, scene, hooks) {
+    match still_awaited(tree, at, element, place.origin, place.again, scene, hooks) {
         Some(awaits) => {
             tree.place_facts();
-            tree.mark_made(at, &StageChange::Try(origin));
+            tree.mark_made(at, &StageChange::Try(place.origin));
             Ok(Begun::Hidden(awaits))
         }
-        None => begin_other(
-            alloc, tree, at, element, origin, again, steady, generation, contexts,
-        ),
+        None => begin_other(alloc, tree, at, element, place, contexts),
     }
 }
 
@@ -262,15 +257,19 @@ pub fn begin<L: Ledger>(
         element.stands_for_children(),
         origin.generation,
     );
+    let place = Place {
+        origin,
+        again,
+        steady,
+        generation,
+    };
     match parts_of(&element) {
         Some(parts) => begin_component(
             alloc,
             tree,
             at,
             scene,
-            again,
-            steady,
-            generation,
+            place,
             parts.component,
             parts.props,
             parts.children,
@@ -279,10 +278,7 @@ pub fn begin<L: Ledger>(
             steps,
         ),
         None => {
-            let begun = begin_or_hide(
-                alloc, tree, at, &element, origin, again, steady, generation, scene, hooks,
-                contexts,
-            )?;
+            let begun = begin_or_hide(alloc, tree, at, &element, place, scene, hooks, contexts)?;
             Ok((begun, false))
         }
     }

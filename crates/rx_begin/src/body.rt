@@ -22,15 +22,17 @@ ghost use Rattle.rx_fiber.specs.Fibers.{as_cloned, as_matched, begun};
 ghost use Rattle.rx_fiber.specs.OldLists.{primary_list, old_elements, old_fibers};
 ghost use Rattle.rx_causes.specs.Marks.{keeps_children, mark_at};
 ghost use Rattle.rx_causes.specs.Scenes.{IsSceneOf, IsCalmAt, TellsCalm, GivesHooks, number_in};
-ghost use Rattle.rx_begin.specs.Nodes.{IsBareAt, HasOpened, begun_over};
-ghost use Rattle.rx_begin.specs.Bodies.{StoodIn, HasShape};
+ghost use Rattle.rx_children.specs.Nodes.{IsBareAt, HasOpened, begun_over};
+ghost use Rattle.rx_children.specs.Origins.{StoodIn};
+ghost use Rattle.rx_begin.specs.Bodies.{HasShape};
 ghost use Rattle.rx_begin.specs.Beginning.{awaited_again, is_opened, is_taken};
-ghost use Rattle.rx_begin.specs.Origins.{HasKids, kids_as};
-ghost use Rattle.rx_begin.specs.declared.node.Begun.TheVariants.{Suspended};
+ghost use Rattle.rx_begin.specs.Kids.{HasKids, kids_as};
+ghost use Rattle.rx_children.specs.declared.node.Begun.TheVariants.{Suspended};
 
-use crate::node::{Begun, keep_node, old_instance, open_node};
+use crate::place::Place;
 use rx_base::{Int, Ints, Steps};
 use rx_causes::{Scene, read_anew};
+use rx_children::{Begun, keep_node, old_instance, open_node};
 use rx_elem::{ContextRead, EffectRecord, Element};
 use rx_eval::{Body, Evaluator, Inputs, eval_body};
 use rx_fiber::{Fiber, Stage};
@@ -285,9 +287,7 @@ pub(crate) fn begin_component<L: Ledger>(
     tree: &mut FiberTree<Fiber>,
     at: FiberId,
     scene: &Scene,
-    again: bool,
-    steady: bool,
-    generation: u32,
+    place: Place,
     component: u32,
     props: &Ints,
     children: &[Element],
@@ -299,17 +299,17 @@ pub(crate) fn begin_component<L: Ledger>(
     requires given { option_map (λ d. length (prop_names d)) (component_at scene.now.checked.now component) ≡ Some (length props.now) }
     requires kept { IfSome (number_in (option_and_then instance_in (mark_at tree.old.current (old_of tree.old.draft at)))) (λ n. IsSome (kept_hooks hooks.old n)) }
     ensures evaluated { IfOk result (λ b. (s : Sight) (old : Option Node) (key : Key) (kids : Elements) → IsSceneOf scene.now s → IsOld tree.old.current (old_of tree.old.draft at) old → GivesHooks s (kept_hooks hooks.old) (old_instance old)
-        → IfSettled s.program (known_by s) old → (again ≡ true → StoodIn old (elements.comp component key props.now kids))
-        → listed kids ≡ children.now → HasShape again steady generation (shape_of_component s contexts.now component props.now kids old (component_at s.program component)) contexts.now old tree.old tree.new at b.0) }
+        → IfSettled s.program (known_by s) old → (place.again ≡ true → StoodIn old (elements.comp component key props.now kids))
+        → listed kids ≡ children.now → HasShape place.again place.steady place.generation (shape_of_component s contexts.now component props.now kids old (component_at s.program component)) contexts.now old tree.old tree.new at b.0) }
     ensures current { tree.new.current ≡ tree.old.current }
     ensures own { IfOk result (λ b. (is_taken b.0 ≡ false) × (awaited_again b.0 ≡ None)) }
-    ensures kids { IfOk result (λ b. is_opened b.0 ≡ true → (h : HasKids (kids_as b.1 steady generation) tree.old tree.new at) × (b.0 ≡ begun_over h.kids)) }
+    ensures kids { IfOk result (λ b. is_opened b.0 ≡ true → (h : HasKids (kids_as b.1 place.steady place.generation) tree.old tree.new at) × (b.0 ≡ begun_over h.kids)) }
     ensures waits { IfOk result (λ b. (r : ℕ) → b.0 ≡ Suspended r → tree.new ≡ tree.old) }
     ensures once { IfOk result (λ b. steps.new ≡ steps.old + (if b.1 then 1 else 0)) }
-    ensures anew { IfOk result (λ b. again ≡ false → b.1 ≡ true) }
-    ensures kept { IfOk result (λ b. b.1 ≡ false → keeps_children again (mark_at tree.old.current (old_of tree.old.draft at)) ≡ true) }
+    ensures anew { IfOk result (λ b. place.again ≡ false → b.1 ≡ true) }
+    ensures kept { IfOk result (λ b. b.1 ≡ false → keeps_children place.again (mark_at tree.old.current (old_of tree.old.draft at)) ≡ true) }
     ensures taken { IfOk result (λ b. is_taken b.0 ≡ true → b.1 ≡ false) }
-    ensures exact { IfOk result (λ b. again ≡ true → TellsCalm scene.now (kept_hooks hooks.old) contexts.now (option_and_then instance_in (mark_at tree.old.current (old_of tree.old.draft at))) (not b.1)) }
+    ensures exact { IfOk result (λ b. place.again ≡ true → TellsCalm scene.now (kept_hooks hooks.old) contexts.now (option_and_then instance_in (mark_at tree.old.current (old_of tree.old.draft at))) (not b.1)) }
     ensures rises { steps.old ≤ steps.new }
     ensures at_most_one { steps.new ≤ steps.old + 1 }
     ensures still { (s : Sight) (k : ℕ) (initials : List ℤ) → IsSceneOf scene.now s → GivesValues s (kept_hooks hooks.old) k initials → GivesValues s (kept_hooks hooks.new) k initials }
@@ -317,14 +317,23 @@ pub(crate) fn begin_component<L: Ledger>(
 {
     tree.place_facts();
     let old = old_instance(tree, tree.alternate(at))?;
-    if is_skipped(again, &old, scene, hooks, contexts) {
-        let begun = keep_body(alloc, tree, at, old, steady)?;
+    if is_skipped(place.again, &old, scene, hooks, contexts) {
+        let begun = keep_body(alloc, tree, at, old, place.steady)?;
         return Ok((begun, false));
     }
     let number = number_of(&old);
     let body = body_at(
         alloc, scene, component, props, children, number, hooks, contexts, steps,
     )?;
-    let begun = open_body(alloc, tree, at, component, old, body, steady, generation)?;
+    let begun = open_body(
+        alloc,
+        tree,
+        at,
+        component,
+        old,
+        body,
+        place.steady,
+        place.generation,
+    )?;
     Ok((begun, true))
 }

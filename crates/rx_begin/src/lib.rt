@@ -3,13 +3,6 @@
 
 mod beginning;
 mod body;
-mod children;
-mod generation;
-mod kind;
-mod node;
-mod opening;
-mod origin;
+mod place;
 
 pub use beginning::begin;
-pub use node::Begun;
-pub use opening::{Opened, open_fallback, open_old_fallback};

@@ -33,18 +33,18 @@ use Rattle.rx_complete.proofs.Completed.{KnowsPlaces}
 use Rattle.rx_causes.specs.declared.scene.Scene.{Scene}
 use Rattle.rx_causes.specs.Scenes.{IsSceneOf, KeepsHooks, GivesHooks, TellsNews}
 use Rattle.rx_causes.specs.Hidden.{KeepsHooksIf, GivesHooksIf, ForEach, ForEachIn}
-use Rattle.rx_begin.specs.Again.{HasOldFallback}
-use Rattle.rx_begin.specs.Beginning.{IsAtPlace, stands, HasLists, IsPlace, IsEnd, IsHiddenAgain, IsTakenOver, BeginsPlace}
-use Rattle.rx_ways.specs.Ways.{is_way}
-use Rattle.rx_begin.specs.Opening.{HasOpenedAs, IsLeft, left}
-use Rattle.rx_begin.specs.declared.node.Begun.TheVariants.{Child, Leaf, Suspended}
-use Rattle.rx_begin.specs.declared.node.Begun.TheVariants as answers
-use Rattle.rx_begin.specs.declared.opening.Opened.{Opened}
-use Rattle.rx_begin.specs.declared.opening.Opened.TheVariants.{First, Empty}
+use Rattle.rx_children.specs.Again.{HasOldFallback}
+use Rattle.rx_begin.specs.Beginning.{IsAtPlace, stands, HasLists, IsHiddenAgain, IsTakenOver, BeginsPlace}
+use Rattle.rx_children.specs.Units.{IsPlace, IsEnd}
+use Rattle.rx_ways.specs.Ways.{is_way, CoversIf}
+use Rattle.rx_fallback.specs.Opening.{HasOpenedAs, IsLeft, left}
+use Rattle.rx_children.specs.declared.node.Begun.TheVariants.{Child, Leaf, Suspended}
+use Rattle.rx_children.specs.declared.node.Begun.TheVariants as answers
+use Rattle.rx_fallback.specs.declared.opening.Opened.{Opened}
+use Rattle.rx_fallback.specs.declared.opening.Opened.TheVariants.{First, Empty}
 use Rattle.commit_laws.specs.Each as marks
 use Rattle.rx_meaning.specs.Again.{AreUnresolved}
 use Rattle.rx_meaning.specs.Settled.{IfSettled, known_by}
-use Rattle.rx_ways.specs.Ways.{CoversIf}
 use Rattle.rx_causes.specs.Idle.{Rests}
 use Rattle.rx_causes.specs.Marks.{EachBut}
 use Rattle.cost_laws.specs.Evaluated.{beside_kept}

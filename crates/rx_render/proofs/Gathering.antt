@@ -32,15 +32,17 @@ use Rattle.rx_causes.specs.Scenes.{IsSceneOf}
 use Rattle.rx_causes.proofs.Marks.{mark_is}
 use Rattle.rx_ways.specs.Ways.{is_way}
 use Rattle.rx_begin.specs.Beginning.{BeginsPlace, is_opened}
-use Rattle.rx_begin.specs.Nodes.{HasTaken, begun_over, taken_as}
-use Rattle.rx_begin.specs.Opening.{HasFallbackKids, alone, beside, opened_at}
-use Rattle.rx_begin.specs.Origins.{AllWait, HasKids, TellsAgain, TellsSteady}
+use Rattle.rx_children.specs.Nodes.{HasTaken, begun_over, taken_as}
+use Rattle.rx_fallback.specs.Opening.{HasFallbackKids, alone, beside, opened_at}
+use Rattle.rx_children.specs.Children.{AllWait}
+use Rattle.rx_begin.specs.Kids.{HasKids}
+use Rattle.rx_children.specs.Origins.{TellsAgain, TellsSteady}
 use Rattle.rx_elem.specs.Elements.{stands_for_children}
 use Rattle.rx_meaning.specs.Generations.{generation_below}
-use Rattle.rx_begin.specs.declared.node.Begun.{Begun}
-use Rattle.rx_begin.specs.declared.node.Begun.TheVariants.{Child, Leaf}
-use Rattle.rx_begin.specs.declared.node.Begun.TheVariants as answers
-use Rattle.rx_begin.specs.declared.opening.Opened.{Opened}
+use Rattle.rx_children.specs.declared.node.Begun.{Begun}
+use Rattle.rx_children.specs.declared.node.Begun.TheVariants.{Child, Leaf}
+use Rattle.rx_children.specs.declared.node.Begun.TheVariants as answers
+use Rattle.rx_fallback.specs.declared.opening.Opened.{Opened}
 use Rattle.flag_laws.specs.Flagged.{AllBare}
 use Rattle.begin_laws.proofs.Costing.{wait_bare}
 use Rattle.rx_read.specs.Numbering.{numbered_at, numbered_draft, numbered_fiber}

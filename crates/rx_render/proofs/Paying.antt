@@ -28,12 +28,14 @@ use Rattle.rx_causes.specs.Marks.{keeps_children, mark_at}
 use Rattle.rx_causes.specs.Scenes.{IsSceneOf}
 use Rattle.rx_causes.proofs.Marks.{mark_is}
 use Rattle.rx_begin.specs.Beginning.{is_opened}
-use Rattle.rx_begin.specs.Nodes.{HasTaken, begun_over}
-use Rattle.rx_begin.specs.Opening.{HasFallbackKids, alone, beside, opened_at}
-use Rattle.rx_begin.specs.Origins.{AllWait, HasKids, TellsAgain, TellsSteady}
-use Rattle.rx_begin.specs.declared.node.Begun.{Begun}
-use Rattle.rx_begin.specs.declared.node.Begun.TheVariants.{Child, Leaf}
-use Rattle.rx_begin.specs.declared.opening.Opened.{Opened}
+use Rattle.rx_children.specs.Nodes.{HasTaken, begun_over}
+use Rattle.rx_fallback.specs.Opening.{HasFallbackKids, alone, beside, opened_at}
+use Rattle.rx_children.specs.Children.{AllWait}
+use Rattle.rx_begin.specs.Kids.{HasKids}
+use Rattle.rx_children.specs.Origins.{TellsAgain, TellsSteady}
+use Rattle.rx_children.specs.declared.node.Begun.{Begun}
+use Rattle.rx_children.specs.declared.node.Begun.TheVariants.{Child, Leaf}
+use Rattle.rx_fallback.specs.declared.opening.Opened.{Opened}
 use Rattle.cost_laws.specs.Evaluated.{Flag, after_attempt, beside_kept, is_again}
 use Rattle.cost_laws.specs.Left.{Flags, begun_flags, flag, outer, unit_flags, unwound}
 use Rattle.flag_laws.specs.Flagged.{KeepsTold, FlagsAfter, FlagsAtEnd, FlagsAtPlace, FlagsHere, FlagsOpened, HasUnwound}

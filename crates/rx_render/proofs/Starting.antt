@@ -27,7 +27,7 @@ use Rattle.rx_fiber.specs.Reading as reading
 use Rattle.rx_fiber.specs.Stood.{at_root}
 use Rattle.rx_fiber.specs.Surround.{IsElementOf, IsWaiting, StandsIf}
 use Rattle.rx_fiber.proofs.Starting.{starts, root_old}
-use Rattle.rx_begin.proofs.Keeping.{node_element}
+use Rattle.rx_children.proofs.OldNodes.{node_element}
 use Rattle.rx_hook_store.specs.Store.{kept_hooks}
 use Rattle.rx_hook_store.proofs.Stores.{each-keeps, keeps-give}
 use Rattle.commit_laws.specs.Idle.{IsIdleMark}

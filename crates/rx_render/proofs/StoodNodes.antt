@@ -20,7 +20,7 @@ use Rattle.rx_fiber.proofs.OldLists.{primary_is, fallback_is}
 use Rattle.rx_fiber.proofs.Starting.{root_old}
 use Rattle.rx_causes.specs.Marks.{begun_mark}
 use Rattle.rx_causes.proofs.Marks.{mark_is}
-use Rattle.rx_begin.proofs.Keeping.{stood_in}
+use Rattle.rx_children.proofs.OldNodes.{stood_in}
 use Rattle.rx_read.proofs.Trims.{places_are}
 use Rattle.rx_read.specs.Places.{places_in}
 use Rattle.rx_render.specs.GivenContexts.{given_contexts}

@@ -31,8 +31,8 @@ use Rattle.rx_causes.specs.declared.scene.Scene.{Scene}
 use Rattle.rx_causes.specs.Scenes.{IsSceneOf}
 use Rattle.rx_causes.specs.Hidden.{GivesHooksIf}
 use Rattle.rx_ways.specs.Ways.{CoversIf, is_way}
-use Rattle.rx_begin.specs.declared.opening.Opened.{Opened}
-use Rattle.rx_begin.specs.declared.opening.Opened.TheVariants.{First, Empty}
+use Rattle.rx_fallback.specs.declared.opening.Opened.{Opened}
+use Rattle.rx_fallback.specs.declared.opening.Opened.TheVariants.{First, Empty}
 use Rattle.rx_render.specs.declared.at.At.{At}
 use Rattle.rx_render.specs.declared.at.At.TheVariants.{Begins, Completes, Over}
 use Rattle.cost_laws.specs.Left.{Flags}

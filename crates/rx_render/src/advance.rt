@@ -26,10 +26,12 @@ ghost use Rattle.rx_render.specs.Gathers.{IsGathering};
 
 use crate::at::At;
 use rx_base::{Awaits, Steps};
-use rx_begin::{Begun, Opened, begin, open_fallback, open_old_fallback};
+use rx_begin::begin;
 use rx_causes::Scene;
+use rx_children::Begun;
 use rx_complete::{Next, complete, pass, unwind_to_boundary};
 use rx_ctx::ContextStack;
+use rx_fallback::{Opened, open_fallback, open_old_fallback};
 use rx_fiber::Fiber;
 use rx_hook_store::HookStore;
 use rx_links::{FiberId, FiberTree};

@@ -5,22 +5,25 @@ use Rattle.rx_fiber.specs.Surround.{IsElementOf}
 use Rattle.rx_fiber.specs.declared.stage.StageChange.TheVariants as change
 use Rattle.rx_elem.specs.Elements.{stands_for_children}
 use Rattle.rx_causes.specs.Marks.{keeps_children, mark_at}
-use Rattle.rx_begin.specs.Origins.{HasCauseToBegin, TellsSteady, kids_as}
+use Rattle.rx_children.specs.Origins.{HasCauseToBegin, TellsSteady}
+use Rattle.rx_begin.specs.Kids.{kids_as}
 use Rattle.rx_begin.proofs.Generations.{below_here, component_below, kept_below, kids_steady}
 use Rattle.rx_links.specs.Drafts.{old_of, valued}
 use Rattle.rx_causes.specs.Scenes.{TellsCalm}
 use Rattle.rx_causes.proofs.Causes.{not_hidden}
-use Rattle.rx_begin.specs.PartsView.{parts_seen}
-use Rattle.rx_begin.specs.Nodes.{parts_in}
+use Rattle.rx_children.specs.PartsView.{parts_seen}
+use Rattle.rx_children.specs.Nodes.{parts_in}
 use Rattle.rx_elem.specs.Trees.{instance_in}
 use Rattle.rx_ways.specs.Ways.{is_way}
 use Rattle.rx_hook_store.specs.Store.{kept_hooks}
 use Rattle.rx_ctx.specs.Contexts.{values_at}
 use Rattle.rx_begin.proofs.Keeping.{parts_here, no_parts, if_both}
 use Rattle.std.specs.Prelude.{◌≡◌, true, false, not, None, is_some, option_map, option_and_then}
-use Rattle.rx_begin.proofs.ByElement.{if_ok}
+use Rattle.rx_children.proofs.Results.{if_ok}
 use Rattle.rx_begin.specs.Beginning.{awaited_again, is_taken}
-use Rattle.rx_begin.proofs.Origins.{element_is_again, is_none, not_both, other_kids, other_no_body, other_takes_not, other_tried, same_fiber, waits_with}
+use Rattle.rx_begin.proofs.Standing.{element_is_again}
+use Rattle.rx_begin.proofs.Kids.{is_none, not_both, other_kids, other_no_body, other_takes_not, other_tried}
+use Rattle.rx_children.proofs.Origins.{same_fiber, waits_with}
 use Rattle.rx_begin.proofs.Taking.{taken_over}
 use Rattle.rx_begin.proofs.Begins.{place_clone, place_held, place_kept, place_olds, place_stood, place_tree, place_there, place_context, place_props, begins_body, begins_other, counts_one, made_at}
 use Rattle.rx_begin.proofs.beginning.begin.Goals as goal

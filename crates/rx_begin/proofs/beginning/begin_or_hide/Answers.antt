@@ -4,9 +4,9 @@ use Rattle.rx_causes.specs.Marks.{keeps_children, mark_at}
 use Rattle.rx_hook_store.specs.Store.{kept_hooks}
 use Rattle.rx_begin.specs.Others.{hides}
 use Rattle.rx_begin.specs.Beginning.{awaited_again}
-use Rattle.rx_begin.proofs.ByElement.{if_ok}
+use Rattle.rx_children.proofs.Results.{if_ok}
 use Rattle.rx_begin.proofs.Hiding.{other_begins}
-use Rattle.rx_begin.proofs.Origins.{begun_waits_not, is_none}
+use Rattle.rx_begin.proofs.Kids.{begun_waits_not, is_none}
 use Rattle.rx_begin.proofs.beginning.begin_or_hide.Goals as goal
 
 pub returns-in-Some-clause-begun : goal.returns-in-Some-clause-begun
@@ -14,11 +14,11 @@ returns-in-Some-clause-begun c = hides c.in-Some.ensures.same c.in-Some.ensures.
 
 pub returns-in-None-clause-begun : goal.returns-in-None-clause-begun
 returns-in-None-clause-begun c =
-    other_begins c.args.scene.now (kept_hooks c.args.hooks.now) c.args.tree.now c.args.contexts.now c.begin_other.new.tree c.begin_other.new.contexts c.args.at c.args.element.now c.args.origin c.args.again c.args.steady c.args.generation
+    other_begins c.args.scene.now (kept_hooks c.args.hooks.now) c.args.tree.now c.args.contexts.now c.begin_other.new.tree c.begin_other.new.contexts c.args.at c.args.element.now c.args.place.origin c.args.place.again c.args.place.steady c.args.place.generation
     c.begin_other.result c.begin_other.ensures.kept c.begin_other.ensures.opened c.begin_other.ensures.stack
 
 pub returns-in-None-clause-news : goal.returns-in-None-clause-news
 returns-in-None-clause-news c =
     if_ok c.begin_other.result _ _ (λ b none is. absurd (is_none (awaited_again b) none is))
-    (begun_waits_not c.args.tree.now c.begin_other.new.tree c.args.at (keeps_children c.args.again (mark_at c.args.tree.now.current (old_of c.args.tree.now.draft c.args.at))) _ _ _ _ _ _ _ _
+    (begun_waits_not c.args.tree.now c.begin_other.new.tree c.args.at (keeps_children c.args.place.again (mark_at c.args.tree.now.current (old_of c.args.tree.now.draft c.args.at))) _ _ _ _ _ _ _ _
     c.begin_other.result c.begin_other.ensures.kept c.begin_other.ensures.opened)

@@ -1,5 +1,6 @@
 use Rattle.rx_links.specs.Drafts.{old_of}
-use Rattle.rx_begin.proofs.Origins.{hides_there, not_both}
+use Rattle.rx_begin.proofs.Hiding.{hides_there}
+use Rattle.rx_begin.proofs.Kids.{not_both}
 use Rattle.rx_begin.proofs.beginning.still_awaited.Goals as goal
 
 pub returns-then-not-is_hidden_again-clause-tries : goal.returns-then-not-is_hidden_again-clause-tries

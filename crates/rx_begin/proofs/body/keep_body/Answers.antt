@@ -1,5 +1,5 @@
-use Rattle.rx_begin.proofs.ByElement.{if_ok}
-use Rattle.rx_begin.proofs.Origins.{cloned_marked}
+use Rattle.rx_children.proofs.Results.{if_ok}
+use Rattle.rx_begin.proofs.Kids.{cloned_marked}
 use Rattle.rx_begin.proofs.body.keep_body.Goals as goal
 
 pub returns-clause-kids : goal.returns-clause-kids

@@ -4,8 +4,8 @@ use Rattle.rx_eval.specs.Given.{body_seen}
 use Rattle.rx_begin.specs.Bodies.{waits}
 use Rattle.rx_begin.proofs.Bodies.{opened_anew}
 use Rattle.rx_fiber.specs.Fibers.{as_matched}
-use Rattle.rx_begin.proofs.ByElement.{if_ok}
-use Rattle.rx_begin.proofs.Origins.{matched_marked, opened_waits_not, opened_no_body}
+use Rattle.rx_children.proofs.Results.{if_ok}
+use Rattle.rx_begin.proofs.Kids.{matched_marked, opened_waits_not, opened_no_body}
 use Rattle.rx_begin.proofs.body.open_body.Goals as goal
 
 pub returns-in-Wait-clause-opened : goal.returns-in-Wait-clause-opened

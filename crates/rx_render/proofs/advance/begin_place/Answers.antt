@@ -6,8 +6,8 @@ use Rattle.rx_causes.specs.Hidden.{ForEachIn}
 use Rattle.rx_causes.specs.Idle.{Rests}
 use Rattle.rx_causes.specs.Marks.{EachBut}
 use Rattle.rx_causes.specs.Scenes.{TellsNews}
-use Rattle.rx_begin.specs.declared.node.Begun.{Begun}
-use Rattle.rx_begin.specs.declared.node.Begun.TheVariants as answers
+use Rattle.rx_children.specs.declared.node.Begun.{Begun}
+use Rattle.rx_children.specs.declared.node.Begun.TheVariants as answers
 use Rattle.rx_hook_store.specs.Store.{kept_hooks}
 use Rattle.rx_ways.specs.Ways.{is_way}
 use Rattle.rx_begin.specs.Beginning.{BeginsPlace, awaited_again, is_taken}

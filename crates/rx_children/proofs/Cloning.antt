@@ -1,0 +1,120 @@
+-- Clones of an old list are the fibers of its nodes, each for itself.
+use Rattle.std.specs.Prelude.{◌≡◌, ℕ, ℤ, zero, suc, ◌+◌, ◌-◌, Bool, true, false, List, ◌∷◌, ◌++◌, length, Option, Some, None, IfSome, option_map}
+use Rattle.std.specs.Option.{option_flatten}
+use Rattle.std.specs.List.{zip}
+use Rattle.std.proofs.Common.{refl, sym, ap, subst}
+use Rattle.rx_elem.specs.Elements.{Element}
+use Rattle.rx_elem.specs.Elements as elements
+use Rattle.rx_elem.specs.Compare.{old_nodes}
+use Rattle.rx_elem.specs.Trees.{Node, Forest, element_of, elements_in, places}
+use Rattle.rx_elem.specs.Trees as trees
+use Rattle.rx_elem.proofs.SelfMatch.{NoNull, matches_itself}
+use Rattle.rx_lists.specs.Shapes.{Shape, none, fiber, first, Holds, IsTree}
+use Rattle.rx_lists.specs.Shapes as shapes
+use Rattle.rx_links.specs.Drafts.{Draft, taken, Trees}
+use Rattle.rx_links.specs.Readers.{value_in, list_from, IsLinked}
+use Rattle.rx_fiber.specs.Fibers.{Fiber}
+use Rattle.rx_fiber.specs.OldLists.{is_fallback, filled, spread, old_elements, old_fibers}
+use Rattle.rx_fiber.specs.Reading.{AreFor, no_more, gap, next, IsOld, of}
+use Rattle.rx_fiber.specs.Surround.{AreNext}
+use Rattle.rx_fiber.specs.Surround as surround
+use Rattle.rx_fiber.proofs.OldLists.{IsListIn, list_is, rest_listed, list_begins, spread_gap, spread_node, IsListFor}
+use Rattle.rx_fiber.proofs.Matching.{at_first, rest_in, spread_length}
+use Rattle.rx_fiber.proofs.OldTops.{fiber_top, fiber_once}
+use Rattle.rx_children.specs.Children.{IsClone, AreClones, HasRoomFor}
+use Rattle.rx_children.specs.Nodes.{IsBareBeside}
+use Rattle.rx_children.proofs.Matched.{list_tree}
+use Rattle.rx_children.proofs.Waiting.{AreWaiting}
+use Rattle.rx_children.proofs.Waiting as waiting
+
+-- What an old list tells
+
+clone_behind : (c : Shape Fiber) (k : ℕ) (e : Element) (o : Option ℕ) (es : List Element) (os : List (Option ℕ)) → IsClone c e o
+    → AreClones c es os → AreClones c (filled k elements.null ++ e ∷ es) (filled k None ++ o ∷ os)
+clone_behind c zero e o es os here more zero = here
+clone_behind c zero e o es os here more (suc i) = more i
+clone_behind c (suc k) e o es os here more zero = λ there. absurd (let q : ⊥ = cc in q)
+clone_behind c (suc k) e o es os here more (suc i) = clone_behind c k e o es os here more i
+
+clones_from : (c : Shape Fiber) → IsLinked c → (n : ℕ) (s : Shape Fiber) → IsListIn c s
+    → AreClones c (spread elements.null (λ id v. v.element) n s) (spread None (λ id v. Some id) n s)
+clones_from c linked n none l = λ i there. absurd (let q : ⊥ = cc in q)
+clones_from c linked n (fiber id v ks rs) l =
+    by_stage (is_fallback v.stage) refl (λ m. clones_from c linked m rs (rest_listed c id v ks rs linked l))
+  where
+    here : IsClone c v.element (Some id)
+    here there = ap (λ x. option_map (λ u. u.element) (value_in x)) (list_is c id v ks rs l)
+
+    by_stage : (b : Bool) → is_fallback v.stage ≡ b
+        → ((m : ℕ) → AreClones c (spread elements.null (λ id v. v.element) m rs) (spread None (λ id v. Some id) m rs))
+        → AreClones c (spread elements.null (λ id v. v.element) n (fiber id v ks rs)) (spread None (λ id v. Some id) n (fiber id v ks rs))
+    by_stage true f rec = rw f (rec n)
+    by_stage false f rec =
+        let k : ℕ = v.place - n in
+        rw f (clone_behind c k v.element (Some id) (spread elements.null (λ id v. v.element) (suc (n + k)) rs) (spread None (λ id v. Some id) (suc (n + k)) rs) here (rec (suc (n + k))))
+
+from_listed : (c : Shape Fiber) → IsLinked c → (o : Option ℕ) → IfSome o (Holds c) → IsListIn c (list_from c o)
+from_listed c linked None h = refl
+from_listed c linked (Some i) h = let (v, is, f) = linked.list i h in ap (λ x. list_from c x) (ap first f)
+
+-- The elements of a list that is told are those of its fibers.
+pub list_clones : (c : Shape Fiber) → IsLinked c → (o : Option ℕ) → IfSome o (Holds c) → AreClones c (old_elements (list_from c o)) (old_fibers (list_from c o))
+list_clones c linked o h = clones_from c linked 0 (list_from c o) (from_listed c linked o h)
+
+pub list_lengths : (s : Shape Fiber) → length (old_fibers s) ≡ length (old_elements s)
+list_lengths s = spread_length None elements.null (λ id v. Some id) (λ id v. v.element) 0 s
+
+-- There is room for clones of a list.
+pub room_for_clones : (t : Trees Fiber) (p : ℕ) (first : Option ℕ) (os : List (Option ℕ)) → IsBareBeside t p first → IfSome first (Holds t.current) → IsLinked t.current
+    → os ≡ old_fibers (list_from t.current first) → HasRoomFor t p os
+room_for_clones t p first os beside held linked is =
+    subst (λ l. HasRoomFor t p l) (sym is)
+    (record {
+      around = beside.around;
+      value = beside.value;
+      old = beside.old;
+      rest = beside.rest;
+      here = beside.here;
+      tops = λ i j h. beside.tops j (fiber_top (list_from t.current first) i j (ap option_flatten h));
+      apart = λ i k j h l. fiber_once (list_from t.current first) i k j (list_tree t.current linked first held) (ap option_flatten h) (ap option_flatten l);
+    })
+
+-- The children that begin next
+
+module _ (c : Shape Fiber) (linked : IsLinked c) (ws : List (ℕ × ℤ)) where
+  past_gap : (n : ℕ) (es : List Element) (os : List (Option ℕ)) (d : Draft Fiber) → AreWaiting c ws n (elements.null ∷ es) (None ∷ os) d → AreWaiting c ws (suc n) es os d
+  past_gap n es os d (waiting.gap null more) = more
+  past_gap n es os _ (waiting.next there waits more) = absurd (let q : ⊥ = cc in q)
+
+  by_first : (n id : ℕ) (x : Node) (s rest : Shape Fiber) (ns : Forest) (es : List Element) (os : List (Option ℕ)) (d : Draft Fiber) → IsOld c (Some id) (Some x)
+      → ((d : Draft Fiber) → AreWaiting c ws (suc n) es os d → AreNext c ws (suc n) (zip (elements_in ns) (places ns)) d) → AreWaiting c ws n (element_of x ∷ es) (Some id ∷ os) d
+      → AreNext c ws n (zip (elements_in (trees.child x ns)) (places (trees.child x ns))) d
+  by_first n id x s rest ns es os d is rec (waiting.gap null more) = surround.gap null (rec d more)
+  by_first n id x s rest ns es os _ is rec (waiting.next {d = d} there waits more) = surround.next there waits is (rec d more)
+
+  clones_next : (n : ℕ) (ns : Forest) (s : Shape Fiber) → AreFor n ns s → IsListIn c s → (d : Draft Fiber)
+      → AreWaiting c ws n (spread elements.null (λ id v. v.element) n s) (spread None (λ id v. Some id) n s) d → AreNext c ws n (zip (elements_in ns) (places ns)) d
+  clones_next n _ _ no_more l _ waiting.no_more = surround.no_more
+  clones_next n (trees.vacant ns) none (gap a) l _ waiting.no_more = surround.gap refl (clones_next (suc n) ns none a l (taken shapes.none) waiting.no_more)
+  clones_next n (trees.vacant ns) (fiber id v ks rs) (gap a) l d are =
+      let e = spread_gap elements.null (λ id v. v.element) n id v ks rs (list_begins (suc n) ns (fiber id v ks rs) a) in
+      let f = spread_gap None (λ id v. Some id) n id v ks rs (list_begins (suc n) ns (fiber id v ks rs) a) in
+      surround.gap refl
+      (clones_next (suc n) ns (fiber id v ks rs) a l d
+      (past_gap n (spread elements.null (λ id v. v.element) (suc n) (fiber id v ks rs)) (spread None (λ id v. Some id) (suc n) (fiber id v ks rs)) d
+      (subst (λ x. AreWaiting c ws n x (None ∷ spread None (λ id v. Some id) (suc n) (fiber id v ks rs)) d) e
+      (subst (λ x. AreWaiting c ws n (spread elements.null (λ id v. v.element) n (fiber id v ks rs)) x d) f are))))
+  clones_next n (trees.child x ns) s (next {rest = rest} is a) l d are =
+      let (jd, u, h, same, e) = spread_node elements.null (λ id v. v.element) n x s rest is in
+      let (id, v, f, _, g) = spread_node None (λ id v. Some id) n x s rest is in
+      by_first n id x s rest ns (spread elements.null (λ id v. v.element) (suc n) rest) (spread None (λ id v. Some id) (suc n) rest) d (of (at_first c s id l f) f (next is a))
+      (clones_next (suc n) ns rest a (rest_in c linked n x s rest is l))
+      (subst (λ y. AreWaiting c ws n (y ∷ spread elements.null (λ id v. v.element) (suc n) rest) (Some id ∷ spread None (λ id v. Some id) (suc n) rest) d) same
+      (subst (λ y. AreWaiting c ws n y (Some id ∷ spread None (λ id v. Some id) (suc n) rest) d) e
+      (subst (λ y. AreWaiting c ws n (spread elements.null (λ id v. v.element) n s) y d) g are)))
+
+  -- Clones of a list begin next where its nodes are matched with their own elements.
+  pub kept_next : (ns : Forest) (s : Shape Fiber) → IsListFor c ns s → NoNull ns → (d : Draft Fiber) → AreWaiting c ws 0 (old_elements s) (old_fibers s) d
+      → AreNext c ws 0 (zip (elements_in ns) (old_nodes ns (elements_in ns))) d
+  kept_next ns s list no_null d are =
+      subst (λ xs. AreNext c ws 0 (zip (elements_in ns) xs) d) (sym (matches_itself ns no_null)) (clones_next 0 ns s list.are list.listed d are)

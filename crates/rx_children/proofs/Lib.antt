@@ -1,0 +1,11 @@
+pub mod Results
+pub mod Lists
+pub mod Making
+pub mod Matched
+pub mod Waiting
+pub mod Cloning
+pub mod Nodes
+pub mod Nexts
+pub mod OldNodes
+pub mod Origins
+pub mod Taking

@@ -1,0 +1,6 @@
+pub mod Children
+pub mod Nodes
+pub mod Origins
+pub mod PartsView
+pub mod Again
+pub mod Units

@@ -1,0 +1,50 @@
+-- What is known of a place that begins beside its old node, and what is a cause to begin it.
+use Rattle.std.specs.Prelude.{◌≡◌, ℕ, Bool, true, false, List, Option, Some, ◌⊎◌, option_and_then, option_map}
+use Rattle.rx_elem.specs.Trees.{Node, element_of}
+use Rattle.rx_hooks.specs.declared.hook.Hook.{Hook}
+use Rattle.rx_lists.specs.Shapes.{Shape}
+use Rattle.rx_links.specs.Drafts.{Trees, old_of}
+use Rattle.rx_links.specs.Readers.{made_value_of, value_of}
+use Rattle.rx_meaning.specs.Fresh.{Contexts}
+use Rattle.rx_fiber.specs.Fibers.{Fiber, generation_of, is_cloned, is_stood}
+use Rattle.rx_fiber.specs.OldLists.{hides_in}
+use Rattle.rx_fiber.specs.Stood.{given_in}
+use Rattle.rx_fiber.specs.Subtrees.{subtree_at}
+use Rattle.rx_fiber.specs.Surround.{IsElementOf}
+use Rattle.rx_causes.specs.Idle.{HasCauseIn}
+use Rattle.rx_causes.specs.declared.scene.Scene.{Scene}
+use Rattle.rx_elem.specs.Elements.{Element}
+
+-- A fiber that waits stood, and its current fiber hides nothing and gives the same to the contexts below it. So the children of that one stand where those of the fiber will.
+pub record IsSteady (current : Shape Fiber) (o : Option ℕ) (v : Fiber) : Type 0 where
+  pub stood : is_stood v.stage ≡ true
+  pub old : Fiber
+  pub old_is : option_and_then (value_of current) o ≡ Some old
+  pub shown : hides_in old.stage ≡ false
+  pub gives : given_in v.element ≡ given_in old.element
+
+-- a test tells whether a place is steady
+abbrev pub TellsSteady : Shape Fiber → Option ℕ → Fiber → Bool → Type 0
+TellsSteady current o v b = (b ≡ true → IsSteady current o v) × (IsSteady current o v → b ≡ true)
+
+-- the element of a place's fiber is that of the current fiber for which it was made, given again
+pub record IsAgain (current : Shape Fiber) (o : Option ℕ) (v : Fiber) : Type 0 where
+  pub generation : generation_of v.stage ≡ 0
+  pub same : IsElementOf current o v.element
+
+-- a test tells whether it is
+abbrev pub TellsAgain : Shape Fiber → Option ℕ → Fiber → Bool → Type 0
+TellsAgain current o v b = (b ≡ true → IsAgain current o v) × (IsAgain current o v → b ≡ true)
+
+-- where the fiber of a place is a clone, its element is given again
+abbrev pub KnowsClone : Trees Fiber → ℕ → Type 0
+KnowsClone t p = (v : Fiber) → Some v ≡ made_value_of t.draft p → is_cloned v.stage ≡ true → IsAgain t.current (old_of t.draft p) v
+
+-- this element stands in an old node
+abbrev pub StoodIn : Option Node → Element → Type 0
+StoodIn old e = option_map element_of old ≡ Some e
+
+-- there is a cause to begin a place whose element is given again: the tree of its old node leads to one, or, where that may stand where other values of contexts are given, an instance at or below it reads a context
+abbrev pub HasCauseToBegin : Scene → (kept : ℕ → Option (List Hook)) → Contexts → (component stood : Bool) → Shape Fiber → Option ℕ → Type 0
+HasCauseToBegin scene kept cs component stood current o =
+    HasCauseIn scene kept cs component current o ⊎ ((stood ≡ false) × ((subtree_at current o).reads ≡ true))

@@ -1,0 +1,103 @@
+// What an element's fiber begins with.
+ghost use Rattle.std.specs.Prelude.{◌≡◌, ◌<◌, true, length, IfSome, OnOk, is_some, option_map};
+ghost use Rattle.rx_ctx.specs.Contexts.{values_at};
+ghost use Rattle.rx_fiber.specs.FiberView.{stage_seen};
+ghost use Rattle.rx_fiber.specs.Stood.{given_in};
+ghost use Rattle.rx_children.specs.Nodes.{parts_in, begun_stage, begun_children, begun_stack, given_context};
+ghost use Rattle.rx_children.specs.PartsView.{parts_seen};
+
+use rx_base::Ints;
+use rx_ctx::ContextStack;
+use rx_elem::{Element, ElementKind};
+use rx_fiber::{Origin, Stage};
+use rx_node::Mark;
+use std::alloc::AllocError;
+
+/// The number, the props and the children of a component's element.
+#[derive(Clone, Copy)]
+pub struct Parts<'a> {
+    /// The number of the component, by its place in the program.
+    pub component: u32,
+    /// The values of its props, in the order of their declaration.
+    pub props: &'a Ints,
+    /// The elements that stand for its `children`.
+    pub children: &'a [Element],
+}
+
+#[tactic(auto, using(crate::proofs::Lists::listed_gathered))]
+/// The parts of a component's element, if it is one.
+pub fn parts_of(element: &Element) -> Option<Parts>
+    ensures { option_map parts_seen result ≡ parts_in element.now }
+{
+    match element.kind() {
+        ElementKind::Comp(component, _, props, children) => Some(Parts {
+            component: *component,
+            props,
+            children,
+        }),
+        _ => None,
+    }
+}
+
+/// Whether the element is a component's.
+pub fn is_component(element: &Element) -> bool
+    ensures { result ≡ is_some (parts_in element.now) }
+{
+    matches!(element.kind(), ElementKind::Comp(_, _, _, _))
+}
+
+/// How far the fiber of another element has come once it is begun, where so much is known of its place.
+pub fn begun_stage(element: &Element, origin: Origin, number: Option<u64>) -> Stage
+    ensures { stage_seen result ≡ begun_stage element.now origin number }
+{
+    match element.kind() {
+        ElementKind::Null | ElementKind::Comp(_, _, _, _) => Stage::Waiting(origin),
+        ElementKind::Text(_) | ElementKind::Host(_, _, _, _) => Stage::Begun(Mark::Host(number)),
+        ElementKind::List(_, _) | ElementKind::Provider(_, _, _, _) => Stage::Begun(Mark::Plain),
+        ElementKind::Boundary(_, _, _) => Stage::Trying(origin),
+    }
+}
+
+#[tactic(auto, using(crate::proofs::Lists::listed_gathered))]
+/// The children that it is begun over.
+pub fn begun_children(element: &Element) -> &[Element]
+    ensures { result.now ≡ begun_children element.now }
+{
+    match element.kind() {
+        ElementKind::Host(_, _, _, children) => children,
+        ElementKind::List(_, children) => children,
+        ElementKind::Boundary(_, _, children) => children,
+        ElementKind::Provider(_, _, _, children) => children,
+        _ => &[],
+    }
+}
+
+/// Whether two elements give the same to the contexts below them: both nothing, or one context the same value.
+pub(crate) fn gives_same(element: &Element, old: &Element) -> bool
+    ensures same { result ≡ true → given_in element.now ≡ given_in old.now }
+    ensures other { given_in element.now ≡ given_in old.now → result ≡ true }
+{
+    match (element.kind(), old.kind()) {
+        (ElementKind::Provider(c, _, x, _), ElementKind::Provider(d, _, y, _)) => {
+            *c == *d && x.same(*y)
+        }
+        (ElementKind::Provider(_, _, _, _), _) => false,
+        (_, ElementKind::Provider(_, _, _, _)) => false,
+        _ => true,
+    }
+}
+
+/// Gives a provider's value to those below it; any other element leaves the stack as it is.
+///
+/// # Errors
+///
+/// Want of memory alone.
+pub fn enter(element: &Element, contexts: &mut ContextStack) -> Result<(), AllocError>
+    requires { IfSome (given_context element.now) (λ c. c < length (values_at contexts.old)) }
+    ensures { OnOk result (contexts.new ≡ begun_stack element.now contexts.old) }
+{
+    if let ElementKind::Provider(context, _, value, _) = element.kind() {
+        contexts.push(*context, *value)?;
+    }
+    Ok(())
+}

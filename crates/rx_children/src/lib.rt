@@ -1,0 +1,17 @@
+//! The fibers that are made for a list of children, and a node that is begun over them.
+#![tactic(auto)]
+
+mod children;
+mod generation;
+mod kind;
+mod node;
+mod origin;
+
+pub use children::{clone_children, make_children};
+pub use generation::{generation_below, own_generation};
+pub use kind::{Parts, begun_children, begun_stage, enter, is_component, parts_of};
+pub use node::{
+    Begun, keep_node, keeps_children, old_host, old_instance, open_clones, open_list, open_node,
+    take_node,
+};
+pub use origin::{is_again, is_hidden_again, is_steady, takes_over};

@@ -1,0 +1,140 @@
+// What is known of a place's fiber beside the current one, and whether it takes the old children over.
+ghost use Rattle.std.specs.Prelude.{◌≡◌, true, false, Some, IsSome, option_and_then};
+ghost use Rattle.rx_elem.specs.Trees.{Node, instance_in};
+ghost use Rattle.rx_ctx.specs.Contexts.{values_at};
+ghost use Rattle.rx_links.specs.Drafts.{old_of};
+ghost use Rattle.rx_links.specs.Readers.{made_value_of};
+ghost use Rattle.rx_meaning.specs.Fresh.{Sight};
+ghost use Rattle.rx_meaning.specs.Settled.{ReadsHold};
+ghost use Rattle.commit_laws.specs.Idle.{IsIdle, IsIdleMark};
+ghost use Rattle.rx_fiber.specs.Fibers as fibers;
+ghost use Rattle.rx_fiber.specs.Reading.{IsOld};
+ghost use Rattle.rx_fiber.specs.Subtrees.{IsGathered};
+ghost use Rattle.rx_fiber.specs.Surround.{IsElementOf};
+ghost use Rattle.rx_ways.specs.Ways.{Covers, is_way};
+ghost use Rattle.rx_hook_store.specs.Store.{kept_hooks};
+ghost use Rattle.rx_causes.specs.Marks.{EachBut, keeps_children, mark_at};
+ghost use Rattle.rx_causes.specs.Scenes.{GivesHooks, IsSceneOf, TellsCalm};
+ghost use Rattle.rx_causes.specs.Hidden.{ForEach};
+ghost use Rattle.rx_causes.specs.Idle.{KeepsTree, Rests};
+ghost use Rattle.rx_children.specs.Nodes.{IsBareAt};
+ghost use Rattle.rx_children.specs.Origins.{HasCauseToBegin, KnowsClone, TellsAgain, TellsSteady};
+
+use crate::kind::gives_same;
+use crate::node::keeps_children;
+use rx_causes::{Scene, is_idle, reads_nothing};
+use rx_ctx::ContextStack;
+use rx_elem::Element;
+use rx_fiber::{Fiber, hides};
+use rx_hook_store::HookStore;
+use rx_links::{FiberId, FiberTree};
+
+// Whether an element is equal to that of the current fiber for which a place's fiber was made.
+fn is_equal(tree: &FiberTree<Fiber>, at: FiberId, element: &Element) -> bool
+    requires { IsBareAt tree.now at }
+    ensures same { result ≡ true → IsElementOf tree.now.current (old_of tree.now.draft at) element.now }
+    ensures all { IsElementOf tree.now.current (old_of tree.now.draft at) element.now → result ≡ true }
+{
+    tree.place_facts();
+    tree.facts();
+    match tree.alternate(at) {
+        Some(old) => element.same(tree.value(old).element()),
+        None => false,
+    }
+}
+
+/// Whether the element of a place's fiber is that of the current fiber for which it was made, given again: no body on the way to
+/// it was evaluated, or each gave again what it was given, as a component gives its `children` (react.dev, memo). An equal one
+/// that a body made anew is another.
+pub fn is_again(tree: &FiberTree<Fiber>, at: FiberId) -> bool
+    requires bare { IsBareAt tree.now at }
+    requires clone { KnowsClone tree.now at }
+    ensures { (v : fibers.Fiber) → Some v ≡ made_value_of tree.now.draft at → TellsAgain tree.now.current (old_of tree.now.draft at) v result }
+{
+    tree.place_facts();
+    let fiber = tree.value(at);
+    if fiber.is_cloned() {
+        return true;
+    }
+    if fiber.generation() != 0 {
+        return false;
+    }
+    is_equal(tree, at, fiber.element())
+}
+
+/// Whether a place is that of a hidden boundary, and its element is given again or equal to the current one (react.dev,
+/// Suspense): it is not tried again only because what is around it was evaluated.
+pub fn is_hidden_again(tree: &FiberTree<Fiber>, at: FiberId, element: &Element, again: bool) -> bool
+    requires bare { IsBareAt tree.now at }
+    requires again { again ≡ true → IsElementOf tree.now.current (old_of tree.now.draft at) element.now }
+    ensures same { result ≡ true → IsElementOf tree.now.current (old_of tree.now.draft at) element.now }
+    ensures all { IsElementOf tree.now.current (old_of tree.now.draft at) element.now → keeps_children true (mark_at tree.now.current (old_of tree.now.draft at)) ≡ false → result ≡ true }
+{
+    tree.place_facts();
+    if keeps_children(tree, tree.alternate(at), true) {
+        return false;
+    }
+    if again {
+        return true;
+    }
+    is_equal(tree, at, element)
+}
+
+/// Whether a place is steady: its current fiber is shown, stands where the same values of contexts are given, and gives the same
+/// to those below it. Then its children stand where the same values are given too.
+pub fn is_steady(tree: &FiberTree<Fiber>, at: FiberId) -> bool
+    requires { IsBareAt tree.now at }
+    ensures { (v : fibers.Fiber) → Some v ≡ made_value_of tree.now.draft at → TellsSteady tree.now.current (old_of tree.now.draft at) v result }
+{
+    tree.place_facts();
+    tree.facts();
+    let fiber = tree.value(at);
+    match tree.alternate(at) {
+        Some(old) => {
+            let current = tree.value(old);
+            fiber.is_stood()
+                && !hides(current.stage())
+                && gives_same(fiber.element(), current.element())
+        }
+        None => false,
+    }
+}
+
+/// Whether a fiber takes over the old children: its element is given again, nothing in the tree of its old node has a cause to be rendered,
+/// and it stood where the same values of contexts are given, or nothing there reads a context.
+pub fn takes_over(
+    tree: &FiberTree<Fiber>,
+    at: FiberId,
+    again: bool,
+    stood: bool,
+    component: bool,
+    scene: &Scene,
+    hooks: &HookStore,
+    contexts: &ContextStack,
+) -> bool
+    requires bare { IsBareAt tree.now at }
+    requires gathered { IsGathered tree.now.current }
+    requires kept { KeepsTree (kept_hooks hooks.now) tree.now.current (old_of tree.now.draft at) }
+    ensures again { result ≡ true → again ≡ true }
+    ensures there { result ≡ true → IsSome (mark_at tree.now.current (old_of tree.now.draft at)) }
+    ensures shown { result ≡ true → keeps_children true (mark_at tree.now.current (old_of tree.now.draft at)) ≡ true }
+    ensures idle { result ≡ true → (s : Sight) (x : Node) → IsSceneOf scene.now s → IsOld tree.now.current (old_of tree.now.draft at) (Some x) → ForEach (GivesHooks s (kept_hooks hooks.now)) x → Covers (is_way scene.now.ways.now) (IsIdleMark s) x → IsIdle s x }
+    ensures rest { result ≡ true → (x : Node) → IsOld tree.now.current (old_of tree.now.draft at) (Some x) → EachBut (is_way scene.now.ways.now) (Rests (kept_hooks hooks.now) scene.now.lanes scene.now.cut) x }
+    ensures reads { result ≡ true → stood ≡ false → (x : Node) → IsOld tree.now.current (old_of tree.now.draft at) (Some x) → ReadsHold (values_at contexts.now) x }
+    ensures calm { result ≡ true → component ≡ true → TellsCalm scene.now (kept_hooks hooks.now) (values_at contexts.now) (option_and_then instance_in (mark_at tree.now.current (old_of tree.now.draft at))) true }
+    ensures cause { again ≡ true → result ≡ false → HasCauseToBegin scene.now (kept_hooks hooks.now) (values_at contexts.now) component stood tree.now.current (old_of tree.now.draft at) }
+{
+    if !again {
+        return false;
+    }
+    tree.place_facts();
+    let idle = is_idle(
+        tree,
+        tree.alternate(at),
+        component,
+        scene,
+        hooks,
+        contexts.values(),
+    );
+    idle && (stood || reads_nothing(tree, tree.alternate(at)))
+}

@@ -1,0 +1,5 @@
+pub mod Beside
+pub mod FreeFallback
+pub mod Falling
+pub mod OldFallback
+pub mod FallbackKids
