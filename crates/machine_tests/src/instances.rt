@@ -1,15 +1,21 @@
-// An instance is looked up, and hooks are shown.
+// An instance is looked up, hooks are shown, and what a boundary waits for is read.
+ghost use Rattle.std.specs.Prelude.{◌≡◌, IfOk};
+ghost use Rattle.rx_fiber.specs.Fibers.{own_subtree};
+ghost use Rattle.rx_fiber.specs.FiberView.{stage_seen};
+ghost use Rattle.rx_fiber.specs.Subtrees.{IsGathered};
+
 use rx_ast::{Body, Component, Declaration, Expr, Program, Slot, Statement};
-use rx_base::{Int, Ints, Name};
+use rx_base::{Awaits, Int, Ints, Name};
 use rx_check::{Checked, check};
 use rx_elem::{Element, ElementKind};
-use rx_fiber::{Fiber, Stage};
+use rx_fiber::{Fiber, Stage, Subtree};
 use rx_hook_store::HookStore;
-use rx_instances::{dispatch_path, find_instance, hidden_count, node_count, show_hooks};
+use rx_instances::{awaited, dispatch_path, find_instance, hidden_count, node_count, show_hooks};
 use rx_links::FiberTree;
 use rx_node::{Instance, Mark};
 use rx_report::Report;
 use rx_step::{Dispatch, LaneWord, Path};
+use rx_susp::BoundaryState;
 use rx_ways::Ways;
 use std::alloc::{AllocError, Global};
 use std::rc::Rc;
@@ -40,8 +46,22 @@ fn counter(alloc: Global) -> Result<Program, AllocError> {
     Ok(Program::new(declarations))
 }
 
+// A current fiber alone, of this stage, with what this tells of itself.
+fn alone(alloc: Global, stage: Stage, own: Subtree) -> Result<FiberTree<Fiber>, AllocError>
+    requires { own ≡ own_subtree (stage_seen stage) }
+    ensures { IfOk result (λ tree. IsGathered tree.current) }
+{
+    let element = Element::new(alloc, ElementKind::Null)?;
+    let mut tree = FiberTree::new(alloc);
+    tree.start(Fiber::new(0, element, stage).with_subtree(own))?;
+    tree.swap();
+    Ok(tree)
+}
+
 // The fibers of the counter.
-fn counted(alloc: Global) -> Result<FiberTree<Fiber>, AllocError> {
+fn counted(alloc: Global) -> Result<FiberTree<Fiber>, AllocError>
+    ensures { IfOk result (λ tree. IsGathered tree.current) }
+{
     let mut initials = Vec::new(alloc);
     initials.push(Int::of(0))?;
     let instance = Instance {
@@ -51,11 +71,12 @@ fn counted(alloc: Global) -> Result<FiberTree<Fiber>, AllocError> {
         reads: Rc::new(alloc, Vec::new(alloc))?,
         effects: Rc::new(alloc, Vec::new(alloc))?,
     };
-    let element = Element::new(alloc, ElementKind::Null)?;
-    let mut tree = FiberTree::new(alloc);
-    tree.start(Fiber::new(0, element, Stage::Begun(Mark::Instance(instance))))?;
-    tree.swap();
-    Ok(tree)
+    let own = Subtree {
+        reads: false,
+        hides: false,
+        instances: true,
+    };
+    alone(alloc, Stage::Begun(Mark::Instance(instance)), own)
 }
 
 // `set n = 7` of the counter.
@@ -94,5 +115,19 @@ fn no_hooks_at_the_start(rt: HostRuntime) -> Result<(), Fail> {
     let checked = check(rt.alloc(), counter(rt.alloc())?)?;
     let report = shown(rt.alloc(), &checked)?;
     assert!(rt; report.bytes() == b"state\n".as_slice());
+    Ok(())
+}
+
+#[test]
+fn a_boundary_waits(rt: HostRuntime) -> Result<(), Fail> {
+    let mark = Mark::Boundary(BoundaryState::Hidden(Awaits::one(3)));
+    let own = Subtree {
+        reads: false,
+        hides: true,
+        instances: false,
+    };
+    let tree = alone(rt.alloc(), Stage::Begun(mark), own)?;
+    assert!(rt; awaited(&tree).has(3));
+    assert_eq!(rt; hidden_count(&tree), 1);
     Ok(())
 }

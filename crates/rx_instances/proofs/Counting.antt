@@ -20,7 +20,7 @@ get-behind (y ∷ xs) ys zero is = absurd (none-some y (sym is))
 get-behind (y ∷ xs) ys (suc k) is = let e : suc k - suc (length xs) ≡ k - length xs = omega arith in rw e (get-behind xs ys k is)
 
 -- nothing is looked at
-counts-nothing : (k : ℕ) → Counts [] None k k
+pub counts-nothing : (k : ℕ) → Counts [] None k k
 counts-nothing k = record { found_is = refl; left_is = omega arith }
 
 -- what is found among the first fibers is found

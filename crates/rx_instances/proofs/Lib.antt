@@ -1,3 +1,5 @@
+pub mod AwaitedOlds
+pub mod Awaiting
 pub mod CountedOlds
 pub mod Counting
 pub mod Led
@@ -6,6 +8,7 @@ pub mod Named
 pub mod NearOlds
 pub mod Nearest
 pub mod Numbers
+pub mod Passed
 pub mod Showing
 pub mod Walked
 pub mod Walking

@@ -3,4 +3,5 @@ pub mod Nearest
 pub mod NearFibers
 pub mod MountedFibers
 pub mod CountedFibers
+pub mod AwaitedFibers
 pub mod Shown

@@ -9,6 +9,7 @@ ghost use Rattle.rx_lists.specs.Shapes.{Holds};
 ghost use Rattle.rx_links.specs.Readers.{list_from};
 ghost use Rattle.rx_fiber.specs.OldLists.{primary_list};
 ghost use Rattle.rx_fiber.specs.Reading.{IsOld, IsTreeOf};
+ghost use Rattle.rx_fiber.specs.Subtrees.{IsGathered};
 ghost use Rattle.rx_meaning.specs.Settled.{HasOwnNumbers, number_of};
 ghost use Rattle.rx_model.specs.State.{instance_found};
 ghost use Rattle.rx_node.specs.MarkView.{instance_seen};
@@ -68,7 +69,8 @@ fn count(id: FiberId, counts: bool, left: &mut u64) -> Option<FiberId>
     None
 }
 
-// Looks at a fiber itself where it is of an instance, and else for the nearest ones below it.
+// Looks at a fiber itself where it is of an instance, and else for the nearest ones below it. It is passed where no instance is
+// at or below it.
 #[cycle(looking)]
 fn look_at(
     checked: &Checked,
@@ -77,12 +79,17 @@ fn look_at(
     name: &Name,
     left: &mut u64,
 ) -> Option<FiberId>
-    requires { Holds tree.now.current id }
+    requires held { Holds tree.now.current id }
+    requires gathered { IsGathered tree.now.current }
     ensures held { IfSome result (Holds tree.now.current) }
     ensures counts { Counts (near_first checked.now name.now (list_from tree.now.current (Some id))) result left.old left.new }
 {
     tree.facts();
-    match instance_of(tree.value(id)) {
+    let fiber = tree.value(id);
+    if !fiber.subtree().instances {
+        return None;
+    }
+    match instance_of(fiber) {
         Some(instance) => {
             let counts = name_of(checked, instance.component) == name.text();
             count(id, counts, left)
@@ -101,7 +108,8 @@ fn look_in(
     name: &Name,
     left: &mut u64,
 ) -> Option<FiberId>
-    requires { IfSome first (Holds tree.now.current) }
+    requires held { IfSome first (Holds tree.now.current) }
+    requires gathered { IsGathered tree.now.current }
     ensures held { IfSome result (Holds tree.now.current) }
     ensures counts { Counts (near_fibers checked.now name.now (list_from tree.now.current first)) result left.old left.new }
 {
@@ -118,6 +126,7 @@ fn look_in(
 
 // The fiber of the instance that the first part of a path leads to.
 fn first(checked: &Checked, tree: &FiberTree<Fiber>, part: &(Name, u64)) -> Option<FiberId>
+    requires gathered { IsGathered tree.now.current }
     ensures held { IfSome result (Holds tree.now.current) }
     ensures at { result ≡ slice_get (near_fibers checked.now part.now.0 tree.now.current) part.now.1 }
 {
@@ -134,7 +143,8 @@ fn next(
     id: FiberId,
     part: &(Name, u64),
 ) -> Option<FiberId>
-    requires { Holds tree.now.current id }
+    requires held { Holds tree.now.current id }
+    requires gathered { IsGathered tree.now.current }
     ensures held { IfSome result (Holds tree.now.current) }
     ensures at { result ≡ slice_get (near_fibers checked.now part.now.0 (primary_list (list_from tree.now.current (Some id)))) part.now.1 }
 {
@@ -156,14 +166,16 @@ fn put(tree: &FiberTree<Fiber>, id: FiberId, sent: &mut Ways)
 
 /// The instance that a path leads to: from the root, each part names the so-many-th instance of a component right below the
 /// one before, counted from 0 in tree order. It goes over the current fibers, and tells the one of the instance. It puts each
-/// instance on the way, itself too, on the ways that updates were sent along. It takes time in proportion to what is rendered
-/// by the bodies of the instances on the way, however large the tree is.
+/// instance on the way, itself too, on the ways that updates were sent along. A fiber that has no instance at or below
+/// it is passed, with all below it (React: `subtreeFlags`). It takes at most time in proportion to what is rendered by the bodies
+/// of the instances on the way, however large the tree is.
 pub fn find_instance(
     checked: &Checked,
     tree: &FiberTree<Fiber>,
     path: &[(Name, u64)],
     sent: &mut Ways,
 ) -> Option<Found>
+    requires gathered { IsGathered tree.now.current }
     ensures found { (y : Option trees.Node) (next : ℕ) → IsTreeOf y tree.now.current → IfNumbered y → HasOwnNumbers next y
         → option_map told_in result ≡ option_map found_as (instance_found checked.now y path.now) }
 

@@ -7,6 +7,7 @@ ghost use Rattle.rx_lists.specs.Shapes.{Holds};
 ghost use Rattle.rx_links.specs.Readers.{list_from};
 ghost use Rattle.rx_fiber.specs.OldLists.{begins_fallback};
 ghost use Rattle.rx_fiber.specs.Reading.{IsTreeOf};
+ghost use Rattle.rx_fiber.specs.Subtrees.{IsGathered};
 ghost use Rattle.rx_node.specs.MarkView.{instance_seen};
 ghost use Rattle.rx_instances.specs.NearFibers.{instance_at};
 ghost use Rattle.rx_instances.specs.MountedFibers.{around_kids, mounted_first, mounted_from, own_mounted};
@@ -84,8 +85,8 @@ impl Mounted {
     }
 }
 
-// Whether the fiber of a boundary's fallback stands right behind its own, where this one does: then it keeps its children.
-fn keeps(tree: &FiberTree<Fiber>, behind: Option<FiberId>) -> bool
+/// Whether the fiber of a boundary's fallback stands right behind its own, where this one does: then it keeps its children.
+pub(crate) fn keeps(tree: &FiberTree<Fiber>, behind: Option<FiberId>) -> bool
     requires { IfSome behind (Holds tree.now.current) }
     ensures { result ≡ begins_fallback (list_from tree.now.current behind) }
 {
@@ -124,7 +125,7 @@ fn add_own(fiber: &Fiber, around: Around, found: &mut Vec<Mounted>) -> Result<()
     Ok(())
 }
 
-// Adds the instances of a fiber and below.
+// Adds the instances of a fiber and below. It is passed where there are none.
 #[cycle(mounting)]
 fn add_from(
     tree: &FiberTree<Fiber>,
@@ -132,11 +133,15 @@ fn add_from(
     around: Around,
     found: &mut Vec<Mounted>,
 ) -> Result<(), AllocError>
-    requires { Holds tree.now.current id }
+    requires held { Holds tree.now.current id }
+    requires gathered { IsGathered tree.now.current }
     ensures { OnOk result (found.new.items ≡ found.old.items ++ mounted_first around (list_from tree.now.current (Some id))) }
 {
     tree.facts();
     let fiber = tree.value(id);
+    if !fiber.subtree().instances {
+        return Ok(());
+    }
     add_own(fiber, around, found)?;
     let inside = around_kids(fiber, around, keeps(tree, tree.next_sibling(id)));
     add_in(tree, tree.first_child(id), inside, found)
@@ -150,7 +155,8 @@ fn add_in(
     around: Around,
     found: &mut Vec<Mounted>,
 ) -> Result<(), AllocError>
-    requires { IfSome first (Holds tree.now.current) }
+    requires held { IfSome first (Holds tree.now.current) }
+    requires gathered { IsGathered tree.now.current }
     ensures { OnOk result (found.new.items ≡ found.old.items ++ mounted_from around (list_from tree.now.current first)) }
 {
     tree.facts();
@@ -163,7 +169,7 @@ fn add_in(
 }
 
 /// The instances of the committed tree, in tree order, read from the current fibers: a parent before what is below it, siblings
-/// in order, and of a boundary the primary before the fallback.
+/// in order, and of a boundary the primary before the fallback. Fibers that have no instance at or below them are passed.
 ///
 /// # Errors
 ///
@@ -172,6 +178,7 @@ pub(crate) fn read_mounted(
     alloc: Global,
     tree: &FiberTree<Fiber>,
 ) -> Result<Vec<Mounted>, AllocError>
+    requires gathered { IsGathered tree.now.current }
     ensures { IfOk result (λ found. (y : Option trees.Node) → IsTreeOf y tree.now.current → found.items ≡ spots.mounted y) }
 {
     tree.facts();

@@ -2,6 +2,7 @@
 ghost use Rattle.std.specs.Prelude.{◌≡◌, ◌<◌, ◌++◌, ◌∷◌, OnOk, OnErr, IfOk, map, take};
 ghost use Rattle.rx_ast.specs.Syntax.{Program};
 ghost use Rattle.rx_fiber.specs.Reading.{IsTreeOf};
+ghost use Rattle.rx_fiber.specs.Subtrees.{IsGathered};
 ghost use Rattle.rx_hook_store.specs.Store.{kept_hooks};
 ghost use Rattle.rx_lines.specs.Lines as report;
 ghost use Rattle.rx_model.specs.HooksOf.{KeepsAllHooks};
@@ -91,7 +92,8 @@ pub fn show_hooks(
     tree: &FiberTree<Fiber>,
     hooks: &HookStore,
 ) -> Result<(), AllocError>
-    requires { (s : State) × (IsTreeOf s.tree tree.now.current × KeepsAllHooks checked.now s (kept_hooks hooks.now)) }
+    requires gathered { IsGathered tree.now.current }
+    requires keeps { (s : State) × (IsTreeOf s.tree tree.now.current × KeepsAllHooks checked.now s (kept_hooks hooks.now)) }
     ensures ok { OnOk result ((s : State) → IsTreeOf s.tree tree.now.current → KeepsAllHooks checked.now s (kept_hooks hooks.now)
         → log.new ≡ record log.old { bytes = log.old.bytes ++ report.report_bytes log.old.options (state_lines checked.now s) }) }
     ensures err { OnErr result (log.new ≡ log.old) }

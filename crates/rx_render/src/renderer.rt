@@ -25,6 +25,7 @@ ghost use Rattle.rx_model.specs.Laws.{IsBounded};
 ghost use Rattle.rx_model.specs.Turns.{unit_bound};
 ghost use Rattle.rx_model.specs.HooksOf.{KeepsAllHooks};
 ghost use Rattle.rx_fiber.specs.Reading.{IsTreeOf};
+ghost use Rattle.rx_fiber.specs.Subtrees.{IsGathered};
 ghost use Rattle.rx_pruned.specs.Besides.{IsBeside};
 ghost use Rattle.end_laws.specs.Trimmed.{trimmed, trimmed_if};
 ghost use Rattle.rx_read.specs.NumbersView.{numbers_seen};
@@ -161,9 +162,10 @@ impl Renderer {
         &self.checked
     }
 
-    /// The two trees of fibers: the current one, and the one in progress.
+    /// The two trees of fibers: the current one, and the one in progress. The current ones keep what is at or below them.
     pub fn fibers(&self) -> &FiberTree<Fiber>
-        ensures { result.now ≡ self.now.trees }
+        ensures trees { result.now ≡ self.now.trees }
+        ensures gathered { IsGathered result.now.current }
     {
         &self.fibers
     }

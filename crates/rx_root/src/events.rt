@@ -24,17 +24,16 @@ ghost use Rattle.rx_root.specs.Taking.{CanTake, IsTargetOf, claimed_by, root_acc
 
 use crate::errors::{DispatchError, ResolveError};
 use crate::root::Root;
-use end_laws::ends_are_not_read;
 use rx_base::{Int, Name};
 use rx_hook_store::{hooks_are_there, links_are_below};
 use rx_instances::{
-    dispatch_hook, dispatch_op, dispatch_path, dispatch_word, find_instance, hook_place, show_hooks,
+    awaited, dispatch_hook, dispatch_op, dispatch_path, dispatch_word, find_instance, hook_place,
+    show_hooks,
 };
 use rx_lane::{Lane, Lanes};
 use rx_queue::{Op, Update};
 use rx_report::{Report, a_commit_is_in_tree_order};
 use rx_sched::RootLanes;
-use rx_spots::awaited;
 use rx_step::{Dispatch, LaneWord};
 use std::alloc::AllocError;
 
@@ -284,9 +283,8 @@ impl Root {
     fn is_awaited(&self, resource: u32) -> bool
         ensures { (s : State) → Stands self.entry.now.rendering.program s self.entry.now → resource < length (resources self.entry.now.rendering.program) → result ≡ is_awaited s.tree resource }
     {
-        ends_are_not_read();
         self.renderer.checked().program();
-        awaited(self.shown.tree()).has(resource)
+        awaited(self.renderer.fibers()).has(resource)
     }
 
     // A resource gets its value, for which a visible boundary may wait.

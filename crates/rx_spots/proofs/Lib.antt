@@ -1,4 +1,4 @@
 mod Lists
 mod Counting
-mod Waiting
+pub mod Waiting
 mod Mounting

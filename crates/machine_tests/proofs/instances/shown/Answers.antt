@@ -2,9 +2,10 @@ use Rattle.std.proofs.Common.{sym, subst}
 use Rattle.rx_links.specs.Drafts.{Trees}
 use Rattle.rx_fiber.specs.Fibers.{Fiber}
 use Rattle.rx_fiber.specs.Reading.{IsTreeOf, gap, no_more}
+use Rattle.rx_fiber.specs.Subtrees.{IsGathered}
 use Rattle.rx_model.specs.State.{opening}
 use Rattle.machine_tests.proofs.instances.shown.Goals as goal
 
 pub show_hooks-requires : goal.show_hooks-requires
 show_hooks-requires c =
-    (opening, (subst (λ (t : Trees Fiber). IsTreeOf opening.tree t.current) (sym c.new-tree.ensures) (gap no_more), c.new-hooks.ensures.opening c.args.checked.now))
+    (subst (λ (t : Trees Fiber). IsGathered t.current) (sym c.new-tree.ensures) tt, (opening, (subst (λ (t : Trees Fiber). IsTreeOf opening.tree t.current) (sym c.new-tree.ensures) (gap no_more), c.new-hooks.ensures.opening c.args.checked.now)))

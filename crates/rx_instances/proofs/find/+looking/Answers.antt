@@ -1,9 +1,18 @@
-use Rattle.std.proofs.Common.{arith}
+use Rattle.std.proofs.Common.{ℕ, List, None, sym, ap, ◌∙◌, subst, arith}
 use Rattle.rx_links.specs.Readers.{list_from}
+use Rattle.rx_fiber.specs.declared.subtree.Subtree.{Subtree}
 use Rattle.rx_fiber.proofs.OldReads.{rest_held, some_held}
-use Rattle.rx_instances.specs.NearFibers.{near_fibers}
-use Rattle.rx_instances.proofs.Counting.{leads-found, leads-more, leads-nowhere, rest_smaller}
+use Rattle.rx_instances.specs.NearFibers.{Counts, near_fibers}
+use Rattle.rx_instances.proofs.Counting.{counts-nothing, leads-found, leads-more, leads-nowhere, rest_smaller}
+use Rattle.rx_instances.proofs.Passed.{passed_near, untold}
 use Rattle.rx_instances.proofs.find.+looking.Goals as goal
+
+pub look_at-returns-then-not-subtree-clause-counts : goal.look_at-returns-then-not-subtree-clause-counts
+look_at-returns-then-not-subtree-clause-counts t c =
+    let none =
+    passed_near c.args.tree.now.current c.facts.ensures.linked c.requires.gathered c.args.id c.requires.held c.value-fiber.result.now (c.value-fiber.ensures.current c.requires.held) c.args.checked.now
+    c.args.name.now (untold _ _ (ap (λ (x : Subtree). x.instances) c.subtree.ensures) c.if-not-subtree.true) in
+    subst (λ (is : List ℕ). Counts is None c.args.left.now c.args.left.now) (sym none) (counts-nothing c.args.left.now)
 
 pub look_in-returns-in-Some-look_at-clause-counts : goal.look_in-returns-in-Some-look_at-clause-counts
 look_in-returns-in-Some-look_at-clause-counts t c =

@@ -11,7 +11,7 @@ use Rattle.rx_root.proofs.root.Root.hidden_count.Goals as goal
 
 pub returns : goal.returns
 returns c s h =
-    let fibers : c.fibers.result.now ≡ c.args.self.now.rendering.trees = c.fibers.ensures ∙ ap (λ (v : Rooted). v.rendering.trees) c.self.view_is in
+    let fibers : c.fibers.result.now ≡ c.args.self.now.rendering.trees = c.fibers.ensures.trees ∙ ap (λ (v : Rooted). v.rendering.trees) c.self.view_is in
     let current = subst (λ (t : Trees Fiber). IsTreeOf s.tree t.current) (sym fibers) h.current in
     let program = ap (λ (v : Rooted). v.rendering.program) c.self.view_is in
     let few : hidden_count s.tree ≤ node_limit = few_hidden c.args.self.now.rendering.program (subst IsBounded program c.facts.ensures.bounded) s h.reached in

@@ -28,7 +28,7 @@ returns-in_err-found-clause-target c s h can =
     let program : c.checked-checked.result.now ≡ p = c.checked-checked.ensures ∙ ap (λ (r : Rooted). r.rendering.program) c.self.view_is in
     let bounded = subst IsBounded (ap (λ (r : Rooted). r.rendering.program) c.self.view_is) c.facts.ensures.bounded in
     let numbered = state_numbered p bounded s h.reached in
-    let fibers : c.fibers.result.now ≡ v.rendering.trees = c.fibers.ensures ∙ ap (λ (r : Rooted). r.rendering.trees) c.self.view_is in
+    let fibers : c.fibers.result.now ≡ v.rendering.trees = c.fibers.ensures.trees ∙ ap (λ (r : Rooted). r.rendering.trees) c.self.view_is in
     let current = subst (λ (t : Trees Fiber). IsTreeOf s.tree t.current) (sym fibers) h.current in
     let same : instance_found c.checked-checked.result.now s.tree c.dispatch_path.result.now ≡ instance_found p s.tree (path_of d) =
     (λ i. instance_found (program i) s.tree (c.dispatch_path.ensures i)) in
@@ -45,7 +45,7 @@ returns-clause-target c s h can =
     let accepted = subst IsAccepted program c.program.ensures.accepted in
     let bounded = subst IsBounded (ap (λ (r : Rooted). r.rendering.program) c.self.view_is) c.facts.ensures.bounded in
     let numbered = state_numbered p bounded s h.reached in
-    let fibers : c.fibers.result.now ≡ v.rendering.trees = c.fibers.ensures ∙ ap (λ (r : Rooted). r.rendering.trees) c.self.view_is in
+    let fibers : c.fibers.result.now ≡ v.rendering.trees = c.fibers.ensures.trees ∙ ap (λ (r : Rooted). r.rendering.trees) c.self.view_is in
     let current = subst (λ (t : Trees Fiber). IsTreeOf s.tree t.current) (sym fibers) h.current in
     let same : instance_found c.checked-checked.result.now s.tree c.dispatch_path.result.now ≡ instance_found p s.tree (path_of d) =
     (λ i. instance_found (program i) s.tree (c.dispatch_path.ensures i)) in
