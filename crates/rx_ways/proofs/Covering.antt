@@ -1,15 +1,15 @@
 -- The ways that a walk gives cover a tree, where no stirred number stands in what the walk spared.
 use Rattle.std.proofs.Common.{◌≡◌, ℕ, ◌+◌, ◌≤◌, Bool, true, false, cond, Option, Some, None, refl, sym, ap, subst, ◌∙◌, inl, inr, arith}
-use Rattle.std.specs.Prelude.{◌||◌, ◌&&◌, not}
+use Rattle.std.specs.Prelude.{◌||◌, ◌&&◌, not, is_some}
 use Rattle.std.specs.Option.{option_map_or}
 use Rattle.std.proofs.lemmas.Bool.{and_from, and_parts, both_ways, eq-eqb, false_from_ne_true, not-true, not_from_false, or_cases, or_left, or_parts, or_right}
-use Rattle.rx_elem.specs.Trees.{Forest, Node, child, children_of, fallback_of, mark_of, node, none, vacant}
+use Rattle.rx_elem.specs.Trees.{Forest, Mark, Node, child, children_of, fallback_of, instance_in, mark_of, node, none, of_boundary, of_host, of_instance, plain, vacant}
 use Rattle.commit_laws.specs.Each.{ForEach, ForEachIn}
 use Rattle.commit_laws.specs.HiddenWaits.{AllNumbered, IfNumbered, Numbered}
 use Rattle.rx_meaning.specs.Settled.{HasOwnNumbers, is_numbered_so, number_of, times_numbered, times_numbered_if, times_numbered_in}
 use Rattle.rx_node.specs.Hides.{hides_within}
 use Rattle.rx_ways.specs.Leads.{is_cause}
-use Rattle.rx_ways.specs.Walk.{finds, finds_in, is_spared, puts, puts_in}
+use Rattle.rx_ways.specs.Walk.{finds, finds_in, has_instance_in, has_instance_within, is_spared, puts, puts_in}
 use Rattle.rx_ways.specs.Ways.{Covers, CoversIf, CoversIn, IsQuiet}
 use Rattle.rx_ways.proofs.Quiet.{NoneOccurs, covered, quiet-mark, quiet-without}
 
@@ -73,13 +73,12 @@ by_cases : {P : Type 0} (b : Bool) → (b ≡ true → P) → (b ≡ false → P
 by_cases true f g = f refl
 by_cases false f g = g refl
 
-shows-all : (h : ℕ → Bool) (x : Node) (o : Option ℕ) → option_map_or (λ n. not (h n || hides_within x)) o false ≡ true → hides_within x ≡ false
-shows-all h x None is = cc
-shows-all h x (Some n) is = (or_parts (h n) (hides_within x) (not-true _ is)).1
+shows-all : (h : ℕ → Bool) (x : Node) → is_spared h x ≡ true → hides_within x ≡ false
+shows-all h x is = not-true _ (and_parts (not (hides_within x)) _ is).0
 
 -- what is spared is quiet, where no stirred number stands in it
 spared-quiet : (h s : ℕ → Bool) (x : Node) → Numbered x → is_spared h x ≡ true → NoneOccurs s (λ n. missed h n x) → ForEach (IsQuiet s) x
-spared-quiet h s x has is free = quiet-without s x has (shows-all h x (number_of (mark_of x)) is) (λ n st. sym (spared-missed h n x is) ∙ free n st)
+spared-quiet h s x has is free = quiet-without s x has (shows-all h x is) (λ n st. sym (spared-missed h n x is) ∙ free n st)
 
 mutual
   -- where a walk finds no cause, all is quiet
@@ -135,17 +134,41 @@ mutual
     walk-covers_in h s way ns has.1 (λ n st. omega (arith, free n st)) (λ n p. put n (or_right (puts h s n x) (puts_in h s n ns) p)),
   )
 
-none-spared : (h : ℕ → Bool) → ((n : ℕ) → h n ≡ true) → (x : Node) → is_spared h x ≡ false
-none-spared h all x = go (number_of (mark_of x))
+no-number : (n : ℕ) (m : Mark) → is_some (instance_in m) ≡ false → is_numbered_so n (number_of m) ≡ false
+no-number n (of_instance i) e = absurd (cc e)
+no-number n (of_host k) e = refl
+no-number n (of_boundary b) e = refl
+no-number n plain e = refl
+
+mutual
+  -- no number stands where there is no instance
+  none-times : (n : ℕ) (x : Node) → has_instance_within x ≡ false → times_numbered n x ≡ 0
+  none-times n (node e m ns fs) is =
+      let own = or_parts (is_some (instance_in m)) (has_instance_in ns || has_instance_in fs) is in
+      let below = or_parts (has_instance_in ns) (has_instance_in fs) own.1 in
+      omega (arith, ap {B = ℕ} (λ b. cond b 1 0) (no-number n m own.0), none-times_in n ns below.0, none-times_in n fs below.1)
+
+  none-times_in : (n : ℕ) (ns : Forest) → has_instance_in ns ≡ false → times_numbered_in n ns ≡ 0
+  none-times_in n none is = refl
+  none-times_in n (vacant ns) is = none-times_in n ns is
+  none-times_in n (child x ns) is =
+      let parts = or_parts (has_instance_within x) (has_instance_in ns) is in
+      omega (arith, none-times n x parts.0, none-times_in n ns parts.1)
+
+-- where all are hinted, only what has no instance is spared
+hinted-spares : (h : ℕ → Bool) → ((n : ℕ) → h n ≡ true) → (x : Node) → is_spared h x ≡ true → has_instance_within x ≡ false
+hinted-spares h all x is = go (number_of (mark_of x)) (and_parts (not (hides_within x)) _ is).1
   where
-    go : (o : Option ℕ) → option_map_or (λ n. not (h n || hides_within x)) o false ≡ false
-    go None = refl
-    go (Some n) = ap (λ b. not (b || hides_within x)) (all n)
+    go : (o : Option ℕ) → not (has_instance_within x) || option_map_or (λ n. not (h n)) o false ≡ true → has_instance_within x ≡ false
+    go None e = elim (or_cases (not (has_instance_within x)) false e) [ inl p ↦ not-true _ p | inr q ↦ absurd (cc q) ]
+    go (Some n) e = elim (or_cases (not (has_instance_within x)) (not (h n)) e) [ inl p ↦ not-true _ p | inr q ↦ absurd (let f = all n in let g = not-true _ q in cc) ]
 
 mutual
   none-missed : (h : ℕ → Bool) → ((n : ℕ) → h n ≡ true) → (n : ℕ) (x : Node) → missed h n x ≡ 0
   none-missed h all n (node e m ns fs) =
-      omega (arith, open-missed h n (node e m ns fs) (none-spared h all (node e m ns fs)), none-missed_in h all n ns, none-missed_in h all n fs)
+      by_cases (is_spared h (node e m ns fs))
+      (λ is. spared-missed h n (node e m ns fs) is ∙ none-times n (node e m ns fs) (hinted-spares h all (node e m ns fs) is))
+      (λ is. omega (arith, open-missed h n (node e m ns fs) is, none-missed_in h all n ns, none-missed_in h all n fs))
 
   none-missed_in : (h : ℕ → Bool) → ((n : ℕ) → h n ≡ true) → (n : ℕ) (ns : Forest) → missed_in h n ns ≡ 0
   none-missed_in h all n none = refl

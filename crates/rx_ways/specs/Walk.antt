@@ -1,8 +1,11 @@
--- What a walk finds that goes along hints.
-use Rattle.std.specs.Prelude.{ℕ, Bool, false, not, ◌&&◌, ◌||◌}
+-- What a walk finds that goes along hints: in a tree, and in the current fibers that stand for it.
+use Rattle.std.specs.Prelude.{ℕ, Bool, false, not, ◌&&◌, ◌||◌, Option, None, is_some}
 use Rattle.std.specs.Option.{option_map_or}
-use Rattle.rx_elem.specs.Trees.{Forest, Node, child, mark_of, node, none, vacant}
+use Rattle.rx_elem.specs.Trees.{Forest, Node, child, instance_in, mark_of, node, none, vacant}
+use Rattle.rx_lists.specs.Shapes.{Shape, fiber}
+use Rattle.rx_lists.specs.Shapes as shapes
 use Rattle.rx_meaning.specs.Settled.{is_numbered_so, number_of}
+use Rattle.rx_fiber.specs.Fibers.{Fiber, Stage, waiting, begun, trying, fallback}
 use Rattle.rx_node.specs.Hides.{hides_within}
 use Rattle.rx_ways.specs.Leads.{is_cause}
 use Rattle.rx_ways.specs.Ways.{Ways, is_way}
@@ -11,9 +14,24 @@ use Rattle.rx_ways.specs.Ways.{Ways, is_way}
 abbrev pub hinted : Ways → Ways → ℕ → Bool
 hinted before sent n = is_way before n || is_way sent n
 
--- a node is spared: an instance with a number that no hint has, and no boundary at it or below is hidden
+-- an instance is at a node or below, in what is kept and in fallbacks too
+abbrev mutual
+  pub has_instance_within : Node → Bool
+  has_instance_within (node e m ns fs) = is_some (instance_in m) || (has_instance_in ns || has_instance_in fs)
+
+  -- the same for the trees of a list
+  pub has_instance_in : Forest → Bool
+  has_instance_in none = false
+  has_instance_in (vacant ns) = has_instance_in ns
+  has_instance_in (child n ns) = has_instance_within n || has_instance_in ns
+
+-- what is spared hides nothing, and has no instance, or is one with a number that no hint has
+abbrev pub spares : (hint : ℕ → Bool) → (hides has_instance : Bool) → (number : Option ℕ) → Bool
+spares hint hides has_instance number = not hides && (not has_instance || option_map_or (λ n. not (hint n)) number false)
+
+-- a node is spared
 abbrev pub is_spared : (hint : ℕ → Bool) → Node → Bool
-is_spared hint x = option_map_or (λ n. not (hint n || hides_within x)) (number_of (mark_of x)) false
+is_spared hint x = spares hint (hides_within x) (has_instance_within x) (number_of (mark_of x))
 
 -- a cause stands at a node or below, spared nodes apart
 abbrev mutual
@@ -39,3 +57,47 @@ abbrev mutual
   puts_in hint stirred n none = false
   puts_in hint stirred n (vacant ns) = puts_in hint stirred n ns
   puts_in hint stirred n (child x ns) = puts hint stirred n x || puts_in hint stirred n ns
+
+-- the number of the instance of a fiber, if it is one of a component and has one
+abbrev pub number_at : Stage → Option ℕ
+number_at (waiting c) = None
+number_at (begun m) = number_of m
+number_at (trying c) = None
+number_at (fallback a) = None
+
+-- a fiber is a cause by its mark
+abbrev pub is_cause_at : (stirred : ℕ → Bool) → Stage → Bool
+is_cause_at stirred (waiting c) = false
+is_cause_at stirred (begun m) = is_cause stirred m
+is_cause_at stirred (trying c) = false
+is_cause_at stirred (fallback a) = false
+
+-- a fiber is spared, as it keeps what is at or below it
+abbrev pub is_spared_at : (hint : ℕ → Bool) → Fiber → Bool
+is_spared_at hint v = spares hint v.subtree.hides v.subtree.instances (number_at v.stage)
+
+-- a cause stands in a list of fibers or below, spared fibers apart
+abbrev pub finds_among : (hint stirred : ℕ → Bool) → Shape Fiber → Bool
+finds_among hint stirred shapes.none = false
+finds_among hint stirred (fiber id v ks rs) =
+    (not (is_spared_at hint v) && (is_cause_at stirred v.stage || finds_among hint stirred ks)) || finds_among hint stirred rs
+
+-- the same of the first fiber of a list, with what is below it
+abbrev pub finds_first : (hint stirred : ℕ → Bool) → Shape Fiber → Bool
+finds_first hint stirred shapes.none = false
+finds_first hint stirred (fiber id v ks rs) = not (is_spared_at hint v) && (is_cause_at stirred v.stage || finds_among hint stirred ks)
+
+-- the instance of a fiber of a list or below has this number, and a cause stands at it or below, spared fibers apart
+abbrev pub puts_among : (hint stirred : ℕ → Bool) → ℕ → Shape Fiber → Bool
+puts_among hint stirred n shapes.none = false
+puts_among hint stirred n (fiber id v ks rs) =
+    (not (is_spared_at hint v)
+    && ((is_numbered_so n (number_at v.stage) && (is_cause_at stirred v.stage || finds_among hint stirred ks)) || puts_among hint stirred n ks))
+    || puts_among hint stirred n rs
+
+-- the same of the first fiber of a list, with what is below it
+abbrev pub puts_first : (hint stirred : ℕ → Bool) → ℕ → Shape Fiber → Bool
+puts_first hint stirred n shapes.none = false
+puts_first hint stirred n (fiber id v ks rs) =
+    not (is_spared_at hint v)
+    && ((is_numbered_so n (number_at v.stage) && (is_cause_at stirred v.stage || finds_among hint stirred ks)) || puts_among hint stirred n ks)

@@ -1,34 +1,41 @@
-// The instances at or above a cause, found by a walk along hints.
-ghost use Rattle.std.specs.Prelude.{◌≡◌, ◌||◌, ℕ, Option, true, nat_eq, IfOk, OnOk};
+// The instances at or above a cause, found by a walk along hints over the current fibers.
+ghost use Rattle.std.specs.Prelude.{◌≡◌, ◌||◌, ℕ, Option, true, nat_eq, IfOk, IfSome, OnOk, Some};
 ghost use Rattle.std.specs.HashSet.{contains};
-ghost use Rattle.std.specs.Option.{option_copied};
 ghost use Rattle.commit_laws.specs.HiddenWaits.{IfNumbered};
-ghost use Rattle.end_laws.specs.Trimmed.{trimmed_if};
 ghost use Rattle.rx_elem.specs.Trees as trees;
-ghost use Rattle.rx_elem.specs.Trees.{forest};
-ghost use Rattle.rx_meaning.specs.Settled.{HasOwnNumbers, is_numbered_so, number_of};
+ghost use Rattle.rx_lists.specs.Shapes.{Holds};
+ghost use Rattle.rx_links.specs.Readers.{list_from};
+ghost use Rattle.rx_meaning.specs.Settled.{HasOwnNumbers, is_numbered_so};
+ghost use Rattle.rx_fiber.specs.FiberView.{stage_seen};
+ghost use Rattle.rx_fiber.specs.Reading.{IsTreeOf};
+ghost use Rattle.rx_fiber.specs.Subtrees.{IsGathered};
 ghost use Rattle.rx_node.specs.MarkView.{mark_seen};
 ghost use Rattle.rx_ways.specs.Leads.{is_cause, leads};
-ghost use Rattle.rx_ways.specs.Walk.{finds, finds_in, hinted, is_spared, puts, puts_in};
+ghost use Rattle.rx_ways.specs.Walk.{finds_among, finds_first, hinted, is_cause_at, is_spared_at, number_at, puts_among, puts_first};
 ghost use Rattle.rx_ways.specs.Ways.{CoversIf, IsQuiet, is_way};
 
 use crate::ways::Ways;
-use rx_node::{Mark, Node};
+use rx_fiber::{Fiber, Stage};
+use rx_links::{FiberId, FiberTree};
+use rx_node::Mark;
 use std::alloc::{AllocError, Global};
 use std::collections::HashSet;
 
-// The number of an instance.
-fn number_of(mark: &Mark) -> Option<u64>
-    ensures { result ≡ number_of (mark_seen mark.now) }
+// The number of the instance of a fiber.
+fn number_at(stage: &Stage) -> Option<u64>
+    ensures { result ≡ number_at (stage_seen stage.now) }
 {
-    mark.instance_number()
+    match stage {
+        Stage::Begun(mark) => mark.instance_number(),
+        _ => None,
+    }
 }
 
 // Whether a node is a cause by its mark.
 fn is_cause(mark: &Mark, stirred: &HashSet<u64>) -> bool
     ensures { result ≡ is_cause (contains nat_eq stirred.now) (mark_seen mark.now) }
 {
-    if let Some(number) = number_of(mark)
+    if let Some(number) = mark.instance_number()
         && stirred.contains(&number)
     {
         return true;
@@ -36,115 +43,137 @@ fn is_cause(mark: &Mark, stirred: &HashSet<u64>) -> bool
     mark.is_hidden()
 }
 
-// Whether a walk does not go into a node, since no hint tells to and no boundary in it is hidden.
-fn is_spared(node: &Node, before: &Ways, sent: &Ways) -> bool
-    ensures { result ≡ is_spared (hinted before.now sent.now) node.now }
+// Whether a fiber is a cause by its mark; one that is not begun has none.
+fn is_cause_at(stage: &Stage, stirred: &HashSet<u64>) -> bool
+    ensures { result ≡ is_cause_at (contains nat_eq stirred.now) (stage_seen stage.now) }
 {
-    match number_of(node.mark()) {
-        Some(number) => !(before.has(number) || sent.has(number) || node.hides()),
+    match stage {
+        Stage::Begun(mark) => is_cause(mark, stirred),
+        _ => false,
+    }
+}
+
+// Whether a walk does not go into a fiber: no boundary there is hidden, and no instance is there, or no hint tells to.
+fn is_spared(fiber: &Fiber, before: &Ways, sent: &Ways) -> bool
+    ensures { result ≡ is_spared_at (hinted before.now sent.now) fiber.now }
+{
+    let below = fiber.subtree();
+    if below.hides {
+        return false;
+    }
+    if !below.instances {
+        return true;
+    }
+    match number_at(fiber.stage()) {
+        Some(number) => !(before.has(number) || sent.has(number)),
         None => false,
     }
 }
 
 // Puts the number of an instance on the ways.
-fn put(mark: &Mark, ways: &mut HashSet<u64>) -> Result<(), AllocError>
-    ensures { OnOk result ((n : ℕ) → contains nat_eq ways.new n ≡ contains nat_eq ways.old n || is_numbered_so n (number_of (mark_seen mark.now))) }
+fn put(stage: &Stage, ways: &mut HashSet<u64>) -> Result<(), AllocError>
+    ensures { OnOk result ((n : ℕ) → contains nat_eq ways.new n ≡ contains nat_eq ways.old n || is_numbered_so n (number_at (stage_seen stage.now))) }
 {
-    if let Some(number) = number_of(mark) {
+    if let Some(number) = number_at(stage) {
         ways.insert(number)?;
     }
     Ok(())
 }
 
-// Puts the instances of a tree on the ways that have a cause at them or below, and answers whether the tree has one.
+// Puts the instances of a fiber and below on the ways that have a cause at them or below, and answers whether there is one.
 #[cycle(walking)]
-fn walk(
-    node: &Node,
+fn walk_from(
+    tree: &FiberTree<Fiber>,
+    id: FiberId,
     stirred: &HashSet<u64>,
     before: &Ways,
     sent: &Ways,
     ways: &mut HashSet<u64>,
 ) -> Result<bool, AllocError>
-    ensures finds { IfOk result (λ found. found ≡ finds (hinted before.now sent.now) (contains nat_eq stirred.now) node.now) }
-    ensures puts { OnOk result ((n : ℕ) → contains nat_eq ways.new n ≡ contains nat_eq ways.old n || puts (hinted before.now sent.now) (contains nat_eq stirred.now) n node.now) }
+    requires held { Holds tree.now.current id }
+    ensures finds { IfOk result (λ found. found ≡ finds_first (hinted before.now sent.now) (contains nat_eq stirred.now) (list_from tree.now.current (Some id))) }
+    ensures puts { OnOk result ((n : ℕ) → contains nat_eq ways.new n ≡ contains nat_eq ways.old n || puts_first (hinted before.now sent.now) (contains nat_eq stirred.now) n (list_from tree.now.current (Some id))) }
 {
-    if is_spared(node, before, sent) {
+    tree.facts();
+    let fiber = tree.value(id);
+    if is_spared(fiber, before, sent) {
         return Ok(false);
     }
-    let below = walk_all(node.children(), stirred, before, sent, ways)?;
-    let beside = walk_all(node.fallback(), stirred, before, sent, ways)?;
-    let found = is_cause(node.mark(), stirred) || below || beside;
+    let below = walk(tree, tree.first_child(id), stirred, before, sent, ways)?;
+    let found = is_cause_at(fiber.stage(), stirred) || below;
     if found {
-        put(node.mark(), ways)?;
+        put(fiber.stage(), ways)?;
     }
     Ok(found)
 }
 
+// The same for a list of fibers.
 #[cycle(walking)]
-fn walk_all(
-    places: &[Option<Node>],
+fn walk(
+    tree: &FiberTree<Fiber>,
+    first: Option<FiberId>,
     stirred: &HashSet<u64>,
     before: &Ways,
     sent: &Ways,
     ways: &mut HashSet<u64>,
 ) -> Result<bool, AllocError>
-    ensures finds { IfOk result (λ found. found ≡ finds_in (hinted before.now sent.now) (contains nat_eq stirred.now) (forest places.now)) }
-    ensures puts { OnOk result ((n : ℕ) → contains nat_eq ways.new n ≡ contains nat_eq ways.old n || puts_in (hinted before.now sent.now) (contains nat_eq stirred.now) n (forest places.now)) }
+    requires held { IfSome first (Holds tree.now.current) }
+    ensures finds { IfOk result (λ found. found ≡ finds_among (hinted before.now sent.now) (contains nat_eq stirred.now) (list_from tree.now.current first)) }
+    ensures puts { OnOk result ((n : ℕ) → contains nat_eq ways.new n ≡ contains nat_eq ways.old n || puts_among (hinted before.now sent.now) (contains nat_eq stirred.now) n (list_from tree.now.current first)) }
 {
+    tree.facts();
     let mut found = false;
-    for place in places {
-        if let Some(node) = place {
-            found |= walk(node, stirred, before, sent, ways)?;
-        }
+    let mut next = first;
+    'siblings: while let Some(id) = next {
+        found |= walk_from(tree, id, stirred, before, sent, ways)?;
+        next = tree.next_sibling(id);
     }
     Ok(found)
 }
 
-// The instances of a tree that have a cause at them or below, where the walk goes along these hints.
+// The instances of the current fibers that have a cause at them or below, where the walk goes along these hints.
 fn walk_along(
     alloc: Global,
-    root: &Node,
+    tree: &FiberTree<Fiber>,
     stirred: &HashSet<u64>,
     before: &Ways,
     sent: &Ways,
 ) -> Result<HashSet<u64>, AllocError>
-    ensures { IfOk result (λ ways. (n : ℕ) → contains nat_eq ways n ≡ puts (hinted before.now sent.now) (contains nat_eq stirred.now) n root.now) }
+    ensures { IfOk result (λ ways. (n : ℕ) → contains nat_eq ways n ≡ puts_among (hinted before.now sent.now) (contains nat_eq stirred.now) n tree.now.current) }
 {
+    tree.facts();
     let mut ways = HashSet::new(alloc);
-    walk(root, stirred, before, sent, &mut ways)?;
+    walk(tree, tree.current(), stirred, before, sent, &mut ways)?;
     Ok(ways)
 }
 
-/// The instances of a committed tree at or above one that stirs, or a hidden boundary. Those stir that a caller looks for: that
-/// may have queued updates, or that have work for a render. The walk goes into what these hints tell, and into what hides a
-/// boundary; React goes by `childLanes` so. The hints are not trusted: where it has not found each instance that stirs, it is
-/// taken once more over the whole tree. Numbers occur at most once in a tree, so that where it has, it passed none by.
+/// The instances of the committed tree, by its current fibers, at or above one that stirs, or a hidden boundary. Those stir that a
+/// caller looks for: that may have queued updates, or that have work for a render. The walk goes into what these hints tell, and
+/// into what hides a boundary; React goes by `childLanes` so. A fiber that keeps that neither an instance nor a hidden boundary is
+/// at or below it is passed (React: `subtreeFlags`). The hints are not trusted: where it has not found each instance that stirs,
+/// it is taken once more over all instances. Numbers occur at most once in a tree, so that where it has, it passed none by.
 ///
 /// # Errors
 ///
 /// Want of memory alone.
 pub fn find_ways(
     alloc: Global,
-    tree: Option<&Node>,
+    tree: &FiberTree<Fiber>,
     stirred: &HashSet<u64>,
     before: &Ways,
     sent: &Ways,
 ) -> Result<Ways, AllocError>
-    requires numbered { IfNumbered (option_copied tree) }
-    requires apart { (next : ℕ) × HasOwnNumbers next (option_copied tree) }
+    requires gathered { IsGathered tree.now.current }
 
-    // Below each instance on no way all is quiet, also in a tree that has further vacant places at the ends of its lists.
-    ensures covers { IfOk result (λ w. (x : Option trees.Node) → option_copied tree.entry ≡ trimmed_if x
+    // Below each instance on no way all is quiet, in each tree that the fibers stand for, whose instances have numbers of their own.
+    ensures covers { IfOk result (λ w. (x : Option trees.Node) (next : ℕ) → IsTreeOf x tree.now.current → IfNumbered x → HasOwnNumbers next x
         → CoversIf (is_way w) (IsQuiet (contains nat_eq stirred.now)) x) }
-    ensures exact { IfOk result (λ w. (n : ℕ) → is_way w n ≡ true → leads (contains nat_eq stirred.now) n (option_copied tree.entry) ≡ true) }
+    ensures exact { IfOk result (λ w. (x : Option trees.Node) (n : ℕ) → IsTreeOf x tree.now.current → is_way w n ≡ true → leads (contains nat_eq stirred.now) n x ≡ true) }
 {
-    let Some(root) = tree else {
-        return Ok(Ways::new(alloc));
-    };
-    let mut numbers = walk_along(alloc, root, stirred, before, sent)?;
+    let mut numbers = walk_along(alloc, tree, stirred, before, sent)?;
     if !stirred.is_subset(&numbers) {
         let everything = Ways::everything(alloc);
-        numbers = walk_along(alloc, root, stirred, &everything, &everything)?;
+        numbers = walk_along(alloc, tree, stirred, &everything, &everything)?;
     }
     Ok(Ways {
         numbers,

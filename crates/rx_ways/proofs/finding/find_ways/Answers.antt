@@ -1,42 +1,63 @@
-use Rattle.std.proofs.Common.{◌∙◌, ◌||◌, nat_eq, ap, refl, sym}
+use Rattle.std.proofs.Common.{◌≡◌, ◌∙◌, ◌||◌, ℕ, Bool, true, false, Option, Some, None, nat_eq, ap, refl, sym}
 use Rattle.std.specs.HashSet.{contains}
-use Rattle.std.specs.Option.{option_copied}
+use Rattle.rx_elem.specs.Trees.{Node}
+use Rattle.rx_lists.specs.Shapes.{Shape}
+use Rattle.commit_laws.specs.HiddenWaits.{IfNumbered}
+use Rattle.rx_meaning.specs.Settled.{HasOwnNumbers}
+use Rattle.rx_fiber.specs.Fibers.{Fiber}
+use Rattle.rx_fiber.specs.Reading.{IsTreeOf}
+use Rattle.rx_fiber.specs.Subtrees.{IsGathered}
 use Rattle.rx_ways.specs.Leads.{leads}
-use Rattle.rx_ways.specs.Walk.{hinted}
-use Rattle.rx_ways.specs.Ways.{IsQuiet}
+use Rattle.rx_ways.specs.Walk.{hinted, puts_among}
+use Rattle.rx_ways.specs.Ways.{CoversIf, IsQuiet}
 use Rattle.rx_ways.proofs.Covering.{covers-along, covers-whole}
 use Rattle.rx_ways.proofs.Leading.{put-leads}
-use Rattle.rx_ways.proofs.Trimming.{covers-untrimmed}
+use Rattle.rx_ways.proofs.Standing.{none_of_tree, tree_put}
 use Rattle.rx_ways.proofs.finding.find_ways.Goals as goal
 use Rattle.rx_ways.proofs.finding.find_ways.Goals.{then-not-is_subset+in_ok-numbers-2, else-not-is_subset}
+
+-- ways that a walk along hints found cover each tree of the fibers, where each stirred number is on them
+along : (h s way : ℕ → Bool) (c : Shape Fiber) → IsGathered c → ((n : ℕ) → way n ≡ puts_among h s n c) → ((n : ℕ) → s n ≡ true → way n ≡ true)
+    → (x : Option Node) (next : ℕ) → IsTreeOf x c → IfNumbered x → HasOwnNumbers next x → CoversIf way (IsQuiet s) x
+along h s way c g ways all None next is has own = tt
+along h s way c g ways all (Some x) next is has own = covers-along h s way next (Some x) x refl has own (λ n. ways n ∙ tree_put h s n x c is g) all
+
+-- so do those that a walk with all hints found
+throughout : (h s way : ℕ → Bool) (c : Shape Fiber) → IsGathered c → ((n : ℕ) → h n ≡ true) → ((n : ℕ) → way n ≡ puts_among h s n c)
+    → (x : Option Node) (next : ℕ) → IsTreeOf x c → IfNumbered x → HasOwnNumbers next x → CoversIf way (IsQuiet s) x
+throughout h s way c g all ways None next is has own = tt
+throughout h s way c g all ways (Some x) next is has own = covers-whole h s way (Some x) x refl has all (λ n. ways n ∙ tree_put h s n x c is g)
+
+-- and each instance on them leads to a cause
+leading : (h s way : ℕ → Bool) (c : Shape Fiber) → IsGathered c → ((n : ℕ) → way n ≡ puts_among h s n c) → (x : Option Node) (n : ℕ) → IsTreeOf x c → way n ≡ true → leads s n x ≡ true
+leading h s way c g ways None n is on = let f : true ≡ false = sym on ∙ (ways n ∙ none_of_tree h s n c is g) in absurd (cc f)
+leading h s way c g ways (Some x) n is on = put-leads h s n x (sym (tree_put h s n x c is g) ∙ (sym (ways n) ∙ on))
 
 pub returns-clause-covers : goal.returns-clause-covers
 returns-clause-covers c =
     let way = contains nat_eq c.if-not-is_subset.numbers in
     let stirred = contains nat_eq c.args.stirred.now in
-    let tree = option_copied c.args.tree in
-    let root = c.in-Some.root.now in
-    λ x is. covers-untrimmed way (IsQuiet stirred) tree x is
-    (elim c.if-not-is_subset.branch [
+    let current = c.args.tree.now.current in
+    elim c.if-not-is_subset.branch [
       | then-not-is_subset+in_ok-numbers-2 w ↦
           let everything = w.everything-everything.result in
-          covers-whole (hinted everything everything) stirred way tree root (ap option_copied c.in-Some.is) c.requires.numbered
-          (λ n. ap (λ b. b || b) (w.everything-everything.ensures n))
+          throughout (hinted everything everything) stirred way current c.requires.gathered (λ n. ap (λ b. b || b) (w.everything-everything.ensures n))
           (λ n. ap (λ ns. contains nat_eq ns n) w.numbers-is ∙ w.in_ok-numbers-2.ensures n)
       | else-not-is_subset w ↦
-          covers-along (hinted c.args.before.now c.args.sent.now) stirred way c.requires.apart.0 tree root (ap option_copied c.in-Some.is) c.requires.numbered c.requires.apart.1
+          along (hinted c.args.before.now c.args.sent.now) stirred way current c.requires.gathered
           (λ n. ap (λ ns. contains nat_eq ns n) w.numbers-is ∙ c.in_ok-numbers.ensures n)
           (λ n st. ap (λ ns. contains nat_eq ns n) w.numbers-is ∙ w.if-not-is_subset.ensures.0 refl n st)
-    ])
+    ]
 
 pub returns-clause-exact : goal.returns-clause-exact
-returns-clause-exact c n on =
+returns-clause-exact c =
+    let way = contains nat_eq c.if-not-is_subset.numbers in
     let stirred = contains nat_eq c.args.stirred.now in
-    ap (λ tree. leads stirred n (option_copied tree)) c.in-Some.is
-    ∙ (elim c.if-not-is_subset.branch [
+    let current = c.args.tree.now.current in
+    elim c.if-not-is_subset.branch [
       | then-not-is_subset+in_ok-numbers-2 w ↦
           let everything = w.everything-everything.result in
-          put-leads (hinted everything everything) stirred n c.in-Some.root.now (sym (w.in_ok-numbers-2.ensures n) ∙ ap (λ ns. contains nat_eq ns n) (sym w.numbers-is) ∙ on)
+          leading (hinted everything everything) stirred way current c.requires.gathered (λ n. ap (λ ns. contains nat_eq ns n) w.numbers-is ∙ w.in_ok-numbers-2.ensures n)
       | else-not-is_subset w ↦
-          put-leads (hinted c.args.before.now c.args.sent.now) stirred n c.in-Some.root.now (sym (c.in_ok-numbers.ensures n) ∙ ap (λ ns. contains nat_eq ns n) (sym w.numbers-is) ∙ on)
-    ])
+          leading (hinted c.args.before.now c.args.sent.now) stirred way current c.requires.gathered (λ n. ap (λ ns. contains nat_eq ns n) w.numbers-is ∙ c.in_ok-numbers.ensures n)
+    ]
