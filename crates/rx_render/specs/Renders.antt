@@ -124,8 +124,8 @@ pub record IsRendering (v : Rendering) : Type 0 where
   pub gathered : IsGathered v.trees.current
   pub gathering : IsGathering v.trees v.at
 
--- what a render that starts now needs: the current tree is the committed one, which is settled, has the root's element at its root, hidden boundaries that wait again and reads that hold, and is this plain one, whose instances have numbers of their own; the hooks are those of its instances, the cut has all before it, and the resources are what it sees
-pub record IsStartOf (st : State) (lanes : Lanes) (cut : Cut) (resources : List (Option ℤ)) (old : Option Node) (v : Rendering) : Type 0 where
+-- what a render that starts now needs: the current tree is the committed one, which is settled, has the root's element at its root, hidden boundaries that wait again and reads that hold, and its instances have numbers of their own; the hooks are those of its instances, the cut has all before it, and the resources are what it sees
+pub record IsStartOf (st : State) (lanes : Lanes) (cut : Cut) (resources : List (Option ℤ)) (v : Rendering) : Type 0 where
   pub current : IsTreeOf st.tree v.trees.current
   pub keeps : KeepsAllHooks v.program st (kept_hooks v.hooks)
   pub done : DoneBefore cut st.journal.updates
@@ -135,9 +135,8 @@ pub record IsStartOf (st : State) (lanes : Lanes) (cut : Cut) (resources : List 
   pub rooted : IfSome st.tree (λ x. element_of x ≡ root_element v.program)
   pub waits : IfWaitsAgain (sight_of v.program st (starting st lanes)) (default_contexts v.program) st.tree
   pub reads : IfReadsHold (default_contexts v.program) st.tree
-  pub shown : old ≡ trimmed_if st.tree
-  pub numbered : IfNumbered old
-  pub apart : (next : ℕ) × HasOwnNumbers next old
+  pub numbered : IfNumbered st.tree
+  pub apart : (next : ℕ) × HasOwnNumbers next st.tree
 
 -- A cause stands at the instance with this number or below it, where these instances alone stir, in whose hooks a render for these lanes at this cut has work; or a boundary there is hidden.
 pub record LeadsToWork (lanes : Lanes) (cut : Cut) (kept : ℕ → Option (List Hook)) (n : ℕ) (tree : Option Node) : Type 0 where
@@ -146,9 +145,9 @@ pub record LeadsToWork (lanes : Lanes) (cut : Cut) (kept : ℕ → Option (List 
   pub leads_there : leads these n tree ≡ true
 
 -- a render can start
-pub record CanStart (lanes : Lanes) (cut : Cut) (resources : List (Option ℤ)) (old : Option Node) (v : Rendering) : Type 0 where
+pub record CanStart (lanes : Lanes) (cut : Cut) (resources : List (Option ℤ)) (v : Rendering) : Type 0 where
   pub state : State
-  pub is : IsStartOf state lanes cut resources old v
+  pub is : IsStartOf state lanes cut resources v
 
 -- The machine's state is one that follows within a render: the same tree, and a journal with more updates, after its cut, and more resolutions.
 pub record IsLater (g : Progress) (st later : State) : Type 0 where

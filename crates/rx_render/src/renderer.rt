@@ -244,42 +244,30 @@ impl Renderer {
         self.at = At::Over;
     }
 
-    // The ways to all instances that may have queued updates: `old` is the current tree as a plain one, and since the last
-    // render started updates were sent along these ways. A render only takes hints from them.
-    fn find_hints(&self, old: Option<&Node>, sent: &Ways) -> Result<Ways, AllocError>
-        requires numbered { IfNumbered (option_copied old) }
-        requires apart { (next : ℕ) × HasOwnNumbers next (option_copied old) }
-    {
+    // The ways to all instances that may have queued updates: since the last render started updates were sent along these. A
+    // render only takes hints from them.
+    fn find_hints(&self, sent: &Ways) -> Result<Ways, AllocError> {
         match self.hooks.stirred() {
-            Some(stirred) => find_ways(self.alloc, old, stirred, &self.hints, sent),
+            Some(stirred) => find_ways(self.alloc, &self.fibers, stirred, &self.hints, sent),
             None => Ok(Ways::everything(self.alloc)),
         }
     }
 
-    // The ways on which a render for these lanes at this cut finds a cause: `old` is the current tree as a plain one, and
-    // these hints may lead there.
-    fn find_ways(
-        &self,
-        old: Option<&Node>,
-        hints: &Ways,
-        lanes: Lanes,
-        cut: Cut,
-    ) -> Result<Ways, AllocError>
-        requires numbered { IfNumbered (option_copied old) }
-        requires apart { (next : ℕ) × HasOwnNumbers next (option_copied old) }
-        ensures idle { IfOk result (λ w. (s : Sight) (tree : Option trees.Node) → s.lanes ≡ lanes → s.cut ≡ cut → GivesAll s tree (kept_hooks self.now.hooks)
-            → option_copied old.entry ≡ trimmed_if tree → CoversIf (is_way w) (IsIdleMark s) tree) }
-        ensures undue { IfOk result (λ w. (p : Program) (st : State) (g : Progress) → g.lanes ≡ lanes → g.cut ≡ cut → KeepsAllHooks p st (kept_hooks self.now.hooks)
-            → option_copied old.entry ≡ trimmed_if st.tree → CoversIf (is_way w) (IsUndue (sight_of p st g)) st.tree) }
-        ensures lead { IfOk result (λ w. (n : ℕ) → is_way w n ≡ true → LeadsToWork lanes cut (kept_hooks self.now.hooks) n (option_copied old.entry)) }
+    // The ways on which a render for these lanes at this cut finds a cause: these hints may lead there.
+    fn find_ways(&self, hints: &Ways, lanes: Lanes, cut: Cut) -> Result<Ways, AllocError>
+        ensures idle { IfOk result (λ w. (s : Sight) (tree : Option trees.Node) (next : ℕ) → s.lanes ≡ lanes → s.cut ≡ cut → GivesAll s tree (kept_hooks self.now.hooks)
+            → IsTreeOf tree self.now.trees.current → IfNumbered tree → HasOwnNumbers next tree → CoversIf (is_way w) (IsIdleMark s) tree) }
+        ensures undue { IfOk result (λ w. (p : Program) (st : State) (g : Progress) (next : ℕ) → g.lanes ≡ lanes → g.cut ≡ cut → KeepsAllHooks p st (kept_hooks self.now.hooks)
+            → IsTreeOf st.tree self.now.trees.current → IfNumbered st.tree → HasOwnNumbers next st.tree → CoversIf (is_way w) (IsUndue (sight_of p st g)) st.tree) }
+        ensures lead { IfOk result (λ w. (tree : Option trees.Node) (n : ℕ) → IsTreeOf tree self.now.trees.current → is_way w n ≡ true → LeadsToWork lanes cut (kept_hooks self.now.hooks) n tree) }
     {
         let working = self.hooks.working(self.alloc, lanes, cut)?;
-        find_ways(self.alloc, old, &working, hints, hints)
+        find_ways(self.alloc, &self.fibers, &working, hints, hints)
     }
 
     /// Discards what is in progress, and starts a render with these lanes at this cut, which sees these values of the
-    /// resources, by their numbers: the next unit begins the root. `old` is the current tree as a plain one, and since the
-    /// last render started updates were sent along these ways.
+    /// resources, by their numbers: the next unit begins the root. Since the last render started updates were sent along these
+    /// ways.
     ///
     /// # Errors
     ///
@@ -289,11 +277,10 @@ impl Renderer {
         lanes: Lanes,
         cut: Cut,
         resources: Vec<Option<Int>>,
-        old: Option<&Node>,
         sent: &Ways,
     ) -> Result<(), AllocError>
-        requires { CanStart lanes cut resources.items (option_copied old) self.old }
-        ensures started { OnOk result ((st : State) → IsStartOf st lanes cut resources.items (option_copied old.entry) self.old → Renders self.old.program st (starting st lanes) self.new) }
+        requires { CanStart lanes cut resources.items self.old }
+        ensures started { OnOk result ((st : State) → IsStartOf st lanes cut resources.items self.old → Renders self.old.program st (starting st lanes) self.new) }
         ensures units { OnOk result (self.new.units ≡ 0) }
         ensures bodies { OnOk result (self.new.bodies ≡ 0) }
         ensures left { OnOk result (0 < left_of self.new) }
@@ -302,12 +289,12 @@ impl Renderer {
         ensures hooks { self.new.hooks ≡ self.old.hooks }
 
         // An instance stands on a way only where it, or one below it, has work for this render, or a boundary there is hidden.
-        ensures ways { OnOk result ((n : ℕ) → is_way self.new.ways n ≡ true → LeadsToWork lanes cut (kept_hooks self.old.hooks) n (option_copied old.entry)) }
+        ensures ways { OnOk result ((tree : Option trees.Node) (n : ℕ) → IsTreeOf tree self.old.trees.current → is_way self.new.ways n ≡ true → LeadsToWork lanes cut (kept_hooks self.old.hooks) n tree) }
         ensures idle { OnErr result (HasNoRender self.new) }
     {
         self.discard();
-        let hints = self.find_hints(old, sent)?;
-        let ways = self.find_ways(old, &hints, lanes, cut)?;
+        let hints = self.find_hints(sent)?;
+        let ways = self.find_ways(&hints, lanes, cut)?;
         let defaults = default_contexts(self.alloc, &self.checked)?;
         let contexts = ContextStack::new(self.alloc, &defaults)?;
         let root = root_element(self.alloc, &self.checked)?;
