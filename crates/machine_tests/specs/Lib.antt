@@ -1,2 +1,1 @@
 pub mod FirstTree
-pub mod TwoInstances

@@ -1,4 +1,4 @@
-//! Tests of what stands beside the fibers: hooks, instances, ways, and a tree that is read, through the calls that their crates offer.
+//! Tests of what stands beside the fibers: hooks, instances, and a tree that is read, through the calls that their crates offer.
 #![tactic(auto)]
 
 #[cfg(test)]
@@ -9,5 +9,3 @@ mod instances;
 mod reading;
 #[cfg(test)]
 mod settling;
-#[cfg(test)]
-mod ways;

@@ -13,7 +13,7 @@ use Rattle.rx_render.specs.Rendering.{Rendering}
 use Rattle.rx_render.specs.Renders.{CanStart}
 
 pub first_starts : (lanes : Lanes) (cut : Cut) (values : List (Option ℤ)) (v : Rendering) → v.trees.current ≡ none → KeepsAllHooks v.program opening (kept_hooks v.hooks)
-    → resources v.program ≡ [] → cut ≡ record { updates = 0; resolutions = 0 } → values ≡ [] → CanStart lanes cut values None v
+    → resources v.program ≡ [] → cut ≡ record { updates = 0; resolutions = 0 } → values ≡ [] → CanStart lanes cut values v
 first_starts lanes cut values v current keeps no_resources at empty =
     record {
       state = opening;
@@ -27,7 +27,6 @@ first_starts lanes cut values v current keeps no_resources at empty =
         rooted = tt;
         waits = tt;
         reads = tt;
-        shown = refl;
         numbered = tt;
         apart = (0, λ n. (omega arith, λ h. refl));
       };

@@ -48,7 +48,6 @@ fn first_render(alloc: Global, checked: Checked) -> Result<Renderer, AllocError>
         Lanes::one(Lane::Default),
         cut,
         Vec::new(alloc),
-        None,
         &Ways::new(alloc),
     )?;
     renderer.facts();

@@ -14,7 +14,7 @@ use Rattle.rx_lists.specs.Shapes as shapes
 use Rattle.rx_links.specs.Drafts.{Trees, taken, made}
 use Rattle.rx_meaning.specs.Fresh.{Sight, default_contexts, root_element}
 use Rattle.rx_meaning.specs.Cursor.{start}
-use Rattle.rx_meaning.specs.Settled.{DoneBefore}
+use Rattle.rx_meaning.specs.Settled.{DoneBefore, HasOwnNumbers}
 use Rattle.rx_model.specs.State.{Progress, State}
 use Rattle.rx_model.specs.Committing.{sight_of, starting}
 use Rattle.rx_model.specs.HooksOf.{KeepsAllHooks}
@@ -31,7 +31,7 @@ use Rattle.rx_children.proofs.OldNodes.{node_element}
 use Rattle.rx_hook_store.specs.Store.{kept_hooks}
 use Rattle.rx_hook_store.proofs.Stores.{each-keeps, keeps-give}
 use Rattle.commit_laws.specs.Idle.{IsIdleMark}
-use Rattle.end_laws.specs.Trimmed.{trimmed_if}
+use Rattle.commit_laws.specs.HiddenWaits.{IfNumbered}
 use Rattle.rx_ways.specs.Ways.{CoversIf, Ways, is_way}
 use Rattle.render_laws.proofs.GoingLaws.{start_holds}
 use Rattle.room_laws.specs.Reached as steps
@@ -92,15 +92,17 @@ root_flags t id v origin stage stood generation here = record {
 }
 
 -- a rendering whose root waits for its first unit
-pub record StandsAtRoot (lanes : Lanes) (cut : Cut) (resources : List (Option ℤ)) (plain : Option Node) (old new : Rendering) : Type 0 where
+pub record StandsAtRoot (lanes : Lanes) (cut : Cut) (resources : List (Option ℤ)) (old new : Rendering) : Type 0 where
   pub program : new.program ≡ old.program
   pub current : new.trees.current ≡ old.trees.current
   pub hooks : new.hooks ≡ old.hooks
   pub lanes_are : new.lanes ≡ lanes
   pub cut_is : new.cut ≡ cut
   pub resources_are : new.resources ≡ resources
-  pub covers : (s : Sight) (tree : Option Node) → s.lanes ≡ lanes → s.cut ≡ cut → GivesAll s tree (kept_hooks old.hooks) → plain ≡ trimmed_if tree → CoversIf (is_way new.ways) (IsIdleMark s) tree
-  pub undue : (p : Program) (st : State) (g : Progress) → g.lanes ≡ lanes → g.cut ≡ cut → KeepsAllHooks p st (kept_hooks old.hooks) → plain ≡ trimmed_if st.tree → CoversIf (is_way new.ways) (IsUndue (sight_of p st g)) st.tree
+  pub covers : (s : Sight) (tree : Option Node) (next : ℕ) → s.lanes ≡ lanes → s.cut ≡ cut → GivesAll s tree (kept_hooks old.hooks) → IsTreeOf tree old.trees.current → IfNumbered tree → HasOwnNumbers next tree
+      → CoversIf (is_way new.ways) (IsIdleMark s) tree
+  pub undue : (p : Program) (st : State) (g : Progress) (next : ℕ) → g.lanes ≡ lanes → g.cut ≡ cut → KeepsAllHooks p st (kept_hooks old.hooks) → IsTreeOf st.tree old.trees.current → IfNumbered st.tree → HasOwnNumbers next st.tree
+      → CoversIf (is_way new.ways) (IsUndue (sight_of p st g)) st.tree
   pub units : new.units ≡ 0
   pub bodies : new.bodies ≡ 0
   pub id : ℕ
@@ -117,14 +119,14 @@ pub record StandsAtRoot (lanes : Lanes) (cut : Cut) (resources : List (Option �
   pub contexts_are : new.contexts ≡ contexts.opening (default_contexts old.program)
 
 -- hooks give it the values of the instances of the committed tree
-start_gives : (lanes : Lanes) (cut : Cut) (resources : List (Option ℤ)) (plain : Option Node) (old : Rendering) (st : State) → IsStartOf st lanes cut resources plain old
+start_gives : (lanes : Lanes) (cut : Cut) (resources : List (Option ℤ)) (old : Rendering) (st : State) → IsStartOf st lanes cut resources old
     → GivesAll (sight_of old.program st (starting st lanes)) st.tree (kept_hooks old.hooks)
-start_gives lanes cut resources plain old st is k m at =
+start_gives lanes cut resources old st is k m at =
     keeps-give old.program st (starting st lanes) (kept_hooks old.hooks) m.number m.initials (subst (λ c. DoneBefore c st.journal.updates) is.cut_is is.done) (each-keeps old.program st (kept_hooks old.hooks) is.keeps k m at)
 
-pub start_renders : (lanes : Lanes) (cut : Cut) (resources : List (Option ℤ)) (plain : Option Node) (old new : Rendering) → StandsAtRoot lanes cut resources plain old new → DrawsStart → IsBounded old.program
-    → (st : State) → IsStartOf st lanes cut resources plain old → Renders old.program st (starting st lanes) new
-start_renders lanes cut resources plain old new r draws bounded st is =
+pub start_renders : (lanes : Lanes) (cut : Cut) (resources : List (Option ℤ)) (old new : Rendering) → StandsAtRoot lanes cut resources old new → DrawsStart → IsBounded old.program
+    → (st : State) → IsStartOf st lanes cut resources old → Renders old.program st (starting st lanes) new
+start_renders lanes cut resources old new r draws bounded st is =
     let s = sight_of old.program st (starting st lanes) in
     let tree : IsTreeOf st.tree new.trees.current = subst (IsTreeOf st.tree) (sym r.current) is.current in
     record {
@@ -140,7 +142,7 @@ start_renders lanes cut resources plain old new r draws bounded st is =
       rooted = is.rooted;
       waits = is.waits;
       reads = is.reads;
-      covers = r.covers s st.tree refl (sym is.cut_is) (start_gives lanes cut resources plain old st is) is.shown;
+      covers = r.covers s st.tree is.apart.0 refl (sym is.cut_is) (start_gives lanes cut resources old st is) is.current is.numbered is.apart.1;
       come = record {
         cursor = start s st.tree;
         comes = rw (r.at, r.contexts_are) (comes_to_start s st.tree new.trees r.id r.value tree (root_waits old.program new.trees.current st.tree r.value r.origin tree is.rooted r.place r.element r.stage (λ so. sym r.clones ∙ so) r.generation) r.here);
@@ -155,12 +157,12 @@ start_renders lanes cut resources plain old new r draws bounded st is =
         flags = [];
         are = subst (λ a. HasFlags new.trees a []) (sym r.at) (root_flags new.trees r.id r.value r.origin r.stage r.stood r.generation r.here);
         counted = subst (λ b. Costs s st.tree b [] (start s st.tree)) (sym r.bodies) (start_costs s st.tree);
-        undue = r.undue old.program st (starting st lanes) refl (sym is.cut_is) is.keeps is.shown;
+        undue = r.undue old.program st (starting st lanes) is.apart.0 refl (sym is.cut_is) is.keeps is.current is.numbered is.apart.1;
       };
     }
 
 -- what a start leaves, by what it makes
-module _ (lanes : Lanes) (cut : Cut) (resources : List (Option ℤ)) (plain : Option Node) (old inside : Rendering) (t : Trees Fiber) (id : ℕ) (st : Stack) (ways : Ways) where
+module _ (lanes : Lanes) (cut : Cut) (resources : List (Option ℤ)) (old inside : Rendering) (t : Trees Fiber) (id : ℕ) (st : Stack) (ways : Ways) where
   abbrev pub started : Rendering
   started = record inside { trees = t; contexts = st; resources = resources; lanes = lanes; cut = cut; ways = ways; at = Begins id; units = 0; bodies = 0 }
 
@@ -168,9 +170,11 @@ module _ (lanes : Lanes) (cut : Cut) (resources : List (Option ℤ)) (plain : Op
       → t ≡ record inside.trees { draft = made id v (first inside.trees.current) (taken shapes.none) (taken shapes.none) }
       → (origin : Origin) → origin.cloned ≡ is_some (first inside.trees.current) → origin.stood ≡ true → origin.generation ≡ 0 → v ≡ record { place = 0; element = root; stage = waiting origin; subtree = nothing } → root ≡ root_element inside.program
       → st ≡ contexts.opening given → given ≡ defaults → defaults ≡ default_contexts inside.program
-      → ((s : Sight) (tree : Option Node) → s.lanes ≡ lanes → s.cut ≡ cut → GivesAll s tree (kept_hooks inside.hooks) → plain ≡ trimmed_if tree → CoversIf (is_way ways) (IsIdleMark s) tree)
-      → ((p : Program) (st : State) (g : Progress) → g.lanes ≡ lanes → g.cut ≡ cut → KeepsAllHooks p st (kept_hooks inside.hooks) → plain ≡ trimmed_if st.tree → CoversIf (is_way ways) (IsUndue (sight_of p st g)) st.tree)
-      → StandsAtRoot lanes cut resources plain old started
+      → ((s : Sight) (tree : Option Node) (next : ℕ) → s.lanes ≡ lanes → s.cut ≡ cut → GivesAll s tree (kept_hooks inside.hooks) → IsTreeOf tree inside.trees.current → IfNumbered tree → HasOwnNumbers next tree
+      → CoversIf (is_way ways) (IsIdleMark s) tree)
+      → ((p : Program) (st : State) (g : Progress) (next : ℕ) → g.lanes ≡ lanes → g.cut ≡ cut → KeepsAllHooks p st (kept_hooks inside.hooks) → IsTreeOf st.tree inside.trees.current → IfNumbered st.tree → HasOwnNumbers next st.tree
+      → CoversIf (is_way ways) (IsUndue (sight_of p st g)) st.tree)
+      → StandsAtRoot lanes cut resources old started
   root_stands was v root given defaults grown origin cloned_is stood_is generation_is value element stack same all covers undue =
       let program : inside.program ≡ old.program = ap (λ r. r.program) was in
       let kept : t.current ≡ inside.trees.current = ap (λ u. u.current) grown in
@@ -181,8 +185,8 @@ module _ (lanes : Lanes) (cut : Cut) (resources : List (Option ℤ)) (plain : Op
         lanes_are = refl;
         cut_is = refl;
         resources_are = refl;
-        covers = λ s tree with at gives. covers s tree with at (subst (λ (r : Rendering). GivesAll s tree (kept_hooks r.hooks)) (sym was) gives);
-        undue = λ p st g with at keeps. undue p st g with at (subst (λ (r : Rendering). KeepsAllHooks p st (kept_hooks r.hooks)) (sym was) keeps);
+        covers = λ s tree next with at gives is. covers s tree next with at (subst (λ (r : Rendering). GivesAll s tree (kept_hooks r.hooks)) (sym was) gives) (subst (λ (r : Rendering). IsTreeOf tree r.trees.current) (sym was) is);
+        undue = λ p st g next with at keeps is. undue p st g next with at (subst (λ (r : Rendering). KeepsAllHooks p st (kept_hooks r.hooks)) (sym was) keeps) (subst (λ (r : Rendering). IsTreeOf st.tree r.trees.current) (sym was) is);
         units = refl;
         bodies = refl;
         id = id;
@@ -200,16 +204,16 @@ module _ (lanes : Lanes) (cut : Cut) (resources : List (Option ℤ)) (plain : Op
       }
 
 -- a rendering that has started is one
-pub start_rendering : (lanes : Lanes) (cut : Cut) (resources : List (Option ℤ)) (plain : Option Node) (old new : Rendering) (id : ℕ) → StandsAtRoot lanes cut resources plain old new → DrawsStart
-    → unknowns new.program ≡ [] → IsBounded new.program → IsGathered new.trees.current → CanStart lanes cut resources plain old → IsRendering new
-start_rendering lanes cut resources plain old new id r draws known bounded current can =
+pub start_rendering : (lanes : Lanes) (cut : Cut) (resources : List (Option ℤ)) (old new : Rendering) (id : ℕ) → StandsAtRoot lanes cut resources old new → DrawsStart
+    → unknowns new.program ≡ [] → IsBounded new.program → IsGathered new.trees.current → CanStart lanes cut resources old → IsRendering new
+start_rendering lanes cut resources old new id r draws known bounded current can =
     record {
       known = known;
       bounded = bounded;
       under_way = subst (λ a. IfLeft a (IsUnderWay new)) (sym r.at)
           (renders_under_way can.state (starting can.state lanes) new
           (subst (λ p. Renders p can.state (starting can.state lanes) new) (sym r.program)
-          (start_renders lanes cut resources plain old new r draws (subst IsBounded r.program bounded) can.state can.is)));
+          (start_renders lanes cut resources old new r draws (subst IsBounded r.program bounded) can.state can.is)));
       gathered = current;
       gathering = subst (IsGathering new.trees) (sym r.at)
           (record { around = top; value = r.value; old = first new.trees.current; rest = taken shapes.none; here = r.here; gathered = tt; follow = refl });

@@ -31,7 +31,6 @@ use Rattle.room_laws.specs.Reached.{IsReached}
 use Rattle.commit_laws.specs.HiddenWaits.{IfNumbered}
 use Rattle.commit_laws.specs.Idle.{IsIdleMark}
 use Rattle.commit_laws.specs.WaitsAgain.{IfWaitsAgain}
-use Rattle.end_laws.specs.Trimmed.{trimmed_if}
 use Rattle.cost_laws.specs.Left.{Costs, Flags}
 use Rattle.cost_laws.specs.Undue.{IsUndue}
 use Rattle.begin_laws.specs.Mounting.{HasInstances}

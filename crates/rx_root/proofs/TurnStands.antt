@@ -39,7 +39,7 @@ use Rattle.rx_check.specs.Accepted.{IsAccepted}
 use Rattle.rx_check.proofs.Limited.{few-resources}
 use Rattle.run_laws.proofs.WaitingAgain.{starting_waits_again}
 use Rattle.commit_laws.specs.HiddenWaits.{IfNumbered}
-use Rattle.rx_root.proofs.Findable.{shown_numbered}
+use Rattle.rx_root.proofs.Findable.{state_numbered}
 use Rattle.rx_render.specs.Renders.{Renders, IsStartOf}
 use Rattle.rx_root.specs.Rooted.{Rooted}
 use Rattle.rx_root.specs.Stands.{HasProgress, StandsBy, StandsWith, Stands}
@@ -101,13 +101,13 @@ rooted_so p (Some n) h = h
 
 -- what a render that starts now needs, once pending passive effects have run
 pub can_start : (p : Program) → IsAccepted p → IsBounded p → (s : State) (v : Rooted) (lanes : Lanes) → Stands p s v → IsReached p (passive_run s).after
-    → IsStartOf (passive_run s).after lanes (record { updates = v.updates; resolutions = v.resolutions }) v.values v.shown.tree v.rendering
+    → IsStartOf (passive_run s).after lanes (record { updates = v.updates; resolutions = v.resolutions }) v.values v.rendering
 can_start p accepted bounded s v lanes h reached =
     let after : State = (passive_run s).after in
     let carried = reached_carries p bounded.shallow bounded.declared after reached in
     let sound = resolution_keeps p s.journal.updates carried.0 (values_now p s.journal) after.numbers.instance s.tree carried.2.seen carried.2.sound in
     let cut : record { updates = v.updates; resolutions = v.resolutions } ≡ cut_now s.journal = rw (h.updates, h.resolutions) refl in
-    let numbered = shown_numbered p bounded after reached in
+    let numbered = state_numbered p bounded after reached in
     record {
       current = h.current;
       keeps = rw h.program (all_stay s (passive_run s).after refl refl p (kept_hooks v.rendering.hooks) (kept_hooks v.rendering.hooks) refl (λ n. refl) h.keeps);
@@ -118,9 +118,8 @@ can_start p accepted bounded s v lanes h reached =
       rooted = rw h.program (rooted_so p s.tree carried.2.rooted);
       waits = rw h.program (starting_waits_again p bounded.shallow (few-resources p accepted) after carried lanes);
       reads = rw h.program sound.reads;
-      shown = h.shows.tree_is;
-      numbered = subst IfNumbered (sym h.shows.tree_is) numbered.0;
-      apart = (after.numbers.instance, subst (HasOwnNumbers after.numbers.instance) (sym h.shows.tree_is) numbered.1);
+      numbered = numbered.0;
+      apart = (after.numbers.instance, numbered.1);
     }
 
 left_some : (at : At) (bound units : ℕ) → 0 < units_left at bound units → IfLeft at ⊥ → ⊥

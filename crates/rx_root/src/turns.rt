@@ -157,8 +157,7 @@ impl Root {
             updates: self.updates,
             resolutions: self.resolutions,
         };
-        self.renderer
-            .start(lanes, cut, values, self.shown.tree(), &self.sent)?;
+        self.renderer.start(lanes, cut, values, &self.sent)?;
         self.later = Lanes::none();
         self.sent = Ways::new(self.alloc);
         Ok(())

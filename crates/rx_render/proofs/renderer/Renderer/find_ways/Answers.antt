@@ -4,6 +4,7 @@ use Rattle.std.specs.HashSet.{contains}
 use Rattle.rx_model.specs.HooksOf.{KeepsAllHooks}
 use Rattle.rx_hook_store.specs.Store.{kept_hooks}
 use Rattle.rx_hook_store.specs.Working.{AreOnlyWorking}
+use Rattle.rx_fiber.specs.Reading.{IsTreeOf}
 use Rattle.rx_ways.specs.Ways.{is_way}
 use Rattle.rx_render.specs.Rendering.{Rendering}
 use Rattle.rx_render.specs.Renders.{GivesAll}
@@ -17,9 +18,9 @@ returns-clause-idle c =
     let working = contains nat_eq c.in_ok-working.working in
     let calm = others_rest working kept c.args.lanes c.args.cut c.in_ok-working.ensures.all in
     if_ok c.find_ways.result
-    (λ w covers s tree lanes_are cut_is gives plain.
+    (λ w covers s tree next lanes_are cut_is gives is numbered own.
     start_covered (is_way w) working kept s tree (rw (lanes_are, cut_is) calm)
-    (subst (λ (v : Rendering). GivesAll s tree (kept_hooks v.hooks)) (sym c.self.view_is) gives) (covers tree plain)) c.find_ways.ensures.covers
+    (subst (λ (v : Rendering). GivesAll s tree (kept_hooks v.hooks)) (sym c.self.view_is) gives) (covers tree next (subst (λ (v : Rendering). IsTreeOf tree v.trees.current) (sym c.self.view_is) is) numbered own)) c.find_ways.ensures.covers
 
 pub returns-clause-undue : goal.returns-clause-undue
 returns-clause-undue c =
@@ -27,16 +28,16 @@ returns-clause-undue c =
     let working = contains nat_eq c.in_ok-working.working in
     let calm = others_rest working kept c.args.lanes c.args.cut c.in_ok-working.ensures.all in
     if_ok c.find_ways.result
-    (λ w covers p st g lanes_are cut_is keeps plain.
+    (λ w covers p st g next lanes_are cut_is keeps is numbered own.
     start_undue (is_way w) working p st g kept
-    (subst (λ (v : Rendering). KeepsAllHooks p st (kept_hooks v.hooks)) (sym c.self.view_is) keeps) (rw (lanes_are, cut_is) calm) (covers st.tree plain)) c.find_ways.ensures.covers
+    (subst (λ (v : Rendering). KeepsAllHooks p st (kept_hooks v.hooks)) (sym c.self.view_is) keeps) (rw (lanes_are, cut_is) calm) (covers st.tree next (subst (λ (v : Rendering). IsTreeOf st.tree v.trees.current) (sym c.self.view_is) is) numbered own)) c.find_ways.ensures.covers
 
 pub returns-clause-lead : goal.returns-clause-lead
 returns-clause-lead c =
     let working = contains nat_eq c.in_ok-working.working in
     if_ok c.find_ways.result
-    (λ w exact n on. record {
+    (λ w exact tree n is on. record {
       these = working;
       work = subst (λ (v : Rendering). AreOnlyWorking c.args.lanes c.args.cut (kept_hooks v.hooks) working) c.self.view_is c.in_ok-working.ensures.only;
-      leads_there = exact n on;
+      leads_there = exact tree n (subst (λ (v : Rendering). IsTreeOf tree v.trees.current) (sym c.self.view_is) is) on;
     }) c.find_ways.ensures.exact

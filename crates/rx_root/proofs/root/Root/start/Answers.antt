@@ -1,7 +1,6 @@
 use Rattle.std.proofs.Common.{◌≡◌, List, Option, refl, sym, ap, ◌∙◌, subst}
 use Rattle.rx_base.specs.declared.cut.Cut.{Cut}
 use Rattle.rx_lane.specs.Lanes.{Lanes}
-use Rattle.rx_elem.specs.Trees.{Node}
 use Rattle.rx_model.specs.State.{State}
 use Rattle.rx_render.specs.Rendering.{Rendering}
 use Rattle.std.specs.Prelude.{ℤ}
@@ -18,11 +17,9 @@ use Rattle.rx_commit.specs.Shown.{Shown}
 use Rattle.rx_root.proofs.Broken.{any_err, none_broken, passive_broken}
 use Rattle.rx_root.proofs.root.Root.start.Goals as goal
 
--- a render can start with these values over this tree, by those that the root has
-with_tree : (after : State) (lanes : Lanes) (cut : Cut) (v : Rendering) {values known : List (Option ℤ)} {tree shown : Option Node} → values ≡ known → tree ≡ shown
-    → IsStartOf after lanes cut known shown v → IsStartOf after lanes cut values tree v
-with_tree after lanes cut v {known = known} {tree = tree} same plain is =
-    subst (λ (values : List (Option ℤ)). IsStartOf after lanes cut values tree v) (sym same) (subst (λ (t : Option Node). IsStartOf after lanes cut known t v) (sym plain) is)
+-- a render can start with these values, by those that the root has
+with_values : (after : State) (lanes : Lanes) (cut : Cut) (v : Rendering) {values known : List (Option ℤ)} → values ≡ known → IsStartOf after lanes cut known v → IsStartOf after lanes cut values v
+with_values after lanes cut v same is = subst (λ (values : List (Option ℤ)). IsStartOf after lanes cut values v) (sym same) is
 
 pub start-requires : goal.start-requires
 start-requires c =
@@ -32,8 +29,8 @@ start-requires c =
     let is = can_start p (subst IsAccepted c.requires.stands.program c.facts.ensures.accepted) (subst IsBounded c.requires.stands.program c.facts.ensures.bounded) s (the_view c.self.inside) c.args.lanes h (reached_passive p s c.requires.stands.reached c.requires.between) in
     record {
       state = (passive_run s).after;
-      is = with_tree (passive_run s).after c.args.lanes (record { updates = c.self.inside.updates; resolutions = c.self.inside.resolutions }) c.self.inside.renderer
-          (c.in_ok-values.ensures ∙ c.deref.ensures.value) (c.tree.ensures ∙ ap (λ (x : Shown). x.tree) c.in_ok-flush_passive.ensures.ended) is;
+      is = with_values (passive_run s).after c.args.lanes (record { updates = c.self.inside.updates; resolutions = c.self.inside.resolutions }) c.self.inside.renderer
+          (c.in_ok-values.ensures ∙ c.deref.ensures.value) is;
     }
 
 pub returns-clause-starts : goal.returns-clause-starts
@@ -42,8 +39,8 @@ returns-clause-starts c p s i none set =
     let h = subst (λ (x : Rooted). Stands p s x) (sym c.self.view_is) i in
     let reached = reached_passive p s h.reached none in
     let is =
-    with_tree (passive_run s).after c.args.lanes (record { updates = c.self.inside.updates; resolutions = c.self.inside.resolutions }) c.self.inside.renderer
-    (c.in_ok-values.ensures ∙ c.deref.ensures.value) (c.tree.ensures ∙ ap (λ (x : Shown). x.tree) c.in_ok-flush_passive.ensures.ended) (can_start p (subst IsAccepted i.program c.facts.ensures.accepted) (subst IsBounded i.program c.facts.ensures.bounded) s v c.args.lanes h reached) in
+    with_values (passive_run s).after c.args.lanes (record { updates = c.self.inside.updates; resolutions = c.self.inside.resolutions }) c.self.inside.renderer
+    (c.in_ok-values.ensures ∙ c.deref.ensures.value) (can_start p (subst IsAccepted i.program c.facts.ensures.accepted) (subst IsBounded i.program c.facts.ensures.bounded) s v c.args.lanes h reached) in
     let on = c.in_ok-start.ensures in
     started_as p s v c.args.lanes c.start.new.self c.flush_passive.new.self c.none-self-inside.result h reached set on.program on.current on.hooks (on.started (passive_run s).after is) on.units on.bodies
     on.left c.in_ok-flush_passive.ensures.ended c.none-self-inside.ensures
