@@ -60,9 +60,9 @@ pub fn top<S: Source, K: Sink, L: Ledger>(
     // 0: the task's work is done. For `run` and `check` all was read, it is accepted, and what was written is its output:
     // for `check` the one line of its bounds; for `run` the report of a run of the fresh machine, of the program in it, on
     // the steps of the script in it. For `gen` it is the line that sums up such a run of the generated program and script.
-    // The steps rose by the bodies that this run evaluates, and in `check` by none. Each render of the run evaluates as many
-    // bodies at most as places have a cause or lie below one that has; and as many at least, once it is finished, as places
-    // have a cause of their own, what untouched hidden boundaries keep left out.
+    // The steps rose by the bodies that this run evaluates, and in `check` by none. Each finished render of the run evaluates
+    // exactly the bodies of a set of places: each place with a cause is in it, and each in it has one, or lies below one that has,
+    // or below a boundary that is tried again, with an element that was made anew. One that is broken off evaluates no more.
     ensures done { result ≡ Status.Done → (task : Task) × (task_of (texts words.now) ≡ Some task)
         × Does task (S.left src.old) (S.left src.new) (K.written out.old) (K.written out.new) steps.old steps.new }
 
