@@ -1,0 +1,3 @@
+pub mod StepTexts
+pub mod Sections
+pub mod Pages
