@@ -41,12 +41,16 @@ pub record Shows (p : Program) (steps : List Step) (old new : Text) : Type 0 whe
   pub are : AreSections p shown_options opening steps text after
   pub is : new ≡ old ++ (section 0 start_title (state_panes p shown_options opening going) ++ text)
 
--- A page of an input that is accepted with these steps: the input, a link for each step, and the sections, between texts that hang on nothing.
-pub record IsPage (input : Text) (p : Program) (steps : List Step) (page : Text) : Type 0 where
+-- a page has these parts, between texts that hang on nothing
+pub record HasParts (input links sections page : Text) : Type 0 where
   pub front : Text
   pub before_steps : Text
   pub before_sections : Text
   pub back : Text
+  pub is : page ≡ front ++ input ++ before_steps ++ links ++ before_sections ++ sections ++ back
+
+-- A page of an input that is accepted with these steps: the input, a link for each step, and the sections of a run.
+pub record IsPage (input : Text) (p : Program) (steps : List Step) (page : Text) : Type 0 where
   pub sections : Text
   pub shows : Shows p steps [] sections
-  pub is : page ≡ front ++ details input ++ before_steps ++ link 0 start_title ++ links_from 1 steps ++ before_sections ++ sections ++ back
+  pub parts : HasParts (details input) (link 0 start_title ++ links_from 1 steps) sections page

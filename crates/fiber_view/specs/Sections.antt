@@ -38,14 +38,20 @@ state_panes p o s going =
     ++ pane (codes "Pending lanes, and hidden boundaries") (report_bytes o (end_line s ∷ []))
     ++ pane (codes "Render") (progress_text going)
 
+-- the heading of a section
+abbrev pub heading : (number : ℕ) → (title : Text) → Text
+heading number title =
+    element tag.Heading (attribute name.Id (codes "title-" ++ decimal number))
+        (escaped (codes "Step " ++ decimal number ++ codes ": ") ++ element tag.Code [] (escaped title))
+
+-- the attributes of a section: where links lead, and which heading it has
+abbrev pub section_attributes : (number : ℕ) → Text
+section_attributes number =
+    attribute name.Id (codes "step-" ++ decimal number) ++ attribute name.LabelledBy (codes "title-" ++ decimal number) ++ attribute name.TabIndex (codes "-1")
+
 -- a section with its number, its title and its panes
 abbrev pub section : (number : ℕ) → (title panes : Text) → Text
-section number title panes =
-    element tag.Section
-        (attribute name.Id (codes "step-" ++ decimal number) ++ attribute name.LabelledBy (codes "title-" ++ decimal number) ++ attribute name.TabIndex (codes "-1"))
-        (element tag.Heading (attribute name.Id (codes "title-" ++ decimal number))
-            (escaped (codes "Step " ++ decimal number ++ codes ": ") ++ element tag.Code [] (escaped title))
-        ++ panes)
+section number title panes = element tag.Section (section_attributes number) (heading number title ++ panes)
 
 -- the section of a step: the lines that it writes, and the state after it
 abbrev pub step_section : Program → Options → (number : ℕ) → Step → Stretch → (going : Bool) → Text

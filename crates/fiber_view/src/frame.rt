@@ -1,7 +1,6 @@
 // What is the same on all pages.
 
-/// What stands before the input: the style, and how a page is read.
-pub(crate) const FRONT: &[u8] = b"<!DOCTYPE html>
+const FRONT: &[u8] = b"<!DOCTYPE html>
 <html lang='en'>
 <head>
 <meta charset='utf-8'>
@@ -41,23 +40,20 @@ section { break-inside: avoid; }
 <p class='keys'>A step is chosen in the list, or by the left and right arrow keys.</p>
 ";
 
-/// What stands between the input and the list of steps.
-pub(crate) const BEFORE_STEPS: &[u8] = b"
+const BEFORE_STEPS: &[u8] = b"
 <div class='columns'>
 <nav aria-labelledby='script'>
 <h2 id='script'>Script</h2>
 <ol start='0'>
 ";
 
-/// What stands between the list of steps and the sections.
-pub(crate) const BEFORE_SECTIONS: &[u8] = b"
+const BEFORE_SECTIONS: &[u8] = b"
 </ol>
 </nav>
 <main>
 ";
 
-/// What stands behind the sections: the script of the page, which shows one section at a time.
-pub(crate) const BACK: &[u8] = b"
+const BACK: &[u8] = b"
 </main>
 </div>
 <script>
@@ -90,3 +86,23 @@ pub(crate) const BACK: &[u8] = b"
 </body>
 </html>
 ";
+
+/// What stands before the input: the style, and how a page is read.
+pub(crate) fn front() -> &'static [u8] {
+    FRONT
+}
+
+/// What stands between the input and the list of steps.
+pub(crate) fn before_steps() -> &'static [u8] {
+    BEFORE_STEPS
+}
+
+/// What stands between the list of steps and the sections.
+pub(crate) fn before_sections() -> &'static [u8] {
+    BEFORE_SECTIONS
+}
+
+/// What stands behind the sections: the script of the page, which shows one section at a time.
+pub(crate) fn back() -> &'static [u8] {
+    BACK
+}

@@ -3,9 +3,9 @@ ghost use Rattle.std.specs.Prelude.{◌≡◌, ◌+◌, ◌<◌, ◌^◌, ◌++�
 ghost use Rattle.rx_model.specs.State.{opening};
 ghost use Rattle.rx_root.specs.Stands.{Stands};
 ghost use Rattle.rx_root.specs.Taking.{AllCanTake};
-ghost use Rattle.fiber_view.specs.Pages.{IsPage, Shows, details, link, links_from, whole};
+ghost use Rattle.fiber_view.specs.Pages.{HasParts, IsPage, Shows, details, link, links_from};
 
-use crate::frame::{BACK, BEFORE_SECTIONS, BEFORE_STEPS, FRONT};
+use crate::frame::{back, before_sections, before_steps, front};
 use crate::panes::{is_rendering, put_state, put_words};
 use crate::sections::{put_numbered, put_section, put_steps};
 use crate::text::step_text;
@@ -97,14 +97,15 @@ fn joined(
     links: &Html,
     sections: &Html,
 ) -> Result<Vec<u8>, AllocError>
+    ensures { IfOk result (λ page. HasParts input.now links.now sections.now page.items) }
 {
-    let mut page = Vec::from_slice(alloc, FRONT)?;
+    let mut page = Vec::from_slice(alloc, front())?;
     page.extend_from_slice(input.bytes())?;
-    page.extend_from_slice(BEFORE_STEPS)?;
+    page.extend_from_slice(before_steps())?;
     page.extend_from_slice(links.bytes())?;
-    page.extend_from_slice(BEFORE_SECTIONS)?;
+    page.extend_from_slice(before_sections())?;
     page.extend_from_slice(sections.bytes())?;
-    page.extend_from_slice(BACK)?;
+    page.extend_from_slice(back())?;
     Ok(page)
 }
 

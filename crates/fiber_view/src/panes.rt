@@ -50,7 +50,8 @@ fn put_tree(
     root: &Root,
     log: &mut Report,
 ) -> Result<(), AllocError>
-    ensures ok { OnOk result ((s : State) → Stands root.now.rendering.program s root.now
+    requires { StandsForSome root.now }
+    ensures ok { OnOk result ((s : State) → Stands root.entry.now.rendering.program s root.entry.now
         → html.new ≡ html.old ++ pane (codes "Tree of hosts") (report_bytes log.old.options (tree_lines (hosts s.tree)))) }
     ensures options { OnOk result (log.new.options ≡ log.old.options) }
 {
@@ -67,8 +68,8 @@ fn put_hooks(
     log: &mut Report,
 ) -> Result<(), AllocError>
     requires { StandsForSome root.now }
-    ensures ok { OnOk result ((s : State) → Stands root.now.rendering.program s root.now
-        → html.new ≡ html.old ++ pane (codes "Hooks") (report_bytes log.old.options (state_lines root.now.rendering.program s))) }
+    ensures ok { OnOk result ((s : State) → Stands root.entry.now.rendering.program s root.entry.now
+        → html.new ≡ html.old ++ pane (codes "Hooks") (report_bytes log.old.options (state_lines root.entry.now.rendering.program s))) }
     ensures options { OnOk result (log.new.options ≡ log.old.options) }
 {
     log.cut(0);
@@ -83,7 +84,8 @@ fn put_pending(
     root: &Root,
     log: &mut Report,
 ) -> Result<(), AllocError>
-    ensures ok { OnOk result ((s : State) → Stands root.now.rendering.program s root.now
+    requires { StandsForSome root.now }
+    ensures ok { OnOk result ((s : State) → Stands root.entry.now.rendering.program s root.entry.now
         → html.new ≡ html.old ++ pane (codes "Pending lanes, and hidden boundaries") (report_bytes log.old.options (end_line s ∷ []))) }
     ensures options { OnOk result (log.new.options ≡ log.old.options) }
 {
@@ -99,7 +101,7 @@ fn put_pending(
 
 /// Whether a render is in progress.
 pub(crate) fn is_rendering(root: &Root) -> bool
-    ensures { (s : State) → Stands root.now.rendering.program s root.now → TellsRest s result }
+    ensures { (s : State) → Stands root.entry.now.rendering.program s root.entry.now → TellsRest s result }
 {
     root.fibers().in_progress().is_some()
 }
@@ -125,8 +127,8 @@ pub(crate) fn put_state(
     log: &mut Report,
 ) -> Result<(), AllocError>
     requires { StandsForSome root.now }
-    ensures ok { OnOk result ((s : State) → Stands root.now.rendering.program s root.now
-        → html.new ≡ html.old ++ state_panes root.now.rendering.program log.old.options s going) }
+    ensures ok { OnOk result ((s : State) → Stands root.entry.now.rendering.program s root.entry.now
+        → html.new ≡ html.old ++ state_panes root.entry.now.rendering.program log.old.options s going) }
     ensures options { OnOk result (log.new.options ≡ log.old.options) }
 {
     put_tree(html, alloc, root, log)?;

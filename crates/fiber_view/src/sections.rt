@@ -6,7 +6,7 @@ ghost use Rattle.rx_root.specs.Stands.{HasRoomFor, Stands, StandsForSome};
 ghost use Rattle.rx_root.specs.Taking.{AllCanTake, CanTake};
 ghost use Rattle.rx_page.specs.declared.tag.AttributeName.{AttributeName};
 ghost use Rattle.rx_page.specs.Elements.{attribute};
-ghost use Rattle.fiber_view.specs.Sections.{AreSections, ShowsStep, section};
+ghost use Rattle.fiber_view.specs.Sections.{AreSections, ShowsStep, heading, section, section_attributes as section_attributes_of};
 
 use crate::panes::{is_rendering, put_pane, put_state, put_words};
 use crate::text::{push_number, step_text};
@@ -39,7 +39,9 @@ fn put_heading(
     alloc: Global,
     number: u64,
     title: &[u8],
-) -> Result<(), AllocError> {
+) -> Result<(), AllocError>
+    ensures { OnOk result (html.new ≡ html.old ++ heading number title.now) }
+{
     let mut words = Vec::from_slice(alloc, b"Step ")?;
     push_number(&mut words, number)?;
     words.extend_from_slice(b": ")?;
@@ -49,6 +51,23 @@ fn put_heading(
     let mut attributes = Attributes::new(alloc);
     put_numbered(&mut attributes, alloc, AttributeName::Id, b"title-", number)?;
     html.put_element(Tag::Heading, &attributes, &content)
+}
+
+// The attributes of a section: where links lead, and which heading it has.
+fn section_attributes(alloc: Global, number: u64) -> Result<Attributes, AllocError>
+    ensures { IfOk result (λ attributes. attributes ≡ section_attributes_of number) }
+{
+    let mut attributes = Attributes::new(alloc);
+    put_numbered(&mut attributes, alloc, AttributeName::Id, b"step-", number)?;
+    put_numbered(
+        &mut attributes,
+        alloc,
+        AttributeName::LabelledBy,
+        b"title-",
+        number,
+    )?;
+    attributes.put(AttributeName::TabIndex, b"-1")?;
+    Ok(attributes)
 }
 
 /// A section with its number, its title and its panes.
@@ -64,16 +83,7 @@ pub(crate) fn put_section(
     let mut content = Html::new(alloc);
     put_heading(&mut content, alloc, number, title)?;
     content.put(panes)?;
-    let mut attributes = Attributes::new(alloc);
-    put_numbered(&mut attributes, alloc, AttributeName::Id, b"step-", number)?;
-    put_numbered(
-        &mut attributes,
-        alloc,
-        AttributeName::LabelledBy,
-        b"title-",
-        number,
-    )?;
-    attributes.put(AttributeName::TabIndex, b"-1")?;
+    let attributes = section_attributes(alloc, number)?;
     html.put_element(Tag::Section, &attributes, &content)
 }
 

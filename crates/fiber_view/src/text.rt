@@ -1,8 +1,8 @@
 // The text of a step, as a line of a script.
-ghost use Rattle.std.specs.Prelude.{◌≡◌, ◌++◌, codes, decimal, IfOk, OnOk};
+ghost use Rattle.std.specs.Prelude.{◌≡◌, ◌++◌, codes, decimal, flat_map, IfOk, OnOk};
 ghost use Rattle.std.specs.Fmt.{signed_decimal};
 ghost use Rattle.rx_lines.specs.Lines.{part_text};
-ghost use Rattle.fiber_view.specs.StepTexts.{dispatch_text, lane_text, path_text, step_text as step_text_of};
+ghost use Rattle.fiber_view.specs.StepTexts.{dispatch_text, lane_text, later_part, path_text, step_text as step_text_of};
 
 use itoa::Buffer;
 use rx_base::{Int, Name};
@@ -59,17 +59,29 @@ fn push_part(text: &mut Vec<u8>, part: &(Name, u64)) -> Result<(), AllocError>
     Ok(())
 }
 
+// The parts of a path that are not its first.
+fn push_later(text: &mut Vec<u8>, parts: &[(Name, u64)]) -> Result<(), AllocError>
+    ensures { OnOk result (text.new.items ≡ text.old.items ++ flat_map later_part parts.now) }
+{
+    'parts: for part in parts {
+        text.extend_from_slice(b"/")?;
+        push_part(text, part)?;
+    }
+    Ok(())
+}
+
 // A path behind a space.
 fn push_path(text: &mut Vec<u8>, path: &Path) -> Result<(), AllocError>
     ensures { OnOk result (text.new.items ≡ text.old.items ++ path_text path.now) }
 {
-    let mut before: &[u8] = b" ";
-    'parts: for part in &path.parts {
-        text.extend_from_slice(before)?;
-        push_part(text, part)?;
-        before = b"/";
+    match path.parts.as_slice() {
+        [] => Ok(()),
+        [first, later @ ..] => {
+            text.extend_from_slice(b" ")?;
+            push_part(text, first)?;
+            push_later(text, later)
+        }
     }
-    Ok(())
 }
 
 // What begins a dispatch: its word, its lane, and which hook of which instance it is for.
