@@ -1,13 +1,10 @@
 // From the bytes that come in to the page that goes out.
-ghost use Rattle.std.specs.Prelude.{◌≡◌, ◌≢◌, ◌+◌, ◌<◌, ◌^◌, List, ℕ, length, codes};
+ghost use Rattle.std.specs.Prelude.{◌≡◌, ◌<◌, ◌^◌, ◌≢◌, length};
 ghost use Rattle.std.specs.Io.KnownBytes.{Appends};
-ghost use Rattle.rx_base.specs.Values.{Text};
 ghost use Rattle.rx_io.specs.Causes.{Rose};
-ghost use Rattle.rx_ast.specs.Syntax.{Program};
-ghost use Rattle.rx_step.specs.declared.step.Step.{Step};
-ghost use Rattle.rx_accept.specs.Judgements.{IsJudged, accepted, program_refused, script_refused};
+ghost use Rattle.rx_root.specs.Taking.{AllCanTake};
 ghost use Rattle.fiber_view.specs.declared.status.Status.{Status};
-
+ghost use Rattle.fiber_view.specs.Views.{GivesPage, IsPageOf, RefusesProgram, RefusesScript, RefusesLength, Reads};
 ghost use Rattle.fiber_view.specs.Pages.{IsPage};
 
 use crate::page::page;
@@ -25,6 +22,10 @@ const LIMIT: usize = 1_048_576;
 
 // Writes a whole text and answers this, unless the sink fails.
 fn tell<K: Sink>(out: &mut K, text: &[u8], answer: Status) -> Status
+    requires { answer ≢ Status.WriteFault }
+    ensures gives { result ≢ Status.WriteFault → result ≡ answer }
+    ensures written { result ≡ answer → Appends (K.written out.old) (K.written out.new) text.now }
+    ensures lost { result ≡ Status.WriteFault → Rose (K.faults out.old) (K.faults out.new) }
 {
     match write_all(out, text) {
         Ok(()) => answer,
@@ -33,11 +34,13 @@ fn tell<K: Sink>(out: &mut K, text: &[u8], answer: Status) -> Status
 }
 
 /// Writes the line for words, of which there are none.
-pub(crate) fn refuse_words<K: Sink>(out: &mut K) -> Status {
+pub(crate) fn refuse_words<K: Sink>(out: &mut K) -> Status
+    ensures { result ≢ Status.WriteFault → result ≡ Status.Usage }
+{
     tell(out, b"usage: fiber_view < INPUT > PAGE\n", Status::Usage)
 }
 
-// Writes the page of an input that is accepted.
+// Writes the page of an input that is accepted. Where there is no memory for it, nothing is written.
 fn show<K: Sink, L: Ledger>(
     alloc: Global,
     input: &[u8],
@@ -46,6 +49,12 @@ fn show<K: Sink, L: Ledger>(
     out: &mut K,
     steps: &mut Steps<L>,
 ) -> Status
+    requires fits { AllCanTake checked script.now }
+    requires few { length script.now < 2 ^ 32 }
+    ensures gives { result ≢ Status.WriteFault → result ≢ Status.OutOfMemory → result ≡ Status.Done }
+    ensures done { result ≡ Status.Done → GivesPage input.now checked script.now (K.written out.old) (K.written out.new) }
+    ensures lost { result ≡ Status.WriteFault → Rose (K.faults out.old) (K.faults out.new) }
+    ensures short { result ≡ Status.OutOfMemory → out.new ≡ out.old }
 {
     match page(alloc, input, checked, script, steps) {
         Ok(page) => tell(out, &page, Status::Done),
@@ -60,6 +69,14 @@ fn answer<K: Sink, L: Ledger>(
     out: &mut K,
     steps: &mut Steps<L>,
 ) -> Status
+    requires { length input.now < 2 ^ 32 }
+    ensures done { result ≡ Status.Done → IsPageOf input.now (K.written out.old) (K.written out.new) }
+    ensures program_refused { result ≡ Status.ProgramRefused → RefusesProgram input.now (K.written out.old) (K.written out.new) }
+    ensures script_refused { result ≡ Status.ScriptRefused → RefusesScript input.now (K.written out.old) (K.written out.new) }
+    ensures too_long { result ≢ Status.TooLong }
+    ensures no_read { result ≢ Status.ReadFault }
+    ensures lost { result ≡ Status.WriteFault → Rose (K.faults out.old) (K.faults out.new) }
+    ensures short { result ≡ Status.OutOfMemory → out.new ≡ out.old }
 {
     steps_can_be_taken();
     match accept(alloc, input) {
@@ -75,13 +92,29 @@ fn answer<K: Sink, L: Ledger>(
     }
 }
 
-/// Reads an input to its end, and writes the page of its run.
+/// Reads an input to its end, and writes the page of its run. An input that is not accepted, or too long, has no page: the line
+/// that refuses it is written.
 pub(crate) fn view<S: Source, K: Sink, L: Ledger>(
     alloc: Global,
     src: &mut S,
     out: &mut K,
     steps: &mut Steps<L>,
 ) -> Status
+    // 0: all was read, it is accepted, and the page of a run of it was written.
+    ensures done { result ≡ Status.Done → Reads (S.left src.old) (S.left src.new) (λ input. IsPageOf input (K.written out.old) (K.written out.new)) }
+
+    // 6 and 7: all was read, and it is refused; the line that says why was written.
+    ensures program_refused { result ≡ Status.ProgramRefused → Reads (S.left src.old) (S.left src.new) (λ input. RefusesProgram input (K.written out.old) (K.written out.new)) }
+    ensures script_refused { result ≡ Status.ScriptRefused → Reads (S.left src.old) (S.left src.new) (λ input. RefusesScript input (K.written out.old) (K.written out.new)) }
+
+    // 5: more came than may come.
+    ensures too_long { result ≡ Status.TooLong → RefusesLength (S.left src.old) (S.left src.new) (K.written out.old) (K.written out.new) }
+
+    // 3, 4 and 8: the source or the sink failed; where there was no memory, or the source failed, nothing was written.
+    ensures read_fault { result ≡ Status.ReadFault → Rose (S.faults src.old) (S.faults src.new) }
+    ensures nothing_read { result ≡ Status.ReadFault → out.new ≡ out.old }
+    ensures write_fault { result ≡ Status.WriteFault → Rose (K.faults out.old) (K.faults out.new) }
+    ensures memory { result ≡ Status.OutOfMemory → out.new ≡ out.old }
 {
     match read_all(alloc, src, LIMIT) {
         Ok(input) => answer(alloc, &input, out, steps),
