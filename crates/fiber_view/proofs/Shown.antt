@@ -1,6 +1,6 @@
 -- What is put behind what, where all of it succeeds.
 use Rattle.std.proofs.Common.{◌≡◌, ◌∙◌, ℕ, Bool, [], ◌∷◌, ◌++◌, ap, append_assoc, append-nil, length-append, length, List, take, sym, subst, refl, arith, ◌+◌, ◌≤◌, ◌^◌}
-use Rattle.std.specs.Prelude.{Result, Ok, Err, OnOk, codes}
+use Rattle.std.specs.Prelude.{Result, Ok, Err, IfOk, OnOk, codes}
 use Rattle.rx_base.specs.Values.{Text}
 use Rattle.rx_ast.specs.Syntax.{Program}
 use Rattle.rx_forest.specs.Hosts.{hosts}
@@ -14,13 +14,18 @@ use Rattle.rx_root.specs.Rooted.{Rooted}
 use Rattle.rx_root.specs.Stands.{Stands, HasRoomFor}
 use Rattle.rx_root.specs.Turning.{Takes}
 use Rattle.fiber_view.specs.StepTexts.{step_text}
-use Rattle.fiber_view.specs.Pages.{Shows, shown_options, start_title}
+use Rattle.fiber_view.specs.Pages.{HasParts, IsPage, Shows, shown_options, start_title}
 use Rattle.fiber_view.specs.Sections.{pane, progress_text, section, state_panes, step_section, AreSections, ShowsStep, TellsRest, none, one_more}
 
 -- what follows from a fact, where that is known of a success
 pub on-ok : {T E : Type 0} (r : Result T E) (P Q : Type 0) → (P → Q) → OnOk r P → OnOk r Q
 on-ok (Ok _) P Q f p = f p
 on-ok (Err _) P Q f p = tt
+
+-- what follows of a value, where that is known of a success
+pub if-ok : {T E : Type 0} (r : Result T E) (P Q : T → Type 0) → ((x : T) → P x → Q x) → IfOk r P → IfOk r Q
+if-ok (Ok x) P Q f p = f x p
+if-ok (Err _) P Q f p = tt
 
 -- four texts, one put behind the other
 pub four-put : (start a b c d one two three four : Text) → a ≡ start ++ one → b ≡ a ++ two → c ≡ b ++ three → d ≡ c ++ four
@@ -153,4 +158,16 @@ room-opening p n v few stands =
       commits = omega (arith, few, stands.commits);
       instances = omega (arith, few, ap (λ (m : Numbers). m.instance) stands.numbers);
       hosts = omega (arith, few, ap (λ (m : Numbers). m.host) stands.numbers);
+    }
+
+-- a page is made of its parts
+pub page-made : (p q : Program) (xs : List Step) (shown links no_section sections page : Text) → q ≡ p
+    → no_section ≡ [] → Shows q xs no_section sections → HasParts shown links sections page → IsPage p xs page
+page-made p q xs shown links no_section sections page same no_section_is shows parts =
+    record {
+      input = shown;
+      links = links;
+      sections = sections;
+      shows = subst (λ (t : Program). Shows t xs [] sections) same (subst (λ (t : Text). Shows q xs t sections) no_section_is shows);
+      parts = parts;
     }

@@ -49,8 +49,10 @@ pub record HasParts (input links sections page : Text) : Type 0 where
   pub back : Text
   pub is : page ≡ front ++ input ++ before_steps ++ links ++ before_sections ++ sections ++ back
 
--- A page of an input that is accepted with these steps: the input, a link for each step, and the sections of a run.
-pub record IsPage (input : Text) (p : Program) (steps : List Step) (page : Text) : Type 0 where
+-- A page of an input that is accepted with these steps: the input, links, and the sections of a run.
+pub record IsPage (p : Program) (steps : List Step) (page : Text) : Type 0 where
+  pub input : Text
+  pub links : Text
   pub sections : Text
   pub shows : Shows p steps [] sections
-  pub parts : HasParts (details input) (link 0 start_title ++ links_from 1 steps) sections page
+  pub parts : HasParts input links sections page

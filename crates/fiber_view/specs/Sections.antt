@@ -42,7 +42,7 @@ state_panes p o s going =
 abbrev pub heading : (number : ℕ) → (title : Text) → Text
 heading number title =
     element tag.Heading (attribute name.Id (codes "title-" ++ decimal number))
-        (escaped (codes "Step " ++ decimal number ++ codes ": ") ++ element tag.Code [] (escaped title))
+    (escaped (codes "Step " ++ decimal number ++ codes ": ") ++ element tag.Code [] (escaped title))
 
 -- the attributes of a section: where links lead, and which heading it has
 abbrev pub section_attributes : (number : ℕ) → Text

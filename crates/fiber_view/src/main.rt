@@ -12,10 +12,10 @@ mod status;
 mod text;
 mod view;
 
+use crate::status::Status;
 use crate::view::{refuse_words, view};
 use rx_base::Steps;
 use rx_io::{StdSink, StdSource};
-use crate::status::Status;
 use std::alloc::AllocError;
 use std::marker::Brand;
 use std::process::ExitCode;

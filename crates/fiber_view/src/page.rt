@@ -32,12 +32,7 @@ fn put_input(html: &mut Html, alloc: Global, input: &[u8]) -> Result<(), AllocEr
 }
 
 // A link to the section of a step.
-fn put_link(
-    html: &mut Html,
-    alloc: Global,
-    number: u64,
-    title: &[u8],
-) -> Result<(), AllocError>
+fn put_link(html: &mut Html, alloc: Global, number: u64, title: &[u8]) -> Result<(), AllocError>
     ensures { OnOk result (html.new ≡ html.old ++ link number title.now) }
 {
     let mut words = Html::new(alloc);
@@ -91,12 +86,7 @@ fn put_sections<L: Ledger>(
 }
 
 // The parts of a page, one behind the other.
-fn joined(
-    alloc: Global,
-    input: &Html,
-    links: &Html,
-    sections: &Html,
-) -> Result<Vec<u8>, AllocError>
+fn joined(alloc: Global, input: &Html, links: &Html, sections: &Html) -> Result<Vec<u8>, AllocError>
     ensures { IfOk result (λ page. HasParts input.now links.now sections.now page.items) }
 {
     let mut page = Vec::from_slice(alloc, front())?;
@@ -124,7 +114,7 @@ pub(crate) fn page<L: Ledger>(
 ) -> Result<Vec<u8>, AllocError>
     requires fits { AllCanTake checked script.now }
     requires few { length script.now < 2 ^ 32 }
-    ensures { IfOk result (λ page. IsPage input.now checked script.now page.items) }
+    ensures { IfOk result (λ page. IsPage checked script.now page.items) }
 {
     let mut shown = Html::new(alloc);
     put_input(&mut shown, alloc, input)?;

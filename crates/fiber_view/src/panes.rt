@@ -44,12 +44,7 @@ pub(crate) fn put_pane(
 }
 
 // The tree of hosts.
-fn put_tree(
-    html: &mut Html,
-    alloc: Global,
-    root: &Root,
-    log: &mut Report,
-) -> Result<(), AllocError>
+fn put_tree(html: &mut Html, alloc: Global, root: &Root, log: &mut Report) -> Result<(), AllocError>
     requires { StandsForSome root.now }
     ensures ok { OnOk result ((s : State) → Stands root.entry.now.rendering.program s root.entry.now
         → html.new ≡ html.old ++ pane (codes "Tree of hosts") (report_bytes log.old.options (tree_lines (hosts s.tree)))) }

@@ -34,12 +34,7 @@ pub(crate) fn put_numbered(
 }
 
 // The heading of a section.
-fn put_heading(
-    html: &mut Html,
-    alloc: Global,
-    number: u64,
-    title: &[u8],
-) -> Result<(), AllocError>
+fn put_heading(html: &mut Html, alloc: Global, number: u64, title: &[u8]) -> Result<(), AllocError>
     ensures { OnOk result (html.new ≡ html.old ++ heading number title.now) }
 {
     let mut words = Vec::from_slice(alloc, b"Step ")?;

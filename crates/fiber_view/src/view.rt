@@ -8,13 +8,13 @@ ghost use Rattle.fiber_view.specs.Views.{GivesPage, IsPageOf, RefusesProgram, Re
 ghost use Rattle.fiber_view.specs.Pages.{IsPage};
 
 use crate::page::page;
+use crate::status::Status;
 use rx_accept::{Verdict, accept};
 use rx_base::Steps;
 use rx_check::Checked;
 use rx_io::{ReadError, Sink, Source, read_all, write_all};
 use rx_root::steps_can_be_taken;
 use rx_step::Step;
-use crate::status::Status;
 use std::alloc::Global;
 use std::sync::ledger::Ledger;
 
@@ -52,7 +52,7 @@ fn show<K: Sink, L: Ledger>(
     requires fits { AllCanTake checked script.now }
     requires few { length script.now < 2 ^ 32 }
     ensures gives { result ≢ Status.WriteFault → result ≢ Status.OutOfMemory → result ≡ Status.Done }
-    ensures done { result ≡ Status.Done → GivesPage input.now checked script.now (K.written out.old) (K.written out.new) }
+    ensures done { result ≡ Status.Done → GivesPage checked script.now (K.written out.old) (K.written out.new) }
     ensures lost { result ≡ Status.WriteFault → Rose (K.faults out.old) (K.faults out.new) }
     ensures short { result ≡ Status.OutOfMemory → out.new ≡ out.old }
 {

@@ -19,7 +19,7 @@ returns g c =
     ((s : State) → Stands p s c.args.root.now → (text : Text) × (after : State) × AreSections p c.put_state.new.log.options s xs text after × (c.put_steps.new.html ≡ c.put_section.new.html ++ text))
     (Shows p xs c.args.html.now c.put_steps.new.html)
     (λ rest.
-      sections-shown p xs c.new-log.result.options c.put_state.new.log.options c.is_rendering-going.result c.new-panes.result c.put_state.new.html c.args.html.now c.put_section.new.html c.put_steps.new.html
-      (ap (λ (w : Written). w.options) c.new-log.ensures) c.in_ok-put_state.ensures.options c.new-panes.ensures.empty
-      (c.in_ok-put_state.ensures.ok opening c.requires.stands) c.in_ok-put_section.ensures (rest opening c.requires.stands))
+    sections-shown p xs c.new-log.result.options c.put_state.new.log.options c.is_rendering-going.result c.new-panes.result c.put_state.new.html c.args.html.now c.put_section.new.html c.put_steps.new.html
+    (ap (λ (w : Written). w.options) c.new-log.ensures) c.in_ok-put_state.ensures.options c.new-panes.ensures.empty
+    (c.in_ok-put_state.ensures.ok opening c.requires.stands) c.in_ok-put_section.ensures (rest opening c.requires.stands))
     c.put_steps.ensures

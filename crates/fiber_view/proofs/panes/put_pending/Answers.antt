@@ -16,6 +16,6 @@ returns-clause-ok c =
     on-ok c.put_pane.result (c.put_pane.new.html ≡ c.args.html.now ++ pane caption c.bytes.result.now)
     ((s : State) → Stands p s c.args.root.now → c.put_pane.new.html ≡ c.args.html.now ++ pane caption (report_bytes o (end_line s ∷ [])))
     (λ told s stands.
-      told ∙ ap (λ (t : Text). c.args.html.now ++ pane caption t)
-          (logged o c.args.log.now c.cut.new.self c.end_line.new.log c.bytes.result.now (end_line s ∷ []) c.cut.ensures (c.in_ok-end_line.ensures.ok s stands) refl c.bytes.ensures))
+    told ∙ ap (λ (t : Text). c.args.html.now ++ pane caption t)
+    (logged o c.args.log.now c.cut.new.self c.end_line.new.log c.bytes.result.now (end_line s ∷ []) c.cut.ensures (c.in_ok-end_line.ensures.ok s stands) refl c.bytes.ensures))
     c.put_pane.ensures

@@ -13,7 +13,7 @@ returns-clause-ok c =
     on-ok c.put_progress.result (c.put_progress.new.html ≡ c.put_pending.new.html ++ pane (codes "Render") (progress_text c.args.going))
     ((s : State) → Stands p s c.args.root.now → c.put_progress.new.html ≡ c.args.html.now ++ state_panes p o s c.args.going)
     (λ told s stands.
-      state-shown p s c.args.going o c.put_tree.new.log.options c.put_hooks.new.log.options c.args.html.now c.put_tree.new.html c.put_hooks.new.html c.put_pending.new.html c.put_progress.new.html
-      c.in_ok-put_tree.ensures.options (c.in_ok-put_hooks.ensures.options ∙ c.in_ok-put_tree.ensures.options)
-      (c.in_ok-put_tree.ensures.ok s stands) (c.in_ok-put_hooks.ensures.ok s stands) (c.in_ok-put_pending.ensures.ok s stands) told)
+    state-shown p s c.args.going o c.put_tree.new.log.options c.put_hooks.new.log.options c.args.html.now c.put_tree.new.html c.put_hooks.new.html c.put_pending.new.html c.put_progress.new.html
+    c.in_ok-put_tree.ensures.options (c.in_ok-put_hooks.ensures.options ∙ c.in_ok-put_tree.ensures.options)
+    (c.in_ok-put_tree.ensures.ok s stands) (c.in_ok-put_hooks.ensures.ok s stands) (c.in_ok-put_pending.ensures.ok s stands) told)
     c.put_progress.ensures
