@@ -161,13 +161,13 @@ room-opening p n v few stands =
     }
 
 -- a page is made of its parts
-pub page-made : (p q : Program) (xs : List Step) (shown links no_section sections page : Text) → q ≡ p
-    → no_section ≡ [] → Shows q xs no_section sections → HasParts shown links sections page → IsPage p xs page
-page-made p q xs shown links no_section sections page same no_section_is shows parts =
+pub page-made : (p : Program) (xs : List Step) (shown links no_section sections page : Text)
+    → no_section ≡ [] → Shows p xs no_section sections → HasParts shown links sections page → IsPage p xs page
+page-made p xs shown links no_section sections page no_section_is shows parts =
     record {
       input = shown;
       links = links;
       sections = sections;
-      shows = subst (λ (t : Program). Shows t xs [] sections) same (subst (λ (t : Text). Shows q xs t sections) no_section_is shows);
+      shows = subst (λ (t : Text). Shows p xs t sections) no_section_is shows;
       parts = parts;
     }

@@ -85,6 +85,24 @@ fn put_sections<L: Ledger>(
     put_steps(html, alloc, root, script, &mut log, steps)
 }
 
+// The sections of a run of a program from the start.
+fn put_run<L: Ledger>(
+    html: &mut Html,
+    alloc: Global,
+    checked: Checked,
+    script: &[Step],
+    steps: &mut Steps<L>,
+) -> Result<(), AllocError>
+    requires fits { AllCanTake checked script.now }
+    requires few { length script.now < 2 ^ 32 }
+    ensures { OnOk result (Shows checked script.now html.old html.new) }
+{
+    match Root::new(alloc, checked) {
+        Ok(mut root) => put_sections(html, alloc, &mut root, script, steps),
+        Err(error) => Err(error),
+    }
+}
+
 // The parts of a page, one behind the other.
 fn joined(alloc: Global, input: &Html, links: &Html, sections: &Html) -> Result<Vec<u8>, AllocError>
     ensures { IfOk result (λ page. HasParts input.now links.now sections.now page.items) }
@@ -116,13 +134,12 @@ pub(crate) fn page<L: Ledger>(
     requires few { length script.now < 2 ^ 32 }
     ensures { IfOk result (λ page. IsPage checked script.now page.items) }
 {
+    let mut sections = Html::new(alloc);
+    put_run(&mut sections, alloc, checked, script, steps)?;
     let mut shown = Html::new(alloc);
     put_input(&mut shown, alloc, input)?;
     let mut links = Html::new(alloc);
     put_link(&mut links, alloc, 0, START)?;
     put_links(&mut links, alloc, script)?;
-    let mut root = Root::new(alloc, checked)?;
-    let mut sections = Html::new(alloc);
-    put_sections(&mut sections, alloc, &mut root, script, steps)?;
     joined(alloc, &shown, &links, &sections)
 }
