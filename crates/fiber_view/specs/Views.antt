@@ -1,5 +1,5 @@
 -- What is written for an input.
-use Rattle.std.specs.Prelude.{ℕ, ◌≡◌, ◌+◌, List, Option, codes, length}
+use Rattle.std.specs.Prelude.{◌≡◌, ◌+◌, List, Option, codes, length}
 use Rattle.std.specs.Io.KnownBytes.{Appends, Consumes, IsAtEnd}
 use Rattle.rx_base.specs.Values.{Text}
 use Rattle.rx_ast.specs.Syntax.{Program}

@@ -1,4 +1,4 @@
-use Rattle.std.proofs.Common.{◌≡◌, ◌++◌, List, ap, arith, ℕ}
+use Rattle.std.proofs.Common.{◌≡◌, ◌++◌, ap, arith}
 use Rattle.rx_base.specs.Values.{Text}
 use Rattle.rx_lines.specs.Lines.{Written}
 use Rattle.rx_model.specs.State.{State, opening}

@@ -1,5 +1,4 @@
-use Rattle.std.proofs.Common.{◌≡◌, ◌∙◌, ◌++◌, refl, ap}
-use Rattle.rx_base.specs.Values.{Text}
+use Rattle.std.proofs.Common.{◌≡◌, ◌∙◌, ◌++◌, refl}
 use Rattle.rx_model.specs.State.{State}
 use Rattle.rx_root.specs.Stands.{Stands}
 use Rattle.fiber_view.specs.Sections.{section, ShowsStep}

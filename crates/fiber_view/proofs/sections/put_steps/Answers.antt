@@ -6,7 +6,7 @@ use Rattle.rx_lines.specs.Lines.{Options}
 use Rattle.rx_root.specs.Stands.{Stands, HasRoomFor}
 use Rattle.rx_root.specs.Taking.{AllCanTake}
 use Rattle.fiber_view.specs.Sections.{ShowsStep}
-use Rattle.fiber_view.proofs.Shown.{SoFar, on-ok, room-fewer, so_far-starts, so_far-next, so_far-ends}
+use Rattle.fiber_view.proofs.Shown.{SoFar, room-fewer, so_far-starts, so_far-next, so_far-ends}
 use Rattle.fiber_view.proofs.sections.put_steps.Goals as goal
 
 pub script-init : goal.script-init
