@@ -1,0 +1,4 @@
+pub mod StepTexts
+pub mod Sections
+pub mod Pages
+pub mod Views

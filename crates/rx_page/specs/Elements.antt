@@ -1,0 +1,53 @@
+-- Elements of HTML, and what is well nested.
+use Rattle.std.specs.Prelude.{[], ◌++◌, codes}
+use Rattle.rx_base.specs.Values.{Text}
+use Rattle.rx_page.specs.declared.tag.Tag.{Tag}
+use Rattle.rx_page.specs.declared.tag.Tag.TheVariants as tag
+use Rattle.rx_page.specs.declared.tag.AttributeName.{AttributeName}
+use Rattle.rx_page.specs.declared.tag.AttributeName.TheVariants as attribute_name
+use Rattle.rx_page.specs.Escaping.{escaped}
+
+-- the name of an element
+abbrev pub tag_text : Tag → Text
+tag_text tag.Section = codes "section"
+tag_text tag.Heading = codes "h2"
+tag_text tag.Figure = codes "figure"
+tag_text tag.Caption = codes "figcaption"
+tag_text tag.Preformatted = codes "pre"
+tag_text tag.Code = codes "code"
+tag_text tag.Paragraph = codes "p"
+tag_text tag.OrderedList = codes "ol"
+tag_text tag.Item = codes "li"
+tag_text tag.Link = codes "a"
+tag_text tag.Details = codes "details"
+tag_text tag.Summary = codes "summary"
+
+-- the name of an attribute
+abbrev pub attribute_text : AttributeName → Text
+attribute_text attribute_name.Id = codes "id"
+attribute_text attribute_name.Class = codes "class"
+attribute_text attribute_name.Href = codes "href"
+attribute_text attribute_name.LabelledBy = codes "aria-labelledby"
+attribute_text attribute_name.TabIndex = codes "tabindex"
+
+-- an attribute: a space, its name, and its value, escaped and between quotes
+abbrev pub attribute : AttributeName → (value : Text) → Text
+attribute name value = codes " " ++ attribute_text name ++ codes "=\"" ++ escaped value ++ codes "\""
+
+-- an element: its open tag with its attributes, its content, and its close tag
+abbrev pub element : Tag → (attributes content : Text) → Text
+element tag attributes content =
+    codes "<" ++ tag_text tag ++ attributes ++ codes ">" ++ content ++ codes "</" ++ tag_text tag ++ codes ">"
+
+-- attributes, one behind the other
+pub data AreAttributes : Text → Type 0 where
+  no_attribute : AreAttributes []
+  one_more : (before : Text) (name : AttributeName) (value : Text) → AreAttributes before → AreAttributes (before ++ attribute name value)
+
+-- HTML is well nested: it is escaped texts and elements, one behind the other, and so is the content of each element
+pub data IsNested : Text → Type 0 where
+  nothing : IsNested []
+  with_text : (before text : Text) → IsNested before → IsNested (before ++ escaped text)
+  with_element : (before : Text) (tag : Tag) (attributes content : Text)
+      → IsNested before → AreAttributes attributes → IsNested content → IsNested (before ++ element tag attributes content)
+  joined : (before more : Text) → IsNested before → IsNested more → IsNested (before ++ more)
