@@ -1,5 +1,5 @@
 // A page of a run.
-ghost use Rattle.std.specs.Prelude.{◌≡◌, ◌+◌, ◌<◌, ◌^◌, ◌++◌, ℕ, codes, length, IfOk, OnOk};
+ghost use Rattle.std.specs.Prelude.{◌≡◌, ◌+◌, ◌<◌, ◌^◌, ◌++◌, length, IfOk, OnOk};
 ghost use Rattle.rx_model.specs.State.{opening};
 ghost use Rattle.rx_root.specs.Stands.{Stands};
 ghost use Rattle.rx_root.specs.Taking.{AllCanTake};

@@ -1,5 +1,5 @@
 // The panes of a section: a caption each, and a text below it.
-ghost use Rattle.std.specs.Prelude.{◌≡◌, ◌∷◌, ◌++◌, [], false, None, codes, OnOk};
+ghost use Rattle.std.specs.Prelude.{◌≡◌, ◌∷◌, ◌++◌, [], codes, OnOk};
 ghost use Rattle.rx_forest.specs.Hosts.{hosts};
 ghost use Rattle.rx_lines.specs.Lines.{report_bytes, tree_lines};
 ghost use Rattle.rx_model.specs.State.{State, end_line, state_lines};

@@ -1,5 +1,5 @@
 // The sections of a page, one for each step.
-ghost use Rattle.std.specs.Prelude.{◌≡◌, ◌<◌, ◌^◌, ◌+◌, ◌++◌, [], ℕ, suc, codes, decimal, length, IfOk, OnOk};
+ghost use Rattle.std.specs.Prelude.{◌≡◌, ◌<◌, ◌^◌, ◌+◌, ◌++◌, ℕ, suc, decimal, length, IfOk, OnOk};
 ghost use Rattle.rx_base.specs.Values.{Text};
 ghost use Rattle.rx_model.specs.State.{State};
 ghost use Rattle.rx_root.specs.Stands.{HasRoomFor, Stands, StandsForSome};

@@ -5,7 +5,6 @@ ghost use Rattle.rx_io.specs.Causes.{Rose};
 ghost use Rattle.rx_root.specs.Taking.{AllCanTake};
 ghost use Rattle.fiber_view.specs.declared.status.Status.{Status};
 ghost use Rattle.fiber_view.specs.Views.{GivesPage, IsPageOf, RefusesProgram, RefusesScript, RefusesLength, Reads};
-ghost use Rattle.fiber_view.specs.Pages.{IsPage};
 
 use crate::page::page;
 use crate::status::Status;
