@@ -86,9 +86,9 @@ fn settle_trees(
 /// Settles the hooks of each instance of a tree at its commit (react.dev, State as a Snapshot). Updates that its render
 /// included are done in a visible instance; a kept one is owed them; a new instance, one with a number from the first on,
 /// has its hooks at their initial values; and those of an instance that is gone are dropped (react.dev, Preserving and
-/// Resetting State). The render keeps no note of what it folded, so the hooks of each visible instance are folded once more,
-/// for its lanes at its cut, and give the same. Where no instance that the pruned trees leave out has work, it goes over these
-/// alone: what is kept of the others stands as it is.
+/// Resetting State). The render keeps no note of what it folded, so the hooks of each visible instance in which it has work are
+/// folded once more, for its lanes at its cut, and give the same. Where no instance that the pruned trees leave out has work, it
+/// goes over these alone: what is kept of the others stands as it is.
 ///
 /// # Errors
 ///
