@@ -1,4 +1,5 @@
 pub mod StepTexts
-pub mod Sections
+pub mod Shown
+pub mod Taken
 pub mod Pages
 pub mod Views

@@ -7,13 +7,13 @@ use Rattle.rx_step.specs.declared.step.Step.{Step}
 use Rattle.rx_accept.specs.Judgements.{IsJudged, accepted, program_refused, script_refused}
 use Rattle.fiber_view.specs.Pages.{IsPage}
 
--- a page of a program and its steps was written
-abbrev pub GivesPage : Program → List Step → (old new : Option Text) → Type 0
-GivesPage p steps old new = (page : Text) × IsPage p steps page × Appends old new page
+-- a page of a program, its steps and the input was written
+abbrev pub GivesPage : Program → List Step → (input : Text) → (old new : Option Text) → Type 0
+GivesPage p steps input old new = (page : Text) × IsPage p steps input page × Appends old new page
 
 -- the input is accepted, and a page of it was written
 abbrev pub IsPageOf : (input : Text) → (old new : Option Text) → Type 0
-IsPageOf input old new = (p : Program) × (steps : List Step) × IsJudged input (accepted p steps) × GivesPage p steps old new
+IsPageOf input old new = (p : Program) × (steps : List Step) × IsJudged input (accepted p steps) × GivesPage p steps input old new
 
 -- the program of the input is refused with the line that was written
 abbrev pub RefusesProgram : (input : Text) → (old new : Option Text) → Type 0

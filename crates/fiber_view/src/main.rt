@@ -4,11 +4,10 @@
 
 ghost use Rattle.std.specs.Prelude.{◌≡◌};
 
-mod frame;
+mod facts;
 mod page;
-mod panes;
-mod sections;
 mod status;
+mod steps;
 mod text;
 mod view;
 

@@ -1,11 +1,12 @@
 // The text of a step, as a line of a script.
-ghost use Rattle.std.specs.Prelude.{◌≡◌, ◌++◌, codes, decimal, flat_map, IfOk, OnOk};
+ghost use Rattle.std.specs.Prelude.{◌≡◌, ◌++◌, codes, flat_map, IfOk, OnOk};
 ghost use Rattle.std.specs.Fmt.{signed_decimal};
 ghost use Rattle.rx_lines.specs.Lines.{part_text};
 ghost use Rattle.fiber_view.specs.StepTexts.{dispatch_text, lane_text, later_part, path_text, step_text as step_text_of};
 
 use itoa::Buffer;
 use rx_base::{Int, Name};
+use rx_page::push_number;
 use rx_step::{Dispatch, LaneWord, Path, Step};
 use std::alloc::{AllocError, Global};
 
@@ -19,14 +20,6 @@ fn lane_word(lane: LaneWord) -> &'static [u8]
         LaneWord::Default => b"default",
         LaneWord::Transition => b"transition",
     }
-}
-
-// A number without a sign.
-pub(crate) fn push_number(text: &mut Vec<u8>, number: u64) -> Result<(), AllocError>
-    ensures { OnOk result (text.new.items ≡ text.old.items ++ decimal number) }
-{
-    let mut buffer = Buffer::new();
-    text.extend_from_slice(buffer.format(number).as_bytes())
 }
 
 // An integer behind a space.

@@ -51,7 +51,7 @@ fn show<K: Sink, L: Ledger>(
     requires fits { AllCanTake checked script.now }
     requires few { length script.now < 2 ^ 32 }
     ensures gives { result ≢ Status.WriteFault → result ≢ Status.OutOfMemory → result ≡ Status.Done }
-    ensures done { result ≡ Status.Done → GivesPage checked script.now (K.written out.old) (K.written out.new) }
+    ensures done { result ≡ Status.Done → GivesPage checked script.now input.now (K.written out.old) (K.written out.new) }
     ensures lost { result ≡ Status.WriteFault → Rose (K.faults out.old) (K.faults out.new) }
     ensures short { result ≡ Status.OutOfMemory → out.new ≡ out.old }
 {

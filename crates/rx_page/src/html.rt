@@ -1,6 +1,6 @@
 // HTML that grows by whole elements.
 ghost use Rattle.std.specs.Prelude.{◌≡◌, [], ◌++◌, IfOk, OnErr, OnOk};
-ghost use Rattle.rx_page.specs.Elements.{AreAttributes, IsNested, element as element_of};
+ghost use Rattle.rx_page.specs.Elements.{AreAttributes, IsNested, element as element_of, meta as meta_of};
 ghost use Rattle.rx_page.specs.Escaping.{escaped};
 
 use crate::attributes::Attributes;
@@ -41,6 +41,16 @@ fn element(
     html.extend_from_slice(content.bytes())?;
     html.extend_from_slice(b"</")?;
     html.extend_from_slice(tag.name().as_bytes())?;
+    html.extend_from_slice(b">")?;
+    Ok(html)
+}
+
+// A tag that tells something about the page.
+fn meta(alloc: Global, attributes: &Attributes) -> Result<Vec<u8>, AllocError>
+    ensures { IfOk result (λ html. html.items ≡ meta_of attributes.now) }
+{
+    let mut html = Vec::from_slice(alloc, b"<meta")?;
+    html.extend_from_slice(attributes.bytes())?;
     html.extend_from_slice(b">")?;
     Ok(html)
 }
@@ -95,6 +105,20 @@ impl Html {
     {
         let element = element(self.alloc, tag, attributes, content)?;
         self.bytes.extend_from_slice(&element)
+    }
+
+    /// A tag of the head that tells something about the page, by its attributes.
+    ///
+    /// # Errors
+    ///
+    /// Want of memory alone; the HTML is then as it was.
+    pub fn put_meta(&mut self, attributes: &Attributes) -> Result<(), AllocError>
+        ensures ok { OnOk result (self.new ≡ self.old ++ meta_of attributes.now) }
+        ensures nested { OnOk result (IsNested self.old → AreAttributes attributes.now → IsNested self.new) }
+        ensures err { OnErr result (self.new ≡ self.old) }
+    {
+        let meta = meta(self.alloc, attributes)?;
+        self.bytes.extend_from_slice(&meta)
     }
 
     /// What another piece holds.

@@ -5,6 +5,16 @@ ghost use Rattle.rx_page.specs.Elements.{attribute_text, tag_text};
 /// An element, by what it is for.
 #[derive(Clone, Copy, Debug, PartialEq, Eq)]
 pub enum Tag {
+    Document,
+    Head,
+    Title,
+    Style,
+    Body,
+    TopHeading,
+    Navigation,
+    Main,
+    Division,
+    Script,
     Section,
     Heading,
     Figure,
@@ -17,6 +27,17 @@ pub enum Tag {
     Link,
     Details,
     Summary,
+    Table,
+    TableCaption,
+    Row,
+    HeaderCell,
+    Cell,
+    Span,
+    Small,
+    Strong,
+    Inserted,
+    Deleted,
+    Mark,
 }
 
 impl Tag {
@@ -25,6 +46,16 @@ impl Tag {
         ensures { result.now ≡ tag_text self }
     {
         match self {
+            Tag::Document => "html",
+            Tag::Head => "head",
+            Tag::Title => "title",
+            Tag::Style => "style",
+            Tag::Body => "body",
+            Tag::TopHeading => "h1",
+            Tag::Navigation => "nav",
+            Tag::Main => "main",
+            Tag::Division => "div",
+            Tag::Script => "script",
             Tag::Section => "section",
             Tag::Heading => "h2",
             Tag::Figure => "figure",
@@ -37,6 +68,17 @@ impl Tag {
             Tag::Link => "a",
             Tag::Details => "details",
             Tag::Summary => "summary",
+            Tag::Table => "table",
+            Tag::TableCaption => "caption",
+            Tag::Row => "tr",
+            Tag::HeaderCell => "th",
+            Tag::Cell => "td",
+            Tag::Span => "span",
+            Tag::Small => "small",
+            Tag::Strong => "b",
+            Tag::Inserted => "ins",
+            Tag::Deleted => "del",
+            Tag::Mark => "mark",
         }
     }
 }
@@ -49,6 +91,13 @@ pub enum AttributeName {
     Href,
     LabelledBy,
     TabIndex,
+    Lang,
+    Scope,
+    Start,
+    Charset,
+    NameOf,
+    HttpEquiv,
+    Content,
 }
 
 impl AttributeName {
@@ -62,6 +111,13 @@ impl AttributeName {
             AttributeName::Href => "href",
             AttributeName::LabelledBy => "aria-labelledby",
             AttributeName::TabIndex => "tabindex",
+            AttributeName::Lang => "lang",
+            AttributeName::Scope => "scope",
+            AttributeName::Start => "start",
+            AttributeName::Charset => "charset",
+            AttributeName::NameOf => "name",
+            AttributeName::HttpEquiv => "http-equiv",
+            AttributeName::Content => "content",
         }
     }
 }

@@ -18,3 +18,20 @@ fn an_element_holds_what_it_is_given(rt: HostRuntime) -> Result<(), Fail> {
     );
     Ok(())
 }
+
+#[test]
+fn a_change_shows_what_goes_and_what_comes(rt: HostRuntime) -> Result<(), Fail> {
+    let alloc = rt.alloc();
+    let mut html = Html::new(alloc);
+    put_changes(&mut html, alloc, b"a\n1\nb\n", b"a\n2\nb\n")?;
+    assert_eq!(rt;
+        html.bytes(),
+        b"<span>a\n</span><del><b>gone </b>1\n</del><ins><b>new </b>2\n</ins><span>b\n</span>".as_slice()
+    );
+    let mut meta = Attributes::new(alloc);
+    meta.put(AttributeName::Charset, b"utf-8")?;
+    let mut head = Html::new(alloc);
+    head.put_meta(&meta)?;
+    assert_eq!(rt; head.bytes(), b"<meta charset=\"utf-8\">".as_slice());
+    Ok(())
+}

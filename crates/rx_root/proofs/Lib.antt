@@ -24,3 +24,4 @@ pub mod Broken
 pub mod Live
 pub mod Findable
 pub mod Fitting
+pub mod Overdue

@@ -3,3 +3,4 @@ pub mod Stands
 pub mod Turning
 pub mod Taking
 pub mod Paying
+pub mod Seen

@@ -7,9 +7,11 @@ mod events;
 mod laws;
 mod render;
 mod root;
+mod seen;
 mod step;
 mod turns;
 
 pub use errors::{DispatchError, ResolveError};
 pub use laws::steps_can_be_taken;
 pub use root::Root;
+pub use seen::InProgress;

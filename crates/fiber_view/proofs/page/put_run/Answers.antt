@@ -1,17 +1,27 @@
-use Rattle.std.proofs.Common.{sym, subst}
-use Rattle.std.specs.Prelude.{OnOk}
-use Rattle.rx_ast.specs.Syntax.{Program}
-use Rattle.rx_model.specs.State.{opening}
+use Rattle.std.proofs.Common.{[], ◌∷◌, List, ap, arith}
+use Rattle.rx_lines.specs.Lines.{Written}
+use Rattle.rx_model.specs.State.{State, opening}
 use Rattle.rx_root.specs.Stands.{Stands}
-use Rattle.rx_root.specs.Taking.{AllCanTake}
-use Rattle.fiber_view.specs.Pages.{Shows}
+use Rattle.run_page.specs.Views.{View, shown}
+use Rattle.run_page.specs.Books.{AreTold}
+use Rattle.fiber_view.specs.Pages.{IsBook}
+use Rattle.fiber_view.specs.Taken.{Continues}
+use Rattle.fiber_view.proofs.Shown.{book-shown, on-ok, room-opening, told-nothing}
 use Rattle.fiber_view.proofs.page.put_run.Goals as goal
 
-pub put_sections-requires-clause-stands : goal.put_sections-requires-clause-stands
-put_sections-requires-clause-stands g c = subst (λ (t : Program). Stands t opening c.in-Ok.root) (sym c.in-Ok.ensures.program) c.in-Ok.ensures.stands
+pub put_steps-requires-clause-room : goal.put_steps-requires-clause-room
+put_steps-requires-clause-room g c = room-opening c.args.root.now.rendering.program _ c.args.root.now (omega (arith, c.requires.few)) c.requires.stands
 
-pub put_sections-requires-clause-fits : goal.put_sections-requires-clause-fits
-put_sections-requires-clause-fits g c = subst (λ (t : Program). AllCanTake t c.args.script.now) (sym c.in-Ok.ensures.program) c.requires.fits
-
-pub returns-in-Ok : goal.returns-in-Ok
-returns-in-Ok g c = subst (λ (t : Program). OnOk c.put_sections.result (Shows t c.args.script.now c.args.html.now c.put_sections.new.html)) c.in-Ok.ensures.program c.put_sections.ensures
+pub returns : goal.returns
+returns g c =
+    let p = c.args.root.now.rendering.program in
+    let first = shown c.in_ok-first.first in
+    let told = c.in_ok-put.ensures.told [] (told-nothing c.args.book.now c.requires.empty) in
+    on-ok c.put_steps.result
+    ((s : State) (views : List View) → Stands p s c.args.root.now → AreTold views c.put.new.self → Continues p c.view_of.new.log.options s c.args.script.now views c.put_steps.new.book)
+    (IsBook p c.args.script.now c.put_steps.new.book)
+    (λ rest.
+    book-shown p c.args.script.now c.new-log.result.options c.view_of.new.log.options c.in_ok-title.title.items c.new.result.items first c.put_steps.new.book
+    (ap (λ (w : Written). w.options) c.new-log.ensures) c.in_ok-first.ensures.options c.in_ok-title.ensures.items c.new.ensures.items
+    (c.in_ok-first.ensures.ok opening c.requires.stands) (rest opening (first ∷ []) c.requires.stands told))
+    c.put_steps.ensures

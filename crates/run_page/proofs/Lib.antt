@@ -1,0 +1,4 @@
+pub mod Names
+pub mod Puts
+pub mod Telling
+pub mod Adding

@@ -1,0 +1,17 @@
+// Numbers as text.
+ghost use Rattle.std.specs.Prelude.{◌≡◌, ◌++◌, decimal, OnOk};
+
+use itoa::Buffer;
+use std::alloc::AllocError;
+
+/// A number without a sign, behind what is there.
+///
+/// # Errors
+///
+/// Want of memory alone; the text is then as it was.
+pub fn push_number(text: &mut Vec<u8>, number: u64) -> Result<(), AllocError>
+    ensures { OnOk result (text.new.items ≡ text.old.items ++ decimal number) }
+{
+    let mut buffer = Buffer::new();
+    text.extend_from_slice(buffer.format(number).as_bytes())
+}
