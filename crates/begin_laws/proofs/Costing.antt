@@ -146,7 +146,7 @@ hidden_is c o x w was there = sym (ap (λ m. option_map_or is_hidden m false) (m
 all_three : (a b c : Bool) → a ≡ true → b ≡ false → c ≡ true → (a && (not b && c)) ≡ true
 all_three a b c f g h = rw (f, g, h) refl
 
--- where a place is steady the places below it stand
+-- if a place is steady the places below it stand
 steady_stands : (c : Shape Fiber) (o : Option ℕ) (v : Fiber) (stood : Bool) (e : Element) (old : Option Node) → IsOld c o old → v.element ≡ e → is_stood v.stage ≡ stood → IsSteady c o v
     → stands_below stood e old ≡ true
 steady_stands c o v stood e None was element told s = absurd (no_fiber c o s.old was s.old_is)
@@ -169,7 +169,7 @@ steady_by c o v e x was element stood shown gives (Some w) there same =
       gives = ap given_in element ∙ (gives_tells e x gives ∙ ap given_in (sym its));
     }
 
--- and where these stand it is steady
+-- and if these stand it is steady
 stands_steady : (c : Shape Fiber) (o : Option ℕ) (v : Fiber) (stood : Bool) (e : Element) (old : Option Node) → IsOld c o old → v.element ≡ e → is_stood v.stage ≡ stood → stands_below stood e old ≡ true
     → IsSteady c o v
 stands_steady c o v stood e None was element told h =
@@ -287,7 +287,7 @@ module _ (s : Sight) (scene : Scene) (kept : ℕ → Option (List Hook)) (t : Tr
     called_or evaluated true false calm anew = anew refl
     called_or evaluated false false calm anew = anew refl
 
-    -- a component's body is evaluated exactly where that is told
+    -- a component's body is evaluated exactly if that is told
     evaluated_is : (us : Flags) → FlagsAtPlace t id us → (c : ℕ) (key : Key) (ps : List ℤ) (kids : Elements) → e ≡ elements.comp c key ps kids → evaluated ≡ is_evaluated s (flag us) cs (elements.comp c key ps kids) old
     evaluated_is us h c key ps kids form =
         let (again, tells_again, calm, anew) = body.some v value_is (subst (λ x. IsSome (parts_in x)) (sym (element_here (elements.comp c key ps kids) form)) refl) in
@@ -335,7 +335,7 @@ module _ (s : Sight) (scene : Scene) (kept : ℕ → Option (List Hook)) (t : Tr
       value_at : opened.value.element ≡ e
       value_at = ap (λ u. u.element) opened_value ∙ is.element
 
-      -- an old node of the same element hides nothing where that is no boundary's
+      -- an old node of the same element hides nothing if that is no boundary's
       other_shown : IsElementOf t.current (old_of t.draft id) e → ((key : Key) (f : Element) (es : Elements) → e ≡ elements.boundary key f es → ⊥) → was_hidden old ≡ false
       other_shown has other = go old was_at settled
         where
@@ -381,7 +381,7 @@ module _ (s : Sight) (scene : Scene) (kept : ℕ → Option (List Hook)) (t : Tr
           ∙ (ap (λ z. generation_below b c (stands_for_children z) (generation_of opened.value.stage)) (value_at ∙ form)
           ∙ ap (λ z. generation_below b c (stands_for_children x) z) (ap (λ w. generation_of w.stage) opened_value ∙ (told_here us h).0))))
 
-      -- they stand exactly where the places below do
+      -- they stand exactly if the places below do
       kids_stood : (x : Element) → e ≡ x → opened.origin.stood ≡ stands_below (flag us).stood x old
       kids_stood x form =
           steady_is t.current (old_of t.draft id) opened.value (flag us).stood x old opened.origin.stood was_at (value_at ∙ form) (ap (λ u. is_stood u.stage) opened_value ∙ (told_here us h).1) opened.steadiness

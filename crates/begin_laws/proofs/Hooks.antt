@@ -1,4 +1,4 @@
--- Kept hooks that stand for the machine's state tell the causes: what is found in them is an update of the journal, and where nothing is found there is none.
+-- Kept hooks that stand for the machine's state tell the causes: what is found in them is an update of the journal, and if nothing is found there is none.
 use Rattle.std.specs.Prelude.{◌≡◌, ℕ, suc, ◌+◌, nat_eq, Bool, true, false, not, ◌&&◌, ◌||◌, List, [], ◌∷◌, ℤ, Option, Some, None, IsSome, is_some, map, slice_index_or}
 use Rattle.std.specs.List.{enumerate_from, list_any}
 use Rattle.std.specs.Option.{option_map_or}
@@ -52,11 +52,11 @@ module _ (test : Update → Standing → Bool) where
   posted_pass t [] = refl
   posted_pass t (e ∷ es) = ap (λ b. test e.update e.standing || b) (posted_pass t es)
 
-  -- an update of a hook passes where one of its history does
+  -- an update of a hook passes if one of its history does
   in_history : (j : Journal) (t : Target) (x : ℤ) (h : History) → IsHistoryOf j t x h → list_any passes (updates_of t j) ≡ list_any passes_in h.entries
   in_history j t x h is = ap (list_any passes) (sym is.updates_are) ∙ posted_pass t h.entries
 
-  -- an update of an instance's hooks passes where one of their histories does
+  -- an update of an instance's hooks passes if one of their histories does
   in_hooks : (st : State) (n k : ℕ) (xs : List ℤ) (hs : List HookHistory) → AreHooksFrom st n k xs hs
       → list_any (λ h. list_any passes (updates_of (hook n h.0) st.journal)) (enumerate_from k xs) ≡ list_any (λ h. list_any passes_in h.updates.entries) hs
   in_hooks st n k [] [] are = refl
@@ -207,7 +207,7 @@ module _ (p : Program) (st : State) (g : Progress) (kept : ℕ → Option (List 
         let b = none_found ns each.1 has.1 in
         rw (a, b) refl
 
-  -- a boundary waits no longer where there is a cause to try its children again
+  -- a boundary waits no longer if there is a cause to try its children again
   tried_is : (scene : Scene) (x : Node) (a : Awaits) → IsSceneOf scene seen → HasInstances st.tree x → mark_of x ≡ of_boundary (Hidden a) → HasCauseToTry scene kept a x → waits_still seen (Some x) ≡ false
   tried_is scene (node e m ns fs) a sees has mark cause =
       let new : (has_value seen a || news_in seen ns) ≡ true = elim cause [
@@ -219,7 +219,7 @@ module _ (p : Program) (st : State) (g : Progress) (kept : ℕ → Option (List 
       ] in
       rw (mark, new) refl
 
-  -- and it waits still where nothing that it awaits has a value, and what it keeps has no news
+  -- and it waits still if nothing that it awaits has a value, and what it keeps has no news
   waits_is : (x : Node) (a : Awaits) → HasInstances st.tree x → mark_of x ≡ of_boundary (Hidden a) → AreUnresolved seen a → ForEachIn (λ i. TellsNews kept g.lanes g.cut i false) (children_of x) → waits_still seen (Some x) ≡ true
   waits_is (node e m ns fs) a has mark unresolved each =
       let gone : has_value seen a ≡ false =

@@ -34,7 +34,7 @@ pub record TellsCauses (s : Sight) (kept : ℕ → Option (List Hook)) (x : Node
   pub waits : (a : Awaits) → mark_of x ≡ of_boundary (Hidden a) → AreUnresolved s a → ForEachIn (λ i. TellsNews kept s.lanes s.cut i false) (children_of x) → waits_still s (Some x) ≡ true
   pub undue : (way : ℕ → Bool) → EachBut way (Rests kept s.lanes s.cut) x → Covers way (IsUndue s) x → marks.ForEach (IsUndue s) x
 
--- the same where there may be none
+-- the same if there may be none
 abbrev pub TellsIf : Sight → (kept : ℕ → Option (List Hook)) → Option Node → Type 0
 TellsIf s kept None = Unit {0}
 TellsIf s kept (Some x) = TellsCauses s kept x
@@ -45,12 +45,12 @@ pub record TellsBody (scene : Scene) (kept : ℕ → Option (List Hook)) (t : Tr
   pub some : (v : Fiber) → Some v ≡ made_value_of t.draft id → IsSome (parts_in v.element) → (again : Bool) × TellsAgain t.current (old_of t.draft id) v again
       × (again ≡ true → TellsCalm scene kept cs (option_and_then instance_in (mark_at t.current (old_of t.draft id))) (not evaluated)) × (again ≡ false → evaluated ≡ true)
 
--- A hidden boundary's children are tried only for a cause, where its element is that of the current fiber, and that stands where the same values of contexts are given.
+-- A hidden boundary's children are tried only for a cause, if its element is that of the current fiber, and that stands where the same values of contexts are given.
 abbrev pub TellsTries : Scene → (kept : ℕ → Option (List Hook)) → Trees Fiber → (id : ℕ) → Type 0
 TellsTries scene kept t id =
     (v : Fiber) → Some v ≡ made_value_of t.draft id → parts_in v.element ≡ None → IsElementOf t.current (old_of t.draft id) v.element → is_stood v.stage ≡ true → IsCauseToTry scene kept t id
 
--- A fiber is begun over these children: they stood exactly where the fiber is steady, and are of the generation below it.
+-- A fiber is begun over these children: they stood exactly if the fiber is steady, and are of the generation below it.
 pub record OpensKids (t new : Trees Fiber) (id : ℕ) (evaluated : Bool) : Type 0 where
   pub value : Fiber
   pub is : Some value ≡ made_value_of t.draft id

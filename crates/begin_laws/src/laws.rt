@@ -23,7 +23,7 @@ ghost use Rattle.rx_begin.specs.Beginning.{HasLists};
 ghost use Rattle.begin_laws.specs.Mounting.{HasInstances};
 ghost use Rattle.begin_laws.specs.Telling.{OpensKids, TellsBody, TellsCauses, TellsIf, TellsTries};
 
-/// A unit that begins a place evaluates its body exactly where that is told, and tries no untouched boundary; it opens lists whose
+/// A unit that begins a place evaluates its body exactly if that is told, and tries no untouched boundary; it opens lists whose
 /// fibers are as their flags tell.
 pub fn places_cost()
     ensures bodies { (s : Sight) (scene : Scene) (kept : ℕ → Option (List Hook)) (t : Trees Fiber) (st : Stack) (id n : ℕ) (fs : List Frame) (cs : Contexts) (e : Element) (old : Option Node) (us : Flags) (evaluated : Bool)

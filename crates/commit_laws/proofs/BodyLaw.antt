@@ -113,7 +113,7 @@ module _ (p : Program) (i : Inputs) (cs : List ℤ) (res : List (Option ℤ)) wh
   abbrev with_others : Inputs
   with_others = record i { contexts = cs; resources = res }
 
-  -- a statement takes the same where what comes of it agrees
+  -- a statement takes the same if what comes of it agrees
   abbrev OneAgrees : Statement → Frame → Frame → Type 0
   OneAgrees s f g1 = (g : Frame) → Grows g1 g → Agrees i cs res g.reads → take_one p with_others s f ≡ taken g1
 
@@ -147,7 +147,7 @@ module _ (p : Program) (i : Inputs) (cs : List ℤ) (res : List (Option ℤ)) wh
           both_taken {P = AllAgree ss g1} {Q = Grows g1} (take_all p i ss g1) (k g1) (all_grow p i ss g1)
           (λ g rest grows a. rw (h g grows a) (rest a))
 
-  -- the same effects, reads and elements, where what was taken agrees
+  -- the same effects, reads and elements if what was taken agrees
   pub body_agrees : (c : Component) (es : List Element) (effects : List EffectRecord) (initials : List ℤ) (reads : List ContextRead)
       → Agrees i cs res reads → body_of p c i ≡ ready es effects initials reads → body_of p c with_others ≡ ready es effects initials reads
   unfolding body_of
@@ -252,7 +252,7 @@ module _ (p : Program) (i : Inputs) (initials : List ℤ) where
           let again : take_all p once_mounted c.statements (opening_frame c i.props) ≡ taken (later g) = k (subst (λ (xs : List ℤ). Begins xs initials) the_initials (begins_itself initials)) in
           rw (again, the_elements, the_effects, the_reads) refl
 
--- What a body read is what its contexts give, where all that it reads are there.
+-- What a body read is what its contexts give if all that it reads are there.
 
 list_any_push : {X : Type 0} (test : X → Bool) (xs : List X) (x : X) → list_any test xs ≡ false → test x ≡ false → list_any test (xs ++ x ∷ []) ≡ false
 list_any_push test [] x h k = rw k refl
@@ -317,7 +317,7 @@ body_read p c i es effects initials reads full declared h =
     go (stopped_at r) k same = absurd (cc same)
     go (taken g) k same = let the_reads : g.reads ≡ reads = cc in subst (λ (x : List ContextRead). read_anew i.contexts x ≡ false) the_reads k
 
--- Where more resources have values, a body that was ready is ready as before, and one that waits for a resource waits for it still, unless that one has a value.
+-- If more resources have values, a body that was ready is ready as before, and one that waits for a resource waits for it still, unless that one has a value.
 
 abbrev IfWaits : (ℕ → Type 0) → (Frame → Type 0) → Taken → Type 0
 IfWaits W T (stopped_at r) = W r

@@ -39,7 +39,7 @@ distinct_empty : (ns : List Name) → length (distinct ns) ≡ 0 → ns ≡ []
 distinct_empty [] h = refl
 distinct_empty (n ∷ ns) h = absurd (omega (arith, h))
 
--- where a program has no resources, no statement reads one
+-- if a program has no resources, no statement reads one
 no_reads : (p : Program) → length (resources p) ≡ 0 → (c : ℕ) (d : Component) → component_at p c ≡ Some d → ReadsNone d.statements
 no_reads p h c d there = none_read d.statements (each_empty (components p) (distinct_empty (flat_map resources_of (components p)) h) c d there)
 

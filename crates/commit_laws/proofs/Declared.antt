@@ -1,4 +1,4 @@
--- Where a program has a context, each context that a component reads is one of its own.
+-- If a program has a context, each context that a component reads is one of its own.
 use Rattle.std.specs.List.{position_or_len}
 use Rattle.std.specs.Prelude.{List, [], bytes_eq, length, map, nat_lt, refl, ◌<◌, ◌∷◌, ◌≡◌}
 use Rattle.std.proofs.Common.{arith}

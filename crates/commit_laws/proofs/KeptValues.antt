@@ -1,4 +1,4 @@
--- A kept instance has the values of its last attempt again, where no update of it is included that is neither done nor owed.
+-- A kept instance has the values of its last attempt again if no update of it is included that is neither done nor owed.
 use Rattle.std.specs.List.{enumerate_from, list_any}
 use Rattle.std.specs.Prelude.{Bool, List, [], cond, false, filter, fold, if◌then◌else◌, map, nat_lt, not, refl, true, ℕ, ℤ, ◌&&◌, ◌++◌, ◌+◌, ◌||◌, ◌∷◌, ◌≡◌, ◌≤◌}
 use Rattle.std.proofs.Common.{ap, arith}
@@ -42,7 +42,7 @@ again false false l m Open i d o h = refl
 below_more : (a b n : ℕ) → a ≤ b → nat_lt n a ≡ true → nat_lt n b ≡ true
 below_more a b n h k = grind (arith, nat_tests)
 
--- each update of this target passes the one test after a change exactly where it passed the other before
+-- each update of this target passes the one test after a change exactly if it passed the other before
 abbrev pub PassesLater : Target → (Posted → Posted) → (Posted → Bool) → (Posted → Bool) → List Posted → Type 0
 PassesLater t f later test [] = Unit {0}
 PassesLater t f later test (u ∷ us) = (same_target t u.target ≡ true → later (f u) ≡ test u) × PassesLater t f later test us

@@ -1,4 +1,4 @@
--- Where a program has components, each element that its bodies give names one of them.
+-- If a program has components, each element that its bodies give names one of them.
 use Rattle.std.specs.List.{position_or_len, range_with_len}
 use Rattle.std.specs.Prelude.{Bool, List, None, Some, [], bytes_eq, cond, false, is_some, length, map, nat_lt, pos, refl, slice_get, suc, true, unwrap_or, zero, ℕ, ℤ, ◌<◌, ◌∷◌, ◌≡◌}
 use Rattle.std.proofs.Common.{arith, subst, sym}

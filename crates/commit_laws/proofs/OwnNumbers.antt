@@ -259,7 +259,7 @@ rendered_counts n (suc levels) s cs e old = place_counts n s (rendered levels s)
 
 -- Numbering
 
--- one where a number lies in a range
+-- one if a number lies in a range
 abbrev between : ℕ → ℕ → ℕ → ℕ
 between a b n = cond (nat_le a n && nat_lt n b) 1 0
 
@@ -421,7 +421,7 @@ both_lists n (x ∷ xs) = go x.around.visible (filter_map visible_at xs) (filter
     go true ys zs h = omega (arith, h, occurs_option n (number_of (spot_mark x)) ys)
     go false ys zs h = omega (arith, h, occurs_option n (number_of (spot_mark x)) zs)
 
--- Where each instance has a number of its own, none is both visible and kept.
+-- If each instance has a number of its own, none is both visible and kept.
 pub own_numbers_apart : (next : ℕ) (x : Node) → HasOwnNumbers next (Some x) → AreApart x
 own_numbers_apart next x own i kept = go (includes (visible_instances (Some x)) i) refl
   where

@@ -1,4 +1,4 @@
--- Where nothing is hidden and each update is done, the committed tree is what all updates give.
+-- If nothing is hidden and each update is done, the committed tree is what all updates give.
 use Rattle.std.specs.List.{list_any}
 use Rattle.std.specs.Prelude.{Bool, List, Option, Some, [], false, nat_eq, not, refl, suc, true, zero, ℕ, ℤ, ◌&&◌, ◌||◌, ◌∷◌, ◌≡◌, ◌≤◌}
 use Rattle.std.proofs.Common.{ap, arith, subst, sym, ◌∙◌}
@@ -92,7 +92,7 @@ calm_root s x deep before settled still root =
     subst (λ (e : Element). rendered depth_limit s (default_contexts s.program) e (Some x) ≡ made x) root
     (rendered_again depth_limit s (default_contexts s.program) x before settled still (rw root (omega arith)))
 
--- Where nothing is hidden and each update of a visible instance is done, any render gives the committed tree again.
+-- If nothing is hidden and each update of a visible instance is done, any render gives the committed tree again.
 pub quiet_tree : (s : Sight) (x : Node) (res : List (Option ℤ)) (next : ℕ) → depth_bound s.program ≤ depth_limit → DoneBefore s.cut s.journal.updates
     → HasValuesOf res (resources_seen s) → IsSound s.program (record { updates = s.journal.updates; resources = res }) next (Some x) → Numbered x
     → element_of x ≡ root_element s.program → NoneHidden x → AllDone (visible_instances (Some x)) s.journal.updates → fresh s (Some x) ≡ made x

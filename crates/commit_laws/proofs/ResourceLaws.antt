@@ -78,7 +78,7 @@ past_range f k zero r h = refl
 past_range f k (suc n) zero h = absurd (omega arith)
 past_range f k (suc n) (suc r) h = past_range f (k + 1) n r (omega arith)
 
--- the same by the set of resolved resources, where there are no more resources than the limit
+-- the same by the set of resolved resources if there are no more resources than the limit
 pub seen_unresolved : (t : Sight) (a : Awaits) → length (resources t.program) ≤ resource_limit → list_any (awaits.has (resolved_seen t)) a ≡ false → AreUnresolved t a
 seen_unresolved t a few h r there = go (nat_lt r resource_limit) refl
   where

@@ -20,7 +20,7 @@ use Rattle.rx_lane.specs.Lanes as lanes_of
 
 -- Marks
 
--- each update of this target passes the one test after a change exactly where it passed the other before
+-- each update of this target passes the one test after a change exactly if it passed the other before
 abbrev EachPasses : Target → (Posted → Posted) → (Posted → Bool) → List Posted → Type 0
 EachPasses t f test [] = Unit {0}
 EachPasses t f test (u ∷ us) = (same_target t u.target ≡ true → stands_done (f u).standing ≡ test u) × EachPasses t f test us
@@ -68,7 +68,7 @@ done_stays : (x b : Bool) → stands_done (if x && (not (stands_done Done) && b)
 done_stays true b = refl
 done_stays false b = refl
 
--- an update of a visible instance is done exactly where it was included
+-- an update of a visible instance is done exactly if it was included
 done_when_visible : (inc bel x b : Bool) (st : Standing) → bel ≡ true → (stands_done st ≡ true → inc ≡ true)
     → stands_done (if inc && bel then Done else if x && (not (stands_done st) && b) then Owed else st) ≡ inc
 done_when_visible true bel x b st h k = rw h refl
@@ -81,7 +81,7 @@ not_owed x b Open = owed_or x b Open refl
 not_owed x b Owed = owed_or x b Owed refl
 not_owed x b Done = done_stays x b
 
--- an update of another one is done exactly where it was
+-- an update of another one is done exactly if it was
 done_when_kept : (inc bel x b : Bool) (st : Standing) → bel ≡ false → stands_done (if inc && bel then Done else if x && (not (stands_done st) && b) then Owed else st) ≡ stands_done st
 done_when_kept true bel x b st h = rw h (not_owed x b st)
 done_when_kept false bel x b st h = not_owed x b st
@@ -198,7 +198,7 @@ mutual
 abbrev pub Among : (Spot → Option ℕ) → List Spot → List ℕ → Type 0
 Among f xs set = (i : ℕ) → includes (filter_map f xs) i ≡ true → includes set i ≡ true
 
--- a number, where this holds
+-- a number if this holds
 abbrev pub number_if : Bool → Option ℕ → Option ℕ
 number_if true n = n
 number_if false n = None

@@ -52,6 +52,6 @@ body_small p l c i r h = go (take_all p i c.statements (opening_frame c i.props)
     go (stopped_at q) small same = let equal : q ≡ r = cc in subst (λ (n : ℕ). n < resource_limit) equal small
     go (taken g) small same = absurd (cc same)
 
--- Where a program has no more resources than the limit, its bodies wait for numbers below it.
+-- If a program has no more resources than the limit, its bodies wait for numbers below it.
 pub waits_are_small : (p : Program) → length (resources p) ≤ resource_limit → WaitsAreSmall p
 waits_are_small p l c d i r there h = body_small p l d i r h

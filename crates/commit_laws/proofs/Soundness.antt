@@ -209,7 +209,7 @@ resolution_keeps p us res more next tree has_more sound =
       reads = sound.reads;
     }
 
--- Where contexts are the committed ones, a calm subtree has no cause.
+-- If contexts are the committed ones, a calm subtree has no cause.
 
 calm_mark : (s : Sight) (cs : Contexts) (m : Mark) → is_stirred s m ≡ false → reads_another cs m ≡ false → has_cause s cs m ≡ false
 calm_mark s cs (of_instance i) h k = rw (h, k) refl

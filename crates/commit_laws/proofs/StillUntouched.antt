@@ -22,7 +22,7 @@ unless_none : (b : Bool) (vs : List Visit) → NoneTouched vs → NoneTouched (i
 unless_none true vs h = tt
 unless_none false vs h = h
 
--- where all places of a list are made, none waits
+-- if all places of a list are made, none waits
 pub none_waits : (f : Renders) (xs : List (Element × Option Node)) (ns : Forest) → render_all f xs ≡ all_made ns → list_any (λ x. waits_at (f x.0 x.1)) xs ≡ false
 none_waits f [] ns h = refl
 none_waits f (x ∷ xs) ns h = go (f x.0 x.1) (render_all f xs) h (none_waits f xs)

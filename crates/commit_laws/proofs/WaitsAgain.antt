@@ -263,7 +263,7 @@ module _ (s : Sight) (j : _) (l : _) (c : _) (small : WaitsAreSmall s.program) (
   rendered_waits_again zero cs e old h = tt
   rendered_waits_again (suc n) cs e old h = place_again_at n (rendered_waits_again n) cs e old h
 
-  -- The children of a boundary that waited wait for the same, where none of that has a value.
+  -- The children of a boundary that waited wait for the same if none of that has a value.
   pub attempt_waits_again : (n : ℕ) (p : Part) (a : Awaits) → AllValuesAgree s later p.old → render_part (rendered n s) p ≡ one_waits a → AreUnresolved later a
       → render_part (rendered n later) p ≡ one_waits a
   attempt_waits_again n p a agree waited unresolved =

@@ -15,7 +15,7 @@ use Rattle.rx_meaning.specs.Touched.{contexts_below}
 abbrev pub without_lanes : Sight → Sight
 without_lanes s = record s { lanes = no_lanes }
 
--- In these contexts a hidden boundary's children wait for what it awaits, where that has no value, and each instance that it keeps has the values by the updates that are done or owed.
+-- In these contexts a hidden boundary's children wait for what it awaits, if that has no value, and each instance that it keeps has the values by the updates that are done or owed.
 abbrev pub OwnWaitsAgain : Sight → Contexts → Element → Mark → Forest → Type 0
 OwnWaitsAgain s cs (elements.boundary key f es) (of_boundary (Hidden a)) ns =
     AreUnresolved s a → AllValuesAgree (without_lanes s) s ns

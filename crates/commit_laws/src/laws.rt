@@ -37,7 +37,7 @@ pub fn nothing_new_comes()
     ensures elements { (e f : Element) → same_element e f ≡ true → e ≡ f }
 {}
 
-/// A subtree is rendered to itself where each of its instances has the values that are committed, nothing in it is hidden,
+/// A subtree is rendered to itself if each of its instances has the values that are committed, nothing in it is hidden,
 /// and it reads what the contexts of its place give; so no body of it need be evaluated. A subtree of which no included
 /// update has yet to be done is such a one (react.dev, useState: React skips the children too).
 pub fn idle_trees_stay()
@@ -65,7 +65,7 @@ pub fn soundness_is_kept()
     ensures calm { (s : Sight) (cs : Contexts) (n : Node) → IsCalm s n → ReadsHold cs n → IsStill s cs n }
 {}
 
-/// In a subtree in which nothing has a cause no component place is touched; and lanes tell where nothing has one: by then no update of a visible instance is owed.
+/// In a subtree in which nothing has a cause no component place is touched; and lanes tell if nothing has one: by then no update of a visible instance is owed.
 pub fn untouched_is_told()
     ensures places { (s : Sight) (at : Setting) (o : Node) (levels : ℕ) → DoneBefore s.cut s.journal.updates
         → IsSettled s.program (known_by s) o → IsStill s at.contexts o → Fits levels s.program (element_of o)
@@ -76,7 +76,7 @@ pub fn untouched_is_told()
         → NoneOwed visible (map (marked_update s.lanes s.cut visible kept) us) }
 {}
 
-/// The children of a hidden boundary wait for the same again, where nothing that they wait for has a value and no update of what it keeps is new.
+/// The children of a hidden boundary wait for the same again if nothing that they wait for has a value and no update of what it keeps is new.
 pub fn hidden_waits_again()
     ensures attempt { (s : Sight) (j : Journal) (lanes : Lanes) (cut : Cut) → WaitsAreSmall s.program
         → HasValuesOf (resources_seen s) (resources_seen (later_sight s j lanes cut))
@@ -107,7 +107,7 @@ pub fn hidden_waits_again()
         → render_part (rendered n (later_sight s (journal_since s visible kept new resolutions) lanes cut)) (part cs (listed es) ns) ≡ one_waits a }
 {}
 
-/// Where nothing is hidden and each update of a visible instance is done, any render gives the committed tree again; a commit leaves the root's element at the root.
+/// If nothing is hidden and each update of a visible instance is done, any render gives the committed tree again; a commit leaves the root's element at the root.
 pub fn quiet_trees_stay()
     ensures tree { (s : Sight) (x : Node) (res : List (Option ℤ)) (next : ℕ) → depth_bound s.program ≤ depth_limit
         → DoneBefore s.cut s.journal.updates → HasValuesOf res (resources_seen s)

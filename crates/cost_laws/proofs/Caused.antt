@@ -115,7 +115,7 @@ IsGiven s u e (Some x) = (u.generation ≡ 0) × (e ≡ element_of x) × IsSettl
 abbrev IsPlaced : Sight → Above → Element → Option Node → Type 0
 IsPlaced s a e old = (a.below ≡ true) ⊎ IsGiven s a.flag e old
 
--- what is come to at a place and below it is caused, where it is placed
+-- what is come to at a place and below it is caused, if it is placed
 abbrev IsFounded : Sight → Comings → Type 0
 IsFounded s come = (a : Above) (cs : Contexts) (e : Element) (old : Option Node) → IsPlaced s a e old → Each IsCaused (come a cs e old)
 
@@ -220,7 +220,7 @@ new_founded s come founded below a cs e (two_lists p f) h =
           (λ _. new_part s come founded below (record b { address = 0 ∷ a.address }) p h.0) (new_part s come founded below (record c { address = 1 ∷ a.address }) f h.1),
     )
 
--- Where the old elements are given again
+-- If the old elements are given again
 
 given_children : (s : Sight) (a : Above) (ns : Forest) → a.flag.generation ≡ 0 → AllSettled s.program (known_by s) ns
     → Each (λ x. (j : ℕ) → IsPlaced s (record a { address = j ∷ a.address }) x.0 x.1) (zip (elements_in ns) (places ns))

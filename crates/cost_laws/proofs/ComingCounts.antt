@@ -50,7 +50,7 @@ unless_same empty vs k h = h
 unless_same (made n) vs k h = h
 unless_same (waits a) vs k h = refl
 
--- a list waits where one of its places does
+-- a list waits if one of its places does
 one_of_them_waits : (render : Renders) (xs : List (Element × Option Node)) (k : ℕ) → cond (list_any (λ x. waits_at (render x.0 x.1)) xs) k 0 ≡ if_waits (render_all render xs) k
 one_of_them_waits render [] k = refl
 one_of_them_waits render (x ∷ xs) k = go (render x.0 x.1) (render_all render xs) (one_of_them_waits render xs k)

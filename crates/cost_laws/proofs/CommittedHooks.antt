@@ -41,7 +41,7 @@ same_updates s test (u ∷ us) h l = go (test u) l (same_updates s test us h.1)
         (filter (is_included s.lanes s.cut) (filter test us)) (filter (λ u. stands_done u.standing) (filter test us)) (rest both.1)
     go false m rest = rest m
 
--- Where no included update of an instance is still to be done, its hooks have the values that are committed.
+-- If no included update of an instance is still to be done, its hooks have the values that are committed.
 pub same_values : (s : Sight) (n : ℕ) (initials : List ℤ) → DoneBefore s.cut s.journal.updates → some_update (is_due s) s n initials ≡ false
     → hook_values s n initials ≡ done_values s.program (known_by s) n initials
 unfolding state_of committed_value

@@ -24,13 +24,13 @@ pub unit_costs : (s : Sight) (old : Option Node) (bodies evaluated : ℕ) (us : 
     → evaluated ≡ next_evaluated s us c → Costs s old (bodies + evaluated) (unit_flags s us c) (unit s c)
 unit_costs s old bodies evaluated us c may h exact = omega (arith, h, unit_evaluates s us c may, exact)
 
--- A subtree that is taken over costs nothing, where nothing of it is evaluated.
+-- A subtree that is taken over costs nothing, if nothing of it is evaluated.
 pub take_costs : (s : Sight) (old : Option Node) (bodies n : ℕ) (us : Flags) (fs : List Frame) (cs : Contexts) (e : Element) (o : Node)
     → rendered n s cs e (Some o) ≡ made o → evaluated n s (flag us) cs e (Some o) ≡ 0
     → Costs s old bodies us (at_place n fs cs e (Some o)) → Costs s old bodies us (arrive n fs (Some o))
 take_costs s old bodies n us fs cs e o again calm h = omega (arith, h, calm, taken_evaluates s us n fs cs e o again)
 
--- An attempt that is left out costs nothing, where the boundary is untouched.
+-- An attempt that is left out costs nothing, if the boundary is untouched.
 pub attempt_costs : (s : Sight) (old : Option Node) (bodies n : ℕ) (us : Flags) (fs : List Frame) (cs : Contexts) (e : Element)
     (o : Option Node) (p f : Part) (a : Awaits) → shape_of s cs e o ≡ two_lists p f
     → render_part (rendered n s) p ≡ one_waits a → is_untouched s (flag us).stood e o ≡ true

@@ -13,7 +13,7 @@ pub each_and : {X : Type 0} (P : X → Type 0) (xs ys : List X) → Each P xs �
 each_and P [] ys h k = k
 each_and P (x ∷ xs) ys h k = (h.0, each_and P xs ys h.1 k)
 
--- Where one thing follows from another, it does for each element.
+-- If one thing follows from another, it does for each element.
 pub each_so : {X : Type 0} (P Q : X → Type 0) → ((x : X) → P x → Q x) → (xs : List X) → Each P xs → Each Q xs
 each_so P Q so [] h = tt
 each_so P Q so (x ∷ xs) h = (so x h.0, each_so P Q so xs h.1)

@@ -1,4 +1,4 @@
--- A render evaluates no more bodies than where each place is evaluated.
+-- A render evaluates no more bodies than if each place were evaluated.
 use Rattle.std.specs.Prelude.{ℕ, zero, suc, ◌+◌, ◌≤◌, Bool, true, false, not, ◌||◌, cond, List, [], ◌∷◌, Option}
 use Rattle.std.proofs.Common.{arith}
 use Rattle.rx_elem.specs.Elements.{Element}
@@ -26,7 +26,7 @@ all_less f g render h (x ∷ xs) = go (render x.0 x.1) (h x.0 x.1) (all_less f g
     go (made n) a b = omega arith
     go (waits w) a b = omega arith
 
--- Where each place counts less, the children of a node do.
+-- If each place counts less, the children of a node do.
 pub part_less : (f g : Contexts → Tries) (below : Contexts → Renders) → ((cs : Contexts) → IsLess (f cs) (g cs)) → (p : Part)
     → count_part f below p ≤ count_part g below p
 part_less f g below h p = all_less (f p.contexts) (g p.contexts) (below p.contexts) (h p.contexts) (children_with_old p)
@@ -70,7 +70,7 @@ evaluated_less zero s u cs e old = omega arith
 evaluated_less (suc n) s u cs e old =
     shape_less (evaluated n s) (counted each_body n s) (rendered n s) (evaluated_less n s) s u cs e old (shape_of s cs e old)
 
--- A whole render evaluates at most the bodies that it would where no place is spared.
+-- A whole render evaluates at most the bodies that it would if no place were spared.
 pub whole_less : (s : Sight) (old : Option Node) → whole_evaluated s old ≤ whole each_body s old
 unfolding whole_evaluated whole
 whole_less s old = evaluated_less depth_limit s above_root (default_contexts s.program) (root_element s.program) old

@@ -131,7 +131,7 @@ module _ (s : Sight) (j : Journal) (same : SeesSame s j) (work : SeesSameWork s 
 
 -- Longer journals
 
--- where no update of a later list passes a first test, it adds none that passes both
+-- if no update of a later list passes a first test, it adds none that passes both
 any_more : (first second : Posted → Bool) (test : Posted → Bool) (us new : List Posted) → AllFail first new
     → list_any (λ u. first u && second u) (filter test us) ≡ list_any (λ u. first u && second u) (filter test (us ++ new))
 any_more first second test [] [] h = refl
@@ -147,7 +147,7 @@ any_more first second test (u ∷ us) new h = go (test u) (any_more first second
     go true e = ap (λ b. (first u && second u) || b) e
     go false e = e
 
--- A longer journal shows no other work, where all that is new comes after the cut.
+-- A longer journal shows no other work, if all that is new comes after the cut.
 pub longer_sees_same_work : (s : Sight) (new : List Posted) (more : List Resolution) → AllAfter s.cut.updates new
     → SeesSameWork s (record { updates = s.journal.updates ++ new; resolutions = s.journal.resolutions ++ more })
 longer_sees_same_work s new more late =

@@ -45,7 +45,7 @@ body_rests s cs (elements.provider c key x es) m ns fs own undue calm = refl
 
 -- Flags
 
--- where its element is of generation 0, that of an old node is given again
+-- if its element is of generation 0, that of an old node is given again
 given_again : (u : Flag) (e : Element) (m : Mark) (ns fs : Forest) → u.generation ≡ 0 → is_again u e (Some (node e m ns fs)) ≡ true
 given_again u e m ns fs zeroth = rw (zeroth, same_element-self e) refl
 
@@ -53,7 +53,7 @@ nothing_evaluated : (component cause again : Bool) → cause ≡ false → again
 nothing_evaluated true cause again h k = rw (h, k) refl
 nothing_evaluated false cause again h k = refl
 
--- Where its element is of generation 0 and it has no cause, the body of an old node's place is not evaluated.
+-- If its element is of generation 0 and it has no cause, the body of an old node's place is not evaluated.
 pub not_evaluated : (s : Sight) (u : Flag) (cs : Contexts) (e : Element) (m : Mark) (ns fs : Forest) → u.generation ≡ 0 → has_cause s cs e (Some (node e m ns fs)) ≡ false
     → is_evaluated s u cs e (Some (node e m ns fs)) ≡ false
 not_evaluated s u cs e m ns fs zeroth calm =
@@ -180,7 +180,7 @@ kept_rests n s u cs (elements.provider c key x es) old m ns fs body one two h =
     one_rests n s u cs (elements.provider c key x es) old m (part (contexts_below (elements.provider c key x es) cs) (elements_in ns) ns) body
     (h (below_node s u cs (elements.provider c key x es) old) one)
 
--- a list against its own elements rests where its places do
+-- a list against its own elements rests if its places do
 own_part_rests : (n : ℕ) (s : Sight) (u : Flag) (cs : Contexts) (ns : Forest) → NoNull ns → AllRest n s u cs (zip (elements_in ns) (places ns))
     → PartRests n s u (part cs (elements_in ns) ns)
 own_part_rests n s u cs ns there h = rw (matches_itself ns there) h

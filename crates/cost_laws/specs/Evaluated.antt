@@ -41,7 +41,7 @@ abbrev pub below_boundary : Flag → Element → Option Node → Flag
 below_boundary u e old =
     record { generation = own_generation (is_again u e old && not (was_hidden old)) u.generation; stood = stands_below u.stood e old }
 
--- of its fallback where its children are not tried, since it is untouched: its element is the committed one, and it stands as the boundary does
+-- of its fallback if its children are not tried, since it is untouched: its element is the committed one, and it stands as the boundary does
 abbrev pub beside_kept : Flag
 beside_kept = record { generation = 0; stood = true }
 

@@ -21,7 +21,7 @@ ghost use Rattle.cost_laws.specs.Untouched.{is_untouched};
 
 /// A render evaluates exactly the bodies of components that have a cause, and of those whose element was made anew, what
 /// untouched hidden boundaries keep apart. That holds at its start, and is kept by a unit that evaluates what it has to and tries
-/// no untouched boundary, by a subtree that is taken over where nothing of it is evaluated, by an attempt of an untouched
+/// no untouched boundary, by a subtree that is taken over if nothing of it is evaluated, by an attempt of an untouched
 /// boundary that is left out, and by a longer journal.
 pub fn bodies_are_counted()
     ensures start { (s : Sight) (old : Option Node) → Costs s old 0 [] (start s old) }

@@ -1,4 +1,4 @@
--- The elements of a body fit the program, where each name of it is known.
+-- The elements of a body fit the program, if each name of it is known.
 use Rattle.std.specs.Prelude.{◌≡◌, ℕ, Bool, true, false, ◌||◌, cond, List, [], ◌∷◌, ◌++◌, ℤ, pos, Some, fold, length, map, option_map, refl}
 use Rattle.std.specs.List.{range_with_len}
 use Rattle.std.proofs.Common.{inl, inr, sym, ap, subst}

@@ -1,4 +1,4 @@
--- What a name stands for is there, where each name of a program is known.
+-- What a name stands for is there, if each name of a program is known.
 use Rattle.std.specs.Prelude.{◌≡◌, ℕ, zero, suc, ◌+◌, ◌<◌, Bool, true, false, not, cond, nat_eq, nat_lt, List, [], ◌∷◌, Option, Some, None, bytes_eq, filter_map, find, length, map, option_map, slice_get, unwrap_or, refl}
 use Rattle.std.specs.List.{position_or_len}
 use Rattle.std.specs.Option.{option_map_or}

@@ -155,7 +155,7 @@ module _ (P : Mounted → Type 0) where
 
 -- ---- what is mounted
 
--- an instance that is mounted where something is visible or not
+-- an instance that is mounted, visible or not
 met_where : (Q R : ℕ → List ℤ → Type 0) (n : ℕ) (xs : List ℤ) (m : Mounted) (v : Bool) → m.number ≡ n → m.initials ≡ xs → m.visible ≡ v → IfHidden v (Q n xs) (R n xs)
     → MountedMeets Q R m
 met_where Q R n xs m true number initials visible h =
@@ -166,7 +166,7 @@ met_where Q R n xs m false number initials visible h =
     record { where_visible = λ shown. let bad : false ≡ true = sym visible ∙ shown in cc; where_hidden = λ _. here }
 
 module _ (Q R : ℕ → List ℤ → Type 0) where
-  -- what a mark's instance meets, where it is visible or not
+  -- what a mark's instance meets, if it is visible or if it isn't
   abbrev MarkAt : Bool → Mark → Type 0
   MarkAt v m = IfHidden v (MarkMeets Q m) (MarkMeets R m)
 
@@ -219,7 +219,7 @@ module _ (Q R : ℕ → List ℤ → Type 0) where
     all_hidden a (vacant ns) seen h = all_hidden a ns seen h
     all_hidden a (child n ns) seen h = spots_join (MountedMeets Q R) (spots a n) (spots_in a ns) (hidden_spots a n seen h.0) (all_hidden a ns seen h.1)
 
-  -- the children of a visible node: hidden where it is a hidden boundary, else visible
+  -- the children of a visible node: hidden if it is a hidden boundary, else visible
   children_at : (a : Around) (mark : Mark) (ns : Forest) → a.visible ≡ true
       → ((b : Around) → b.visible ≡ true → AllMade Q R ns → SpotsHave (MountedMeets Q R) (spots_in b ns))
       → IfHidden (is_hidden mark) (AllMeet R ns) (AllMade Q R ns) → SpotsHave (MountedMeets Q R) (spots_in (around_children a mark) ns)
@@ -275,7 +275,7 @@ module _ (R : ℕ → List ℤ → Type 0) where
     all_from a (vacant ns) h = all_from a ns h
     all_from a (child n ns) h = (tree_from a n (spots_first Meets (spots a n) (spots_in a ns) h), all_from a ns (spots_second Meets (spots a n) (spots_in a ns) h))
 
-  -- where each instance that is mounted meets this, each one of the tree does
+  -- if each instance that is mounted meets this, each one of the tree does
   pub old_from : (old : Option Node) → EachMounted (λ (m : Mounted). R m.number m.initials) old → OldHas (TreeMeets R) old
   old_from None h = tt
   old_from (Some n) h = tree_from at_root n (spots_have Meets (spots at_root n) h)

@@ -148,11 +148,11 @@ module _ (Q R : ℕ → List ℤ → Type 0) where
   nodes_made s (at_end n fs o done) olds h meets = arrive_made n fs (Some (finished o done)) (finished_made o done h.0 h.1, tt) h.2
   nodes_made s (ended p) olds h meets = h
 
-  -- a unit keeps what holds of the instances, where the one that it begins meets the first
+  -- a unit keeps what holds of the instances, if the one that it begins meets the first
   pub unit_makes : (s : Sight) (c : Cursor) → BeginsMeeting Q c → InstancesMade Q R c → InstancesMade Q R (unit s c)
   unit_makes s c meets h = record { nodes = nodes_made s c h.olds h.nodes meets; olds = unit_has (TreeMeets R) (goes_down R) s c h.olds }
 
-  -- so does a subtree that is taken over, where it holds of that
+  -- so does a subtree that is taken over, if it holds of that
   pub take_makes : (n : ℕ) (fs : List Frame) (cs : Contexts) (e : Element) (o : Node) → TreeMade Q R o → InstancesMade Q R (at_place n fs cs e (Some o))
       → InstancesMade Q R (arrive n fs (Some o))
   take_makes n fs cs e o tree h = record { nodes = arrive_made n fs (Some o) (tree, tt) h.nodes; olds = arrive_has (TreeMeets R) (goes_down R) n fs (Some o) h.olds.1 }

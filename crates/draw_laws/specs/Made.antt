@@ -66,19 +66,19 @@ NodesMade Q R (at_place levels fs cs e old) = FramesMade Q R fs
 NodesMade Q R (at_end levels fs o done) = OpenMade Q R o × DoneMade Q R done × FramesMade Q R fs
 NodesMade Q R (ended p) = PlaceMade Q R p
 
--- Each instance with a number among the nodes that are done or open meets the first, where it is visible; each one that is kept hidden meets the second, and so does each one of the old nodes that are still to come.
+-- Each instance with a number among the nodes that are done or open meets the first, if it is visible; each one that is kept hidden meets the second, and so does each one of the old nodes that are still to come.
 pub record InstancesMade (shown kept : ℕ → List ℤ → Type 0) (c : Cursor) : Type 0 where
   pub nodes : NodesMade shown kept c
   pub olds : CursorHas (TreeMeets kept) c
 
--- where the next unit begins a component's place that has an old instance with a number, that meets this
+-- if the next unit begins a component's place that has an old instance with a number, that meets this
 abbrev pub BeginsMeeting : (ℕ → List ℤ → Type 0) → Cursor → Type 0
 BeginsMeeting Q (at_place levels fs cs e old) =
     (c : ℕ) (i : Instance) (n : ℕ) → component_in e ≡ Some c → old_instance old ≡ Some i → i.number ≡ Some n → Q n i.initials
 BeginsMeeting Q (at_end levels fs o done) = Unit {0}
 BeginsMeeting Q (ended p) = Unit {0}
 
--- an instance of a tree meets the first where it is visible, and else the second
+-- an instance of a tree meets the first if it is visible, and else the second
 pub record MountedMeets (shown kept : ℕ → List ℤ → Type 0) (m : Mounted) : Type 0 where
   pub where_visible : m.visible ≡ true → shown m.number m.initials
   pub where_hidden : m.visible ≡ false → kept m.number m.initials
@@ -91,6 +91,6 @@ EachMounted P tree = (k : ℕ) (m : Mounted) → slice_get (mounted tree) k ≡ 
 abbrev pub Passes : (ℕ → List ℤ → Bool) → ℕ → List ℤ → Type 0
 Passes test n initials = test n initials ≡ true
 
--- where an instance of a tree doesn't have one of the numbers from this one on, it meets the first where it is visible, and else the second
+-- if an instance of a tree doesn't have one of the numbers from this one on, it meets the first if it is visible, and else the second
 abbrev pub IsNewOrMeets : (next : ℕ) → (shown kept : ℕ → List ℤ → Type 0) → Mounted → Type 0
 IsNewOrMeets next Q R m = (next ≤ m.number) ⊎ MountedMeets Q R m

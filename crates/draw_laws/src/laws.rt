@@ -16,7 +16,7 @@ ghost use Rattle.draw_laws.specs.Drawn.{IsDrawn, AreDrawn};
 ghost use Rattle.draw_laws.specs.Cursors.{CursorDrawn};
 ghost use Rattle.draw_laws.specs.Made.{BeginsMeeting, EachMounted, InstancesMade, IsNewOrMeets, MountedMeets, Passes, TreeMade};
 
-/// Where each name of a program is known, the elements of a body that is ready fit the program, if the children that it
+/// If each name of a program is known, the elements of a body that is ready fit the program, provided the children that it
 /// is given do; and so does the root's element.
 pub fn bodies_are_drawn()
     ensures body { (p : Program) (number : ℕ) (c : Component) (i : Inputs) (es : List Element) (effects : List EffectRecord)
@@ -41,7 +41,7 @@ pub fn cursors_are_drawn()
 {}
 
 /// What holds of the instances that a render has made: a test of each visible one that had a number before, and another
-/// of each one that a hidden boundary keeps. It holds at the start where each mounted instance passes the second test; a
+/// of each one that a hidden boundary keeps. It holds at the start if each mounted instance passes the second test; a
 /// unit keeps it that begins no component's place, or one whose old instance passes the first; the old instance of each
 /// place passes the second. At the end each instance
 /// of the new tree passes its test, but for the new ones once they have their numbers.

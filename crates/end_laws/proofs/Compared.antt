@@ -49,7 +49,7 @@ compared_before a (p ∷ ps) none = refl
 compared_before a ps (vacant ns) = refl
 compared_before a ps (child n ns) = refl
 
--- where the children are compared alike with any pasts, they are with those of the old children
+-- if the children are compared alike with any pasts, they are with those of the old children
 list_same : (a : Above) (old new : Forest)
     → ((ps : List Past) → compare_in a (map trimmed_past ps) (trimmed_in new) ≡ trimmed_all (compare_in a ps new))
     → compare_in a (pasts (trimmed_in old) (elements_in (trimmed_in new))) (trimmed_in new) ≡ trimmed_all (compare_in a (pasts old (elements_in new)) new)

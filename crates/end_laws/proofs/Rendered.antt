@@ -1,4 +1,4 @@
--- A render against a trimmed tree gives the same, trimmed; so where it waits it waits for the same.
+-- A render against a trimmed tree gives the same, trimmed; so if it waits, it waits for the same.
 use Rattle.std.specs.Prelude.{◌≡◌, ℕ, zero, suc, List, [], ◌∷◌, map, ℤ, Option, Some, None, option_and_then}
 use Rattle.std.specs.List.{zip}
 use Rattle.std.proofs.Common.{refl, sym, ap, subst, ◌∙◌}
@@ -204,6 +204,6 @@ mutual
   all_agreed s t (vacant ns) h = all_agreed s t ns (vacant_agreed s t (trimmed_in ns) h)
   all_agreed s t (child n ns) h = (node_agreed s t n h.0, all_agreed s t ns h.1)
 
--- instances of a list agree where those of one do that differs at its ends alone
+-- instances of a list agree if those of one do that differs at its ends alone
 pub values_same : (s t : Sight) (ns ms : Forest) → trimmed_in ns ≡ trimmed_in ms → AllValuesAgree s t ns → AllValuesAgree s t ms
 values_same s t ns ms same h = all_agreed s t ms (subst (AllValuesAgree s t) same (all_agree s t ns h))

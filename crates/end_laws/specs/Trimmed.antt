@@ -2,7 +2,7 @@
 use Rattle.std.specs.Prelude.{Option, option_map}
 use Rattle.rx_elem.specs.Trees.{Node, node, Forest, none, vacant, child}
 
--- a vacant place before the other places of a list, but none where no place follows
+-- a vacant place before the other places of a list, but none if no place follows
 abbrev pub vacant_before : Forest → Forest
 vacant_before none = none
 vacant_before (vacant ns) = vacant (vacant ns)

@@ -14,7 +14,7 @@ use std::rt::Env;
 use std::sync::ledger::{Blank, Ledger};
 use std::{env, io};
 
-/// The words after the program's name. Where one of them isn't UTF-8, an empty word stands for them all, and no command
+/// The words after the program's name. If one of them isn't UTF-8, an empty word stands for them all, and no command
 /// is an empty word.
 fn gather<R: Env + AllocGlobal>(rt: &R) -> Result<Vec<String>, AllocError> {
     let alloc = rt.alloc();

@@ -1,4 +1,4 @@
--- Steps that a root takes, and the views of them, where all of it succeeds.
+-- Steps that a root takes, and the views of them, if all of it succeeds.
 use Rattle.std.proofs.Common.{◌≡◌, ◌∙◌, ℕ, Bool, [], ◌∷◌, ◌++◌, ap, append_assoc, append-nil, List, take, sym, subst, refl, arith, ◌≤◌, ◌^◌}
 use Rattle.std.specs.Prelude.{Result, Ok, Err, IfOk, OnOk, false}
 use Rattle.rx_base.specs.Values.{Text}
@@ -20,12 +20,12 @@ use Rattle.fiber_view.specs.Shown.{AreShown, ShowsState, none, one_more, shown_o
 use Rattle.fiber_view.specs.Pages.{IsBook, start_title}
 use Rattle.fiber_view.specs.Taken.{Continues, TakesAndShows}
 
--- what follows where a call succeeds
+-- what follows if a call succeeds
 pub on-ok : {T E : Type 0} (r : Result T E) (P Q : Type 0) → (P → Q) → OnOk r P → OnOk r Q
 on-ok (Ok _) P Q f p = f p
 on-ok (Err _) P Q f p = tt
 
--- what follows of a value, where that is known of a success
+-- what follows of a value, if that is known of a success
 pub if-ok : {T E : Type 0} (r : Result T E) (P Q : T → Type 0) → ((x : T) → P x → Q x) → IfOk r P → IfOk r Q
 if-ok (Ok x) P Q f p = f x p
 if-ok (Err _) P Q f p = tt

@@ -28,9 +28,10 @@ shown_options = record { counts = true; ops = true }
 abbrev pub rendering_of : Option Progress → Option Rendering
 rendering_of progress = option_map (λ g. record { lanes = g.lanes; units = g.units; bodies = g.bodies }) progress
 
--- The facts are those of a state: its pending lanes, the transition lanes that are expired, the render in progress, what the next turn does, how many boundaries are hidden, and the clock.
+-- The facts are those of a state: its pending and suspended lanes, the transition lanes that are expired, the render in progress, what the next turn does, how many boundaries are hidden, and the clock.
 pub record AreFacts (s : State) (f : Facts) : Type 0 where
   pub pending : f.pending ≡ s.schedule.pending
+  pub suspended : f.suspended ≡ s.schedule.suspended
   pub expired : (l : Lane) → has f.expired l ≡ (is_transition l && is_expired s.schedule.deadlines s.now l)
   pub rendering : f.rendering ≡ rendering_of s.progress
   pub next : f.next ≡ choice_of s

@@ -59,6 +59,7 @@ pub(crate) fn facts_of(root: &Root) -> Facts
 {
     Facts {
         pending: root.pending(),
+        suspended: root.suspended(),
         expired: root.expired(),
         rendering: rendering_of(root),
         next: root.next_turn(),

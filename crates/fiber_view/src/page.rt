@@ -62,7 +62,7 @@ fn book_of<L: Ledger>(
 ///
 /// # Errors
 ///
-/// Want of memory alone.
+/// Only if out of memory.
 pub(crate) fn page<L: Ledger>(
     alloc: Global,
     input: &[u8],

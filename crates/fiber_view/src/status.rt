@@ -17,7 +17,7 @@ pub(crate) enum Status {
     ProgramRefused,
     /// The script is refused.
     ScriptRefused,
-    /// Want of memory.
+    /// Out of memory.
     OutOfMemory,
 }
 

@@ -39,7 +39,7 @@ pub(crate) fn refuse_words<K: Sink>(out: &mut K) -> Status
     tell(out, b"usage: fiber_view < INPUT > PAGE\n", Status::Usage)
 }
 
-// Writes the page of an input that is accepted. Where there is no memory for it, nothing is written.
+// Writes the page of an input that is accepted. If there is no memory for it, nothing is written.
 fn show<K: Sink, L: Ledger>(
     alloc: Global,
     input: &[u8],
@@ -109,7 +109,7 @@ pub(crate) fn view<S: Source, K: Sink, L: Ledger>(
     // 5: more came than may come.
     ensures too_long { result ≡ Status.TooLong → RefusesLength (S.left src.old) (S.left src.new) (K.written out.old) (K.written out.new) }
 
-    // 3, 4 and 8: the source or the sink failed; where there was no memory, or the source failed, nothing was written.
+    // 3, 4 and 8: the source or the sink failed; if there was no memory, or the source failed, nothing was written.
     ensures read_fault { result ≡ Status.ReadFault → Rose (S.faults src.old) (S.faults src.new) }
     ensures nothing_read { result ≡ Status.ReadFault → out.new ≡ out.old }
     ensures write_fault { result ≡ Status.WriteFault → Rose (K.faults out.old) (K.faults out.new) }

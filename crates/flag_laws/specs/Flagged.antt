@@ -15,7 +15,7 @@ use Rattle.rx_complete.specs.declared.completing.Next.TheVariants.{Sibling, Pare
 use Rattle.cost_laws.specs.Evaluated.{Flag, above_root, after_attempt}
 use Rattle.cost_laws.specs.Left.{Flags, flag, outer, unwound}
 
--- a fiber that waits is as a flag tells: its element is of the generation of the place, and it stood exactly where the place does
+-- a fiber that waits is as a flag tells: its element is of the generation of the place, and it stood exactly if the place does
 abbrev pub IsTold : Flag → Fiber → Type 0
 IsTold u v = (generation_of v.stage ≡ u.generation) × (is_stood v.stage ≡ u.stood)
 
@@ -48,12 +48,12 @@ pub record FlagsHere (t : Trees Fiber) (p : ℕ) (kids : Draft Fiber) (us : Flag
   pub here : t.draft ≡ placed around (made p value old kids rest)
   pub flagged : IsFlagged around rest us
 
--- the flags where the next unit begins the place of a fiber: it is as its flag tells too
+-- the flags when the next unit begins the place of a fiber: it is as its flag tells too
 pub record FlagsAtPlace (t : Trees Fiber) (p : ℕ) (us : Flags) : Type 0 where
   pub flags : FlagsHere t p (taken shapes.none) us
   pub told : IsTold (flag us) flags.value
 
--- the flags where the next unit completes the node of a fiber, whose list is done
+-- the flags when the next unit completes the node of a fiber, whose list is done
 pub record FlagsAtEnd (t : Trees Fiber) (q : ℕ) (us : Flags) : Type 0 where
   pub inner : Around Fiber
   pub here : t.draft ≡ placed inner (taken shapes.none)
@@ -70,7 +70,7 @@ FlagsAfter t us (Sibling id) = FlagsAtPlace t id us
 FlagsAfter t us (Parent id) = FlagsAtEnd t id us
 FlagsAfter t us Done = Unit {0}
 
--- the flags where it comes from a fiber that was opened: to the first of its children, or to its end where it has none
+-- the flags where it comes from a fiber that was opened: to the first of its children, or to its end if it has none
 abbrev pub FlagsOpened : Trees Fiber → (q : ℕ) → Flags → (first : Option ℕ) → Type 0
 FlagsOpened t q us None = FlagsAtEnd t q us
 FlagsOpened t q us (Some id) = FlagsAtPlace t id us

@@ -25,7 +25,7 @@ without-append p [] ys h k = k
 without-append p (b ∷ xs) ys h k =
     let m = both-true (not (p b)) (without p xs) h in both (not (p b)) (without p (xs ++ ys)) m.0 (without-append p xs ys m.1 k)
 
--- where no byte passes, the text is the one part
+-- if no byte passes, the text is the one part
 pub split-none : (p : ℕ → Bool) (xs : Text) → without p xs ≡ true → slice_split p xs ≡ xs ∷ []
 split-none p [] h = refl
 split-none p (b ∷ xs) h =

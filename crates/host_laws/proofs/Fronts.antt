@@ -42,7 +42,7 @@ abbrev mutual
 abbrev pub staying : (ℕ → Bool) → (ℕ → Bool) → Option Node → List ℕ
 staying s k o = filter s (filter k (front_if o))
 
--- what stands of a new node is what stays of the old one, and nothing where it is displaced
+-- what stands of a new node is what stays of the old one, and nothing if it is displaced
 abbrev Same : (ℕ → Bool) → (ℕ → Bool) → Above → Past → Node → Type 0
 Same s k a p n = (filter s (front n) ≡ staying s k p.old) × ((change_of a p n).displaced ≡ true → filter s (front n) ≡ [])
 
@@ -241,7 +241,7 @@ forest_same s k a os ns same gone =
     empty p true e u = moved_are_empty s k a os find (null_was_nothing (identified (elements_in os))) [] 0 ns h p e u
     empty p false e u = ap (filter s) (gone p e)
 
--- where a parent is displaced, all is
+-- if a parent is displaced, all is
 none_stand : (s k : ℕ → Bool) (a : Above) (ps : List Past) (ns : Forest) → a.displaced ≡ true → AllSame s k a ps ns → filter s (front_in ns) ≡ []
 none_stand s k a ps none d h = refl
 none_stand s k a ps (vacant ns) d h = none_stand s k a (rest_pasts ps) ns d h

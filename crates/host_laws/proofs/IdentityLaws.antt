@@ -90,7 +90,7 @@ not_true : (b : Bool) → (b ≡ true → ⊥) → b ≡ false
 not_true true h = absurd (h refl)
 not_true false h = refl
 
--- where only one element passes, it is the one that `position` finds
+-- if only one element passes, it is the one that `position` finds
 pub position_of_one : {X : Type 0} (f : X → Bool) (xs : List X) (p : ℕ) (d : X) → slice_get xs p ≡ Some d → f d ≡ true
     → ((k : ℕ) (x : X) → slice_get xs k ≡ Some x → f x ≡ true → k ≡ p) → position f xs ≡ Some p
 position_of_one {X} f xs p d here pass only =
@@ -194,7 +194,7 @@ moves_then top (Some q ∷ ps) (suc i) p h (inr r) =
       | inr s ↦ moves_then (max top (q + 1)) ps i p h (inr s)
     ]
 
--- a reused child moves exactly where one of the reused children before it was at a greater place
+-- a reused child moves exactly if one of the reused children before it was at a greater place
 pub moves_exactly : (places : List (Option ℕ)) (i p : ℕ) → slice_get places i ≡ Some (Some p)
     → (slice_get (moves places) i ≡ Some true) ↔ IsPassed places i p
 moves_exactly places i p h = subst (λ ms. (slice_get ms i ≡ Some true) ↔ IsPassed places i p) (sym (moves_rise places)) (

@@ -123,7 +123,7 @@ by_unmoved {X} G top (Some p ∷ ps) (x ∷ xs) c =
     go rest true = rest
     go rest false = ap (λ ys. G p ++ ys) rest
 
--- Where places without an unmoved child contribute nothing, the new children in their order contribute what the old ones do in theirs.
+-- If places without an unmoved child contribute nothing, the new children in their order contribute what the old ones do in theirs.
 pub order_is_kept : {X : Type 0} (G : ℕ → List X) (ps : List (Option ℕ)) (k : ℕ) (xs : List (List X)) → AreApart ps → Contribute G 0 ps xs
     → ((p : ℕ) → is_among (unmoved 0 ps) p ≡ true → p < k) → ((p : ℕ) → p < k → is_among (unmoved 0 ps) p ≡ false → G p ≡ [])
     → joined xs ≡ flat_map G (range_with_len 0 k)

@@ -65,7 +65,7 @@ pub all_below : (P : Host → Type 0) (a : Around) (m : Mark) (ns fs : Forest) �
     → AllByRecursion P (filter_map host_at (spots_in (around_children a m) ns ++ spots_in a fs))
 all_below P a m ns fs x y = subst (AllByRecursion P) (sym (below-append a m ns fs)) (all_both P (hosts_in (around_children a m) ns) (hosts_in a fs) x y)
 
--- of a node, where it is a host of the list it holds too
+-- of a node: if it is a host of the list, it holds of that too
 pub all_at : (P : Host → Type 0) (a : Around) (e : Element) (m : Mark) (ns fs : Forest) → HasNumber e m
     → ((n : ℕ) (c : Content) → m ≡ of_host (Some n) → content_of e ≡ Some c → P (host_as a n c))
     → AllByRecursion P (hosts_in (around_children a m) ns) → AllByRecursion P (hosts_in a fs) → AllByRecursion P (hosts_at a (node e m ns fs))

@@ -1,4 +1,4 @@
--- A host of a new tree is placed exactly where its change is displaced.
+-- A host of a new tree is placed exactly if its change is displaced.
 use Rattle.std.specs.Prelude.{◌≡◌, ℕ, Bool, true, false, not, ◌&&◌, ◌||◌, List, [], ◌∷◌, ◌++◌, Option, Some, None, filter_map, nat_eq, refl, if◌then◌else◌}
 use Rattle.std.specs.List.{cons_option}
 use Rattle.std.proofs.Common.{sym, ◌∙◌, ap, subst, arith}
@@ -81,7 +81,7 @@ placed_other a p e m ns fs q unnumbered =
     let ys = changes_in (compare_in (above_fallback c) (pasts (fallback_if p.old) (elements_in fs)) fs) in
     ap (λ ns. is_placed ns q) (not_own c.displaced (host_number m) (placed_hosts (xs ++ ys)) unnumbered) ∙ placed-append xs ys q
 
--- where a part of a tree has no such host, none of that number is placed in it
+-- if a part of a tree has no such host, none of that number is placed in it
 abbrev NotPlaced : Above → List Past → Forest → Around → Type 0
 NotPlaced a ps ns b = (q : ℕ) → has_host (hosts_in b ns) q ≡ false → Placed_in a ps ns q ≡ false
 
@@ -251,7 +251,7 @@ host_parts P a p e n ns fs b x is k l d0 says0 = (own, parts_below P a p e (of_h
     own = says n (ap (λ t. t || has_host rest n) self) ∙ ap (λ t. (c.displaced && nat_eq n n) || t) nothing ∙ rw self (last c.displaced)
 
 mutual
-  -- in a tree whose placed hosts are these, a host stands exactly where its change isn't displaced
+  -- in a tree whose placed hosts are these, a host stands exactly if its change isn't displaced
   pub fair_from : (P : List ℕ) (k w : ℕ → Bool) (a : Above) (p : Past) (n : Node) (b : Around) → Rendered k w p n → AreNumbered n → AreDistinct (hosts_at b n)
       → SaysOf P (hosts_at b n) (Placed a p n) → Fair (stands P) k w a p n
   fair_from P k w a p (node e (of_host None) ns fs) b r num d says = absurd num.0

@@ -332,7 +332,7 @@ all_settle placed u p before (h ∷ hs) f distinct fits i =
         )
     go one two false e = let r = one (rw e refl) in rw (e, ← append_assoc before (h ∷ []) hs) r
 
--- Where the children that stand have the old order, the placements give each number the new children, and change nothing else.
+-- If the children that stand have the old order, the placements give each number the new children, and change nothing else.
 pub placements_settle : (placed : List ℕ) (new : List Host) (f : HostForest) → AreDistinct new
     → ((q : ℕ) → filter (stands placed) (f.children q) ≡ filter (stands placed) (children_in new q))
     → ((q : ℕ) → list_all (has_host new) (f.children q) ≡ true)

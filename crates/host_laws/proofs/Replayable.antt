@@ -224,7 +224,7 @@ module _ (old new : List Host) (placed : List ℕ) (r : AreRelated old new place
       can_four : CanBeReplayed (forest_of old) (removals old new ++ creations old new ++ placements placed new ++ contents old new)
       can_four = can_append (removals old new ++ creations old new ++ placements placed new) (contents old new) (forest_of old) settled.0 all_three can_three contents_can
 
--- each operation of a commit can be made in its turn, where no text has children
+-- each operation of a commit can be made in its turn, if no text has children
 pub commit_made : (old : Option Node) (new : Node) → IsCommit old new → TextsAreLeaves new → CanBeReplayed (forest_of (hosts old)) (host_ops old new)
 unfolding host_ops
 commit_made old new c leaves =

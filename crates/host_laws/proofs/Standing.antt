@@ -114,7 +114,7 @@ module _ (placed : List ℕ) (u p : ℕ → Bool) (before : List Host) (h : Host
   own : has_host (h ∷ hs) h.number ≡ true
   own = ap (λ b. b || has_host hs h.number) ((Decides-eqb h.number h.number).1 refl)
 
-  -- where a host that has come to its place is a child, its parent stands before
+  -- if a host that has come to its place is a child, its parent stands before
   settled_parent : (m k : ℕ) → has_host before k ≡ true → is_among (f.children m) k ≡ true → IsAbove before m
   settled_parent m k there child = go (either (is_among (children_in before m) k) _ (sym (among-append (children_in before m) later k) ∙ ap (λ ms. is_among ms k) (sym (i.lists m)) ∙ in_list))
     where

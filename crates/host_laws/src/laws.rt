@@ -28,7 +28,7 @@ pub fn no_child_is_reused_twice()
     ensures { (old new : List Element) → AreApart (old_places old new) }
 {}
 
-/// A reused child moves exactly where a reused child before it had a greater place.
+/// A reused child moves exactly if a reused child before it had a greater place.
 pub fn moves_exactly_the_passed()
     ensures { (places : List (Option ℕ)) (i p : ℕ)
         → slice_get places i ≡ Some (Some p) → (slice_get (moves places) i ≡ Some true ↔ IsPassed places i p) }
@@ -48,7 +48,7 @@ pub fn removals_leave_the_rest()
         → AreDistinct old → ParentsFirst old → GoneBelow old new → Replays (forest_of old) (removals old new) (rest_of old new) }
 {}
 
-/// Where the children that aren't placed keep their order, the placements make each list of children the new one, and
+/// If the children that aren't placed keep their order, the placements make each list of children the new one, and
 /// change nothing else.
 pub fn placements_settle_the_children()
     ensures { (placed : List ℕ) (new : List Host) (f : HostForest)
@@ -69,7 +69,7 @@ pub fn operations_have_one_result()
     ensures { (f : HostForest) (ops : List HostOp) (g h : HostForest) → Replays f ops g → Replays f ops h → g ≡ h }
 {}
 
-/// Each operation between two lists of hosts can be made in its turn, where in the new list each parent stands before its
+/// Each operation between two lists of hosts can be made in its turn, if in the new list each parent stands before its
 /// children and is the container or an element, and no host has the container's number.
 pub fn operations_can_be_made()
     ensures { (old new : List Host) (placed : List ℕ)
@@ -83,7 +83,7 @@ pub fn commit_replays()
         → IsCommit old new → Replays (forest_of (hosts old)) (host_ops old new) (forest_of (hosts (Some new))) }
 {}
 
-/// Each operation of a commit can be made in its turn, where no text has children.
+/// Each operation of a commit can be made in its turn, if no text has children.
 pub fn commit_can_be_made()
     ensures { (old : Option Node) (new : Node) → IsCommit old new → TextsAreLeaves new → CanBeReplayed (forest_of (hosts old)) (host_ops old new) }
 {}

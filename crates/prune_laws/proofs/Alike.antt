@@ -66,7 +66,7 @@ shown_by c (of_boundary Shown) e h = rw e (never_hides (old_state c) c.was_visib
 shown_by c (of_boundary (Hidden waits)) e h = absurd (cc h)
 shown_by c plain e h = rw e refl
 
--- A node is alike where its children are and the same of them are gone.
+-- A node is alike if its children are and the same of them are gone.
 module _ (a : Above) (moved : Bool) (e f : Element) (m w : Mark) (os ns ps qs : Forest) where
   -- the change of the whole node
   abbrev pub whole_change : Change

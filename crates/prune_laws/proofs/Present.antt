@@ -1,4 +1,4 @@
--- Where no node of a tree is one of null: in settled trees, and in what stands in them.
+-- No node is one of null in settled trees and in what stands in them.
 use Rattle.std.specs.Prelude.{◌≡◌, true, Option, Some, None, refl}
 use Rattle.rx_ast.specs.Syntax.{Program}
 use Rattle.rx_elem.specs.Elements.{Element, is_present}

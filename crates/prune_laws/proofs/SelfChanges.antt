@@ -1,4 +1,4 @@
--- A tree against itself places nothing where it isn't displaced, and hides nothing anew.
+-- A tree against itself places nothing if it isn't displaced, and hides nothing anew.
 use Rattle.std.specs.Prelude.{◌≡◌, Bool, true, false, List, [], ◌∷◌, ◌++◌, Option, Some, None, cond, filter, refl}
 use Rattle.std.specs.Option.{option_map_or}
 use Rattle.std.proofs.lemmas.List.Elements.{filter-append, filter_map-append}

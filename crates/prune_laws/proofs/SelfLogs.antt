@@ -1,4 +1,4 @@
--- A tree against itself, where it was visible, destroys and creates nothing.
+-- A tree against itself, if it was visible, destroys and creates nothing.
 use Rattle.std.specs.Prelude.{◌≡◌, ℕ, Bool, true, false, List, [], ◌∷◌, ℤ, Option, Some, None, cond, filter, option_and_then, refl}
 use Rattle.std.specs.List.{zip}
 use Rattle.std.specs.Ordering.{int_eq}
@@ -78,7 +78,7 @@ no_gone : (a : Above) (n : Node) → gone_below (itself a n) ≡ []
 no_gone a (node e m ns fs) =
     let c : Change = itself a (node e m ns fs) in rw (none_gone (above_children c).was_visible ns, none_gone c.was_visible fs) refl
 
--- children log nothing against their own elements where none of them does that was itself
+-- children log nothing against their own elements if none of them does that was itself
 against_own : (a : Above) (ns : Forest) → AllHaveNoNull ns → AreSilent (compare_in a (unmoved ns) ns) → AreSilent (compare_in a (pasts ns (elements_in ns)) ns)
 against_own a ns present silent = subst (λ ps. AreSilent (compare_in a ps ns)) (sym (pasts_unmoved ns present)) silent
 

@@ -13,7 +13,7 @@ ghost use Rattle.rx_pruned.specs.Pruned.{ArePruned};
 ghost use Rattle.prune_laws.specs.Present.{IfHasNoNull};
 
 /// An old tree and the new one that it became have the same effects without some lists of children that stayed the same,
-/// place the same hosts, and come to the same outcome, where no node of the old tree is one of null. None is in a settled tree.
+/// place the same hosts, and come to the same outcome, if no node of the old tree is one of null. None is in a settled tree.
 pub fn pruned_trees_compare_alike()
     ensures layout { (old : Option Node) (new : Node) (p : Option Node) (q : Node) → IfHasNoNull old → ArePruned old new p q
         → layout_log (compare_trees p q) ≡ layout_log (compare_trees old new) }

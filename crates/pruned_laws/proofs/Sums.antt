@@ -56,7 +56,7 @@ picked_agrees f g (Some q ∷ ps) same = omega (arith, same 0 q refl, picked_agr
 same_place : (j p : ℕ) → nat_eq j p ≡ true → j ≡ p
 same_place j p e = grind (arith, nat_tests)
 
--- where two sums agree at each place that is not picked, they differ by what is picked
+-- if two sums agree at each place that is not picked, they differ by what is picked
 pub picked_differ : (n : ℕ) (f g : ℕ → ℕ) (ps : List (Option ℕ)) → PickedOnce ps → ((p : ℕ) → n ≤ p → f p ≡ g p) → ((p : ℕ) → is_reused ps p ≡ false → f p ≡ g p)
     → total n f + picked g ps ≡ total n g + picked f ps
 picked_differ n f g [] once past same = ap (λ t. t + 0) (total_agrees n f g (λ p. same p refl))

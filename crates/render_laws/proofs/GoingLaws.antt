@@ -193,7 +193,7 @@ unit_at : (s : Sight) (n : ℕ) (fs : List Frame) (cs : Contexts) (e : Element) 
 unfolding unit
 unit_at s n fs cs e o = refl
 
--- A place begins without its body where it is known what stands there.
+-- A place begins without its body if it is known what stands there.
 pub skip_holds : (s : Sight) (old : Option Node) (units bodies n : ℕ) (fs : List Frame) (cs : Contexts) (e : Element) (o : Option Node) (shape : Shape)
     → shape_of s cs e o ≡ shape → InProgress s old units bodies (at_place (suc n) fs cs e o) → InProgress s old (suc units) bodies (begin n fs e o shape)
 skip_holds s old units bodies n fs cs e o shape known h =

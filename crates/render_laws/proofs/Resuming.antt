@@ -135,6 +135,6 @@ end_gives : (s : Sight) (p : Place) → gives s (ended p) ≡ p
 unfolding gives
 end_gives s p = refl
 
--- Where no unit is left, the result is the fresh tree.
+-- If no unit is left, the result is the fresh tree.
 pub end_is_fresh : (k : ℕ) (s : Sight) (old : Option Node) (p : Place) → after k s old ≡ ended p → p ≡ fresh s old
 end_is_fresh k s old p h = sym (end_gives s p) ∙ (ap (gives s) (sym h) ∙ after_gives k s old)

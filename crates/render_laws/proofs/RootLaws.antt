@@ -99,7 +99,7 @@ fits_bounded : (n : ℕ) (p : Program) (bound : ℕ) → 1 + (body_size n p (com
     → (new : Node) → Fits (root_alts n p) new → node_count (Some new) ≤ bound
 fits_bounded n p bound h new fits = omega (arith, spots_count at_root new, fits_count (root_alts n p) new fits, root_size n p)
 
--- The bound, where it is within the limit, is not held.
+-- The bound, if it is within the limit, is not held.
 pub bound_is_own : (p : Program) → node_bound p ≤ node_limit → 1 + (body_size component_levels p (component_number p root_name)).own ≤ node_bound p
 unfolding node_bound
 bound_is_own p h = omega arith

@@ -1,4 +1,4 @@
--- Each old node that a render may still come to is settled, where the old tree is.
+-- Each old node that a render may still come to is settled, if the old tree is.
 use Rattle.std.specs.Prelude.{◌≡◌, ℕ, suc, List, Option, Some, None}
 use Rattle.rx_base.specs.Awaits.{Awaits}
 use Rattle.rx_ast.specs.Syntax.{Program}

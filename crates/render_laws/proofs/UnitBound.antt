@@ -77,7 +77,7 @@ if_node empty = 0
 if_node (made n) = 1
 if_node (waits a) = 0
 
--- one count is at most another, and less where a node comes
+-- one count is at most another, and less if a node comes
 abbrev IsFewer : Renders → Tries → Tries → Type 0
 IsFewer render f g = (e : Element) (old : Option Node) → f e old + if_node (render e old) ≤ g e old
 

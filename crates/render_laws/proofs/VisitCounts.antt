@@ -28,7 +28,7 @@ unless_passing test empty vs n h = h
 unless_passing test (made m) vs n h = h
 unless_passing test (waits a) vs n h = refl
 
--- a list waits where some place of it does
+-- a list waits if some place of it does
 abbrev list_waits : Places → Bool
 list_waits (all_made ns) = false
 list_waits (one_waits a) = true

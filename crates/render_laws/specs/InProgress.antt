@@ -31,7 +31,7 @@ CursorFits p (at_place n fs cs e old) = Fits n p e × FramesFit n p fs
 CursorFits p (at_end n fs o done) = FramesFit n p fs
 CursorFits p (ended q) = Unit {0}
 
--- one where a render has ended in a node
+-- one if a render has ended in a node
 abbrev pub if_ended : Cursor → ℕ
 if_ended (at_place n fs cs e old) = 0
 if_ended (at_end n fs o done) = 0

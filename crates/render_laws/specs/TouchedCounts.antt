@@ -8,7 +8,7 @@ use Rattle.rx_meaning.specs.Touched.{Visit, touched_instance}
 use Rattle.rx_meaning.specs.Cursor.{Cursor}
 use Rattle.rx_meaning.specs.Counts.{Weights, left, whole}
 
--- one where a component's place is touched
+-- one if a component's place is touched
 abbrev pub one_if_touched : Sight → Contexts → Element → Option Node → ℕ
 one_if_touched s cs elements.null old = 0
 one_if_touched s cs (elements.text t) old = 0

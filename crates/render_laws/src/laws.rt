@@ -21,7 +21,7 @@ ghost use Rattle.render_laws.specs.InProgress.{InProgress};
 ghost use Rattle.render_laws.specs.Attempts.{attempts};
 ghost use Rattle.render_laws.specs.SameSight.{SeesSame, AllAfter};
 
-/// A unit changes nothing of what a render gives, at its start the fresh tree; where no unit is left, it has given that.
+/// A unit changes nothing of what a render gives, at its start the fresh tree; if no unit is left, it has given that.
 pub fn units_give_fresh()
     ensures kept { (s : Sight) (c : Cursor) → gives s (unit s c) ≡ gives s c }
     ensures always { (s : Sight) (old : Option Node) (k : ℕ) → gives s (after k s old) ≡ fresh s old }
@@ -40,7 +40,7 @@ pub fn units_are_bounded()
         → whole each_unit s old ≤ 2 * node_bound s.program }
 {}
 
-/// A whole render evaluates the component places that it visits, and takes more units than that where it gives a tree.
+/// A whole render evaluates the component places that it visits, and takes more units than that if it gives a tree.
 pub fn bodies_are_counted()
     ensures visited { (s : Sight) (old : Option Node) → whole each_body s old ≡ length (evaluated s old) }
     ensures places { (s : Sight) (old : Option Node) → whole each_place s old ≡ length (visits s old) }
@@ -129,7 +129,7 @@ pub fn touched_are_evaluated()
         → touched ≡ touched_in (visits s old) }
 {}
 
-/// Each old node that a render may still come to is settled, where the old tree is: at the start, after each unit, and
+/// Each old node that a render may still come to is settled, if the old tree is: at the start, after each unit, and
 /// past a subtree that is taken over or an attempt that is skipped.
 pub fn old_nodes_are_settled()
     ensures start { (p : Program) (k : Known) (s : Sight) (old : Option Node) → IfSettled p k old

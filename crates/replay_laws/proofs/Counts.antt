@@ -59,7 +59,7 @@ mutual
   numbers_rise c (vacant ns) = numbers_rise c ns
   numbers_rise c (child x ns) = omega (arith, number_rises c x, numbers_rise (numbered c x).0 ns)
 
--- one where a number lies in a range
+-- one if a number lies in a range
 abbrev pub between : ℕ → ℕ → ℕ → ℕ
 between a b n = one_if (nat_le a n && nat_lt n b)
 

@@ -31,7 +31,7 @@ AttrsOwn (elements.list marked es) = Unit {0}
 AttrsOwn (elements.boundary k f es) = Unit {0}
 AttrsOwn (elements.provider c k x es) = Unit {0}
 
--- each node is a host where its element is one, no node is one of null, attributes have names of their own, and no text has children
+-- each node is a host exactly if its element is one, no node is one of null, attributes have names of their own, and no text has children
 abbrev mutual
   pub IsFine : Node → Type 0
   IsFine (node e m ns fs) = (is_host m ≡ is_hostlike e) × (is_present e ≡ true) × AttrsOwn e × AllFine ns × AllFine fs × HasNone e ns
@@ -74,7 +74,7 @@ mutual
 
 -- Elements of one kind
 
--- where one is a host, the other is
+-- if one is a host, the other is
 pub same_hostlike : (e e' : Element) → same_kind (kind_of e) (kind_of e') ≡ true → is_hostlike e ≡ is_hostlike e'
 same_hostlike elements.null elements.null h = absurd (cc)
 same_hostlike elements.null (elements.text t') h = absurd (cc)

@@ -63,7 +63,7 @@ no_attr p env (literal x t ∷ attrs) name h =
     let parts : (bytes_eq name x ≡ false) × (has_name (attribute_names attrs) name ≡ false) = neither _ _ h in
     rw (name_turned name x parts.0) (no_attr p env attrs name parts.1)
 
--- where no name stands twice, the attributes have names of their own
+-- if no name stands twice, the attributes have names of their own
 attrs_own : (p : Program) (env : Env) (attrs : List Attribute) → StandOnce (attribute_names attrs) → HaveOwnNames (filter_map (attr_in p env) attrs)
 attrs_own p env [] h = tt
 attrs_own p env (key e ∷ attrs) h = attrs_own p env attrs h

@@ -16,7 +16,7 @@ use Rattle.replay_laws.proofs.Growing.{first, rest}
 
 -- Each of the old nodes
 
--- where there is an old node
+-- if there is an old node
 abbrev pub IfOld : (Node → Type 0) → Option Node → Type 0
 IfOld Q None = Unit {0}
 IfOld Q (Some o) = Q o

@@ -34,7 +34,7 @@ fits_within : (p : Program) (tree : Option Node) (c : Cursor) → IsPlain p → 
 fits_within p tree c plain small t r =
     omega (arith, cursor_room p c (reached_fits p tree c plain (tree_fits p tree plain t) r), root_size component_levels p, bound_is_own p small)
 
--- Where no component is declared
+-- If no component is declared
 
 -- a render then stands at the root's place, or it has ended with nothing
 abbrev IsBare : Program → Cursor → Type 0

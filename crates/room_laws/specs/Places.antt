@@ -15,7 +15,7 @@ abbrev pub to_begin : List (Element × Option Node) → ℕ
 to_begin [] = 0
 to_begin (x ∷ xs) = cond (is_null x.0) 0 1 + to_begin xs
 
--- an open node, with the nodes that it keeps where it opens its fallback
+-- an open node, with the nodes that it keeps if it opens its fallback
 abbrev pub open_places : Open → ℕ
 open_places (around e m) = 1
 open_places (trying e old f) = 1

@@ -76,7 +76,7 @@ Waits sch j =
     (within sch.suspended sch.pending ≡ true) × (list_all is_transition sch.suspended ≡ true) × (sch.suspended ≡ no_lanes → sch.waiting ≡ awaits.nothing)
     × ((r : ℕ) → awaits.has sch.waiting r ≡ true → resolved_now j r ≡ None)
 
--- where nothing is suspended, nothing is waited for
+-- if nothing is suspended, nothing is waited for
 pub none_waits : (sch : Schedule) (j : Journal) → sch.suspended ≡ no_lanes → sch.waiting ≡ awaits.nothing → Waits sch j
 none_waits sch j none nothing = (
   ap (λ (ls : Lanes). within ls sch.pending) none,
@@ -88,7 +88,7 @@ none_waits sch j none nothing = (
     clash : {b : Bool} → b ≡ true → b ≡ false → ⊥
     clash h k = cc (h, k)
 
--- what is suspended stays pending where more becomes so
+-- what is suspended stays pending when more becomes so
 pub more_waits : (a b : Schedule) (j k : Journal) → ((l : Lane) → has a.pending l ≡ true → has b.pending l ≡ true) → b.suspended ≡ a.suspended → b.waiting ≡ a.waiting
     → ((r : ℕ) → awaits.has a.waiting r ≡ true → resolved_now k r ≡ resolved_now j r) → Waits a j → Waits b k
 more_waits a b j k more suspended waiting same w = (
@@ -168,7 +168,7 @@ deferral_waits sch lanes cut j waits now due transitions since unseen w = (
 
 -- Resources to retry
 
--- where a visible hidden boundary awaits what has a value, Retry is pending
+-- if a visible hidden boundary awaits what has a value, Retry is pending
 abbrev pub Retries : Option Node → Lanes → Journal → Type 0
 Retries tree pending j = (r : ℕ) → is_awaited tree r ≡ true → is_some (resolved_now j r) ≡ true → has pending lane.Retry ≡ true
 

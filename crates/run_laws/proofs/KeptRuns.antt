@@ -284,7 +284,7 @@ module _ (p : Program) (deep : depth_bound p ≤ depth_limit) (declared : ReadsD
       same_after Keeps r (record { lines = []; bodies = y.bodies; after = record s { progress = Some (gone_on g y.budget y.bodies) } }) y.stretch_is
       (h.0, h.1, h.2, h.3, h.4, due)
 
-  -- a turn, where a render that starts is due
+  -- a turn, if a render that starts is due
   turn_by_kept : (s : State) (x : Choice) → ((lanes : Lanes) → x ≡ choice.Start lanes → DueIn s.schedule lanes) → (budget : Option ℕ) (r : Stretch) → TurnBy AnyRender p s x budget r
       → IsCarried p s → Keeps s → Keeps r.after
   turn_by_kept s choice.None due budget r is c h = same_after Keeps r (silent s) is h

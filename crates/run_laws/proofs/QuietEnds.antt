@@ -101,7 +101,7 @@ kept_none (x ∷ xs) h = rw (h.0, kept_none xs h.1) refl
 shown_tree : (x : Node) → hidden_count (Some x) ≡ 0 → NoneHidden x
 shown_tree x h = tree_shown at_root x (none_at (spots at_root x) h)
 
--- where nothing is hidden each instance is visible, and none is kept
+-- if nothing is hidden, each instance is visible, and none is kept
 quiet_lists : (tree : Option Node) → hidden_count tree ≡ 0 → (visible_instances tree ≡ numbers_of (mounted tree)) × (kept_instances tree ≡ [])
 quiet_lists None h = (refl, refl)
 quiet_lists (Some x) h =

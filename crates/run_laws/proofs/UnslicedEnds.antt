@@ -55,7 +55,7 @@ bytes-of : (o : Options) (x y : Line) (xs : List Line) → line_bytes o x ≡ li
 unfolding report_bytes
 bytes-of o x y xs e = ap (λ (t : List ℕ). t ++ report_bytes o xs) e
 
--- where counts aren't shown, neither a commit nor a deferral hangs on them
+-- if counts aren't shown, neither a commit nor a deferral hangs on them
 plain-commit : (o : Options) → o.counts ≡ false → (k : ℕ) (lanes : Lanes) (c d : Counts) (tree : Node) → line_bytes o (committed k lanes c tree) ≡ line_bytes o (committed k lanes d tree)
 plain-commit o e k lanes c d tree =
     subst (λ (b : Bool). line_text b (committed k lanes c tree) ++ 10 ∷ [] ≡ line_text b (committed k lanes d tree) ++ 10 ∷ []) (sym e) refl

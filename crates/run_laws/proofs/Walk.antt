@@ -32,7 +32,7 @@ pub record IsKeptAlong (p : Program) (Holds : State → Type 0) : Type 0 where
   pub resolves : (s : State) (name : Name) (v : ℤ) (x : Option ℤ) → Holds s → Holds (resolved_as p s name v x).after
   pub discards : (s : State) → Holds s → Holds (without_render s)
 
--- a stretch that is another one ends in a state with this fact, where that does
+-- a stretch that is another one ends in a state with this fact, if that does
 pub same_after : (Holds : State → Type 0) (r q : Stretch) → r ≡ q → Holds q.after → Holds r.after
 same_after Holds r q e h = subst (λ (x : Stretch). Holds x.after) (sym e) h
 

@@ -27,7 +27,7 @@ is_work step.Tree = false
 abbrev pub AreUnsliced : List Step → Type 0
 AreUnsliced steps = AllByRecursion (λ x. is_work x ≡ false) steps
 
--- two stretches end in the same state, and where a report shows no counts, they write the same bytes
+-- two stretches end in the same state, and if a report shows no counts, they write the same bytes
 pub record EndAlike (r q : Stretch) : Type 0 where
   pub after : r.after ≡ q.after
   pub bytes : (o : Options) → o.counts ≡ false → report_bytes o r.lines ≡ report_bytes o q.lines

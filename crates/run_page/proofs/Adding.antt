@@ -1,4 +1,4 @@
--- A step is added to a book, where all of it succeeds.
+-- A step is added to a book, if all of it succeeds.
 use Rattle.std.proofs.Common.{◌≡◌, ◌∙◌, ℕ, [], ◌++◌, ap, append_assoc, sym, subst, refl, ◌+◌}
 use Rattle.std.specs.Prelude.{codes, decimal}
 use Rattle.rx_base.specs.Values.{Text}

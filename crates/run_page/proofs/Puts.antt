@@ -1,9 +1,9 @@
--- What is put behind what, where all of it succeeds.
+-- What is put behind what, if all of it succeeds.
 use Rattle.std.proofs.Common.{◌≡◌, ◌∙◌, ◌++◌, ap, append_assoc}
 use Rattle.std.specs.Prelude.{Result, Ok, Err, OnOk}
 use Rattle.rx_base.specs.Values.{Text}
 
--- what follows where a call succeeds
+-- what follows if a call succeeds
 pub on-ok : {T E : Type 0} (r : Result T E) (P Q : Type 0) → (P → Q) → OnOk r P → OnOk r Q
 on-ok (Ok _) P Q f p = f p
 on-ok (Err _) P Q f p = tt

@@ -1,4 +1,4 @@
--- How a text is told, where all of it succeeds.
+-- How a text is told, if all of it succeeds.
 use Rattle.std.proofs.Common.{◌≡◌, ◌∙◌, ℕ, [], ◌++◌, ap}
 use Rattle.std.specs.Prelude.{codes, decimal}
 use Rattle.rx_base.specs.Values.{Text}

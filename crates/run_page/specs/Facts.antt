@@ -41,6 +41,7 @@ row fact value =
 abbrev pub rows : Facts → Text
 rows v =
     row (codes "Pending lanes") (lanes_shown v.pending)
+    ++ row (codes "Suspended lanes") (lanes_shown v.suspended)
     ++ row (codes "Expired lanes") (lanes_shown v.expired)
     ++ row (codes "Render in progress") (rendering_shown v.rendering)
     ++ row (codes "The next turn") (next_shown v.next)

@@ -8,7 +8,7 @@ use Rattle.rx_page.specs.Elements.{attribute, element}
 use Rattle.run_page.specs.Views.{View}
 use Rattle.run_page.specs.Facts.{table}
 
--- a text, or a word where there is none
+-- a text, or a word if there is none
 abbrev pub or_none : Text → Text
 or_none text = if length text == 0 then codes "none" else text
 
@@ -30,7 +30,7 @@ is_long text = nat_lt 400 (length text)
 abbrev pub repeats : (text other : Text) → Bool
 repeats text other = is_long text && bytes_eq text other
 
--- the lines that a step writes. Where they are long, and those of the tree or of the hooks, it says so.
+-- the lines that a step writes. If they are long, and those of the tree or of the hooks, it says so.
 abbrev pub lines_pane : View → Text
 lines_pane v =
     if repeats v.lines v.tree then note (codes "Lines of the report") (codes "Those of the tree of hosts, which is shown below.")

@@ -88,7 +88,7 @@ impl Book {
     ///
     /// # Errors
     ///
-    /// Want of memory alone. Some of the step may be there then, so no page is to be made of it.
+    /// Only if out of memory. Some of the step may be there then, so no page is to be made of it.
     pub fn put(&mut self, view: &View) -> Result<(), AllocError>
         requires { self.old.count < 2 ^ 63 }
         ensures adds { OnOk result (Adds (shown view.now) self.old self.new) }

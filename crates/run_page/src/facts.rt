@@ -114,6 +114,7 @@ fn put_rows(html: &mut Html, alloc: Global, facts: &Facts) -> Result<(), AllocEr
     ensures { OnOk result (html.new ≡ html.old ++ rows facts.now) }
 {
     put_lanes(html, alloc, b"Pending lanes", facts.pending)?;
+    put_lanes(html, alloc, b"Suspended lanes", facts.suspended)?;
     put_lanes(html, alloc, b"Expired lanes", facts.expired)?;
     put_rendering(html, alloc, b"Render in progress", facts.rendering)?;
     put_next(html, alloc, b"The next turn", facts.next)?;

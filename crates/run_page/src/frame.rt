@@ -323,7 +323,7 @@ fn document(alloc: Global, input: &[u8], book: &Book) -> Result<Html, AllocError
 ///
 /// # Errors
 ///
-/// Want of memory alone.
+/// Only if out of memory.
 pub fn page(alloc: Global, input: &[u8], book: &Book) -> Result<Vec<u8>, AllocError>
     ensures { IfOk result (λ page. page.items ≡ page_of input.now book.now.links book.now.sections) }
 {

@@ -16,6 +16,7 @@ fn view(alloc: Global, lines: &[u8], tree: &[u8]) -> Result<View, AllocError> {
         hooks: Vec::from_slice(alloc, b"state\n")?,
         facts: Facts {
             pending: Lanes::one(Lane::Sync).union(Lanes::one(Lane::T1)),
+            suspended: Lanes::none(),
             expired: Lanes::none(),
             rendering: Some(Rendering {
                 lanes: Lanes::one(Lane::T1),

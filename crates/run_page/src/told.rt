@@ -104,7 +104,7 @@ impl Told {
         }
     }
 
-    /// Tells a text: by a link where it is long and the one that was told last, and else by what changes.
+    /// Tells a text: by a link if it is long and the one that was told last, and else by what changes.
     pub(crate) fn put(
         &mut self,
         html: &mut Html,

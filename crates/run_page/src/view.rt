@@ -15,6 +15,8 @@ pub struct Rendering {
 pub struct Facts {
     /// The lanes that have something to render.
     pub pending: Lanes,
+    /// Those of them whose last render was deferred.
+    pub suspended: Lanes,
     /// The lanes of transitions and retries that have waited too long.
     pub expired: Lanes,
     /// The render in progress, if there is one.

@@ -17,7 +17,7 @@ pub data Judgement : Type 0 where
   program_refused : Text → Judgement
   script_refused : Text → Judgement
 
--- The input is this: accepted where its program text is that of a program that meets every check and no line of its script is bad; else refused, with the line that tells the first cause. The program is judged before the script.
+-- The input is this: accepted if its program text is that of a program that meets every check and no line of its script is bad; else refused, with the line that tells the first cause. The program is judged before the script.
 abbrev pub IsJudged : List ℕ → Judgement → Type 0
 IsJudged input (accepted p steps) = IsSoundText p (input_of input).program × (steps_of p (input_of input).script ≡ Ok steps)
 IsJudged input (program_refused line) = (c : Cause) × IsCause (input_of input).program c × (line ≡ program_line c)

@@ -28,7 +28,7 @@ count_word count.Depth = codes "depth"
 abbrev pub then_number : ℕ → Text
 then_number n = 32 ∷ decimal n
 
--- the code of a check that is not met, and what it tells: a name, or what was found. Want of memory tells nothing.
+-- the code of a check that is not met, and what it tells: a name, or what was found. Out of memory tells nothing.
 abbrev pub refusal_text : Refusal → Text
 refusal_text (refusal.Duplicate name) = codes "4 " ++ name
 refusal_text (refusal.Unknown name) = codes "5 " ++ name
@@ -64,7 +64,7 @@ fault_text out_of_range = codes "16"
 abbrev pub script_line : BadStep → Text
 script_line bad = codes "script refused " ++ fault_text bad.fault ++ codes " line" ++ then_number bad.line ++ 10 ∷ []
 
--- the line of a script whose reading gave this error; want of memory has none
+-- the line of a script whose reading gave this error; if out of memory, none
 abbrev pub IsScriptLine : ScriptError → Text → Type 0
 IsScriptLine (script.BadLine n) line = line ≡ script_line (record { fault = bad_line; line = n })
 IsScriptLine (script.UnknownTarget n) line = line ≡ script_line (record { fault = unknown_target; line = n })

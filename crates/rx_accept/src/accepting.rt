@@ -33,7 +33,7 @@ fn judge(alloc: Global, input: &[u8]) -> Result<Verdict, AllocError>
 ///
 /// # Errors
 ///
-/// Want of memory alone.
+/// Only if out of memory.
 pub fn accept(alloc: Global, input: &[u8]) -> Result<Verdict, AllocError>
     requires { length input.now < 2 ^ 32 }
     // The verdict is right,

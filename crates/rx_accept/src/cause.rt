@@ -12,6 +12,6 @@ pub(crate) enum Cause {
     NoProgram { at: usize },
     /// The program does not meet a check.
     Unmet(Refusal),
-    /// Want of memory.
+    /// Out of memory.
     OutOfMemory,
 }

@@ -9,12 +9,12 @@ use rx_parse::{ParseError, parse};
 use std::alloc::Global;
 use std::str;
 
-/// The program of a text, where it meets every check.
+/// The program of a text, if it meets every check.
 ///
 /// # Errors
 ///
-/// Exactly where the text is refused, the first cause: bytes that are not UTF-8, a place that no token covers, a token
-/// with which no program goes on, a check that is not met; and want of memory.
+/// Exactly if the text is refused, the first cause: bytes that are not UTF-8, a place that no token covers, a token
+/// with which no program goes on, a check that is not met; or that it is out of memory.
 pub(crate) fn read_program(alloc: Global, text: &[u8]) -> Result<Checked, Cause>
     ensures { MatchResult result (λ p. IsSoundText p text.now) (λ e. (e ≡ Cause.OutOfMemory) ⊎ IsCause text.now e) }
 {

@@ -3,7 +3,7 @@ use Rattle.std.specs.Prelude.{◌≡◌, ◌≢◌, ℕ, eqb, Option, Some, None
 use Rattle.slab.specs.Slab.{Slab, get, slab_len}
 use Rattle.rx_arena.specs.declared.arena.Node.{Node}
 
--- the link, or none where it leads to this id
+-- the link, or none if it leads to this id
 abbrev pub cut : ℕ → Option ℕ → Option ℕ
 cut id None = None
 cut id (Some to) = if eqb to id then None else Some to
@@ -45,11 +45,11 @@ module _ {F : Type 0} where
   abbrev pub with_alternate : Option ℕ → Node F → Node F
   with_alternate to n = record n { alternate = to }
 
-  -- the node, with no alternate link where that leads to this id
+  -- the node, with no alternate link if that leads to this id
   abbrev pub cut_node : ℕ → Node F → Node F
   cut_node id n = record n { alternate = cut id n.alternate }
 
-  -- what an id has, with no alternate link where that leads to this one
+  -- what an id has, with no alternate link if that leads to this one
   abbrev pub without : ℕ → Option (Node F) → Option (Node F)
   without id slot = option_map (cut_node id) slot
 

@@ -19,7 +19,7 @@ pub struct Node<F> {
     alternate: Option<FiberId>,
 }
 
-/// The nodes of fibers under ids that it picks, with any value in them. Where one node is the alternate of another, the other
+/// The nodes of fibers under ids that it picks, with any value in them. If one node is the alternate of another, the other
 /// is its alternate; no link of the other three kinds is looked into. Contracts see which node each id has.
 #[derive(Drop)]
 pub struct Arena<F> {
@@ -52,7 +52,7 @@ impl<F> Arena<F> {
         }
     }
 
-    /// Takes memory for that many nodes more, so that as many calls of `alloc` have room. For want of memory nothing changes.
+    /// Takes memory for that many nodes more, so that as many calls of `alloc` have room. If out of memory, nothing changes.
     pub fn reserve(&mut self, more: u64) -> Result<(), AllocError>
         ensures ok { OnOk result (HasRoomFor self.new more) }
         ensures kept { Keeps self.old self.new }

@@ -63,7 +63,7 @@ key_in unkeyed = None
 key_in (key_first e) = Some e
 key_in (key_last e) = Some e
 
--- the key among attributes, the first where there are more
+-- the key among attributes, the first if there are more
 abbrev pub key_of : List Attribute → Option Expr
 key_of [] = None
 key_of (key e ∷ attrs) = Some e
@@ -193,7 +193,7 @@ pub data Parameter : Type 0 where
   integer : Name → Parameter
   given_children : Parameter
 
--- A component. `braces` tells `({})` from `()` where there is no parameter.
+-- A component. `braces` tells `({})` from `()` if there is no parameter.
 pub record Component : Type 0 where
   pub name : Name
   pub braces : Bool

@@ -76,7 +76,7 @@ impl Attribute {
     }
 }
 
-/// The key among attributes, the first where there are more.
+/// The key among attributes, the first if there are more.
 pub fn key_among(attributes: &[Attribute]) -> Option<&Expr>
     ensures { MatchOption result (key_of attributes.now ≡ None) (λ e. key_of attributes.now ≡ Some e.now) }
 {

@@ -28,7 +28,7 @@ impl Model for Context {
 }
 
 impl Context {
-    /// `const name = createContext(number);`, with `-` before the number where `negative` holds.
+    /// `const name = createContext(number);`, with `-` before the number if `negative` holds.
     pub fn new(name: Name, negative: bool, number: u64) -> Context
         ensures { result ≡ record { name = name; negative = negative; number = number } }
     {
@@ -235,7 +235,7 @@ impl Model for Component {
 }
 
 impl Component {
-    /// `function name({ parameters }) { statements return body; }`, where `braces` says whether the braces stand there.
+    /// `function name({ parameters }) { statements return body; }`, and `braces` says whether the braces stand there.
     pub fn new(
         name: Name,
         braces: bool,

@@ -10,7 +10,7 @@ use std::marker::Model;
 /// An operator before its operand.
 #[derive(Clone, Copy, Debug, PartialEq, Eq)]
 pub enum Prefix {
-    /// `!`: 1 where the operand is 0, else 0.
+    /// `!`: 1 if the operand is 0, else 0.
     Not,
     /// `-`
     Negative,
@@ -129,7 +129,7 @@ impl Expr {
     ///
     /// # Errors
     ///
-    /// Want of memory alone.
+    /// Only if out of memory.
     pub fn group(alloc: Global, inner: Expr) -> Result<Expr, AllocError>
         ensures { IfOk result (λ e. e ≡ grouped inner) }
     {
@@ -143,7 +143,7 @@ impl Expr {
     ///
     /// # Errors
     ///
-    /// Want of memory alone.
+    /// Only if out of memory.
     pub fn prefixed(alloc: Global, operator: Prefix, operand: Expr) -> Result<Expr, AllocError>
         ensures { IfOk result (λ e. e ≡ prefixed operator operand) }
     {
@@ -157,7 +157,7 @@ impl Expr {
     ///
     /// # Errors
     ///
-    /// Want of memory alone.
+    /// Only if out of memory.
     pub fn chain(alloc: Global, first: Expr, links: Vec<Link>) -> Result<Expr, AllocError>
         ensures { IfOk result (λ e. e ≡ chain first (links_of links.items)) }
     {
@@ -171,7 +171,7 @@ impl Expr {
     ///
     /// # Errors
     ///
-    /// Want of memory alone.
+    /// Only if out of memory.
     pub fn choice(alloc: Global, test: Expr, first: Expr, second: Expr) -> Result<Expr, AllocError>
         ensures { IfOk result (λ e. e ≡ chosen test first second) }
     {
@@ -191,7 +191,7 @@ impl Expr {
     ///
     /// # Errors
     ///
-    /// Want of memory alone.
+    /// Only if out of memory.
     pub fn call(alloc: Global, function: Name, arguments: Vec<Expr>) -> Result<Expr, AllocError>
         ensures { IfOk result (λ e. e ≡ called function (exprs_of arguments.items)) }
     {

@@ -218,7 +218,7 @@ impl Slot {
     ///
     /// # Errors
     ///
-    /// Want of memory alone.
+    /// Only if out of memory.
     pub fn repeated(
         alloc: Global,
         index: Name,
@@ -244,7 +244,7 @@ impl Slot {
     ///
     /// # Errors
     ///
-    /// Want of memory alone.
+    /// Only if out of memory.
     pub fn choice(alloc: Global, test: Expr, first: Slot, second: Slot) -> Result<Slot, AllocError>
         ensures { IfOk result (λ s. s ≡ choice test first second) }
     {
@@ -319,7 +319,7 @@ impl Element {
         }
     }
 
-    /// Its key (react.dev, Rendering Lists); the first where it has more.
+    /// Its key (react.dev, Rendering Lists); the first if it has more.
     pub fn key(&self) -> Option<&Expr>
         ensures { MatchOption result (slot_key self.now ≡ None) (λ e. slot_key self.now ≡ Some e.now) }
     {

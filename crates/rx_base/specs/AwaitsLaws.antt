@@ -167,7 +167,7 @@ pub bits_of-awaits_of : (bits : ℕ) → bits < 2 ^ 64 → bits_of (awaits_of bi
 bits_of-awaits_of bits h = same_from_bits_below 64 (bits_of (awaits_of bits)) bits (bits_of_set-lt bits) h (λ i lt.
     same_bit _ _ (bit_at-lt _ _) (bit_at-lt _ _) (bit_of-bits_of (awaits_of bits) i ∙ has-awaits_of bits i lt))
 
--- a set is empty where no bit is set
+-- a set is empty if no bit is set
 pub is_nothing-awaits_of : (bits : ℕ) → bits < 2 ^ 64 → nat_eq bits 0 ≡ is_nothing (awaits_of bits)
 is_nothing-awaits_of bits h = go (awaits_of bits) refl
   where

@@ -55,7 +55,7 @@ impl Awaits {
         }
     }
 
-    /// True where the resource is waited for; false for a number from 64 on.
+    /// True if the resource is waited for; false for a number from 64 on.
     pub fn has(&self, resource: u32) -> bool
         ensures { result ≡ has self.now resource }
     {
@@ -63,7 +63,7 @@ impl Awaits {
         resource < 64 && bits >> resource & 1 == 1
     }
 
-    /// True where nothing is waited for.
+    /// True if nothing is waited for.
     pub fn is_none(&self) -> bool
         ensures { result ≡ is_nothing self.now }
     {

@@ -68,7 +68,7 @@ impl Int {
         }
     }
 
-    /// The quotient, cut toward 0; 0 where the right side is 0.
+    /// The quotient, cut toward 0; 0 if the right side is 0.
     pub fn div(self, other: Int) -> Int
         ensures { result ≡ arithmetic.div w32 self other }
     {
@@ -80,7 +80,7 @@ impl Int {
         }
     }
 
-    /// The remainder, which has the sign of the left side; 0 where the right side is 0.
+    /// The remainder, which has the sign of the left side; 0 if the right side is 0.
     pub fn rem(self, other: Int) -> Int
         ensures { result ≡ arithmetic.rem w32 self other }
     {

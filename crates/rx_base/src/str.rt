@@ -24,7 +24,7 @@ impl Str {
     ///
     /// # Errors
     ///
-    /// Want of memory alone.
+    /// Only if out of memory.
     pub fn new(alloc: Global, text: &str) -> Result<Str, AllocError>
         ensures { IfOk result (λ s. s ≡ text.now) }
     {
@@ -51,7 +51,7 @@ impl Str {
 ///
 /// # Errors
 ///
-/// Want of memory alone.
+/// Only if out of memory.
 pub fn quote(alloc: Global, text: &str) -> Result<Str, AllocError>
     ensures { IfOk result (λ s. s ≡ in_quotes text.now) }
 {

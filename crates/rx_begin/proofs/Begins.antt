@@ -1,4 +1,4 @@
--- What is asked where a place begins, and what it leaves.
+-- What is asked when a place begins, and what it leaves.
 use Rattle.std.specs.Prelude.{◌≡◌, ℕ, ℤ, suc, ◌<◌, ◌≤◌, Bool, true, false, if◌then◌else◌, List, Option, Some, None, Result, Ok, Err, IfOk, OnOk, IfSome, IsSome, length, option_and_then, option_map}
 use Rattle.std.proofs.Common.{refl, sym, ap, ◌∙◌, subst, arith}
 use Rattle.rx_ast.specs.Syntax.{Program, Component}

@@ -26,7 +26,7 @@ component_below false stood true true generation made below skipped = refl
 component_below false stood true false generation made below skipped = refl
 component_below false stood false for_children generation made below skipped = absurd (let q : false ≡ true = skipped refl in let r : ⊥ = cc in r)
 
--- they stood where the place is steady
+-- they stood if the place is steady
 pub kids_steady : (c : Shape Fiber) (o : Option ℕ) (v : Fiber) (evaluated steady : Bool) (made : ℕ) → TellsSteady c o v steady → TellsSteady c o v (kids_as evaluated steady made).stood
 kids_steady c o v true steady made tells = tells
 kids_steady c o v false steady made tells = tells

@@ -44,7 +44,7 @@ OldList t p = primary_list (list_from t.current (old_of t.draft p))
 pub no_list : (t : Trees Fiber) (p : ℕ) → old_of t.draft p ≡ None → OldList t p ≡ shapes.none
 no_list t p e = ap (λ o. primary_list (list_from t.current o)) e
 
--- where a stage is that of a boundary that comes to try its children, it keeps what is known of its place
+-- if a stage is that of a boundary that comes to try its children, it keeps what is known of its place
 abbrev pub KeepsPlace : Trees Fiber → (p : ℕ) → Stage → Type 0
 KeepsPlace t p stage =
     (k : Around Fiber) (v : Fiber) (o : Option ℕ) (rs : Draft Fiber) → t.draft ≡ placed k (made p v o (taken shapes.none) rs) → is_trying stage ≡ true → origin_of stage ≡ origin_of v.stage
@@ -81,7 +81,7 @@ opened_kids origin t new p stage es os b keeps none h = (
   h.answer_is,
 )
 
--- so where they are matched with the old ones, and where they are clones of these
+-- so if they are matched with the old ones, and if they are clones of these
 pub matched_kids : (t new : Trees Fiber) (p : ℕ) (stage : Stage) (es : List Element) (steady : Bool) (generation : ℕ) (b : Begun) → KeepsPlace t p stage → HasOpened (as_matched steady generation) t new p stage es (matched (OldList t p) es) b
     → OpensOver (as_matched steady generation) t new p b
 matched_kids t new p stage es steady generation b keeps h =
@@ -142,14 +142,14 @@ module _ (scene : Scene) (kept : ℕ → Option (List Hook)) (t : Trees Fiber) (
   over_own : (b : Begun) → HasOpened (as_matched steady generation) t new p its_stage (begun_children e) (matched (OldList t p) (begun_children e)) b → OpensOver (as_matched steady generation) t new p b
   over_own b h = matched_kids t new p its_stage (begun_children e) steady generation b stage_keeps h
 
-  -- is begun over clones where its element is given again, and its old node hides nothing, and else over children of this generation
+  -- is begun over clones if its element is given again, and its old node hides nothing, and else over children of this generation
   pub other_kids : (b : Begun) → HasBegunOther scene kept t st new st' p e origin again steady generation b → is_opened b ≡ true
       → (c : Origin) × (c.stood ≡ steady) × (c.generation ≡ cond (keeps_children again (mark_at t.current (old_of t.draft p))) 0 generation) × OpensOver c t new p b
   other_kids b (others.keeps h opened stacks) is = (as_cloned steady, refl, sym (ap (λ k. cond k 0 generation) h), over_clones b opened)
   other_kids b (others.opens not opened stacks) is = (as_matched steady generation, refl, sym (ap (λ k. cond k 0 generation) not), over_own b opened)
   other_kids _ (others.hides same too mark waits tried stacks) is = absurd (let q : ⊥ = cc in q)
 
-  -- comes to try its children where it waits still
+  -- comes to try its children if it waits still
   pub other_tried : (b : Begun) → HasBegunOther scene kept t st new st' p e origin again steady generation b → IsSome (awaited_again b) → new ≡ record t { draft = valued p (changed (change.Try origin)) t.draft }
   other_tried b (others.keeps h opened stacks) is = absurd (is_none (awaited_again b) (opened_waits_not (as_cloned steady) t new p b (over_clones b opened)) is)
   other_tried b (others.opens not opened stacks) is = absurd (is_none (awaited_again b) (opened_waits_not (as_matched steady generation) t new p b (over_own b opened)) is)

@@ -76,7 +76,7 @@ stood_here t st p n fs cs e old knows (begins {v = w} {o = o} {rs = rs} {k = k} 
     let too : is.origin.stood ≡ true = sym (ap (λ u. is_stood u.stage) same ∙ ap is_stood is.stage) ∙ so in
     subst (λ q. StandsIf t.current (given_along fs) q) (sym (knows k p w o (taken shapes.none) rs here).old) (is.stands too)
 
--- it is there where it has an element, or an old node
+-- it is there if it has an element, or an old node
 pub stands_so : (c : Shape Fiber) (ws : List (ℕ × ℤ)) (o : Option ℕ) (e : Element) → IsElementOf c o e → StandsIf c ws o → StoodAt c ws o
 stands_so c ws None e same h = cc
 stands_so c ws (Some i) e same h = h

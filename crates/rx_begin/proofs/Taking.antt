@@ -46,7 +46,7 @@ idle_mark s plain h = refl
 idle_shown : (s : Sight) (x : Node) → IsIdle s x → is_hidden (mark_of x) ≡ false
 idle_shown s (node e m ns fs) h = idle_mark s m h.0
 
--- with the children of the old node's fiber it stands for that node again, where that one hides nothing
+-- with the children of the old node's fiber it stands for that node again, if that one hides nothing
 stands_again : (under : Subtree) (c : Shape Fiber) (o : Option ℕ) (x : Node) → IsLinked c → IsOld c o (Some x) → is_hidden (mark_of x) ≡ false
     → (v : Fiber) (q : ℕ) (tail : Shape Fiber) → v.element ≡ element_of x → IsFor v.place x (fiber q (taken_as (mark_of x) under v) (kids_under c o) tail) tail
 stands_again under c _ _ linked (of {j = j} {n = n} {x = x} {s = s} here leads (next {rest = rest} is a)) shown v q tail same = by_fibers n x s rest is here leads shown same

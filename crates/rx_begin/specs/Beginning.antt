@@ -103,7 +103,7 @@ is_opened (Suspended r) = false
 is_opened (answers.Hidden a) = false
 is_opened Taken = false
 
--- what is waited for still, where a hidden boundary is not tried
+-- what is waited for still, if a hidden boundary is not tried
 abbrev pub awaited_again : Begun → Option Awaits
 awaited_again (Child id) = None
 awaited_again Leaf = None

@@ -38,6 +38,6 @@ pub data HasBegunOther (scene : Scene) (kept : ℕ → Option (List Hook)) (t : 
       → ((s : Sight) (x : Node) → IsSceneOf scene s → IsOld t.current (old_of t.draft p) (Some x) → GivesHooksIn s kept (children_of x) → WaitsStill s a x)
       → new ≡ record t { draft = valued p (changed (change.Try origin)) t.draft } → st' ≡ st → HasBegunOther scene kept t st new st' p e origin again steady generation (answers.Hidden a)
 
--- where the old node is a hidden boundary, there is a cause to try its children again
+-- if the old node is a hidden boundary, there is a cause to try its children again
 abbrev pub IsCauseToTry : Scene → (kept : ℕ → Option (List Hook)) → Trees Fiber → ℕ → Type 0
 IsCauseToTry scene kept t p = (x : Node) (a : Awaits) → IsOld t.current (old_of t.draft p) (Some x) → mark_of x ≡ of_boundary (Hidden a) → HasCauseToTry scene kept a x

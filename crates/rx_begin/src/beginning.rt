@@ -157,18 +157,18 @@ fn begin_or_hide(
 }
 
 /// Begins the place of a fiber, as one unit of a render (react.dev, Render and Commit): a component's body is evaluated, once;
-/// a provider gives its value; the fibers of all children are made, each for the old child of its identity and type. Where the
+/// a provider gives its value; the fibers of all children are made, each for the old child of its identity and type. If the
 /// element is the current one, given again, and its component has no cause to be rendered anew, the body is skipped, and the
-/// children are clones of the old ones (react.dev, useState: React skips the component). Where the place is a hidden boundary's,
+/// children are clones of the old ones (react.dev, useState: React skips the component). If the place is a hidden boundary's,
 /// has an element equal to the current one, stands where the same values of contexts are given, and nothing new has come for what
-/// it waits for and keeps, its children are not tried. Where the element is given again, nothing in the tree of the old node has a
+/// it waits for and keeps, its children are not tried. If the element is given again, nothing in the tree of the old node has a
 /// cause, and it stands where the same values of contexts are given or nothing there reads one, the old children are taken over as they stand (react.dev,
 /// useContext: React finds the readers, also below components that it skips). The current tree stays as it is. Also answered is
 /// whether a body was evaluated.
 ///
 /// # Errors
 ///
-/// Want of memory alone, or more children than a list has places. Then the render is to be given up.
+/// Only if out of memory, or if there are more children than a list has places. Then the render is to be given up.
 pub fn begin<L: Ledger>(
     alloc: Global,
     tree: &mut FiberTree<Fiber>,
@@ -184,40 +184,40 @@ pub fn begin<L: Ledger>(
     ensures begun { IfOk result (λ b. (s : Sight) → IsSceneOf scene.now s → BeginsPlace s (is_way scene.now.ways.now) (kept_hooks hooks.old) tree.old contexts.old tree.new contexts.new at b.0) }
     ensures current { tree.new.current ≡ tree.old.current }
     ensures bodies { IfOk result (λ b. steps.new ≡ steps.old + (if b.1 then 1 else 0)) }
-    // A component's body is skipped exactly where its element is that of the current fiber, given again, and its old instance is
+    // A component's body is skipped exactly if its element is that of the current fiber, given again, and its old instance is
     // calm. No other element has one.
     ensures none { IfOk result (λ b. (v : fibers.Fiber) → Some v ≡ made_value_of tree.old.draft at → parts_in v.element ≡ None → b.1 ≡ false) }
     ensures body { IfOk result (λ b. (v : fibers.Fiber) → Some v ≡ made_value_of tree.old.draft at → IsSome (parts_in v.element)
         → (again : Bool) × TellsAgain tree.old.current (old_of tree.old.draft at) v again
         × (again ≡ true → TellsCalm scene.now (kept_hooks hooks.old) (values_at contexts.old) (option_and_then instance_in (mark_at tree.old.current (old_of tree.old.draft at))) (not b.1))
         × (again ≡ false → b.1 ≡ true)) }
-    // A hidden boundary's children are tried only where its element is another one than that of its current fiber, or it may stand
+    // A hidden boundary's children are tried only if its element is another one than that of its current fiber, or it may stand
     // where other values of contexts are given, or there is a cause.
     ensures tries { IfOk result (λ b. (v : fibers.Fiber) → Some v ≡ made_value_of tree.old.draft at → parts_in v.element ≡ None → IsElementOf tree.old.current (old_of tree.old.draft at) v.element → is_stood v.stage ≡ true
         → awaited_again b.0 ≡ None → IsCauseToTry scene.now (kept_hooks hooks.old) tree.old at) }
-    // Where they are not tried, there is no news in what it keeps.
+    // If they are not tried, there is no news in what it keeps.
     ensures news { IfOk result (λ b. IsSome (awaited_again b.0) → (x : Node) → IsOld tree.old.current (old_of tree.old.draft at) (Some x)
         → ForEachIn (λ i. TellsNews (kept_hooks hooks.old) scene.now.lanes scene.now.cut i false) (children_of x)) }
-    // The children that are made wait as ones that stood exactly where the place is steady, and are of the generation below it; a
-    // hidden boundary counts as one that was made anew. They are made for no current fiber where the fiber is.
+    // The children that are made wait as ones that stood exactly if the place is steady, and are of the generation below it; a
+    // hidden boundary counts as one that was made anew. They are made for no current fiber if the fiber is.
     ensures kids { IfOk result (λ b. (v : fibers.Fiber) → Some v ≡ made_value_of tree.old.draft at → is_opened b.0 ≡ true
         → (origin : Origin) × (again : Bool) × TellsSteady tree.old.current (old_of tree.old.draft at) v origin.stood
         × TellsAgain tree.old.current (old_of tree.old.draft at) v again
         × (origin.generation ≡ generation_below b.1 (again && keeps_children true (mark_at tree.old.current (old_of tree.old.draft at))) (stands_for_children v.element) (generation_of v.stage))
         × ((h : HasKids origin tree.old tree.new at) × (b.0 ≡ begun_over h.kids))) }
-    // A hidden boundary that waits still is to try its children, of which none is made; old children stand as they are; and where a
+    // A hidden boundary that waits still is to try its children, of which none is made; old children stand as they are; and if a
     // body waits, all is as it was.
     ensures tried { IfOk result (λ b. IsSome (awaited_again b.0) → (v : fibers.Fiber) (c : Origin) → Some v ≡ made_value_of tree.old.draft at → v.stage ≡ waiting c
         → tree.new ≡ record tree.old { draft = valued at (changed (change.Try c)) tree.old.draft }) }
     ensures taken_over { IfOk result (λ b. is_taken b.0 ≡ true → HasTaken tree.old tree.new at) }
     ensures waits { IfOk result (λ b. (r : ℕ) → b.0 ≡ Suspended r → tree.new ≡ tree.old) }
-    // Old children are taken over only where the element is given again, with no body evaluated; and the tree of the old node
+    // Old children are taken over only if the element is given again, with no body evaluated; and the tree of the old node
     // rests, but for what is passed.
     ensures again { IfOk result (λ b. is_taken b.0 ≡ true → (v : fibers.Fiber) → Some v ≡ made_value_of tree.old.draft at → IsAgain tree.old.current (old_of tree.old.draft at) v) }
     ensures taken { IfOk result (λ b. is_taken b.0 ≡ true → b.1 ≡ false) }
     ensures rests { IfOk result (λ b. is_taken b.0 ≡ true → (x : Node) → IsOld tree.old.current (old_of tree.old.draft at) (Some x)
         → EachBut (is_way scene.now.ways.now) (Rests (kept_hooks hooks.old) scene.now.lanes scene.now.cut) x) }
-    // What is given again is begun over its own children only where there is a cause in the tree of its old node, or an instance
+    // What is given again is begun over its own children only if there is a cause in the tree of its old node, or an instance
     // there stands on a way; else its old children are taken over.
     ensures causes { IfOk result (λ b. (v : fibers.Fiber) → Some v ≡ made_value_of tree.old.draft at → IsAgain tree.old.current (old_of tree.old.draft at) v → is_taken b.0 ≡ false
         → HasCauseToBegin scene.now (kept_hooks hooks.old) (values_at contexts.old) (is_some (parts_in v.element)) (is_stood v.stage) tree.old.current (old_of tree.old.draft at)) }

@@ -74,7 +74,7 @@ fn slice_of(values: &Option<Ints>) -> Option<&[Int]>
     }
 }
 
-// A component's body, where its hooks have these states.
+// A component's body, if its hooks have these states.
 fn evaluate<'x, L: Ledger>(
     alloc: Global,
     scene: &'x Scene<'x>,

@@ -54,7 +54,7 @@ fn read_roots(
     }
 }
 
-// The finished tree where there was none before.
+// The finished tree if there was none before.
 fn read_first(alloc: Global, tree: &FiberTree<Fiber>, root: FiberId) -> Result<Beside, AllocError>
     requires leads { Some root ≡ entry tree.now.draft }
     requires finished { (x : trees.Node) × IsTreeOf (Some x) (grafted tree.now.draft) }
@@ -79,7 +79,7 @@ fn read_first(alloc: Global, tree: &FiberTree<Fiber>, root: FiberId) -> Result<B
 ///
 /// # Errors
 ///
-/// Want of memory alone.
+/// Only if out of memory.
 pub fn read_beside(
     alloc: Global,
     tree: &FiberTree<Fiber>,

@@ -50,7 +50,7 @@ fn add_child(
     Ok(())
 }
 
-// The made children of a made fiber that stand for nodes, place by place; none where its children were taken over.
+// The made children of a made fiber that stand for nodes, place by place; none if its children were taken over.
 pub(crate) fn children_of(
     alloc: Global,
     tree: &FiberTree<Fiber>,

@@ -15,7 +15,7 @@ use rx_links::{FiberId, FiberTree};
 use rx_node::Node;
 use std::alloc::{AllocError, Global};
 
-// The children of a node of the finished tree; and those of the old node and of this one, both without what stayed the same. Where
+// The children of a node of the finished tree; and those of the old node and of this one, both without what stayed the same. If
 // nothing is known to be left out, the node and the old one can stand for themselves.
 #[derive(Drop)]
 pub(crate) struct Lists {
@@ -25,7 +25,7 @@ pub(crate) struct Lists {
     pub whole: bool,
 }
 
-// What stands at a place of the new list; and without what stayed the same the old node, where it is another then, and this one;
+// What stands at a place of the new list; and without what stayed the same the old node, if it is another then, and this one;
 // and whether nothing there is left out.
 #[derive(Drop)]
 pub(crate) struct Slot {
@@ -71,7 +71,7 @@ fn replace(nodes: &mut Vec<Option<Node>>, place: Option<u32>, node: Option<Node>
     }
 }
 
-// Goes on with what stands at the next place, where its old node has this one.
+// Goes on with what stands at the next place, whose old node has this one.
 pub(crate) fn add_slot(lists: &mut Lists, place: Option<u32>, slot: Slot) -> Result<(), AllocError>
     ensures tree { OnOk result (lists.new.tree.items ≡ lists.old.tree.items ++ slot.tree ∷ []) }
     ensures pruned_old { OnOk result (lists.new.pruned_old.items ≡ replaced slot.pruned_old place lists.old.pruned_old.items) }

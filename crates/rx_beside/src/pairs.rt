@@ -77,7 +77,7 @@ fn takes_over(tree: &FiberTree<Fiber>, id: FiberId) -> bool
     tree.first_child(id).is_some() && made_child(tree, id).is_none()
 }
 
-// The old node at a place, where it is that of the current fiber for which a made one was made.
+// The old node at a place, if it is that of the current fiber for which a made one was made.
 fn was_beside<'a>(
     tree: &FiberTree<Fiber>,
     id: FiberId,
@@ -143,7 +143,7 @@ fn pair_over(
     })
 }
 
-// The same where nothing is left out: each node is its own, by one handle more.
+// The same if nothing is left out: each node is its own, by one handle more.
 fn whole_over(
     alloc: Global,
     old: &Node,
@@ -186,7 +186,7 @@ pub(crate) fn read_whole(
     }
 }
 
-// The lists where the children of the old node were taken over: both left out, but where something above moved.
+// The lists if the children of the old node were taken over: both left out, unless something above moved.
 fn same_lists(alloc: Global, old: &[Option<Node>], displaced: bool) -> Result<Lists, AllocError>
     ensures tree { IfOk result (λ l. l.tree.items ≡ old.now) }
     ensures pruned { IfOk result (λ l. AreLists displaced (forest old.now) (forest l.tree.items) (forest l.pruned_old.items) (forest l.pruned_new.items)) }

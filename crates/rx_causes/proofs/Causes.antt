@@ -76,7 +76,7 @@ module _ (P : Option Mark → Type 0) where
 
 -- Without causes
 
--- an instance with a number has no work where its hooks have none
+-- an instance with a number has no work if its hooks have none
 pub no_work : (kept : ℕ → Option (List Hook)) (lanes : Lanes) (cut : Cut) (i : Instance) (n : ℕ) → i.number ≡ Some n
     → ((answers : Answers) (hooks : List Hook) (histories : List HookHistory) → kept n ≡ Some hooks → HooksStandFor answers hooks histories → false ≡ has_work_in lanes cut histories)
     → ((s : Sight) (initials : List ℤ) → s.lanes ≡ lanes → s.cut ≡ cut → GivesValues s kept n initials → hook_values s n initials ≡ done_values s.program (known_by s) n initials)
@@ -104,7 +104,7 @@ module _ (kept : ℕ → Option (List Hook)) (lanes : Lanes) (cut : Cut) where
     mark_idle (of_boundary (Hidden a)) h gives = let q : ⊥ = cc in q
     mark_idle plain h gives = tt
 
-    -- an old node is idle whose fiber has none, where those below have none but for those that are passed
+    -- an old node is idle whose fiber has none, if those below have none but for those that are passed
     node_idle : (way : ℕ → Bool) (n : ℕ) (x : Node) (l rest : Shape Fiber) → IsFor n x l rest → EachOfFirstBut way (HasNoCauseAt kept lanes cut) l → ForEach (GivesHooks s kept) x → Covers way (IsIdleMark s) x → IsIdle s x
     node_idle way n _ _ rest (whole {v = v} {m = m} {ns = ns} {ks = ks} is shown a) h gives covers = (
       mark_idle m (of_fiber (HasNoCauseAt kept lanes cut) v m is.stage h.0) gives.0,
@@ -184,7 +184,7 @@ module _ (c : Shape Fiber) (o : Option ℕ) (i : ℕ) (o_is : o ≡ Some i) (v :
           first_each (λ m. KeepsHooks kept (option_and_then instance_in m)) (keeps_none kept) n x (fiber i v below behind) rest is h
 
   module _ (lanes : Lanes) (cut : Cut) (x : Node) (was : IsOld c o (Some x)) where
-    -- it is idle where none of them has a cause, but for those that are passed
+    -- it is idle if none of them has a cause, but for those that are passed
     pub tree_idle : (way : ℕ → Bool) → HasNoCauseAt kept lanes cut (begun_mark v.stage) → EachFiberBut way (HasNoCauseAt kept lanes cut) below → (s : Sight) → s.lanes ≡ lanes → s.cut ≡ cut
         → ForEach (GivesHooks s kept) x → Covers way (IsIdleMark s) x → IsIdle s x
     tree_idle way own more s lanes_are cut_is gives covers =
@@ -197,7 +197,7 @@ module _ (c : Shape Fiber) (o : Option ℕ) (i : ℕ) (o_is : o ≡ Some i) (v :
         let (n, rest, is) = old_list c o x i (fiber i v below behind) was o_is list in
         node_rests kept lanes cut way n x (fiber i v below behind) rest is (own, more)
 
-    -- one of its nodes leads to a cause where one of them does
+    -- one of its nodes leads to a cause if one of them does
     pub tree_cause : (way : ℕ → Bool) → LeadsAt way kept lanes cut (begun_mark v.stage) ⊎ SomeFiber (LeadsAt way kept lanes cut) below
         → SomeNode (λ m. LeadsAt way kept lanes cut (Some m)) x
     tree_cause way some =

@@ -139,7 +139,7 @@ module _ (c : Shape Fiber) (linked : IsLinked c) (gathered : IsGathered c) (i : 
         free_each way (HasNoCauseAt kept lanes cut) (free_no_cause kept lanes cut) (list_from c child) gathered_here.1 own.1,
       )
 
-  -- so where a fiber is passed it stands on no way, or has no cause, nor has one below it
+  -- so if a fiber is passed it stands on no way, or has no cause, nor has one below it
   pub passed_here : (way : ℕ → Bool) (kept : ℕ → Option (List Hook)) (lanes : Lanes) (cut : Cut) → is_passed way v ≡ true
       → (is_spared way (begun_mark v.stage) ≡ true) ⊎ (HasNoCauseAt kept lanes cut (begun_mark v.stage) × EachFiberBut way (HasNoCauseAt kept lanes cut) (list_from c child))
   passed_here way kept lanes cut h = go (is_free v.subtree) refl h
@@ -149,7 +149,7 @@ module _ (c : Shape Fiber) (linked : IsLinked c) (gathered : IsGathered c) (i : 
       go true e f = inr (free_here way kept lanes cut e)
       go false e f = inl f
 
-  -- where nothing reads at or below it the reads of its node's tree hold
+  -- if nothing reads at or below it the reads of its node's tree hold
   pub unread_here : (o : Option ℕ) → o ≡ Some i → option_map_or is_hidden (mark_at c o) false ≡ false → v.subtree.reads ≡ false → (cs : Contexts) (x : Node) → IsOld c o (Some x) → ReadsHold cs x
   unread_here o o_is shown f cs x was =
       let list = list_at_links c linked i held v here child child_is behind behind_is in

@@ -59,7 +59,7 @@ module _ (kept : ℕ → Option (List Hook)) (lanes : Lanes) (cut : Cut) where
     all_told (trees.vacant ns) h = all_told ns h
     all_told (trees.child x ns) h = (node_told x h.0, all_told ns h.1)
 
--- one with a number has none where its hooks have none
+-- one with a number has none if its hooks have none
 pub none_at : (kept : ℕ → Option (List Hook)) (lanes : Lanes) (cut : Cut) (i : Option Instance) (n : ℕ) → number_in i ≡ Some n
     → ((answers : Answers) (hooks : List Hook) (histories : List HookHistory) → kept n ≡ Some hooks → HooksStandFor answers hooks histories → false ≡ has_news_in lanes cut histories)
     → ((s : Sight) (initials : List ℤ) → s.lanes ≡ lanes → s.cut ≡ cut → GivesValues s kept n initials → hook_values (without_lanes s) n initials ≡ hook_values s n initials)
@@ -142,7 +142,7 @@ past_end (x ∷ xs) (suc r) l = past_end xs r (omega arith)
 seen_length : (s : Sight) → length (resources_seen s) ≡ length (names s.program)
 seen_length s = length-map _ _ ∙ length-range_with_len 0 (length (names s.program))
 
--- none of what it waits for has a value, where none of a number that a program reaches has
+-- none of what it waits for has a value, if none of a number that a program reaches has
 pub none_resolved : (s : Sight) (a : Awaits) (resources : List (Option ℤ)) → resources ≡ resources_seen s → length (names s.program) ≤ resource_limit
     → ((r : ℕ) → r < resource_limit → has a r ≡ true → slice_index_or resources r None ≡ None) → AreUnresolved s a
 none_resolved s a resources same few none r awaited = subst (λ xs. slice_index_or xs r None ≡ None) same (by_limit (nat_lt r resource_limit) refl)

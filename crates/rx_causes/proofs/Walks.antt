@@ -105,7 +105,7 @@ module _ (way : ℕ → Bool) where
 
   module _ (P : Option Mark → Type 0) (G Q : Mark → Type 0) (told : (m : Mark) → P (Some m) → G m → Q m) where
     mutual
-      -- what is told of each mark by its fiber, and by the ways where that is passed, holds of all
+      -- what is told of each mark by its fiber, and by the ways if that is passed, holds of all
       pub each_covered : (n : ℕ) (ns : Forest) (s : Shape Fiber) → AreFor n ns s → EachFiberBut way P s → ForEachIn G ns → CoversIn way Q ns → ForEachIn Q ns
       each_covered n _ _ no_more h g c = tt
       each_covered n (trees.vacant ns) s (gap a) h g c = each_covered (suc n) ns s a h g c

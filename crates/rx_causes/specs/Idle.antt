@@ -74,7 +74,7 @@ Rests kept lanes cut plain = Unit {0}
 
 -- The old node of a clone
 
--- its instance read a context that has another value here; a component's place counts so where it has none
+-- its instance read a context that has another value here; a component's place counts so if it has none
 abbrev pub is_anew : (component : Bool) → Contexts → Option Instance → Bool
 is_anew component cs i = option_map_or (λ i. read_anew cs i.reads) i component
 

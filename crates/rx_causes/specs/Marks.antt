@@ -22,7 +22,7 @@ begun_mark (fallback a) = None
 abbrev pub mark_at : Shape Fiber → Option ℕ → Option Mark
 mark_at c o = option_and_then (λ v. begun_mark v.stage) (option_and_then (value_of c) o)
 
--- a cloned place keeps its children, where its old node, with this mark, is no boundary that hides them
+-- a cloned place keeps its children, if its old node, with this mark, is no boundary that hides them
 abbrev pub keeps_children : (cloned : Bool) → Option Mark → Bool
 keeps_children cloned m = cloned && not (option_map_or is_hidden m false)
 

@@ -105,7 +105,7 @@ pub fn waits_still(
     ensures hidden { IfSome result (λ a. mark_at tree.now.current old ≡ Some (of_boundary (Hidden a))) }
     ensures waits { IfSome result (λ a. (s : Sight) (x : Node) → IsSceneOf scene.now s → IsOld tree.now.current old (Some x) → GivesHooksIn s (kept_hooks hooks.now) (children_of x) → WaitsStill s a x) }
     ensures news { IfSome result (λ a. (x : Node) → IsOld tree.now.current old (Some x) → ForEachIn (λ i. TellsNews (kept_hooks hooks.now) scene.now.lanes scene.now.cut i false) (children_of x)) }
-    // It answers nothing only where there is a cause to try the children again.
+    // It answers nothing only if there is a cause to try the children again.
     ensures tries { result ≡ None → (x : Node) (a : AwaitsSeen) → IsOld tree.now.current old (Some x) → mark_of x ≡ of_boundary (Hidden a) → HasCauseToTry scene.now (kept_hooks hooks.now) a x }
 {
     tree.facts();

@@ -124,7 +124,7 @@ fn any_cause(
     false
 }
 
-// Whether the instance of a fiber read a context that has another value here; a component's place is anew where it has none.
+// Whether the instance of a fiber read a context that has another value here; a component's place is anew if it has none.
 fn is_anew(stage: &Stage, component: bool, contexts: &[Int]) -> bool
     ensures { result ≡ is_anew component contexts.now (instance_at (stage_seen stage.now)) }
 {
@@ -136,9 +136,9 @@ fn is_anew(stage: &Stage, component: bool, contexts: &[Int]) -> bool
 
 /// Whether nothing in the tree of an old node, by its current fiber, has a cause to be rendered here: the node's own instance
 /// reads what it read and has no work, no instance below stands on a way, and no boundary there is hidden. Instances on no way
-/// are passed, with all below them: where the ways cover the tree, there is no cause there. So is what has no instance and no
+/// are passed, with all below them: if the ways cover the tree, there is no cause there. So is what has no instance and no
 /// hidden boundary at or below it, as its fiber keeps (React: `subtreeFlags`). An instance on a way has a cause at it or below,
-/// and is looked at no further. It answers false where there is no old node.
+/// and is looked at no further. It answers false if there is no old node.
 pub fn is_idle(
     tree: &FiberTree<Fiber>,
     old: Option<FiberId>,

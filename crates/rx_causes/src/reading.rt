@@ -33,7 +33,7 @@ pub fn read_anew(reads: &[ContextRead], contexts: &[Int]) -> bool
 }
 
 /// Whether no instance at or below the node of a current fiber reads a context, what a hidden boundary below keeps included, by
-/// what is kept on the fiber. It answers true where there is none.
+/// what is kept on the fiber. It answers true if there is none.
 pub fn reads_nothing(tree: &FiberTree<Fiber>, old: Option<FiberId>) -> bool
     requires held { IfSome old (Holds tree.now.current) }
     requires gathered { IsGathered tree.now.current }

@@ -12,7 +12,7 @@ use Rattle.rx_mentions.specs.declared.count.Count.TheVariants as count
 use Rattle.rx_check.specs.declared.refusal.Refusal.{Refusal}
 use Rattle.rx_check.specs.declared.refusal.Refusal.TheVariants as refusal
 
--- where none of a list is there, neither the first is nor one behind it
+-- if none of a list is there, neither the first is nor one behind it
 head-none : {A : Type 0} (o : Option A) (os : List (Option A)) → first_some (o ∷ os) ≡ None → o ≡ None
 head-none None os h = refl
 head-none (Some x) os h = cc

@@ -28,11 +28,11 @@ or-true : (a b : Bool) → (a || b) ≡ true → (a ≡ true) ⊎ (b ≡ true)
 or-true true b h = inl refl
 or-true false b h = inr h
 
--- a name that stands stays where more are added
+-- a name that stands stays if more are added
 stays : (taken : List Name) (x y : Name) → has_name taken y ≡ true → has_name (taken ++ x ∷ []) y ≡ true
 stays taken x y h = rw (list_any-append, h) refl
 
--- a key among attributes is introduced again where one stands
+-- a key among attributes is introduced again if one stands
 attributes-again : (scope taken : List Name) (attrs : List Attribute) → has_name taken key_name ≡ true → is_some (key_of attrs) ≡ true
     → IsIn (mention.Introduced key_name true) (attributes_mentions scope taken attrs)
 attributes-again scope taken [] h k = cc

@@ -63,7 +63,7 @@ all-declared p a s (t ∷ ts) h = (
   all-declared p a (after_statement s t) ts (λ m i. h m (IsIn-right m (statement_mentions s t) _ i)),
 )
 
--- the contexts that a program reads are declared, where it is accepted
+-- the contexts that a program reads are declared, if it is accepted
 pub accepted-declared : (p : Program) → IsAccepted p → ReadsDeclared p
 accepted-declared p a c d e =
     all-declared p a (component_scope d) d.statements

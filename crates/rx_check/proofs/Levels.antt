@@ -1,4 +1,4 @@
--- Where declarations are few, no component nests deeper than the greatest number of levels.
+-- If declarations are few, no component nests deeper than the greatest number of levels.
 use Rattle.std.proofs.Common.{◌≡◌, ◌≤◌, None, ap, ◌∙◌, arith, length}
 use Rattle.rx_ast.specs.Syntax.{Program, as_component}
 use Rattle.rx_rules.specs.Names.{component_number, root_name}
@@ -15,7 +15,7 @@ use Rattle.rx_check.proofs.Limited.{fewer}
 levels-few : (p : Program) → length p.declarations ≤ 256 → nesting_levels p ≡ component_levels
 levels-few p h = omega (arith, h, fewer as_component p.declarations)
 
--- the declarations are few where no count is refused
+-- the declarations are few if no count is refused
 pub few-declared : (p : Program) → first_some (count_refusals p) ≡ None → length p.declarations ≤ 256
 few-declared p h = not-over 256 (length p.declarations) (counts-none p h count.Declarations)
 

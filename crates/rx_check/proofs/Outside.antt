@@ -215,6 +215,6 @@ pub first-outside : (p : Program) (o : Option ℕ) → o ≡ (body_by (figures p
     → is_some (component_named p root_name) ≡ true → first (outside_uses p) ≡ option_and_then (slice_get (component_names p)) o
 first-outside p o e r = ap (λ t. first (cond t (filter (root_waits_for p) (component_names p)) [])) r ∙ filtered p o (sym e)
 
--- and none where there is no root
+-- and none if there is no root
 pub none-outside : (p : Program) → is_some (component_named p root_name) ≡ false → first (outside_uses p) ≡ None
 none-outside p r = ap (λ t. first (cond t (filter (root_waits_for p) (component_names p)) [])) r

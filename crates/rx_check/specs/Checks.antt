@@ -24,7 +24,7 @@ unless ok x = cond ok None (Some x)
 
 -- Duplicate
 
--- a name that is introduced where it stands already
+-- a name that is introduced though it stands already
 abbrev pub repeat_in : Mention → Option Name
 repeat_in (mention.Introduced x again) = unless (not again) x
 repeat_in (mention.Unknown x) = None
@@ -38,13 +38,13 @@ repeat_in (mention.Resource r) = None
 repeat_in (mention.Quoted n) = None
 repeat_in (mention.Counted w n) = None
 
--- the names that are introduced where they stand already
+-- the names that are introduced though they stand already
 abbrev pub repeats : Program → List Name
 repeats p = filter_map repeat_in (mentions p)
 
 -- Unknown
 
--- a name that is not known as what it stands for, where these are declared
+-- a name that is not known as what it stands for, if these are declared
 abbrev pub unknown_among : (functions components contexts : List Name) → Mention → Option Name
 unknown_among fs cs xs (mention.Introduced x again) = None
 unknown_among fs cs xs (mention.Unknown x) = Some x
@@ -77,7 +77,7 @@ abbrev pub is_children : Parameter → Bool
 is_children (integer x) = false
 is_children given_children = true
 
--- the attributes are the integer parameters, and a child is given only where it is taken
+-- the attributes are the integer parameters, and a child is given only if it is taken
 abbrev pub fits : List Name → (filled : Bool) → Component → Bool
 fits attrs filled c =
     list_all (has_name (prop_names c)) attrs && (list_all (has_name attrs) (prop_names c) && (not filled || is_some (find is_children c.parameters)))
@@ -116,11 +116,11 @@ component_cycles p = cycle_names (places p) (component_names p)
 
 -- Resources outside of a boundary
 
--- the root may wait, where the reads of the components of this name alone count
+-- the root may wait, if the reads of the components of this name alone count
 abbrev pub root_waits_for : Program → Name → Bool
 root_waits_for p name = (body_by (may_wait (λ c. bytes_eq c.name name)) (nesting_levels p) p (component_number p root_name)).own
 
--- the components for whose resources the root waits, where there is one
+-- the components for whose resources the root waits, if there is one
 abbrev pub outside_uses : Program → List Name
 outside_uses p = cond (is_some (component_named p root_name)) (filter (root_waits_for p) (component_names p)) []
 
@@ -215,6 +215,6 @@ count_over p w = first_over (limit_of w) (counts p w)
 
 -- Nodes and costs
 
--- the node bound, where it is over its limit
+-- the node bound, if it is over its limit
 abbrev pub nodes_over : Program → Option ℕ
 nodes_over p = first_over node_limit (node_bound p ∷ [])

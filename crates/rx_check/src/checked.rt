@@ -170,7 +170,7 @@ impl Checked {
         hook_among(component.statements(), &self.functions, name)
     }
 
-    /// How many parameters a function, given by its number, has; 0 where there is none.
+    /// How many parameters a function, given by its number, has; 0 if there is none.
     pub fn parameters_of(&self, function: u32) -> u32
         ensures { result ≡ parameter_count self.now function }
     {

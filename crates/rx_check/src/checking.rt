@@ -166,7 +166,7 @@ fn refuse_count(what: Count, over: Option<u64>) -> Result<(), Refusal>
     }
 }
 
-/// A number, where it is over the limit of what it counts.
+/// A number, if it is over the limit of what it counts.
 fn number_over(what: Count, found: u64) -> Option<u64>
     ensures { result ≡ over (limit_of what) (found ∷ []) }
 {
@@ -177,7 +177,7 @@ fn number_over(what: Count, found: u64) -> Option<u64>
     }
 }
 
-/// The name at a place, where there is one.
+/// The name at a place, if there is one.
 fn name_at<'a>(names: &'a [Name], place: Option<usize>) -> Option<&'a str>
     ensures { MatchOption result (option_and_then (slice_get names.now) place ≡ None) (λ x. option_and_then (slice_get names.now) place ≡ Some x.now) }
 {
@@ -190,7 +190,7 @@ fn name_at<'a>(names: &'a [Name], place: Option<usize>) -> Option<&'a str>
     }
 }
 
-/// The first component for whose resources the root waits, where there is a root.
+/// The first component for whose resources the root waits, if there is a root.
 fn outside_use<'a>(program: &Index, names: &'a [Name], waits: Option<usize>) -> Option<&'a str>
     requires names { names.now ≡ component_names program.now }
     requires waits { waits ≡ (body_by (figures program.now) (nesting_levels program.now) program.now (component_number program.now root_name)).waits }
@@ -347,12 +347,12 @@ fn refuse_listed(alloc: Global, program: &Program, listing: &Listing) -> Result<
     refuse(alloc, &index)
 }
 
-/// The program, where it meets every check.
+/// The program, if it meets every check.
 ///
 /// # Errors
 ///
 /// The refusal of the first check that it does not meet, in the order of `Refusal`'s variants, with the first place in the text that
-/// the check refuses; or want of memory.
+/// the check refuses; or `OutOfMemory` if out of memory.
 pub fn check(alloc: Global, program: Program) -> Result<Checked, Refusal>
     ensures program { IfOk result (λ c. c ≡ program) }
     ensures answers { Answers (refusal_of program) result }

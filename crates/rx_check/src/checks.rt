@@ -20,7 +20,7 @@ fn unless(ok: bool, name: &str) -> Option<&str>
     if ok { None } else { Some(name) }
 }
 
-/// The first name that is introduced where it stands already.
+/// The first name that is introduced though it stands already.
 pub fn first_repeat<'a>(mentions: &[Mention<'a>]) -> Option<&'a str>
     ensures { MatchOption result (first (filter_map repeat_in mentions.now) ≡ None) (λ x. first (filter_map repeat_in mentions.now) ≡ Some x.now) }
 {
@@ -79,7 +79,7 @@ fn all_among(names: &Names, others: &Names) -> bool
         .all(|name| others.contains(name.text()))
 }
 
-/// The attributes are the integer parameters, and a child is given only where it is taken.
+/// The attributes are the integer parameters, and a child is given only if it is taken.
 fn fits(
     alloc: Global,
     attributes: &Names,

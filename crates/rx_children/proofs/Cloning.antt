@@ -113,7 +113,7 @@ module _ (c : Shape Fiber) (linked : IsLinked c) (ws : List (ℕ × ℤ)) where
       (subst (λ y. AreWaiting c ws n y (Some id ∷ spread None (λ id v. Some id) (suc n) rest) d) e
       (subst (λ y. AreWaiting c ws n (spread elements.null (λ id v. v.element) n s) y d) g are)))
 
-  -- Clones of a list begin next where its nodes are matched with their own elements.
+  -- Clones of a list begin next if its nodes are matched with their own elements.
   pub kept_next : (ns : Forest) (s : Shape Fiber) → IsListFor c ns s → NoNull ns → (d : Draft Fiber) → AreWaiting c ws 0 (old_elements s) (old_fibers s) d
       → AreNext c ws 0 (zip (elements_in ns) (old_nodes ns (elements_in ns))) d
   kept_next ns s list no_null d are =

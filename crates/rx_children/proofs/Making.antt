@@ -118,7 +118,7 @@ pub is_fiber : (c : Shape Fiber) (o : Option ℕ) (v : Fiber) (n : ℕ) (e f : E
 is_fiber c o v n e f origin is same clones =
     record { at = ap (λ u. u.place) is; element = ap (λ u. u.element) is ∙ same; stage = ap (λ u. u.stage) is; same = clones }
 
--- the same, where the code counts down
+-- the same when the code counts down
 module _ (origin : Origin) (before t : Trees Fiber) (p m n : ℕ) (es : List Element) (os : List (Option ℕ)) (room : HasRoomFor before p os) (made_so : HasMadeFrom origin m before t p es os) (knows : KnowsPlaces t)
     (next_is : m ≡ suc n) (inside : n < length os) where
   from_next : HasMadeFrom origin (suc n) before t p es os

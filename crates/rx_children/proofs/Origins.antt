@@ -32,7 +32,7 @@ module _ (t : Trees Fiber) (p : ℕ) (knows : KnowsPlaces t) (bare : IsBareAt t 
   pub equal_is : (u : Fiber) (e : Element) → (Holds t.current old → Some u ≡ value_of t.current old) → e ≡ u.element → IsElementOf t.current (old_of t.draft p) e
   equal_is u e reads element = ap (option_map (λ (x : Fiber). x.element)) (current_value u reads) ∙ ap Some (sym element)
 
-  -- where it is that of the current fiber, it is the same
+  -- if it is that of the current fiber, it is the same
   pub is_equal : (u : Fiber) (e : Element) → (Holds t.current old → Some u ≡ value_of t.current old) → IsElementOf t.current (old_of t.draft p) e → e ≡ u.element
   is_equal u e reads element =
       let f : Some u.element ≡ Some e = sym (ap (option_map (λ (x : Fiber). x.element)) (current_value u reads)) ∙ element in
@@ -100,7 +100,7 @@ later_not_again c o v g is later = (λ so. absurd (let q : ⊥ = cc in q), λ h.
 pub clone_is_again : (c : Shape Fiber) (o : Option ℕ) (v : Fiber) → IsAgain c o v → TellsAgain c o v true
 clone_is_again c o v h = (λ so. h, λ i. refl)
 
--- and one of the first generation where it is equal
+-- and one of the first generation if it is equal
 pub equal_is_again : (c : Shape Fiber) (o : Option ℕ) (v : Fiber) (g : ℕ) (e : Element) (b : Bool) → g ≡ generation_of v.stage → g ≡ 0 → e ≡ v.element → (b ≡ true → IsElementOf c o e) → (IsElementOf c o e → b ≡ true)
     → TellsAgain c o v b
 equal_is_again c o v g e b is none element equal all = (

@@ -1,4 +1,4 @@
--- What follows where a result is a value.
+-- What follows if a result is a value.
 use Rattle.std.specs.Prelude.{Result, Ok, Err, IfOk}
 
 pub if_ok : {A E : Type 0} (r : Result A E) (P Q : A → Type 0) → ((a : A) → P a → Q a) → IfOk r P → IfOk r Q

@@ -88,7 +88,7 @@ parts_in (elements.list marked es) = None
 parts_in (elements.boundary k f es) = None
 parts_in (elements.provider c k x es) = None
 
--- how far the fiber of another element has come once it is begun, where so much is known of its place and a host of before has this number
+-- how far the fiber of another element has come once it is begun, if so much is known of its place and a host of before has this number
 abbrev pub begun_stage : Element → Origin → (number : Option ℕ) → Stage
 begun_stage elements.null origin n = waiting origin
 begun_stage (elements.text t) origin n = begun (of_host n)

@@ -36,7 +36,7 @@ pub record IsAgain (current : Shape Fiber) (o : Option ℕ) (v : Fiber) : Type 0
 abbrev pub TellsAgain : Shape Fiber → Option ℕ → Fiber → Bool → Type 0
 TellsAgain current o v b = (b ≡ true → IsAgain current o v) × (IsAgain current o v → b ≡ true)
 
--- where the fiber of a place is a clone, its element is given again
+-- if the fiber of a place is a clone, its element is given again
 abbrev pub KnowsClone : Trees Fiber → ℕ → Type 0
 KnowsClone t p = (v : Fiber) → Some v ≡ made_value_of t.draft p → is_cloned v.stage ≡ true → IsAgain t.current (old_of t.draft p) v
 
@@ -44,7 +44,7 @@ KnowsClone t p = (v : Fiber) → Some v ≡ made_value_of t.draft p → is_clone
 abbrev pub StoodIn : Option Node → Element → Type 0
 StoodIn old e = option_map element_of old ≡ Some e
 
--- there is a cause to begin a place whose element is given again: the tree of its old node leads to one, or, where that may stand where other values of contexts are given, an instance at or below it reads a context
+-- there is a cause to begin a place whose element is given again: the tree of its old node leads to one, or, if that may stand where other values of contexts are given, an instance at or below it reads a context
 abbrev pub HasCauseToBegin : Scene → (kept : ℕ → Option (List Hook)) → Contexts → (component stood : Bool) → Shape Fiber → Option ℕ → Type 0
 HasCauseToBegin scene kept cs component stood current o =
     HasCauseIn scene kept cs component current o ⊎ ((stood ≡ false) × ((subtree_at current o).reads ≡ true))

@@ -91,7 +91,7 @@ fn make_one(
     Ok(())
 }
 
-// Makes the fibers of children from the last to the first, each for its old one, of which so much is known; where they are cloned,
+// Makes the fibers of children from the last to the first, each for its old one, of which so much is known; if they are cloned,
 // each with its element.
 fn make_all(
     tree: &mut FiberTree<Fiber>,
@@ -130,7 +130,7 @@ fn make_all(
 ///
 /// # Errors
 ///
-/// Want of memory alone, or more children than a list has places. What was made then stays below the fiber.
+/// Only if out of memory, or more children than a list has places. What was made then stays below the fiber.
 pub fn make_children(
     alloc: Global,
     tree: &mut FiberTree<Fiber>,
@@ -161,7 +161,7 @@ pub fn make_children(
 ///
 /// # Errors
 ///
-/// Want of memory alone, or more children than a list has places. What was made then stays below the fiber.
+/// Only if out of memory, or more children than a list has places. What was made then stays below the fiber.
 pub fn clone_children(
     alloc: Global,
     tree: &mut FiberTree<Fiber>,

@@ -1,4 +1,4 @@
-// Of which generation an element is: 0 where it is the committed one, given again, and one more with each body that made it from
+// Of which generation an element is: 0 if it is the committed one, given again, and one more with each body that made it from
 // one that was made anew.
 ghost use Rattle.std.specs.Prelude.{◌≡◌};
 ghost use Rattle.rx_meaning.specs.Generations.{generation_below, given_to, made_by, own_generation};

@@ -46,7 +46,7 @@ pub fn is_component(element: &Element) -> bool
     matches!(element.kind(), ElementKind::Comp(_, _, _, _))
 }
 
-/// How far the fiber of another element has come once it is begun, where so much is known of its place.
+/// How far the fiber of another element has come once it is begun, if so much is known of its place.
 pub fn begun_stage(element: &Element, origin: Origin, number: Option<u64>) -> Stage
     ensures { stage_seen result ≡ begun_stage element.now origin number }
 {
@@ -91,7 +91,7 @@ pub(crate) fn gives_same(element: &Element, old: &Element) -> bool
 ///
 /// # Errors
 ///
-/// Want of memory alone.
+/// Only if out of memory.
 pub fn enter(element: &Element, contexts: &mut ContextStack) -> Result<(), AllocError>
     requires { IfSome (given_context element.now) (λ c. c < length (values_at contexts.old)) }
     ensures { OnOk result (contexts.new ≡ begun_stack element.now contexts.old) }

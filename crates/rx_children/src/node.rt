@@ -72,7 +72,7 @@ pub fn old_host(tree: &FiberTree<Fiber>, old: Option<FiberId>) -> Option<u64>
 ///
 /// # Errors
 ///
-/// Want of memory alone.
+/// Only if out of memory.
 pub fn old_instance(
     tree: &FiberTree<Fiber>,
     old: Option<FiberId>,
@@ -116,7 +116,7 @@ fn set_stage(tree: &mut FiberTree<Fiber>, at: FiberId, stage: Stage) -> Result<(
 ///
 /// # Errors
 ///
-/// Want of memory alone, or more children than a list has places. What was made then stays below the fiber.
+/// Only if out of memory, or more children than a list has places. What was made then stays below the fiber.
 pub fn open_list(
     alloc: Global,
     tree: &mut FiberTree<Fiber>,
@@ -144,7 +144,7 @@ pub fn open_list(
 ///
 /// # Errors
 ///
-/// Want of memory alone, or more children than a list has places. What was made then stays below the fiber.
+/// Only if out of memory, or more children than a list has places. What was made then stays below the fiber.
 pub fn open_clones(
     alloc: Global,
     tree: &mut FiberTree<Fiber>,
@@ -179,7 +179,7 @@ fn begun_from(first: Option<FiberId>) -> Begun
 ///
 /// # Errors
 ///
-/// Want of memory alone, or more children than a list has places. What was made then stays below the fiber.
+/// Only if out of memory, or more children than a list has places. What was made then stays below the fiber.
 pub fn open_node(
     alloc: Global,
     tree: &mut FiberTree<Fiber>,
@@ -207,7 +207,7 @@ pub fn open_node(
 ///
 /// # Errors
 ///
-/// Want of memory alone, or more children than a list has places. What was made then stays below the fiber.
+/// Only if out of memory, or more children than a list has places. What was made then stays below the fiber.
 pub fn keep_node(
     alloc: Global,
     tree: &mut FiberTree<Fiber>,
@@ -232,7 +232,7 @@ pub fn keep_node(
 ///
 /// # Errors
 ///
-/// Want of memory alone. What was taken over then stays below the fiber.
+/// Only if out of memory. What was taken over then stays below the fiber.
 pub fn take_node(tree: &mut FiberTree<Fiber>, at: FiberId) -> Result<(), AllocError>
     requires bare { IsBareAt tree.old at }
     requires there { IsSome (mark_at tree.old.current (old_of tree.old.draft at)) }

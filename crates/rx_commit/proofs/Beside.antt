@@ -36,7 +36,7 @@ mutual
   trimmed_in-present (vacant ns) h = vacant-present (trimmed_in ns) (trimmed_in-present ns h)
   trimmed_in-present (child n ns) h = (trimmed-present n h.0, trimmed_in-present ns h.1)
 
--- no node of a trimmed tree is one of null, where none of the tree is
+-- no node of a trimmed tree is one of null, if none of the tree is
 pub if-present : (tree o : Option Node) → o ≡ trimmed_if tree → IfHasNoNull tree → IfHasNoNull o
 if-present None o e h = subst IfHasNoNull (sym e) h
 if-present (Some n) o e h = subst IfHasNoNull (sym e) (trimmed-present n h)
@@ -56,7 +56,7 @@ of-commit tree next o n e f h =
       kinds = subst (λ (hs : List Host). KeepKinds hs (hosts (Some n))) old (subst (KeepKinds (hosts tree)) new h.kinds);
     }
 
--- the operations between all hosts, where the hosts are placed that the trees without those lists tell
+-- the operations between all hosts, if those hosts are placed that the trees without those lists tell
 pub ops-of-all : (o : Option Node) (b : Beside) (c : Compared) (placed : List ℕ) (ops : List HostOp) → IsBeside o b → c ≡ compare_trees b.pruned_old b.pruned_new
     → placed ≡ placed_hosts (changes c) → ops ≡ ops_between (hosts o) (hosts (Some b.tree)) placed → IfHasNoNull o → ops ≡ host_ops o b.tree
 unfolding host_ops

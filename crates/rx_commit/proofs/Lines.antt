@@ -16,7 +16,7 @@ use Rattle.rx_commit.specs.Shown.{Prepared, Prepares}
 use Rattle.rx_commit.specs.Written.{passive_lines, sync_lines, lines_of, with_lines}
 use Rattle.rx_commit.proofs.Behind.{with_lines-nil, with_lines-append, with_lines-cons}
 
--- a set of lanes made anew has the lane Sync where the set has it
+-- a set of lanes made anew has the lane Sync if the set has it
 pub sync-anew : (lanes : Lanes) (passive : Passive) → sync_lines lanes passive ≡ sync_lines (lanes_where (has lanes)) passive
 sync-anew lanes passive = ap (λ b. if b then passive_lines passive else []) (sym (has-lanes_where (has lanes) lane.Sync))
 

@@ -23,7 +23,7 @@ pub record GoesOn (old new : Written) : Type 0 where
 abbrev pub passive_lines : Passive → List Line
 passive_lines passive = map logged (passive_log passive)
 
--- the lines of the passive effects that a commit runs itself: all of them, where it has the lane Sync
+-- the lines of the passive effects that a commit runs itself: all of them, if it has the lane Sync
 abbrev pub sync_lines : Lanes → Passive → List Line
 sync_lines lanes passive = if has lanes lane.Sync then passive_lines passive else []
 

@@ -68,7 +68,7 @@ fn ops_from(
     between(alloc, &before, &after, placed)
 }
 
-// The operations of a commit. A host that is placed goes before its next sibling, and that one may have stayed; so only where
+// The operations of a commit. A host that is placed goes before its next sibling, and that one may have stayed; so only if
 // none is placed are the hosts of lists that stayed left out.
 fn ops_beside(
     alloc: Global,
@@ -124,7 +124,7 @@ impl Prepared {
     ///
     /// # Errors
     ///
-    /// Want of memory alone; the report is then as it was.
+    /// Only if out of memory; the report is then as it was.
     pub fn write(
         &self,
         log: &mut Report,
@@ -141,7 +141,7 @@ impl Prepared {
         cut_back(log, len, written)
     }
 
-    // The same, without taking back what was written where memory is wanting.
+    // The same, without taking back what was written if memory runs out.
     fn write_all(
         &self,
         log: &mut Report,
@@ -174,7 +174,7 @@ impl Prepared {
         add_effects(log, &self.layout)
     }
 
-    // The passive effects, where the commit runs them itself.
+    // The passive effects, if the commit runs them itself.
     fn write_sync(&self, log: &mut Report, lanes: Lanes) -> Result<(), AllocError>
         ensures written { OnOk result (log.new ≡ with_lines log.old (sync_lines lanes self.now.passive)) }
         ensures goes_on { GoesOn log.old log.new }

@@ -77,12 +77,12 @@ impl Shown {
         self.tree.as_ref()
     }
 
-    /// What becomes of a finished render with these lanes: `None` where it is committed, and else the resources that it waits
-    /// for. Only where all lanes are transitions may it be deferred, and only there are the trees compared.
+    /// What becomes of a finished render with these lanes: `None` if it is committed, and else the resources that it waits
+    /// for. Only if all lanes are transitions may it be deferred, and only then are the trees compared.
     ///
     /// # Errors
     ///
-    /// Want of memory alone.
+    /// Only if out of memory.
     pub fn outcome(
         &self,
         alloc: Global,
@@ -107,7 +107,7 @@ impl Shown {
     ///
     /// # Errors
     ///
-    /// Want of memory alone.
+    /// Only if out of memory.
     pub fn prepare(&mut self, alloc: Global, beside: &Beside) -> Result<Prepared, AllocError>
         requires { IsBeside self.old.tree beside.now }
         ensures prepares { IfOk result (λ x. (tree : Option Node) (next : Node) → self.old.tree ≡ trimmed_if tree → beside.now.tree ≡ trimmed next → IfHasNoNull tree → IsCommit tree next → Prepares tree next x) }
@@ -137,7 +137,7 @@ impl Shown {
     ///
     /// # Errors
     ///
-    /// Want of memory alone; the report and what is shown are then as they were.
+    /// Only if out of memory; the report and what is shown are then as they were.
     pub fn flush_passive(&mut self, log: &mut Report) -> Result<(), AllocError>
         ensures written { OnOk result (log.new ≡ with_lines log.old (passive_lines self.old.passive)) }
         ensures ended { OnOk result (self.new ≡ record self.old { passive = no_passive }) }
@@ -171,7 +171,7 @@ impl Shown {
     ///
     /// # Errors
     ///
-    /// Want of memory alone; the report is then as it was.
+    /// Only if out of memory; the report is then as it was.
     pub fn write_tree(&self, log: &mut Report) -> Result<(), AllocError>
         ensures written { (tree : Option Node) (passive : effects.Passive) → Shows tree passive self.now → AreInTreeOrder (hosts tree) → OnOk result (log.new ≡ with_lines log.old (tree_lines (hosts tree))) }
         ensures unchanged { OnErr result (log.new ≡ log.old) }

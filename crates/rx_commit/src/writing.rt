@@ -41,7 +41,7 @@ pub(crate) fn add_passive(log: &mut Report, passive: &Passive) -> Result<(), All
     add_effects(log, &passive.created)
 }
 
-/// Takes back what was written behind so many bytes, where memory was wanting for the rest of it.
+/// Takes back what was written behind so many bytes, if memory ran out for the rest of it.
 ///
 /// # Errors
 ///

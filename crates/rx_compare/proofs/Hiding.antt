@@ -71,12 +71,12 @@ hidden-all (c ∷ cs) = go (hides_shown c) refl (hidden-all cs)
     go true e rest = rw (e) (hidden_behind cs (union nothing (awaits_in (mark_of c.new))))
     go false e rest = rw (e) rest
 
--- what becomes of a render, where a boundary is hidden and the lanes are those of transitions
+-- what becomes of a render, if a boundary is hidden and the lanes are those of transitions
 pub outcome-deferred : (lanes : Lanes) (new : Node) (cs : List Change) (a : Awaits) → Some a ≡ awaits_of_all cs → only_transitions lanes ≡ true → meaning.defer a ≡ outcome_by lanes new cs
 outcome-deferred lanes new [] a e h = absurd (cc e)
 outcome-deferred lanes new (c ∷ cs) a e h = rw h (let same : a ≡ all_awaits (c ∷ cs) = cc in ap meaning.defer same)
 
--- where none is
+-- if none is
 pub outcome-of_none : (lanes : Lanes) (new : Node) (cs : List Change) → None ≡ awaits_of_all cs → meaning.commit new ≡ outcome_by lanes new cs
 outcome-of_none lanes new [] e = refl
 outcome-of_none lanes new (c ∷ cs) e = absurd (cc e)

@@ -155,7 +155,7 @@ fn compare(
 ///
 /// # Errors
 ///
-/// Want of memory alone.
+/// Only if out of memory.
 pub fn compare_trees(alloc: Global, old: Option<&Node>, new: &Node) -> Result<Compared, AllocError>
     ensures { IfOk result (λ c. c ≡ compare_trees (option_copied old.entry) new.now) }
 {

@@ -52,7 +52,7 @@ fn element_at(alloc: Global, place: &Option<Node>) -> Result<Element, AllocError
 ///
 /// # Errors
 ///
-/// Want of memory alone.
+/// Only if out of memory.
 pub fn elements_of(alloc: Global, nodes: &[Option<Node>]) -> Result<Vec<Element>, AllocError>
     ensures few { IfOk result (λ es. length es.items < 2 ^ 32) }
     ensures are { IfOk result (λ es. es.items ≡ elements_in (forest nodes.now)) }

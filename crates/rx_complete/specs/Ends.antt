@@ -38,7 +38,7 @@ fiber_in (Sibling id) = Some id
 fiber_in (Parent id) = Some id
 fiber_in Done = None
 
--- the next sibling, and where there is none the parent, and where there is none nothing
+-- the next sibling; if there is none, the parent; and if there is none, nothing
 abbrev pub next_by : (sibling parent : Option ℕ) → Next
 next_by (Some id) p = Sibling id
 next_by None (Some id) = Parent id

@@ -61,7 +61,7 @@ fn find_boundary(
 
 /// A place waits: the attempts around it are given up, up to the nearest boundary that tries its children. What that one made
 /// below it is released, and its fallback is to open next. The resources grow by what each fallback on the way waits for, and
-/// each provider on the way is left. `None` where no boundary stands above: then the tree waits, and all fibers stay.
+/// each provider on the way is left. `None` if no boundary stands above: then the tree waits, and all fibers stay.
 pub fn unwind_to_boundary(
     tree: &mut FiberTree<Fiber>,
     at: FiberId,

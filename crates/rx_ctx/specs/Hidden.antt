@@ -18,6 +18,6 @@ abbrev pub AreContexts : ℕ → List HiddenValue → Type 0
 AreContexts count [] = Unit {0}
 AreContexts count (h ∷ hs) = (h.context < count) × AreContexts count hs
 
--- the stack that stands there, where the nearest provider comes first
+-- the stack that stands there, with the nearest provider first
 abbrev pub stack_of : (values : List ℤ) → List HiddenValue → Stack
 stack_of values hs = record { defaults = defaults_in values hs; given = given_in values hs }

@@ -35,11 +35,11 @@ impl Model for ContextStack {
 }
 
 impl ContextStack {
-    /// The contexts with their defaults, where no provider stands above.
+    /// The contexts with their defaults, if no provider stands above.
     ///
     /// # Errors
     ///
-    /// Want of memory alone.
+    /// Only if out of memory.
     pub fn new(alloc: Global, defaults: &[Int]) -> Result<ContextStack, AllocError>
         ensures { IfOk result (λ s. s ≡ opening defaults.now) }
     {
@@ -55,7 +55,7 @@ impl ContextStack {
     ///
     /// # Errors
     ///
-    /// Want of memory alone.
+    /// Only if out of memory.
     pub fn push(&mut self, context: u32, given: Int) -> Result<(), AllocError>
         requires { context < length (values_at self.old) }
         ensures ok { OnOk result (self.new ≡ below context given self.old) }
@@ -68,7 +68,7 @@ impl ContextStack {
         Ok(())
     }
 
-    /// Goes out of the nearest provider, and says what it gave to which context; `None` where no provider stands above.
+    /// Goes out of the nearest provider, and says what it gave to which context; `None` if no provider stands above.
     pub fn pop(&mut self) -> Option<(u32, Int)>
         ensures { MatchOption result ((self.old.given ≡ []) × (self.new ≡ self.old)) (λ p. self.old ≡ below p.0 p.1 self.new) }
     {

@@ -5,7 +5,7 @@ use Rattle.std.specs.List.{zip, enumerate_from}
 use Rattle.rx_elem.specs.declared.effect.EffectRecord.{EffectRecord}
 use Rattle.rx_effect.specs.EffectLog.{differs}
 
--- the places of the pairs that differ, where the first pair has this place
+-- the places of the pairs that differ, if the first pair has this place
 abbrev pub changes_from : ℕ → List (EffectRecord × EffectRecord) → List ℕ
 changes_from k xs = map (λ x. x.0) (filter (λ x. differs x.1) (enumerate_from k xs))
 

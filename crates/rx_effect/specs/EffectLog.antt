@@ -25,7 +25,7 @@ abbrev pub is_passive : Phase → Bool
 is_passive layout = false
 is_passive passive = true
 
--- layout effects are live where they are visible, passive effects everywhere
+-- layout effects are live if they are visible, passive effects always
 abbrev pub is_live : Phase → (visible : Bool) → Bool
 is_live layout visible = visible
 is_live passive visible = true
@@ -52,14 +52,14 @@ around_old visible = record at_root { visible = visible }
 abbrev pub destroyed_in : Phase → Gone → List LogLine
 destroyed_in phase g = flat_map (destroyed_at phase) (spots (around_old g.was_visible) g.node)
 
--- what a boundary's children destroy where it hides them, in tree order
+-- what a boundary's children destroy when it hides them, in tree order
 abbrev pub destroyed_by_hiding : Phase → (was_visible : Bool) → (old : Option Node) → List LogLine
 destroyed_by_hiding passive visible old = []
 destroyed_by_hiding layout visible None = []
 destroyed_by_hiding layout visible (Some n) =
     if is_shown (mark_of n) then flat_map (destroyed_at layout) (spots_in (around_old visible) (children_of n)) else []
 
--- an effect runs again where a dependency has another value
+-- an effect runs again if a dependency has another value
 abbrev pub differs : EffectRecord × EffectRecord → Bool
 differs x = not (pointwise int_eq x.0.values x.1.values)
 
@@ -72,12 +72,12 @@ abbrev pub changed_effects : (old : Option Node) → (new : Node) → List (Effe
 changed_effects None new = []
 changed_effects (Some old) new = filter differs (zip (effects_in (mark_of old)) (effects_in (mark_of new)))
 
--- what a node destroys of its own: what differs, where it was live
+-- what a node destroys of its own: what differs, if it was live
 abbrev pub own_destroyed : Phase → Change → List LogLine
 own_destroyed phase c =
     if is_live phase c.was_visible then lines_at phase false (mark_of c.new) (map (λ x. x.0) (changed_effects c.old c.new)) else []
 
--- what a node creates of its own: all where it is new or visible again, else what differs
+-- what a node creates of its own: all if it is new or visible again, else what differs
 abbrev pub own_created : Phase → Change → List LogLine
 own_created phase c =
     if is_none c.old || not (is_live phase c.was_visible)

@@ -12,12 +12,12 @@ pub fn differ(old: &EffectRecord, new: &EffectRecord) -> bool
     old.values.as_slice() != new.values.as_slice()
 }
 
-/// The places of the effects that run again, of an instance with these old and new effects in statement order: those where
+/// The places of the effects that run again, of an instance with these old and new effects in statement order: those of which
 /// a dependency has another value (react.dev, useEffect).
 ///
 /// # Errors
 ///
-/// Want of memory alone.
+/// Only if out of memory.
 pub fn effect_changes(
     alloc: Global,
     old: &[EffectRecord],

@@ -23,7 +23,7 @@ mutual
     host : Name → Key → List Attr → Elements → Element
     -- an element of a component, with its props and the children that it is given
     comp : (number : ℕ) → Key → (props : List ℤ) → (children : Elements) → Element
-    -- the children of a `for`; or, where it is marked, those that stand for `children`
+    -- the children of a `for`; or, if it is marked, those that stand for `children`
     list : (mark : Bool) → Elements → Element
     -- a Suspense boundary
     boundary : Key → (fallback : Element) → (primary : Elements) → Element

@@ -20,7 +20,7 @@ pub struct Attr {
 }
 
 impl AttrValue {
-    /// True where both are the same number or the same text.
+    /// True if both are the same number or the same text.
     pub fn same(&self, other: &AttrValue) -> bool
         ensures { result ≡ same_value self.now other.now }
     {
@@ -33,7 +33,7 @@ impl AttrValue {
 }
 
 impl Attr {
-    /// True where both have the same name and the same value.
+    /// True if both have the same name and the same value.
     pub fn same(&self, other: &Attr) -> bool
         ensures { result ≡ same_attr self.now other.now }
     {
@@ -41,7 +41,7 @@ impl Attr {
     }
 }
 
-/// True where both lists have the same attributes, in the same order.
+/// True if both lists have the same attributes, in the same order.
 pub(crate) fn same_attrs(ours: &[Attr], theirs: &[Attr]) -> bool
     ensures { result ≡ pointwise same_attr ours.now theirs.now }
 {

@@ -28,7 +28,7 @@ pub enum ElementKind {
     Host(Name, Option<Int>, Vec<Attr>, Vec<Element>),
     /// An element of a component, with its props and the children that it is given.
     Comp(u32, Option<Int>, Ints, Vec<Element>),
-    /// The children of a `for`, or those that stand for `children`, where the mark is true.
+    /// The children of a `for`, or those that stand for `children`, if the mark is true.
     List(bool, Vec<Element>),
     /// A Suspense boundary: its key, its fallback and its children.
     Boundary(Option<Int>, Element, Vec<Element>),
@@ -60,7 +60,7 @@ impl Element {
     ///
     /// # Errors
     ///
-    /// Want of memory alone.
+    /// Only if out of memory.
     pub fn new(alloc: Global, kind: ElementKind) -> Result<Element, AllocError>
         ensures { IfOk result (λ e. e ≡ element_seen kind) }
     {
@@ -79,7 +79,7 @@ impl Element {
     ///
     /// # Errors
     ///
-    /// Want of memory alone.
+    /// Only if out of memory.
     pub fn copy(&self) -> Result<Element, AllocError>
         ensures { IfOk result (λ e. e ≡ self.now) }
     {

@@ -19,7 +19,7 @@ impl Element {
         }
     }
 
-    /// True where the element stands for a node: all but `null` do.
+    /// True if the element stands for a node: all but `null` do.
     pub fn is_present(&self) -> bool
         ensures { result ≡ is_present self.now }
     {
@@ -39,7 +39,7 @@ impl Element {
         }
     }
 
-    /// True where a node of this element and one of the other can be one, beside their identity (react.dev, Preserving and
+    /// True if a node of this element and one of the other can be one, beside their identity (react.dev, Preserving and
     /// Resetting State).
     pub fn is_same_kind(&self, other: &Element) -> bool
         ensures { result ≡ same_kind (kind_of self.now) (kind_of other.now) }

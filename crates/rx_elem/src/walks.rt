@@ -33,7 +33,7 @@ fn size_of_all(elements: &[Element]) -> u64
 }
 
 impl Element {
-    /// True where both elements are equal, with all that is in them.
+    /// True if both elements are equal, with all that is in them.
     #[cycle(same)]
     pub fn same(&self, other: &Element) -> bool
         ensures { result ≡ same_element self.now other.now }

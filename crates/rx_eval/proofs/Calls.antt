@@ -42,7 +42,7 @@ bound_more w calls env ps es bs a x more e h is =
     rw (names, given) (ap (λ ps. ps ++ more) (zip-push (take (length bs) ps) (values w calls env (exprs_of bs)) x (value w calls env a) same)
     ∙ append_assoc (zip (take (length bs) ps) (values w calls env (exprs_of bs))) ((x, value w calls env a) ∷ []) more)
 
--- the first pairs are all pairs, where one of the lists ends there
+-- the first pairs are all pairs, if one of the lists ends there
 pub zip-take : (w : Width) (calls : Calls) (env : Env) (xs : List Name) (es : List Expr) (n : ℕ) → n ≡ min (length xs) (length es) →
     zip (take n xs) (values w calls env (exprs_of (take n es))) ≡ zip xs (values w calls env (exprs_of es))
 zip-take w calls env [] es n e = let none : n ≡ 0 = omega arith in rw none refl

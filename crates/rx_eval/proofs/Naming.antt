@@ -18,7 +18,7 @@ same_turned x y true false e f =
 same_turned x y false true e f =
     let back : bytes_eq x y ≡ true = (bytes_eq-Decides x y).1 (sym ((bytes_eq-Decides y x).0 f)) in absurd (cc)
 
--- a name is the same as another where that is the same as it
+-- a name is the same as another if that is the same as it
 pub bytes_eq-turned : (x y : Name) → bytes_eq x y ≡ bytes_eq y x
 bytes_eq-turned x y = same_turned x y (bytes_eq x y) (bytes_eq y x) refl refl
 

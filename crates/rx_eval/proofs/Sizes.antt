@@ -37,6 +37,6 @@ abbrev pub widest : List Function → ℕ
 widest [] = 0
 widest (f ∷ fs) = max (function_size f) (widest fs)
 
--- an evaluation where calls nest so deep: each level below has room for the largest function
+-- an evaluation whose calls nest so deep: each level below has room for the largest function
 abbrev pub room : (nesting : ℕ) → List Function → ℕ
 room n fs = (widest fs + 4) * n

@@ -12,12 +12,12 @@ abbrev pub body_seen : Body → body.Body
 body_seen (given.Wait r) = body.wait r
 body_seen (given.Ready elements effects initials reads) = body.ready elements.items effects.items initials reads.items
 
--- the initial values of hooks that a body gives, where it is ready
+-- the initial values of hooks that a body gives, if it is ready
 abbrev pub initials_of : body.Body → Option (List ℤ)
 initials_of (body.wait r) = None
 initials_of (body.ready es effects initials reads) = Some initials
 
--- the slots that are returned; none where they are not wanted
+-- the slots that are returned; none if they are not wanted
 abbrev pub returned_slots : Option (Bor syntax.Body) → Slots
 returned_slots None = no_slots
 returned_slots (Some b) = body_slots b.now

@@ -31,6 +31,6 @@ abbrev pub step_taken : Option Name → Env → Gathered → Step → Taken
 step_taken x env g (step.Value v) = taken (frame_of (named x v env) g)
 step_taken x env g (step.Wait r) = stopped_at r
 
--- the frame before the first statement, where names have these values
+-- the frame before the first statement, if names have these values
 abbrev pub opened : Env → Frame
 opened env = record { env = env; hooks = 0; initials = []; effects = []; reads = [] }

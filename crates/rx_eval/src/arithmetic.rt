@@ -14,7 +14,7 @@ pub(crate) fn is_zero(x: Int) -> bool
     x.value() == 0
 }
 
-/// What a test answers: 1 where it holds, else 0.
+/// What a test answers: 1 if it holds, else 0.
 fn truth(holds: bool) -> Int
     ensures { result ≡ truth holds }
 {

@@ -53,7 +53,7 @@ pub(crate) fn attrs_of(
     Ok(attrs)
 }
 
-/// What a parameter is given; 0 where no attribute has its name, as in no program that is accepted.
+/// What a parameter is given; 0 if no attribute has its name, as in no program that is accepted.
 fn prop_named(evaluator: &Evaluator, env: &Env, attributes: &[Attribute], name: &Name) -> Int
     ensures { result ≡ prop_named evaluator.now env.now attributes.now name.now }
 {

@@ -47,7 +47,7 @@ struct Scene<'a> {
 }
 
 #[tactic(auto, using(crate::proofs::Places::slots_of_slots))]
-/// The elements of what a body returns; none where only its statements are wanted.
+/// The elements of what a body returns; none if only its statements are wanted.
 fn elements_returned(
     scene: &Scene,
     env: &Env,
@@ -140,7 +140,7 @@ fn follow(
     }
 }
 
-/// A body, where these parameters have these props and those behind them are bound.
+/// A body, if these parameters have these props and those behind them are bound.
 fn with_props(
     scene: &Scene,
     component: &Component,
@@ -206,7 +206,7 @@ fn body_at(
     )
 }
 
-/// The initial values of a component's hooks, where its statements do not wait.
+/// The initial values of a component's hooks, if its statements do not wait.
 fn initial_values(
     alloc: Global,
     evaluator: &Evaluator,
@@ -228,7 +228,7 @@ fn initial_values(
 ///
 /// # Errors
 ///
-/// Want of memory alone.
+/// Only if out of memory.
 pub fn eval_body<L: Ledger>(
     alloc: Global,
     checked: &Checked,
@@ -248,11 +248,11 @@ pub fn eval_body<L: Ledger>(
     }
 }
 
-/// The initial values of a component's hooks at mount (react.dev, useState), where its body is ready then.
+/// The initial values of a component's hooks at mount (react.dev, useState), if its body is ready then.
 ///
 /// # Errors
 ///
-/// Want of memory alone.
+/// Only if out of memory.
 pub fn init_hooks(
     alloc: Global,
     checked: &Checked,

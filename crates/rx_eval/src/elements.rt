@@ -54,7 +54,7 @@ fn index_value(index: u64) -> Int
     Int::of(index as i64)
 }
 
-/// The element of a slot, where the given children stand for `children`.
+/// The element of a slot, with the given children standing for `children`.
 #[cycle(element)]
 pub(crate) fn element(
     alloc: Global,

@@ -57,7 +57,7 @@ impl<'a> Env<'a> {
         }
     }
 
-    /// The value of a name; 0 where it has none, for which no program that is accepted asks.
+    /// The value of a name; 0 if it has none, for which no program that is accepted asks.
     pub(crate) fn value(&self, name: &Name) -> Int
         ensures { result ≡ value_of self.now name.now }
     {

@@ -71,14 +71,14 @@ impl<'a> Evaluator<'a> {
         value(self.checked, self.nesting, env, expr)
     }
 
-    /// The number of a component; 0 where there is none, for which no program that is accepted asks.
+    /// The number of a component; 0 if there is none, for which no program that is accepted asks.
     pub(crate) fn component(&self, name: &Name) -> u32
         ensures { result ≡ component_number self.now name.now }
     {
         self.checked.component(name.text()).unwrap_or(0)
     }
 
-    /// The number of a context; 0 where there is none, for which no program that is accepted asks.
+    /// The number of a context; 0 if there is none, for which no program that is accepted asks.
     pub(crate) fn context(&self, name: &Name) -> u32
         ensures { result ≡ context_number self.now name.now }
     {
@@ -92,7 +92,7 @@ impl<'a> Evaluator<'a> {
         self.checked.resource(name.text()).unwrap_or(0)
     }
 
-    /// What a function, given by its number, makes of the state of a hook and an argument; 0 where there is none.
+    /// What a function, given by its number, makes of the state of a hook and an argument; 0 if there is none.
     pub fn apply(&self, function: u32, state: Int, argument: Int) -> Int
         ensures { result ≡ answers_of self.now function state argument }
     {
@@ -117,7 +117,7 @@ impl<'a> Evaluator<'a> {
         }
     }
 
-    /// What a function answers where its parameters have these values.
+    /// What a function answers if its parameters have these values.
     fn behind(&self, function: &Function, env: &Env) -> Int
         ensures { result ≡ value_in self.now (after_lines (width self.now) (calls_of self.now) env.now function.now.lines) function.now.answer }
     {
@@ -146,7 +146,7 @@ impl<'a> Fold for Evaluator<'a> {
 }
 
 /// What a function, given by its number in the order of the text, makes of the state of a hook and an argument (react.dev,
-/// useReducer): the value of its `return` behind its lines. 0 where there is no such function.
+/// useReducer): the value of its `return` behind its lines. 0 if there is no such function.
 pub fn apply_fn(checked: &Checked, function: u32, state: Int, argument: Int) -> Int
     ensures { result ≡ answers_of checked.now function state argument }
 {

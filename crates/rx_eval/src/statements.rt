@@ -29,7 +29,7 @@ pub(crate) struct Gathered {
 /// What a statement does, beside what it gathers.
 #[derive(Clone, Copy, Debug, PartialEq, Eq)]
 pub(crate) enum Step {
-    /// The next statement is taken: the value of the name that this one binds, 0 where it binds none.
+    /// The next statement is taken: the value of the name that this one binds, 0 if it binds none.
     Value(Int),
     /// The body waits for a resource.
     Wait(u32),

@@ -23,7 +23,7 @@ fn function_named<'a>(checked: &'a Checked, name: &Name) -> Option<&'a Function>
     }
 }
 
-/// What an expression is worth, where calls nest at most so deep.
+/// What an expression is worth, if calls nest at most so deep.
 #[cycle(value)]
 pub(crate) fn value(checked: &Checked, nesting: usize, env: &Env, expr: &Expr) -> Int
     ensures { result ≡ worth w32 (nested_calls nesting checked.now) env.now expr.now }
@@ -70,7 +70,7 @@ fn chained(checked: &Checked, nesting: usize, env: &Env, first: Int, links: &[Li
     so_far
 }
 
-/// What a call answers: 0 where calls nest too deep or the function is missing, as no call of a program that is accepted does.
+/// What a call answers: 0 if calls nest too deep or the function is missing, as no call of a program that is accepted does.
 #[cycle(value)]
 fn call(checked: &Checked, nesting: usize, env: &Env, name: &Name, arguments: &[Expr]) -> Int
     ensures { result ≡ nested_calls nesting checked.now name.now (values w32 (nested_calls nesting checked.now) env.now (exprs_of arguments.now)) }
@@ -94,7 +94,7 @@ fn call(checked: &Checked, nesting: usize, env: &Env, name: &Name, arguments: &[
     }
 }
 
-/// What a function answers, where these parameters have values and those before them have the arguments' values.
+/// What a function answers, if these parameters have values and those before them have the arguments' values.
 #[cycle(value)]
 fn with_arguments(
     checked: &Checked,

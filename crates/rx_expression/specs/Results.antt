@@ -5,7 +5,7 @@ use Rattle.rx_grammar.specs.Steps.{Read, ◌>>=◌}
 use Rattle.rx_expression.specs.declared.fault.Fault.{Fault}
 use Rattle.rx_expression.specs.declared.fault.Fault.TheVariants as fault
 
--- the fault of a reading; want of memory says nothing of the tokens
+-- the fault of a reading; being out of memory says nothing of the tokens
 abbrev pub Fails : {A : Type 0} → Fault → Read A → Type 0
 Fails fault.OutOfMemory read = Unit {0}
 Fails (fault.Syntax left) read = read ≡ Err left

@@ -4,7 +4,7 @@ ghost use Rattle.std.specs.Prelude.{◌≡◌, IfOk, IfErr, Ok, Err};
 use crate::fault::Fault;
 use rx_lex::Rest;
 
-/// A part, with the tokens that are left where something stands behind it.
+/// A part, with the tokens that are left if something stands behind it.
 pub fn closed<'a, T: Drop>(part: T, rest: Result<Rest<'a>, Fault>) -> Result<(T, Rest<'a>), Fault>
     ensures ok { IfOk rest.entry (λ r. result ≡ Ok (part, r)) }
     ensures err { IfErr rest.entry (λ e. result ≡ Err e) }

@@ -7,7 +7,7 @@ use std::alloc::{AllocError, AllocFailed};
 pub enum Fault {
     /// So many tokens are left at the first one with which no such part goes on.
     Syntax(usize),
-    /// Want of memory.
+    /// Out of memory.
     OutOfMemory,
 }
 

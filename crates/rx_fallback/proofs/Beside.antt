@@ -95,7 +95,7 @@ both_none : (a b : Option ℕ) → or_else a b ≡ None → (a ≡ None) × (b �
 both_none None b e = (refl, e)
 both_none (Some x) b e = cc
 
--- where no made fiber is for a current one, it is unused
+-- if no made fiber is for a current one, it is unused
 pub unused_if : (d : Draft Fiber) (j : ℕ) → clone_of d j ≡ None → IsUnused d j
 unused_if (taken s) j e = tt
 unused_if (made id v None ks rs) j e = let h = both_none (clone_of ks j) (clone_of rs j) e in (λ f. cc, unused_if ks j h.0, unused_if rs j h.1)
@@ -119,7 +119,7 @@ module _ (c : Shape Fiber) (linked : IsLinked c) where
   no_fallback_behind j n m _ ns _ rest (alone is hidden none_kept a) are gone here = ap (λ l. begins_fallback (rest_in l)) here ∙ no_fallback m rest (list_begins m ns rest are)
   no_fallback_behind j n m _ ns _ rest (beside is hidden some a s f) are gone here = absurd (let q : ⊥ = cc in q)
 
-  -- where a boundary keeps nothing, its old fallback is among the children of its old fiber
+  -- if a boundary keeps nothing, its old fallback is among the children of its old fiber
   pub alone_tops : (o : Option ℕ) (old : Option Node) (i : ℕ) → IsOld c o old → has_node (children_if old) ≡ false → IsTop (fallback_list (list_from c o)) i → IsTop (kids_under c o) i
   alone_tops _ _ i new gone t = t
   alone_tops _ _ i (of {j = j} {n = n} {x = x} {ns = ns} {s = s} here leads (next {rest = rest} is a)) gone t =
@@ -142,7 +142,7 @@ module _ (c : Shape Fiber) (linked : IsLinked c) where
       kids_are c jd w ws rest linked (rest_listed c id v ks (fiber jd w ws rest) linked (old_listed c j (fiber id v ks (fiber jd w ws rest)) here leads)) in
       subst (λ o. IsTop (kids_under c o) i) (sym (e ∙ b)) (subst (λ z. IsTop z i) (l ∙ sym k) t)
 
-  -- where it keeps something, among those of the fiber behind
+  -- if it keeps something, among those of the fiber behind
   pub beside_tops : (o r : Option ℕ) (old : Option Node) (i : ℕ) → IsOld c o old → has_node (children_if old) ≡ true → r ≡ fallback_behind (list_from c o)
       → IsTop (fallback_list (list_from c o)) i → IsTop (kids_under c r) i
   beside_tops _ r _ i new some e t = cc

@@ -21,7 +21,7 @@ use Rattle.rx_fallback.specs.declared.opening.Opened.{Opened}
 use Rattle.rx_children.proofs.Making.{KnowsPlaces}
 use Rattle.rx_children.proofs.Origins.{NoFiber, cloned_none, kids_new, kids_wait, matched_none}
 
--- where the old fallback has no fibers, none is given
+-- if the old fallback has no fibers, none is given
 given_none : (given : Option (List Element)) (s : Shape Fiber) → s ≡ none → NoFiber (given_fibers given s)
 given_none None s e = cloned_none s e
 given_none (Some es) s e = matched_none s es e

@@ -77,7 +77,7 @@ module _ (t : Trees Fiber) (st : Stack) (p : ℕ) (a : Awaits) (c : Cursor) (l :
   abbrev pub BeginsNext : Draft Fiber → Type 0
   BeginsNext d = AreNext t.current its_given 0 (children_with_old its_list) d
 
-  -- the old fibers of the fallback stand where its new ones will, where that of the boundary stands where it does
+  -- the old fibers of the fallback stand where its new ones will, if that of the boundary stands where it does
   olds_stand : StandsIf t.current (given_along l.frames) l.old → (i j : ℕ) → slice_get its_olds i ≡ Some (Some j) → StoodAt t.current its_given (Some j)
   olds_stand stands i j is =
       let (place, there, here) = matched_at (fallback_list (list_from t.current l.old)) (fallback_in l.value.element ∷ []) i j is in
@@ -148,7 +148,7 @@ module _ (t : Trees Fiber) (st : Stack) (p : ℕ) (a : Awaits) (c : Cursor) (l :
       next (surrounds_new new current) stack_new)
       next))
 
-  -- it keeps something where its old primary list has a fiber
+  -- it keeps something if its old primary list has a fiber
   pub keeps_by : (link : Option ℕ) → list_from t.current link ≡ primary_list (list_from t.current l.old) → has_node (children_if l.node) ≡ is_some (first (list_from t.current link))
   keeps_by link e =
       let h = primary_is t.current linked l.old l.node l.was in
@@ -225,7 +225,7 @@ put_so t new p id w old a v knows is stage value element = record {
   current = ap (λ x. x.current) is;
 }
 
--- a boundary that keeps something: what is asked where its fallback's fiber is put
+-- a boundary that keeps something: what is asked when its fallback's fiber is put
 module _ (t u : Trees Fiber) (p : ℕ) (a : Awaits) (o : Option ℕ) (is_left : IsLeft t p a) (knows : KnowsPlaces t) (same_old : o ≡ old_of t.draft p) (kept : HasKept t u p a)
     (same : u.current ≡ t.current) where
   pub kept_made : KnowsPlaces u → Makes u.draft p
@@ -296,7 +296,7 @@ module _ (origin : Origin) (t new : Trees Fiber) (p : ℕ) (first : Option ℕ) 
 pub left_held : (t : Trees Fiber) (p : ℕ) (a : Awaits) (o : Option ℕ) → IsLeft t p a → KnowsPlaces t → o ≡ old_of t.draft p → IfSome o (Holds t.current)
 left_held t p a o (left {st = st} {c = c} l) knows e = subst (λ q. IfSome q (Holds t.current)) (sym (left_old t st p a c l knows o e)) (left_at t st p a c l knows).old_held
 
--- a boundary keeps something where its old primary list has a fiber
+-- a boundary keeps something if its old primary list has a fiber
 pub keeps_none : (t : Trees Fiber) (p : ℕ) (a : Awaits) (o link : Option ℕ) → IsLinked t.current → KnowsPlaces t → o ≡ old_of t.draft p
     → list_from t.current link ≡ primary_list (list_from t.current o) → link ≡ None → KeepsNode t p a false
 keeps_none t p a o link linked knows e list is st c l =

@@ -152,7 +152,7 @@ module _ (t : Trees Fiber) (fits : Fits t) (p b j : ℕ) (falls : begins_fallbac
       earlier_free k (made id v o ks d) here olds.1 (inr (inr mine))
       ((λ e. no_other k (made id v o ks d) here (inr (inr mine)) (olds.0 (subst (λ q. begins_fallback (list_from t.current q) ≡ true) (sym e) falls) ∙ e)), free)
 
-  -- so none of the whole tree is, where the list of p is that of an open node
+  -- so none of the whole tree is, if the list of p is that of an open node
   list_free : (k kk : Around Fiber) (q : ℕ) (w : Fiber) (o : Option ℕ) (rest d : Draft Fiber) → KnowsPlaces t → t.draft ≡ placed k d → above_list k ≡ below q w o rest kk
       → IsTop (list_under t (up_of k)) j → IsTopUnused (whole_list k d) j → IsUnused t.draft j
   list_free k kk q w o rest d knows here above is_top free =
@@ -180,7 +180,7 @@ module _ (t : Trees Fiber) (fits : Fits t) (p b j : ℕ) (falls : begins_fallbac
             open_free g.node g.contexts q fs (subst (λ a. IsListOf t.current a q g.node g.contexts fs) (sym e) list)
             (earlier_free k (made p v (Some b) (taken kept) rs) here (subst (AreOldBehind t.current) (sym e) before.olds) (inl (refl, refl)) (no_node (Some b) own, free))
 
--- Where a boundary has its old primary taken over, none is made for its old fallback.
+-- If a boundary has its old primary taken over, none is made for its old fallback.
 pub fallback_free : (t : Trees Fiber) → Fits t → IsLinked t.current → KnowsPlaces t → (k : Around Fiber) (p n : ℕ) (v : Fiber) (o r : Option ℕ) (kept : Shape Fiber) (rs : Draft Fiber) (fs : List Frame)
     → t.draft ≡ placed k (made p v o (taken kept) rs) → IsAround t.current k n rs fs → IsOfNode t.current o → r ≡ fallback_behind (list_from t.current o) → IfSome r (IsUnused t.draft)
 fallback_free t fits linked knows k p n v o None kept rs fs here is own e = tt

@@ -84,7 +84,7 @@ module _ (t : Trees Fiber) (st : Stack) (p : ℕ) (a : Awaits) (c : Cursor) (l :
       (kept_next t.current linked (given_along l.frames) (fallback_if l.node) its_old (fallback_is t.current linked l.old l.node l.was) own.1 d
       (all_wait t.current (given_along l.frames) (as_cloned stood) 0 (old_elements its_old) (old_fibers its_old) d (λ so. refl) (λ so. clones_stand h) are)))
 
-  -- So do those of the elements that are given, and clones where none are.
+  -- So do those of the elements that are given, and clones if none are.
   pub given_next : (given : Option (List Element)) (stood : Bool) (generation : ℕ) → IsFallbackOf t.current (given_along l.frames) l.old l.node l.value.element given stood → (s : Shape Fiber) → s ≡ its_old
       → (d : Draft Fiber) → AreMade t.current (given_as given stood generation) 0 (given_elements given s) (given_fibers given s) d → BeginsNext t st p a c l linked d
   given_next None stood generation h s is d are = cloned_next h stood d (subst (λ x. AreMade t.current (as_cloned stood) 0 (old_elements x) (old_fibers x) d) is are)

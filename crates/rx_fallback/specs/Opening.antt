@@ -39,7 +39,7 @@ abbrev pub opened_at : (first : Option ℕ) → ℕ → Opened
 opened_at None q = Empty q
 opened_at (Some id) q = First id
 
--- the render stands at the fallback, or where it is null at the end of its list
+-- the render stands at the fallback, or, if it is null, at the end of its list
 abbrev pub HasOpenedAs : Trees Fiber → Stack → Cursor → Opened → Type 0
 HasOpenedAs t st c (First id) = StandsAt t st (Some id) c × IsPlace c
 HasOpenedAs t st c (Empty id) = StandsAt t st (Some id) c × IsEnd c
@@ -71,7 +71,7 @@ pub record HasFallback (before after : Trees Fiber) (p : ℕ) (old : Option ℕ)
       → (value.element ≡ v.element) × (after.draft ≡ placed k (made p v o ks (made id value old (taken shapes.none) rs)))
   pub current : after.current ≡ before.current
 
--- a fallback's list has these elements, which are the fallback of the boundary's element alone, and where they stood the boundary's current fiber, if it is there, stands where these values are given; where none are given, it has those of the old fallback
+-- a fallback's list has these elements, which are the fallback of the boundary's element alone, and if they stood the boundary's current fiber, if it is there, stands where these values are given; if none are given, it has those of the old fallback
 abbrev pub IsFallbackOf : Shape Fiber → List (ℕ × ℤ) → Option ℕ → Option Node → Element → (given : Option (List Element)) (stood : Bool) → Type 0
 IsFallbackOf current ws o old e None stood = HasOldFallback current ws o old e
 IsFallbackOf current ws o old e (Some es) stood = (es ≡ fallback_in e ∷ []) × (stood ≡ true → StandsIf current ws o)
@@ -91,7 +91,7 @@ abbrev pub given_as : (given : Option (List Element)) (stood : Bool) (generation
 given_as None stood generation = as_cloned stood
 given_as (Some es) stood generation = as_matched stood generation
 
--- A boundary's fallback has fibers that wait, and of which so much is known; where the old fallback has none, each is made for no current fiber. They stand below the boundary's own fiber, or below one right behind it, where that one keeps a list; neither tries its children. The boundary's fiber has gathered what it keeps.
+-- A boundary's fallback has fibers that wait, and of which so much is known; if the old fallback has none, each is made for no current fiber. They stand below the boundary's own fiber, or below one right behind it, if that one keeps a list; neither tries its children. The boundary's fiber has gathered what it keeps.
 pub data HasFallbackKids (origin : Origin) (before after : Trees Fiber) (q : ℕ) : Opened → Type 0 where
   alone : {f : Opened} (kids : Draft Fiber) (value : Fiber → Fiber) → ((v : Fiber) → is_trying (value v).stage ≡ false) → AllWait origin kids
       → (fallback_list (list_from before.current (old_of before.draft q)) ≡ shapes.none → AllNew kids)

@@ -29,7 +29,7 @@ use rx_node::Mark;
 use rx_susp::BoundaryState;
 use std::alloc::{AllocError, Global};
 
-/// Where a render comes to where a boundary opens its fallback.
+/// Where a render comes to when a boundary opens its fallback.
 #[derive(Clone, Copy)]
 pub enum Opened {
     /// The fallback's fiber, which begins next.
@@ -108,7 +108,7 @@ fn opened_at(first: Option<FiberId>, at: FiberId) -> Opened
 }
 
 // Makes the fibers of a fallback's list below a made fiber that has no children: those of these elements, of this generation, or
-// where none are given clones of the old ones. `stood` tells whether the old ones stand where the same values of contexts are
+// if none are given, clones of the old ones. `stood` tells whether the old ones stand where the same values of contexts are
 // given.
 fn make_listed(
     alloc: Global,
@@ -210,7 +210,7 @@ fn fall_beside(
     Ok(opened_at(tree.first_child(id), id))
 }
 
-// A boundary opens its fallback over fibers of these elements, which are of this generation, or where none are given over clones
+// A boundary opens its fallback over fibers of these elements, which are of this generation, or, if none are given, over clones
 // of the old ones. `stood` tells whether its current fiber stands where the same values of contexts are given.
 fn fall(
     alloc: Global,
@@ -234,14 +234,14 @@ fn fall(
     }
 }
 
-/// Opens the fallback of a boundary whose children wait for these resources, where a wait has stopped at it (react.dev,
+/// Opens the fallback of a boundary whose children wait for these resources, when a wait has stopped at it (react.dev,
 /// Suspense). What the boundary showed before is kept: its fiber takes that over as it stands, and the fallback gets a fiber
-/// right behind it. Where there is nothing to keep, the fallback stands below the boundary's own fiber. The current tree stays
+/// right behind it. If there is nothing to keep, the fallback stands below the boundary's own fiber. The current tree stays
 /// as it is.
 ///
 /// # Errors
 ///
-/// Want of memory alone. Then the render is to be given up.
+/// Only if out of memory. Then the render is to be given up.
 pub fn open_fallback(
     alloc: Global,
     tree: &mut FiberTree<Fiber>,
@@ -278,7 +278,7 @@ pub fn open_fallback(
 ///
 /// # Errors
 ///
-/// Want of memory alone. Then the render is to be given up.
+/// Only if out of memory. Then the render is to be given up.
 pub fn open_old_fallback(
     alloc: Global,
     tree: &mut FiberTree<Fiber>,

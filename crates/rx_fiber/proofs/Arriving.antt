@@ -21,7 +21,7 @@ use Rattle.rx_fiber.specs.Standing.{IsStack, bottom, opened, StandsAt, over}
 use Rattle.rx_fiber.proofs.Few.{node_more, node_there}
 use Rattle.rx_fiber.proofs.Coming.{come_at, comes, none_done}
 
--- one node more is done, where each list that goes on with its fibers is one of it
+-- one node more is done if each list that goes on with its fibers is one of it
 node_done : (c : Shape Fiber) (k : Around Fiber) (n : ℕ) (done : List (Option Node)) (x : Node) (fibers : Shape Fiber → Shape Fiber)
     → AreDone c k n done → ((rest : Shape Fiber) → IsFor n x (fibers rest) rest)
     → (xs : List (Option Node)) (s : Shape Fiber) → AreFor (suc n) (forest xs) s → AreFor 0 (forest ((done ++ Some x ∷ []) ++ xs)) (behind_earlier k (fibers s))
@@ -54,7 +54,7 @@ two_done c k n done x id jd v w o p ks ws before old behind is few = record {
   olds = (behind, ((λ e. cc), before.olds));
 }
 
--- so many fibers are made, where the earlier siblings of a place stand alone
+-- so many fibers are made if the earlier siblings of a place stand alone
 pub made_top : (k : Around Fiber) (d : Draft Fiber) → above_list k ≡ top → made_size (placed k d) ≡ made_earlier k + made_size d
 made_top top d e = omega arith
 made_top (below id v o rs k) d e = absurd (not_top e)
@@ -63,7 +63,7 @@ made_top (below id v o rs k) d e = absurd (not_top e)
     not_top h = cc
 made_top (after id v o ks k) d e = omega (arith, made_top k (made id v o ks d) e)
 
--- what a draft will be as a list, where its earlier siblings stand alone
+-- what a draft will be as a list if its earlier siblings stand alone
 pub grafted_top : (k : Around Fiber) (d : Draft Fiber) → above_list k ≡ top → grafted (placed k d) ≡ behind_earlier k (grafted d)
 grafted_top top d e = refl
 grafted_top (below id v o rs k) d e = cc

@@ -86,7 +86,7 @@ opens_element c ws v o cs x (falls e m empty) = e
 
 -- What the fiber that is completed next is to the two trees: once its value is that of a node that is done, and what its element gave is taken from the stack, the render arrives with its node.
 pub record Completes (t : Trees Fiber) (q : ℕ) (fs : List Frame) (x : Open) (done : List (Option Node)) : Type 0 where
-  -- what surrounds the fiber, and what surrounds the first fiber of its node: another one where it is that of a fallback beside kept content
+  -- what surrounds the fiber, and what surrounds the first fiber of its node: another one if it is that of a fallback beside kept content
   pub around : Around Fiber
   pub first : Around Fiber
   pub place : ℕ

@@ -153,7 +153,7 @@ module _ (c : Shape Fiber) (linked : IsLinked c) where
       subst (λ l. IsListFor c (fallback_of x) (fallback_list l)) (from_old j s here)
       (fallback_node n x s rest is (list_begins (suc n) ns rest a) (old_listed c j s here leads))
 
-  -- what an old node keeps, where it keeps some, is what its fiber has as children
+  -- what an old node keeps, if it keeps some, is what its fiber has as children
   pub kept_is : (o : Option ℕ) (old : Option Node) → IsOld c o old → has_node (children_if old) ≡ true → AreFor 0 (children_if old) (kids_under c o)
   kept_is _ _ new some = cc
   kept_is _ _ (of {j = j} {n = n} {x = x} here leads (next {s = s} {rest = rest} is a)) some = node_kept n x s rest is some (old_listed c j s here leads) leads
@@ -172,7 +172,7 @@ old_of_node c _ _ new = refl
 old_of_node c _ _ (of {j = j} {n = n} {x = x} {ns = ns} {s = s} here leads a) =
     ap (λ l. begins_fallback (shape_or_none l)) here ∙ no_fallback n s (list_begins n (trees.child x ns) s a)
 
--- a list of places has a node where its list of fibers is not empty
+-- a list of places has a node if its list of fibers is not empty
 pub has_node_is : (n : ℕ) (ns : Forest) (s : Shape Fiber) → AreFor n ns s → has_node ns ≡ is_some (first s)
 has_node_is n _ _ no_more = refl
 has_node_is n (trees.vacant ns) s (gap a) = has_node_is (suc n) ns s a

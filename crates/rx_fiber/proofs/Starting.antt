@@ -54,7 +54,7 @@ pub starts : (s : Sight) (old : Option Node) (t : Trees Fiber) (id : ℕ) (v : F
 unfolding start
 starts s old t id v tree waits here = begins {k = top} here waits (root_old t.current old tree) at_root refl (bottom refl)
 
--- where no unit is left, the tree in progress is that of the node that was made, and so it is once the trees are swapped
+-- if no unit is left, the tree in progress is that of the node that was made, and so it is once the trees are swapped
 pub swaps : (t : Trees Fiber) (st : Stack) (x : Node) → StandsAt t st None (ended (fresh.made x)) → IsTreeOf (Some x) (grafted t.draft)
 swaps t st x (over tree few empty) = tree
 

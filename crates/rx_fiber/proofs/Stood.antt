@@ -32,7 +32,7 @@ module _ (c : Shape Fiber) (ws : List (ℕ × ℤ)) (e : Element) where
   stood_in_fallback None place i at same hidden is = cc
   stood_in_fallback (Some q) place i at same hidden is = let (v, f, g) = value_with q same in in_fallback place at f (hidden v f) is
 
-  -- One of the fallback of a boundary, which has one only where it is hidden.
+  -- One of the fallback of a boundary, which has one only if it is hidden.
   pub fallback_stands : (o : Option ℕ) (place i : ℕ) → StandsIf c ws o → fiber_at (fallback_list (list_from c o)) place ≡ Some i → StoodAt c ws (Some i)
   fallback_stands None place i at is = absurd (fiber_top none place i is)
   fallback_stands (Some q) place i at is = by_list (list_at c q) refl

@@ -32,7 +32,7 @@ abbrev pub first_kids : Shape Fiber → Shape Fiber
 first_kids none = none
 first_kids (fiber id v ks rs) = ks
 
--- the children of the node with whose fibers a list begins; of a boundary, its primary: none where it is hidden and keeps none
+-- the children of the node with whose fibers a list begins; of a boundary, its primary: none if it is hidden and keeps none
 abbrev pub primary_list : Shape Fiber → Shape Fiber
 primary_list none = none
 primary_list (fiber id v ks rs) = if hides_in v.stage && not (begins_fallback rs) then none else ks
@@ -48,7 +48,7 @@ module _ {A : Type 0} where
   filled zero x = []
   filled (suc n) x = x ∷ filled n x
 
-  -- what one fiber tells behind so many places: the gap at those before its own, and then its own; nothing where it is that of a fallback
+  -- what one fiber tells behind so many places: the gap at those before its own, and then its own; nothing if it is that of a fallback
   abbrev pub told : A → A → (place : ℕ) → Fiber → List A
   told gap x n v = if is_fallback v.stage then [] else filled (v.place - n) gap ++ x ∷ []
 

@@ -37,11 +37,11 @@ mutual
         → IsOf v n e m → is_hidden m ≡ true → has_node ns ≡ true → AreFor 0 ns ks → w.stage ≡ fallback (awaits_in m) → AreFor 0 fs ws
         → IsFor n (node e m ns fs) (fiber id v ks (fiber jd w ws rest)) rest
 
--- a list of fibers is that of a tree, or empty where there is none
+-- a list of fibers is that of a tree, or empty if there is none
 abbrev pub IsTreeOf : Option Node → Shape Fiber → Type 0
 IsTreeOf tree s = AreFor 0 (forest (tree ∷ [])) s
 
--- the current fiber of a node: none where there is no node. The list from the fiber on stands for the node and those after it.
+-- the current fiber of a node: none if there is no node. The list from the fiber on stands for the node and those after it.
 pub data IsOld (current : Shape Fiber) : Option ℕ → Option Node → Type 0 where
   new : IsOld current None None
   of : {j n : ℕ} {x : Node} {ns : Forest} {s : Shape Fiber} → list_at current j ≡ Some s → shapes.first s ≡ Some j → AreFor n (child x ns) s

@@ -22,7 +22,7 @@ abbrev pub one_more : Option (ℕ × ℤ) → List (ℕ × ℤ) → List (ℕ ×
 one_more None ws = ws
 one_more (Some w) ws = w ∷ ws
 
--- what providers give below an element, the nearest first, where these stand around it
+-- what providers give below an element, the nearest first, if these stand around it
 abbrev pub given_more : Element → List (ℕ × ℤ) → List (ℕ × ℤ)
 given_more e ws = one_more (given_in e) ws
 

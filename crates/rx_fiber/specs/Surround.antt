@@ -29,7 +29,7 @@ abbrev pub StandsIf : Shape Fiber → List (ℕ × ℤ) → Option ℕ → Type 
 StandsIf current ws None = Unit {0}
 StandsIf current ws (Some i) = StoodAt current ws (Some i)
 
--- the fiber of a place that the render has not come to, made for this current fiber, if for one; where it is cloned, it has the element of that one, and is of generation 0; where it stood, that one stands where the same values are given
+-- the fiber of a place that the render has not come to, made for this current fiber, if for one; if it is cloned, it has the element of that one, and is of generation 0; if it stood, that one stands where the same values are given
 pub record IsWaiting (current : Shape Fiber) (ws : List (ℕ × ℤ)) (o : Option ℕ) (v : Fiber) (place : ℕ) (e : Element) : Type 0 where
   pub at : v.place ≡ place
   pub element : v.element ≡ e
@@ -91,7 +91,7 @@ AreOldBehind current top = Unit {0}
 AreOldBehind current (below id v o rs k) = Unit {0}
 AreOldBehind current (after id v o ks k) = IsOldBehind current (old_before k) o × AreOldBehind current k
 
--- The earlier siblings of a place stand for what is done: whatever follows from the place on, the list stands for both. No more fibers are made for them than they have nodes, and one is made for an old fallback only where the one before it is for the boundary.
+-- The earlier siblings of a place stand for what is done: whatever follows from the place on, the list stands for both. No more fibers are made for them than they have nodes, and one is made for an old fallback only if the one before it is for the boundary.
 pub record AreDone (current : Shape Fiber) (k : Around Fiber) (place : ℕ) (done : List (Option Node)) : Type 0 where
   pub are : (xs : List (Option Node)) (s : Shape Fiber) → AreFor place (forest xs) s → AreFor 0 (forest (done ++ xs)) (behind_earlier k s)
   pub few : made_earlier k ≤ length (spots.spots_in spots.at_root (forest done))
@@ -132,7 +132,7 @@ is_boundary (elements.list marked es) = false
 is_boundary (elements.boundary k f es) = true
 is_boundary (elements.provider c k x es) = false
 
--- the fiber is that of an open node, whose list, in these contexts, is among its children; o is the current fiber that it was made for; where a boundary that tries its children stood, that one stands where the same values are given
+-- the fiber is that of an open node, whose list, in these contexts, is among its children; o is the current fiber that it was made for; if a boundary that tries its children stood, that one stands where the same values are given
 pub data IsOpenAs (current : Shape Fiber) (ws : List (ℕ × ℤ)) (v : Fiber) (o : Option ℕ) (cs : Contexts) : Open → Type 0 where
   opens : {e : Element} {m : Mark} → v.element ≡ e → v.stage ≡ begun m → is_hidden m ≡ false → IsOpenAs current ws v o cs (around e m)
   tries : {e : Element} {old : Option Node} {c : Origin} → v.element ≡ e → v.stage ≡ stage.trying c → is_boundary e ≡ true → IsOld current o old

@@ -36,7 +36,7 @@ is_trying (begun m) = false
 is_trying (trying c) = true
 is_trying (fallback a) = false
 
--- what is waited for outside of a fiber, where these are waited for below it: a fallback that waits passes on what its boundary waits for
+-- what is waited for outside of a fiber, if these are waited for below it: a fallback that waits passes on what its boundary waits for
 abbrev pub passed_on : Stage → Awaits → Awaits
 passed_on (waiting c) a = a
 passed_on (begun m) a = if is_hidden m then union (awaits_in m) a else a

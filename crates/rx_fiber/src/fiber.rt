@@ -97,7 +97,7 @@ impl Fiber {
         }
     }
 
-    /// Whether it waits where the current fiber for which it was made, if it was for one, stands where the same values of
+    /// Whether it waits and the current fiber for which it was made, if it was for one, stands where the same values of
     /// contexts are given.
     pub fn is_stood(&self) -> bool
         ensures { result ≡ is_stood self.now.stage }

@@ -45,7 +45,7 @@ fn begins_fallback(tree: &FiberTree<Fiber>, link: Option<FiberId>) -> bool
     }
 }
 
-/// The first child of an old node, by its current fiber; of a boundary, the first of its primary, and none where it is hidden
+/// The first child of an old node, by its current fiber; of a boundary, the first of its primary, and none if it is hidden
 /// and keeps none.
 pub fn old_primary(tree: &FiberTree<Fiber>, old: Option<FiberId>) -> Option<FiberId>
     requires { IfSome old (Holds tree.now.current) }
@@ -61,7 +61,7 @@ pub fn old_primary(tree: &FiberTree<Fiber>, old: Option<FiberId>) -> Option<Fibe
     tree.first_child(id)
 }
 
-/// The first child of the fallback of an old boundary, by its current fiber: none where it is shown.
+/// The first child of the fallback of an old boundary, by its current fiber: none if it is shown.
 pub fn old_fallback(tree: &FiberTree<Fiber>, old: Option<FiberId>) -> Option<FiberId>
     requires { IfSome old (Holds tree.now.current) }
     ensures held { IfSome result (Holds tree.now.current) }
@@ -79,7 +79,7 @@ pub fn old_fallback(tree: &FiberTree<Fiber>, old: Option<FiberId>) -> Option<Fib
     tree.first_child(id)
 }
 
-/// The children of an old list, place by place: the element that stood there, `null` where none did, and its current fiber.
+/// The children of an old list, place by place: the element that stood there, `null` if none did, and its current fiber.
 #[derive(Drop)]
 pub struct OldChildren {
     pub elements: Vec<Element>,
@@ -125,7 +125,7 @@ fn add(
 ///
 /// # Errors
 ///
-/// Want of memory alone.
+/// Only if out of memory.
 pub fn old_children(
     alloc: Global,
     tree: &FiberTree<Fiber>,
@@ -163,7 +163,7 @@ fn list_subtree(tree: &FiberTree<Fiber>, first: Option<FiberId>) -> Subtree
     below
 }
 
-/// What is kept on the children of a current fiber, taken together; nothing where there is no fiber.
+/// What is kept on the children of a current fiber, taken together; nothing if there is no fiber.
 pub fn kids_subtree(tree: &FiberTree<Fiber>, old: Option<FiberId>) -> Subtree
     requires { IfSome old (Holds tree.now.current) }
     ensures { result ≡ subtrees_of (kids_under tree.now.current old) }

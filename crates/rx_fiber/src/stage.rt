@@ -7,14 +7,14 @@ use crate::subtree::Subtree;
 use rx_base::Awaits;
 use rx_node::Mark;
 
-/// What is known of a fiber beside the current one for which it was made, where it is made.
+/// What is known of a fiber beside the current one for which it was made, when it is made.
 #[derive(Clone, Copy)]
 pub struct Origin {
     /// It is cloned: its element is that of the current fiber, so that nothing above asks for another.
     pub cloned: bool,
     /// The current fiber, if it was made for one, stands where the same values of contexts are given.
     pub stood: bool,
-    /// The generation of its element: 0 where that is of the current tree, else at least 1 and one more with each body that
+    /// The generation of its element: 0 if that is of the current tree, else at least 1 and one more with each body that
     /// made it from one of these.
     pub generation: u32,
 }

@@ -1,4 +1,4 @@
--- Where the root waits, it waits for one component alone.
+-- If the root waits, it waits for one component alone.
 use Rattle.std.proofs.Common.{◌≡◌, ◌⊎◌, inl, inr, Bool, true, false, ◌&&◌, ◌||◌, List, [], ◌∷◌, Option, Some, None, refl, ap, ◌∙◌, map}
 use Rattle.std.specs.Prelude.{ℕ, zero, suc, bytes_eq, filter, slice_get}
 use Rattle.std.proofs.lemmas.Slice.Eq.{bytes_eq-Decides}
@@ -121,7 +121,7 @@ body-alone p (suc n) c w =
     (λ x d. body-along (may_wait (only x)) (may_wait any) SameGiven (same-given (only x) any) n p d)
     (body-alone p n) c (component_at p c) refl w
 
--- where none is left of a filter, the test fails for each
+-- if none is left of a filter, the test fails for each
 none-left : (q : Name → Bool) (ns : List Name) (n : Name) → filter q ns ≡ [] → IsIn n ns → q n ≡ false
 none-left q [] n e h = absurd h
 none-left q (m ∷ ms) n e h = go (λ f. none-left q ms n f) (q m) refl h
@@ -131,7 +131,7 @@ none-left q (m ∷ ms) n e h = go (λ f. none-left q ms n f) (q m) refl h
     go later false t (inl s) = ap q s ∙ t
     go later false t (inr i) = later (rw t at e) i
 
--- where no component makes the body wait alone, it does not wait
+-- if no component makes the body wait alone, it does not wait
 pub none-alone : (p : Program) (n c : ℕ) → filter (λ x. (body_by (may_wait (λ d. bytes_eq d.name x)) n p c).own) (component_names p) ≡ []
     → (body_by (may_wait (λ d. true)) n p c).own ≡ false
 none-alone p n c e = go (body_by (may_wait any) n p c).own refl

@@ -32,7 +32,7 @@ all-in q h (m ∷ ms) n k (inr i) = let all = and-cases (q (h m)) (list_all q (m
 row-of : {X : Type 0} (f : X → List ℕ) (xs : List X) (i : ℕ) (x : X) → slice_get xs i ≡ Some x → next_of (map f xs) i ≡ f x
 row-of f xs i x e = ap (λ o. unwrap_or o []) (slice_get-map f xs i ∙ ap (option_map f) e)
 
--- where nothing stands, the list has ended
+-- if nothing stands at a place, the list has ended
 ended : {X : Type 0} (xs : List X) (i : ℕ) → slice_get xs i ≡ None → length xs ≤ i
 ended [] i e = omega arith
 ended (x ∷ xs) zero e = cc
@@ -156,7 +156,7 @@ cost-each : (p : Program) (costs : List ℕ) (order : List ℕ) → AreCosts p c
 cost-each p costs order h b l w x None e = none-cost (length (functions p)) p x e ∙ sym (past costs x 0 (omega (arith, ended (functions p) x e, b)))
 cost-each p costs order h b l w x (Some f) e = h x (length (functions p)) (w x (slice_get_within (functions p) x f e)) l
 
--- the costs of all functions, where all are there
+-- the costs of all functions, if all are there
 pub costs-all : (p : Program) (costs : List ℕ) (order : List ℕ) → AreCosts p costs order → length costs ≡ length (functions p) → length order ≤ length (functions p)
     → ((x : ℕ) → x < length (functions p) → is_among order x ≡ true) → function_cost (length (functions p)) p ≡ slice_index costs
 costs-all p costs order h b l w = together (function_cost (length (functions p)) p) (slice_index costs) (λ x. cost-each p costs order h b l w x (slice_get (functions p) x) refl)

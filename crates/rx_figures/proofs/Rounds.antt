@@ -1,4 +1,4 @@
--- Rounds over a table: what they give, and that they may end where nothing changes.
+-- Rounds over a table: what they give, and that they may end when nothing changes.
 use Rattle.std.proofs.Common.{◌≡◌, ◌<◌, ◌-◌, List, [], Option, Some, None, refl, sym, ap, ◌∙◌, arith}
 use Rattle.std.specs.Prelude.{ℕ, zero, suc, slice_get, slice_index}
 use Rattle.std.specs.Option.{option_map_or}
@@ -23,7 +23,7 @@ body_if-known : (b : ℕ → Figures) (p : Program) (o : Option Component)
 body_if-known b p None = refl
 body_if-known b p (Some c) = refl
 
--- so many rounds give what is counted of bodies where components nest at most so deep
+-- so many rounds give what is counted of bodies if components nest at most so deep
 pub body_by-rounds : (n : ℕ) (p : Program) (c : ℕ) → body_by (figures p) n p c ≡ known_in (rounds n p []) c
 unfolding body_by rounds
 body_by-rounds zero p c = refl
@@ -55,7 +55,7 @@ cost_if-known : (b : ℕ → ℕ) (p : Program) (o : Option Function) → cost_i
 cost_if-known b p None = refl
 cost_if-known b p (Some f) = refl
 
--- so many rounds give the costs where calls nest at most so deep
+-- so many rounds give the costs if calls nest at most so deep
 pub function_cost-rounds : (n : ℕ) (p : Program) (f : ℕ) → function_cost n p f ≡ slice_index (cost_rounds n p []) f
 unfolding function_cost cost_rounds
 function_cost-rounds zero p f = refl

@@ -53,7 +53,7 @@ abbrev pub cost_if : (ℕ → ℕ) → Program → Option Function → ℕ
 cost_if costs p None = 0
 cost_if costs p (Some f) = body_cost costs p f
 
--- the cost of a function, by its number, where calls nest at most so deep
+-- the cost of a function, by its number, if calls nest at most so deep
 unfoldable pub function_cost : ℕ → Program → ℕ → ℕ
 function_cost zero p f = 0
 function_cost (suc n) p f = cost_if (function_cost n p) p (slice_get (functions p) f)
@@ -148,6 +148,6 @@ unfoldable pub cost_rounds : ℕ → Program → List ℕ → List ℕ
 cost_rounds zero p table = table
 cost_rounds (suc n) p table = cost_rounds n p (cost_round p table)
 
--- the table has the costs of each of these functions, where calls nest deep enough for them all
+-- the table has the costs of each of these functions, if calls nest deep enough for them all
 abbrev pub AreCosts : Program → List ℕ → (numbers : List ℕ) → Type 0
 AreCosts p costs numbers = (f depth : ℕ) → is_among numbers f ≡ true → length numbers ≤ depth → function_cost depth p f ≡ slice_index costs f

@@ -9,7 +9,7 @@ use Rattle.rx_order.specs.Graphs.{is_among}
 use Rattle.rx_figures.specs.Costs.{held_sum, held_product}
 use Rattle.rx_figures.specs.declared.figures.Figures.{Figures}
 
--- the earlier of two numbers, where there are two
+-- the earlier of two numbers, if there are two
 abbrev pub earlier : Option ℕ → Option ℕ → Option ℕ
 earlier None b = b
 earlier (Some m) None = Some m
@@ -79,11 +79,11 @@ component_figures c k =
       unguarded = c.unguarded && k.unguarded;
     }
 
--- a body, where the component of this number reads a resource
+-- a body, if the component of this number reads a resource
 abbrev pub body_figures : Option ℕ → Figures → Figures
 body_figures reader a = record { own = a.own; given = a.given; levels = a.levels; waits = earlier reader a.waits; unguarded = a.unguarded }
 
--- the column of all, where the components of this program have the numbers
+-- the column of all, if the components of this program have the numbers
 abbrev pub figures : Program → Column Figures
 figures p =
     record {
@@ -123,6 +123,6 @@ unfoldable pub rounds : ℕ → Program → List Figures → List Figures
 rounds zero p table = table
 rounds (suc n) p table = rounds n p (round_of p table)
 
--- the table has the figures of each of these components, where components nest deep enough for them all
+-- the table has the figures of each of these components, if components nest deep enough for them all
 abbrev pub AreFigures : Program → List Figures → (numbers : List ℕ) → Type 0
 AreFigures p table numbers = (c depth : ℕ) → is_among numbers c ≡ true → length numbers ≤ depth → body_by (figures p) depth p c ≡ known_in table c

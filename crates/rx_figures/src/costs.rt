@@ -375,7 +375,7 @@ fn in_order(alloc: Global, program: &Index, order: &Order) -> Result<Vec<u64>, A
     Ok(costs)
 }
 
-/// The costs of all functions. In an order in which functions are finished each is looked at once; where not all are finished
+/// The costs of all functions. In an order in which functions are finished each is looked at once; if not all are finished
 /// in the order, rounds over all functions are made.
 fn costs_of(alloc: Global, program: &Index, order: &Order) -> Result<Vec<u64>, AllocError>
     requires { IsFinished (calls program.now) order.now }
@@ -394,7 +394,7 @@ fn costs_of(alloc: Global, program: &Index, order: &Order) -> Result<Vec<u64>, A
 ///
 /// # Errors
 ///
-/// Want of memory alone.
+/// Only if out of memory.
 pub fn cost_over(alloc: Global, program: &Index, order: &Order) -> Result<Option<u64>, AllocError>
     requires { IsFinished (calls program.now) order.now }
     ensures { IfOk result (λ o. o ≡ cost_over program.now) }

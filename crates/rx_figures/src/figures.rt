@@ -71,7 +71,7 @@ fn given_children() -> Figures
     }
 }
 
-/// The earlier of two numbers, where there are two.
+/// The earlier of two numbers, if there are two.
 fn earlier(a: Option<usize>, b: Option<usize>) -> Option<usize>
     ensures { result ≡ earlier a b }
 {
@@ -84,7 +84,7 @@ fn earlier(a: Option<usize>, b: Option<usize>) -> Option<usize>
     }
 }
 
-/// What the children that are given wait for, where they stand so that their wait is the component's own.
+/// What the children that are given wait for, if they stand so that their wait is the component's own.
 fn where_unguarded(unguarded: bool, waits: Option<usize>) -> Option<usize>
     ensures { result ≡ cond unguarded waits None }
 {
@@ -315,7 +315,7 @@ fn round(alloc: Global, program: &Index, table: &[Figures]) -> Result<Vec<Figure
     Ok(next)
 }
 
-/// Whether two numbers, where there are two, are the same.
+/// Whether two numbers, if there are two, are the same.
 fn is_same_number(a: Option<usize>, b: Option<usize>) -> bool
     ensures { IsTrue result → a ≡ b }
 {
@@ -413,12 +413,12 @@ fn in_order(alloc: Global, program: &Index, order: &Order) -> Result<Vec<Figures
     Ok(table)
 }
 
-/// The figures of the root's body. In an order in which components are finished each is looked at once; where the root is not
+/// The figures of the root's body. In an order in which components are finished each is looked at once; if the root is not
 /// finished in the order, rounds over all components are made.
 ///
 /// # Errors
 ///
-/// Want of memory alone.
+/// Only if out of memory.
 pub fn root_figures(alloc: Global, program: &Index, order: &Order) -> Result<Figures, AllocError>
     requires { IsFinished (places program.now) order.now }
     ensures { IfOk result (λ f. f ≡ body_by (figures program.now) (nesting_levels program.now) program.now (component_number program.now root_name)) }

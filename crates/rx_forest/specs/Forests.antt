@@ -98,7 +98,7 @@ marked f n hidden = with_held f n (option_map (with_mark hidden))
 abbrev pub without : ℕ → List ℕ → List ℕ
 without n ms = filter (λ m. not (nat_eq m n)) ms
 
--- a number before another one, or at the end where that isn't there
+-- a number before another one, or at the end if that isn't there
 abbrev pub insert_before : ℕ → (before : ℕ) → List ℕ → List ℕ
 insert_before n b [] = n ∷ []
 insert_before n b (m ∷ ms) = if nat_eq m b then n ∷ m ∷ ms else m ∷ insert_before n b ms

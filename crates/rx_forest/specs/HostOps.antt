@@ -32,7 +32,7 @@ creation n (letters t) = op.CreateText n t
 abbrev pub creations : (old new : List Host) → List HostOp
 creations old new = map (λ h. creation h.number h.content) (filter (λ h. not (has_host old h.number)) new)
 
--- the host of a change, where a node from it up to its host parent is new or moved
+-- the host of a change, if a node from it up to its host parent is new or moved
 abbrev pub placed_in : Change → Option ℕ
 placed_in c = if c.displaced then host_number (mark_of c.new) else None
 
@@ -99,7 +99,7 @@ abbrev pub hidings : (old new : List Host) → List HostOp
 hidings old new =
     flat_map (λ h. hiding_ops h.number (option_map_or (λ g. g.hidden) (host_numbered old h.number) false) h.hidden) new
 
--- the operations from one tree of hosts to another, where these hosts are placed
+-- the operations from one tree of hosts to another, if these hosts are placed
 abbrev pub ops_between : (old new : List Host) → (placed : List ℕ) → List HostOp
 ops_between old new placed = removals old new ++ creations old new ++ placements placed new ++ contents old new ++ hidings old new
 

@@ -34,7 +34,7 @@ abbrev pub lane_word : (choice : ℕ) → Text
 lane_word q =
     if nat_eq (q % 4) 0 then codes "sync" else if nat_eq (q % 4) 1 then codes "input" else if nat_eq (q % 4) 2 then codes "default" else codes "transition"
 
--- the path to a cell; the number is left out where it is 0
+-- the path to a cell; the number is left out if it is 0
 abbrev pub cell_path : (cell : ℕ) → Text
 cell_path k = codes "App/Cell" ++ (if nat_eq k 0 then [] else codes "@" ++ decimal k)
 

@@ -14,7 +14,7 @@ const PROGRAM: &str =
 ///
 /// # Errors
 ///
-/// Want of memory alone.
+/// Only if out of memory.
 pub fn generate(alloc: Global, n: u32) -> Result<(Str, Str), AllocError>
     ensures program { IfOk result (λ texts. texts.0 ≡ generated.program_text) }
     ensures script { IfOk result (λ texts. texts.1 ≡ generated.script_text n) }

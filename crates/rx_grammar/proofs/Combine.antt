@@ -39,7 +39,7 @@ pure {A} a high = record {
   some = λ e. (a, [], (refl, refl));
 }
 
--- what is taken from a token, and the token that it stands for, where it is such a one
+-- what is taken from a token, and the token that it stands for, if it is such a one
 pub record IsToken {A : Type 0} (g : Kind → Option A) (mk : A → Kind) (Of : A → Type 0) (low : ℕ) : Type 0 where
   pub makes : (x : A) → Of x → g (mk x) ≡ Some x
   pub is : (k : Kind) (x : A) → g k ≡ Some x → (k ≡ mk x) × Of x
@@ -288,11 +288,11 @@ module _ {A : Type 0} (f : Kind → Bool) (r s : List Kind → Read A) (L M : A 
   either_laws : Reads either (Or L M) low high (b || c)
   either_laws = record { opens = either_opens; plain = either_plain; sound = either_sound; complete = either_complete; keeps = either_keeps; fails = either_fails; stops = either_stops; some = either_some }
 
--- one reading where the next token passes the test, and another where it does not
+-- one reading if the next token passes the test, and another if it does not
 pub alt : {A : Type 0} (f : Kind → Bool) {r s : List Kind → Read A} {L M : A → List Kind → Type 0} {low high : ℕ} {b c : Bool} → Reads r L low high b → Reads s M low high c → Starts f L → Avoids f M high → Reads (λ ts. cond (next f ts) (r ts) (s ts)) (Or L M) low high (b || c)
 alt {A} f {r} {s} {L} {M} {low} {high} {b} {c} P Q starts avoids = either_laws f r s L M low high b c P Q starts avoids
 
--- what is read one level further in, and nothing where no level is left
+-- what is read one level further in, and nothing if no level is left
 pub inside : {I A : Type 0} (o : Option I) {r : I → List Kind → Read A} {L : A → List Kind → Type 0} {low high : ℕ} → ((i : I) → o ≡ Some i → Reads (r i) L low high true) → (o ≡ None → (a : A) (p : List Kind) → L a p → ⊥) → Reads (λ ts. within o ts (λ i. r i ts)) L low high false
 inside None {r} {L} {low} {high} some none = nothing L low high (none refl)
 inside (Some i) {r} {L} {low} {high} some none =

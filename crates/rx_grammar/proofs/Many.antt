@@ -25,7 +25,7 @@ starts_some f L starts a p l = let w = starts a p l in omega (arith, ap length w
 pub shrinks : {A : Type 0} {r : List Kind → Read A} {L : A → List Kind → Type 0} {low high : ℕ} {full : Bool} → Reads r L low high full → HasToken L → (ts : List Kind) (x : A × List Kind) → r ts ≡ Ok x → length x.1 < length ts
 shrinks h some ts x e = let s = h.sound ts x e in omega (arith, ap length s.1, length-append s.0 x.1, some x.0 s.0 s.2)
 
--- what is read behind a step is the same where it is the same behind each that the step can take
+-- what is read behind a step is the same if it is the same behind each that the step can take
 pub bind_same : {A B : Type 0} (r : Read A) (f g : A × List Kind → Read B) → ((x : A × List Kind) → r ≡ Ok x → f x ≡ g x) → (r >>= f) ≡ (r >>= g)
 bind_same (Ok x) f g h = h x refl
 bind_same (Err e) f g h = refl

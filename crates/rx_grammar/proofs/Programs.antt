@@ -92,7 +92,7 @@ module _ (n : ℕ) where
   one_more : (before more : List Kind) (t : Kind) → (before ++ t ∷ []) ++ more ≡ before ++ t ∷ more
   one_more before more t = append_assoc before (t ∷ []) more
 
-  -- where the declarations fail, no program goes on
+  -- if the declarations fail, no program goes on
   no_more : (before after : List Kind) (t : Kind) → declarations_at n (before ++ t ∷ after) ≡ Err (suc (length after)) → Begins (before ++ t ∷ []) → ⊥
   no_more before after t h (p, more, fit, e) =
       let other = D.fails before t after more h in
@@ -100,7 +100,7 @@ module _ (n : ℕ) where
       let both = sym other ∙ found in
       let b : ⊥ = cc in b
 
-  -- where they end, only the end mark goes on
+  -- if they end, only the end mark goes on
   only_end : (before after : List Kind) (t : Kind) (ds : List Declaration) → declarations_at n (before ++ t ∷ after) ≡ Ok (ds, t ∷ after) → as_end t ≡ None → Begins (before ++ t ∷ []) → ⊥
   only_end before after t ds h none (p, more, fit, e) =
       let other = D.keeps before t after more ds h in

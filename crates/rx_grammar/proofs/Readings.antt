@@ -68,7 +68,7 @@ pub record StopsAt {A : Type 0} (L : A → List Kind → Type 0) (ts : List Kind
   pub count : length left ≡ m
   pub begun : (before ≡ []) ⊎ Begun L before
 
--- What is read is a phrase, and each phrase is read where no token of a low rank follows. It does not depend on what stands behind the token at which reading stops.
+-- What is read is a phrase, and each phrase is read if no token of a low rank follows. It does not depend on what stands behind the token at which reading stops.
 pub record Reads {A : Type 0} (r : List Kind → Read A) (L : A → List Kind → Type 0) (low high : ℕ) (full : Bool) : Type 0 where
   pub opens : (a : A) (p rest : List Kind) → L a p → high < rank rest → low ≤ rank (p ++ rest)
   pub plain : (a : A) (p : List Kind) → L a p → NoEnd p

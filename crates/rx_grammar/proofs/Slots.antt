@@ -217,7 +217,7 @@ plain_misses_less n (choice c a b) p l =
     (w.0, w.1 ++ more, l.1.1 ∙ ap (λ z. z ++ more) w.2, other_sign sign.Less refl w.0 w.3)
 plain_misses_less n s p l = absurd (false≢true l.0)
 
--- where no level is left, a parenthesis is a fault at once
+-- if no level is left, a parenthesis is a fault at once
 shut_line : (k : ℕ) (u : List Kind) → line_with k None (Mark sign.OpenParen ∷ u) ≡ Err (suc (length u))
 unfolding line_with operand_with
 shut_line zero u = refl

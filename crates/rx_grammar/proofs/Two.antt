@@ -204,7 +204,7 @@ module _ {A : Type 0} (s t : Sign) (r : List Kind → Read A) (E M : A → List 
     open_laws : Reads open_ (Or (Behind s E) M) 1 high true
     open_laws = record { opens = open_opens; plain = open_plain; sound = open_sound; complete = open_complete; keeps = open_keeps; fails = open_fails; stops = open_stops; some = λ z. let q = Q.some refl in (q.0, q.1, inr q.2) }
 
--- a reading behind a sign where two signs stand next, one level further in, and another where they do not
+-- a reading behind a sign if two signs stand next, one level further in, and another if they do not
 pub two : {I A : Type 0} (o : Option I) (s t : Sign) {e : I → List Kind → Read A} {r : List Kind → Read A} {E M : A → List Kind → Type 0} {high first : ℕ} → Reads r M 1 high true → high < 11 → HasToken M → Starts (is_mark t) E → ((a : A) (p rest : List Kind) → M a p → high < rank rest → next_two s t (p ++ rest) ≡ false) → ((i : I) → o ≡ Some i → Reads (e i) E first 0 false × ((a : A) × (q : List Kind) × M a (Mark s ∷ q))) → (o ≡ None → ((a : A) (p : List Kind) → E a p → ⊥) × ((u : List Kind) → r (Mark s ∷ u) ≡ Err (suc (length u)))) → Reads (λ ts. cond (next_two s t ts) (within o ts (λ i. sign_at s ts >>= λ p. e i p.1)) (r ts)) (Or (Behind s E) M) 1 high true
 two None s t {e} {r} {E} {M} {high} {first} Q low some starts avoids at none = shut_laws s t r E M high Q low some starts avoids (none refl).0 (none refl).1
 two (Some i) s t {e} {r} {E} {M} {high} {first} Q low some starts avoids at none = open_laws s t r E M high Q low some starts avoids (e i) first (at i refl).0 (at i refl).1

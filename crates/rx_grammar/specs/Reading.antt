@@ -126,20 +126,20 @@ choice_at o c ts = within o ts (λ i. sign_at sign.Question ts >>= λ q. i.expr 
 unfoldable pub expr_with : Option Inner → List Kind → Read Expr
 expr_with o ts = line_with or_line o ts >>= λ c. if next (is_mark sign.Question) c.1 then choice_at o c.0 c.1 else Ok (c.0, c.1)
 
--- what may be read where so many levels are left
+-- what may be read if so many levels are left
 abbrev pub inner_at : ℕ → Option Inner
 inner_at zero = None
 inner_at (suc n) = Some (record { expr = expr_with (inner_at n); operand = operand_with (inner_at n) })
 
--- an expression where so many levels are left
+-- an expression if so many levels are left
 abbrev pub expr_at : ℕ → List Kind → Read Expr
 expr_at n = expr_with (inner_at n)
 
--- an operand where so many levels are left
+-- an operand if so many levels are left
 abbrev pub operand_at : ℕ → List Kind → Read Expr
 operand_at n = operand_with (inner_at n)
 
--- a line of the grammar where so many levels are left
+-- a line of the grammar if so many levels are left
 abbrev pub line_at : ℕ → ℕ → List Kind → Read Expr
 line_at k n = line_with k (inner_at n)
 
@@ -293,7 +293,7 @@ slot_with o n ts =
     if next (is_mark sign.Less) ts then element_at o ts
     else (if next_two sign.OpenParen sign.Less ts then enclosed_at o ts else plain_with o n ts)
 
--- what may be read where so many levels are left
+-- what may be read if so many levels are left
 abbrev pub slot_inner : ℕ → Option SlotInner
 slot_inner zero = None
 slot_inner (suc n) = Some (record {
@@ -304,11 +304,11 @@ slot_inner (suc n) = Some (record {
   children = children_with (slot_inner n) (slot_with (slot_inner n) n);
 })
 
--- a slot where so many levels are left
+-- a slot if so many levels are left
 abbrev pub slot_at : ℕ → List Kind → Read Slot
 slot_at n = slot_with (slot_inner n) n
 
--- children up to and with `</` where so many levels are left
+-- children up to and with `</` if so many levels are left
 abbrev pub children_at : ℕ → List Kind → Read (List Slot)
 children_at n = children_with (slot_inner n) (slot_at n)
 

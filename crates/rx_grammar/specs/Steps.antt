@@ -27,7 +27,7 @@ abbrev pub next : (Kind → Bool) → List Kind → Bool
 next f [] = false
 next f (k ∷ ts) = f k
 
--- a token, where there is one
+-- a token, if there is one
 abbrev pub taken_as : {A : Type 0} → Option A → (ts behind : List Kind) → Read A
 taken_as (Some x) ts behind = Ok (x, behind)
 taken_as None ts behind = fault_at ts
@@ -62,7 +62,7 @@ abbrev pub is_text : Kind → Bool
 is_text (Text x) = true
 is_text k = false
 
--- nothing where the test holds
+-- nothing if the test holds
 abbrev pub where_true : Bool → Option (Unit {0})
 where_true true = Some tt
 where_true false = None
@@ -126,12 +126,12 @@ many f item (suc n) ts = if next f ts then (item ts >>= λ x. many f item n x.1 
 abbrev pub all_of : {A : Type 0} → (Kind → Bool) → (List Kind → Read A) → List Kind → Read (List A)
 all_of f item ts = many f item (length ts) ts
 
--- one level further in, where there is one left
+-- one level further in, if one is left
 abbrev pub within : {I A : Type 0} → Option I → List Kind → (I → Read A) → Read A
 within None ts f = fault_at ts
 within (Some i) ts f = f i
 
--- the item that a step read, and those behind it; or none, where it read the end
+-- the item that a step read, and those behind it; or none, if it read the end
 abbrev pub until_with : {A : Type 0} → Option A → List Kind → (List Kind → Read (List A)) → Read (List A)
 until_with None ts others = Ok ([], ts)
 until_with (Some a) ts others = others ts >>= λ y. Ok (a ∷ y.0, y.1)

@@ -13,7 +13,7 @@ pub fn tokens_have_one_program()
     ensures { (p q : Program) (ks : List Kind) → HasTokens p ks → HasTokens q ks → p ≡ q }
 {}
 
-/// What is read is the program that the tokens have, and nothing is read exactly where no program has them: then reading stops at the first token with which none goes on.
+/// What is read is the program that the tokens have, and nothing is read exactly if no program has them: then reading stops at the first token with which none goes on.
 pub fn program_is_read()
     // What is read has the tokens, up to the end mark.
     ensures sound { (p : Program) (ks rest : List Kind) → program_at level_limit ks ≡ Ok (p, rest) → (front : List Kind) × HasTokens p front × (ks ≡ front ++ rest) }

@@ -101,7 +101,7 @@ module _ (program : Program) (s : State) (g : Progress) (fixed : Numbers × Node
     hooks_hidden is_out is_in (suc k) xs hs are.1,
   )
 
-  -- where a render has no work in a hook's updates, they stand as before
+  -- if a render has no work in a hook's updates, they stand as before
   updates_left : (t : Target) (es : List Entry) → list_any (has_work_in_update g.lanes g.cut) es ≡ false
       → map (marked_update g.lanes g.cut visible kept) (map (posted_as t) es) ≡ map (posted_as t) es
   updates_left t [] calm = refl

@@ -58,7 +58,7 @@ none_has : (ls : Lanes) (l : Lane) → is_empty ls ≡ true → has ls l ≡ fal
 none_has [] l e = refl
 none_has (m ∷ ls) l e = absurd (cc e)
 
--- hooks are idle where no update of them is pending, and a render without lanes at the last cut has no work in them
+-- hooks are idle if no update of them is pending, and a render without lanes at the last cut has no work in them
 pub idle_where : (lanes : Lanes) (cut last : Cut) (hs : List HookHistory) → ((n : ℕ) → nat_lt n cut.updates ≡ true → nat_lt n last.updates ≡ true)
     → is_empty (pending_of_hooks hs) ≡ true → is_some_work (work_of_hooks no_lanes last hs) ≡ false → has_work_in lanes cut hs ≡ false
 idle_where lanes cut last hs later shut none =

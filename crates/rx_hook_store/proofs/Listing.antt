@@ -23,7 +23,7 @@ pub not_both_ways : (b : Bool) → b ≡ true → b ≡ false → ⊥
 not_both_ways true t f = let g : ⊥ = cc in g
 not_both_ways false t f = let g : ⊥ = cc in g
 
--- a number that is left or put among others still is where the first one that is left is put
+-- a number that is left or put among others is still so if the first one that is left is put
 pub put_more : (n x : ℕ) (left rest : List ℕ) (before after : Bool) → left ≡ x ∷ rest → (includes left n || before) ≡ true → (nat_eq n x ≡ true → after ≡ true)
     → (before ≡ true → after ≡ true) → (includes rest n || after) ≡ true
 put_more n x left rest before after first now here others =
@@ -43,7 +43,7 @@ put_only number n new old A is on here before = go (nat_eq number n) refl
     go true e = here (same_number number n e)
     go false e = before (sym (is ∙ ap (λ b. cond b true old) e) ∙ on)
 
--- where none is left it is put
+-- if none is left it is put
 pub none_left : (n : ℕ) (left : List ℕ) (put : Bool) → left ≡ [] → (includes left n || put) ≡ true → put ≡ true
 none_left n left put none is = sym (ap (λ (l : List ℕ). includes l n || put) none) ∙ is
 

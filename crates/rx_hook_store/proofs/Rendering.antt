@@ -19,7 +19,7 @@ use Rattle.rx_hook_store.specs.Gives.{committed_of}
 
 -- ---- states
 
--- the state after the updates that pass a test is the same where what a render notes does not tell on it
+-- the state after the updates that pass a test is the same if what a render notes does not tell on it
 state-noted : (answers : Answers) (lanes : Lanes) (cut : Cut) (test : Entry → Bool) → ((e : Entry) → test (noted lanes cut e) ≡ test e) → (state : ℤ) (es : List Entry)
     → history.state_from answers test state (map (noted lanes cut) es) ≡ history.state_from answers test state es
 state-noted answers lanes cut test same state es = state_from-map answers test test (noted lanes cut) (λ e. refl) state es (all es)
@@ -116,7 +116,7 @@ above-posted : (t : Target) (cut : Cut) (es : List Entry) → DoneBefore cut (ma
 above-posted t cut [] done = tt
 above-posted t cut (e ∷ es) done = (λ is. below e.update.number cut.updates (done.0 is), above-posted t cut es done.1)
 
--- where what is done lies before the cut, the cut lies above what is done of each hook
+-- if what is done lies before the cut, the cut lies above what is done of each hook
 pub above-journal : (s : State) (i k : ℕ) (xs : List ℤ) (cut : Cut) (hs : List HookHistory) → DoneBefore cut s.journal.updates → AreHooksFrom s i k xs hs
     → AllAboveDone cut hs
 above-journal s i k [] cut [] done are = tt

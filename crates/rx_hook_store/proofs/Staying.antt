@@ -1,4 +1,4 @@
--- What is kept stays that of the machine's state where nothing of it changes.
+-- What is kept stays that of the machine's state if nothing of it changes.
 use Rattle.std.proofs.Common.{◌≡◌, ℕ, ℤ, suc, ◌<◌, Option, Some, List, [], ◌∷◌, filter, length, slice_get, refl, sym, ap, ◌∙◌, subst, arith}
 use Rattle.std.specs.Option.{IsSome, IsSomeAnd}
 use Rattle.rx_base.specs.declared.cut.Cut.{Cut}

@@ -58,17 +58,17 @@ pub rendered-same : (p : Program) (s : State) (lanes : Lanes) (cut : Cut) (k : �
 rendered-same p s lanes cut k old new initials same g =
     record { hooks = g.hooks; kept_is = same ∙ g.kept_is; histories = g.histories; stand = g.stand; are_of = g.are_of }
 
--- what is kept stands for the state where it does so for each mounted instance
+-- what is kept stands for the state if it does so for each mounted instance
 pub all-keep : (p : Program) (s : State) (kept : KeptBy) → ((k : ℕ) (m : Mounted) → slice_get (mounted s.tree) k ≡ Some m → KeepsInstance p s kept m.number m.initials)
     → KeepsAllHooks p s kept
 all-keep p s kept each k m at = let here = each k m at in (here.hooks, here.kept_is, (here.histories, here.stand, here.are_of))
 
--- ... and it does so for each where it stands for the state
+-- ... and it does so for each if it stands for the state
 pub each-keeps : (p : Program) (s : State) (kept : KeptBy) → KeepsAllHooks p s kept → (k : ℕ) (m : Mounted) → slice_get (mounted s.tree) k ≡ Some m
     → KeepsInstance p s kept m.number m.initials
 each-keeps p s kept keeps k m at = let here = keeps k m at in record { hooks = here.0; kept_is = here.1; histories = here.2.0; stand = here.2.1; are_of = here.2.2 }
 
--- hooks that stand for the state give a render their values, where what is done lies before its cut
+-- hooks that stand for the state give a render their values if what is done lies before its cut
 pub keeps-give : (p : Program) (s : State) (g : Progress) (kept : KeptBy) (k : ℕ) (initials : List ℤ) → DoneBefore g.cut s.journal.updates → KeepsInstance p s kept k initials
     → GivesValues (sight_of p s g) kept k initials
 keeps-give p s g kept k initials done keeps =

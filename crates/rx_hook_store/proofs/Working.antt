@@ -1,4 +1,4 @@
--- Work in kept hooks: it is what the updates of their histories say, and where there is none a render sees the committed values. Where there is no news, it sees what a render without lanes sees.
+-- Work in kept hooks: it is what the updates of their histories say, and if there is none a render sees the committed values. If there is no news, it sees what a render without lanes sees.
 use Rattle.std.proofs.Common.{◌≡◌, ℕ, ℤ, Bool, true, false, not, ◌&&◌, ◌||◌, if◌then◌else◌, Some, List, [], ◌∷◌, map, refl, sym, ap, ◌∙◌}
 use Rattle.std.specs.List.{AllByRecursion, list_any}
 use Rattle.rx_base.specs.declared.cut.Cut.{Cut}
@@ -28,7 +28,7 @@ is_some_work New = true
 is_some_work Owed = true
 is_some_work Nothing = false
 
--- there is some where a test finds new work or a test finds owed work
+-- there is some if a test finds new work or a test finds owed work
 by_tests : (new owed : Bool) → is_some_work (if new then New else (if owed then Owed else Nothing)) ≡ (new || owed)
 by_tests true owed = refl
 by_tests false true = refl
@@ -40,7 +40,7 @@ regroup false true true d = refl
 regroup false true false d = refl
 regroup false false c d = refl
 
--- a list has an element that passes one of two tests where it has one that passes the first, or one that passes the second
+-- a list has an element that passes one of two tests if it has one that passes the first, or one that passes the second
 any_of_two : {A : Type 0} (either one other : A → Bool) → ((x : A) → either x ≡ (one x || other x)) → (xs : List A) → list_any either xs ≡ (list_any one xs || list_any other xs)
 any_of_two either one other are [] = refl
 any_of_two either one other are (x ∷ xs) =
@@ -48,7 +48,7 @@ any_of_two either one other are (x ∷ xs) =
     ∙ ap (λ b. (one x || other x) || b) (any_of_two either one other are xs)
     ∙ regroup (one x) (other x) (list_any one xs) (list_any other xs)
 
--- an included update that isn't done is new where it is open, and owed before the cut where it is owed
+-- an included update that isn't done is new if it is open, and owed before the cut if it is owed
 new_or_owed : (below : Bool) (x : Standing) (among : Bool) → ((below && (stands_done x || stands_owed x || among)) && not (stands_done x))
     ≡ (((below && (stands_done x || stands_owed x || among)) && stands_open x) || (below && stands_owed x))
 new_or_owed true standing.Open true = refl
@@ -70,7 +70,7 @@ among_works ws = by_tests (list_any is_new_work ws) (list_any is_owed_work ws) �
     one Owed = refl
     one Nothing = refl
 
--- there is work in hooks where an included update of one of them is not done
+-- there is work in hooks if an included update of one of them is not done
 pub work_is : (lanes : Lanes) (cut : Cut) (hs : List HookHistory) → is_some_work (work_of_hooks lanes cut hs) ≡ has_work_in lanes cut hs
 work_is lanes cut hs = among_works (map (λ (h : HookHistory). work_of lanes cut h.updates.entries) hs) ∙ each hs
   where
@@ -80,7 +80,7 @@ work_is lanes cut hs = among_works (map (λ (h : HookHistory). work_of lanes cut
         ap (λ b. b || list_any is_some_work (map (λ (h : HookHistory). work_of lanes cut h.updates.entries) hs)) (in_history lanes cut h.updates.entries)
         ∙ ap (λ b. list_any (has_work_in_update lanes cut) h.updates.entries || b) (each hs)
 
--- ---- where there is none
+-- ---- if there is none
 
 pub neither : (a b : Bool) → (a || b) ≡ false → (a ≡ false) × (b ≡ false)
 neither true b none = absurd (cc none)
@@ -110,7 +110,7 @@ states_committed answers lanes cut (h ∷ hs) above none =
     ap (λ x. x ∷ states_of answers lanes cut hs) (state_from-agree answers (is_included lanes cut) is_done h.updates.initial h.updates.entries same)
     ∙ ap (λ xs. committed_value answers h.updates ∷ xs) (states_committed answers lanes cut hs above.1 parts.1)
 
--- where this tells whether a render has work in the hooks of an instance and it has none, the render sees the committed values
+-- if this tells whether a render has work in the hooks of an instance and it has none, the render sees the committed values
 pub sees_committed : (lanes : Lanes) (cut : Cut) (i : ℕ) (kept : KeptBy) (has_work : Bool)
     → ((answers : Answers) (hooks : List Hook) (hs : List HookHistory) → kept i ≡ Some hooks → HooksStandFor answers hooks hs → has_work ≡ has_work_in lanes cut hs)
     → (s : Sight) (initials : List ℤ) → s.lanes ≡ lanes → s.cut ≡ cut → GivesValues s kept i initials → has_work ≡ false
@@ -128,7 +128,7 @@ new_only true other = refl
 new_only false true = refl
 new_only false false = refl
 
--- there is news in hooks where an included update of one of them is neither done nor owed
+-- there is news in hooks if an included update of one of them is neither done nor owed
 pub news_are : (lanes : Lanes) (cut : Cut) (hs : List HookHistory) → is_new_work (work_of_hooks lanes cut hs) ≡ has_news_in lanes cut hs
 news_are lanes cut hs = new_only (list_any is_new_work (works hs)) (list_any is_owed_work (works hs)) ∙ each hs
   where
@@ -142,7 +142,7 @@ news_are lanes cut hs = new_only (list_any is_new_work (works hs)) (list_any is_
         (new_only (list_any (is_new lanes cut) h.updates.entries) (list_any (is_owed_before cut) h.updates.entries))
         ∙ ap (λ b. list_any (is_new lanes cut) h.updates.entries || b) (each hs)
 
--- an update that is not new is included for no lanes where it is included
+-- an update that is not new is included for no lanes if it is included
 without : (below : Bool) (x : Standing) (among : Bool) → ((below && (stands_done x || stands_owed x || among)) && stands_open x) ≡ false
     → (below && (stands_done x || stands_owed x || false)) ≡ (below && (stands_done x || stands_owed x || among))
 without true standing.Open true none = absurd (cc none)
@@ -158,7 +158,7 @@ all_without lanes cut (e ∷ es) none =
     let parts = neither (is_new lanes cut e) (list_any (is_new lanes cut) es) none in
     (without (is_before cut e) e.standing (has lanes e.update.lane) parts.0, all_without lanes cut es parts.1)
 
--- where there is none, the states are those for no lanes
+-- if there is none, the states are those for no lanes
 pub states_without : (answers : Answers) (lanes : Lanes) (cut : Cut) (hs : List HookHistory) → has_news_in lanes cut hs ≡ false
     → states_of answers no_lanes cut hs ≡ states_of answers lanes cut hs
 states_without answers lanes cut [] none = refl
@@ -168,7 +168,7 @@ states_without answers lanes cut (h ∷ hs) none =
     (state_from-agree answers (is_included no_lanes cut) (is_included lanes cut) h.updates.initial h.updates.entries (all_without lanes cut h.updates.entries parts.0))
     ∙ ap (λ xs. state_of answers lanes cut h.updates ∷ xs) (states_without answers lanes cut hs parts.1)
 
--- where this tells whether a render has news in the hooks of an instance and it has none, the render sees the values that a render without lanes sees
+-- if this tells whether a render has news in the hooks of an instance and it has none, the render sees the values that a render without lanes sees
 pub sees_without : (lanes : Lanes) (cut : Cut) (i : ℕ) (kept : KeptBy) (has_news : Bool)
     → ((answers : Answers) (hooks : List Hook) (hs : List HookHistory) → kept i ≡ Some hooks → HooksStandFor answers hooks hs → has_news ≡ has_news_in lanes cut hs)
     → (s : Sight) (initials : List ℤ) → s.lanes ≡ lanes → s.cut ≡ cut → GivesValues s kept i initials → has_news ≡ false

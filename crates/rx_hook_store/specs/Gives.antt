@@ -31,10 +31,10 @@ pub record GivesValues (s : Sight) (kept : ℕ → Option (List Hook)) (instance
 abbrev pub has_work_in_update : Lanes → Cut → Entry → Bool
 has_work_in_update lanes cut e = is_included lanes cut e && not (is_done e)
 
--- a render has work in hooks where it has work in an update of one of their histories
+-- a render has work in hooks if it has work in an update of one of their histories
 abbrev pub has_work_in : Lanes → Cut → List HookHistory → Bool
 has_work_in lanes cut histories = list_any (λ h. list_any (has_work_in_update lanes cut) h.updates.entries) histories
 
--- a render has news in hooks where an included update of one of their histories is neither done nor owed
+-- a render has news in hooks if an included update of one of their histories is neither done nor owed
 abbrev pub has_news_in : Lanes → Cut → List HookHistory → Bool
 has_news_in lanes cut histories = list_any (λ h. list_any (is_new lanes cut) h.updates.entries) histories

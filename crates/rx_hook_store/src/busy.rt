@@ -11,7 +11,7 @@ use rx_queue::Work;
 use std::alloc::{AllocError, Global};
 use std::collections::{HashMap, HashSet};
 
-/// The numbers of the instances that may have queued updates. Where memory is wanting for one of them, it is all of them.
+/// The numbers of the instances that may have queued updates. If memory runs out for one of them, it is all of them.
 #[derive(Drop)]
 pub(crate) struct Busy {
     pub(crate) numbers: HashSet<u64>,
@@ -24,7 +24,7 @@ const LAST: Cut = Cut {
     resolutions: u64::MAX,
 };
 
-// True where no render has work in the hooks: no update is open, and none is owed.
+// True if no render has work in the hooks: no update is open, and none is owed.
 fn are_idle(hooks: &Hooks) -> bool
     ensures { result ≡ true → AreIdle hooks.now }
 {
@@ -57,7 +57,7 @@ impl Busy {
         let _ = self.numbers.remove(&instance);
     }
 
-    /// Lists an instance with these hooks where a render may have work in them, and else no longer.
+    /// Lists an instance with these hooks if a render may have work in them, and else no longer.
     pub(crate) fn note(&mut self, instance: u64, hooks: &Hooks)
         ensures here { is_listed self.new instance ≡ false → AreIdle hooks.now }
         ensures others { (n : ℕ) → nat_eq instance n ≡ false → is_listed self.old n ≡ true → is_listed self.new n ≡ true }

@@ -19,7 +19,7 @@ ghost use Rattle.rx_hook_store.specs.Gives.{GivesValues};
 ghost use Rattle.rx_hook_store.specs.Rendered.{IsRendered, KeepsInstance};
 ghost use Rattle.rx_hook_store.specs.Commits.{LinksBelow, SettlesHooks};
 
-/// Hooks that stand for the machine's state give a render the values of each mounted instance, where what is done lies
+/// Hooks that stand for the machine's state give a render the values of each mounted instance if what is done lies
 /// before its cut.
 pub fn keeps_give()
     ensures mounted { (p : Program) (s : State) (g : Progress) (kept : ℕ → Option (List Hook)) → KeepsAllHooks p s kept
@@ -39,7 +39,7 @@ pub fn hooks_are_there()
         → place < length initials → KeepsInstance p s kept k initials → IsSomeAnd (kept k) (λ hooks. place < length hooks) }
 {}
 
-/// Where no update comes, no lane is linked, and what is kept stays, it stands for the machine's state as before. So it is
+/// If no update comes, no lane is linked, and what is kept stays, it stands for the machine's state as before. So it is
 /// over a resolution, a slice of a render that renders nothing, and each other step but a dispatch and a commit.
 pub fn what_is_kept_stays()
     ensures all { (p : Program) (s t : State) (old new : ℕ → Option (List Hook)) → t.journal.updates ≡ s.journal.updates
@@ -61,7 +61,7 @@ pub fn committed_keeps_hooks()
 {}
 
 /// No hook of an instance that has yet to come links a lane: at the start, after a dispatch to an instance that is mounted,
-/// after a commit, and where no lane is linked.
+/// after a commit, and if no lane is linked.
 pub fn links_are_below()
     ensures start { LinksBelow opening }
     ensures dispatch { (s : State) (w : LaneWord) (i k : ℕ) (o : Op) → i < s.numbers.instance → LinksBelow s

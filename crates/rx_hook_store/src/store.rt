@@ -151,12 +151,12 @@ impl HookStore {
         }
     }
 
-    /// The values of an instance's hooks for these lanes at this cut. It promises them where the cut is above the number of
+    /// The values of an instance's hooks for these lanes at this cut. It promises them if the cut is above the number of
     /// every done update of the instance. An `Err` changes nothing.
     ///
     /// # Errors
     ///
-    /// Want of memory alone.
+    /// Only if out of memory.
     pub fn render_values<F: Fold>(
         &mut self,
         alloc: Global,
@@ -176,7 +176,7 @@ impl HookStore {
         ensures still { (s : Sight) (k : ℕ) (initials : List ℤ) → F.answers fold.now ≡ answers_of s.program → s.lanes ≡ lanes → s.cut ≡ cut
             → GivesValues s (kept_hooks self.old) k initials → GivesValues s (kept_hooks self.new) k initials }
 
-        // What is kept stands for the machine's state as before, where what is done lies before the cut.
+        // What is kept stands for the machine's state as before if what is done lies before the cut.
         ensures states { (p : Program) (st : State) → F.answers fold.now ≡ answers_of p → DoneBefore cut st.journal.updates
             → KeepsAllHooks p st (kept_hooks self.old) → KeepsAllHooks p st (kept_hooks self.new) }
 
@@ -198,7 +198,7 @@ impl HookStore {
     ///
     /// # Errors
     ///
-    /// Want of memory alone.
+    /// Only if out of memory.
     pub fn dispatch(
         &mut self,
         instance: u64,
@@ -215,7 +215,7 @@ impl HookStore {
             → kept_hooks self.old instance ≡ Some hooks → HooksStandFor answers hooks histories → slice_get histories place ≡ Some history
             → lanes ≡ lanes_linked word update pending history.linked) }
 
-        // What is kept stands for the machine's state after the dispatch, where this is the next update that it accepts.
+        // What is kept stands for the machine's state after the dispatch if this is the next update that it accepts.
         ensures states { OnOk result ((p : Program) (s : State) → update.number ≡ length s.journal.updates → update.lane ≡ lane_of s word → pending ≡ s.schedule.pending
             → KeepsAllHooks p s (kept_hooks self.old) → KeepsAllHooks p (dispatched_for s word (hook instance place) update.op) (kept_hooks self.new)) }
         ensures links { IfOk result (λ lanes. (p : Program) (s : State) (initials : List ℤ) → KeepsInstance p s (kept_hooks self.old) instance initials
@@ -248,11 +248,11 @@ impl HookStore {
     pub fn has_work(&self, instance: u64, lanes: Lanes, cut: Cut) -> bool
         requires { IsSome (kept_hooks self.now instance) }
 
-        // It has where an included update of a hook's history is not done.
+        // It has exactly if an included update of a hook's history is not done.
         ensures work { (answers : Answers) (hooks : List Hook) (histories : List HookHistory) → kept_hooks self.now instance ≡ Some hooks
             → HooksStandFor answers hooks histories → result ≡ has_work_in lanes cut histories }
 
-        // Where there is none, the render sees the values that are committed.
+        // If there is none, the render sees the values that are committed.
         ensures calm { (s : Sight) (initials : List ℤ) → s.lanes ≡ lanes → s.cut ≡ cut → GivesValues s (kept_hooks self.now) instance initials
             → result ≡ false → hook_values s instance initials ≡ done_values s.program (known_by s) instance initials }
     {
@@ -265,11 +265,11 @@ impl HookStore {
     pub fn has_news(&self, instance: u64, lanes: Lanes, cut: Cut) -> bool
         requires { IsSome (kept_hooks self.now instance) }
 
-        // It has where an included update of a hook's history is neither done nor owed.
+        // It has exactly if an included update of a hook's history is neither done nor owed.
         ensures news { (answers : Answers) (hooks : List Hook) (histories : List HookHistory) → kept_hooks self.now instance ≡ Some hooks
             → HooksStandFor answers hooks histories → result ≡ has_news_in lanes cut histories }
 
-        // Where there is none, the render sees the values that a render without lanes sees.
+        // If there is none, the render sees the values that a render without lanes sees.
         ensures same { (s : Sight) (initials : List ℤ) → s.lanes ≡ lanes → s.cut ≡ cut → GivesValues s (kept_hooks self.now) instance initials
             → result ≡ false → hook_values (without_lanes s) instance initials ≡ hook_values s instance initials }
     {
@@ -282,7 +282,7 @@ impl HookStore {
     ///
     /// # Errors
     ///
-    /// Want of memory alone.
+    /// Only if out of memory.
     pub fn working(&self, alloc: Global, lanes: Lanes, cut: Cut) -> Result<HashSet<u64>, AllocError>
         ensures all { IfOk result (λ numbers. AreAllWorking lanes cut (kept_hooks self.now) (contains nat_eq numbers)) }
         ensures only { IfOk result (λ numbers. AreOnlyWorking lanes cut (kept_hooks self.now) (contains nat_eq numbers)) }

@@ -74,7 +74,7 @@ is_owed_work New = false
 is_owed_work Owed = true
 is_owed_work Nothing = false
 
--- the work of a list of works: new where any is new, else owed where any is owed, else none
+-- the work of a list of works: new if any is new, else owed if any is owed, else none
 abbrev pub work_among : List Work → Work
 work_among works = if list_any is_new_work works then New else (if list_any is_owed_work works then Owed else Nothing)
 

@@ -92,7 +92,7 @@ impl Hooks {
     ///
     /// # Errors
     ///
-    /// Want of memory alone.
+    /// Only if out of memory.
     pub fn mount(alloc: Global, initials: &[Int]) -> Result<Hooks, AllocError>
         ensures stands { IfOk result (λ hooks. (answers : Answers) → HooksStandFor answers hooks (map mounted initials.now)) }
         ensures count { IfOk result (λ hooks. length hooks ≡ length initials.now) }
@@ -115,7 +115,7 @@ impl Hooks {
     ///
     /// # Errors
     ///
-    /// Want of memory alone.
+    /// Only if out of memory.
     pub fn push(&mut self, hook: u32, update: Update) -> Result<(), AllocError>
         requires { hook < length self.old }
         ensures ok { OnOk result ((answers : Answers) (histories : List HookHistory) → HooksStandFor answers self.old histories
@@ -127,12 +127,12 @@ impl Hooks {
         hook.queue.push(update)
     }
 
-    /// The states of the hooks for these lanes at this cut. It promises them where the cut is above the number of every
+    /// The states of the hooks for these lanes at this cut. It promises them if the cut is above the number of every
     /// done update. An `Err` changes nothing.
     ///
     /// # Errors
     ///
-    /// Want of memory alone.
+    /// Only if out of memory.
     pub fn render_values<F: Fold>(
         &mut self,
         alloc: Global,
@@ -171,7 +171,7 @@ impl Hooks {
         owe_all(&mut self.hooks, lanes, cut);
     }
 
-    /// Which work a render with these lanes at this cut has in the hooks: new where any hook has new work, else owed where
+    /// Which work a render with these lanes at this cut has in the hooks: new if any hook has new work, else owed if
     /// any has owed work.
     pub fn work(&self, lanes: Lanes, cut: Cut) -> Work
         ensures { (answers : Answers) (histories : List HookHistory) → HooksStandFor answers self.now histories → result ≡ work_of_hooks lanes cut histories }
@@ -193,7 +193,7 @@ impl Hooks {
         self.hooks.len()
     }
 
-    /// True where the component has no hook.
+    /// True if the component has no hook.
     pub fn is_empty(&self) -> bool
         ensures { IsTrue result ↔ (self.now ≡ []) }
     {

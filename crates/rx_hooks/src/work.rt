@@ -4,7 +4,7 @@ ghost use Rattle.rx_hooks.specs.Hooks.{work_among};
 
 use rx_queue::Work;
 
-/// The work of two hooks: new where one of them is new, else owed where one is owed.
+/// The work of two hooks: new if one of them is new, else owed if one is owed.
 pub fn first_work(a: Work, b: Work) -> Work
     ensures { result ≡ work_among (a ∷ b ∷ []) }
 {

@@ -1,4 +1,4 @@
--- Attributes in the order of their names, where one is set or taken away.
+-- Attributes in the order of their names, when one is set or taken away.
 use Rattle.std.specs.Prelude.{◌≡◌, true, false, List, [], ◌∷◌, Some, None, map, bytes_eq, refl, if◌then◌else◌}
 use Rattle.std.specs.List.{AllByRecursion}
 use Rattle.std.specs.List.Sorted.{IsStrictlySortedBy}

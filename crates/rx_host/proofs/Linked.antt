@@ -1,4 +1,4 @@
--- Links stay those of children where a number goes from a list or comes into one.
+-- Links stay those of children when a number goes from a list or comes into one.
 use Rattle.std.specs.Prelude.{◌≡◌, ℕ, Bool, true, false, ◌&&◌, cond, List, [], ◌∷◌, Option, Some, None, nat_eq, refl}
 use Rattle.std.proofs.Common.{sym, ◌∙◌, ap}
 use Rattle.rx_forest.specs.Forests.{is_among, without}

@@ -1,4 +1,4 @@
--- What stands behind and before a number, where a number goes or comes.
+-- What stands behind and before a number, when a number goes or comes.
 use Rattle.std.specs.Prelude.{◌≡◌, ℕ, Bool, true, false, ◌||◌, cond, List, [], ◌∷◌, Option, Some, None, nat_eq, refl}
 use Rattle.std.proofs.Common.{sym, ◌∙◌, ap, subst}
 use Rattle.rx_forest.specs.Forests.{is_among, without}

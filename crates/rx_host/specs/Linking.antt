@@ -32,7 +32,7 @@ room_in t = spare t.hosts
 abbrev pub has : HostTable → ℕ → Bool
 has t n = is_some (host_in t n)
 
--- a child of a parent is there, or, where none is given, the parent
+-- a child of a parent is there, or, if none is given, the parent
 abbrev pub is_spot : HostTable → (parent : ℕ) → (child : Option ℕ) → Bool
 is_spot t p None = cond (nat_eq p container) true (has t p)
 is_spot t p (Some n) = has t n

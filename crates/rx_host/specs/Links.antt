@@ -2,7 +2,7 @@
 use Rattle.std.specs.Prelude.{◌≡◌, ℕ, zero, suc, Bool, true, false, List, [], ◌∷◌, Option, Some, None, nat_eq, if◌then◌else◌}
 use Rattle.rx_forest.specs.Forests.{is_among}
 
--- the links of each number, where no link is `None`
+-- the links of each number; no link is `None`
 pub record Links : Type 0 where
   pub parent : ℕ → Option ℕ
   pub before : ℕ → Option ℕ
@@ -17,12 +17,12 @@ same_link (Some m) (Some n) = nat_eq m n
 same_link None (Some n) = false
 same_link (Some m) None = false
 
--- what stands behind a number in a list, or first in it, where this is what stands before the list
+-- what stands behind a number in a list, or first in it, if this is what stands before the list
 abbrev pub behind_from : (start : Option ℕ) → List ℕ → Option ℕ → Option ℕ
 behind_from start [] link = None
 behind_from start (m ∷ ms) link = if same_link link start then Some m else behind_from (Some m) ms link
 
--- what stands before a number in a list, or last in it, where this is what stands before the list
+-- what stands before a number in a list, or last in it, if this is what stands before the list
 abbrev pub ahead_from : (start : Option ℕ) → List ℕ → Option ℕ → Option ℕ
 ahead_from start [] link = start
 ahead_from start (m ∷ ms) link = if same_link link (Some m) then start else ahead_from (Some m) ms link

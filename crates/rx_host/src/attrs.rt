@@ -71,7 +71,7 @@ impl AttrList {
         }
     }
 
-    /// Gives the attribute of a name its value. Where there was none, it takes the last of these cells.
+    /// Gives the attribute of a name its value. If there was none, it takes the last of these cells.
     pub fn set(&mut self, name: Name, value: AttrValue, cells: &mut Vec<Box<AttrList>>)
         requires room { 1 ≤ vec_len cells.old }
         ensures attrs { self.new ≡ with_value name value self.old }

@@ -9,11 +9,11 @@ use rx_elem::AttrValue;
 use rx_forest::HostOp;
 use std::alloc::{AllocError, Global};
 
-/// Does what these operations say, one after another. Where memory is wanting the tree stays as it was.
+/// Does what these operations say, one after another. If out of memory, the tree stays as it was.
 ///
 /// # Errors
 ///
-/// Want of memory alone.
+/// Only if out of memory.
 pub fn replay(alloc: Global, tree: &mut HostTree, ops: &[HostOp]) -> Result<(), AllocError>
     requires { CanBeReplayed (forest_kept tree.old) ops.now }
     ensures made { OnOk result (Replays (forest_kept tree.old) ops.now (forest_kept tree.new)) }

@@ -16,7 +16,7 @@ found_at {X} t k (x ∷ xs) i e = go (λ f. found_at t (k + 1) xs i f) (t x) e
     go next true e = let same : k ≡ i = cc in (0, omega arith, refl)
     go next false e = let r = next e in (suc r.0, omega (arith, r.1), r.2)
 
--- where a test passes nowhere nothing is found
+-- if a test passes nowhere, nothing is found
 pub found_nowhere : {X : Type 0} (t : X → Bool) (k : ℕ) (xs : List X) → position_from t k xs ≡ None → find t xs ≡ None
 found_nowhere t k [] e = refl
 found_nowhere {X} t k (x ∷ xs) e = go (λ f. found_nowhere t (k + 1) xs f) (t x) e
@@ -25,7 +25,7 @@ found_nowhere {X} t k (x ∷ xs) e = go (λ f. found_nowhere t (k + 1) xs f) (t 
     go next true e = absurd (cc)
     go next false e = next e
 
--- a test passes somewhere where it passes for any
+-- a test passes somewhere if it passes for any
 pub is_some-position_from : {X : Type 0} (t : X → Bool) (k : ℕ) (xs : List X) → is_some (position_from t k xs) ≡ list_any t xs
 is_some-position_from t k [] = refl
 is_some-position_from {X} t k (x ∷ xs) = go (is_some-position_from t (k + 1) xs) (t x)

@@ -51,7 +51,7 @@ fn named<'a>(attrs: &[&'a Attr], name: &Name) -> Option<&'a Attr>
     None
 }
 
-// True where an attribute is among these with the same value.
+// True if an attribute is among these with the same value.
 fn has(attrs: &[&Attr], attr: &Attr) -> bool
     ensures { result ≡ has_attr (seen attrs.now) attr.now }
 {

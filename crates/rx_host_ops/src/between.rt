@@ -141,13 +141,13 @@ impl<'a> Known<'a> {
     }
 }
 
-/// The operations of a commit (react.dev, Render and Commit), from the hosts of an old tree to those of a new one, where hosts
+/// The operations of a commit (react.dev, Render and Commit), from the hosts of an old tree to those of a new one, if hosts
 /// of these numbers are placed: the removals, each with all that is below it; what is made; the placements; the changes of
 /// attributes and texts; and the changes of marks.
 ///
 /// # Errors
 ///
-/// Want of memory alone.
+/// Only if out of memory.
 pub fn ops_between(
     alloc: Global,
     old: &[Host],

@@ -75,7 +75,7 @@ impl Host {
         self.parent
     }
 
-    /// True where it is hidden below that host.
+    /// True if it is hidden below that host.
     pub fn is_hidden(&self) -> bool
         ensures { result ≡ self.now.hidden }
     {

@@ -10,7 +10,7 @@ use crate::host::Host;
 use std::alloc::{AllocError, Global};
 use std::collections::{HashMap, HashSet};
 
-// Where the host of each number stands in a list; the first one, where there are several.
+// Where the host of each number stands in a list; the first one, if there are several.
 fn places_of(alloc: Global, hosts: &[Host]) -> Result<HashMap<u64, usize>, AllocError>
     ensures { IfOk result (λ places. KnowsAll hosts.now places) }
 {
@@ -49,7 +49,7 @@ impl<'a> Known<'a> {
         }
     }
 
-    /// True where there is a host of a number.
+    /// True if there is a host of a number.
     pub(crate) fn has(&self, number: u64) -> bool
         requires { KnowsAll self.now.hosts.now self.now.places }
         ensures { result ≡ has_host self.now.hosts.now number }

@@ -48,7 +48,7 @@ fn add_all_placed(all: &[Compared], placed: &mut Vec<u64>) -> Result<(), AllocEr
 ///
 /// # Errors
 ///
-/// Want of memory alone.
+/// Only if out of memory.
 pub fn placed_hosts(alloc: Global, compared: &Compared) -> Result<Vec<u64>, AllocError>
     ensures { IfOk result (λ placed. placed.items ≡ placed_hosts (changes compared.now)) }
 {

@@ -46,12 +46,12 @@ fn add_in(places: &[Option<Node>], around: Around, found: &mut Vec<Host>) -> Res
     Ok(())
 }
 
-/// The hosts of a committed tree, in tree order: a host before those below it. A host in a kept primary is hidden where the
+/// The hosts of a committed tree, in tree order: a host before those below it. A host in a kept primary is hidden if the
 /// boundary lies between it and its parent.
 ///
 /// # Errors
 ///
-/// Want of memory alone.
+/// Only if out of memory.
 pub fn hosts(alloc: Global, tree: Option<&Node>) -> Result<Vec<Host>, AllocError>
     ensures { IfOk result (λ found. found.items ≡ listed.hosts (option_copied tree.entry)) }
 {

@@ -32,7 +32,7 @@ beside_parts false true inside true later e = refl
 beside_parts false true inside false later e = refl
 beside_parts false false inside fallback later e = absurd (cc e)
 
--- The fibers of a list wait where its nodes do.
+-- The fibers of a list wait exactly if its nodes do.
 mutual
   list_waits : (r n : ℕ) (ns : Forest) (s : Shape Fiber) → AreFor n ns s → waits_list s r ≡ waits_in ns r
   list_waits r n _ _ no_more = refl

@@ -32,7 +32,7 @@ whole_start rest waits e = (
   λ r lt. ap (λ w. has w r || rest r) e,
 )
 
--- what is waited for in the visible children, or in all where they are visible
+-- what is waited for in the visible children, or in all if they are visible
 visible_waits : (b : Bool) (ks : Shape Fiber) (r : ℕ) → waits_list (if b then none else ks) r ≡ (not b && waits_list ks r)
 visible_waits true ks r = refl
 visible_waits false ks r = refl
@@ -46,7 +46,7 @@ module _ (c : Shape Fiber) (linked : IsLinked c) (i : ℕ) (held : Holds c i) wh
   fallback_behind : (q : Option ℕ) (b : Bool) → q ≡ first (rest_of c i) → b ≡ begins_fallback (list_from c q) → begins_fallback (rest_of c i) ≡ b
   fallback_behind q b f k = ap begins_fallback (linked.rest i held ∙ ap (list_from c) (sym f)) ∙ sym k
 
-  -- where it does, no child is visible,
+  -- if it does, no child is visible,
   pub kept_kids : (q : Option ℕ) (b : Bool) → q ≡ first (rest_of c i) → b ≡ begins_fallback (list_from c q) → b ≡ true → none ≡ visible_kids (list_from c (Some i))
   kept_kids q b f k e =
       let (v, is, l) = linked.list i held in

@@ -61,7 +61,7 @@ mutual
       let behind = list_counted b a 0 fs ws d in
       omega (arith, own, also, inside, behind, later, among_node b a e m ns fs (spots_in a more))
 
--- what counts where each node does
+-- what counts if each node does
 abbrev own_one : Bool → ℕ
 own_one h = cond (h || not false) 1 0
 

@@ -30,7 +30,7 @@ counts-front xs ys x k l c = record {
   left_is = omega (arith, c.left_is, slice_get_within xs k x (sym c.found_is), length-append xs ys);
 }
 
--- and where none is, it is looked for among the fibers behind them
+-- and if none is, it is looked for among the fibers behind them
 counts-behind : (xs ys : List ℕ) (found : Option ℕ) (k l m : ℕ) → Counts xs None k l → Counts ys found l m → Counts (xs ++ ys) found k m
 counts-behind xs ys found k l m c d = record {
   found_is = d.found_is ∙ ap (slice_get ys) c.left_is ∙ sym (get-behind xs ys k (sym c.found_is));
@@ -62,7 +62,7 @@ module _ (p : Program) (name : Name) (c : Shape Fiber) (linked : IsLinked c) whe
       (subst (λ (xs : List ℕ). Counts xs (Some x) left after) (sym (near_more o i h e))
       (counts-front (near_first p name (list_from c (Some i))) (near_fibers p name (list_from c (first (rest_of c i)))) x left after d))
 
-  -- and where nothing is
+  -- and if nothing is found
   pub leads-more : (o q : Option ℕ) (i : ℕ) (all : List ℕ) (before left now : ℕ) → Holds c i → o ≡ Some i → q ≡ first (rest_of c i)
       → LeadsOn all (near_fibers p name (list_from c o)) before left → Counts (near_first p name (list_from c (Some i))) None left now
       → LeadsOn all (near_fibers p name (list_from c q)) before now

@@ -66,7 +66,7 @@ told_number (node e (of_host h) ns fs) f is = absurd (none-some f is)
 told_number (node e (of_boundary b) ns fs) f is = absurd (none-some f is)
 told_number (node e plain ns fs) f is = absurd (none-some f is)
 
--- one step, where what is right below the owner is known
+-- one step, if what is right below the owner is known
 one_step : (p : Program) (all : List Mounted) (o : Option ℕ) (ns : List Node) (part : Name × ℕ)
     → map (λ m. Some (found_as m)) (filter (is_step p o part.0) all) ≡ all_told p part.0 ns
     → option_map (λ m. Some (found_as m)) (step_to p all o part) ≡ option_map told (slice_get (named p part.0 ns) part.1)

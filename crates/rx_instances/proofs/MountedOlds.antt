@@ -29,7 +29,7 @@ node_mounted a e m ns fs more =
     ∙ filter_map-append mounted_in (spots_in (around_children a m) ns) (spots_in a fs ++ more)
     ∙ ap (λ (ms : List Mounted). mounted_at (spots_in (around_children a m) ns) ++ ms) (filter_map-append mounted_in (spots_in a fs) more))
 
--- where a list has no node, there is no spot
+-- if a list has no node, there is no spot
 pub gone_spots : (a : Around) (ns : Forest) → has_node ns ≡ false → spots_in a ns ≡ []
 gone_spots a none e = refl
 gone_spots a (vacant ns) e = gone_spots a ns e

@@ -51,7 +51,7 @@ no_node : (c : Shape Fiber) (o : Option ℕ) (q : Option Node) → IsOld c o q �
 no_node c _ _ new e = refl
 no_node c _ _ (of here leads are) e = cc
 
--- and where there is none there is no node
+-- and if there is none there is no node
 pub no_old : (c : Shape Fiber) (q : Option Node) → IsOld c None q → None ≡ q
 no_old c q old = no_node c None q old refl
 
@@ -82,7 +82,7 @@ old_instance c i x v old is =
 
 -- ---- the nearest instances
 
--- where a list has no node, none is near
+-- if a list has no node, none is near
 gone_near : (ns : Forest) → has_node ns ≡ false → nearest_in ns ≡ []
 gone_near none e = refl
 gone_near (vacant ns) e = gone_near ns e

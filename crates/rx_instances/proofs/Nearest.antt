@@ -66,7 +66,7 @@ numbered_mark (of_host k) h = tt
 numbered_mark (of_boundary b) h = tt
 numbered_mark plain h = tt
 
--- where each instance has a number, it is another one than none
+-- if each instance has a number, it is another one than none
 mutual
   pub numbered_others : (x : Node) → Numbered x → Others None x
   numbered_others (node e m ns fs) h = (numbered_mark m h.0, numbered_others_in ns h.1, numbered_others_in fs h.2)
@@ -89,7 +89,7 @@ other_mark n (of_host k) h z = tt
 other_mark n (of_boundary b) h z = tt
 other_mark n plain h z = tt
 
--- where a number does not occur, each instance has another one
+-- if a number does not occur, each instance has another one
 mutual
   times_others : (n : ℕ) (x : Node) → Numbered x → times_numbered n x ≡ 0 → Others (Some n) x
   times_others n (node e m ns fs) h z = (other_mark n m h.0 (omega arith), times_others_in n ns h.1 (omega arith), times_others_in n fs h.2 (omega arith))
@@ -228,7 +228,7 @@ module _ (p : Program) (name : Name) where
       go true t = rw is (rw owner (rw (same_owner o) (rw t refl)))
       go false t = rw is (rw owner (rw (same_owner o) (rw t refl)))
 
-  -- below another owner there is none, where each instance has another number
+  -- below another owner there is none, if each instance has another number
   mutual
     none_below : (o : Option ℕ) (a : Around) (x : Node) → Others o x → (a.owner ≡ o → ⊥) → right_below p name o (spots a x) ≡ []
     none_below o a (node e m ns fs) h other =
@@ -240,7 +240,7 @@ module _ (p : Program) (name : Name) where
     none_below_in o a (vacant ns) h other = none_below_in o a ns h other
     none_below_in o a (child x ns) h other = below-append o (spots a x) (spots_in a ns) ∙ (λ i. none_below o a x h.0 other i ++ none_below_in o a ns h.1 other i)
 
-  -- right below an owner are the nearest ones, where each instance has another number
+  -- right below an owner are the nearest ones, if each instance has another number
   mutual
     pub near_below : (o : Option ℕ) (a : Around) (x : Node) → Others o x → a.owner ≡ o → right_below p name o (spots a x) ≡ all_told p name (nearest x)
     near_below o a (node e (of_instance i) ns fs) h owner =
@@ -270,7 +270,7 @@ module _ (p : Program) (name : Name) where
         ∙ (λ j. near_below o a x h.0 owner j ++ near_below_in o a ns h.1 owner j)
         ∙ sym (told-append (nearest x) (nearest_in ns))
 
-  -- and so of one that stands in a tree, where its number occurs once
+  -- and so of one that stands in a tree, if its number occurs once
   mutual
     pub found_below : (n : ℕ) (y : Node) → number_of (mark_of y) ≡ Some n → (a : Around) (x : Node) → Has y x → Numbered x → times_numbered n x ≤ 1 → (a.owner ≡ Some n → ⊥)
         → right_below p name (Some n) (spots a x) ≡ all_told p name (nearest_in (children_of y))

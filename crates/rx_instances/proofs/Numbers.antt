@@ -21,6 +21,6 @@ pub name-at : (p : Program) (c : ℕ) (ns : List Name) (x : Name) → ns ≡ com
 name-at p c ns x are inside is =
     name-there p c (Some x) (ap (λ (ys : List Name). slice_get ys c) (sym are) ∙ slice_get-get_or ns c x inside ∙ ap (λ (y : Name). Some y) (sym is))
 
--- where there is none, it is empty
+-- if there is none, it is empty
 pub name-past : (p : Program) (c : ℕ) (ns : List Name) → ns ≡ component_names p → length ns ≤ c → [] ≡ name_of p c
 name-past p c ns are past = name-there p c None (ap (λ (ys : List Name). slice_get ys c) (sym are) ∙ slice_get_past ns c past)

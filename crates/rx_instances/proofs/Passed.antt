@@ -1,4 +1,4 @@
--- What a fiber keeps tells where nothing is at or below it: no instance, or no hidden boundary.
+-- What a fiber keeps tells if nothing is at or below it: no instance, or no hidden boundary.
 use Rattle.std.proofs.Common.{◌≡◌, ℕ, ◌+◌, Bool, true, false, not, ◌&&◌, ◌||◌, List, [], ◌++◌, Option, Some, None, is_some, refl, sym, ap, ◌∙◌, subst}
 use Rattle.rx_base.specs.Values.{Name}
 use Rattle.rx_base.specs.Awaits.{has}
@@ -36,7 +36,7 @@ no_instance (begun m) h = none_there (instance_in m) h
 no_instance (trying c) h = refl
 no_instance (fallback a) h = refl
 
--- one that tells of no hidden boundary is not counted where these are,
+-- one that tells of no hidden boundary is not counted when these are,
 no_hidden : (s : Stage) → (own_subtree s).hides ≡ false → stage_count true s ≡ 0
 no_hidden (waiting c) h = refl
 no_hidden (begun m) h = rw h refl

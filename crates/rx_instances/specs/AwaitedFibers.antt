@@ -13,7 +13,7 @@ stage_awaits (begun m) = awaits_in m
 stage_awaits (trying c) = nothing
 stage_awaits (fallback a) = nothing
 
--- the visible children of the first fiber of a list: none where it keeps its children behind its fallback, whose fiber comes next
+-- the visible children of the first fiber of a list: none if it keeps its children behind its fallback, whose fiber comes next
 abbrev pub visible_kids : Shape Fiber → Shape Fiber
 visible_kids none = none
 visible_kids (fiber id v ks rs) = if begins_fallback rs then none else ks

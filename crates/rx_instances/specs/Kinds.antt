@@ -10,7 +10,7 @@ abbrev pub number_in : HookKind → ℕ
 number_in (kind.State n) = n
 number_in (kind.Reducer n f) = n
 
--- the function of a hook that was found; where it has none, that of no name
+-- the function of a hook that was found; if it has none, that of no name
 abbrev pub function_in : (functions : List Name) → Option HookKind → ℕ
 function_in fs None = place_among fs []
 function_in fs (Some (kind.State n)) = place_among fs []

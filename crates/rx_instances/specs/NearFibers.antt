@@ -18,7 +18,7 @@ instance_at (begun m) = instance_in m
 instance_at (trying c) = None
 instance_at (fallback a) = None
 
--- a fiber itself where it is of an instance of a component of this name, none where it is of another instance, and else those below it
+-- a fiber itself if it is of an instance of a component of this name, none if it is of another instance, and else those below it
 abbrev pub itself_named : Program → Name → ℕ → Option Instance → (below : List ℕ) → List ℕ
 itself_named p name id None below = below
 itself_named p name id (Some i) below = if bytes_eq (name_of p i.component) name then id ∷ [] else []

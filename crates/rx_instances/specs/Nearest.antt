@@ -25,14 +25,14 @@ told_of i = option_map (λ n. record { number = n; component = i.component }) i.
 abbrev pub told : Node → Option Told
 told n = option_and_then told_of (instance_in (mark_of n))
 
--- a node itself where it is an instance, and else those that are the nearest below it
+-- a node itself if it is an instance, and else those that are the nearest below it
 abbrev pub itself_or : Mark → Node → (below : List Node) → List Node
 itself_or (of_instance i) n below = n ∷ []
 itself_or (of_host h) n below = below
 itself_or (of_boundary b) n below = below
 itself_or plain n below = below
 
--- the nearest instances from a node on, in tree order: itself where it is one, and else those of its children; and then those of its fallback
+-- the nearest instances from a node on, in tree order: itself if it is one, and else those of its children; and then those of its fallback
 abbrev mutual
   pub nearest : Node → List Node
   nearest (node e m ns fs) = itself_or m (node e m ns fs) (nearest_in ns) ++ nearest_in fs

@@ -30,7 +30,7 @@ fn stage_awaits(stage: &Stage) -> Awaits
     }
 }
 
-// The first visible child of a fiber: none where it keeps its children behind its fallback.
+// The first visible child of a fiber: none if it keeps its children behind its fallback.
 fn visible_child(tree: &FiberTree<Fiber>, id: FiberId) -> Option<FiberId>
     requires { Holds tree.now.current id }
     ensures held { IfSome result (Holds tree.now.current) }
@@ -43,7 +43,7 @@ fn visible_child(tree: &FiberTree<Fiber>, id: FiberId) -> Option<FiberId>
     tree.first_child(id)
 }
 
-// What a visible fiber and those below it that are visible wait for. It is passed where no hidden boundary is at or below it.
+// What a visible fiber and those below it that are visible wait for. It is passed if no hidden boundary is at or below it.
 #[cycle(awaiting)]
 fn awaits_at(tree: &FiberTree<Fiber>, id: FiberId) -> Awaits
     requires held { Holds tree.now.current id }

@@ -23,7 +23,7 @@ fn stage_count(stage: &Stage, only_hidden: bool) -> u64
     }
 }
 
-// How many are counted of a fiber and below. Where hidden boundaries alone are counted it is passed if none is there.
+// How many are counted of a fiber and below. When hidden boundaries alone are counted it is passed if none is there.
 #[cycle(counting)]
 fn count_at(tree: &FiberTree<Fiber>, id: FiberId, only_hidden: bool) -> u64
     requires held { Holds tree.now.current id }

@@ -43,14 +43,14 @@ pub fn dispatch_hook(dispatch: &Dispatch) -> &Name
     }
 }
 
-// The number of a function, by its name; 0 where there is none.
+// The number of a function, by its name; 0 if there is none.
 fn function_number(checked: &Checked, name: &str) -> u32
     ensures { result ≡ function_number checked.now name.now }
 {
     checked.function(name).unwrap_or(0)
 }
 
-// The number of the function of a hook that was found; where it has none, that of no name.
+// The number of the function of a hook that was found; if it has none, that of no name.
 fn function_in(checked: &Checked, found: Option<HookKind>) -> u32
     ensures { result ≡ function_in (function_names checked.now) found }
 {

@@ -55,7 +55,7 @@ fn told(id: FiberId, fiber: &Fiber) -> Option<Found>
     })
 }
 
-// Finds this fiber where it counts and none is left to come before it.
+// Finds this fiber if it counts and none is left to come before it.
 fn count(id: FiberId, counts: bool, left: &mut u64) -> Option<FiberId>
     ensures { Counts (if counts then (id ∷ []) else []) result left.old left.new }
 {
@@ -69,7 +69,7 @@ fn count(id: FiberId, counts: bool, left: &mut u64) -> Option<FiberId>
     None
 }
 
-// Looks at a fiber itself where it is of an instance, and else for the nearest ones below it. It is passed where no instance is
+// Looks at a fiber itself if it is of an instance, and else for the nearest ones below it. It is passed if no instance is
 // at or below it.
 #[cycle(looking)]
 fn look_at(
@@ -183,7 +183,7 @@ pub fn find_instance(
     ensures fiber { (y : Option trees.Node) → IsTreeOf y tree.now.current → IfSome result (IsFoundAt checked.now y path.now tree.now.current) }
     ensures grows { (n : ℕ) → is_way sent.old n ≡ true → is_way sent.new n ≡ true }
 
-    // Also where the whole path leads nowhere, each instance is put that its first parts lead to.
+    // Also if the whole path leads nowhere, each instance is put that its first parts lead to.
     ensures way { (y : Option trees.Node) (next k : ℕ) (m : Mounted) → IsTreeOf y tree.now.current → IfNumbered y → HasOwnNumbers next y → k < length path.now
         → instance_found checked.now y (take (suc k) path.now) ≡ Some m → is_way sent.new m.number ≡ true }
 {

@@ -63,7 +63,7 @@ impl Mounted {
         &self.initials
     }
 
-    /// True where it lies in no kept primary.
+    /// True if it lies in no kept primary.
     pub(crate) fn is_visible(&self) -> bool
         ensures { result ≡ self.now.visible }
     {
@@ -125,7 +125,7 @@ fn add_own(fiber: &Fiber, around: Around, found: &mut Vec<Mounted>) -> Result<()
     Ok(())
 }
 
-// Adds the instances of a fiber and below. It is passed where there are none.
+// Adds the instances of a fiber and below. It is passed if there are none.
 #[cycle(mounting)]
 fn add_from(
     tree: &FiberTree<Fiber>,
@@ -173,7 +173,7 @@ fn add_in(
 ///
 /// # Errors
 ///
-/// Out of memory alone.
+/// Only if out of memory.
 pub(crate) fn read_mounted(
     alloc: Global,
     tree: &FiberTree<Fiber>,

@@ -10,7 +10,7 @@ use rx_base::Name;
 use rx_check::{Checked, HookKind};
 use std::alloc::{AllocError, Global};
 
-/// The name of a component, by its number; empty where there is none.
+/// The name of a component, by its number; empty if there is none.
 pub(crate) fn name_of(checked: &Checked, component: u32) -> &str
     ensures { result.now ≡ state.name_of checked.now component }
 {
@@ -29,7 +29,7 @@ fn number_in(kind: HookKind) -> u32
     }
 }
 
-/// The number of a hook among those of its component, by its name; 0 where there is none.
+/// The number of a hook among those of its component, by its name; 0 if there is none.
 pub fn hook_place(checked: &Checked, component: u32, name: &Name) -> u32
     ensures number { result ≡ state.hook_number checked.now component name.now }
     ensures below { has_name (state.hooks_at checked.now component) name.now ≡ true → result < length (state.hooks_at checked.now component) }

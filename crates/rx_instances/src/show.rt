@@ -19,7 +19,7 @@ use rx_links::FiberTree;
 use rx_report::Report;
 use std::alloc::{AllocError, Global};
 
-// The committed values of the first hooks of an instance: so many, or all where there are fewer.
+// The committed values of the first hooks of an instance: so many, or all if there are fewer.
 fn values_of(
     alloc: Global,
     hooks: &HookStore,
@@ -84,7 +84,7 @@ fn show_these(
 ///
 /// # Errors
 ///
-/// Want of memory alone.
+/// Only if out of memory.
 pub fn show_hooks(
     alloc: Global,
     log: &mut Report,

@@ -22,7 +22,7 @@ pub record Tray : Type 0 where
 abbrev pub next_count : ℕ → ℕ
 next_count n = min (n + 1) (2 ^ 64 - 1)
 
--- as many bytes as a call may move, where it isn't told how many
+-- as many bytes as a call may move, if it isn't told how many
 abbrev pub any_count : ℕ
 any_count = 2 ^ 64 - 1
 

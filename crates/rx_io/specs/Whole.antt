@@ -9,7 +9,7 @@ use Rattle.rx_io.specs.declared.whole.ReadError.TheVariants.{Failed, TooLong, Ou
 abbrev pub TookFor : ℕ → List ℕ → List ℕ → Type 0
 TookFor limit bytes taken = (bytes ≡ taken) × (length taken ≤ limit)
 
--- how many bytes were taken where a source was not read to its end: one over the limit is too long, a fault comes before
+-- how many bytes were taken if a source was not read to its end: one over the limit is too long, a fault comes before
 abbrev pub Refuses : ℕ → ReadError → List ℕ → Type 0
 Refuses limit TooLong taken = length taken ≡ limit + 1
 Refuses limit Failed taken = length taken ≤ limit

@@ -1,5 +1,5 @@
 //! Where a program's bytes come from and go to: sources and sinks that count their faults, so that a contract can say
-//! that a fault of reading or writing is answered only where one came.
+//! that a fault of reading or writing is answered only if one came.
 #![tactic(auto)]
 
 mod memory;

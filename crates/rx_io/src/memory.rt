@@ -37,7 +37,7 @@ impl MemSource {
     ///
     /// # Errors
     ///
-    /// Want of memory alone.
+    /// Only if out of memory.
     pub fn new(alloc: Global, bytes: &[u8], failing: &[u64]) -> Result<Self, AllocError>
         ensures { IfOk result (λ s. s ≡ record { left = bytes.now; most = any_count; failing = failing.now; calls = 0; faults = 0 }) }
     {
@@ -87,7 +87,7 @@ impl Source for MemSource {
     }
 }
 
-/// A sink in memory, which fails in the calls that it was told, and where it is full. Its counts stop at `u64::MAX`.
+/// A sink in memory, which fails in the calls that it was told, and when it is full. Its counts stop at `u64::MAX`.
 #[derive(Drop)]
 pub struct MemSink {
     bytes: Vec<u8>,
@@ -111,11 +111,11 @@ impl Model for MemSink {
 
 impl MemSink {
     /// An empty sink with room for this many bytes, which fails in exactly the calls of `write` with these numbers, the
-    /// first being 1, and where it is full.
+    /// first being 1, and when it is full.
     ///
     /// # Errors
     ///
-    /// Want of memory alone. The room is taken here, and a write takes none.
+    /// Only if out of memory. The room is taken here, and a write takes none.
     pub fn new(alloc: Global, room: u64, failing: &[u64]) -> Result<Self, AllocError>
         ensures { IfOk result (λ s. s ≡ record { written = []; room = room; most = any_count; failing = failing.now; calls = 0; faults = 0 }) }
     {
@@ -157,7 +157,7 @@ impl Sink for MemSink {
         ensures bytes { WriteAppends (Some self.old.written) (Some self.new.written) result from.now }
         ensures cause { HasCause self.old.faults self.new.faults result }
 
-        // It fails in exactly these calls, and where it is full, and else takes as many bytes as fit and may be moved.
+        // It fails in exactly these calls, and when it is full, and else takes as many bytes as fit and may be moved.
         ensures fails { IsErr result ↔ (Contains self.old.failing (next_count self.old.calls)
             ⊎ ((0 < length from.now) × (self.old.room ≤ length self.old.written))) }
         ensures count { IfOk result (λ n. n ≡ min (min (length from.now) (self.old.room - length self.old.written)) self.old.most) }

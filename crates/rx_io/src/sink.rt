@@ -9,7 +9,7 @@ use crate::source::Failed;
 
 /// Where bytes go, a piece at a time.
 pub trait Sink {
-    /// The bytes written, where the sink tells them.
+    /// The bytes written, if the sink tells them.
     ghost written: { Self → Option (List ℕ) };
 
     /// How often the sink has failed.
@@ -19,7 +19,7 @@ pub trait Sink {
     ///
     /// # Errors
     ///
-    /// `Failed`: the count of faults rises then, and stays where the call succeeds. Nothing was written, and the next call
+    /// `Failed`: the count of faults rises then, and stays if the call succeeds. Nothing was written, and the next call
     /// may succeed. A writer that takes nothing of a piece that isn't empty has failed.
     fn write(&mut self, from: &[u8]) -> Result<usize, Failed>
         ensures bound { WritesAtMost result from.now }

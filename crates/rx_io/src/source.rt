@@ -11,7 +11,7 @@ pub struct Failed;
 
 /// Where bytes come from, one buffer at a time.
 pub trait Source {
-    /// The bytes not yet read, where the source tells them.
+    /// The bytes not yet read, if the source tells them.
     ghost left: { Self → Option (List ℕ) };
 
     /// How often the source has failed.
@@ -22,7 +22,7 @@ pub trait Source {
     ///
     /// # Errors
     ///
-    /// `Failed`: the count of faults rises then, and stays where the call succeeds. Nothing was taken, and the next call
+    /// `Failed`: the count of faults rises then, and stays if the call succeeds. Nothing was taken, and the next call
     /// may succeed.
     fn read(&mut self, into: &mut [u8]) -> Result<usize, Failed>
         ensures bound { ReadsAtMost result into.new }

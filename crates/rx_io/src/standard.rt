@@ -39,7 +39,7 @@ impl<R: Read + Drop> Source for StdSource<R> {
         ensures bytes { ReadConsumes (R.remaining (reader_of self.old)) (R.remaining (reader_of self.new)) result into.new }
         ensures cause { HasCause (source_faults self.old) (source_faults self.new) result }
 
-        // The count stays where the call succeeds, and rises by one where it fails.
+        // The count stays if the call succeeds, and rises by one if it fails.
         ensures counts { CountsFaults (source_faults self.old) (source_faults self.new) result }
     {
         match self.inner.read(into) {
@@ -84,7 +84,7 @@ impl<W: Write + Drop> Sink for StdSink<W> {
         ensures bytes { WriteAppends (W.contents (writer_of self.old)) (W.contents (writer_of self.new)) result from.now }
         ensures cause { HasCause (sink_faults self.old) (sink_faults self.new) result }
 
-        // The count stays where the call succeeds, and rises by one where it fails.
+        // The count stays if the call succeeds, and rises by one if it fails.
         ensures counts { CountsFaults (sink_faults self.old) (sink_faults self.new) result }
     {
         match self.inner.write(from) {

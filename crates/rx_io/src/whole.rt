@@ -40,15 +40,15 @@ impl From<AllocError> for ReadError {
 ///
 /// # Errors
 ///
-/// `TooLong` exactly where one byte more than `limit` was taken, `Failed` only where the source's count of faults rose in
-/// this call, and want of memory. What was taken until then is lost.
+/// `TooLong` exactly if one byte more than `limit` was taken, `Failed` only if the source's count of faults rose in
+/// this call, and `OutOfMemory` if out of memory. What was taken until then is lost.
 pub fn read_all<S: Source>(alloc: Global, src: &mut S, limit: usize) -> Result<Vec<u8>, ReadError>
     // The bytes that were taken, and what each answer says of them.
     ensures taken { (taken : List ℕ) × Consumes (S.left src.old) (S.left src.new) taken
         × MatchResult result (λ bytes. TookFor limit bytes.items taken) (λ e. Refuses limit e taken) }
     ensures end { OnOk result (IsAtEnd (S.left src.new)) }
 
-    // The count of faults rose where it failed, and stayed where it did not.
+    // The count of faults rose if it failed, and stayed if it did not.
     ensures failed { IsErrOf result ReadError.Failed → Rose (S.faults src.old) (S.faults src.new) }
     ensures kept { (IsErrOf result ReadError.Failed → ⊥) → S.faults src.new ≡ S.faults src.old }
 {
@@ -69,7 +69,7 @@ pub fn read_all<S: Source>(alloc: Global, src: &mut S, limit: usize) -> Result<V
 ///
 /// # Errors
 ///
-/// `Failed`, exactly where the sink failed in this call, as its count of faults tells. A prefix of the piece was written
+/// `Failed`, exactly if the sink failed in this call, as its count of faults tells. A prefix of the piece was written
 /// then, and not all of it.
 pub fn write_all<K: Sink>(out: &mut K, piece: &[u8]) -> Result<(), Failed>
     ensures ok { OnOk result (Appends (K.written out.old) (K.written out.new) piece.now) }

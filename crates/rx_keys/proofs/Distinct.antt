@@ -87,7 +87,7 @@ not_true : (b : Bool) → (b ≡ true → ⊥) → b ≡ false
 not_true true h = absurd (h refl)
 not_true false h = refl
 
--- where only one element passes, it is the one that `position` finds
+-- if only one element passes, it is the one that `position` finds
 pub position_of_one : {X : Type 0} (f : X → Bool) (xs : List X) (p : ℕ) (d : X) → slice_get xs p ≡ Some d → f d ≡ true
     → ((k : ℕ) (x : X) → slice_get xs k ≡ Some x → f x ≡ true → k ≡ p) → position f xs ≡ Some p
 position_of_one {X} f xs p d here pass only =

@@ -83,7 +83,7 @@ found_in-None es (at_index i) h j e =
     ap (option_and_then (λ (y : Identity). cond (same_identity y (at_index i)) (Some i) None)) (sym here) ∙ h in
     none-some i (sym (sym (ap (λ b. cond b (Some i) None) (same_identity_self (at_index i))) ∙ now))
 
--- where no child passes, none is found
+-- if no child passes, none is found
 none_passes : {X : Type 0} (f : X → Bool) (xs : List X) (d : X) → ((k : ℕ) (x : X) → slice_get xs k ≡ Some x → f x ≡ true → ⊥) → position f xs ≡ None
 none_passes {X} f xs d h = go (position f xs) refl
   where
@@ -106,7 +106,7 @@ child_at (y ∷ ids) [] k x e h f = absurd (none-some e f)
 child_at (y ∷ ids) (z ∷ es) zero x e h f = let s : y ≡ x = same_Some _ _ h in let t : z ≡ e = same_Some _ _ f in rw (s, t) refl
 child_at (y ∷ ids) (z ∷ es) (suc k) x e h f = child_at ids es k x e h f
 
--- a child that is found is that old one where their kinds agree, else none
+-- a child that is found is that old one if their kinds agree, else none
 pub match_at : (old : List Element) (c : Child) (p : ℕ) (e : Element) (b : Bool) → found_in (identities old) c.identity ≡ Some p
     → p < length old → e ≡ get_or old p e → b ≡ same_kind (kind_of c.element) (kind_of e)
     → cond b (Some p) None ≡ position (is_same_child c) (identified old)
@@ -129,7 +129,7 @@ match_at old c p e b h lt is kinds = go b kinds
         let yes : same_kind (kind_of c.element) (kind_of e) ≡ true = sym (ap (λ (y : Child). same_kind (kind_of c.element) (kind_of y.element)) same) ∙ parts.1 in
         absurd (cc)))
 
--- a value that is there where a test passes
+-- a value that is there if a test passes
 pub then_some-cond : (b : Bool) (p : ℕ) → then_some b p ≡ cond b (Some p) None
 then_some-cond true p = refl
 then_some-cond false p = refl

@@ -33,7 +33,7 @@ pub moves_below-end : (places : List (Option ℕ)) (k : ℕ) (all moved : List B
 moves_below-end places k all moved behind h e =
     sym (e ∙ ap (λ (ps : List (Option ℕ)). moved ++ moves_below behind ps) (drop-end places k h) ∙ append-nil moved)
 
--- a child moved where its old place lies before the greatest earlier one
+-- a child moved if its old place lies before the greatest earlier one
 moves_after-below : (earlier : List ℕ) (behind : ℕ) (places : List (Option ℕ)) → ((q : ℕ) → list_any (nat_lt q) earlier ≡ nat_lt (q + 1) behind)
     → moves_after earlier places ≡ moves_below behind places
 moves_after-below earlier behind [] h = refl

@@ -51,7 +51,7 @@ found_at old x p h = go (found_in (identities old) x) refl
     go None e = absurd (found_in-None old x e p h)
     go (Some q) e = ap Some (identities_distinct old q p x (found_in-Some old x q e) h)
 
--- a new child is the old one at its place where their kinds agree, else none
+-- a new child is the old one at its place if their kinds agree, else none
 pub beside_at : (old new : List Element) (k : ℕ) (e o : Element) (b : Bool) → map key_of old ≡ map key_of new → k < length new → e ≡ get_or new k e → o ≡ get_or old k o
     → b ≡ same_kind (kind_of e) (kind_of o) → cond b (Some k) None ≡ place_of old (record { identity = identity_after (take k new) (key_of e); element = e })
 beside_at old new k e o b keys lt is was kinds =

@@ -22,11 +22,11 @@ pub(crate) fn have_same_keys(old: &[Element], new: &[Element]) -> bool
     true
 }
 
-/// Where each new child was, if it is an old one, where the lists have the same keys.
+/// Where each new child was, if it is an old one, for lists with the same keys.
 ///
 /// # Errors
 ///
-/// Want of memory alone.
+/// Only if out of memory.
 pub(crate) fn places_beside(
     alloc: Global,
     old: &[Element],

@@ -19,7 +19,7 @@ pub enum Identity {
     Index(u32),
 }
 
-// The identity of the next child of a list, where the keys of its earlier siblings are counted. Its own key is counted then.
+// The identity of the next child of a list, once the keys of its earlier siblings are counted. Its own key is counted then.
 pub(crate) fn next_identity(
     counts: &mut HashMap<i64, u32>,
     place: usize,
@@ -44,7 +44,7 @@ pub(crate) fn next_identity(
 ///
 /// # Errors
 ///
-/// Want of memory alone.
+/// Only if out of memory.
 pub fn identities(alloc: Global, children: &[Element]) -> Result<Vec<Identity>, AllocError>
     requires { length children.now < 2 ^ 32 }
     ensures { IfOk result (λ ids. map identity_seen ids.items ≡ identities children.now) }

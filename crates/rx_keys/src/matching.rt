@@ -101,7 +101,7 @@ fn removed_of(
     Ok(removed)
 }
 
-// For each new child the place of the old child that it is, if it is one: where the keys are the same, without a table.
+// For each new child the place of the old child that it is, if it is one: without a table if the keys are the same.
 fn places_of(
     alloc: Global,
     old: &[Element],
@@ -123,7 +123,7 @@ fn places_of(
 ///
 /// # Errors
 ///
-/// Want of memory alone.
+/// Only if out of memory.
 pub fn match_children(
     alloc: Global,
     old: &[Element],

@@ -42,7 +42,7 @@ is_one_max x y hx hy = grind (arith, nat_tests)
 is_one_min : (x y : ℕ) → x < 2 → y < 2 → nat_eq (min x (1 - y)) 1 ≡ (nat_eq x 1 && not (nat_eq y 1))
 is_one_min x y hx hy = grind (arith, nat_tests)
 
--- a lane is in the set of a number where its bit is set
+-- a lane is in the set of a number if its bit is set
 pub has-lanes_of : (bits : ℕ) (l : Lane) → has (lanes_of bits) l ≡ nat_eq (bit_at bits (priority l)) 1
 has-lanes_of bits l = has-lanes_where (λ m. nat_eq (bit_at bits (priority m)) 1) l
 
@@ -182,7 +182,7 @@ lanes_of-transitions bits = lanes_agree _ _ (λ l.
     ∙ ap (λ x. x && nat_eq (bit_at bits (priority l)) 1) (transition_bits l)
     ∙ ap (λ y. is_transition l && y) (sym (has-lanes_of bits l)))
 
--- a set is empty where no bit is set
+-- a set is empty if no bit is set
 pub is_empty-lanes_of : (bits : ℕ) → bits < 2 ^ 20 → nat_eq bits 0 ≡ is_empty (lanes_of bits)
 is_empty-lanes_of bits h = go (lanes_of bits) refl
   where

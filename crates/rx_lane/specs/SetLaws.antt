@@ -142,7 +142,7 @@ pub highest-lanes_where : (p : Lane → Bool) → highest (lanes_where p) ≡ fi
 unfolding lanes_where
 highest-lanes_where p = highest-filter p all_lanes ∙ sym (find-agree (has (lanes_where p)) p all_lanes (has-lanes_where p))
 
--- two sets meet where what both have isn't empty
+-- two sets meet if what both have isn't empty
 pub meets-lanes_where : (p : Lane → Bool) (b : Lanes) → meets (lanes_where p) b ≡ not (is_empty (intersection (lanes_where p) b))
 unfolding lanes_where
 meets-lanes_where p b =
@@ -154,7 +154,7 @@ meets-lanes_where p b =
     not-not true = refl
     not-not false = refl
 
--- a set is within another where nothing is left of it without the other
+-- a set is within another if nothing is left of it without the other
 pub within-lanes_where : (p : Lane → Bool) (b : Lanes) → within (lanes_where p) b ≡ is_empty (minus (lanes_where p) b)
 unfolding lanes_where
 within-lanes_where p b =

@@ -69,7 +69,7 @@ impl Lane {
         Lane::T1.priority() <= place && place <= Lane::T16.priority()
     }
 
-    /// True where this lane comes strictly before the other.
+    /// True if this lane comes strictly before the other.
     pub fn is_higher(self, other: Lane) -> bool
         ensures { result ≡ is_higher self other }
     {

@@ -55,7 +55,7 @@ impl Lanes {
         }
     }
 
-    /// True where the lane is in the set.
+    /// True if the lane is in the set.
     pub fn has(self, lane: Lane) -> bool
         ensures { result ≡ has self lane }
     {
@@ -89,28 +89,28 @@ impl Lanes {
         }
     }
 
-    /// True where no lane is in the set.
+    /// True if no lane is in the set.
     pub fn is_none(self) -> bool
         ensures { result ≡ is_empty self }
     {
         self.bits == 0
     }
 
-    /// True where some lane is in both sets.
+    /// True if some lane is in both sets.
     pub fn meets(self, other: Lanes) -> bool
         ensures { result ≡ meets self other }
     {
         self.bits & other.bits != 0
     }
 
-    /// True where each lane of this set is in the other.
+    /// True if each lane of this set is in the other.
     pub fn within(self, other: Lanes) -> bool
         ensures { result ≡ within self other }
     {
         self.bits & !other.bits == 0
     }
 
-    /// True where each lane is one of `T1` to `T16`.
+    /// True if each lane is one of `T1` to `T16`.
     pub fn only_transitions(self) -> bool
         ensures { result ≡ only_transitions self }
     {

@@ -119,7 +119,7 @@ sign_longest sign.Equals after = omega (arith, sign_nonempty (cond (next_both 61
 sign_longest sign.Not after = omega (arith, sign_nonempty (cond (next_both 61 after) sign.NotSame sign.Not))
 sign_longest _ after = omega arith
 
--- where a sign begins something else, it has one byte
+-- if a sign begins something else, it has one byte
 pub sign_or_one : (s : Sign) (after : List ℕ) → (front_class (sign_text s ++ after) ≡ 4) ⊎ (length (sign_text s) ≡ 1)
 unfolding front_class
 sign_or_one sign.Slash after = inr refl

@@ -94,7 +94,7 @@ word_run small End h = absurd h
 pub no_empty_word : {greatest : ℕ} → greatest < 2 ^ 64 → (w : List ℕ) → length w ≡ 0 → (k : Kind) → w ≡ spelling k → IsWordKind greatest k → ⊥
 no_empty_word small w empty k written kind = omega (arith, ap length written, (word_run small k kind).1)
 
--- where no piece of one form stands first, none does
+-- if no piece of one form stands first, none does
 pub no_piece : {greatest : ℕ} → greatest < 2 ^ 64 → (text : List ℕ) → ((g : Gap) (rest : List ℕ) → text ≡ gap_text g ++ rest → IsGap g rest → ⊥) → ((s rest : List ℕ) → text ≡ (34 ∷ (s ++ 34 ∷ [])) ++ rest → IsRun is_inside s → ⊥) → ((s : Sign) (rest : List ℕ) → text ≡ sign_text s ++ rest → SignEnds s rest → ⊥) → (w after : List ℕ) → text ≡ w ++ after → IsRun is_word_byte w → IsRunEnd is_word_byte after → ((k : Kind) → w ≡ spelling k → IsWordKind greatest k → ⊥) → IsUncovered greatest text
 no_piece {greatest = greatest} small text gaps strings signs w after e run end kinds p rest stands = by_piece p stands
   where

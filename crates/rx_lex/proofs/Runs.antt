@@ -24,7 +24,7 @@ pub run_rest : (p : ℕ → Bool) (bs : List ℕ) → IsRunEnd p (drop (prefix_l
 run_rest p [] = tt
 run_rest p (b ∷ bs) = run_rest_case p b bs (prefix_len p bs) (run_rest p bs) (p b) refl
 
--- a run is as long as it can be where its end does not pass
+-- a run is as long as it can be if its end does not pass
 pub run_unique : (p : ℕ → Bool) (w v rest after : List ℕ) → IsRun p w → IsRunEnd p rest → IsRun p v → IsRunEnd p after → w ++ rest ≡ v ++ after → (w ≡ v) × (rest ≡ after)
 run_unique p [] [] rest after rw re rv ra e = (refl, e)
 run_unique p [] (c ∷ v) [] after rw re rv ra e = cc

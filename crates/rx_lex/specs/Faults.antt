@@ -4,7 +4,7 @@ use Rattle.rx_lex.specs.declared.error.LexError.{LexError}
 use Rattle.rx_lex.specs.declared.error.LexError.TheVariants.{Lex, OutOfMemory}
 use Rattle.rx_lex.specs.Tokens.{IsFirstUncoveredBelow, greatest_number}
 
--- a refusal names the first place that no token covers; want of memory says nothing of the text
+-- a refusal names the first place that no token covers; `OutOfMemory` says nothing of the text
 abbrev pub IsFaultBelow : ℕ → LexError → List ℕ → Type 0
 IsFaultBelow greatest (Lex at) text = IsFirstUncoveredBelow greatest at text
 IsFaultBelow greatest OutOfMemory text = Unit {0}

@@ -33,7 +33,7 @@ seen bs (shape.Word k) = Word k
 seen bs (shape.Mark s) = Mark s
 seen bs shape.End = End
 
--- the same, where there is one
+-- the same, if there is one
 abbrev pub seen_if : List ℕ → Option Shape → Option Kind
 seen_if bs None = None
 seen_if bs (Some s) = Some (seen bs s)

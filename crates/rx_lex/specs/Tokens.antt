@@ -199,7 +199,7 @@ abbrev pub tokens_from : ℕ → List Piece → List Token
 tokens_from at [] = []
 tokens_from at (p ∷ ps) = token_at at (kind_of p) ++ tokens_from (at + length (piece_text p)) ps
 
--- these tokens cover the text, where numbers go up to the greatest
+-- these tokens cover the text, if numbers go up to the greatest
 abbrev pub AreTokensBelow : ℕ → List Token → List ℕ → Type 0
 AreTokensBelow greatest ts text = (ps : List Piece) × CoversTo greatest ps text [] × (ts ≡ tokens_from 0 ps)
 

@@ -12,7 +12,7 @@ use std::fmt;
 pub enum LexError {
     /// No token covers the byte at this place, and it is the first such place.
     Lex { at: usize },
-    /// Want of memory.
+    /// Out of memory.
     OutOfMemory,
 }
 

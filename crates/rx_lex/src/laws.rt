@@ -15,7 +15,7 @@ pub fn uncovered_place_is_one()
     ensures apart { (greatest at : ℕ) (text : List ℕ) (ts : List Token) → greatest < 2 ^ 64 → IsFirstUncoveredBelow greatest at text → AreTokensBelow greatest ts text → ⊥ }
 {}
 
-/// The longest piece is taken: where one stands first, no other that the text begins with, and that is one by itself, is longer.
+/// The longest piece is taken: if one stands first, no other that the text begins with, and that is one by itself, is longer.
 pub fn longest_piece_is_taken()
     ensures { (greatest : ℕ) (p q : Piece) (text rest after : List ℕ) → greatest < 2 ^ 64 → StandsFirst greatest p text rest → IsPiece greatest q [] → text ≡ piece_text q ++ after → length (piece_text q) ≤ length (piece_text p) }
 {}

@@ -18,7 +18,7 @@ use std::alloc::Global;
 /// The greatest number that a program writes.
 const GREATEST_NUMBER: u64 = 2_147_483_648;
 
-/// What stands at the front of a text: a token, or a gap where there is none, and the rest.
+/// What stands at the front of a text: a token, or a gap if there is none, and the rest.
 fn front(text: &str, greatest: u64) -> Result<(Option<Shape>, &str), Fault>
     requires { greatest < 2 ^ 32 }
     ensures found { IfOk result (λ x. (p : Piece) × StandsFirst greatest p text.now x.1.now × (kind_of p ≡ seen_if text.now x.0)) }
@@ -59,7 +59,7 @@ fn push_found(spans: &mut Vec<Span>, found: Option<Shape>, place: usize) -> Resu
     Ok(())
 }
 
-/// The tokens of a text where numbers go up to the greatest, and an end mark at its length.
+/// The tokens of a text if numbers go up to the greatest, and an end mark at its length.
 fn lex_below(alloc: Global, text: &str, greatest: u64) -> Result<Tokens<'_>, LexError>
     requires { greatest < 2 ^ 32 }
     ensures tokens { IfOk result (λ v. (ts : List Token) × AreTokensBelow greatest ts text.now
@@ -91,13 +91,13 @@ fn lex_below(alloc: Global, text: &str, greatest: u64) -> Result<Tokens<'_>, Lex
 ///
 /// # Errors
 ///
-/// `Lex` exactly where no tokens cover the text, with the first place that none covers, and want of memory, which a text
-/// of 4 GiB or more always has.
+/// `Lex` exactly if no tokens cover the text, with the first place that none covers, and `OutOfMemory` if out of memory, which is
+/// always so for a text of 4 GiB or more.
 pub fn lex(alloc: Global, text: &str) -> Result<Tokens<'_>, LexError>
     // The tokens cover the text, and the last one is the only end mark.
     ensures tokens { IfOk result (λ v. (ts : List Token) × AreTokensOf ts text.now
         × (tokens_of v ≡ ts ++ end_mark (length text.now) ∷ []) × All (λ k. k ≢ End) (kinds ts)) }
-    // No others do, and where some do they are answered, unless memory runs out.
+    // No others do, and if some do they are answered, unless memory runs out.
     ensures only { (ts : List Token) → AreTokensOf ts text.now → MatchResult result
         (λ v. tokens_of v ≡ ts ++ end_mark (length text.now) ∷ []) (λ e. e ≡ LexError.OutOfMemory) }
     // The place is the first that none covers.

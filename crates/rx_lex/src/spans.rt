@@ -61,7 +61,7 @@ fn bytes_at(bytes: &[u8], place: usize, len: usize) -> &[u8]
     &behind[..len]
 }
 
-/// The text in these bytes, and nothing where they are not UTF-8.
+/// The text in these bytes, and nothing if they are not UTF-8.
 fn text_in(bytes: &[u8]) -> &str
     ensures { result.now ≡ as_text bytes.now }
 {

@@ -39,7 +39,7 @@ impl Keyword {
     }
 }
 
-/// A sign: of one byte, or a longer one where that stands there.
+/// A sign: of one byte, or a longer one if that stands there.
 #[derive(Clone, Copy, Debug, PartialEq, Eq)]
 pub enum Sign {
     OpenParen,

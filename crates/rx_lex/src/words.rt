@@ -19,7 +19,7 @@ pub(crate) enum Fault {
     OutOfMemory,
 }
 
-/// A length or a place in 4 bytes. A text that is too long for that counts as want of memory.
+/// A length or a place in 4 bytes. A text that is too long for that counts as out of memory.
 pub(crate) fn brief(n: usize) -> Result<u32, Fault>
     ensures ok { IfOk result (λ m. m ≡ n) }
     ensures err { IfErr result (λ e. e ≡ Fault.OutOfMemory) }

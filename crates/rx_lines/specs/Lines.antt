@@ -45,7 +45,7 @@ pub data Line : Type 0 where
   tree_head : Line
   -- a host on its level
   tree_host : (level : ℕ) → Host → Line
-  -- the end, where no lane is pending and no boundary hidden
+  -- the end, if no lane is pending and no boundary hidden
   end_quiet : Line
   -- the end, with the lanes that are pending and the number of hidden boundaries
   end_pending : Lanes → (hidden : ℕ) → Line
@@ -89,11 +89,11 @@ abbrev pub lanes_text : Lanes → Text
 lanes_text [] = codes "none"
 lanes_text (l ∷ ls) = joined (codes "+") (map lane_name (l ∷ ls))
 
--- a part of a path; the number is left out where it is 0
+-- a part of a path; the number is left out if it is 0
 abbrev pub part_text : Name × ℕ → Text
 part_text p = p.0 ++ (if nat_eq p.1 0 then [] else codes "@" ++ decimal p.1)
 
--- counts, where they are asked for
+-- counts, if they are asked for
 abbrev pub counts_text : (shown : Bool) → Counts → Text
 counts_text true c = codes " units " ++ decimal c.units ++ codes " bodies " ++ decimal c.bodies
 counts_text false c = []
@@ -178,7 +178,7 @@ line_text counts (end_pending lanes n) = codes "end pending " ++ lanes_text lane
 abbrev pub last_line : (pending : Lanes) → (hidden : ℕ) → Line
 last_line lanes n = if is_empty lanes && nat_eq n 0 then end_quiet else end_pending lanes n
 
--- a line is printed: operations where they are asked for, each other line always
+-- a line is printed: operations if they are asked for, each other line always
 abbrev pub is_printed : (ops : Bool) → Line → Bool
 is_printed ops (committed k lanes c tree) = true
 is_printed ops (operated o) = ops

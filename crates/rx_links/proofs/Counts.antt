@@ -148,7 +148,7 @@ module _ {F : Type 0} where
       let e = count-rest (ids c) a.slots (ids-once c t) (λ i m. live i (ids-held c i m)) in
       omega (arith, e, ids-length c)
 
-  -- where the live nodes are those of the two trees, they are as many
+  -- if the live nodes are those of the two trees, they are as many
   pub count-both : (a : Nodes F) (c : Shape F) (w : Draft F) → IsTree c → IsMadeOnce w → ((i : ℕ) → Holds c i → Makes w i → ⊥)
       → ((i : ℕ) → Holds c i → IsSome (at a i)) → ((i : ℕ) → Makes w i → IsSome (at a i)) → ((i : ℕ) → IsSome (at a i) → Holds c i ⊎ Makes w i)
       → slab_len a ≡ size c + made_size w

@@ -7,7 +7,7 @@ use Rattle.rx_links.specs.Drafts.{Draft, taken, made, entry, Makes, IsFor, graft
 use Rattle.rx_links.specs.Stands.{Drafts}
 
 module _ {F : Type 0} where
-  -- a draft reads the same where no made fiber changed
+  -- a draft reads the same if no made fiber changed
   pub Drafts-frame : (old new : Nodes F) (p : Option ℕ) (w : Draft F) → ((i : ℕ) → Makes w i → at new i ≡ at old i) → Drafts old p w → Drafts new p w
   Drafts-frame old new p (taken s) same d = tt
   Drafts-frame old new p (made id v o ks rs) same d = (

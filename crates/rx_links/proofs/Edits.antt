@@ -112,7 +112,7 @@ module _ {F : Type 0} where
       )
       refl
 
-  -- somewhere in the tree the old fiber has these children: none where there is no old fiber
+  -- somewhere in the tree the old fiber has these children: none if there is no old fiber
   abbrev pub IsOldAny : Shape F → Option ℕ → Shape F → Type 0
   IsOldAny c None k = k ≡ none
   IsOldAny c (Some j) k = HasKids c j k
@@ -176,7 +176,7 @@ module _ {F : Type 0} where
         by_test true e r = h o ks (inl (sym (eqb-true id p e), refl, refl)) k
         by_test false e r = r
 
-    -- what is new is made, where there is a place for it
+    -- what is new is made, if there is a place for it
     pub news-for : (w : Draft F) (x : ℕ) (y : Option ℕ) → ((ks : Draft F) → IsFor (f ks) x y) → Makes w p → IsFor (rekidded p f w) x y
     news-for (taken s) x y h m = absurd m
     news-for (made id v o ks rs) x y h (inl e) = inr (inl (rw (eq-eqb id p (sym e)) (h ks)))
@@ -252,7 +252,7 @@ module _ {F : Type 0} where
                   two,
                 )
 
-    -- the changed draft follows the current tree, where the changed children follow the old ones
+    -- the changed draft follows the current tree, if the changed children follow the old ones
     pub follows-rekidded : (c : Shape F) (w : Draft F)
         → ((o : Option ℕ) (ks : Draft F) (k : Shape F) → KidsFor w p o ks → IsOldAny c o k → (ks ≡ taken k) ⊎ Follows k ks → (f ks ≡ taken k) ⊎ Follows k (f ks))
         → Follows c w → Follows c (rekidded p f w)

@@ -161,7 +161,7 @@ module _ {F : Type 0} where
         drafts-mapped old new p rs (λ i q f. same i q (inr (inr f))) d.2,
       )
 
-      -- where the values of current fibers are changed by g, and those of made ones by h
+      -- if the values of current fibers are changed by g, and those of made ones by h
       pub mapped-shows : (t : Roots F) (trees : Trees F) (new : Nodes F) (k : ℕ → F → F) → Shows t trees → Revalues t.nodes new k
           → ((i : ℕ) → Holds trees.current i → option_map (revalued (k i)) (at t.nodes i) ≡ option_map (revalued (g i)) (at t.nodes i))
           → ((i : ℕ) (o : Option ℕ) → IsFor trees.draft i o → option_map (revalued (k i)) (at t.nodes i) ≡ option_map (revalued (h i o)) (at t.nodes i))

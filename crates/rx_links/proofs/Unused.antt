@@ -97,7 +97,7 @@ module _ {F : Type 0} where
   not-unused (made id v o ks rs) j n =
       (λ e. n id (inl (refl, e)), not-unused ks j (λ i m. n i (inr (inl m))), not-unused rs j (λ i m. n i (inr (inr m))))
 
-  -- where none of the children of a made fiber is for a child of its old one, no fiber is
+  -- if none of the children of a made fiber is for a child of its old one, no fiber is
   pub kid-unused : (t : Trees F) (p j : ℕ) → Fits t → HasMadeKids (λ ks. IsTopUnused ks j) t.draft p → IsTop (old_kids t p) j → IsUnused t.draft j
   kid-unused t p j f free_ top_ = not-unused t.draft j (λ i m. clash i m)
     where
@@ -128,6 +128,6 @@ module _ {F : Type 0} where
   bare-free (made id v o ks rs) p j (inr (inl h)) = inr (inl (bare-free ks p j h))
   bare-free (made id v o ks rs) p j (inr (inr h)) = inr (inr (bare-free rs p j h))
 
-  -- where a made fiber has no children yet, none is made for a child of its old one
+  -- if a made fiber has no children yet, none is made for a child of its old one
   pub bare-unused : (t : Trees F) (p j : ℕ) → Fits t → IsBare t.draft p → IsTop (old_kids t p) j → IsUnused t.draft j
   bare-unused t p j f b top_ = kid-unused t p j f (bare-free t.draft p j b) top_

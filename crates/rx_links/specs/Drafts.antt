@@ -141,7 +141,7 @@ module _ {F : Type 0} where
   shape_or_none None = none
   shape_or_none (Some s) = s
 
-  -- the same: none where the tree has no such fiber
+  -- the same: none if the tree has no such fiber
   abbrev pub kids_of : Shape F → ℕ → Shape F
   kids_of c i = shape_or_none (kids_at c i)
 
@@ -154,7 +154,7 @@ module _ {F : Type 0} where
   abbrev pub old_kids : Trees F → ℕ → Shape F
   old_kids t i = kids_under t.current (old_of t.draft i)
 
-  -- what an old fiber of the list has as children: nothing where there is no old fiber
+  -- what an old fiber of the list has as children: nothing if there is no old fiber
   abbrev pub IsOldKids : Shape F → Option ℕ → Shape F → Type 0
   IsOldKids c None k = k ≡ none
   IsOldKids c (Some j) k = HasTop c j k

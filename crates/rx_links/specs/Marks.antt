@@ -19,7 +19,7 @@ module _ {F : Type 0} where
   mapped_draft g h (taken s) = taken (mapped g s)
   mapped_draft g h (made id v o ks rs) = made id (h id o v) o (mapped_draft g h ks) (mapped_draft g h rs)
 
-  -- a fiber of a list with those above it, the nearest first, where these are above the list
+  -- a fiber of a list with those above it, the nearest first, if these are above the list
   abbrev pub way_in : List ℕ → Shape F → ℕ → List ℕ
   way_in above none i = []
   way_in above (fiber id v ks rs) i = if eqb id i then id ∷ above else first_way (way_in (id ∷ above) ks i) (way_in above rs i)
@@ -28,11 +28,11 @@ module _ {F : Type 0} where
   abbrev pub way_up : Shape F → ℕ → List ℕ
   way_up c i = way_in [] c i
 
-  -- the value changed by m, where the test passes for the id
+  -- the value changed by m, if the test passes for the id
   abbrev pub changed_where : (ℕ → Bool) → (F → F) → ℕ → F → F
   changed_where p m i v = if p i then m v else v
 
-  -- the same of a made fiber, where the test passes for the current one that it is for
+  -- the same of a made fiber, if the test passes for the current one that it is for
   abbrev pub changed_for : (ℕ → Bool) → (F → F) → ℕ → Option ℕ → F → F
   changed_for p m i None v = v
   changed_for p m i (Some j) v = changed_where p m j v

@@ -40,7 +40,7 @@ module _ {F : Type 0} where
     pub below : (i j : ℕ) → Holds c i → Holds (kids_of c i) j → Holds c j
     pub behind : (i j : ℕ) → Holds c i → Holds (rest_of c i) j → Holds c j
 
-  -- the parent of a fiber, where p is the parent of the list
+  -- the parent of a fiber, if p is the parent of the list
   abbrev pub parent_in : Option ℕ → Shape F → ℕ → Option ℕ
   parent_in p none i = None
   parent_in p (fiber id v ks rs) i = if eqb id i then p else or_else (parent_in (Some id) ks i) (parent_in p rs i)
@@ -84,7 +84,7 @@ module _ {F : Type 0} where
   abbrev pub made_rest_of : Draft F → ℕ → Draft F
   made_rest_of w i = made_rest_in (made_list_at w i)
 
-  -- the parent of a made fiber, where p is the parent of the list
+  -- the parent of a made fiber, if p is the parent of the list
   abbrev pub made_parent_in : Option ℕ → Draft F → ℕ → Option ℕ
   made_parent_in p (taken s) i = None
   made_parent_in p (made id v o ks rs) i = if eqb id i then p else or_else (made_parent_in (Some id) ks i) (made_parent_in p rs i)
@@ -97,7 +97,7 @@ module _ {F : Type 0} where
   abbrev pub IsIn : Trees F → ℕ → Type 0
   IsIn t i = Holds t.current i ⊎ Makes t.draft i
 
-  -- the current list beside which the children of a made fiber are made, and where there is none the root
+  -- the current list beside which the children of a made fiber are made, and if there is none, the root
   abbrev pub list_under : Trees F → Option ℕ → Shape F
   list_under t None = t.current
   list_under t (Some p) = old_kids t p

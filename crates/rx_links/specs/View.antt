@@ -11,7 +11,7 @@ use Rattle.rx_links.specs.Drafts.{Draft, taken, made, Trees}
 use Rattle.rx_links.specs.Stands.{Roots, Shows}
 
 module _ {F : Type 0} where
-  -- a made fiber, where it has a node, with the lists from its links
+  -- a made fiber, if it has a node, with the lists from its links
   abbrev pub drafted : ℕ → Option (Node F) → (Option ℕ → Draft F) → Draft F
   drafted id None f = taken none
   drafted id (Some n) f = made id n.value n.alternate (f n.child) (f n.sibling)

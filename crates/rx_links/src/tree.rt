@@ -18,8 +18,8 @@ use std::marker::Model;
 /// The value of a fiber is whatever a type holds: nothing here looks into it. Contracts see two trees of plain data, in which
 /// a made fiber stands with the current one that it was made for, and what was taken over is the current list itself.
 ///
-/// Only `swap` and the marks touch the current tree. Only `start`, `child`, `child_behind` and `ids` take memory; for want of
-/// it both trees are as they were.
+/// Only `swap` and the marks touch the current tree. Only `start`, `child`, `child_behind` and `ids` take memory; if it
+/// runs out, both trees are as they were.
 #[derive(Drop)]
 pub struct FiberTree<F> {
     nodes: Arena<F>,
@@ -119,7 +119,7 @@ impl<F> FiberTree<F> {
         Ok(id)
     }
 
-    /// Takes over the children that the alternate of a made fiber has, as they stand, where it has none of its own: React's
+    /// Takes over the children that the alternate of a made fiber has, as they stand, if it has none of its own: React's
     /// bailout. They stay fibers of the current tree and are in both.
     pub fn take_over(&mut self, id: FiberId)
         requires { IsBare self.old.draft id }
@@ -215,8 +215,8 @@ impl<F> FiberTree<F> {
         mark_one(&mut self.nodes, id, by);
     }
 
-    /// What always holds of the two trees. Of the children that the alternate of a made fiber has, one is unused where none of the
-    /// made children is for it; so all are where it has none yet.
+    /// What always holds of the two trees. Of the children that the alternate of a made fiber has, one is unused if none of the
+    /// made children is for it; so all are if it has none yet.
     pub fn facts(&self)
         ensures fits { Fits self.now }
         ensures linked { IsLinked self.now.current }
@@ -274,7 +274,7 @@ impl<F> FiberTree<F> {
         self.nodes.sibling_of(id)
     }
 
-    /// The parent of a fiber. Of a current one it is the current parent, also where the fiber was taken over.
+    /// The parent of a fiber. Of a current one it is the current parent, even if the fiber was taken over.
     pub fn parent(&self, id: FiberId) -> Option<FiberId>
         requires { IsIn self.now id }
         ensures current { Holds self.now.current id → result ≡ parent_of self.now.current id }

@@ -238,7 +238,7 @@ module _ {F : Type 0} where
     unfolding own
     own-nothing sh i m = rw sh at m
 
-    -- below the children the links are exact: by the relinking where they are own, and else as before
+    -- below the children the links are exact: by the relinking if they are own, and else as before
     kids-below : (c : Nodes F) → KidsReturn c own → (is_shared a id ≡ true → (i : ℕ) → IsBelow ad.kids i → at c i ≡ at a i) → KidsReturn c ad.kids
     unfolding own
     kids-below c k same = by_test (is_shared a id) refl k

@@ -33,7 +33,7 @@ leads_or_not None i = inr (λ e. cc)
 leads_or_not (Some j) i = elim (same_or_not j i) [ inl e ↦ inl (ap Some e) | inr n ↦ inr (λ e. n (let q : j ≡ i = cc in q)) ]
 
 module _ {F : Type 0} where
-  -- a list reads the same where no node of it changed
+  -- a list reads the same if no node of it changed
   pub Reads-frame : (old new : Nodes F) (s : Shape F) → ((i : ℕ) → Holds s i → core_at new i ≡ core_at old i) → Reads old s → Reads new s
   Reads-frame old new none same r = tt
   Reads-frame old new (fiber id v ks rs) same r = (

@@ -44,7 +44,7 @@ module _ {F : Type 0} where
   skipped : (x : Bool) (m : F → F) (s : Option (Node F)) → x ≡ false → option_map (revalued (λ v. cond x (m v) v)) s ≡ s
   skipped x m s e = rw e (same-value s)
 
-  -- one test after another, where both do not pass
+  -- one test after another, if both do not pass
   twice : (x y : Bool) (m : F → F) (s : Option (Node F)) → (x ≡ true → y ≡ true → ⊥)
       → option_map (revalued (λ v. cond y (m v) v)) (option_map (revalued (λ v. cond x (m v) v)) s) ≡ option_map (revalued (λ v. cond (x || y) (m v) v)) s
   twice true true m s n = absurd (n refl refl)

@@ -1,4 +1,4 @@
--- How the nodes change where a fiber is made.
+-- How the nodes change when a fiber is made.
 use Rattle.std.specs.Prelude.{◌≡◌, ◌≢◌, ℕ, ◌+◌, Option, Some, None, IfSome, option_map}
 use Rattle.slab.specs.Slab.{slab_len}
 use Rattle.rx_arena.specs.Nodes.{at, with_child, with_sibling, with_alternate}

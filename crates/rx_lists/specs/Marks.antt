@@ -1,4 +1,4 @@
--- Values that change where a test says so, and in alternates.
+-- Values that change in the nodes that a test tells, and in their alternates.
 use Rattle.std.specs.Prelude.{◌≡◌, ◌≢◌, ℕ, ◌||◌, Bool, false, Option, Some, None, IfSome, if◌then◌else◌, option_map}
 use Rattle.slab.specs.Slab.{slab_len}
 use Rattle.rx_arena.specs.declared.arena.Node.{Node}
@@ -16,7 +16,7 @@ module _ {F : Type 0} where
   abbrev pub revalued : (F → F) → Node F → Node F
   revalued g n = record n { value = g n.value }
 
-  -- the value changed by m, where the test passes for the id or for its alternate
+  -- the value changed by m, if the test passes for the id or for its alternate
   abbrev pub touched : Nodes F → (ℕ → Bool) → (F → F) → ℕ → F → F
   touched a p m i v = if p i || at_link p (alternate_at a i) then m v else v
 

@@ -53,7 +53,7 @@ module _ {F : Type 0} where
   abbrev pub node : F → (child sibling up alternate : Option ℕ) → Node F
   node v c s u o = record { value = v; child = c; sibling = s; up = u; alternate = o }
 
-  -- a fiber, where it has a node, with the lists from its links
+  -- a fiber, if it has a node, with the lists from its links
   abbrev pub spelled : ℕ → Option (Core F) → (Option ℕ → Shape F) → Shape F
   spelled id None f = none
   spelled id (Some (core v c s)) f = fiber id v (f c) (f s)

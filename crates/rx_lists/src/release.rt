@@ -18,7 +18,7 @@ fn same(a: &Option<FiberId>, b: &Option<FiberId>) -> bool
     }
 }
 
-/// The first child of a node, where its children are not also those of its alternate. That both have the same children is how
+/// The first child of a node, if its children are not also those of its alternate. That both have the same children is how
 /// React knows that a render took them over (`bailoutOnAlreadyFinishedWork`).
 pub fn own_children<F>(nodes: &Arena<F>, id: FiberId) -> Option<FiberId>
     requires { IsLive nodes.now id }

@@ -32,7 +32,7 @@ impl Phase {
         }
     }
 
-    // Layout effects are live where they are visible, passive effects everywhere.
+    // Layout effects are live if they are visible, passive effects always.
     pub(crate) fn is_live(self, visible: bool) -> bool
         ensures { result ≡ is_live (phase_seen self) visible }
     {

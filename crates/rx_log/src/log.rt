@@ -23,7 +23,7 @@ pub struct Passive {
 ///
 /// # Errors
 ///
-/// Want of memory alone.
+/// Only if out of memory.
 pub fn layout_log(alloc: Global, compared: &Compared) -> Result<Vec<LogLine>, AllocError>
     ensures { IfOk result (λ lines. lines.items ≡ layout_log compared.now) }
 {
@@ -37,7 +37,7 @@ pub fn layout_log(alloc: Global, compared: &Compared) -> Result<Vec<LogLine>, Al
 ///
 /// # Errors
 ///
-/// Want of memory alone.
+/// Only if out of memory.
 pub fn passive_effects(alloc: Global, compared: &Compared) -> Result<Passive, AllocError>
     ensures { IfOk result (λ p. passive_seen p ≡ passive_of compared.now) }
 {

@@ -91,7 +91,7 @@ pub(crate) fn add_gone(
     Ok(())
 }
 
-// Goes on with what a boundary's old children destroy where it hides them: their layout effects, if it was shown.
+// Goes on with what a boundary's old children destroy when it hides them: their layout effects, if it was shown.
 pub(crate) fn add_hidden(
     alloc: Global,
     lines: &mut Vec<LogLine>,

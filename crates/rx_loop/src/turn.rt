@@ -14,12 +14,12 @@ pub enum Driven {
     Yielded { used: u64 },
 }
 
-/// Does units until one is the last or, where the turn is sliced, until the budget is used: it yields exactly where it is
+/// Does units until one is the last or, if the turn is sliced, until the budget is used: it yields exactly if it is
 /// sliced, the budget is used, and units are left.
 ///
 /// # Errors
 ///
-/// Want of memory alone; what the units before did stays.
+/// Only if out of memory; what the units before did stays.
 pub fn drive<U: Units, L: Ledger>(
     units: &mut U,
     budget: u64,

@@ -37,7 +37,7 @@ pub trait Units {
     ///
     /// # Errors
     ///
-    /// Want of memory alone.
+    /// Only if out of memory.
     fn unit<L: Ledger>(&mut self, steps: &mut Steps<L>) -> Result<Unit, AllocError>
         requires { 0 < left self.old }
         ensures falls { OnOk result (left self.new < left self.old) }

@@ -119,7 +119,7 @@ abbrev pub turns : (bound : ℤ) → (limit : ℕ) → ℕ
 turns (pos n) limit = min n limit
 turns (negsuc n) limit = 0
 
--- the element of a slot, where the given children stand for `children`
+-- the element of a slot, with the given children for `children`
 abbrev mutual
   pub element_of : Program → List Element → Env → Slot → Element
   element_of p kids env syntax.null = elements.null

@@ -50,7 +50,7 @@ unless_waits empty n = n
 unless_waits (made m) n = n
 unless_waits (waits a) n = 0
 
--- a fallback is begun only where the children wait
+-- a fallback is begun only if the children wait
 abbrev pub if_waits : Places → ℕ → ℕ
 if_waits (all_made ns) n = 0
 if_waits (one_waits a) n = n

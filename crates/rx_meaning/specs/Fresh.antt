@@ -37,7 +37,7 @@ Contexts = List ℤ
 abbrev pub default_of : Program → Context → ℤ
 default_of p c = let x = wrap (width p) (pos c.number) in if c.negative then neg (width p) x else x
 
--- the values of the contexts where no provider stands above
+-- the values of the contexts if no provider stands above
 abbrev pub default_contexts : Program → Contexts
 default_contexts p = map (default_of p) (contexts p)
 
@@ -164,12 +164,12 @@ shape_of s cs (elements.provider c key x es) old = one_list trees.plain (part (s
 abbrev pub render_part : (Contexts → Renders) → Part → Places
 render_part below p = render_list (below p.contexts) p.elements p.old
 
--- a node over its children, where none of them waits
+-- a node over its children, if none of them waits
 abbrev pub over : Element → Mark → Places → Place
 over e m (all_made ns) = made (node e m ns trees.none)
 over e m (one_waits a) = waits a
 
--- A boundary shows its children where none waits, else its fallback, and keeps the old children untouched. Where its fallback waits too, it waits outwards for both.
+-- A boundary shows its children if none waits, else its fallback, and keeps the old children untouched. If its fallback waits too, it waits outwards for both.
 abbrev pub over_boundary : Element → Option Node → (primary fallback : Places) → Place
 over_boundary e old (all_made ns) fallback = made (node e (trees.of_boundary Shown) ns trees.none)
 over_boundary e old (one_waits a) (all_made fs) = made (node e (trees.of_boundary (Hidden a)) (children_if old) fs)

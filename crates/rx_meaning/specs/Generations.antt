@@ -1,7 +1,7 @@
 -- Which elements are given again, and of which generation one is that a render made anew.
 use Rattle.std.specs.Prelude.{ℕ, suc, pred, min, max, Bool, cond, ◌-◌, ◌^◌}
 
--- The element of a place is of generation 0 where it is the committed one, given again. What the body of a component makes, where that is evaluated, is of one generation more than the component's own element, and as deep as a count of 32 bits goes.
+-- The element of a place is of generation 0 if it is the committed one, given again. What the body of a component makes, if that is evaluated, is of one generation more than the component's own element, and as deep as a count of 32 bits goes.
 abbrev pub made_by : ℕ → ℕ
 made_by generation = min (suc generation) (2 ^ 32 - 1)
 

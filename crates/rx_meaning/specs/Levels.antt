@@ -22,7 +22,7 @@ abbrev mutual
   elements_depth depths elements.none = 0
   elements_depth depths (elements.more e es) = max (element_depth depths e) (elements_depth depths es)
 
--- how many levels the body of a component has, where components nest at most so deep
+-- how many levels the body of a component has, if components nest at most so deep
 abbrev pub body_depth : ℕ → Program → ℕ → ℕ
 body_depth n p = body_by levels n p
 

@@ -108,7 +108,7 @@ kept_shape cs (elements.list marked es) m ns fs = one_list m (part cs (elements_
 kept_shape cs (elements.boundary key f es) m ns fs = two_lists (part cs (elements_in ns) ns) (part cs (f ∷ []) fs)
 kept_shape cs (elements.provider c key x es) m ns fs = one_list m (part (slice_set cs c x) (elements_in ns) ns)
 
--- the first where a node is a hidden boundary, else the second
+-- the first if a node is a hidden boundary, else the second
 abbrev pub IfHidden : Bool → Type 0 → Type 0 → Type 0
 IfHidden true A B = A
 IfHidden false A B = B

@@ -55,7 +55,7 @@ has_new_work s instances = list_any (λ u. is_new s.lanes s.cut u && belongs_to 
 abbrev pub is_read_anew : Contexts → ContextRead → Bool
 is_read_anew cs r = not (option_eq int_eq (slice_get cs r.context) (Some r.value))
 
--- a component's place is touched where its instance is new, has an included update that isn't done, or read another value of a context
+-- a component's place is touched if its instance is new, has an included update that isn't done, or read another value of a context
 abbrev pub touched_instance : Sight → Contexts → Option Instance → Bool
 touched_instance s cs None = true
 touched_instance s cs (Some i) = has_update s (option_to_list i.number) || list_any (is_read_anew cs) i.reads
@@ -74,7 +74,7 @@ resolved_seen s = awaits_where (λ r. is_some (resolved_by s.cut s.journal r))
 abbrev pub is_waiting_still : Sight → Node → BoundaryState → Bool
 is_waiting_still s old state = may_skip state (resolved_seen s) (has_new_work s (instances_in (children_of old)))
 
--- a hidden boundary is untouched where it is visible, its element and the contexts are those of the committed tree, and it waits still
+-- a hidden boundary is untouched if it is visible, its element and the contexts are those of the committed tree, and it waits still
 abbrev pub is_untouched : Sight → Setting → Element → Node → BoundaryState → Bool
 is_untouched s at e old state =
     at.was_visible
@@ -126,7 +126,7 @@ contexts_below (elements.list marked es) cs = cs
 contexts_below (elements.boundary k f es) cs = cs
 contexts_below (elements.provider c k x es) cs = slice_set cs c x
 
--- the setting below a node, where the committed tree has the contexts that its old node's element gives
+-- the setting below a node, if the committed tree has the contexts that its old node's element gives
 abbrev pub setting_below : Option Node → Setting → Setting
 setting_below None at = at
 setting_below (Some n) at = record at { committed = contexts_below (element_of n) at.committed }
@@ -169,7 +169,7 @@ component_in (elements.list marked es) = None
 component_in (elements.boundary k f es) = None
 component_in (elements.provider c k x es) = None
 
--- the visit of the place itself; where nothing stands there is none
+-- the visit of the place itself; if nothing stands there, there is none
 abbrev pub visit_here : Sight → Setting → Element → Option Node → Shape → List Visit
 visit_here s at e old absent = []
 visit_here s at e old (waiting r) = visit_as s at old (component_in e) ∷ []

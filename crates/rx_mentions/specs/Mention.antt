@@ -4,7 +4,7 @@ use Rattle.rx_base.specs.Values.{Name}
 use Rattle.rx_mentions.specs.declared.count.Count.{Count}
 
 pub data Mention : Type 0 where
-  -- a name is introduced, and whether it stands already where it may not be introduced again
+  -- a name is introduced, and whether it is among those that may not be introduced again
   Introduced : Name → (again : Bool) → Mention
   -- a variable whose name stands for no value there
   Unknown : Name → Mention

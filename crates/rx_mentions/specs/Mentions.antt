@@ -43,7 +43,7 @@ kept s x = record { values = s.values; others = s.others ++ x ∷ [] }
 abbrev pub is_bound : Scope → Name → Bool
 is_bound s x = has_name s.values x || has_name s.others x
 
--- a name is introduced where these names stand already
+-- a name is introduced when these names stand already
 abbrev pub introduced : List Name → Name → Mention
 introduced taken x = mention.Introduced x (has_name taken x)
 
@@ -51,11 +51,11 @@ introduced taken x = mention.Introduced x (has_name taken x)
 abbrev pub opened : Scope → Name → Mention
 opened s x = mention.Introduced x (is_bound s x)
 
--- a variable's mention, where these names stand for values: there is one only where it is none of them
+-- a variable's mention, if these names stand for values: there is one only if it is none of them
 abbrev pub variable_mentions : (scope : List Name) → Name → List Mention
 variable_mentions scope x = cond (has_name scope x) [] (mention.Unknown x ∷ [])
 
--- an expression's mentions, where these names stand for values
+-- an expression's mentions, if these names stand for values
 abbrev mutual
   pub expr_mentions : List Name → Expr → List Mention
   expr_mentions scope (syntax.number n) = []
@@ -140,7 +140,7 @@ abbrev pub statements_mentions : Scope → List Statement → List Mention
 statements_mentions s [] = []
 statements_mentions s (t ∷ ts) = statement_mentions s t ++ statements_mentions (after_statement s t) ts
 
--- The mentions of attributes, where these names may not be attributes again.
+-- The mentions of attributes, if these names may not be attributes again.
 abbrev pub attributes_mentions : (scope taken : List Name) → List Attribute → List Mention
 attributes_mentions scope taken [] = []
 attributes_mentions scope taken (key e ∷ attrs) =
@@ -160,7 +160,7 @@ given_name (literal x t) = Some x
 abbrev pub given_names : List Attribute → List Name
 given_names attrs = filter_map given_name attrs
 
--- The mentions of a key. Where an earlier place of the child list carries one, it is a second one.
+-- The mentions of a key. If an earlier place of the child list carries one, it is a second one.
 abbrev pub key_mentions : (scope : List Name) → (second : Bool) → Expr → List Mention
 key_mentions scope second e = mention.Introduced key_name second ∷ expr_mentions scope e
 
@@ -185,7 +185,7 @@ abbrev pub is_filled : Slots → Bool
 is_filled syntax.no_slots = false
 is_filled (syntax.slot s ss) = true
 
--- A slot's mentions. Where an earlier place of its child list carries a key, one that it carries is a second one.
+-- A slot's mentions. If an earlier place of its child list carries a key, one that it carries is a second one.
 abbrev mutual
   pub slot_mentions : Scope → (second : Bool) → Slot → List Mention
   slot_mentions s second syntax.null = []
@@ -238,7 +238,7 @@ declaration_mentions (of_context c) = []
 declaration_mentions (of_function f) = function_mentions f
 declaration_mentions (of_component c) = component_mentions c
 
--- the mentions of declarations, where these names are declared before
+-- the mentions of declarations, if these names are declared before
 abbrev pub declarations_mentions : (taken : List Name) → List Declaration → List Mention
 declarations_mentions taken [] = []
 declarations_mentions taken (d ∷ ds) =

@@ -241,7 +241,7 @@ impl<'a> Walk<'a> {
 ///
 /// # Errors
 ///
-/// Want of memory alone.
+/// Only if out of memory.
 #[tactic(auto, unfolding(crate::specs::Mentions::mentions))]
 pub fn mentions_of<'a>(alloc: Global, program: &'a Program) -> Result<Walk<'a>, AllocError>
     ensures { IfOk result (λ w. w ≡ mentions program.now) }
@@ -255,7 +255,7 @@ pub fn mentions_of<'a>(alloc: Global, program: &'a Program) -> Result<Walk<'a>, 
 ///
 /// # Errors
 ///
-/// Want of memory alone.
+/// Only if out of memory.
 pub fn function_mentions_of<'a>(
     alloc: Global,
     function: &'a Function,
@@ -271,7 +271,7 @@ pub fn function_mentions_of<'a>(
 ///
 /// # Errors
 ///
-/// Want of memory alone.
+/// Only if out of memory.
 pub fn component_mentions_of<'a>(
     alloc: Global,
     component: &'a Component,

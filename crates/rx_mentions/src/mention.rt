@@ -20,7 +20,7 @@ pub struct Mention<'a> {
 /// What a mention is, with its parts.
 #[derive(Drop)]
 pub enum MentionKind<'a> {
-    /// A name is introduced; `again` where it may not be introduced there, since it stands already.
+    /// A name is introduced; `again` if it may not be introduced there, since it stands already.
     Introduced {
         again: bool,
         name: &'a str,
@@ -44,7 +44,7 @@ pub enum MentionKind<'a> {
     },
     /// An element of the host.
     Host(&'a Name),
-    /// `children`; `known` where it is a parameter.
+    /// `children`; `known` if it is a parameter.
     Children {
         known: bool,
     },
@@ -76,7 +76,7 @@ impl<'a> Model for Mention<'a> {
 ///
 /// # Errors
 ///
-/// Want of memory alone.
+/// Only if out of memory.
 pub fn names_given(alloc: Global, attributes: &[Attribute]) -> Result<Names, AllocError>
     ensures { IfOk result (λ names. names ≡ given_names attributes.now) }
 {

@@ -69,7 +69,7 @@ fn child_carries_key(child: &Child) -> bool
 }
 
 impl<'a> Walk<'a> {
-    /// Notes what attributes mention, where these names stand already.
+    /// Notes what attributes mention, when these names stand already.
     fn attributes(
         &mut self,
         scope: &BorrowedNames,

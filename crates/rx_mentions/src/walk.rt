@@ -57,7 +57,7 @@ impl<'a> Walk<'a> {
         Ok(())
     }
 
-    /// Notes a name that is introduced where these stand already.
+    /// Notes a name that is introduced when these stand already.
     pub fn introduced(&mut self, taken: &BorrowedNames, name: &'a str) -> Result<(), AllocError>
         ensures { OnOk result (self.new ≡ self.old ++ introduced taken.now name.now ∷ []) }
     {
@@ -116,7 +116,7 @@ impl<'a> Walk<'a> {
         self.call(function, arguments.len())
     }
 
-    /// Notes what an expression mentions, where these names stand for values.
+    /// Notes what an expression mentions, if these names stand for values.
     #[cycle(expr)]
     pub fn expr(&mut self, scope: &BorrowedNames, expr: &'a Expr) -> Result<(), AllocError>
         ensures { OnOk result (self.new ≡ self.old ++ expr_mentions scope.now expr.now) }

@@ -29,7 +29,7 @@ module _ (Less More : OfRender) (p : Program) (less : AsksNoMore Less More p) wh
   turn-by-less s (choice.Start lanes) budget r h =
       record { rest = h.rest; begins = (h.begins.0, less (passive_run s).after (starting s lanes) h.rest h.begins.1); stretch_is = h.stretch_is }
 
-  -- a turn stays one where no more is asked of its render
+  -- a turn stays one if no more is asked of its render
   pub turn-less : (s : State) (budget : Option ℕ) (r : Stretch) → Turn More p s budget r → Turn Less p s budget r
   turn-less s budget r h = turn-by-less s (choice_of s) budget r h
 

@@ -45,7 +45,7 @@ length-filter-within small large (l ∷ ls) h = go (small l) refl (large l) refl
     go false e true f rest = rw (e, f) (omega arith)
     go false e false f rest = rw (e, f) rest
 
--- and fewer, where a member passes the large test alone
+-- and fewer, if a member passes the large test alone
 pub length-filter-falls : (small large : Lane → Bool) (ls : List Lane) (m : Lane) → ((l : Lane) → small l ≡ true → large l ≡ true)
     → has ls m ≡ true → small m ≡ false → large m ≡ true → length (filter small ls) < length (filter large ls)
 length-filter-falls small large [] m h member out in_large = absurd (cc member)
@@ -68,7 +68,7 @@ length-filter-falls small large (l ∷ ls) m h member out in_large =
         rw (off, on) (omega (arith, length-filter-within small large ls h))
     go false e rest = let later : has ls m ≡ true = rw e at member in pick (small l) refl (large l) refl (rest later)
 
--- a set without the lanes of another is shorter, where both have a lane
+-- a set without the lanes of another is shorter, if both have a lane
 pub length-minus-falls : (test : Lane → Bool) (lanes : Lanes) (m : Lane) → has (lanes_where test) m ≡ true → has lanes m ≡ true
     → length (minus (lanes_where test) lanes) < length (lanes_where test)
 unfolding lanes_where

@@ -23,7 +23,7 @@ use Rattle.rx_model.specs.Laws.{AppNeverWaits}
 abbrev every : Component → Bool
 every c = true
 
--- the column at a slot, where components nest at most so deep
+-- the column at a slot, if components nest at most so deep
 abbrev at_slot : ℕ → Program → Slot → Waits
 at_slot n p s = slot_by (may_wait every) (body_by (may_wait every) n p) p s
 
@@ -136,7 +136,7 @@ body-ready p c i h =
 
 -- ---- slots
 
--- where the given children would be waited for, they give no wait
+-- if the given children would be waited for, they give no wait
 abbrev KidsQuiet : Sight → ℕ → List Element → Bool → Type 0
 KidsQuiet s d kids given = given ≡ true → AllQuiet (QuietUpTo s d) kids
 
@@ -183,7 +183,7 @@ and-bools b true k g e h = absurd (cc)
 and-bools b false k true e h = e
 and-bools b false k false e h = absurd (cc)
 
--- a component's place gives a node, where the component is there
+-- a component's place gives a node, if the component is there
 comp-made : (s : Sight) (d : ℕ) → SlotsQuiet s d → (m : ℕ) → d ≤ m → (c : ℕ) (key : elements.Key) (props : List ℤ) (es : List Element) → (body_by (may_wait every) (suc m) s.program c).own ≡ false
     → ((body_by (may_wait every) (suc m) s.program c).given ≡ true → AllQuiet (QuietUpTo s d) es) → (f : Component) → component_at s.program c ≡ Some f → (cs : Contexts) (old : Option Node)
     → (n : Node) × (rendered (suc d) s cs (elements.comp c key props (gathered es)) old ≡ made n)
@@ -283,7 +283,7 @@ place-below n len h = go (nat_lt n len) refl
     go true e = grind (arith, nat_tests)
     go false e = h
 
--- the root's number is that of a component, where there is one
+-- the root's number is that of a component, if there is one
 root-below : (p : Program) → 0 < length (components p) → component_number p root_name < length (components p)
 root-below p h =
     let count : length (component_names p) ≡ length (components p) = length-map (components p) (λ c. c.name) in

@@ -282,7 +282,7 @@ some_going p s g (Some (suc n)) never few left can =
 abbrev SomeTurn : Program → State → Choice → Option ℕ → Type 0
 SomeTurn p s c budget = (r : Stretch) × TurnBy AnyRender p s c budget r × CanGoOn p r.after
 
--- where a render is to go on, there is one
+-- if a render is to go on, there is one
 keep-some : (s : State) → choice_of s ≡ choice.Keep → s.progress ≡ None → ⊥
 keep-some s e f =
     never-keeps s.schedule (same_rank (free s)) (subst (λ (x : Option Progress). choose s.schedule (same_rank (free s)) (option_map (λ g. g.lanes) x) ≡ choice.Keep) f e)
@@ -460,7 +460,7 @@ some_step p s step.Event never can = (_, refl, record { below = can.below; due =
 some_step p s step.State never can = (_, refl, record { below = can.below; due = can.due })
 some_step p s step.Tree never can = (_, refl, record { below = can.below; due = can.due })
 
--- so each list of steps has a run, where App never waits
+-- so each list of steps has a run, if App never waits
 pub goes_on_from : (p : Program) → GoesOnFrom p
 goes_on_from p never s can [] = (silent s, refl)
 goes_on_from p never s can (x ∷ xs) =

@@ -23,7 +23,7 @@ use Rattle.rx_model.specs.Laws.{AppNeverWaits, DiscardsReach, IsReached, IsReach
 use Rattle.rx_model.proofs.AskingLess.{any-run}
 use Rattle.rx_model.proofs.Progress.{ended-can, can-passive, can-between, dispatched-can, resolved-can, opening_can, goes_on_from}
 
--- a stretch that is another one ends in a state that can go on, where that does
+-- a stretch that is another one ends in a state that can go on, if that does
 same-can : (p : Program) (r q : Stretch) → r ≡ q → CanGoOn p q.after → CanGoOn p r.after
 same-can p r q e can = subst (λ (x : Stretch). CanGoOn p x.after) (sym e) can
 
@@ -97,10 +97,10 @@ runs-reach p s h (x ∷ xs) r run =
 pub asked-runs-reach : (Asked : OfRender) (p : Program) (s : State) → IsReached p s → (steps : List Step) (r : Stretch) → RunTo Asked p s steps r → IsReached p r.after
 asked-runs-reach Asked p s h steps r run = runs-reach p s h steps r (any-run Asked p s steps r run)
 
--- and where a render is discarded
+-- and if a render is discarded
 pub discards-reach : (p : Program) → DiscardsReach p
 discards-reach p s h = (None ∷ h.0, (s, h.1, refl))
 
--- so each list of steps has a run from there, where App never waits
+-- so each list of steps has a run from there, if App never waits
 pub progresses : (p : Program) → AppNeverWaits p → Progresses p
 progresses p never bounded s reached steps = goes_on_from p (never bounded) s (reached-can p s reached) steps

@@ -1,4 +1,4 @@
--- What the machine has done of a step, or of a script, where memory runs out within it.
+-- What the machine has done of a step, or of a script, if memory runs out within it.
 use Rattle.std.specs.Prelude.{◌≡◌, ◌≢◌, ◌⊎◌, ℕ, ◌<◌, ◌≤◌, List, ◌∷◌, ◌++◌, true, is_some, IsTrue}
 use Rattle.rx_lane.specs.declared.lane.Lane.TheVariants as lane
 use Rattle.rx_lane.specs.Lanes.{Lanes, has}
@@ -16,7 +16,7 @@ use Rattle.rx_model.specs.Turns.{OfRender, choice_of, unit_bound}
 use Rattle.rx_model.specs.Machine.{Flushes, RunTo, flush_limit}
 use Rattle.rx_model.specs.Laws.{without_render}
 
--- So much of a turn is done: nothing; or, where a render was to start, the pending passive effects have run.
+-- So much of a turn is done: nothing; or, if a render was to start, the pending passive effects have run.
 abbrev pub HasBegun : State → Stretch → Type 0
 HasBegun s r = (r ≡ silent s) ⊎ ((lanes : Lanes) × (choice_of s ≡ choice.Start lanes) × (r ≡ passive_run s))
 
@@ -33,7 +33,7 @@ pub record TurnBreaksOff (p : Program) (s : State) (r : Stretch) : Type 0 where
 abbrev pub FlushBreaksOff : OfRender → (limit : ℕ) → Program → State → Stretch → Type 0
 FlushBreaksOff Asked limit p s r = (n : ℕ) × (n < limit) × Flushes Asked TurnBreaksOff n p s r
 
--- From a state, this stretch is what is done of a step that breaks off: of one that renders what its turns have finished, and of any other nothing. A resolution breaks off only where it is refused, since its line is to be written; time and the end of an event take no memory.
+-- From a state, this stretch is what is done of a step that breaks off: of one that renders what its turns have finished, and of any other nothing. A resolution breaks off only if it is refused, since its line is to be written; time and the end of an event take no memory.
 abbrev pub BreaksOff : OfRender → Program → State → Step → Stretch → Type 0
 BreaksOff Asked p s (step.Dispatch d) r = r ≡ silent s
 BreaksOff Asked p s (step.Resolve name x) r = IsTrue (is_some (resolved_now s.journal (resource_number p name))) × (r ≡ silent s)

@@ -55,7 +55,7 @@ gathered names (n ∷ ns) = go (has_name names n) refl (gathered names ns) (gath
         more
         ∙ (append_assoc names (n ∷ []) _ ∙ ap (λ l. names ++ (n ∷ l)) (sym (filter-filter _ _ _ (λ x. has-one-more names n x) (distinct ns))))
 
--- all are new where none is there
+-- all are new if none is there
 all-new : (ns : List Name) → filter (is_new []) ns ≡ ns
 all-new [] = refl
 all-new (n ∷ ns) = ap (λ l. n ∷ l) (all-new ns)

@@ -9,7 +9,7 @@ use Rattle.std.proofs.lemmas.Iterator.Adapters.{position_from-zero}
 use Rattle.std.proofs.lemmas.Slice.Eq.{bytes_eq-Decides}
 use Rattle.rx_base.specs.Values.{Name}
 
--- what was found, or else this place where the test passes there
+-- what was found, or else this place if the test passes there
 abbrev or_at : Option ℕ → Bool → ℕ → Option ℕ
 or_at (Some n) b m = Some n
 or_at None b m = cond b (Some m) None
@@ -74,7 +74,7 @@ push-new xs y h x = from-push (bytes_eq x) 0 xs y ∙ go (bytes_eq y x) refl
         keep (Some m) = refl
         keep None = refl
 
--- where the last name is found elsewhere, the others are found where they were
+-- if the last name is found elsewhere, the others are found where they were
 pub pop-kept : (xs : List Name) (y : Name) → (position_from (bytes_eq y) 0 (xs ++ y ∷ []) ≡ Some (length xs) → ⊥) → (x : Name)
     → position_from (bytes_eq x) 0 (xs ++ y ∷ []) ≡ position_from (bytes_eq x) 0 xs
 pop-kept xs y h x = go (position_from (bytes_eq y) 0 xs) refl
@@ -83,7 +83,7 @@ pop-kept xs y h x = go (position_from (bytes_eq y) 0 xs) refl
     go (Some n) e = push-known xs y n e x
     go None e = absurd (h (from-push (bytes_eq y) 0 xs y ∙ rw (e, itself y) (let k : 0 + length xs ≡ length xs = omega arith in ap Some k)))
 
--- where the last name is found at the end, it is found nowhere else
+-- if the last name is found at the end, it is found nowhere else
 pub pop-gone : (xs : List Name) (y : Name) → position_from (bytes_eq y) 0 (xs ++ y ∷ []) ≡ Some (length xs) → (x : Name)
     → update bytes_eq (λ z. position_from (bytes_eq z) 0 (xs ++ y ∷ [])) y None x ≡ position_from (bytes_eq x) 0 xs
 pop-gone xs y h x = go (bytes_eq y x) refl
@@ -106,7 +106,7 @@ pop-gone xs y h x = go (bytes_eq y x) refl
         keep (Some m) = refl
         keep None = refl
 
--- a place is found where a name is there
+-- a place is found if a name is there
 pub some-from : (t : Name → Bool) (i : ℕ) (xs : List Name) → is_some (position_from t i xs) ≡ list_any t xs
 some-from t i [] = refl
 some-from t i (x ∷ xs) = go (t x) (some-from t (i + 1) xs)
@@ -202,7 +202,7 @@ dropped-kept get xs ys y place g q p n x =
     g x ∙ (ap (λ l. position_from (bytes_eq x) 0 l) q
     ∙ pop-kept xs y (λ h. n (g y ∙ (ap (λ l. position_from (bytes_eq y) 0 l) q ∙ (h ∙ ap Some (sym p))))) x)
 
--- what holds where a call succeeds, which it does
+-- what holds if a call succeeds, which it does
 pub on-ok : {A E P : Type 0} (r : Result A E) → IsOk r → OnOk r P → P
 on-ok (Ok x) h k = k
 on-ok (Err e) h k = cc

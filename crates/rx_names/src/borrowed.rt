@@ -49,7 +49,7 @@ impl<'a> BorrowedNames<'a> {
     ///
     /// # Errors
     ///
-    /// Want of memory alone, and then the names are what they were.
+    /// Only if out of memory, and then the names are what they were.
     pub fn push(&mut self, name: &'a str) -> Result<(), AllocError>
         ensures ok { OnOk result (self.new ≡ self.old ++ name.now ∷ []) }
         ensures err { OnErr result (self.new ≡ self.old) }
@@ -63,7 +63,7 @@ impl<'a> BorrowedNames<'a> {
         Ok(())
     }
 
-    /// Takes the last name away, where there is one.
+    /// Takes the last name away, if there is one.
     pub fn pop(&mut self)
         ensures { self.new ≡ take (length self.old - 1) self.old }
     {

@@ -67,7 +67,7 @@ impl<'a> Index<'a> {
     ///
     /// # Errors
     ///
-    /// Want of memory alone.
+    /// Only if out of memory.
     pub fn new(
         alloc: Global,
         program: &'a Program,
@@ -121,14 +121,14 @@ impl<'a> Index<'a> {
         self.functions.len()
     }
 
-    /// The number of the component of a name; 0 where there is none.
+    /// The number of the component of a name; 0 if there is none.
     pub fn component_number(&self, name: &str) -> usize
         ensures { result ≡ component_number self.now name.now }
     {
         self.listing.components.position(name).unwrap_or(0)
     }
 
-    /// The number of the function of a name; 0 where there is none.
+    /// The number of the function of a name; 0 if there is none.
     pub fn function_number(&self, name: &str) -> usize
         ensures { result ≡ function_number self.now name.now }
     {

@@ -72,7 +72,7 @@ fn resources_of(alloc: Global, program: &Program) -> Result<Names, AllocError>
 ///
 /// # Errors
 ///
-/// Want of memory alone.
+/// Only if out of memory.
 pub fn names_of(alloc: Global, program: &Program) -> Result<Listing, AllocError>
     ensures { IfOk result (λ l. IsListed program.now l) }
 {

@@ -46,7 +46,7 @@ impl Names {
         &self.items
     }
 
-    /// The place of a name among them, counted from 0; the first where it stands twice.
+    /// The place of a name among them, counted from 0; the first if it stands twice.
     pub fn position(&self, name: &str) -> Option<usize>
         ensures { result ≡ position (bytes_eq name.now) self.now }
     {
@@ -64,7 +64,7 @@ impl Names {
     ///
     /// # Errors
     ///
-    /// Want of memory alone, and then the names are what they were.
+    /// Only if out of memory, and then the names are what they were.
     pub fn push(&mut self, alloc: Global, name: &str) -> Result<(), AllocError>
         ensures ok { OnOk result (self.new ≡ self.old ++ name.now ∷ []) }
         ensures err { OnErr result (self.new ≡ self.old) }

@@ -1,4 +1,4 @@
--- Where a boundary is hidden.
+-- Whether a boundary is hidden.
 use Rattle.std.specs.Prelude.{Bool, false, ◌||◌}
 use Rattle.rx_elem.specs.Trees.{Node, node, Forest, none, vacant, child, is_hidden}
 

@@ -38,7 +38,7 @@ impl Instance {
     ///
     /// # Errors
     ///
-    /// Want of memory alone.
+    /// Only if out of memory.
     pub fn copy(&self) -> Result<Instance, AllocError>
         ensures { IfOk result (λ i. instance_seen i ≡ instance_seen self.now) }
     {
@@ -57,7 +57,7 @@ impl Mark {
     ///
     /// # Errors
     ///
-    /// Want of memory alone.
+    /// Only if out of memory.
     pub fn copy(&self) -> Result<Mark, AllocError>
         ensures { IfOk result (λ m. mark_seen m ≡ mark_seen self.now) }
     {

@@ -65,7 +65,7 @@ set-known (d ∷ ds) (suc i) (suc x) h = rw (one-less x i) (set-known ds i x (om
     one-less : (y z : ℕ) → nat_eq (suc y) (suc z) ≡ nat_eq y z
     one-less y z = grind (arith, nat_tests)
 
--- one more number is finished where all to which it leads are
+-- one more number is finished if all to which it leads are
 pub finishes-more : (g : Graph) (before xs : List ℕ) (x : ℕ) → finishes g before xs ≡ true → list_all (is_among (before ++ xs)) (next_of g x) ≡ true
     → finishes g before (xs ++ x ∷ []) ≡ true
 finishes-more g before [] x h k = both _ true (let P : List ℕ → Type 0 = λ ns. list_all (is_among ns) (next_of g x) ≡ true in subst P (append-nil before) k) refl
@@ -92,7 +92,7 @@ Closed g done = (y : ℕ) → is_among done y ≡ true → list_all (is_among do
 abbrev pub Acyclic : Graph → List ℕ → Type 0
 Acyclic g done = (y : ℕ) → is_among done y ≡ true → (n : ℕ) → leads_to g n y y ≡ false
 
--- one that passes both tests, where one passes the first and all pass the second
+-- one that passes both tests, if one passes the first and all pass the second
 pub one-both : (p q : ℕ → Bool) (xs : List ℕ) → list_any p xs ≡ true → list_all q xs ≡ true → (z : ℕ) × (q z ≡ true) × (p z ≡ true)
 one-both p q [] h k = cc
 one-both p q (x ∷ xs) h k =
@@ -114,7 +114,7 @@ leads-inside g done c (suc n) y t h k =
       | inr e ↦ leads-inside g done c n r.0 t r.1 e
     ]
 
--- one that leads only to these leads to itself only where it is one of these
+-- one that leads only to these leads to itself only if it is one of these
 leads-from : (g : Graph) (done : List ℕ) → Closed g done → (x : ℕ) → list_all (is_among done) (next_of g x) ≡ true → (n : ℕ) → leads_to g n x x ≡ true → is_among done x ≡ true
 unfolding leads_to
 leads-from g done c x h zero k = cc

@@ -1,4 +1,4 @@
--- Rounds over a table: what they give, and that they may end where nothing changes.
+-- Rounds over a table: what they give, and that they may end when nothing changes.
 use Rattle.std.proofs.Common.{◌≡◌, ◌<◌, ◌-◌, ◌||◌, Bool, false, List, [], ◌∷◌, Option, Some, None, refl, sym, ap, ◌∙◌, arith, get_or, map}
 use Rattle.std.specs.Prelude.{ℕ, zero, suc, nat_eq, slice_get, slice_index_or, unwrap_or}
 use Rattle.std.specs.List.{list_any}

@@ -34,7 +34,7 @@ cycle_names_from g names x (row ∷ rows) = cons_option (name_on_cycle g names x
 abbrev pub cycle_names : Graph → List Name → List Name
 cycle_names g names = cycle_names_from g names 0 g
 
--- where a number leads in one step more, from which numbers lead there before
+-- whether a number leads there in one step more, from which numbers lead there before
 abbrev pub leads : (target : ℕ) → List Bool → List ℕ → Bool
 leads y table row = list_any (λ z. nat_eq z y || slice_index_or table z false) row
 

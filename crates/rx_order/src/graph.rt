@@ -154,7 +154,7 @@ fn name_unless_finished<'a>(
 ///
 /// # Errors
 ///
-/// Want of memory alone.
+/// Only if out of memory.
 pub fn first_cycle<'a>(
     alloc: Global,
     graph: &[Row],

@@ -48,7 +48,7 @@ impl Order {
         })
     }
 
-    /// Puts a number behind the others, where it is not too great.
+    /// Puts a number behind the others, if it is not too great.
     fn push(&mut self, number: usize) -> Result<(), AllocError>
         ensures { OnOk result ((self.new ≡ self.old) ⊎ (self.new ≡ self.old ++ number ∷ [])) }
     {
@@ -187,7 +187,7 @@ fn has_all(order: &Order, numbers: &[usize]) -> bool
     true
 }
 
-/// Finishes a number, where all to which it leads are finished.
+/// Finishes a number, if all to which it leads are finished.
 fn finish(graph: &[Row], order: &mut Order, number: usize) -> Result<(), AllocError>
     ensures { OnOk result (IsFinished graph.now order.old → IsFinished graph.now order.new) }
 {
@@ -206,7 +206,7 @@ fn finish(graph: &[Row], order: &mut Order, number: usize) -> Result<(), AllocEr
 ///
 /// # Errors
 ///
-/// Want of memory alone.
+/// Only if out of memory.
 pub fn finishing_order(alloc: Global, graph: &[Row]) -> Result<Order, AllocError>
     ensures { IfOk result (λ o. IsFinished graph.now o) }
 {

@@ -1,4 +1,4 @@
--- What is put behind something well nested, where that succeeds.
+-- What is put behind something well nested, if that succeeds.
 use Rattle.std.proofs.Common.{◌≡◌, ◌++◌, sym, subst}
 use Rattle.std.specs.Prelude.{Result, Ok, Err, OnOk, is_ok, if◌then◌else◌}
 use Rattle.rx_base.specs.Values.{Text}
@@ -41,7 +41,7 @@ pub piece-put : {T E : Type 0} (r : Result T E) (old new piece : Text)
 piece-put (Ok _) old new piece is = λ before more. subst (λ t. IsNested t) (sym is) (joined old piece before more)
 piece-put (Err _) old new piece is = tt
 
--- what follows where a call succeeds
+-- what follows if a call succeeds
 pub on-ok : {T E : Type 0} (r : Result T E) (P Q : Type 0) → (P → Q) → OnOk r P → OnOk r Q
 on-ok (Ok _) P Q f p = f p
 on-ok (Err _) P Q f p = tt

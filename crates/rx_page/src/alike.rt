@@ -82,7 +82,7 @@ fn alike_behind(old: &[u8], new: &[u8], lines: usize) -> Option<(usize, usize)>
 }
 
 /// How many bytes go from the old text, and how many come in the new one, before both go on alike: the fewest lines, if there are
-/// few. Else it is a line of each, or all where one text has no line left.
+/// few. Else it is a line of each, or all if one text has no line left.
 pub(crate) fn next_alike(old: &[u8], new: &[u8]) -> (usize, usize)
     ensures in_old { result.0 ≤ length old.now }
     ensures in_new { result.1 ≤ length new.now }

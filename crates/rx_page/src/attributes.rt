@@ -50,7 +50,7 @@ impl Attributes {
     ///
     /// # Errors
     ///
-    /// Want of memory alone; the attributes are then as they were.
+    /// Only if out of memory; the attributes are then as they were.
     pub fn put(&mut self, name: AttributeName, value: &[u8]) -> Result<(), AllocError>
         ensures ok { OnOk result (self.new ≡ self.old ++ attribute_of name value.now) }
         ensures are { OnOk result (AreAttributes self.old → AreAttributes self.new) }

@@ -1,5 +1,5 @@
 // How a text changes, as a page shows it.
-ghost use Rattle.std.specs.Prelude.{◌≡◌, ◌++◌, [], length, OnOk};
+ghost use Rattle.std.specs.Prelude.{◌≡◌, ◌++◌, [], OnOk};
 ghost use Rattle.rx_page.specs.Elements.{element};
 ghost use Rattle.rx_page.specs.Escaping.{escaped};
 ghost use Rattle.rx_page.specs.Changes.{PutsChanges, lines_in, marked, stays_html};
@@ -18,7 +18,7 @@ const SHORT: usize = 400;
 ///
 /// # Errors
 ///
-/// Want of memory alone; the HTML is then as it was.
+/// Only if out of memory; the HTML is then as it was.
 pub fn put_words(html: &mut Html, alloc: Global, tag: Tag, text: &[u8]) -> Result<(), AllocError>
     ensures { OnOk result (html.new ≡ html.old ++ element tag [] (escaped text.now)) }
 {
@@ -103,7 +103,7 @@ fn put_pieces(html: &mut Html, alloc: Global, old: &[u8], new: &[u8]) -> Result<
 ///
 /// # Errors
 ///
-/// Want of memory alone; the HTML then has some of it.
+/// Only if out of memory; the HTML then has some of it.
 pub fn put_changes(html: &mut Html, alloc: Global, old: &[u8], new: &[u8]) -> Result<(), AllocError>
     ensures { OnOk result (PutsChanges old.now new.now html.old html.new) }
 {

@@ -23,7 +23,7 @@ fn push_escaped(html: &mut Vec<u8>, byte: u8) -> Result<(), AllocError>
 ///
 /// # Errors
 ///
-/// Want of memory alone.
+/// Only if out of memory.
 pub fn escape(alloc: Global, text: &[u8]) -> Result<Vec<u8>, AllocError>
     ensures escaped { IfOk result (λ html. html.items ≡ escaped text.now) }
 

@@ -78,7 +78,7 @@ impl Html {
     ///
     /// # Errors
     ///
-    /// Want of memory alone; the HTML is then as it was.
+    /// Only if out of memory; the HTML is then as it was.
     pub fn put_text(&mut self, text: &[u8]) -> Result<(), AllocError>
         ensures ok { OnOk result (self.new ≡ self.old ++ escaped text.now) }
         ensures nested { OnOk result (IsNested self.old → IsNested self.new) }
@@ -92,7 +92,7 @@ impl Html {
     ///
     /// # Errors
     ///
-    /// Want of memory alone; the HTML is then as it was.
+    /// Only if out of memory; the HTML is then as it was.
     pub fn put_element(
         &mut self,
         tag: Tag,
@@ -111,7 +111,7 @@ impl Html {
     ///
     /// # Errors
     ///
-    /// Want of memory alone; the HTML is then as it was.
+    /// Only if out of memory; the HTML is then as it was.
     pub fn put_meta(&mut self, attributes: &Attributes) -> Result<(), AllocError>
         ensures ok { OnOk result (self.new ≡ self.old ++ meta_of attributes.now) }
         ensures nested { OnOk result (IsNested self.old → AreAttributes attributes.now → IsNested self.new) }
@@ -125,7 +125,7 @@ impl Html {
     ///
     /// # Errors
     ///
-    /// Want of memory alone; the HTML is then as it was.
+    /// Only if out of memory; the HTML is then as it was.
     pub fn put(&mut self, more: &Html) -> Result<(), AllocError>
         ensures ok { OnOk result (self.new ≡ self.old ++ more.now) }
         ensures nested { OnOk result (IsNested self.old → IsNested more.now → IsNested self.new) }

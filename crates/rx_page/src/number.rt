@@ -8,7 +8,7 @@ use std::alloc::AllocError;
 ///
 /// # Errors
 ///
-/// Want of memory alone; the text is then as it was.
+/// Only if out of memory; the text is then as it was.
 pub fn push_number(text: &mut Vec<u8>, number: u64) -> Result<(), AllocError>
     ensures { OnOk result (text.new.items ≡ text.old.items ++ decimal number) }
 {

@@ -21,7 +21,7 @@ pub record IsFirstFault (at : ℕ) (ts : List Token) : Type 0 where
   pub begins : BeginsProgram (kinds before)
   pub stops : BeginsProgram (kinds before ++ token.kind ∷ []) → ⊥
 
--- a refusal names the first place with which no program goes on; want of memory says nothing of the tokens
+-- a refusal names the first place with which no program goes on; being out of memory says nothing of the tokens
 abbrev pub IsFault : ParseError → List Token → Type 0
 IsFault (Syntax at) ts = IsFirstFault at ts
 IsFault OutOfMemory ts = Unit {0}

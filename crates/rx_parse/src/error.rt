@@ -11,7 +11,7 @@ use std::fmt;
 pub enum ParseError {
     /// No program begins with the tokens up to and with the one at this place, and one begins with those before it.
     Syntax { at: usize },
-    /// Want of memory.
+    /// Out of memory.
     OutOfMemory,
 }
 

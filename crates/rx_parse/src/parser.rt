@@ -34,12 +34,12 @@ fn program<'a>(alloc: Global, tokens: Rest<'a>, level: usize) -> Result<(Program
 ///
 /// # Errors
 ///
-/// `Syntax` exactly where no program has the tokens, with the place of the first one up to and with which none begins; want of memory.
+/// `Syntax` exactly if no program has the tokens, with the place of the first up to and with which none begins; or out of memory.
 pub fn parse(alloc: Global, tokens: &Tokens<'_>) -> Result<Program, ParseError>
     requires { IsEnded (tokens_of tokens.now) }
     // The program that is answered has the tokens.
     ensures found { IfOk result (λ p. HasTokens p (kinds (tokens_of tokens.now))) }
-    // No other has them, and where one does it is answered, unless memory runs out.
+    // No other has them, and if one does, it is answered, unless memory runs out.
     ensures only { (p : Program) → HasTokens p (kinds (tokens_of tokens.now)) → MatchResult result (λ q. q ≡ p) (λ e. e ≡ ParseError.OutOfMemory) }
     // The place is that of the first token with which no program goes on.
     ensures fault { IfErr result (λ e. IsFault e (tokens_of tokens.now)) }

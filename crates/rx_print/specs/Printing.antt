@@ -199,7 +199,7 @@ abbrev pub parameter_token : Parameter → Kind
 parameter_token (integer x) = Lower x
 parameter_token given_children = Word word.Children
 
--- the parameters of a component, in braces where these stand there
+-- the parameters of a component, in braces if these stand there
 abbrev pub parameters_tokens : Bool → List Parameter → List Kind
 parameters_tokens false xs = []
 parameters_tokens true xs = in_braces (separated (map parameter_token xs))
@@ -209,7 +209,7 @@ abbrev pub function_form : Kind → (parameters lines answer : List Kind) → Li
 function_form name xs ls answer =
     Word word.Function ∷ name ∷ (in_parentheses xs ++ in_braces (ls ++ (Word word.Return ∷ (answer ++ Mark sign.Semicolon ∷ []))))
 
--- the number of a context's default, with `-` before it where that stands there
+-- the number of a context's default, with `-` before it if that stands there
 abbrev pub default_tokens : Bool → ℕ → List Kind
 default_tokens false n = Number n ∷ []
 default_tokens true n = Mark sign.Minus ∷ Number n ∷ []

@@ -105,7 +105,7 @@ impl Printer {
         Ok(())
     }
 
-    /// Writes the parameters of a component, in braces where these stand there.
+    /// Writes the parameters of a component, in braces if these stand there.
     fn braced_parameters(&mut self, component: &Component) -> Result<(), AllocError>
         ensures { OnOk result (self.new ≡ self.old ++ parameters_tokens component.now.braces component.now.parameters) }
     {

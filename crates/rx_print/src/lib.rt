@@ -20,7 +20,7 @@ use std::alloc::{AllocError, Global};
 ///
 /// # Errors
 ///
-/// Want of memory alone.
+/// Only if out of memory.
 pub fn tokens(alloc: Global, program: &Program) -> Result<Vec<Kind>, AllocError>
     ensures written { IfOk result (λ v. v.items ≡ program_tokens program.now) }
 

@@ -26,7 +26,7 @@ abbrev pub was : Node → (moved : Bool) → Past
 was o moved = record { old = Some o; moved = moved }
 
 mutual
-  -- An old node and the new one that it became, and both without some lists that stayed the same: where a list of children is left out, it is one list, no boundary above it is hidden, and nothing from it up to its host is new or moved.
+  -- An old node and the new one that it became, and both without some lists that stayed the same: if a list of children is left out, it is one list, no boundary above it is hidden, and nothing from it up to its host is new or moved.
   pub data Pruned : (displaced : Bool) → (old new pruned_old pruned_new : Node) → Type 0 where
     whole : {d : Bool} {o n : Node} → Pruned d o n o n
     cut : {d : Bool} {e f : Element} {m w : Mark} {ns : Forest}

@@ -117,7 +117,7 @@ base_queue-map_more f keeps (x ∷ xs) = go (base_queue-map_more f keeps xs) (is
 
 -- ---- the base queue in place of the whole list
 
--- where done updates pass a test, the base state and the base queue give what the whole list gives
+-- if done updates pass a test, the base state and the base queue give what the whole list gives
 pub state_from-base : (answers : Answers) (p : Entry → Bool) (state : ℤ) (xs : List Entry) → AllByRecursion (λ e. is_done e ≡ true → p e ≡ true) xs
     → state_from answers p (state_before answers is_done state xs) (base_queue xs) ≡ state_from answers p state xs
 state_from-base answers p state [] all = refl
@@ -143,7 +143,7 @@ state_before-base answers p state (x ∷ xs) all = go (state_before-base answers
     go rest true e = let passes = all.0 e in rw (e, passes) rest
     go rest false e = rw e refl
 
--- where done updates fail a test, the base queue has one that passes where the whole list has
+-- if done updates fail a test, the base queue has one that passes exactly if the whole list has
 pub list_any-base : (p : Entry → Bool) → ((e : Entry) → is_done e ≡ true → p e ≡ false) → (xs : List Entry) → list_any p (base_queue xs) ≡ list_any p xs
 list_any-base p fails [] = refl
 list_any-base p fails (x ∷ xs) = go (list_any-base p fails xs) (is_done x) refl
@@ -231,7 +231,7 @@ not_true : (b : Bool) → (b ≡ true → false ≡ true) → b ≡ false
 not_true true h = cc (h refl)
 not_true false h = refl
 
--- after a commit an update is done where it was included
+-- after a commit an update is done if it was included
 settled_is_done : (e : Entry) → (is_done e ≡ true → was_included e ≡ true) → is_done (settled e) ≡ was_included e
 settled_is_done e h = go e.included refl
   where
@@ -379,7 +379,7 @@ last-marks answers history lanes cut given last =
       done_included = each-map (owed_after lanes cut) (owed_done lanes cut) (owed_included lanes cut) history.entries last.done_included;
     }
 
--- where all updates are done, the committed value is the in-order fold
+-- if all updates are done, the committed value is the in-order fold
 pub committed-in_order : (answers : Answers) (history : History) → AllDone history → committed_value answers history ≡ in_order answers history
 committed-in_order answers history all = state_from-agree answers is_done (λ e. true) history.initial history.entries all
 

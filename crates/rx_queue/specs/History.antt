@@ -44,7 +44,7 @@ stands_owed Owed = true
 abbrev pub lies_before : Cut → Update → Bool
 lies_before cut u = nat_lt u.number cut.updates
 
--- an update that stands so is included where it lies before the cut and is done, is owed, or has its lane among the lanes
+-- an update that stands so is included if it lies before the cut and is done, is owed, or has its lane among the lanes
 abbrev pub includes : Lanes → Cut → Update → Standing → Bool
 includes lanes cut u standing = lies_before cut u && (stands_done standing || stands_owed standing || has lanes u.lane)
 
@@ -135,7 +135,7 @@ noted lanes cut e = record e { included = is_included lanes cut e }
 abbrev pub processed : Lanes → Cut → History → History
 processed lanes cut history = record history { entries = map (noted lanes cut) history.entries }
 
--- an update after a commit: it is done where the last processing included it
+-- an update after a commit: it is done if the last processing included it
 abbrev pub settled : Entry → Entry
 settled e = if e.included then record e { standing = Done } else e
 
@@ -143,7 +143,7 @@ settled e = if e.included then record e { standing = Done } else e
 abbrev pub committed : History → History
 committed history = record history { entries = map settled history.entries }
 
--- an update becomes owed where it lies before the cut, is not done, and has its lane among the lanes
+-- an update becomes owed if it lies before the cut, is not done, and has its lane among the lanes
 abbrev pub becomes_owed : Lanes → Cut → Entry → Bool
 becomes_owed lanes cut e = is_before cut e && not (is_done e) && has lanes e.update.lane
 

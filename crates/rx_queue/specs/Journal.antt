@@ -78,7 +78,7 @@ is_new lanes cut u = includes_new lanes cut u.update u.standing
 
 -- After a commit with these lanes at this cut, of a tree with these visible and these kept instances
 
--- an update becomes owed where it lies before the cut, isn't done, has one of the lanes, and its instance is kept
+-- an update becomes owed if it lies before the cut, isn't done, has one of the lanes, and its instance is kept
 abbrev pub becomes_owed : Lanes → Cut → (kept : List ℕ) → Posted → Bool
 becomes_owed lanes cut kept u = is_before cut u && (not (stands_done u.standing) && (has lanes u.update.lane && belongs_to kept u.target))
 

@@ -37,6 +37,6 @@ pub record IsLast (answers : Answers) (history : History) (processed : Processed
   pub base_is : processed.base ≡ state_before answers was_included history.initial history.entries
   pub done_included : AllByRecursion (λ e. is_done e ≡ true → was_included e ≡ true) history.entries
 
--- a render has new work in a hook where it includes an update that is neither done nor owed, else owed work where it includes an owed one, else none
+-- a render has new work in a hook if it includes an update that is neither done nor owed, else owed work if it includes an owed one, else none
 abbrev pub work_of : Lanes → Cut → List Entry → Work
 work_of lanes cut entries = if list_any (is_new lanes cut) entries then New else (if list_any (is_owed_before cut) entries then Owed else Nothing)

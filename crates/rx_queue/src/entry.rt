@@ -23,35 +23,35 @@ pub struct Entry {
 }
 
 impl Entry {
-    /// True where a render with these lanes at this cut includes the update.
+    /// True if a render with these lanes at this cut includes the update.
     pub fn is_included(&self, lanes: Lanes, cut: Cut) -> bool
         ensures { result ≡ is_included lanes cut self.now }
     {
         self.update.number < cut.updates && (!self.is_open() || lanes.has(self.update.lane))
     }
 
-    /// True where the update is neither done nor owed.
+    /// True if the update is neither done nor owed.
     pub fn is_open(&self) -> bool
         ensures { result ≡ is_open self.now }
     {
         self.standing == Standing::Open
     }
 
-    /// True where the update is done.
+    /// True if the update is done.
     pub fn is_done(&self) -> bool
         ensures { result ≡ is_done self.now }
     {
         self.standing == Standing::Done
     }
 
-    /// True where the update is included and neither done nor owed.
+    /// True if the update is included and neither done nor owed.
     pub fn is_new(&self, lanes: Lanes, cut: Cut) -> bool
         ensures { result ≡ is_new lanes cut self.now }
     {
         self.is_included(lanes, cut) && self.is_open()
     }
 
-    /// True where the update is owed and lies before the cut.
+    /// True if the update is owed and lies before the cut.
     pub fn is_owed_before(&self, cut: Cut) -> bool
         ensures { result ≡ is_owed_before cut self.now }
     {

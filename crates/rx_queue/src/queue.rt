@@ -162,7 +162,7 @@ impl Queue {
     ///
     /// # Errors
     ///
-    /// Want of memory alone.
+    /// Only if out of memory.
     pub fn push(&mut self, update: Update) -> Result<(), AllocError>
         ensures ok { OnOk result ((answers : Answers) (history : History) → StandsFor answers self.old history → StandsFor answers self.new (pushed update history)) }
         ensures err { OnErr result (self.new ≡ self.old) }
@@ -178,7 +178,7 @@ impl Queue {
         Ok(())
     }
 
-    /// The state for these lanes at this cut. It promises that state where the cut is above the number of every done update.
+    /// The state for these lanes at this cut. It promises that state if the cut is above the number of every done update.
     pub fn process<F: Fold>(&mut self, fold: &F, lanes: Lanes, cut: Cut) -> Processed
         ensures stands { (answers : Answers) (history : History) → StandsFor answers self.old history → StandsFor answers self.new (processed_history lanes cut history) }
         ensures value { (history : History) → StandsFor (F.answers fold.now) self.old history → IsAboveDone cut history
@@ -223,7 +223,7 @@ impl Queue {
     pub fn committed(&self) -> Int
         ensures value { (answers : Answers) (history : History) → StandsFor answers self.now history → result ≡ committed_value answers history }
 
-        // Where all updates are done, it is what they give in the order in which they came.
+        // If all updates are done, it is what they give in the order in which they came.
         ensures in_order { (answers : Answers) (history : History) → StandsFor answers self.now history → AllDone history → result ≡ in_order answers history }
     {
         self.committed

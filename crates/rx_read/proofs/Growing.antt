@@ -1,4 +1,4 @@
--- How far numbers grow where fibers get theirs.
+-- How far numbers grow when fibers get theirs.
 use Rattle.std.proofs.Common.{ℕ, suc, ◌+◌, ◌^◌, ◌<◌, ◌≤◌, arith, Option, None, Some}
 use Rattle.rx_elem.specs.Trees.{Mark, Instance, of_instance, of_host, of_boundary, plain}
 use Rattle.rx_elem.specs.Numbers.{Numbers, numbered_instance, numbered_host, numbered_mark}
@@ -54,7 +54,7 @@ draft_grows next (made id v o ks rs) =
 held : (n : ℕ) (from to : Numbers) → Grows n from to → AreHeld to → AreHeld from
 held n from to g h = let a = h.instance in let b = h.host in record { instance = omega arith; host = omega arith }
 
--- what its first fiber needs fits, where what the whole list needs does
+-- what its first fiber needs fits, if what the whole list needs does
 pub first_held : (next : Numbers) (w : Draft Fiber) → AreHeld (numbered_draft next w).0 → AreHeld (numbered_first next w).0
 first_held next (taken s) h = h
 first_held next (made id v o ks rs) h =

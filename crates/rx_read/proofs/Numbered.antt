@@ -111,7 +111,7 @@ nodes_same n trees.none = refl
 nodes_same n (vacant ns) = nodes_same n ns
 nodes_same n (child x ns) = refl
 
--- nothing is numbered where there is no node
+-- nothing is numbered if there is no node
 none_numbered : (n : Numbers) (ns : Forest) → has_node ns ≡ false → (numbered_in n ns).0 ≡ n
 none_numbered n trees.none e = refl
 none_numbered n (vacant ns) e = none_numbered n ns e

@@ -71,7 +71,7 @@ made_link (made id v o ks rs) e = refl
 
 -- A list of made fibers at its place
 
--- what stands at a made link, and what becomes of it where it is numbered
+-- what stands at a made link, and what becomes of it when it is numbered
 pub record ListHere (t : Trees Fiber) (k : Around Fiber) (d : Draft Fiber) (next : Numbers) : Type 0 where
   pub makes : IfSome (made_entry d) (Makes t.draft)
   pub numbers : (numbered_draft next (made_from t.draft (made_entry d))).0 ≡ (numbered_draft next d).0
@@ -177,7 +177,7 @@ module _ (t : Trees Fiber) (fits : Fits t) (linked : IsLinked t.current) (i : �
       by_kids (taken s) q = refl
       by_kids (made jd u o ks rs) q = cc
 
-  -- the parent of a first child: this fiber where the child is made
+  -- the parent of a first child: this fiber if the child is made
   pub child_is : (child : ℕ) (parent : Option ℕ) → Some child ≡ entry (made_kids_of t.draft i)
       → (Holds t.current child → parent ≡ parent_of t.current child) → (Makes t.draft child → parent ≡ made_parent_of t.draft child)
       → ((parent ≡ Some i) × (Some child ≡ made_entry (made_kids_of t.draft i)) × Makes t.draft child)
@@ -200,7 +200,7 @@ module _ (t : Trees Fiber) (fits : Fits t) (linked : IsLinked t.current) (i : �
           inl (b (subst (Makes t.draft) same at.makes) ∙ subst (λ j. made_parent_of t.draft j ≡ Some i) same at.parent, q, subst (Makes t.draft) same at.makes)
 
 module _ (t : Trees Fiber) (fits : Fits t) (linked : IsLinked t.current) (i : ℕ) (m : Makes t.draft i) (child : ℕ) (leads : Some child ≡ entry (made_kids_of t.draft i)) where
-  -- it is made, where this fiber is its parent
+  -- it is made, if this fiber is its parent
   pub child_made : (parent : ℕ) → (Holds t.current child → Some parent ≡ parent_of t.current child) → (Makes t.draft child → Some parent ≡ made_parent_of t.draft child)
       → eqb parent i ≡ true → (Some child ≡ made_entry (made_kids_of t.draft i)) × Makes t.draft child
   child_made parent a b e =
@@ -212,7 +212,7 @@ module _ (t : Trees Fiber) (fits : Fits t) (linked : IsLinked t.current) (i : �
       is_same : (parent : ℕ) → eqb parent i ≡ true → parent ≡ i
       is_same parent e = elim (same_or_not parent i) [ inl z ↦ z | inr n ↦ let f = eqb-false parent i n in cc ]
 
-  -- and was taken over, where another is
+  -- and was taken over, if another is
   pub child_taken : (parent : Option ℕ) → (Holds t.current child → parent ≡ parent_of t.current child) → (Makes t.draft child → parent ≡ made_parent_of t.draft child)
       → (parent ≡ Some i → ⊥) → None ≡ made_entry (made_kids_of t.draft i)
   child_taken parent a b n = elim (child_is t fits linked i m child parent leads a b) [ inl z ↦ absurd (n z.0) | inr z ↦ z.1 ]

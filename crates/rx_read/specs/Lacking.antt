@@ -5,7 +5,7 @@ use Rattle.rx_fiber.specs.Fibers.{Stage, waiting, begun, trying, fallback}
 use Rattle.rx_read.specs.declared.numbering.Lack.{Lack}
 use Rattle.rx_read.specs.declared.numbering.Lack.TheVariants.{Nothing, Instance, Host}
 
--- this, where there is no number
+-- this, if there is no number
 abbrev pub without : Lack → Option ℕ → Lack
 without lack None = lack
 without lack (Some n) = Nothing

@@ -29,7 +29,7 @@ fallback_from true kids (Some fs) = fs
 abbrev pub node_from : Fiber → Mark → (kids : Forest) → (behind : Option Forest) → Node
 node_from v m kids behind = node v.element m (primary_from (is_hidden m) kids behind) (fallback_from (is_hidden m) kids behind)
 
--- the places up to that of a fiber, behind so many: vacant ones, and then its node's; nothing where it stands for none
+-- the places up to that of a fiber, behind so many: vacant ones, and then its node's; nothing if it stands for none
 abbrev pub own_places : Option Mark → (place : ℕ) → Fiber → (kids : Forest) → (behind : Option Forest) → List (Option Node)
 own_places None n v kids behind = []
 own_places (Some m) n v kids behind = filled (v.place - n) None ++ Some (node_from v m kids behind) ∷ []

@@ -43,7 +43,7 @@ fn lack_of(stage: &Stage) -> Lack
     }
 }
 
-// A made fiber gets the next number, where it lacks one.
+// A made fiber gets the next number, if it lacks one.
 fn number_fiber(tree: &mut FiberTree<Fiber>, id: FiberId, next: Numbers) -> Numbers
     requires made { Makes tree.old.draft id }
     requires room { (v : fibers.Fiber) → Some v ≡ made_value_of tree.old.draft id → AreHeld (numbered_fiber (numbers_seen next) v).0 }
@@ -70,7 +70,7 @@ fn number_fiber(tree: &mut FiberTree<Fiber>, id: FiberId, next: Numbers) -> Numb
     }
 }
 
-/// The first child of a made fiber, where its children are made too. Those that were taken over have the current fiber for their
+/// The first child of a made fiber, if its children are made too. Those that were taken over have the current fiber for their
 /// parent.
 pub fn made_child(tree: &FiberTree<Fiber>, id: FiberId) -> Option<FiberId>
     requires { Makes tree.now.draft id }

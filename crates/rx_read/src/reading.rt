@@ -87,7 +87,7 @@ fn fill(nodes: &mut Vec<Option<Node>>, place: u32) -> Result<(), AllocError>
 ///
 /// # Errors
 ///
-/// Want of memory alone.
+/// Only if out of memory.
 #[cycle(read)]
 pub fn read_fiber(
     alloc: Global,
@@ -175,7 +175,7 @@ fn read_root(
 ///
 /// # Errors
 ///
-/// Want of memory alone.
+/// Only if out of memory.
 pub fn read_current(alloc: Global, tree: &FiberTree<Fiber>) -> Result<Option<Node>, AllocError>
     ensures { IfOk result (λ n. (x : Option trees.Node) → IsTreeOf x tree.now.current → n ≡ trimmed_if x) }
 {
@@ -188,7 +188,7 @@ pub fn read_current(alloc: Global, tree: &FiberTree<Fiber>) -> Result<Option<Nod
 ///
 /// # Errors
 ///
-/// Want of memory alone.
+/// Only if out of memory.
 pub fn read_in_progress(alloc: Global, tree: &FiberTree<Fiber>) -> Result<Node, AllocError>
     requires { (x : trees.Node) × IsTreeOf (Some x) (grafted tree.now.draft) }
     ensures { IfOk result (λ n. (x : trees.Node) → IsTreeOf (Some x) (grafted tree.now.draft) → n ≡ trimmed x) }

@@ -112,7 +112,7 @@ PaysOpened s kept t st new id bodies at =
     (n : ℕ) (fs : List Frame) (cs : Contexts) (e : Element) (old : Option Node) (us : Flags) → StandsAt t st (Some id) (at_place (suc n) fs cs e old) → IfSettled s.program (known_by s) old → TellsIf s kept old
     → HasLists (shape_of s cs e old) → FlagsAtPlace t id us → Paid s t.current bodies us (at_place (suc n) fs cs e old) (unit s (at_place (suc n) fs cs e old)) new at
 
--- what it pays where a body waits, and the fallback of a boundary opens
+-- what it pays if a body waits, and the fallback of a boundary opens
 abbrev pub PaysWaiting : Sight → (kept : ℕ → Option (List Hook)) → Trees Fiber → Stack → Trees Fiber → Stack → (id bodies r : ℕ) → Trees Fiber → At → Type 0
 PaysWaiting s kept t st new st' id bodies r last at =
     (n : ℕ) (fs : List Frame) (cs : Contexts) (e : Element) (old : Option Node) (us : Flags) → StandsAt t st (Some id) (at_place (suc n) fs cs e old) → TellsIf s kept old → shape_of s cs e old ≡ waiting r
@@ -133,7 +133,7 @@ waits_there s kept t id old e a ns fs was old_is tells unresolved none =
     let there : TellsIf s kept (Some (node e (of_boundary (Hidden a)) ns fs)) = subst (TellsIf s kept) was tells in
     ap (waits_still s) was ∙ there.waits a refl unresolved (none (node e (of_boundary (Hidden a)) ns fs) (subst (IsOld t.current (old_of t.draft id)) was old_is))
 
--- where its fiber tells that it stands as it did, and it has its element, it is untouched
+-- if its fiber tells that it stands as it did, and it has its element, it is untouched
 all_three : (a b c : Bool) → a ≡ true → b ≡ true → c ≡ true → (a && (b && c)) ≡ true
 all_three a b c f g h = rw (f, g, h) refl
 
@@ -200,7 +200,7 @@ boundary_none : (s : Sight) (bodies n : ℕ) (fs : List Frame) (cs : Contexts) (
 boundary_none s bodies n fs cs e old key f es is few =
     let h : bodies ≤ 0 = subst (λ x. bodies ≤ next_counts each_body s (at_place (suc n) fs cs x old)) is few in omega (arith, h)
 
--- where a hidden boundary waits still, past its attempt
+-- if a hidden boundary waits still, past its attempt
 module _ (s : Sight) (t new : Trees Fiber) (st' : Stack) (p n : ℕ) (fs : List Frame) (cs : Contexts) (e : Element) (old : Option Node) (a : Awaits) (linked : IsLinked t.current)
     (h : IsHiddenAgain s t new st' p n fs cs e old a) where
   hidden_old : IsOld t.current (old_of t.draft p) (Some (node (elements.boundary h.key h.fallback h.given) (of_boundary (Hidden a)) h.kept h.shown))
@@ -306,13 +306,13 @@ keeps_if s kept (Some x) h = keeps_node s kept x h
 pub can_begin : (scene : Scene) (kept : ℕ → Option (List Hook)) (t : Trees Fiber) (st : Stack) (id : ℕ) → CanBegin scene kept t st id → IsAtPlace scene.checked.now kept t st id
 can_begin scene kept t st id can = stands can.stands can.there can.drawn (keeps_if can.sight kept can.old can.gives)
 
--- where a body waits, its fiber lies below open nodes
+-- if a body waits, its fiber lies below open nodes
 pub waits_below : (scene : Scene) (kept : ℕ → Option (List Hook)) (t : Trees Fiber) (st : Stack) (new : Trees Fiber) (st' : Stack) (id r : ℕ) → CanBegin scene kept t st id
     → ((s : Sight) → IsSceneOf scene s → BeginsPlace s (is_way scene.ways.now) kept t st new st' id (Suspended r)) → IsOpenBelow new st' id
 waits_below scene kept t st new st' id r can begins =
     let b = begins can.sight can.sees can.levels can.frames can.contexts_are can.element can.old can.stands can.gives can.settled can.covers in lies b.4
 
--- where a hidden boundary waits still, its fallback can be opened
+-- if a hidden boundary waits still, its fallback can be opened
 pub hidden_left : (scene : Scene) (kept : ℕ → Option (List Hook)) (t : Trees Fiber) (st : Stack) (new : Trees Fiber) (st' : Stack) (id : ℕ) (a : Awaits) → CanBegin scene kept t st id
     → ((s : Sight) → IsSceneOf scene s → BeginsPlace s (is_way scene.ways.now) kept t st new st' id (answers.Hidden a)) → IsLeft new id a
 hidden_left scene kept t st new st' id a can begins =
@@ -328,7 +328,7 @@ hidden_tried scene kept t st new id fits can tells = go can.stands
     go (begins_place {v = v} {o = o} {rs = rs} {k = k} here is was surrounds values stack) =
         (is.origin, tells v is.origin (sym (ap made_value_in (is-at t fits k id v o (taken shapes.none) rs here).list)) is.stage)
 
--- where a subtree is taken over, its fiber can be passed
+-- if a subtree is taken over, its fiber can be passed
 pub taken_made : (scene : Scene) (kept : ℕ → Option (List Hook)) (t : Trees Fiber) (st : Stack) (new : Trees Fiber) (st' : Stack) (id : ℕ) → CanBegin scene kept t st id → KnowsPlaces new
     → ((s : Sight) → IsSceneOf scene s → BeginsPlace s (is_way scene.ways.now) kept t st new st' id answers.Taken) → Makes new.draft id
 taken_made scene kept t st new st' id can knows begins =

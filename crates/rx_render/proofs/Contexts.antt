@@ -56,7 +56,7 @@ module _ (base : Contexts) where
   unwind_given levels [] a h = tt
   unwind_given levels (f ∷ fs) a h = past_given levels fs f.node a h.1 h.2 (λ b. unwind_given (suc levels) fs b h.2)
 
-  -- the lists of what stands in a place, where these values are given around it
+  -- the lists of what stands in a place, if these values are given around it
   abbrev ShapeGiven : Element → List (ℕ × ℤ) → Shape → Type 0
   ShapeGiven e ws absent = Unit {0}
   ShapeGiven e ws (waiting r) = Unit {0}

@@ -60,7 +60,7 @@ abbrev pub HaveNoWork : (working : ℕ → Bool) → (kept : ℕ → Option (Lis
 HaveNoWork working kept lanes cut =
     (n : ℕ) (answers : Answers) (hooks : List Hook) (histories : List HookHistory) → working n ≡ false → kept n ≡ Some hooks → HooksStandFor answers hooks histories → has_work_in lanes cut histories ≡ false
 
--- that is so where each in whose hooks it has work is one of these
+-- that is so if each in whose hooks it has work is one of these
 pub others_rest : (working : ℕ → Bool) (kept : ℕ → Option (List Hook)) (lanes : Lanes) (cut : Cut) → AreAllWorking lanes cut kept working → HaveNoWork working kept lanes cut
 others_rest working kept lanes cut all n answers hooks histories off have stand = go (has_work_in lanes cut histories) refl
   where

@@ -37,7 +37,7 @@ no_wait p bounded s old same units bodies a h =
     let f : waits a ≡ made n = h.gives_fresh ∙ e in
     cc
 
--- what a render has made where no unit is left
+-- what a render has made when no unit is left
 abbrev Ends : Trees Fiber → Sight → Option Node → (units bodies : ℕ) → Type 0
 Ends t s old units bodies =
     (x : Node) × IsTreeOf (Some x) (grafted t.draft) × (fresh s old ≡ made x) × (bodies < units) × (bodies ≡ length (evaluated_places s old)) × AreEvaluated s old
@@ -62,7 +62,7 @@ bounded_as s old b units bodies t st _ _ (to_end h) g = omega (arith, holds_unfi
 bounded_as s old b units bodies t st _ _ (to_tree h) g = tt
 bounded_as s old b units bodies t st _ _ to_wait g = tt
 
--- where a unit is left fewer were taken than the bound
+-- if a unit is left fewer were taken than the bound
 pub come_bounded : (s : Sight) (old : Option Node) (v : Rendering) → IsBounded s.program → HasCome s old v → IfLeft v.at (v.units < unit_bound s.program)
 come_bounded s old v bounded h = bounded_as s old bounded v.units v.bodies v.trees v.contexts v.at h.cursor h.comes h.goes
 

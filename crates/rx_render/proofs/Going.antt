@@ -63,7 +63,7 @@ use Rattle.rx_render.proofs.Ending.{come_bounded}
 abbrev pub DrawsPlace : Type 0
 DrawsPlace = (p : Program) (n : ℕ) (fs : List Frame) (cs : Contexts) (e : Element) (o : Option Node) → CursorDrawn p (at_place n fs cs e o) → IsDrawn p e
 
--- Where a unit is left
+-- If a unit is left
 
 pub is_left : (at : At) (bound units : ℕ) → 0 < units_left at bound units → {A : Type 0} → IfLeft at A → A
 is_left (Begins id) bound units h a = a
@@ -107,7 +107,7 @@ renders_sees p st g v r = record { program = sym r.program; resources = r.resour
 renders_give : (p : Program) (st : State) (g : Progress) (v : Rendering) → Renders p st g v → GivesAll (sight_of p st g) st.tree (kept_hooks v.hooks)
 renders_give p st g v r k m at = keeps-give p st g (kept_hooks v.hooks) m.number m.initials r.done (each-keeps p st (kept_hooks v.hooks) r.keeps k m at)
 
--- where a render is in progress one is under way
+-- if a render is in progress one is under way
 pub renders_under_way : (st : State) (g : Progress) (v : Rendering) → Renders v.program st g v → IsUnderWay v
 renders_under_way st g v r =
     record { sight = sight_of v.program st g; tree = st.tree; sees = renders_sees v.program st g v r; gives = renders_give v.program st g v r; current = r.current; settled = r.settled; waits = r.waits; reads = r.reads; covers = r.covers; come = r.come }
@@ -347,13 +347,13 @@ stepped inside t hooks st next evaluated same current keeps still advances =
       advances = λ s sees. subst (λ n. Advances s (is_way inside.ways) (kept_hooks inside.hooks) inside.trees inside.contexts inside.at n t st next) (sym same) (advances s sees);
     }
 
--- a fact that follows where a unit is left
+-- a fact that follows if a unit is left
 then_left : (at : At) {A : Type 0} (B : Type 0) → IfLeft at A → (A → IfLeft at B) → IfLeft at B
 then_left (Begins id) B a f = f a
 then_left (Completes id) B a f = f a
 then_left Over B a f = tt
 
--- where a unit is left of a rendering, fewer were taken than its render may take
+-- if a unit is left of a rendering, fewer were taken than its render may take
 rendering_bounded : (v : Rendering) → IsRendering v → IfLeft v.at (v.units < unit_bound v.program)
 rendering_bounded v is =
     then_left v.at (v.units < unit_bound v.program) is.under_way
@@ -382,14 +382,14 @@ if_busy (Begins id) a e = a
 if_busy (Completes id) a e = a
 if_busy Over a e = absurd (let f : ⊥ = cc in f)
 
--- units are left where it is not over
+-- units are left if it is not over
 pub some_left : (v : Rendering) → IsRendering v → is_over v.at ≡ false → 0 < left_of v
 some_left v is e =
     let way = if_busy v.at is.under_way e in
     some_units v.at (unit_bound v.program) v.units
     (subst (λ p. v.units < unit_bound p) way.sees.program (if_busy v.at (come_bounded way.sight way.tree v (subst IsBounded (sym way.sees.program) is.bounded) way.come) e)) e
 
--- a rendering that is over is one, where its trees are gathered
+-- a rendering that is over is one, if its trees are gathered
 pub ended_rendering : (old new : Rendering) → IsRendering old → new.program ≡ old.program → new.at ≡ Over → IsGathered new.trees.current → IsGathered (grafted new.trees.draft) → IsRendering new
 ended_rendering old new is same over current draft =
     record {
@@ -409,7 +409,7 @@ pub dropped_rendering : (old new : Rendering) → IsRendering old → new.progra
 dropped_rendering old new is same over trees =
     over_rendering old new is same over (ap (λ t. t.current) trees) (subst (λ t. IsGathered (grafted t.draft)) (sym trees) tt)
 
--- what is there where no unit is left is gathered
+-- what is there when no unit is left is gathered
 pub over_gathered : (v : Rendering) → IsRendering v → v.at ≡ Over → IsGathered (grafted v.trees.draft)
 over_gathered v is over = subst (IsGathering v.trees) over is.gathering
 

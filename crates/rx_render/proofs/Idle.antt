@@ -1,4 +1,4 @@
--- A node that is idle is rendered to itself, where the current fiber stands that a clone was made for.
+-- A node that is idle is rendered to itself, if the current fiber stands that a clone was made for.
 use Rattle.std.specs.Prelude.{◌≡◌, ℕ, ℤ, Bool, true, false, List, Option, Some, None}
 use Rattle.std.proofs.Common.{subst}
 use Rattle.rx_elem.specs.Trees.{Node, node, Forest, none, vacant, child, is_hidden, element_of}
@@ -90,6 +90,6 @@ module _ (s : Sight) (c : Shape Fiber) (linked : IsLinked c) (base : Contexts) (
       let y = stood_has ReadsHold reads_down c linked base tree is (root_reads base tree reads) ws o stood in
       reads_same (given_contexts base ws) y.node_is x (same_trimmed c o y.node_is x y.is old) y.has
 
-  -- So it is rendered to itself where it is idle.
+  -- So it is rendered to itself if it is idle.
   pub idle_here : (n : ℕ) → IsSettled s.program (known_by s) x → IsIdle s x → Fits n s.program (element_of x) → rendered n s (given_contexts base ws) (element_of x) (Some x) ≡ made x
   idle_here n settled idle fits = idle_again n s (given_contexts base ws) x settled idle reads_here fits

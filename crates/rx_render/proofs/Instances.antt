@@ -109,7 +109,7 @@ tree_instances (Some x) = node_within (Some x) at_root x (λ m h. h)
 pub start_instances : (s : Sight) (tree : Option Node) → CursorHas (HasInstances tree) (start s tree)
 start_instances s tree = start_has (HasInstances tree) (goes_down tree) s tree (tree_instances tree)
 
--- So each is settled where the old tree is.
+-- So each is settled if the old tree is.
 
 module _ (tree : Option Node) where
   all_go : (ns : Forest) → ((p : Program) (k : Known) → IfSettled p k tree → AllSettled p k ns) → ((way : ℕ → Bool) (s : Sight) → CoversIf way (IsIdleMark s) tree → CoversIn way (IsIdleMark s) ns)

@@ -58,7 +58,7 @@ later_sees p g st later past l =
     let journal : record { updates = st.journal.updates ++ l.new; resolutions = st.journal.resolutions ++ l.more } ≡ later.journal = rw (← l.updates, ← l.resolutions) refl in
     subst (SeesSame (sight_of p st g)) journal (longer_sees_same (sight_of p st g) l.new l.more l.after past.resolutions)
 
--- so does it where no lanes are seen
+-- so does it if no lanes are seen
 later_sees_without : (p : Program) (g : Progress) (st later : State) → IsPast g.cut st.journal → IsLater g st later → SeesSame (without_lanes (sight_of p st g)) later.journal
 later_sees_without p g st later past l =
     let journal : record { updates = st.journal.updates ++ l.new; resolutions = st.journal.resolutions ++ l.more } ≡ later.journal = rw (← l.updates, ← l.resolutions) refl in

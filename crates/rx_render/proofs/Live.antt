@@ -50,23 +50,23 @@ module _ (room : BothHaveRoom) (p : Program) (bounded : IsBounded p) (s : Sight)
   comes_few _ c (to_tree h) goes reached = stands_few None c goes reached h
   comes_few _ _ (to_wait {a = a}) goes reached = absurd (no_wait p bounded s tree same units bodies a goes)
 
--- where a render has come, there are at most three fibers for each node of the bound
+-- if a render has come so far, there are at most three fibers for each node of the bound
 come_few : BothHaveRoom → (s : Sight) (tree : Option Node) (v : Rendering) → IsBounded v.program → s.program ≡ v.program → IsTree v.program tree → IsTreeOf tree v.trees.current → HasCome s tree v
     → size v.trees.current + made_size v.trees.draft ≤ 3 * node_bound v.program
 come_few room s tree v bounded same is current come =
     comes_few room v.program bounded s same tree is v.units v.bodies v.trees current v.contexts v.at come.cursor come.comes come.goes come.reached
 
--- so where a render of the machine is in progress
+-- so if a render of the machine is in progress
 pub renders_few : BothHaveRoom → (v : Rendering) → IsBounded v.program → (st : State) (g : Progress) → Renders v.program st g v → IsTree v.program st.tree
     → size v.trees.current + made_size v.trees.draft ≤ 3 * node_bound v.program
 renders_few room v bounded st g r is = come_few room (sight_of v.program st g) st.tree v bounded refl is r.current r.come
 
--- and where one is under way
+-- and if one is under way
 pub way_few : BothHaveRoom → (v : Rendering) → IsBounded v.program → (way : IsUnderWay v) → IsTree v.program way.tree
     → size v.trees.current + made_size v.trees.draft ≤ 3 * node_bound v.program
 way_few room v bounded way is = come_few room way.sight way.tree v bounded way.sees.program is way.current way.come
 
--- where nothing is in progress, at most two
+-- if nothing is in progress, at most two
 pub idle_few : CurrentHasRoom → TreesAreSmall → (v : Rendering) → IsBounded v.program → (tree : Option Node) → v.trees.draft ≡ taken shapes.none → IsTreeOf tree v.trees.current
     → IsTree v.program tree → size v.trees.current + made_size v.trees.draft ≤ 2 * node_bound v.program
 idle_few few small v bounded tree empty current is =

@@ -116,7 +116,7 @@ passed_flags t new id r fits fits_new takes next us x h was =
     subst (λ y. HasFlags new (at_after y) us) (sym next)
     (after_flags new us (next_after new.draft id) (passes new id (taken (kids_under t.current h.flags.old)) us fits_new there))
 
--- what opens the fallback of a boundary says of its fibers: they stood exactly where the boundary did, and are of the generation of its own element
+-- what opens the fallback of a boundary says of its fibers: they stood exactly if the boundary did, and are of the generation of its own element
 abbrev pub SaysFallback : Trees Fiber → Trees Fiber → ℕ → Opened → Type 0
 SaysFallback t new q f =
     (v : Fiber) → Some v ≡ made_value_of t.draft q → (again : Bool) × TellsAgain t.current (old_of t.draft q) v again

@@ -120,7 +120,7 @@ both_left (Begins id) a b f = f a b
 both_left (Completes id) a b f = f a b
 both_left Over a b f = tt
 
--- one to whose hooks an update is sent is one, where a unit is left if the cut lies before it
+-- one to whose hooks an update is sent is one, if the cut lies before it whenever a unit is left
 pub sent_rendering : {T E : Type 0} (result : Result T E) (old : Rendering) (hooks : Kept) (w : LaneWord) (u : Update) (pending : Lanes) (place i : ℕ)
     → OnOk result (ChangesHooks (changed_at place (dispatched_hook w u pending)) i (kept_hooks old.hooks) (kept_hooks hooks))
     → OnErr result ((n : ℕ) → kept_hooks hooks n ≡ kept_hooks old.hooks n) → IfLeft old.at (old.cut.updates ≤ u.number) → IsRendering old → IsRendering (with_hooks old hooks)
@@ -217,7 +217,7 @@ with_kept v hooks p st g keeps r =
       costs = record { flags = r.costs.flags; are = r.costs.are; counted = r.costs.counted; undue = r.costs.undue };
     }
 
--- so it is where memory ran out
+-- so it is if memory ran out
 unsent_renders : (v : Rendering) (hooks : Kept) → ((n : ℕ) → kept_hooks hooks n ≡ kept_hooks v.hooks n) → (p : Program) (st : State) (g : Progress) → Renders p st g v
     → Renders p st g (with_hooks v hooks)
 unsent_renders v hooks same p st g r = with_kept v hooks p st g (all_stay st st refl refl p (kept_hooks v.hooks) (kept_hooks hooks) refl same r.keeps) r

@@ -21,7 +21,7 @@ StandSettled old new first v hooks =
     (s : State) (g : Progress) (x : Node) → IsSettlingOf v.program (kept_hooks v.hooks) old new first v.lanes v.cut s g x
     → KeepsAllHooks v.program (committed_state s g (numbered s.numbers x)) (kept_hooks hooks)
 
--- hooks stand for whatever they stood for, where what is done lies before the cut
+-- hooks stand for whatever they stood for, if what is done lies before the cut
 abbrev pub StandOn : Rendering → Kept → Type 0
 StandOn v hooks = (s : State) → DoneBefore v.cut s.journal.updates → KeepsAllHooks v.program s (kept_hooks v.hooks) → KeepsAllHooks v.program s (kept_hooks hooks)
 

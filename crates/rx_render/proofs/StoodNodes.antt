@@ -1,4 +1,4 @@
--- What goes down a tree to all that is shown holds of the node of a current fiber, where that stands.
+-- What goes down a tree to all that is shown holds of the node of a current fiber, if that stands.
 use Rattle.std.specs.Prelude.{◌≡◌, ℕ, ℤ, zero, suc, false, List, [], Option, Some, None, option_map, refl}
 use Rattle.std.proofs.Common.{sym, ap, ◌∙◌, subst}
 use Rattle.rx_elem.specs.Elements.{Element}
@@ -80,7 +80,7 @@ pub record HandsDown (P : Contexts → Node → Type 0) : Type 0 where
   pub fallbacks : (cs : Contexts) (e : Element) (m : Mark) (ns fs : Forest) → P cs (node e m ns fs) → AllHave (P cs) fs
 
 module _ (P : Contexts → Node → Type 0) (hands : HandsDown P) (c : Shape Fiber) (linked : IsLinked c) (base : Contexts) where
-  -- a node of the current fiber has the property, where these values are given
+  -- a node of the current fiber has the property, if these values are given
   pub record NodeHas (ws : List (ℕ × ℤ)) (o : Option ℕ) : Type 0 where
     pub node_is : Node
     pub is : IsOld c o (Some node_is)
@@ -120,7 +120,7 @@ module _ (P : Contexts → Node → Type 0) (hands : HandsDown P) (c : Shape Fib
         by_tree None h old = absurd (no_fiber c i old)
         by_tree (Some x) h old = record { node_is = x; is = old; has = h }
 
-    -- Where a current fiber stands, its node has with the values that are given there what the tree has at its root.
+    -- If a current fiber stands, its node has with the values that are given there what the tree has at its root.
     pub stood_has : (ws : List (ℕ × ℤ)) (o : Option ℕ) → StoodAt c ws o → NodeHas ws o
     stood_has _ _ (at_root {i = i} f) = root_has i f
     stood_has _ _ (below {ws = ws} {q = q} {i = i} {v = v} place h here shown at) =

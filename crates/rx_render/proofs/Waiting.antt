@@ -1,4 +1,4 @@
--- A hidden boundary waits again, where the current fiber stands that a clone was made for.
+-- A hidden boundary waits again, if the current fiber stands that a clone was made for.
 use Rattle.std.specs.Prelude.{◌≡◌, ℕ, ℤ, Bool, true, false, List, Option, Some, None}
 use Rattle.std.proofs.Common.{sym, ap, subst}
 use Rattle.rx_base.specs.Awaits.{Awaits}

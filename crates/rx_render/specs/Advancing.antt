@@ -50,7 +50,7 @@ abbrev pub at_opened : Opened → At
 at_opened (First id) = Begins id
 at_opened (Empty id) = Completes id
 
--- The render stands at a place of this fiber, at which it sees this scene, the hooks give it the values of all instances of the old node, and that is settled, and idle where it stands on no way: what stands there is an element that the program draws and for which there is a node.
+-- The render stands at a place of this fiber, at which it sees this scene, the hooks give it the values of all instances of the old node, and that is settled, and idle if it stands on no way: what stands there is an element that the program draws and for which there is a node.
 pub record CanBegin (scene : Scene) (kept : ℕ → Option (List Hook)) (t : Trees Fiber) (st : Stack) (q : ℕ) : Type 0 where
   pub sight : Sight
   pub sees : IsSceneOf scene sight
@@ -75,7 +75,7 @@ IsReadyAt scene kept t st (Begins id) = CanBegin scene kept t st id
 IsReadyAt scene kept t st (Completes id) = IsAtEnd t st id
 IsReadyAt scene kept t st Over = ⊥
 
--- the hooks give the values of all instances of the old node at the place of a cursor, and that is settled, and idle where it stands on no way
+-- the hooks give the values of all instances of the old node at the place of a cursor, and that is settled, and idle if it stands on no way
 abbrev pub GivesAt : Sight → (way : ℕ → Bool) → (kept : ℕ → Option (List Hook)) → Cursor → Type 0
 GivesAt s way kept (at_place levels fs cs e old) = GivesHooksIf s kept old × IfSettled s.program (known_by s) old × CoversIf way (IsIdleMark s) old
 GivesAt s way kept (at_end levels fs o done) = Unit {0}
@@ -93,7 +93,7 @@ pub data Goes (s : Sight) (current : Shape Fiber) (bodies : ℕ) : (before after
       → bodies ≡ 0 → IsLinked current → StoodAt current (given_along fs) o ⊎ ReadsHold cs x → IsOld current o (Some x) → element_of x ≡ e → IsIdle s x
       → Goes s current bodies (at_place (suc n) fs cs e (Some x)) (arrive (suc n) fs (Some x))
 
--- what the parts come to from a cursor, with so many bodies; and what these cost, where the hooks tell which causes there are
+-- what the parts come to from a cursor, with so many bodies; and what these cost, if the hooks tell which causes there are
 pub record ComesFrom (s : Sight) (way : ℕ → Bool) (kept : ℕ → Option (List Hook)) (before : Trees Fiber) (from : At) (c : Cursor) (bodies : ℕ) (after : Trees Fiber) (st : Stack) (at : At) : Type 0 where
   pub next : Cursor
   pub goes : Goes s before.current bodies c next

@@ -29,13 +29,13 @@ use Rattle.begin_laws.specs.Telling.{TellsIf}
 use Rattle.rx_render.specs.declared.at.At.{At}
 use Rattle.rx_render.specs.declared.at.At.TheVariants.{Begins, Completes, Over}
 
--- the flags of the lists that are open, where the next unit does this
+-- the flags of the lists that are open, if the next unit does this
 abbrev pub HasFlags : Trees Fiber → At → Flags → Type 0
 HasFlags t (Begins id) us = FlagsAtPlace t id us
 HasFlags t (Completes id) us = FlagsAtEnd t id us
 HasFlags t Over us = Unit {0}
 
--- the hooks tell which causes the old node at the place of a cursor has, and the ways cover it: no update is due where it stands on none
+-- the hooks tell which causes the old node at the place of a cursor has, and the ways cover it: no update is due if it stands on none
 abbrev pub CausesAt : Sight → (way : ℕ → Bool) → (kept : ℕ → Option (List Hook)) → Cursor → Type 0
 CausesAt s way kept (at_place levels fs cs e old) = TellsIf s kept old × CoversIf way (IsUndue s) old
 CausesAt s way kept (at_end levels fs o done) = Unit {0}
@@ -55,7 +55,7 @@ pub data UnitPays (s : Sight) (current : Shape Fiber) (bodies : ℕ) (us : Flags
       → bodies ≡ 0 → IsLinked current → StoodAt current (given_along fs) o ⊎ ReadsHold cs x → IsOld current o (Some x) → element_of x ≡ e → IsIdle s x → ForEach (IsUndue s) x → (flag us).generation ≡ 0
       → UnitPays s current bodies us (at_place (suc n) fs cs e (Some x)) us (arrive (suc n) fs (Some x))
 
--- so many bodies are paid where the parts come to a cursor, and these are the flags there
+-- so many bodies are paid if the parts come to a cursor, and these are the flags there
 pub record Paid (s : Sight) (current : Shape Fiber) (bodies : ℕ) (us : Flags) (before : Cursor) (after : Cursor) (t : Trees Fiber) (at : At) : Type 0 where
   pub flags : Flags
   pub are : HasFlags t at flags

@@ -1,4 +1,4 @@
--- Where a render in progress has gathered what is at or below its fibers.
+-- When a render in progress has gathered what is at or below its fibers.
 use Rattle.std.specs.Prelude.{◌≡◌, ℕ, Option}
 use Rattle.rx_lists.specs.Shapes.{none}
 use Rattle.rx_links.specs.Drafts.{Draft, taken, made, Trees, grafted}
@@ -26,7 +26,7 @@ pub record GatheredHere (t : Trees Fiber) (p : ℕ) : Type 0 where
   pub gathered : AroundGathered around
   pub follow : AllBare rest
 
--- what is done around the end of a list is gathered, where the node of this fiber is completed next
+-- what is done around the end of a list is gathered, if the node of this fiber is completed next
 pub record GatheredAtEnd (t : Trees Fiber) (q : ℕ) : Type 0 where
   pub inner : Around Fiber
   pub here : t.draft ≡ placed inner (taken none)
@@ -37,7 +37,7 @@ pub record GatheredAtEnd (t : Trees Fiber) (q : ℕ) : Type 0 where
   pub up : above_list inner ≡ below q value old rest around
   pub gathered : AroundGathered inner
 
--- what is done is gathered, where the next unit does this; where no unit is left, all that is there is
+-- what is done is gathered, if the next unit does this; if no unit is left, all that is there is
 abbrev pub IsGathering : Trees Fiber → At → Type 0
 IsGathering t (Begins id) = GatheredHere t id
 IsGathering t (Completes id) = GatheredAtEnd t id

@@ -5,7 +5,7 @@ use Rattle.rx_loop.specs.declared.work.Unit.TheVariants.{More, Last}
 use Rattle.rx_render.specs.declared.at.At.{At}
 use Rattle.rx_render.specs.declared.at.At.TheVariants.{Begins, Completes, Over}
 
--- the unit that has come there is the last where no unit is left
+-- the unit that has come there is the last if no unit is left
 abbrev pub unit_before : At → Unit
 unit_before (Begins id) = More
 unit_before (Completes id) = More

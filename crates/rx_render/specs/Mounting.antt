@@ -8,7 +8,7 @@ use Rattle.commit_laws.specs.Idle.{IsIdleMark}
 use Rattle.rx_ways.specs.Ways.{Covers, CoversIf}
 use Rattle.cost_laws.specs.Undue.{IsUndue}
 
--- a node is settled where the tree is, and ways that cover the tree for a render cover it
+-- a node is settled if the tree is, and ways that cover the tree for a render cover it
 pub record GoesWith (tree : Option Node) (x : Node) : Type 0 where
   pub settles : (p : Program) (k : Known) → IfSettled p k tree → IsSettled p k x
   pub covered : (way : ℕ → Bool) (s : Sight) → CoversIf way (IsIdleMark s) tree → Covers way (IsIdleMark s) x

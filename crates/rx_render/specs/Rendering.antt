@@ -33,7 +33,7 @@ pub record Rendering : Type 0 where
   pub units : ℕ
   pub bodies : ℕ
 
--- a fact that is asked where a unit is left
+-- a fact that is asked if a unit is left
 abbrev pub IfLeft : At → Type 0 → Type 0
 IfLeft (Begins id) A = A
 IfLeft (Completes id) A = A
@@ -54,7 +54,7 @@ pub record HasNoRender (v : Rendering) : Type 0 where
   pub over : v.at ≡ Over
   pub empty : v.trees.draft ≡ taken shapes.none
 
--- The trees, the stack and what the next unit does say where a render stands. It may be over with a wait, where no boundary stands above: no program that is accepted comes there.
+-- The trees, the stack and what the next unit does say where a render stands. It may be over with a wait, if no boundary stands above: no program that is accepted comes there.
 pub data ComesTo (t : Trees Fiber) (st : Stack) : At → Cursor → Type 0 where
   to_place : {id levels : ℕ} {fs : List Frame} {cs : Contexts} {e : Element} {old : Option Node}
       → StandsAt t st (Some id) (at_place levels fs cs e old) → ComesTo t st (Begins id) (at_place levels fs cs e old)

@@ -60,12 +60,12 @@ pub record HasCome (s : Sight) (tree : Option Node) (v : Rendering) : Type 0 whe
   pub drawn : CursorDrawn s.program cursor
   pub given : CursorGiven (default_contexts s.program) cursor
   pub olds : CursorHas (HasInstances tree) cursor
-  -- and each old node is settled and covered where the tree is
+  -- and each old node is settled and covered if the tree is
   pub rests : CursorHas (GoesWith tree) cursor
   -- a render over the tree comes there
   pub reached : IsReached s.program tree cursor
 
--- What a rendering has cost so far at a cursor: with the bodies that are left to it, those of the whole render. No update is due where the tree stands on no way.
+-- What a rendering has cost so far at a cursor: with the bodies that are left to it, those of the whole render. No update is due if the tree stands on no way.
 pub record HasCosts (s : Sight) (tree : Option Node) (v : Rendering) (c : Cursor) : Type 0 where
   pub flags : Flags
   pub are : HasFlags v.trees v.at flags
@@ -101,7 +101,7 @@ pub record Renders (p : Program) (st : State) (g : Progress) (v : Rendering) : T
   pub come : HasCome (sight_of p st g) st.tree v
   pub costs : HasCosts (sight_of p st g) st.tree v come.cursor
 
--- a render is under way: what it is over is the current tree, which is settled, whose hidden boundaries wait again and whose reads hold, which is idle where it stands on no way, and hooks give it the values of the instances there
+-- a render is under way: what it is over is the current tree, which is settled, whose hidden boundaries wait again and whose reads hold, which is idle if it stands on no way, and hooks give it the values of the instances there
 pub record IsUnderWay (v : Rendering) : Type 0 where
   pub sight : Sight
   pub tree : Option Node
@@ -114,7 +114,7 @@ pub record IsUnderWay (v : Rendering) : Type 0 where
   pub covers : CoversIf (is_way v.ways) (IsIdleMark sight) tree
   pub come : HasCome sight tree v
 
--- what holds of each rendering: its program is accepted, and where a unit is left a render is under way
+-- what holds of each rendering: its program is accepted, and if a unit is left a render is under way
 pub record IsRendering (v : Rendering) : Type 0 where
   pub known : unknowns v.program ≡ []
   pub bounded : IsBounded v.program
@@ -137,7 +137,7 @@ pub record IsStartOf (st : State) (lanes : Lanes) (cut : Cut) (resources : List 
   pub numbered : IfNumbered st.tree
   pub apart : (next : ℕ) × HasOwnNumbers next st.tree
 
--- A cause stands at the instance with this number or below it, where these instances alone stir, in whose hooks a render for these lanes at this cut has work; or a boundary there is hidden.
+-- A cause stands at the instance with this number or below it, if these instances alone stir, in whose hooks a render for these lanes at this cut has work; or a boundary there is hidden.
 pub record LeadsToWork (lanes : Lanes) (cut : Cut) (kept : ℕ → Option (List Hook)) (n : ℕ) (tree : Option Node) : Type 0 where
   pub these : ℕ → Bool
   pub work : AreOnlyWorking lanes cut kept these

@@ -8,7 +8,7 @@ use Rattle.rx_render.specs.declared.at.At.TheVariants.{Over}
 use Rattle.rx_render.specs.Rendering.{Rendering, HasNoRender}
 use Rattle.rx_render.specs.Renders.{Renders}
 
--- hooks that stood for a state still do, where what is done lies before the cut
+-- hooks that stood for a state still do, if what is done lies before the cut
 abbrev pub KeepsHooks : (before after : Rendering) → Type 0
 KeepsHooks x y = (st : State) → DoneBefore x.cut st.journal.updates → KeepsAllHooks x.program st (kept_hooks x.hooks) → KeepsAllHooks y.program st (kept_hooks y.hooks)
 

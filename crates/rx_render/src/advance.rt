@@ -83,7 +83,7 @@ fn complete_node(tree: &mut FiberTree<Fiber>, id: FiberId, contexts: &mut Contex
     at_after(complete(tree, id, contexts))
 }
 
-// A place waits: what is tried around it is given up, and the fallback of the nearest boundary opens. Where none stands above,
+// A place waits: what is tried around it is given up, and the fallback of the nearest boundary opens. If none stands above,
 // nothing is left in progress.
 fn suspend(
     alloc: Global,
@@ -181,14 +181,14 @@ fn try_advance<L: Ledger>(
     }
 }
 
-/// Begins the place of a fiber, or completes its node, as one unit of a render. Where its body waits, what is tried around it
-/// is given up, and the fallback of the nearest boundary opens within the same unit (react.dev, Suspense); where a hidden
-/// boundary waits still, its fallback opens at once, and where a subtree is taken over the render passes on to what follows it
+/// Begins the place of a fiber, or completes its node, as one unit of a render. If its body waits, what is tried around it
+/// is given up, and the fallback of the nearest boundary opens within the same unit (react.dev, Suspense); if a hidden
+/// boundary waits still, its fallback opens at once, and if a subtree is taken over the render passes on to what follows it
 /// (React's bailout). Also answered is whether a body was evaluated.
 ///
 /// # Errors
 ///
-/// Out of memory alone. Then nothing is left in progress.
+/// Only if out of memory. Then nothing is left in progress.
 pub(crate) fn advance<L: Ledger>(
     alloc: Global,
     tree: &mut FiberTree<Fiber>,

@@ -32,7 +32,7 @@ pub fn renders_stay()
     ensures resolved { (p : Program) (st : State) (g : Progress) (v : Rendering) (resource : ℕ) (value : ℤ) → Renders p st g v → Renders p (with_value st resource value) g v }
 {}
 
-/// Where no unit is left, the tree in progress is that of the node that fresh rendering gives, and there were fewer bodies
+/// If no unit is left, the tree in progress is that of the node that fresh rendering gives, and there were fewer bodies
 /// than units. These are the bodies of a set of places: each that has a cause is in it, and each in it has one, or lies below a
 /// place that has one or that is tried again; none is there twice.
 pub fn renders_end()
@@ -41,7 +41,7 @@ pub fn renders_end()
         × (v.bodies ≡ length (evaluated_places (sight_of p st g) st.tree)) × AreEvaluated (sight_of p st g) st.tree }
 {}
 
-/// Where a unit is left, fewer were taken than the bound of the machine.
+/// If a unit is left, fewer were taken than the bound of the machine.
 pub fn renders_are_bounded()
     ensures { (p : Program) → IsBounded p → (st : State) (g : Progress) (v : Rendering) → Renders p st g v → IfLeft v.at (v.units < unit_bound p) }
 {}

@@ -116,7 +116,7 @@ impl Renderer {
     ///
     /// # Errors
     ///
-    /// Want of memory alone.
+    /// Only if out of memory.
     pub fn new(alloc: Global, checked: Checked) -> Result<Renderer, AllocError>
         ensures program { IfOk result (λ r. r.program ≡ checked) }
         ensures current { IfOk result (λ r. r.trees.current ≡ none) }
@@ -271,7 +271,7 @@ impl Renderer {
     ///
     /// # Errors
     ///
-    /// Want of memory alone. Then nothing is in progress.
+    /// Only if out of memory. Then nothing is in progress.
     pub fn start(
         &mut self,
         lanes: Lanes,
@@ -288,7 +288,7 @@ impl Renderer {
         ensures current { self.new.trees.current ≡ self.old.trees.current }
         ensures hooks { self.new.hooks ≡ self.old.hooks }
 
-        // An instance stands on a way only where it, or one below it, has work for this render, or a boundary there is hidden.
+        // An instance stands on a way only if it, or one below it, has work for this render, or a boundary there is hidden.
         ensures ways { OnOk result ((tree : Option trees.Node) (n : ℕ) → IsTreeOf tree self.old.trees.current → is_way self.new.ways n ≡ true → LeadsToWork lanes cut (kept_hooks self.old.hooks) n tree) }
         ensures idle { OnErr result (HasNoRender self.new) }
     {
@@ -326,7 +326,7 @@ impl Renderer {
     ///
     /// # Errors
     ///
-    /// Want of memory alone.
+    /// Only if out of memory.
     pub fn finished(&self, old: Option<&Node>) -> Result<Beside, AllocError>
         requires finished { (x : trees.Node) × IsTreeOf (Some x) (grafted self.now.trees.draft) }
         requires current { (y : Option trees.Node) × (IsTreeOf y self.now.trees.current × (option_copied old ≡ trimmed_if y)) }
@@ -357,7 +357,7 @@ impl Renderer {
     ///
     /// # Errors
     ///
-    /// Want of memory alone. The hooks then stand for whatever they stood for, and the render is still finished.
+    /// Only if out of memory. The hooks then stand for whatever they stood for, and the render is still finished.
     pub fn settle(
         &mut self,
         old: Option<&Node>,
@@ -408,7 +408,7 @@ impl Renderer {
     ///
     /// # Errors
     ///
-    /// Want of memory alone.
+    /// Only if out of memory.
     pub fn dispatch(
         &mut self,
         instance: u64,
@@ -424,7 +424,7 @@ impl Renderer {
         ensures err { OnErr result ((n : ℕ) → kept_hooks self.new.hooks n ≡ kept_hooks self.old.hooks n) }
         ensures spare { self.new.hooks.spare ≡ self.old.hooks.spare }
 
-        // What is kept stands for the machine's state after the dispatch, where this is the next update that it accepts.
+        // What is kept stands for the machine's state after the dispatch, if this is the next update that it accepts.
         ensures states { OnOk result ((p : Program) (s : State) → update.number ≡ length s.journal.updates → update.lane ≡ lane_of s word → pending ≡ s.schedule.pending
             → KeepsAllHooks p s (kept_hooks self.old.hooks) → KeepsAllHooks p (dispatched_for s word (hook instance place) update.op) (kept_hooks self.new.hooks)) }
         ensures links { IfOk result (λ lanes. (p : Program) (s : State) (initials : List ℤ) → KeepsInstance p s (kept_hooks self.old.hooks) instance initials
@@ -441,7 +441,7 @@ impl Renderer {
         self.hooks.dispatch(instance, place, word, update, pending)
     }
 
-    // Does one unit. Where memory runs out no unit is left.
+    // Does one unit. If memory runs out no unit is left.
     fn try_unit<L: Ledger>(&mut self, steps: &mut Steps<L>) -> Result<Unit, AllocError>
         requires { 0 < left_of self.old }
         ensures falls { OnOk result (left_of self.new < left_of self.old) }
@@ -480,7 +480,7 @@ impl Renderer {
     }
 }
 
-/// A unit begins the place of a fiber or completes its node. Where memory runs out the render is given up.
+/// A unit begins the place of a fiber or completes its node. If memory runs out the render is given up.
 impl Units for Renderer {
     ghost left = { left_of };
 

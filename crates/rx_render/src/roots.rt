@@ -22,11 +22,11 @@ fn default_of(context: &Context) -> Int
     }
 }
 
-/// The values of the contexts where no provider stands above, by their numbers (react.dev, createContext).
+/// The values of the contexts with no provider above, by their numbers (react.dev, createContext).
 ///
 /// # Errors
 ///
-/// Want of memory alone.
+/// Only if out of memory.
 pub(crate) fn default_contexts(alloc: Global, checked: &Checked) -> Result<Vec<Int>, AllocError>
     ensures { IfOk result (λ v. v.items ≡ default_contexts checked.now) }
 {
@@ -43,7 +43,7 @@ pub(crate) fn default_contexts(alloc: Global, checked: &Checked) -> Result<Vec<I
 ///
 /// # Errors
 ///
-/// Want of memory alone.
+/// Only if out of memory.
 pub(crate) fn root_element(alloc: Global, checked: &Checked) -> Result<Element, AllocError>
     ensures { IfOk result (λ e. e ≡ root_element checked.now) }
 {

@@ -188,6 +188,6 @@ to_by_name attrs l = sorted_from_all_adjacent nat_list_cmp_total (map (λ a. a.n
 pub same_by_name : (xs ys : List Attr) → AreByName xs → AreByName ys → ((x : Name) → value_named xs x ≡ value_named ys x) → xs ≡ ys
 same_by_name xs ys l m values = same_attrs xs ys (from_by_name xs l) (from_by_name ys m) values
 
--- attributes that were put in order stand in the order of their names, where these are their own
+-- attributes that were put in order stand in the order of their names, if these are their own
 pub put_by_name : (attrs : List Attr) → HaveOwnNames (by_name attrs) → AreByName (by_name attrs)
 put_by_name attrs own = to_by_name (by_name attrs) (in_order attrs own)

@@ -104,7 +104,7 @@ pub goes_down : (f : HostForest) (above : List ℕ) (n m : ℕ) (h : Host) (left
 goes_down f above n m _ _ _ _ is (comes {level = level} {below = b} {later = l} {deeper = d} {others = o} g num held name first behind) =
     child_next f above level n m (f.children n) b l d o refl first behind is
 
--- or what is behind it, where it has none
+-- or what is behind it, if it has none
 pub goes_past : (f : HostForest) (above : List ℕ) (n : ℕ) (h : Host) (left : List Host) (l : Line) (lines : List Line) → None ≡ first_of (f.children n)
     → ToGo f above (Some n) (h ∷ left) (l ∷ lines) → (level : ℕ) × Behind f above level n left lines
 goes_past f above n _ _ _ _ is (comes {level = level} {below = b} {later = l} {deeper = d} {others = o} g num held name first behind) =

@@ -9,7 +9,7 @@ use Rattle.rx_lane.specs.SetLaws.{has-lanes_where}
 use Rattle.rx_base.specs.Values.{Text, Name}
 use Rattle.rx_lines.specs.Lines.{joined, lane_name, part_text, lanes_text, last_line, end_quiet, end_pending}
 
--- the texts that are left, where none or some came before them
+-- the texts that are left, if none or some came before them
 abbrev pub left_of : Bool → Text → List Text → Text
 left_of true between ts = joined between ts
 left_of false between [] = []
@@ -55,7 +55,7 @@ names-in lanes l left h = rw h refl
 pub names-out : (lanes : Lanes) (l : Lane) (left : List Lane) → has lanes l ≡ false → names_left lanes (l ∷ left) ≡ names_left lanes left
 names-out lanes l left h = rw h refl
 
--- the names of the lanes from the next one on, where it is in the set
+-- the names of the lanes from the next one on, if it is in the set
 pub names-next : (lanes : Lanes) (every : List Lane) (i : ℕ) (log old new : Text) (first : Bool) (between : Text) (all : List Text) → i < length every
     → Joins log old first between all (names_left lanes (drop i every)) → has lanes (get_or every i Sync) ≡ true
     → new ≡ (log ++ (if first then [] else between)) ++ lane_name (get_or every i Sync) → Joins new old false between all (names_left lanes (drop (i + 1) every))
@@ -65,7 +65,7 @@ names-next lanes every i log old new first between all in_list before h is =
     let cons : names_left lanes (drop i every) ≡ lane_name here ∷ names_left lanes rest = ap (names_left lanes) (drop_more every i Sync in_list) ∙ names-in lanes here rest h in
     joins-next log old new first between (lane_name here) all (names_left lanes rest) (subst (Joins log old first between all) cons before) is
 
--- the same, where it isn't
+-- the same, if it isn't
 pub names-skip : (lanes : Lanes) (every : List Lane) (i : ℕ) (log old : Text) (first : Bool) (between : Text) (all : List Text) → i < length every
     → Joins log old first between all (names_left lanes (drop i every)) → has lanes (get_or every i Sync) ≡ false
     → Joins log old first between all (names_left lanes (drop (i + 1) every))
@@ -129,12 +129,12 @@ listed-some l ls [] none = let here : has (lanes_where (has (l ∷ ls))) l ≡ t
     absurd (cc (here, nowhere))
 listed-some l ls (m ∷ ms) some = refl
 
--- the listed lanes are none exactly where the set has none
+-- the listed lanes are none exactly if the set has none
 pub listed-empty : (lanes : Lanes) → is_empty (lanes_where (has lanes)) ≡ is_empty lanes
 listed-empty [] = ap is_empty listed-none
 listed-empty (l ∷ ls) = listed-some l ls (lanes_where (has (l ∷ ls))) refl
 
--- the text of lanes where there are some
+-- the text of lanes if there are some
 pub lanes-named : (lanes : Lanes) → is_empty lanes ≡ false → lanes_text lanes ≡ joined (codes "+") (map lane_name lanes)
 lanes-named [] none = absurd (cc none)
 lanes-named (l ∷ ls) some = refl
@@ -144,11 +144,11 @@ pub lanes-none : (lanes : Lanes) → is_empty lanes ≡ true → lanes_text lane
 lanes-none [] none = refl
 lanes-none (l ∷ ls) some = absurd (cc some)
 
--- the last line where nothing is left to do
+-- the last line if nothing is left to do
 pub last-quiet : (lanes : Lanes) (n : ℕ) → (is_empty lanes && nat_eq n 0) ≡ true → last_line lanes n ≡ end_quiet
 last-quiet lanes n quiet = rw quiet refl
 
--- the last line where something is
+-- the last line if something is
 pub last-pending : (lanes : Lanes) (n : ℕ) → (is_empty lanes && nat_eq n 0) ≡ false → last_line lanes n ≡ end_pending lanes n
 last-pending lanes n busy = rw busy refl
 

@@ -16,7 +16,7 @@ use Rattle.rx_report.proofs.Walks.{walk_of}
 abbrev pub IsSmall : Host → Type 0
 IsSmall h = h.number < 2 ^ 64
 
--- What is listed by now and what is left, where these hosts are above the next one: so many hosts are listed, and their lines are written behind an old text.
+-- What is listed by now and what is left, with these hosts above the next one: so many hosts are listed, and their lines are written behind an old text.
 pub record Progress (f : HostForest) (o : Options) (all : List Host) (old text : Text) (above : List ℕ) (next : Option ℕ) (count : ℕ) : Type 0 where
   pub listed : List Host
   pub left : List Host

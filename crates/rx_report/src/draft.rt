@@ -4,7 +4,7 @@ ghost use Rattle.std.specs.Prelude.{◌≡◌, [], ◌++◌, take, OnOk, OnErr};
 use std::alloc::{AllocError, Global};
 use std::marker::Model;
 
-/// The bytes of a report. A line is written piece by piece, and is taken back where memory is wanting.
+/// The bytes of a report. A line is written piece by piece, and is taken back if out of memory.
 #[derive(Drop)]
 pub struct Draft {
     bytes: Vec<u8>,

@@ -155,7 +155,7 @@ impl Draft {
         self.put(b"\n")
     }
 
-    /// The end, where something is left to do.
+    /// The end, if something is left to do.
     fn put_pending_line(
         &mut self,
         counts: bool,

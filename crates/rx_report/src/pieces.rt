@@ -143,7 +143,7 @@ impl Draft {
         Ok(())
     }
 
-    /// The counts of a render, where they are asked for.
+    /// The counts of a render, if they are asked for.
     pub fn put_counts(&mut self, shown: bool, units: u64, bodies: u64) -> Result<(), AllocError>
         ensures put { OnOk result (self.new.begun ≡ self.old.begun ++ report.counts_text shown (record { units = units; bodies = bodies })) }
         ensures done { self.new.done ≡ self.old.done }

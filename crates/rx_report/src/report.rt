@@ -20,7 +20,7 @@ use std::marker::Model;
 
 /// A report: its lines so far, as bytes. Contracts see these bytes, and what the report shows beside its other lines.
 ///
-/// Each call that writes a line can fail by want of memory alone, and then leaves the report as it was. Lanes are
+/// Each call that writes a line fails only if out of memory, and then leaves the report as it was. Lanes are
 /// printed by falling priority.
 #[derive(Drop)]
 pub struct Report {
@@ -100,7 +100,7 @@ impl Report {
         self.draft.end(written)
     }
 
-    /// An operation on the tree of hosts, where the report shows them.
+    /// An operation on the tree of hosts, if the report shows them.
     pub fn op_line(&mut self, op: &HostOp) -> Result<(), AllocError>
         ensures written { OnOk result (self.new ≡ report.with_line self.old (report.operated op.now)) }
         ensures unchanged { OnErr result (self.new ≡ self.old) }
@@ -172,7 +172,7 @@ impl Report {
         self.draft.end(written)
     }
 
-    /// The tree of hosts, where hosts in tree order are what it stands for: its head, and a line for each of them, two spaces
+    /// The tree of hosts, if hosts in tree order are what it stands for: its head, and a line for each of them, two spaces
     /// further in for each level, with its attributes by name.
     pub fn tree_lines(&mut self, hosts: &HostTree) -> Result<(), AllocError>
         ensures written { (all : List Host) → AreInTreeOrder all → forest_kept hosts.now ≡ forest_of all → OnOk result (self.new ≡ record { options = self.old.options; bytes = self.old.bytes ++ report.report_bytes self.old.options (report.tree_lines all) }) }

@@ -11,7 +11,7 @@ use crate::draft::Draft;
 use rx_host::HostTree;
 use std::alloc::AllocError;
 
-// The host behind one and all below it, where these hosts are above; those that are done are taken away.
+// The host behind one and all below it, with these hosts above; those that are done are taken away.
 fn host_behind(hosts: &HostTree, above: &mut Vec<u64>, host: u64) -> Option<u64>
     ensures { (level : ℕ) (left : List Host) (lines : List Line) → Behind (forest_kept hosts.now) (reverse above.old.items) level host left lines → ToGo (forest_kept hosts.now) (reverse above.new.items) result left lines }
 {
@@ -25,7 +25,7 @@ fn host_behind(hosts: &HostTree, above: &mut Vec<u64>, host: u64) -> Option<u64>
     }
 }
 
-// The host that comes next behind one that was listed, where these hosts are above it.
+// The host that comes next behind one that was listed, with these hosts above it.
 fn next_host(hosts: &HostTree, above: &mut Vec<u64>, host: u64) -> Result<Option<u64>, AllocError>
     ensures { (h : Host) (left : List Host) (l : Line) (lines : List Line) → ToGo (forest_kept hosts.now) (reverse above.old.items) (Some host) (h ∷ left) (l ∷ lines) → IfOk result (λ next. ToGo (forest_kept hosts.now) (reverse above.new.items) next left lines) }
 {

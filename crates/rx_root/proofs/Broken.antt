@@ -1,4 +1,4 @@
--- What a root stands for where memory runs out within a turn.
+-- What a root stands for if memory runs out within a turn.
 use Rattle.std.proofs.Common.{◌≡◌, ◌≢◌, inl, inr, ℕ, suc, ◌+◌, ◌-◌, ◌≤◌, true, List, ◌++◌, length, take, refl, sym, ap, ◌∙◌, subst, arith, Option, Some, None}
 use Rattle.std.specs.Prelude.{◌⊎◌, OnErr, OnOk, Result, Ok, Err}
 use Rattle.rx_ast.specs.Syntax.{Program}
@@ -157,7 +157,7 @@ but_for p s asks v w shown h program current keeps shows =
       progress = tt;
     }
 
--- so where a render was in progress, and is given up
+-- so if a render was in progress, and is given up
 pub gave_up_but : (p : Program) (s : State) (g : Progress) (v w : Rooted) → StandsWith p s (Some g) v → GaveUp v w → StandsButForRender p s w
 gave_up_but p s g v w h up =
     let done : DoneBefore v.rendering.cut s.journal.updates = rw h.progress.renders.cut h.progress.renders.done in
@@ -215,7 +215,7 @@ cut_again log mid len lines is at =
     ∙ ap (λ (n : ℕ). record { options = log.options; bytes = take n (log.bytes ++ report_bytes log.options lines) }) at
     ∙ ap (λ (t : Text). record { options = log.options; bytes = t }) (take-append_seam log.bytes (report_bytes log.options lines))
 
--- Where a render starts
+-- When a render starts
 
 -- nothing is done
 pub none_broken : (p : Program) (s : State) (v new : Rooted) (log written : Written) → Stands p s v → new ≡ v → written ≡ log
@@ -397,7 +397,7 @@ pub either_program : {T E : Type 0} (r : Result T E) (p : Program) (s : State) (
 either_program (Ok x) p s v w asks breaks log new steps counted h ok err = (ok s h).done.stands.program
 either_program (Err e) p s v w asks breaks log new steps counted h ok err = (err s h).done.stands.program
 
--- the same where a call renders nothing
+-- the same if a call renders nothing
 pub aside_some : {T E : Type 0} (r : Result T E) (p : Program) (s : State) (v w : Rooted) (asks breaks : State → Stretch → Type 0) (log new : Written) → Stands p s v
     → OnOk r ((s : State) (n : ℕ) → Stands p s v → Takes p (asks s) w log new n n) → OnErr r ((s : State) (n : ℕ) → Stands p s v → Takes p (breaks s) w log new n n)
     → StandsForSome w
@@ -424,7 +424,7 @@ pub by_result : {T E : Type 0} (r : Result T E) (A : Type 0) → OnOk r A → On
 by_result (Ok x) A ok err = ok
 by_result (Err e) A ok err = err
 
--- room is kept where no number changes
+-- room is kept if no number changes
 pub room_same : (v w : Rooted) → w.updates ≡ v.updates → w.resolutions ≡ v.resolutions → w.commits ≡ v.commits → w.numbers ≡ v.numbers → (k : ℕ) → HasRoomFor k v → HasRoomFor k w
 room_same v w updates resolutions commits numbers k h =
     let instances : w.numbers.instance ≡ v.numbers.instance = ap (λ (m : Numbers). m.instance) numbers in

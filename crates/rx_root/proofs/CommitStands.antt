@@ -85,7 +85,7 @@ committed_with p s asks g tree passive v w shown h reached c shows =
       progress = c.idle;
     }
 
--- a commit, with its passive effects where it runs them itself
+-- a commit, with its passive effects if it runs them itself
 pub committed_stands : (p : Program) (s : State) (asks : Rooted → Type 0) (g : Progress) (counts : Counts) (tree : Node) (v : Rooted) (w : Rendering) (shown : Shown)
     → StandsBy p s asks v → IsReached p (committed_as s g counts (numbered s.numbers tree)).after → IsCommitted p s g tree w
     → Shows (Some (numbered s.numbers tree).1) (passive_left g.lanes (passive_of (compare_trees s.tree (numbered s.numbers tree).1))) shown
@@ -100,7 +100,7 @@ committed_stands p s asks g counts tree v w shown h reached c shows = by_sync (h
     by_sync true reached shows = committed_with p s asks g tree no_passive v w shown h reached c shows
     by_sync false reached shows = committed_with p s asks g tree st.passive v w shown h reached c shows
 
--- the lines of a commit, with those of its passive effects where it runs them itself
+-- the lines of a commit, with those of its passive effects if it runs them itself
 pub committed_lines : (s : State) (g : Progress) (counts : Counts) (tree : Node)
     → lines_of (s.commits + 1) g.lanes counts s.tree (numbered s.numbers tree).1 ≡ (committed_as s g counts (numbered s.numbers tree)).lines
 committed_lines s g counts tree = by_sync (has g.lanes lane.Sync)

@@ -36,7 +36,7 @@ within_bound p bounded s g w h =
     let sight = sight_of p s g in
     omega (arith, h.come.goes.units_bound, units_below (sight_of p s g) bounded.apart bounded.small s.tree)
 
--- some unit is left where less were taken than the bound
+-- some unit is left if fewer were taken than the bound
 pub left_before : (at : At) (bound units : ℕ) → IfLeft at (units < bound) → (IfLeft at ⊥ → ⊥) → 0 < units_left at bound units
 left_before (Begins id) bound units few some = omega (arith, few)
 left_before (Completes id) bound units few some = omega (arith, few)

@@ -57,7 +57,7 @@ can_flush p bounded s reached none =
     let run = progresses p (app_never_waits p) bounded s reached (step.Flush ∷ []) in
     subst (λ (u : State). CanFlush flush_limit p u) (sym (same_between s none)) (run.1.0, run.1.2)
 
--- where no render is left to finish, nothing is to be rendered
+-- if no render is left to finish, nothing is to be rendered
 pub flush_over : (p : Program) (s : State) → CanFlush 0 p s → choice_of s ≡ choice.None
 flush_over p s (r, (zero, few, h)) = h.0
 flush_over p s (r, (suc n, few, h)) = absurd (omega (arith, few))

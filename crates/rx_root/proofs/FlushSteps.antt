@@ -59,7 +59,7 @@ room_left limit v x some first room =
 
 -- Renders that are left
 
--- where something is to be rendered, some render is left
+-- if something is to be rendered, some render is left
 pub some_render : (limit : ℕ) (p : Program) (s : State) → CanFlush limit p s → choice_of s ≢ choice.None → 1 ≤ limit
 some_render zero p s ends some = absurd (some (flush_over p s ends))
 some_render (suc n) p s ends some = omega arith

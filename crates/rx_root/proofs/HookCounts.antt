@@ -256,7 +256,7 @@ module _ (n : ℕ) (s : Sight) (below : BelowHas n s) where
   place_has cs (elements.provider c key x es) old h same =
       one_has (elements.provider c key x es) plain (part (slice_set cs c x) (listed es) (children_if old)) tt (children_have s.program old h)
 
--- what a render gives has its hooks, where the old tree does
+-- what a render gives has its hooks, if the old tree does
 rendered_has : (n : ℕ) (s : Sight) → BelowHas n s
 unfolding rendered
 rendered_has zero s cs e old h same = tt

@@ -23,17 +23,17 @@ use Rattle.run_laws.proofs.RunTrees.{reached_bounded}
 
 -- ---- results
 
--- what holds where a call succeeds, whatever it is about
+-- what holds if a call succeeds, whatever it is about
 pub ok_each : {A E S : Type 0} (r : Result A E) (H P : S → Type 0) → ((s : S) → H s → OnOk r (P s)) → OnOk r ((s : S) → H s → P s)
 ok_each (Ok a) H P f = f
 ok_each (Err e) H P f = tt
 
--- what follows from two facts that hold where a call succeeds
+-- what follows from two facts that hold if a call succeeds
 pub on_ok_both : {A E : Type 0} (r : Result A E) (P Q R : Type 0) → (P → Q → R) → OnOk r P → OnOk r Q → OnOk r R
 on_ok_both (Ok a) P Q R f h k = f h k
 on_ok_both (Err e) P Q R f h k = tt
 
--- what holds where a call fails holds of what follows from it
+-- what holds if a call fails holds of what follows from it
 pub on_err : {A E : Type 0} (r : Result A E) (P Q : Type 0) → (P → Q) → OnErr r P → OnErr r Q
 on_err (Ok a) P Q f h = tt
 on_err (Err e) P Q f h = f h

@@ -15,11 +15,11 @@ use Rattle.rx_render.specs.Renders.{Renders}
 use Rattle.rx_root.specs.Rooted.{Rooted}
 use Rattle.rx_root.specs.Stands.{Stands, HasProgress}
 
--- a number of fibers is within the bound where a render is in progress
+-- a number of fibers is within the bound while a render is in progress
 abbrev pub FewRendered : Program → Rendering → ℕ → Type 0
 FewRendered p v n = (s : State) (g : Progress) → Renders p s g v → IsTree p s.tree → n ≤ 3 * node_bound p
 
--- and where none is
+-- and while none is
 abbrev pub FewAtRest : Program → Rendering → ℕ → Type 0
 FewAtRest p v n = (tree : Option Node) → v.trees.draft ≡ taken none → IsTreeOf tree v.trees.current → IsTree p tree → n ≤ 2 * node_bound p
 

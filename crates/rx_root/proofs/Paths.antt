@@ -265,7 +265,7 @@ target_hook p path name k is = go (target_of p path) is
     go None is = cc
     go (Some c) is = (c, refl, is)
 
--- the instance that a path leads to has the hook of that name, where the path ends at a component that has it
+-- the instance that a path leads to has the hook of that name, if the path ends at a component that has it
 pub found_hook : (p : Program) → IsAccepted p → (all : List Mounted) → ((k : ℕ) (m : Mounted) → slice_get all k ≡ Some m → HasHooks p m.component m.initials)
     → (path : Path) (name : Name) (k : HookKind) → hook_at p path name ≡ Some k → (m : Mounted) → find_from p all None path ≡ Some m → HasHook p m name
 found_hook p a all hooks [] name k is m led = cc

@@ -61,7 +61,7 @@ any_parts q (w ∷ ws) h =
     behind true b f = refl
     behind false b f = f
 
--- a resource of the program that is waited for is news where it got its value after the cut
+-- a resource of the program that is waited for is news if it got its value after the cut
 news_at : (p : Program) (s : State) (g : Progress) (waits : Awaits) (r : ℕ) → r < length (resources p)
     → is_news (values_now p s.journal) (resources_seen (sight_of p s g)) waits r
     ≡ (has waits r && (is_some (resolved_now s.journal r) && not (is_some (resolved_by g.cut s.journal r))))
@@ -138,7 +138,7 @@ news_is p s g waits values seen b e f declared some none =
         ap (λ (xs : List (Option ℤ)). is_news xs seen waits r) e
         ∙ ap (λ (xs : List (Option ℤ)). is_news (values_now p s.journal) xs waits r) f
 
--- where no resource is new, none that is waited for is
+-- if no resource is new, none that is waited for is
 pub none_new : (p : Program) (s : State) (g : Progress) (values seen : List (Option ℤ)) → values ≡ values_now p s.journal → seen ≡ resources_seen (sight_of p s g) → AreDeclared p s.journal
     → ((r : ℕ) → r < length values → is_new values seen r ≡ false) → (waits : Awaits) → resolved_since g.cut s.journal waits ≡ false
 none_new p s g values seen e f declared none waits =

@@ -147,7 +147,7 @@ module _ (p : Program) (s : State) (v : Rooted) (i k : ℕ) (o : Op) (rd : Rende
   sent_stands word.Transition u lane_is has lanes_are keeps goes below reached is =
       transition lane_is (lanes_are ∙ ap (λ (l : Lane). Some (links_with l v.schedule.pending (linked_lanes s.linked (hook i k)))) has) keeps goes below reached is
 
--- ---- where memory runs out
+-- ---- if memory runs out
 
 unsent_progress : (p : Program) (s : State) (v : Rooted) (rd : Rendering) → rd ≡ with_hooks v.rendering rd.hooks → ((g : Progress) → Renders p s g v.rendering → Renders p s g rd)
     → (x : Option Progress) → HasProgress p s x v → HasProgress p s x (record v { rendering = rd })

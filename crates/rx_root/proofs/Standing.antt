@@ -181,7 +181,7 @@ map_alike : (f g : ℕ → Option ℤ) (k n : ℕ) → ((q : ℕ) → k ≤ q �
 map_alike f g k zero same = refl
 map_alike f g k (suc n) same = rw (same k (omega arith), map_alike f g (k + 1) n (λ q le. same q (omega arith))) refl
 
--- the values of resources, where one of them gets one
+-- the values of resources, if one of them gets one
 values_set : (f g : ℕ → Option ℤ) (y : Option ℤ) (k n r : ℕ) → ((q : ℕ) → nat_eq (k + r) q ≡ false → g q ≡ f q) → g (k + r) ≡ y
     → slice_set (map f (range_with_len k n)) r y ≡ map g (range_with_len k n)
 values_set f g y k zero r others here = refl

@@ -69,7 +69,7 @@ work_reached p s (Some n) r h t = step-reached p s (step.Work n) r h t
 work_reached p s None r h t =
     step-reached p s (step.Work (unit_bound p)) r h (turn_within p (between_events s) (choice_of (between_events s)) r t)
 
--- the state after a turn is one that a run comes to, where the state before is
+-- the state after a turn is one that a run comes to, if the state before is
 pub reached_turn : (A : OfRender) (p : Program) (s : State) (budget : Option ℕ) (r : Stretch) → IsReached p s → s.event ≡ None → Turn A p s budget r → IsReached p r.after
 reached_turn A p s budget r h none t = work_reached p s budget r h (subst (λ (u : State). Turn AnyRender p u budget r) (same_between s none) (any-turn A p s budget r t))
 

@@ -46,7 +46,7 @@ use Rattle.rx_root.specs.Stands.{HasProgress, StandsBy, StandsWith, Stands}
 use Rattle.rx_root.specs.Turning.{IsAtEndOf, StandsAtEnd, KnowsSince}
 use Rattle.rx_root.proofs.TurnLines.{with_one}
 
--- where the schedule and the rendering change, and another render is in progress, or none
+-- if the schedule and the rendering change, and another render is in progress, or none
 pub moved_stands : (p : Program) (s : State) (asks : Rooted → Type 0) (v : Rooted) (schedule : Schedule) (progress : Option Progress) (w : Rendering)
     → StandsBy p s asks v → IsReached p (record s { schedule = schedule; progress = progress })
     → w.program ≡ v.rendering.program → w.trees.current ≡ v.rendering.trees.current → KeepsAllHooks p s (kept_hooks w.hooks)

@@ -30,7 +30,7 @@ use Rattle.rx_root.proofs.TurnLines.{with_none, with_both}
 
 -- What a turn does
 
--- where the choice is to keep, a render is in progress
+-- if the choice is to keep, a render is in progress
 never_keeps : (sch : Schedule) (first : Lanes) → choose sch first None ≡ choice.Keep → ⊥
 never_keeps sch [] e = absurd (cc)
 never_keeps sch (m ∷ ms) e = absurd (cc)

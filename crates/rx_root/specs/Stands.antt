@@ -40,7 +40,7 @@ HasProgress p s (Some g) v = GoesOnWith p s g v
 abbrev pub AreDeclared : Program → Journal → Type 0
 AreDeclared p j = (r : ℕ) → length (resources p) ≤ r → resolved_now j r ≡ None
 
--- A root stands for a state of the machine that a run comes to, where this is asked of its render.
+-- A root stands for a state of the machine that a run comes to; this is asked of its render.
 pub record StandsBy (p : Program) (s : State) (asks : Rooted → Type 0) (v : Rooted) : Type 0 where
   pub reached : IsReached p s
   pub program : v.rendering.program ≡ p

@@ -50,7 +50,7 @@ claimed_by word.Input event s = s
 claimed_by word.Default event s = s
 claimed_by word.Transition event s = if is_none event then claimed s else s
 
--- a root after an update with this lane, which links lanes of its hook where it is a transition
+-- a root after an update with this lane, which links lanes of its hook if it is a transition
 abbrev pub root_accepted : Option Lanes → Lane → Rooted → Rooted
 root_accepted None l v =
     record v { schedule = after_update v.schedule l v.now; updates = v.updates + 1; later = union v.later (one l) }

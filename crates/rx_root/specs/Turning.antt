@@ -121,7 +121,7 @@ pub record Takes (p : Program) (asks : Stretch → Type 0) (v : Rooted) (log new
 abbrev pub LeadsOn : Program → State → Progress → (budget : Option ℕ) → Type 0
 LeadsOn p s g budget = (r : Stretch) → GoesOn AnyRender p s g budget r → IsReached p r.after
 
--- the passive effects that a commit leaves pending: none, where it has the lane Sync
+-- the passive effects that a commit leaves pending: none, if it has the lane Sync
 abbrev pub passive_left : Lanes → Passive → Passive
 passive_left lanes passive = if has lanes lane.Sync then no_passive else passive
 

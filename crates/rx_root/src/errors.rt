@@ -13,7 +13,7 @@ use std::fmt;
 pub enum DispatchError {
     /// The path leads to no instance of the committed tree.
     NoInstance,
-    /// Want of memory.
+    /// Out of memory.
     OutOfMemory,
 }
 

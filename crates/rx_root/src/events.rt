@@ -84,7 +84,7 @@ impl Root {
     ///
     /// # Errors
     ///
-    /// Want of memory alone.
+    /// Only if out of memory.
     pub fn passive(&mut self, log: &mut Report) -> Result<(), AllocError>
         requires stands { StandsForSome self.old }
         ensures ok { OnOk result ((s : State) → Stands self.old.rendering.program s self.old → HasDone self.old.rendering.program (passive_run (between_events s)) self.new log.old log.new) }
@@ -104,7 +104,7 @@ impl Root {
     ///
     /// # Errors
     ///
-    /// Want of memory alone.
+    /// Only if out of memory.
     pub fn states(&self, log: &mut Report) -> Result<(), AllocError>
         requires { (s : State) × Stands self.now.rendering.program s self.now }
         ensures ok { OnOk result ((s : State) → Stands self.entry.now.rendering.program s self.entry.now → log.new ≡ with_lines log.old (state_lines self.entry.now.rendering.program s)) }
@@ -123,7 +123,7 @@ impl Root {
     ///
     /// # Errors
     ///
-    /// Want of memory alone.
+    /// Only if out of memory.
     pub fn tree(&self, log: &mut Report) -> Result<(), AllocError>
         ensures ok { OnOk result ((s : State) → Stands self.entry.now.rendering.program s self.entry.now → log.new ≡ with_lines log.old (tree_lines (hosts s.tree))) }
         ensures err { OnErr result (log.new ≡ log.old) }
@@ -175,7 +175,7 @@ impl Root {
         }
     }
 
-    // An update with this lane is accepted, and links these lanes where it is a transition.
+    // An update with this lane is accepted, and links these lanes if it is a transition.
     fn accept(&mut self, lane: Lane, linked: Option<Lanes>)
         requires { self.old.updates < 2 ^ 62 }
         ensures { self.new ≡ root_accepted linked lane self.old }
@@ -189,7 +189,7 @@ impl Root {
         self.later = self.later.union(Lanes::one(lane));
     }
 
-    // An event takes back the claim of its lane, where it claimed one.
+    // An event takes back the claim of its lane, if it claimed one.
     fn forget_lane(&mut self, word: LaneWord)
         ensures { (schedule : Schedule) → (word ≡ LaneWord.Transition → self.old.event ≡ None → IsTrue (is_transition schedule.next_transition))
             → self.old.schedule ≡ claimed_by word self.old.event schedule → self.new ≡ record self.old { schedule = schedule } }
@@ -244,7 +244,7 @@ impl Root {
     ///
     /// # Errors
     ///
-    /// `NoInstance` exactly where the path leads to no instance of the committed tree: then nothing has changed. Want of memory:
+    /// `NoInstance` exactly if the path leads to no instance of the committed tree: then nothing has changed. Out of memory:
     /// then the root stands for what it stood for.
     pub fn dispatch(&mut self, dispatch: &Dispatch) -> Result<u64, DispatchError>
         requires stands { StandsForSome self.old }
@@ -279,7 +279,7 @@ impl Root {
         self.renderer.checked().resource(name.text()).unwrap_or(0)
     }
 
-    // True where a visible boundary waits for a resource.
+    // True if a visible boundary waits for a resource.
     fn is_awaited(&self, resource: u32) -> bool
         ensures { (s : State) → Stands self.entry.now.rendering.program s self.entry.now → resource < length (resources self.entry.now.rendering.program) → result ≡ is_awaited s.tree resource }
     {
@@ -302,7 +302,7 @@ impl Root {
     ///
     /// # Errors
     ///
-    /// `Already` exactly where the resource has that value: then nothing has changed, save that the event has ended.
+    /// `Already` exactly if the resource has that value: then nothing has changed, save that the event has ended.
     pub fn resolve(&mut self, name: &Name, value: Int) -> Result<(), ResolveError>
         requires stands { StandsForSome self.old }
         requires fits { is_some (position (bytes_eq name.now) (resources self.old.rendering.program)) ≡ true }

@@ -17,15 +17,15 @@ use std::alloc::AllocError;
 use std::sync::ledger::Ledger;
 
 impl Root {
-    /// An event ends, and then one turn is taken: what is most urgent is rendered, and committed where it is finished
+    /// An event ends, and then one turn is taken: what is most urgent is rendered, and committed if it is finished
     /// (react.dev, Render and Commit). Pending passive effects run before a new render begins (react.dev, useEffect). The
-    /// budget, of one unit at least, counts only where transitions or retries are rendered and none has waited too long
+    /// budget, of one unit at least, counts only if transitions or retries are rendered and none has waited too long
     /// (react.dev, startTransition): such a turn yields once so many fibers were begun or completed, and a later turn goes on
     /// with it, unless something more urgent came. The report gets the lines, and the counter the bodies that are evaluated.
     ///
     /// # Errors
     ///
-    /// Want of memory alone. Then no render is in progress; the event has ended, the passive effects that ran stay, with their
+    /// Only if out of memory. Then no render is in progress; the event has ended, the passive effects that ran stay, with their
     /// lines, and the counter has the bodies that were evaluated in vain; so the call may be made again.
     pub fn work<L: Ledger>(
         &mut self,
@@ -53,7 +53,7 @@ impl Root {
     ///
     /// # Errors
     ///
-    /// Want of memory alone. Then no render is in progress; the event has ended, the renders that were finished stay, committed
+    /// Only if out of memory. Then no render is in progress; the event has ended, the renders that were finished stay, committed
     /// or deferred, and so do the passive effects that ran, with their lines; and the counter has the bodies that were evaluated
     /// in vain too. So the call may be made again.
     pub fn flush<L: Ledger>(
@@ -76,12 +76,12 @@ impl Root {
         self.finish_renders(FLUSH_LIMIT, log, steps)
     }
 
-    /// An event ends, and then one turn that is not cut into slices is taken, where Sync is pending (react.dev, flushSync). The
+    /// An event ends, and then one turn that is not cut into slices is taken, if Sync is pending (react.dev, flushSync). The
     /// report gets the lines, and the counter the bodies that are evaluated.
     ///
     /// # Errors
     ///
-    /// Want of memory alone. Then no render is in progress; the event has ended, the passive effects that ran stay, with their
+    /// Only if out of memory. Then no render is in progress; the event has ended, the passive effects that ran stay, with their
     /// lines, and the counter has the bodies that were evaluated in vain; so the call may be made again.
     pub fn flush_sync<L: Ledger>(
         &mut self,

@@ -100,7 +100,7 @@ impl Root {
     ///
     /// # Errors
     ///
-    /// Want of memory alone.
+    /// Only if out of memory.
     pub fn new(alloc: Global, checked: Checked) -> Result<Root, AllocError>
         ensures stands { IfOk result (λ r. Stands checked opening r) }
         ensures program { IfOk result (λ r. r.rendering.program ≡ checked) }
@@ -175,6 +175,13 @@ impl Root {
         self.lanes.pending()
     }
 
+    /// The pending lanes that wait: their last render was deferred, since it would hide what is shown (react.dev, Suspense).
+    pub fn suspended(&self) -> Lanes
+        ensures { (s : State) → Stands self.entry.now.rendering.program s self.entry.now → result ≡ s.schedule.suspended }
+    {
+        self.lanes.suspended()
+    }
+
     /// How many boundaries of the committed tree hide their children behind their fallbacks (react.dev, Suspense).
     pub fn hidden_count(&self) -> u32
         ensures { (s : State) → Stands self.entry.now.rendering.program s self.entry.now → result ≡ hidden_in s.tree }
@@ -192,7 +199,7 @@ impl Root {
     }
 
     /// The two trees of fibers (react.dev, Render and Commit): the current one stands for the committed tree, and the other one
-    /// stands where the render in progress stands, if there is one. Where there is none, there is no fiber but the current ones.
+    /// stands where the render in progress stands, if there is one. If there is none, there is no fiber but the current ones.
     pub fn fibers(&self) -> &FiberTree<Fiber>
         ensures trees { result.now ≡ self.entry.now.rendering.trees }
         ensures current { (s : State) → Stands self.entry.now.rendering.program s self.entry.now → IsTreeOf s.tree result.now.current }
@@ -203,7 +210,7 @@ impl Root {
         self.renderer.fibers()
     }
 
-    /// How many fibers there are, those of a render in progress too: never more than three for each node of the bound, and where
+    /// How many fibers there are, those of a render in progress too: never more than three for each node of the bound, and if
     /// no render is in progress at most two for each node of the committed tree.
     pub fn live(&self) -> u64
         ensures live { result ≡ size self.entry.now.rendering.trees.current + made_size self.entry.now.rendering.trees.draft }
@@ -214,7 +221,7 @@ impl Root {
         self.renderer.live()
     }
 
-    /// True where no lane is pending and no boundary is hidden. Then each hook holds all its updates in the order in which they
+    /// True if no lane is pending and no boundary is hidden. Then each hook holds all its updates in the order in which they
     /// came, and the tree is what a render with all lanes would give.
     pub fn is_quiet(&self) -> bool
         ensures quiet { (s : State) → Stands self.entry.now.rendering.program s self.entry.now → result ≡ machine.is_quiet s }
@@ -243,7 +250,7 @@ impl Root {
     ///
     /// # Errors
     ///
-    /// Want of memory alone; the report is then as it was.
+    /// Only if out of memory; the report is then as it was.
     pub fn end_line(&self, log: &mut Report) -> Result<(), AllocError>
         ensures ok { OnOk result ((s : State) → Stands self.entry.now.rendering.program s self.entry.now → log.new ≡ with_lines log.old (machine.end_line s ∷ [])) }
         ensures err { OnErr result (log.new ≡ log.old) }

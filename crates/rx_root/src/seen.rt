@@ -31,7 +31,7 @@ fn with_lane(lanes: Lanes, lane: Lane, more: bool) -> Lanes
 
 impl Root {
     // The lanes of the render in progress, if there is one.
-    fn rendered_lanes(&self) -> Option<Lanes>
+    fn lanes_in_progress(&self) -> Option<Lanes>
         ensures { (p : syntax.Program) (s : State) → Stands p s self.entry.now → result ≡ option_map (λ g. g.lanes) s.progress }
     {
         if self.renderer.is_over() {
@@ -56,12 +56,12 @@ impl Root {
         }
     }
 
-    /// What the next turn does: nothing, go on with the render in progress, or start one. Where it does nothing, each lane that
+    /// What the next turn does: nothing, go on with the render in progress, or start one. If it does nothing, each lane that
     /// is pending is suspended.
     pub fn next_turn(&self) -> Choice
         ensures { (p : syntax.Program) (s : State) → Stands p s self.entry.now → result ≡ choice_of s }
     {
-        self.lanes.next(self.rendered_lanes())
+        self.lanes.next(self.lanes_in_progress())
     }
 
     // Whether a lane is one of a transition, and a render of it alone is not cut into slices any more.

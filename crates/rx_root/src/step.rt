@@ -40,7 +40,7 @@ impl Root {
         }
     }
 
-    // The line is written that a resource has this value already. Where it is not, the event is this one again.
+    // The line is written that a resource has this value already. If it is not, the event is this one again.
     fn tell_already(
         &mut self,
         name: &Name,
@@ -121,9 +121,9 @@ impl Root {
     ///
     /// # Errors
     ///
-    /// Want of memory alone. After that of a step that renders, the root stands for the state after the renders that the step
+    /// Only if out of memory. Then, in a step that renders, the root stands for the state after the renders that the step
     /// finished and the passive effects that it ran, whose lines the report has, and no render is in progress; the counter has
-    /// the bodies that were evaluated in vain too. That of any other step changes nothing of what the root stands for, nor the
+    /// the bodies that were evaluated in vain too. In any other step this changes nothing of what the root stands for, nor the
     /// report. So the step may be taken again.
     pub fn step<L: Ledger>(
         &mut self,

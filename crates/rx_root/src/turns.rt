@@ -109,25 +109,7 @@ impl Root {
         self.renderer.checked().program();
     }
 
-    // The lanes of the render in progress, if there is one.
-    fn lanes_in_progress(&self) -> Option<Lanes>
-        ensures { (p : syntax.Program) (s : State) → Stands p s self.entry.now → result ≡ option_map (λ g. g.lanes) s.progress }
-    {
-        if self.renderer.is_over() {
-            None
-        } else {
-            Some(self.renderer.lanes())
-        }
-    }
-
-    // What a turn does.
-    fn choice(&self) -> Choice
-        ensures { (p : syntax.Program) (s : State) → Stands p s self.entry.now → result ≡ choice_of s }
-    {
-        self.lanes.next(self.lanes_in_progress())
-    }
-
-    // The slice of a turn with this budget: it counts only where the render in progress is cut into slices.
+    // The slice of a turn with this budget: it counts only if the render in progress is cut into slices.
     fn slice(&self, budget: Option<u64>) -> Option<u64>
         ensures slice { (p : syntax.Program) (s : State) (g : Progress) → StandsWith p s (Some g) self.entry.now → result ≡ slice_of s g budget }
         ensures positive { IfSome budget (λ n. 0 < n) → IfSome result (λ n. 0 < n) }
@@ -198,7 +180,7 @@ impl Root {
         has_news(&self.values, self.renderer.resources(), waits)
     }
 
-    // What a finished render waits for, where it is deferred: only transitions may be (react.dev, useTransition).
+    // What a finished render waits for, if it is deferred: only transitions may be (react.dev, useTransition).
     fn deferral(&self) -> Result<Option<Awaits>, AllocError>
         requires { IsAtSomeEnd self.now }
         ensures { IfOk result (λ waits. (p : syntax.Program) (s : State) (g : Progress) (tree : trees.Node) → StandsAtEnd p s g tree self.entry.now → outcome_as tree waits ≡ outcome g.lanes s.tree tree) }
@@ -247,7 +229,7 @@ impl Root {
     }
 
     // Whether a visible boundary of this tree waits for a resource that got its value since the render in progress began. The
-    // tree is looked through only where there is such a resource.
+    // tree is looked through only if there is such a resource.
     fn has_retry(&self, tree: &Node) -> bool
         requires { KnowsSinceSome self.now }
         ensures { (p : syntax.Program) (s : State) (g : Progress) → KnowsSince p s g self.entry.now
@@ -260,7 +242,7 @@ impl Root {
         self.is_resolved_since(&awaited(Some(tree)))
     }
 
-    // The lanes that are pending again after the commit of this tree: those of later updates, and Retry where there is
+    // The lanes that are pending again after the commit of this tree: those of later updates, and Retry if there is
     // something to retry.
     fn still(&self, tree: &Node) -> Lanes
         requires { KnowsSinceSome self.now }
@@ -366,7 +348,7 @@ impl Root {
         self.commits += 1;
     }
 
-    // Commits a finished render; where memory is wanting the next numbers are not what they were.
+    // Commits a finished render; if memory runs out the next numbers are not what they were.
     fn try_commit(&mut self, log: &mut Report) -> Result<(), AllocError>
         requires end { IsAtSomeEnd self.old }
         requires room { HasRoomForTurns 1 self.old }
@@ -448,7 +430,7 @@ impl Root {
         }
     }
 
-    // One turn, which may leave a render in progress where memory is wanting.
+    // One turn, which may leave a render in progress if memory runs out.
     fn try_turn<L: Ledger>(
         &mut self,
         budget: Option<u64>,
@@ -463,7 +445,7 @@ impl Root {
         ensures rises { steps.old ≤ steps.new }
         ensures few { steps.new ≤ steps.old + unit_bound self.old.rendering.program }
     {
-        match self.choice() {
+        match self.next_turn() {
             Choice::None => Ok(()),
             Choice::Keep => self.go_on(budget, log, steps),
             Choice::Start(lanes) => {
@@ -473,8 +455,8 @@ impl Root {
         }
     }
 
-    // One turn: what is most urgent is rendered, and committed where it is finished (react.dev, Render and Commit). With a
-    // budget it may yield, where it renders transitions or retries and none has waited too long.
+    // One turn: what is most urgent is rendered, and committed if it is finished (react.dev, Render and Commit). With a
+    // budget it may yield, if it renders transitions or retries and none has waited too long.
     pub(crate) fn turn<L: Ledger>(
         &mut self,
         budget: Option<u64>,
@@ -513,7 +495,7 @@ impl Root {
         ensures leaves { LeavesRoom limit self.old self.new }
         ensures rises { steps.old ≤ steps.new }
     {
-        if let Choice::None = self.choice() {
+        if let Choice::None = self.next_turn() {
             return Ok(());
         }
         self.turn(None, log, steps)?;

@@ -51,7 +51,7 @@ list_any-elim q (l ∷ ls) e = go (λ rest. list_any-elim q ls rest) (q l) refl 
     go next true f k = (l, (here (same_lane l l) (same_lane-refl l), f))
     go next false f k = let r = next k in (r.0, (wider r.0 r.1.0 (same_lane r.0 l), r.1.1))
 
--- some lane of a set passes where some lane is in it and passes
+-- some lane of a set passes exactly if some lane is in it and passes
 pub list_any-members : (q : Lane → Bool) (ls : List Lane) → list_any (λ m. q m && has ls m) all_lanes ≡ list_any q ls
 list_any-members q ls = bool_ext _ _ left right
   where

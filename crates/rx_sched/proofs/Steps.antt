@@ -33,7 +33,7 @@ is_empty-filter p (l ∷ ls) = go (p l) refl (is_empty-filter p ls)
     go true e rest = rw e refl
     go false e rest = rw (e, rest) refl
 
--- some lane is a transition lane where the set of the transition lanes isn't empty
+-- some lane is a transition lane exactly if the set of the transition lanes isn't empty
 pub some_transition : (lanes : Lanes) → not (is_empty (transitions lanes)) ≡ list_any is_transition lanes
 unfolding lanes_where
 some_transition lanes = is_empty-filter (λ l. is_transition l && has lanes l) all_lanes ∙ list_any-members is_transition lanes

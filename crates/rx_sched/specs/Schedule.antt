@@ -69,7 +69,7 @@ opening_schedule = become_pending 0 (one Default) empty_schedule
 abbrev pub after_update : Schedule → Lane → ℕ → Schedule
 after_update s l now = become_pending now (one l) (wake now s)
 
--- a resource got its value. It matters where the scheduler waits for it, and where a visible boundary does.
+-- a resource got its value. It matters if the scheduler waits for it, and if a visible boundary does.
 abbrev pub after_resolution : Schedule → ℕ → (boundary_waits : Bool) → ℕ → Schedule
 after_resolution s name boundary_waits now =
     let woken = if awaits.has s.waiting name then wake now s else s in
@@ -163,6 +163,6 @@ choose s (m ∷ ms) in_progress = if goes_on m in_progress then choice.Keep else
 abbrev pub next : Schedule → Option Lanes → Choice
 next s in_progress = choose s (first_lanes s) in_progress
 
--- a render is cut into slices where it has only transition and Retry lanes and none has expired
+-- a render is cut into slices if it has only transition and Retry lanes and none has expired
 abbrev pub is_sliced : Schedule → Lanes → ℕ → Bool
 is_sliced s lanes now = list_all (λ l. (is_transition l || same_lane l Retry) && not (is_expired s.deadlines now l)) lanes

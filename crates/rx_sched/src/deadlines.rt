@@ -79,7 +79,7 @@ impl Deadlines {
         }
     }
 
-    /// True where now has reached a lane's deadline.
+    /// True if now has reached a lane's deadline.
     fn is_expired(&self, lane: Lane, now: u64) -> bool
         ensures { result ≡ is_expired self.now now lane }
     {
@@ -89,7 +89,7 @@ impl Deadlines {
         }
     }
 
-    /// True where a lane has no deadline.
+    /// True if a lane has no deadline.
     fn is_missing(&self, lane: Lane) -> bool
         ensures { result ≡ is_none (deadline_of self.now lane) }
     {

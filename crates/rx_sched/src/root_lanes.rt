@@ -139,7 +139,7 @@ impl RootLanes {
     }
 
     /// A render with these lanes was committed; `still` are the lanes that are pending again, or still: those of
-    /// updates that the render didn't see, and Retry where a visible boundary waits for what has its value by now.
+    /// updates that the render didn't see, and Retry if a visible boundary waits for what has its value by now.
     pub fn finished(&mut self, lanes: Lanes, still: Lanes, now: u64)
         ensures { self.new ≡ after_commit self.old lanes still now }
     {
@@ -155,7 +155,14 @@ impl RootLanes {
         self.pending
     }
 
-    /// True where a render with these lanes is cut into slices: they are transitions and Retry alone, and none is
+    /// The lanes whose last render was deferred: none begins with them until something is resolved or updated.
+    pub fn suspended(&self) -> Lanes
+        ensures { result ≡ self.now.suspended }
+    {
+        self.suspended
+    }
+
+    /// True if a render with these lanes is cut into slices: they are transitions and Retry alone, and none is
     /// expired.
     pub fn sliced(&self, lanes: Lanes, now: u64) -> bool
         ensures { result ≡ is_sliced self.now lanes now }
@@ -215,7 +222,7 @@ impl RootLanes {
     }
 }
 
-/// True where a render in progress goes on, though this lane is the highest to render.
+/// True if a render in progress goes on, though this lane is the highest to render.
 fn goes_on(lane: Lane, wip: Option<Lanes>) -> bool
     ensures { result ≡ goes_on lane wip }
 {
@@ -225,7 +232,7 @@ fn goes_on(lane: Lane, wip: Option<Lanes>) -> bool
     }
 }
 
-/// True where a render with these lanes goes on, though the lane is the highest to render.
+/// True if a render with these lanes goes on, though the lane is the highest to render.
 fn keeps_on(lane: Lane, lanes: Lanes) -> bool
     ensures { result ≡ keeps_on lane lanes }
 {
@@ -238,7 +245,7 @@ fn keeps_on(lane: Lane, lanes: Lanes) -> bool
     }
 }
 
-/// True where a set has a transition lane.
+/// True if a set has a transition lane.
 fn has_transition(lanes: Lanes) -> bool
     ensures { result ≡ list_any is_transition lanes }
 {

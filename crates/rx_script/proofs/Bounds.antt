@@ -1,4 +1,4 @@
--- Numbers that are held are in bounds where the numbers are, and are the numbers there.
+-- Numbers that are held are in bounds if the numbers are, and are then the numbers.
 use Rattle.std.proofs.Common.{◌≡◌, ℕ, ◌<◌, ◌≤◌, ◌^◌, ◌-◌, min, ℤ, pos, negsuc, Bool, true, false, ◌&&◌, nat_le, [], ◌∷◌, refl, arith, rules}
 use Rattle.std.specs.Int.{w32}
 use Rattle.std.proofs.lemmas.Bool.Decides.{nat_tests}

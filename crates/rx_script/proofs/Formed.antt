@@ -51,7 +51,7 @@ targets-held p step.Event = refl
 targets-held p step.State = refl
 targets-held p step.Tree = refl
 
--- What was read is in bounds where the step is.
+-- What was read is in bounds if the step is.
 
 and_true : (a : Bool) → (a && true) ≡ a
 and_true true = refl

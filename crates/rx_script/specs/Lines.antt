@@ -20,7 +20,7 @@ use Rattle.rx_script.specs.Words.{lines_of, words_of, natural_of, integer_of, up
 
 -- Forms
 
--- a value for the next part of a form, where both are there
+-- a value for the next part of a form, if both are there
 infixl 10 ◌◂◌
 abbrev pub ◌◂◌ : {A B : Type 0} → Option (A → B) → Option A → Option B
 None ◂ o = None
@@ -239,7 +239,7 @@ with_line n (bad f) rest = Err (record { fault = f; line = n })
 with_line n (good s) (Ok steps) = Ok (s ∷ steps)
 with_line n (good s) (Err e) = Err e
 
--- the steps of lines, or the first bad one, where the first of the lines has this number
+-- the steps of lines, or the first bad one, if the first of the lines has this number
 abbrev pub steps_from : Program → ℕ → List Text → Result (List Step) BadStep
 steps_from p n [] = Ok []
 steps_from p n (l ∷ ls) = with_line n (line_of p l) (steps_from p (n + 1) ls)

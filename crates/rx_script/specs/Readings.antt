@@ -42,7 +42,7 @@ held_part part = (part.0, held part.1)
 abbrev pub held_path : Path → Path
 held_path path = map held_part path
 
--- an integer of 32 bits for a number, the same where it is in bounds
+-- an integer of 32 bits for a number, the same if it is in bounds
 abbrev pub held_value : ℤ → ℤ
 held_value x = wrap w32 (held_integer x)
 
@@ -65,7 +65,7 @@ held_step step.Event = step.Event
 held_step step.State = step.State
 held_step step.Tree = step.Tree
 
--- the number with a sign of a step, 0 where it has none
+-- the number with a sign of a step, 0 if it has none
 abbrev pub operand_of : Step → ℤ
 operand_of (step.Dispatch d) = operand d
 operand_of (step.Resolve name x) = x

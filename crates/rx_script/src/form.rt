@@ -15,7 +15,7 @@ use std::alloc::{AllocError, Global};
 pub(crate) struct Form {
     /// The step, with an integer of 32 bits for its number with a sign.
     pub(crate) step: Step,
-    /// Its number with a sign, 0 where it has none.
+    /// Its number with a sign, 0 if it has none.
     pub(crate) value: i64,
 }
 

@@ -19,7 +19,7 @@ pub enum ScriptError {
     UnknownTarget { line: u64 },
     /// The line has a form and its targets, and one of its numbers is out of its bounds.
     OutOfRange { line: u64 },
-    /// Want of memory.
+    /// Out of memory.
     OutOfMemory,
 }
 
@@ -75,8 +75,8 @@ fn error_at(line: u64, error: LineError) -> ScriptError
 ///
 /// # Errors
 ///
-/// Exactly where some other line is no step of the program, the first such line, counted from 1, and why it is none:
-/// `BadLine` before `UnknownTarget` before `OutOfRange`; and want of memory.
+/// Exactly if some other line is no step of the program, the first such line, counted from 1, and why it is none:
+/// `BadLine` before `UnknownTarget` before `OutOfRange`; and `OutOfMemory` if out of memory.
 pub fn read_script(alloc: Global, checked: &Checked, text: &[u8]) -> Result<Vec<Step>, ScriptError>
     requires { length text.now < 2 ^ 32 }
     ensures read { MatchResult result (λ steps. steps_of checked.now text.now ≡ Ok steps.items) (λ e. Refuses e (steps_of checked.now text.now)) }

@@ -93,7 +93,7 @@ module _ (p : Program) (lanes : Lanes) (cut : Cut) (first : ℕ) (old now new : 
       since x (inl none) = inl none
       since x (inr renders) = inr (λ s done keeps. renders s done (so_far.goes_on.keeps s x.number x.initials done keeps))
 
--- ---- where all is as before at first
+-- ---- if all is as before at first
 
 module _ (p : Program) (lanes : Lanes) (cut : Cut) (first : ℕ) (old now new : KeptBy) (same : (n : ℕ) → now n ≡ old n) where
   pub goes_on_before : KeepsOn p lanes cut now new → KeepsOn p lanes cut old new

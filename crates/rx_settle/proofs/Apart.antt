@@ -1,4 +1,4 @@
--- No two instances of a tree have one number, where each has a number of its own.
+-- No two instances of a tree have one number, if each has a number of its own.
 use Rattle.std.proofs.Common.{◌≡◌, ℕ, zero, suc, ◌+◌, ◌<◌, ◌≤◌, Bool, true, false, cond, nat_eq, Option, Some, None, List, [], ◌∷◌, filter_map, option_map, option_and_then, slice_get, refl, ap, ◌∙◌, arith}
 use Rattle.std.specs.List.{cons_option}
 use Rattle.std.proofs.lemmas.Bool.Decides.{nat_tests}

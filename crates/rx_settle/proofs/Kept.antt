@@ -36,7 +36,7 @@ pub record SettledSoFar (lanes : Lanes) (cut : Cut) (first : ℕ) (old new : Kep
   pub elsewhere : (n : ℕ) → has_instance ms n ≡ false → new n ≡ old n
 
 module _ (lanes : Lanes) (cut : Cut) (first : ℕ) where
-  -- hooks are settled where they are seen so before or after
+  -- hooks are settled if they are seen so before or after
   settled_after : (m : Mounted) (old now new : KeptBy) → new m.number ≡ now m.number → AreSettled lanes cut first old now m → AreSettled lanes cut first old new m
   settled_after m old now new same h =
       record {

@@ -27,7 +27,7 @@ or_right : (a b : Bool) → b ≡ true → (a || b) ≡ true
 or_right true b e = refl
 or_right false b e = e
 
--- numbers stay where hooks are added
+-- numbers stay when hooks are added
 number_stays : (xs : List NewHooks) (x : NewHooks) (n : ℕ) → has_number xs n ≡ true → has_number (xs ++ x ∷ []) n ≡ true
 number_stays [] x n e = cc
 number_stays (y ∷ xs) x n e = go (nat_eq y.number n) (number_stays xs x n) e
@@ -120,7 +120,7 @@ pub record IsFound (xs : List NewHooks) (kept : KeptBy) (n : ℕ) : Type 0 where
   pub number_is : hooks.number ≡ n
   pub kept_is : kept_with xs kept n ≡ Some hooks.hooks
 
--- hooks of a number are found where some have it
+-- hooks of a number are found if some have it
 pub found : (xs : List NewHooks) (kept : KeptBy) (n : ℕ) → has_number xs n ≡ true → IsFound xs kept n
 found [] kept n has = absurd (let f : ⊥ = cc in f)
 found (x ∷ xs) kept n has = go (nat_eq x.number n) refl has (found xs kept n)

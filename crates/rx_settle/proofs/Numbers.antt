@@ -55,7 +55,7 @@ stands_once n tree has = omega (arith, has_once (mounted tree) n has, times_are 
 pub stands_never : (n : ℕ) (tree : Option Node) → has_instance (mounted tree) n ≡ false → times_numbered_if n tree ≡ 0
 stands_never n tree none = sym (times_are n tree) ∙ has_never (mounted tree) n none
 
--- where it stands there, it is found; and where not, it is not
+-- if it stands there, it is found; and if not, it is not
 pub found_in : (n : ℕ) (tree : Option Node) → 1 ≤ times_numbered_if n tree → has_instance (mounted tree) n ≡ true
 found_in n tree once = go (has_instance (mounted tree) n) refl
   where
@@ -81,7 +81,7 @@ own_same next tree other same own n =
 -- ---- without what stayed the same
 
 module _ (old : Option Node) (new : Node) (pruned_old : Option Node) (pruned_new : Node) (pruned : ArePruned old new pruned_old pruned_new) where
-  -- the pruned new tree has numbers of its own where the whole one has
+  -- the pruned new tree has numbers of its own if the whole one has
   pub pruned_own : (next : ℕ) → HasOwnNumbers next (Some new) → HasOwnNumbers next (Some pruned_new)
   pruned_own next own n =
       let left = left_alike old new pruned_old pruned_new pruned n in

@@ -267,7 +267,7 @@ pub whole_trees : (old : Option Node) (new : Node) → ArePruned old new old new
 whole_trees None new = pruning.first
 whole_trees (Some o) new = later whole
 
--- where a render goes on what is kept, it stands for the state as before
+-- if a render goes on what is kept, it stands for the state as before
 pub all_go_on : (p : Program) (lanes : Lanes) (cut : Cut) (old new : KeptBy) (s : State) → KeepsOn p lanes cut old new → DoneBefore cut s.journal.updates → KeepsAllHooks p s old
     → KeepsAllHooks p s new
 all_go_on p lanes cut old new s goes_on done keeps = all-keep p s new (λ k m at. goes_on.keeps s m.number m.initials done (each-keeps p s old keeps k m at))

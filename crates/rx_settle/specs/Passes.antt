@@ -51,7 +51,7 @@ pub data ChangesWorking (change : List HookHistory → List HookHistory) (lanes 
   works : TellsOf lanes cut old true → HooksChange change old new → ChangesWorking change lanes cut old new
   rests : TellsOf lanes cut old false → new ≡ old → ChangesWorking change lanes cut old new
 
--- the hooks of an instance with a number below the first in which the render has work are committed where it is visible, and else owed what lies before the cut
+-- the hooks of an instance with a number below the first in which the render has work are committed if it is visible, and else owed what lies before the cut
 pub record AreSettled (lanes : Lanes) (cut : Cut) (first : ℕ) (old new : ℕ → Option (List Hook)) (m : Mounted) : Type 0 where
   pub shown : m.number < first → m.visible ≡ true → ChangesWorking (map committed_hook) lanes cut (old m.number) (new m.number)
   pub hidden : m.number < first → m.visible ≡ false → ChangesWorking (map (owed_hook lanes cut)) lanes cut (old m.number) (new m.number)

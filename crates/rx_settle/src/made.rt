@@ -35,7 +35,7 @@ fn mount_one(
 ///
 /// # Errors
 ///
-/// Want of memory alone.
+/// Only if out of memory.
 pub(crate) fn mount_new(
     alloc: Global,
     instances: &[Mounted],

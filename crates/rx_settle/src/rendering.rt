@@ -42,7 +42,7 @@ fn render_one(
 ///
 /// # Errors
 ///
-/// Want of memory alone.
+/// Only if out of memory.
 pub(crate) fn render_shown(
     alloc: Global,
     store: &mut HookStore,

@@ -39,7 +39,7 @@ fn numbers_of(alloc: Global, instances: &[Mounted]) -> Result<HashSet<u64>, Allo
     Ok(known)
 }
 
-// True where each instance in whose hooks a render has work is one of these.
+// True if each instance in whose hooks a render has work is one of these.
 fn has_all_working(
     alloc: Global,
     store: &HookStore,
@@ -87,12 +87,12 @@ fn settle_trees(
 /// included are done in a visible instance; a kept one is owed them; a new instance, one with a number from the first on,
 /// has its hooks at their initial values; and those of an instance that is gone are dropped (react.dev, Preserving and
 /// Resetting State). The render keeps no note of what it folded, so the hooks of each visible instance in which it has work are
-/// folded once more, for its lanes at its cut, and give the same. Where no instance that the pruned trees leave out has work, it
+/// folded once more, for its lanes at its cut, and give the same. If no instance that the pruned trees leave out has work, it
 /// goes over these alone: what is kept of the others stands as it is.
 ///
 /// # Errors
 ///
-/// Want of memory alone. What is kept then stands for whatever state it stood for.
+/// Only if out of memory. What is kept then stands for whatever state it stood for.
 pub fn settle_hooks(
     alloc: Global,
     store: &mut HookStore,

@@ -13,7 +13,7 @@ use Rattle.rx_expression.specs.Results.{Fails, Gives}
 use Rattle.rx_slots.specs.Parts.{repetition_at, sides_at, filled_at}
 use Rattle.rx_expression.proofs.Exits.{fails_at, reads_behind}
 
--- What a function returns, where a step before it read this.
+-- What a function returns, if a step before it read this.
 pub gives_behind : {X A B : Type 0} (w : X → B × List Kind) (result : Result X Fault) (r : Read A) (x : A × List Kind) (f : A × List Kind → Read B) → r ≡ Ok x → Gives w result (f x) → Gives w result (r >>= f)
 gives_behind w result r x f ok h = subst (λ r. Gives w result (r >>= f)) (sym ok) h
 

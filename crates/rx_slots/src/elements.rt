@@ -23,7 +23,7 @@ pub(crate) fn boundary(alloc: Global, key: KeyPlace, fallback: Slot) -> Result<T
     Ok(Tag::Suspense { key, fallback })
 }
 
-/// A choice of the two sides, where both are read.
+/// A choice of the two sides, if both are read.
 pub(crate) fn choice<'a>(
     alloc: Global,
     test: Expr,
@@ -63,7 +63,7 @@ fn closing_name<'a>(tag: &Tag, rest: Rest<'a>) -> Result<Rest<'a>, Fault>
     }
 }
 
-/// An element with its children, where the name of its closing tag and `>` stand next.
+/// An element with its children, if the name of its closing tag and `>` stand next.
 pub(crate) fn filled<'a>(
     tag: Tag,
     children: Vec<Child>,

@@ -77,7 +77,7 @@ fn tag<'a>(alloc: Global, rest: Rest<'a>, level: usize) -> Result<(Tag, Rest<'a>
     upper_tag(alloc, rest, level)
 }
 
-/// Behind the `<` of a child list: an element, or none where the list ends.
+/// Behind the `<` of a child list: an element, or none if the list ends.
 #[cycle(slot)]
 fn end_or_element<'a>(
     alloc: Global,
@@ -97,7 +97,7 @@ fn end_or_element<'a>(
     Ok((Some(Child::element(element)), rest))
 }
 
-/// A child, or none where the child list ends.
+/// A child, or none if the child list ends.
 #[cycle(slot)]
 #[tactic(auto, unfolding(rx_grammar::specs::Reading::child_at))]
 fn child<'a>(

@@ -11,7 +11,7 @@ use Rattle.rx_spots.specs.Counts.{own_count, counted_from, counted_in}
 pub counted_from-parts : (b : Bool) (n : Node) → counted_from b n ≡ own_count b (mark_of n) + counted_in b (children_of n) + counted_in b (fallback_of n)
 counted_from-parts b (node e m ns fs) = refl
 
--- what counts where each node does
+-- what counts if each node does
 abbrev own_one : Bool → ℕ
 own_one b = cond (b || not false) 1 0
 

@@ -65,7 +65,7 @@ any-or : (p f g : ℕ → Bool) (ns : List ℕ) → list_any p (filter (λ r. f 
 any-or p f g [] = refl
 any-or p f g (n ∷ ns) = any_cons p n (f n) (g n) (filter (λ r. f r || g r) ns) (filter f ns) (filter g ns) (any-or p f g ns)
 
--- where none passes
+-- if none passes
 any-nowhere : (p : ℕ → Bool) (q a k : ℕ) → q < a → list_any p (filter (nat_eq q) (range_with_len a k)) ≡ false
 any-nowhere p q a zero h = refl
 any-nowhere p q a (suc k) h =
@@ -78,7 +78,7 @@ any-above p q a (suc k) h =
     let other : nat_eq q a ≡ false = grind (arith, nat_tests) in
     rw other (any-above p q (a + 1) k (omega arith))
 
--- where one passes
+-- if one passes
 any-within : (p : ℕ → Bool) (q a k : ℕ) → a ≤ q → q < a + k → list_any p (filter (nat_eq q) (range_with_len a k)) ≡ p q
 any-within p q a zero low high = absurd (omega arith)
 any-within p q a (suc k) low high = go (λ more. any-within p q (a + 1) k more (omega arith)) (nat_eq q a) refl
@@ -133,7 +133,7 @@ any-where_any p below (waits ∷ all) =
 abbrev is_since : Cut → Journal → ℕ → Bool
 is_since cut j r = is_some (resolved_now j r) && not (is_some (resolved_by cut j r))
 
--- one of the resources that a tree waits for was resolved after the cut where one boundary's was
+-- one of the resources that a tree waits for was resolved after the cut if one boundary's was
 pub resolved_since-all_awaited : (cut : Cut) (j : Journal) → AreWithinReach j → (tree : Option Node) → resolved_since cut j (all_awaited tree) ≡ list_any (resolved_since cut j) (visible_awaits tree)
 resolved_since-all_awaited cut j reach tree = any-where_any (is_since cut j) (λ r h. ap (λ v. is_some v && not (is_some (resolved_by cut j r))) (reach r h)) (visible_awaits tree)
 
@@ -187,7 +187,7 @@ is_waited-cons s ss r = go (is_hidden (spot_mark s)) refl s.around.visible refl
     go true e v f = inner s.around.visible
     go false e v f = not_waiting s.around.visible (has (awaits_in (spot_mark s)) r) (shown_waits (spot_mark s) r e) (is_waited ss r)
 
--- below a node it is visible where the node is, unless that keeps its children
+-- below a node it is visible if the node is, unless that keeps its children
 visible_below : (a : Around) (m : Mark) → (around_children a m).visible ≡ (not (is_hidden m) && a.visible)
 visible_below a (of_instance i) = refl
 visible_below a (of_host None) = refl

@@ -74,7 +74,7 @@ impl Around {
         }
     }
 
-    /// True where the place lies in no kept primary.
+    /// True if the place lies in no kept primary.
     pub fn is_visible(self) -> bool
         ensures { result ≡ self.visible }
     {
@@ -95,7 +95,7 @@ impl Around {
         self.host
     }
 
-    /// True where a kept primary lies between the place and that host.
+    /// True if a kept primary lies between the place and that host.
     pub fn is_concealed(self) -> bool
         ensures { result ≡ self.concealed }
     {

@@ -59,7 +59,7 @@ impl Mounted {
         self.owner
     }
 
-    /// True where it lies in no kept primary.
+    /// True if it lies in no kept primary.
     pub fn is_visible(&self) -> bool
         ensures { result ≡ self.now.visible }
     {

@@ -55,7 +55,7 @@ fn add_in(
 ///
 /// # Errors
 ///
-/// Want of memory alone.
+/// Only if out of memory.
 pub fn mounted(alloc: Global, tree: Option<&Node>) -> Result<Vec<Mounted>, AllocError>
     ensures { IfOk result (λ found. found.items ≡ spots.mounted (option_copied tree.entry)) }
 {

@@ -102,7 +102,7 @@ due-generated words n input answer is gives _ (generated m task) = gives
 pub due-free : (words : List Text) (input : List ℕ) (answer : Status) → is_cut_short answer ≡ true → (due : Status) → IsDue words input due → Gives due answer
 due-free words input answer cut due d whole = let clash : true ≡ false = sym cut ∙ whole in cc
 
--- the status that is due is the answer, where the source tells its bytes
+-- the status that is due is the answer if the source tells its bytes
 abbrev pub IsExact : List Text → Option (List ℕ) → Status → Type 0
 IsExact words old answer = IfSome old (λ all. (due : Status) → IsDue words all due → Gives due answer)
 
@@ -139,13 +139,13 @@ finished TooLong g r w = inl (g refl)
 finished ProgramRefused g r w = inl (g refl)
 finished ScriptRefused g r w = inl (g refl)
 
--- with no new fault, what is accepted is done, or memory was wanting
+-- with no new fault, what is accepted is done, or there was no memory
 pub complete : (words : List Text) (old : Option (List ℕ)) (answer : Status) (A B : Type 0) → IsExact words old answer → (answer ≡ ReadFault → A) → (answer ≡ WriteFault → B)
     → IfSome old (λ all. IsDue words all Done → ¬ A → ¬ B → (answer ≡ Done) ⊎ (answer ≡ OutOfMemory))
 complete words None answer A B exact read write = tt
 complete words (Some all) answer A B exact read write = λ due no_a no_b. finished answer (exact Done due) (λ h. no_a (read h)) (λ h. no_b (write h))
 
--- Where the call was cut short
+-- If the call was cut short
 
 pub lost-by : (words : List Text) (old new w u : Option (List ℕ)) (used_old used : ℕ) (P : List ℕ → ℕ → Type 0) → ((part : List ℕ) (bodies : ℕ) → P part bodies → IsLost words old new part bodies)
     → Writes w u used_old used P → Writes w u used_old used (IsLost words old new)
@@ -186,7 +186,7 @@ summary-short n p steps used_old used made (inl same) = inl same
 summary-short n p steps used_old used made (inr h) =
     inr (h.1, record { program = p; steps = steps; generated = made; report = h.0; breaks = h.2; nothing = refl }, h.4)
 
--- what is written of a summary where memory runs out
+-- what is written of a summary if memory runs out
 pub summary-nothing : (n : ℕ) (w : Option (List ℕ)) (used_old used : ℕ) → (used ≡ used_old) ⊎ ((bodies : ℕ) × IsShortSummary n [] bodies × (used ≡ used_old + bodies))
     → Writes w w used_old used (OrNothing (IsShortSummary n))
 summary-nothing n w used_old used (inl same) = nothing-written (IsShortSummary n) w used_old used same

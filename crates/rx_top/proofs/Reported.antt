@@ -27,7 +27,7 @@ pub writes-less : (P Q : List ℕ → ℕ → Type 0) → ((part : List ℕ) (bo
     → Writes w u used_old used Q
 writes-less P Q less w u used_old used wrote = (wrote.0, wrote.1, less wrote.0 wrote.1 wrote.2, wrote.3, wrote.4)
 
--- what holds anyway holds where there is an error
+-- what holds anyway holds if there is an error
 pub on-err : {T E P : Type 0} (r : Result T E) → P → OnErr r P
 on-err (Ok x) p = tt
 on-err (Err e) p = p

@@ -170,7 +170,7 @@ pub logged : (o : Options) (before cut log : Written) (bytes : List ℕ) (lines 
 logged o before cut log bytes lines c l p b =
     b ∙ ap (λ (w : Written). w.bytes) l ∙ ap (λ (w : Written). w.bytes ++ report_bytes w.options lines) c ∙ ap (λ (x : Options). report_bytes x lines) p
 
--- a step that a root takes, where its log was cut to nothing before
+-- a step that a root takes if its log was cut to nothing before
 pub stepped : (p q : Program) (o : Options) (s : State) (x : Step) (after : Rooted) (before cut log : Written) (bytes : List ℕ) (used_old used : ℕ) → q ≡ p
     → Takes q (StepTo Pays q s x) after cut log used_old used → cut ≡ record { options = before.options; bytes = take 0 before.bytes } → before.options ≡ o → bytes ≡ log.bytes
     → Stepped p o s x after bytes used_old used

@@ -59,7 +59,7 @@ pub data IsDue (words : List Text) (input : List ℕ) : Status → Type 0 where
   judged : (reading : Reading) (j : Judgement) → task_of words ≡ Some (Read reading) → length input ≤ limit → IsJudged input j → IsDue words input (status_of j)
   generated : (rounds : ℕ) → task_of words ≡ Some (Gen rounds) → IsDue words input Done
 
--- a fault of the source or the sink, or want of memory, has cut the call short
+-- the call is cut short: by a fault of the source or the sink, or because it is out of memory
 abbrev pub is_cut_short : Status → Bool
 is_cut_short Done = false
 is_cut_short Usage = false
@@ -70,11 +70,11 @@ is_cut_short ProgramRefused = false
 is_cut_short ScriptRefused = false
 is_cut_short OutOfMemory = true
 
--- where nothing has cut the call short, it is answered with the status that is due
+-- if nothing has cut the call short, it is answered with the status that is due
 abbrev pub Gives : (due answer : Status) → Type 0
 Gives due answer = is_cut_short answer ≡ false → answer ≡ due
 
--- the count of faults of the sink rose where the answer is a write fault, and stayed where it is another
+-- the count of faults of the sink rose if the answer is a write fault, and stayed if it is another
 pub record TellsFaults (before now : ℕ) (answer : Status) : Type 0 where
   pub rose : answer ≡ WriteFault → Rose before now
   pub kept : answer ≢ WriteFault → now ≡ before
@@ -118,12 +118,12 @@ IsOutput reading (accepted p steps) text bodies = IsWork reading p steps text bo
 IsOutput reading (program_refused line) text bodies = IsLine line text bodies
 IsOutput reading (script_refused line) text bodies = IsLine line text bodies
 
--- what is written of the work where the sink fails
+-- what is written of the work if the sink fails
 abbrev pub IsLostWork : Reading → Program → List Step → List ℕ → ℕ → Type 0
 IsLostWork Check p steps part bodies = IsLostLine (accepted_line (node_bound p) (depth_bound p) (length steps)) part bodies
 IsLostWork (Run counts ops) p steps part bodies = IsLostReport p steps (record { counts = counts; ops = ops }) part bodies
 
--- what is written of the output where the sink fails
+-- what is written of the output if the sink fails
 abbrev pub IsLostOutput : Reading → Judgement → List ℕ → ℕ → Type 0
 IsLostOutput reading (accepted p steps) part bodies = IsLostWork reading p steps part bodies
 IsLostOutput reading (program_refused line) part bodies = IsLostLine line part bodies
@@ -133,12 +133,12 @@ IsLostOutput reading (script_refused line) part bodies = IsLostLine line part bo
 abbrev pub OrNothing : (List ℕ → ℕ → Type 0) → List ℕ → ℕ → Type 0
 OrNothing P part bodies = IsLine [] part bodies ⊎ P part bodies
 
--- what is written of the work where memory runs out: nothing, before a body is evaluated; or, of `run`, a report that is cut off
+-- what is written of the work if memory runs out: nothing, before a body is evaluated; or, of `run`, a report that is cut off
 abbrev pub IsShortWork : Reading → Program → List Step → List ℕ → ℕ → Type 0
 IsShortWork Check p steps part bodies = IsLine [] part bodies
 IsShortWork (Run counts ops) p steps part bodies = OrNothing (IsShortReport p steps (record { counts = counts; ops = ops })) part bodies
 
--- what is written where memory runs out, of the work on an input that is accepted
+-- what is written if memory runs out, of the work on an input that is accepted
 pub record IsShortOutput (reading : Reading) (input : List ℕ) (part : List ℕ) (bodies : ℕ) : Type 0 where
   pub program : Program
   pub steps : List Step
@@ -173,13 +173,13 @@ pub record IsSummary (rounds : ℕ) (text : List ℕ) (bodies : ℕ) : Type 0 wh
   pub text_is : text ≡ summary_of rounds whole.after
   pub bodies_are : bodies ≡ whole.bodies
 
--- what is written of a summary where the sink fails: the run is over by then
+-- what is written of a summary if the sink fails: the run is over by then
 pub record IsLostSummary (rounds : ℕ) (part : List ℕ) (bodies : ℕ) : Type 0 where
   pub text : List ℕ
   pub summary : IsSummary rounds text bodies
   pub is_part : IsPartOf part text
 
--- Nothing is written of a summary where memory runs out within a step of the generated run, or behind the last one. What its report would be is cut off there.
+-- Nothing is written of a summary if memory runs out within a step of the generated run, or behind the last one. What its report would be is cut off there.
 pub record IsShortSummary (rounds : ℕ) (part : List ℕ) (bodies : ℕ) : Type 0 where
   pub program : Program
   pub steps : List Step
@@ -200,14 +200,14 @@ abbrev pub Does : Task → (left_old left_new written_old written_new : Option (
 Does (Read reading) left_old left_new written_old written_new used_old used_new = Answers reading Done left_old left_new written_old written_new used_old used_new
 Does (Gen n) left_old left_new written_old written_new used_old used_new = Writes written_old written_new used_old used_new (IsSummary n)
 
--- What is written where the sink fails, and how many bodies are evaluated until then: a part of the line for words that aren't valid, or for an input that is too long; of the output of an input that was read whole; or of a summary.
+-- What is written if the sink fails, and how many bodies are evaluated until then: a part of the line for words that aren't valid, or for an input that is too long; of the output of an input that was read whole; or of a summary.
 pub data IsLost (words : List Text) (left_old left_new : Option (List ℕ)) (part : List ℕ) (bodies : ℕ) : Type 0 where
   lost_usage : is_valid words ≡ false → IsLostLine usage_line part bodies → IsLost words left_old left_new part bodies
   lost_too_long : reads_input words ≡ true → Reads left_old left_new (λ input. length input ≡ limit + 1) → IsLostLine too_long_line part bodies → IsLost words left_old left_new part bodies
   lost_output : (reading : Reading) → task_of words ≡ Some (Read reading) → ReadsJudged left_old left_new (λ j. IsLostOutput reading j part bodies) → IsLost words left_old left_new part bodies
   lost_summary : (rounds : ℕ) → task_of words ≡ Some (Gen rounds) → IsLostSummary rounds part bodies → IsLost words left_old left_new part bodies
 
--- What is written where memory runs out, and how many bodies are evaluated until then: nothing, before a run; or some of the output of an input that was read whole, or of a summary.
+-- What is written if memory runs out, and how many bodies are evaluated until then: nothing, before a run; or some of the output of an input that was read whole, or of a summary.
 pub data IsShort (words : List Text) (left_old left_new : Option (List ℕ)) (part : List ℕ) (bodies : ℕ) : Type 0 where
   nothing : IsLine [] part bodies → IsShort words left_old left_new part bodies
   short_output : (reading : Reading) → task_of words ≡ Some (Read reading) → ReadsAll left_old left_new (λ input. (length input ≤ limit) × IsShortOutput reading input part bodies) → IsShort words left_old left_new part bodies

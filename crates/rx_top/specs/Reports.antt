@@ -1,4 +1,4 @@
--- Reports: whole ones, and those that a fault or want of memory cuts off.
+-- Reports: whole ones, and those that are cut off by a fault or when out of memory.
 use Rattle.std.specs.Prelude.{ℕ, ◌≡◌, ◌+◌, ◌⊎◌, List, [], ◌∷◌, ◌++◌, IsTrue}
 use Rattle.rx_io.specs.Whole.{IsPartOf}
 use Rattle.rx_ast.specs.Syntax.{Program}
@@ -12,7 +12,7 @@ use Rattle.rx_model.specs.Breaking.{RunBreaksOff}
 use Rattle.rx_model.specs.Laws.{ShowsEverything}
 use Rattle.rx_root.specs.Paying.{Pays}
 
--- The bytes are the report of a run of the fresh machine, with what is asked of each of its renders, and the run evaluates so many bodies. Where its end is quiet, every hook and the whole tree show all updates.
+-- The bytes are the report of a run of the fresh machine, with what is asked of each of its renders, and the run evaluates so many bodies. If its end is quiet, every hook and the whole tree show all updates.
 pub record IsReport (Asked : OfRender) (p : Program) (steps : List Step) (options : Options) (bytes : List ℕ) (bodies : ℕ) : Type 0 where
   pub reports : Reports Asked p steps options bytes bodies
   pub quiet : IsTrue (is_quiet reports.run.whole.after) → ShowsEverything p reports.run.whole.after
@@ -21,7 +21,7 @@ pub record IsReport (Asked : OfRender) (p : Program) (steps : List Step) (option
 abbrev pub BeginsReport : Program → List Step → Options → List ℕ → Type 0
 BeginsReport p steps options part = (rest : List ℕ) × (bodies : ℕ) × IsReport AnyRender p steps options (part ++ rest) bodies
 
--- Where the sink fails
+-- If the sink fails
 
 -- From a state, some steps of a script are taken, one after another, and so is the next one. The bytes are all lines of those before it, and a part of its own lines; the bodies are those of both.
 pub record StepLosesLines (Asked : OfRender) (p : Program) (s : State) (steps : List Step) (options : Options) (part : List ℕ) (bodies : ℕ) : Type 0 where
@@ -47,12 +47,12 @@ pub record EndLosesLine (Asked : OfRender) (p : Program) (s : State) (steps : Li
   pub part_is : part ≡ report_bytes options taken.lines ++ begun
   pub bodies_are : bodies ≡ taken.bodies
 
--- A report of a program and its steps from the start, cut off where the sink fails: the lines of each step are written before the next one is taken. It begins a whole report.
+-- A report of a program and its steps from the start, cut off when the sink fails: the lines of each step are written before the next one is taken. It begins a whole report.
 pub record IsLostReport (p : Program) (steps : List Step) (options : Options) (part : List ℕ) (bodies : ℕ) : Type 0 where
   pub begins : BeginsReport p steps options part
   pub loses : StepLosesLines Pays p opening steps options part bodies ⊎ EndLosesLine Pays p opening steps options part bodies
 
--- Where memory runs out
+-- If memory runs out
 
 -- From a state, some steps of a script are taken, and the next one breaks off. The bytes are all lines of those before it, and the bodies are those of both.
 pub record StepBreaksOff (Asked : OfRender) (p : Program) (s : State) (steps : List Step) (options : Options) (part : List ℕ) (bodies : ℕ) : Type 0 where
@@ -68,11 +68,11 @@ pub record EndBreaksOff (Asked : OfRender) (p : Program) (s : State) (steps : Li
   pub part_is : part ≡ report_bytes options taken.lines
   pub bodies_are : bodies ≡ taken.bodies
 
--- what is written of a program and its steps from the start where memory runs out within a step, or behind the last one
+-- what is written of a program and its steps from the start if memory runs out within a step, or behind the last one
 abbrev pub BreaksOffAt : Program → List Step → Options → (part : List ℕ) → (bodies : ℕ) → Type 0
 BreaksOffAt p steps options part bodies = StepBreaksOff Pays p opening steps options part bodies ⊎ EndBreaksOff Pays p opening steps options part bodies
 
--- A report of a program and its steps from the start, cut off where memory runs out. It begins a whole report.
+-- A report of a program and its steps from the start, cut off when memory runs out. It begins a whole report.
 pub record IsShortReport (p : Program) (steps : List Step) (options : Options) (part : List ℕ) (bodies : ℕ) : Type 0 where
   pub begins : BeginsReport p steps options part
   pub breaks : BreaksOffAt p steps options part bodies

@@ -41,7 +41,7 @@ fn refuse_words<K: Sink>(out: &mut K) -> Status
 /// Does all that the program does: takes the words behind the program's name, reads the source, writes to the sink,
 /// and says how it ended.
 ///
-/// The words are valid where they are `run` with `--counts` and `--ops` each at most once, `check` alone, or `gen` with a
+/// The words are valid if they are `run` with `--counts` and `--ops` each at most once, `check` alone, or `gen` with a
 /// number from 1 to 1,000. `run` and `check` read the source to its end, or until more than 1,048,576 bytes were taken. It
 /// holds a program, a line `---`, and a script. Both refuse what is not accepted; `check` tells the bounds of what is
 /// accepted, and `run` runs it. `gen` reads nothing, runs a generated program and script, and sums up their run.
@@ -70,7 +70,7 @@ pub fn top<S: Source, K: Sink, L: Ledger>(
     ensures usage { result ≡ Status.Usage → (is_valid (texts words.now) ≡ false)
         × Appends (K.written out.old) (K.written out.new) usage_line × (steps.new ≡ steps.old) }
 
-    // Where the words aren't valid, or ask for a generated run, the source is not touched, and so it did not fail.
+    // If the words aren't valid, or ask for a generated run, the source is not touched, and so it did not fail.
     ensures untouched { reads_input (texts words.now) ≡ false → (src.new ≡ src.old) × (result ≢ Status.ReadFault) }
 
     // 3: the source failed, the sink was not touched, and no body was evaluated.
@@ -92,7 +92,7 @@ pub fn top<S: Source, K: Sink, L: Ledger>(
     // However it ends, at most one byte more was taken than may be.
     ensures taken { Reads (S.left src.old) (S.left src.new) (λ input. length input ≤ limit + 1) }
 
-    // 6 and 7: all was read, and it is refused: its program, or its script where its program is accepted.
+    // 6 and 7: all was read, and it is refused: its program, or its script if its program is accepted.
     ensures program_refused { result ≡ Status.ProgramRefused → (reading : Reading) × (task_of (texts words.now) ≡ Some (Task.Read reading))
         × Answers reading Status.ProgramRefused (S.left src.old) (S.left src.new) (K.written out.old) (K.written out.new) steps.old steps.new }
     ensures script_refused { result ≡ Status.ScriptRefused → (reading : Reading) × (task_of (texts words.now) ≡ Some (Task.Read reading))
@@ -110,7 +110,7 @@ pub fn top<S: Source, K: Sink, L: Ledger>(
     // A generated run is done, whatever the source, or the status is 4 or 8.
     ensures generated { (n : ℕ) → task_of (texts words.now) ≡ Some (Task.Gen n) → Gives Status.Done result }
 
-    // With no new fault, what is accepted is done, or memory was wanting.
+    // With no new fault, what is accepted is done, or there was no memory.
     ensures complete { IfSome (S.left src.old) (λ input. IsDue (texts words.now) input Status.Done
         → ¬ (Rose (S.faults src.old) (S.faults src.new)) → ¬ (Rose (K.faults out.old) (K.faults out.new))
         → (result ≡ Status.Done) ⊎ (result ≡ Status.OutOfMemory)) }

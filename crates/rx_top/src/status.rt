@@ -19,12 +19,12 @@ pub enum Status {
     ProgramRefused,
     /// The script is refused.
     ScriptRefused,
-    /// Want of memory.
+    /// Out of memory.
     OutOfMemory,
 }
 
 impl Status {
-    /// The number that the process ends with: 0 where the work is done, and 2 to 8 for the others.
+    /// The number that the process ends with: 0 if the work is done, and 2 to 8 for the others.
     pub fn code(self) -> u8
         ensures { result ≡ code_of self }
     {

@@ -1,4 +1,4 @@
--- The ways that a walk gives cover a tree, where no stirred number stands in what the walk spared.
+-- The ways that a walk gives cover a tree, if no stirred number stands in what the walk spared.
 use Rattle.std.proofs.Common.{◌≡◌, ℕ, ◌+◌, ◌≤◌, Bool, true, false, cond, Option, Some, None, refl, sym, ap, subst, ◌∙◌, inl, inr, arith}
 use Rattle.std.specs.Prelude.{◌||◌, ◌&&◌, not, is_some}
 use Rattle.std.specs.Option.{option_map_or}
@@ -76,12 +76,12 @@ by_cases false f g = g refl
 shows-all : (h : ℕ → Bool) (x : Node) → is_spared h x ≡ true → hides_within x ≡ false
 shows-all h x is = not-true _ (and_parts (not (hides_within x)) _ is).0
 
--- what is spared is quiet, where no stirred number stands in it
+-- what is spared is quiet, if no stirred number stands in it
 spared-quiet : (h s : ℕ → Bool) (x : Node) → Numbered x → is_spared h x ≡ true → NoneOccurs s (λ n. missed h n x) → ForEach (IsQuiet s) x
 spared-quiet h s x has is free = quiet-without s x has (shows-all h x is) (λ n st. sym (spared-missed h n x is) ∙ free n st)
 
 mutual
-  -- where a walk finds no cause, all is quiet
+  -- if a walk finds no cause, all is quiet
   unfound-quiet : (h s : ℕ → Bool) (x : Node) → Numbered x → finds h s x ≡ false → NoneOccurs s (λ n. missed h n x) → ForEach (IsQuiet s) x
   unfound-quiet h s (node e m ns fs) has still free =
       by_cases (is_spared h (node e m ns fs)) (λ is. spared-quiet h s (node e m ns fs) has is free)
@@ -141,7 +141,7 @@ no-number n (of_boundary b) e = refl
 no-number n plain e = refl
 
 mutual
-  -- no number stands where there is no instance
+  -- no number stands if there is no instance
   none-times : (n : ℕ) (x : Node) → has_instance_within x ≡ false → times_numbered n x ≡ 0
   none-times n (node e m ns fs) is =
       let own = or_parts (is_some (instance_in m)) (has_instance_in ns || has_instance_in fs) is in
@@ -155,7 +155,7 @@ mutual
       let parts = or_parts (has_instance_within x) (has_instance_in ns) is in
       omega (arith, none-times n x parts.0, none-times_in n ns parts.1)
 
--- where all are hinted, only what has no instance is spared
+-- if all are hinted, only what has no instance is spared
 hinted-spares : (h : ℕ → Bool) → ((n : ℕ) → h n ≡ true) → (x : Node) → is_spared h x ≡ true → has_instance_within x ≡ false
 hinted-spares h all x is = go (number_of (mark_of x)) (and_parts (not (hides_within x)) _ is).1
   where
@@ -175,7 +175,7 @@ mutual
   none-missed_in h all n (vacant ns) = none-missed_in h all n ns
   none-missed_in h all n (child x ns) = omega (arith, none-missed h all n x, none-missed_in h all n ns)
 
--- the ways that a walk along hints gives cover a tree, where each stirred number is on them
+-- the ways that a walk along hints gives cover a tree, if each stirred number is on them
 pub covers-along : (h s way : ℕ → Bool) (next : ℕ) (tree : Option Node) (root : Node) → tree ≡ Some root → IfNumbered tree → HasOwnNumbers next tree
     → ((n : ℕ) → way n ≡ puts h s n root) → ((n : ℕ) → s n ≡ true → way n ≡ true) → CoversIf way (IsQuiet s) tree
 covers-along h s way next tree root is has own ways all =

@@ -1,4 +1,4 @@
--- Where no cause is found all is quiet.
+-- If no cause is found all is quiet.
 use Rattle.std.proofs.Common.{◌≡◌, ℕ, Bool, true, false, cond, Option, Some, None, refl, ap, arith}
 use Rattle.std.specs.Prelude.{◌||◌}
 use Rattle.std.specs.Option.{option_map_or}

@@ -308,6 +308,6 @@ module _ (hint stirred : ℕ → Bool) where
   pub tree_put : (n : ℕ) (x : Node) (c : Shape Fiber) → IsTreeOf (Some x) c → IsGathered c → puts_among hint stirred n c ≡ puts hint stirred n x
   tree_put n x c a g = list_put n 0 (child x none) c a g ∙ or_none (puts hint stirred n x)
 
-  -- where there is no tree none is put on the ways
+  -- if there is no tree none is put on the ways
   pub none_of_tree : (n : ℕ) (c : Shape Fiber) → IsTreeOf None c → IsGathered c → puts_among hint stirred n c ≡ false
   none_of_tree n c a g = list_put n 0 (vacant none) c a g

@@ -21,7 +21,7 @@ IsQuiet stirred (of_host h) = Unit {0}
 IsQuiet stirred (of_boundary b) = hides b ≡ false
 IsQuiet stirred plain = Unit {0}
 
--- where the instance of a node stands on no way, this holds of each node of its tree
+-- if the instance of a node stands on no way, this holds of each node of its tree
 abbrev pub CoversHere : (way : ℕ → Bool) → (Mark → Type 0) → Mark → Node → Type 0
 CoversHere way P m x = (n : ℕ) → number_of m ≡ Some n → way n ≡ false → ForEach P x
 

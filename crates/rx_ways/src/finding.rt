@@ -131,7 +131,7 @@ fn walk(
     Ok(found)
 }
 
-// The instances of the current fibers that have a cause at them or below, where the walk goes along these hints.
+// The instances of the current fibers that have a cause at them or below, if the walk goes along these hints.
 fn walk_along(
     alloc: Global,
     tree: &FiberTree<Fiber>,
@@ -150,12 +150,12 @@ fn walk_along(
 /// The instances of the committed tree, by its current fibers, at or above one that stirs, or a hidden boundary. Those stir that a
 /// caller looks for: that may have queued updates, or that have work for a render. The walk goes into what these hints tell, and
 /// into what hides a boundary; React goes by `childLanes` so. A fiber that keeps that neither an instance nor a hidden boundary is
-/// at or below it is passed (React: `subtreeFlags`). The hints are not trusted: where it has not found each instance that stirs,
-/// it is taken once more over all instances. Numbers occur at most once in a tree, so that where it has, it passed none by.
+/// at or below it is passed (React: `subtreeFlags`). The hints are not trusted: if it has not found each instance that stirs,
+/// it is taken once more over all instances. Numbers occur at most once in a tree, so that if it has, it passed none by.
 ///
 /// # Errors
 ///
-/// Want of memory alone.
+/// Only if out of memory.
 pub fn find_ways(
     alloc: Global,
     tree: &FiberTree<Fiber>,

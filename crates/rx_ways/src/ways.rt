@@ -7,7 +7,7 @@ use std::collections::HashSet;
 use std::marker::Model;
 
 /// The numbers of the instances that stand on a way: at or above one with queued updates or with work, or a hidden boundary
-/// (React marks them by `childLanes`). Where memory is wanting for one of them, it is all instances.
+/// (React marks them by `childLanes`). If memory runs out for one of them, it is all instances.
 #[derive(Drop)]
 pub struct Ways {
     pub(crate) numbers: HashSet<u64>,
@@ -34,7 +34,7 @@ impl Ways {
         }
     }
 
-    /// All instances: what a caller falls back to where ways cannot be told one by one.
+    /// All instances: what a caller falls back to if ways cannot be told one by one.
     pub fn everything(alloc: Global) -> Ways
         ensures { (n : ℕ) → is_way result n ≡ true }
     {

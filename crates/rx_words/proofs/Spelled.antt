@@ -61,7 +61,7 @@ spells-is (Gen n) (command ∷ words) is =
     let h = both (bytes_eq command (codes "gen")) (spells_rounds n words) is in
     subst (λ w. task_of (w ∷ words) ≡ Some (Gen n)) (sym (same command (codes "gen") h.0)) (rounds-are n words h.1)
 
--- what was found is kept where the words are its spelling, and that is what they ask for
+-- what was found is kept if the words are its spelling, and that is what they ask for
 pub spelled-is : (words : List Text) (found : Option Task) → ((task : Task) → task_of words ≡ Some task → found ≡ Some task) → spelled found words ≡ task_of words
 spelled-is words found finds = by_found found refl (task_of words) refl where
   kept : (task : Task) (b : Bool) → spells task words ≡ b → (asked : Option Task) → task_of words ≡ asked → found ≡ Some task → cond b (Some task) None ≡ asked

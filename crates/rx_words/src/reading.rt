@@ -65,7 +65,7 @@ fn if_spelled(task: Option<Task>, words: &[&str]) -> Option<Task>
 ///
 /// # Errors
 ///
-/// Want of memory alone.
+/// Only if out of memory.
 pub fn read_words<'a>(alloc: Global, words: &'a [&'a str]) -> Result<Option<Task>, AllocError>
     ensures task { IfOk result (λ task. task ≡ task_of (texts words.now)) }
     ensures rounds { IfOk result (λ task. IfSome task HasRounds) }

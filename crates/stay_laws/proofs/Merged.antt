@@ -162,7 +162,7 @@ none_there ls ms back n o = go (has_host ms n) refl
         absurd (cc)
     go false e = refl
 
--- What is said of the hosts that are kept, where those that are left out add nothing
+-- What is said of the hosts that are kept, if those that are left out add nothing
 
 filter_merged : {ks ls hs : List Host} → Merged ks ls hs → (p q : Host → Bool) → ((h : Host) → IsIn h ls → p h ≡ false)
     → ((h : Host) → IsIn h ks → p h ≡ q h) → filter p hs ≡ filter q ks

@@ -44,7 +44,7 @@ concealed_below a (of_boundary Shown) h = refl
 concealed_below a (of_boundary (Hidden w)) h = absurd (cc)
 concealed_below a plain h = refl
 
--- the surroundings agree below where the way goes on
+-- the surroundings agree below if the way goes on
 agree_on : (a b : Around) (m w : Mark) → GoesOn m w → Agree a b → Agree (around_children a m) (around_children b w)
 agree_on a b m w g r =
     record {
@@ -75,7 +75,7 @@ parts_of a e m ns fs =
     go None hs = refl
     go (Some h) hs = refl
 
--- where there is no fallback
+-- if there is no fallback
 parts_without : (a : Around) (e : Element) (m : Mark) (ns : Forest) → hosts_at a (node e m ns none) ≡ own a e m ++ hosts_in (around_children a m) ns
 parts_without a e m ns = parts_of a e m ns none ∙ ap (λ hs. own a e m ++ hs) (append-nil (hosts_in (around_children a m) ns))
 
@@ -88,7 +88,7 @@ own_same a b e m r = go (host_number m) (content_of e)
     go (Some n) (Some c) = rw (r.host, r.concealed) refl
 
 mutual
-  -- the hosts of one tree are the same where the surroundings agree
+  -- the hosts of one tree are the same if the surroundings agree
   hosts_agree : (a b : Around) (n : Node) → Agree a b → hosts_at a n ≡ hosts_at b n
   hosts_agree a b (node e m ns fs) r =
       parts_of a e m ns fs

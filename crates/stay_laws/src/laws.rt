@@ -7,7 +7,7 @@ ghost use Rattle.rx_forest.specs.HostOps.{host_ops, ops_between, placed_hosts};
 ghost use Rattle.rx_pruned.specs.Pruned.{ArePruned};
 ghost use Rattle.stay_laws.specs.Staying.{AreOfCommit};
 
-/// Where a commit places no host, its operations are those between the hosts that are left when lists of children that
+/// If a commit places no host, its operations are those between the hosts that are left when lists of children that
 /// stayed the same are left out: a host of such a list is not removed, not created, and changes neither its content nor
 /// its mark.
 pub fn hosts_that_stay_need_nothing()

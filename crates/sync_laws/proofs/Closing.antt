@@ -78,7 +78,7 @@ module _ (p : Program) where
           ∙ (ap (λ (ls : List Line). ls ++ end_line a.run.whole.after ∷ []) shows.1
           ∙ append_assoc shows.0 (tree_lines (hosts a.run.whole.after.tree) ++ state_lines p a.run.whole.after) (end_line a.run.whole.after ∷ []))
 
-  -- two states that show the same close their reports with the same bytes, where both are quiet
+  -- two states that show the same close their reports with the same bytes, if both are quiet
   closing_same : (o : Options) (s t : State) → ShowTheSame p s t → is_quiet s ≡ true → is_quiet t ≡ true → report_bytes o (closing_lines p t) ≡ report_bytes o (closing_lines p s)
   closing_same o s t same quiet quiet_too =
       sym (split s ∙ ((λ i. (same.trees o i ++ report_bytes o (same.states i)) ++ report_bytes o (ends i ∷ [])) ∙ sym (split t)))
@@ -125,7 +125,7 @@ module _ (p : Program) where
           subst (λ (b : Bool). report_bytes o ((if b then end_quiet else end_pending s.schedule.pending (hidden_count s.tree)) ∷ [])
           ≡ report_bytes u ((if b then end_quiet else end_pending s.schedule.pending (hidden_count s.tree)) ∷ [])) (sym quiet) refl
 
--- Where a script closes with these steps, the reports of two such runs close with the same bytes.
+-- If a script closes with these steps, the reports of two such runs close with the same bytes.
 pub reports_close_alike : (First Second : OfRender) (p : Program) → ReportsCloseAlike First Second p
 reports_close_alike First Second p bounded apart steps o u bytes others bodies more a b steady steady_too quiet quiet_too =
     let same = sync_law First Second p bounded apart (closed steps) a.lines b.lines bodies more a.run b.run steady steady_too quiet quiet_too in

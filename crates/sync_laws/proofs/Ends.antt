@@ -1,4 +1,4 @@
--- Where a steady run ends quiet, what it shows is told by its script without the lanes.
+-- If a steady run ends quiet, what it shows is told by its script without the lanes.
 use Rattle.std.specs.List.{AllByRecursion}
 use Rattle.std.specs.Prelude.{Bool, IfSome, List, Option, Some, [], cond, false, filter, length, map, not, refl, slice_get, true, ℤ, ◌++◌, ◌∷◌, ◌≡◌}
 use Rattle.std.specs.List.{zip}
@@ -51,7 +51,7 @@ none_at (x ∷ xs) h = go (is_hidden (spot_mark x)) refl h (none_at xs)
     go true e k rest = absurd (omega arith)
     go false e k rest = (e, rest k)
 
--- the lines of instances are the same where these have the same values
+-- the lines of instances are the same if these have the same values
 lines_same : (p : Program) (j k : Journal) (all : List Mounted) → AllByRecursion (λ m. committed_values p j m ≡ committed_values p k m) all
     → map (state_line p j) all ≡ map (state_line p k) all
 lines_same p j k [] h = refl
@@ -95,7 +95,7 @@ module _ (p : Program) (bounded : IsBounded p) (apart : AttributesApart p) where
         shows = quiet_shows p bounded s reached quiet;
       }
 
-  -- two quiet ends with the same instances show the same, where the same was sent and resolved
+  -- two quiet ends with the same instances show the same, if the same was sent and resolved
   ends_same : (all : List Mounted) (s t : State) → IsEnd p all s → IsEnd p all t → sent s.journal.updates ≡ sent t.journal.updates → s.journal.resolutions ≡ t.journal.resolutions
       → ShowTheSame p s t
   ends_same all s t e f same resolved =

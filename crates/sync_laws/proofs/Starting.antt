@@ -42,7 +42,7 @@ begun = (passive_run (between_events opening)).after
 abbrev pub first_render : Progress
 first_render = starting (between_events opening) (lane.Default ∷ [])
 
--- the tree of the first commit, where the first render gives this
+-- the tree of the first commit, if the first render gives this
 abbrev pub first_tree : Node → Node
 first_tree tree = (numbered opening.numbers tree).1
 
@@ -133,7 +133,7 @@ module _ (p : Program) (deep : depth_bound p ≤ depth_limit) (declared : ReadsD
             later.2 ∙ ap (resolves p xs) (stays.2 ∙ begins.nothing_resolved),
           )
 
-  -- each run of a script that begins with a flush comes to such a state, where it is steady
+  -- each run of a script that begins with a flush comes to such a state, if it is steady
   pub run_comes : (r : Stretch) → RunTo AnyRender p opening (step.Flush ∷ xs) r → Comes p xs r
   unfolding lanes_where linked_by links_among one_link_on links_on timed awaits_where
   run_comes r run =

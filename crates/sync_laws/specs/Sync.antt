@@ -24,7 +24,7 @@ in_sync (dispatch.Set w path name x) = dispatch.Set word.Sync path name x
 in_sync (dispatch.Call w path name f x) = dispatch.Call word.Sync path name f x
 in_sync (dispatch.Send w path name x) = dispatch.Send word.Sync path name x
 
--- what stands for a step where each dispatch is Sync and flushed at once
+-- what stands for a step if each dispatch is Sync and flushed at once
 abbrev pub step_in_sync : Step → List Step
 step_in_sync (step.Dispatch d) = step.Dispatch (in_sync d) ∷ step.Flush ∷ []
 step_in_sync (step.Resolve name x) = step.Resolve name x ∷ []
@@ -96,7 +96,7 @@ told_by step.Tree = []
 abbrev pub told : List Step → List Step
 told steps = flat_map told_by steps
 
--- Where two scripts have the same dispatches, whatever their lanes, and the same resolutions, and a run of each is steady and ends quiet, their ends show the same, whatever is asked of the renders of the first run and of the second.
+-- If two scripts have the same dispatches, whatever their lanes, and the same resolutions, and a run of each is steady and ends quiet, their ends show the same, whatever is asked of the renders of the first run and of the second.
 abbrev pub LanesLaw : (First Second : OfRender) → Program → Type 0
 LanesLaw First Second p =
     IsBounded p → AttributesApart p
@@ -106,7 +106,7 @@ LanesLaw First Second p =
     → IsTrue (is_quiet a.whole.after) → IsTrue (is_quiet b.whole.after)
     → ShowTheSame p a.whole.after b.whole.after
 
--- So where a run of a script and a run of the same script in Sync are steady and end quiet, their ends show the same
+-- So if a run of a script and a run of the same script in Sync are steady and end quiet, their ends show the same
 abbrev pub SyncLaw : (First Second : OfRender) → Program → Type 0
 SyncLaw First Second p =
     IsBounded p → AttributesApart p
@@ -130,7 +130,7 @@ closing_lines p s = (tree_lines (hosts s.tree) ++ state_lines p s) ++ end_line s
 abbrev pub EndsWith : Text → Text → Type 0
 EndsWith t last = (first : Text) × (t ≡ first ++ last)
 
--- So where the script closes with these steps, a report of the one run and one of the other close with the same bytes, whatever else each of them shows.
+-- So if the script closes with these steps, a report of the one run and one of the other close with the same bytes, whatever else each of them shows.
 abbrev pub ReportsCloseAlike : (First Second : OfRender) → Program → Type 0
 ReportsCloseAlike First Second p =
     IsBounded p → AttributesApart p

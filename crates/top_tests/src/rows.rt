@@ -63,7 +63,7 @@ const ROWS: [Row<'static>; 7] = [
         status: 0,
         output: "commit 1 Default\ncommit 2 Sync\nstate\n  [1] App v=0 w=7\ncommit 3 T1\nstate\n  [1] App v=1 w=7\nend quiet\n",
     },
-    // Operations on hosts are shown where they are asked for.
+    // Operations on hosts are shown if they are asked for.
     Row {
         words: &["run", "--ops"],
         input: "function App() { const [n, setN] = useState(1); return <p a={n} b=\"x\">{n ? n : null}<i/></p>; }\n---\nflush\nset sync App n 0\nflush",

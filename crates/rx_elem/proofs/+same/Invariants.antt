@@ -8,7 +8,7 @@ decreases-element::Element::same l = 2 * depth l.self.now + 1
 abbrev pub decreases-walks::same_children : goal.decreases-walks::same_children
 decreases-walks::same_children l = 2 * depth_in (gathered l.ours.now) + 2
 
--- the lists are as long, and are equal where they are from here on
+-- the lists are as long, and are equal exactly if they are from here on
 abbrev pub invariant-walks::same_children-loop-place : goal.invariant-walks::same_children-loop-place
 invariant-walks::same_children-loop-place l =
     (length l.ours ≡ length l.theirs)

@@ -155,7 +155,7 @@ returns-clause-begun g c s is =
     (c.value-fiber.ensures.made (made_at _ _ _ _ _ c.place_facts.ensures c.requires.place)) (c.in_ok-element.ensures ∙ c.element.ensures))
     (sym c.parts_of.ensures ∙ ap (option_map parts_seen) c.in-None.is) c.begin_or_hide.ensures.current c.in_ok-begun-in-None.ensures.begun
 
--- a body is evaluated but where its element is given again, and its instance is calm
+-- a body is evaluated unless its element is given again, and its instance is calm
 pub returns-in-Some-clause-body : goal.returns-in-Some-clause-body
 returns-in-Some-clause-body g c =
     if_both c.begin_component.result _ _

@@ -3,7 +3,7 @@ use Rattle.std.specs.Cmp.Lexicographic.{pointwise}
 use Rattle.rx_elem.specs.Elements.{same_attr}
 use Rattle.rx_elem.proofs.attr.same_attrs.Given as goal
 
--- the lists are as long, and are equal where they are from here on
+-- the lists are as long, and are equal exactly if they are from here on
 abbrev pub invariant-loop-place : goal.invariant-loop-place
 invariant-loop-place l =
     (length l.ours ≡ length l.theirs)

@@ -3,7 +3,7 @@ use Rattle.std.specs.Prelude.{slice_index_or}
 use Rattle.rx_elem.specs.Identity.{is_reused}
 use Rattle.rx_keys.proofs.matching.reused_of.Given as goal
 
--- an old child is one of the new ones where it is marked or one of those from here on
+-- an old child is one of the new ones if it is marked or one of those from here on
 abbrev pub invariant-loop-place : goal.invariant-loop-place
 invariant-loop-place l =
     (length l.marks.items ≡ l.count)

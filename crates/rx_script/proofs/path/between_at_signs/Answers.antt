@@ -1,4 +1,4 @@
--- The parts are those of `split`, where the closure makes the test of the definition.
+-- The parts are those of `split`, if the closure makes the test of the definition.
 use Rattle.std.proofs.Common.{rules, tests}
 use Rattle.std.proofs.lemmas.Iterator.Consumers.{map_from_collect}
 use Rattle.std.proofs.lemmas.Iterator.Splits.{YieldsList-from_slice_split}

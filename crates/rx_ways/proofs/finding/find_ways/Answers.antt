@@ -16,7 +16,7 @@ use Rattle.rx_ways.proofs.Standing.{none_of_tree, tree_put}
 use Rattle.rx_ways.proofs.finding.find_ways.Goals as goal
 use Rattle.rx_ways.proofs.finding.find_ways.Goals.{then-not-is_subset+in_ok-numbers-2, else-not-is_subset}
 
--- ways that a walk along hints found cover each tree of the fibers, where each stirred number is on them
+-- ways that a walk along hints found cover each tree of the fibers, if each stirred number is on them
 along : (h s way : ℕ → Bool) (c : Shape Fiber) → IsGathered c → ((n : ℕ) → way n ≡ puts_among h s n c) → ((n : ℕ) → s n ≡ true → way n ≡ true)
     → (x : Option Node) (next : ℕ) → IsTreeOf x c → IfNumbered x → HasOwnNumbers next x → CoversIf way (IsQuiet s) x
 along h s way c g ways all None next is has own = tt
