@@ -43,8 +43,8 @@ use Rattle.cost_laws.specs.Causes.{is_called, waits_still}
 use Rattle.cost_laws.specs.Untouched.{gives_same, is_element_of, is_untouched, same_given, stands_below, value_given}
 use Rattle.cost_laws.specs.Evaluated.{Flag, below_boundary, below_node, is_again, is_evaluated, own_body}
 use Rattle.cost_laws.specs.Left.{Flags, MayGo, MayTry, begins_evaluated, begun_flags, flag, next_evaluated, unit_flags}
-use Rattle.flag_laws.specs.Flagged.{AllBare, AreTold, FlagsAtPlace, FlagsOpened, IsTold, KeepsTold}
-use Rattle.flag_laws.proofs.Going.{opens}
+use Rattle.begin_laws.specs.Flagged.{AllBare, AreTold, FlagsAtPlace, FlagsOpened, IsTold, KeepsTold}
+use Rattle.begin_laws.proofs.Going.{opens}
 use Rattle.rx_begin.specs.Beginning.{HasLists}
 use Rattle.rx_children.specs.Nodes.{parts_in}
 use Rattle.rx_children.specs.Children.{AllWait}

@@ -1,2 +1,5 @@
 pub mod Costing
 pub mod Hooks
+pub mod Once
+pub mod Going
+pub mod Unwinding

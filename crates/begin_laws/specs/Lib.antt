@@ -1,2 +1,3 @@
 pub mod Mounting
 pub mod Telling
+pub mod Flagged

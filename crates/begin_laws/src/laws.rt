@@ -15,7 +15,7 @@ ghost use Rattle.rx_fiber.specs.Standing.{StandsAt};
 ghost use Rattle.rx_causes.specs.declared.scene.Scene.{Scene};
 ghost use Rattle.rx_causes.specs.Scenes.{IsSceneOf};
 ghost use Rattle.cost_laws.specs.Left.{Flags, MayGo, next_evaluated, unit_flags};
-ghost use Rattle.flag_laws.specs.Flagged.{FlagsAtPlace, FlagsOpened};
+ghost use Rattle.begin_laws.specs.Flagged.{FlagsAtPlace, FlagsOpened};
 ghost use Rattle.rx_model.specs.State.{Progress, State};
 ghost use Rattle.rx_model.specs.Committing.{sight_of};
 ghost use Rattle.rx_model.specs.HooksOf.{KeepsAllHooks};

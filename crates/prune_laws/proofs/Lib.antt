@@ -6,3 +6,10 @@ pub mod SelfChanges
 pub mod Alike
 pub mod PrunedAlike
 pub mod OutcomeAlike
+pub mod Sums
+pub mod Leaving
+pub mod Within
+pub mod Merged
+pub mod Reused
+pub mod Parts
+pub mod Staying

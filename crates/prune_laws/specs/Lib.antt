@@ -1,1 +1,3 @@
 pub mod Present
+pub mod LeftOut
+pub mod Staying

@@ -1,6 +1,10 @@
-//! Laws on comparing trees without what stayed the same.
+//! Laws of trees without what stayed the same: how they compare, their instances, and the operations on their hosts.
 #![tactic(auto)]
 
+mod instances;
 mod laws;
+mod staying;
 
+pub use instances::pruned_alike;
 pub use laws::pruned_trees_compare_alike;
+pub use staying::hosts_that_stay_need_nothing;

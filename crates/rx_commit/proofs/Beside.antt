@@ -13,7 +13,7 @@ use Rattle.host_laws.specs.Related.{AreDistinct, KeepKinds}
 use Rattle.prune_laws.specs.Present.{HasNoNull, AllHaveNoNull, IfHasNoNull}
 use Rattle.prune_laws.proofs.PrunedAlike.{trees_alike}
 use Rattle.prune_laws.proofs.OutcomeAlike.{layout_alike, passive_alike, committed_alike, deferred_alike}
-use Rattle.stay_laws.specs.Staying.{AreOfCommit}
+use Rattle.prune_laws.specs.Staying.{AreOfCommit}
 use Rattle.end_laws.specs.Trimmed.{trimmed, trimmed_in, trimmed_if, vacant_before}
 use Rattle.end_laws.proofs.Read.{hosts_same}
 use Rattle.rx_base.specs.Awaits.{Awaits}

@@ -11,12 +11,12 @@ ghost use Rattle.rx_pruned.specs.Besides.{IsBeside};
 ghost use Rattle.end_laws.specs.Trimmed.{trimmed, trimmed_if};
 ghost use Rattle.host_laws.specs.Commits.{IsCommit};
 ghost use Rattle.prune_laws.specs.Present.{IfHasNoNull};
-ghost use Rattle.stay_laws.specs.Staying.{AreOfCommit};
+ghost use Rattle.prune_laws.specs.Staying.{AreOfCommit};
 ghost use Rattle.rx_commit.specs.Shown.{Prepares};
 ghost use Rattle.rx_commit.specs.Written.{GoesOn, lines_of, sync_lines, with_lines};
 
 use crate::writing::{add_effects, add_ops, add_passive, cut_back};
-use prune_laws::pruned_trees_compare_alike;
+use prune_laws::{hosts_that_stay_need_nothing, pruned_trees_compare_alike};
 use rx_compare::{Compared, compare_trees as compare};
 use rx_effect::LogLine;
 use rx_forest::HostOp;
@@ -26,7 +26,6 @@ use rx_log::{Passive, layout_log, passive_effects};
 use rx_node as node;
 use rx_pruned::Beside;
 use rx_report::Report;
-use stay_laws::hosts_that_stay_need_nothing;
 use std::alloc::{AllocError, Global};
 use std::marker::Model;
 

@@ -52,7 +52,7 @@ use Rattle.cost_laws.specs.Causes.{waits_still}
 use Rattle.cost_laws.specs.Left.{Flags, flag, outer}
 use Rattle.cost_laws.specs.Undue.{IsUndue}
 use Rattle.cost_laws.specs.Untouched.{is_element_of, is_untouched}
-use Rattle.flag_laws.specs.Flagged.{FlagsAtEnd, FlagsAtPlace}
+use Rattle.begin_laws.specs.Flagged.{FlagsAtEnd, FlagsAtPlace}
 use Rattle.begin_laws.specs.Telling.{TellsIf}
 use Rattle.rx_render.specs.Costing.{CausesAt, HasFlags, Paid, UnitPays}
 use Rattle.rx_render.specs.Costing as paying

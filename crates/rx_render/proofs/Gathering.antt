@@ -43,7 +43,7 @@ use Rattle.rx_children.specs.declared.node.Begun.{Begun}
 use Rattle.rx_children.specs.declared.node.Begun.TheVariants.{Child, Leaf}
 use Rattle.rx_children.specs.declared.node.Begun.TheVariants as answers
 use Rattle.rx_fallback.specs.declared.opening.Opened.{Opened}
-use Rattle.flag_laws.specs.Flagged.{AllBare}
+use Rattle.begin_laws.specs.Flagged.{AllBare}
 use Rattle.begin_laws.proofs.Costing.{wait_bare}
 use Rattle.rx_read.specs.Numbering.{numbered_at, numbered_draft, numbered_fiber}
 use Rattle.rx_render.specs.declared.at.At.{At}

@@ -38,9 +38,9 @@ use Rattle.rx_children.specs.declared.node.Begun.TheVariants.{Child, Leaf}
 use Rattle.rx_fallback.specs.declared.opening.Opened.{Opened}
 use Rattle.cost_laws.specs.Evaluated.{Flag, after_attempt, beside_kept, is_again}
 use Rattle.cost_laws.specs.Left.{Flags, begun_flags, flag, outer, unit_flags, unwound}
-use Rattle.flag_laws.specs.Flagged.{KeepsTold, FlagsAfter, FlagsAtEnd, FlagsAtPlace, FlagsHere, FlagsOpened, HasUnwound}
-use Rattle.flag_laws.proofs.Going.{completes, opens, opens_beside, passes}
-use Rattle.flag_laws.proofs.Unwinding.{unwinds}
+use Rattle.begin_laws.specs.Flagged.{KeepsTold, FlagsAfter, FlagsAtEnd, FlagsAtPlace, FlagsHere, FlagsOpened, HasUnwound}
+use Rattle.begin_laws.proofs.Going.{completes, opens, opens_beside, passes}
+use Rattle.begin_laws.proofs.Unwinding.{unwinds}
 use Rattle.begin_laws.specs.Telling.{OpensKids, TellsBody, TellsTries}
 use Rattle.begin_laws.proofs.Costing.{again_is, counts, may, opens_so, wait_bare, wait_told}
 use Rattle.rx_render.specs.declared.at.At.{At}

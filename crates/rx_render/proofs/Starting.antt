@@ -40,8 +40,8 @@ use Rattle.rx_links.specs.Places.{top}
 use Rattle.cost_laws.specs.Left.{Costs}
 use Rattle.cost_laws.specs.Undue.{IsUndue}
 use Rattle.cost_laws.proofs.CostLaws.{start_costs}
-use Rattle.flag_laws.specs.Flagged.{FlagsAtPlace}
-use Rattle.flag_laws.specs.Flagged as flagged
+use Rattle.begin_laws.specs.Flagged.{FlagsAtPlace}
+use Rattle.begin_laws.specs.Flagged as flagged
 use Rattle.rx_render.specs.Costing.{HasFlags}
 use Rattle.rx_render.specs.declared.at.At.TheVariants.{Begins, Over}
 use Rattle.rx_render.specs.Gathers.{IsGathering}

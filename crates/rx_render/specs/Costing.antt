@@ -24,7 +24,7 @@ use Rattle.cost_laws.specs.Evaluated.{beside_kept}
 use Rattle.cost_laws.specs.Left.{Flags, MayGo, flag, next_evaluated, unit_flags}
 use Rattle.cost_laws.specs.Undue.{IsUndue}
 use Rattle.cost_laws.specs.Untouched.{is_untouched}
-use Rattle.flag_laws.specs.Flagged.{FlagsAtEnd, FlagsAtPlace}
+use Rattle.begin_laws.specs.Flagged.{FlagsAtEnd, FlagsAtPlace}
 use Rattle.begin_laws.specs.Telling.{TellsIf}
 use Rattle.rx_render.specs.declared.at.At.{At}
 use Rattle.rx_render.specs.declared.at.At.TheVariants.{Begins, Completes, Over}

@@ -6,7 +6,7 @@ use Rattle.rx_links.specs.Places.{Around, top, below, after, placed}
 use Rattle.rx_fiber.specs.Fibers.{Fiber}
 use Rattle.rx_fiber.specs.Subtrees.{IsGathered, IsGatheredOver}
 use Rattle.rx_fiber.specs.Surround.{above_list}
-use Rattle.flag_laws.specs.Flagged.{AllBare}
+use Rattle.begin_laws.specs.Flagged.{AllBare}
 use Rattle.rx_render.specs.declared.at.At.{At}
 use Rattle.rx_render.specs.declared.at.At.TheVariants.{Begins, Completes, Over}
 

@@ -16,7 +16,7 @@ ghost use Rattle.rx_causes.specs.Scenes.{IsSceneOf};
 ghost use Rattle.rx_lists.specs.Shapes.{none};
 ghost use Rattle.rx_links.specs.Drafts.{taken};
 ghost use Rattle.cost_laws.specs.Left.{Flags, outer, unwound};
-ghost use Rattle.flag_laws.specs.Flagged.{FlagsAtEnd, FlagsHere};
+ghost use Rattle.begin_laws.specs.Flagged.{FlagsAtEnd, FlagsHere};
 ghost use Rattle.rx_ways.specs.Ways.{is_way};
 ghost use Rattle.rx_render.specs.Rendering.{ComesTo};
 ghost use Rattle.rx_render.specs.Costing.{HasFlags};

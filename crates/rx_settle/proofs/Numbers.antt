@@ -6,7 +6,7 @@ use Rattle.rx_hook_store.proofs.Stores.{same_number}
 use Rattle.rx_meaning.specs.Settled.{HasOwnNumbers, times_numbered_if}
 use Rattle.commit_laws.proofs.OwnNumbers.{occurs, spots_times}
 use Rattle.rx_pruned.specs.Pruned.{ArePruned}
-use Rattle.pruned_laws.proofs.Leaving.{left_alike}
+use Rattle.prune_laws.proofs.Leaving.{left_alike}
 use Rattle.rx_settle.specs.Passes.{has_instance}
 use Rattle.rx_settle.proofs.Apart.{all_listed}
 

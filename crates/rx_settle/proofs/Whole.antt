@@ -20,7 +20,7 @@ use Rattle.rx_hook_store.specs.Gives.{has_work_in}
 use Rattle.rx_meaning.specs.Expressions.{answers_of}
 use Rattle.rx_pruned.specs.Pruned.{ArePruned, later, whole}
 use Rattle.rx_pruned.specs.Pruned as pruning
-use Rattle.pruned_laws.proofs.Within.{are_within}
+use Rattle.prune_laws.proofs.Within.{are_within}
 use Rattle.rx_hook_store.specs.Rendered.{IsRendered, KeepsInstance}
 use Rattle.rx_hook_store.proofs.Committed.{committed_keeps}
 use Rattle.rx_hook_store.proofs.Staying.{there_is}

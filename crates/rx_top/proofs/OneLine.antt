@@ -9,7 +9,7 @@ use Rattle.rx_model.specs.Turns.{OfRender, AnyRender}
 use Rattle.rx_model.specs.Machine.{RunTo}
 use Rattle.rx_model.proofs.AskingLess.{any-run}
 use Rattle.run_laws.specs.Unsliced.{AreUnsliced, UnslicedLaw}
-use Rattle.gen_laws.specs.Meant.{generated_input, generated_program, generated_steps}
+use Rattle.rx_gen.specs.Meant.{generated_input, generated_program, generated_steps}
 use Rattle.rx_root.specs.Paying.{Pays}
 use Rattle.rx_top.specs.Outcome.{IsSummary, summary_of}
 

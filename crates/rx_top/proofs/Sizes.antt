@@ -7,7 +7,7 @@ use Rattle.std.proofs.lemmas.Fmt.{length-decimal-le_succ}
 use Rattle.rx_base.specs.Values.{Text}
 use Rattle.rx_gen.specs.Generated.{program_text, script_text, adding, cell_path, choice, is_flushed, lane_word, resizing, round_lines}
 use Rattle.rx_words.specs.Words.{most_rounds}
-use Rattle.gen_laws.specs.Meant.{generated_input}
+use Rattle.rx_gen.specs.Meant.{generated_input}
 
 -- two texts behind one another
 two : (xs ys : Text) (m n : ℕ) → length xs ≤ m → length ys ≤ n → length (xs ++ ys) ≤ m + n

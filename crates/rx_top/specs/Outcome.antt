@@ -17,7 +17,7 @@ use Rattle.rx_model.specs.Stretch.{Stretch}
 use Rattle.rx_model.specs.Machine.{RunTo}
 use Rattle.rx_root.specs.Paying.{Pays}
 use Rattle.rx_gen.specs.Generated.{summary_text}
-use Rattle.gen_laws.specs.Meant.{generated_input}
+use Rattle.rx_gen.specs.Meant.{generated_input}
 use Rattle.rx_words.specs.Words.{is_valid, reads_input, task_of}
 use Rattle.rx_words.specs.declared.task.Task.{Task}
 use Rattle.rx_words.specs.declared.task.Task.TheVariants.{Read, Gen}

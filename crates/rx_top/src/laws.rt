@@ -2,9 +2,9 @@
 ghost use Rattle.std.specs.Prelude.{◌≡◌, ℕ, List};
 ghost use Rattle.rx_top.specs.Outcome.{IsSummary};
 
-use gen_laws::generated_input_is_accepted;
 use run_laws::unsliced_runs_end_alike;
 use rx_accept::laws::judgement_is_one;
+use rx_gen::generated_input_is_accepted;
 
 /// A generated run is summed up by one line for each number of rounds, whatever its renders count.
 pub fn summary_is_one()

@@ -5,7 +5,7 @@ use Rattle.rx_ast.specs.Syntax.{Program}
 use Rattle.rx_step.specs.declared.step.Step.{Step}
 use Rattle.rx_script.specs.Input.{input_of}
 use Rattle.rx_accept.specs.Judgements.{IsJudged, accepted, judgement_of, program_refused, script_refused}
-use Rattle.gen_laws.specs.Meant.{generated_program, generated_steps}
+use Rattle.rx_gen.specs.Meant.{generated_program, generated_steps}
 use Rattle.rx_top.proofs.Due.{summary-short}
 use Rattle.rx_top.proofs.Sizes.{generated-size}
 use Rattle.rx_top.proofs.summary.summarize.Goals as goal

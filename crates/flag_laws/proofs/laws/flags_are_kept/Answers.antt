@@ -1,6 +1,0 @@
-use Rattle.flag_laws.proofs.Going.{completes, passes, opens, opens_beside}
-use Rattle.flag_laws.proofs.Unwinding.{unwinds}
-use Rattle.flag_laws.proofs.laws.flags_are_kept.Goals as goal
-
-pub returns : goal.returns
-returns c = record { completes = completes; passes = passes; opens = opens; opens_beside = opens_beside; unwinds = unwinds }

@@ -1,4 +1,0 @@
-pub mod Merged
-pub mod Reused
-pub mod Parts
-pub mod Staying

@@ -1,5 +1,0 @@
-use Rattle.stay_laws.proofs.Staying.{staying_need_nothing}
-use Rattle.stay_laws.proofs.laws.hosts_that_stay_need_nothing.Goals as goal
-
-pub returns : goal.returns
-returns c = record { operations = staying_need_nothing }
