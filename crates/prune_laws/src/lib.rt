@@ -3,8 +3,8 @@
 
 mod instances;
 mod laws;
-mod staying;
+mod operations;
 
 pub use instances::pruned_alike;
 pub use laws::pruned_trees_compare_alike;
-pub use staying::hosts_that_stay_need_nothing;
+pub use operations::hosts_that_stay_need_nothing;
