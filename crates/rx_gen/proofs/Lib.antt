@@ -6,4 +6,4 @@ pub mod Splitting
 pub mod Dividing
 pub mod ScriptLines
 pub mod LineForms
-pub mod Rounds
+pub mod WholeScript

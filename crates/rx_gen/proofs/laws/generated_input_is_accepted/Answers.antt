@@ -5,7 +5,7 @@ use Rattle.rx_accept.specs.Programs.{IsSoundText}
 use Rattle.rx_gen.specs.Generated.{script_text}
 use Rattle.rx_gen.specs.Meant.{generated_program, generated_steps}
 use Rattle.rx_gen.proofs.Dividing.{parts}
-use Rattle.rx_gen.proofs.Rounds.{none_sliced, script_steps}
+use Rattle.rx_gen.proofs.WholeScript.{none_sliced, script_steps}
 use Rattle.rx_gen.proofs.Tokens.{sound_text}
 use Rattle.rx_gen.proofs.laws.generated_input_is_accepted.Goals as goal
 
