@@ -1,9 +1,10 @@
 // Inputs that are accepted or refused, and each beginning of a program.
 
-use crate::cases::{CASES, Case};
+use crate::cases::{COUNTS, Case, PLACES, REFUSALS, SECOND};
 use itoa::Buffer;
 use rx_accept::{Verdict, accept};
-use std::alloc::{AllocError, Global};
+use std::alloc::{AllocError, AllocGlobal, Global};
+use std::process::Abort;
 use std::test::Fail;
 
 /// More bytes than any input here has.
@@ -47,14 +48,34 @@ fn input_of(alloc: Global, case: &Case) -> Result<Vec<u8>, AllocError> {
     Ok(input)
 }
 
-#[test]
-fn each_input_is_judged(rt: HostRuntime) -> Result<(), Fail> {
-    for (i, case) in CASES.iter().enumerate() {
+// Each input is told what is told of it.
+fn are_judged<R: Abort + AllocGlobal>(rt: &R, cases: &[Case<'_>]) -> Result<(), Fail> {
+    for (i, case) in cases.iter().enumerate() {
         let input = input_of(rt.alloc(), case)?;
         let found = told(rt.alloc(), &input)?;
         assert_eq!(rt; found.as_slice(), case.told.as_bytes(), "case {i}");
     }
     Ok(())
+}
+
+#[test]
+fn each_refusal_is_told(rt: HostRuntime) -> Result<(), Fail> {
+    are_judged(&rt, &REFUSALS)
+}
+
+#[test]
+fn each_count_has_its_limit(rt: HostRuntime) -> Result<(), Fail> {
+    are_judged(&rt, &COUNTS)
+}
+
+#[test]
+fn each_fault_has_its_place(rt: HostRuntime) -> Result<(), Fail> {
+    are_judged(&rt, &PLACES)
+}
+
+#[test]
+fn version_2_is_judged_by_its_own_limits(rt: HostRuntime) -> Result<(), Fail> {
+    are_judged(&rt, &SECOND)
 }
 
 /// What a beginning of the program is that ends within a piece of it.

@@ -14,7 +14,8 @@ pub(crate) struct Case<'a> {
     pub told: &'a str,
 }
 
-pub(crate) const CASES: [Case<'static>; 75] = [
+/// What is accepted, and each refusal.
+pub(crate) const REFUSALS: [Case<'static>; 28] = [
     // What is accepted: bounds, and how many steps there are.
     Case {
         pieces: &[(
@@ -240,6 +241,10 @@ pub(crate) const CASES: [Case<'static>; 75] = [
         script: b"",
         told: "program refused 13 1000001\n",
     },
+];
+
+/// Counts at their limits and past them, and the numbers of a script.
+pub(crate) const COUNTS: [Case<'static>; 25] = [
     // The counts, each at its limit and one past it.
     Case {
         pieces: &[
@@ -449,6 +454,10 @@ pub(crate) const CASES: [Case<'static>; 75] = [
         script: b"set sync App/App@4096 s 1",
         told: "script refused 16 line 1\n",
     },
+];
+
+/// Which fault is told, and where it stands.
+pub(crate) const PLACES: [Case<'static>; 22] = [
     // A name twice on an element, and a second key of a list: which stands first.
     Case {
         pieces: &[(
@@ -624,5 +633,95 @@ pub(crate) const CASES: [Case<'static>; 75] = [
         pieces: &[(b"function App() { ", 1, 1)],
         script: b"jump",
         told: "program refused 3 at 18\n",
+    },
+];
+
+/// Programs of version 2: their sizes, their numbers, and those of their scripts.
+pub(crate) const SECOND: [Case<'static>; 13] = [
+    Case {
+        pieces: &[(
+            b"\"use 2\"; function App() { return <>{for (i < 0, 1024) <p>{for (j < 0, 61) j}</p>}{for (k < 0, 1021) k}</>; }",
+            1,
+            1,
+        )],
+        script: b"",
+        told: "accepted nodes 65536 depth 5 steps 0\n",
+    },
+    Case {
+        pieces: &[(
+            b"\"use 2\"; function App() { return <>{for (i < 0, 1024) <p>{for (j < 0, 61) j}</p>}{for (k < 0, 1022) k}</>; }",
+            1,
+            1,
+        )],
+        script: b"",
+        told: "program refused 12 65537\n",
+    },
+    Case {
+        pieces: &[(
+            b"\"use 2\"; function App() { return <>{for (i < 0, 1024) <p>{for (j < 0, 61) j}</p>}{for (k < 0, 1025) k}</>; }",
+            1,
+            1,
+        )],
+        script: b"",
+        told: "program refused 11 list 1025 1024\n",
+    },
+    Case {
+        pieces: &[(
+            b"\"use 2\"; function App() { return <p>{9223372036854775808}</p>; }",
+            1,
+            1,
+        )],
+        script: b"",
+        told: "accepted nodes 3 depth 3 steps 0\n",
+    },
+    Case {
+        pieces: &[(
+            b"\"use 2\"; function App() { return <p>{9223372036854775809}</p>; }",
+            1,
+            1,
+        )],
+        script: b"",
+        told: "program refused 2 at 37\n",
+    },
+    Case {
+        pieces: &[(b"\"use 2\"; ", 1, 1), (ONE_FUNCTION, 1, 1)],
+        script: b"set sync App s 9223372036854775807\nset sync App s -9223372036854775808",
+        told: "accepted nodes 3 depth 3 steps 2\n",
+    },
+    Case {
+        pieces: &[(b"\"use 2\"; ", 1, 1), (ONE_FUNCTION, 1, 1)],
+        script: b"set sync App s 9223372036854775808",
+        told: "script refused 16 line 1\n",
+    },
+    Case {
+        pieces: &[(b"\"use 2\"; ", 1, 1), (ONE_FUNCTION, 1, 1)],
+        script: b"set sync App s -9223372036854775809",
+        told: "script refused 16 line 1\n",
+    },
+    Case {
+        pieces: &[(b"\"use 2\"; ", 1, 1), (ONE_FUNCTION, 1, 1)],
+        script: b"set sync App s 18446744073709551616",
+        told: "script refused 16 line 1\n",
+    },
+    Case {
+        pieces: &[(b"\"use 2\"; ", 1, 1), (ONE_FUNCTION, 1, 1)],
+        script: b"set sync App/App@65535 s 1",
+        told: "accepted nodes 3 depth 3 steps 1\n",
+    },
+    Case {
+        pieces: &[(b"\"use 2\"; ", 1, 1), (ONE_FUNCTION, 1, 1)],
+        script: b"set sync App/App@65536 s 1",
+        told: "script refused 16 line 1\n",
+    },
+    // Another text at the front, and one without its `;`.
+    Case {
+        pieces: &[(b"\"use 3\"; function App() { return null; }", 1, 1)],
+        script: b"",
+        told: "program refused 3 at 0\n",
+    },
+    Case {
+        pieces: &[(b"\"use 2\" function App() { return null; }", 1, 1)],
+        script: b"",
+        told: "program refused 3 at 8\n",
     },
 ];

@@ -23,7 +23,7 @@ pub(crate) fn counter(alloc: Global) -> Result<Program, AllocError> {
     );
     let mut declarations = Vec::new(alloc);
     declarations.push(Declaration::component(app))?;
-    Ok(Program::new(declarations))
+    Ok(Program::new(false, declarations))
 }
 
 #[test]

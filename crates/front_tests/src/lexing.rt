@@ -10,7 +10,7 @@ fn list(line: &mut String, rest: Rest<'_>, span: Span) -> Result<(), Fail> {
     match span.shape {
         Shape::Upper(len) => write!(line, "Upper-{}", rest.name(place, len))?,
         Shape::Lower(len) => write!(line, "Lower-{}", rest.name(place, len))?,
-        Shape::Number(n) => write!(line, "{n}")?,
+        Shape::Number(len) => write!(line, "{}", rest.number(place, len))?,
         Shape::Text(len) => write!(line, "'{}'", rest.content(place, len))?,
         Shape::Word(keyword) => write!(line, "{keyword:?}")?,
         Shape::Mark(sign) => write!(line, "{sign:?}")?,
@@ -156,6 +156,29 @@ fn words_are_whole(rt: HostRuntime) -> Result<(), Fail> {
             "Const suspense C.Provider",
             " 0:Upper-Const 6:Lower-suspense 15:Upper-C 16:Dot 17:Provider 25:End",
         ),
+    ] {
+        let line = listed(&rt, text)?;
+        assert_eq!(rt; line.as_str(), want, "for {text}");
+    }
+    Ok(())
+}
+
+#[test]
+fn the_first_two_tokens_tell_the_greatest_number(rt: HostRuntime) -> Result<(), Fail> {
+    for (text, want) in [
+        (
+            "\"use 2\"; 9223372036854775808",
+            " 0:'use 2' 7:Semicolon 9:9223372036854775808 28:End",
+        ),
+        ("\"use 2\"; 9223372036854775809", " none at 9"),
+        (
+            "/**/\"use 2\"//\n; 2147483649",
+            " 4:'use 2' 14:Semicolon 16:2147483649 26:End",
+        ),
+        ("\"use 2\" 2147483649", " none at 8"),
+        ("\"use 2\", 2147483649", " none at 9"),
+        ("\"use 3\"; 2147483649", " none at 9"),
+        ("; \"use 2\"; 2147483649", " none at 11"),
     ] {
         let line = listed(&rt, text)?;
         assert_eq!(rt; line.as_str(), want, "for {text}");

@@ -25,6 +25,14 @@ fn texts_have_these_places(rt: HostRuntime) -> Result<(), Fail> {
             "const C = createContext(-1); function f(a, b) { return a < b ? 1 : f(b, a); }",
             None,
         ),
+        (
+            "\"use 2\"; function App() { return <p>{9223372036854775807}</p>; }",
+            None,
+        ),
+        ("\"use 2\";", None),
+        ("\"use 2\" function App() { return null; }", Some(8)),
+        ("\"use 1\"; function App() { return null; }", Some(0)),
+        ("function App() { return null; } \"use 2\";", Some(32)),
         ("function App() { return <a></b>; }", Some(29)),
         ("function App() { return <a>; }", Some(27)),
         (

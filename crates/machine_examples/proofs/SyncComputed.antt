@@ -5,7 +5,8 @@ use Rattle.std.specs.Fmt.{digits}
 use Rattle.rx_base.specs.Awaits.{awaits_where}
 use Rattle.rx_lane.specs.Lanes.{lanes_where}
 use Rattle.rx_ast.specs.Syntax.{Component, Program, body_slots}
-use Rattle.rx_rules.specs.Bounds.{body_by, depth_bound, node_bound, node_limit, root_waits}
+use Rattle.rx_rules.specs.Bounds.{body_by, depth_bound, node_bound, root_waits}
+use Rattle.rx_rules.specs.Versions.{node_limit}
 use Rattle.rx_rules.specs.Keys.{KeysApart, SlotsKeysApart, keyed_places}
 use Rattle.rx_rules.specs.Names.{component_at}
 use Rattle.rx_rules.specs.Reads.{AllDeclared, ReadsDeclared}
@@ -86,7 +87,7 @@ attributes c d e = subst IfAttributesApart e (attributes_at c)
 declared : ReadsDeclared appending
 declared c d e = subst IfDeclared e (declared_at c)
 
-small : node_bound appending ≤ node_limit
+small : node_bound appending ≤ node_limit appending
 unfolding node_bound body_by
 small = omega arith
 

@@ -9,6 +9,7 @@ use Rattle.rx_ast.specs.Syntax as syntax
 abbrev pub two_counters : Program
 two_counters =
     record {
+      second = false;
       declarations =
           of_component (record {
             name = codes "Counter";
@@ -33,6 +34,7 @@ two_counters =
 abbrev pub switch : Program
 switch =
     record {
+      second = false;
       declarations =
           of_component (record {
             name = codes "A";
@@ -62,6 +64,7 @@ switch =
 abbrev pub sums : Program
 sums =
     record {
+      second = false;
       declarations =
           of_component (record {
             name = codes "App";
@@ -77,6 +80,7 @@ sums =
 abbrev pub attributes_of_a_host : Program
 attributes_of_a_host =
     record {
+      second = false;
       declarations =
           of_component (record {
             name = codes "App";
@@ -92,6 +96,7 @@ attributes_of_a_host =
 abbrev pub rotating : Program
 rotating =
     record {
+      second = false;
       declarations =
           of_component (record {
             name = codes "App";
@@ -108,6 +113,7 @@ rotating =
 abbrev pub equal_items : Program
 equal_items =
     record {
+      second = false;
       declarations =
           of_component (record {
             name = codes "Item";
@@ -131,6 +137,7 @@ equal_items =
 abbrev pub appending : Program
 appending =
     record {
+      second = false;
       declarations =
           of_function (record {
             name = codes "app";
@@ -153,6 +160,7 @@ appending =
 abbrev pub reducing : Program
 reducing =
     record {
+      second = false;
       declarations =
           of_function (record {
             name = codes "red";
@@ -175,6 +183,7 @@ reducing =
 abbrev pub effects_of_kids : Program
 effects_of_kids =
     record {
+      second = false;
       declarations =
           of_component (record {
             name = codes "Kid";
@@ -199,6 +208,7 @@ effects_of_kids =
 abbrev pub themes : Program
 themes =
     record {
+      second = false;
       declarations =
           of_context (record {
             name = codes "Theme";
@@ -235,6 +245,7 @@ themes =
 abbrev pub placing_twice : Program
 placing_twice =
     record {
+      second = false;
       declarations =
           of_context (record {
             name = codes "C";
@@ -270,6 +281,7 @@ placing_twice =
 abbrev pub cells : Program
 cells =
     record {
+      second = false;
       declarations =
           of_component (record {
             name = codes "Cell";
@@ -293,6 +305,7 @@ cells =
 abbrev pub users : Program
 users =
     record {
+      second = false;
       declarations =
           of_component (record {
             name = codes "User";
@@ -316,6 +329,7 @@ users =
 abbrev pub late_users : Program
 late_users =
     record {
+      second = false;
       declarations =
           of_component (record {
             name = codes "User";
@@ -340,6 +354,7 @@ late_users =
 abbrev pub nested_boundaries : Program
 nested_boundaries =
     record {
+      second = false;
       declarations =
           of_component (record {
             name = codes "W";
@@ -372,6 +387,7 @@ nested_boundaries =
 abbrev pub boxes : Program
 boxes =
     record {
+      second = false;
       declarations =
           of_function (record {
             name = codes "app";
@@ -409,6 +425,7 @@ boxes =
 abbrev pub boxes_with_effects : Program
 boxes_with_effects =
     record {
+      second = false;
       declarations =
           of_component (record {
             name = codes "Wait";

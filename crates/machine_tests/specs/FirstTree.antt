@@ -8,6 +8,7 @@ use Rattle.rx_elem.specs.Trees.{Node, node, none, of_instance}
 abbrev pub counter : Program
 counter =
     record {
+      second = false;
       declarations =
           of_component (record { name = codes "App"; braces = false; parameters = []; statements = state (codes "n") (codes "setN") (number 5) ∷ []; body = single null })
           ∷ [];

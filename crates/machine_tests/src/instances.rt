@@ -43,7 +43,7 @@ fn counter(alloc: Global) -> Result<Program, AllocError> {
     let app = app(alloc)?;
     let mut declarations = Vec::new(alloc);
     declarations.push(Declaration::component(app))?;
-    Ok(Program::new(declarations))
+    Ok(Program::new(false, declarations))
 }
 
 // A current fiber alone, of this stage, with what this tells of itself.

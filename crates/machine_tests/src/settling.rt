@@ -30,7 +30,7 @@ fn counter(alloc: Global) -> Result<Program, AllocError>
     let app = Component::new(name, false, Vec::new(alloc), statements, body);
     let mut declarations = Vec::new(alloc);
     declarations.push(Declaration::component(app))?;
-    Ok(Program::new(declarations))
+    Ok(Program::new(false, declarations))
 }
 
 // Its first tree.

@@ -4,7 +4,8 @@ use Rattle.std.specs.List.{zip, AllByRecursion}
 use Rattle.std.proofs.Common.{arith, inl, inr, sym, subst}
 use Rattle.rx_ast.specs.Syntax.{Program, Component}
 use Rattle.rx_rules.specs.Names.{component_number, component_at, root_name}
-use Rattle.rx_rules.specs.Bounds.{node_bound, component_levels, node_limit}
+use Rattle.rx_rules.specs.Bounds.{node_bound, component_levels}
+use Rattle.rx_rules.specs.Versions.{node_limit}
 use Rattle.rx_elem.specs.Elements.{Element, Elements, gathered, listed}
 use Rattle.rx_elem.specs.Elements as elements
 use Rattle.rx_elem.specs.Identity.{Identity, identities, identified, is_same_child}
@@ -200,7 +201,7 @@ small_room : (n : ℕ) (p : Program) (bound : ℕ) → 1 + (body_size n p (compo
 small_room n p bound h xs k =
     small_each bound xs (small_more (alts_size (root_alts n p)) bound (omega (arith, root_size n p)) xs k)
 
-plain_bounded : (s : Sight) (p : Program) (old : Option Node) → s.program ≡ p → IsPlain p → node_bound p ≤ node_limit → IsTree p old
+plain_bounded : (s : Sight) (p : Program) (old : Option Node) → s.program ≡ p → IsPlain p → node_bound p ≤ node_limit p → IsTree p old
     → AllByRecursion (λ ns. length (spots_in at_root ns) ≤ node_bound p)
     (attempts depth_limit s (default_contexts s.program) (root_element s.program) old)
 plain_bounded s p old same plain small t =
@@ -214,7 +215,7 @@ unfolding attempts
 nothing_tried n s old h = rw h refl
 
 -- No attempt against a tree of the program has more nodes than the bound.
-pub attempts_bounded : (s : Sight) (p : Program) (old : Option Node) → s.program ≡ p → KeysApart p → node_bound p ≤ node_limit → IsTree p old
+pub attempts_bounded : (s : Sight) (p : Program) (old : Option Node) → s.program ≡ p → KeysApart p → node_bound p ≤ node_limit p → IsTree p old
     → AllByRecursion (λ ns. length (spots_in at_root ns) ≤ node_bound p)
     (attempts depth_limit s (default_contexts s.program) (root_element s.program) old)
 attempts_bounded s p old same apart small t = go (plain_or_empty p apart)

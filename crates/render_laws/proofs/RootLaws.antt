@@ -3,7 +3,9 @@ use Rattle.std.specs.Prelude.{◌≡◌, ℕ, suc, ◌+◌, ◌≤◌, true, fal
 use Rattle.std.proofs.Common.{arith, ap, sym, subst}
 use Rattle.rx_ast.specs.Syntax.{Program}
 use Rattle.rx_rules.specs.Names.{component_number, root_name}
-use Rattle.rx_rules.specs.Bounds.{node_bound, component_levels, node_limit}
+use Rattle.rx_rules.specs.Bounds.{node_bound, component_levels}
+use Rattle.rx_rules.specs.Versions.{node_limit}
+use Rattle.rx_rules.proofs.Limits.{limits_nodes}
 use Rattle.rx_elem.specs.Elements.{Element}
 use Rattle.rx_elem.specs.Identity.{Identity, identities}
 use Rattle.rx_elem.specs.Trees.{Node, node, Forest, none, vacant, child, elements_in}
@@ -100,18 +102,18 @@ fits_bounded : (n : ℕ) (p : Program) (bound : ℕ) → 1 + (body_size n p (com
 fits_bounded n p bound h new fits = omega (arith, spots_count at_root new, fits_count (root_alts n p) new fits, root_size n p)
 
 -- The bound, if it is within the limit, is not held.
-pub bound_is_own : (p : Program) → node_bound p ≤ node_limit → 1 + (body_size component_levels p (component_number p root_name)).own ≤ node_bound p
+pub bound_is_own : (p : Program) → node_bound p ≤ node_limit p → 1 + (body_size component_levels p (component_number p root_name)).own ≤ node_bound p
 unfolding node_bound
-bound_is_own p h = omega arith
+bound_is_own p h = omega (arith, limits_nodes p)
 
 -- What a render gives against a tree of the program has no more nodes than the bound.
-pub given_bounded : (s : Sight) (p : Program) → s.program ≡ p → IsPlain p → node_bound p ≤ node_limit → (old : Option Node) → IsTree p old → (new : Node) → fresh s old ≡ made new
+pub given_bounded : (s : Sight) (p : Program) → s.program ≡ p → IsPlain p → node_bound p ≤ node_limit p → (old : Option Node) → IsTree p old → (new : Node) → fresh s old ≡ made new
     → node_count (Some new) ≤ node_bound p
 given_bounded s p same plain small old t new g =
     fits_bounded component_levels p (node_bound p) (bound_is_own p small) new (gives_fits s p same plain old new g (tree_fits p old plain t))
 
 -- A tree of the program has no more nodes than the bound.
-pub tree_bounded : (p : Program) → IsPlain p → node_bound p ≤ node_limit → (tree : Option Node) → IsTree p tree → node_count tree ≤ node_bound p
+pub tree_bounded : (p : Program) → IsPlain p → node_bound p ≤ node_limit p → (tree : Option Node) → IsTree p tree → node_count tree ≤ node_bound p
 tree_bounded p plain small tree t = go tree (tree_fits p tree plain t)
   where
     go : (tree : Option Node) → FitsOld (root_alts component_levels p) tree → node_count tree ≤ node_bound p

@@ -5,7 +5,8 @@ use Rattle.std.proofs.Common.{arith}
 use Rattle.std.proofs.Math.Nat.{mul-le-mul_right}
 use Rattle.rx_ast.specs.Syntax.{Program, Component}
 use Rattle.rx_rules.specs.Names.{component_at}
-use Rattle.rx_rules.specs.Bounds.{node_bound, component_levels, node_limit}
+use Rattle.rx_rules.specs.Bounds.{node_bound, component_levels}
+use Rattle.rx_rules.specs.Versions.{node_limit}
 use Rattle.rx_elem.specs.Elements.{Element, Elements, gathered, listed}
 use Rattle.rx_elem.specs.Elements as elements
 use Rattle.rx_elem.specs.Trees.{Node, Forest, children_if, fallback_if}
@@ -166,7 +167,7 @@ root_tried : (m : ℕ) → m ≤ 1 → (n : ℕ) (s : Sight) → IsPlain s.progr
 root_tried m one n s plain cs old = all_tried m one n s plain cs (root_alts n s.program) (root_element s.program) old (root_comes n s.program plain)
 
 -- a render begins no more places than the bound
-pub begun_bounded : (m : ℕ) → m ≤ 1 → (s : Sight) → IsPlain s.program → node_bound s.program ≤ node_limit → (old : Option Node)
+pub begun_bounded : (m : ℕ) → m ≤ 1 → (s : Sight) → IsPlain s.program → node_bound s.program ≤ node_limit s.program → (old : Option Node)
     → whole (begun_with m) s old ≤ node_bound s.program
 unfolding whole
 begun_bounded m one s plain small old =

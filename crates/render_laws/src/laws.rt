@@ -3,7 +3,8 @@ ghost use Rattle.std.specs.Prelude.{◌≡◌, ℕ, suc, ◌+◌, ◌*◌, ◌<�
 ghost use Rattle.std.specs.List.{AllByRecursion};
 ghost use Rattle.rx_base.specs.Awaits.{Awaits};
 ghost use Rattle.rx_ast.specs.Syntax.{Program};
-ghost use Rattle.rx_rules.specs.Bounds.{node_bound, depth_bound, node_limit};
+ghost use Rattle.rx_rules.specs.Bounds.{node_bound, depth_bound};
+ghost use Rattle.rx_rules.specs.Versions.{node_limit};
 ghost use Rattle.rx_elem.specs.Elements.{Element};
 ghost use Rattle.rx_elem.specs.Trees.{Node};
 ghost use Rattle.rx_elem.specs.Spots.{node_count, spots_in, at_root};
@@ -36,7 +37,7 @@ pub fn units_are_bounded()
     ensures before { (s : Sight) (old : Option Node) (k : ℕ) → k < whole each_unit s old → is_over (after k s old) ≡ false }
     ensures last { (s : Sight) (old : Option Node) → after (whole each_unit s old) s old ≡ ended (fresh s old) }
     ensures twice { (s : Sight) (old : Option Node) → whole each_unit s old ≤ 2 * whole each_begun s old }
-    ensures bound { (s : Sight) (old : Option Node) → KeysApart s.program → node_bound s.program ≤ node_limit
+    ensures bound { (s : Sight) (old : Option Node) → KeysApart s.program → node_bound s.program ≤ node_limit s.program
         → whole each_unit s old ≤ 2 * node_bound s.program }
 {}
 
@@ -93,25 +94,25 @@ pub fn depth_suffices()
 /// No tree of a program, and nothing that is rendered against one, has more nodes than the bound, kept primaries
 /// counted.
 pub fn nodes_are_bounded()
-    ensures committed { (p : Program) (tree : Option Node) → KeysApart p → node_bound p ≤ node_limit → IsTree p tree
+    ensures committed { (p : Program) (tree : Option Node) → KeysApart p → node_bound p ≤ node_limit p → IsTree p tree
         → node_count tree ≤ node_bound p }
     ensures rendered { (p : Program) (s : Sight) (old : Option Node) (new : Node) → s.program ≡ p → KeysApart p
-        → node_bound p ≤ node_limit → IsTree p old → fresh s old ≡ made new
+        → node_bound p ≤ node_limit p → IsTree p old → fresh s old ≡ made new
         → node_count (Some new) ≤ node_bound p }
 {}
 
 /// No render begins more places than the bound, whatever the old tree is; those of attempts that are given up count
 /// too.
 pub fn begun_nodes_are_bounded()
-    ensures begun { (s : Sight) → KeysApart s.program → node_bound s.program ≤ node_limit → (old : Option Node)
+    ensures begun { (s : Sight) → KeysApart s.program → node_bound s.program ≤ node_limit s.program → (old : Option Node)
         → whole each_begun s old ≤ node_bound s.program }
-    ensures visited { (s : Sight) → KeysApart s.program → node_bound s.program ≤ node_limit → (old : Option Node)
+    ensures visited { (s : Sight) → KeysApart s.program → node_bound s.program ≤ node_limit s.program → (old : Option Node)
         → length (visits s old) ≤ node_bound s.program }
 {}
 
 /// No attempt of a render against such a tree has more nodes than the bound.
 pub fn attempts_are_bounded()
-    ensures { (s : Sight) (p : Program) (old : Option Node) → s.program ≡ p → KeysApart p → node_bound p ≤ node_limit
+    ensures { (s : Sight) (p : Program) (old : Option Node) → s.program ≡ p → KeysApart p → node_bound p ≤ node_limit p
         → IsTree p old
         → AllByRecursion (λ ns. length (spots_in at_root ns) ≤ node_bound p) (attempts depth_limit s (default_contexts s.program) (root_element s.program) old) }
 {}

@@ -30,7 +30,7 @@ fn paragraph(alloc: Global) -> Result<Program, AllocError> {
     );
     let mut declarations = Vec::new(alloc);
     declarations.push(Declaration::component(app))?;
-    Ok(Program::new(declarations))
+    Ok(Program::new(false, declarations))
 }
 
 // A first render of a program that reads no resources, at its start.

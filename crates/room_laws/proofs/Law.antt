@@ -3,7 +3,8 @@ use Rattle.std.specs.Prelude.{◌≡◌, ◌⊎◌, ℕ, zero, suc, ◌≤◌, [
 use Rattle.std.proofs.Common.{arith, inl, inr, sym, subst, ◌∙◌, ap}
 use Rattle.rx_ast.specs.Syntax.{Program}
 use Rattle.rx_rules.specs.Names.{component_at, component_number, root_name}
-use Rattle.rx_rules.specs.Bounds.{node_bound, node_limit, component_levels}
+use Rattle.rx_rules.specs.Bounds.{node_bound, component_levels}
+use Rattle.rx_rules.specs.Versions.{node_limit}
 use Rattle.rx_rules.specs.Keys.{KeysApart}
 use Rattle.rx_elem.specs.Trees.{Node}
 use Rattle.rx_meaning.specs.Fresh.{Sight, Contexts, Part, Shape, absent, two_lists, shape_of, empty, made, root_element, IsTree, none_yet, given}
@@ -30,7 +31,7 @@ reached_fits p tree c plain fits (past_subtree n fs cs e x same r) =
 reached_fits p tree c plain fits (past_attempt s n fs cs e o q f a same shape r) =
     subst (λ r. IsPlain r → CursorFits r (at_place (suc n) fs cs e o) → CursorFits r c) same (λ b h. attempt_fits s b n fs cs e o q f a shape h) plain (reached_fits p tree _ plain fits r)
 
-fits_within : (p : Program) (tree : Option Node) (c : Cursor) → IsPlain p → node_bound p ≤ node_limit → IsTree p tree → IsReached p tree c → places_in c ≤ node_bound p
+fits_within : (p : Program) (tree : Option Node) (c : Cursor) → IsPlain p → node_bound p ≤ node_limit p → IsTree p tree → IsReached p tree c → places_in c ≤ node_bound p
 fits_within p tree c plain small t r =
     omega (arith, cursor_room p c (reached_fits p tree c plain (tree_fits p tree plain t) r), root_size component_levels p, bound_is_own p small)
 
@@ -95,7 +96,7 @@ module _ (p : Program) (none : (c : ℕ) → component_at p c ≡ None) where
       not_made n h = cc
 
 -- A render in progress over a tree of the program has no more places than the bound.
-pub reached_within : (p : Program) (tree : Option Node) (c : Cursor) → KeysApart p → node_bound p ≤ node_limit → IsTree p tree → IsReached p tree c → places_in c ≤ node_bound p
+pub reached_within : (p : Program) (tree : Option Node) (c : Cursor) → KeysApart p → node_bound p ≤ node_limit p → IsTree p tree → IsReached p tree c → places_in c ≤ node_bound p
 reached_within p tree c apart small t r = go (plain_or_empty p apart)
   where
     go : IsPlain p ⊎ ((c : ℕ) → component_at p c ≡ None) → places_in c ≤ node_bound p

@@ -2,7 +2,8 @@
 use Rattle.std.specs.Prelude.{◌≡◌, ℕ, ℤ, suc, ◌+◌, ◌*◌, ◌≤◌, List, [], ◌∷◌, Option, refl}
 use Rattle.std.proofs.Common.{arith, ap}
 use Rattle.rx_ast.specs.Syntax.{Program}
-use Rattle.rx_rules.specs.Bounds.{node_bound, node_limit}
+use Rattle.rx_rules.specs.Bounds.{node_bound}
+use Rattle.rx_rules.specs.Versions.{node_limit}
 use Rattle.rx_rules.specs.Keys.{KeysApart}
 use Rattle.rx_ctx.specs.Contexts.{Stack}
 use Rattle.rx_elem.specs.Elements.{Element}
@@ -78,7 +79,7 @@ stands_made t st _ _ there (completes {k = k} here done list stack) =
 stands_made t st _ _ there (over tree less empty) = omega (arith, less)
 
 -- so both trees have at most three fibers for each node of the bound
-pub both_within : (p : Program) (tree : Option Node) (t : Trees Fiber) (st : Stack) (at : Option ℕ) (c : Cursor) → KeysApart p → node_bound p ≤ node_limit → IsTree p tree
+pub both_within : (p : Program) (tree : Option Node) (t : Trees Fiber) (st : Stack) (at : Option ℕ) (c : Cursor) → KeysApart p → node_bound p ≤ node_limit p → IsTree p tree
     → IsTreeOf tree t.current → IsReached p tree c → StandsAtNode c → StandsAt t st at c → size t.current + made_size t.draft ≤ 3 * node_bound p
 both_within p tree t st at c apart small is current r there stands =
     omega (arith, few tree t.current current, tree_within p apart small tree is, stands_made t st at c there stands, reached_within p tree c apart small is r)

@@ -1,7 +1,8 @@
 // The places of a render in progress, and the fibers that it makes for them.
 ghost use Rattle.std.specs.Prelude.{◌+◌, ◌*◌, ◌≤◌, ℕ, Option};
 ghost use Rattle.rx_ast.specs.Syntax.{Program};
-ghost use Rattle.rx_rules.specs.Bounds.{node_bound, node_limit};
+ghost use Rattle.rx_rules.specs.Bounds.{node_bound};
+ghost use Rattle.rx_rules.specs.Versions.{node_limit};
 ghost use Rattle.rx_rules.specs.Keys.{KeysApart};
 ghost use Rattle.rx_elem.specs.Trees.{Node};
 ghost use Rattle.rx_meaning.specs.Fresh.{IsTree};
@@ -19,7 +20,7 @@ ghost use Rattle.room_laws.specs.Places.{places_in};
 /// A render of a program over one of its trees never has more places at once than the bound on nodes: those of the nodes
 /// that are done or open, of what boundaries keep, and of the elements that are still to begin.
 pub fn cursors_have_room()
-    ensures { (p : Program) (tree : Option Node) (c : Cursor) → KeysApart p → node_bound p ≤ node_limit → IsTree p tree
+    ensures { (p : Program) (tree : Option Node) (c : Cursor) → KeysApart p → node_bound p ≤ node_limit p → IsTree p tree
         → IsReached p tree c → places_in c ≤ node_bound p }
 {}
 
@@ -30,6 +31,6 @@ pub fn fibers_have_room()
         → made_size t.draft ≤ places_in c }
     ensures current { (tree : Option Node) (s : Shape Fiber) → IsTreeOf tree s → size s ≤ 2 * node_count tree }
     ensures both { (p : Program) (tree : Option Node) (t : Trees Fiber) (st : Stack) (at : Option ℕ) (c : Cursor) → KeysApart p
-        → node_bound p ≤ node_limit → IsTree p tree → IsTreeOf tree t.current → IsReached p tree c → StandsAtNode c
+        → node_bound p ≤ node_limit p → IsTree p tree → IsTreeOf tree t.current → IsReached p tree c → StandsAtNode c
         → StandsAt t st at c → size t.current + made_size t.draft ≤ 3 * node_bound p }
 {}

@@ -4,7 +4,8 @@ use Rattle.std.proofs.Common.{arith, subst}
 use Rattle.rx_ast.specs.Syntax.{Program, Component, of_component, single, slot, no_slots, body_slots, by_tag, at_once, unkeyed}
 use Rattle.rx_ast.specs.Syntax as syntax
 use Rattle.rx_rules.specs.Names.{component_at}
-use Rattle.rx_rules.specs.Bounds.{node_bound, depth_bound, root_waits, body_by, node_limit}
+use Rattle.rx_rules.specs.Bounds.{node_bound, depth_bound, root_waits, body_by}
+use Rattle.rx_rules.specs.Versions.{node_limit}
 use Rattle.rx_meaning.specs.Fresh.{depth_limit}
 use Rattle.rx_model.specs.Laws.{IsBounded}
 use Rattle.rx_rules.specs.Reads.{AllDeclared, ReadsDeclared}
@@ -39,7 +40,7 @@ app =
     }
 
 abbrev pub boundaries : Program
-boundaries = record { declarations = of_component leaf ∷ of_component app ∷ [] }
+boundaries = record { second = false; declarations = of_component leaf ∷ of_component app ∷ [] }
 
 abbrev IfApart : Option Component → Type 0
 IfApart None = Unit {0}
@@ -57,7 +58,7 @@ apart_at (suc (suc c)) = tt
 pub apart : KeysApart boundaries
 apart c d e = subst IfApart e (apart_at c)
 
-pub small : node_bound boundaries ≤ node_limit
+pub small : node_bound boundaries ≤ node_limit boundaries
 unfolding node_bound body_by
 small = omega arith
 

@@ -115,4 +115,5 @@ declaration_code = record { code = stored_declaration; inj = stored_declaration_
 
 abbrev pub program_code : Coded Program
 program_code =
-    code_by (List Declaration) (coded_list declaration_code) (λ p. p.declarations) (λ ds. record { declarations = ds }) (λ _. refl)
+    code_by (Bool × List Declaration) (coded× coded_bool (coded_list declaration_code)) (λ p. (p.second, p.declarations))
+    (λ q. record { second = q.0; declarations = q.1 }) (λ _. refl)

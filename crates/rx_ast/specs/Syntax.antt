@@ -207,8 +207,9 @@ pub data Declaration : Type 0 where
   of_function : Function → Declaration
   of_component : Component → Declaration
 
--- a program, as its declarations in order
+-- a program, as its declarations in order, and whether it is of version 2 of the language, which it says at its front
 pub record Program : Type 0 where
+  pub second : Bool
   pub declarations : List Declaration
 
 -- the name that a declaration declares

@@ -5,9 +5,10 @@ ghost use Rattle.rx_ast.specs.Syntax.{contexts, functions, components};
 use crate::declaration::{Component, Context, Declaration, DeclarationKind, Function};
 use std::marker::Model;
 
-/// A program, as its declarations in the order of the text.
+/// A program, as its declarations in the order of the text, and whether it is of version 2 of the language.
 #[derive(Drop)]
 pub struct Program {
+    second: bool,
     declarations: Vec<Declaration>,
 }
 
@@ -19,15 +20,25 @@ impl Model for Program {
 
     ghost coded = { program_code };
 
-    ghost view = { λ p. record { declarations = p.declarations.items } };
+    ghost view = { λ p. record { second = p.second; declarations = p.declarations.items } };
 }
 
 impl Program {
-    /// A program of these declarations.
-    pub fn new(declarations: Vec<Declaration>) -> Program
-        ensures { result ≡ record { declarations = declarations.items } }
+    /// A program of these declarations, of version 2 or not.
+    pub fn new(second: bool, declarations: Vec<Declaration>) -> Program
+        ensures { result ≡ record { second = second; declarations = declarations.items } }
     {
-        Program { declarations }
+        Program {
+            second,
+            declarations,
+        }
+    }
+
+    /// Whether it is of version 2.
+    pub fn is_second(&self) -> bool
+        ensures { result ≡ self.now.second }
+    {
+        self.second
     }
 
     /// Its declarations in order.

@@ -1,16 +1,18 @@
 // The integers of a program.
-ghost use Rattle.std.specs.Prelude.{◌≡◌, int_lt};
-ghost use Rattle.std.specs.Int.{w32};
+ghost use Rattle.std.specs.Prelude.{◌≡◌, int_lt, pos};
 ghost use Rattle.std.specs.Ordering.{int_eq};
 ghost use Rattle.rx_base.specs.Values.{wrap};
+ghost use Rattle.rx_base.specs.Widths.{width_of};
 ghost use Rattle.rx_base.specs.Arithmetic as arithmetic;
 
+use crate::width::Width;
 use std::marker::Model;
 
-/// An integer of a program: 32 bits in two's complement. Contracts see it as a signed number.
+/// An integer of a program: 64 bits in two's complement, of which a program of version 1 uses 32. Contracts see it as a
+/// signed number.
 #[derive(Clone, Copy, Debug, PartialEq, Eq)]
 pub struct Int {
-    bits: i32,
+    bits: i64,
 }
 
 impl Model for Int {
@@ -23,82 +25,93 @@ impl Model for Int {
     ghost inverse = { λ x. record { bits = x } };
 }
 
+/// The number that is left in so many bits.
+fn wrapped(width: Width, value: i64) -> Int
+    ensures { result ≡ wrap (width_of width) value }
+{
+    match width {
+        Width::W32 => Int {
+            bits: i64::from((value.rem_euclid(1 << 32) as u32).cast_signed()),
+        },
+        Width::W64 => Int { bits: value },
+    }
+}
+
 impl Int {
-    /// The integer that a number stands for, modulo two to the 32nd power.
+    /// The integer that a number stands for.
     pub fn of(value: i64) -> Int
-        ensures { result ≡ wrap w32 value }
+        ensures { result ≡ value }
     {
-        let residue = value.rem_euclid(1 << 32) as u32;
-        Int {
-            bits: residue.cast_signed(),
+        Int { bits: value }
+    }
+
+    /// The integer that a number of a text stands for.
+    pub fn literal(width: Width, number: u64) -> Int
+        ensures { result ≡ wrap (width_of width) (pos number) }
+    {
+        match width {
+            Width::W32 => Int {
+                bits: i64::from(((number % (1 << 32)) as u32).cast_signed()),
+            },
+            Width::W64 => Int {
+                bits: number.cast_signed(),
+            },
         }
     }
 
-    /// The number, from -2147483648 to 2147483647.
+    /// The number, from -9223372036854775808 to 9223372036854775807.
     pub fn value(self) -> i64
         ensures { result ≡ self }
     {
-        i64::from(self.bits)
+        self.bits
     }
 
     /// The sum, which wraps.
-    pub fn add(self, other: Int) -> Int
-        ensures { result ≡ arithmetic.add w32 self other }
+    pub fn add(width: Width, left: Int, right: Int) -> Int
+        ensures { result ≡ arithmetic.add (width_of width) left right }
     {
-        Int {
-            bits: self.bits.wrapping_add(other.bits),
-        }
+        wrapped(width, left.bits.wrapping_add(right.bits))
     }
 
     /// The difference, which wraps.
-    pub fn sub(self, other: Int) -> Int
-        ensures { result ≡ arithmetic.sub w32 self other }
+    pub fn sub(width: Width, left: Int, right: Int) -> Int
+        ensures { result ≡ arithmetic.sub (width_of width) left right }
     {
-        Int {
-            bits: self.bits.wrapping_sub(other.bits),
-        }
+        wrapped(width, left.bits.wrapping_sub(right.bits))
     }
 
     /// The product, which wraps.
-    pub fn mul(self, other: Int) -> Int
-        ensures { result ≡ arithmetic.mul w32 self other }
+    pub fn mul(width: Width, left: Int, right: Int) -> Int
+        ensures { result ≡ arithmetic.mul (width_of width) left right }
     {
-        Int {
-            bits: self.bits.wrapping_mul(other.bits),
-        }
+        wrapped(width, left.bits.wrapping_mul(right.bits))
     }
 
     /// The quotient, cut toward 0; 0 if the right side is 0.
-    pub fn div(self, other: Int) -> Int
-        ensures { result ≡ arithmetic.div w32 self other }
+    pub fn div(width: Width, left: Int, right: Int) -> Int
+        ensures { result ≡ arithmetic.div (width_of width) left right }
     {
-        if other.bits == 0 {
+        if right.bits == 0 {
             return Int { bits: 0 };
         }
-        Int {
-            bits: self.bits.wrapping_div(other.bits),
-        }
+        wrapped(width, left.bits.wrapping_div(right.bits))
     }
 
     /// The remainder, which has the sign of the left side; 0 if the right side is 0.
-    pub fn rem(self, other: Int) -> Int
-        ensures { result ≡ arithmetic.rem w32 self other }
+    pub fn rem(width: Width, left: Int, right: Int) -> Int
+        ensures { result ≡ arithmetic.rem (width_of width) left right }
     {
-        if other.bits == 0 {
+        if right.bits == 0 {
             return Int { bits: 0 };
         }
-        Int {
-            bits: self.bits.wrapping_rem(other.bits),
-        }
+        wrapped(width, left.bits.wrapping_rem(right.bits))
     }
 
     /// The opposite, which wraps.
-    pub fn neg(self) -> Int
-        ensures { result ≡ arithmetic.neg w32 self }
+    pub fn neg(width: Width, value: Int) -> Int
+        ensures { result ≡ arithmetic.neg (width_of width) value }
     {
-        Int {
-            bits: self.bits.wrapping_neg(),
-        }
+        wrapped(width, value.bits.wrapping_neg())
     }
 
     /// Whether the left side is less than the right one.

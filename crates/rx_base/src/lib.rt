@@ -8,6 +8,7 @@ mod ints;
 mod name;
 mod steps;
 mod str;
+mod width;
 
 pub use awaits::Awaits;
 pub use cut::Cut;
@@ -16,6 +17,7 @@ pub use ints::Ints;
 pub use name::Name;
 pub use steps::Steps;
 pub use str::{Str, quote};
+pub use width::Width;
 
 #[cfg(test)]
 mod tests;

@@ -7,22 +7,31 @@ use std::sync::ledger::{Blank, Ledger};
 use std::test::Fail;
 
 #[test]
-fn integers_wrap_at_32_bits(rt: HostRuntime) {
-    for (value, want) in [
-        (-1, -1),
-        (2147483648, -2147483648),
-        (-2147483649, 2147483647),
+fn integers_wrap_at_their_width(rt: HostRuntime) {
+    for (width, value, want) in [
+        (Width::W32, 2147483647, -2147483648),
+        (Width::W64, 2147483647, 2147483648),
+        (Width::W64, 9223372036854775807, -9223372036854775808),
     ] {
-        assert_eq!(rt; Int::of(value).value(), want, "of {value}");
+        let sum = Int::add(width, Int::of(value), Int::of(1));
+        assert_eq!(rt; sum.value(), want, "1 and {value}");
     }
 }
 
 #[test]
 fn quotients_are_cut_toward_zero(rt: HostRuntime) {
     let smallest = Int::of(-2147483648);
-    assert_eq!(rt; smallest.div(Int::of(-1)).value(), -2147483648);
-    assert_eq!(rt; smallest.rem(Int::of(-1)).value(), 0);
-    assert_eq!(rt; Int::of(-7).rem(Int::of(3)).value(), -1);
+    let minus_one = Int::of(-1);
+    assert_eq!(rt;
+        Int::div(Width::W32, smallest, minus_one).value(),
+        -2147483648
+    );
+    assert_eq!(rt;
+        Int::div(Width::W64, smallest, minus_one).value(),
+        2147483648
+    );
+    assert_eq!(rt; Int::rem(Width::W32, smallest, minus_one).value(), 0);
+    assert_eq!(rt; Int::rem(Width::W64, Int::of(-7), Int::of(3)).value(), -1);
 }
 
 #[test]

@@ -3,7 +3,8 @@ use Rattle.std.proofs.Common.{◌≡◌, ◌≤◌, Bool, true, false, List, [],
 use Rattle.std.specs.Prelude.{ℕ, zero, suc, nat_lt, find, option_map, cond}
 use Rattle.rx_base.specs.Values.{Name}
 use Rattle.rx_ast.specs.Syntax.{Program}
-use Rattle.rx_rules.specs.Bounds.{node_bound, node_limit}
+use Rattle.rx_rules.specs.Bounds.{node_bound}
+use Rattle.rx_rules.specs.Versions.{node_limit}
 use Rattle.rx_check.specs.Checks.{is_rooted, count_over}
 use Rattle.rx_check.specs.Refusals.{first_some, refused_name, name_refusals, way_refusals, count_refusals, size_refusals, refusals, refusal_of}
 use Rattle.rx_check.specs.Accepted.{IsAccepted}
@@ -95,6 +96,6 @@ accepted p h =
       no_outside_use = names-none _ _ (place-none 2 (way_refusals p) ways);
       rooted = root-there (is_rooted p) (place-none 3 (way_refusals p) ways);
       within_counts = counts-none p numbers;
-      within_nodes = not-over node_limit (node_bound p) (map-none _ _ (place-none 0 (size_refusals p) sizes));
+      within_nodes = not-over (node_limit p) (node_bound p) (map-none _ _ (place-none 0 (size_refusals p) sizes));
       within_cost = map-none _ _ (place-none 1 (size_refusals p) sizes);
     }

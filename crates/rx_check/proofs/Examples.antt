@@ -1,5 +1,5 @@
 -- Two programs on which readings of the checks differ.
-use Rattle.std.proofs.Common.{◌≡◌, true, List, [], ◌∷◌, Some, None, refl}
+use Rattle.std.proofs.Common.{◌≡◌, true, false, List, [], ◌∷◌, Some, None, refl}
 use Rattle.std.specs.Prelude.{codes}
 use Rattle.rx_ast.specs.Syntax as syntax
 use Rattle.rx_ast.specs.Syntax.{Program, Component, Parameter, Statement, Slot}
@@ -24,6 +24,7 @@ around s ss = syntax.host (codes "p") [] syntax.by_tag (syntax.slot s ss)
 -- function Z({p, children}) { return <p>{p ? null : p ? null : <i key={1}/>}<b key={2}/></p>; } function App() { return null; }
 abbrev key_in_earlier_branch : Program
 key_in_earlier_branch = record {
+  second = false;
   declarations =
       component (codes "Z") (syntax.integer (codes "p") ∷ syntax.given_children ∷ []) []
       (around
@@ -43,6 +44,7 @@ second_key = refl
 -- function F({children}) { return <H>{children}</H>; } function App() { return <F><W/></F>; }
 abbrev dropped_children : Program
 dropped_children = record {
+  second = false;
   declarations =
       component (codes "W") [] (syntax.use_resource (codes "u") (codes "r") ∷ []) syntax.null
       ∷ component (codes "H") (syntax.given_children ∷ []) [] syntax.null

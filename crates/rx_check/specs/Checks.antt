@@ -5,7 +5,8 @@ use Rattle.std.specs.Option.{option_map_or}
 use Rattle.rx_base.specs.Values.{Name}
 use Rattle.rx_ast.specs.Syntax.{Program, Parameter, integer, given_children, Component}
 use Rattle.rx_rules.specs.Names.{has_name, root_name, component_names, component_named, component_number, function_named, prop_names, resources}
-use Rattle.rx_rules.specs.Bounds.{body_by, may_wait, node_bound, node_limit, depth_bound}
+use Rattle.rx_rules.specs.Bounds.{body_by, may_wait, node_bound, depth_bound}
+use Rattle.rx_rules.specs.Versions.{node_limit}
 use Rattle.rx_names.specs.Listed.{function_names, context_names}
 use Rattle.rx_order.specs.Graphs.{cycle_names}
 use Rattle.rx_mentions.specs.Mentions.{children_name, mentions}
@@ -211,10 +212,10 @@ counts p count.Depth = depth_bound p ∷ []
 
 -- the first count of this thing that is over its limit
 abbrev pub count_over : Program → Count → Option ℕ
-count_over p w = first_over (limit_of w) (counts p w)
+count_over p w = first_over (limit_of p w) (counts p w)
 
 -- Nodes and costs
 
 -- the node bound, if it is over its limit
 abbrev pub nodes_over : Program → Option ℕ
-nodes_over p = first_over node_limit (node_bound p ∷ [])
+nodes_over p = first_over (node_limit p) (node_bound p ∷ [])

@@ -23,7 +23,7 @@ refused_name told names = option_map told (first names)
 
 -- what is refused for a count over its limit
 abbrev pub refused_count : Program → Count → Option Refusal
-refused_count p w = option_map (λ n. refusal.Count w n (limit_of w)) (count_over p w)
+refused_count p w = option_map (λ n. refusal.Count w n (limit_of p w)) (count_over p w)
 
 -- what is refused for the root
 abbrev pub refused_root : Program → Option Refusal

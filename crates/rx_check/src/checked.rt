@@ -2,6 +2,8 @@
 ghost use Rattle.std.specs.Prelude.{◌≡◌, ◌<◌, ◌^◌, bytes_eq, position, length, filter_map};
 ghost use Rattle.rx_rules.specs.Names.{component_names, resources, hook_in};
 ghost use Rattle.rx_rules.specs.Bounds.{node_bound, depth_bound};
+ghost use Rattle.rx_rules.specs.Versions.{width};
+ghost use Rattle.rx_base.specs.Widths.{width_of};
 ghost use Rattle.rx_names.specs.Listed.{function_names, context_names};
 ghost use Rattle.rx_check.specs.Accepted.{IsAccepted};
 ghost use Rattle.rx_check.specs.Runnable.{IsRunnable};
@@ -10,7 +12,7 @@ ghost use Rattle.rx_check.specs.Tables.{hook_among, hook_named, parameter_count}
 
 use crate::hook::HookKind;
 use rx_ast::{Program, Statement, StatementKind};
-use rx_base::Name;
+use rx_base::{Name, Width};
 use rx_names::{Listing, Table};
 use std::marker::Model;
 
@@ -104,6 +106,17 @@ impl Checked {
         ensures runnable { IsRunnable self.now }
     {
         &self.program
+    }
+
+    /// How wide its integers are.
+    pub fn width(&self) -> Width
+        ensures { width_of result ≡ width self.now }
+    {
+        if self.program.is_second() {
+            Width::W64
+        } else {
+            Width::W32
+        }
     }
 
     /// The most nodes that a tree of the program has, the root with them.

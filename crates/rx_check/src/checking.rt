@@ -1,7 +1,8 @@
 // All checks of a program, in their order.
 ghost use Rattle.std.specs.Prelude.{◌≡◌, ◌≤◌, [], ◌∷◌, IfOk, MatchOption, MatchResult, Some, None, option_map, option_and_then, filter_map, length, slice_get};
 ghost use Rattle.rx_rules.specs.Names.{component_names, component_number, root_name};
-ghost use Rattle.rx_rules.specs.Bounds.{body_by, node_bound, node_limit, depth_bound};
+ghost use Rattle.rx_rules.specs.Bounds.{body_by, node_bound, depth_bound};
+ghost use Rattle.rx_rules.specs.Versions.{node_limit};
 ghost use Rattle.rx_names.specs.Listed.{IsListed, function_names};
 ghost use Rattle.rx_order.specs.Graphs.{first, IsFinished};
 ghost use Rattle.rx_mentions.specs.Mentions.{mentions as all_mentions};
@@ -25,7 +26,15 @@ use rx_order::{Order, Row, finishing_order, first_cycle};
 use std::alloc::{AllocError, Global};
 
 /// No program that is accepted has a greater node bound.
-const NODE_LIMIT: u64 = 4096;
+fn node_limit(program: &Index) -> u64
+    ensures { result ≡ node_limit program.now }
+{
+    if program.program().is_second() {
+        65_536
+    } else {
+        4096
+    }
+}
 
 /// The name as it is told.
 fn told(alloc: Global, name: &str) -> Result<Name, Refusal>
@@ -153,24 +162,24 @@ fn refuse_root(program: &Index) -> Result<(), Refusal>
 }
 
 /// What was found is within its limit.
-fn refuse_count(what: Count, over: Option<u64>) -> Result<(), Refusal>
-    ensures { Answers (option_map (λ n. Refusal.Count what n (limit_of what)) over) result }
+fn refuse_count(program: &Index, what: Count, over: Option<u64>) -> Result<(), Refusal>
+    ensures { Answers (option_map (λ n. Refusal.Count what n (limit_of program.now what)) over) result }
 {
     match over {
         None => Ok(()),
         Some(found) => Err(Refusal::Count {
             what,
             found,
-            limit: limit_of(what),
+            limit: limit_of(program, what),
         }),
     }
 }
 
 /// A number, if it is over the limit of what it counts.
-fn number_over(what: Count, found: u64) -> Option<u64>
-    ensures { result ≡ over (limit_of what) (found ∷ []) }
+fn number_over(program: &Index, what: Count, found: u64) -> Option<u64>
+    ensures { result ≡ over (limit_of program.now what) (found ∷ []) }
 {
-    if limit_of(what) < found {
+    if limit_of(program, what) < found {
         Some(found)
     } else {
         None
@@ -251,7 +260,11 @@ fn refuse_depth(program: &Index, depth: u64) -> Result<(), Refusal>
     requires depth { length program.now.declarations ≤ 256 → depth ≡ depth_bound program.now }
     ensures { Answers (refused_count program.now Count.Depth) result }
 {
-    refuse_count(Count::Depth, number_over(Count::Depth, depth))
+    refuse_count(
+        program,
+        Count::Depth,
+        number_over(program, Count::Depth, depth),
+    )
 }
 
 /// The checks of counts in the order of the text.
@@ -260,31 +273,61 @@ fn refuse_counts(program: &Index, mentions: &[Mention], depth: u64) -> Result<()
     requires depth { length program.now.declarations ≤ 256 → depth ≡ depth_bound program.now }
     ensures { Answers (first_some (count_refusals program.now)) result }
 {
-    refuse_count(Count::Name, first_over(Count::Name, mentions))?;
-    refuse_count(Count::Text, first_over(Count::Text, mentions))?;
+    refuse_count(
+        program,
+        Count::Name,
+        first_over(program, Count::Name, mentions),
+    )?;
+    refuse_count(
+        program,
+        Count::Text,
+        first_over(program, Count::Text, mentions),
+    )?;
     let declarations = program.declarations().len() as u64;
     refuse_count(
+        program,
         Count::Declarations,
-        number_over(Count::Declarations, declarations),
+        number_over(program, Count::Declarations, declarations),
     )?;
-    refuse_count(Count::Parameters, first_over(Count::Parameters, mentions))?;
-    refuse_count(Count::Statements, first_over(Count::Statements, mentions))?;
-    refuse_count(Count::Attributes, first_over(Count::Attributes, mentions))?;
     refuse_count(
-        Count::Dependencies,
-        first_over(Count::Dependencies, mentions),
+        program,
+        Count::Parameters,
+        first_over(program, Count::Parameters, mentions),
     )?;
-    refuse_count(Count::List, first_over(Count::List, mentions))?;
+    refuse_count(
+        program,
+        Count::Statements,
+        first_over(program, Count::Statements, mentions),
+    )?;
+    refuse_count(
+        program,
+        Count::Attributes,
+        first_over(program, Count::Attributes, mentions),
+    )?;
+    refuse_count(
+        program,
+        Count::Dependencies,
+        first_over(program, Count::Dependencies, mentions),
+    )?;
+    refuse_count(
+        program,
+        Count::List,
+        first_over(program, Count::List, mentions),
+    )?;
     let resources = program.listing().resources.len() as u64;
-    refuse_count(Count::Resources, number_over(Count::Resources, resources))?;
+    refuse_count(
+        program,
+        Count::Resources,
+        number_over(program, Count::Resources, resources),
+    )?;
     refuse_depth(program, depth)
 }
 
 /// The node bound is within its limit.
-fn refuse_nodes(bound: u64) -> Result<(), Refusal>
-    ensures { Answers (option_map (λ n. Refusal.TreeBound n) (over node_limit (bound ∷ []))) result }
+fn refuse_nodes(program: &Index, bound: u64) -> Result<(), Refusal>
+    ensures { Answers (option_map (λ n. Refusal.TreeBound n) (over (node_limit program.now) (bound ∷ []))) result }
 {
-    if NODE_LIMIT < bound {
+    if node_limit(program) < bound {
         Err(Refusal::TreeBound(bound))
     } else {
         Ok(())
@@ -308,7 +351,7 @@ fn refuse_sizes(alloc: Global, program: &Index, order: &Order, bound: u64) -> Re
     requires bound { bound ≡ node_bound program.now }
     ensures { Answers (first_some (size_refusals program.now)) result }
 {
-    refuse_nodes(bound)?;
+    refuse_nodes(program, bound)?;
     refuse_cost(alloc, program, order)
 }
 

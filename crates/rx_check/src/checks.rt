@@ -5,6 +5,7 @@ ghost use Rattle.rx_mentions.specs.Mentions.{given_names};
 ghost use Rattle.rx_rules.specs.Names.{prop_names, has_name, function_named, component_named};
 ghost use Rattle.rx_check.specs.Limits.{limit_of};
 ghost use Rattle.rx_check.specs.Checks.{unless, repeat_in, unknown_among, misfit_in, is_children, fits, element_fits, takes_arguments, is_rooted, measure_in, same_count, count_in, name_length_in, text_length_in};
+ghost use Rattle.rx_rules.specs.Versions.{list_limit};
 ghost use Rattle.rx_figures.specs.Costs.{first_over};
 ghost use Rattle.rx_order.specs.Graphs.{first};
 
@@ -245,22 +246,34 @@ fn measure(what: Count, mention: &Mention) -> Option<u64>
     }
 }
 
+/// The most turns of a `for`.
+fn list_limit(program: &Index) -> u64
+    ensures { result ≡ list_limit program.now }
+{
+    if program.program().is_second() {
+        1024
+    } else {
+        64
+    }
+}
+
 /// The limit of what is counted.
-pub fn limit_of(what: Count) -> u64
-    ensures { result ≡ limit_of what }
+pub fn limit_of(program: &Index, what: Count) -> u64
+    ensures { result ≡ limit_of program.now what }
 {
     match what {
-        Count::Name | Count::Statements | Count::List | Count::Resources => 64,
+        Count::Name | Count::Statements | Count::Resources => 64,
         Count::Text | Count::Declarations | Count::Depth => 256,
         Count::Parameters | Count::Attributes | Count::Dependencies => 16,
+        Count::List => list_limit(program),
     }
 }
 
 /// The first count of this thing that is over its limit.
-pub fn first_over(what: Count, mentions: &[Mention]) -> Option<u64>
-    ensures { result ≡ first_over (limit_of what) (filter_map (measure_in what) mentions.now) }
+pub fn first_over(program: &Index, what: Count, mentions: &[Mention]) -> Option<u64>
+    ensures { result ≡ first_over (limit_of program.now what) (filter_map (measure_in what) mentions.now) }
 {
-    let limit = limit_of(what);
+    let limit = limit_of(program, what);
     for mention in mentions {
         if let Some(found) = measure(what, mention) {
             if limit < found {

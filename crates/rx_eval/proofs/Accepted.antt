@@ -1,13 +1,14 @@
 -- The lists of a program that is accepted are short.
 use Rattle.std.specs.Prelude.{◌≡◌, ℕ, zero, suc, ◌≤◌, Bool, true, false, ◌||◌, nat_lt, List, [], ◌∷◌, ◌++◌, Option, Some, None, find, fold, filter_map, slice_get, refl}
 use Rattle.std.specs.List.{cons_option}
-use Rattle.std.proofs.Common.{◌⊎◌, inl, inr, sym, ap, subst, ◌∙◌, arith}
-use Rattle.std.proofs.lemmas.Bool.Decides.{nat_tests}
+use Rattle.std.proofs.Common.{◌⊎◌, inl, inr, sym, subst, arith}
 use Rattle.rx_base.specs.Values.{Name}
 use Rattle.rx_ast.specs.Syntax.{Slot, Slots, Declaration, of_context, of_function, of_component, as_component, Component, Program, body_slots}
 use Rattle.rx_ast.specs.Syntax as syntax
 use Rattle.rx_rules.specs.Names.{component_at}
 use Rattle.rx_rules.specs.Keys.{carries_key}
+use Rattle.rx_rules.specs.Versions.{list_limit}
+use Rattle.rx_rules.proofs.Limits.{limits_turns}
 use Rattle.rx_mentions.specs.Mentions.{Scope, no_scope, bound, slot_mentions, slots_mentions, attributes_mentions, taken_first, first_key_mentions, last_key_mentions, expr_mentions, parameters_mentions, statements_mentions, after_statement, component_scope, component_mentions, function_mentions, declarations_mentions, mentions}
 use Rattle.rx_check.specs.Checks.{measure_in}
 use Rattle.rx_check.specs.Accepted.{IsAccepted}
@@ -42,32 +43,32 @@ among-right xs ys all h m i = h m (right m xs ys i)
 
 -- no list of these mentions is longer
 abbrev Short : List Mention → Type 0
-Short all = (n : ℕ) → IsIn (mention.Counted count.List n) all → n ≤ 64
+Short all = (n : ℕ) → IsIn (mention.Counted count.List n) all → n ≤ 1024
 
-first_within : (n : ℕ) (ns : List ℕ) → find (nat_lt 64) (n ∷ ns) ≡ None → n ≤ 64
-first_within n ns e = go (nat_lt 64 n) refl
+first_within : (limit n : ℕ) (ns : List ℕ) → find (nat_lt limit) (n ∷ ns) ≡ None → n ≤ limit
+first_within limit n ns e = go (nat_lt limit n) refl
   where
-    go : (b : Bool) → nat_lt 64 n ≡ b → n ≤ 64
+    go : (b : Bool) → nat_lt limit n ≡ b → n ≤ limit
     go true t = let bad : Some n ≡ None = (rw t at e) in absurd (cc)
     go false t = grind (arith, t)
 
-rest_within : (n : ℕ) (ns : List ℕ) → find (nat_lt 64) (n ∷ ns) ≡ None → find (nat_lt 64) ns ≡ None
-rest_within n ns e = go (nat_lt 64 n) refl
+rest_within : (limit n : ℕ) (ns : List ℕ) → find (nat_lt limit) (n ∷ ns) ≡ None → find (nat_lt limit) ns ≡ None
+rest_within limit n ns e = go (nat_lt limit n) refl
   where
-    go : (b : Bool) → nat_lt 64 n ≡ b → find (nat_lt 64) ns ≡ None
+    go : (b : Bool) → nat_lt limit n ≡ b → find (nat_lt limit) ns ≡ None
     go true t = let bad : Some n ≡ None = (rw t at e) in absurd (cc)
     go false t = rw t at e
 
-behind_within : (o : Option ℕ) (ns : List ℕ) → find (nat_lt 64) (cons_option o ns) ≡ None → find (nat_lt 64) ns ≡ None
-behind_within None ns e = e
-behind_within (Some k) ns e = rest_within k ns e
+behind_within : (limit : ℕ) (o : Option ℕ) (ns : List ℕ) → find (nat_lt limit) (cons_option o ns) ≡ None → find (nat_lt limit) ns ≡ None
+behind_within limit None ns e = e
+behind_within limit (Some k) ns e = rest_within limit k ns e
 
-within : (n : ℕ) (ms : List Mention) → find (nat_lt 64) (filter_map (measure_in count.List) ms) ≡ None → IsIn (mention.Counted count.List n) ms → n ≤ 64
-within n [] e h = absurd h
-within n (m ∷ ms) e (inl s) =
-    let P : Mention → Type 0 = λ k. find (nat_lt 64) (filter_map (measure_in count.List) (k ∷ ms)) ≡ None in
-    first_within n (filter_map (measure_in count.List) ms) (subst P (sym s) e)
-within n (m ∷ ms) e (inr h) = within n ms (behind_within (measure_in count.List m) (filter_map (measure_in count.List) ms) e) h
+within : (limit n : ℕ) (ms : List Mention) → find (nat_lt limit) (filter_map (measure_in count.List) ms) ≡ None → IsIn (mention.Counted count.List n) ms → n ≤ limit
+within limit n [] e h = absurd h
+within limit n (m ∷ ms) e (inl s) =
+    let P : Mention → Type 0 = λ k. find (nat_lt limit) (filter_map (measure_in count.List) (k ∷ ms)) ≡ None in
+    first_within limit n (filter_map (measure_in count.List) ms) (subst P (sym s) e)
+within limit n (m ∷ ms) e (inr h) = within limit n ms (behind_within limit (measure_in count.List m) (filter_map (measure_in count.List) ms) e) h
 
 mutual
   slot-short : (all : List Mention) → Short all → (s : Scope) (second : Bool) (t : Slot) → Among (slot_mentions s second t) all → HasShortLoops t
@@ -115,11 +116,15 @@ component-In (of_component d ∷ ds) taken zero c m e h =
     let same : c ≡ d = cc in inr (left m (component_mentions d) _ (let P : Component → Type 0 = λ k. IsIn m (component_mentions k) in subst P same h))
 component-In (of_component d ∷ ds) taken (suc i) c m e h = inr (right m (component_mentions d) _ (component-In ds _ i c m e h))
 
--- no `for` in a component of a program that is accepted makes more than 64 turns
+-- the lists of a program that is accepted are short
+short : (p : Program) → IsAccepted p → Short (mentions p)
+short p a n h = omega (arith, limits_turns p, within (list_limit p) n (mentions p) (a.within_counts count.List) h)
+
+-- no `for` in a component of a program that is accepted makes more than 1,024 turns
 pub accepted-short : (p : Program) → IsAccepted p → (i : ℕ) (c : Component) → component_at p i ≡ Some c → HaveShortLoops (body_slots c.body)
 unfolding mentions
 accepted-short p a i c e =
     let scope = fold after_statement (component_scope c) c.statements in
-    slots-short (mentions p) (λ n. within n (mentions p) (a.within_counts count.List)) scope false (body_slots c.body)
+    slots-short (mentions p) (short p a) scope false (body_slots c.body)
     (λ m k. component-In p.declarations [] i c m e
     (inr (inr (right m (parameters_mentions no_scope c.parameters) _ (right m (statements_mentions (component_scope c) c.statements) _ k)))))

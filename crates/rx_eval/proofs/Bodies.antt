@@ -1,8 +1,8 @@
 -- What is known before the first statement, and what a body gives.
-use Rattle.std.specs.Prelude.{◌≡◌, ℕ, ◌+◌, Bool, true, List, [], ◌∷◌, ◌++◌, ℤ, Option, Some, None, Result, Ok, Err, IfOk, length, filter_map, option_map, is_some, refl}
-use Rattle.std.specs.List.{zip, cons_option}
+use Rattle.std.specs.Prelude.{◌≡◌, ℕ, ◌+◌, List, [], ◌∷◌, ◌++◌, ℤ, Option, Some, None, Result, Ok, Err, IfOk, length, filter_map, option_map, refl}
+use Rattle.std.specs.List.{zip}
 use Rattle.std.specs.Option.{option_and_then}
-use Rattle.std.proofs.Common.{sym, ◌∙◌, ap, arith, length-append}
+use Rattle.std.proofs.Common.{sym, ◌∙◌, ap, length-append}
 use Rattle.std.proofs.lemmas.List.{append_assoc}
 use Rattle.rx_base.specs.Values.{Name}
 use Rattle.rx_ast.specs.Syntax.{Parameter, integer, given_children, Component, Program, Slots, no_slots, body_slots}

@@ -1,15 +1,16 @@
 -- The values of arguments, one at a time.
-use Rattle.std.specs.Prelude.{◌≡◌, ℕ, zero, suc, ◌+◌, ◌-◌, ◌*◌, ◌<◌, ◌≤◌, List, [], ◌∷◌, ◌++◌, ℤ, Option, Some, Contains, length, take, drop, get_or, slice_get, max, min, refl}
-use Rattle.std.specs.Int.{Width, w32}
+use Rattle.std.specs.Prelude.{◌≡◌, ℕ, zero, suc, ◌+◌, ◌-◌, ◌<◌, ◌≤◌, List, [], ◌∷◌, ◌++◌, ℤ, Some, Contains, length, take, get_or, slice_get, min, refl}
+use Rattle.std.specs.Int.{Width}
 use Rattle.std.specs.List.{zip}
 use Rattle.std.proofs.Common.{sym, ◌∙◌, ap, arith, length-append, mul-suc}
 use Rattle.std.proofs.lemmas.List.{append_assoc, append-nil, take_more, length-take}
 use Rattle.std.proofs.lemmas.Option.{slice_get_read}
 use Rattle.rx_base.specs.Values.{Name}
-use Rattle.rx_ast.specs.Syntax.{Expr, Exprs, exprs_of, Links, no_links, link, Function, Program, functions}
+use Rattle.rx_ast.specs.Syntax.{Expr, exprs_of, Function, Program}
 use Rattle.rx_ast.specs.ExprView.{links_of}
 use Rattle.rx_ast.specs.declared.expr.Link.{Link}
 use Rattle.rx_rules.specs.Names.{function_named}
+use Rattle.rx_rules.specs.Versions.{width}
 use Rattle.rx_meaning.specs.Expressions.{Calls, Env, value, values, after_lines, answer, nested_calls}
 use Rattle.rx_eval.proofs.Sizes.{expr_size, exprs_size, links_size, function_size, widest, room}
 
@@ -53,21 +54,21 @@ zip-take w calls env (x ∷ xs) (d ∷ es) (suc n) e = ap (λ ps. (x, value w ca
 -- what a function answers that a name names
 pub call-answer : (n : ℕ) (p : Program) (name : Name) (f : Function) (env : Env) (es few : List Expr) (count : ℕ) →
     0 < n → function_named p name ≡ Some f → count ≡ min (length f.parameters) (length es) → few ≡ take count es →
-    value w32 (nested_calls (n - 1) p) (after_lines w32 (nested_calls (n - 1) p) (zip (take (length few) f.parameters) (values w32 (nested_calls n p) env (exprs_of few)) ++ []) f.lines) f.answer
-    ≡ nested_calls n p name (values w32 (nested_calls n p) env (exprs_of es))
+    value (width p) (nested_calls (n - 1) p) (after_lines (width p) (nested_calls (n - 1) p) (zip (take (length few) f.parameters) (values (width p) (nested_calls n p) env (exprs_of few)) ++ []) f.lines) f.answer
+    ≡ nested_calls n p name (values (width p) (nested_calls n p) env (exprs_of es))
 call-answer zero p name f env es few count h named c t = absurd (omega arith)
 call-answer (suc n) p name f env es few count h named c t =
-    let xs = values w32 (nested_calls (suc n) p) env (exprs_of es) in
+    let xs = values (width p) (nested_calls (suc n) p) env (exprs_of es) in
     let k : length few ≡ count = rw t (omega (arith, length-take count es)) in
-    let pairs : zip (take (length few) f.parameters) (values w32 (nested_calls (suc n) p) env (exprs_of few)) ++ [] ≡ zip f.parameters xs =
-    append-nil (zip (take (length few) f.parameters) (values w32 (nested_calls (suc n) p) env (exprs_of few)))
-    ∙ ap (λ m. zip (take m f.parameters) (values w32 (nested_calls (suc n) p) env (exprs_of few))) k
-    ∙ ap (λ ds. zip (take count f.parameters) (values w32 (nested_calls (suc n) p) env (exprs_of ds))) t
-    ∙ zip-take w32 (nested_calls (suc n) p) env f.parameters es count c in
+    let pairs : zip (take (length few) f.parameters) (values (width p) (nested_calls (suc n) p) env (exprs_of few)) ++ [] ≡ zip f.parameters xs =
+    append-nil (zip (take (length few) f.parameters) (values (width p) (nested_calls (suc n) p) env (exprs_of few)))
+    ∙ ap (λ m. zip (take m f.parameters) (values (width p) (nested_calls (suc n) p) env (exprs_of few))) k
+    ∙ ap (λ ds. zip (take count f.parameters) (values (width p) (nested_calls (suc n) p) env (exprs_of ds))) t
+    ∙ zip-take (width p) (nested_calls (suc n) p) env f.parameters es count c in
     let one_less : suc n - 1 ≡ n = omega arith in
-    ap (λ m. value w32 (nested_calls m p) (after_lines w32 (nested_calls m p) (zip (take (length few) f.parameters) (values w32 (nested_calls (suc n) p) env (exprs_of few)) ++ []) f.lines) f.answer) one_less
-    ∙ ap (λ ps. value w32 (nested_calls n p) (after_lines w32 (nested_calls n p) ps f.lines) f.answer) pairs
-    ∙ ap (λ found. answer w32 (nested_calls n p) found xs) (sym named)
+    ap (λ m. value (width p) (nested_calls m p) (after_lines (width p) (nested_calls m p) (zip (take (length few) f.parameters) (values (width p) (nested_calls (suc n) p) env (exprs_of few)) ++ []) f.lines) f.answer) one_less
+    ∙ ap (λ ps. value (width p) (nested_calls n p) (after_lines (width p) (nested_calls n p) ps f.lines) f.answer) pairs
+    ∙ ap (λ found. answer (width p) (nested_calls n p) found xs) (sym named)
 
 -- a function is no larger than the largest
 pub size-widest : (fs : List Function) (f : Function) (n : ℕ) → slice_get fs n ≡ Some f → function_size f ≤ widest fs

@@ -1,8 +1,6 @@
 -- How large expressions are: the measure of an evaluation.
-use Rattle.std.proofs.Common.{◌≡◌, ℕ, zero, suc, ◌+◌, ◌*◌, ◌-◌, ◌<◌, ◌≤◌, max, List, [], ◌∷◌, ◌++◌, length, get_or, Contains, arith, refl}
-use Rattle.rx_ast.specs.Syntax.{Expr, number, variable, grouped, prefixed, chain, chosen, called, Links, no_links, link, Exprs, no_exprs, expr, exprs_of, Line, Function}
-use Rattle.rx_ast.specs.ExprView.{links_of}
-use Rattle.rx_ast.specs.declared.expr.Link.{Link}
+use Rattle.std.proofs.Common.{ℕ, ◌+◌, ◌*◌, max, List, [], ◌∷◌}
+use Rattle.rx_ast.specs.Syntax.{Expr, number, variable, grouped, prefixed, chain, chosen, called, Links, no_links, link, Exprs, no_exprs, expr, Line, Function}
 
 -- how many expressions, links and arguments an expression has
 abbrev mutual

@@ -3,14 +3,14 @@ use Rattle.std.specs.Prelude.{◌≤◌}
 use Rattle.rx_ast.specs.Syntax.{Slot, Slots}
 use Rattle.rx_ast.specs.Syntax as syntax
 
--- no `for` in a slot makes more than 64 turns, as in each program that is accepted
+-- no `for` in a slot makes more than 1,024 turns, as in each program that is accepted
 abbrev mutual
   pub HasShortLoops : Slot → Type 0
   HasShortLoops syntax.null = Unit {0}
   HasShortLoops (syntax.words t) = Unit {0}
   HasShortLoops (syntax.number_of e) = Unit {0}
   HasShortLoops syntax.children = Unit {0}
-  HasShortLoops (syntax.repeated i e limit s) = (limit ≤ 64) × HasShortLoops s
+  HasShortLoops (syntax.repeated i e limit s) = (limit ≤ 1024) × HasShortLoops s
   HasShortLoops (syntax.choice c s t) = HasShortLoops s × HasShortLoops t
   HasShortLoops (syntax.host n attrs w ss) = HaveShortLoops ss
   HasShortLoops (syntax.comp n attrs w ss) = HaveShortLoops ss

@@ -48,7 +48,7 @@ fn turns(bound: Int, limit: u64) -> u64
 
 /// The index of an item.
 fn index_value(index: u64) -> Int
-    requires { index ≤ 64 }
+    requires { index ≤ 1024 }
     ensures { result ≡ pos index }
 {
     Int::of(index as i64)
@@ -101,7 +101,7 @@ fn repetition_of(
     env: &Env,
     repetition: &For,
 ) -> Result<Element, AllocError>
-    requires few { repetition.now.limit ≤ 64 }
+    requires few { repetition.now.limit ≤ 1024 }
     requires item { HasShortLoops repetition.now.item }
     ensures { IfOk result (λ e. e ≡ element_of evaluator.now children.now env.now (repeated repetition.now.index repetition.now.bound repetition.now.limit repetition.now.item)) }
 {

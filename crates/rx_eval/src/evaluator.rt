@@ -2,7 +2,8 @@
 ghost use Rattle.std.specs.Prelude.{◌≡◌, length, Some, ◌∷◌, []};
 ghost use Rattle.rx_ast.specs.Syntax.{functions};
 ghost use Rattle.rx_rules.specs.Names.{component_number, context_number, resource_number};
-ghost use Rattle.rx_meaning.specs.Expressions.{width, calls_of, value_in, answer, answers_of, after_lines};
+ghost use Rattle.rx_rules.specs.Versions.{width};
+ghost use Rattle.rx_meaning.specs.Expressions.{calls_of, value_in, answer, answers_of, after_lines};
 
 use crate::env::Env;
 use crate::values::{after_lines, value};

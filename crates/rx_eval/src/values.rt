@@ -1,10 +1,10 @@
 // What expressions are worth.
 ghost use Rattle.std.specs.Prelude.{◌≡◌, ◌<◌, ◌≤◌, ◌-◌, ◌++◌, MatchOption, Some, None, Contains, length, take};
 ghost use Rattle.std.specs.List.{zip};
-ghost use Rattle.std.specs.Int.{w32};
 ghost use Rattle.rx_ast.specs.Syntax.{exprs_of, functions};
 ghost use Rattle.rx_ast.specs.ExprView.{links_of};
 ghost use Rattle.rx_rules.specs.Names.{function_named};
+ghost use Rattle.rx_rules.specs.Versions.{width};
 ghost use Rattle.rx_meaning.specs.Expressions.{value as worth, values, chained, nested_calls, after_lines};
 
 use crate::arithmetic::{before_operand, between_operands, is_zero};
@@ -26,17 +26,15 @@ fn function_named<'a>(checked: &'a Checked, name: &Name) -> Option<&'a Function>
 /// What an expression is worth, if calls nest at most so deep.
 #[cycle(value)]
 pub(crate) fn value(checked: &Checked, nesting: usize, env: &Env, expr: &Expr) -> Int
-    ensures { result ≡ worth w32 (nested_calls nesting checked.now) env.now expr.now }
+    ensures { result ≡ worth (width checked.now) (nested_calls nesting checked.now) env.now expr.now }
 {
     match &expr.kind {
-        ExprKind::Number(number) => {
-            let residue = *number % (1 << 32);
-            Int::of(residue as i64)
-        }
+        ExprKind::Number(number) => Int::literal(checked.width(), *number),
         ExprKind::Variable(name) => env.value(name),
         ExprKind::Group(inner) => value(checked, nesting, env, inner),
         ExprKind::Prefixed { operator, operand } => {
-            before_operand(*operator, value(checked, nesting, env, operand))
+            let operand = value(checked, nesting, env, operand);
+            before_operand(checked.width(), *operator, operand)
         }
         ExprKind::Chain { first, links } => {
             let first = value(checked, nesting, env, first);
@@ -60,12 +58,12 @@ pub(crate) fn value(checked: &Checked, nesting: usize, env: &Env, expr: &Expr) -
 /// The value of a chain, from the value of what stands before these operands.
 #[cycle(value)]
 fn chained(checked: &Checked, nesting: usize, env: &Env, first: Int, links: &[Link]) -> Int
-    ensures { result ≡ chained w32 (nested_calls nesting checked.now) env.now first (links_of links.now) }
+    ensures { result ≡ chained (width checked.now) (nested_calls nesting checked.now) env.now first (links_of links.now) }
 {
     let mut so_far = first;
     for link in links {
         let operand = value(checked, nesting, env, &link.operand);
-        so_far = between_operands(link.operator, so_far, operand);
+        so_far = between_operands(checked.width(), link.operator, so_far, operand);
     }
     so_far
 }
@@ -73,7 +71,7 @@ fn chained(checked: &Checked, nesting: usize, env: &Env, first: Int, links: &[Li
 /// What a call answers: 0 if calls nest too deep or the function is missing, as no call of a program that is accepted does.
 #[cycle(value)]
 fn call(checked: &Checked, nesting: usize, env: &Env, name: &Name, arguments: &[Expr]) -> Int
-    ensures { result ≡ nested_calls nesting checked.now name.now (values w32 (nested_calls nesting checked.now) env.now (exprs_of arguments.now)) }
+    ensures { result ≡ nested_calls nesting checked.now name.now (values (width checked.now) (nested_calls nesting checked.now) env.now (exprs_of arguments.now)) }
 {
     if nesting == 0 {
         return Int::of(0);
@@ -107,7 +105,7 @@ fn with_arguments(
     requires nests { 0 < nesting }
     requires declared { Contains (functions checked.now) function.now }
     requires within { length arguments.now ≤ length function.now.parameters }
-    ensures { result ≡ worth w32 (nested_calls (nesting - 1) checked.now) (after_lines w32 (nested_calls (nesting - 1) checked.now) (zip (take (length arguments.now) function.now.parameters) (values w32 (nested_calls nesting checked.now) env.now (exprs_of arguments.now)) ++ bound.now) function.now.lines) function.now.answer }
+    ensures { result ≡ worth (width checked.now) (nested_calls (nesting - 1) checked.now) (after_lines (width checked.now) (nested_calls (nesting - 1) checked.now) (zip (take (length arguments.now) function.now.parameters) (values (width checked.now) (nested_calls nesting checked.now) env.now (exprs_of arguments.now)) ++ bound.now) function.now.lines) function.now.answer }
 {
     match arguments.split_last() {
         None => after_lines(
@@ -134,7 +132,7 @@ pub(crate) fn after_lines(
     lines: &[Line],
     answer: &Expr,
 ) -> Int
-    ensures { result ≡ worth w32 (nested_calls nesting checked.now) (after_lines w32 (nested_calls nesting checked.now) env.now lines.now) answer.now }
+    ensures { result ≡ worth (width checked.now) (nested_calls nesting checked.now) (after_lines (width checked.now) (nested_calls nesting checked.now) env.now lines.now) answer.now }
 {
     match lines.split_first() {
         None => value(checked, nesting, env, answer),

@@ -1,10 +1,10 @@
 // The next token.
 ghost use Rattle.std.specs.Prelude.{◌≡◌, drop};
 ghost use Rattle.std.specs.List.{list_all};
-ghost use Rattle.rx_lex.specs.Tokens.{is_word_byte};
+ghost use Rattle.rx_lex.specs.Tokens.{is_text_of, is_word_byte};
 ghost use Rattle.rx_lex.specs.Spans.{kinds_of};
 ghost use Rattle.rx_grammar.specs.Steps.{next, taken, is_mark, is_word, is_lower, is_text, as_word, as_lower, as_upper, as_number, as_text, as_lower_name, as_upper_name, as_end};
-ghost use Rattle.rx_grammar.specs.Reading.{sign_at, is_resource, as_resource, next_two};
+ghost use Rattle.rx_grammar.specs.Reading.{sign_at, is_resource, as_resource, as_this_text, next_two};
 ghost use Rattle.rx_expression.specs.Results.{Gives};
 
 use crate::fault::Fault;
@@ -54,6 +54,19 @@ pub fn next_is_text(rest: Rest<'_>) -> bool
 {
     match rest.split_first() {
         Some((span, _)) => matches!(span.shape, Shape::Text(_)),
+        None => false,
+    }
+}
+
+/// Whether the next token is the string with this between its quotes.
+pub fn next_is_content(rest: Rest<'_>, content: &str) -> bool
+    ensures { result ≡ next (is_text_of content.now) (kinds_of rest.entry) }
+{
+    match rest.split_first() {
+        Some((span, _)) => match span.shape {
+            Shape::Text(len) => rest.content(span.place, len) == content,
+            _ => false,
+        },
         None => false,
     }
 }
@@ -127,6 +140,19 @@ pub fn expect_upper<'a>(rest: Rest<'a>, name: &str) -> Result<Rest<'a>, Fault>
     }
 }
 
+/// What follows the string that is wanted, with this between its quotes.
+pub fn expect_content<'a>(rest: Rest<'a>, content: &str) -> Result<Rest<'a>, Fault>
+    ensures { Gives (λ r. (tt, kinds_of r)) result (taken (as_this_text content.now) (kinds_of rest.entry)) }
+{
+    let Some((span, after)) = rest.split_first() else {
+        return Err(Fault::Syntax(0));
+    };
+    match span.shape {
+        Shape::Text(len) if rest.content(span.place, len) == content => Ok(after),
+        _ => Err(Fault::Syntax(rest.len())),
+    }
+}
+
 /// A name that does not begin with a capital letter.
 pub fn lower<'a>(alloc: Global, rest: Rest<'a>) -> Result<(Name, Rest<'a>), Fault>
     ensures { Gives (λ x. (x.0, kinds_of x.1)) result (taken as_lower (kinds_of rest.entry)) }
@@ -174,7 +200,7 @@ pub fn number(rest: Rest<'_>) -> Result<(u64, Rest<'_>), Fault>
         return Err(Fault::Syntax(0));
     };
     match span.shape {
-        Shape::Number(number) => Ok((number as u64, after)),
+        Shape::Number(len) => Ok((rest.number(span.place, len), after)),
         _ => Err(Fault::Syntax(rest.len())),
     }
 }

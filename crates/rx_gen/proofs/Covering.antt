@@ -178,7 +178,7 @@ abbrev pub kind_fits : Kind → Text → Bool
 kind_fits (Upper name) rest = (is_word name && is_in_range 65 90 (slice_index name 0)) && ends rest
 kind_fits (Lower name) rest =
     (is_word name && (nat_lt 0 (length name) && (not (is_in_range 65 90 (slice_index name 0)) && not (is_ascii_digit (slice_index name 0))))) && ends rest
-kind_fits (Number n) rest = nat_le n greatest_number && ends rest
+kind_fits (Number n) rest = nat_le n (greatest_number false) && ends rest
 kind_fits (Quoted s) rest = false
 kind_fits (Word k) rest = ends rest
 kind_fits (Mark s) rest = sign_ends s rest
@@ -189,7 +189,7 @@ positive : (n : ℕ) → nat_lt 0 n ≡ true → 0 < n
 positive n h = grind (arith, h)
 
 -- such a token is one of the language
-kind-sound : (k : Kind) (rest : Text) → kind_fits k rest ≡ true → IsToken greatest_number k rest
+kind-sound : (k : Kind) (rest : Text) → kind_fits k rest ≡ true → IsToken (greatest_number false) k rest
 kind-sound (Upper name) rest h =
     let k = both-true (is_word name && is_in_range 65 90 (slice_index name 0)) (ends rest) h in
     let m = both-true (is_word name) (is_in_range 65 90 (slice_index name 0)) k.0 in
@@ -201,7 +201,7 @@ kind-sound (Lower name) rest h =
     let j = both-true (not (is_in_range 65 90 (slice_index name 0))) (not (is_ascii_digit (slice_index name 0))) l.1 in
     ((name-of name m.0, positive (length name) l.0, not-true (is_in_range 65 90 (slice_index name 0)) j.0, not-true (is_ascii_digit (slice_index name 0)) j.1), end-of rest k.1)
 kind-sound (Number n) rest h =
-    let k = both-true (nat_le n greatest_number) (ends rest) h in (leb-true n greatest_number k.0, end-of rest k.1)
+    let k = both-true (nat_le n (greatest_number false)) (ends rest) h in (leb-true n (greatest_number false) k.0, end-of rest k.1)
 kind-sound (Quoted s) rest h = cc
 kind-sound (Word k) rest h = (tt, end-of rest h)
 kind-sound (Mark s) rest h = sign-sound s rest h
@@ -215,7 +215,7 @@ piece_fits (Between (BlockComment body)) rest = false
 piece_fits (Meant k) rest = kind_fits k rest
 
 -- such a piece is one of the language
-piece-sound : (p : Piece) (rest : Text) → piece_fits p rest ≡ true → IsPiece greatest_number p rest
+piece-sound : (p : Piece) (rest : Text) → piece_fits p rest ≡ true → IsPiece (greatest_number false) p rest
 piece-sound (Between (Blank b)) rest h = h
 piece-sound (Between (LineComment body)) rest h = cc
 piece-sound (Between (BlockComment body)) rest h = cc
@@ -231,7 +231,7 @@ all_fit [] = true
 all_fit (p ∷ ps) = piece_fits p (text_of ps) && all_fit ps
 
 -- such pieces cover their text
-pub covers : (ps : List Piece) → all_fit ps ≡ true → CoversTo greatest_number ps (text_of ps) []
+pub covers : (ps : List Piece) → all_fit ps ≡ true → CoversTo (greatest_number false) ps (text_of ps) []
 covers [] h = refl
 covers (p ∷ ps) h =
     let k = both-true (piece_fits p (text_of ps)) (all_fit ps) h in

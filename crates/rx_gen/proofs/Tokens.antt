@@ -1,5 +1,5 @@
 -- The tokens of the generated program.
-use Rattle.std.proofs.Common.{◌≡◌, true, List, [], ◌∷◌, refl, subst, ◌++◌, lit<}
+use Rattle.std.proofs.Common.{false, ◌≡◌, true, List, [], ◌∷◌, refl, subst, ◌++◌, lit<}
 use Rattle.std.specs.Prelude.{codes}
 use Rattle.std.specs.Fmt.{digits}
 use Rattle.std.specs.Str.{IsUtf8, is_utf8, chars}
@@ -45,7 +45,7 @@ abbrev pub tokens : List Token
 tokens = tokens_from 0 pieces
 
 covered : AreTokensOf tokens program_text
-covered = (pieces, subst (λ (t : Text). CoversTo greatest_number pieces t []) its_text (covers pieces they_fit), refl)
+covered = (pieces, subst (λ (t : Text). CoversTo (greatest_number false) pieces t []) its_text (covers pieces they_fit), refl)
 
 valid : is_utf8 program_text ≡ true
 unfolding is_utf8 chars encode_utf8 program_text

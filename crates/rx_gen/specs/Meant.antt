@@ -49,7 +49,7 @@ all_cells =
 
 -- the program: a list of cells, each with a state of its own and a key
 unfoldable pub generated_program : Program
-generated_program = record { declarations = of_function add ∷ of_component a_cell ∷ of_component all_cells ∷ [] }
+generated_program = record { second = false; declarations = of_function add ∷ of_component a_cell ∷ of_component all_cells ∷ [] }
 
 -- the lane that is chosen
 abbrev pub chosen_lane : (choice : ℕ) → LaneWord

@@ -7,7 +7,7 @@ use Rattle.rx_lex.specs.declared.token.Sign.{Sign}
 use Rattle.rx_lex.specs.declared.token.Sign.TheVariants as sign
 use Rattle.rx_lex.specs.declared.token.Kind.{Kind}
 use Rattle.rx_lex.specs.declared.token.Kind.TheVariants.{Text, Mark}
-use Rattle.rx_lex.specs.Tokens.{is_word_byte}
+use Rattle.rx_lex.specs.Tokens.{is_text_of, is_word_byte, second_text}
 use Rattle.rx_ast.specs.declared.expr.Prefix.{Prefix}
 use Rattle.rx_ast.specs.declared.expr.Prefix.TheVariants as prefix
 use Rattle.rx_ast.specs.declared.expr.Operator.{Operator}
@@ -21,7 +21,7 @@ use Rattle.rx_ast.specs.Syntax.{Body, single, fragment, enclosed_fragment, State
 use Rattle.rx_ast.specs.Syntax.{Line, Parameter, integer, given_children, Declaration, of_context, of_function, of_component, Program}
 use Rattle.rx_print.specs.Printing.{prefix_sign}
 use Rattle.rx_print.specs.Levels.{operator_line, or_line}
-use Rattle.rx_grammar.specs.Steps.{Read, ◌>>=◌, next, taken, is_mark, is_word, is_lower, is_text, as_mark, as_word, as_end, as_lower, as_upper, as_number, as_text, as_lower_name, as_upper_name, all_of, within, until_end}
+use Rattle.rx_grammar.specs.Steps.{Read, ◌>>=◌, next, taken, is_mark, is_word, is_lower, is_text, as_mark, as_word, as_end, as_lower, as_upper, as_number, as_text, as_lower_name, as_upper_name, all_of, where_true, within, until_end}
 use Rattle.rx_grammar.specs.Openings.{Opening, host_tag, component_tag, boundary_tag, provider_tag, element}
 
 -- this sign
@@ -459,6 +459,14 @@ is_declaration k = is_word word.Const k || is_word word.Function k
 abbrev pub declarations_at : ℕ → List Kind → Read (List Declaration)
 declarations_at n = all_of is_declaration (declaration_at n)
 
+-- this text
+abbrev pub as_this_text : List ℕ → Kind → Option (Unit {0})
+as_this_text s k = where_true (is_text_of s k)
+
+-- what stands at the front of a program of version 2, if it does
+abbrev pub version_at : List Kind → Read Bool
+version_at ts = if next (is_text_of second_text) ts then (taken (as_this_text second_text) ts >>= λ t. sign_at sign.Semicolon t.1 >>= λ s. Ok (true, s.1)) else Ok (false, ts)
+
 -- a program, and then the end mark
 unfoldable pub program_at : ℕ → List Kind → Read Program
-program_at n ts = declarations_at n ts >>= λ ds. taken as_end ds.1 >>= λ e. Ok (record { declarations = ds.0 }, e.1)
+program_at n ts = version_at ts >>= λ v. declarations_at n v.1 >>= λ ds. taken as_end ds.1 >>= λ e. Ok (record { second = v.0; declarations = ds.0 }, e.1)

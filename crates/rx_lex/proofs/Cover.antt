@@ -1,12 +1,12 @@
 -- Pieces that cover a text, one after another.
-use Rattle.std.proofs.Common.{◌≡◌, ◌≢◌, ℕ, ◌+◌, ◌-◌, ◌<◌, ◌≤◌, ◌^◌, Option, Result, Ok, Err, IfOk, List, [], ◌∷◌, ◌++◌, length, drop, refl, sym, ap, ◌∙◌, subst, arith, length-append, append_assoc, append-nil}
+use Rattle.std.proofs.Common.{◌≡◌, ◌≢◌, ℕ, ◌+◌, ◌-◌, ◌<◌, ◌≤◌, ◌^◌, Option, List, [], ◌∷◌, ◌++◌, length, drop, refl, sym, ap, ◌∙◌, subst, arith, length-append, append_assoc, append-nil}
 use Rattle.std.specs.List.{All}
 use Rattle.std.proofs.Math.Seq.{drop-append-add}
 use Rattle.std.proofs.lemmas.List.Elements.{All-nil, All-cons}
 use Rattle.rx_lex.specs.declared.token.Kind.{Kind}
 use Rattle.rx_lex.specs.declared.token.Kind.TheVariants.{Upper, Lower, Number, Text, Word, Mark, End}
 use Rattle.rx_lex.specs.declared.token.Token.{Token}
-use Rattle.rx_lex.specs.Tokens.{Blank, LineComment, BlockComment, Piece, Between, Meant, piece_text, IsPiece, StandsFirst, CoversTo, tokens_from, kind_of, token_at, AreTokensBelow, IsFirstUncoveredBelow, IsUncovered, IsToken, kinds}
+use Rattle.rx_lex.specs.Tokens.{Blank, LineComment, BlockComment, Piece, Between, Meant, piece_text, IsPiece, StandsFirst, CoversTo, tokens_from, kind_of, token_at, AreTokensBelow, EndsUncovered, IsUncovered, IsToken, kinds}
 use Rattle.rx_lex.proofs.Fronts.{word_run, sign_nonempty}
 
 -- each piece has a byte
@@ -76,8 +76,8 @@ module _ {greatest : ℕ} {text : List ℕ} {ts : List Token} {rest : List ℕ} 
         ∙ sym (tokens_more c.pieces 0 p ∙ ap (λ n. tokens_from 0 c.pieces ++ token_at n (kind_of p)) place_is ∙ ap (λ x. tokens_from 0 c.pieces ++ token_at (length text - length rest) x) is);
   }
 
-  pub uncovered : rest ≢ [] → IsUncovered greatest rest → IsFirstUncoveredBelow greatest (length text - length rest) text
-  uncovered some none = (c.pieces, rest, c.cover, omega (arith, covers_len greatest c.pieces text rest c.cover), some, none)
+  pub uncovered : rest ≢ [] → IsUncovered greatest rest → EndsUncovered greatest c.pieces (length text - length rest) text
+  uncovered some none = (rest, c.cover, omega (arith, covers_len greatest c.pieces text rest c.cover), some, none)
 
 pub covers_nothing : (greatest : ℕ) (text : List ℕ) → Covered greatest text [] text
 covers_nothing greatest text = record { pieces = []; cover = refl; meant = refl }
@@ -108,7 +108,3 @@ no_end_from greatest (Meant k ∷ ps) text rest at h =
 
 pub no_end : {greatest : ℕ} (ts : List Token) (text : List ℕ) → AreTokensBelow greatest ts text → All (λ k. k ≢ End) (kinds ts)
 no_end ts text h = subst (λ us. All (λ k. k ≢ End) (kinds us)) (sym h.2) (no_end_from _ h.0 text [] 0 h.1)
-
-pub with_no_end : (greatest : ℕ) {E : Type 0} {V : Type 0} (items : V → List Token) (last : Token) (result : Result V E) (text : List ℕ) → IfOk result (λ v. (ts : List Token) × AreTokensBelow greatest ts text × (items v ≡ ts ++ last ∷ [])) → IfOk result (λ v. (ts : List Token) × AreTokensBelow greatest ts text × (items v ≡ ts ++ last ∷ []) × All (λ k. k ≢ End) (kinds ts))
-with_no_end greatest items last (Ok v) text h = (h.0, h.1, h.2, no_end h.0 text h.1)
-with_no_end greatest items last (Err e) text h = tt

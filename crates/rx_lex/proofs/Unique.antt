@@ -1,10 +1,10 @@
 -- No text begins with two different pieces.
-use Rattle.std.proofs.Common.{◌≡◌, ◌≢◌, ℕ, ◌<◌, ◌≤◌, ◌^◌, Bool, true, false, cond, Option, Some, List, [], ◌∷◌, ◌++◌, length, drop, get_or, codes, refl, sym, ap, ◌∙◌, subst, append_assoc, arith, length-append, length-drop, ⊎_elim, ◌⊎◌, inl, inr}
+use Rattle.std.proofs.Common.{◌≡◌, ℕ, ◌<◌, ◌≤◌, ◌^◌, Bool, true, false, cond, Option, Some, List, [], ◌∷◌, ◌++◌, length, drop, get_or, codes, refl, sym, ap, ◌∙◌, subst, append_assoc, arith, length-append, length-drop, ⊎_elim, ◌⊎◌, inl, inr}
 use Rattle.std.proofs.lemmas.List.{drop-append-le}
 use Rattle.std.proofs.Math.Seq.{drop-append_seam}
 use Rattle.std.proofs.str.Laws.{order}
 use Rattle.rx_lex.proofs.Quotes.{is_no_quote, inside_no_quote}
-use Rattle.rx_lex.proofs.Cover.{piece_nonempty, Covered}
+use Rattle.rx_lex.proofs.Cover.{piece_nonempty}
 use Rattle.std.specs.Str.{bytes_eq}
 use Rattle.std.specs.Char.{is_ascii_digit}
 use Rattle.std.specs.Int.{is_in_range}
@@ -205,7 +205,7 @@ pub piece_unique : {greatest : ℕ} → greatest < 2 ^ 64 → (p q : Piece) (tex
 piece_unique small p q text a b h g = unique small p q text a b h g (sym (class_is small p text a h) ∙ class_is small q text b g)
 
 -- the text ends here, or no piece stands
-abbrev IsEnd : ℕ → List ℕ → Type 0
+abbrev pub IsEnd : ℕ → List ℕ → Type 0
 IsEnd greatest rest = (rest ≡ []) ⊎ IsUncovered greatest rest
 
 no_more : {greatest : ℕ} → greatest < 2 ^ 64 → (p : Piece) (text rest after : List ℕ) → text ≡ rest → IsEnd greatest rest → StandsFirst greatest p text after → ⊥
@@ -224,19 +224,9 @@ covers_unique {greatest = greatest} small (p ∷ ps) (q ∷ qs) text rest other 
     let others = covers_unique small ps qs h.0 rest other h.2 (subst (λ l. CoversTo greatest qs l other) (sym both.1) g.2) end last in
     (others.0, (λ i. both.0 i ∷ others.1 i))
 
-nil_of_length : (rest : List ℕ) → length rest ≡ 0 → rest ≡ []
+pub nil_of_length : (rest : List ℕ) → length rest ≡ 0 → rest ≡ []
 nil_of_length [] e = refl
 nil_of_length (b ∷ bs) e = absurd (omega arith)
-
--- what covers the text so far covers it as any other list of tokens does
-pub only_tokens : {greatest : ℕ} → greatest < 2 ^ 64 → {text : List ℕ} {ts : List Token} (rest : List ℕ) → Covered greatest text ts rest → length rest ≡ 0 → (us : List Token) → AreTokensBelow greatest us text → ts ≡ us
-only_tokens small {text = text} rest c e us other =
-    let w = covers_unique small c.pieces other.0 text rest [] c.cover other.1 (inl (nil_of_length rest e)) (inl refl) in
-    c.meant ∙ ap (tokens_from 0) w.1 ∙ sym other.2
-
-pub none_covers : {greatest : ℕ} → greatest < 2 ^ 64 → {text : List ℕ} {ts : List Token} (rest : List ℕ) → Covered greatest text ts rest → rest ≢ [] → IsUncovered greatest rest → (us : List Token) → AreTokensBelow greatest us text → ⊥
-none_covers small {text = text} rest c some none us other =
-    some (covers_unique small c.pieces other.0 text rest [] c.cover other.1 (inr none) (inl refl)).0
 
 -- no two lists of tokens cover one text
 pub tokens_unique : {greatest : ℕ} → greatest < 2 ^ 64 → (text : List ℕ) (ts us : List Token) → AreTokensBelow greatest ts text → AreTokensBelow greatest us text → ts ≡ us
@@ -246,8 +236,8 @@ tokens_unique small text ts us h g =
 
 pub place_unique : {greatest : ℕ} → greatest < 2 ^ 64 → (at other : ℕ) (text : List ℕ) → IsFirstUncoveredBelow greatest at text → IsFirstUncoveredBelow greatest other text → at ≡ other
 place_unique small at other text h g =
-    let w = covers_unique small h.0 g.0 text h.1 g.1 h.2 g.2 (inr h.5) (inr g.5) in
-    omega (arith, h.3, g.3, ap length w.0)
+    let w = covers_unique small h.0 g.0 text h.1.0 g.1.0 h.1.1 g.1.1 (inr h.1.4) (inr g.1.4) in
+    omega (arith, h.1.2, g.1.2, ap length w.0)
 
 pub place_or_tokens : {greatest : ℕ} → greatest < 2 ^ 64 → (at : ℕ) (text : List ℕ) (ts : List Token) → IsFirstUncoveredBelow greatest at text → AreTokensBelow greatest ts text → ⊥
-place_or_tokens small at text ts h g = h.4 (covers_unique small h.0 g.0 text h.1 [] h.2 g.1 (inr h.5) (inl refl)).0
+place_or_tokens small at text ts h g = h.1.3 (covers_unique small h.0 g.0 text h.1.0 [] h.1.1 g.1 (inr h.1.4) (inl refl)).0

@@ -1,6 +1,9 @@
 -- What tokens are, by the text that they are cut from.
-use Rattle.std.specs.Prelude.{ℕ, List, [], ◌∷◌, map, take, drop, if◌then◌else◌, Option, Some, None}
+use Rattle.std.specs.Prelude.{ℕ, ◌^◌, ◌&&◌, nat_lt, List, [], ◌∷◌, map, take, drop, if◌then◌else◌, Option, Some, None}
+use Rattle.std.specs.List.{list_all}
+use Rattle.std.specs.Char.{is_ascii_digit}
 use Rattle.std.specs.Str.{is_utf8}
+use Rattle.std.specs.Str.Parse.{digits_value}
 use Rattle.rx_lex.specs.declared.token.Kind.{Kind}
 use Rattle.rx_lex.specs.declared.token.Kind.TheVariants.{Upper, Lower, Number, Text, Word, Mark, End}
 use Rattle.rx_lex.specs.declared.token.Token.{Token}
@@ -23,11 +26,15 @@ bytes_at len place bs = take len (drop place bs)
 abbrev pub cut : ℕ → List ℕ → List ℕ
 cut len bs = as_text (take len bs)
 
+-- the number that digits write; 0 for what is no number of 64 bits
+unfoldable pub number_in : List ℕ → ℕ
+number_in bs = if list_all is_ascii_digit bs && nat_lt (digits_value 10 bs) (2 ^ 64) then digits_value 10 bs else 0
+
 -- the token of this shape at the front of this text; a string begins behind its quote
 abbrev pub seen : List ℕ → Shape → Kind
 seen bs (shape.Upper len) = Upper (cut len bs)
 seen bs (shape.Lower len) = Lower (cut len bs)
-seen bs (shape.Number n) = Number n
+seen bs (shape.Number len) = Number (number_in (cut len bs))
 seen bs (shape.Text len) = Text (cut len (drop 1 bs))
 seen bs (shape.Word k) = Word k
 seen bs (shape.Mark s) = Mark s

@@ -1,5 +1,5 @@
 -- The tokens of a text: pieces that stand in a row and are the text, each as long as it can be.
-use Rattle.std.specs.Prelude.{◌≡◌, ◌≢◌, ℕ, ◌+◌, ◌<◌, ◌≤◌, ◌==◌, ◌||◌, ◌&&◌, not, nat_le, Bool, true, false, List, [], ◌∷◌, ◌++◌, map, length, codes, drop, slice_index, Option, Some, None}
+use Rattle.std.specs.Prelude.{◌≡◌, ◌≢◌, ℕ, ◌+◌, ◌<◌, ◌≤◌, ◌==◌, ◌||◌, ◌&&◌, not, nat_le, Bool, true, false, List, [], ◌∷◌, ◌++◌, map, length, codes, drop, slice_index, bytes_eq, Option, Some, None}
 use Rattle.std.specs.Char.{is_ascii_alphanumeric, is_ascii_digit}
 use Rattle.std.specs.Int.{is_in_range}
 use Rattle.std.specs.Fmt.{decimal}
@@ -203,21 +203,13 @@ tokens_from at (p ∷ ps) = token_at at (kind_of p) ++ tokens_from (at + length 
 abbrev pub AreTokensBelow : ℕ → List Token → List ℕ → Type 0
 AreTokensBelow greatest ts text = (ps : List Piece) × CoversTo greatest ps text [] × (ts ≡ tokens_from 0 ps)
 
--- pieces cover the text up to this place, where it goes on, and there no piece stands
+-- these pieces cover the text up to this place, where it goes on, and there no piece stands
+abbrev pub EndsUncovered : ℕ → List Piece → ℕ → List ℕ → Type 0
+EndsUncovered greatest ps at text = (rest : List ℕ) × CoversTo greatest ps text rest × (at + length rest ≡ length text) × (rest ≢ []) × IsUncovered greatest rest
+
+-- some pieces do
 abbrev pub IsFirstUncoveredBelow : ℕ → ℕ → List ℕ → Type 0
-IsFirstUncoveredBelow greatest at text = (ps : List Piece) × (rest : List ℕ) × CoversTo greatest ps text rest × (at + length rest ≡ length text) × (rest ≢ []) × IsUncovered greatest rest
-
--- the greatest number that a program writes
-abbrev pub greatest_number : ℕ
-greatest_number = 2147483648
-
--- these tokens cover the text
-abbrev pub AreTokensOf : List Token → List ℕ → Type 0
-AreTokensOf ts text = AreTokensBelow greatest_number ts text
-
--- the first place that no token covers
-abbrev pub IsFirstUncovered : ℕ → List ℕ → Type 0
-IsFirstUncovered at text = IsFirstUncoveredBelow greatest_number at text
+IsFirstUncoveredBelow greatest at text = (ps : List Piece) × EndsUncovered greatest ps at text
 
 -- the mark behind the last token
 abbrev pub end_mark : ℕ → Token
@@ -286,3 +278,42 @@ keyword_number keyword.Catch = 19
 -- the two are one reserved word
 abbrev pub same_keyword : Keyword → Keyword → Bool
 same_keyword k l = keyword_number k == keyword_number l
+
+-- Versions
+
+-- the text with which a program of version 2 begins
+abbrev pub second_text : List ℕ
+second_text = codes "use 2"
+
+-- the token is this text
+abbrev pub is_text_of : List ℕ → Kind → Bool
+is_text_of s (Text t) = bytes_eq t s
+is_text_of s k = false
+
+-- the token is this sign
+abbrev pub is_sign : Sign → Kind → Bool
+is_sign s (Mark t) = same_sign t s
+is_sign s k = false
+
+-- the first two tokens are those of version 2: `"use 2"` and `;`
+abbrev pub opens_second : List Kind → Bool
+opens_second [] = false
+opens_second (k ∷ []) = false
+opens_second (k ∷ l ∷ ks) = is_text_of second_text k && is_sign sign.Semicolon l
+
+-- the greatest number that a program writes, of version 2 or not
+abbrev pub greatest_number : (second : Bool) → ℕ
+greatest_number false = 2147483648
+greatest_number true = 9223372036854775808
+
+-- the greatest number that a text with these tokens writes, of which the first two tell its version
+abbrev pub greatest_in : List Token → ℕ
+greatest_in ts = greatest_number (opens_second (kinds ts))
+
+-- these tokens cover the text
+abbrev pub AreTokensOf : List Token → List ℕ → Type 0
+AreTokensOf ts text = AreTokensBelow (greatest_in ts) ts text
+
+-- the first place that no token covers
+abbrev pub IsFirstUncovered : ℕ → List ℕ → Type 0
+IsFirstUncovered at text = (ps : List Piece) × EndsUncovered (greatest_in (tokens_from 0 ps)) ps at text

@@ -1,20 +1,21 @@
 // Tokens as a list keeps them: each by its place in the text, with a length instead of what it holds.
 
 ghost use Rattle.std.specs.Prelude.{◌≡◌, ◌∷◌, ◌<◌, [], length, drop, get_or, IfSome, IfNone};
-ghost use Rattle.rx_lex.specs.Spans.{as_text, bytes_at, cut, kind_in, kinds_of, tokens_of, tokens_left};
+ghost use Rattle.rx_lex.specs.Spans.{as_text, bytes_at, cut, kind_in, kinds_of, number_in, tokens_of, tokens_left};
 ghost use Rattle.rx_lex.specs.declared.token.Token.{Token};
 
 use crate::token::{Keyword, Sign};
+use crate::words::number_in;
 use std::str;
 
-/// What a token is, with the length of the name or the string that it holds.
+/// What a token is, with the length of the name, the number or the string that it holds.
 #[derive(Clone, Copy, Debug)]
 pub enum Shape {
     /// A name of so many bytes that begins with a capital letter.
     Upper(u32),
     /// Any other name of so many bytes.
     Lower(u32),
-    /// A number.
+    /// A number of so many digits.
     Number(u32),
     /// A string with so many bytes between its quotes.
     Text(u32),
@@ -48,7 +49,7 @@ pub struct Rest<'a> {
 }
 
 /// So many bytes from a place on, or as many as there are.
-fn bytes_at(bytes: &[u8], place: usize, len: usize) -> &[u8]
+pub(crate) fn bytes_at(bytes: &[u8], place: usize, len: usize) -> &[u8]
     ensures { result.now ≡ bytes_at len place bytes.now }
 {
     if bytes.len() < place {
@@ -117,6 +118,13 @@ impl<'a> Rest<'a> {
         ensures { result.now ≡ cut len (drop place self.entry.text.now) }
     {
         text_in(bytes_at(self.text.as_bytes(), place as usize, len as usize))
+    }
+
+    /// The number at this place, of this length.
+    pub fn number(self, place: u32, len: u32) -> u64
+        ensures { result ≡ number_in (cut len (drop place self.entry.text.now)) }
+    {
+        number_in(self.name(place, len))
     }
 
     /// What stands between the quotes of the string at this place, of this length.

@@ -1,11 +1,11 @@
 // Words: names, reserved words and numbers.
 
-ghost use Rattle.std.specs.Prelude.{◌≡◌, ◌≢◌, ◌<◌, ◌≤◌, ◌^◌, ◌++◌, ℕ, List, IfSome, IfNone, IfOk, IfErr, length};
+ghost use Rattle.std.specs.Prelude.{◌≡◌, ◌≢◌, ◌<◌, ◌≤◌, ◌++◌, ℕ, List, IfSome, IfNone, IfOk, IfErr, length};
 ghost use Rattle.std.specs.List.{prefix_len, list_all};
 ghost use Rattle.std.specs.Char.{is_ascii_digit};
 ghost use Rattle.std.specs.Fmt.{decimal};
 ghost use Rattle.rx_lex.specs.Tokens.{is_word_byte, keyword_text, spelling, IsRun, IsRunEnd, IsWordKind};
-ghost use Rattle.rx_lex.specs.Spans.{seen};
+ghost use Rattle.rx_lex.specs.Spans.{number_in, seen};
 ghost use Rattle.rx_lex.specs.declared.token.Keyword.{Keyword};
 ghost use Rattle.rx_lex.specs.declared.token.Kind.{Kind};
 
@@ -107,18 +107,30 @@ fn number(word: &str, greatest: u64) -> Option<u64>
     }
 }
 
+/// The number that digits write; 0 for what is no number of 64 bits.
+pub(crate) fn number_in(word: &str) -> u64
+    ensures { result ≡ number_in word.now }
+{
+    if !is_digits(word.as_bytes()) {
+        return 0;
+    }
+    match word.parse::<u64>() {
+        Ok(n) => n,
+        Err(_) => 0,
+    }
+}
+
 /// What a word is: a number, a reserved word or a name.
 pub(crate) fn word_shape(word: &str, greatest: u64) -> Result<Shape, Fault>
     requires some { 0 < length word.now }
     requires run { IsRun is_word_byte word.now }
-    requires small { greatest < 2 ^ 32 }
     ensures found { IfOk result (λ s. (after : List ℕ) → (word.now ≡ spelling (seen (word.now ++ after) s)) × IsWordKind greatest (seen (word.now ++ after) s)) }
     ensures none { IfErr result (λ e. e ≡ Fault.Uncovered → (k : Kind) → word.now ≡ spelling k → IsWordKind greatest k → ⊥) }
 {
     let first = word.as_bytes()[0];
     if first.is_ascii_digit() {
         return match number(word, greatest) {
-            Some(n) => Ok(Shape::Number(n as u32)),
+            Some(_) => Ok(Shape::Number(brief(word.len())?)),
             None => Err(Fault::Uncovered),
         };
     }

@@ -19,7 +19,8 @@ use Rattle.rx_elem.specs.Trees as trees
 use Rattle.rx_elem.specs.Numbers.{Numbers, numbered}
 use Rattle.rx_elem.specs.Compare.{old_nodes}
 use Rattle.rx_queue.specs.Journal.{Journal, hook, state_of, updates_of, resolved_by}
-use Rattle.rx_meaning.specs.Expressions.{width, answers_of}
+use Rattle.rx_rules.specs.Versions.{width}
+use Rattle.rx_meaning.specs.Expressions.{answers_of}
 use Rattle.rx_meaning.specs.Body.{Inputs, Body, wait, ready, body_of}
 
 -- what a render sees

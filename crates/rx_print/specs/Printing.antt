@@ -8,6 +8,7 @@ use Rattle.rx_lex.specs.declared.token.Sign.{Sign}
 use Rattle.rx_lex.specs.declared.token.Sign.TheVariants as sign
 use Rattle.rx_lex.specs.declared.token.Kind.{Kind}
 use Rattle.rx_lex.specs.declared.token.Kind.TheVariants.{Upper, Lower, Number, Text, Word, Mark}
+use Rattle.rx_lex.specs.Tokens.{second_text}
 use Rattle.rx_ast.specs.declared.expr.Prefix.{Prefix}
 use Rattle.rx_ast.specs.declared.expr.Prefix.TheVariants as prefix
 use Rattle.rx_ast.specs.declared.expr.Operator.{Operator}
@@ -223,6 +224,11 @@ declaration_tokens (of_function f) =
 declaration_tokens (of_component c) =
     function_form (Upper c.name) (parameters_tokens c.braces c.parameters) (flat_map statement_tokens c.statements) (body_tokens c.body)
 
+-- what stands at the front of a program of version 2
+abbrev pub version_tokens : (second : Bool) → List Kind
+version_tokens false = []
+version_tokens true = Text second_text ∷ Mark sign.Semicolon ∷ []
+
 -- the tokens of a program
 abbrev pub program_tokens : Program → List Kind
-program_tokens p = flat_map declaration_tokens p.declarations
+program_tokens p = version_tokens p.second ++ flat_map declaration_tokens p.declarations

@@ -2,7 +2,7 @@
 ghost use Rattle.std.specs.Prelude.{◌≡◌, [], ◌∷◌, ◌++◌, OnOk, map};
 ghost use Rattle.std.specs.List.{flat_map};
 ghost use Rattle.rx_ast.specs.Syntax.{of_context, of_function, of_component};
-ghost use Rattle.rx_print.specs.Printing.{expr_tokens, slots_tokens, parameter_token, separated, parameters_tokens, default_tokens, line_tokens, fragment_tokens, body_tokens, declaration_tokens};
+ghost use Rattle.rx_print.specs.Printing.{expr_tokens, slots_tokens, parameter_token, separated, parameters_tokens, default_tokens, line_tokens, fragment_tokens, body_tokens, declaration_tokens, version_tokens};
 
 use crate::printer::Printer;
 use rx_ast::{
@@ -218,6 +218,17 @@ impl Printer {
             DeclarationKind::Function(function) => self.function(function),
             DeclarationKind::Component(component) => self.component(component),
         }
+    }
+
+    /// Writes what stands at the front of a program of this version.
+    pub fn version(&mut self, second: bool) -> Result<(), AllocError>
+        ensures { OnOk result (self.new ≡ self.old ++ version_tokens second) }
+    {
+        if !second {
+            return Ok(());
+        }
+        self.content("use 2")?;
+        self.sign(Sign::Semicolon)
     }
 
     /// Writes declarations in order.

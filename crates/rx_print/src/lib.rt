@@ -29,6 +29,7 @@ pub fn tokens(alloc: Global, program: &Program) -> Result<Vec<Kind>, AllocError>
     ensures begun { IfOk result (λ v. IsGrammatical program.now → (n : ℕ) → BeginsProgram (take n v.items)) }
 {
     let mut printer = Printer::new(alloc);
+    printer.version(program.is_second())?;
     printer.declarations(program.declarations())?;
     Ok(printer.into_kinds())
 }

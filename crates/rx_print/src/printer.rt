@@ -90,7 +90,14 @@ impl Printer {
     pub fn text(&mut self, text: &Name) -> Result<(), AllocError>
         ensures { OnOk result (self.new ≡ self.old ++ Kind.Text text.now ∷ []) }
     {
-        let text = Name::new(self.alloc, text.text())?;
-        self.token(Kind::Text(text))
+        self.content(text.text())
+    }
+
+    /// Writes a text with this between its quotes.
+    pub fn content(&mut self, content: &str) -> Result<(), AllocError>
+        ensures { OnOk result (self.new ≡ self.old ++ Kind.Text content.now ∷ []) }
+    {
+        let content = Name::new(self.alloc, content)?;
+        self.token(Kind::Text(content))
     }
 }

@@ -10,10 +10,9 @@ struct Digits;
 
 impl Fold for Digits {
     ghost use Rattle.std.specs.Prelude.{pos};
-    ghost use Rattle.std.specs.Int.{int_wrapping_add, int_wrapping_mul, w32, w64};
-    ghost use Rattle.rx_base.specs.Values.{wrap};
+    ghost use Rattle.std.specs.Int.{int_wrapping_add, int_wrapping_mul, w64};
 
-    ghost answers = { λ _ f state x. wrap w32 (int_wrapping_add w64 (int_wrapping_mul w64 state (pos 10)) x) };
+    ghost answers = { λ _ f state x. int_wrapping_add w64 (int_wrapping_mul w64 state (pos 10)) x };
 
     fn apply(&self, op: &Op, state: Int) -> Int {
         match *op {

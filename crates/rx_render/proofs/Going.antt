@@ -6,6 +6,7 @@ use Rattle.rx_check.specs.Checks.{unknowns}
 use Rattle.rx_loop.specs.Ends.{MatchUnit}
 use Rattle.rx_loop.specs.declared.work.Unit as work
 use Rattle.rx_ctx.specs.Contexts.{Stack, values_at}
+use Rattle.rx_rules.proofs.Limits.{limits_nodes}
 use Rattle.rx_elem.specs.Elements.{Element}
 use Rattle.rx_elem.specs.Trees.{Instance, Node, node, Forest, none, vacant, child, instance_in}
 use Rattle.rx_hooks.specs.declared.hook.Hook.{Hook}
@@ -365,7 +366,7 @@ left_within v = omega (arith, units_most v.at (unit_bound v.program) v.units)
 
 -- few units are left of a rendering
 pub few_left : (v : Rendering) → IsRendering v → left_of v < 2 ^ 64
-few_left v is = let a = is.bounded.small in let b = units_most v.at (unit_bound v.program) v.units in omega (arith, a, b)
+few_left v is = let a = is.bounded.small in let b = units_most v.at (unit_bound v.program) v.units in omega (arith, a, b, limits_nodes v.program)
 
 pub over_at : (at : At) → is_over at ≡ true → at ≡ Over
 over_at (Begins id) e = absurd (let f : ⊥ = cc in f)
@@ -422,11 +423,11 @@ module _ (value inside : Rendering) (same : inside ≡ value) (is : IsRendering 
   inside_ready = unit_ready inside is inside_left
 
   pub units_fit : inside.units + 1 < 2 ^ 64
-  units_fit = let a = unit_below inside is inside_left in let b = is.bounded.small in omega (arith, a, b)
+  units_fit = let a = unit_below inside is inside_left in let b = is.bounded.small in omega (arith, a, b, limits_nodes inside.program)
 
   pub bodies_fit : (evaluated : ℕ) → evaluated ≤ 1 → inside.bodies + evaluated < 2 ^ 64
   bodies_fit evaluated e =
-      let a = unit_below inside is inside_left in let b = is.bounded.small in let c = bodies_below inside is inside_left in omega (arith, a, b, c, e)
+      let a = unit_below inside is inside_left in let b = is.bounded.small in let c = bodies_below inside is inside_left in omega (arith, a, b, c, e, limits_nodes inside.program)
 
   -- what broke off
   pub breaks : (new : Rendering) → new.program ≡ inside.program → new.trees.current ≡ inside.trees.current → new.at ≡ Over

@@ -2,7 +2,8 @@
 use Rattle.std.specs.Prelude.{◌≡◌, ℕ, ◌+◌, ◌*◌, ◌≤◌, Option, Some, None, refl}
 use Rattle.std.proofs.Common.{arith, ap, subst}
 use Rattle.rx_ast.specs.Syntax.{Program}
-use Rattle.rx_rules.specs.Bounds.{node_bound, node_limit}
+use Rattle.rx_rules.specs.Bounds.{node_bound}
+use Rattle.rx_rules.specs.Versions.{node_limit}
 use Rattle.rx_rules.specs.Keys.{KeysApart}
 use Rattle.rx_ctx.specs.Contexts.{Stack}
 use Rattle.rx_elem.specs.Trees.{Node}
@@ -28,7 +29,7 @@ use Rattle.rx_render.proofs.Ending.{no_wait}
 -- the fibers of both trees have room where a render stands
 abbrev pub BothHaveRoom : Type 0
 BothHaveRoom =
-    (p : Program) (tree : Option Node) (t : Trees Fiber) (st : Stack) (at : Option ℕ) (c : Cursor) → KeysApart p → node_bound p ≤ node_limit → IsTree p tree
+    (p : Program) (tree : Option Node) (t : Trees Fiber) (st : Stack) (at : Option ℕ) (c : Cursor) → KeysApart p → node_bound p ≤ node_limit p → IsTree p tree
     → IsTreeOf tree t.current → IsReached p tree c → StandsAtNode c → StandsAt t st at c → size t.current + made_size t.draft ≤ 3 * node_bound p
 
 -- those of the current tree do
@@ -37,7 +38,7 @@ CurrentHasRoom = (tree : Option Node) (s : Shape Fiber) → IsTreeOf tree s → 
 
 -- no tree of a program has more nodes than the bound
 abbrev pub TreesAreSmall : Type 0
-TreesAreSmall = (p : Program) (tree : Option Node) → KeysApart p → node_bound p ≤ node_limit → IsTree p tree → node_count tree ≤ node_bound p
+TreesAreSmall = (p : Program) (tree : Option Node) → KeysApart p → node_bound p ≤ node_limit p → IsTree p tree → node_count tree ≤ node_bound p
 
 module _ (room : BothHaveRoom) (p : Program) (bounded : IsBounded p) (s : Sight) (same : s.program ≡ p) (tree : Option Node) (is : IsTree p tree) (units bodies : ℕ) (t : Trees Fiber) (current : IsTreeOf tree t.current) (st : Stack) where
   stands_few : (at : Option ℕ) (c : Cursor) → InProgress s tree units bodies c → IsReached s.program tree c → StandsAt t st at c → size t.current + made_size t.draft ≤ 3 * node_bound p

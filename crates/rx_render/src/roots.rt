@@ -1,6 +1,5 @@
 // What a render begins with.
 ghost use Rattle.std.specs.Prelude.{◌≡◌, IfOk};
-ghost use Rattle.rx_ast.specs.Syntax as syntax;
 ghost use Rattle.rx_meaning.specs.Fresh.{default_of, default_contexts, root_element};
 
 use rx_ast::{Context, DeclarationKind};
@@ -10,13 +9,13 @@ use rx_elem::{Element, ElementKind};
 use std::alloc::{AllocError, Global};
 
 // The default of a context.
-fn default_of(context: &Context) -> Int
-    ensures { (p : syntax.Program) → result ≡ default_of p context.now }
+fn default_of(checked: &Checked, context: &Context) -> Int
+    ensures { result ≡ default_of checked.now context.now }
 {
-    let residue = context.number() % (1 << 32);
-    let value = Int::of(residue as i64);
+    let width = checked.width();
+    let value = Int::literal(width, context.number());
     if context.is_negative() {
-        value.neg()
+        Int::neg(width, value)
     } else {
         value
     }
@@ -33,7 +32,7 @@ pub(crate) fn default_contexts(alloc: Global, checked: &Checked) -> Result<Vec<I
     let mut values = Vec::new(alloc);
     for declaration in checked.program().declarations() {
         if let DeclarationKind::Context(context) = &declaration.kind {
-            values.push(default_of(context))?;
+            values.push(default_of(checked, context))?;
         }
     }
     Ok(values)

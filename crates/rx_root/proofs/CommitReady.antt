@@ -7,7 +7,9 @@ use Rattle.rx_lane.specs.declared.lane.Lane.TheVariants.{Retry}
 use Rattle.rx_lane.specs.Lanes.{Lanes, has, no_lanes, one, union, intersection, lanes_where, only_transitions}
 use Rattle.rx_lane.specs.SetLaws.{lanes_agree}
 use Rattle.rx_ast.specs.Syntax.{Program}
-use Rattle.rx_rules.specs.Bounds.{node_bound, node_limit}
+use Rattle.rx_rules.specs.Bounds.{node_bound}
+use Rattle.rx_rules.specs.Versions.{greatest_node_limit}
+use Rattle.rx_rules.proofs.Limits.{limits_nodes}
 use Rattle.rx_check.specs.Accepted.{IsAccepted}
 use Rattle.rx_check.proofs.Limited.{few-resources}
 use Rattle.rx_elem.specs.Trees.{Node}
@@ -38,13 +40,13 @@ is_commit p bounded accepted s g tree reached gives =
 
 -- it has few nodes
 pub few_nodes : (p : Program) → IsBounded p → (s : State) (g : Progress) (tree : Node) → IsReached p s → fresh (sight_of p s g) s.tree ≡ made tree
-    → node_count (Some tree) ≤ node_limit
+    → node_count (Some tree) ≤ greatest_node_limit
 few_nodes p bounded s g tree reached gives =
     let within = renders_bounded p bounded s reached g in
     let trees : made within.tree ≡ made tree = sym within.rendered ∙ gives in
     let same : within.tree ≡ tree = cc in
     let nodes = subst (λ (n : Node). node_count (Some n) ≤ node_bound p) same within.nodes in
-    omega (arith, nodes, bounded.small)
+    omega (arith, nodes, bounded.small, limits_nodes p)
 
 -- a render that has other lanes than transitions is committed
 pub not_deferred : (lanes : Lanes) (old : Option Node) (tree : Node) → only_transitions lanes ≡ false → commit tree ≡ outcome lanes old tree

@@ -3,7 +3,8 @@ use Rattle.std.proofs.Common.{◌≡◌, ◌≤◌, Bool, true, false, cond, Lis
 use Rattle.std.specs.Prelude.{Option, Some, Result, Ok, Err, OnErr, OnOk, filter}
 use Rattle.rx_lane.specs.Lanes.{has, lanes_where}
 use Rattle.rx_ast.specs.Syntax.{Program}
-use Rattle.rx_rules.specs.Bounds.{node_limit}
+use Rattle.rx_rules.specs.Versions.{greatest_node_limit}
+use Rattle.rx_rules.proofs.Limits.{limits_nodes}
 use Rattle.rx_elem.specs.Spots.{hidden_count, node_count, spot_mark, tree_spots}
 use Rattle.rx_elem.specs.Numbers.{Numbers, numbered}
 use Rattle.rx_elem.specs.Trees.{Node, is_hidden}
@@ -49,11 +50,11 @@ fewer_pass f (x ∷ xs) = go (f x) (fewer_pass f xs)
     go false h = omega (arith, h)
 
 -- the committed tree of a state that is reached has few nodes
-pub few_nodes : (p : Program) → IsBounded p → (s : State) → IsReached p s → node_count s.tree ≤ node_limit
-few_nodes p bounded s reached = omega (arith, (reached_bounded p bounded s reached).nodes, bounded.small)
+pub few_nodes : (p : Program) → IsBounded p → (s : State) → IsReached p s → node_count s.tree ≤ greatest_node_limit
+few_nodes p bounded s reached = omega (arith, (reached_bounded p bounded s reached).nodes, bounded.small, limits_nodes p)
 
 -- and no more hidden boundaries
-pub few_hidden : (p : Program) → IsBounded p → (s : State) → IsReached p s → hidden_count s.tree ≤ node_limit
+pub few_hidden : (p : Program) → IsBounded p → (s : State) → IsReached p s → hidden_count s.tree ≤ greatest_node_limit
 few_hidden p bounded s reached = omega (arith, fewer_pass (λ x. is_hidden (spot_mark x)) (tree_spots s.tree), few_nodes p bounded s reached)
 
 -- ---- hosts in tree order

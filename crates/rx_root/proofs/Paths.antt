@@ -34,14 +34,14 @@ use Rattle.rx_root.proofs.HookCounts.{HasHooks}
 
 -- ---- scripts
 
-good_can : (p : Program) (s : Step) (a b : Bool) → has_targets p s ≡ a → in_bounds s ≡ b → (x : Step) → cond a (cond b (good s) (bad out_of_range)) (bad unknown_target) ≡ good x → CanTake p x
+good_can : (p : Program) (s : Step) (a b : Bool) → has_targets p s ≡ a → in_bounds p s ≡ b → (x : Step) → cond a (cond b (good s) (bad out_of_range)) (bad unknown_target) ≡ good x → CanTake p x
 good_can p s true true t i x is = let same : s ≡ x = cc in subst (CanTake p) same (t, i)
 good_can p s true false t i x is = cc
 good_can p s false b t i x is = cc
 
 formed_can : (p : Program) (o : Option Step) (x : Step) → formed p o ≡ good x → CanTake p x
 formed_can p None x is = cc
-formed_can p (Some s) x is = good_can p s (has_targets p s) (in_bounds s) refl refl x is
+formed_can p (Some s) x is = good_can p s (has_targets p s) (in_bounds p s) refl refl x is
 
 meant_can : (p : Program) (ws : List Text) (x : Step) → meant p ws ≡ good x → CanTake p x
 meant_can p [] x is = cc

@@ -4,7 +4,7 @@ use Rattle.std.proofs.lemmas.List.{length-map}
 use Rattle.rx_lane.specs.declared.lane.Lane.TheVariants as lane
 use Rattle.rx_lane.specs.Lanes.{has}
 use Rattle.rx_ast.specs.Syntax.{Program}
-use Rattle.rx_rules.specs.Bounds.{node_limit}
+use Rattle.rx_rules.specs.Versions.{greatest_node_limit}
 use Rattle.rx_elem.specs.Trees.{Node}
 use Rattle.rx_elem.specs.Numbers.{numbered}
 use Rattle.rx_sched.specs.declared.choice.Choice.{Choice}
@@ -28,8 +28,8 @@ use Rattle.rx_root.proofs.CommitReady.{few_nodes}
 -- one commit was made at most, of a tree with few nodes, and nothing was accepted
 pub record Grows (s t : State) : Type 0 where
   pub commits : t.commits ≤ s.commits + 1
-  pub instances : t.numbers.instance ≤ s.numbers.instance + node_limit
-  pub hosts : t.numbers.host ≤ s.numbers.host + node_limit
+  pub instances : t.numbers.instance ≤ s.numbers.instance + greatest_node_limit
+  pub hosts : t.numbers.host ≤ s.numbers.host + greatest_node_limit
   pub updates : length t.journal.updates ≡ length s.journal.updates
   pub resolutions : length t.journal.resolutions ≡ length s.journal.resolutions
 
@@ -93,8 +93,8 @@ turn_grows A p bounded s budget r reached then h = turn_grows_by A p bounded s (
 pub room_after : (p : Program) (s t : State) (a b : Rooted → Type 0) (v w : Rooted) (turns : ℕ) → StandsBy p s a v → StandsBy p t b w → Grows s t → HasRoomForTurns (suc turns) v → HasRoomForTurns turns w
 room_after p s t a b v w turns h i grows room =
     let commits : w.commits ≤ v.commits + 1 = omega (arith, grows.commits, h.commits, i.commits) in
-    let instances : w.numbers.instance ≤ v.numbers.instance + node_limit = rw (h.numbers, i.numbers) grows.instances in
-    let hosts : w.numbers.host ≤ v.numbers.host + node_limit = rw (h.numbers, i.numbers) grows.hosts in
+    let instances : w.numbers.instance ≤ v.numbers.instance + greatest_node_limit = rw (h.numbers, i.numbers) grows.instances in
+    let hosts : w.numbers.host ≤ v.numbers.host + greatest_node_limit = rw (h.numbers, i.numbers) grows.hosts in
     record {
       commits = omega (arith, commits, room.commits);
       instances = omega (arith, instances, room.instances);

@@ -3,7 +3,7 @@ use Rattle.std.specs.Prelude.{◌≡◌, ℕ, ◌+◌, ◌*◌, ◌<◌, ◌≤�
 use Rattle.rx_lane.specs.declared.lane.Lane.{Lane}
 use Rattle.rx_lane.specs.Lanes.{has}
 use Rattle.rx_ast.specs.Syntax.{Program}
-use Rattle.rx_rules.specs.Bounds.{node_limit}
+use Rattle.rx_rules.specs.Versions.{greatest_node_limit}
 use Rattle.rx_rules.specs.Names.{resources}
 use Rattle.rx_queue.specs.Journal.{Journal, has_later, resolved_now}
 use Rattle.rx_model.specs.State.{State, Progress}
@@ -81,5 +81,5 @@ pub record HasRoomFor (steps : ℕ) (v : Rooted) : Type 0 where
   pub updates : v.updates + steps < 2 ^ 62
   pub resolutions : v.resolutions + steps < 2 ^ 62
   pub commits : v.commits + flush_limit * steps < 2 ^ 62
-  pub instances : v.numbers.instance + node_limit * (flush_limit * steps) < 2 ^ 62
-  pub hosts : v.numbers.host + node_limit * (flush_limit * steps) < 2 ^ 62
+  pub instances : v.numbers.instance + greatest_node_limit * (flush_limit * steps) < 2 ^ 62
+  pub hosts : v.numbers.host + greatest_node_limit * (flush_limit * steps) < 2 ^ 62

@@ -19,7 +19,7 @@ use Rattle.rx_root.specs.Rooted.{Rooted}
 
 -- a root can take a step: all that it names is there, and its numbers are in their bounds
 abbrev pub CanTake : Program → Step → Type 0
-CanTake p x = (has_targets p x ≡ true) × (in_bounds x ≡ true)
+CanTake p x = (has_targets p x ≡ true) × (in_bounds p x ≡ true)
 
 -- each of the steps can be taken
 abbrev pub AllCanTake : Program → List Step → Type 0

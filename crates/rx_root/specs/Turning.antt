@@ -6,7 +6,7 @@ use Rattle.rx_lane.specs.declared.lane.Lane.{Lane}
 use Rattle.rx_lane.specs.declared.lane.Lane.TheVariants as lane
 use Rattle.rx_lane.specs.Lanes.{Lanes, has}
 use Rattle.rx_ast.specs.Syntax.{Program}
-use Rattle.rx_rules.specs.Bounds.{node_limit}
+use Rattle.rx_rules.specs.Versions.{greatest_node_limit}
 use Rattle.rx_elem.specs.Trees.{Node}
 use Rattle.rx_elem.specs.Numbers.{numbered}
 use Rattle.rx_queue.specs.Journal.{has_later}
@@ -41,8 +41,8 @@ use Rattle.rx_root.specs.Stands.{AreDeclared, StandsBy, StandsButForRender, Stan
 -- the numbers of a root leave room for so many turns more, each with one commit at most
 pub record HasRoomForTurns (turns : ℕ) (v : Rooted) : Type 0 where
   pub commits : v.commits + turns < 2 ^ 62
-  pub instances : v.numbers.instance + node_limit * turns < 2 ^ 62
-  pub hosts : v.numbers.host + node_limit * turns < 2 ^ 62
+  pub instances : v.numbers.instance + greatest_node_limit * turns < 2 ^ 62
+  pub hosts : v.numbers.host + greatest_node_limit * turns < 2 ^ 62
 
 -- the units and bodies of the render of a root
 abbrev pub counts_of : Rooted → Counts

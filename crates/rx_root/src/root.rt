@@ -41,8 +41,8 @@ use std::marker::Model;
 // The numbers of a root stay below this one.
 const NUMBER_LIMIT: u64 = 1 << 62;
 
-// No tree has more nodes.
-const NODE_LIMIT: u64 = 4096;
+// No tree of a program of either version has more nodes.
+const NODE_LIMIT: u64 = 65_536;
 
 /// A root (react.dev, createRoot): a program with its committed tree, the hooks of its instances, what is pending, and the
 /// render in progress, if there is one.
@@ -131,7 +131,7 @@ impl Root {
     }
 
     /// Whether one more step may be taken: the numbers that come next stay below 2 to the 62nd power with all that one step may
-    /// add to them. Those are one update or resolution, or 24 commits, each of at most 4,096 new instances and hosts. No script
+    /// add to them. Those are one update or resolution, or 24 commits, each of at most 65,536 new instances and hosts. No script
     /// comes near that.
     pub fn has_room(&self) -> bool
         ensures { IsTrue result ↔ HasRoomFor 1 self.entry.now }
@@ -145,8 +145,8 @@ impl Root {
     }
 
     /// Whether a dispatch is one for this program: its path names components from `App` on, the last of which has the hook, of
-    /// the kind that the dispatch wants; its function takes a state and an argument; and no place in the path is above 4,095.
-    /// Whether there is such an instance, `dispatch` tells.
+    /// the kind that the dispatch wants; its function takes a state and an argument; and no place in the path is above 4,095, or
+    /// 65,535 in version 2. Its number is an integer of the program. Whether there is such an instance, `dispatch` tells.
     pub fn can_dispatch(&self, dispatch: &Dispatch) -> bool
         ensures { IsTrue result ↔ CanTake self.entry.now.rendering.program (steps.Dispatch dispatch.now) }
     {

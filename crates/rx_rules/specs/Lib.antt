@@ -1,3 +1,4 @@
+pub mod Versions
 pub mod Names
 pub mod Bounds
 pub mod Keys

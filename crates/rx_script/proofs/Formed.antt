@@ -11,9 +11,9 @@ use Rattle.rx_step.specs.declared.step.Step.{Step}
 use Rattle.rx_step.specs.declared.step.Step.TheVariants as step
 use Rattle.rx_script.specs.declared.form.Form.{Form}
 use Rattle.rx_step.specs.Steps.{Path}
-use Rattle.rx_script.specs.Lines.{form_of, meant, formed, bad, good, bad_line, unknown_target, out_of_range, has_targets, in_bounds, fits_width, path_in_bounds, step_limit, target_from, target_of, hook_at, is_state, is_reducer, is_updater}
+use Rattle.rx_script.specs.Lines.{form_of, meant, formed, bad, good, bad_line, unknown_target, out_of_range, has_targets, in_bounds, is_integer, path_in_bounds, step_limit, target_from, target_of, hook_at, is_state, is_reducer, is_updater}
 use Rattle.rx_script.specs.Readings.{held_path, held_step, reading, form_in_bounds}
-use Rattle.rx_script.proofs.Bounds.{fits-held, limit-held, one-held, path-held, held-small, held-path-small, held_value-small, both-true}
+use Rattle.rx_script.proofs.Bounds.{zero-fits, fits-held, limit-held, one-held, path-held, held-small, held-path-small, held_value-small, both-true}
 
 -- The targets of a step are those of the step with held numbers.
 
@@ -57,45 +57,45 @@ and_true : (a : Bool) → (a && true) ≡ a
 and_true true = refl
 and_true false = refl
 
-bounds-held : (s : Step) → form_in_bounds (reading s) ≡ in_bounds s
-bounds-held (step.Dispatch (Set lane path name x)) = rw (fits-held x, path-held path) refl
-bounds-held (step.Dispatch (Call lane path name f x)) = rw (fits-held x, path-held path) refl
-bounds-held (step.Dispatch (Send lane path name x)) = rw (fits-held x, path-held path) refl
-bounds-held (step.Resolve name x) = and_true _ ∙ fits-held x
-bounds-held (step.Tick n) = limit-held n
-bounds-held (step.Work n) = rw (one-held n, limit-held n) refl
-bounds-held step.Flush = refl
-bounds-held step.FlushSync = refl
-bounds-held step.Passive = refl
-bounds-held step.Event = refl
-bounds-held step.State = refl
-bounds-held step.Tree = refl
+bounds-held : (p : Program) (s : Step) → form_in_bounds p (reading s) ≡ in_bounds p s
+bounds-held p (step.Dispatch (Set lane path name x)) = rw (fits-held p x, path-held p path) refl
+bounds-held p (step.Dispatch (Call lane path name f x)) = rw (fits-held p x, path-held p path) refl
+bounds-held p (step.Dispatch (Send lane path name x)) = rw (fits-held p x, path-held p path) refl
+bounds-held p (step.Resolve name x) = and_true _ ∙ fits-held p x
+bounds-held p (step.Tick n) = rw (zero-fits p) (limit-held n)
+bounds-held p (step.Work n) = rw (zero-fits p, one-held n, limit-held n) refl
+bounds-held p step.Flush = rw (zero-fits p) refl
+bounds-held p step.FlushSync = rw (zero-fits p) refl
+bounds-held p step.Passive = rw (zero-fits p) refl
+bounds-held p step.Event = rw (zero-fits p) refl
+bounds-held p step.State = rw (zero-fits p) refl
+bounds-held p step.Tree = rw (zero-fits p) refl
 
 -- A step in bounds is the step with held numbers.
 
-step-held : (s : Step) → in_bounds s ≡ true → held_step s ≡ s
-step-held (step.Dispatch (Set lane path name x)) is =
-    let both = both-true (fits_width x) (path_in_bounds path) is in
-    let here = held-path-small path both.1 in
-    let value = held_value-small x both.0 in rw (here, value) refl
-step-held (step.Dispatch (Call lane path name f x)) is =
-    let both = both-true (fits_width x) (path_in_bounds path) is in
-    let here = held-path-small path both.1 in
-    let value = held_value-small x both.0 in rw (here, value) refl
-step-held (step.Dispatch (Send lane path name x)) is =
-    let both = both-true (fits_width x) (path_in_bounds path) is in
-    let here = held-path-small path both.1 in
-    let value = held_value-small x both.0 in rw (here, value) refl
-step-held (step.Resolve name x) is = ap (λ y. step.Resolve name y) (held_value-small x is)
-step-held (step.Tick n) is = ap (λ k. step.Tick k) (held-small n step_limit (omega arith) is)
-step-held (step.Work n) is =
+step-held : (p : Program) (s : Step) → in_bounds p s ≡ true → held_step s ≡ s
+step-held p (step.Dispatch (Set lane path name x)) is =
+    let both = both-true (is_integer p x) (path_in_bounds p path) is in
+    let here = held-path-small p path both.1 in
+    let value = held_value-small p x both.0 in rw (here, value) refl
+step-held p (step.Dispatch (Call lane path name f x)) is =
+    let both = both-true (is_integer p x) (path_in_bounds p path) is in
+    let here = held-path-small p path both.1 in
+    let value = held_value-small p x both.0 in rw (here, value) refl
+step-held p (step.Dispatch (Send lane path name x)) is =
+    let both = both-true (is_integer p x) (path_in_bounds p path) is in
+    let here = held-path-small p path both.1 in
+    let value = held_value-small p x both.0 in rw (here, value) refl
+step-held p (step.Resolve name x) is = ap (λ y. step.Resolve name y) (held_value-small p x is)
+step-held p (step.Tick n) is = ap (λ k. step.Tick k) (held-small n step_limit (omega arith) is)
+step-held p (step.Work n) is =
     let both = both-true (nat_le 1 n) (nat_le n step_limit) is in ap (λ k. step.Work k) (held-small n step_limit (omega arith) both.1)
-step-held step.Flush is = refl
-step-held step.FlushSync is = refl
-step-held step.Passive is = refl
-step-held step.Event is = refl
-step-held step.State is = refl
-step-held step.Tree is = refl
+step-held p step.Flush is = refl
+step-held p step.FlushSync is = refl
+step-held p step.Passive is = refl
+step-held p step.Event is = refl
+step-held p step.State is = refl
+step-held p step.Tree is = refl
 
 -- What the words of a line are
 
@@ -121,8 +121,8 @@ words-no_form p ws some is = meant-words p ws some ∙ by_form (form_of (texts w
 targets-of : (p : Program) (s : Step) (f : Form) → Some f ≡ option_map reading (Some s) → has_targets p f.step ≡ has_targets p s
 targets-of p s f is = let same : f ≡ reading s = cc in rw same (targets-held p s)
 
-bounds-of : (s : Step) (f : Form) → Some f ≡ option_map reading (Some s) → form_in_bounds f ≡ in_bounds s
-bounds-of s f is = let same : f ≡ reading s = cc in rw same (bounds-held s)
+bounds-of : (p : Program) (s : Step) (f : Form) → Some f ≡ option_map reading (Some s) → form_in_bounds p f ≡ in_bounds p s
+bounds-of p s f is = let same : f ≡ reading s = cc in rw same (bounds-held p s)
 
 pub words-no_target : (p : Program) (ws : List (Bor Text)) (f : Form) → 0 < length ws → Some f ≡ option_map reading (form_of (texts ws))
     → has_targets p f.step ≡ false → meant p (texts ws) ≡ bad unknown_target
@@ -132,21 +132,21 @@ words-no_target p ws f some is targets = meant-words p ws some ∙ by_form (form
   by_form (Some s) e = let no : has_targets p s ≡ false = sym (targets-of p s f e) ∙ targets in rw no refl
 
 pub words-out : (p : Program) (ws : List (Bor Text)) (f : Form) → 0 < length ws → Some f ≡ option_map reading (form_of (texts ws))
-    → has_targets p f.step ≡ true → form_in_bounds f ≡ false → meant p (texts ws) ≡ bad out_of_range
+    → has_targets p f.step ≡ true → form_in_bounds p f ≡ false → meant p (texts ws) ≡ bad out_of_range
 words-out p ws f some is targets bounds = meant-words p ws some ∙ by_form (form_of (texts ws)) is where
   by_form : (o : Option Step) → Some f ≡ option_map reading o → formed p o ≡ bad out_of_range
   by_form None e = cc
   by_form (Some s) e =
       let there : has_targets p s ≡ true = sym (targets-of p s f e) ∙ targets in
-      let out : in_bounds s ≡ false = sym (bounds-of s f e) ∙ bounds in rw (there, out) refl
+      let out : in_bounds p s ≡ false = sym (bounds-of p s f e) ∙ bounds in rw (there, out) refl
 
 pub words-step : (p : Program) (ws : List (Bor Text)) (f : Form) → 0 < length ws → Some f ≡ option_map reading (form_of (texts ws))
-    → has_targets p f.step ≡ true → form_in_bounds f ≡ true → meant p (texts ws) ≡ good f.step
+    → has_targets p f.step ≡ true → form_in_bounds p f ≡ true → meant p (texts ws) ≡ good f.step
 words-step p ws f some is targets bounds = meant-words p ws some ∙ by_form (form_of (texts ws)) is where
   by_form : (o : Option Step) → Some f ≡ option_map reading o → formed p o ≡ good f.step
   by_form None e = cc
   by_form (Some s) e =
       let there : has_targets p s ≡ true = sym (targets-of p s f e) ∙ targets in
-      let within : in_bounds s ≡ true = sym (bounds-of s f e) ∙ bounds in
+      let within : in_bounds p s ≡ true = sym (bounds-of p s f e) ∙ bounds in
       let same : f ≡ reading s = cc in
-      let step_is : s ≡ f.step = sym (ap (λ (g : Form). g.step) same ∙ step-held s within) in rw (there, within) (ap good step_is)
+      let step_is : s ≡ f.step = sym (ap (λ (g : Form). g.step) same ∙ step-held p s within) in rw (there, within) (ap good step_is)

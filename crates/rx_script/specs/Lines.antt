@@ -1,10 +1,12 @@
 -- Which lines of a script are steps of a program, and why a line is bad.
-use Rattle.std.specs.Prelude.{ℕ, ◌+◌, ◌^◌, Bool, true, false, ◌&&◌, ◌==◌, nat_le, nat_lt, List, [], ◌∷◌, ℤ, pos, negsuc, Option, Some, None, is_some, Result, Ok, Err, codes, bytes_eq, position, option_map, option_and_then, if◌then◌else◌}
+use Rattle.std.specs.Prelude.{ℕ, ◌+◌, Bool, true, false, ◌&&◌, ◌==◌, nat_le, List, [], ◌∷◌, ℤ, Option, Some, None, is_some, Result, Ok, Err, codes, bytes_eq, position, option_map, option_and_then, if◌then◌else◌}
 use Rattle.std.specs.List.{list_all, slice_split}
 use Rattle.std.specs.Option.{option_map_or}
 use Rattle.rx_base.specs.Values.{Text, Name}
+use Rattle.rx_base.specs.Widths.{fits_width}
 use Rattle.rx_ast.specs.Syntax.{Program}
 use Rattle.rx_rules.specs.Names.{component_names, resources, root_name}
+use Rattle.rx_rules.specs.Versions.{instance_limit, width}
 use Rattle.rx_names.specs.Listed.{function_names}
 use Rattle.rx_check.specs.Tables.{hook_named, parameter_count}
 use Rattle.rx_check.specs.declared.hook.HookKind.{HookKind}
@@ -158,18 +160,13 @@ has_targets p step.Tree = true
 
 -- Bounds
 
--- the number is an integer of 32 bits
-abbrev pub fits_width : ℤ → Bool
-fits_width (pos n) = nat_lt n (2 ^ 31)
-fits_width (negsuc n) = nat_lt n (2 ^ 31)
-
--- the greatest number of an instance in a path
-abbrev pub instance_limit : ℕ
-instance_limit = 4095
+-- the number is an integer of the program
+abbrev pub is_integer : Program → ℤ → Bool
+is_integer p x = fits_width (width p) x
 
 -- all numbers of a path are in their bounds
-abbrev pub path_in_bounds : Path → Bool
-path_in_bounds path = list_all (λ part. nat_le part.1 instance_limit) path
+abbrev pub path_in_bounds : Program → Path → Bool
+path_in_bounds p path = list_all (λ part. nat_le part.1 (instance_limit p)) path
 
 -- the number of a dispatch
 abbrev pub operand : Dispatch → ℤ
@@ -182,17 +179,17 @@ abbrev pub step_limit : ℕ
 step_limit = 1000000
 
 -- all numbers of a step are in their bounds
-abbrev pub in_bounds : Step → Bool
-in_bounds (step.Dispatch d) = fits_width (operand d) && path_in_bounds (path_in d)
-in_bounds (step.Resolve name x) = fits_width x
-in_bounds (step.Tick n) = nat_le n step_limit
-in_bounds (step.Work n) = nat_le 1 n && nat_le n step_limit
-in_bounds step.Flush = true
-in_bounds step.FlushSync = true
-in_bounds step.Passive = true
-in_bounds step.Event = true
-in_bounds step.State = true
-in_bounds step.Tree = true
+abbrev pub in_bounds : Program → Step → Bool
+in_bounds p (step.Dispatch d) = is_integer p (operand d) && path_in_bounds p (path_in d)
+in_bounds p (step.Resolve name x) = is_integer p x
+in_bounds p (step.Tick n) = nat_le n step_limit
+in_bounds p (step.Work n) = nat_le 1 n && nat_le n step_limit
+in_bounds p step.Flush = true
+in_bounds p step.FlushSync = true
+in_bounds p step.Passive = true
+in_bounds p step.Event = true
+in_bounds p step.State = true
+in_bounds p step.Tree = true
 
 -- Lines
 
@@ -211,7 +208,7 @@ pub data Line : Type 0 where
 -- what a line is that has a form: first its targets are looked at, then its bounds
 abbrev pub formed : Program → Option Step → Line
 formed p None = bad bad_line
-formed p (Some s) = if has_targets p s then (if in_bounds s then good s else bad out_of_range) else bad unknown_target
+formed p (Some s) = if has_targets p s then (if in_bounds p s then good s else bad out_of_range) else bad unknown_target
 
 -- a comment begins so
 abbrev pub is_comment : Text → Bool

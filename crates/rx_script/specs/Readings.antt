@@ -1,7 +1,8 @@
 -- What the reader of lines holds of the numbers in them.
 use Rattle.std.specs.Prelude.{◌≡◌, ℕ, Bool, true, option_map, ◌&&◌, nat_le, ◌^◌, ◌-◌, min, ℤ, pos, negsuc, List, [], ◌∷◌, map, Option, Some, None, option_and_then, Result, Err}
-use Rattle.std.specs.Int.{w32}
+use Rattle.std.specs.Int.{w64}
 use Rattle.rx_base.specs.Values.{wrap, Name, Text}
+use Rattle.rx_ast.specs.Syntax.{Program}
 use Rattle.rx_step.specs.declared.step.Dispatch.{Dispatch}
 use Rattle.rx_step.specs.declared.step.Dispatch.TheVariants.{Set, Call, Send}
 use Rattle.rx_step.specs.declared.step.Step.{Step}
@@ -15,11 +16,11 @@ use Rattle.rx_script.specs.declared.line.LineError.{LineError}
 use Rattle.rx_script.specs.declared.line.LineError.TheVariants as line
 use Rattle.rx_step.specs.Steps.{Path, path_of}
 use Rattle.rx_script.specs.Words.{lower_of, natural_of, opposite}
-use Rattle.rx_script.specs.Lines.{◌◂◌, lane_of, path_of as written_path, operand, fits_width, path_in_bounds, step_limit, bad_line, unknown_target, out_of_range, Line, silent, good, bad, BadStep}
+use Rattle.rx_script.specs.Lines.{◌◂◌, lane_of, path_of as written_path, operand, is_integer, path_in_bounds, step_limit, bad_line, unknown_target, out_of_range, Line, silent, good, bad, BadStep}
 
 -- numbers that are read are held here, above every bound of a script
 abbrev pub held_at : ℕ
-held_at = 2 ^ 32
+held_at = 2 ^ 64 - 1
 
 -- a number that is held
 abbrev pub held : ℕ → ℕ
@@ -42,9 +43,9 @@ held_part part = (part.0, held part.1)
 abbrev pub held_path : Path → Path
 held_path path = map held_part path
 
--- an integer of 32 bits for a number, the same if it is in bounds
+-- an integer of 64 bits for a number, the same if it is in bounds
 abbrev pub held_value : ℤ → ℤ
-held_value x = wrap w32 (held_integer x)
+held_value x = wrap w64 (held_integer x)
 
 -- a dispatch with held numbers
 abbrev pub held_dispatch : Dispatch → Dispatch
@@ -113,21 +114,21 @@ call_reading form (Some place) (Some f) (Some x) =
     with_value (call_at_place form place f (held_value x)) (held_integer x)
 
 -- all numbers of a step but the one with a sign are in their bounds
-abbrev pub counts_in_bounds : Step → Bool
-counts_in_bounds (step.Dispatch d) = path_in_bounds (path_of d)
-counts_in_bounds (step.Resolve name x) = true
-counts_in_bounds (step.Tick n) = nat_le n step_limit
-counts_in_bounds (step.Work n) = nat_le 1 n && nat_le n step_limit
-counts_in_bounds step.Flush = true
-counts_in_bounds step.FlushSync = true
-counts_in_bounds step.Passive = true
-counts_in_bounds step.Event = true
-counts_in_bounds step.State = true
-counts_in_bounds step.Tree = true
+abbrev pub counts_in_bounds : Program → Step → Bool
+counts_in_bounds p (step.Dispatch d) = path_in_bounds p (path_of d)
+counts_in_bounds p (step.Resolve name x) = true
+counts_in_bounds p (step.Tick n) = nat_le n step_limit
+counts_in_bounds p (step.Work n) = nat_le 1 n && nat_le n step_limit
+counts_in_bounds p step.Flush = true
+counts_in_bounds p step.FlushSync = true
+counts_in_bounds p step.Passive = true
+counts_in_bounds p step.Event = true
+counts_in_bounds p step.State = true
+counts_in_bounds p step.Tree = true
 
 -- all numbers that were read are in their bounds
-abbrev pub form_in_bounds : Form → Bool
-form_in_bounds f = fits_width f.value && counts_in_bounds f.step
+abbrev pub form_in_bounds : Program → Form → Bool
+form_in_bounds p f = is_integer p f.value && counts_in_bounds p f.step
 
 -- the fault that an error of a line tells of
 abbrev pub IsFault : LineError → Line → Type 0

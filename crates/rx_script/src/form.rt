@@ -1,22 +1,26 @@
 // The forms of lines.
 ghost use Rattle.std.specs.Prelude.{◌≡◌, map, option_map, IfOk};
-ghost use Rattle.rx_script.specs.Lines.{◌◂◌, call_form, form_of, fits_width as is_of_width, lane_of, number_form as number_form_of, plain_form as plain_form_of, resolve_form, value_form};
+ghost use Rattle.std.specs.Int.{w64};
+ghost use Rattle.rx_base.specs.Values.{wrap};
+ghost use Rattle.rx_base.specs.Widths.{fits_width as is_of_width, width_of};
+ghost use Rattle.rx_script.specs.Lines.{◌◂◌, call_form, form_of, is_integer as is_one_of_integers, lane_of, number_form as number_form_of, plain_form as plain_form_of, resolve_form, value_form};
 ghost use Rattle.rx_script.specs.Readings.{at_place, call_at_place, call_reading, counts_in_bounds, form_in_bounds, place_of, reading, value_reading};
 ghost use Rattle.rx_script.specs.Words.{integer_of, natural_of, resource_of};
 
 use crate::path::{is_path_in_bounds, read_path};
 use crate::words::{integer, lower, natural, resource};
-use rx_base::{Int, Name};
+use rx_base::{Int, Name, Width};
+use rx_check::Checked;
 use rx_step::{Dispatch, LaneWord, Path, Step};
 use std::alloc::{AllocError, Global};
 
 /// A step whose names may name nothing and whose numbers may be out of their bounds.
 #[derive(Drop)]
 pub(crate) struct Form {
-    /// The step, with an integer of 32 bits for its number with a sign.
+    /// The step, with an integer of 64 bits for its number with a sign.
     pub(crate) step: Step,
     /// Its number with a sign, 0 if it has none.
-    pub(crate) value: i64,
+    pub(crate) value: i128,
 }
 
 /// The lane of a word.
@@ -79,6 +83,14 @@ fn number_form(word: &[u8], number: &[u8]) -> Option<Form>
     Some(Form { step, value: 0 })
 }
 
+/// The integer of 64 bits for a number, the same if it is one.
+fn held(value: i128) -> Int
+    ensures { result ≡ wrap w64 value }
+{
+    let residue = value.rem_euclid(1 << 64) as u64;
+    Int::of(residue.cast_signed())
+}
+
 /// The form of a line that gives a resource its value.
 fn resolve_line(
     alloc: Global,
@@ -97,7 +109,7 @@ fn resolve_line(
     let Some(value) = integer(value) else {
         return Ok(None);
     };
-    let step = Step::Resolve(name, Int::of(value));
+    let step = Step::Resolve(name, held(value));
     Ok(Some(Form { step, value }))
 }
 
@@ -149,7 +161,7 @@ fn value_line(word: &[u8], place: Option<Place>, value: &[u8]) -> Option<Form>
 {
     let place = place?;
     let value = integer(value)?;
-    let dispatch = value_dispatch(word, place, Int::of(value))?;
+    let dispatch = value_dispatch(word, place, held(value))?;
     Some(Form {
         step: Step::Dispatch(dispatch),
         value,
@@ -179,7 +191,7 @@ fn call_line(
     let place = place?;
     let function = function?;
     let value = integer(value)?;
-    let dispatch = call_dispatch(word, place, function, Int::of(value))?;
+    let dispatch = call_dispatch(word, place, function, held(value))?;
     Some(Form {
         step: Step::Dispatch(dispatch),
         value,
@@ -211,21 +223,31 @@ pub(crate) fn read_form(alloc: Global, words: &[&[u8]]) -> Result<Option<Form>, 
 /// The greatest time of a tick, and the greatest budget of a turn.
 pub(crate) const GREATEST_COUNT: u64 = 1_000_000;
 
-/// Whether a number is an integer of 32 bits.
-pub(crate) fn fits_width(value: i64) -> bool
-    ensures { result ≡ is_of_width value }
+/// Whether a number is one that an integer of this width is read as.
+fn fits_width(width: Width, value: i128) -> bool
+    ensures { result ≡ is_of_width (width_of width) value }
 {
-    -(1 << 31) <= value && value < 1 << 31
+    match width {
+        Width::W32 => -(1 << 31) <= value && value < 1 << 31,
+        Width::W64 => -(1 << 63) <= value && value < 1 << 63,
+    }
+}
+
+/// Whether a number is an integer of the program.
+pub(crate) fn is_integer(checked: &Checked, value: i128) -> bool
+    ensures { result ≡ is_one_of_integers checked.now value }
+{
+    fits_width(checked.width(), value)
 }
 
 /// Whether all numbers of a step but the one with a sign are in their bounds.
-fn are_counts_in_bounds(step: &Step) -> bool
-    ensures { result ≡ counts_in_bounds step.now }
+fn are_counts_in_bounds(checked: &Checked, step: &Step) -> bool
+    ensures { result ≡ counts_in_bounds checked.now step.now }
 {
     match step {
-        Step::Dispatch(Dispatch::Set(_, path, _, _)) => is_path_in_bounds(path),
-        Step::Dispatch(Dispatch::Call(_, path, _, _, _)) => is_path_in_bounds(path),
-        Step::Dispatch(Dispatch::Send(_, path, _, _)) => is_path_in_bounds(path),
+        Step::Dispatch(Dispatch::Set(_, path, _, _)) => is_path_in_bounds(checked, path),
+        Step::Dispatch(Dispatch::Call(_, path, _, _, _)) => is_path_in_bounds(checked, path),
+        Step::Dispatch(Dispatch::Send(_, path, _, _)) => is_path_in_bounds(checked, path),
         Step::Tick(time) => *time <= GREATEST_COUNT,
         Step::Work(budget) => 1 <= *budget && *budget <= GREATEST_COUNT,
         _ => true,
@@ -233,8 +255,8 @@ fn are_counts_in_bounds(step: &Step) -> bool
 }
 
 /// Whether all numbers of a form are in their bounds.
-pub(crate) fn is_in_bounds(form: &Form) -> bool
-    ensures { result ≡ form_in_bounds form.now }
+pub(crate) fn is_in_bounds(checked: &Checked, form: &Form) -> bool
+    ensures { result ≡ form_in_bounds checked.now form.now }
 {
-    fits_width(form.value) && are_counts_in_bounds(&form.step)
+    is_integer(checked, form.value) && are_counts_in_bounds(checked, &form.step)
 }

@@ -52,7 +52,7 @@ fn read_words(alloc: Global, checked: &Checked, words: &[&[u8]]) -> Result<Optio
     if !has_targets(checked, &form.step) {
         return Err(LineError::UnknownTarget);
     }
-    if !is_in_bounds(&form) {
+    if !is_in_bounds(checked, &form) {
         return Err(LineError::OutOfRange);
     }
     Ok(Some(form.step))

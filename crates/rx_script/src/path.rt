@@ -1,16 +1,15 @@
 // Paths to component instances.
 ghost use Rattle.std.specs.Prelude.{◌≡◌, ◌++◌, map, option_map, IfOk};
 ghost use Rattle.std.specs.List.{slice_split};
+ghost use Rattle.rx_rules.specs.Versions.{instance_limit};
 ghost use Rattle.rx_script.specs.Lines.{is_at_sign, is_slash, part_of, parts_of, path_in_bounds, path_of};
 ghost use Rattle.rx_script.specs.Readings.{held_part, held_path};
 
 use crate::words::{natural, upper};
 use rx_base::Name;
+use rx_check::Checked;
 use rx_step::Path;
 use std::alloc::{AllocError, Global};
-
-/// The greatest number of an instance in a path.
-const GREATEST_PLACE: u64 = 4095;
 
 /// The pieces of a word between slashes.
 fn between_slashes<'a>(alloc: Global, word: &'a [u8]) -> Result<Vec<&'a [u8]>, AllocError>
@@ -83,9 +82,21 @@ pub(crate) fn read_path(alloc: Global, word: &[u8]) -> Result<Option<Path>, Allo
     }
 }
 
-/// Whether all numbers of a path are in their bounds.
-pub(crate) fn is_path_in_bounds(path: &Path) -> bool
-    ensures { result ≡ path_in_bounds path.now }
+/// The greatest number of an instance in a path.
+fn greatest_place(checked: &Checked) -> u64
+    ensures { result ≡ instance_limit checked.now }
 {
-    path.parts.iter().all(|part| part.1 <= GREATEST_PLACE)
+    if checked.program().is_second() {
+        65_535
+    } else {
+        4095
+    }
+}
+
+/// Whether all numbers of a path are in their bounds.
+pub(crate) fn is_path_in_bounds(checked: &Checked, path: &Path) -> bool
+    ensures { result ≡ path_in_bounds checked.now path.now }
+{
+    let greatest = greatest_place(checked);
+    path.parts.iter().all(|part| part.1 <= greatest)
 }

@@ -50,10 +50,7 @@ fn is_decimal(word: &[u8]) -> bool
     are_digits(word) && (word.len() == 1 || word.len() > 1 && word[0] != b'0')
 }
 
-/// Numbers that are read are held here, above every bound of a script.
-const MOST: u64 = 1 << 32;
-
-/// The number that a word is, held at `MOST`.
+/// The number that a word is, held at the greatest of 64 bits, above every bound of a script.
 pub(crate) fn natural(word: &[u8]) -> Option<u64>
     ensures { result ≡ option_map held (natural_of word.now) }
 {
@@ -62,29 +59,31 @@ pub(crate) fn natural(word: &[u8]) -> Option<u64>
     }
     let mut value: u64 = 0;
     for d in word {
-        value = (10 * value + u64::from(*d - b'0')).min(MOST);
+        value = value
+            .saturating_mul(10)
+            .saturating_add(u64::from(*d - b'0'));
     }
     Some(value)
 }
 
-/// The number below zero whose digits these are, held at `-MOST`.
-fn below(digits: &[u8]) -> Option<i64>
+/// The number below zero whose digits these are, held as its digits are.
+fn below(digits: &[u8]) -> Option<i128>
     ensures { result ≡ option_map held_integer (below_of digits.now) }
 {
     match natural(digits) {
-        Some(value) if 0 < value => Some(-(value as i64)),
+        Some(value) if 0 < value => Some(-i128::from(value)),
         _ => None,
     }
 }
 
-/// The number that a word is, with or without a sign, held at `MOST` and `-MOST`.
-pub(crate) fn integer(word: &[u8]) -> Option<i64>
+/// The number that a word is, with or without a sign, held as its digits are.
+pub(crate) fn integer(word: &[u8]) -> Option<i128>
     ensures { result ≡ option_map held_integer (integer_of word.now) }
 {
     match word {
         [] => None,
         [b'-', digits @ ..] => below(digits),
-        _ => natural(word).map(|value| value as i64),
+        _ => natural(word).map(|value| i128::from(value)),
     }
 }
 

@@ -53,7 +53,16 @@ const WHOLE: [Row<'static>; 3] = [
     },
 ];
 
-const ROWS: [Row<'static>; 7] = [
+const ROWS: [Row<'static>; 8] = [
+    // Integers of a program of version 2 have 64 bits.
+    Row {
+        words: &["run"],
+        input: "\"use 2\"; function App() { return <p>{2147483647 + 1}{9223372036854775807 + 1}{(0 - 7) / 2}</p>; }\n---\nflush\ntree\n",
+        failing_reads: &[],
+        failing_writes: &[],
+        status: 0,
+        output: "commit 1 Default\ntree\n  p\n    \"2147483648\"\n    \"-9223372036854775808\"\n    \"-3\"\nend quiet\n",
+    },
     // A transition yields after a unit, and an update of Sync comes first.
     Row {
         words: &["run"],

@@ -55,7 +55,7 @@ fn counter(alloc: Global) -> Result<Program, AllocError> {
     let mut declarations = Vec::new(alloc);
     declarations.push(Declaration::function(add(alloc)?))?;
     declarations.push(Declaration::component(app(alloc)?))?;
-    Ok(Program::new(declarations))
+    Ok(Program::new(false, declarations))
 }
 
 /// How many elements and initial values the root gives at mount.

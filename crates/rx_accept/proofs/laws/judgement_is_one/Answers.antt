@@ -1,13 +1,11 @@
-use Rattle.std.proofs.Common.{lit<}
-use Rattle.rx_lex.specs.Tokens.{greatest_number}
 use Rattle.rx_accept.proofs.One.{judged-one}
 use Rattle.rx_accept.proofs.laws.judgement_is_one.Goals as goal
 
 pub returns : goal.returns
 returns c =
     judged-one (record {
-      one_list = λ text ts us a b. c.tokens_are_one_list.ensures greatest_number text ts us (lit< tt) a b;
-      one_place = λ text at other a b. c.uncovered_place_is_one.ensures.one greatest_number at other text (lit< tt) a b;
-      apart = λ text at ts a b. c.uncovered_place_is_one.ensures.apart greatest_number at text ts (lit< tt) a b;
+      one_list = λ text ts us a b. c.tokens_are_one_list.ensures.of_text text ts us a b;
+      one_place = λ text at other a b. c.uncovered_place_is_one.ensures.of_text at other text a b;
+      apart = λ text at ts a b. c.uncovered_place_is_one.ensures.of_text_apart at text ts a b;
       one_program = λ p q ks a b. c.tokens_have_one_program.ensures p q ks a b;
     })

@@ -8,4 +8,4 @@ use Rattle.rx_check.proofs.checks.first_over.Given as goal
 -- the first is among those that are left
 abbrev pub invariant-loop-mention : goal.invariant-loop-mention
 invariant-loop-mention l =
-    first_over (limit_of l.what) (filter_map (measure_in l.what) (drop l.mention-index l.mentions)) ≡ first_over (limit_of l.what) (filter_map (measure_in l.what) l.mentions)
+    first_over (limit_of l.program l.what) (filter_map (measure_in l.what) (drop l.mention-index l.mentions)) ≡ first_over (limit_of l.program l.what) (filter_map (measure_in l.what) l.mentions)

@@ -1,4 +1,4 @@
-use Rattle.std.proofs.Common.{◌≡◌, ◌+◌, ◌++◌, Some, None, arith, ap, sym, ◌∙◌, refl, length}
+use Rattle.std.proofs.Common.{◌≡◌, ◌+◌, ◌++◌, Some, None, arith, ap, ◌∙◌, refl, length}
 use Rattle.std.specs.Prelude.{filter_map}
 use Rattle.std.specs.List.{zip}
 use Rattle.rx_rules.specs.Names.{integer_in}

@@ -1,4 +1,4 @@
-use Rattle.std.proofs.Common.{◌≡◌, ◌≤◌, ◌<◌, arith}
+use Rattle.std.proofs.Common.{◌≤◌, arith}
 use Rattle.rx_ast.specs.Syntax.{slots_of}
 use Rattle.rx_ast.specs.Depth.{slot_depth, slots_depth}
 use Rattle.rx_eval.proofs.Places.{slot_depth-get_or, short-get_or, elements_more, items_more, turns-limit}

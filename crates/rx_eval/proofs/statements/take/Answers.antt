@@ -1,4 +1,4 @@
-use Rattle.std.proofs.Common.{◌≡◌, ◌∙◌, ap, refl, map}
+use Rattle.std.proofs.Common.{◌≡◌, ◌∙◌, ap, map}
 use Rattle.rx_meaning.specs.Expressions.{value_in}
 use Rattle.std.specs.Prelude.{slice_index_or, pos}
 use Rattle.rx_meaning.specs.Body.{taken, with_read, with_effect}

@@ -1,10 +1,10 @@
-use Rattle.std.proofs.Common.{◌≡◌, ◌≤◌, ◌<◌, ◌-◌, ◌+◌, ◌++◌, ◌∙◌, arith, get_or, sym, take, length, min, refl, length-take}
+use Rattle.std.proofs.Common.{◌≡◌, ◌≤◌, ◌+◌, ◌++◌, ◌∙◌, arith, get_or, sym, take, length, min, refl, length-take}
 use Rattle.std.specs.List.{zip}
-use Rattle.std.specs.Int.{w32}
+use Rattle.rx_rules.specs.Versions.{width}
 use Rattle.rx_meaning.specs.Expressions.{values, nested_calls}
 use Rattle.rx_ast.specs.Syntax.{exprs_of, functions}
 use Rattle.rx_ast.specs.ExprView.{links_of}
-use Rattle.rx_eval.proofs.Sizes.{expr_size, exprs_size, links_size, widest, room, function_size}
+use Rattle.rx_eval.proofs.Sizes.{expr_size, exprs_size, links_size, widest, function_size}
 use Rattle.rx_eval.proofs.Naming.{named-contained}
 use Rattle.rx_eval.proofs.Calls.{operand_size, exprs_size-take, exprs_size-push, size-contained, room-more, call-answer, bound_more}
 use Rattle.rx_eval.proofs.values.+value.Goals as goal
@@ -59,12 +59,13 @@ with_arguments-with_arguments-requires t c =
 
 pub with_arguments-returns-in-Some : goal.with_arguments-returns-in-Some
 with_arguments-returns-in-Some t c =
+    let w = width c.args.checked.now in
     let calls = nested_calls c.args.nesting c.args.checked.now in
     let f = c.args.function.now in
     let x = c.index-parameters-before.result in
-    let more : zip (take (length c.args.arguments.now) f.parameters) (values w32 calls c.args.env.now (exprs_of c.args.arguments.now)) ++ c.args.bound.now
-    ≡ zip (take (length c.in-Some.before.now) f.parameters) (values w32 calls c.args.env.now (exprs_of c.in-Some.before.now)) ++ c.with-bound.result =
+    let more : zip (take (length c.args.arguments.now) f.parameters) (values w calls c.args.env.now (exprs_of c.args.arguments.now)) ++ c.args.bound.now
+    ≡ zip (take (length c.in-Some.before.now) f.parameters) (values w calls c.args.env.now (exprs_of c.in-Some.before.now)) ++ c.with-bound.result =
     rw (c.with-bound.ensures, c.value-argument.ensures)
-    (bound_more w32 calls c.args.env.now f.parameters c.args.arguments.now c.in-Some.before.now c.in-Some.argument.now x c.args.bound.now c.in-Some.ensures.cases.0 c.requires.within
+    (bound_more w calls c.args.env.now f.parameters c.args.arguments.now c.in-Some.before.now c.in-Some.argument.now x c.args.bound.now c.in-Some.ensures.cases.0 c.requires.within
     (rw (← c.parameters.ensures) c.index-parameters-before.is)) in
     rw more c.with_arguments.ensures

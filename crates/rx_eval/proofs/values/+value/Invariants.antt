@@ -1,7 +1,7 @@
 use Rattle.std.proofs.Common.{◌≡◌, ◌+◌, drop}
-use Rattle.std.specs.Int.{w32}
 use Rattle.rx_ast.specs.Syntax.{exprs_of, functions}
 use Rattle.rx_ast.specs.ExprView.{links_of}
+use Rattle.rx_rules.specs.Versions.{width}
 use Rattle.rx_meaning.specs.Expressions.{nested_calls, chained}
 use Rattle.rx_eval.proofs.Sizes.{expr_size, links_size, exprs_size, lines_size, room}
 use Rattle.rx_eval.proofs.values.+value.Given as goal
@@ -24,4 +24,4 @@ decreases-after_lines l = room l.nesting (functions l.checked.now) + lines_size 
 -- what the links that are left make of the value so far is the value of the whole
 abbrev pub invariant-chained-loop-link : goal.invariant-chained-loop-link
 invariant-chained-loop-link l =
-    chained w32 (nested_calls l.nesting l.checked) l.env l.so_far (links_of (drop l.link-index l.links)) ≡ chained w32 (nested_calls l.nesting l.checked) l.env l.fn.first (links_of l.links)
+    chained (width l.checked) (nested_calls l.nesting l.checked) l.env l.so_far (links_of (drop l.link-index l.links)) ≡ chained (width l.checked) (nested_calls l.nesting l.checked) l.env l.fn.first (links_of l.links)

@@ -1,4 +1,4 @@
-use Rattle.std.specs.Prelude.{◌≡◌, Option, Some, None, slice_get}
+use Rattle.std.specs.Prelude.{◌≡◌, slice_get}
 use Rattle.std.proofs.Common.{sym, ◌∙◌}
 use Rattle.rx_ast.specs.Syntax.{functions}
 use Rattle.rx_rules.specs.Names.{function_named}

@@ -1,6 +1,6 @@
 use Rattle.std.proofs.Common.{refl, ◌≡◌, Some, ◌++◌, length, sym, ap, ◌∙◌, arith, eqb-true, IsUtf8}
 use Rattle.rx_lex.specs.declared.token.Kind.TheVariants.{Text, Mark}
-use Rattle.rx_lex.specs.Tokens.{Between, Meant, StandsFirst}
+use Rattle.rx_lex.specs.Tokens.{Between, Meant}
 use Rattle.rx_lex.specs.Spans.{seen}
 use Rattle.rx_lex.proofs.Cuts.{cut_string}
 use Rattle.rx_lex.proofs.Fronts.{no_piece, no_empty_word, word_stands}

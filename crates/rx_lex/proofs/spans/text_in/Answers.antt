@@ -1,5 +1,4 @@
-use Rattle.std.proofs.Common.{◌≡◌, sym, ap, ◌∙◌, rules}
-use Rattle.rx_lex.specs.Spans.{as_text}
+use Rattle.std.proofs.Common.{sym, ◌∙◌}
 use Rattle.rx_lex.proofs.Cuts.{as_text_is, as_text_none}
 use Rattle.rx_lex.proofs.spans.text_in.Goals as goal
 

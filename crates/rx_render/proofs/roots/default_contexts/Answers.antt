@@ -19,7 +19,7 @@ loop-declaration-preserved c =
           default_taken c.args.checked.now c.loop-declaration.values.items _ _ c.declarations-declaration-items.result.now c.loop-declaration.declaration-index c.declaration-item.result
           w.in-Context.context c.loop-declaration-test.true c.declaration-item.is
           (ap as_context (sym c.declaration.view_is) ∙ ap (λ k. as_context (declaration_of k)) w.in-Context.is)
-          (ap (λ v. v.items) w.values-is ∙ (w.in_ok-push.ensures.items ∙ ap (λ d. c.loop-declaration.values.items ++ d ∷ []) (w.default_of.ensures c.args.checked.now)))
+          (ap (λ v. v.items) w.values-is ∙ (w.in_ok-push.ensures.items ∙ ap (λ d. c.loop-declaration.values.items ++ d ∷ []) w.default_of.ensures))
           c.loop-declaration.invariant
       | in_default w ↦
           default_passed c.args.checked.now c.loop-declaration.values.items _ _ c.declarations-declaration-items.result.now c.loop-declaration.declaration-index c.declaration-item.result c.loop-declaration-test.true

@@ -17,7 +17,7 @@ returns-then-not-is_in_bounds c =
     let count : 0 < length c.args.words.now = some-length c.args.words.now c.if-is_empty.ensures in
     let form : ◌≡◌ {A = Option Form} (Some c.in-Some.form) (option_map reading (form_of (texts c.args.words.now))) = search rules in
     let targets : has_targets c.args.checked.now c.in-Some.form.step ≡ true = search rules in
-    let bounds : form_in_bounds c.in-Some.form ≡ false = search rules in
+    let bounds : form_in_bounds c.args.checked.now c.in-Some.form ≡ false = search rules in
     words-out c.args.checked.now c.args.words.now c.in-Some.form count form targets bounds
 
 pub returns : goal.returns
@@ -25,5 +25,5 @@ returns c =
     let count : 0 < length c.args.words.now = some-length c.args.words.now c.if-is_empty.ensures in
     let form : ◌≡◌ {A = Option Form} (Some c.in-Some.form) (option_map reading (form_of (texts c.args.words.now))) = search rules in
     let targets : has_targets c.args.checked.now c.in-Some.form.step ≡ true = search rules in
-    let bounds : form_in_bounds c.in-Some.form ≡ true = search rules in
+    let bounds : form_in_bounds c.args.checked.now c.in-Some.form ≡ true = search rules in
     words-step c.args.checked.now c.args.words.now c.in-Some.form count form targets bounds

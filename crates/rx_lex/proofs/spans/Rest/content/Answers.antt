@@ -1,4 +1,4 @@
-use Rattle.std.proofs.Common.{◌≡◌, ◌+◌, take, drop, sym, ap, ◌∙◌, drop-drop}
+use Rattle.std.proofs.Common.{◌+◌, take, sym, ap, ◌∙◌, drop-drop}
 use Rattle.rx_lex.specs.Spans.{as_text, bytes_at}
 use Rattle.rx_lex.proofs.spans.Rest.content.Goals as goal
 

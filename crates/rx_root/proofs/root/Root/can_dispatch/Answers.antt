@@ -12,4 +12,4 @@ pub returns : goal.returns
 returns c =
     let program : c.checked.result.now ≡ c.args.self.now.rendering.program = c.checked.ensures ∙ ap (λ (v : Rooted). v.rendering.program) c.self.view_is in
     subst (λ (q : Program). IsTrue c.dispatch_fits.result ↔ CanTake q (step.Dispatch c.args.dispatch.now)) program
-    (both_true c.dispatch_fits.result (has_targets c.checked.result.now (step.Dispatch c.args.dispatch.now)) (in_bounds (step.Dispatch c.args.dispatch.now)) c.dispatch_fits.ensures)
+    (both_true c.dispatch_fits.result (has_targets c.checked.result.now (step.Dispatch c.args.dispatch.now)) (in_bounds c.checked.result.now (step.Dispatch c.args.dispatch.now)) c.dispatch_fits.ensures)

@@ -11,4 +11,4 @@ pub returns : goal.returns
 returns c =
     let program : c.checked.result.now ≡ c.args.self.now.rendering.program = c.checked.ensures ∙ ap (λ (v : Rooted). v.rendering.program) c.self.view_is in
     subst (λ (q : Program). IsTrue c.step_fits.result ↔ CanTake q c.args.step.now) program
-    (both_true c.step_fits.result (has_targets c.checked.result.now c.args.step.now) (in_bounds c.args.step.now) c.step_fits.ensures)
+    (both_true c.step_fits.result (has_targets c.checked.result.now c.args.step.now) (in_bounds c.checked.result.now c.args.step.now) c.step_fits.ensures)
