@@ -205,8 +205,8 @@ old_waits s scene kept sees t id (Some (node e (of_boundary (Hidden a)) ns fs)) 
 
 lists_of_body : (cs : Contexts) (c : ℕ) (old : Option Node) (b : Body) (s : Sight) (us : Flags) (fs : List Frame) (e : Element) → HasLists (shape_of_body cs c old b)
     → begun_flags s fs us cs e old (shape_of_body cs c old b) ≡ below_node s (flag us) cs e old ∷ us
-lists_of_body cs c old (wait r) s us fs e h = absurd h
-lists_of_body cs c old (ready es effects initials reads) s us fs e h = refl
+lists_of_body cs c old (wait r v) s us fs e h = absurd h
+lists_of_body cs c old (ready es effects initials reads versions) s us fs e h = refl
 
 lists_of_component : (s : Sight) (cs : Contexts) (c : ℕ) (ps : List ℤ) (kids : Elements) (old : Option Node) (d : Option Component) (us : Flags) (fs : List Frame) (e : Element) → HasLists (shape_of_component s cs c ps kids old d)
     → begun_flags s fs us cs e old (shape_of_component s cs c ps kids old d) ≡ below_node s (flag us) cs e old ∷ us
@@ -214,8 +214,8 @@ lists_of_component s cs c ps kids old None us fs e h = absurd h
 lists_of_component s cs c ps kids old (Some d) us fs e h = lists_of_body cs c old (body_of s.program d (inputs_at s cs ps kids (old_instance old))) s us fs e h
 
 counted_body : (s : Sight) (u : Flag) (cs : Contexts) (c : ℕ) (e : Element) (old : Option Node) (b : Body) (count : ℕ) → count ≡ own_body s u cs e old → count ≡ begins_evaluated s u cs e old (shape_of_body cs c old b)
-counted_body s u cs c e old (wait r) count h = h
-counted_body s u cs c e old (ready es effects initials reads) count h = h
+counted_body s u cs c e old (wait r v) count h = h
+counted_body s u cs c e old (ready es effects initials reads versions) count h = h
 
 counted_component : (s : Sight) (u : Flag) (cs : Contexts) (e : Element) (c : ℕ) (ps : List ℤ) (kids : Elements) (old : Option Node) (d : Option Component) (count : ℕ) → count ≡ own_body s u cs e old
     → count ≤ begins_as each_body cs e old (shape_of_component s cs c ps kids old d) → count ≡ begins_evaluated s u cs e old (shape_of_component s cs c ps kids old d)
@@ -223,8 +223,8 @@ counted_component s u cs e c ps kids old None count h few = omega (arith, few)
 counted_component s u cs e c ps kids old (Some d) count h few = counted_body s u cs c e old (body_of s.program d (inputs_at s cs ps kids (old_instance old))) count h
 
 may_body : (s : Sight) (u : Flag) (cs : Contexts) (e : Element) (c : ℕ) (old : Option Node) (b : Body) → MayTry s u e old (shape_of_body cs c old b)
-may_body s u cs e c old (wait r) = tt
-may_body s u cs e c old (ready es effects initials reads) = tt
+may_body s u cs e c old (wait r v) = tt
+may_body s u cs e c old (ready es effects initials reads versions) = tt
 
 may_component : (s : Sight) (u : Flag) (cs : Contexts) (e : Element) (c : ℕ) (ps : List ℤ) (kids : Elements) (old : Option Node) (d : Option Component) → MayTry s u e old (shape_of_component s cs c ps kids old d)
 may_component s u cs e c ps kids old None = tt

@@ -18,8 +18,9 @@ use Rattle.rx_hooks.specs.declared.hook.Hook.{Hook}
 use Rattle.rx_hooks.specs.Hooks.{HookHistory, HooksStandFor}
 use Rattle.rx_meaning.specs.Again.{AreUnresolved}
 use Rattle.rx_meaning.specs.Expressions.{answers_of}
-use Rattle.rx_meaning.specs.Fresh.{Contexts, Sight, resources_seen}
-use Rattle.rx_meaning.specs.Settled.{number_of, read_anew}
+use Rattle.rx_meaning.specs.Fresh.{Contexts, Sight, resources_seen, version_seen}
+use Rattle.rx_meaning.specs.Settled.{number_of, read_anew, refreshed}
+use Rattle.rx_meaning.specs.Touched.{sees_refresh}
 use Rattle.rx_model.specs.State.{Progress, State}
 use Rattle.rx_model.specs.Committing.{sight_of}
 use Rattle.rx_model.specs.HooksOf.{AreHooksFrom, KeepsAllHooks}
@@ -34,6 +35,7 @@ use Rattle.rx_causes.specs.Hidden as hidden
 use Rattle.rx_causes.specs.Idle.{Rests}
 use Rattle.cost_laws.specs.Causes.{has_value, instance_news, is_called, is_due, is_news, news_at, news_in, some_update, waits_still}
 use Rattle.cost_laws.specs.Undue.{IsUndue}
+use Rattle.rx_begin.proofs.Keeping.{seen_versions}
 use Rattle.begin_laws.specs.Mounting.{HasInstances, HasInstancesIn, IfMounted, IsMountedIn}
 use Rattle.begin_laws.specs.Telling.{TellsCauses}
 
@@ -114,18 +116,23 @@ module _ (p : Program) (st : State) (g : Progress) (kept : ℕ → Option (List 
   flipped false true = refl
   flipped false false = refl
 
+  -- an instance read a context that has another value here, or a resource that the render sees in another version
+  abbrev anew : Contexts → Instance → Bool
+  anew cs i = read_anew cs i.reads || refreshed (version_seen seen) i.versions
+
   instance_called : (cs : Contexts) (i : Instance) (calm work : Bool) → IfMounted st.tree (Some i) → TellsWork kept g.lanes g.cut (Some i) work → (number : Option ℕ) → i.number ≡ number
-      → calm ≡ (is_some number && (not work && not (read_anew cs i.reads))) → is_called seen cs (Some i) ≡ not calm
+      → calm ≡ (is_some number && (not work && not (anew cs i))) → is_called seen cs (Some i) ≡ not calm
   instance_called cs i calm work has tells None number is = rw (number, is) refl
   instance_called cs i calm work has tells (Some n) number is =
-      ap (λ x. option_map_or (λ n. some_update (is_due seen) seen n i.initials) x true || read_anew cs i.reads) number
-      ∙ (ap (λ b. b || read_anew cs i.reads) (sym (work_is i n work has number tells)) ∙ (flipped work (read_anew cs i.reads) ∙ ap not (sym is)))
+      ap (λ x. option_map_or (λ n. some_update (is_due seen) seen n i.initials) x true || anew cs i) number
+      ∙ (ap (λ b. b || anew cs i) (sym (work_is i n work has number tells)) ∙ (flipped work (anew cs i) ∙ ap not (sym is)))
 
   called_is : (scene : Scene) (cs : Contexts) (i : Option Instance) (calm : Bool) → IsSceneOf scene seen → IfMounted st.tree i → TellsCalm scene kept cs i calm → is_called seen cs i ≡ not calm
   called_is scene cs None calm sees has tells = ap not (sym tells.is)
   called_is scene cs (Some i) calm sees has tells =
       instance_called cs i calm tells.work has
-      (subst (λ l. TellsWork kept l g.cut (Some i) tells.work) (sym sees.lanes) (subst (λ c. TellsWork kept scene.lanes c (Some i) tells.work) (sym sees.cut) tells.tells)) i.number refl tells.is
+      (subst (λ l. TellsWork kept l g.cut (Some i) tells.work) (sym sees.lanes) (subst (λ c. TellsWork kept scene.lanes c (Some i) tells.work) (sym sees.cut) tells.tells)) i.number refl
+      (subst (λ version. calm ≡ (is_some i.number && (not tells.work && not (read_anew cs i.reads || refreshed version i.versions)))) (seen_versions scene seen sees) tells.is)
 
   -- Boundaries
 
@@ -210,23 +217,24 @@ module _ (p : Program) (st : State) (g : Progress) (kept : ℕ → Option (List 
   -- a boundary waits no longer if there is a cause to try its children again
   tried_is : (scene : Scene) (x : Node) (a : Awaits) → IsSceneOf scene seen → HasInstances st.tree x → mark_of x ≡ of_boundary (Hidden a) → HasCauseToTry scene kept a x → waits_still seen (Some x) ≡ false
   tried_is scene (node e m ns fs) a sees has mark cause =
-      let new : (has_value seen a || news_in seen ns) ≡ true = elim cause [
-        | inl value ↦ or_left (has_value seen a) (news_in seen ns)
+      let new : (sees_refresh seen || (has_value seen a || news_in seen ns)) ≡ true = elim cause [
+        | inl another ↦ or_left (sees_refresh seen) (has_value seen a || news_in seen ns) (sym sees.refreshes ∙ another)
+        | inr (inl value) ↦ or_right (sees_refresh seen) (has_value seen a || news_in seen ns) (or_left (has_value seen a) (news_in seen ns)
             (has_some (λ r. is_some (slice_index_or (resources_seen seen) r None)) a value.resource value.awaited
-            (is_some_of (slice_index_or (resources_seen seen) value.resource None) (subst (λ (xs : List (Option ℤ)). IsSome (slice_index_or xs value.resource None)) sees.resources value.value)))
-        | inr news ↦ or_right (has_value seen a) (news_in seen ns)
-            (news_found ns (subst (λ l. SomeNodeIn (λ m. HasNews kept l g.cut (instance_in m)) ns) (sym sees.lanes) (subst (λ c. SomeNodeIn (λ m. HasNews kept scene.lanes c (instance_in m)) ns) (sym sees.cut) news)) has.1)
+            (is_some_of (slice_index_or (resources_seen seen) value.resource None) (subst (λ (xs : List (Option ℤ)). IsSome (slice_index_or xs value.resource None)) sees.resources value.value))))
+        | inr (inr news) ↦ or_right (sees_refresh seen) (has_value seen a || news_in seen ns) (or_right (has_value seen a) (news_in seen ns)
+            (news_found ns (subst (λ l. SomeNodeIn (λ m. HasNews kept l g.cut (instance_in m)) ns) (sym sees.lanes) (subst (λ c. SomeNodeIn (λ m. HasNews kept scene.lanes c (instance_in m)) ns) (sym sees.cut) news)) has.1))
       ] in
       rw (mark, new) refl
 
-  -- and it waits still if nothing that it awaits has a value, and what it keeps has no news
-  waits_is : (x : Node) (a : Awaits) → HasInstances st.tree x → mark_of x ≡ of_boundary (Hidden a) → AreUnresolved seen a → ForEachIn (λ i. TellsNews kept g.lanes g.cut i false) (children_of x) → waits_still seen (Some x) ≡ true
-  waits_is (node e m ns fs) a has mark unresolved each =
+  -- and it waits still if no resource has another version, nothing that it awaits has a value, and what it keeps has no news
+  waits_is : (x : Node) (a : Awaits) → HasInstances st.tree x → mark_of x ≡ of_boundary (Hidden a) → sees_refresh seen ≡ false → AreUnresolved seen a → ForEachIn (λ i. TellsNews kept g.lanes g.cut i false) (children_of x) → waits_still seen (Some x) ≡ true
+  waits_is (node e m ns fs) a has mark calm unresolved each =
       let gone : has_value seen a ≡ false =
       has_none (λ r. is_some (slice_index_or (resources_seen seen) r None)) a a (λ r there. ap is_some (unresolved r there)) (λ r there. there)
       in
       let none : news_in seen ns ≡ false = none_found ns each has.1 in
-      rw (mark, gone, none) refl
+      rw (mark, calm, gone, none) refl
 
   -- Rest
 
@@ -268,7 +276,7 @@ module _ (p : Program) (st : State) (g : Progress) (kept : ℕ → Option (List 
   tells_causes (node e m ns fs) has = record {
     called = λ scene cs calm sees tells. called_is scene cs (instance_in m) calm sees has.0 tells;
     tried = λ scene a sees mark cause. tried_is scene (node e m ns fs) a sees has mark cause;
-    waits = λ a mark unresolved each. waits_is (node e m ns fs) a has mark unresolved each;
+    waits = λ a mark calm unresolved each. waits_is (node e m ns fs) a has mark calm unresolved each;
     undue = λ way each covers. undue_tree way (node e m ns fs) has each covers;
   }
 

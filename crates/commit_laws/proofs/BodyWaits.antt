@@ -1,14 +1,15 @@
 -- A body waits only for a resource that has no value.
-use Rattle.std.specs.List.{position_or_len, range_with_len}
-use Rattle.std.specs.Prelude.{Bool, List, None, Option, Some, [], bytes_eq, cond, false, filter_map, flat_map, length, map, nat_lt, refl, slice_get, slice_index_or, suc, true, unwrap_or, zero, ℕ, ℤ, ◌++◌, ◌+◌, ◌<◌, ◌∷◌, ◌≡◌}
-use Rattle.std.proofs.Common.{ap, arith, subst, sym, ◌∙◌}
+use Rattle.std.specs.List.{position_or_len}
+use Rattle.std.specs.Prelude.{Bool, List, None, Option, Some, [], bytes_eq, cond, false, filter_map, flat_map, length, nat_lt, refl, slice_get, slice_index_or, suc, true, unwrap_or, zero, ℕ, ℤ, ◌++◌, ◌<◌, ◌∷◌, ◌≡◌}
+use Rattle.std.proofs.Common.{arith, subst, sym, ◌∙◌}
 use Rattle.std.proofs.lemmas.Bool.Decides.{nat_tests}
 use Rattle.rx_ast.specs.Syntax.{Component, Program, Statement, body_slots, components, constant, context, effect, reducer, state, use_resource}
 use Rattle.rx_base.specs.Values.{Name}
 use Rattle.rx_rules.specs.Names.{component_at, distinct, resource_in, resource_number, resources, resources_of}
 use Rattle.rx_meaning.specs.Body.{Frame, Inputs, Taken, and_then, body_of, finished, opening_frame, stopped_at, take_all, take_one, taken, wait, with_resource}
-use Rattle.rx_meaning.specs.Fresh.{Sight, resources_seen}
-use Rattle.rx_queue.specs.Journal.{resolved_by}
+use Rattle.rx_meaning.specs.Fresh.{Sight, resources_seen, version_seen}
+use Rattle.rx_queue.specs.Journal.{resolutions_by, resolved_by}
+use Rattle.commit_laws.proofs.Versions.{value_at}
 
 -- Statements that read resources
 
@@ -46,12 +47,12 @@ no_reads p h c d there = none_read d.statements (each_empty (components p) (dist
 -- What a body waits for
 
 abbrev StopsAt : List (Option ℤ) → ℕ → Taken → Type 0
-StopsAt res n (stopped_at r) = (slice_index_or res r None ≡ None) × (r < n)
+StopsAt res n (stopped_at r v) = (slice_index_or res r None ≡ None) × (r < n)
 StopsAt res n (taken f) = Unit {0}
 
-one_stop : (name : Name) (r n : ℕ) (res : List (Option ℤ)) (x : Option ℤ) (f : Frame) → slice_index_or res r None ≡ x → r < n → StopsAt res n (with_resource name r x f)
-one_stop name r n res None f e l = (e, l)
-one_stop name r n res (Some x) f e l = tt
+one_stop : (name : Name) (r v n : ℕ) (res : List (Option ℤ)) (x : Option ℤ) (f : Frame) → slice_index_or res r None ≡ x → r < n → StopsAt res n (with_resource name r v x f)
+one_stop name r v n res None f e l = (e, l)
+one_stop name r v n res (Some x) f e l = tt
 
 number_within : (names : List Name) → 0 < length names → (k : ℕ) (b : Bool) → nat_lt k (length names) ≡ b → unwrap_or (cond b (Some k) None) 0 < length names
 number_within names some k true e = grind (arith, nat_tests)
@@ -66,7 +67,7 @@ statement_stops p some i (state name setter e) f = tt
 statement_stops p some i (reducer name setter function e) f = tt
 statement_stops p some i (context name source) f = tt
 statement_stops p some i (use_resource name resource) f =
-    one_stop name (resource_number p resource) (length (resources p)) i.resources (slice_index_or i.resources (resource_number p resource) None) f refl (resource_within p some resource)
+    one_stop name (resource_number p resource) (slice_index_or i.versions (resource_number p resource) 0) (length (resources p)) i.resources (slice_index_or i.resources (resource_number p resource) None) f refl (resource_within p some resource)
 statement_stops p some i (constant name e) f = tt
 statement_stops p some i (effect layout label depends) f = tt
 
@@ -76,11 +77,11 @@ statements_stop p some i (s ∷ ss) f = go (take_one p i s f) (statement_stops p
   where
     go : (t : Taken) → StopsAt i.resources (length (resources p)) t → ((g : Frame) → StopsAt i.resources (length (resources p)) (take_all p i ss g))
         → StopsAt i.resources (length (resources p)) (and_then t (take_all p i ss))
-    go (stopped_at r) h k = h
+    go (stopped_at r v) h k = h
     go (taken g) h k = k g
 
 abbrev NeverStops : Taken → Type 0
-NeverStops (stopped_at r) = ⊥
+NeverStops (stopped_at r v) = ⊥
 NeverStops (taken f) = Unit {0}
 
 statement_goes_on : (p : Program) (i : Inputs) (s : Statement) (f : Frame) → resource_in s ≡ None → NeverStops (take_one p i s f)
@@ -96,23 +97,23 @@ statements_go_on p i [] f h = tt
 statements_go_on p i (s ∷ ss) f h = go (take_one p i s f) (statement_goes_on p i s f h.0) (λ g. statements_go_on p i ss g h.1)
   where
     go : (t : Taken) → NeverStops t → ((g : Frame) → NeverStops (take_all p i ss g)) → NeverStops (and_then t (take_all p i ss))
-    go (stopped_at r) h k = absurd h
+    go (stopped_at r v) h k = absurd h
     go (taken g) h k = k g
 
 -- what the body of a component waits for is a resource without a value
-body_stops : (p : Program) (c : ℕ) (d : Component) → component_at p c ≡ Some d → (i : Inputs) (r : ℕ) → body_of p d i ≡ wait r
+body_stops : (p : Program) (c : ℕ) (d : Component) → component_at p c ≡ Some d → (i : Inputs) (r v : ℕ) → body_of p d i ≡ wait r v
     → (slice_index_or i.resources r None ≡ None) × (r < length (resources p))
 unfolding body_of
-body_stops p c d there i r h = pick (length (resources p)) refl
+body_stops p c d there i r v h = pick (length (resources p)) refl
   where
-    stops : (t : Taken) → StopsAt i.resources (length (resources p)) t → finished p i (body_slots d.body) t ≡ wait r → (slice_index_or i.resources r None ≡ None) × (r < length (resources p))
-    stops (stopped_at q) x same =
+    stops : (t : Taken) → StopsAt i.resources (length (resources p)) t → finished p i (body_slots d.body) t ≡ wait r v → (slice_index_or i.resources r None ≡ None) × (r < length (resources p))
+    stops (stopped_at q w) x same =
         let equal : q ≡ r = cc in
         subst (λ (n : ℕ). (slice_index_or i.resources n None ≡ None) × (n < length (resources p))) equal x
     stops (taken f) x same = absurd (cc same)
 
-    never : (t : Taken) → NeverStops t → finished p i (body_slots d.body) t ≡ wait r → (slice_index_or i.resources r None ≡ None) × (r < length (resources p))
-    never (stopped_at q) x same = absurd x
+    never : (t : Taken) → NeverStops t → finished p i (body_slots d.body) t ≡ wait r v → (slice_index_or i.resources r None ≡ None) × (r < length (resources p))
+    never (stopped_at q w) x same = absurd x
     never (taken f) x same = absurd (cc same)
 
     pick : (n : ℕ) → length (resources p) ≡ n → (slice_index_or i.resources r None ≡ None) × (r < length (resources p))
@@ -121,17 +122,10 @@ body_stops p c d there i r h = pick (length (resources p)) refl
         let some : 0 < length (resources p) = omega (arith, e) in
         stops (take_all p i d.statements (opening_frame d i.props)) (statements_stop p some i d.statements (opening_frame d i.props)) h
 
-value_got : (f : ℕ → Option ℤ) (k n r : ℕ) → r < n → slice_index_or (map f (range_with_len k n)) r None ≡ f (k + r)
-value_got f k zero r h = absurd (omega arith)
-value_got f k (suc n) zero h = let e : k + 0 ≡ k = omega arith in rw e refl
-value_got f k (suc n) (suc r) h = let e : (k + 1) + r ≡ k + suc r = omega arith in value_got f (k + 1) n r (omega arith) ∙ ap f e
-
--- So a body of a render waits for one that was not resolved before the cut.
-pub body_waits : (s : Sight) (c : ℕ) (d : Component) → component_at s.program c ≡ Some d → (i : Inputs) → i.resources ≡ resources_seen s → (r : ℕ) → body_of s.program d i ≡ wait r
-    → resolved_by s.cut s.journal r ≡ None
-body_waits s c d there i seen r h =
-    let stops = body_stops s.program c d there i r h in
+-- So a body of a render waits for a resource whose version was not resolved before the cut.
+pub body_waits : (s : Sight) (c : ℕ) (d : Component) → component_at s.program c ≡ Some d → (i : Inputs) → i.resources ≡ resources_seen s → (r v : ℕ) → body_of s.program d i ≡ wait r v
+    → resolved_by s.cut s.journal r (version_seen s r) ≡ None
+body_waits s c d there i seen r v h =
+    let stops = body_stops s.program c d there i r v h in
     let none : slice_index_or (resources_seen s) r None ≡ None = subst (λ (l : List (Option ℤ)). slice_index_or l r None ≡ None) seen stops.0 in
-    let got : slice_index_or (resources_seen s) r None ≡ resolved_by s.cut s.journal (0 + r) = value_got (resolved_by s.cut s.journal) 0 (length (resources s.program)) r stops.1 in
-    let e : 0 + r ≡ r = omega arith in
-    ap (resolved_by s.cut s.journal) (sym e) ∙ (sym got ∙ none)
+    sym (value_at (resolutions_by s.cut s.journal) (version_seen s) (length (resources s.program)) r stops.1) ∙ none

@@ -3,7 +3,7 @@ use Rattle.std.specs.List.{list_any}
 use Rattle.std.specs.Prelude.{Bool, List, [], false, if◌then◌else◌, map, nat_lt, not, refl, true, ℕ, ◌&&◌, ◌||◌, ◌∷◌, ◌≡◌}
 use Rattle.rx_meaning.specs.Fresh.{Sight}
 use Rattle.rx_queue.specs.History.{stands_done, stands_owed}
-use Rattle.rx_queue.specs.Journal.{Posted, belongs_to, is_included, marked_update}
+use Rattle.rx_queue.specs.Journal.{Posted, belongs_to, is_included, is_resource, marked_update}
 use Rattle.rx_queue.specs.declared.entry.Standing.{Standing}
 use Rattle.rx_queue.specs.declared.entry.Standing.TheVariants.{Done, Open, Owed}
 use Rattle.rx_meaning.specs.Again.{AccountedBefore, IsFreeOf, NoneOwed}
@@ -28,20 +28,20 @@ free_is_calm s set [] h = refl
 free_is_calm s set (u ∷ us) h =
     rw (one_free (nat_lt u.update.number s.cut.updates) (lanes_of.has s.lanes u.update.lane) (belongs_to set u.target) u.standing h.0, free_is_calm s set us h.1) refl
 
-one_owed : (x l k : Bool) (st : Standing) → (stands_owed st ≡ true → x ≡ true) → (v : Bool) → v ≡ true
-    → stands_owed (if (x && (stands_done st || stands_owed st || l)) && v then Done else if x && (not (stands_done st) && (l && k)) then Owed else st) ≡ false
-one_owed x l k st h false e = absurd (cc e)
-one_owed true l k Done h true e = refl
-one_owed false l k Done h true e = refl
-one_owed true l k Owed h true e = refl
-one_owed false l k Owed h true e = absurd (cc (h refl))
-one_owed true true k Open h true e = refl
-one_owed true false k Open h true e = refl
-one_owed false l k Open h true e = refl
+one_owed : (x l k r : Bool) (st : Standing) → (stands_owed st ≡ true → x ≡ true) → (v : Bool) → v ≡ true
+    → stands_owed (if (x && (stands_done st || stands_owed st || l)) && (v || r) then Done else if x && (not (stands_done st) && (l && k)) then Owed else st) ≡ false
+one_owed x l k r st h false e = absurd (cc e)
+one_owed true l k r Done h true e = refl
+one_owed false l k r Done h true e = refl
+one_owed true l k r Owed h true e = refl
+one_owed false l k r Owed h true e = absurd (cc (h refl))
+one_owed true true k r Open h true e = refl
+one_owed true false k r Open h true e = refl
+one_owed false l k r Open h true e = refl
 
 pub none_owed : (s : Sight) (visible kept : List ℕ) (us : List Posted) → AccountedBefore s.cut us → NoneOwed visible (map (marked_update s.lanes s.cut visible kept) us)
 none_owed s visible kept [] a = tt
 none_owed s visible kept (u ∷ us) a = (
-  one_owed (nat_lt u.update.number s.cut.updates) (lanes_of.has s.lanes u.update.lane) (belongs_to kept u.target) u.standing a.0.1 (belongs_to visible u.target),
+  one_owed (nat_lt u.update.number s.cut.updates) (lanes_of.has s.lanes u.update.lane) (belongs_to kept u.target) (is_resource u.target) u.standing a.0.1 (belongs_to visible u.target),
   none_owed s visible kept us a.1,
 )

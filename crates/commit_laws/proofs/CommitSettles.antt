@@ -8,10 +8,10 @@ use Rattle.rx_elem.specs.Elements.{Element, Elements, listed}
 use Rattle.rx_elem.specs.Numbers.{Numbers, numbered, numbered_host, numbered_in, numbered_instance, numbered_mark}
 use Rattle.rx_elem.specs.Spots.{kept_instances, visible_instances}
 use Rattle.rx_elem.specs.Trees.{Forest, Instance, Mark, Node, child, elements_in, is_hidden, node, none, of_boundary, of_host, of_instance, plain, vacant}
-use Rattle.rx_meaning.specs.Body.{body_of, ready}
-use Rattle.rx_meaning.specs.Fresh.{Contexts, Place, Sight, before, default_contexts, default_of, depth_limit, fresh, made, place_of, rendered, resources_seen, root_element, shape_of_component, values_of}
+use Rattle.rx_meaning.specs.Body.{Inputs, body_of, ready}
+use Rattle.rx_meaning.specs.Fresh.{Contexts, Place, Sight, before, default_contexts, default_of, depth_limit, fresh, made, place_of, rendered, resource_numbers, root_element, shape_of_component, values_of}
 use Rattle.rx_meaning.specs.Touched.{contexts_below}
-use Rattle.commit_laws.proofs.BodyLaw.{body_agrees, body_mounted}
+use Rattle.commit_laws.proofs.BodyLaw.{agreeing, body_agrees, body_mounted}
 use Rattle.commit_laws.proofs.Leaving.{PlaceIs, rendered_is}
 use Rattle.commit_laws.proofs.Naming.{HasComponents, some_got}
 use Rattle.commit_laws.proofs.Settling.{after_commit, kept_values, new_values, tree_seen, visible_values}
@@ -19,6 +19,7 @@ use Rattle.commit_laws.specs.HiddenWaits.{AllSeen, NumberSeen, Seen}
 use Rattle.commit_laws.proofs.Rendered.{AllRendered, AreApart, IsBodyIn, IsRendered}
 use Rattle.rx_meaning.specs.Settled.{AllSettled, DoneBefore, HasValuesOf, IfHidden, IfSettled, IsBodyOf, IsOwnBy, IsSettled, Known, TargetsBelow, done_values, includes, number_of}
 use Rattle.rx_rules.specs.Reads.{ReadsDeclared}
+use Rattle.rx_queue.specs.Journal.{Resolution, resolutions_by, values_at}
 use Rattle.rx_elem.specs.Elements as elements
 
 -- Numbering
@@ -105,14 +106,21 @@ own_carried c visible kept v B D carry (elements.boundary key f es) m ns fs ms g
 own_carried c visible kept v B D carry (elements.provider k key z es) m ns fs ms gs a b x y seen own =
     (ap (λ (q : Mark). (numbered_mark c q).1) own.0, a ∙ own.1, y own.2)
 
-module _ (s : Sight) (res : List (Option ℤ)) (visible kept : List ℕ) (before : DoneBefore s.cut s.journal.updates)
-    (apart : (i : ℕ) → includes kept i ≡ true → includes visible i ≡ false) (next : ℕ) (below : TargetsBelow next s.journal.updates) (more : HasValuesOf res (resources_seen s)) where
+module _ (s : Sight) (rs : List Resolution) (visible kept : List ℕ) (before : DoneBefore s.cut s.journal.updates)
+    (apart : (i : ℕ) → includes kept i ≡ true → includes visible i ≡ false) (next : ℕ) (below : TargetsBelow next s.journal.updates) (more : HasValuesOf rs (resolutions_by s.cut s.journal)) where
   -- what was known before the commit, and after it
   abbrev old_known : Known
-  old_known = record { updates = s.journal.updates; resources = res }
+  old_known = record { updates = s.journal.updates; resolutions = rs }
 
   abbrev new_known : Known
   new_known = after_commit s visible kept before
+
+  -- the versions of the resources, and the values of these that the render sees
+  abbrev all_versions : (ℕ → ℕ) → List ℕ
+  all_versions version = map version (resource_numbers s.program)
+
+  abbrev all_values : (ℕ → ℕ) → List (Option ℤ)
+  all_values version = values_at (resolutions_by s.cut s.journal) (all_versions version)
 
   -- Bodies
 
@@ -126,17 +134,17 @@ module _ (s : Sight) (res : List (Option ℤ)) (visible kept : List ℕ) (before
         instance = n;
         is_numbered = number;
         initials = b.initials;
-        gives = λ ds agrees. go ds (values_of s i) (values number) (b.gives ds agrees);
+        gives = λ ds version agrees same. go ds version (values_of s i) (values number) (b.gives ds version agrees same);
       }
     where
       values : i.number ≡ Some n → values_of s i ≡ Some (done_values s.program new_known n i.initials)
       values same = rw same (ap Some (visible_values s visible kept before n seen i.initials))
 
-      go : (ds : Contexts) (h : Option (List ℤ)) → h ≡ Some (done_values s.program new_known n i.initials)
-          → body_of s.program b.component (record { props = props; children = listed given; hooks = h; contexts = ds; resources = resources_seen s }) ≡ ready es i.effects b.initials i.reads
-          → body_of s.program b.component (record { props = props; children = listed given; hooks = Some (done_values s.program new_known n i.initials); contexts = ds; resources = resources_seen s })
-          ≡ ready es i.effects b.initials i.reads
-      go ds h same x = rw same at x
+      go : (ds : Contexts) (version : ℕ → ℕ) (h : Option (List ℤ)) → h ≡ Some (done_values s.program new_known n i.initials)
+          → body_of s.program b.component (record { props = props; children = listed given; hooks = h; contexts = ds; versions = all_versions version; resources = all_values version }) ≡ ready es i.effects b.initials i.reads i.versions
+          → body_of s.program b.component (record { props = props; children = listed given; hooks = Some (done_values s.program new_known n i.initials); contexts = ds; versions = all_versions version; resources = all_values version })
+          ≡ ready es i.effects b.initials i.reads i.versions
+      go ds version h same x = rw same at x
 
   fresh_body : (cs : Contexts) (k : ℕ) (props : List ℤ) (given : Elements) (i : Instance) (es : List Element) (n : ℕ) → i.number ≡ None → next ≤ n
       → IsBodyIn s cs k props given i es → IsBodyOf s.program new_known k props given (record i { number = Some n }) es
@@ -148,19 +156,19 @@ module _ (s : Sight) (res : List (Option ℤ)) (visible kept : List ℕ) (before
         instance = n;
         is_numbered = refl;
         initials = [];
-        gives = λ ds agrees. rw mounted
-            (body_mounted s.program (record { props = props; children = listed given; hooks = None; contexts = ds; resources = resources_seen s })
-            b.initials b.component es i.effects i.reads (go ds (values_of s i) unnumbered (b.gives ds agrees)));
+        gives = λ ds version agrees same. rw mounted
+            (body_mounted s.program (record { props = props; children = listed given; hooks = None; contexts = ds; versions = all_versions version; resources = all_values version })
+            b.initials b.component es i.effects i.reads i.versions (go ds version (values_of s i) unnumbered (b.gives ds version agrees same)));
       }
     where
       unnumbered : values_of s i ≡ None
       unnumbered = rw number refl
 
-      go : (ds : Contexts) (h : Option (List ℤ)) → h ≡ None
-          → body_of s.program b.component (record { props = props; children = listed given; hooks = h; contexts = ds; resources = resources_seen s }) ≡ ready es i.effects b.initials i.reads
-          → body_of s.program b.component (record { props = props; children = listed given; hooks = None; contexts = ds; resources = resources_seen s })
-          ≡ ready es i.effects b.initials i.reads
-      go ds h same x = rw same at x
+      go : (ds : Contexts) (version : ℕ → ℕ) (h : Option (List ℤ)) → h ≡ None
+          → body_of s.program b.component (record { props = props; children = listed given; hooks = h; contexts = ds; versions = all_versions version; resources = all_values version }) ≡ ready es i.effects b.initials i.reads i.versions
+          → body_of s.program b.component (record { props = props; children = listed given; hooks = None; contexts = ds; versions = all_versions version; resources = all_values version })
+          ≡ ready es i.effects b.initials i.reads i.versions
+      go ds version h same x = rw same at x
 
       mounted : done_values s.program new_known n i.initials ≡ b.initials
       mounted = new_values s visible kept before n next late below i.initials ∙ b.mounts number
@@ -175,12 +183,22 @@ module _ (s : Sight) (res : List (Option ℤ)) (visible kept : List ℕ) (before
         instance = b.instance;
         is_numbered = b.is_numbered;
         initials = b.initials;
-        gives = λ ds agrees. rw (sym (kept_values s visible kept before res b.instance (apart b.instance (seen b.instance b.is_numbered)) i.initials))
-            (body_agrees s.program (record { props = props; children = listed given; hooks = Some (done_values s.program old_known b.instance i.initials); contexts = ds; resources = res })
-            ds (resources_seen s) b.component es i.effects b.initials i.reads
-            (record { contexts_agree = agrees; resources_agree = more })
-            (b.gives ds agrees));
+        gives = λ ds version agrees same. rw (sym (kept_values s visible kept before rs b.instance (apart b.instance (seen b.instance b.is_numbered)) i.initials))
+            (body_agrees s.program (was ds version) ds version (all_versions version) (all_values version) b.component es i.effects b.initials i.reads i.versions
+            (agreeing s.program (was ds version) ds version version rs (resolutions_by s.cut s.journal) refl refl more i.reads i.versions agrees same)
+            (b.gives ds version agrees same));
       }
+    where
+      was : Contexts → (ℕ → ℕ) → Inputs
+      was ds version =
+          record {
+            props = props;
+            children = listed given;
+            hooks = Some (done_values s.program old_known b.instance i.initials);
+            contexts = ds;
+            versions = all_versions version;
+            resources = values_at rs (all_versions version);
+          }
 
   carry_visible : (c : Numbers) → next ≤ c.instance → (cs : Contexts) → Carries c visible kept true (IsBodyIn s cs) (IsBodyOf s.program new_known)
   carry_visible c late cs k props given i es seen b = go i.number refl seen
@@ -280,12 +298,12 @@ fresh_is s k old new deep declared settled gives =
     go p same h = let x : PlaceIs s k (default_contexts s.program) (root_element s.program) (made new) = rw same at h in x.1
 
 -- What a commit leaves is settled, by the marks that it sets.
-pub commit_settles : (s : Sight) (old : Option Node) (new : Node) (from : Numbers) (res : List (Option ℤ)) → depth_bound s.program ≤ depth_limit → ReadsDeclared s.program
-    → (before : DoneBefore s.cut s.journal.updates) → TargetsBelow from.instance s.journal.updates → HasValuesOf res (resources_seen s)
-    → IfSettled s.program (record { updates = s.journal.updates; resources = res }) old
+pub commit_settles : (s : Sight) (old : Option Node) (new : Node) (from : Numbers) (rs : List Resolution) → depth_bound s.program ≤ depth_limit → ReadsDeclared s.program
+    → (before : DoneBefore s.cut s.journal.updates) → TargetsBelow from.instance s.journal.updates → HasValuesOf rs (resolutions_by s.cut s.journal)
+    → IfSettled s.program (record { updates = s.journal.updates; resolutions = rs }) old
     → fresh s old ≡ made new → AreApart (numbered from new).1
     → IsSettled s.program (after_commit s (visible_instances (Some (numbered from new).1)) (kept_instances (Some (numbered from new).1)) before) (numbered from new).1
-commit_settles s old new from res deep declared before targets more settled gives apart =
-    rendered_settles s res (visible_instances (Some (numbered from new).1)) (kept_instances (Some (numbered from new).1)) before apart from.instance targets more
+commit_settles s old new from rs deep declared before targets more settled gives apart =
+    rendered_settles s rs (visible_instances (Some (numbered from new).1)) (kept_instances (Some (numbered from new).1)) before apart from.instance targets more
     from (omega arith) (default_contexts s.program) new (tree_seen (numbered from new).1)
-    (fresh_is s (record { updates = s.journal.updates; resources = res }) old new deep declared settled gives)
+    (fresh_is s (record { updates = s.journal.updates; resolutions = rs }) old new deep declared settled gives)

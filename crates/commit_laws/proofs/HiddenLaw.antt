@@ -14,18 +14,19 @@ use Rattle.rx_elem.specs.Numbers.{Numbers, numbered, numbered_host, numbered_in,
 use Rattle.rx_elem.specs.Spots.{Around, Mounted, Spot, around_children, at_root, mounted_as, mounted_at, numbers_of, spot_mark, spots, spots_in}
 use Rattle.rx_elem.specs.Trees.{Forest, Instance, Mark, Node, child, children_if, elements_in, fallback_if, instance_in, is_hidden, node, none, of_boundary, of_host, of_instance, places, plain, vacant}
 use Rattle.rx_meaning.specs.Body.{Body, body_of, ready, wait}
-use Rattle.rx_meaning.specs.Fresh.{Contexts, Place, Places, Sight, all_made, before, default_contexts, depth_limit, empty, fresh, inputs_at, instance_after, made, old_instance, one_waits, over, over_boundary, part, place, place_of, render_all, render_list, render_part, rendered, resources_seen, root_element, shape_of_body, shape_of_component, values_of, waits}
-use Rattle.rx_meaning.specs.Touched.{contexts_below, instances_in}
+use Rattle.rx_meaning.specs.Fresh.{Contexts, Place, Places, Sight, all_made, before, default_contexts, depth_limit, empty, fresh, inputs_at, instance_after, made, old_instance, one_waits, over, over_boundary, part, place, place_of, render_all, render_list, render_part, rendered, root_element, shape_of_body, shape_of_component, values_of, waits}
+use Rattle.rx_meaning.specs.Touched.{contexts_below, instances_in, sees_refresh}
 use Rattle.rx_lane.specs.Lanes.{Lanes}
-use Rattle.rx_queue.specs.Journal.{Posted, Resolution, marked_update}
+use Rattle.rx_queue.specs.Journal.{Posted, Resolution, marked_update, resolutions_by}
 use Rattle.rx_susp.specs.declared.boundary.BoundaryState.TheVariants.{Hidden, Shown}
 use Rattle.rx_elem.proofs.Identities.{child_of}
 use Rattle.commit_laws.proofs.KeptValues.{values_again}
 use Rattle.commit_laws.proofs.Settling.{Among, among_first, among_rest}
 use Rattle.commit_laws.proofs.Soundness.{marked_hidden}
+use Rattle.commit_laws.proofs.VersionsStay.{accounted_done, versions_stay}
 use Rattle.commit_laws.proofs.WaitsAgain.{attempt_waits_again}
 use Rattle.rx_meaning.specs.Again.{AccountedBefore, AllOpen, AllValuesAgree, AreUnresolved, NoNewUpdate, ValuesAgree, WaitsAreSmall}
-use Rattle.commit_laws.specs.HiddenWaits.{AllHiddenWait, AllNumbered, AllSeen, HiddenWaits, IfNumbered, IsNumbered, Numbered, OwnWaits, Seen}
+use Rattle.commit_laws.specs.HiddenWaits.{AllHiddenWait, AllNumbered, AllSeen, HiddenWaits, IfNumbered, IsNumbered, Numbered, OwnWaits, Seen, journal_since, later_sight}
 use Rattle.rx_meaning.specs.Settled.{HasValuesOf, IfHidden, includes, number_of}
 use Rattle.rx_elem.specs.Elements as elements
 
@@ -112,9 +113,9 @@ over_hides n s cs ds e m (one_waits a) h f = tt
 
 body_hides : (n : ℕ) (s : Sight) → BelowHides n s → (cs : Contexts) (c : ℕ) (key : _) (props : _) (given : _) (old : Option Node) → IfNumbered old → (b : Body)
     → PlaceHides (suc n) s cs (place_of (rendered n s) (elements.comp c key props given) old (shape_of_body cs c old b))
-body_hides n s below cs c key props given old h (wait r) = tt
-body_hides n s below cs c key props given old h (ready es effects initials reads) =
-    over_hides n s cs cs (elements.comp c key props given) (of_instance (instance_after c (old_instance old) initials reads effects))
+body_hides n s below cs c key props given old h (wait r v) = tt
+body_hides n s below cs c key props given old h (ready es effects initials reads versions) =
+    over_hides n s cs cs (elements.comp c key props given) (of_instance (instance_after c (old_instance old) initials reads versions effects))
     (render_list (rendered n s cs) es (children_if old)) (list_hides n s below cs es (children_if old) (children_numbered old h)) (λ ns all. (tt, all, tt))
 
 component_hides : (n : ℕ) (s : Sight) → BelowHides n s → (cs : Contexts) (c : ℕ) (key : _) (props : List ℤ) (given : Elements) (old : Option Node) → IfNumbered old → (d : Option Component)
@@ -345,12 +346,12 @@ pub untouched_waits : (s : Sight) (lanes : Lanes) (cut : Cut) (visible kept : Li
     → (n : ℕ) (cs : Contexts) (key : _) (f : Element) (es : Elements) (a : Awaits) (ns : Forest)
     → OwnWaits n s cs (elements.boundary key f es) (of_boundary (Hidden a)) ns → AllSeen visible kept false ns
     → NoNewUpdate lanes cut (instances_in ns) (map (marked_update s.lanes s.cut visible kept) s.journal.updates) → NoNewUpdate lanes cut (instances_in ns) new
-    → HasValuesOf (resources_seen s)
-    (resources_seen (record s { journal = record { updates = map (marked_update s.lanes s.cut visible kept) s.journal.updates ++ new; resolutions = resolutions }; lanes = lanes; cut = cut }))
-    → AreUnresolved (record s { journal = record { updates = map (marked_update s.lanes s.cut visible kept) s.journal.updates ++ new; resolutions = resolutions }; lanes = lanes; cut = cut }) a
-    → render_part (rendered n (record s { journal = record { updates = map (marked_update s.lanes s.cut visible kept) s.journal.updates ++ new; resolutions = resolutions }; lanes = lanes; cut = cut }))
-    (part cs (listed es) ns) ≡ one_waits a
-untouched_waits s lanes cut visible kept apart grows new resolutions accounted opened small n cs key f es a ns own seen old_calm new_calm more unresolved =
-    attempt_waits_again s (record { updates = map (marked_update s.lanes s.cut visible kept) s.journal.updates ++ new; resolutions = resolutions }) lanes cut small more n (part cs (listed es) ns) a
+    → sees_refresh (later_sight s (journal_since s visible kept new resolutions) lanes cut) ≡ false
+    → HasValuesOf (resolutions_by s.cut s.journal) (resolutions_by cut (journal_since s visible kept new resolutions))
+    → AreUnresolved (later_sight s (journal_since s visible kept new resolutions) lanes cut) a
+    → render_part (rendered n (later_sight s (journal_since s visible kept new resolutions) lanes cut)) (part cs (listed es) ns) ≡ one_waits a
+untouched_waits s lanes cut visible kept apart grows new resolutions accounted opened small n cs key f es a ns own seen old_calm new_calm no_refresh more unresolved =
+    attempt_waits_again s (journal_since s visible kept new resolutions) lanes cut small
+    (versions_stay s visible kept (accounted_done s.cut s.journal.updates accounted) new opened resolutions lanes cut no_refresh) more n (part cs (listed es) ns) a
     (all_values_agree s lanes cut visible kept (instances_in ns) apart grows new resolutions accounted opened old_calm new_calm ns own.1 seen (numbers_in_itself ns))
     own.0 unresolved

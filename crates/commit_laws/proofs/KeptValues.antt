@@ -8,10 +8,10 @@ use Rattle.rx_meaning.specs.Expressions.{answers_of}
 use Rattle.rx_meaning.specs.Fresh.{Sight, hook_values}
 use Rattle.rx_lane.specs.Lanes.{Lanes}
 use Rattle.rx_queue.specs.History.{Answers, applied, stands_done, stands_open, stands_owed}
-use Rattle.rx_queue.specs.Journal.{Posted, Target, belongs_to, hook, is_included, is_new, marked_update, same_target, standing_after, state_from, state_of}
+use Rattle.rx_queue.specs.Journal.{Posted, Target, belongs_to, hook, is_included, is_new, is_resource, marked_update, same_target, standing_after, state_from, state_of}
 use Rattle.rx_queue.specs.declared.entry.Standing.{Standing}
 use Rattle.rx_queue.specs.declared.entry.Standing.TheVariants.{Done, Open, Owed}
-use Rattle.commit_laws.proofs.Settling.{target_has, with_standing}
+use Rattle.commit_laws.proofs.Settling.{no_resource, target_has, with_standing}
 use Rattle.rx_elem.proofs.Deciding.{or_fails}
 use Rattle.rx_meaning.specs.Again.{AccountedBefore, AllOpen, NoNewUpdate}
 use Rattle.rx_meaning.specs.Settled.{includes}
@@ -99,23 +99,24 @@ module _ (s : Sight) (lanes : Lanes) (cut : Cut) (visible kept set : List ℕ) (
       let v = marked_update s.lanes s.cut visible kept u in
       let parts = or_fails (is_new lanes cut v && belongs_to set v.target)
       (list_any (λ u. is_new lanes cut u && belongs_to set u.target) (map (marked_update s.lanes s.cut visible kept) us)) h in (
-        λ same. go (belongs_to visible u.target) (belongs_to kept u.target) (belongs_to set u.target)
-            (target_has visible n k u.target false not_visible same) (target_has kept n k u.target true is_kept same) (target_has set n k u.target true is_in same) parts.0,
+        λ same. go (belongs_to visible u.target) (is_resource u.target) (belongs_to kept u.target) (belongs_to set u.target)
+            (target_has visible n k u.target false not_visible same) (no_resource n k u.target same) (target_has kept n k u.target true is_kept same) (target_has set n k u.target true is_in same) parts.0,
         pass_again k us a.1 parts.1,
       )
     where
-      st : Bool → Bool → Standing
-      st a b = if is_included s.lanes s.cut u && a then Done else if nat_lt u.update.number s.cut.updates && (not (stands_done u.standing) && (lanes_of.has s.lanes u.update.lane && b)) then Owed else u.standing
+      st : Bool → Bool → Bool → Standing
+      st a r b = if is_included s.lanes s.cut u && (a || r) then Done else if nat_lt u.update.number s.cut.updates && (not (stands_done u.standing) && (lanes_of.has s.lanes u.update.lane && b)) then Owed else u.standing
 
-      go : (a b c : Bool) → a ≡ false → b ≡ true → c ≡ true
-          → (((nat_lt u.update.number cut.updates && (stands_done (st a b) || stands_owed (st a b) || lanes_of.has lanes u.update.lane)) && stands_open (st a b)) && c) ≡ false
-          → (nat_lt u.update.number cut.updates && (stands_done (st a b) || stands_owed (st a b) || lanes_of.has lanes u.update.lane)) ≡ is_included s.lanes s.cut u
-      go false true true x y z f =
+      go : (a r b c : Bool) → a ≡ false → r ≡ false → b ≡ true → c ≡ true
+          → (((nat_lt u.update.number cut.updates && (stands_done (st a r b) || stands_owed (st a r b) || lanes_of.has lanes u.update.lane)) && stands_open (st a r b)) && c) ≡ false
+          → (nat_lt u.update.number cut.updates && (stands_done (st a r b) || stands_owed (st a r b) || lanes_of.has lanes u.update.lane)) ≡ is_included s.lanes s.cut u
+      go false false true true x v y z f =
           again (nat_lt u.update.number s.cut.updates) (nat_lt u.update.number cut.updates) (lanes_of.has s.lanes u.update.lane) (lanes_of.has lanes u.update.lane) u.standing
           (below_more s.cut.updates cut.updates u.update.number grows) a.0.0 a.0.1 f
-      go true b c x y z f = absurd (cc x)
-      go false false c x y z f = absurd (cc y)
-      go false true false x y z f = absurd (cc z)
+      go true r b c x v y z f = absurd (cc x)
+      go false true b c x v y z f = absurd (cc v)
+      go false false false c x v y z f = absurd (cc y)
+      go false false true false x v y z f = absurd (cc z)
 
   new_pass : (k : ℕ) (us : List Posted) → AllOpen us → NoNewUpdate lanes cut set us → PassesLater (hook n k) (λ u. u) (is_included lanes cut) (λ u. false) us
   new_pass k [] a h = tt

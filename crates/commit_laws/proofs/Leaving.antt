@@ -1,19 +1,22 @@
 -- What a render leaves: each component as its body gave it, and what hidden boundaries keep as it was.
 use Rattle.std.specs.List.{zip}
 use Rattle.std.specs.Option.{option_flatten}
-use Rattle.std.specs.Prelude.{List, None, Option, Some, [], is_some, length, map, option_and_then, position, refl, slice_get, slice_set, suc, true, zero, ℕ, ℤ, ◌++◌, ◌∷◌, ◌≡◌, ◌≤◌}
+use Rattle.std.specs.Prelude.{List, None, Option, Some, [], is_some, length, map, option_and_then, position, refl, slice_get, slice_index_or, slice_set, suc, true, zero, ℕ, ℤ, ◌++◌, ◌∷◌, ◌≡◌, ◌≤◌}
 use Rattle.std.proofs.Common.{ap, arith, inl, inr, subst, sym, ◌∙◌}
 use Rattle.rx_ast.specs.Syntax.{Component, Program}
-use Rattle.rx_rules.specs.Names.{component_at}
+use Rattle.rx_rules.specs.Names.{component_at, resources}
 use Rattle.rx_elem.specs.Compare.{node_at, old_nodes}
 use Rattle.rx_elem.specs.Elements.{Element, Elements, gathered, listed}
 use Rattle.rx_elem.specs.Identity.{Child, identified, identities_after, is_same_child}
 use Rattle.rx_elem.specs.Trees.{Forest, Instance, Mark, Node, child, children_if, element_of, elements_in, fallback_if, instance_in, node, none, of_host, of_instance, places, plain, vacant}
 use Rattle.rx_elem.specs.declared.effect.ContextRead.{ContextRead}
 use Rattle.rx_elem.specs.declared.effect.EffectRecord.{EffectRecord}
+use Rattle.rx_elem.specs.declared.effect.VersionRead.{VersionRead}
+use Rattle.rx_queue.specs.Journal.{resolutions_by, values_at}
+use Rattle.commit_laws.proofs.Versions.{value_there, version_at}
 use Rattle.rx_meaning.specs.Body.{Body, body_of, ready, wait}
-use Rattle.rx_meaning.specs.Fresh.{Contexts, Place, Places, Sight, all_made, before, empty, inputs_at, instance_after, made, old_host, old_instance, one_waits, over, over_boundary, place, place_of, render_all, render_list, rendered, resources_seen, shape_of, shape_of_body, shape_of_component, waits}
-use Rattle.commit_laws.proofs.BodyLaw.{IsFull, body_agrees, body_read}
+use Rattle.rx_meaning.specs.Fresh.{Contexts, Place, Places, Sight, all_made, before, empty, inputs_at, instance_after, made, old_host, old_instance, one_waits, over, over_boundary, place, place_of, render_all, render_list, rendered, resource_numbers, resources_seen, shape_of, shape_of_body, shape_of_component, version_seen, versions_seen, waits}
+use Rattle.commit_laws.proofs.BodyLaw.{IsFull, agreeing, body_agrees, body_read, body_seen}
 use Rattle.rx_meaning.proofs.Depths.{ShapeFits, shape_fits}
 use Rattle.rx_elem.proofs.Identities.{child_of}
 use Rattle.commit_laws.proofs.Naming.{AllNamed, HasComponents, Named, body_named, listed_named}
@@ -119,17 +122,23 @@ old_number : (p : Program) (k : Known) (old : Option Node) → IfSettled p k old
 old_number p k None h i e = absurd (cc e)
 old_number p k (Some (node e m ns fs)) h i same = own_number p k e m ns fs h.0 i same
 
+-- what a render sees a value of is a resource, in the version that it sees
+seen_in_versions : (s : Sight) (r : ℕ) (x : ℤ) → slice_index_or (resources_seen s) r None ≡ Some x → slice_index_or (versions_seen s) r 0 ≡ version_seen s r
+seen_in_versions s r x h =
+    let there = value_there (resolutions_by s.cut s.journal) (version_seen s) (length (resources s.program)) r x h in
+    version_at (version_seen s) (length (resources s.program)) r there.0
+
 -- the body of a component leaves its instance so
 body_is : (s : Sight) (k : Known) → ReadsDeclared s.program → (cs : Contexts) → IsFull s.program cs → (c : ℕ) (d : Component) → component_at s.program c ≡ Some d
     → (props : List ℤ) (given : Elements) (old : Option Node) → IfSettled s.program k old
-    → (es : List Element) (effects : List EffectRecord) (initials : List ℤ) (reads : List ContextRead)
-    → body_of s.program d (inputs_at s cs props given (old_instance old)) ≡ ready es effects initials reads
-    → IsBodyIn s cs c props given (instance_after c (old_instance old) initials reads effects) es
-body_is s k declared cs full c d found props given old settled es effects initials reads b = go (old_instance old) refl b
+    → (es : List Element) (effects : List EffectRecord) (initials : List ℤ) (reads : List ContextRead) (versions : List VersionRead)
+    → body_of s.program d (inputs_at s cs props given (old_instance old)) ≡ ready es effects initials reads versions
+    → IsBodyIn s cs c props given (instance_after c (old_instance old) initials reads versions effects) es
+body_is s k declared cs full c d found props given old settled es effects initials reads versions b = go (old_instance old) refl b
   where
     go : (i : Option Instance) → old_instance old ≡ i
-        → body_of s.program d (inputs_at s cs props given i) ≡ ready es effects initials reads
-        → IsBodyIn s cs c props given (instance_after c i initials reads effects) es
+        → body_of s.program d (inputs_at s cs props given i) ≡ ready es effects initials reads versions
+        → IsBodyIn s cs c props given (instance_after c i initials reads versions effects) es
     go None same b =
         record {
           component = d;
@@ -137,9 +146,12 @@ body_is s k declared cs full c d found props given old settled es effects initia
           is_of = refl;
           initials = initials;
           mounts = λ h. refl;
-          was_read = body_read s.program d (inputs_at s cs props given None) es effects initials reads full (declared c d found) b;
-          gives = λ ds agrees. body_agrees s.program (inputs_at s cs props given None) ds (resources_seen s)
-              d es effects initials reads (record { contexts_agree = agrees; resources_agree = λ r x h. h }) b;
+          was_read = body_read s.program d (inputs_at s cs props given None) es effects initials reads versions full (declared c d found) b;
+          was_seen = body_seen s.program d (inputs_at s cs props given None) (version_seen s) (seen_in_versions s) es effects initials reads versions b;
+          gives = λ ds version agrees same. body_agrees s.program (inputs_at s cs props given None) ds version (map version (resource_numbers s.program))
+              (values_at (resolutions_by s.cut s.journal) (map version (resource_numbers s.program))) d es effects initials reads versions
+              (agreeing s.program (inputs_at s cs props given None) ds (version_seen s) version (resolutions_by s.cut s.journal) (resolutions_by s.cut s.journal)
+              refl refl (λ r v x h. h) reads versions agrees same) b;
         }
     go (Some i) same b =
         record {
@@ -148,9 +160,12 @@ body_is s k declared cs full c d found props given old settled es effects initia
           is_of = refl;
           initials = initials;
           mounts = λ h. absurd (numbered (old_number s.program k old settled i same) h);
-          was_read = body_read s.program d (inputs_at s cs props given (Some i)) es effects initials reads full (declared c d found) b;
-          gives = λ ds agrees. body_agrees s.program (inputs_at s cs props given (Some i)) ds (resources_seen s)
-              d es effects initials reads (record { contexts_agree = agrees; resources_agree = λ r x h. h }) b;
+          was_read = body_read s.program d (inputs_at s cs props given (Some i)) es effects initials reads versions full (declared c d found) b;
+          was_seen = body_seen s.program d (inputs_at s cs props given (Some i)) (version_seen s) (seen_in_versions s) es effects initials reads versions b;
+          gives = λ ds version agrees same. body_agrees s.program (inputs_at s cs props given (Some i)) ds version (map version (resource_numbers s.program))
+              (values_at (resolutions_by s.cut s.journal) (map version (resource_numbers s.program))) d es effects initials reads versions
+              (agreeing s.program (inputs_at s cs props given (Some i)) ds (version_seen s) version (resolutions_by s.cut s.journal) (resolutions_by s.cut s.journal)
+              refl refl (λ r v x h. h) reads versions agrees same) b;
         }
       where
         numbered : ((n : ℕ) × (i.number ≡ Some n)) → i.number ≡ None → ⊥
@@ -180,10 +195,10 @@ parts_are s k cs key f es old (one_waits a) (all_made fs) settled h l =
 parts_are s k cs key f es old (one_waits a) (one_waits b) settled h l = tt
 
 body_depth_is : (n : ℕ) (s : Sight) (cs : Contexts) (c : ℕ) (old : Option Node) (b : Body) → ShapeFits n s.program (shape_of_body cs c old b)
-    → (es : List Element) (effects : List EffectRecord) (initials : List ℤ) (reads : List ContextRead) → b ≡ ready es effects initials reads
+    → (es : List Element) (effects : List EffectRecord) (initials : List ℤ) (reads : List ContextRead) (versions : List VersionRead) → b ≡ ready es effects initials reads versions
     → elements_depth (body_depth n s.program) (gathered es) ≤ n
-body_depth_is n s cs c old (wait r) h es effects initials reads same = absurd (cc same)
-body_depth_is n s cs c old (ready xs e i r) h es effects initials reads same =
+body_depth_is n s cs c old (wait r v) h es effects initials reads versions same = absurd (cc same)
+body_depth_is n s cs c old (ready xs e i r v) h es effects initials reads versions same =
     let equal : xs ≡ es = cc in subst (λ (ys : List Element). elements_depth (body_depth n s.program) (gathered ys) ≤ n) equal h
 
 module _ (s : Sight) (k : Known) (declared : ReadsDeclared s.program) (some : HasComponents s.program) where
@@ -197,18 +212,18 @@ module _ (s : Sight) (k : Known) (declared : ReadsDeclared s.program) (some : Ha
       given_body : (d : Component) → component_at s.program c ≡ Some d → (b : Body) → body_of s.program d (inputs_at s cs props given (old_instance old)) ≡ b
           → ShapeFits n s.program (shape_of_body cs c old b)
           → PlaceIs s k cs (elements.comp c key props given) (place_of (rendered n s) (elements.comp c key props given) old (shape_of_body cs c old b))
-      given_body d there (wait r) same fit = tt
-      given_body d there (ready es effects initials reads) same fit =
-          over_is s k cs cs (elements.comp c key props given) (of_instance (instance_after c (old_instance old) initials reads effects)) es
+      given_body d there (wait r v) same fit = tt
+      given_body d there (ready es effects initials reads versions) same fit =
+          over_is s k cs cs (elements.comp c key props given) (of_instance (instance_after c (old_instance old) initials reads versions effects)) es
           (render_list (rendered n s cs) es (children_if old))
           (list_is n s k below cs es (children_if old) full
-          (body_named s.program some d (inputs_at s cs props given (old_instance old)) (listed_named s.program given named.1) es effects initials reads same)
+          (body_named s.program some d (inputs_at s cs props given (old_instance old)) (listed_named s.program given named.1) es effects initials reads versions same)
           fit (children_settled s.program k old settled))
           (λ ns elems all. (
             (
-              instance_after c (old_instance old) initials reads effects,
+              instance_after c (old_instance old) initials reads versions effects,
               refl,
-              rw elems (body_is s k declared cs full c d there props given old settled es effects initials reads same),
+              rw elems (body_is s k declared cs full c d there props given old settled es effects initials reads versions same),
               refl,
             ),
             all,

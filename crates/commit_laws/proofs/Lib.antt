@@ -1,6 +1,7 @@
 pub mod Rendered
 pub mod SameElements
 pub mod TakeOver
+pub mod Versions
 pub mod BodyLaw
 pub mod Naming
 pub mod Leaving
@@ -14,6 +15,7 @@ pub mod WaitsAgain
 pub mod SmallWaits
 pub mod ResourceLaws
 pub mod KeptValues
+pub mod VersionsStay
 pub mod HiddenLaw
 pub mod QuietTree
 pub mod Declared

@@ -10,6 +10,7 @@ use Rattle.rx_rules.specs.Names.{component_at, component_number, place_among}
 use Rattle.rx_elem.specs.Elements.{Element, Elements, gathered, listed}
 use Rattle.rx_elem.specs.declared.effect.ContextRead.{ContextRead}
 use Rattle.rx_elem.specs.declared.effect.EffectRecord.{EffectRecord}
+use Rattle.rx_elem.specs.declared.effect.VersionRead.{VersionRead}
 use Rattle.rx_meaning.specs.Body.{Inputs, Taken, body_of, elements_of, finished, opening_frame, ready, stopped_at, take_all, taken, turns}
 use Rattle.rx_meaning.specs.Expressions.{Env, value_in}
 use Rattle.rx_meaning.proofs.Depths.{gathered-listed}
@@ -95,12 +96,12 @@ mutual
   slots_named p some kids h env (syntax.slot s ss) = (slot_named p some kids h env s, slots_named p some kids h env ss)
 
 pub body_named : (p : Program) → HasComponents p → (c : Component) (i : Inputs) → AllNamed p (gathered i.children)
-    → (es : List Element) (effects : List EffectRecord) (initials : List ℤ) (reads : List ContextRead) → body_of p c i ≡ ready es effects initials reads → AllNamed p (gathered es)
+    → (es : List Element) (effects : List EffectRecord) (initials : List ℤ) (reads : List ContextRead) (versions : List VersionRead) → body_of p c i ≡ ready es effects initials reads versions → AllNamed p (gathered es)
 unfolding body_of
-body_named p some c i h es effects initials reads same = go (take_all p i c.statements (opening_frame c i.props)) same
+body_named p some c i h es effects initials reads versions same = go (take_all p i c.statements (opening_frame c i.props)) same
   where
-    go : (t : Taken) → finished p i (body_slots c.body) t ≡ ready es effects initials reads → AllNamed p (gathered es)
-    go (stopped_at r) same = absurd (cc same)
+    go : (t : Taken) → finished p i (body_slots c.body) t ≡ ready es effects initials reads versions → AllNamed p (gathered es)
+    go (stopped_at r v) same = absurd (cc same)
     go (taken f) same =
         let equal : elements_of p i.children f.env (body_slots c.body) ≡ es = cc in
         subst (λ (xs : List Element). AllNamed p (gathered xs)) equal (slots_named p some i.children h f.env (body_slots c.body))

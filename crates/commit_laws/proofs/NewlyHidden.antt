@@ -12,7 +12,7 @@ use Rattle.rx_elem.specs.Identity.{Child, identified, identities_after, is_same_
 use Rattle.rx_elem.specs.Numbers.{Numbers, numbered, numbered_in, numbered_instance, numbered_mark}
 use Rattle.rx_elem.specs.Spots.{Around, Spot, around_children, at_root, spot_mark, spots, spots_in}
 use Rattle.rx_elem.specs.Trees.{Forest, Mark, Node, awaits_in, boundary_in, child, children_if, elements_in, fallback_if, is_hidden, mark_of, node, none, of_boundary, of_host, of_instance, places, plain, vacant}
-use Rattle.rx_meaning.specs.Fresh.{Sight, depth_limit, fresh, made}
+use Rattle.rx_meaning.specs.Fresh.{Sight, depth_limit, fresh, made, version_seen}
 use Rattle.rx_meaning.specs.Outcome.{all_awaits, hides_shown, newly_hidden, old_state, visible_awaits}
 use Rattle.rx_meaning.specs.Settled.{AllSettled, IfHidden, IfSettled, IsSettled, Known}
 use Rattle.rx_queue.specs.Journal.{resolved_by}
@@ -268,11 +268,11 @@ committed_open s old new from deep gives =
     listed_open s (spots at_root (numbered from new).1) (seen_open s at_root from old new (fresh_holds s old new deep gives))
 
 -- so a resource that one of them awaits
-pub awaited_open : (s : Sight) (ws : List Awaits) → EachOpen s ws → (r : ℕ) → list_any (λ w. awaits.has w r) ws ≡ true → resolved_by s.cut s.journal r ≡ None
+pub awaited_open : (s : Sight) (ws : List Awaits) → EachOpen s ws → (r : ℕ) → list_any (λ w. awaits.has w r) ws ≡ true → resolved_by s.cut s.journal r (version_seen s r) ≡ None
 awaited_open s [] h r there = absurd (cc there)
 awaited_open s (w ∷ ws) h r there = go (awaits.has w r) refl there (awaited_open s ws h.1 r)
   where
     go : (b : Bool) → awaits.has w r ≡ b → (b || list_any (λ w. awaits.has w r) ws) ≡ true
-        → (list_any (λ w. awaits.has w r) ws ≡ true → resolved_by s.cut s.journal r ≡ None) → resolved_by s.cut s.journal r ≡ None
+        → (list_any (λ w. awaits.has w r) ws ≡ true → resolved_by s.cut s.journal r (version_seen s r) ≡ None) → resolved_by s.cut s.journal r (version_seen s r) ≡ None
     go true e x k = h.0 r e
     go false e x k = k x

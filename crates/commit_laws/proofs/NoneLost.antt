@@ -13,7 +13,7 @@ use Rattle.rx_lane.specs.Lanes.{Lanes}
 use Rattle.rx_lane.specs.SetLaws.{has-lanes_where}
 use Rattle.rx_lane.specs.declared.lane.Lane.{Lane}
 use Rattle.rx_queue.specs.History.{stands_done, stands_owed}
-use Rattle.rx_queue.specs.Journal.{Posted, Target, belongs_to, has_later, hook, marked_update, same_target}
+use Rattle.rx_queue.specs.Journal.{Posted, Target, belongs_to, has_later, hook, is_resource, marked_update, resource, same_target}
 use Rattle.rx_queue.specs.declared.entry.Standing.{Standing}
 use Rattle.rx_queue.specs.declared.entry.Standing.TheVariants.{Done, Open, Owed}
 use Rattle.rx_elem.proofs.Deciding.{same_itself, or_left, or_right, both_hold}
@@ -27,7 +27,7 @@ use Rattle.rx_lane.specs.Lanes as lanes_of
 abbrev pub NoneLost : Option Node → List Posted → Lanes → Type 0
 NoneLost tree us pending =
     (n : ℕ) (u : Posted) → slice_get us n ≡ Some u
-    → (belongs_to (visible_instances tree) u.target ≡ true) ⊎ (belongs_to (kept_instances tree) u.target ≡ true)
+    → ((belongs_to (visible_instances tree) u.target ≡ true) ⊎ (belongs_to (kept_instances tree) u.target ≡ true)) ⊎ (is_resource u.target ≡ true)
     → (stands_done u.standing ≡ true)
     ⊎ ((lanes_of.has pending u.update.lane ≡ true) ⊎ ((stands_owed u.standing ≡ true) × (belongs_to (kept_instances tree) u.target ≡ true)))
 
@@ -182,9 +182,17 @@ target_low next i k g = go (nat_lt i next) refl
         absurd (cc (x, g k i late))
 
 old_mounted : (s : Sight) (old : Option Node) (new : Node) (from : Numbers) → fresh s old ≡ made new → (t : Target) → ((k i : ℕ) → from.instance ≤ i → same_target (hook i k) t ≡ false)
-    → (belongs_to (visible_instances (Some (numbered from new).1)) t ≡ true) ⊎ (belongs_to (kept_instances (Some (numbered from new).1)) t ≡ true)
-    → (belongs_to (visible_instances old) t ≡ true) ⊎ (belongs_to (kept_instances old) t ≡ true)
-old_mounted s old new from gives (hook i k) low mounted = was_mounted s old new from gives i (target_low from.instance i k low) mounted
+    → ((belongs_to (visible_instances (Some (numbered from new).1)) t ≡ true) ⊎ (belongs_to (kept_instances (Some (numbered from new).1)) t ≡ true)) ⊎ (is_resource t ≡ true)
+    → ((belongs_to (visible_instances old) t ≡ true) ⊎ (belongs_to (kept_instances old) t ≡ true)) ⊎ (is_resource t ≡ true)
+old_mounted s old new from gives (hook i k) low (inl mounted) = inl (was_mounted s old new from gives i (target_low from.instance i k low) mounted)
+old_mounted s old new from gives (hook i k) low (inr h) = absurd (cc h)
+old_mounted s old new from gives (resource r) low mounted = inr refl
+
+-- an update of an instance that is visible, or of a resource, is shown by a commit; another one of an instance that is mounted is kept
+shown_or_kept : (v k r : Bool) → ((v ≡ true) ⊎ (k ≡ true)) ⊎ (r ≡ true) → ((v || r) ≡ true) ⊎ (k ≡ true)
+shown_or_kept v k r (inl (inl h)) = inl (or_left v r h)
+shown_or_kept v k r (inl (inr h)) = inr h
+shown_or_kept v k r (inr h) = inl (or_right v r h)
 
 pub commit_none_lost : (s : Sight) (old : Option Node) (new : Node) (from : Numbers) (pending still : Lanes) → fresh s old ≡ made new
     → AccountedBefore s.cut s.journal.updates → TargetsBelow from.instance s.journal.updates
@@ -196,8 +204,9 @@ commit_none_lost s old new from pending still gives accounted targets comes lost
     let before = got_accounted s.cut s.journal.updates accounted n u.0 u.1 in
     subst (λ (w : Posted). Fate (lanes_of.has after w.update.lane ≡ true) w.standing (belongs_to (kept_instances tree) w.target)) u.2
     (one_fate (lanes_of.has after u.0.update.lane ≡ true) (nat_lt u.0.update.number s.cut.updates) (lanes_of.has s.lanes u.0.update.lane)
-    (belongs_to (visible_instances tree) u.0.target) (belongs_to (kept_instances tree) u.0.target) (lanes_of.has pending u.0.update.lane) (belongs_to (kept_instances old) u.0.target) u.0.standing
-    before.0 before.1 (mounted_so u.0 u.2)
+    (belongs_to (visible_instances tree) u.0.target || is_resource u.0.target) (belongs_to (kept_instances tree) u.0.target) (lanes_of.has pending u.0.update.lane) (belongs_to (kept_instances old) u.0.target) u.0.standing
+    before.0 before.1
+    (shown_or_kept (belongs_to (visible_instances tree) u.0.target) (belongs_to (kept_instances tree) u.0.target) (is_resource u.0.target) (mounted_so u.0 u.2))
     (lost n u.0 u.1 (old_mounted s old new from gives u.0.target (got_below from.instance s.journal.updates targets n u.0 u.1) (mounted_so u.0 u.2)))
     (λ e l. comes_again u.0 u.1 e l) (λ e l. stays_so u.0.update.lane e l))
   where
@@ -208,9 +217,9 @@ commit_none_lost s old new from pending still gives accounted targets comes lost
     after = lanes_of.union (lanes_of.minus pending s.lanes) still
 
     mounted_so : (u : Posted) → marked_update s.lanes s.cut (visible_instances tree) (kept_instances tree) u ≡ v
-        → (belongs_to (visible_instances tree) u.target ≡ true) ⊎ (belongs_to (kept_instances tree) u.target ≡ true)
+        → ((belongs_to (visible_instances tree) u.target ≡ true) ⊎ (belongs_to (kept_instances tree) u.target ≡ true)) ⊎ (is_resource u.target ≡ true)
     mounted_so u same =
-        subst (λ (t : Target). (belongs_to (visible_instances tree) t ≡ true) ⊎ (belongs_to (kept_instances tree) t ≡ true)) (ap (λ (w : Posted). w.target) (sym same)) mounted
+        subst (λ (t : Target). ((belongs_to (visible_instances tree) t ≡ true) ⊎ (belongs_to (kept_instances tree) t ≡ true)) ⊎ (is_resource t ≡ true)) (ap (λ (w : Posted). w.target) (sym same)) mounted
 
     comes_again : (u : Posted) → slice_get s.journal.updates n ≡ Some u → nat_lt u.update.number s.cut.updates ≡ false → lanes_of.has s.lanes u.update.lane ≡ true
         → lanes_of.has after u.update.lane ≡ true

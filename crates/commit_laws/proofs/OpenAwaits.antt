@@ -13,7 +13,7 @@ use Rattle.rx_elem.specs.Elements.{Element, Elements, gathered, listed}
 use Rattle.rx_elem.specs.Identity.{Child, identified, identities_after, is_same_child}
 use Rattle.rx_elem.specs.Trees.{Forest, Mark, Node, awaits_in, child, children_if, element_of, elements_in, fallback_if, is_hidden, node, none, of_host, of_instance, plain, vacant}
 use Rattle.rx_meaning.specs.Body.{Body, body_of, ready, wait}
-use Rattle.rx_meaning.specs.Fresh.{Contexts, Place, Places, Sight, all_made, before, default_contexts, depth_limit, empty, fresh, inputs_at, instance_after, made, old_host, old_instance, one_waits, over, over_boundary, place, place_of, render_all, render_list, rendered, root_element, shape_of, shape_of_body, shape_of_component, waits}
+use Rattle.rx_meaning.specs.Fresh.{Contexts, Place, Places, Sight, all_made, before, default_contexts, depth_limit, empty, fresh, inputs_at, instance_after, made, old_host, old_instance, one_waits, over, over_boundary, place, place_of, render_all, render_list, rendered, root_element, shape_of, shape_of_body, shape_of_component, version_seen, waits}
 use Rattle.rx_queue.specs.Journal.{resolved_by}
 use Rattle.rx_meaning.proofs.Depths.{ShapeFits, shape_fits}
 use Rattle.rx_elem.proofs.Identities.{child_of}
@@ -29,9 +29,9 @@ use Rattle.rx_base.specs.Awaits as awaits
 
 -- Sets of resources
 
--- none of these resources was resolved before the cut
+-- none of these resources was resolved before the cut in the version that is seen
 abbrev pub AreOpen : Sight → Awaits → Type 0
-AreOpen s a = (r : ℕ) → awaits.has a r ≡ true → resolved_by s.cut s.journal r ≡ None
+AreOpen s a = (r : ℕ) → awaits.has a r ≡ true → resolved_by s.cut s.journal r (version_seen s r) ≡ None
 
 pub where_passes : (test : ℕ → Bool) (r : ℕ) → awaits.has (awaits_where test) r ≡ true → test r ≡ true
 where_passes test r h = go (nat_lt r resource_limit) refl
@@ -43,15 +43,15 @@ where_passes test r h = go (nat_lt r resource_limit) refl
 nothing_open : (s : Sight) → AreOpen s awaits.nothing
 nothing_open s r h = absurd (cc h)
 
-one_open : (s : Sight) (r : ℕ) → resolved_by s.cut s.journal r ≡ None → AreOpen s (awaits.one r)
+one_open : (s : Sight) (r : ℕ) → resolved_by s.cut s.journal r (version_seen s r) ≡ None → AreOpen s (awaits.one r)
 one_open s r h q there =
     let same : r ≡ q = same_number r q (where_passes (nat_eq r) q there) in
-    subst (λ (n : ℕ). resolved_by s.cut s.journal n ≡ None) same h
+    subst (λ (n : ℕ). resolved_by s.cut s.journal n (version_seen s n) ≡ None) same h
 
 pub union_open : (s : Sight) (a b : Awaits) → AreOpen s a → AreOpen s b → AreOpen s (awaits.union a b)
 union_open s a b h k r there = go (awaits.has a r) (awaits.has b r) refl refl (where_passes (λ q. awaits.has a q || awaits.has b q) r there)
   where
-    go : (x y : Bool) → awaits.has a r ≡ x → awaits.has b r ≡ y → (x || y) ≡ true → resolved_by s.cut s.journal r ≡ None
+    go : (x y : Bool) → awaits.has a r ≡ x → awaits.has b r ≡ y → (x || y) ≡ true → resolved_by s.cut s.journal r (version_seen s r) ≡ None
     go true y e f g = h r e
     go false true e f g = k r f
     go false false e f g = absurd (cc g)
@@ -152,12 +152,12 @@ module _ (s : Sight) (some : HasComponents s.program) where
       given_body : (d : Component) → component_at s.program c ≡ Some d → (b : Body) → body_of s.program d (inputs_at s cs props given (old_instance old)) ≡ b
           → ShapeFits n s.program (shape_of_body cs c old b)
           → PlaceHolds s (elements.comp c key props given) old (place_of (rendered n s) (elements.comp c key props given) old (shape_of_body cs c old b))
-      given_body d there (wait r) same fit = one_open s r (body_waits s c d there (inputs_at s cs props given (old_instance old)) refl r same)
-      given_body d there (ready es effects initials reads) same fit =
-          over_holds s (elements.comp c key props given) (of_instance (instance_after c (old_instance old) initials reads effects)) old es
+      given_body d there (wait r v) same fit = one_open s r (body_waits s c d there (inputs_at s cs props given (old_instance old)) refl r v same)
+      given_body d there (ready es effects initials reads versions) same fit =
+          over_holds s (elements.comp c key props given) (of_instance (instance_after c (old_instance old) initials reads versions effects)) old es
           (render_list (rendered n s cs) es (children_if old)) refl (nothing_open s)
           (list_holds n s below cs es (children_if old)
-          (body_named s.program some d (inputs_at s cs props given (old_instance old)) (listed_named s.program given named.1) es effects initials reads same)
+          (body_named s.program some d (inputs_at s cs props given (old_instance old)) (listed_named s.program given named.1) es effects initials reads versions same)
           fit)
 
       found : (d : Option Component) → component_at s.program c ≡ d → is_some d ≡ true → ShapeFits n s.program (shape_of_component s cs c props given old d)

@@ -204,23 +204,23 @@ fewer_count n x y (made m) l h = omega arith
 fewer_count n x y (waits a) l h = tt
 
 -- an instance that goes on has its number, and a new one none
-instance_counts : (n c : ℕ) (old : Option Node) (initials : _) (reads : _) (effects : _)
-    → cond (is_numbered_so n (instance_after c (old_instance old) initials reads effects).number) 1 0 + times_numbered_in n (children_if old) ≤ times_numbered_if n old
-instance_counts n c None initials reads effects = omega arith
-instance_counts n c (Some (node e (of_instance i) ns fs)) initials reads effects = omega arith
-instance_counts n c (Some (node e (of_host h) ns fs)) initials reads effects = omega arith
-instance_counts n c (Some (node e plain ns fs)) initials reads effects = omega arith
-instance_counts n c (Some (node e (of_boundary b) ns fs)) initials reads effects = omega arith
+instance_counts : (n c : ℕ) (old : Option Node) (initials : _) (reads : _) (versions : _) (effects : _)
+    → cond (is_numbered_so n (instance_after c (old_instance old) initials reads versions effects).number) 1 0 + times_numbered_in n (children_if old) ≤ times_numbered_if n old
+instance_counts n c None initials reads versions effects = omega arith
+instance_counts n c (Some (node e (of_instance i) ns fs)) initials reads versions effects = omega arith
+instance_counts n c (Some (node e (of_host h) ns fs)) initials reads versions effects = omega arith
+instance_counts n c (Some (node e plain ns fs)) initials reads versions effects = omega arith
+instance_counts n c (Some (node e (of_boundary b) ns fs)) initials reads versions effects = omega arith
 
 body_counts : (n : ℕ) (f : Contexts → Renders) (cs : Contexts) (c : ℕ) → Counts n (f cs) → (e : Element) (old : Option Node) (b : Body)
     → CountIs n (times_numbered_if n old) (place_of f e old (shape_of_body cs c old b))
-body_counts n f cs c h e old (wait r) = tt
-body_counts n f cs c h e old (ready es effects initials reads) =
-    fewer_count n (cond (is_numbered_so n (instance_after c (old_instance old) initials reads effects).number) 1 0 + times_numbered_in n (children_if old)) (times_numbered_if n old)
-    (over e (of_instance (instance_after c (old_instance old) initials reads effects)) (render_list (f cs) es (children_if old)))
-    (instance_counts n c old initials reads effects)
-    (over_counts n (times_numbered_in n (children_if old)) (cond (is_numbered_so n (instance_after c (old_instance old) initials reads effects).number) 1 0) e
-    (of_instance (instance_after c (old_instance old) initials reads effects)) (render_list (f cs) es (children_if old)) (omega arith) (list_counts n (f cs) h es (children_if old)))
+body_counts n f cs c h e old (wait r v) = tt
+body_counts n f cs c h e old (ready es effects initials reads versions) =
+    fewer_count n (cond (is_numbered_so n (instance_after c (old_instance old) initials reads versions effects).number) 1 0 + times_numbered_in n (children_if old)) (times_numbered_if n old)
+    (over e (of_instance (instance_after c (old_instance old) initials reads versions effects)) (render_list (f cs) es (children_if old)))
+    (instance_counts n c old initials reads versions effects)
+    (over_counts n (times_numbered_in n (children_if old)) (cond (is_numbered_so n (instance_after c (old_instance old) initials reads versions effects).number) 1 0) e
+    (of_instance (instance_after c (old_instance old) initials reads versions effects)) (render_list (f cs) es (children_if old)) (omega arith) (list_counts n (f cs) h es (children_if old)))
 
 component_counts : (n : ℕ) (s : Sight) (f : Contexts → Renders) (cs : Contexts) (c : ℕ) → Counts n (f cs) → (e : Element) (props : List ℤ) (es : Elements) (old : Option Node) (d : Option Component)
     → CountIs n (times_numbered_if n old) (place_of f e old (shape_of_component s cs c props es old d))

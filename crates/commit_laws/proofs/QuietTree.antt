@@ -1,23 +1,23 @@
--- If nothing is hidden and each update is done, the committed tree is what all updates give.
+-- If nothing is hidden and each update is done, each refresh too, the committed tree is what all updates give.
 use Rattle.std.specs.List.{list_any}
-use Rattle.std.specs.Prelude.{Bool, List, Option, Some, [], false, nat_eq, not, refl, suc, true, zero, ℕ, ℤ, ◌&&◌, ◌||◌, ◌∷◌, ◌≡◌, ◌≤◌}
+use Rattle.std.specs.Prelude.{Bool, List, Option, Some, [], cond, false, filter, length, nat_eq, not, refl, suc, true, zero, ℕ, ◌&&◌, ◌||◌, ◌∷◌, ◌≡◌, ◌≤◌}
 use Rattle.std.proofs.Common.{ap, arith, subst, sym, ◌∙◌}
 use Rattle.rx_rules.specs.Bounds.{depth_bound}
 use Rattle.rx_elem.specs.Elements.{Element}
 use Rattle.rx_elem.specs.Numbers.{Numbers, numbered}
 use Rattle.rx_elem.specs.Spots.{kept_instances, visible_instances}
 use Rattle.rx_elem.specs.Trees.{Forest, Instance, Node, child, children_if, element_of, node, none, of_boundary, of_host, of_instance, plain, vacant}
-use Rattle.rx_meaning.specs.Fresh.{Contexts, Places, Renders, Shape, Sight, absent, all_made, before, default_contexts, depth_limit, fresh, made, one_list, one_waits, over, over_boundary, place_of, render_part, rendered, resources_seen, root_element, shape_of, two_lists, waiting}
+use Rattle.rx_meaning.specs.Fresh.{Contexts, Places, Renders, Shape, Sight, absent, all_made, before, default_contexts, depth_limit, fresh, made, one_list, one_waits, over, over_boundary, place_of, render_part, rendered, root_element, shape_of, two_lists, version_seen, waiting}
 use Rattle.rx_queue.specs.History.{stands_done}
-use Rattle.rx_queue.specs.Journal.{Posted, Target, belongs_to, hook, is_included}
+use Rattle.rx_queue.specs.Journal.{Posted, Resolution, Target, belongs_to, hook, is_included, resolutions_by, resource, same_target}
 use Rattle.rx_susp.specs.declared.boundary.BoundaryState.TheVariants.{Hidden, Shown}
 use Rattle.rx_elem.proofs.Deciding.{same_number}
-use Rattle.commit_laws.proofs.Settling.{tree_seen}
+use Rattle.commit_laws.proofs.Settling.{of_resource, tree_seen}
 use Rattle.commit_laws.proofs.Soundness.{calm_is_still, resolution_keeps}
-use Rattle.commit_laws.proofs.TakeOver.{rendered_again}
+use Rattle.commit_laws.proofs.TakeOver.{done_is_included, rendered_again}
 use Rattle.commit_laws.specs.HiddenWaits.{AllNumbered, AllSeen, Numbered, Seen}
-use Rattle.commit_laws.specs.Quiet.{AllDone, AllShown, NoneHidden}
-use Rattle.rx_meaning.specs.Settled.{AllCalm, DoneBefore, HasValuesOf, IsCalm, IsSettled, IsSound, IsStill, includes, is_stirred, known_by}
+use Rattle.commit_laws.specs.Quiet.{AllDone, AllShown, NoneHidden, RefreshesDone}
+use Rattle.rx_meaning.specs.Settled.{AllCalm, DoneBefore, HasValuesOf, IsCalm, IsSettled, IsSound, IsStill, ReadsHold, includes, is_stirred, known_by, version_done}
 use Rattle.rx_elem.proofs.Numbering.{numbered_element}
 
 passes_done : (i d b : Bool) → (b ≡ true → d ≡ true) → (i && (not d && b)) ≡ false
@@ -32,6 +32,7 @@ one_belongs set n h (hook i k) there = go (nat_eq i n) refl there
     go : (b : Bool) → nat_eq i n ≡ b → (b || false) ≡ true → includes set i ≡ true
     go true e x = subst (λ (m : ℕ). includes set m ≡ true) (sym (same_number i n e)) h
     go false e x = absurd (cc x)
+one_belongs set n h (resource r) there = absurd (cc there)
 
 all_done_calm : (s : Sight) (set : List ℕ) (n : ℕ) → includes set n ≡ true → (us : List Posted) → AllDone set us
     → list_any (λ u. is_included s.lanes s.cut u && (not (stands_done u.standing) && belongs_to (n ∷ []) u.target)) us ≡ false
@@ -61,7 +62,7 @@ module _ (s : Sight) (visible kept : List ℕ) (done : AllDone visible s.journal
 
 place_element : (below : Contexts → Renders) (e : Element) (old : Option Node) (shape : Shape) (n : Node) → place_of below e old shape ≡ made n → element_of n ≡ e
 place_element below e old absent n h = absurd (cc h)
-place_element below e old (waiting r) n h = absurd (cc h)
+place_element below e old (waiting r v) n h = absurd (cc h)
 place_element below e old (one_list m p) n h = go (render_part below p) h
   where
     go : (ps : Places) → over e m ps ≡ made n → element_of n ≡ e
@@ -92,12 +93,33 @@ calm_root s x deep before settled still root =
     subst (λ (e : Element). rendered depth_limit s (default_contexts s.program) e (Some x) ≡ made x) root
     (rendered_again depth_limit s (default_contexts s.program) x before settled still (rw root (omega arith)))
 
--- If nothing is hidden and each update of a visible instance is done, any render gives the committed tree again.
-pub quiet_tree : (s : Sight) (x : Node) (res : List (Option ℤ)) (next : ℕ) → depth_bound s.program ≤ depth_limit → DoneBefore s.cut s.journal.updates
-    → HasValuesOf res (resources_seen s) → IsSound s.program (record { updates = s.journal.updates; resources = res }) next (Some x) → Numbered x
-    → element_of x ≡ root_element s.program → NoneHidden x → AllDone (visible_instances (Some x)) s.journal.updates → fresh s (Some x) ≡ made x
-quiet_tree s x res next deep before more sound numbers root none_hidden done =
-    let now = resolution_keeps s.program s.journal.updates res (resources_seen s) next (Some x) more sound in
+-- Versions
+
+done_refreshes : (s : Sight) (r : ℕ) (us : List Posted) → DoneBefore s.cut us → RefreshesDone us
+    → filter (λ u. stands_done u.standing) (filter (λ u. same_target (resource r) u.target) us) ≡ filter (is_included s.lanes s.cut) (filter (λ u. same_target (resource r) u.target) us)
+done_refreshes s r [] before done = refl
+done_refreshes s r (u ∷ us) before done = go (same_target (resource r) u.target) refl (done_refreshes s r us before.1 done.1)
+  where
+    go : (b : Bool) → same_target (resource r) u.target ≡ b
+        → filter (λ u. stands_done u.standing) (filter (λ u. same_target (resource r) u.target) us) ≡ filter (is_included s.lanes s.cut) (filter (λ u. same_target (resource r) u.target) us)
+        → filter (λ u. stands_done u.standing) (cond b (u ∷ filter (λ u. same_target (resource r) u.target) us) (filter (λ u. same_target (resource r) u.target) us))
+        ≡ filter (is_included s.lanes s.cut) (cond b (u ∷ filter (λ u. same_target (resource r) u.target) us) (filter (λ u. same_target (resource r) u.target) us))
+    go true same rest =
+        let is_done = done.0 (of_resource r u.target same) in
+        rw (done_is_included s.lanes s.cut u before.0 is_done, is_done, rest) refl
+    go false same rest = rest
+
+-- If each refresh is done, any render sees the versions that are done.
+pub quiet_versions : (s : Sight) → DoneBefore s.cut s.journal.updates → RefreshesDone s.journal.updates → version_done s.journal.updates ≡ version_seen s
+quiet_versions s before done = λ i r. length (done_refreshes s r s.journal.updates before done i)
+
+-- If nothing is hidden and each update of a visible instance is done, and each refresh, any render gives the committed tree again.
+pub quiet_tree : (s : Sight) (x : Node) (rs : List Resolution) (next : ℕ) → depth_bound s.program ≤ depth_limit → DoneBefore s.cut s.journal.updates
+    → HasValuesOf rs (resolutions_by s.cut s.journal) → IsSound s.program (record { updates = s.journal.updates; resolutions = rs }) next (Some x) → Numbered x
+    → element_of x ≡ root_element s.program → NoneHidden x → AllDone (visible_instances (Some x)) s.journal.updates → RefreshesDone s.journal.updates → fresh s (Some x) ≡ made x
+quiet_tree s x rs next deep before more sound numbers root none_hidden done refreshed =
+    let now = resolution_keeps s.program s.journal.updates rs (resolutions_by s.cut s.journal) next (Some x) more sound in
+    let reads = subst (λ (version : ℕ → ℕ). ReadsHold version (default_contexts s.program) x) (quiet_versions s before refreshed) now.reads in
     calm_root s x deep before now.settled
     (calm_is_still s (default_contexts s.program) x
-    (tree_calm s (visible_instances (Some x)) (kept_instances (Some x)) done x numbers none_hidden (tree_seen x)) now.reads) root
+    (tree_calm s (visible_instances (Some x)) (kept_instances (Some x)) done x numbers none_hidden (tree_seen x)) reads) root

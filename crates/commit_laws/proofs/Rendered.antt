@@ -1,16 +1,17 @@
 -- What a render leaves: each component that was rendered is as its body gave it.
-use Rattle.std.specs.Prelude.{List, None, Some, false, true, ℕ, ℤ, ◌≡◌}
+use Rattle.std.specs.Prelude.{List, None, Some, false, map, true, ℕ, ℤ, ◌≡◌}
 use Rattle.rx_ast.specs.Syntax.{Component}
 use Rattle.rx_rules.specs.Names.{component_at}
 use Rattle.rx_elem.specs.Elements.{Element, Elements, listed}
 use Rattle.rx_elem.specs.Spots.{kept_instances, visible_instances}
 use Rattle.rx_elem.specs.Trees.{Forest, Instance, Node, child, is_hidden, node, none, vacant}
 use Rattle.rx_meaning.specs.Body.{body_of, ready}
-use Rattle.rx_meaning.specs.Fresh.{Contexts, Sight, resources_seen, values_of}
+use Rattle.rx_meaning.specs.Fresh.{Contexts, Sight, resource_numbers, values_of, version_seen}
 use Rattle.rx_meaning.specs.Touched.{contexts_below}
-use Rattle.rx_meaning.specs.Settled.{AllSettled, IfHidden, IsOwnBy, Known, includes, read_anew}
+use Rattle.rx_meaning.specs.Settled.{AllSettled, IfHidden, IsOwnBy, Known, includes, read_anew, refreshed}
+use Rattle.rx_queue.specs.Journal.{resolutions_by, values_at}
 
--- a component's body gave this at this sight, and so it does in whatever contexts agree with the reads, as those of its place do
+-- a component's body gave this at this sight, and so it does in whatever contexts and versions agree with the reads, as those of its place and of the sight do
 pub record IsBodyIn (s : Sight) (at : Contexts) (number : ℕ) (props : List ℤ) (given : Elements) (i : Instance) (es : List Element) : Type 0 where
   pub component : Component
   pub is_component : component_at s.program number ≡ Some component
@@ -18,9 +19,10 @@ pub record IsBodyIn (s : Sight) (at : Contexts) (number : ℕ) (props : List ℤ
   pub initials : List ℤ
   pub mounts : i.number ≡ None → i.initials ≡ initials
   pub was_read : read_anew at i.reads ≡ false
-  pub gives : (cs : Contexts) → read_anew cs i.reads ≡ false
-      → body_of s.program component (record { props = props; children = listed given; hooks = values_of s i; contexts = cs; resources = resources_seen s })
-      ≡ ready es i.effects initials i.reads
+  pub was_seen : refreshed (version_seen s) i.versions ≡ false
+  pub gives : (cs : Contexts) (version : ℕ → ℕ) → read_anew cs i.reads ≡ false → refreshed version i.versions ≡ false
+      → body_of s.program component (record { props = props; children = listed given; hooks = values_of s i; contexts = cs; versions = map version (resource_numbers s.program); resources = values_at (resolutions_by s.cut s.journal) (map version (resource_numbers s.program)) })
+      ≡ ready es i.effects initials i.reads i.versions
 
 -- each component that was rendered is as its body gave it, and what hidden boundaries keep is settled as before
 abbrev mutual

@@ -1,21 +1,21 @@
 -- A commit leaves a settled tree: its marks make of the values that a render saw the values that are done.
 use Rattle.std.specs.List.{cons_option, enumerate_from}
-use Rattle.std.specs.Prelude.{Bool, List, None, Option, Some, [], cond, false, filter, filter_map, if◌then◌else◌, map, nat_eq, nat_lt, not, option_and_then, option_map, refl, true, ℕ, ℤ, ◌&&◌, ◌++◌, ◌+◌, ◌∷◌, ◌≡◌, ◌≤◌}
+use Rattle.std.specs.Prelude.{Bool, List, None, Option, Some, [], cond, false, filter, filter_map, if◌then◌else◌, length, map, nat_eq, nat_lt, not, option_and_then, option_map, refl, suc, true, ℕ, ℤ, ◌&&◌, ◌||◌, ◌++◌, ◌+◌, ◌∷◌, ◌≡◌, ◌≤◌}
 use Rattle.std.proofs.Common.{ap, arith, subst, ◌∙◌}
 use Rattle.std.proofs.lemmas.Bool.Decides.{nat_tests}
 use Rattle.rx_elem.specs.Spots.{Around, Mounted, Spot, around_children, at_root, kept_instances, mounted_as, mounted_at, numbers_of, spot_mark, spots, spots_in, visible_instances}
 use Rattle.rx_elem.specs.Trees.{Forest, Mark, Node, child, instance_in, is_hidden, node, none, of_boundary, of_host, of_instance, plain, vacant}
 use Rattle.rx_meaning.specs.Expressions.{answers_of}
-use Rattle.rx_meaning.specs.Fresh.{Sight, hook_values, resources_seen}
+use Rattle.rx_meaning.specs.Fresh.{Sight, hook_values, version_seen}
 use Rattle.rx_queue.specs.History.{Answers, applied, stands_done}
-use Rattle.rx_queue.specs.Journal.{Posted, Target, belongs_to, committed_value, hook, is_included, marked_update, same_target, standing_after, state_from, state_of}
+use Rattle.rx_queue.specs.Journal.{Posted, Resolution, Target, belongs_to, committed_value, hook, is_included, is_resource, marked_update, resolutions_by, resource, same_target, standing_after, state_from, state_of}
 use Rattle.rx_queue.specs.declared.entry.Standing.{Standing}
 use Rattle.rx_queue.specs.declared.entry.Standing.TheVariants.{Done, Open, Owed}
 use Rattle.rx_susp.specs.declared.boundary.BoundaryState.TheVariants.{Hidden, Shown}
 use Rattle.commit_laws.proofs.TakeOver.{done_is_included}
-use Rattle.rx_elem.proofs.Deciding.{and_passes, or_right, same_number}
+use Rattle.rx_elem.proofs.Deciding.{and_passes, or_left, or_right, same_number}
 use Rattle.commit_laws.specs.HiddenWaits.{AllSeen, NumberSeen, Seen}
-use Rattle.rx_meaning.specs.Settled.{DoneBefore, Known, TargetsBelow, done_values, includes, number_of}
+use Rattle.rx_meaning.specs.Settled.{DoneBefore, Known, TargetsBelow, done_values, includes, number_of, version_done}
 use Rattle.rx_lane.specs.Lanes as lanes_of
 
 -- Marks
@@ -48,12 +48,43 @@ states_change answers t f test (u ∷ us) h x = go (same_target t u.target) refl
     go true same r = pick (test u) refl (h.0 same) r
     go false same r = r x
 
+-- as many pass the one test after the change as passed the other before
+counts_change : (t : Target) (f : Posted → Standing) (test : Posted → Bool) (us : List Posted) → EachPasses t (with_standing f) test us
+    → length (filter (λ u. stands_done u.standing) (filter (λ u. same_target t u.target) (map (with_standing f) us))) ≡ length (filter test (filter (λ u. same_target t u.target) us))
+counts_change t f test [] h = refl
+counts_change t f test (u ∷ us) h = go (same_target t u.target) refl (counts_change t f test us h.1)
+  where
+    pick : (b : Bool) → test u ≡ b → stands_done (f u) ≡ b
+        → length (filter (λ u. stands_done u.standing) (filter (λ u. same_target t u.target) (map (with_standing f) us))) ≡ length (filter test (filter (λ u. same_target t u.target) us))
+        → length (filter (λ u. stands_done u.standing) (with_standing f u ∷ filter (λ u. same_target t u.target) (map (with_standing f) us)))
+        ≡ length (filter test (u ∷ filter (λ u. same_target t u.target) us))
+    pick true y z r = rw (y, z) (ap suc r)
+    pick false y z r = rw (y, z) r
+
+    go : (b : Bool) → same_target t u.target ≡ b
+        → length (filter (λ u. stands_done u.standing) (filter (λ u. same_target t u.target) (map (with_standing f) us))) ≡ length (filter test (filter (λ u. same_target t u.target) us))
+        → length (filter (λ u. stands_done u.standing) (cond b (with_standing f u ∷ filter (λ u. same_target t u.target) (map (with_standing f) us)) (filter (λ u. same_target t u.target) (map (with_standing f) us))))
+        ≡ length (filter test (cond b (u ∷ filter (λ u. same_target t u.target) us) (filter (λ u. same_target t u.target) us)))
+    go true same r = pick (test u) refl (h.0 same) r
+    go false same r = r
+
 -- the target of a hook has its instance
 pub target_has : (set : List ℕ) (n k : ℕ) (t : Target) (b : Bool) → includes set n ≡ b → same_target (hook n k) t ≡ true → belongs_to set t ≡ b
 target_has set n k (hook i l) b h same =
     let both = and_passes (nat_eq n i) (nat_eq k l) same in
     let equal : n ≡ i = same_number n i both.0 in
     subst (λ (m : ℕ). includes set m ≡ b) equal h
+target_has set n k (resource r) b h same = absurd (cc same)
+
+-- it is no resource
+pub no_resource : (n k : ℕ) (t : Target) → same_target (hook n k) t ≡ true → is_resource t ≡ false
+no_resource n k (hook i l) same = refl
+no_resource n k (resource r) same = absurd (cc same)
+
+-- the target of a refresh is a resource
+pub of_resource : (r : ℕ) (t : Target) → same_target (resource r) t ≡ true → is_resource t ≡ true
+of_resource r (hook i l) same = absurd (cc same)
+of_resource r (resource q) same = refl
 
 owed_or : (x b : Bool) (st : Standing) → stands_done st ≡ false → stands_done (if x && (not (stands_done st) && b) then Owed else st) ≡ false
 owed_or true true Open h = refl
@@ -68,13 +99,13 @@ done_stays : (x b : Bool) → stands_done (if x && (not (stands_done Done) && b)
 done_stays true b = refl
 done_stays false b = refl
 
--- an update of a visible instance is done exactly if it was included
-done_when_visible : (inc bel x b : Bool) (st : Standing) → bel ≡ true → (stands_done st ≡ true → inc ≡ true)
-    → stands_done (if inc && bel then Done else if x && (not (stands_done st) && b) then Owed else st) ≡ inc
-done_when_visible true bel x b st h k = rw h refl
-done_when_visible false bel x b Open h k = owed_or x b Open refl
-done_when_visible false bel x b Owed h k = owed_or x b Owed refl
-done_when_visible false bel x b Done h k = absurd (cc (k refl))
+-- an update of a visible instance, or of a resource, is done exactly if it was included
+done_when_shown : (inc shown x b : Bool) (st : Standing) → shown ≡ true → (stands_done st ≡ true → inc ≡ true)
+    → stands_done (if inc && shown then Done else if x && (not (stands_done st) && b) then Owed else st) ≡ inc
+done_when_shown true shown x b st h k = rw h refl
+done_when_shown false shown x b Open h k = owed_or x b Open refl
+done_when_shown false shown x b Owed h k = owed_or x b Owed refl
+done_when_shown false shown x b Done h k = absurd (cc (k refl))
 
 not_owed : (x b : Bool) (st : Standing) → stands_done (if x && (not (stands_done st) && b) then Owed else st) ≡ stands_done st
 not_owed x b Open = owed_or x b Open refl
@@ -82,9 +113,12 @@ not_owed x b Owed = owed_or x b Owed refl
 not_owed x b Done = done_stays x b
 
 -- an update of another one is done exactly if it was
-done_when_kept : (inc bel x b : Bool) (st : Standing) → bel ≡ false → stands_done (if inc && bel then Done else if x && (not (stands_done st) && b) then Owed else st) ≡ stands_done st
-done_when_kept true bel x b st h = rw h (not_owed x b st)
-done_when_kept false bel x b st h = not_owed x b st
+done_when_kept : (inc shown x b : Bool) (st : Standing) → shown ≡ false → stands_done (if inc && shown then Done else if x && (not (stands_done st) && b) then Owed else st) ≡ stands_done st
+done_when_kept true shown x b st h = rw h (not_owed x b st)
+done_when_kept false shown x b st h = not_owed x b st
+
+pub neither : (a b : Bool) → a ≡ false → b ≡ false → (a || b) ≡ false
+neither a b h k = rw (h, k) refl
 
 module _ (s : Sight) (visible kept : List ℕ) (before : DoneBefore s.cut s.journal.updates) where
   mark : Posted → Standing
@@ -92,24 +126,24 @@ module _ (s : Sight) (visible kept : List ℕ) (before : DoneBefore s.cut s.jour
 
   -- what is known for good after the commit
   abbrev pub after_commit : Known
-  after_commit = record { updates = map (marked_update s.lanes s.cut visible kept) s.journal.updates; resources = resources_seen s }
+  after_commit = record { updates = map (marked_update s.lanes s.cut visible kept) s.journal.updates; resolutions = resolutions_by s.cut s.journal }
 
   visible_pass : (n k : ℕ) → includes visible n ≡ true → (us : List Posted) → DoneBefore s.cut us
       → EachPasses (hook n k) (marked_update s.lanes s.cut visible kept) (is_included s.lanes s.cut) us
   visible_pass n k h [] d = tt
   visible_pass n k h (u ∷ us) d = (
-    λ same. done_when_visible (is_included s.lanes s.cut u) (belongs_to visible u.target)
+    λ same. done_when_shown (is_included s.lanes s.cut u) (belongs_to visible u.target || is_resource u.target)
         (nat_lt u.update.number s.cut.updates) (lanes_of.has s.lanes u.update.lane && belongs_to kept u.target) u.standing
-        (target_has visible n k u.target true h same) (done_is_included s.lanes s.cut u d.0),
+        (or_left (belongs_to visible u.target) (is_resource u.target) (target_has visible n k u.target true h same)) (done_is_included s.lanes s.cut u d.0),
     visible_pass n k h us d.1,
   )
 
   kept_pass : (n k : ℕ) → includes visible n ≡ false → (us : List Posted) → EachPasses (hook n k) (marked_update s.lanes s.cut visible kept) (λ u. stands_done u.standing) us
   kept_pass n k h [] = tt
   kept_pass n k h (u ∷ us) = (
-    λ same. done_when_kept (is_included s.lanes s.cut u) (belongs_to visible u.target)
+    λ same. done_when_kept (is_included s.lanes s.cut u) (belongs_to visible u.target || is_resource u.target)
         (nat_lt u.update.number s.cut.updates) (lanes_of.has s.lanes u.update.lane && belongs_to kept u.target) u.standing
-        (target_has visible n k u.target false h same),
+        (neither (belongs_to visible u.target) (is_resource u.target) (target_has visible n k u.target false h same) (no_resource n k u.target same)),
     kept_pass n k h us,
   )
 
@@ -126,10 +160,10 @@ module _ (s : Sight) (visible kept : List ℕ) (before : DoneBefore s.cut s.jour
           rw (states_change (answers_of s.program) (hook n k) (standing_after s.lanes s.cut visible kept) (is_included s.lanes s.cut) s.journal.updates (visible_pass n k h s.journal.updates before) x, from (k + 1) xs) refl
 
   -- those of a kept one stay
-  pub kept_values : (res : List (Option ℤ)) (n : ℕ) → includes visible n ≡ false → (initials : List ℤ)
-      → done_values s.program (record { updates = s.journal.updates; resources = res }) n initials ≡ done_values s.program after_commit n initials
+  pub kept_values : (rs : List Resolution) (n : ℕ) → includes visible n ≡ false → (initials : List ℤ)
+      → done_values s.program (record { updates = s.journal.updates; resolutions = rs }) n initials ≡ done_values s.program after_commit n initials
   unfolding committed_value
-  kept_values res n h initials = from 0 initials
+  kept_values rs n h initials = from 0 initials
     where
       from : (k : ℕ) (xs : List ℤ)
           → map (λ h. committed_value (answers_of s.program) h.1 (filter (λ u. same_target (hook n h.0) u.target) s.journal.updates)) (enumerate_from k xs)
@@ -137,6 +171,21 @@ module _ (s : Sight) (visible kept : List ℕ) (before : DoneBefore s.cut s.jour
       from k [] = refl
       from k (x ∷ xs) =
           rw (states_change (answers_of s.program) (hook n k) (standing_after s.lanes s.cut visible kept) (λ u. stands_done u.standing) s.journal.updates (kept_pass n k h s.journal.updates) x, from (k + 1) xs) refl
+
+  -- the refreshes of a resource that are done are those that the render included
+  refresh_pass : (r : ℕ) (us : List Posted) → DoneBefore s.cut us → EachPasses (resource r) (marked_update s.lanes s.cut visible kept) (is_included s.lanes s.cut) us
+  refresh_pass r [] d = tt
+  refresh_pass r (u ∷ us) d = (
+    λ same. done_when_shown (is_included s.lanes s.cut u) (belongs_to visible u.target || is_resource u.target)
+        (nat_lt u.update.number s.cut.updates) (lanes_of.has s.lanes u.update.lane && belongs_to kept u.target) u.standing
+        (or_right (belongs_to visible u.target) (is_resource u.target) (of_resource r u.target same)) (done_is_included s.lanes s.cut u d.0),
+    refresh_pass r us d.1,
+  )
+
+  -- the versions that the render saw are done
+  pub versions_are_done : (r : ℕ) → version_done after_commit.updates r ≡ version_seen s r
+  versions_are_done r =
+      counts_change (resource r) (standing_after s.lanes s.cut visible kept) (is_included s.lanes s.cut) s.journal.updates (refresh_pass r s.journal.updates before)
 
   none_of : (n k : ℕ) (us : List Posted) (next : ℕ) → next ≤ n → TargetsBelow next us → filter (λ u. same_target (hook n k) u.target) (map (marked_update s.lanes s.cut visible kept) us) ≡ []
   none_of n k [] next l h = refl

@@ -20,19 +20,19 @@ resource_small p l name =
     number_small (resources p) name l (position_or_len (bytes_eq name) (resources p)) (nat_lt (position_or_len (bytes_eq name) (resources p)) (length (resources p))) refl
 
 abbrev IsSmall : Taken → Type 0
-IsSmall (stopped_at r) = r < resource_limit
+IsSmall (stopped_at r v) = r < resource_limit
 IsSmall (taken f) = Unit {0}
 
-one_resource : (name : Name) (r : ℕ) (x : Option ℤ) (f : Frame) → r < resource_limit → IsSmall (with_resource name r x f)
-one_resource name r None f l = l
-one_resource name r (Some x) f l = tt
+one_resource : (name : Name) (r v : ℕ) (x : Option ℤ) (f : Frame) → r < resource_limit → IsSmall (with_resource name r v x f)
+one_resource name r v None f l = l
+one_resource name r v (Some x) f l = tt
 
 one_small : (p : Program) → length (resources p) ≤ resource_limit → (i : Inputs) (s : Statement) (f : Frame) → IsSmall (take_one p i s f)
 one_small p l i (state name setter e) f = tt
 one_small p l i (reducer name setter function e) f = tt
 one_small p l i (context name source) f = tt
 one_small p l i (use_resource name resource) f =
-    one_resource name (resource_number p resource) (slice_index_or i.resources (resource_number p resource) None) f (resource_small p l resource)
+    one_resource name (resource_number p resource) (slice_index_or i.versions (resource_number p resource) 0) (slice_index_or i.resources (resource_number p resource) None) f (resource_small p l resource)
 one_small p l i (constant name e) f = tt
 one_small p l i (effect layout label depends) f = tt
 
@@ -41,17 +41,17 @@ all_small p l i [] f = tt
 all_small p l i (s ∷ ss) f = go (take_one p i s f) (one_small p l i s f) (all_small p l i ss)
   where
     go : (t : Taken) → IsSmall t → ((g : Frame) → IsSmall (take_all p i ss g)) → IsSmall (and_then t (take_all p i ss))
-    go (stopped_at r) h k = h
+    go (stopped_at r v) h k = h
     go (taken g) h k = k g
 
-body_small : (p : Program) → length (resources p) ≤ resource_limit → (c : Component) (i : Inputs) (r : ℕ) → body_of p c i ≡ wait r → r < resource_limit
+body_small : (p : Program) → length (resources p) ≤ resource_limit → (c : Component) (i : Inputs) (r v : ℕ) → body_of p c i ≡ wait r v → r < resource_limit
 unfolding body_of
-body_small p l c i r h = go (take_all p i c.statements (opening_frame c i.props)) (all_small p l i c.statements (opening_frame c i.props)) h
+body_small p l c i r v h = go (take_all p i c.statements (opening_frame c i.props)) (all_small p l i c.statements (opening_frame c i.props)) h
   where
-    go : (t : Taken) → IsSmall t → finished p i (body_slots c.body) t ≡ wait r → r < resource_limit
-    go (stopped_at q) small same = let equal : q ≡ r = cc in subst (λ (n : ℕ). n < resource_limit) equal small
+    go : (t : Taken) → IsSmall t → finished p i (body_slots c.body) t ≡ wait r v → r < resource_limit
+    go (stopped_at q w) small same = let equal : q ≡ r = cc in subst (λ (n : ℕ). n < resource_limit) equal small
     go (taken g) small same = absurd (cc same)
 
 -- If a program has no more resources than the limit, its bodies wait for numbers below it.
 pub waits_are_small : (p : Program) → length (resources p) ≤ resource_limit → WaitsAreSmall p
-waits_are_small p l c d i r there h = body_small p l d i r h
+waits_are_small p l c d i r v there h = body_small p l d i r v h

@@ -1,6 +1,6 @@
 -- A subtree that is idle and reads nothing anew is rendered to itself; so is one that has no cause.
 use Rattle.std.specs.List.{enumerate_from, list_any, zip}
-use Rattle.std.specs.Prelude.{Bool, List, None, Option, Some, [], cond, false, filter, map, nat_eq, nat_lt, not, option_map, option_to_list, refl, suc, true, zero, ℕ, ℤ, ◌&&◌, ◌+◌, ◌∷◌, ◌≡◌, ◌≤◌}
+use Rattle.std.specs.Prelude.{Bool, List, None, Option, Some, [], cond, false, filter, map, nat_eq, nat_lt, not, option_map, option_to_list, refl, suc, true, zero, ℕ, ℤ, ◌&&◌, ◌||◌, ◌+◌, ◌∷◌, ◌≡◌, ◌≤◌}
 use Rattle.std.proofs.Common.{ap, arith, inl, inr, subst, sym, ◌∙◌}
 use Rattle.rx_ast.specs.Syntax.{Component, Program}
 use Rattle.rx_base.specs.declared.cut.Cut.{Cut}
@@ -9,17 +9,17 @@ use Rattle.rx_elem.specs.Elements.{Element, Elements, gathered, is_present, list
 use Rattle.rx_elem.specs.Trees.{Forest, Instance, Mark, Node, child, element_of, elements_in, is_hidden, node, none, of_boundary, of_host, of_instance, places, plain, vacant}
 use Rattle.rx_meaning.specs.Body.{body_of, ready}
 use Rattle.rx_meaning.specs.Expressions.{answers_of}
-use Rattle.rx_meaning.specs.Fresh.{Contexts, Renders, Sight, all_made, before, empty, hook_values, inputs_at, instance_after, made, one_list, part, place_of, render_all, rendered, shape_of, shape_of_body, shape_of_component}
+use Rattle.rx_meaning.specs.Fresh.{Contexts, Renders, Sight, all_made, before, empty, hook_values, inputs_at, instance_after, made, one_list, part, place_of, render_all, rendered, resources_seen, shape_of, shape_of_body, shape_of_component, version_seen, versions_seen}
 use Rattle.rx_meaning.specs.Touched.{contexts_below, has_update}
 use Rattle.rx_lane.specs.Lanes.{Lanes}
 use Rattle.rx_queue.specs.History.{stands_done}
-use Rattle.rx_queue.specs.Journal.{Posted, Target, belongs_to, committed_value, hook, is_included, same_target, state_of}
+use Rattle.rx_queue.specs.Journal.{Posted, Target, belongs_to, committed_value, hook, resource, is_included, same_target, state_of}
 use Rattle.rx_susp.specs.declared.boundary.BoundaryState.TheVariants.{Hidden, Shown}
 use Rattle.rx_meaning.proofs.Depths.{ShapeFits, not_deepest, shape_fits}
 use Rattle.rx_elem.proofs.Deciding.{same_itself, same_number, and_passes, or_fails}
 use Rattle.rx_elem.proofs.SelfMatch.{NoNull, matches_itself}
 use Rattle.rx_meaning.specs.Levels.{Fits, body_depth, elements_depth}
-use Rattle.rx_meaning.specs.Settled.{AllCalm, AllReadsHold, AllSettled, AllStill, DoneBefore, IfHidden, IsBodyOf, IsCalm, IsOwn, IsSettled, IsStill, Known, ReadsHold, done_values, has_cause, is_stirred, kept_shape, known_by, read_anew, reads_another}
+use Rattle.rx_meaning.specs.Settled.{AllCalm, AllReadsHold, AllSettled, AllStill, DoneBefore, IfHidden, IsBodyOf, IsCalm, IsOwn, IsSettled, IsStill, Known, ReadsHold, done_values, has_cause, is_stirred, kept_shape, known_by, read_anew, reads_another, refreshed}
 use Rattle.commit_laws.specs.Idle.{AllIdle, HasCommittedValues, IsIdle, IsIdleMark}
 use Rattle.rx_elem.specs.Elements as elements
 
@@ -31,6 +31,7 @@ target_belongs n k (hook i l) h =
     let same : n ≡ i = same_number n i both.0 in
     let back : nat_eq i n ≡ true = subst (λ (m : ℕ). nat_eq i m ≡ true) (sym same) (same_itself i) in
     rw back refl
+target_belongs n k (resource r) h = absurd (cc h)
 
 included_is_done : (inc done b : Bool) → b ≡ true → (done ≡ true → inc ≡ true) → (inc && (not done && b)) ≡ false → inc ≡ done
 included_is_done true true b h k l = refl
@@ -104,32 +105,33 @@ own_not_null p k (elements.provider c key x es) m ns fs h = refl
 -- the body of an instance with the committed values gives what the instance has
 body_again : (s : Sight) (cs : Contexts) (d : Component) (props : List ℤ) (given : Elements) (i : Instance) (es : List Element) (n : ℕ) → i.number ≡ Some n
     → (initials : List ℤ)
-    → body_of s.program d (record { props = props; children = listed given; hooks = Some (done_values s.program (known_by s) n i.initials); contexts = cs; resources = (known_by s).resources })
-    ≡ ready es i.effects initials i.reads
+    → body_of s.program d (record { props = props; children = listed given; hooks = Some (done_values s.program (known_by s) n i.initials); contexts = cs; versions = versions_seen s; resources = resources_seen s })
+    ≡ ready es i.effects initials i.reads i.versions
     → hook_values s n i.initials ≡ done_values s.program (known_by s) n i.initials
-    → body_of s.program d (inputs_at s cs props given (Some i)) ≡ ready es i.effects initials i.reads
+    → body_of s.program d (inputs_at s cs props given (Some i)) ≡ ready es i.effects initials i.reads i.versions
 body_again s cs d props given i es n number initials body values = rw (number, values) body
 
-same_instance : (c : ℕ) (i : Instance) (initials : List ℤ) → i.component ≡ c → instance_after c (Some i) initials i.reads i.effects ≡ i
+same_instance : (c : ℕ) (i : Instance) (initials : List ℤ) → i.component ≡ c → instance_after c (Some i) initials i.reads i.versions i.effects ≡ i
 same_instance c i initials same = rw (sym same) refl
 
 component_again : (s : Sight) (cs : Contexts) (c : ℕ) (props : List ℤ) (given : Elements) (e : Element) (i : Instance) (ns fs : Forest) (d : Component) (initials : List ℤ)
     → i.component ≡ c
-    → body_of s.program d (inputs_at s cs props given (Some i)) ≡ ready (elements_in ns) i.effects initials i.reads
+    → body_of s.program d (inputs_at s cs props given (Some i)) ≡ ready (elements_in ns) i.effects initials i.reads i.versions
     → shape_of_component s cs c props given (Some (node e (of_instance i) ns fs)) (Some d) ≡ one_list (of_instance i) (part cs (elements_in ns) ns)
 component_again s cs c props given e i ns fs d initials same again =
     ap (shape_of_body cs c (Some (node e (of_instance i) ns fs))) again
     ∙ ap (λ (j : Instance). one_list (of_instance j) (part cs (elements_in ns) ns)) (same_instance c i initials same)
 
 instance_again : (s : Sight) (cs : Contexts) (c : ℕ) (key : _) (props : List ℤ) (given : Elements) (i : Instance) (ns fs : Forest)
-    → IsBodyOf s.program (known_by s) c props given i (elements_in ns) → HasCommittedValues s i → read_anew cs i.reads ≡ false
+    → IsBodyOf s.program (known_by s) c props given i (elements_in ns) → HasCommittedValues s i → (read_anew cs i.reads || refreshed (version_seen s) i.versions) ≡ false
     → shape_of s cs (elements.comp c key props given) (Some (node (elements.comp c key props given) (of_instance i) ns fs))
     ≡ one_list (of_instance i) (part cs (elements_in ns) ns)
 instance_again s cs c key props given i ns fs body same calm =
+    let reads = or_fails (read_anew cs i.reads) (refreshed (version_seen s) i.versions) calm in
     let both : Some (hook_values s body.instance i.initials) ≡ Some (done_values s.program (known_by s) body.instance i.initials) = rw body.is_numbered at same in
     let values : hook_values s body.instance i.initials ≡ done_values s.program (known_by s) body.instance i.initials = cc in
-    let again : body_of s.program body.component (inputs_at s cs props given (Some i)) ≡ ready (elements_in ns) i.effects body.initials i.reads =
-    body_again s cs body.component props given i (elements_in ns) body.instance body.is_numbered body.initials (body.gives cs calm) values in
+    let again : body_of s.program body.component (inputs_at s cs props given (Some i)) ≡ ready (elements_in ns) i.effects body.initials i.reads i.versions =
+    body_again s cs body.component props given i (elements_in ns) body.instance body.is_numbered body.initials (body.gives cs (version_seen s) reads.0 reads.1) values in
     ap (shape_of_component s cs c props given (Some (node (elements.comp c key props given) (of_instance i) ns fs))) body.is_component
     ∙ component_again s cs c props given (elements.comp c key props given) i ns fs body.component body.initials body.is_of again
 
@@ -138,14 +140,14 @@ hidden_not_idle s m a idle same = rw same at idle
 
 -- A place that is idle and reads nothing anew renders its own children again: no body need be evaluated to know it.
 pub idle_shape : (s : Sight) (cs : Contexts) (e : Element) (m : Mark) (ns fs : Forest)
-    → IsOwn s.program (known_by s) e m ns fs → IsIdleMark s m → reads_another cs m ≡ false
+    → IsOwn s.program (known_by s) e m ns fs → IsIdleMark s m → reads_another (version_seen s) cs m ≡ false
     → shape_of s cs e (Some (node e m ns fs)) ≡ kept_shape cs e m ns fs
 idle_shape s cs elements.null m ns fs own idle reads = refl
 idle_shape s cs (elements.text t) m ns fs own idle reads = rw (own.1, own.2) refl
 idle_shape s cs (elements.host n key attrs es) m ns fs own idle reads = rw (own.1, own.2) refl
 idle_shape s cs (elements.comp c key props given) m ns fs own idle reads =
     let values : HasCommittedValues s own.0 = rw own.1 at idle in
-    let calm : read_anew cs own.0.reads ≡ false = rw own.1 at reads in
+    let calm : (read_anew cs own.0.reads || refreshed (version_seen s) own.0.versions) ≡ false = rw own.1 at reads in
     rw own.1 (instance_again s cs c key props given own.0 ns fs own.2 values calm)
 idle_shape s cs (elements.list marked es) m ns fs own idle reads = rw (own.0, own.1) refl
 idle_shape s cs (elements.boundary key f es) m ns fs (inl own) idle reads = rw own.1 refl
@@ -185,7 +187,7 @@ kept_fits n p cs (elements.boundary key f es) m ns fs present h = h.0
 kept_fits n p cs (elements.provider c key x es) m ns fs present h = h
 
 idle_children_fit : (n : ℕ) (s : Sight) (cs : Contexts) (e : Element) (m : Mark) (ns fs : Forest)
-    → IsOwn s.program (known_by s) e m ns fs → IsIdleMark s m → reads_another cs m ≡ false → Fits (suc n) s.program e
+    → IsOwn s.program (known_by s) e m ns fs → IsIdleMark s m → reads_another (version_seen s) cs m ≡ false → Fits (suc n) s.program e
     → elements_depth (body_depth n s.program) (gathered (elements_in ns)) ≤ n
 idle_children_fit n s cs e m ns fs own idle reads fits =
     let whole = shape_fits n s cs e (Some (node e m ns fs)) fits in
@@ -193,7 +195,7 @@ idle_children_fit n s cs e m ns fs own idle reads fits =
     (subst (ShapeFits n s.program) (idle_shape s cs e m ns fs own idle reads) whole)
 
 node_again : (n : ℕ) (s : Sight) (cs : Contexts) (e : Element) (m : Mark) (ns fs : Forest)
-    → IsOwn s.program (known_by s) e m ns fs → IsIdleMark s m → reads_another cs m ≡ false → NoNull ns
+    → IsOwn s.program (known_by s) e m ns fs → IsIdleMark s m → reads_another (version_seen s) cs m ≡ false → NoNull ns
     → render_all (rendered n s (contexts_below e cs)) (zip (elements_in ns) (places ns)) ≡ all_made ns
     → rendered (suc n) s cs e (Some (node e m ns fs)) ≡ made (node e m ns fs)
 unfolding rendered
@@ -225,16 +227,16 @@ reads_below s (of_boundary (Hidden a)) A idle reads = absurd idle
 
 mutual
   -- A subtree that is idle and reads nothing anew is rendered to itself.
-  pub idle_again : (n : ℕ) (s : Sight) (cs : Contexts) (o : Node) → IsSettled s.program (known_by s) o → IsIdle s o → ReadsHold cs o
+  pub idle_again : (n : ℕ) (s : Sight) (cs : Contexts) (o : Node) → IsSettled s.program (known_by s) o → IsIdle s o → ReadsHold (version_seen s) cs o
       → Fits n s.program (element_of o) → rendered n s cs (element_of o) (Some o) ≡ made o
   idle_again zero s cs (node e m ns fs) settled idle reads fits =
       absurd (omega (arith, not_deepest s.program e fits (own_not_null s.program (known_by s) e m ns fs settled.0)))
   idle_again (suc n) s cs (node e m ns fs) settled idle reads fits =
       node_again n s cs e m ns fs settled.0 idle.0 reads.0 (settled_no_null s.program (known_by s) ns settled.1)
-      (all_idle_again n s (contexts_below e cs) ns settled.1 idle.1 (reads_below s m (AllReadsHold (contexts_below e cs) ns) idle.0 reads.1)
+      (all_idle_again n s (contexts_below e cs) ns settled.1 idle.1 (reads_below s m (AllReadsHold (version_seen s) (contexts_below e cs) ns) idle.0 reads.1)
       (idle_children_fit n s cs e m ns fs settled.0 idle.0 reads.0 fits))
 
-  all_idle_again : (n : ℕ) (s : Sight) (cs : Contexts) (ns : Forest) → AllSettled s.program (known_by s) ns → AllIdle s ns → AllReadsHold cs ns
+  all_idle_again : (n : ℕ) (s : Sight) (cs : Contexts) (ns : Forest) → AllSettled s.program (known_by s) ns → AllIdle s ns → AllReadsHold (version_seen s) cs ns
       → elements_depth (body_depth n s.program) (gathered (elements_in ns)) ≤ n
       → render_all (rendered n s cs) (zip (elements_in ns) (places ns)) ≡ all_made ns
   all_idle_again n s cs none settled idle reads fits = refl
@@ -271,9 +273,9 @@ mutual
   all_calm_are_idle s (child x ns) before calm = (calm_is_idle s x before calm.0, all_calm_are_idle s ns before calm.1)
 
 -- a node without a cause is idle, and reads nothing anew
-still_mark : (s : Sight) (cs : Contexts) (m : Mark) → DoneBefore s.cut s.journal.updates → has_cause s cs m ≡ false → IsIdleMark s m × (reads_another cs m ≡ false)
+still_mark : (s : Sight) (cs : Contexts) (m : Mark) → DoneBefore s.cut s.journal.updates → has_cause s cs m ≡ false → IsIdleMark s m × (reads_another (version_seen s) cs m ≡ false)
 still_mark s cs (of_instance i) before still =
-    let parts = or_fails (has_update s (option_to_list i.number)) (read_anew cs i.reads) still in (unstirred_values s i before parts.0, parts.1)
+    let parts = or_fails (has_update s (option_to_list i.number)) (read_anew cs i.reads || refreshed (version_seen s) i.versions) still in (unstirred_values s i before parts.0, parts.1)
 still_mark s cs (of_host h) before still = (tt, refl)
 still_mark s cs plain before still = (tt, refl)
 still_mark s cs (of_boundary Shown) before still = (tt, refl)
@@ -284,14 +286,14 @@ if_shown true A h = tt
 if_shown false A h = h
 
 mutual
-  still_is_idle : (s : Sight) (cs : Contexts) (o : Node) → DoneBefore s.cut s.journal.updates → IsStill s cs o → IsIdle s o × ReadsHold cs o
+  still_is_idle : (s : Sight) (cs : Contexts) (o : Node) → DoneBefore s.cut s.journal.updates → IsStill s cs o → IsIdle s o × ReadsHold (version_seen s) cs o
   still_is_idle s cs (node e m ns fs) before still =
       let here = still_mark s cs m before still.0 in
       let below = all_still_are_idle s (contexts_below e cs) ns before still.1 in
       let beside = all_still_are_idle s cs fs before still.2 in
-      ((here.0, below.0, beside.0), (here.1, if_shown (is_hidden m) (AllReadsHold (contexts_below e cs) ns) below.1, beside.1))
+      ((here.0, below.0, beside.0), (here.1, if_shown (is_hidden m) (AllReadsHold (version_seen s) (contexts_below e cs) ns) below.1, beside.1))
 
-  all_still_are_idle : (s : Sight) (cs : Contexts) (ns : Forest) → DoneBefore s.cut s.journal.updates → AllStill s cs ns → AllIdle s ns × AllReadsHold cs ns
+  all_still_are_idle : (s : Sight) (cs : Contexts) (ns : Forest) → DoneBefore s.cut s.journal.updates → AllStill s cs ns → AllIdle s ns × AllReadsHold (version_seen s) cs ns
   all_still_are_idle s cs none before still = (tt, tt)
   all_still_are_idle s cs (vacant ns) before still = all_still_are_idle s cs ns before still
   all_still_are_idle s cs (child x ns) before still =

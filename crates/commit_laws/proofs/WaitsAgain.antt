@@ -1,20 +1,22 @@
 -- A hidden boundary whose awaited resources have no value, and whose kept instances have the same values, waits for the same again.
 use Rattle.std.specs.List.{zip}
 use Rattle.std.specs.Option.{option_flatten}
-use Rattle.std.specs.Prelude.{Bool, List, None, Option, Some, [], false, map, nat_eq, nat_lt, option_and_then, position, refl, slice_get, slice_index_or, suc, true, zero, ℕ, ℤ, ◌++◌, ◌<◌, ◌||◌, ◌∷◌, ◌≡◌, ◌≤◌}
+use Rattle.std.specs.Prelude.{Bool, List, None, Option, Some, [], false, length, map, nat_eq, nat_lt, option_and_then, position, refl, slice_get, slice_index_or, suc, true, zero, ℕ, ℤ, ◌++◌, ◌<◌, ◌||◌, ◌∷◌, ◌≡◌, ◌≤◌}
 use Rattle.std.proofs.Common.{ap, arith, subst, ◌∙◌}
 use Rattle.std.proofs.lemmas.Bool.Decides.{nat_tests}
 use Rattle.rx_ast.specs.Syntax.{Component}
 use Rattle.rx_base.specs.Awaits.{Awaits, awaits_where, resource_limit}
 use Rattle.rx_base.specs.AwaitsLaws.{has-awaits_where, has-awaits_where_above}
-use Rattle.rx_rules.specs.Names.{component_at}
+use Rattle.rx_rules.specs.Names.{component_at, resources}
 use Rattle.rx_elem.specs.Compare.{node_at, old_nodes}
 use Rattle.rx_elem.specs.Elements.{Element, Elements, listed}
 use Rattle.rx_elem.specs.Identity.{Child, identified, identities_after, is_same_child}
 use Rattle.rx_elem.specs.Trees.{Forest, Mark, Node, child, children_if, elements_in, fallback_if, node, none, of_boundary, of_host, of_instance, places, plain, vacant}
-use Rattle.rx_meaning.specs.Body.{Body, body_of, ready, wait}
-use Rattle.rx_meaning.specs.Fresh.{Contexts, Part, Place, Places, Shape, Sight, absent, all_made, before, empty, inputs_at, made, old_instance, one_list, one_waits, over, over_boundary, place_of, render_all, render_part, rendered, resources_seen, shape_of, shape_of_body, shape_of_component, two_lists, values_of, waiting, waits}
+use Rattle.rx_meaning.specs.Body.{Body, Inputs, body_of, ready, wait}
+use Rattle.rx_meaning.specs.Fresh.{Contexts, Part, Place, Places, Shape, Sight, absent, all_made, before, empty, inputs_at, made, old_instance, one_list, one_waits, over, over_boundary, place_of, render_all, render_part, rendered, resources_seen, shape_of, shape_of_body, shape_of_component, two_lists, values_of, version_seen, versions_seen, waiting, waits}
 use Rattle.commit_laws.proofs.BodyLaw.{BodyAgain, body_again}
+use Rattle.commit_laws.proofs.Versions.{values_kept}
+use Rattle.rx_queue.specs.Journal.{resolutions_by, values_at}
 use Rattle.rx_elem.proofs.Identities.{child_of}
 use Rattle.rx_meaning.specs.Again.{AllValuesAgree, AreUnresolved, ValuesAgree, WaitsAreSmall}
 use Rattle.rx_meaning.specs.Settled.{HasValuesOf}
@@ -156,37 +158,48 @@ olds_hooks s t (Some (node e (of_boundary b) ns fs)) h = refl
 -- a shape at the other sight: the same, unless what its body waits for has a value
 abbrev ShapeAgain : Sight → Shape → Shape → Type 0
 ShapeAgain t absent q = q ≡ absent
-ShapeAgain t (waiting r) q = (r < resource_limit) × (slice_index_or (resources_seen t) r None ≡ None → q ≡ waiting r)
+ShapeAgain t (waiting r v) q = (r < resource_limit) × (slice_index_or (resources_seen t) r None ≡ None → q ≡ waiting r v)
 ShapeAgain t (one_list m p) q = q ≡ one_list m p
 ShapeAgain t (two_lists p f) q = q ≡ two_lists p f
 
-module _ (s : Sight) (j : _) (l : _) (c : _) (small : WaitsAreSmall s.program) (more : HasValuesOf (resources_seen s) (resources_seen (record s { journal = j; lanes = l; cut = c }))) where
+module _ (s : Sight) (j : _) (l : _) (c : _) (small : WaitsAreSmall s.program) (same_versions : versions_seen s ≡ versions_seen (record s { journal = j; lanes = l; cut = c }))
+    (more : HasValuesOf (resolutions_by s.cut s.journal) (resolutions_by c j)) where
   -- the other sight
   abbrev later : Sight
   later = record s { journal = j; lanes = l; cut = c }
 
-  shape_of_again : (cs : Contexts) (k : ℕ) (old : Option Node) (a b : Body) → ((r : ℕ) → a ≡ wait r → r < resource_limit)
-      → BodyAgain s.program (record { props = []; children = []; hooks = None; contexts = []; resources = resources_seen s }) (resources_seen later) more a b
+  -- resources keep their values in the versions that both see
+  resources_kept : (r : ℕ) (x : ℤ) → slice_index_or (resources_seen s) r None ≡ Some x → slice_index_or (resources_seen later) r None ≡ Some x
+  resources_kept r x h =
+      subst (λ (vs : List ℕ). slice_index_or (values_at (resolutions_by c j) vs) r None ≡ Some x) same_versions
+      (values_kept (resolutions_by s.cut s.journal) (resolutions_by c j) more (version_seen s) (length (resources s.program)) r x h)
+
+  shape_of_again : (cs : Contexts) (k : ℕ) (old : Option Node) (a b : Body) → ((r v : ℕ) → a ≡ wait r v → r < resource_limit)
+      → BodyAgain s.program (record { props = []; children = []; hooks = None; contexts = []; versions = []; resources = resources_seen s }) (resources_seen later) resources_kept a b
       → ShapeAgain later (shape_of_body cs k old a) (shape_of_body cs k old b)
-  shape_of_again cs k old (wait r) b lt h = (lt r refl, λ none. rw (h none) refl)
-  shape_of_again cs k old (ready es effects initials reads) b lt h = rw h refl
+  shape_of_again cs k old (wait r v) b lt h = (lt r v refl, λ none. rw (h none) refl)
+  shape_of_again cs k old (ready es effects initials reads versions) b lt h = rw h refl
 
   found_again : (cs : Contexts) (k : ℕ) (props : List ℤ) (given : Elements) (old : Option Node) (d : Component) → component_at s.program k ≡ Some d → IfValuesAgree s later old
       → ShapeAgain later (shape_of_body cs k old (body_of s.program d (inputs_at s cs props given (old_instance old)))) (shape_of_body cs k old (body_of s.program d (inputs_at later cs props given (old_instance old))))
   found_again cs k props given old d there agree =
-      shape_of_again cs k old (body_of s.program d (inputs_at s cs props given (old_instance old))) (body_of s.program d (inputs_at later cs props given (old_instance old)))
-      (λ r same. small k d (inputs_at s cs props given (old_instance old)) r there same)
-      (go (option_and_then (values_of later) (old_instance old)) (olds_hooks s later old agree)
-      (body_again s.program (inputs_at s cs props given (old_instance old)) (resources_seen later) more d))
+      shape_of_again cs k old (body_of s.program d first) (body_of s.program d (inputs_at later cs props given (old_instance old)))
+      (λ r v same. small k d first r v there same)
+      (go (option_and_then (values_of later) (old_instance old)) (versions_seen later) (olds_hooks s later old agree) same_versions
+      (body_again s.program first (resources_seen later) resources_kept d))
     where
-      go : (h : Option (List ℤ)) → option_and_then (values_of s) (old_instance old) ≡ h
-          → BodyAgain s.program (inputs_at s cs props given (old_instance old)) (resources_seen later) more (body_of s.program d (inputs_at s cs props given (old_instance old)))
-          (body_of s.program d (record (inputs_at s cs props given (old_instance old)) { resources = resources_seen later }))
-          → BodyAgain s.program (inputs_at s cs props given (old_instance old)) (resources_seen later) more (body_of s.program d (inputs_at s cs props given (old_instance old)))
-          (body_of s.program d (record { props = props; children = listed given; hooks = h; contexts = cs; resources = resources_seen later }))
-      go h same x =
-          subst (λ (y : Option (List ℤ)). BodyAgain s.program (inputs_at s cs props given (old_instance old)) (resources_seen later) more (body_of s.program d (inputs_at s cs props given (old_instance old)))
-          (body_of s.program d (record { props = props; children = listed given; hooks = y; contexts = cs; resources = resources_seen later }))) same x
+      first : Inputs
+      first = inputs_at s cs props given (old_instance old)
+
+      go : (h : Option (List ℤ)) (vs : List ℕ) → option_and_then (values_of s) (old_instance old) ≡ h → versions_seen s ≡ vs
+          → BodyAgain s.program first (resources_seen later) resources_kept (body_of s.program d first) (body_of s.program d (record first { resources = resources_seen later }))
+          → BodyAgain s.program first (resources_seen later) resources_kept (body_of s.program d first)
+          (body_of s.program d (record { props = props; children = listed given; hooks = h; contexts = cs; versions = vs; resources = resources_seen later }))
+      go h vs same also x =
+          subst (λ (w : List ℕ). BodyAgain s.program first (resources_seen later) resources_kept (body_of s.program d first)
+          (body_of s.program d (record { props = props; children = listed given; hooks = h; contexts = cs; versions = w; resources = resources_seen later }))) also
+          (subst (λ (y : Option (List ℤ)). BodyAgain s.program first (resources_seen later) resources_kept (body_of s.program d first)
+          (body_of s.program d (record { props = props; children = listed given; hooks = y; contexts = cs; versions = versions_seen s; resources = resources_seen later }))) same x)
 
   comp_again : (cs : Contexts) (k : ℕ) (props : List ℤ) (given : Elements) (old : Option Node) → IfValuesAgree s later old → (d : Option Component) → component_at s.program k ≡ d
       → ShapeAgain later (shape_of_component s cs k props given old d) (shape_of_component later cs k props given old d)
@@ -220,13 +233,13 @@ module _ (s : Sight) (j : _) (l : _) (c : _) (small : WaitsAreSmall s.program) (
   -- the old lists of a shape
   abbrev OldsOf : Shape → Type 0
   OldsOf absent = Unit {0}
-  OldsOf (waiting r) = Unit {0}
+  OldsOf (waiting r v) = Unit {0}
   OldsOf (one_list m p) = AllValuesAgree s later p.old
   OldsOf (two_lists p f) = AllValuesAgree s later p.old × AllValuesAgree s later f.old
 
   body_olds : (cs : Contexts) (k : ℕ) (old : Option Node) (b : Body) → IfValuesAgree s later old → OldsOf (shape_of_body cs k old b)
-  body_olds cs k old (wait r) h = tt
-  body_olds cs k old (ready es effects initials reads) h = children_agree s later old h
+  body_olds cs k old (wait r v) h = tt
+  body_olds cs k old (ready es effects initials reads versions) h = children_agree s later old h
 
   component_olds : (cs : Contexts) (k : ℕ) (props : List ℤ) (given : Elements) (old : Option Node) (d : Option Component) → IfValuesAgree s later old
       → OldsOf (shape_of_component s cs k props given old d)
@@ -245,7 +258,7 @@ module _ (s : Sight) (j : _) (l : _) (c : _) (small : WaitsAreSmall s.program) (
   from_again : (n : ℕ) → BelowAgain n → (e : Element) (old : Option Node) (a b : Shape) → ShapeAgain later a b → OldsOf a
       → WaitsAgain later (place_of (rendered n s) e old a) (place_of (rendered n later) e old b)
   from_again n below e old absent b h olds = rw h tt
-  from_again n below e old (waiting r) b h olds =
+  from_again n below e old (waiting r v) b h olds =
       (where_small (nat_eq r), λ u. ap (place_of (rendered n later) e old) (h.1 (one_unresolved later r h.0 u)))
   from_again n below e old (one_list m p) b h olds =
       rw h (over_again later e m (render_part (rendered n s) p) (render_part (rendered n later) p) (part_again n below p olds))

@@ -13,8 +13,8 @@ use Rattle.rx_elem.specs.Trees.{Forest, Instance, Mark, Node, child, element_of,
 use Rattle.rx_elem.proofs.Deciding.{or_fails, or_right}
 use Rattle.rx_elem.proofs.SelfMatch.{matches_itself}
 use Rattle.rx_meaning.specs.Body.{Body, body_of, ready, wait}
-use Rattle.rx_meaning.specs.Fresh.{Sight, Contexts, Renders, default_contexts, depth_limit, inputs_at, old_host, part, rendered, root_element, Part, Shape, absent, waiting, one_list, two_lists, shape_of, shape_of_body, shape_of_component}
-use Rattle.rx_meaning.specs.Settled.{AllSettled, DoneBefore, IfSettled, IsBodyOf, IsOwn, IsSettled, known_by, read_anew}
+use Rattle.rx_meaning.specs.Fresh.{Sight, Contexts, Renders, default_contexts, depth_limit, inputs_at, old_host, part, rendered, root_element, Part, Shape, absent, waiting, one_list, two_lists, shape_of, shape_of_body, shape_of_component, version_seen}
+use Rattle.rx_meaning.specs.Settled.{AllSettled, DoneBefore, IfSettled, IsBodyOf, IsOwn, IsSettled, known_by, read_anew, refreshed}
 use Rattle.rx_meaning.specs.Touched.{children_with_old, part_waits, waits_at}
 use Rattle.rx_rules.specs.Names.{component_at}
 use Rattle.rx_susp.specs.declared.boundary.BoundaryState.TheVariants.{Hidden, Shown}
@@ -77,7 +77,7 @@ part_met come met below a p =
 shape_met : (come : Comings) → ((a : Above) (cs : Contexts) (e : Element) (old : Option Node) → Each IsMet (come a cs e old)) → (below : Contexts → Renders) (s : Sight) (a : Above) (cs : Contexts) (e : Element) (old : Option Node) (shape : Shape)
     → Each IsMet (come_shape come below s a cs e old shape)
 shape_met come met below s a cs e old absent = tt
-shape_met come met below s a cs e old (waiting r) = (cause_evaluates s a.flag cs e old, tt)
+shape_met come met below s a cs e old (waiting r v) = (cause_evaluates s a.flag cs e old, tt)
 shape_met come met below s a cs e old (one_list m p) = (cause_evaluates s a.flag cs e old, part_met come met below (above_with a s cs e old (below_node s a.flag cs e old)) p)
 shape_met come met below s a cs e old (two_lists p f) =
     let b = above_with a s cs e old (below_boundary a.flag e old) in
@@ -141,7 +141,7 @@ shape_below : (s : Sight) (come : Comings) → IsFounded s come → (below : Con
     → IsCaused (coming_here s a cs e old) → (a.below || (has_cause s cs e old || is_retried s a.flag.stood e old)) ≡ true
     → Each IsCaused (come_shape come below s a cs e old shape)
 shape_below s come founded below a cs e old absent here h = tt
-shape_below s come founded below a cs e old (waiting r) here h = (here, tt)
+shape_below s come founded below a cs e old (waiting r v) here h = (here, tt)
 shape_below s come founded below a cs e old (one_list m p) here h = (here, part_below s come founded below (above_with a s cs e old (below_node s a.flag cs e old)) p h)
 shape_below s come founded below a cs e old (two_lists p f) here h =
     let b = above_with a s cs e old (below_boundary a.flag e old) in
@@ -175,13 +175,13 @@ new_part s come founded below a p h =
 -- no old children stand below
 abbrev IsNewShape : Shape → Type 0
 IsNewShape absent = Unit {0}
-IsNewShape (waiting r) = Unit {0}
+IsNewShape (waiting r v) = Unit {0}
 IsNewShape (one_list m p) = p.old ≡ none
 IsNewShape (two_lists p f) = (p.old ≡ none) × (f.old ≡ none)
 
 new_body : (cs : Contexts) (c : ℕ) (b : Body) → IsNewShape (shape_of_body cs c None b)
-new_body cs c (wait r) = tt
-new_body cs c (ready es effects initials reads) = refl
+new_body cs c (wait r v) = tt
+new_body cs c (ready es effects initials reads versions) = refl
 
 new_component : (s : Sight) (cs : Contexts) (c : ℕ) (props : _) (given : Elements) (d : Option Component) → IsNewShape (shape_of_component s cs c props given None d)
 new_component s cs c props given None = tt
@@ -209,7 +209,7 @@ new_caused s a cs (elements.provider c k x es) h = absurd (cc h)
 new_founded : (s : Sight) (come : Comings) → IsFounded s come → (below : Contexts → Renders) (a : Above) (cs : Contexts) (e : Element) (shape : Shape) → IsNewShape shape
     → Each IsCaused (come_shape come below s a cs e None shape)
 new_founded s come founded below a cs e absent h = tt
-new_founded s come founded below a cs e (waiting r) h = (new_caused s a cs e, tt)
+new_founded s come founded below a cs e (waiting r v) h = (new_caused s a cs e, tt)
 new_founded s come founded below a cs e (one_list m p) h = (new_caused s a cs e, new_part s come founded below (above_with a s cs e None (below_node s a.flag cs e None)) p h)
 new_founded s come founded below a cs e (two_lists p f) h =
     let b = above_with a s cs e None (below_boundary a.flag e None) in
@@ -262,7 +262,7 @@ calm_shape : (s : Sight) (cs : Contexts) (c : ℕ) (key : _) (props : _) (given 
     → IsBodyOf s.program (known_by s) c props given i (elements_in ns) → fs ≡ none → DoneBefore s.cut s.journal.updates → is_called s cs (Some i) ≡ false
     → shape_of s cs (elements.comp c key props given) (Some (node (elements.comp c key props given) m ns fs)) ≡ one_list m (part cs (elements_in ns) ns)
 calm_shape s cs c key props given m ns fs i marked body none_there done calm =
-    let both = or_fails (option_map_or (λ n. some_update (is_due s) s n i.initials) i.number true) (read_anew cs i.reads) calm in
+    let both = or_fails (option_map_or (λ n. some_update (is_due s) s n i.initials) i.number true) (read_anew cs i.reads || refreshed (version_seen s) i.versions) calm in
     let undue : some_update (is_due s) s body.instance i.initials ≡ false = rw body.is_numbered at both.0 in
     rw marked
     (idle_shape s cs (elements.comp c key props given) (of_instance i) ns fs (i, refl, body, none_there)

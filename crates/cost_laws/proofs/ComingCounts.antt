@@ -84,14 +84,14 @@ part_counted come evaluate counted below a p = all_counted come evaluate counted
 -- two lists stand below a boundary alone
 abbrev pub FitsShape : Element → Shape → Type 0
 FitsShape e absent = Unit {0}
-FitsShape e (waiting r) = Unit {0}
+FitsShape e (waiting r v) = Unit {0}
 FitsShape e (one_list m p) = Unit {0}
 FitsShape e (two_lists p f) = component_in e ≡ None
 
 shape_counted : (come : Comings) (evaluate : Evaluates) → IsCounted come evaluate → (below : Contexts → Renders) (s : Sight) (a : Above) (cs : Contexts) (e : Element) (old : Option Node) (shape : Shape)
     → FitsShape e shape → counts (come_shape come below s a cs e old shape) ≡ evaluate_shape evaluate below s a.flag cs e old shape
 shape_counted come evaluate counted below s a cs e old absent fits = refl
-shape_counted come evaluate counted below s a cs e old (waiting r) fits = omega (arith, counts_first (coming_here s a cs e old) [])
+shape_counted come evaluate counted below s a cs e old (waiting r v) fits = omega (arith, counts_first (coming_here s a cs e old) [])
 shape_counted come evaluate counted below s a cs e old (one_list m p) fits =
     let b = above_with a s cs e old (below_node s a.flag cs e old) in
     omega (arith, counts_first (coming_here s a cs e old) (come_part come below b p), part_counted come evaluate counted below b p)
@@ -115,8 +115,8 @@ shape_counted come evaluate counted below s a cs e old (two_lists p f) fits =
     )
 
 body_fits : (cs : Contexts) (c : ℕ) (e : Element) (old : Option Node) (b : Body) → FitsShape e (shape_of_body cs c old b)
-body_fits cs c e old (wait r) = tt
-body_fits cs c e old (ready es effects initials reads) = tt
+body_fits cs c e old (wait r v) = tt
+body_fits cs c e old (ready es effects initials reads versions) = tt
 
 component_fits : (s : Sight) (cs : Contexts) (c : ℕ) (props : _) (given : Elements) (e : Element) (old : Option Node) (d : Option Component)
     → FitsShape e (shape_of_component s cs c props given old d)

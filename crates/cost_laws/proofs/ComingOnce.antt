@@ -124,7 +124,7 @@ two_apart a vs ws h k = (
 shape_once : (come : Comings) → IsOnce come → (below : Contexts → Renders) (s : Sight) (a : Above) (cs : Contexts) (e : Element) (old : Option Node) (shape : Shape)
     → Apart (come_shape come below s a cs e old shape) × Each (λ v. IsBelow a.address v.address) (come_shape come below s a cs e old shape)
 shape_once come once below s a cs e old absent = (tt, tt)
-shape_once come once below s a cs e old (waiting r) = with_children a.address (coming_here s a cs e old) [] refl tt tt
+shape_once come once below s a cs e old (waiting r v) = with_children a.address (coming_here s a cs e old) [] refl tt tt
 shape_once come once below s a cs e old (one_list m p) =
     let b = above_with a s cs e old (below_node s a.flag cs e old) in
     let part = part_once come once below b p in

@@ -102,7 +102,7 @@ begin_evaluates : (n : ℕ) (s : Sight) (us : Flags) (fs : List Frame) (cs : Con
     → evaluate_shape (evaluated n s) (rendered n s) s (flag us) cs e old shape + evaluate_around (suc n) s fs us (place_of (rendered n s) e old shape)
     ≡ begins_evaluated s (flag us) cs e old shape + left_evaluated s (begun_flags s fs us cs e old shape) (begin n fs e old shape)
 begin_evaluates n s us fs cs e old absent h = omega (arith, arrive_evaluates (suc n) s us fs None)
-begin_evaluates n s us fs cs e old (waiting r) h = omega (arith, unwind_evaluates (suc n) s us fs (awaits.one r))
+begin_evaluates n s us fs cs e old (waiting r v) h = omega (arith, unwind_evaluates (suc n) s us fs (awaits.one r))
 begin_evaluates n s us fs cs e old (one_list m p) h = omega (arith, part_evaluates n s (begun_flags s fs us cs e old (one_list m p)) fs (around e m) p)
 begin_evaluates n s us fs cs e old (two_lists p f) h =
     let u = below_boundary (flag us) e old in

@@ -55,7 +55,7 @@ shape_less : (f : Evaluates) (g : Contexts → Tries) (below : Contexts → Rend
     → (s : Sight) (u : Flag) (cs : Contexts) (e : Element) (old : Option Node) (shape : Shape)
     → evaluate_shape f below s u cs e old shape ≤ count_shape each_body g below cs e old shape
 shape_less f g below h s u cs e old absent = omega arith
-shape_less f g below h s u cs e old (waiting r) = own_less s u cs e old
+shape_less f g below h s u cs e old (waiting r v) = own_less s u cs e old
 shape_less f g below h s u cs e old (one_list m p) =
     omega (arith, own_less s u cs e old, part_less (f (below_node s u cs e old)) g below (h (below_node s u cs e old)) p, if_made_nothing (render_part below p))
 shape_less f g below h s u cs e old (two_lists p q) =

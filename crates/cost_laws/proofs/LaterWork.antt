@@ -1,5 +1,5 @@
 -- What a render evaluates is the same for two sights that see the same work, and a longer journal shows no other work.
-use Rattle.std.specs.Prelude.{◌≡◌, ℕ, zero, suc, ◌+◌, Bool, true, false, not, ◌&&◌, ◌||◌, cond, List, [], ◌∷◌, ◌++◌, ℤ, Option, Some, None, filter, is_some, slice_index_or, refl}
+use Rattle.std.specs.Prelude.{◌≡◌, ℕ, zero, suc, ◌+◌, Bool, true, false, not, ◌&&◌, ◌||◌, cond, List, [], ◌∷◌, ◌++◌, ℤ, Option, Some, None, filter, is_some, nat_eq, slice_index_or, refl}
 use Rattle.std.specs.List.{enumerate_from, list_any}
 use Rattle.std.specs.Option.{option_map_or}
 use Rattle.std.proofs.Common.{ap, sym, ◌∙◌}
@@ -17,8 +17,9 @@ use Rattle.rx_meaning.specs.Rest.{from_open, list_from}
 use Rattle.rx_meaning.specs.Generations.{generation_below}
 use Rattle.rx_meaning.specs.Touched.{component_in, is_read_anew}
 use Rattle.render_laws.specs.SameSight.{SeesSame, AllAfter}
-use Rattle.render_laws.proofs.LaterEntries.{renders_same, shape_same, AllFail, late_fail}
-use Rattle.cost_laws.specs.Causes.{has_cause, has_value, instance_news, is_called, is_due, is_news, news_at, news_in, some_update, waits_still}
+use Rattle.render_laws.proofs.LaterEntries.{renders_same, shape_same, AllFail, late_fail, longer_refresh}
+use Rattle.rx_meaning.specs.Again.{AllOpen}
+use Rattle.cost_laws.specs.Causes.{has_cause, instance_news, is_called, is_due, is_left_waiting, is_news, news_at, news_in, some_update, waits_still}
 use Rattle.cost_laws.specs.Evaluated.{Evaluates, Flag, above_root, after_attempt, below_boundary, below_node, beside_kept, evaluate_shape, evaluated, in_fallback, is_again, is_evaluated, own_body, whole_evaluated}
 use Rattle.cost_laws.specs.Untouched.{is_element_of, is_untouched, stands_below}
 use Rattle.cost_laws.specs.Left.{Flags, flag, outer, evaluate_open, evaluate_around, left_evaluated}
@@ -36,7 +37,7 @@ module _ (s : Sight) (j : Journal) (same : SeesSame s j) (work : SeesSameWork s 
 
   called_same : (cs : Contexts) (i : Option Instance) → is_called s cs i ≡ is_called seen cs i
   called_same cs None = refl
-  called_same cs (Some i) = λ k. option_map_or (λ n. some_same (is_due s) work.due n i.initials k) i.number true || list_any (is_read_anew cs) i.reads
+  called_same cs (Some i) = λ k. option_map_or (λ n. some_same (is_due s) work.due n i.initials k) i.number true || (list_any (is_read_anew cs) i.reads || list_any (λ r. not (nat_eq (same.versions r.resource k) r.version)) i.versions)
 
   news_same : (i : Option Instance) → instance_news s i ≡ instance_news seen i
   news_same i = λ k. option_map_or (λ j. option_map_or (λ n. some_same (is_news s) work.news n j.initials k) j.number false) i false
@@ -60,10 +61,8 @@ module _ (s : Sight) (j : Journal) (same : SeesSame s j) (work : SeesSameWork s 
   cause_same cs (elements.boundary k f es) old = refl
   cause_same cs (elements.provider c k x es) old = refl
 
-  waiting_same : (n : Node) (b : Option BoundaryState)
-      → option_map_or (λ state. hides state && not (has_value s (awaits_of state) || news_in s (children_of n))) b false
-      ≡ option_map_or (λ state. hides state && not (has_value seen (awaits_of state) || news_in seen (children_of n))) b false
-  waiting_same n b = λ k. option_map_or (λ state. hides state && not (list_any (λ r. is_some (slice_index_or (same.resources k) r None)) (awaits_of state) || news_in_same (children_of n) k)) b false
+  waiting_same : (n : Node) (b : Option BoundaryState) → option_map_or (is_left_waiting s (children_of n)) b false ≡ option_map_or (is_left_waiting seen (children_of n)) b false
+  waiting_same n b = λ k. option_map_or (λ state. hides state && not (work.refresh k || (list_any (λ r. is_some (slice_index_or (same.resources k) r None)) (awaits_of state) || news_in_same (children_of n) k))) b false
 
   -- The same boundaries wait still.
   pub still_same : (old : Option Node) → waits_still s old ≡ waits_still seen old
@@ -90,7 +89,7 @@ module _ (s : Sight) (j : Journal) (same : SeesSame s j) (work : SeesSameWork s 
   place_same : (evaluate : Evaluates) (below : Contexts → Renders) (u : Flag) (cs : Contexts) (e : Element) (old : Option Node) (shape : Shape)
       → evaluate_shape evaluate below s u cs e old shape ≡ evaluate_shape evaluate below seen u cs e old shape
   place_same evaluate below u cs e old absent = refl
-  place_same evaluate below u cs e old (waiting r) = own_same u cs e old
+  place_same evaluate below u cs e old (waiting r v) = own_same u cs e old
   place_same evaluate below u cs e old (one_list m p) = λ i. own_same u cs e old i + count_part (evaluate (node_same u cs e old i)) below p
   place_same evaluate below u cs e old (two_lists p f) =
       λ i. cond (untouched_same u.stood e old i) 0 (count_part (evaluate (below_boundary u e old)) below p)
@@ -147,13 +146,14 @@ any_more first second test (u ∷ us) new h = go (test u) (any_more first second
     go true e = ap (λ b. (first u && second u) || b) e
     go false e = e
 
--- A longer journal shows no other work, if all that is new comes after the cut.
-pub longer_sees_same_work : (s : Sight) (new : List Posted) (more : List Resolution) → AllAfter s.cut.updates new
+-- A longer journal shows no other work, if all that is new is open and comes after the cut.
+pub longer_sees_same_work : (s : Sight) (new : List Posted) (more : List Resolution) → AllAfter s.cut.updates new → AllOpen new
     → SeesSameWork s (record { updates = s.journal.updates ++ new; resolutions = s.journal.resolutions ++ more })
-longer_sees_same_work s new more late =
+longer_sees_same_work s new more late opened =
     record {
       due = λ t. any_more (is_included s.lanes s.cut) (λ u. not (stands_done u.standing)) (λ u. same_target t u.target) s.journal.updates new (late_fail s new late);
       news = λ t. any_more (is_included s.lanes s.cut) (λ u. stands_open u.standing) (λ u. same_target t u.target) s.journal.updates new (late_fail s new late);
+      refresh = longer_refresh s new more late opened;
     }
 
 -- An instance of which each included update is done is one for another journal that shows the same work.

@@ -8,9 +8,9 @@ use Rattle.rx_elem.specs.Elements as elements
 use Rattle.rx_elem.specs.Trees.{Forest, Instance, Mark, Node, child, element_of, elements_in, is_hidden, node, none, of_boundary, of_host, of_instance, places, plain, vacant}
 use Rattle.rx_elem.proofs.Equality.{same_element-self}
 use Rattle.rx_elem.proofs.SelfMatch.{NoNull, matches_itself}
-use Rattle.rx_meaning.specs.Fresh.{Sight, Contexts, Place, empty, made, waits, Places, all_made, one_waits, before, over, over_boundary, Part, part, Shape, one_list, two_lists, place_of, rendered, render_all, render_part, shape_of}
+use Rattle.rx_meaning.specs.Fresh.{Sight, Contexts, Place, empty, made, waits, Places, all_made, one_waits, before, over, over_boundary, Part, part, Shape, one_list, two_lists, place_of, rendered, render_all, render_part, shape_of, version_seen}
 use Rattle.rx_meaning.specs.Counts.{count_part, if_waits, try_all, unless_waits}
-use Rattle.rx_meaning.specs.Settled.{AllReadsHold, AllSettled, IfHidden, IsOwn, IsSettled, ReadsHold, kept_shape, known_by, read_anew, reads_another}
+use Rattle.rx_meaning.specs.Settled.{AllReadsHold, AllSettled, IfHidden, IsOwn, IsSettled, ReadsHold, kept_shape, known_by, read_anew, reads_another, refreshed}
 use Rattle.rx_meaning.specs.Generations.{generation_below, own_generation}
 use Rattle.rx_meaning.specs.Touched.{component_in, contexts_below}
 use Rattle.commit_laws.specs.Each.{ForEach, ForEachIn}
@@ -23,21 +23,21 @@ use Rattle.cost_laws.specs.Untouched.{is_untouched}
 
 -- Causes
 
-not_called : (s : Sight) (cs : Contexts) (i : Instance) (n : ℕ) → i.number ≡ Some n → some_update (is_due s) s n i.initials ≡ false → read_anew cs i.reads ≡ false
+not_called : (s : Sight) (cs : Contexts) (i : Instance) (n : ℕ) → i.number ≡ Some n → some_update (is_due s) s n i.initials ≡ false → (read_anew cs i.reads || refreshed (version_seen s) i.versions) ≡ false
     → is_called s cs (Some i) ≡ false
 not_called s cs i n numbered undue calm = rw (numbered, undue, calm) refl
 
-undue_calm : (s : Sight) (cs : Contexts) (i : Instance) → IsUndue s (of_instance i) → read_anew cs i.reads ≡ false → is_called s cs (Some i) ≡ false
+undue_calm : (s : Sight) (cs : Contexts) (i : Instance) → IsUndue s (of_instance i) → (read_anew cs i.reads || refreshed (version_seen s) i.versions) ≡ false → is_called s cs (Some i) ≡ false
 undue_calm s cs i h calm = not_called s cs i h.0 h.1 h.2 calm
 
-body_rests : (s : Sight) (cs : Contexts) (e : Element) (m : Mark) (ns fs : Forest) → IsOwn s.program (known_by s) e m ns fs → IsUndue s m → reads_another cs m ≡ false
+body_rests : (s : Sight) (cs : Contexts) (e : Element) (m : Mark) (ns fs : Forest) → IsOwn s.program (known_by s) e m ns fs → IsUndue s m → reads_another (version_seen s) cs m ≡ false
     → has_cause s cs e (Some (node e m ns fs)) ≡ false
 body_rests s cs elements.null m ns fs own undue calm = refl
 body_rests s cs (elements.text t) m ns fs own undue calm = refl
 body_rests s cs (elements.host n key attrs es) m ns fs own undue calm = refl
 body_rests s cs (elements.comp c key props given) m ns fs own undue calm =
     let here : IsUndue s (of_instance own.0) = subst (IsUndue s) own.1 undue in
-    let reads : read_anew cs own.0.reads ≡ false = rw own.1 at calm in
+    let reads : (read_anew cs own.0.reads || refreshed (version_seen s) own.0.versions) ≡ false = rw own.1 at calm in
     rw (own.1, undue_calm s cs own.0 here reads) refl
 body_rests s cs (elements.list marked es) m ns fs own undue calm = refl
 body_rests s cs (elements.boundary key f es) m ns fs own undue calm = refl
@@ -218,7 +218,7 @@ unfolding evaluated rendered
 no_level_rests s u cs e old = (refl, tt)
 
 mutual
-  tree_rests : (n : ℕ) (s : Sight) (u : Flag) (cs : Contexts) (x : Node) → u.generation ≡ 0 → IsSettled s.program (known_by s) x → IsIdle s x → ForEach (IsUndue s) x → ReadsHold cs x
+  tree_rests : (n : ℕ) (s : Sight) (u : Flag) (cs : Contexts) (x : Node) → u.generation ≡ 0 → IsSettled s.program (known_by s) x → IsIdle s x → ForEach (IsUndue s) x → ReadsHold (version_seen s) cs x
       → Rests n s u cs (element_of x) (Some x)
   tree_rests zero s u cs (node e m ns fs) zeroth settled idle undue reads = no_level_rests s u cs e (Some (node e m ns fs))
   tree_rests (suc n) s u cs (node e m ns fs) zeroth settled idle undue reads =
@@ -227,9 +227,9 @@ mutual
       (kept_rests n s u cs e (Some (node e m ns fs)) m ns fs (ap (λ b. cond b 1 0) (not_evaluated s u cs e m ns fs zeroth calm))
       (node_zeroth s u cs e m ns fs zeroth calm) (boundary_zeroth u e m ns fs zeroth (idle_shown s m idle.0))
       (λ v h. own_part_rests n s v (contexts_below e cs) ns (settled_no_null s.program (known_by s) ns settled.1)
-      (trees_rest n s v (contexts_below e cs) ns h settled.1 idle.1 undue.1 (reads_below s m (AllReadsHold (contexts_below e cs) ns) idle.0 reads.1))))
+      (trees_rest n s v (contexts_below e cs) ns h settled.1 idle.1 undue.1 (reads_below s m (AllReadsHold (version_seen s) (contexts_below e cs) ns) idle.0 reads.1))))
 
-  trees_rest : (n : ℕ) (s : Sight) (u : Flag) (cs : Contexts) (ns : Forest) → u.generation ≡ 0 → AllSettled s.program (known_by s) ns → AllIdle s ns → ForEachIn (IsUndue s) ns → AllReadsHold cs ns
+  trees_rest : (n : ℕ) (s : Sight) (u : Flag) (cs : Contexts) (ns : Forest) → u.generation ≡ 0 → AllSettled s.program (known_by s) ns → AllIdle s ns → ForEachIn (IsUndue s) ns → AllReadsHold (version_seen s) cs ns
       → AllRest n s u cs (zip (elements_in ns) (places ns))
   trees_rest n s u cs none zeroth settled idle undue reads = (refl, tt)
   trees_rest n s u cs (vacant ns) zeroth settled idle undue reads =
@@ -240,5 +240,5 @@ mutual
 
 -- Nothing is evaluated of a tree whose elements are given again, that is idle, whose instances have each included update done, and in which reads hold.
 pub nothing_rests : (s : Sight) (u : Flag) (cs : Contexts) (x : Node) (n : ℕ) → u.generation ≡ 0 → IsSettled s.program (known_by s) x
-    → IsIdle s x → ForEach (IsUndue s) x → ReadsHold cs x → evaluated n s u cs (element_of x) (Some x) ≡ 0
+    → IsIdle s x → ForEach (IsUndue s) x → ReadsHold (version_seen s) cs x → evaluated n s u cs (element_of x) (Some x) ≡ 0
 nothing_rests s u cs x n zeroth settled idle undue reads = (tree_rests n s u cs x zeroth settled idle undue reads).0

@@ -3,6 +3,7 @@ use Rattle.std.specs.Prelude.{ℕ, Bool, true, false, not, ◌&&◌, ◌||◌, L
 use Rattle.std.specs.List.{enumerate_from, list_any}
 use Rattle.std.specs.Option.{option_map_or}
 use Rattle.rx_base.specs.Awaits.{Awaits}
+use Rattle.rx_susp.specs.declared.boundary.BoundaryState.{BoundaryState}
 use Rattle.rx_susp.specs.Boundary.{awaits_of, hides}
 use Rattle.rx_elem.specs.Elements.{Element}
 use Rattle.rx_elem.specs.Elements as elements
@@ -10,7 +11,7 @@ use Rattle.rx_elem.specs.Trees.{Forest, Instance, Node, boundary_in, child, chil
 use Rattle.rx_queue.specs.History.{stands_done}
 use Rattle.rx_queue.specs.Journal.{Posted, hook, is_included, is_new, updates_of}
 use Rattle.rx_meaning.specs.Fresh.{Contexts, Sight, old_instance, resources_seen}
-use Rattle.rx_meaning.specs.Touched.{is_read_anew}
+use Rattle.rx_meaning.specs.Touched.{is_read_anew, is_refreshed, sees_refresh}
 
 -- Updates
 
@@ -28,10 +29,11 @@ some_update test s n initials = list_any (λ h. list_any test (updates_of (hook 
 
 -- Components
 
--- the component of an instance is called: it has no number yet, an included update of one of its hooks isn't done, or a context has another value than the one that it read
+-- the component of an instance is called: it has no number yet, an included update of one of its hooks isn't done, or a context has another value or a resource another version than it read
 abbrev pub is_called : Sight → Contexts → Option Instance → Bool
 is_called s cs None = true
-is_called s cs (Some i) = option_map_or (λ n. some_update (is_due s) s n i.initials) i.number true || list_any (is_read_anew cs) i.reads
+is_called s cs (Some i) =
+    option_map_or (λ n. some_update (is_due s) s n i.initials) i.number true || (list_any (is_read_anew cs) i.reads || list_any (is_refreshed s) i.versions)
 
 -- a component's place has a cause of its own
 abbrev pub has_cause : Sight → Contexts → Element → Option Node → Bool
@@ -64,7 +66,11 @@ abbrev mutual
   news_in s (vacant ns) = news_in s ns
   news_in s (child n ns) = news_at s n || news_in s ns
 
--- an old node is a hidden boundary for which nothing new has come: nothing that it awaits has a value, and no instance that it keeps has news
+-- nothing new has come for a boundary with this state that keeps these: no resource has another version than before, nothing that it awaits has a value, and no instance that it keeps has news
+abbrev pub is_left_waiting : Sight → Forest → BoundaryState → Bool
+is_left_waiting s ns state = hides state && not (sees_refresh s || (has_value s (awaits_of state) || news_in s ns))
+
+-- an old node is a hidden boundary for which nothing new has come
 abbrev pub waits_still : Sight → Option Node → Bool
 waits_still s None = false
-waits_still s (Some old) = option_map_or (λ state. hides state && not (has_value s (awaits_of state) || news_in s (children_of old))) (boundary_in (mark_of old)) false
+waits_still s (Some old) = option_map_or (is_left_waiting s (children_of old)) (boundary_in (mark_of old)) false

@@ -66,7 +66,7 @@ Evaluates = Flag → Contexts → Tries
 -- at a place and below it, by what stands there
 abbrev pub evaluate_shape : Evaluates → (Contexts → Renders) → Sight → Flag → Contexts → Element → Option Node → Shape → ℕ
 evaluate_shape evaluate below s u cs e old absent = 0
-evaluate_shape evaluate below s u cs e old (waiting r) = own_body s u cs e old
+evaluate_shape evaluate below s u cs e old (waiting r v) = own_body s u cs e old
 evaluate_shape evaluate below s u cs e old (one_list m p) = own_body s u cs e old + count_part (evaluate (below_node s u cs e old)) below p
 evaluate_shape evaluate below s u cs e old (two_lists p f) =
     cond (is_untouched s u.stood e old) 0 (count_part (evaluate (below_boundary u e old)) below p)

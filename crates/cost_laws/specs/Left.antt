@@ -59,7 +59,7 @@ unwound (f ∷ fs) us = unwound_by f.node us (unwound fs (outer us))
 -- the flags once a place has begun, by what stands there
 abbrev pub begun_flags : Sight → List Frame → Flags → Contexts → Element → Option Node → Shape → Flags
 begun_flags s fs us cs e old absent = us
-begun_flags s fs us cs e old (waiting r) = unwound fs us
+begun_flags s fs us cs e old (waiting r v) = unwound fs us
 begun_flags s fs us cs e old (one_list m p) = below_node s (flag us) cs e old ∷ us
 begun_flags s fs us cs e old (two_lists p f) = below_boundary (flag us) e old ∷ us
 
@@ -75,7 +75,7 @@ unit_flags s us (ended p) = us
 -- the body of a place that begins, by what stands there
 abbrev pub begins_evaluated : Sight → Flag → Contexts → Element → Option Node → Shape → ℕ
 begins_evaluated s u cs e old absent = 0
-begins_evaluated s u cs e old (waiting r) = own_body s u cs e old
+begins_evaluated s u cs e old (waiting r v) = own_body s u cs e old
 begins_evaluated s u cs e old (one_list m p) = own_body s u cs e old
 begins_evaluated s u cs e old (two_lists p f) = 0
 
@@ -89,7 +89,7 @@ next_evaluated s us (ended p) = 0
 -- an untouched boundary's children are not tried
 abbrev pub MayTry : Sight → Flag → Element → Option Node → Shape → Type 0
 MayTry s u e old absent = Unit {0}
-MayTry s u e old (waiting r) = Unit {0}
+MayTry s u e old (waiting r v) = Unit {0}
 MayTry s u e old (one_list m p) = Unit {0}
 MayTry s u e old (two_lists p f) = is_untouched s u.stood e old ≡ false
 

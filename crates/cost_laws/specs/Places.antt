@@ -54,7 +54,7 @@ above_with a s cs e old u = record { address = a.address; below = a.below || (ha
 -- to a place and to those below it, by what stands there; the primary of a boundary has the address 0 below it, its fallback 1
 abbrev pub come_shape : Comings → (Contexts → Renders) → Sight → Above → Contexts → Element → Option Node → Shape → List Coming
 come_shape come below s a cs e old absent = []
-come_shape come below s a cs e old (waiting r) = coming_here s a cs e old ∷ []
+come_shape come below s a cs e old (waiting r v) = coming_here s a cs e old ∷ []
 come_shape come below s a cs e old (one_list m p) =
     coming_here s a cs e old ∷ come_part come below (above_with a s cs e old (below_node s a.flag cs e old)) p
 come_shape come below s a cs e old (two_lists p f) =

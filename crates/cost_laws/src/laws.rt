@@ -5,7 +5,8 @@ ghost use Rattle.rx_base.specs.Awaits.{Awaits};
 ghost use Rattle.rx_elem.specs.Elements.{Element};
 ghost use Rattle.rx_elem.specs.Trees.{Mark, Node, element_of};
 ghost use Rattle.rx_queue.specs.Journal.{Journal, Posted, Resolution};
-ghost use Rattle.rx_meaning.specs.Fresh.{Sight, Contexts, Place, made, one_waits, Part, two_lists, shape_of, render_part, rendered, root_element};
+ghost use Rattle.rx_meaning.specs.Fresh.{Sight, Contexts, Place, made, one_waits, Part, two_lists, shape_of, render_part, rendered, root_element, version_seen};
+ghost use Rattle.rx_meaning.specs.Again.{AllOpen};
 ghost use Rattle.rx_meaning.specs.Counts.{each_body, whole};
 ghost use Rattle.rx_meaning.specs.Cursor.{Frame, falling, Cursor, at_place, ended, open_part, arrive, start, unit};
 ghost use Rattle.rx_meaning.specs.Settled.{DoneBefore, IfSettled, IsSettled, ReadsHold, known_by};
@@ -37,7 +38,7 @@ pub fn bodies_are_counted()
         → Costs s old bodies (beside_kept ∷ us) (open_part n fs (falling e o a) f) }
     ensures later { (s : Sight) (j : Journal) (old : Option Node) (bodies : ℕ) (us : Flags) (c : Cursor) → SeesSame s j → SeesSameWork s j
         → Costs s old bodies us c → Costs (record s { journal = j }) old bodies us c }
-    ensures longer { (s : Sight) (new : List Posted) (more : List Resolution) → AllAfter s.cut.updates new
+    ensures longer { (s : Sight) (new : List Posted) (more : List Resolution) → AllAfter s.cut.updates new → AllOpen new
         → SeesSameWork s (record { updates = s.journal.updates ++ new; resolutions = s.journal.resolutions ++ more }) }
     ensures last { (s : Sight) (old : Option Node) (bodies : ℕ) (us : Flags) (p : Place) → Costs s old bodies us (ended p)
         → bodies ≡ whole_evaluated s old }
@@ -51,7 +52,7 @@ pub fn bodies_are_counted()
     // Nothing is evaluated of a tree whose elements are given again, that is idle, whose instances have each included update
     // done, and in which reads hold.
     ensures rests { (s : Sight) (u : Flag) (cs : Contexts) (x : Node) (n : ℕ) → u.generation ≡ 0 → IsSettled s.program (known_by s) x
-        → IsIdle s x → ForEach (IsUndue s) x → ReadsHold cs x → evaluated n s u cs (element_of x) (Some x) ≡ 0 }
+        → IsIdle s x → ForEach (IsUndue s) x → ReadsHold (version_seen s) cs x → evaluated n s u cs (element_of x) (Some x) ≡ 0 }
     ensures undue_later { (s : Sight) (j : Journal) (m : Mark) → SeesSameWork s j → IsUndue s m → IsUndue (record s { journal = j }) m }
 {}
 

@@ -18,6 +18,7 @@ use Rattle.rx_check.specs.Checks.{unknowns}
 use Rattle.rx_elem.specs.Elements.{Element, gathered}
 use Rattle.rx_elem.specs.declared.effect.ContextRead.{ContextRead}
 use Rattle.rx_elem.specs.declared.effect.EffectRecord.{EffectRecord}
+use Rattle.rx_elem.specs.declared.effect.VersionRead.{VersionRead}
 use Rattle.rx_meaning.specs.Body.{Inputs, Taken, body_of, elements_of, finished, opening_frame, prop_named, props_of, ready, stopped_at, take_all, taken, turns}
 use Rattle.rx_meaning.specs.Body as body
 use Rattle.rx_meaning.specs.Expressions.{Env, value_in}
@@ -143,13 +144,13 @@ module _ (p : Program) (kids : List Element) (given : AreDrawn p (gathered kids)
     slots_drawn env (syntax.slot s ss) h = (slot_drawn env s h.0, slots_drawn env ss h.1)
 
 -- the elements of a body that is ready fit
-pub body_drawn : (p : Program) (number : ℕ) (c : Component) (i : Inputs) (es : List Element) (effects : List EffectRecord) (initials : List ℤ) (reads : List ContextRead)
-    → unknowns p ≡ [] → component_at p number ≡ Some c → AreDrawn p (gathered i.children) → body_of p c i ≡ ready es effects initials reads → AreDrawn p (gathered es)
+pub body_drawn : (p : Program) (number : ℕ) (c : Component) (i : Inputs) (es : List Element) (effects : List EffectRecord) (initials : List ℤ) (reads : List ContextRead) (versions : List VersionRead)
+    → unknowns p ≡ [] → component_at p number ≡ Some c → AreDrawn p (gathered i.children) → body_of p c i ≡ ready es effects initials reads versions → AreDrawn p (gathered es)
 unfolding body_of
-body_drawn p number c i es effects initials reads known at given same = go (take_all p i c.statements (opening_frame c i.props)) same
+body_drawn p number c i es effects initials reads versions known at given same = go (take_all p i c.statements (opening_frame c i.props)) same
   where
-    go : (t : Taken) → finished p i (body_slots c.body) t ≡ ready es effects initials reads → AreDrawn p (gathered es)
-    go (stopped_at r) same = absurd (cc same)
+    go : (t : Taken) → finished p i (body_slots c.body) t ≡ ready es effects initials reads versions → AreDrawn p (gathered es)
+    go (stopped_at r v) same = absurd (cc same)
     go (taken f) same =
         let equal : elements_of p i.children f.env (body_slots c.body) ≡ es = cc in
         subst (λ (xs : List Element). AreDrawn p (gathered xs)) equal (slots_drawn p i.children given f.env (body_slots c.body) (body_known p known number c at))

@@ -9,6 +9,7 @@ use Rattle.rx_elem.specs.Elements.{Element, Elements}
 use Rattle.rx_elem.specs.Elements as elements
 use Rattle.rx_elem.specs.declared.effect.ContextRead.{ContextRead}
 use Rattle.rx_elem.specs.declared.effect.EffectRecord.{EffectRecord}
+use Rattle.rx_elem.specs.declared.effect.VersionRead.{VersionRead}
 use Rattle.rx_elem.specs.Trees.{Forest, Instance, Mark, Node, child, children_if, forest, instance_in, is_hidden, node, none, of_boundary, of_host, of_instance, plain, vacant}
 use Rattle.rx_meaning.specs.Body.{Body, body_of, ready, wait}
 use Rattle.rx_meaning.specs.Fresh.{Contexts, Part, Shape, Sight, absent, inputs_at, instance_after, old_instance, one_list, shape_of, shape_of_body, shape_of_component, two_lists, waiting}
@@ -100,14 +101,14 @@ module _ (Q R : ℕ → List ℤ → Type 0) where
 
   abbrev ShapeMade : Shape → Type 0
   ShapeMade absent = Unit {0}
-  ShapeMade (waiting r) = Unit {0}
+  ShapeMade (waiting r v) = Unit {0}
   ShapeMade (one_list m p) = MarkMeets Q m × (is_hidden m ≡ false)
   ShapeMade (two_lists p f) = Unit {0}
 
   begin_made : (n : ℕ) (fs : List Frame) (e : Element) (old : Option Node) (shape : Shape) → OldHas (TreeMeets R) old → ShapeMade shape → FramesMade Q R fs
       → NodesMade Q R (begin n fs e old shape)
   begin_made n fs e old absent h k l = arrive_made (suc n) fs None tt l
-  begin_made n fs e old (waiting r) h k l = unwind_made (suc n) fs (awaits.one r) l
+  begin_made n fs e old (waiting r v) h k l = unwind_made (suc n) fs (awaits.one r) l
   begin_made n fs e old (one_list m p) h k l = open_made n fs (around e m) p k l
   begin_made n fs e old (two_lists p f) h k l = open_made n fs (trying e old f) p (old_children R old h) l
 
@@ -115,14 +116,14 @@ module _ (Q R : ℕ → List ℤ → Type 0) where
   abbrev OldMeets : Option Instance → Type 0
   OldMeets o = (i : Instance) (n : ℕ) → o ≡ Some i → i.number ≡ Some n → Q n i.initials
 
-  after_meets : (c : ℕ) (o : Option Instance) (initials : List ℤ) (reads : List ContextRead) (effects : List EffectRecord) → OldMeets o
-      → MarkMeets Q (of_instance (instance_after c o initials reads effects))
-  after_meets c None initials reads effects h n e = cc
-  after_meets c (Some i) initials reads effects h n e = h i n refl e
+  after_meets : (c : ℕ) (o : Option Instance) (initials : List ℤ) (reads : List ContextRead) (versions : List VersionRead) (effects : List EffectRecord) → OldMeets o
+      → MarkMeets Q (of_instance (instance_after c o initials reads versions effects))
+  after_meets c None initials reads versions effects h n e = cc
+  after_meets c (Some i) initials reads versions effects h n e = h i n refl e
 
   body_made : (cs : Contexts) (c : ℕ) (old : Option Node) (b : Body) → OldMeets (old_instance old) → ShapeMade (shape_of_body cs c old b)
-  body_made cs c old (wait r) h = tt
-  body_made cs c old (ready es effects initials reads) h = (after_meets c (old_instance old) initials reads effects h, refl)
+  body_made cs c old (wait r v) h = tt
+  body_made cs c old (ready es effects initials reads versions) h = (after_meets c (old_instance old) initials reads versions effects h, refl)
 
   component_made : (s : Sight) (cs : Contexts) (c : ℕ) (props : List ℤ) (given : Elements) (old : Option Node) (d : Option Component) → OldMeets (old_instance old)
       → ShapeMade (shape_of_component s cs c props given old d)

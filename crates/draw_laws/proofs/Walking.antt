@@ -60,23 +60,23 @@ module _ (p : Program) where
 -- the children of what stands in a place fit
 abbrev ShapeDrawn : Program → Shape → Type 0
 ShapeDrawn p absent = Unit {0}
-ShapeDrawn p (waiting r) = Unit {0}
+ShapeDrawn p (waiting r v) = Unit {0}
 ShapeDrawn p (one_list m q) = PartDrawn p q
 ShapeDrawn p (two_lists q f) = PartDrawn p q × PartDrawn p f
 
 begin_drawn : (p : Program) (n : ℕ) (fs : List Frame) (e : Element) (old : Option Node) (shape : Shape) → IsDrawn p e → ShapeDrawn p shape → FramesDrawn p fs
     → CursorDrawn p (begin n fs e old shape)
 begin_drawn p n fs e old absent h k l = arrive_drawn p (suc n) fs None l
-begin_drawn p n fs e old (waiting r) h k l = unwind_drawn p (suc n) fs (awaits.one r) l
+begin_drawn p n fs e old (waiting r v) h k l = unwind_drawn p (suc n) fs (awaits.one r) l
 begin_drawn p n fs e old (one_list m q) h k l = open_drawn p n fs (around e m) q k h l
 begin_drawn p n fs e old (two_lists q f) h k l = open_drawn p n fs (trying e old f) q k.0 (h, k.1) l
 
 module _ (s : Sight) (known : unknowns s.program ≡ []) where
   ready_drawn : (cs : Contexts) (c : ℕ) (d : Component) (props : List ℤ) (given : Elements) (old : Option Node) → component_at s.program c ≡ Some d → AreDrawn s.program given
       → (b : Body) → body_of s.program d (inputs_at s cs props given (old_instance old)) ≡ b → ShapeDrawn s.program (shape_of_body cs c old b)
-  ready_drawn cs c d props given old at h (wait r) same = tt
-  ready_drawn cs c d props given old at h (ready es effects initials reads) same =
-      body_drawn s.program c d (inputs_at s cs props given (old_instance old)) es effects initials reads known at (listed_drawn s.program given h) same
+  ready_drawn cs c d props given old at h (wait r v) same = tt
+  ready_drawn cs c d props given old at h (ready es effects initials reads versions) same =
+      body_drawn s.program c d (inputs_at s cs props given (old_instance old)) es effects initials reads versions known at (listed_drawn s.program given h) same
 
   component_drawn : (cs : Contexts) (c : ℕ) (props : List ℤ) (given : Elements) (old : Option Node) → AreDrawn s.program given
       → (o : Option Component) → component_at s.program c ≡ o → ShapeDrawn s.program (shape_of_component s cs c props given old o)

@@ -9,6 +9,7 @@ ghost use Rattle.rx_elem.specs.Trees.{Instance, Node};
 ghost use Rattle.rx_elem.specs.Numbers.{Numbers, numbered};
 ghost use Rattle.rx_elem.specs.declared.effect.EffectRecord.{EffectRecord};
 ghost use Rattle.rx_elem.specs.declared.effect.ContextRead.{ContextRead};
+ghost use Rattle.rx_elem.specs.declared.effect.VersionRead.{VersionRead};
 ghost use Rattle.rx_meaning.specs.Body.{Inputs, body_of, ready};
 ghost use Rattle.rx_meaning.specs.Fresh.{Sight, Contexts, Part, made, old_instance, root_element, shape_of, two_lists};
 ghost use Rattle.rx_meaning.specs.Cursor.{Frame, Cursor, at_place, ended, falling, arrive, open_part, start, unit};
@@ -20,8 +21,8 @@ ghost use Rattle.draw_laws.specs.Made.{BeginsMeeting, EachMounted, InstancesMade
 /// is given do; and so does the root's element.
 pub fn bodies_are_drawn()
     ensures body { (p : Program) (number : ℕ) (c : Component) (i : Inputs) (es : List Element) (effects : List EffectRecord)
-        (initials : List ℤ) (reads : List ContextRead) → unknowns p ≡ [] → component_at p number ≡ Some c
-        → AreDrawn p (gathered i.children) → body_of p c i ≡ ready es effects initials reads → AreDrawn p (gathered es) }
+        (initials : List ℤ) (reads : List ContextRead) (versions : List VersionRead) → unknowns p ≡ [] → component_at p number ≡ Some c
+        → AreDrawn p (gathered i.children) → body_of p c i ≡ ready es effects initials reads versions → AreDrawn p (gathered es) }
     ensures root { (p : Program) → is_rooted p ≡ true → IsDrawn p (root_element p) }
     ensures given { (p : Program) (es : Elements) → AreDrawn p es → AreDrawn p (gathered (listed es)) }
 {}

@@ -88,14 +88,14 @@ trimmed_part p = part p.contexts p.elements (trimmed_in p.old)
 
 abbrev trimmed_shape : Shape → Shape
 trimmed_shape absent = absent
-trimmed_shape (waiting r) = waiting r
+trimmed_shape (waiting r v) = waiting r v
 trimmed_shape (one_list m p) = one_list m (trimmed_part p)
 trimmed_shape (two_lists p f) = two_lists (trimmed_part p) (trimmed_part f)
 
 body_same : (cs : Contexts) (c : ℕ) (old : Option Node) (b : Body) → shape_of_body cs c (trimmed_if old) b ≡ trimmed_shape (shape_of_body cs c old b)
-body_same cs c old (wait r) = refl
-body_same cs c None (ready es effects initials reads) = refl
-body_same cs c (Some (node e m ns fs)) (ready es effects initials reads) = refl
+body_same cs c old (wait r v) = refl
+body_same cs c None (ready es effects initials reads versions) = refl
+body_same cs c (Some (node e m ns fs)) (ready es effects initials reads versions) = refl
 
 instance_same : (old : Option Node) → old_instance (trimmed_if old) ≡ old_instance old
 instance_same None = refl
@@ -142,7 +142,7 @@ if_twice (Some n) = ap Some (twice n)
 place_same : (below : Contexts → Renders) → ((cs : Contexts) → EndsUnread (below cs)) → (e : Element) (old : Option Node) (shape : Shape)
     → trimmed_place (place_of below e (trimmed_if old) (trimmed_shape shape)) ≡ trimmed_place (place_of below e old shape)
 place_same below h e old absent = refl
-place_same below h e old (waiting r) = refl
+place_same below h e old (waiting r v) = refl
 place_same below h e old (one_list m p) =
     over_trimmed e m (render_part below (trimmed_part p)) ∙ (ap (over e m) (part_same below h p.contexts p.elements p.old) ∙ sym (over_trimmed e m (render_part below p)))
 place_same below h e old (two_lists p f) =

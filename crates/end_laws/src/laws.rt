@@ -30,7 +30,8 @@ pub fn ends_are_not_read()
     ensures kept { (t : Option Node) → kept_instances (trimmed_if t) ≡ kept_instances t }
     ensures waits { (t : Option Node) → visible_awaits (trimmed_if t) ≡ visible_awaits t }
     ensures awaited { (t : Option Node) (r : ℕ) → is_awaited (trimmed_if t) r ≡ is_awaited t r }
-    ensures resolved { (cut : Cut) (j : Journal) (new : Node) → awaits_resolved cut j (trimmed new) ≡ awaits_resolved cut j new }
+    ensures resolved { (lanes : Lanes) (cut : Cut) (j : Journal) (new : Node)
+        → awaits_resolved lanes cut j (trimmed new) ≡ awaits_resolved lanes cut j new }
     ensures pending { (lanes : Lanes) (cut : Cut) (j : Journal) (new : Node)
         → still_pending lanes cut j (trimmed new) ≡ still_pending lanes cut j new }
     ensures journal { (lanes : Lanes) (cut : Cut) (new : Node) (j : Journal)

@@ -27,7 +27,7 @@ RefusesScript input old new = (line : Text) × IsJudged input (script_refused li
 abbrev pub Reads : (old new : Option Text) → (Text → Type 0) → Type 0
 Reads old new P = (input : Text) × Consumes old new input × IsAtEnd new × P input
 
--- one byte more than 1,048,576 was taken, and the line that says so was written
+-- one byte more than 8,388,608 was taken, and the line that says so was written
 abbrev pub RefusesLength : (left_old left_new old new : Option Text) → Type 0
 RefusesLength left_old left_new old new =
-    (input : Text) × Consumes left_old left_new input × (length input ≡ 1048576 + 1) × Appends old new (codes "input over 1048576 bytes\n")
+    (input : Text) × Consumes left_old left_new input × (length input ≡ 8388608 + 1) × Appends old new (codes "input over 8388608 bytes\n")

@@ -17,7 +17,7 @@ use rx_step::Step;
 use std::alloc::Global;
 use std::sync::ledger::Ledger;
 
-const LIMIT: usize = 1_048_576;
+const LIMIT: usize = 8_388_608;
 
 // Writes a whole text and answers this, unless the sink fails.
 fn tell<K: Sink>(out: &mut K, text: &[u8], answer: Status) -> Status
@@ -119,6 +119,6 @@ pub(crate) fn view<S: Source, K: Sink, L: Ledger>(
         Ok(input) => answer(alloc, &input, out, steps),
         Err(ReadError::Failed) => Status::ReadFault,
         Err(ReadError::OutOfMemory) => Status::OutOfMemory,
-        Err(ReadError::TooLong) => tell(out, b"input over 1048576 bytes\n", Status::TooLong),
+        Err(ReadError::TooLong) => tell(out, b"input over 8388608 bytes\n", Status::TooLong),
     }
 }

@@ -1,6 +1,6 @@
 // Inputs that are accepted or refused, and each beginning of a program.
 
-use crate::cases::{COUNTS, Case, PLACES, REFUSALS, SECOND};
+use crate::cases::{COUNTS, Case, PLACES, REFRESHES, REFUSALS, SECOND};
 use itoa::Buffer;
 use rx_accept::{Verdict, accept};
 use std::alloc::{AllocError, AllocGlobal, Global};
@@ -71,6 +71,11 @@ fn each_count_has_its_limit(rt: HostRuntime) -> Result<(), Fail> {
 #[test]
 fn each_fault_has_its_place(rt: HostRuntime) -> Result<(), Fail> {
     are_judged(&rt, &PLACES)
+}
+
+#[test]
+fn a_refresh_names_a_lane_and_a_resource(rt: HostRuntime) -> Result<(), Fail> {
+    are_judged(&rt, &REFRESHES)
 }
 
 #[test]

@@ -6,6 +6,9 @@ const ONE_FUNCTION: &[u8] =
 const TWO_KEYS: &[u8] =
     b"function Item({v}) { const [n, setN] = useState(v); return <i>{n}</i>; } function App() { const [a, setA] = useState(1); return <div>{for (i < 2, 2) i || a ? <Item key={5} v={10 + i}/> : null}</div>; }";
 
+const ONE_RESOURCE: &[u8] =
+    b"function User() { const u = use(\"user\"); return <b>{u}</b>; } function App() { return <Suspense fallback={<i/>}><User/></Suspense>; }";
+
 /// An input, and what is told of it. Its program is written in pieces: a text, once for each number from one to another,
 /// both of them too; `#` stands for the number and `~` for the one before it.
 pub(crate) struct Case<'a> {
@@ -723,5 +726,65 @@ pub(crate) const SECOND: [Case<'static>; 13] = [
         pieces: &[(b"\"use 2\" function App() { return null; }", 1, 1)],
         script: b"",
         told: "program refused 3 at 8\n",
+    },
+];
+
+/// Lines that ask for a resource anew: those that are steps, and why others are refused.
+pub(crate) const REFRESHES: [Case<'static>; 10] = [
+    // A lane of each kind, within an event too.
+    Case {
+        pieces: &[(ONE_RESOURCE, 1, 1)],
+        script: b"refresh sync user\nrefresh input user\nrefresh default user\nrefresh\ttransition  user \nevent",
+        told: "accepted nodes 6 depth 5 steps 5\n",
+    },
+    // Another number of words.
+    Case {
+        pieces: &[(ONE_RESOURCE, 1, 1)],
+        script: b"refresh",
+        told: "script refused 14 line 1\n",
+    },
+    Case {
+        pieces: &[(ONE_RESOURCE, 1, 1)],
+        script: b"refresh user",
+        told: "script refused 14 line 1\n",
+    },
+    Case {
+        pieces: &[(ONE_RESOURCE, 1, 1)],
+        script: b"refresh sync user 1",
+        told: "script refused 14 line 1\n",
+    },
+    // A word that is no lane, and both words the wrong way round.
+    Case {
+        pieces: &[(ONE_RESOURCE, 1, 1)],
+        script: b"refresh retry user",
+        told: "script refused 14 line 1\n",
+    },
+    Case {
+        pieces: &[(ONE_RESOURCE, 1, 1)],
+        script: b"refresh user sync",
+        told: "script refused 14 line 1\n",
+    },
+    // A word that cannot name a resource.
+    Case {
+        pieces: &[(ONE_RESOURCE, 1, 1)],
+        script: b"refresh sync App/User",
+        told: "script refused 14 line 1\n",
+    },
+    // Names that the program has not as a resource.
+    Case {
+        pieces: &[(ONE_RESOURCE, 1, 1)],
+        script: b"refresh sync users",
+        told: "script refused 15 line 1\n",
+    },
+    Case {
+        pieces: &[(ONE_RESOURCE, 1, 1)],
+        script: b"refresh sync User",
+        told: "script refused 15 line 1\n",
+    },
+    // The first bad line is told.
+    Case {
+        pieces: &[(ONE_RESOURCE, 1, 1)],
+        script: b"flush\nrefresh transition user\nrefresh sync 9\nrefresh user",
+        told: "script refused 15 line 3\n",
     },
 ];

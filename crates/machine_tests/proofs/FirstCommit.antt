@@ -24,7 +24,7 @@ use Rattle.rx_settle.specs.Settling.{CanSettle, IsSettlingOf}
 abbrev pub rendered_first : Node
 rendered_first =
     node (elements.comp 0 None [] elements.none)
-    (of_instance (record { number = None; component = 0; initials = pos 5 ∷ []; reads = []; effects = [] })) (vacant none) none
+    (of_instance (record { number = None; component = 0; initials = pos 5 ∷ []; reads = []; versions = []; effects = [] })) (vacant none) none
 
 -- the first render
 abbrev pub first_render : Lanes → Progress

@@ -18,4 +18,4 @@ counter =
 abbrev pub first_tree : Node
 first_tree =
     node (elements.comp 0 None [] elements.none)
-    (of_instance (record { number = Some 1; component = 0; initials = pos 5 ∷ []; reads = []; effects = [] })) none none
+    (of_instance (record { number = Some 1; component = 0; initials = pos 5 ∷ []; reads = []; versions = []; effects = [] })) none none

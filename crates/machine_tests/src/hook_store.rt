@@ -17,9 +17,10 @@ struct Latest;
 impl Fold for Latest {
     ghost answers = { λ _ f state x. x };
 
-    fn apply(&self, op: &Op, _state: Int) -> Int {
+    fn apply(&self, op: &Op, state: Int) -> Int {
         match *op {
             Op::Set(x) | Op::Call(_, x) => x,
+            Op::Refresh => state,
         }
     }
 }

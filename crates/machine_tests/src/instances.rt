@@ -69,10 +69,12 @@ fn counted(alloc: Global) -> Result<FiberTree<Fiber>, AllocError>
         component: 0,
         initials: Rc::new(alloc, Ints::new(initials))?,
         reads: Rc::new(alloc, Vec::new(alloc))?,
+        versions: Rc::new(alloc, Vec::new(alloc))?,
         effects: Rc::new(alloc, Vec::new(alloc))?,
     };
     let own = Subtree {
         reads: false,
+        uses: false,
         hides: false,
         instances: true,
     };

@@ -44,6 +44,7 @@ fn first_tree(alloc: Global) -> Result<Node, AllocError>
         component: 0,
         initials: Rc::new(alloc, Ints::new(initials))?,
         reads: Rc::new(alloc, Vec::new(alloc))?,
+        versions: Rc::new(alloc, Vec::new(alloc))?,
         effects: Rc::new(alloc, Vec::new(alloc))?,
     };
     let app = ElementKind::Comp(0, None, Ints::new(Vec::new(alloc)), Vec::new(alloc));

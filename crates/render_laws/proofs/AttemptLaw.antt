@@ -144,8 +144,8 @@ module _ (s : Sight) (apart : IsPlain s.program) (d : ℕ) (t : Contexts → Att
 
   body_small : (cs : Contexts) (c : ℕ) (a : Alts) (q g : Plan) → Has q g a → (old : Option Node) → FitsOld a old → (b : Body) → IfReady d s.program q b
       → AllSmall (alts_size a) (shape_attempts t f (shape_of_body cs c old b))
-  body_small cs c a q g has old o (wait r) k = tt
-  body_small cs c a q g has old o (ready es effects initials reads) k = primary_small cs a q g has es k.0 k.1 old o
+  body_small cs c a q g has old o (wait r v) k = tt
+  body_small cs c a q g has old o (ready es effects initials reads versions) k = primary_small cs a q g has es k.0 k.1 old o
 
   comp_small : (cs : Contexts) (a : Alts) (c m : ℕ) (q g : Plan) → suc d ≤ m → Has (body_plan m s.program c q) g a
       → (props : List ℤ) (es : Elements) → IsFew q (gathered (listed es)) → AllCome d s.program q (gathered (listed es)) → (old : Option Node) → FitsOld a old

@@ -99,7 +99,7 @@ begin_counts : (w : Weights) (n : ℕ) (s : Sight) (fs : List Frame) (cs : Conte
     → begins_as w cs e old shape + left w s (begin n fs e old shape)
     ≡ count_shape w (counted w n s) (rendered n s) cs e old shape + count_around w (suc n) s fs (place_of (rendered n s) e old shape)
 begin_counts w n s fs cs e old absent h = rw (h, arrive_counts w (suc n) s fs None) refl
-begin_counts w n s fs cs e old (waiting r) h = omega (arith, unwind_counts w (suc n) s fs (awaits.one r))
+begin_counts w n s fs cs e old (waiting r v) h = omega (arith, unwind_counts w (suc n) s fs (awaits.one r))
 begin_counts w n s fs cs e old (one_list m p) h = omega (arith, part_counts w n s fs (around e m) p)
 begin_counts w n s fs cs e old (two_lists p f) h = omega (arith, part_counts w n s fs (trying e old f) p)
 
@@ -131,7 +131,7 @@ unwind_stands n (f ∷ fs) a = past_stands n fs f.node a (unwind_stands (suc n) 
 
 begin_stands : (n : ℕ) (fs : List Frame) (e : Element) (old : Option Node) (shape : Shape) → StandsAtNode (begin n fs e old shape)
 begin_stands n fs e old absent = arrive_stands (suc n) fs None
-begin_stands n fs e old (waiting r) = unwind_stands (suc n) fs (awaits.one r)
+begin_stands n fs e old (waiting r v) = unwind_stands (suc n) fs (awaits.one r)
 begin_stands n fs e old (one_list m p) = come_stands n fs (around e m) p.contexts [] (children_with_old p)
 begin_stands n fs e old (two_lists p f) = come_stands n fs (trying e old f) p.contexts [] (children_with_old p)
 
@@ -182,7 +182,7 @@ spent_and_left w (suc k) s old =
 shape_begun : (count : Contexts → Tries) (below : Contexts → Renders) (cs : Contexts) (e : Element) (old : Option Node) (shape : Shape) → is_null e ≡ false
     → 1 ≤ count_shape each_unit count below cs e old shape
 shape_begun count below cs e old absent h = rw h (omega arith)
-shape_begun count below cs e old (waiting r) h = omega arith
+shape_begun count below cs e old (waiting r v) h = omega arith
 shape_begun count below cs e old (one_list m p) h = omega arith
 shape_begun count below cs e old (two_lists p f) h = omega arith
 
@@ -194,7 +194,7 @@ place_begun (suc n) s cs e old h = shape_begun (counted each_unit n s) (rendered
 -- the unit that begins a place counts one
 pub begins_one : (cs : Contexts) (e : Element) (old : Option Node) (shape : Shape) → begins_as each_unit cs e old shape ≡ 1
 begins_one cs e old absent = refl
-begins_one cs e old (waiting r) = refl
+begins_one cs e old (waiting r v) = refl
 begins_one cs e old (one_list m p) = refl
 begins_one cs e old (two_lists p f) = refl
 

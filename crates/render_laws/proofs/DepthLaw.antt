@@ -33,7 +33,7 @@ part_agrees n p f g h t b = all_agree n p (f t.contexts) (g t.contexts) (h t.con
 shape_agrees : (n : ℕ) (p : Program) (f g : Contexts → Renders) → ((cs : Contexts) → Agree n p (f cs) (g cs))
     → (e : Element) (old : Option Node) (shape : Shape) → ShapeFits n p shape → place_of f e old shape ≡ place_of g e old shape
 shape_agrees n p f g h e old absent b = refl
-shape_agrees n p f g h e old (waiting r) b = refl
+shape_agrees n p f g h e old (waiting r v) b = refl
 shape_agrees n p f g h e old (one_list m t) b = let same = part_agrees n p f g h t b in rw same refl
 shape_agrees n p f g h e old (two_lists t u) b =
     let same = part_agrees n p f g h t b.0 in

@@ -77,20 +77,20 @@ module _ (P : Node → Type 0) (down : GoesDown P) where
 
   abbrev ShapeHas : Shape → Type 0
   ShapeHas absent = Unit {0}
-  ShapeHas (waiting r) = Unit {0}
+  ShapeHas (waiting r v) = Unit {0}
   ShapeHas (one_list m p) = AllHave P p.old
   ShapeHas (two_lists p f) = AllHave P p.old × AllHave P f.old
 
   begin_has : (n : ℕ) (fs : List Frame) (e : Element) (old : Option Node) (shape : Shape) → OldHas P old → ShapeHas shape → FramesHave P fs
       → CursorHas P (begin n fs e old shape)
   begin_has n fs e old absent o h k = arrive_has (suc n) fs None k
-  begin_has n fs e old (waiting r) o h k = unwind_has (suc n) fs (awaits.one r) k
+  begin_has n fs e old (waiting r v) o h k = unwind_has (suc n) fs (awaits.one r) k
   begin_has n fs e old (one_list m p) o h k = open_has n fs (around e m) p h tt k
   begin_has n fs e old (two_lists p f) o h k = open_has n fs (trying e old f) p h.0 (o, h.1) k
 
   body_has : (cs : Contexts) (c : ℕ) (old : Option Node) (b : Body) → OldHas P old → ShapeHas (shape_of_body cs c old b)
-  body_has cs c old (wait r) h = tt
-  body_has cs c old (ready es effects initials reads) h = primary_has old h
+  body_has cs c old (wait r v) h = tt
+  body_has cs c old (ready es effects initials reads versions) h = primary_has old h
 
   component_has : (s : Sight) (cs : Contexts) (c : ℕ) (props : List ℤ) (given : Elements) (old : Option Node) (d : Option Component) → OldHas P old
       → ShapeHas (shape_of_component s cs c props given old d)

@@ -76,20 +76,20 @@ parts_fit a e old (one_waits w) (one_waits v) at o h k = tt
 
 -- the elements of a body come from its plan
 abbrev pub IfReady : ℕ → Program → Plan → Body → Type 0
-IfReady d p q (wait r) = Unit {0}
-IfReady d p q (ready es effects initials reads) = IsFew q (gathered es) × AllCome d p q (gathered es)
+IfReady d p q (wait r v) = Unit {0}
+IfReady d p q (ready es effects initials reads versions) = IsFew q (gathered es) × AllCome d p q (gathered es)
 
 body_fits : (a : Alts) (d : ℕ) (p : Program) (f : Contexts → Renders) → ((cs : Contexts) → ListsFit d p (f cs)) → (q g : Plan) → Has q g a
     → (e : Element) (cs : Contexts) (c : ℕ) (old : Option Node) → FitsOld a old → (b : Body) → IfReady d p q b → Result a e (place_of f e old (shape_of_body cs c old b))
-body_fits a d p f lists q g has e cs c old o (wait r) h = tt
-body_fits a d p f lists q g has e cs c old o (ready es effects initials reads) h =
-    over_fits a e (trees.of_instance (instance_after c (old_instance old) initials reads effects)) (render_list (f cs) es (children_if old)) (has_is_there has)
+body_fits a d p f lists q g has e cs c old o (wait r v) h = tt
+body_fits a d p f lists q g has e cs c old o (ready es effects initials reads versions) h =
+    over_fits a e (trees.of_instance (instance_after c (old_instance old) initials reads versions effects)) (render_list (f cs) es (children_if old)) (has_is_there has)
     (lists cs (plans_of true a) q (has_primary has) es h.0 h.1 (children_if old) (primary_fits a old o))
 
 finished_comes : (m d : ℕ) (p : Program) → IsPlain p → d ≤ m → (q : Plan) (i : Inputs) → IsFew q (gathered i.children) → AllCome d p q (gathered i.children)
     → (c : Component) → (keyed_places (body_slots c.body) ≤ 1) × SlotsKeysApart (body_slots c.body) → (t : Taken)
     → IfReady d p (slots_plan (body_plan m p) q p (body_slots c.body)) (finished p i (body_slots c.body) t)
-finished_comes m d p plain deep q i few come c apart (body.stopped_at r) = tt
+finished_comes m d p plain deep q i few come c apart (body.stopped_at r v) = tt
 finished_comes m d p plain deep q i few come c apart (body.taken g) = (
   omega (arith, slots_few p i.children g.env (body_slots c.body), apart.0),
   slots_come m d p plain.1 deep q i.children few come g.env (body_slots c.body) (slots_keyed (body_plan m p) q p (body_slots c.body)) (λ x f h. h) apart.1,

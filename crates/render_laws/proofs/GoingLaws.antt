@@ -52,13 +52,13 @@ unwind_goes_on n (f ∷ fs) a = past_goes_on n fs f.node a (unwind_goes_on (suc 
 
 begin_goes_on : (n : ℕ) (fs : List Frame) (e : Element) (old : Option Node) (shape : Shape) → if_ended (begin n fs e old shape) ≡ 0
 begin_goes_on n fs e old absent = nothing_goes_on (suc n) fs
-begin_goes_on n fs e old (waiting r) = unwind_goes_on (suc n) fs (awaits.one r)
+begin_goes_on n fs e old (waiting r v) = unwind_goes_on (suc n) fs (awaits.one r)
 begin_goes_on n fs e old (one_list m p) = come_goes_on n fs (around e m) p.contexts [] (children_with_old p)
 begin_goes_on n fs e old (two_lists p f) = come_goes_on n fs (trying e old f) p.contexts [] (children_with_old p)
 
 begins_body : (cs : Contexts) (e : Element) (old : Option Node) (shape : Shape) → begins_as each_body cs e old shape ≤ 1
 begins_body cs e old absent = omega arith
-begins_body cs e old (waiting r) = one_body e
+begins_body cs e old (waiting r v) = one_body e
 begins_body cs e old (one_list m p) = one_body e
 begins_body cs e old (two_lists p f) = one_body e
 

@@ -1,19 +1,21 @@
 -- A render sees nothing that comes after its cut, so it may go on over a longer journal.
-use Rattle.std.specs.Prelude.{◌≡◌, ℕ, zero, suc, ◌+◌, ◌≤◌, Bool, true, false, cond, List, [], ◌∷◌, ◌++◌, ℤ, map, filter, find, fold, option_map, option_and_then, Option, Some, None, nat_eq, nat_lt, length, refl}
-use Rattle.std.specs.List.{enumerate_from, range_with_len}
+use Rattle.std.specs.Prelude.{◌≡◌, ℕ, zero, suc, ◌+◌, ◌≤◌, Bool, true, false, cond, List, [], ◌∷◌, ◌++◌, ℤ, map, filter, fold, option_and_then, Option, Some, None, nat_eq, nat_lt, not, length, refl}
+use Rattle.std.specs.List.{enumerate_from, list_any}
 use Rattle.std.proofs.Common.{arith, ap, sym, ◌∙◌}
 use Rattle.std.proofs.lemmas.Bool.Decides.{nat_tests}
 use Rattle.std.proofs.lemmas.List.{take-append-le}
 use Rattle.rx_ast.specs.Syntax.{Component}
-use Rattle.rx_rules.specs.Names.{component_at, resources}
+use Rattle.rx_rules.specs.Names.{component_at}
 use Rattle.rx_elem.specs.Elements.{Element, Elements, listed}
 use Rattle.rx_elem.specs.Elements as elements
 use Rattle.rx_elem.specs.Trees.{Instance, Node}
-use Rattle.rx_queue.specs.History.{applied}
-use Rattle.rx_queue.specs.Journal.{Journal, Posted, Resolution, hook, same_target, is_included, state_of}
+use Rattle.rx_queue.specs.History.{applied, stands_done}
+use Rattle.rx_queue.specs.Journal.{Journal, Posted, Resolution, done_version, hook, resource, same_target, is_included, state_of, values_at}
 use Rattle.rx_meaning.specs.Expressions.{answers_of}
 use Rattle.rx_meaning.specs.Body.{body_of}
-use Rattle.rx_meaning.specs.Fresh.{Sight, Contexts, Renders, Place, made, rendered, fresh, depth_limit, default_contexts, root_element, values_of, old_instance, inputs_at, shape_of, shape_of_component, shape_of_body, place_of}
+use Rattle.rx_meaning.specs.Fresh.{Sight, Contexts, Renders, Place, made, rendered, fresh, depth_limit, default_contexts, root_element, values_of, old_instance, inputs_at, resource_numbers, version_seen, shape_of, shape_of_component, shape_of_body, place_of}
+use Rattle.rx_meaning.specs.Touched.{sees_refresh}
+use Rattle.rx_meaning.specs.Again.{AllOpen}
 use Rattle.rx_meaning.specs.Cursor.{Frame, Cursor, at_place, at_end, ended, finished}
 use Rattle.rx_meaning.specs.Rest.{from_open, list_from, tree_from, gives}
 use Rattle.rx_meaning.specs.Counts.{unless_waits, try_all, Weights, each_unit, each_body, count_shape, count_open, counted, count_around, left, whole}
@@ -43,6 +45,7 @@ module _ (s : Sight) (j : Journal) (same : SeesSame s j) where
         children = listed given;
         hooks = hooks_same old i;
         contexts = cs;
+        versions = map (λ r. same.versions r i) (resource_numbers s.program);
         resources = same.resources i;
       }
 
@@ -165,14 +168,36 @@ more_pass mine test (u ∷ us) new h = go (mine u) (test u) (more_pass mine test
     go true c k = ap (λ vs. cond (test u) (u ∷ vs) vs) k
     go false c k = k
 
+-- a longer journal shows the same versions of resources
+pub longer_versions : (s : Sight) (new : List Posted) (more : List Resolution) → AllAfter s.cut.updates new → (r : ℕ)
+    → version_seen s r ≡ version_seen (record s { journal = record { updates = s.journal.updates ++ new; resolutions = s.journal.resolutions ++ more } }) r
+longer_versions s new more late r =
+    ap length (more_pass (λ u. same_target (resource r) u.target) (is_included s.lanes s.cut) s.journal.updates new (late_fail s new late))
+
+-- what is open is not done
+open_fail : (new : List Posted) → AllOpen new → AllFail (λ u. stands_done u.standing) new
+open_fail [] h = tt
+open_fail (u ∷ us) h = (h.0, open_fail us h.2)
+
+-- a longer journal shows a refresh exactly if the shorter one does, if all that is new is open
+pub longer_refresh : (s : Sight) (new : List Posted) (more : List Resolution) → AllAfter s.cut.updates new → AllOpen new
+    → sees_refresh s ≡ sees_refresh (record s { journal = record { updates = s.journal.updates ++ new; resolutions = s.journal.resolutions ++ more } })
+longer_refresh s new more late opened =
+    λ i. list_any (λ r. not (nat_eq (longer_versions s new more late r i) (done r i))) (resource_numbers s.program)
+  where
+    done : (r : ℕ) → done_version s.journal r ≡ done_version (record { updates = s.journal.updates ++ new; resolutions = s.journal.resolutions ++ more }) r
+    done r = ap length (more_pass (λ u. same_target (resource r) u.target) (λ u. stands_done u.standing) s.journal.updates new (open_fail new opened))
+
 pub longer_sees_same : (s : Sight) (new : List Posted) (more : List Resolution) → AllAfter s.cut.updates new → s.cut.resolutions ≤ length s.journal.resolutions
     → SeesSame s (record { updates = s.journal.updates ++ new; resolutions = s.journal.resolutions ++ more })
 unfolding state_of
 longer_sees_same s new more late within =
     record {
       hooks = λ n initials. from n 0 initials;
-      resources = ap (λ (rs : List Resolution). map (λ r. option_map (λ x. x.value) (find (λ x. nat_eq x.resource r) rs)) (range_with_len 0 (length (resources s.program))))
-          (sym (take-append-le s.cut.resolutions s.journal.resolutions more within));
+      versions = longer_versions s new more late;
+      resources =
+          let before = sym (take-append-le s.cut.resolutions s.journal.resolutions more within) in
+          λ i. values_at (before i) (map (λ r. longer_versions s new more late r i) (resource_numbers s.program));
     }
   where
     from : (n k : ℕ) (xs : List ℤ)

@@ -54,7 +54,7 @@ unwind_fits p n (f ∷ fs) a h = past_fits p n fs f.node a h.1 h.2 (λ b. unwind
 begin_fits : (p : Program) (n : ℕ) (fs : List Frame) (e : Element) (old : Option Node) (shape : Shape) → ShapeFits n p shape → FramesFit (suc n) p fs
     → CursorFits p (begin n fs e old shape)
 begin_fits p n fs e old absent h k = arrive_fits p (suc n) fs None k
-begin_fits p n fs e old (waiting r) h k = unwind_fits p (suc n) fs (awaits.one r) k
+begin_fits p n fs e old (waiting r v) h k = unwind_fits p (suc n) fs (awaits.one r) k
 begin_fits p n fs e old (one_list m t) h k = open_fits p n fs (around e m) t h tt k
 begin_fits p n fs e old (two_lists t f) h k = open_fits p n fs (trying e old f) t h.0 h.1 k
 

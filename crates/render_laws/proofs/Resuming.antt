@@ -98,7 +98,7 @@ unwind_gives levels s (f ∷ fs) a =
 begin_gives : (levels : ℕ) (s : Sight) (fs : List Frame) (e : Element) (old : Option Node) (shape : Shape)
     → gives s (begin levels fs e old shape) ≡ tree_from (suc levels) s fs (place_of (rendered levels s) e old shape)
 begin_gives levels s fs e old absent = arrive_gives (suc levels) s fs None
-begin_gives levels s fs e old (waiting r) = unwind_gives (suc levels) s fs (awaits.one r)
+begin_gives levels s fs e old (waiting r v) = unwind_gives (suc levels) s fs (awaits.one r)
 begin_gives levels s fs e old (one_list m p) = open_gives levels s fs (around e m) p
 begin_gives levels s fs e old (two_lists p f) = open_gives levels s fs (trying e old f) p
 

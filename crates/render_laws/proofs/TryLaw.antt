@@ -98,8 +98,8 @@ module _ (s : Sight) (plain : IsPlain s.program) (m : ℕ) (one : m ≤ 1) (d : 
 
   body_tried : (cs : Contexts) (c : ℕ) (q : Plan) (e : Element) (old : Option Node) (b : Body) → IfReady d s.program q b
       → count_shape (begun_with m) try f cs e old (shape_of_body cs c old b) ≤ 1 + plan_size q
-  body_tried cs c q e old (wait r) k = omega arith
-  body_tried cs c q e old (ready es effects initials reads) k =
+  body_tried cs c q e old (wait r v) k = omega arith
+  body_tried cs c q e old (ready es effects initials reads versions) k =
       omega (arith, list_tried d s.program (try cs) (f cs) (h cs) q es k.0 k.1 (children_if old), if_made_nothing (render_list (f cs) es (children_if old)))
 
   comp_tried : (cs : Contexts) (c n : ℕ) (q : Plan) → suc d ≤ n → (props : List ℤ) (es : Elements) → IsFew q (gathered (listed es)) → AllCome d s.program q (gathered (listed es))

@@ -48,7 +48,7 @@ shape_twice f g below h cs e old absent = twice_more (cond (is_null e) 0 1)
   where
     twice_more : (n : ℕ) → n ≤ 2 * n
     twice_more n = omega arith
-shape_twice f g below h cs e old (waiting r) = omega arith
+shape_twice f g below h cs e old (waiting r v) = omega arith
 shape_twice f g below h cs e old (one_list m p) = omega (arith, part_twice f g below h p, one_at_most (render_part below p))
 shape_twice f g below h cs e old (two_lists p q) =
     two_parts (render_part below p) (render_part below q) (count_part f below p) (count_part f below q) (count_part g below p) (count_part g below q)
@@ -123,7 +123,7 @@ no_node false = omega arith
 shape_fewer : (f g : Contexts → Tries) (below : Contexts → Renders) → ((cs : Contexts) → IsFewer (below cs) (f cs) (g cs)) → (cs : Contexts) (e : Element) (old : Option Node)
     (shape : Shape) → count_shape each_body f below cs e old shape + if_node (place_of below e old shape) ≤ count_shape each_unit g below cs e old shape
 shape_fewer f g below h cs e old absent = no_node (is_null e)
-shape_fewer f g below h cs e old (waiting r) = omega (arith, one_body e)
+shape_fewer f g below h cs e old (waiting r v) = omega (arith, one_body e)
 shape_fewer f g below h cs e old (one_list m p) =
     list_fewer e m (render_part below p) (count_part f below p) (count_part g below p) (one_if_component e) (part_fewer f g below h p) (one_body e)
 shape_fewer f g below h cs e old (two_lists p q) =

@@ -86,7 +86,7 @@ module _ (test : Visit → Bool) (w : Weights) (nothing : w.misses ≡ 0) (free 
       neither : (b : Bool) → passing test [] ≡ cond b 0 (passing test [])
       neither true = refl
       neither false = refl
-  shape_counted v t below h at e old (waiting r) = own at e old
+  shape_counted v t below h at e old (waiting r version) = own at e old
   shape_counted v t below h at e old (one_list m p) =
       passing_append test (visit_as s at old (component_in e) ∷ []) (visit_part v below (setting_below old at) p)
       ∙ omega (arith, own at e old, part_counted v t below h (setting_below old at) p, if_made_none (render_part below p) w.completes free)

@@ -1,5 +1,5 @@
 -- The first render of a program without resources can start.
-use Rattle.std.specs.Prelude.{◌≡◌, ℤ, List, [], Option, None, refl}
+use Rattle.std.specs.Prelude.{◌≡◌, false, [], None, refl}
 use Rattle.std.proofs.Common.{sym, subst, arith}
 use Rattle.rx_base.specs.declared.cut.Cut.{Cut}
 use Rattle.rx_lane.specs.Lanes.{Lanes}
@@ -10,11 +10,12 @@ use Rattle.rx_model.specs.HooksOf.{KeepsAllHooks}
 use Rattle.rx_fiber.specs.Reading.{IsTreeOf, gap, no_more}
 use Rattle.rx_hook_store.specs.Store.{kept_hooks}
 use Rattle.rx_render.specs.Rendering.{Rendering}
+use Rattle.rx_resources.specs.Seen.{Resources}
 use Rattle.rx_render.specs.Renders.{CanStart}
 
-pub first_starts : (lanes : Lanes) (cut : Cut) (values : List (Option ℤ)) (v : Rendering) → v.trees.current ≡ none → KeepsAllHooks v.program opening (kept_hooks v.hooks)
-    → resources v.program ≡ [] → cut ≡ record { updates = 0; resolutions = 0 } → values ≡ [] → CanStart lanes cut values v
-first_starts lanes cut values v current keeps no_resources at empty =
+pub first_starts : (lanes : Lanes) (cut : Cut) (seen : Resources) (v : Rendering) → v.trees.current ≡ none → KeepsAllHooks v.program opening (kept_hooks v.hooks)
+    → resources v.program ≡ [] → cut ≡ record { updates = 0; resolutions = 0 } → seen ≡ record { versions = []; values = []; refreshes = false } → CanStart lanes cut seen v
+first_starts lanes cut seen v current keeps no_resources at empty =
     record {
       state = opening;
       is = record {
@@ -23,6 +24,7 @@ first_starts lanes cut values v current keeps no_resources at empty =
         done = tt;
         cut_is = at;
         resources_are = rw (empty, no_resources) refl;
+        declared = λ r late. refl;
         settled = tt;
         rooted = tt;
         waits = tt;

@@ -35,6 +35,7 @@ fn instance(alloc: Global) -> Result<Instance, AllocError> {
         component: 0,
         initials: Rc::new(alloc, Ints::new(Vec::new(alloc)))?,
         reads: Rc::new(alloc, Vec::new(alloc))?,
+        versions: Rc::new(alloc, Vec::new(alloc))?,
         effects: Rc::new(alloc, effects(alloc)?)?,
     })
 }

@@ -9,6 +9,7 @@ use rx_check::{Checked, check};
 use rx_lane::{Lane, Lanes};
 use rx_loop::{Driven, drive};
 use rx_render::Renderer;
+use rx_resources::ResourceStore;
 use rx_ways::Ways;
 use std::alloc::{AllocError, Global};
 use std::marker::Brand;
@@ -44,10 +45,13 @@ fn first_render(alloc: Global, checked: Checked) -> Result<Renderer, AllocError>
         updates: 0,
         resolutions: 0,
     };
+    let lanes = Lanes::one(Lane::Default);
+    let store = ResourceStore::new(alloc, 0)?;
+    let seen = store.seen(alloc, lanes, cut)?;
     renderer.start(
-        Lanes::one(Lane::Default),
+        lanes,
         cut,
-        Vec::new(alloc),
+        seen,
         &Ways::new(alloc),
     )?;
     renderer.facts();

@@ -17,6 +17,7 @@ use Rattle.rx_elem.specs.Elements as elements
 use Rattle.rx_elem.specs.declared.attr.Attr.{Attr}
 use Rattle.rx_elem.specs.declared.effect.EffectRecord.{EffectRecord}
 use Rattle.rx_elem.specs.declared.effect.ContextRead.{ContextRead}
+use Rattle.rx_elem.specs.declared.effect.VersionRead.{VersionRead}
 use Rattle.rx_meaning.specs.Expressions.{Env, value_in}
 use Rattle.rx_meaning.specs.Body.{Inputs, Taken, attr_in, body_of, elements_of, finished, opening_frame, ready, stopped_at, take_all, taken, turns}
 use Rattle.rx_meaning.specs.Body as body
@@ -137,12 +138,12 @@ module _ (p : Program) (some : HasComponents p) (kids : List Element) (given : A
     slots_named env (syntax.slot s ss) apart = (slot_named env s apart.0, slots_named env ss apart.1)
 
 pub body_named : (p : Program) → HasComponents p → (c : Component) → SlotsAttributesApart (body_slots c.body) → (i : Inputs) → AllNamed p (gathered i.children)
-    → (es : List Element) (effects : List EffectRecord) (initials : List ℤ) (reads : List ContextRead) → body_of p c i ≡ ready es effects initials reads → AllNamed p (gathered es)
+    → (es : List Element) (effects : List EffectRecord) (initials : List ℤ) (reads : List ContextRead) (versions : List VersionRead) → body_of p c i ≡ ready es effects initials reads versions → AllNamed p (gathered es)
 unfolding body_of
-body_named p some c apart i h es effects initials reads same = go (take_all p i c.statements (opening_frame c i.props)) same
+body_named p some c apart i h es effects initials reads versions same = go (take_all p i c.statements (opening_frame c i.props)) same
   where
-    go : (t : Taken) → finished p i (body_slots c.body) t ≡ ready es effects initials reads → AllNamed p (gathered es)
-    go (stopped_at r) same = absurd (cc same)
+    go : (t : Taken) → finished p i (body_slots c.body) t ≡ ready es effects initials reads versions → AllNamed p (gathered es)
+    go (stopped_at r v) same = absurd (cc same)
     go (taken f) same =
         let equal : elements_of p i.children f.env (body_slots c.body) ≡ es = cc in
         subst (λ (xs : List Element). AllNamed p (gathered xs)) equal (slots_named p some i.children h f.env (body_slots c.body) apart)

@@ -10,21 +10,22 @@ use Rattle.rx_rules.specs.Names.{resource_number}
 use Rattle.rx_step.specs.declared.step.LaneWord.{LaneWord}
 use Rattle.rx_step.specs.declared.step.LaneWord.TheVariants as word
 use Rattle.rx_step.specs.declared.step.Dispatch.{Dispatch}
+use Rattle.rx_step.specs.declared.step.Dispatch.TheVariants as dispatch
 use Rattle.rx_step.specs.declared.step.Step.{Step}
 use Rattle.rx_step.specs.declared.step.Step.TheVariants as step
-use Rattle.rx_step.specs.Steps.{word_of, path_of}
+use Rattle.rx_step.specs.Steps.{word_of}
 use Rattle.rx_sched.specs.declared.choice.Choice.{Choice}
 use Rattle.rx_sched.specs.declared.choice.Choice.TheVariants as choice
 use Rattle.rx_elem.specs.Trees.{Node}
 use Rattle.rx_elem.specs.Spots.{Mounted}
 use Rattle.rx_elem.specs.Compare.{Change}
 use Rattle.rx_elem.specs.Numbers.{numbered}
-use Rattle.rx_queue.specs.Journal.{Target, resolved_now}
+use Rattle.rx_queue.specs.Journal.{Target}
 use Rattle.rx_meaning.specs.Fresh.{made, fresh}
 use Rattle.rx_meaning.specs.Outcome.{commit, defer, outcome_by, newly_hidden}
 use Rattle.rx_model.specs.State.{State, Progress, opening, instance_found}
 use Rattle.rx_model.specs.Stretch.{Stretch, silent, followed_by}
-use Rattle.rx_model.specs.Accepting.{in_event, dispatched_to, resolved_as, between_events}
+use Rattle.rx_model.specs.Accepting.{in_event, dispatched, dispatched_to, last_value, resolved, resolved_as, between_events}
 use Rattle.rx_model.specs.Committing.{passive_run, starting, sight_of, committed_state, ended_by}
 use Rattle.rx_model.specs.Turns.{AnyRender, GoesOn, Continues, TurnBy, choice_of}
 use Rattle.rx_model.specs.Machine.{IsAtRest, Flushes, FlushSync, StepTo}
@@ -57,9 +58,15 @@ event_tree word.Transition s t l = (refl, refl)
 alike_holds : (p : Program) (s t : State) → Alike s t → Holds p t → Holds p s
 alike_holds p s t a h = subst (λ n. IsCommitted p n s.tree) (sym a.1) (subst (λ o. IsCommitted p t.numbers o) (sym a.0) h)
 
-dispatched_tree : (p : Program) (s : State) (d : Dispatch) (m : Option Mounted) → Alike (dispatched_to p s d m).after s
-dispatched_tree p s d None = (refl, refl)
-dispatched_tree p s d (Some m) = event_tree (word_of d) s _ _
+sent_tree : (p : Program) (s : State) (d : Dispatch) (m : Option Mounted) → Alike (dispatched_to p s d m).after s
+sent_tree p s d None = (refl, refl)
+sent_tree p s d (Some m) = event_tree (word_of d) s _ _
+
+dispatched_tree : (p : Program) (s : State) (d : Dispatch) → Alike (dispatched p s d).after s
+dispatched_tree p s (dispatch.Set w path name x) = sent_tree p s (dispatch.Set w path name x) (instance_found p s.tree path)
+dispatched_tree p s (dispatch.Call w path name f x) = sent_tree p s (dispatch.Call w path name f x) (instance_found p s.tree path)
+dispatched_tree p s (dispatch.Send w path name x) = sent_tree p s (dispatch.Send w path name x) (instance_found p s.tree path)
+dispatched_tree p s (dispatch.Refresh w name) = event_tree w s _ _
 
 resolved_tree : (p : Program) (s : State) (name : List ℕ) (x : ℤ) (v : Option ℤ) → Alike (resolved_as p s name x v).after s
 resolved_tree p s name x None = (refl, refl)
@@ -118,10 +125,10 @@ sync_holds false p s r t h = same_holds p r (silent s) t h
 
 step_holds : (p : Program) (s : State) (x : Step) (r : Stretch) → StepTo AnyRender p s x r → Holds p s → Holds p r.after
 step_holds p s (step.Dispatch d) r t h =
-    same_holds p r _ t (alike_holds p (dispatched_to p s d (instance_found p s.tree (path_of d))).after s (dispatched_tree p s d (instance_found p s.tree (path_of d))) h)
+    same_holds p r _ t (alike_holds p (dispatched p s d).after s (dispatched_tree p s d) h)
 step_holds p s (step.Resolve name v) r t h =
-    same_holds p r _ t (alike_holds p (resolved_as p (between_events s) name v (resolved_now s.journal (resource_number p name))).after s
-    (resolved_tree p (between_events s) name v (resolved_now s.journal (resource_number p name))) h)
+    same_holds p r _ t (alike_holds p (resolved p (between_events s) name v).after s
+    (resolved_tree p (between_events s) name v (last_value s (resource_number p name))) h)
 step_holds p s (step.Tick n) r t h = same_holds p r _ t h
 step_holds p s (step.Work n) r t h = turn_holds p (between_events s) (choice_of (between_events s)) (Some n) r t h
 step_holds p s step.Flush r t h = flushes_hold t.0 p (between_events s) r t.2 h

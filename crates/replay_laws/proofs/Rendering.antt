@@ -256,11 +256,11 @@ module _ (next : ℕ) (s : Sight) (apart : AttributesApart s.program) (some : Ha
       given_body : (d : Component) → component_at s.program c ≡ Some d → (b : Body) → body_of s.program d (inputs_at s cs props given (old_instance o)) ≡ b
           → ShapeFits n s.program (shape_of_body cs c o b)
           → PlaceGrows next (elements.comp c key props given) o (place_of (rendered n s) (elements.comp c key props given) o (shape_of_body cs c o b))
-      given_body d there (wait r) same fit = tt
-      given_body d there (ready es effects initials reads) same fit =
-          over_grows next (elements.comp c key props given) (of_instance (instance_after c (old_instance o) initials reads effects)) o es (render_list (rendered n s cs) es (children_if o))
+      given_body d there (wait r v) same fit = tt
+      given_body d there (ready es effects initials reads versions) same fit =
+          over_grows next (elements.comp c key props given) (of_instance (instance_after c (old_instance o) initials reads versions effects)) o es (render_list (rendered n s cs) es (children_if o))
           (list_grows n below cs es (children_if o)
-          (body_named s.program some d (apart c d there) (inputs_at s cs props given (old_instance o)) (listed_named s.program given named.1) es effects initials reads same)
+          (body_named s.program some d (apart c d there) (inputs_at s cs props given (old_instance o)) (listed_named s.program given named.1) es effects initials reads versions same)
           fit (children_old next o old))
           refl refl tt (λ ns h. tt) tt (other_grows next (elements.comp c key props given) None o refl old kind)
 

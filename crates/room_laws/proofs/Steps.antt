@@ -82,7 +82,7 @@ module _ (p : Program) where
   -- what stands in a place comes from what is offered to it
   abbrev ShapeFits : ℕ → Alts → Element → Option Node → Shape → Type 0
   ShapeFits n a e old absent = elements.null ≡ e
-  ShapeFits n a e old (waiting r) = Unit {0}
+  ShapeFits n a e old (waiting r v) = Unit {0}
   ShapeFits n a e old (one_list m q) = IsThere a × PartComes n p (plans_of true a) q
   ShapeFits n a e old (two_lists q f) =
       IsThere a × PartComes n p (plans_of true a) q × FitsIn (plans_of true a) (children_if old) × PartComes n p (plans_of false a) f
@@ -90,7 +90,7 @@ module _ (p : Program) where
   begin_fits : (n : ℕ) (fs : List Frame) (a : Alts) (e : Element) (old : Option Node) (shape : Shape) → ShapeFits n a e old shape → FramesFit (suc n) p fs a e
       → CursorFits p (begin n fs e old shape)
   begin_fits n fs a e old absent s h = arrive_fits (suc n) fs a e None s tt h
-  begin_fits n fs a e old (waiting r) s h = unwind_fits (suc n) fs a e (awaits.one r) h
+  begin_fits n fs a e old (waiting r v) s h = unwind_fits (suc n) fs a e (awaits.one r) h
   begin_fits n fs a e old (one_list m q) s h = open_fits n fs (around e m) q a s.1 s.0 tt h
   begin_fits n fs a e old (two_lists q f) s h = open_fits n fs (trying e old f) q a s.1 s.0 (s.2, s.3) h
 
@@ -124,8 +124,8 @@ one_few false = omega arith
 module _ (s : Sight) (plain : IsPlain s.program) (n : ℕ) (a : Alts) (old : Option Node) (o : FitsOld a old) where
   body_comes : (cs : Contexts) (c : ℕ) (q g : Plan) → Has q g a → (e : Element) (b : Body) → IfReady n s.program q b
       → ShapeFits s.program n a e old (shape_of_body cs c old b)
-  body_comes cs c q g has e (wait r) k = tt
-  body_comes cs c q g has e (ready es effects initials reads) k =
+  body_comes cs c q g has e (wait r v) k = tt
+  body_comes cs c q g has e (ready es effects initials reads versions) k =
       (has_is_there has, list_comes n s.program (plans_of true a) q (has_primary has) (part cs es (children_if old)) k.0 k.1 (primary_fits a old o))
 
   component_comes : (cs : Contexts) (c m : ℕ) (q g : Plan) → suc n ≤ m → Has (body_plan m s.program c q) g a → (props : List ℤ) (es : Elements) → IsFew q (gathered (listed es))

@@ -6,12 +6,12 @@ use Rattle.rx_base.specs.Awaits.{Awaits}
 use Rattle.rx_base.specs.Values.{Name}
 use Rattle.rx_base.specs.declared.cut.Cut.{Cut}
 use Rattle.rx_rules.specs.Bounds.{depth_bound}
-use Rattle.rx_rules.specs.Names.{resource_number, resources}
+use Rattle.rx_rules.specs.Names.{resource_number}
 use Rattle.rx_elem.specs.Compare.{Change}
 use Rattle.rx_elem.specs.Numbers.{numbered}
 use Rattle.rx_elem.specs.Spots.{Mounted}
 use Rattle.rx_elem.specs.Trees.{Node}
-use Rattle.rx_meaning.specs.Fresh.{depth_limit, fresh, made, resources_seen}
+use Rattle.rx_meaning.specs.Fresh.{depth_limit, fresh, made}
 use Rattle.rx_meaning.specs.Outcome.{Outcome, all_awaits, commit, defer, newly_hidden, outcome, outcome_by}
 use Rattle.rx_lane.specs.Lanes.{Lanes, only_transitions}
 use Rattle.rx_lane.specs.declared.lane.Lane.{Lane}
@@ -21,8 +21,9 @@ use Rattle.rx_model.specs.Laws.{Always, IsReached}
 use Rattle.rx_model.specs.State.{Progress, State, hook_number, instance_found, opening}
 use Rattle.rx_model.specs.Stretch.{Stretch, followed_by, silent}
 use Rattle.rx_model.specs.Turns.{AnyRender, Continues, GoesOn, TurnBy, choice_of, gone_on}
-use Rattle.rx_queue.specs.Journal.{Target, hook, same_target}
+use Rattle.rx_queue.specs.Journal.{Resolution, Target, hook, resolutions_by, resource, same_target}
 use Rattle.rx_queue.specs.declared.update.Op.{Op}
+use Rattle.rx_queue.specs.declared.update.Op.TheVariants as op
 use Rattle.rx_lines.specs.Lines.{Counts}
 use Rattle.rx_sched.specs.declared.choice.Choice.{Choice}
 use Rattle.rx_step.specs.Steps.{hook_name, path_of, word_of}
@@ -45,7 +46,7 @@ opening_carries p = (
   record {
     below = tt;
     sound = record { settled = tt; own_numbers = λ n. (omega arith, λ late. refl); targets = tt; reads = tt };
-    seen = λ r x h. absurd (cc h);
+    seen = λ r v x h. absurd (cc h);
     numbered = tt;
     rooted = tt;
     updates_before = omega arith;
@@ -76,22 +77,22 @@ module _ (p : Program) (deep : depth_bound p ≤ depth_limit) (declared : ReadsD
       go (c ∷ cs) e = waits_or (only_transitions lanes) (all_awaits (c ∷ cs)) e
 
   ended_keeps : (s : State) (g : Progress) (counts : Counts) (tree : Node) → fresh (sight_of p s g) s.tree ≡ made tree
-      → (resources : List (Option ℤ)) (last : Cut) → Carries p s.journal s.numbers s.tree resources last → RendersOn p s.journal resources last g.lanes g.cut → IsCarried p (ended s g counts tree).after
-  ended_keeps s g counts tree gives resources last c r = go (outcome g.lanes s.tree tree) refl
+      → (known : List Resolution) (last : Cut) → Carries p s.journal s.numbers s.tree known last → RendersOn p s.journal known last g.lanes g.cut → IsCarried p (ended s g counts tree).after
+  ended_keeps s g counts tree gives known last c r = go (outcome g.lanes s.tree tree) refl
     where
       go : (o : Outcome) → outcome g.lanes s.tree tree ≡ o → IsCarried p (ended_by s g counts o).after
-      go (defer a) e = (resources, last, c, tt)
+      go (defer a) e = (known, last, c, tt)
       go (commit new) e =
           let same : new ≡ tree = commit_is g.lanes s.tree tree new e in
           let gives_new : fresh (sight_of p s g) s.tree ≡ made new = gives ∙ ap made (sym same) in
           passive_keeps (committed_state s g (numbered s.numbers new)) (lanes_of.has g.lanes lane.Sync)
-          (resources_seen (sight_of p s g), g.cut, commit_carries p s.journal s.numbers s.tree g.lanes g.cut new deep declared resources last c r gives_new, tt)
+          (resolutions_by g.cut s.journal, g.cut, commit_carries p s.journal s.numbers s.tree g.lanes g.cut new deep declared known last c r gives_new, tt)
 
   going_keeps : (s : State) (g : Progress) (budget : Option ℕ) (r : Stretch) → GoesOn AnyRender p s g budget r
-      → (resources : List (Option ℤ)) (last : Cut) → Carries p s.journal s.numbers s.tree resources last → RendersOn p s.journal resources last g.lanes g.cut → IsCarried p r.after
-  going_keeps s g budget r (inl f, _) resources last c on = same_after (IsCarried p) r (ended s g f.counts f.tree) f.stretch_is (ended_keeps s g f.counts f.tree f.rendered resources last c on)
-  going_keeps s g budget r (inr y, _) resources last c on =
-      same_after (IsCarried p) r (record { lines = []; bodies = y.bodies; after = record s { progress = Some (gone_on g y.budget y.bodies) } }) y.stretch_is (resources, last, c, on)
+      → (known : List Resolution) (last : Cut) → Carries p s.journal s.numbers s.tree known last → RendersOn p s.journal known last g.lanes g.cut → IsCarried p r.after
+  going_keeps s g budget r (inl f, _) known last c on = same_after (IsCarried p) r (ended s g f.counts f.tree) f.stretch_is (ended_keeps s g f.counts f.tree f.rendered known last c on)
+  going_keeps s g budget r (inr y, _) known last c on =
+      same_after (IsCarried p) r (record { lines = []; bodies = y.bodies; after = record s { progress = Some (gone_on g y.budget y.bodies) } }) y.stretch_is (known, last, c, on)
 
   pub turn_keeps : (s : State) (c : Choice) (budget : Option ℕ) (r : Stretch) → TurnBy AnyRender p s c budget r → IsCarried p s → IsCarried p r.after
   turn_keeps s choice.None budget r is c = same_after (IsCarried p) r (silent s) is c
@@ -133,6 +134,10 @@ module _ (p : Program) (deep : depth_bound p ≤ depth_limit) (declared : ReadsD
       sent_keeps s (word_of d) (target_of p d m) (op_of p m.component d)
       (λ k i late. target_below p s.numbers.instance s.tree (path_of d) m c.2.sound.own_numbers e (hook_number p m.component (hook_name d)) k i late) c
 
+  -- a refresh has no instance's target
+  pub refreshed_keeps : (s : State) (w : LaneWord) (r : ℕ) → IsCarried p s → IsCarried p (dispatched_for s w (resource r) op.Refresh)
+  refreshed_keeps s w r c = sent_keeps s w (resource r) op.Refresh (λ k i late. refl) c
+
   pub resolved_keeps : (s : State) (name : Name) (v : ℤ) (x : Option ℤ) → IsCarried p s → IsCarried p (resolved_as p s name v x).after
   resolved_keeps s name v (Some y) c = c
   resolved_keeps s name v None c = (
@@ -158,7 +163,8 @@ module _ (p : Program) (deep : depth_bound p ≤ depth_limit) (declared : ReadsD
         passive = λ s c. c;
         turns = λ s budget r t c. turn_keeps s (choice_of s) budget r t c;
         dispatches = dispatched_keeps;
-        resolves = resolved_keeps;
+        refreshes = refreshed_keeps;
+        resolves = λ s name v x e c. resolved_keeps s name v x c;
         discards = λ s c. (c.0, c.1, c.2, tt);
       }) s h
 
@@ -167,5 +173,5 @@ pub rests_on_settled : (p : Program) → Always p (RestsOnSettled p)
 rests_on_settled p bounded s reached g now =
     let c = reached_carries p bounded.shallow bounded.declared s reached in
     let on : RendersOn p s.journal c.0 c.1 g.lanes g.cut = subst (λ (x : Option Progress). IfSome x (λ g. RendersOn p s.journal c.0 c.1 g.lanes g.cut)) now c.3 in
-    let sound = resolution_keeps p s.journal.updates c.0 (resources_seen (sight_of p s g)) s.numbers.instance s.tree on.more c.2.sound in
+    let sound = resolution_keeps p s.journal.updates c.0 (resolutions_by g.cut s.journal) s.numbers.instance s.tree on.more c.2.sound in
     (sound.settled, done_before g.cut s.journal.updates on.accounted, sound.reads)

@@ -1,21 +1,21 @@
 -- What the steps of the machine do to what a state carries.
-use Rattle.std.specs.Prelude.{Bool, List, None, Option, Some, [], cond, false, filter, filter_map, length, map, nat_eq, nat_lt, option_and_then, refl, slice_get, suc, true, zero, ℕ, ℤ, ◌++◌, ◌+◌, ◌<◌, ◌||◌, ◌∷◌, ◌≡◌, ◌≤◌}
+use Rattle.std.specs.Prelude.{Bool, List, None, Option, Some, [], cond, false, filter, filter_map, length, map, nat_eq, nat_lt, option_and_then, refl, slice_get, suc, take, true, zero, ℕ, ◌++◌, ◌+◌, ◌<◌, ◌||◌, ◌∷◌, ◌≡◌, ◌≤◌}
 use Rattle.std.proofs.Common.{ap, append-nil, append_assoc, arith, le_trans, subst, sym, ◌∙◌}
 use Rattle.std.proofs.lemmas.Bool.Decides.{nat_tests}
 use Rattle.std.proofs.lemmas.List.{length-append}
+use Rattle.std.proofs.Math.Seq.{take-length}
 use Rattle.rx_ast.specs.Syntax.{Program}
 use Rattle.rx_base.specs.declared.cut.Cut.{Cut}
 use Rattle.rx_rules.specs.Bounds.{depth_bound}
-use Rattle.rx_rules.specs.Names.{resources}
 use Rattle.rx_elem.specs.Numbers.{Numbers, numbered}
 use Rattle.rx_elem.specs.Spots.{Mounted, Spot, at_root, kept_instances, mounted, numbers_of, spot_mark, spots, visible_instances}
 use Rattle.rx_elem.specs.Trees.{Node}
-use Rattle.rx_meaning.specs.Fresh.{default_contexts, depth_limit, fresh, made, part, resources_seen}
+use Rattle.rx_meaning.specs.Fresh.{default_contexts, depth_limit, fresh, made, part}
 use Rattle.rx_meaning.specs.Outcome.{journal_after}
-use Rattle.rx_lane.specs.Lanes.{Lanes, no_lanes}
+use Rattle.rx_lane.specs.Lanes.{Lanes}
 use Rattle.rx_model.specs.State.{find_from, instance_found, is_step, step_to}
 use Rattle.rx_queue.specs.History.{stands_done, stands_owed}
-use Rattle.rx_queue.specs.Journal.{Journal, Posted, Resolution, cut_now, hook, marked_update, same_target}
+use Rattle.rx_queue.specs.Journal.{Journal, Posted, Resolution, cut_now, hook, marked_update, resolutions_by, same_target}
 use Rattle.rx_queue.specs.declared.entry.Standing.{Standing}
 use Rattle.rx_queue.specs.declared.entry.Standing.TheVariants.{Open}
 use Rattle.rx_step.specs.Steps.{Path}
@@ -26,13 +26,25 @@ use Rattle.commit_laws.proofs.QuietTree.{root_stays}
 use Rattle.commit_laws.proofs.ResourceLaws.{values_stay}
 use Rattle.commit_laws.proofs.Soundness.{commit_keeps, update_keeps}
 use Rattle.rx_meaning.specs.Again.{AccountedBefore, AllOpen}
-use Rattle.run_laws.specs.Carried.{Carries, IfCommitted, NumbersBelow, RendersOn, sight_at, values_now}
+use Rattle.run_laws.specs.Carried.{Carries, IfCommitted, NumbersBelow, RendersOn, sight_at}
 use Rattle.commit_laws.specs.HiddenWaits.{HiddenWaits, Numbered}
 use Rattle.rx_meaning.specs.Settled.{DoneBefore, HasOwnNumbers, HasValuesOf, includes, number_of}
 use Rattle.rx_rules.specs.Reads.{ReadsDeclared}
 
-more_of : (a b c : List (Option ℤ)) → HasValuesOf a b → HasValuesOf b c → HasValuesOf a c
-more_of a b c f g r x h = g r x (f r x h)
+more_of : (a b c : List Resolution) → HasValuesOf a b → HasValuesOf b c → HasValuesOf a c
+more_of a b c f g r v x h = g r v x (f r v x h)
+
+-- a longer list has the values of a shorter one that it begins with
+taken_more : (n : ℕ) (rs more : List Resolution) → n ≤ length rs → HasValuesOf (take n rs) (rs ++ more)
+taken_more n rs more l =
+    subst (λ (xs : List Resolution). HasValuesOf (take n rs) xs) (take-length (rs ++ more))
+    (values_stay (record { updates = []; resolutions = rs }) [] more (record { updates = 0; resolutions = n }) (record { updates = 0; resolutions = length (rs ++ more) }) (le_trans l (longer_list rs more)))
+  where
+    longer_list : (xs ys : List Resolution) → length xs ≤ length (xs ++ ys)
+    longer_list xs ys = simp length-append (omega arith)
+
+more_appended : (rs more : List Resolution) → HasValuesOf rs (rs ++ more)
+more_appended rs more = subst (λ (xs : List Resolution). HasValuesOf xs (rs ++ more)) (take-length rs) (taken_more (length rs) rs more (omega arith))
 
 -- Journals
 
@@ -92,11 +104,11 @@ last_update p j cut (Some n) u k h =
 
 pub update_carries : (p : Program) (j : Journal) (numbers : Numbers) (tree : Option Node) (u : Posted) → u.standing ≡ Open → u.update.number ≡ length j.updates
     → ((k i : ℕ) → numbers.instance ≤ i → same_target (hook i k) u.target ≡ false)
-    → (resources : List (Option ℤ)) (last : Cut) → Carries p j numbers tree resources last → Carries p (record j { updates = j.updates ++ u ∷ [] }) numbers tree resources last
-update_carries p j numbers tree u is_open number below resources last c =
+    → (known : List Resolution) (last : Cut) → Carries p j numbers tree known last → Carries p (record j { updates = j.updates ++ u ∷ [] }) numbers tree known last
+update_carries p j numbers tree u is_open number below known last c =
     record {
       below = subst (λ (n : ℕ). NumbersBelow n (j.updates ++ u ∷ [])) (sym (pushed_length j.updates u)) (below_push (length j.updates) j.updates u c.below (omega (arith, number)));
-      sound = update_keeps p j.updates resources numbers.instance tree u (ap stands_done is_open) below c.sound;
+      sound = update_keeps p j.updates known numbers.instance tree u (ap stands_done is_open) below c.sound;
       seen = c.seen;
       numbered = c.numbered;
       rooted = c.rooted;
@@ -108,9 +120,9 @@ update_carries p j numbers tree u is_open number below resources last c =
     pushed_length : (us : List Posted) (u : Posted) → length (us ++ u ∷ []) ≡ length us + 1
     pushed_length us u = simp length-append (omega arith)
 
-pub update_renders : (p : Program) (j : Journal) (resources : List (Option ℤ)) (from : Cut) (lanes : Lanes) (cut : Cut) (u : Posted) → u.standing ≡ Open
-    → RendersOn p j resources from lanes cut → RendersOn p (record j { updates = j.updates ++ u ∷ [] }) resources from lanes cut
-update_renders p j resources from lanes cut u is_open r =
+pub update_renders : (p : Program) (j : Journal) (known : List Resolution) (from : Cut) (lanes : Lanes) (cut : Cut) (u : Posted) → u.standing ≡ Open
+    → RendersOn p j known from lanes cut → RendersOn p (record j { updates = j.updates ++ u ∷ [] }) known from lanes cut
+update_renders p j known from lanes cut u is_open r =
     record {
       updates_grow = r.updates_grow;
       resolutions_grow = r.resolutions_grow;
@@ -142,13 +154,12 @@ longer : (xs : List Resolution) (x : Resolution) → length xs ≤ length (xs ++
 longer xs x = simp length-append (omega arith)
 
 pub resolution_carries : (p : Program) (j : Journal) (numbers : Numbers) (tree : Option Node) (x : Resolution)
-    → (resources : List (Option ℤ)) (last : Cut) → Carries p j numbers tree resources last → Carries p (record j { resolutions = j.resolutions ++ x ∷ [] }) numbers tree resources last
-resolution_carries p j numbers tree x resources last c =
+    → (known : List Resolution) (last : Cut) → Carries p j numbers tree known last → Carries p (record j { resolutions = j.resolutions ++ x ∷ [] }) numbers tree known last
+resolution_carries p j numbers tree x known last c =
     record {
       below = c.below;
       sound = c.sound;
-      seen = more_of resources (values_now p j) (values_now p (record j { resolutions = j.resolutions ++ x ∷ [] })) c.seen
-          (values_stay (sight_at p j no_lanes (cut_now j)) j.updates (x ∷ []) (cut_now (record j { resolutions = j.resolutions ++ x ∷ [] })) no_lanes (longer j.resolutions x));
+      seen = more_of known j.resolutions (j.resolutions ++ x ∷ []) c.seen (more_appended j.resolutions (x ∷ []));
       numbered = c.numbered;
       rooted = c.rooted;
       updates_before = c.updates_before;
@@ -156,50 +167,47 @@ resolution_carries p j numbers tree x resources last c =
       committed = last_resolution p j last tree x c.committed;
     }
 
-pub resolution_renders : (p : Program) (j : Journal) (resources : List (Option ℤ)) (from : Cut) (lanes : Lanes) (cut : Cut) (x : Resolution)
-    → RendersOn p j resources from lanes cut → RendersOn p (record j { resolutions = j.resolutions ++ x ∷ [] }) resources from lanes cut
-resolution_renders p j resources from lanes cut x r =
+pub resolution_renders : (p : Program) (j : Journal) (known : List Resolution) (from : Cut) (lanes : Lanes) (cut : Cut) (x : Resolution)
+    → RendersOn p j known from lanes cut → RendersOn p (record j { resolutions = j.resolutions ++ x ∷ [] }) known from lanes cut
+resolution_renders p j known from lanes cut x r =
     record {
       updates_grow = r.updates_grow;
       resolutions_grow = r.resolutions_grow;
       updates_before = r.updates_before;
       resolutions_before = le_trans r.resolutions_before (longer j.resolutions x);
       accounted = r.accounted;
-      more = more_of resources (resources_seen (sight_at p j lanes cut)) (resources_seen (sight_at p (record j { resolutions = j.resolutions ++ x ∷ [] }) lanes cut)) r.more
-          (values_stay (sight_at p j lanes cut) j.updates (x ∷ []) cut lanes (omega arith));
+      more = more_of known (resolutions_by cut j) (resolutions_by cut (record j { resolutions = j.resolutions ++ x ∷ [] })) r.more
+          (values_stay j j.updates (x ∷ []) cut cut (omega arith));
     }
 
 -- A render that starts
 
-pub start_renders : (p : Program) (j : Journal) (numbers : Numbers) (tree : Option Node) (lanes : Lanes) (resources : List (Option ℤ)) (last : Cut) → Carries p j numbers tree resources last
-    → RendersOn p j resources last lanes (cut_now j)
-start_renders p j numbers tree lanes resources last c =
+pub start_renders : (p : Program) (j : Journal) (numbers : Numbers) (tree : Option Node) (lanes : Lanes) (known : List Resolution) (last : Cut) → Carries p j numbers tree known last
+    → RendersOn p j known last lanes (cut_now j)
+start_renders p j numbers tree lanes known last c =
     record {
       updates_grow = c.updates_before;
       resolutions_grow = c.resolutions_before;
       updates_before = omega arith;
       resolutions_before = omega arith;
       accounted = all_accounted (cut_now j) j.updates c.below;
-      more = c.seen;
+      more = subst (λ (xs : List Resolution). HasValuesOf known xs) (sym (take-length j.resolutions)) c.seen;
     }
 
 -- A commit
 
 pub commit_carries : (p : Program) (j : Journal) (numbers : Numbers) (tree : Option Node) (lanes : Lanes) (cut : Cut) (new : Node)
-    → depth_bound p ≤ depth_limit → ReadsDeclared p → (resources : List (Option ℤ)) (last : Cut) → Carries p j numbers tree resources last → RendersOn p j resources last lanes cut
+    → depth_bound p ≤ depth_limit → ReadsDeclared p → (known : List Resolution) (last : Cut) → Carries p j numbers tree known last → RendersOn p j known last lanes cut
     → fresh (sight_at p j lanes cut) tree ≡ made new
     → Carries p (journal_after lanes cut (numbered numbers new).1 j) (numbered numbers new).0 (Some (numbered numbers new).1)
-    (resources_seen (sight_at p j lanes cut)) cut
-commit_carries p j numbers tree lanes cut new deep declared resources last c r gives =
+    (resolutions_by cut j) cut
+commit_carries p j numbers tree lanes cut new deep declared known last c r gives =
     record {
       below = subst (λ (n : ℕ). NumbersBelow n (map (marked_update lanes cut (visible_instances (Some (numbered numbers new).1)) (kept_instances (Some (numbered numbers new).1))) j.updates))
           (sym (marked_length lanes cut (visible_instances (Some (numbered numbers new).1)) (kept_instances (Some (numbered numbers new).1)) j.updates))
           (below_marked (length j.updates) lanes cut (visible_instances (Some (numbered numbers new).1)) (kept_instances (Some (numbered numbers new).1)) j.updates c.below);
-      sound = commit_keeps (sight_at p j lanes cut) tree new numbers resources deep declared (done_before cut j.updates r.accounted) r.more c.sound gives;
-      seen = subst (λ (xs : List Resolution). HasValuesOf (resources_seen (sight_at p j lanes cut))
-          (resources_seen (sight_at p (record { updates = after; resolutions = xs }) no_lanes (record { updates = length after; resolutions = length j.resolutions }))))
-          (append-nil j.resolutions)
-          (values_stay (sight_at p j lanes cut) after [] (record { updates = length after; resolutions = length j.resolutions }) no_lanes r.resolutions_before);
+      sound = commit_keeps (sight_at p j lanes cut) tree new numbers known deep declared (done_before cut j.updates r.accounted) r.more c.sound gives;
+      seen = subst (λ (xs : List Resolution). HasValuesOf (resolutions_by cut j) xs) (append-nil j.resolutions) (taken_more cut.resolutions j.resolutions [] r.resolutions_before);
       numbered = hides.1;
       rooted = root_stays (sight_at p j lanes cut) tree new numbers gives;
       updates_before = let same = marked_length lanes cut (visible_instances (Some (numbered numbers new).1)) (kept_instances (Some (numbered numbers new).1)) j.updates in

@@ -1,7 +1,7 @@
 -- The kept facts, in each state that can be reached.
 use Rattle.std.specs.Prelude.{◌<◌, ◌≤◌, IfSome, None, Option, Some}
 use Rattle.rx_ast.specs.Syntax.{Program}
-use Rattle.rx_model.specs.Kept.{AreNumbered, IsSet, NoUpdateIsLost, RenderIsDue, ResolvedAreRetried, SuspendedAreWaiting}
+use Rattle.rx_model.specs.Kept.{AreNumbered, IsSet, NoUpdateIsLost, RenderIsDue, ResolvedAreRetried, SuspendedAreWaiting, ValuesAreAskedFor}
 use Rattle.rx_model.specs.Laws.{IsBounded, IsReached, KeptFacts}
 use Rattle.rx_model.specs.State.{Progress, State}
 use Rattle.rx_model.specs.Turns.{unit_bound}
@@ -29,6 +29,9 @@ module _ (p : Program) (bounded : IsBounded p) (s : State) (reached : IsReached 
   pub resolved_retried : ResolvedAreRetried s
   resolved_retried = keeps.4
 
+  pub values_asked : ValuesAreAskedFor s
+  values_asked = keeps.6
+
   pub due : IfSome s.progress (RenderIsDue p s)
   due = go s.progress keeps.5 (reached-can p s reached).due
     where
@@ -46,6 +49,7 @@ kept_facts p bounded s reached =
       render_is_due = due p bounded s reached;
       suspended_are_waiting = suspended_waiting p bounded s reached;
       resolved_are_retried = resolved_retried p bounded s reached;
+      values_are_asked_for = values_asked p bounded s reached;
       tree_is_bounded = reached_bounded p bounded s reached;
       renders_are_bounded = renders_bounded p bounded s reached;
     }

@@ -5,7 +5,6 @@ use Rattle.std.proofs.Common.{ap, arith, inl, inr, subst, sym, ◌∙◌}
 use Rattle.rx_ast.specs.Syntax.{Program}
 use Rattle.rx_base.specs.declared.cut.Cut.{Cut}
 use Rattle.rx_rules.specs.Bounds.{depth_bound}
-use Rattle.rx_rules.specs.Names.{resources}
 use Rattle.rx_elem.specs.Spots.{Around, Mounted, Spot, around_children, at_root, hidden_count, kept_instances, mounted, numbers_of, spot_mark, spots, spots_in, visible_instances}
 use Rattle.rx_elem.specs.Trees.{Forest, Mark, Node, child, is_hidden, node, none, vacant}
 use Rattle.rx_meaning.specs.Expressions.{answers_of}
@@ -16,7 +15,8 @@ use Rattle.rx_model.specs.Kept.{IsAccountedFor, NoUpdateIsLost}
 use Rattle.rx_model.specs.Laws.{QuietLaw, ShowsAll, everything}
 use Rattle.rx_model.specs.State.{State}
 use Rattle.rx_queue.specs.History.{Answers, applied, stands_done}
-use Rattle.rx_queue.specs.Journal.{Posted, Target, belongs_to, committed_value, cut_now, hook, in_order, same_target, updates_of}
+use Rattle.rx_queue.specs.Journal.{Posted, Resolution, Target, belongs_to, committed_value, cut_now, hook, in_order, is_resource, resource, same_target, updates_of}
+use Rattle.std.proofs.Math.Seq.{take-length}
 use Rattle.run_laws.proofs.AlongRuns.{reached_carries}
 use Rattle.run_laws.proofs.Carrying.{all_accounted, done_before}
 use Rattle.commit_laws.proofs.HiddenLaw.{all_mounted, numbered_at}
@@ -25,11 +25,11 @@ use Rattle.run_laws.proofs.KeptFacts.{none_lost}
 use Rattle.commit_laws.proofs.QuietTree.{quiet_tree}
 use Rattle.commit_laws.proofs.Settling.{kept_at, kept_listed, target_has, visible_at, visible_listed, within_visible}
 use Rattle.run_laws.specs.Carried.{Carries}
-use Rattle.commit_laws.specs.Quiet.{AllDone, AllShown, NoneHidden}
-use Rattle.rx_meaning.specs.Settled.{includes}
+use Rattle.commit_laws.specs.Quiet.{AllDone, AllShown, NoneHidden, RefreshesDone}
+use Rattle.rx_meaning.specs.Settled.{HasValuesOf, includes}
 use Rattle.rx_lane.specs.Lanes as lanes_of
 
-empty_has : (lanes : Lanes) (l : Lane) → is_empty lanes ≡ true → lanes_of.has lanes l ≡ false
+pub empty_has : (lanes : Lanes) (l : Lane) → is_empty lanes ≡ true → lanes_of.has lanes l ≡ false
 empty_has [] l h = refl
 empty_has (x ∷ xs) l h = absurd (cc h)
 
@@ -114,10 +114,11 @@ quiet_lists (Some x) h =
 
 none_belongs : (t : Target) → belongs_to [] t ≡ true → ⊥
 none_belongs (hook i k) h = cc h
+none_belongs (resource r) h = cc h
 
 all_done : (s : State) → NoUpdateIsLost s → kept_instances s.tree ≡ [] → ((l : Lane) → lanes_of.has s.schedule.pending l ≡ false)
     → AllDone (visible_instances s.tree) s.journal.updates
-all_done s lost none_kept free = from s.journal.updates (λ n u there b. one u (lost n u there (inl b)))
+all_done s lost none_kept free = from s.journal.updates (λ n u there b. one u (lost n u there (inl (inl b))))
   where
     one : (u : Posted) → IsAccountedFor s u → stands_done u.standing ≡ true
     one u (inl d) = d
@@ -127,6 +128,22 @@ all_done s lost none_kept free = from s.journal.updates (λ n u there b. one u (
 
     from : (us : List Posted) → ((n : ℕ) (u : Posted) → slice_get us n ≡ Some u → belongs_to (visible_instances s.tree) u.target ≡ true → stands_done u.standing ≡ true)
         → AllDone (visible_instances s.tree) us
+    from [] f = tt
+    from (u ∷ us) f = (f zero u refl, from us (λ n v there. f (suc n) v there))
+
+pub refreshes_done : (s : State) → NoUpdateIsLost s → ((l : Lane) → lanes_of.has s.schedule.pending l ≡ false) → RefreshesDone s.journal.updates
+refreshes_done s lost free = from s.journal.updates (λ n u there b. one u b (lost n u there (inr b)))
+  where
+    never_kept : (t : Target) → is_resource t ≡ true → belongs_to (kept_instances s.tree) t ≡ true → ⊥
+    never_kept (hook i k) h there = cc h
+    never_kept (resource r) h there = cc there
+
+    one : (u : Posted) → is_resource u.target ≡ true → IsAccountedFor s u → stands_done u.standing ≡ true
+    one u is (inl d) = d
+    one u is (inr (inl pending)) = absurd (cc (free u.update.lane, pending))
+    one u is (inr (inr owed)) = absurd (never_kept u.target is owed.1)
+
+    from : (us : List Posted) → ((n : ℕ) (u : Posted) → slice_get us n ≡ Some u → is_resource u.target ≡ true → stands_done u.standing ≡ true) → RefreshesDone us
     from [] f = tt
     from (u ∷ us) f = (f zero u refl, from us (λ n v there. f (suc n) v there))
 
@@ -180,12 +197,12 @@ number_got (x ∷ xs) m (suc k) h = or_right (nat_eq m.number x.number) (include
     or_right true b h = refl
     or_right false b h = h
 
-tree_shows : (p : Program) (s : State) (tree : Option Node) (resources : List (Option ℤ)) (last : Cut) → depth_bound p ≤ depth_limit → Carries p s.journal s.numbers tree resources last
-    → hidden_count tree ≡ 0 → AllDone (visible_instances tree) s.journal.updates → IfSome tree (λ n. fresh (everything p s) (Some n) ≡ made n)
-tree_shows p s None resources last deep c h done = tt
-tree_shows p s (Some n) resources last deep c h done =
-    quiet_tree (everything p s) n resources s.numbers.instance deep (done_before (cut_now s.journal) s.journal.updates (all_accounted (cut_now s.journal) s.journal.updates c.below))
-    c.seen c.sound c.numbered c.rooted (shown_tree n h) done
+tree_shows : (p : Program) (s : State) (tree : Option Node) (known : List Resolution) (last : Cut) → depth_bound p ≤ depth_limit → Carries p s.journal s.numbers tree known last
+    → hidden_count tree ≡ 0 → AllDone (visible_instances tree) s.journal.updates → RefreshesDone s.journal.updates → IfSome tree (λ n. fresh (everything p s) (Some n) ≡ made n)
+tree_shows p s None known last deep c h done refreshed = tt
+tree_shows p s (Some n) known last deep c h done refreshed =
+    quiet_tree (everything p s) n known s.numbers.instance deep (done_before (cut_now s.journal) s.journal.updates (all_accounted (cut_now s.journal) s.journal.updates c.below))
+    (subst (λ (xs : List Resolution). HasValuesOf known xs) (sym (take-length s.journal.resolutions)) c.seen) c.sound c.numbered c.rooted (shown_tree n h) done refreshed
 
 -- A quiet state that can be reached shows everything.
 pub quiet_shows : (p : Program) → QuietLaw p
@@ -197,5 +214,5 @@ quiet_shows p bounded s reached quiet =
     let c = reached_carries p bounded.shallow bounded.declared s reached in
     record {
       hooks = λ k m there. hooks_shown p s (visible_instances s.tree) m (ap (λ (l : List ℕ). includes l m.number) lists.0 ∙ number_got (mounted s.tree) m k there) done;
-      tree = tree_shows p s s.tree c.0 c.1 bounded.shallow c.2 shown done;
+      tree = tree_shows p s s.tree c.0 c.1 bounded.shallow c.2 shown done (refreshes_done s (none_lost p bounded s reached) (λ l. empty_has s.schedule.pending l parts.0));
     }

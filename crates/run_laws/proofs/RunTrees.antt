@@ -16,12 +16,12 @@ use Rattle.rx_elem.specs.Trees.{Node, element_of}
 use Rattle.rx_elem.specs.Spots.{Mounted}
 use Rattle.rx_elem.specs.Compare.{Change}
 use Rattle.rx_elem.specs.Numbers.{numbered}
-use Rattle.rx_queue.specs.Journal.{Target}
+use Rattle.rx_queue.specs.Journal.{Target, resource}
 use Rattle.rx_meaning.specs.Fresh.{made, fresh, root_element, IsTree, none_yet, given}
 use Rattle.rx_meaning.specs.Outcome.{commit, defer, outcome_by, newly_hidden}
 use Rattle.rx_model.specs.State.{State, Progress}
 use Rattle.rx_model.specs.Stretch.{Stretch, silent, followed_by}
-use Rattle.rx_model.specs.Accepting.{in_event, dispatched_to, resolved_as}
+use Rattle.rx_model.specs.Accepting.{in_event, dispatched_to, lane_of, resolved_as}
 use Rattle.rx_model.specs.Committing.{passive_run, starting, sight_of, committed_state, ended_by}
 use Rattle.rx_model.specs.Turns.{AnyRender, GoesOn, Continues, TurnBy, choice_of}
 use Rattle.rx_model.specs.Kept.{TreeIsBounded, RendersAreBounded}
@@ -102,7 +102,8 @@ reached_tree p s t =
       passive = λ s h. h;
       turns = λ s budget r t h. turn_holds p s (choice_of s) budget r t h;
       dispatches = λ s d m e h. subst (λ (o : Option Node). IsTree p o) (sym (dispatched_tree p s d m)) h;
-      resolves = λ s name v x h. subst (λ (o : Option Node). IsTree p o) (sym (resolved_tree p s name v x)) h;
+      refreshes = λ s w r h. subst (λ (o : Option Node). IsTree p o) (sym (event_tree w s (resource r) (lane_of s w))) h;
+      resolves = λ s name v x e h. subst (λ (o : Option Node). IsTree p o) (sym (resolved_tree p s name v x)) h;
       discards = λ s h. h;
     }) s t
 

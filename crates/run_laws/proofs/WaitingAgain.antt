@@ -14,18 +14,18 @@ use Rattle.rx_elem.specs.Numbers.{Numbers}
 use Rattle.rx_elem.specs.Spots.{kept_instances, visible_instances}
 use Rattle.rx_elem.specs.Trees.{Forest, Instance, Mark, Node, child, element_of, elements_in, is_hidden, node, none, of_boundary, of_host, of_instance, plain, vacant}
 use Rattle.rx_queue.specs.History.{stands_done, stands_open, stands_owed}
-use Rattle.rx_queue.specs.Journal.{Journal, Posted, Resolution, belongs_to, cut_now, is_new, marked_update}
+use Rattle.rx_queue.specs.Journal.{Journal, Posted, Resolution, belongs_to, cut_now, is_new, marked_update, resolutions_by}
 use Rattle.rx_queue.specs.declared.entry.Standing.{Standing}
 use Rattle.rx_queue.specs.declared.entry.Standing.TheVariants.{Done, Open, Owed}
 use Rattle.rx_susp.specs.declared.boundary.BoundaryState.TheVariants.{Hidden, Shown}
-use Rattle.rx_meaning.specs.Again.{AllValuesAgree, MarkAgrees, NoNewUpdate, ValuesAgree, WaitsAreSmall}
-use Rattle.rx_meaning.specs.Fresh.{Contexts, Renders, Sight, default_contexts, depth_limit, part, render_part, resources_seen, root_element, values_of}
+use Rattle.rx_meaning.specs.Again.{AllOpen, AllValuesAgree, MarkAgrees, NoNewUpdate, ValuesAgree, WaitsAreSmall}
+use Rattle.rx_meaning.specs.Fresh.{Contexts, Renders, Sight, default_contexts, depth_limit, part, render_part, root_element, values_of, versions_seen}
 use Rattle.rx_meaning.specs.Levels.{Fits}
-use Rattle.rx_meaning.specs.Settled.{AllReadsHold, AllSettled, HasValuesOf, IfHidden, IsSettled, Known, ReadsHold}
-use Rattle.rx_meaning.specs.Touched.{contexts_below, instances_in}
+use Rattle.rx_meaning.specs.Settled.{AllReadsHold, AllSettled, HasValuesOf, IfHidden, IsSettled, Known, ReadsHold, version_done}
+use Rattle.rx_meaning.specs.Touched.{contexts_below, instances_in, sees_refresh}
 use Rattle.rx_meaning.proofs.Depths.{not_deepest, shape_fits}
 use Rattle.render_laws.proofs.DepthLaw.{part_limits_agree}
-use Rattle.render_laws.proofs.LaterEntries.{longer_sees_same, renders_same, values_same}
+use Rattle.render_laws.proofs.LaterEntries.{longer_refresh, longer_sees_same, renders_same, values_same}
 use Rattle.render_laws.specs.SameSight.{AllAfter, SeesSame}
 use Rattle.commit_laws.proofs.HiddenLaw.{all_values_agree, numbers_in_itself}
 use Rattle.commit_laws.proofs.OwnNumbers.{own_numbers_apart}
@@ -34,6 +34,7 @@ use Rattle.commit_laws.proofs.ResourceLaws.{values_stay}
 use Rattle.commit_laws.proofs.Settling.{tree_seen}
 use Rattle.commit_laws.proofs.SmallWaits.{waits_are_small}
 use Rattle.commit_laws.proofs.TakeOver.{own_not_null}
+use Rattle.commit_laws.proofs.VersionsStay.{accounted_done, versions_stay}
 use Rattle.commit_laws.proofs.WaitsAgain.{attempt_waits_again}
 use Rattle.commit_laws.specs.HiddenWaits.{AllHiddenWait, AllNumbered, AllSeen, HiddenWaits, OwnWaits, Seen}
 use Rattle.commit_laws.specs.WaitsAgain.{AllWaitAgain, IfWaitsAgain, OwnWaitsAgain, WaitsAgain, without_lanes}
@@ -83,7 +84,7 @@ mutual
 
 -- A longer journal
 
-module _ (s : Sight) (j : Journal) (same : SeesSame s j) (still : SeesSame (without_lanes s) j) where
+module _ (s : Sight) (j : Journal) (same : SeesSame s j) (still : SeesSame (without_lanes s) j) (refresh : sees_refresh s ≡ sees_refresh (record s { journal = j })) where
   -- the sight with the other journal
   abbrev later : Sight
   later = record s { journal = j }
@@ -99,9 +100,9 @@ module _ (s : Sight) (j : Journal) (same : SeesSame s j) (still : SeesSame (with
   own_later cs (elements.boundary key f es) (of_host x) ns h = tt
   own_later cs (elements.boundary key f es) plain ns h = tt
   own_later cs (elements.boundary key f es) (of_boundary Shown) ns h = tt
-  own_later cs (elements.boundary key f es) (of_boundary (Hidden a)) ns h = λ unresolved agree n fits.
+  own_later cs (elements.boundary key f es) (of_boundary (Hidden a)) ns h = λ calm unresolved agree n fits.
       ap (λ (r : Contexts → Renders). render_part r (part cs (listed es) ns)) (sym (renders_same s j same n))
-      ∙ h (λ r there. ap (λ (xs : List (Option ℤ)). slice_index_or xs r None) same.resources ∙ unresolved r there)
+      ∙ h (refresh ∙ calm) (λ r there. ap (λ (xs : List (Option ℤ)). slice_index_or xs r None) same.resources ∙ unresolved r there)
       (forest_then (without_lanes s) (without_lanes later) s ns (forest_agrees (without_lanes s) (without_lanes later) (values_same (without_lanes s) j still) ns)
       (forest_then (without_lanes later) later s ns agree (forest_agrees later s (λ i. sym (values_same s j same i)) ns)))
       n fits
@@ -126,13 +127,13 @@ module _ (s : Sight) (j : Journal) (same : SeesSame s j) (still : SeesSame (with
   later_waits_again cs None h = tt
   later_waits_again cs (Some x) h = node_later cs x h
 
--- So they do over a longer journal.
-pub longer_waits_again : (s : Sight) (new : List Posted) (more : List Resolution) → AllAfter s.cut.updates new → s.cut.resolutions ≤ length s.journal.resolutions
+-- So they do over a longer journal, if all that is new is open.
+pub longer_waits_again : (s : Sight) (new : List Posted) (more : List Resolution) → AllAfter s.cut.updates new → AllOpen new → s.cut.resolutions ≤ length s.journal.resolutions
     → (cs : Contexts) (tree : Option Node) → IfWaitsAgain s cs tree
     → IfWaitsAgain (record s { journal = record { updates = s.journal.updates ++ new; resolutions = s.journal.resolutions ++ more } }) cs tree
-longer_waits_again s new more late within cs tree h =
+longer_waits_again s new more late opened within cs tree h =
     later_waits_again s (record { updates = s.journal.updates ++ new; resolutions = s.journal.resolutions ++ more }) (longer_sees_same s new more late within)
-    (longer_sees_same (without_lanes s) new more late within) cs tree h
+    (longer_sees_same (without_lanes s) new more late within) (longer_refresh s new more late opened) cs tree h
 
 -- Since the last commit
 
@@ -148,7 +149,7 @@ no_new_update cut set (u ∷ us) = go (nat_lt u.update.number cut.updates) (belo
     go true b Owed h = h
     go false b st h = h
 
-module _ (p : Program) (j : Journal) (lanes : Lanes) (cut last : Cut) (tree : Node) (k : Known) (small : WaitsAreSmall p) (c : LastCommit p j last tree) (apart : AreApart tree)
+module _ (p : Program) (j : Journal) (lanes : Lanes) (cut last : Cut) (tree : Node) (k : Known) (version : ℕ → ℕ) (small : WaitsAreSmall p) (c : LastCommit p j last tree) (apart : AreApart tree)
     (updates_grow : last.updates ≤ cut.updates) (resolutions_grow : last.resolutions ≤ cut.resolutions) where
   -- what the last commit saw
   abbrev seen : Sight
@@ -164,10 +165,17 @@ module _ (p : Program) (j : Journal) (lanes : Lanes) (cut last : Cut) (tree : No
   abbrev kept : List ℕ
   kept = kept_instances (Some tree)
 
-  more : HasValuesOf (resources_seen seen) (resources_seen now)
+  more : HasValuesOf (resolutions_by last c.journal) (resolutions_by cut j)
   more =
-      subst (λ (xs : List Resolution). HasValuesOf (resources_seen seen) (resources_seen (sight_at p (record { updates = j.updates; resolutions = xs }) lanes cut)))
-      (sym c.resolutions_are) (values_stay seen j.updates c.more cut lanes resolutions_grow)
+      subst (λ (xs : List Resolution). HasValuesOf (resolutions_by last c.journal) (resolutions_by cut (record { updates = j.updates; resolutions = xs })))
+      (sym c.resolutions_are) (values_stay c.journal j.updates c.more last cut resolutions_grow)
+
+  -- a render that sees no refresh sees the versions of the last commit
+  versions_again : sees_refresh now ≡ false → versions_seen seen ≡ versions_seen now
+  versions_again =
+      subst (λ (us : List Posted). sees_refresh (sight_at p (record { updates = us; resolutions = j.resolutions }) lanes cut) ≡ false
+      → versions_seen seen ≡ versions_seen (sight_at p (record { updates = us; resolutions = j.resolutions }) lanes cut)) (sym c.updates_are)
+      (versions_stay seen visible kept (accounted_done last c.journal.updates c.accounted) c.new c.opened j.resolutions lanes cut)
 
   -- what is kept has the values of the last attempt by the updates that are done or owed
   values_stand : (ns : Forest) → AllNumbered ns → AllSeen visible kept false ns → AllValuesAgree seen (without_lanes now) ns
@@ -188,14 +196,14 @@ module _ (p : Program) (j : Journal) (lanes : Lanes) (cut last : Cut) (tree : No
   own_again n cs (elements.boundary key f es) (of_host x) ns w there fits = tt
   own_again n cs (elements.boundary key f es) plain ns w there fits = tt
   own_again n cs (elements.boundary key f es) (of_boundary Shown) ns w there fits = tt
-  own_again n cs (elements.boundary key f es) (of_boundary (Hidden a)) ns w there fits = λ unresolved agree levels enough.
+  own_again n cs (elements.boundary key f es) (of_boundary (Hidden a)) ns w there fits = λ calm unresolved agree levels enough.
       let both = shape_fits n seen cs (elements.boundary key f es) None fits in
       let waited = part_limits_agree seen (part cs (listed es) ns) levels n enough both.0 ∙ w.0 in
-      attempt_waits_again seen j lanes cut small more levels (part cs (listed es) ns) a (forest_then seen (without_lanes now) now ns (values_stand ns w.1 there) agree) waited unresolved
+      attempt_waits_again seen j lanes cut small (versions_again calm) more levels (part cs (listed es) ns) a (forest_then seen (without_lanes now) now ns (values_stand ns w.1 there) agree) waited unresolved
 
   -- so each visible hidden boundary waits again
   mutual
-    node_again : (n : ℕ) (cs : Contexts) (x : Node) → HiddenWaits n seen cs x → IsSettled p k x → ReadsHold cs x → Seen visible kept true x → Fits n p (element_of x) → WaitsAgain now cs x
+    node_again : (n : ℕ) (cs : Contexts) (x : Node) → HiddenWaits n seen cs x → IsSettled p k x → ReadsHold version cs x → Seen visible kept true x → Fits n p (element_of x) → WaitsAgain now cs x
     node_again zero cs (node e m ns fs) w settled reads there fits = absurd (omega (arith, not_deepest p e fits (own_not_null p k e m ns fs settled.0)))
     node_again (suc n) cs (node e m ns fs) w settled reads there fits = (
       own_again n cs e m ns w.0 there.1 fits,
@@ -203,15 +211,15 @@ module _ (p : Program) (j : Journal) (lanes : Lanes) (cut last : Cut) (tree : No
       all_again n cs fs w.2 settled.2 reads.2 there.2 (fallback_fits n now k cs e m ns fs settled.0 fits),
     )
       where
-        shown : (b : Bool) → is_hidden m ≡ b → IfHidden b (Unit {0}) (AllHiddenWait n seen (contexts_below e cs) ns) → IfHidden b (Unit {0}) (AllReadsHold (contexts_below e cs) ns)
+        shown : (b : Bool) → is_hidden m ≡ b → IfHidden b (Unit {0}) (AllHiddenWait n seen (contexts_below e cs) ns) → IfHidden b (Unit {0}) (AllReadsHold version (contexts_below e cs) ns)
             → AllSeen visible kept (cond b false true) ns
-            → (AllHiddenWait n seen (contexts_below e cs) ns → AllSettled p k ns → AllReadsHold (contexts_below e cs) ns → AllSeen visible kept true ns → ListFits n p (elements_in ns)
+            → (AllHiddenWait n seen (contexts_below e cs) ns → AllSettled p k ns → AllReadsHold version (contexts_below e cs) ns → AllSeen visible kept true ns → ListFits n p (elements_in ns)
             → AllWaitAgain now (contexts_below e cs) ns)
             → IfHidden b (Unit {0}) (AllWaitAgain now (contexts_below e cs) ns)
         shown true same a r x f = tt
-        shown false same a r x f = f a settled.1 r x (children_fit n now k cs e m ns fs same settled.0 reads.0 fits)
+        shown false same a r x f = f a settled.1 r x (children_fit n now k version cs e m ns fs same settled.0 reads.0 fits)
 
-    all_again : (n : ℕ) (cs : Contexts) (ns : Forest) → AllHiddenWait n seen cs ns → AllSettled p k ns → AllReadsHold cs ns → AllSeen visible kept true ns → ListFits n p (elements_in ns)
+    all_again : (n : ℕ) (cs : Contexts) (ns : Forest) → AllHiddenWait n seen cs ns → AllSettled p k ns → AllReadsHold version cs ns → AllSeen visible kept true ns → ListFits n p (elements_in ns)
         → AllWaitAgain now cs ns
     all_again n cs none w settled reads there fits = tt
     all_again n cs (vacant ns) w settled reads there fits = all_again n cs ns w settled reads there (omega arith)
@@ -224,11 +232,11 @@ root_fits p deep = omega arith
 
 -- The hidden boundaries wait again in a render since the last commit.
 pub render_waits_again : (p : Program) → depth_bound p ≤ depth_limit → length (resources p) ≤ resource_limit
-    → (j : Journal) (numbers : Numbers) (tree : Option Node) (lanes : Lanes) (cut : Cut) (values : List (Option ℤ)) (last : Cut)
-    → Carries p j numbers tree values last → RendersOn p j values last lanes cut → IfWaitsAgain (sight_at p j lanes cut) (default_contexts p) tree
-render_waits_again p deep few j numbers None lanes cut values last c r = tt
-render_waits_again p deep few j numbers (Some x) lanes cut values last c r =
-    node_again p j lanes cut last x (record { updates = j.updates; resources = values }) (waits_are_small p few) c.committed (own_numbers_apart numbers.instance x c.sound.own_numbers)
+    → (j : Journal) (numbers : Numbers) (tree : Option Node) (lanes : Lanes) (cut : Cut) (known : List Resolution) (last : Cut)
+    → Carries p j numbers tree known last → RendersOn p j known last lanes cut → IfWaitsAgain (sight_at p j lanes cut) (default_contexts p) tree
+render_waits_again p deep few j numbers None lanes cut known last c r = tt
+render_waits_again p deep few j numbers (Some x) lanes cut known last c r =
+    node_again p j lanes cut last x (record { updates = j.updates; resolutions = known }) (version_done j.updates) (waits_are_small p few) c.committed (own_numbers_apart numbers.instance x c.sound.own_numbers)
     r.updates_grow r.resolutions_grow depth_limit (default_contexts p) x c.committed.waits c.sound.settled c.sound.reads (tree_seen x)
     (subst (Fits depth_limit p) (sym c.rooted) (root_fits p deep))
 

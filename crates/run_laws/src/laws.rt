@@ -58,7 +58,7 @@ pub fn carried_along_runs()
 {}
 
 /// The hidden boundaries of the committed tree wait again in each render that starts now, in the one in progress, and
-/// over a longer journal.
+/// over a longer journal of which all that is new is open.
 pub fn hidden_waits_are_kept()
     ensures starts { (p : Program) → depth_bound p ≤ depth_limit → length (resources p) ≤ resource_limit
         → (s : State) → IsCarried p s → (lanes : Lanes)
@@ -66,7 +66,7 @@ pub fn hidden_waits_are_kept()
     ensures in_progress { (p : Program) → depth_bound p ≤ depth_limit → length (resources p) ≤ resource_limit
         → (s : State) → IsCarried p s → (g : Progress) → s.progress ≡ Some g
         → IfWaitsAgain (sight_of p s g) (default_contexts p) s.tree }
-    ensures longer { (s : Sight) (new : List Posted) (more : List Resolution) → AllAfter s.cut.updates new
+    ensures longer { (s : Sight) (new : List Posted) (more : List Resolution) → AllAfter s.cut.updates new → AllOpen new
         → s.cut.resolutions ≤ length s.journal.resolutions
         → (cs : Contexts) (tree : Option Node) → IfWaitsAgain s cs tree
         → IfWaitsAgain (record s { journal = record { updates = s.journal.updates ++ new; resolutions = s.journal.resolutions ++ more } }) cs tree }

@@ -203,7 +203,7 @@ module _ (s : Sight) (kept : ℕ → Option (List Hook)) (t : Trees Fiber) (st :
 
 none_counted : (e : Element) (cs : Contexts) (old : Option Node) (sh : Shape) → one_if_component e ≡ 0 → begins_as each_body cs e old sh ≡ 0
 none_counted e cs old absent h = refl
-none_counted e cs old (waiting r) h = h
+none_counted e cs old (waiting r v) h = h
 none_counted e cs old (one_list m l) h = h
 none_counted e cs old (two_lists l f) h = h
 
@@ -217,8 +217,8 @@ no_body (elements.boundary k f es) h = refl
 no_body (elements.provider c k x es) h = refl
 
 body_counted : (e : Element) (cs : Contexts) (c : ℕ) (old : Option Node) (b : Body) → begins_as each_body cs e old (shape_of_body cs c old b) ≡ one_if_component e
-body_counted e cs c old (wait r) = refl
-body_counted e cs c old (ready es effects initials reads) = refl
+body_counted e cs c old (wait r v) = refl
+body_counted e cs c old (ready es effects initials reads versions) = refl
 
 component_counted : (s : Sight) (e : Element) (cs : Contexts) (c : ℕ) (props : List ℤ) (kids : Elements) (old : Option Node) (o : Option Component) (m : ℕ)
     → option_map (λ d. length (prop_names d)) o ≡ Some m → begins_as each_body cs e old (shape_of_component s cs c props kids old o) ≡ one_if_component e

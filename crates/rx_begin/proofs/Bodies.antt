@@ -1,52 +1,25 @@
 -- A component's body, from the hooks of its old instance.
 use Rattle.std.specs.Prelude.{◌≡◌, ℕ, ℤ, Bool, false, List, Option, Some, None, IfSome, IsSome, option_and_then, option_map}
 use Rattle.std.proofs.Common.{refl, sym, ap, ◌∙◌, subst}
-use Rattle.rx_ast.specs.Syntax.{Program, Component}
+use Rattle.rx_ast.specs.Syntax.{Component}
 use Rattle.rx_rules.specs.Names.{component_at}
-use Rattle.rx_elem.specs.Elements.{Element, Elements, listed}
+use Rattle.rx_elem.specs.Elements.{Element, Elements}
 use Rattle.rx_elem.specs.Trees.{Node, Instance, instance_in}
 use Rattle.rx_hooks.specs.declared.hook.Hook.{Hook}
 use Rattle.rx_lists.specs.Shapes.{Shape}
 use Rattle.rx_links.specs.Drafts.{Draft, taken, made, Trees}
-use Rattle.rx_meaning.specs.Body.{Inputs, Body, body_of}
-use Rattle.rx_meaning.specs.Fresh.{Sight, Contexts, resources_seen, hook_values, values_of, inputs_at, old_instance, shape_of_body, shape_of_component}
+use Rattle.rx_meaning.specs.Body.{Body, body_of}
+use Rattle.rx_meaning.specs.Fresh.{Sight, Contexts, inputs_at, old_instance, shape_of_body, shape_of_component}
 use Rattle.rx_fiber.specs.Fibers.{Fiber, Stage}
 use Rattle.rx_fiber.specs.declared.stage.Origin.{Origin}
 use Rattle.rx_fiber.specs.Reading.{IsOld}
-use Rattle.rx_hook_store.specs.Gives.{GivesValues}
 use Rattle.rx_causes.specs.Marks.{mark_at}
-use Rattle.rx_causes.specs.Scenes.{number_in, GivesHooks, KeepsHooks}
+use Rattle.rx_causes.specs.Scenes.{number_in, KeepsHooks}
 use Rattle.rx_causes.proofs.Marks.{old_instance_is}
 use Rattle.rx_children.specs.Nodes.{HasOpened, begun_over}
 use Rattle.rx_begin.specs.Bodies.{HasShape}
 use Rattle.rx_begin.specs.Beginning.{is_taken}
 use Rattle.rx_children.specs.declared.node.Begun.{Begun}
-
-same_inputs : (props : List ℤ) (xs ys : List Element) (v w : Option (List ℤ)) (cs : List ℤ) (r q : List (Option ℤ)) → xs ≡ ys → v ≡ w → r ≡ q
-    → (let x : Inputs = record { props = props; children = xs; hooks = v; contexts = cs; resources = r } in x)
-    ≡ record { props = props; children = ys; hooks = w; contexts = cs; resources = q }
-same_inputs props xs ys v w cs r q e f g i = record { props = props; children = e i; hooks = f i; contexts = cs; resources = g i }
-
--- a body from these inputs is that of the definition
-pub body_is : (s : Sight) (p : Program) (c : ℕ) (props : List ℤ) (kids : Elements) (xs : List Element) (v : Option (List ℤ)) (cs : List ℤ) (r : List (Option ℤ)) (old : Option Instance) (b : Body)
-    → s.program ≡ p → listed kids ≡ xs → v ≡ option_and_then (values_of s) old → r ≡ resources_seen s
-    → option_map (λ d. body_of p d (record { props = props; children = xs; hooks = v; contexts = cs; resources = r })) (component_at p c) ≡ Some b
-    → option_map (λ d. body_of s.program d (inputs_at s cs props kids old)) (component_at s.program c) ≡ Some b
-body_is s p c props kids xs v cs r old b program same values resources gives =
-    subst (λ q. option_map (λ d. body_of q d (inputs_at s cs props kids old)) (component_at q c) ≡ Some b) (sym program)
-    (subst (λ i. option_map (λ d. body_of p d i) (component_at p c) ≡ Some b)
-    (same_inputs props xs (listed kids) v (option_and_then (values_of s) old) cs r (resources_seen s) (sym same) values resources) gives)
-
--- an instance without a number has no values yet
-pub no_values : (s : Sight) (old : Option Instance) → number_in old ≡ None → None ≡ option_and_then (values_of s) old
-no_values s None e = refl
-no_values s (Some i) e = sym (ap (option_map (λ n. hook_values s n i.initials)) e)
-
--- the values of an instance that has one
-pub its_values : (s : Sight) (kept : ℕ → Option (List Hook)) (old : Option Instance) (n : ℕ) (v : List ℤ) → number_in old ≡ Some n
-    → ((initials : List ℤ) → GivesValues s kept n initials → v ≡ hook_values s n initials) → GivesHooks s kept old → Some v ≡ option_and_then (values_of s) old
-its_values s kept None n v e f g = cc
-its_values s kept (Some i) n v e f g = ap Some (f i.initials (g i n refl e)) ∙ sym (ap (option_map (λ m. hook_values s m i.initials)) e)
 
 -- hooks are kept of a number that is there
 pub kept_if : (kept : ℕ → Option (List Hook)) (old : Option Instance) → KeepsHooks kept old → IfSome (number_in old) (λ n. IsSome (kept n))

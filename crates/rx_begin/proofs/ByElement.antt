@@ -191,8 +191,8 @@ module _ (s : Sight) (t : Trees Fiber) (st : Stack) (new : Trees Fiber) (st' : S
       shape_is = subst (λ y. shape_of s cs y old ≡ shape_of_component s cs c props kids old (component_at s.program c)) is refl
 
       by_shape : HasShape is_again steady generation (shape_of_component s cs c props kids old (component_at s.program c)) cs old t new p answer → HasBegun s t st new st' p n fs cs e old answer
-      by_shape (waits r shape trees_same answer_is) =
-          subst (λ a. HasBegun s t st new st' p n fs cs e old a) (sym answer_is) (begun_waiting s t st new st' p n fs cs e old r at (shape_is ∙ shape) trees_same stacks)
+      by_shape (waits r v shape trees_same answer_is) =
+          subst (λ a. HasBegun s t st new st' p n fs cs e old a) (sym answer_is) (begun_waiting s t st new st' p n fs cs e old r v at (shape_is ∙ shape) trees_same stacks)
       by_shape (opens o) =
           plain_begun o.mark (begun o.mark) o.list.elements o.list (shape_is ∙ o.shape_is) (subst (λ y. given_in y ≡ None) is refl) o.contexts o.was o.shown refl refl
           (from_matched (begun o.mark) o.list.elements steady generation stand o.opened) stacks

@@ -1,6 +1,6 @@
 -- Of which generation the children of a place are.
 use Rattle.std.specs.Prelude.{◌≡◌, ℕ, Bool, true, false, cond, Option}
-use Rattle.std.proofs.Common.{refl, ap, ◌∙◌, subst}
+use Rattle.std.proofs.Common.{refl, ◌∙◌}
 use Rattle.rx_lists.specs.Shapes.{Shape}
 use Rattle.rx_meaning.specs.Generations.{generation_below}
 use Rattle.rx_fiber.specs.Fibers.{Fiber}

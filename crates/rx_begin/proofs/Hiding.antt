@@ -134,6 +134,7 @@ module _ (s : Sight) (kept : ℕ → Option (List Hook)) (t : Trees Fiber) (st :
               shown = ws;
               was = was ∙ ap Some x_is;
               unresolved = waits.unresolved;
+              versions = waits.versions;
               agree = waits.same;
               old_is = subst (λ q. IsOld t.current q old) (sym at_it.old) is_old;
               stood = stands;

@@ -7,19 +7,20 @@ use Rattle.rx_rules.specs.Names.{component_at}
 use Rattle.rx_elem.specs.Elements.{Element, Elements, Key, listed}
 use Rattle.rx_elem.specs.Elements as elements
 use Rattle.rx_elem.specs.Trees.{Instance, Mark, of_instance, Node, node, Forest, elements_in, mark_of, children_if, is_hidden, instance_in}
+use Rattle.rx_elem.proofs.Deciding.{or_fails}
 use Rattle.rx_elem.proofs.SelfMatch.{NoNull}
 use Rattle.rx_lists.specs.Shapes.{Shape}
 use Rattle.rx_links.specs.Drafts.{Trees}
 use Rattle.rx_links.specs.Readers.{made_value_of}
 use Rattle.rx_meaning.specs.Body.{body_of, ready}
-use Rattle.rx_meaning.specs.Fresh.{Sight, Contexts, one_list, part, hook_values, inputs_at, instance_after, old_instance, shape_of_body, shape_of_component}
-use Rattle.rx_meaning.specs.Settled.{Known, IsBodyOf, IsOwn, IfSettled, done_values, known_by, read_anew}
+use Rattle.rx_meaning.specs.Fresh.{Sight, Contexts, one_list, part, hook_values, inputs_at, instance_after, old_instance, resources_seen, shape_of_body, shape_of_component, version_seen, versions_seen}
+use Rattle.rx_meaning.specs.Settled.{Known, IsBodyOf, IsOwn, IfSettled, done_values, known_by, read_anew, refreshed}
 use Rattle.commit_laws.proofs.TakeOver.{settled_no_null}
 use Rattle.rx_fiber.specs.Fibers.{Fiber}
 use Rattle.rx_fiber.specs.Reading.{IsOld}
 use Rattle.rx_causes.specs.declared.scene.Scene.{Scene}
 use Rattle.rx_causes.specs.Marks.{mark_at, keeps_children}
-use Rattle.rx_causes.specs.Scenes.{IsCalmAt, TellsCalm, number_in}
+use Rattle.rx_causes.specs.Scenes.{IsCalmAt, IsSceneOf, TellsCalm, number_in, read_another, version_in}
 use Rattle.rx_causes.proofs.Marks.{mark_is}
 use Rattle.rx_causes.proofs.Causes.{shown_again}
 use Rattle.rx_children.specs.Nodes.{parts_in, begun_children}
@@ -65,10 +66,10 @@ kept_children p k c o old e cloned is settled stood none_in kept =
 -- Components
 
 same_inputs : (s : Sight) (cs : Contexts) (d : Component) (props : List ℤ) (given : Elements) (i : Instance) (n : ℕ) (values : List ℤ) → i.number ≡ Some n → hook_values s n i.initials ≡ values
-    → inputs_at s cs props given (Some i) ≡ record { props = props; children = listed given; hooks = Some values; contexts = cs; resources = (known_by s).resources }
+    → inputs_at s cs props given (Some i) ≡ record { props = props; children = listed given; hooks = Some values; contexts = cs; versions = versions_seen s; resources = resources_seen s }
 same_inputs s cs d props given i n values number same = rw (number, same) refl
 
-same_instance : (c : ℕ) (i : Instance) (initials : List ℤ) → i.component ≡ c → instance_after c (Some i) initials i.reads i.effects ≡ i
+same_instance : (c : ℕ) (i : Instance) (initials : List ℤ) → i.component ≡ c → instance_after c (Some i) initials i.reads i.versions i.effects ≡ i
 same_instance c i initials same = rw (sym same) refl
 
 body_shape : (s : Sight) (cs : Contexts) (c : ℕ) (key : Key) (props : List ℤ) (given : Elements) (i : Instance) (ns fs : Forest) (e : Element) → IsBodyOf s.program (known_by s) c props given i (elements_in ns) → IsCalmAt s cs i
@@ -77,10 +78,10 @@ body_shape s cs c key props given i ns fs e body calm =
     let same_number : calm.number ≡ body.instance = (let f : Some calm.number ≡ Some body.instance = sym calm.is_numbered ∙ body.is_numbered in cc) in
     let values : hook_values s body.instance i.initials ≡ done_values s.program (known_by s) body.instance i.initials =
     subst (λ n. hook_values s n i.initials ≡ done_values s.program (known_by s) n i.initials) same_number calm.values in
-    let again : body_of s.program body.component (inputs_at s cs props given (Some i)) ≡ ready (elements_in ns) i.effects body.initials i.reads =
+    let again : body_of s.program body.component (inputs_at s cs props given (Some i)) ≡ ready (elements_in ns) i.effects body.initials i.reads i.versions =
     ap (body_of s.program body.component)
     (same_inputs s cs body.component props given i body.instance (done_values s.program (known_by s) body.instance i.initials) body.is_numbered values)
-    ∙ body.gives cs calm.reads in
+    ∙ body.gives cs (version_seen s) calm.reads calm.versions in
     ap (shape_of_component s cs c props given (Some (node e (of_instance i) ns fs))) body.is_component
     ∙ (ap (shape_of_body cs c (Some (node e (of_instance i) ns fs))) again
     ∙ ap (λ j. one_list (of_instance j) (part cs (elements_in ns) ns)) (same_instance c i body.initials body.is_of))
@@ -103,13 +104,21 @@ calm_shape s cs c key props given (Some (node e m ns fs)) i settled same there c
 
 -- What is told of a cause
 
+-- the versions of a scene are those that the render sees
+pub seen_versions : (scene : Scene) (s : Sight) → IsSceneOf scene s → version_in scene ≡ version_seen s
+seen_versions scene s is = λ i r. is.versions r i
+
+-- what it read is the same if nothing of it is another
+pub reads_same : (scene : Scene) (cs : Contexts) (i : Instance) (anew : Bool) → anew ≡ read_another scene cs i → not anew ≡ true → (read_anew cs i.reads ≡ false) × (refreshed (version_in scene) i.versions ≡ false)
+reads_same scene cs i anew is calm = or_fails (read_anew cs i.reads) (refreshed (version_in scene) i.versions) (sym is ∙ shown_again anew calm)
+
 pub work_decides : (work anew : Bool) → work ≡ true → not work ≡ (not work && not anew)
 work_decides work anew h = rw h refl
 
 -- from a number, by what the hooks and the reads tell
 pub calm_told : (kept : ℕ → Option (List Hook)) (scene : Scene) (cs : Contexts) (o : Option code.Instance) (i : code.Instance) (n : ℕ) (work anew calm : Bool) → o ≡ Some i → i.number ≡ Some n
     → ((answers : Answers) (hooks : List Hook) (histories : List HookHistory) → kept n ≡ Some hooks → HooksStandFor answers hooks histories → work ≡ has_work_in scene.lanes scene.cut histories)
-    → anew ≡ read_anew cs (instance_seen i).reads → calm ≡ (not work && not anew) → TellsCalm scene kept cs (option_map instance_seen o) calm
+    → anew ≡ read_another scene cs (instance_seen i) → calm ≡ (not work && not anew) → TellsCalm scene kept cs (option_map instance_seen o) calm
 calm_told kept scene cs o i n work anew calm is number tells reads same =
     let seen : option_map instance_seen o ≡ Some (instance_seen i) = ap (option_map instance_seen) is in
     subst (λ x. TellsCalm scene kept cs x calm) (sym seen)
@@ -117,7 +126,7 @@ calm_told kept scene cs o i n work anew calm is number tells reads same =
       work = work;
       tells = λ m answers hooks histories there have stand.
           let q : n ≡ m = (let f : Some n ≡ Some m = sym number ∙ there in cc) in tells answers hooks histories (ap kept q ∙ have) stand;
-      is = same ∙ (ap (λ b. not work && not b) reads ∙ ap (λ x. is_some x && (not work && not (read_anew cs (instance_seen i).reads))) (sym number));
+      is = same ∙ (ap (λ b. not work && not b) reads ∙ ap (λ x. is_some x && (not work && not (read_another scene cs (instance_seen i)))) (sym number));
     })
 
 -- without a number nothing is calm

@@ -91,10 +91,10 @@ module _ (s : Sight) (t : Trees Fiber) (st : Stack) (new : Trees Fiber) (st' : S
         kids (subst (λ x. HasLists x) (sym shape) tt)
 
   -- a body that waits
-  pub begun_waiting : (r : ℕ) → StandsAt t st (Some p) (at_place (suc n) fs cs e old) → shape_of s cs e old ≡ waiting r → new ≡ t → st' ≡ st
+  pub begun_waiting : (r v : ℕ) → StandsAt t st (Some p) (at_place (suc n) fs cs e old) → shape_of s cs e old ≡ waiting r v → new ≡ t → st' ≡ st
       → HasBegun s t st new st' p n fs cs e old (Suspended r)
-  begun_waiting r at shape same_trees same_stack = (
-    shape,
+  begun_waiting r v at shape same_trees same_stack = (
+    (v, shape),
     unit_begins ∙ ap (cursor.begin n fs e old) shape,
     same_trees,
     same_stack,

@@ -1,5 +1,5 @@
 -- What is given again, and whose old node is idle, takes the old children over.
-use Rattle.std.specs.Prelude.{◌≡◌, ℕ, suc, Bool, true, false, List, Option, Some, None, ◌⊎◌, IsSome, option_map}
+use Rattle.std.specs.Prelude.{◌≡◌, ℕ, suc, Bool, true, false, not, ◌&&◌, List, Option, Some, None, ◌⊎◌, IsSome, option_map}
 use Rattle.std.proofs.Common.{refl, sym, ap, ◌∙◌, subst, inl, inr}
 use Rattle.rx_ctx.specs.Contexts.{Stack, values_at}
 use Rattle.rx_susp.specs.declared.boundary.BoundaryState.TheVariants.{Hidden, Shown}
@@ -12,8 +12,8 @@ use Rattle.rx_lists.specs.Shapes as shapes
 use Rattle.rx_links.specs.Drafts.{taken, Trees, kids_of, kids_under, list_at, old_of, shape_or_none}
 use Rattle.rx_links.specs.Readers.{IsLinked, made_value_of}
 use Rattle.rx_meaning.specs.Cursor.{Frame, at_place}
-use Rattle.rx_meaning.specs.Fresh.{Contexts, Sight}
-use Rattle.rx_meaning.specs.Settled.{ReadsHold}
+use Rattle.rx_meaning.specs.Fresh.{Contexts, Sight, version_seen}
+use Rattle.rx_meaning.specs.Touched.{sees_refresh}
 use Rattle.commit_laws.specs.Idle.{IsIdle, IsIdleMark}
 use Rattle.rx_ways.specs.Ways.{Covers, CoversIf}
 use Rattle.rx_fiber.specs.Fibers.{Fiber, is_stood}
@@ -27,14 +27,16 @@ use Rattle.rx_fiber.proofs.OldLists.{kids_are, old_of_node}
 use Rattle.rx_causes.specs.Marks.{mark_at}
 use Rattle.rx_causes.specs.Scenes.{GivesHooks}
 use Rattle.rx_causes.specs.Hidden.{ForEach, GivesHooksIf}
+use Rattle.rx_causes.specs.Reads.{ContextsHold, VersionsHold}
+use Rattle.rx_causes.proofs.Causes.{shown_again}
 use Rattle.rx_causes.proofs.Marks.{mark_is}
 use Rattle.rx_children.specs.Nodes.{HasTaken, taken_as}
 use Rattle.rx_children.specs.Origins.{StoodIn}
-use Rattle.rx_begin.specs.Beginning.{IsTakenOver}
+use Rattle.rx_begin.specs.Beginning.{IsTakenOver, ReadsTheSame}
 use Rattle.rx_begin.proofs.ByElement.{old_at, values_here}
 use Rattle.rx_children.proofs.OldNodes.{stood_in}
 use Rattle.rx_children.proofs.Making.{KnowsPlaces}
-use Rattle.rx_begin.proofs.Standing.{KnowsElement, same_here, stands_so, stood_here}
+use Rattle.rx_begin.proofs.Standing.{KnowsElement, both_true, same_here, stands_so, stood_here}
 
 idle_mark : (s : Sight) (m : Mark) → IsIdleMark s m → is_hidden m ≡ false
 idle_mark s (of_instance i) h = refl
@@ -69,20 +71,34 @@ module _ (s : Sight) (kept : ℕ → Option (List Hook)) (t : Trees Fiber) (st :
   element_here : IsElementOf t.current (old_of t.draft p) e
   element_here = same_here t st p n fs cs e old knows at v value again its so
 
-  -- that one stands where the same values are given, or what was read there holds
-  stood_or_read : (x : Node) → old ≡ Some x → (stood ≡ false → (y : Node) → IsOld t.current (old_of t.draft p) (Some y) → ReadsHold (values_at st) y)
-      → StoodAt t.current (given_along fs) (old_of t.draft p) ⊎ ReadsHold cs x
+  -- that one stands where the same values are given, if it stood
+  stands_there : stood ≡ true → StoodAt t.current (given_along fs) (old_of t.draft p)
+  stands_there f = stands_so t.current (given_along fs) (old_of t.draft p) e element_here (stood_here t st p n fs cs e old knows at v value (sym stood_is ∙ f))
+
+  -- else what was read there of the contexts holds
+  stood_or_read : (x : Node) → old ≡ Some x → (stood ≡ false → (y : Node) → IsOld t.current (old_of t.draft p) (Some y) → ContextsHold (values_at st) y)
+      → StoodAt t.current (given_along fs) (old_of t.draft p) ⊎ ContextsHold cs x
   stood_or_read x was reads = by_stood stood refl
     where
-      by_stood : (b : Bool) → stood ≡ b → StoodAt t.current (given_along fs) (old_of t.draft p) ⊎ ReadsHold cs x
-      by_stood true f = inl (stands_so t.current (given_along fs) (old_of t.draft p) e element_here (stood_here t st p n fs cs e old knows at v value (sym stood_is ∙ f)))
+      by_stood : (b : Bool) → stood ≡ b → StoodAt t.current (given_along fs) (old_of t.draft p) ⊎ ContextsHold cs x
+      by_stood true f = inl (stands_there f)
       by_stood false f =
-          inr (subst (λ l. ReadsHold l x) (values_here t st p n fs cs e old at)
+          inr (subst (λ l. ContextsHold l x) (values_here t st p n fs cs e old at)
           (reads f x (subst (IsOld t.current (old_of t.draft p)) was (old_at t st p n fs cs e old knows at))))
 
+  -- and what was read there of the resources, if it did not stand or a resource has another version
+  stood_or_used : (x : Node) → old ≡ Some x → (refreshes : Bool) → refreshes ≡ sees_refresh s
+      → ((stood && not refreshes) ≡ false → (version : ℕ → ℕ) (y : Node) → IsOld t.current (old_of t.draft p) (Some y) → VersionsHold version y)
+      → (StoodAt t.current (given_along fs) (old_of t.draft p) × (sees_refresh s ≡ false)) ⊎ VersionsHold (version_seen s) x
+  stood_or_used x was refreshes sees uses = by_both (stood && not refreshes) refl
+    where
+      by_both : (b : Bool) → (stood && not refreshes) ≡ b → (StoodAt t.current (given_along fs) (old_of t.draft p) × (sees_refresh s ≡ false)) ⊎ VersionsHold (version_seen s) x
+      by_both true f = let (so, none) = both_true stood (not refreshes) f in inl (stands_there so, sym sees ∙ shown_again refreshes none)
+      by_both false f = inr (uses f (version_seen s) x (subst (IsOld t.current (old_of t.draft p)) was (old_at t st p n fs cs e old knows at)))
+
   -- from the old node
-  by_node : (x : Node) → old ≡ Some x → StoodIn (Some x) e → IsIdle s x → StoodAt t.current (given_along fs) (old_of t.draft p) ⊎ ReadsHold cs x → IsTakenOver s t new st' p fs cs e old
-  by_node x was stood_there idle stands =
+  by_node : (x : Node) → old ≡ Some x → StoodIn (Some x) e → IsIdle s x → ReadsTheSame s t.current (given_along fs) cs (old_of t.draft p) x → IsTakenOver s t new st' p fs cs e old
+  by_node x was stood_there idle read =
       let same : element_of x ≡ e = cc in
       elim at [
         | begins {v = w} {o = o} {rs = rs} {k = k} here is is_old surrounds values stack ↦ (
@@ -94,7 +110,7 @@ module _ (s : Sight) (kept : ℕ → Option (List Hook)) (t : Trees Fiber) (st :
               same = same;
               idle = idle;
               old_is = subst (λ q. IsOld t.current q old) (sym at_it.old) is_old;
-              stood = stands;
+              reads = read;
               passed = record {
                 around = k;
                 value = taken_as (mark_of x) (subtree_at t.current o) w;
@@ -112,8 +128,10 @@ module _ (s : Sight) (kept : ℕ → Option (List Hook)) (t : Trees Fiber) (st :
 
   -- It is done.
   pub taken_over : (way : ℕ → Bool) → IsSome (mark_at t.current (old_of t.draft p)) → ((x : Node) → IsOld t.current (old_of t.draft p) (Some x) → ForEach (GivesHooks s kept) x → Covers way (IsIdleMark s) x → IsIdle s x)
-      → (stood ≡ false → (x : Node) → IsOld t.current (old_of t.draft p) (Some x) → ReadsHold (values_at st) x) → GivesHooksIf s kept old → CoversIf way (IsIdleMark s) old → IsTakenOver s t new st' p fs cs e old
-  taken_over way there idle reads gives covers = by_old old refl
+      → (stood ≡ false → (x : Node) → IsOld t.current (old_of t.draft p) (Some x) → ContextsHold (values_at st) x)
+      → (refreshes : Bool) → refreshes ≡ sees_refresh s → ((stood && not refreshes) ≡ false → (version : ℕ → ℕ) (x : Node) → IsOld t.current (old_of t.draft p) (Some x) → VersionsHold version x)
+      → GivesHooksIf s kept old → CoversIf way (IsIdleMark s) old → IsTakenOver s t new st' p fs cs e old
+  taken_over way there idle reads refreshes sees uses gives covers = by_old old refl
     where
       by_old : (o : Option Node) → old ≡ o → IsTakenOver s t new st' p fs cs e old
       by_old None f =
@@ -123,4 +141,4 @@ module _ (s : Sight) (kept : ℕ → Option (List Hook)) (t : Trees Fiber) (st :
       by_old (Some x) g =
           by_node x g (subst (λ y. StoodIn y e) g (stood_in t.current (old_of t.draft p) old e (old_at t st p n fs cs e old knows at) element_here))
           (idle x (subst (IsOld t.current (old_of t.draft p)) g (old_at t st p n fs cs e old knows at)) (subst (GivesHooksIf s kept) g gives) (subst (CoversIf way (IsIdleMark s)) g covers))
-          (stood_or_read x g reads)
+          (record { contexts = stood_or_read x g reads; versions = stood_or_used x g refreshes sees uses })

@@ -1,5 +1,5 @@
 -- A place begins.
-use Rattle.std.specs.Prelude.{◌≡◌, ℕ, suc, Bool, true, false, List, [], ◌∷◌, Option, Some, None, ◌⊎◌}
+use Rattle.std.specs.Prelude.{◌≡◌, ℕ, ℤ, suc, Bool, true, false, List, [], ◌∷◌, Option, Some, None, ◌⊎◌}
 use Rattle.rx_base.specs.Awaits.{Awaits, one}
 use Rattle.rx_ast.specs.Syntax.{Program}
 use Rattle.rx_ctx.specs.Contexts.{Stack}
@@ -12,8 +12,9 @@ use Rattle.rx_lists.specs.Shapes as shapes
 use Rattle.rx_links.specs.Drafts.{taken, Trees, old_of}
 use Rattle.rx_links.specs.Readers.{made_value_of}
 use Rattle.rx_meaning.specs.Again.{AllValuesAgree, AreUnresolved}
-use Rattle.rx_meaning.specs.Fresh.{Sight, Contexts, Shape, absent, one_list, part, shape_of, two_lists, waiting}
-use Rattle.rx_meaning.specs.Settled.{IfSettled, ReadsHold, known_by}
+use Rattle.rx_meaning.specs.Fresh.{Sight, Contexts, Shape, absent, one_list, part, shape_of, two_lists, version_seen, waiting}
+use Rattle.rx_meaning.specs.Settled.{IfSettled, known_by}
+use Rattle.rx_meaning.specs.Touched.{sees_refresh}
 use Rattle.rx_meaning.specs.Cursor.{Frame, falling, at_place, is_null, open_part, unit, unwind}
 use Rattle.commit_laws.specs.Idle.{IsIdle, IsIdleMark}
 use Rattle.commit_laws.specs.WaitsAgain.{without_lanes}
@@ -27,6 +28,7 @@ use Rattle.rx_fiber.specs.Standing.{StandsAt}
 use Rattle.rx_fiber.specs.Unwound.{IsWithin, IsLeftAt}
 use Rattle.draw_laws.specs.Drawn.{IsDrawn}
 use Rattle.rx_causes.specs.Hidden.{KeepsHooksIf, GivesHooksIf}
+use Rattle.rx_causes.specs.Reads.{ContextsHold, VersionsHold}
 use Rattle.rx_children.specs.Again.{HasOldFallback}
 use Rattle.rx_children.specs.declared.node.Begun.{Begun}
 use Rattle.rx_children.specs.declared.node.Begun.TheVariants.{Child, Leaf, Suspended, Taken}
@@ -48,6 +50,7 @@ pub record IsHiddenAgain (s : Sight) (t new : Trees Fiber) (st' : Stack) (p n : 
   pub shown : Forest
   pub was : old ≡ Some (node e (of_boundary (Hidden a)) kept shown)
   pub unresolved : AreUnresolved s a
+  pub versions : sees_refresh s ≡ false
   pub agree : AllValuesAgree (without_lanes s) s kept
   pub old_is : IsOld t.current (old_of t.draft p) old
   pub stood : StoodAt t.current (given_along fs) (old_of t.draft p)
@@ -55,20 +58,25 @@ pub record IsHiddenAgain (s : Sight) (t new : Trees Fiber) (st' : Stack) (p n : 
   pub left : IsLeftAt new st' p (taken shapes.none) a (open_part n fs (falling e old a) (part cs (fallback_in e ∷ []) (fallback_if old)))
   pub again : HasOldFallback new.current (given_along left.frames) left.old left.node left.value.element
 
--- The place is that of a clone whose old node is idle, and stands where the same values of contexts are given, or was read with those that are given here: its old children are taken over, and it is done.
+-- What is rendered of an old tree read what a render gives at a place: the tree stands where the same values of contexts are given, or read those that are given here; and it stands so, and no resource has another version than the last commit showed, or it read the versions that the render sees.
+pub record ReadsTheSame (s : Sight) (current : shapes.Shape Fiber) (ws : List (ℕ × ℤ)) (cs : Contexts) (o : Option ℕ) (x : Node) : Type 0 where
+  pub contexts : StoodAt current ws o ⊎ ContextsHold cs x
+  pub versions : (StoodAt current ws o × (sees_refresh s ≡ false)) ⊎ VersionsHold (version_seen s) x
+
+-- The place is that of a clone whose old node is idle, and read what the render gives here: its old children are taken over, and it is done.
 pub record IsTakenOver (s : Sight) (t new : Trees Fiber) (st' : Stack) (p : ℕ) (fs : List Frame) (cs : Contexts) (e : Element) (old : Option Node) : Type 0 where
   pub node : Node
   pub was : old ≡ Some node
   pub same : element_of node ≡ e
   pub idle : IsIdle s node
   pub old_is : IsOld t.current (old_of t.draft p) old
-  pub stood : StoodAt t.current (given_along fs) (old_of t.draft p) ⊎ ReadsHold cs node
+  pub reads : ReadsTheSame s t.current (given_along fs) cs (old_of t.draft p) node
   pub passed : IsPassed new st' p fs node
 
 -- what stands there has a list of children, or two
 abbrev pub HasLists : Shape → Type 0
 HasLists absent = ⊥
-HasLists (waiting r) = ⊥
+HasLists (waiting r v) = ⊥
 HasLists (one_list m p) = Unit {0}
 HasLists (two_lists p f) = Unit {0}
 
@@ -79,7 +87,7 @@ HasBegun s t st new st' p n fs cs e old (Child id) =
 HasBegun s t st new st' p n fs cs e old Leaf =
     StandsAt new st' (Some p) (unit s (at_place (suc n) fs cs e old)) × IsEnd (unit s (at_place (suc n) fs cs e old)) × HasLists (shape_of s cs e old)
 HasBegun s t st new st' p n fs cs e old (Suspended r) =
-    (shape_of s cs e old ≡ waiting r)
+    ((v : ℕ) × (shape_of s cs e old ≡ waiting r v))
     × (unit s (at_place (suc n) fs cs e old) ≡ unwind (suc n) fs (one r))
     × (new ≡ t)
     × (st' ≡ st)

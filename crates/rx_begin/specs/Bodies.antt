@@ -31,6 +31,6 @@ pub record IsKept (again steady : Bool) (shape : Shape) (cs : Contexts) (old : O
 
 -- A component's place is begun, whether its element is given again or not: its body waits, and no fiber is changed, or its node is begun, anew or over clones of the children of its old one.
 pub data HasShape (again steady : Bool) (generation : ℕ) (shape : Shape) (cs : Contexts) (old : Option Node) (before after : Trees Fiber) (p : ℕ) (answer : Begun) : Type 0 where
-  waits : (r : ℕ) → shape ≡ waiting r → after ≡ before → answer ≡ Suspended r → HasShape again steady generation shape cs old before after p answer
+  waits : (r v : ℕ) → shape ≡ waiting r v → after ≡ before → answer ≡ Suspended r → HasShape again steady generation shape cs old before after p answer
   opens : IsOpened steady generation shape cs old before after p answer → HasShape again steady generation shape cs old before after p answer
   keeps : IsKept again steady shape cs old before after p answer → HasShape again steady generation shape cs old before after p answer

@@ -162,8 +162,9 @@ fn begin_or_hide(
 /// children are clones of the old ones (react.dev, useState: React skips the component). If the place is a hidden boundary's,
 /// has an element equal to the current one, stands where the same values of contexts are given, and nothing new has come for what
 /// it waits for and keeps, its children are not tried. If the element is given again, nothing in the tree of the old node has a
-/// cause, and it stands where the same values of contexts are given or nothing there reads one, the old children are taken over as they stand (react.dev,
-/// useContext: React finds the readers, also below components that it skips). The current tree stays as it is. Also answered is
+/// cause, and what is read there is the same, the old children are taken over as they stand (react.dev, useContext: React finds the
+/// readers, also below components that it skips): it stands where the same values of contexts are given, or nothing there reads one,
+/// and it stands there and no resource has another version, or nothing there reads a resource. The current tree stays as it is. Also answered is
 /// whether a body was evaluated.
 ///
 /// # Errors

@@ -31,9 +31,9 @@ ghost use Rattle.rx_children.specs.declared.node.Begun.TheVariants.{Suspended};
 
 use crate::place::Place;
 use rx_base::{Int, Ints, Steps};
-use rx_causes::{Scene, read_anew};
+use rx_causes::{Scene, read_another};
 use rx_children::{Begun, keep_node, old_instance, open_node};
-use rx_elem::{ContextRead, EffectRecord, Element};
+use rx_elem::{ContextRead, EffectRecord, Element, VersionRead};
 use rx_eval::{Body, Evaluator, Inputs, eval_body};
 use rx_fiber::{Fiber, Stage};
 use rx_hook_store::HookStore;
@@ -86,16 +86,18 @@ fn evaluate<'x, L: Ledger>(
     steps: &mut Steps<L>,
 ) -> Result<Body, AllocError>
     requires { option_map (λ d. length (prop_names d)) (component_at scene.now.checked.now component) ≡ Some (length props.now) }
-    ensures body { IfOk result (λ b. option_map (λ d. body_of scene.now.checked.now d (record { props = props.now; children = children.now; hooks = option_copied states.entry; contexts = contexts.now; resources = scene.now.resources.now }))
+    ensures body { IfOk result (λ b. option_map (λ d. body_of scene.now.checked.now d (record { props = props.now; children = children.now; hooks = option_copied states.entry; contexts = contexts.now; versions = scene.now.versions.now; resources = scene.now.resources.now }))
         (component_at scene.now.checked.now component) ≡ Some (body_seen b)) }
     ensures once { steps.new ≡ steps.old + 1 }
 {
+    let versions = scene.versions;
     let resources = scene.resources;
     let inputs = Inputs {
         props: props.as_slice(),
         children,
         hooks: states,
         contexts,
+        versions,
         resources,
     };
     eval_body(alloc, scene.checked, component, &inputs, steps)
@@ -143,11 +145,13 @@ fn instance_after(
     old: Option<Instance>,
     initials: Ints,
     reads: Vec<ContextRead>,
+    versions: Vec<VersionRead>,
     effects: Vec<EffectRecord>,
 ) -> Result<Instance, AllocError>
-    ensures { IfOk result (λ i. instance_seen i ≡ instance_after component (option_map instance_seen old) initials reads.items effects.items) }
+    ensures { IfOk result (λ i. instance_seen i ≡ instance_after component (option_map instance_seen old) initials reads.items versions.items effects.items) }
 {
     let reads = Rc::new(alloc, reads)?;
+    let versions = Rc::new(alloc, versions)?;
     let effects = Rc::new(alloc, effects)?;
     match old {
         Some(old) => Ok(Instance {
@@ -155,6 +159,7 @@ fn instance_after(
             component,
             initials: old.initials,
             reads,
+            versions,
             effects,
         }),
         None => Ok(Instance {
@@ -162,6 +167,7 @@ fn instance_after(
             component,
             initials: Rc::new(alloc, initials)?,
             reads,
+            versions,
             effects,
         }),
     }
@@ -196,14 +202,17 @@ fn open_body(
     ensures current { tree.new.current ≡ tree.old.current }
 {
     match body {
-        Body::Wait(resource) => Ok(Begun::Suspended(resource)),
+        Body::Wait(resource, _) => Ok(Begun::Suspended(resource)),
         Body::Ready {
             elements,
             effects,
             initials,
             reads,
+            versions,
         } => {
-            let instance = instance_after(alloc, component, old, initials, reads, effects)?;
+            let instance = instance_after(
+                alloc, component, old, initials, reads, versions, effects,
+            )?;
             let stage = Stage::Begun(Mark::Instance(instance));
             open_node(alloc, tree, at, stage, &elements, steady, generation)
         }
@@ -211,7 +220,7 @@ fn open_body(
 }
 
 // Whether an instance has no cause to be rendered anew: its hooks have no work, and the contexts that it read have the values
-// that it found.
+// that it found, and the resources the versions.
 fn is_calm(instance: &Option<Instance>, scene: &Scene, hooks: &HookStore, contexts: &[Int]) -> bool
     requires { IfSome (number_in (option_map instance_seen instance.now)) (λ n. IsSome (kept_hooks hooks.now n)) }
     ensures there { result ≡ true → IsSome instance.now }
@@ -223,7 +232,7 @@ fn is_calm(instance: &Option<Instance>, scene: &Scene, hooks: &HookStore, contex
         Some(instance) => match instance.number {
             Some(number) => {
                 !hooks.has_work(number, scene.lanes, scene.cut)
-                    && !read_anew(&instance.reads, contexts)
+                    && !read_another(instance, scene, contexts)
             }
             None => false,
         },

@@ -14,7 +14,7 @@ use Rattle.rx_lists.specs.Shapes as shapes
 use Rattle.rx_links.specs.Drafts.{shape_or_none}
 use Rattle.rx_links.specs.Readers.{list_from}
 use Rattle.rx_meaning.specs.Fresh.{Contexts, Sight, hook_values}
-use Rattle.rx_meaning.specs.Settled.{done_values, known_by, read_anew}
+use Rattle.rx_meaning.specs.Settled.{done_values, known_by}
 use Rattle.commit_laws.specs.Each as each
 use Rattle.commit_laws.specs.Idle.{IsIdle, IsIdleMark}
 use Rattle.rx_ways.specs.Ways.{Covers}
@@ -23,7 +23,7 @@ use Rattle.rx_fiber.specs.Reading.{IsFor, whole, alone, beside, IsOld, new, of, 
 use Rattle.rx_hook_store.specs.Gives.{GivesValues, has_work_in}
 use Rattle.rx_causes.specs.declared.scene.Scene.{Scene}
 use Rattle.rx_causes.specs.Marks.{begun_mark, keeps_children, mark_at, EachBut, EachFiber, EachFiberBut, SomeFiber, SomeNode}
-use Rattle.rx_causes.specs.Scenes.{GivesHooks, KeepsHooks, TellsCalm}
+use Rattle.rx_causes.specs.Scenes.{GivesHooks, KeepsHooks, TellsCalm, read_another}
 use Rattle.rx_causes.specs.Hidden.{ForEach, KeepsHooksIf}
 use Rattle.rx_causes.specs.Idle.{HasNoCause, HasNoCauseAt, HasNoWork, KeepsTree, LeadsAt, Rests, is_anew}
 use Rattle.rx_causes.proofs.Marks.{mark_is}
@@ -132,11 +132,11 @@ module _ (kept : ℕ → Option (List Hook)) (lanes : Lanes) (cut : Cut) where
       absurd (let f = no_cause_shown m (of_fiber (HasNoCauseAt kept lanes cut) v m is.stage h.0) in let q : ⊥ = cc in q)
 
 -- a component's instance that reads nothing anew, and has no work, is calm
-pub calm_without : (kept : ℕ → Option (List Hook)) (scene : Scene) (cs : Contexts) (m : Option Mark) (component : Bool) → component ≡ true → is_anew component cs (option_and_then instance_in m) ≡ false
+pub calm_without : (kept : ℕ → Option (List Hook)) (scene : Scene) (cs : Contexts) (m : Option Mark) (component : Bool) → component ≡ true → is_anew scene component cs (option_and_then instance_in m) ≡ false
     → HasNoCauseAt kept scene.lanes scene.cut m → TellsCalm scene kept cs (option_and_then instance_in m) true
 calm_without kept scene cs None component so same h = let q : ⊥ = cc in absurd q
 calm_without kept scene cs (Some (of_instance i)) component so same h =
-    let reads : read_anew cs i.reads ≡ false = same in
+    let reads : read_another scene cs i ≡ false = same in
     record { work = false; tells = h.tells; is = rw (h.is_numbered, reads) refl }
 calm_without kept scene cs (Some (of_host n)) component so same h = let q : ⊥ = cc in absurd q
 calm_without kept scene cs (Some (of_boundary b)) component so same h = let q : ⊥ = cc in absurd q

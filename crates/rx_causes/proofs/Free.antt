@@ -1,5 +1,5 @@
--- What the fibers keep tells of their marks: where nothing reads, and where there is neither an instance nor a hidden boundary.
-use Rattle.std.specs.Prelude.{◌≡◌, ◌==◌, ℕ, Bool, true, false, not, ◌&&◌, ◌||◌, List, [], ◌∷◌, Option, Some, None, ◌⊎◌, length}
+-- What the fibers keep tells of their marks: that nothing reads, and that there is neither an instance nor a hidden boundary.
+use Rattle.std.specs.Prelude.{◌≡◌, ◌==◌, ℕ, Bool, true, false, not, ◌||◌, List, [], ◌∷◌, Option, Some, None, ◌⊎◌, length}
 use Rattle.std.specs.Option.{option_map_or}
 use Rattle.std.proofs.Common.{refl, sym, ap, ◌∙◌, subst, inl, inr, arith}
 use Rattle.std.proofs.lemmas.Bool.Decides.{nat_tests}
@@ -7,14 +7,16 @@ use Rattle.rx_base.specs.declared.cut.Cut.{Cut}
 use Rattle.rx_lane.specs.Lanes.{Lanes}
 use Rattle.rx_elem.specs.Trees.{Forest, Mark, Node, is_hidden, mark_of, of_boundary, of_host, of_instance, plain}
 use Rattle.rx_elem.specs.Trees as trees
+use Rattle.rx_elem.proofs.Deciding.{or_fails}
 use Rattle.rx_elem.specs.declared.effect.ContextRead.{ContextRead}
+use Rattle.rx_elem.specs.declared.effect.VersionRead.{VersionRead}
 use Rattle.rx_hooks.specs.declared.hook.Hook.{Hook}
 use Rattle.rx_lists.specs.Shapes.{Shape, fiber, first, Holds}
 use Rattle.rx_lists.specs.Shapes as shapes
 use Rattle.rx_links.specs.Drafts.{kids_of}
 use Rattle.rx_links.specs.Readers.{list_from, rest_of, value_of, IsLinked}
 use Rattle.rx_meaning.specs.Fresh.{Contexts}
-use Rattle.rx_meaning.specs.Settled.{AllReadsHold, IfHidden, ReadsHold, read_anew, reads_another}
+use Rattle.rx_meaning.specs.Settled.{IfHidden, read_anew, refreshed}
 use Rattle.rx_meaning.specs.Touched.{contexts_below}
 use Rattle.commit_laws.specs.Each.{ForEach, ForEachIn}
 use Rattle.rx_fiber.specs.declared.subtree.Subtree.{Subtree}
@@ -24,6 +26,7 @@ use Rattle.rx_fiber.specs.Subtrees.{IsGathered, subtrees_of}
 use Rattle.rx_fiber.proofs.Gathered.{gathered_at}
 use Rattle.rx_causes.specs.Marks.{begun_mark, mark_at, EachFiber, EachFiberBut, is_free, is_passed, is_spared}
 use Rattle.rx_causes.specs.Idle.{HasNoCauseAt}
+use Rattle.rx_causes.specs.Reads.{AllContextsHold, AllVersionsHold, ContextsHold, VersionsHold, reads_another_value, reads_another_version}
 use Rattle.rx_causes.proofs.Marks.{mark_is}
 use Rattle.rx_causes.proofs.Walks.{each_node, list_at_links}
 use Rattle.rx_causes.proofs.Causes.{old_list, shown_again}
@@ -67,61 +70,97 @@ free_no_cause kept lanes cut (Some (of_host n)) h = tt
 free_no_cause kept lanes cut (Some (of_boundary b)) h = shown_again (is_hidden (of_boundary b)) h
 free_no_cause kept lanes cut (Some plain) h = tt
 
--- Unread contexts
+-- What is read
+
+-- one part of what a fiber tells, which joins as all of it does
+module _ (part : Subtree → Bool) (joins : (a b : Subtree) → part (joined a b) ≡ (part a || part b)) where
+  -- a mark tells nothing of this part
+  abbrev Silent : Option Mark → Type 0
+  Silent m = part (told_by m) ≡ false
+
+  silent_own : (v : Fiber) (ks : Shape Fiber) → v.subtree ≡ joined (own_subtree v.stage) (subtrees_of ks) → part v.subtree ≡ false → Silent (begun_mark v.stage) × (part (subtrees_of ks) ≡ false)
+  silent_own v ks gathered f =
+      let own = or_fails (part (own_subtree v.stage)) (part (subtrees_of ks)) (sym (joins (own_subtree v.stage) (subtrees_of ks)) ∙ (sym (ap part gathered) ∙ f)) in
+      (ap part (sym (own_is v.stage)) ∙ own.0, own.1)
+
+  silent_each : (s : Shape Fiber) → IsGathered s → part (subtrees_of s) ≡ false → EachFiber Silent s
+  silent_each shapes.none g f = tt
+  silent_each (fiber id v ks rs) g f =
+      let both = or_fails (part v.subtree) (part (subtrees_of rs)) (sym (joins v.subtree (subtrees_of rs)) ∙ f) in
+      let own = silent_own v ks g.0 both.0 in
+      (own.0, silent_each ks g.1 own.1, silent_each rs g.2 both.1)
+
+abbrev reads_in : Subtree → Bool
+reads_in s = s.reads
+
+abbrev uses_in : Subtree → Bool
+uses_in s = s.uses
 
 -- a mark reads no context
 abbrev Unread : Option Mark → Type 0
 Unread m = (told_by m).reads ≡ false
 
-neither : (a b : Bool) → (a || b) ≡ false → (a ≡ false) × (b ≡ false)
-neither true b h = absurd (cc h)
-neither false b h = (refl, h)
+-- a mark reads no resource
+abbrev Unused : Option Mark → Type 0
+Unused m = (told_by m).uses ≡ false
 
-unread_each : (s : Shape Fiber) → IsGathered s → (subtrees_of s).reads ≡ false → EachFiber Unread s
-unread_each shapes.none g f = tt
-unread_each (fiber id v ks rs) g f =
-    let both = neither v.subtree.reads (subtrees_of rs).reads f in
-    let own = neither (own_subtree v.stage).reads (subtrees_of ks).reads (subst (λ (x : Subtree). x.reads ≡ false) g.0 both.0) in
-    (subst (λ (x : Subtree). x.reads ≡ false) (own_is v.stage) own.0, unread_each ks g.1 own.1, unread_each rs g.2 both.1)
-
-some_length : (r : ContextRead) (rs : List ContextRead) → not (length (r ∷ rs) == 0) ≡ true
+some_length : {A : Type 0} (r : A) (rs : List A) → not (length (r ∷ rs) == 0) ≡ true
 some_length r rs = grind (arith, nat_tests)
 
 no_reads : (cs : Contexts) (rs : List ContextRead) → not (length rs == 0) ≡ false → read_anew cs rs ≡ false
 no_reads cs [] h = refl
 no_reads cs (r ∷ rs) h = let f = some_length r rs in cc
 
+no_uses : (version : ℕ → ℕ) (rs : List VersionRead) → not (length rs == 0) ≡ false → refreshed version rs ≡ false
+no_uses version [] h = refl
+no_uses version (r ∷ rs) h = let f = some_length r rs in cc
+
 -- what read none reads the same everywhere
-unread : (cs : Contexts) (m : Mark) → Unread (Some m) → reads_another cs m ≡ false
+unread : (cs : Contexts) (m : Mark) → Unread (Some m) → reads_another_value cs m ≡ false
 unread cs (of_instance i) h = no_reads cs i.reads h
-unread cs (of_host n) h = refl
-unread cs (of_boundary b) h = refl
-unread cs plain h = refl
+unread cs (of_host h) k = refl
+unread cs (of_boundary b) k = refl
+unread cs plain k = refl
+
+unused : (version : ℕ → ℕ) (m : Mark) → Unused (Some m) → reads_another_version version m ≡ false
+unused version (of_instance i) h = no_uses version i.versions h
+unused version (of_host h) k = refl
+unused version (of_boundary b) k = refl
+unused version plain k = refl
 
 if_any : (b : Bool) (A : Type 0) → A → IfHidden b (Unit {0}) A
 if_any true A x = tt
 if_any false A x = x
 
 mutual
-  -- so the reads of a tree hold in which nothing reads
-  unread_holds : (cs : Contexts) (x : Node) → ForEach (λ m. Unread (Some m)) x → ReadsHold cs x
+  -- so a tree in which nothing reads a context holds everywhere
+  unread_holds : (cs : Contexts) (x : Node) → ForEach (λ m. Unread (Some m)) x → ContextsHold cs x
   unread_holds cs (trees.node e m ns fs) h =
-      (unread cs m h.0, if_any (is_hidden m) (AllReadsHold (contexts_below e cs) ns) (all_unread_hold (contexts_below e cs) ns h.1), all_unread_hold cs fs h.2)
+      (unread cs m h.0, if_any (is_hidden m) (AllContextsHold (contexts_below e cs) ns) (all_unread_hold (contexts_below e cs) ns h.1), all_unread_hold cs fs h.2)
 
-  all_unread_hold : (cs : Contexts) (ns : Forest) → ForEachIn (λ m. Unread (Some m)) ns → AllReadsHold cs ns
+  all_unread_hold : (cs : Contexts) (ns : Forest) → ForEachIn (λ m. Unread (Some m)) ns → AllContextsHold cs ns
   all_unread_hold cs trees.none h = tt
   all_unread_hold cs (trees.vacant ns) h = all_unread_hold cs ns h
   all_unread_hold cs (trees.child x ns) h = (unread_holds cs x h.0, all_unread_hold cs ns h.1)
 
-first_unread : (cs : Contexts) (n : ℕ) (x : Node) (id : ℕ) (v : Fiber) (ks rs rest : Shape Fiber) → IsFor n x (fiber id v ks rs) rest → is_hidden (mark_of x) ≡ false → Unread (begun_mark v.stage) → EachFiber Unread ks
-    → ReadsHold cs x
-first_unread cs n _ _ _ _ _ rest (whole {e = e} {m = m} {ns = ns} {ks = ks} is shown a) shows own kids = (
-  unread cs m (subst Unread (ap begun_mark is.stage) own),
-  if_any (is_hidden m) (AllReadsHold (contexts_below e cs) ns) (all_unread_hold (contexts_below e cs) ns (each_node Unread 0 ns ks a kids)),
-  tt,
-)
-first_unread cs n _ _ _ _ _ rest (alone {m = m} is hidden gone a) shows own kids = absurd (let q : true ≡ false = sym hidden ∙ shows in let r : ⊥ = cc in r)
-first_unread cs n _ _ _ _ _ rest (beside {m = m} is hidden some a s f) shows own kids = absurd (let q : true ≡ false = sym hidden ∙ shows in let r : ⊥ = cc in r)
+mutual
+  -- and one in which nothing reads a resource, in all versions
+  unused_holds : (version : ℕ → ℕ) (x : Node) → ForEach (λ m. Unused (Some m)) x → VersionsHold version x
+  unused_holds version (trees.node e m ns fs) h =
+      (unused version m h.0, if_any (is_hidden m) (AllVersionsHold version ns) (all_unused_hold version ns h.1), all_unused_hold version fs h.2)
+
+  all_unused_hold : (version : ℕ → ℕ) (ns : Forest) → ForEachIn (λ m. Unused (Some m)) ns → AllVersionsHold version ns
+  all_unused_hold version trees.none h = tt
+  all_unused_hold version (trees.vacant ns) h = all_unused_hold version ns h
+  all_unused_hold version (trees.child x ns) h = (unused_holds version x h.0, all_unused_hold version ns h.1)
+
+-- what holds of the fibers of a node that hides nothing holds of its tree
+first_each_mark : (P : Option Mark → Type 0) (n : ℕ) (x : Node) (id : ℕ) (v : Fiber) (ks rs rest : Shape Fiber) → IsFor n x (fiber id v ks rs) rest → is_hidden (mark_of x) ≡ false → P (begun_mark v.stage) → EachFiber P ks
+    → ForEach (λ m. P (Some m)) x
+first_each_mark P n _ _ _ _ _ rest (whole {e = e} {m = m} {ns = ns} {ks = ks} is shown a) shows own kids =
+    (subst P (ap begun_mark is.stage) own, each_node P 0 ns ks a kids, tt)
+first_each_mark P n _ _ _ _ _ rest (alone {m = m} is hidden gone a) shows own kids = absurd (let q : true ≡ false = sym hidden ∙ shows in let r : ⊥ = cc in r)
+first_each_mark P n _ _ _ _ _ rest (beside {m = m} is hidden some a s f) shows own kids = absurd (let q : true ≡ false = sym hidden ∙ shows in let r : ⊥ = cc in r)
 
 -- What a fiber keeps
 
@@ -149,11 +188,20 @@ module _ (c : Shape Fiber) (linked : IsLinked c) (gathered : IsGathered c) (i : 
       go true e f = inr (free_here way kept lanes cut e)
       go false e f = inl f
 
-  -- if nothing reads at or below it the reads of its node's tree hold
-  pub unread_here : (o : Option ℕ) → o ≡ Some i → option_map_or is_hidden (mark_at c o) false ≡ false → v.subtree.reads ≡ false → (cs : Contexts) (x : Node) → IsOld c o (Some x) → ReadsHold cs x
-  unread_here o o_is shown f cs x was =
+  -- if the fiber tells nothing of one part, neither does a mark of its node's tree
+  silent_here : (part : Subtree → Bool) (joins : (a b : Subtree) → part (joined a b) ≡ (part a || part b)) (o : Option ℕ) → o ≡ Some i → option_map_or is_hidden (mark_at c o) false ≡ false → part v.subtree ≡ false
+      → (x : Node) → IsOld c o (Some x) → ForEach (λ m. Silent part joins (Some m)) x
+  silent_here part joins o o_is shown f x was =
       let list = list_at_links c linked i held v here child child_is behind behind_is in
       let (n, rest, is) = old_list c o x i (fiber i v (list_from c child) (list_from c behind)) was o_is list in
-      let own = neither (own_subtree v.stage).reads (subtrees_of (list_from c child)).reads (subst (λ (y : Subtree). y.reads ≡ false) gathered_here.0 f) in
-      first_unread cs n x i v (list_from c child) (list_from c behind) rest is (sym (ap (λ m. option_map_or is_hidden m false) (mark_is c o (Some x) was)) ∙ shown)
-      (subst (λ (y : Subtree). y.reads ≡ false) (own_is v.stage) own.0) (unread_each (list_from c child) gathered_here.1 own.1)
+      let own = silent_own part joins v (list_from c child) gathered_here.0 f in
+      first_each_mark (Silent part joins) n x i v (list_from c child) (list_from c behind) rest is (sym (ap (λ m. option_map_or is_hidden m false) (mark_is c o (Some x) was)) ∙ shown) own.0
+      (silent_each part joins (list_from c child) gathered_here.1 own.1)
+
+  -- so its tree holds in any contexts if nothing at or below it reads one
+  pub unread_here : (o : Option ℕ) → o ≡ Some i → option_map_or is_hidden (mark_at c o) false ≡ false → v.subtree.reads ≡ false → (cs : Contexts) (x : Node) → IsOld c o (Some x) → ContextsHold cs x
+  unread_here o o_is shown f cs x was = unread_holds cs x (silent_here reads_in (λ a b. refl) o o_is shown f x was)
+
+  -- and in any versions if nothing there reads a resource
+  pub unused_here : (o : Option ℕ) → o ≡ Some i → option_map_or is_hidden (mark_at c o) false ≡ false → v.subtree.uses ≡ false → (version : ℕ → ℕ) (x : Node) → IsOld c o (Some x) → VersionsHold version x
+  unused_here o o_is shown f version x was = unused_holds version x (silent_here uses_in (λ a b. refl) o o_is shown f x was)

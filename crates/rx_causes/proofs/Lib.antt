@@ -3,3 +3,4 @@ pub mod Walks
 pub mod Still
 pub mod Causes
 pub mod Free
+pub mod Halves

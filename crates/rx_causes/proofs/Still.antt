@@ -1,9 +1,7 @@
 -- What a walk over the fibers of a hidden boundary tells of what it keeps.
-use Rattle.std.specs.Prelude.{◌≡◌, ℕ, ℤ, zero, suc, ◌<◌, ◌≤◌, nat_lt, Bool, true, false, List, [], ◌∷◌, length, Option, Some, None, option_and_then, slice_index_or}
+use Rattle.std.specs.Prelude.{◌≡◌, ℕ, ℤ, ◌<◌, ◌≤◌, nat_lt, Bool, true, false, List, length, Option, Some, None, option_and_then, slice_index_or}
 use Rattle.std.proofs.Common.{refl, sym, ap, ◌∙◌, subst, arith}
 use Rattle.std.proofs.lemmas.Bool.Decides.{nat_tests}
-use Rattle.std.proofs.lemmas.List.{length-map}
-use Rattle.std.proofs.lemmas.List.FromFn.{length-range_with_len}
 use Rattle.rx_base.specs.Awaits.{Awaits, has, resource_limit}
 use Rattle.rx_base.specs.declared.cut.Cut.{Cut}
 use Rattle.rx_lane.specs.Lanes.{Lanes}
@@ -11,13 +9,15 @@ use Rattle.rx_rules.specs.Names.{resources as names}
 use Rattle.rx_elem.specs.Trees.{Forest, Instance, Mark, Node, children_if, children_of, instance_in, mark_of, node, of_boundary, of_host, of_instance, plain}
 use Rattle.rx_elem.specs.Trees as trees
 use Rattle.rx_queue.specs.History.{Answers}
+use Rattle.rx_queue.specs.Journal.{resolutions_by}
 use Rattle.rx_hooks.specs.declared.hook.Hook.{Hook}
 use Rattle.rx_hooks.specs.Hooks.{HookHistory, HooksStandFor}
 use Rattle.rx_lists.specs.Shapes.{Shape}
 use Rattle.rx_links.specs.Readers.{list_from, value_of, IsLinked}
 use Rattle.rx_meaning.specs.Again.{AllValuesAgree, AreUnresolved, MarkAgrees, ValuesAgree}
-use Rattle.rx_meaning.specs.Fresh.{Sight, hook_values, resources_seen}
+use Rattle.rx_meaning.specs.Fresh.{Sight, hook_values, resources_seen, version_seen}
 use Rattle.commit_laws.specs.WaitsAgain.{without_lanes}
+use Rattle.commit_laws.proofs.Versions.{value_past}
 use Rattle.rx_fiber.specs.Fibers.{Fiber, Stage}
 use Rattle.rx_fiber.specs.OldLists.{primary_list}
 use Rattle.rx_fiber.specs.Reading.{AreFor, IsOld, of}
@@ -134,14 +134,6 @@ module _ (c : Shape Fiber) (o : Option ℕ) (i : ℕ) (v : Fiber) (s : Stage) (o
 
 -- Its resources
 
-past_end : (xs : List (Option ℤ)) (r : ℕ) → length xs ≤ r → slice_index_or xs r None ≡ None
-past_end [] r l = refl
-past_end (x ∷ xs) zero l = absurd (omega arith)
-past_end (x ∷ xs) (suc r) l = past_end xs r (omega arith)
-
-seen_length : (s : Sight) → length (resources_seen s) ≡ length (names s.program)
-seen_length s = length-map _ _ ∙ length-range_with_len 0 (length (names s.program))
-
 -- none of what it waits for has a value, if none of a number that a program reaches has
 pub none_resolved : (s : Sight) (a : Awaits) (resources : List (Option ℤ)) → resources ≡ resources_seen s → length (names s.program) ≤ resource_limit
     → ((r : ℕ) → r < resource_limit → has a r ≡ true → slice_index_or resources r None ≡ None) → AreUnresolved s a
@@ -151,5 +143,4 @@ none_resolved s a resources same few none r awaited = subst (λ xs. slice_index_
     by_limit true e = none r (grind (arith, nat_tests)) awaited
     by_limit false e =
         let late : resource_limit ≤ r = grind (arith, nat_tests) in
-        let long : length resources ≡ length (names s.program) = ap length same ∙ seen_length s in
-        past_end resources r (omega arith)
+        ap (λ xs. slice_index_or xs r None) same ∙ value_past (resolutions_by s.cut s.journal) (version_seen s) (length (names s.program)) r (omega arith)

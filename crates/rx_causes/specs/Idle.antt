@@ -10,7 +10,6 @@ use Rattle.rx_hooks.specs.declared.hook.Hook.{Hook}
 use Rattle.rx_hooks.specs.Hooks.{HookHistory, HooksStandFor}
 use Rattle.rx_lists.specs.Shapes.{Shape}
 use Rattle.rx_meaning.specs.Fresh.{Contexts, Sight}
-use Rattle.rx_meaning.specs.Settled.{read_anew}
 use Rattle.commit_laws.specs.Idle.{HasCommittedValues}
 use Rattle.rx_fiber.specs.Fibers.{Fiber}
 use Rattle.rx_fiber.specs.Reading.{IsOld}
@@ -18,7 +17,7 @@ use Rattle.rx_hook_store.specs.Gives.{has_work_in}
 use Rattle.rx_ways.specs.Ways.{is_way}
 use Rattle.rx_causes.specs.declared.scene.Scene.{Scene}
 use Rattle.rx_causes.specs.Marks.{SomeNode, stands_on_way}
-use Rattle.rx_causes.specs.Scenes.{GivesHooks, TellsWork}
+use Rattle.rx_causes.specs.Scenes.{GivesHooks, TellsWork, read_another}
 use Rattle.rx_causes.specs.Hidden.{KeepsHooksIf}
 
 -- Causes
@@ -74,9 +73,9 @@ Rests kept lanes cut plain = Unit {0}
 
 -- The old node of a clone
 
--- its instance read a context that has another value here; a component's place counts so if it has none
-abbrev pub is_anew : (component : Bool) → Contexts → Option Instance → Bool
-is_anew component cs i = option_map_or (λ i. read_anew cs i.reads) i component
+-- its instance read a context that has another value here, or a resource that the render sees in another version; a component's place counts so if it has none
+abbrev pub is_anew : Scene → (component : Bool) → Contexts → Option Instance → Bool
+is_anew scene component cs i = option_map_or (read_another scene cs) i component
 
 -- a current fiber stands for an old node, if it is there, and hooks are kept of each instance of its tree
 pub record KeepsTree (kept : ℕ → Option (List Hook)) (current : Shape Fiber) (o : Option ℕ) : Type 0 where
@@ -87,5 +86,5 @@ pub record KeepsTree (kept : ℕ → Option (List Hook)) (current : Shape Fiber)
 -- there is a cause to begin a clone's place: its old node reads anew, or one of its tree leads to a cause
 abbrev pub HasCauseIn : Scene → (kept : ℕ → Option (List Hook)) → Contexts → (component : Bool) → Shape Fiber → Option ℕ → Type 0
 HasCauseIn scene kept cs component current o =
-    (x : Node) → IsOld current o (Some x) → (is_anew component cs (instance_in (mark_of x)) ≡ true)
+    (x : Node) → IsOld current o (Some x) → (is_anew scene component cs (instance_in (mark_of x)) ≡ true)
     ⊎ SomeNode (λ m. LeadsAt (is_way scene.ways.now) kept scene.lanes scene.cut (Some m)) x

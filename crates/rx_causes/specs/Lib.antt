@@ -2,3 +2,4 @@ pub mod Scenes
 pub mod Marks
 pub mod Hidden
 pub mod Idle
+pub mod Reads

@@ -16,7 +16,7 @@ ghost use Rattle.rx_causes.specs.Scenes.{GivesHooks, IsSceneOf, KeepsHooks, Tell
 ghost use Rattle.rx_causes.specs.Hidden.{ForEach, ForEachFiber, instance_at};
 ghost use Rattle.rx_causes.specs.Idle.{HasCause, HasCauseAt, HasCauseIn, LeadsAt, HasNoCause, HasNoCauseAt, KeepsTree, Rests, is_anew};
 
-use crate::reading::read_anew;
+use crate::reading::read_another;
 use crate::scene::Scene;
 use rx_base::Int;
 use rx_fiber::{Fiber, Stage};
@@ -124,12 +124,13 @@ fn any_cause(
     false
 }
 
-// Whether the instance of a fiber read a context that has another value here; a component's place is anew if it has none.
-fn is_anew(stage: &Stage, component: bool, contexts: &[Int]) -> bool
-    ensures { result ≡ is_anew component contexts.now (instance_at (stage_seen stage.now)) }
+// Whether the instance of a fiber read a context that has another value here, or a resource that the render sees in another version;
+// a component's place is anew if it has none.
+fn is_anew(stage: &Stage, component: bool, scene: &Scene, contexts: &[Int]) -> bool
+    ensures { result ≡ is_anew scene.now component contexts.now (instance_at (stage_seen stage.now)) }
 {
     match stage {
-        Stage::Begun(Mark::Instance(instance)) => read_anew(&instance.reads, contexts),
+        Stage::Begun(Mark::Instance(instance)) => read_another(instance, scene, contexts),
         _ => component,
     }
 }
@@ -161,7 +162,7 @@ pub fn is_idle(
     match old {
         Some(id) => {
             let stage = tree.value(id).stage();
-            !is_anew(stage, component, contexts)
+            !is_anew(stage, component, scene, contexts)
                 && !has_cause(stage, scene, hooks)
                 && !any_cause(tree, tree.first_child(id), scene, hooks)
         }

@@ -8,5 +8,5 @@ mod scene;
 
 pub use hidden::waits_still;
 pub use idle::is_idle;
-pub use reading::{read_anew, reads_nothing};
+pub use reading::{read_another, reads_nothing, uses_nothing};
 pub use scene::Scene;

@@ -1,5 +1,5 @@
 -- What is known of a place that begins beside its old node, and what is a cause to begin it.
-use Rattle.std.specs.Prelude.{◌≡◌, ℕ, Bool, true, false, List, Option, Some, ◌⊎◌, option_and_then, option_map}
+use Rattle.std.specs.Prelude.{◌≡◌, ℕ, Bool, true, false, not, ◌&&◌, List, Option, Some, ◌⊎◌, option_and_then, option_map}
 use Rattle.rx_elem.specs.Trees.{Node, element_of}
 use Rattle.rx_hooks.specs.declared.hook.Hook.{Hook}
 use Rattle.rx_lists.specs.Shapes.{Shape}
@@ -44,7 +44,8 @@ KnowsClone t p = (v : Fiber) → Some v ≡ made_value_of t.draft p → is_clone
 abbrev pub StoodIn : Option Node → Element → Type 0
 StoodIn old e = option_map element_of old ≡ Some e
 
--- there is a cause to begin a place whose element is given again: the tree of its old node leads to one, or, if that may stand where other values of contexts are given, an instance at or below it reads a context
+-- There is a cause to begin a place whose element is given again: the tree of its old node leads to one; or it may stand where other values of contexts are given, and an instance at or below the old node reads a context; or it may stand so or some resource has another version, and an instance there reads a resource.
 abbrev pub HasCauseToBegin : Scene → (kept : ℕ → Option (List Hook)) → Contexts → (component stood : Bool) → Shape Fiber → Option ℕ → Type 0
 HasCauseToBegin scene kept cs component stood current o =
-    HasCauseIn scene kept cs component current o ⊎ ((stood ≡ false) × ((subtree_at current o).reads ≡ true))
+    HasCauseIn scene kept cs component current o
+    ⊎ (((stood ≡ false) × ((subtree_at current o).reads ≡ true)) ⊎ (((stood && not scene.refreshes) ≡ false) × ((subtree_at current o).uses ≡ true)))

@@ -1,15 +1,16 @@
 // What is known of a place's fiber beside the current one, and whether it takes the old children over.
-ghost use Rattle.std.specs.Prelude.{◌≡◌, true, false, Some, IsSome, option_and_then};
-ghost use Rattle.rx_elem.specs.Trees.{Node, instance_in};
+ghost use Rattle.std.specs.Prelude.{◌≡◌, ◌&&◌, ℕ, true, false, not, Some, IfSome, IsSome, option_and_then};
+ghost use Rattle.std.specs.Option.{option_map_or};
+ghost use Rattle.rx_elem.specs.Trees.{Node, instance_in, is_hidden};
 ghost use Rattle.rx_ctx.specs.Contexts.{values_at};
+ghost use Rattle.rx_lists.specs.Shapes.{Holds};
 ghost use Rattle.rx_links.specs.Drafts.{old_of};
 ghost use Rattle.rx_links.specs.Readers.{made_value_of};
-ghost use Rattle.rx_meaning.specs.Fresh.{Sight};
-ghost use Rattle.rx_meaning.specs.Settled.{ReadsHold};
+ghost use Rattle.rx_meaning.specs.Fresh.{Contexts, Sight};
 ghost use Rattle.commit_laws.specs.Idle.{IsIdle, IsIdleMark};
 ghost use Rattle.rx_fiber.specs.Fibers as fibers;
 ghost use Rattle.rx_fiber.specs.Reading.{IsOld};
-ghost use Rattle.rx_fiber.specs.Subtrees.{IsGathered};
+ghost use Rattle.rx_fiber.specs.Subtrees.{IsGathered, subtree_at};
 ghost use Rattle.rx_fiber.specs.Surround.{IsElementOf};
 ghost use Rattle.rx_ways.specs.Ways.{Covers, is_way};
 ghost use Rattle.rx_hook_store.specs.Store.{kept_hooks};
@@ -17,12 +18,13 @@ ghost use Rattle.rx_causes.specs.Marks.{EachBut, keeps_children, mark_at};
 ghost use Rattle.rx_causes.specs.Scenes.{GivesHooks, IsSceneOf, TellsCalm};
 ghost use Rattle.rx_causes.specs.Hidden.{ForEach};
 ghost use Rattle.rx_causes.specs.Idle.{KeepsTree, Rests};
+ghost use Rattle.rx_causes.specs.Reads.{ContextsHold, VersionsHold};
 ghost use Rattle.rx_children.specs.Nodes.{IsBareAt};
 ghost use Rattle.rx_children.specs.Origins.{HasCauseToBegin, KnowsClone, TellsAgain, TellsSteady};
 
 use crate::kind::gives_same;
 use crate::node::keeps_children;
-use rx_causes::{Scene, is_idle, reads_nothing};
+use rx_causes::{Scene, is_idle, reads_nothing, uses_nothing};
 use rx_ctx::ContextStack;
 use rx_elem::Element;
 use rx_fiber::{Fiber, hides};
@@ -100,8 +102,33 @@ pub fn is_steady(tree: &FiberTree<Fiber>, at: FiberId) -> bool
     }
 }
 
-/// Whether a fiber takes over the old children: its element is given again, nothing in the tree of its old node has a cause to be rendered,
-/// and it stood where the same values of contexts are given, or nothing there reads a context.
+// Whether what is read of the contexts at or below an old node is the same: it stood where the same values are given, or nothing
+// there reads one.
+fn reads_the_same(tree: &FiberTree<Fiber>, old: Option<FiberId>, stood: bool) -> bool
+    requires held { IfSome old (Holds tree.now.current) }
+    requires gathered { IsGathered tree.now.current }
+    requires shown { option_map_or is_hidden (mark_at tree.now.current old) false ≡ false }
+    ensures holds { result ≡ true → stood ≡ false → (cs : Contexts) (x : Node) → IsOld tree.now.current old (Some x) → ContextsHold cs x }
+    ensures other { result ≡ false → (stood ≡ false) × ((subtree_at tree.now.current old).reads ≡ true) }
+{
+    stood || reads_nothing(tree, old)
+}
+
+// Whether what is read of the resources there is the same: it stood, and no resource has another version, or nothing there reads
+// one.
+fn uses_the_same(tree: &FiberTree<Fiber>, old: Option<FiberId>, stood: bool, scene: &Scene) -> bool
+    requires held { IfSome old (Holds tree.now.current) }
+    requires gathered { IsGathered tree.now.current }
+    requires shown { option_map_or is_hidden (mark_at tree.now.current old) false ≡ false }
+    ensures holds { result ≡ true → (stood && not scene.now.refreshes) ≡ false → (version : ℕ → ℕ) (x : Node) → IsOld tree.now.current old (Some x) → VersionsHold version x }
+    ensures other { result ≡ false → ((stood && not scene.now.refreshes) ≡ false) × ((subtree_at tree.now.current old).uses ≡ true) }
+{
+    (stood && !scene.refreshes) || uses_nothing(tree, old)
+}
+
+/// Whether a fiber takes over the old children: its element is given again, nothing in the tree of its old node has a cause to be
+/// rendered, and what is read there is the same: it stood where the same values of contexts are given, or nothing there reads a
+/// context; and it stood, and no resource has another version, or nothing there reads a resource.
 pub fn takes_over(
     tree: &FiberTree<Fiber>,
     at: FiberId,
@@ -120,7 +147,8 @@ pub fn takes_over(
     ensures shown { result ≡ true → keeps_children true (mark_at tree.now.current (old_of tree.now.draft at)) ≡ true }
     ensures idle { result ≡ true → (s : Sight) (x : Node) → IsSceneOf scene.now s → IsOld tree.now.current (old_of tree.now.draft at) (Some x) → ForEach (GivesHooks s (kept_hooks hooks.now)) x → Covers (is_way scene.now.ways.now) (IsIdleMark s) x → IsIdle s x }
     ensures rest { result ≡ true → (x : Node) → IsOld tree.now.current (old_of tree.now.draft at) (Some x) → EachBut (is_way scene.now.ways.now) (Rests (kept_hooks hooks.now) scene.now.lanes scene.now.cut) x }
-    ensures reads { result ≡ true → stood ≡ false → (x : Node) → IsOld tree.now.current (old_of tree.now.draft at) (Some x) → ReadsHold (values_at contexts.now) x }
+    ensures reads { result ≡ true → stood ≡ false → (x : Node) → IsOld tree.now.current (old_of tree.now.draft at) (Some x) → ContextsHold (values_at contexts.now) x }
+    ensures uses { result ≡ true → (stood && not scene.now.refreshes) ≡ false → (version : ℕ → ℕ) (x : Node) → IsOld tree.now.current (old_of tree.now.draft at) (Some x) → VersionsHold version x }
     ensures calm { result ≡ true → component ≡ true → TellsCalm scene.now (kept_hooks hooks.now) (values_at contexts.now) (option_and_then instance_in (mark_at tree.now.current (old_of tree.now.draft at))) true }
     ensures cause { again ≡ true → result ≡ false → HasCauseToBegin scene.now (kept_hooks hooks.now) (values_at contexts.now) component stood tree.now.current (old_of tree.now.draft at) }
 {
@@ -128,13 +156,18 @@ pub fn takes_over(
         return false;
     }
     tree.place_facts();
-    let idle = is_idle(
+    if !is_idle(
         tree,
         tree.alternate(at),
         component,
         scene,
         hooks,
         contexts.values(),
-    );
-    idle && (stood || reads_nothing(tree, tree.alternate(at)))
+    ) {
+        return false;
+    }
+    if !reads_the_same(tree, tree.alternate(at), stood) {
+        return false;
+    }
+    uses_the_same(tree, tree.alternate(at), stood, scene)
 }

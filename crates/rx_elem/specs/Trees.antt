@@ -6,15 +6,17 @@ use Rattle.rx_susp.specs.declared.boundary.BoundaryState.{BoundaryState}
 use Rattle.rx_susp.specs.Boundary.{awaits_of, hides}
 use Rattle.rx_elem.specs.declared.effect.EffectRecord.{EffectRecord}
 use Rattle.rx_elem.specs.declared.effect.ContextRead.{ContextRead}
+use Rattle.rx_elem.specs.declared.effect.VersionRead.{VersionRead}
 use Rattle.rx_elem.specs.Elements.{Element}
 use Rattle.rx_elem.specs.Elements as elements
 
--- what the tree keeps of a component's instance: its number, from its first commit on, its component, the initial values of its hooks, the contexts that it read and its effects
+-- what the tree keeps of a component's instance: its number, from its first commit on, its component, the initial values of its hooks, the contexts and the versions of resources that it read, and its effects
 pub record Instance : Type 0 where
   pub number : Option ℕ
   pub component : ℕ
   pub initials : List ℤ
   pub reads : List ContextRead
+  pub versions : List VersionRead
   pub effects : List EffectRecord
 
 -- what a node has beside its element and its children

@@ -17,3 +17,11 @@ pub struct ContextRead {
     pub context: u32,
     pub value: Int,
 }
+
+/// A resource that an instance read, by its number in the order of the text, and the version in which it found it (react.dev,
+/// use).
+#[derive(Clone, Copy, Debug, PartialEq, Eq)]
+pub struct VersionRead {
+    pub resource: u32,
+    pub version: u64,
+}

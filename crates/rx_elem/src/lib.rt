@@ -10,5 +10,5 @@ mod kind;
 mod walks;
 
 pub use attr::{Attr, AttrValue};
-pub use effect::{ContextRead, EffectRecord};
+pub use effect::{ContextRead, EffectRecord, VersionRead};
 pub use element::{Element, ElementKind};

@@ -63,7 +63,7 @@ body_gives p q n c s i (Err e) same returned at h = tt
 
 -- the initial values of hooks do not depend on what is returned
 initials_same : (p : Program) (i : Inputs) (ss : Slots) (t : Taken) → initials_of (finished p i no_slots t) ≡ initials_of (finished p i ss t)
-initials_same p i ss (stopped_at r) = refl
+initials_same p i ss (stopped_at r v) = refl
 initials_same p i ss (taken f) = refl
 
 -- the statements of a component give the initial values of its hooks

@@ -11,5 +11,6 @@ inputs_of i =
       children = i.children.now;
       hooks = option_copied i.hooks;
       contexts = i.contexts.now;
+      versions = i.versions.now;
       resources = i.resources.now;
     }

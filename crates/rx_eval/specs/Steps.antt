@@ -10,7 +10,7 @@ use Rattle.rx_eval.specs.declared.statements.Step.TheVariants as step
 
 -- the frame of the values of names and what is gathered beside them
 abbrev pub frame_of : Env → Gathered → Frame
-frame_of env g = record { env = env; hooks = g.hooks; initials = g.initials.items; effects = g.effects.items; reads = g.reads.items }
+frame_of env g = record { env = env; hooks = g.hooks; initials = g.initials.items; effects = g.effects.items; reads = g.reads.items; versions = g.versions.items }
 
 -- the name that a statement binds
 abbrev pub name_in : Statement → Option Name
@@ -29,8 +29,8 @@ named (Some x) v env = (x, v) ∷ env
 -- what a statement gives that binds this name, if any, and did this
 abbrev pub step_taken : Option Name → Env → Gathered → Step → Taken
 step_taken x env g (step.Value v) = taken (frame_of (named x v env) g)
-step_taken x env g (step.Wait r) = stopped_at r
+step_taken x env g (step.Wait r v) = stopped_at r v
 
 -- the frame before the first statement, if names have these values
 abbrev pub opened : Env → Frame
-opened env = record { env = env; hooks = 0; initials = []; effects = []; reads = [] }
+opened env = record { env = env; hooks = 0; initials = []; effects = []; reads = []; versions = [] }

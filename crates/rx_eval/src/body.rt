@@ -18,15 +18,15 @@ use crate::statements::{Gathered, Step, name_of, take};
 use rx_ast::{Body as Returned, BodyKind, Component, Parameter, ParameterKind, Statement};
 use rx_base::{Int, Ints, Steps};
 use rx_check::Checked;
-use rx_elem::{ContextRead, EffectRecord, Element};
+use rx_elem::{ContextRead, EffectRecord, Element, VersionRead};
 use std::alloc::{AllocError, Global};
 use std::sync::ledger::Ledger;
 
 /// What a body gives.
 #[derive(Drop)]
 pub enum Body {
-    /// It waits for a resource, by its number (react.dev, use).
-    Wait(u32),
+    /// It waits for a version of a resource, both by their numbers (react.dev, use).
+    Wait(u32, u64),
     /// It is ready.
     Ready {
         elements: Vec<Element>,
@@ -35,6 +35,8 @@ pub enum Body {
         initials: Ints,
         /// The contexts that it read, in the order of its statements, with the values that it found.
         reads: Vec<ContextRead>,
+        /// The resources that it read, in the order of its statements, with the versions that it found.
+        versions: Vec<VersionRead>,
     },
 }
 
@@ -93,12 +95,14 @@ fn ready(
         initials,
         effects,
         reads,
+        versions,
     } = gathered;
     Ok(Body::Ready {
         elements,
         effects,
         initials: Ints::new(initials),
         reads,
+        versions,
     })
 }
 
@@ -127,7 +131,7 @@ fn follow(
                 &mut gathered,
             )?;
             match step {
-                Step::Wait(resource) => Ok(Body::Wait(resource)),
+                Step::Wait(resource, version) => Ok(Body::Wait(resource, version)),
                 Step::Value(value) => match name_of(statement) {
                     None => follow(scene, env, rest, returned, gathered),
                     Some(name) => {
@@ -218,13 +222,13 @@ fn initial_values(
     ensures { IfOk result (λ xs. initials_of (finished evaluator.now (inputs_of inputs.now) no_slots (take_all evaluator.now (inputs_of inputs.now) component.now.statements (opening_frame component.now inputs.now.props.now))) ≡ Some xs) }
 {
     match body_at(alloc, evaluator, component, None, inputs)? {
-        Body::Wait(_) => unreachable!(),
+        Body::Wait(_, _) => unreachable!(),
         Body::Ready { initials, .. } => Ok(initials),
     }
 }
 
 /// Evaluates a component's body once (react.dev, Render and Commit): it waits for the first resource in the order of its
-/// statements that has no value, or is ready. The component is given by its number in the order of the text.
+/// statements that has no value in its version, or is ready. The component is given by its number in the order of the text.
 ///
 /// # Errors
 ///

@@ -142,6 +142,7 @@ impl<'a> Fold for Evaluator<'a> {
         match *op {
             Op::Set(value) => value,
             Op::Call(function, argument) => Evaluator::apply(self, function, state, argument),
+            Op::Refresh => state,
         }
     }
 }

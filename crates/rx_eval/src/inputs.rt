@@ -13,6 +13,8 @@ pub struct Inputs<'a> {
     pub hooks: Option<&'a [Int]>,
     /// The value of each context at its place, by the contexts' numbers.
     pub contexts: &'a [Int],
-    /// The value of each resource that has one, by the resources' numbers.
+    /// The version of each resource, by the resources' numbers.
+    pub versions: &'a [u64],
+    /// The value of each resource in its version, if that has one.
     pub resources: &'a [Option<Int>],
 }

@@ -3,7 +3,6 @@ ghost use Rattle.std.specs.Prelude.{◌≡◌, ◌+◌, ◌<◌, ◌^◌, [], �
 ghost use Rattle.rx_base.specs.Values.{Name as Bytes};
 ghost use Rattle.rx_meaning.specs.Expressions.{Env as Values, value_in};
 ghost use Rattle.rx_meaning.specs.Body.{take_one, taken, with_hook, with_read, with_resource, with_effect};
-ghost use Rattle.rx_eval.specs.declared.statements.Gathered.{Gathered as Parts};
 ghost use Rattle.rx_eval.specs.Seen.{inputs_of};
 ghost use Rattle.rx_eval.specs.Steps.{frame_of, name_in, step_taken};
 
@@ -12,7 +11,7 @@ use crate::evaluator::Evaluator;
 use crate::inputs::Inputs;
 use rx_ast::{Expr, Statement, StatementKind};
 use rx_base::{Int, Ints, Name, Str};
-use rx_elem::{ContextRead, EffectRecord};
+use rx_elem::{ContextRead, EffectRecord, VersionRead};
 use std::alloc::{AllocError, Global};
 
 /// What the statements so far have given, beside the values of names.
@@ -24,6 +23,7 @@ pub(crate) struct Gathered {
     pub(crate) initials: Vec<Int>,
     pub(crate) effects: Vec<EffectRecord>,
     pub(crate) reads: Vec<ContextRead>,
+    pub(crate) versions: Vec<VersionRead>,
 }
 
 /// What a statement does, beside what it gathers.
@@ -31,8 +31,8 @@ pub(crate) struct Gathered {
 pub(crate) enum Step {
     /// The next statement is taken: the value of the name that this one binds, 0 if it binds none.
     Value(Int),
-    /// The body waits for a resource.
-    Wait(u32),
+    /// The body waits for a version of a resource.
+    Wait(u32, u64),
 }
 
 impl Gathered {
@@ -42,12 +42,14 @@ impl Gathered {
         ensures initials { result.initials.items ≡ [] }
         ensures effects { result.effects.items ≡ [] }
         ensures reads { result.reads.items ≡ [] }
+        ensures versions { result.versions.items ≡ [] }
     {
         Gathered {
             hooks: 0,
             initials: Vec::new(alloc),
             effects: Vec::new(alloc),
             reads: Vec::new(alloc),
+            versions: Vec::new(alloc),
         }
     }
 
@@ -74,6 +76,25 @@ impl Gathered {
         let value = number_at(contexts, context as usize);
         self.reads.push(ContextRead { context, value })?;
         Ok(value)
+    }
+
+    /// What reading a resource does (react.dev, use): the body waits unless the resource has a value in its version.
+    fn read_resource(
+        &mut self,
+        versions: &[u64],
+        resources: &[Option<Int>],
+        resource: u32,
+    ) -> Result<Step, AllocError>
+        ensures { (env : Values) (name : Bytes) → IfOk result (λ s. step_taken (Some name) env self.new s ≡ with_resource name resource (slice_index_or versions.now resource 0) (slice_index_or resources.now resource None) (frame_of env self.old)) }
+    {
+        let version = version_at(versions, resource as usize);
+        match resources.get(resource as usize) {
+            Some(Some(value)) => {
+                self.versions.push(VersionRead { resource, version })?;
+                Ok(Step::Value(*value))
+            }
+            _ => Ok(Step::Wait(resource, version)),
+        }
     }
 
     /// An effect with the values of its dependencies (react.dev, useEffect).
@@ -106,14 +127,11 @@ fn number_at(values: &[Int], place: usize) -> Int
     }
 }
 
-/// What reading a resource does (react.dev, use): the body waits unless the resource has a value.
-fn resource_read(resources: &[Option<Int>], resource: u32) -> Step
-    ensures { (env : Values) (g : Parts) (name : Bytes) → step_taken (Some name) env g result ≡ with_resource name resource (slice_index_or resources.now resource None) (frame_of env g) }
+/// The version at a place, 0 behind the end.
+fn version_at(versions: &[u64], place: usize) -> u64
+    ensures { result ≡ slice_index_or versions.now place 0 }
 {
-    match resources.get(resource as usize) {
-        Some(Some(value)) => Step::Value(*value),
-        _ => Step::Wait(resource),
-    }
+    versions.get(place).copied().unwrap_or(0)
 }
 
 /// The name that a statement binds, if it binds one.
@@ -173,7 +191,7 @@ pub(crate) fn take(
         }
         StatementKind::Resource { resource, .. } => {
             let resource = evaluator.resource(resource);
-            Ok(resource_read(inputs.resources, resource))
+            gathered.read_resource(inputs.versions, inputs.resources, resource)
         }
         StatementKind::Constant { value, .. } => Ok(Step::Value(evaluator.value(env, value))),
         StatementKind::Effect {

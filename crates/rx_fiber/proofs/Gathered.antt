@@ -20,21 +20,21 @@ or_same : (a b : Bool) → a || (a || b) ≡ a || b
 or_same true b = refl
 or_same false b = refl
 
-abbrev of_three : Bool → Bool → Bool → Subtree
-of_three x y z = record { reads = x; hides = y; instances = z }
+abbrev of_four : Bool → Bool → Bool → Bool → Subtree
+of_four x u y z = record { reads = x; uses = u; hides = y; instances = z }
 
-three : (x y z a b c : Bool) → x ≡ a → y ≡ b → z ≡ c → of_three x y z ≡ of_three a b c
-three x y z a b c e f g = rw (e, f, g) refl
+four : (x u y z a v b c : Bool) → x ≡ a → u ≡ v → y ≡ b → z ≡ c → of_four x u y z ≡ of_four a v b c
+four x u y z a v b c e h f g = rw (e, h, f, g) refl
 
 pub joined_again : (a b c : Subtree) → joined (joined a b) c ≡ joined a (joined b c)
 joined_again a b c =
-    three _ _ _ _ _ _ (or_again a.reads b.reads c.reads) (or_again a.hides b.hides c.hides) (or_again a.instances b.instances c.instances)
+    four _ _ _ _ _ _ _ _ (or_again a.reads b.reads c.reads) (or_again a.uses b.uses c.uses) (or_again a.hides b.hides c.hides) (or_again a.instances b.instances c.instances)
 
 pub joined_nothing : (a : Subtree) → joined a nothing ≡ a
-joined_nothing a = three _ _ _ _ _ _ (or_false a.reads) (or_false a.hides) (or_false a.instances)
+joined_nothing a = four _ _ _ _ _ _ _ _ (or_false a.reads) (or_false a.uses) (or_false a.hides) (or_false a.instances)
 
 pub joined_same : (a b : Subtree) → joined a (joined a b) ≡ joined a b
-joined_same a b = three _ _ _ _ _ _ (or_same a.reads b.reads) (or_same a.hides b.hides) (or_same a.instances b.instances)
+joined_same a b = four _ _ _ _ _ _ _ _ (or_same a.reads b.reads) (or_same a.uses b.uses) (or_same a.hides b.hides) (or_same a.instances b.instances)
 
 -- one fiber of a list is taken more
 pub one_joined : (c : Shape Fiber) → IsLinked c → (i : ℕ) → Holds c i → (next behind : Option ℕ) (v : Fiber) → next ≡ Some i → Some v ≡ value_of c i → behind ≡ first (rest_of c i)

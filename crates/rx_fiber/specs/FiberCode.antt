@@ -45,8 +45,8 @@ stage_code = code_by StageParts (coded⊎ (coded⊎ origin_code mark_code) (code
 
 abbrev subtree_code : Coded Subtree
 subtree_code =
-    code_by (Bool × (Bool × Bool)) (coded× coded_bool (coded× coded_bool coded_bool))
-    (λ s. (s.reads, (s.hides, s.instances))) (λ p. record { reads = p.0; hides = p.1.0; instances = p.1.1 }) (λ _. refl)
+    code_by (Bool × (Bool × (Bool × Bool))) (coded× coded_bool (coded× coded_bool (coded× coded_bool coded_bool)))
+    (λ s. (s.reads, (s.uses, (s.hides, s.instances)))) (λ p. record { reads = p.0; uses = p.1.0; hides = p.1.1.0; instances = p.1.1.1 }) (λ _. refl)
 
 -- a fiber as it is stored, from which it can be read back
 abbrev pub fiber_code : Coded Fiber

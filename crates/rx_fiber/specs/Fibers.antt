@@ -59,18 +59,23 @@ pub record Fiber : Type 0 where
   pub stage : Stage
   pub subtree : Subtree
 
--- neither a read of a context, nor a hidden boundary, nor an instance
+-- neither a read of a context or a resource, nor a hidden boundary, nor an instance
 abbrev pub nothing : Subtree
-nothing = record { reads = false; hides = false; instances = false }
+nothing = record { reads = false; uses = false; hides = false; instances = false }
 
 -- what one of two tells, or the other
 abbrev pub joined : Subtree → Subtree → Subtree
-joined a b = record { reads = a.reads || b.reads; hides = a.hides || b.hides; instances = a.instances || b.instances }
+joined a b = record { reads = a.reads || b.reads; uses = a.uses || b.uses; hides = a.hides || b.hides; instances = a.instances || b.instances }
 
--- what a node tells of itself, by its mark: an instance, whether it reads a context; a boundary, whether it is hidden
+-- what a node tells of itself, by its mark: an instance, whether it reads a context and whether a resource; a boundary, whether it is hidden
 abbrev pub marked_subtree : Mark → Subtree
 marked_subtree m =
-    record { reads = option_map_or (λ i. not (length i.reads == 0)) (instance_in m) false; hides = is_hidden m; instances = is_some (instance_in m) }
+    record {
+      reads = option_map_or (λ i. not (length i.reads == 0)) (instance_in m) false;
+      uses = option_map_or (λ i. not (length i.versions == 0)) (instance_in m) false;
+      hides = is_hidden m;
+      instances = is_some (instance_in m);
+    }
 
 -- what a fiber tells of itself
 abbrev pub own_subtree : Stage → Subtree

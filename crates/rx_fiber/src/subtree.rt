@@ -11,6 +11,8 @@ use rx_node::Mark;
 pub struct Subtree {
     /// An instance reads a context.
     pub reads: bool,
+    /// An instance reads a resource.
+    pub uses: bool,
     /// A boundary is hidden.
     pub hides: bool,
     /// There is an instance.
@@ -24,6 +26,7 @@ impl Subtree {
     {
         Subtree {
             reads: false,
+            uses: false,
             hides: false,
             instances: false,
         }
@@ -35,6 +38,7 @@ impl Subtree {
     {
         Subtree {
             reads: self.reads || other.reads,
+            uses: self.uses || other.uses,
             hides: self.hides || other.hides,
             instances: self.instances || other.instances,
         }
@@ -48,11 +52,13 @@ pub(crate) fn own_subtree(stage: &Stage) -> Subtree
     match stage {
         Stage::Begun(Mark::Instance(instance)) => Subtree {
             reads: !instance.reads.is_empty(),
+            uses: !instance.versions.is_empty(),
             hides: false,
             instances: true,
         },
         Stage::Begun(Mark::Boundary(state)) => Subtree {
             reads: false,
+            uses: false,
             hides: state.hides(),
             instances: false,
         },

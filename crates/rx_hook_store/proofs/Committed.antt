@@ -13,7 +13,7 @@ use Rattle.rx_queue.specs.declared.entry.Entry.{Entry}
 use Rattle.rx_queue.specs.History.{stands_done, stands_owed}
 use Rattle.rx_queue.specs.History as history
 use Rattle.rx_queue.specs.Bridge.{posted_as}
-use Rattle.rx_queue.specs.Journal.{Posted, Target, belongs_to, hook, marked_update, same_target}
+use Rattle.rx_queue.specs.Journal.{Posted, Target, belongs_to, hook, is_resource, marked_update, same_target}
 use Rattle.rx_queue.proofs.Bridging.{committed_agrees, owed_agrees}
 use Rattle.rx_hooks.specs.declared.hook.Hook.{Hook}
 use Rattle.rx_hooks.specs.Hooks.{HookHistory, HooksStandFor, committed_hook, owed_hook, rendered}
@@ -108,7 +108,7 @@ module _ (program : Program) (s : State) (g : Progress) (fixed : Numbers × Node
   updates_left t (e ∷ es) calm =
       let parts = or_false_parts (has_work_in_update g.lanes g.cut e) (list_any (has_work_in_update g.lanes g.cut) es) calm in
       ap (λ (x : Standing). let u : Posted = record { target = t; update = e.update; standing = x } in u ∷ map (marked_update g.lanes g.cut visible kept) (map (posted_as t) es))
-      (by_tests e.standing (history.is_before g.cut e) (has g.lanes e.update.lane) (belongs_to visible t) (belongs_to kept t) parts.0)
+      (by_tests e.standing (history.is_before g.cut e) (has g.lanes e.update.lane) (belongs_to visible t || is_resource t) (belongs_to kept t) parts.0)
       ∙ ap (λ (us : List Posted). posted_as t e ∷ us) (updates_left t es parts.1)
     where
       by_tests : (x : Standing) (before among seen hid : Bool) → ((before && (stands_done x || stands_owed x || among)) && not (stands_done x)) ≡ false

@@ -1,5 +1,5 @@
 -- A dispatch: what it makes of the hooks of its instance, and that what is kept stays that of the machine's state.
-use Rattle.std.proofs.Common.{◌≡◌, ℕ, ℤ, zero, suc, ◌+◌, ◌≤◌, Bool, true, false, not, ◌&&◌, cond, nat_eq, Some, List, [], ◌∷◌, length, filter, find, slice_get, refl, sym, ap, ◌∙◌, subst, arith}
+use Rattle.std.proofs.Common.{◌≡◌, ℕ, ℤ, zero, suc, ◌+◌, ◌≤◌, Bool, true, false, not, ◌&&◌, cond, nat_eq, Option, Some, List, [], ◌∷◌, length, filter, find, slice_get, refl, sym, ap, ◌∙◌, subst, arith}
 use Rattle.std.specs.Option.{option_map_or}
 use Rattle.std.proofs.lemmas.Bool.Decides.{nat_tests}
 use Rattle.rx_lane.specs.declared.lane.Lane.{Lane}
@@ -9,14 +9,17 @@ use Rattle.rx_step.specs.declared.step.LaneWord.TheVariants as word
 use Rattle.rx_queue.specs.declared.update.Op.{Op}
 use Rattle.rx_queue.specs.declared.update.Update.{Update}
 use Rattle.rx_queue.specs.declared.entry.Standing.TheVariants.{Open}
-use Rattle.rx_queue.specs.Journal.{Journal, Target, hook, same_target}
+use Rattle.rx_queue.specs.Journal.{Journal, Target, hook, resource, same_target}
 use Rattle.rx_queue.specs.History.{History, pushed}
 use Rattle.rx_queue.specs.Bridge.{IsHistoryOf}
 use Rattle.rx_queue.proofs.Bridging.{others_stay, pushed_agrees, with_posted}
+use Rattle.rx_ast.specs.Syntax.{Program}
+use Rattle.rx_elem.specs.Spots.{mounted}
+use Rattle.rx_hooks.specs.declared.hook.Hook.{Hook}
 use Rattle.rx_hooks.specs.Hooks.{HookHistory, changed_at, links_with}
 use Rattle.rx_model.specs.State.{Linked, State, linked_lanes}
 use Rattle.rx_model.specs.Accepting.{dispatched_for, lane_of, next_update, with_linked}
-use Rattle.rx_model.specs.HooksOf.{AreHooksFrom, IsHookOf}
+use Rattle.rx_model.specs.HooksOf.{AreHooksFrom, IsHookOf, KeepsAllHooks}
 use Rattle.rx_hook_store.specs.Changing.{dispatched_hook}
 
 -- ---- one hook of a list
@@ -41,6 +44,7 @@ same_both i j false e f = cc
 
 pub same_target-itself : (t : Target) → same_target t t ≡ true
 same_target-itself (hook i k) = same_both i i (nat_eq k k) (grind (arith, nat_tests)) (grind (arith, nat_tests))
+same_target-itself (resource r) = grind (arith, nat_tests)
 
 and_first : (a b : Bool) → (a && b) ≡ true → a ≡ true
 and_first true b e = refl
@@ -56,6 +60,9 @@ number_equal i j e = grind (arith, nat_tests)
 pub targets_equal : (t u : Target) → same_target t u ≡ true → t ≡ u
 targets_equal (hook i k) (hook j l) e =
     ap (λ n. hook n k) (number_equal i j (and_first (nat_eq i j) (nat_eq k l) e)) ∙ ap (λ n. hook j n) (number_equal k l (and_second (nat_eq i j) (nat_eq k l) e))
+targets_equal (hook i k) (resource r) e = absurd (let f : false ≡ true = e in cc)
+targets_equal (resource r) (hook j l) e = absurd (let f : false ≡ true = e in cc)
+targets_equal (resource r) (resource q) e = ap resource (number_equal r q e)
 
 -- ---- links
 
@@ -173,3 +180,9 @@ tree_dispatched s word.Sync t o = refl
 tree_dispatched s word.Input t o = refl
 tree_dispatched s word.Default t o = refl
 tree_dispatched s word.Transition t o = refl
+
+-- a refresh is sent to no hook
+pub keeps_refreshed : (p : Program) (s : State) (w : LaneWord) (r : ℕ) (o : Op) (kept : ℕ → Option (List Hook)) → KeepsAllHooks p s kept → KeepsAllHooks p (dispatched_for s w (resource r) o) kept
+keeps_refreshed p s w r o kept keeps k m at =
+    let g = keeps k m (subst (λ x. slice_get (mounted x) k ≡ Some m) (tree_dispatched s w (resource r) o) at) in
+    (g.0, g.1, (g.2.0, g.2.1, others_dispatched s w (resource r) o m.number 0 m.initials g.2.0 (λ l le. refl) g.2.2))

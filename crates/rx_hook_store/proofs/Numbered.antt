@@ -9,7 +9,7 @@ use Rattle.rx_elem.specs.Trees.{Mark, Node, instance_in, of_boundary, of_host, o
 use Rattle.rx_elem.specs.Numbers.{numbered}
 use Rattle.rx_elem.specs.Spots.{Around, Mounted, Spot, at_root, mounted, mounted_as, mounted_in, spot_mark, spots}
 use Rattle.rx_queue.specs.declared.update.Op.{Op}
-use Rattle.rx_queue.specs.Journal.{hook}
+use Rattle.rx_queue.specs.Journal.{hook, resource}
 use Rattle.rx_hooks.specs.Hooks.{links_with}
 use Rattle.rx_meaning.specs.Settled.{HasOwnNumbers, is_numbered_so, number_of}
 use Rattle.rx_model.specs.State.{Progress, State, linked_lanes}
@@ -82,3 +82,11 @@ links_dispatched s word.Transition i k o lt below l j le =
     let other : nat_eq i j ≡ false = grind (arith, nat_tests) in
     linked-other s.linked (hook j l) (hook i k) (links_with (lane_of s word.Transition) s.schedule.pending (linked_lanes s.linked (hook i k))) (instance_apart i j l k other)
     ∙ below l j le
+
+-- a refresh links no hook
+pub links_refreshed : (s : State) (w : LaneWord) (r : ℕ) (o : Op) → LinksBelow s → LinksBelow (dispatched_for s w (resource r) o)
+links_refreshed s word.Sync r o below l j le = below l j le
+links_refreshed s word.Input r o below l j le = below l j le
+links_refreshed s word.Default r o below l j le = below l j le
+links_refreshed s word.Transition r o below l j le =
+    linked-other s.linked (hook j l) (resource r) (links_with (lane_of s word.Transition) s.schedule.pending (linked_lanes s.linked (resource r))) refl ∙ below l j le

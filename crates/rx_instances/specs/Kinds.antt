@@ -1,9 +1,18 @@
--- What is read of a hook that was found by its name.
-use Rattle.std.specs.Prelude.{ℕ, List, [], Option, Some, None}
+-- What is read of a dispatch, and of a hook that was found by its name.
+use Rattle.std.specs.Prelude.{ℕ, Bool, true, false, List, [], Option, Some, None}
 use Rattle.rx_base.specs.Values.{Name}
 use Rattle.rx_rules.specs.Names.{place_among}
 use Rattle.rx_check.specs.declared.hook.HookKind.{HookKind}
 use Rattle.rx_check.specs.declared.hook.HookKind.TheVariants as kind
+use Rattle.rx_step.specs.declared.step.Dispatch.{Dispatch}
+use Rattle.rx_step.specs.declared.step.Dispatch.TheVariants.{Call, Refresh, Send, Set}
+
+-- a dispatch asks for another version of a resource
+abbrev pub is_refresh : Dispatch → Bool
+is_refresh (Set word path name x) = false
+is_refresh (Call word path name f x) = false
+is_refresh (Send word path name x) = false
+is_refresh (Refresh word name) = true
 
 -- the number of a hook among those of its component
 abbrev pub number_in : HookKind → ℕ

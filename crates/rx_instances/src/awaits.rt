@@ -1,7 +1,8 @@
 // What the visible boundaries among the current fibers wait for.
-ghost use Rattle.std.specs.Prelude.{◌≡◌, IfSome, Option, Some};
+ghost use Rattle.std.specs.Prelude.{◌≡◌, ℕ, IfSome, Option, Some};
 ghost use Rattle.std.specs.List.{list_any};
 ghost use Rattle.rx_base.specs.Awaits.{awaits_where};
+ghost use Rattle.rx_queue.specs.Pairs.{in_versions};
 ghost use Rattle.rx_base.specs.declared.cut.Cut as cut;
 ghost use Rattle.rx_elem.specs.Trees as trees;
 ghost use Rattle.rx_lists.specs.Shapes.{Holds};
@@ -82,8 +83,8 @@ fn awaits_in(tree: &FiberTree<Fiber>, first: Option<FiberId>) -> Awaits
 pub fn awaited(tree: &FiberTree<Fiber>) -> Awaits
     requires gathered { IsGathered tree.now.current }
     ensures are { (y : Option trees.Node) → IsTreeOf y tree.now.current → result ≡ all_awaited y }
-    ensures resolved { (y : Option trees.Node) (c : cut.Cut) (j : Journal) → IsTreeOf y tree.now.current → AreWithinReach j
-        → resolved_since c j result ≡ list_any (resolved_since c j) (visible_awaits y) }
+    ensures resolved { (y : Option trees.Node) (version : ℕ → ℕ) (c : cut.Cut) (j : Journal) → IsTreeOf y tree.now.current → AreWithinReach j
+        → resolved_since c j (in_versions version result) ≡ list_any (λ waits. resolved_since c j (in_versions version waits)) (visible_awaits y) }
 {
     tree.facts();
     awaits_in(tree, tree.current())

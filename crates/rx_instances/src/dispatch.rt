@@ -1,11 +1,11 @@
 // What a dispatch says.
-ghost use Rattle.std.specs.Prelude.{◌≡◌};
+ghost use Rattle.std.specs.Prelude.{◌≡◌, true, false};
 ghost use Rattle.rx_model.specs.Accepting.{op_of};
 ghost use Rattle.rx_model.specs.State.{reducer_named};
 ghost use Rattle.rx_names.specs.Listed.{function_names};
 ghost use Rattle.rx_rules.specs.Names.{function_number};
 ghost use Rattle.rx_step.specs.Steps.{hook_name, path_of, word_of};
-ghost use Rattle.rx_instances.specs.Kinds.{function_in};
+ghost use Rattle.rx_instances.specs.Kinds.{function_in, is_refresh};
 
 use rx_base::Name;
 use rx_check::{Checked, HookKind};
@@ -17,11 +17,14 @@ pub fn dispatch_word(dispatch: &Dispatch) -> LaneWord
     ensures { result ≡ word_of dispatch.now }
 {
     match dispatch {
-        Dispatch::Set(word, ..) | Dispatch::Call(word, ..) | Dispatch::Send(word, ..) => *word,
+        Dispatch::Set(word, ..)
+        | Dispatch::Call(word, ..)
+        | Dispatch::Send(word, ..)
+        | Dispatch::Refresh(word, _) => *word,
     }
 }
 
-/// The path to the instance that a dispatch is for, part by part.
+/// The path to the instance that a dispatch is for, part by part; empty if it is for a resource.
 pub fn dispatch_path(dispatch: &Dispatch) -> &[(Name, u64)]
     ensures { result.now ≡ path_of dispatch.now }
 {
@@ -29,17 +32,29 @@ pub fn dispatch_path(dispatch: &Dispatch) -> &[(Name, u64)]
         Dispatch::Set(_, path, ..) | Dispatch::Call(_, path, ..) | Dispatch::Send(_, path, ..) => {
             &path.parts
         }
+        Dispatch::Refresh(..) => &[],
     }
 }
 
-/// The name of the hook that a dispatch is for.
+/// Whether a dispatch asks for another version of a resource.
+pub fn is_refresh(dispatch: &Dispatch) -> bool
+    ensures { result ≡ is_refresh dispatch.now }
+{
+    match dispatch {
+        Dispatch::Refresh(..) => true,
+        Dispatch::Set(..) | Dispatch::Call(..) | Dispatch::Send(..) => false,
+    }
+}
+
+/// The name of the hook or the resource that a dispatch is for.
 pub fn dispatch_hook(dispatch: &Dispatch) -> &Name
     ensures { result.now ≡ hook_name dispatch.now }
 {
     match dispatch {
         Dispatch::Set(_, _, name, _)
         | Dispatch::Call(_, _, name, _, _)
-        | Dispatch::Send(_, _, name, _) => name,
+        | Dispatch::Send(_, _, name, _)
+        | Dispatch::Refresh(_, name) => name,
     }
 }
 
@@ -67,7 +82,8 @@ fn reducer_number(checked: &Checked, component: u32, name: &Name) -> u32
     function_in(checked, checked.hook(component, name.text()))
 }
 
-/// What a dispatch does to the state of its hook, in an instance of this component (react.dev, useState and useReducer).
+/// What a dispatch does to the state of its hook, in an instance of this component (react.dev, useState and useReducer), or to its
+/// resource.
 pub fn dispatch_op(checked: &Checked, component: u32, dispatch: &Dispatch) -> Op
     ensures { result ≡ op_of checked.now component dispatch.now }
 {
@@ -79,5 +95,6 @@ pub fn dispatch_op(checked: &Checked, component: u32, dispatch: &Dispatch) -> Op
         Dispatch::Send(_, _, name, action) => {
             Op::Call(reducer_number(checked, component, name), *action)
         }
+        Dispatch::Refresh(..) => Op::Refresh,
     }
 }

@@ -128,12 +128,12 @@ mutual
 
 -- what a body gives is no deeper
 abbrev pub IsWithin : (ℕ → ℕ) → ℕ → Body → Type 0
-IsWithin depths most (wait r) = Unit {0}
-IsWithin depths most (ready es effects initials reads) = elements_depth depths (gathered es) ≤ most
+IsWithin depths most (wait r v) = Unit {0}
+IsWithin depths most (ready es effects initials reads versions) = elements_depth depths (gathered es) ≤ most
 
 finished_within : (depths : ℕ → ℕ) (p : Program) (i : Inputs) (ss : Slots) (t : Taken)
     → IsWithin depths (slots_depth depths p ss + elements_depth depths (gathered i.children)) (finished p i ss t)
-finished_within depths p i ss (body.stopped_at r) = tt
+finished_within depths p i ss (body.stopped_at r v) = tt
 finished_within depths p i ss (body.taken f) = slots_are_deep depths p i.children f.env ss
 
 body_within : (depths : ℕ → ℕ) (p : Program) (c : Component) (i : Inputs)
@@ -142,15 +142,15 @@ unfolding body_of
 body_within depths p c i = finished_within depths p i (body_slots c.body) (take_all p i c.statements (opening_frame c i.props))
 
 is_within : (depths : ℕ → ℕ) (b : Body) (m n : ℕ) → m ≤ n → IsWithin depths m b → IsWithin depths n b
-is_within depths (wait r) m n h w = tt
-is_within depths (ready es effects initials reads) m n h w = omega arith
+is_within depths (wait r v) m n h w = tt
+is_within depths (ready es effects initials reads versions) m n h w = omega arith
 
 -- Shapes
 
 -- the children of what stands in a place need no more levels
 abbrev pub ShapeFits : ℕ → Program → Shape → Type 0
 ShapeFits n p absent = Unit {0}
-ShapeFits n p (waiting r) = Unit {0}
+ShapeFits n p (waiting r v) = Unit {0}
 ShapeFits n p (one_list m t) = PartFits n p t
 ShapeFits n p (two_lists t f) = PartFits n p t × PartFits n p f
 
@@ -159,8 +159,8 @@ children_fit : (n : ℕ) (p : Program) (es : Elements) → elements_depth (body_
 children_fit n p es h = rw (gathered-listed es) (omega (arith, elements_no_less (body_depth n p) (body_depth (suc n) p) (more_levels n p) es))
 
 body_fits : (n : ℕ) (p : Program) (cs : Contexts) (c : ℕ) (old : Option Node) (b : Body) → IsWithin (body_depth n p) n b → ShapeFits n p (shape_of_body cs c old b)
-body_fits n p cs c old (wait r) h = tt
-body_fits n p cs c old (ready es effects initials reads) h = h
+body_fits n p cs c old (wait r v) h = tt
+body_fits n p cs c old (ready es effects initials reads versions) h = h
 
 component_fits : (n : ℕ) (s : Sight) (cs : Contexts) (c : ℕ) (ps : List ℤ) (es : Elements) (old : Option Node) (d : Option Component)
     → depth_in (body_depth n s.program) s.program d + elements_depth (body_depth n s.program) (gathered (listed es)) ≤ n

@@ -14,22 +14,24 @@ use Rattle.rx_elem.specs.Elements as elements
 use Rattle.rx_elem.specs.declared.attr.AttrValue.TheVariants as attr_value
 use Rattle.rx_elem.specs.declared.effect.EffectRecord.{EffectRecord}
 use Rattle.rx_elem.specs.declared.effect.ContextRead.{ContextRead}
+use Rattle.rx_elem.specs.declared.effect.VersionRead.{VersionRead}
 use Rattle.rx_meaning.specs.Expressions.{Env, value_in}
 
--- what a body is evaluated from: its props, the children that it is given, from the second render on the values of its hooks, and the values of the contexts and the resources
+-- what a body is evaluated from: its props, the children that it is given, from the second render on the values of its hooks, the values of the contexts, and of each resource its version and the value that this has, if it has one
 pub record Inputs : Type 0 where
   pub props : List ℤ
   pub children : List Element
   pub hooks : Option (List ℤ)
   pub contexts : List ℤ
+  pub versions : List ℕ
   pub resources : List (Option ℤ)
 
 -- what a body gives
 pub data Body : Type 0 where
-  -- it waits for a resource
-  wait : (resource : ℕ) → Body
-  -- it is ready: its elements, its effects, at mount the initial values of its hooks, and the contexts that it read
-  ready : List Element → List EffectRecord → (initials : List ℤ) → List ContextRead → Body
+  -- it waits for a version of a resource
+  wait : (resource version : ℕ) → Body
+  -- it is ready: its elements, its effects, at mount the initial values of its hooks, and the contexts and versions that it read
+  ready : List Element → List EffectRecord → (initials : List ℤ) → List ContextRead → List VersionRead → Body
 
 -- what the statements so far have given, and how many hooks they took
 pub record Frame : Type 0 where
@@ -38,10 +40,11 @@ pub record Frame : Type 0 where
   pub initials : List ℤ
   pub effects : List EffectRecord
   pub reads : List ContextRead
+  pub versions : List VersionRead
 
--- what statements give: a resource at which they stop, or the frame after them
+-- what statements give: a version of a resource at which they stop, or the frame after them
 pub data Taken : Type 0 where
-  stopped_at : (resource : ℕ) → Taken
+  stopped_at : (resource version : ℕ) → Taken
   taken : Frame → Taken
 
 -- a name has a value from here on
@@ -57,10 +60,10 @@ with_hook (Some states) name initial f = bound name (slice_index_or states f.hoo
 abbrev pub with_read : Name → (context : ℕ) → ℤ → Frame → Frame
 with_read name c x f = bound name x (record f { reads = f.reads ++ (record { context = c; value = x }) ∷ [] })
 
--- a resource that is read, if it has a value
-abbrev pub with_resource : Name → (resource : ℕ) → Option ℤ → Frame → Taken
-with_resource name r None f = stopped_at r
-with_resource name r (Some x) f = taken (bound name x f)
+-- a version of a resource that is read, if it has a value
+abbrev pub with_resource : Name → (resource version : ℕ) → Option ℤ → Frame → Taken
+with_resource name r v None f = stopped_at r v
+with_resource name r v (Some x) f = taken (bound name x (record f { versions = f.versions ++ (record { resource = r; version = v }) ∷ [] }))
 
 -- an effect with the values of its dependencies
 abbrev pub with_effect : EffectRecord → Frame → Frame
@@ -73,14 +76,14 @@ take_one p i (reducer name setter function e) f = taken (with_hook i.hooks name 
 take_one p i (context name source) f =
     let c = context_number p source in taken (with_read name c (slice_index_or i.contexts c (pos 0)) f)
 take_one p i (use_resource name resource) f =
-    let r = resource_number p resource in with_resource name r (slice_index_or i.resources r None) f
+    let r = resource_number p resource in with_resource name r (slice_index_or i.versions r 0) (slice_index_or i.resources r None) f
 take_one p i (constant name e) f = taken (bound name (value_in p f.env e) f)
 take_one p i (effect layout label depends) f =
     taken (with_effect (record { layout = layout; label = label; values = map (value_in p f.env) depends }) f)
 
 -- what follows a statement, unless that waits
 abbrev pub and_then : Taken → (Frame → Taken) → Taken
-and_then (stopped_at r) next = stopped_at r
+and_then (stopped_at r v) next = stopped_at r v
 and_then (taken f) next = next f
 
 -- the statements in order, up to the first that waits
@@ -148,12 +151,12 @@ abbrev mutual
 
 -- a body whose statements are taken
 abbrev pub finished : Program → Inputs → Slots → Taken → Body
-finished p i ss (stopped_at r) = wait r
-finished p i ss (taken f) = ready (elements_of p i.children f.env ss) f.effects f.initials f.reads
+finished p i ss (stopped_at r v) = wait r v
+finished p i ss (taken f) = ready (elements_of p i.children f.env ss) f.effects f.initials f.reads f.versions
 
 -- what is known before the first statement: the values of the parameters
 abbrev pub opening_frame : Component → (props : List ℤ) → Frame
-opening_frame c props = record { env = zip (prop_names c) props; hooks = 0; initials = []; effects = []; reads = [] }
+opening_frame c props = record { env = zip (prop_names c) props; hooks = 0; initials = []; effects = []; reads = []; versions = [] }
 
 -- what a component's body gives
 unfoldable pub body_of : Program → Component → Inputs → Body

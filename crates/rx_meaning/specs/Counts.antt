@@ -79,14 +79,14 @@ count_open w count below (falling e old a) ps = if_made ps w.completes
 -- what the unit counts that begins a place, by what stands there
 abbrev pub begins_as : Weights → Contexts → Element → Option Node → Shape → ℕ
 begins_as w cs e old absent = w.misses
-begins_as w cs e old (waiting r) = w.begins cs e old
+begins_as w cs e old (waiting r v) = w.begins cs e old
 begins_as w cs e old (one_list m p) = w.begins cs e old
 begins_as w cs e old (two_lists p f) = w.begins cs e old
 
 -- a place with those below it, by what stands there; null takes no unit
 abbrev pub count_shape : Weights → (Contexts → Tries) → (Contexts → Renders) → Contexts → Element → Option Node → Shape → ℕ
 count_shape w count below cs e old absent = cond (is_null e) 0 w.misses
-count_shape w count below cs e old (waiting r) = w.begins cs e old
+count_shape w count below cs e old (waiting r v) = w.begins cs e old
 count_shape w count below cs e old (one_list m p) =
     w.begins cs e old + (count_part count below p + count_open w count below (around e m) (render_part below p))
 count_shape w count below cs e old (two_lists p f) =

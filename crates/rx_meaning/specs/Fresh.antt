@@ -15,10 +15,11 @@ use Rattle.rx_elem.specs.Elements as elements
 use Rattle.rx_elem.specs.Trees.{Instance, Mark, Node, node, Forest, mark_of, children_if, fallback_if, instance_in, host_number}
 use Rattle.rx_elem.specs.declared.effect.EffectRecord.{EffectRecord}
 use Rattle.rx_elem.specs.declared.effect.ContextRead.{ContextRead}
+use Rattle.rx_elem.specs.declared.effect.VersionRead.{VersionRead}
 use Rattle.rx_elem.specs.Trees as trees
 use Rattle.rx_elem.specs.Numbers.{Numbers, numbered}
 use Rattle.rx_elem.specs.Compare.{old_nodes}
-use Rattle.rx_queue.specs.Journal.{Journal, hook, state_of, updates_of, resolved_by}
+use Rattle.rx_queue.specs.Journal.{Journal, hook, state_of, updates_of, version_of, values_at, resolutions_by}
 use Rattle.rx_rules.specs.Versions.{width}
 use Rattle.rx_meaning.specs.Expressions.{answers_of}
 use Rattle.rx_meaning.specs.Body.{Inputs, Body, wait, ready, body_of}
@@ -93,9 +94,21 @@ old_host old = option_and_then (λ n. host_number (mark_of n)) old
 abbrev pub values_of : Sight → Instance → Option (List ℤ)
 values_of s i = option_map (λ n. hook_values s n i.initials) i.number
 
--- the values of the resources that were resolved before the cut
+-- the version of a resource that a render sees
+abbrev pub version_seen : Sight → (resource : ℕ) → ℕ
+version_seen s r = version_of s.lanes s.cut s.journal r
+
+-- the resources of a program, by their numbers
+abbrev pub resource_numbers : Program → List ℕ
+resource_numbers p = range_with_len 0 (length (resources p))
+
+-- the versions of the resources
+abbrev pub versions_seen : Sight → List ℕ
+versions_seen s = map (version_seen s) (resource_numbers s.program)
+
+-- the values of the resources in these versions that were resolved before the cut
 abbrev pub resources_seen : Sight → List (Option ℤ)
-resources_seen s = map (resolved_by s.cut s.journal) (range_with_len 0 (length (resources s.program)))
+resources_seen s = values_at (resolutions_by s.cut s.journal) (versions_seen s)
 
 -- what the body of a component is evaluated from at a place
 abbrev pub inputs_at : Sight → Contexts → (props : List ℤ) → (children : Elements) → Option Instance → Inputs
@@ -105,15 +118,16 @@ inputs_at s cs props kids old =
       children = listed kids;
       hooks = option_and_then (values_of s) old;
       contexts = cs;
+      versions = versions_seen s;
       resources = resources_seen s;
     }
 
 -- an instance keeps its number and its initial values
-abbrev pub instance_after : (component : ℕ) → Option Instance → (initials : List ℤ) → List ContextRead → List EffectRecord → Instance
-instance_after c None initials reads effects =
-    record { number = None; component = c; initials = initials; reads = reads; effects = effects }
-instance_after c (Some i) initials reads effects =
-    record { number = i.number; component = c; initials = i.initials; reads = reads; effects = effects }
+abbrev pub instance_after : (component : ℕ) → Option Instance → (initials : List ℤ) → List ContextRead → List VersionRead → List EffectRecord → Instance
+instance_after c None initials reads versions effects =
+    record { number = None; component = c; initials = initials; reads = reads; versions = versions; effects = effects }
+instance_after c (Some i) initials reads versions effects =
+    record { number = i.number; component = c; initials = i.initials; reads = reads; versions = versions; effects = effects }
 
 -- Places
 
@@ -127,8 +141,8 @@ pub record Part : Type 0 where
 pub data Shape : Type 0 where
   -- nothing
   absent : Shape
-  -- a component whose body waits for a resource
-  waiting : (resource : ℕ) → Shape
+  -- a component whose body waits for a version of a resource
+  waiting : (resource version : ℕ) → Shape
   -- a node with one list of children
   one_list : Mark → Part → Shape
   -- a boundary with its primary and its fallback
@@ -140,9 +154,9 @@ part cs es old = record { contexts = cs; elements = es; old = old }
 
 -- a component whose body gives this
 abbrev pub shape_of_body : Contexts → (component : ℕ) → Option Node → Body → Shape
-shape_of_body cs c old (wait r) = waiting r
-shape_of_body cs c old (ready es effects initials reads) =
-    one_list (trees.of_instance (instance_after c (old_instance old) initials reads effects)) (part cs es (children_if old))
+shape_of_body cs c old (wait r v) = waiting r v
+shape_of_body cs c old (ready es effects initials reads versions) =
+    one_list (trees.of_instance (instance_after c (old_instance old) initials reads versions effects)) (part cs es (children_if old))
 
 -- a component that may be missing, with its props and the children that it is given
 abbrev pub shape_of_component : Sight → Contexts → (component : ℕ) → List ℤ → Elements → Option Node → Option Component → Shape
@@ -179,7 +193,7 @@ over_boundary e old (one_waits a) (one_waits b) = waits (awaits.union a b)
 -- what a place gives, by what stands in it
 abbrev pub place_of : (Contexts → Renders) → Element → Option Node → Shape → Place
 place_of below e old absent = empty
-place_of below e old (waiting r) = waits (awaits.one r)
+place_of below e old (waiting r v) = waits (awaits.one r)
 place_of below e old (one_list m p) = over e m (render_part below p)
 place_of below e old (two_lists p f) = over_boundary e old (render_part below p) (render_part below f)
 

@@ -1,6 +1,6 @@
--- What a committed tree keeps is what its bodies give: for the updates that are done and the resources that have a value.
+-- What a committed tree keeps is what its bodies give: for the updates that are done and the versions of resources that have a value.
 use Rattle.std.specs.List.{enumerate_from, list_any}
-use Rattle.std.specs.Prelude.{Bool, List, None, Option, Some, [], cond, false, filter, map, nat_eq, nat_lt, option_to_list, slice_index_or, slice_set, true, ℕ, ℤ, ◌+◌, ◌∷◌, ◌≡◌, ◌≤◌, ◌⊎◌}
+use Rattle.std.specs.Prelude.{Bool, List, None, Option, Some, [], cond, false, filter, length, map, nat_eq, nat_lt, not, option_to_list, slice_set, true, ℕ, ℤ, ◌||◌, ◌+◌, ◌∷◌, ◌≡◌, ◌≤◌, ◌⊎◌}
 use Rattle.rx_ast.specs.Syntax.{Component, Program}
 use Rattle.rx_base.specs.Awaits.{Awaits}
 use Rattle.rx_base.specs.declared.cut.Cut.{Cut}
@@ -8,19 +8,20 @@ use Rattle.rx_rules.specs.Names.{component_at}
 use Rattle.rx_elem.specs.Elements.{Element, Elements, listed}
 use Rattle.rx_elem.specs.Trees.{Forest, Instance, Mark, Node, child, elements_in, is_hidden, node, none, of_boundary, of_host, of_instance, plain, vacant}
 use Rattle.rx_elem.specs.declared.effect.ContextRead.{ContextRead}
+use Rattle.rx_elem.specs.declared.effect.VersionRead.{VersionRead}
 use Rattle.rx_meaning.specs.Body.{body_of, ready}
 use Rattle.rx_meaning.specs.Expressions.{answers_of}
-use Rattle.rx_meaning.specs.Fresh.{Contexts, Shape, Sight, absent, default_contexts, one_list, part, resources_seen, two_lists}
+use Rattle.rx_meaning.specs.Fresh.{Contexts, Shape, Sight, absent, default_contexts, one_list, part, resource_numbers, two_lists}
 use Rattle.rx_meaning.specs.Touched.{contexts_below, has_update, is_read_anew, touched_instance}
 use Rattle.rx_queue.specs.History.{stands_done}
-use Rattle.rx_queue.specs.Journal.{Posted, committed_value, hook, same_target}
+use Rattle.rx_queue.specs.Journal.{Posted, Resolution, committed_value, hook, resolutions_by, resource, same_target, value_in, values_at}
 use Rattle.rx_susp.specs.declared.boundary.BoundaryState.TheVariants.{Hidden, Shown}
 use Rattle.rx_elem.specs.Elements as elements
 
--- what is known for good: the updates, of which some are done, and the values of the resources
+-- what is known for good: the updates, of which some are done, and how versions of resources were resolved
 pub record Known : Type 0 where
   pub updates : List Posted
-  pub resources : List (Option ℤ)
+  pub resolutions : List Resolution
 
 -- the values of an instance's hooks, by the updates that are done
 abbrev pub done_values : Program → Known → (instance : ℕ) → (initials : List ℤ) → List ℤ
@@ -31,7 +32,11 @@ done_values p k instance initials =
 abbrev pub read_anew : Contexts → List ContextRead → Bool
 read_anew cs reads = list_any (is_read_anew cs) reads
 
--- A component's body gives these elements, and the effects and reads of its instance, in whatever contexts agree with the reads.
+-- one of these resources has another version than the one that was read
+abbrev pub refreshed : (version : ℕ → ℕ) → List VersionRead → Bool
+refreshed version reads = list_any (λ r. not (nat_eq (version r.resource) r.version)) reads
+
+-- A component's body gives these elements, and the effects and reads of its instance, in whatever contexts and versions agree with the reads.
 pub record IsBodyOf (p : Program) (k : Known) (number : ℕ) (props : List ℤ) (given : Elements) (i : Instance) (es : List Element) : Type 0 where
   pub component : Component
   pub is_component : component_at p number ≡ Some component
@@ -39,9 +44,9 @@ pub record IsBodyOf (p : Program) (k : Known) (number : ℕ) (props : List ℤ) 
   pub instance : ℕ
   pub is_numbered : i.number ≡ Some instance
   pub initials : List ℤ
-  pub gives : (cs : Contexts) → read_anew cs i.reads ≡ false
-      → body_of p component (record { props = props; children = listed given; hooks = Some (done_values p k instance i.initials); contexts = cs; resources = k.resources })
-      ≡ ready es i.effects initials i.reads
+  pub gives : (cs : Contexts) (version : ℕ → ℕ) → read_anew cs i.reads ≡ false → refreshed version i.versions ≡ false
+      → body_of p component (record { props = props; children = listed given; hooks = Some (done_values p k instance i.initials); contexts = cs; versions = map version (resource_numbers p); resources = values_at k.resolutions (map version (resource_numbers p)) })
+      ≡ ready es i.effects initials i.reads i.versions
 
 -- A node has the mark and the children of its element, given what is asked of a component. What a hidden boundary keeps may come from another element.
 abbrev pub IsOwnBy : (ℕ → List ℤ → Elements → Instance → List Element → Type 0) → Element → Mark → (children fallback : Forest) → Type 0
@@ -72,7 +77,7 @@ abbrev mutual
 
 -- what a render knows for good
 abbrev pub known_by : Sight → Known
-known_by s = record { updates = s.journal.updates; resources = resources_seen s }
+known_by s = record { updates = s.journal.updates; resolutions = resolutions_by s.cut s.journal }
 
 -- what is done lies before the cut
 abbrev pub DoneBefore : Cut → List Posted → Type 0
@@ -124,8 +129,8 @@ TargetsBelow next [] = Unit {0}
 TargetsBelow next (u ∷ us) = ((k : ℕ) (i : ℕ) → next ≤ i → same_target (hook i k) u.target ≡ false) × TargetsBelow next us
 
 -- what had a value has it still
-abbrev pub HasValuesOf : List (Option ℤ) → List (Option ℤ) → Type 0
-HasValuesOf res more = (r : ℕ) (x : ℤ) → slice_index_or res r None ≡ Some x → slice_index_or more r None ≡ Some x
+abbrev pub HasValuesOf : List Resolution → List Resolution → Type 0
+HasValuesOf rs more = (r v : ℕ) (x : ℤ) → value_in rs r v ≡ Some x → value_in more r v ≡ Some x
 
 -- an instance is one of these
 abbrev pub includes : (instances : List ℕ) → ℕ → Bool
@@ -163,36 +168,40 @@ times_numbered_if n (Some x) = times_numbered n x
 abbrev pub HasOwnNumbers : ℕ → Option Node → Type 0
 HasOwnNumbers next old = (n : ℕ) → (times_numbered_if n old ≤ 1) × (next ≤ n → times_numbered_if n old ≡ 0)
 
--- an instance read other values than these contexts give
-abbrev pub reads_another : Contexts → Mark → Bool
-reads_another cs (of_instance i) = read_anew cs i.reads
-reads_another cs (of_host h) = false
-reads_another cs (of_boundary b) = false
-reads_another cs plain = false
+-- an instance read other values than these contexts give, or other versions than these
+abbrev pub reads_another : (version : ℕ → ℕ) → Contexts → Mark → Bool
+reads_another version cs (of_instance i) = read_anew cs i.reads || refreshed version i.versions
+reads_another version cs (of_host h) = false
+reads_another version cs (of_boundary b) = false
+reads_another version cs plain = false
 
--- what is rendered of a tree read the contexts of its place
+-- what is rendered of a tree read the contexts of its place, and the resources in these versions
 abbrev mutual
-  pub ReadsHold : Contexts → Node → Type 0
-  ReadsHold cs (node e m ns fs) =
-      (reads_another cs m ≡ false) × IfHidden (is_hidden m) (Unit {0}) (AllReadsHold (contexts_below e cs) ns) × AllReadsHold cs fs
+  pub ReadsHold : (version : ℕ → ℕ) → Contexts → Node → Type 0
+  ReadsHold version cs (node e m ns fs) =
+      (reads_another version cs m ≡ false) × IfHidden (is_hidden m) (Unit {0}) (AllReadsHold version (contexts_below e cs) ns) × AllReadsHold version cs fs
 
   -- the same for the trees of a list
-  pub AllReadsHold : Contexts → Forest → Type 0
-  AllReadsHold cs none = Unit {0}
-  AllReadsHold cs (vacant ns) = AllReadsHold cs ns
-  AllReadsHold cs (child n ns) = ReadsHold cs n × AllReadsHold cs ns
+  pub AllReadsHold : (version : ℕ → ℕ) → Contexts → Forest → Type 0
+  AllReadsHold version cs none = Unit {0}
+  AllReadsHold version cs (vacant ns) = AllReadsHold version cs ns
+  AllReadsHold version cs (child n ns) = ReadsHold version cs n × AllReadsHold version cs ns
 
 -- the same for a tree that may be missing
-abbrev pub IfReadsHold : Contexts → Option Node → Type 0
-IfReadsHold cs None = Unit {0}
-IfReadsHold cs (Some n) = ReadsHold cs n
+abbrev pub IfReadsHold : (version : ℕ → ℕ) → Contexts → Option Node → Type 0
+IfReadsHold version cs None = Unit {0}
+IfReadsHold version cs (Some n) = ReadsHold version cs n
 
--- What is kept of the committed tree: bodies give it, each instance has a number of its own, and its reads hold.
+-- the version of a resource that the last commit showed, by these updates
+abbrev pub version_done : List Posted → (resource : ℕ) → ℕ
+version_done us r = length (filter (λ u. stands_done u.standing) (filter (λ u. same_target (resource r) u.target) us))
+
+-- What is kept of the committed tree: bodies give it, each instance has a number of its own, and what it read is what the last commit showed.
 pub record IsSound (p : Program) (k : Known) (next : ℕ) (tree : Option Node) : Type 0 where
   pub settled : IfSettled p k tree
   pub own_numbers : HasOwnNumbers next tree
   pub targets : TargetsBelow next k.updates
-  pub reads : IfReadsHold (default_contexts p) tree
+  pub reads : IfReadsHold (version_done k.updates) (default_contexts p) tree
 
 -- an included update of an instance isn't done, or a boundary is hidden
 abbrev pub is_stirred : Sight → Mark → Bool

@@ -1,5 +1,5 @@
 -- Which places a render comes to, and which of them have a cause to be evaluated anew.
-use Rattle.std.specs.Prelude.{ℕ, zero, suc, Bool, true, false, not, ◌&&◌, ◌||◌, List, [], ◌∷◌, ◌++◌, Option, Some, None, filter, is_some, option_to_list, slice_set, slice_get, if◌then◌else◌}
+use Rattle.std.specs.Prelude.{ℕ, zero, suc, Bool, true, false, not, ◌&&◌, ◌||◌, List, [], ◌∷◌, ◌++◌, Option, Some, None, filter, is_some, nat_eq, option_to_list, slice_set, slice_get, if◌then◌else◌}
 use Rattle.std.specs.List.{zip, list_any}
 use Rattle.std.specs.Option.{option_eq, option_map_or}
 use Rattle.std.specs.Ordering.{int_eq}
@@ -12,11 +12,12 @@ use Rattle.rx_elem.specs.Elements.{Element, same_element}
 use Rattle.rx_elem.specs.Elements as elements
 use Rattle.rx_elem.specs.Trees.{Node, Forest, Instance, element_of, mark_of, children_of, boundary_in, was_hidden}
 use Rattle.rx_elem.specs.declared.effect.ContextRead.{ContextRead}
+use Rattle.rx_elem.specs.declared.effect.VersionRead.{VersionRead}
 use Rattle.rx_elem.specs.Spots.{spots_in, at_root, mounted_at, numbers_of}
 use Rattle.rx_elem.specs.Compare.{old_nodes}
 use Rattle.rx_queue.specs.History.{stands_done}
-use Rattle.rx_queue.specs.Journal.{is_included, is_new, belongs_to, resolved_by}
-use Rattle.rx_meaning.specs.Fresh.{Sight, Contexts, Place, empty, made, waits, Renders, rendered, default_contexts, root_element, depth_limit, old_instance, Part, Shape, absent, waiting, one_list, two_lists, shape_of}
+use Rattle.rx_queue.specs.Journal.{is_included, is_new, belongs_to, done_version, resolved_by}
+use Rattle.rx_meaning.specs.Fresh.{Sight, Contexts, Place, empty, made, waits, Renders, rendered, default_contexts, root_element, depth_limit, old_instance, version_seen, resource_numbers, Part, Shape, absent, waiting, one_list, two_lists, shape_of}
 
 -- a place of a tree: which child it is in each list from it up to the root
 abbrev pub Address : Type 0
@@ -55,10 +56,15 @@ has_new_work s instances = list_any (λ u. is_new s.lanes s.cut u && belongs_to 
 abbrev pub is_read_anew : Contexts → ContextRead → Bool
 is_read_anew cs r = not (option_eq int_eq (slice_get cs r.context) (Some r.value))
 
--- a component's place is touched if its instance is new, has an included update that isn't done, or read another value of a context
+-- a resource has another version than the one that was read
+abbrev pub is_refreshed : Sight → VersionRead → Bool
+is_refreshed s r = not (nat_eq (version_seen s r.resource) r.version)
+
+-- a component's place is touched if its instance is new, has an included update that isn't done, or read another value of a context or another version of a resource
 abbrev pub touched_instance : Sight → Contexts → Option Instance → Bool
 touched_instance s cs None = true
-touched_instance s cs (Some i) = has_update s (option_to_list i.number) || list_any (is_read_anew cs) i.reads
+touched_instance s cs (Some i) =
+    has_update s (option_to_list i.number) || (list_any (is_read_anew cs) i.reads || list_any (is_refreshed s) i.versions)
 
 -- Boundaries
 
@@ -66,19 +72,24 @@ touched_instance s cs (Some i) = has_update s (option_to_list i.number) || list_
 abbrev pub instances_in : Forest → List ℕ
 instances_in ns = numbers_of (mounted_at (spots_in at_root ns))
 
--- the resources that were resolved before the cut
+-- the resources of which the version that is done was resolved before the cut
 abbrev pub resolved_seen : Sight → Awaits
-resolved_seen s = awaits_where (λ r. is_some (resolved_by s.cut s.journal r))
+resolved_seen s = awaits_where (λ r. is_some (resolved_by s.cut s.journal r (done_version s.journal r)))
+
+-- a render sees a resource in another version than the last commit showed
+abbrev pub sees_refresh : Sight → Bool
+sees_refresh s = list_any (λ r. not (nat_eq (version_seen s r) (done_version s.journal r))) (resource_numbers s.program)
 
 -- a boundary waits for what has no value yet, and there is no new work in what it keeps
 abbrev pub is_waiting_still : Sight → Node → BoundaryState → Bool
 is_waiting_still s old state = may_skip state (resolved_seen s) (has_new_work s (instances_in (children_of old)))
 
--- a hidden boundary is untouched if it is visible, its element and the contexts are those of the committed tree, and it waits still
+-- a hidden boundary is untouched if it is visible, its element, the contexts and the versions of all resources are those of the committed tree, and it waits still
 abbrev pub is_untouched : Sight → Setting → Element → Node → BoundaryState → Bool
 is_untouched s at e old state =
     at.was_visible
-    && (same_element e (element_of old) && (pointwise int_eq at.contexts at.committed && is_waiting_still s old state))
+    && (same_element e (element_of old)
+    && (pointwise int_eq at.contexts at.committed && (not (sees_refresh s) && is_waiting_still s old state)))
 
 -- a place is one of a hidden boundary that is untouched
 abbrev pub keeps_untouched : Sight → Setting → Element → Option Node → Bool
@@ -147,7 +158,7 @@ setting_of_fallback at = record at { address = 1 ∷ at.address }
 -- the visits below a place, by what stands in it
 abbrev pub visit_below : Visits → (Contexts → Renders) → Sight → Setting → Element → Option Node → Shape → List Visit
 visit_below visit below s at e old absent = []
-visit_below visit below s at e old (waiting r) = []
+visit_below visit below s at e old (waiting r v) = []
 visit_below visit below s at e old (one_list m p) = visit_part visit below at p
 visit_below visit below s at e old (two_lists p f) =
     visit_part visit below (setting_of_primary s at e old) p
@@ -172,7 +183,7 @@ component_in (elements.provider c k x es) = None
 -- the visit of the place itself; if nothing stands there, there is none
 abbrev pub visit_here : Sight → Setting → Element → Option Node → Shape → List Visit
 visit_here s at e old absent = []
-visit_here s at e old (waiting r) = visit_as s at old (component_in e) ∷ []
+visit_here s at e old (waiting r v) = visit_as s at old (component_in e) ∷ []
 visit_here s at e old (one_list m p) = visit_as s at old (component_in e) ∷ []
 visit_here s at e old (two_lists p f) = visit_as s at old (component_in e) ∷ []
 

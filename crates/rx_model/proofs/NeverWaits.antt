@@ -128,7 +128,7 @@ takes-all p i (t ∷ ts) f h =
     (rest.0, ap (λ (x : Taken). and_then x (take_all p i ts)) one.1 ∙ rest.1)
 
 -- so the body is ready, with the elements of its slots
-body-ready : (p : Program) (c : Component) (i : Inputs) → reads_resource c ≡ false → (g : Frame) × (body_of p c i ≡ ready (elements_of p i.children g.env (body_slots c.body)) g.effects g.initials g.reads)
+body-ready : (p : Program) (c : Component) (i : Inputs) → reads_resource c ≡ false → (g : Frame) × (body_of p c i ≡ ready (elements_of p i.children g.env (body_slots c.body)) g.effects g.initials g.reads g.versions)
 unfolding body_of
 body-ready p c i h =
     let all = takes-all p i c.statements (opening_frame c i.props) h in

@@ -16,14 +16,18 @@ use Rattle.rx_rules.specs.Names.{resource_number}
 use Rattle.rx_step.specs.declared.step.LaneWord.{LaneWord}
 use Rattle.rx_step.specs.declared.step.LaneWord.TheVariants as word
 use Rattle.rx_step.specs.declared.step.Dispatch.{Dispatch}
+use Rattle.rx_step.specs.declared.step.Dispatch.TheVariants as dispatch
 use Rattle.rx_step.specs.declared.step.Step.{Step}
 use Rattle.rx_step.specs.declared.step.Step.TheVariants as step
-use Rattle.rx_step.specs.Steps.{word_of, path_of}
+use Rattle.rx_step.specs.Steps.{word_of}
 use Rattle.rx_elem.specs.Trees.{Node}
 use Rattle.rx_elem.specs.Spots.{Mounted}
 use Rattle.rx_elem.specs.Numbers.{numbered}
 use Rattle.rx_queue.specs.declared.update.Op.{Op}
-use Rattle.rx_queue.specs.Journal.{Target, Posted, Journal, cut_now, marked_update, has_later, resolved_by, resolved_now, resolved_since}
+use Rattle.rx_queue.specs.declared.update.Op.TheVariants as op
+use Rattle.rx_queue.specs.Pairs.{Pair, in_versions}
+use Rattle.rx_sched.specs.Waiting.{Waiting}
+use Rattle.rx_queue.specs.Journal.{Target, resource, Posted, Journal, cut_now, marked_update, has_later, resolved_by, resolved_since, version_of}
 use Rattle.rx_sched.specs.declared.choice.Choice.{Choice}
 use Rattle.rx_sched.specs.declared.choice.Choice.TheVariants as choice
 use Rattle.rx_sched.specs.Links.{Links, one_link_on, links_on}
@@ -32,7 +36,7 @@ use Rattle.rx_meaning.specs.Outcome.{Outcome, commit, defer, outcome, still_pend
 use Rattle.rx_lines.specs.Lines.{Counts}
 use Rattle.rx_model.specs.State.{State, Progress, opening, instance_found}
 use Rattle.rx_model.specs.Stretch.{Stretch, silent, followed_by}
-use Rattle.rx_model.specs.Accepting.{accepted, dispatched, dispatched_to, dispatched_for, in_event, lane_of, next_update, op_of, target_of, resolved, resolved_as, between_events}
+use Rattle.rx_model.specs.Accepting.{accepted, dispatched, dispatched_to, dispatched_for, in_event, lane_of, next_update, op_of, target_of, resolved, resolved_as, last_value, between_events}
 use Rattle.rx_model.specs.Committing.{passive_run, starting, sight_of, committed_state, ended, ended_by}
 use Rattle.rx_model.specs.Turns.{AnyRender, unit_bound, slice_of, Finishes, Yields, gone_on, Continues, TurnBy, Turn, choice_of}
 use Rattle.rx_model.specs.Machine.{IsAtRest, Flushes, Flush, FlushSync, StepTo}
@@ -73,13 +77,13 @@ and-not-same : (b : Bool) → (b && not b) ≡ false
 and-not-same true = refl
 and-not-same false = refl
 
-resolved-none : (j : Journal) (waits : Awaits) → resolved_since (cut_now j) j waits ≡ false
+resolved-none : (j : Journal) (waits : List Pair) → resolved_since (cut_now j) j waits ≡ false
 resolved-none j [] = refl
-resolved-none j (r ∷ rs) = rw (and-not-same (is_some (resolved_by (cut_now j) j r)), resolved-none j rs) refl
+resolved-none j (w ∷ ws) = rw (and-not-same (is_some (resolved_by (cut_now j) j w.resource w.version)), resolved-none j ws) refl
 
-awaits-none : (j : Journal) (ws : List Awaits) → list_any (resolved_since (cut_now j) j) ws ≡ false
-awaits-none j [] = refl
-awaits-none j (w ∷ ws) = rw (resolved-none j w, awaits-none j ws) refl
+awaits-none : (lanes : Lanes) (j : Journal) (ws : List Awaits) → list_any (λ waits. resolved_since (cut_now j) j (in_versions (version_of lanes (cut_now j) j) waits)) ws ≡ false
+awaits-none lanes j [] = refl
+awaits-none lanes j (w ∷ ws) = rw (resolved-none j (in_versions (version_of lanes (cut_now j) j) w), awaits-none lanes j ws) refl
 
 nothing-where : union (lanes_where (λ l. false)) no_lanes ≡ no_lanes
 unfolding lanes_where
@@ -91,7 +95,7 @@ and-false false = refl
 
 still-none : (lanes : Lanes) (j : Journal) (new : Node) → Below (length j.updates) j.updates → still_pending lanes (cut_now j) j new ≡ no_lanes
 still-none lanes j new all =
-    ap (λ b. union (lanes_where (λ l. has lanes l && has_later (cut_now j) j l)) (cond b (one lane.Retry) no_lanes)) (awaits-none j (visible_awaits (Some new)))
+    ap (λ b. union (lanes_where (λ l. has lanes l && has_later (cut_now j) j l)) (cond b (one lane.Retry) no_lanes)) (awaits-none lanes j (visible_awaits (Some new)))
     ∙ ap (λ (ls : Lanes). union ls no_lanes)
     (lanes_agree (λ l. has lanes l && has_later (cut_now j) j l) (λ l. false) (λ l. ap (λ b. has lanes l && b) (later-none (length j.updates) l j.updates all) ∙ and-false (has lanes l)))
     ∙ nothing-where
@@ -133,7 +137,7 @@ or_bools true false false = refl
 or_bools false s m = refl
 
 -- a deferral takes its lanes out of them
-free-deferral : (sch : Schedule) (lanes : Lanes) (waits : Awaits) (now : ℕ) → free_of (after_deferral sch lanes waits now) ≡ minus (free_of sch) lanes
+free-deferral : (sch : Schedule) (lanes : Lanes) (waits : Waiting) (now : ℕ) → free_of (after_deferral sch lanes waits now) ≡ minus (free_of sch) lanes
 free-deferral sch lanes waits now = lanes_agree _ _ (λ l.
     let has_both : has (union sch.suspended lanes) l ≡ (has sch.suspended l || has lanes l) = has-lanes_where _ l in
     let has_free : has (free_of sch) l ≡ (has sch.pending l && not (has sch.suspended l)) = has-lanes_where _ l in
@@ -157,9 +161,11 @@ free-ended s g counts (commit new) now all = sync (has g.lanes lane.Sync)
     sync true = whole
     sync false = whole
 free-ended s g counts (defer waits) now all =
-    ap (λ (c : Cut). free_of (cond (resolved_since c s.journal waits) s.schedule (after_deferral s.schedule g.lanes waits s.now))) now
-    ∙ ap (λ b. free_of (cond b s.schedule (after_deferral s.schedule g.lanes waits s.now))) (resolved-none s.journal waits)
-    ∙ free-deferral s.schedule g.lanes waits s.now
+    let pairs = in_versions (version_of g.lanes (cut_now s.journal) s.journal) waits in
+    ap (λ (c : Cut). free_of (cond (resolved_since c s.journal (in_versions (version_of g.lanes c s.journal) waits)) s.schedule
+    (after_deferral s.schedule g.lanes (in_versions (version_of g.lanes c s.journal) waits) s.now))) now
+    ∙ ap (λ b. free_of (cond b s.schedule (after_deferral s.schedule g.lanes pairs s.now))) (resolved-none s.journal pairs)
+    ∙ free-deferral s.schedule g.lanes pairs s.now
 
 -- ---- a render that starts has a lane of them
 
@@ -433,9 +439,15 @@ dispatched_for-can p s word.Transition t o can =
     let l = lane_of s word.Transition in
     accepted-can p (in_event word.Transition s t l) (next_update s.journal t o l) refl (record { below = can.below; due = can.due })
 
-pub dispatched-can : (p : Program) (s : State) (d : Dispatch) (m : Option Mounted) → CanGoOn p s → CanGoOn p (dispatched_to p s d m).after
-dispatched-can p s d None can = can
-dispatched-can p s d (Some m) can = dispatched_for-can p s (word_of d) (target_of p d m) (op_of p m.component d) can
+dispatched_to-can : (p : Program) (s : State) (d : Dispatch) (m : Option Mounted) → CanGoOn p s → CanGoOn p (dispatched_to p s d m).after
+dispatched_to-can p s d None can = can
+dispatched_to-can p s d (Some m) can = dispatched_for-can p s (word_of d) (target_of p d m) (op_of p m.component d) can
+
+pub dispatched-can : (p : Program) (s : State) (d : Dispatch) → CanGoOn p s → CanGoOn p (dispatched p s d).after
+dispatched-can p s (dispatch.Set word path name x) can = dispatched_to-can p s (dispatch.Set word path name x) (instance_found p s.tree path) can
+dispatched-can p s (dispatch.Call word path name f x) can = dispatched_to-can p s (dispatch.Call word path name f x) (instance_found p s.tree path) can
+dispatched-can p s (dispatch.Send word path name x) can = dispatched_to-can p s (dispatch.Send word path name x) (instance_found p s.tree path) can
+dispatched-can p s (dispatch.Refresh word name) can = dispatched_for-can p s word (resource (resource_number p name)) op.Refresh can
 
 pub resolved-can : (p : Program) (s : State) (name : Name) (x : ℤ) (o : Option ℤ) → CanGoOn p s → CanGoOn p (resolved_as p s name x o).after
 resolved-can p s name x None can = record { below = can.below; due = can.due }
@@ -447,10 +459,10 @@ sync-step false p s never can = (silent s, refl, can)
 
 -- each step can be taken
 some_step : (p : Program) (s : State) (x : Step) → NeverWaits p → CanGoOn p s → SomeStep p s x
-some_step p s (step.Dispatch d) never can = (dispatched p s d, refl, dispatched-can p s d (instance_found p s.tree (path_of d)) can)
+some_step p s (step.Dispatch d) never can = (dispatched p s d, refl, dispatched-can p s d can)
 some_step p s (step.Resolve name x) never can =
     let t = between_events s in
-    (resolved p t name x, refl, resolved-can p t name x (resolved_now t.journal (resource_number p name)) (can-between p s can))
+    (resolved p t name x, refl, resolved-can p t name x (last_value t (resource_number p name)) (can-between p s can))
 some_step p s (step.Tick n) never can = (_, refl, record { below = can.below; due = can.due })
 some_step p s (step.Work n) never can = some_turn p (between_events s) (Some n) never (can-between p s can)
 some_step p s step.Flush never can = some_flush p (between_events s) never (can-between p s can)

@@ -7,14 +7,12 @@ use Rattle.rx_ast.specs.Syntax.{Program}
 use Rattle.rx_rules.specs.Names.{resource_number}
 use Rattle.rx_step.specs.declared.step.Step.{Step}
 use Rattle.rx_step.specs.declared.step.Step.TheVariants as step
-use Rattle.rx_step.specs.Steps.{path_of}
 use Rattle.rx_sched.specs.declared.choice.Choice.{Choice}
 use Rattle.rx_sched.specs.declared.choice.Choice.TheVariants as choice
-use Rattle.rx_queue.specs.Journal.{resolved_now}
 use Rattle.rx_meaning.specs.Outcome.{outcome}
-use Rattle.rx_model.specs.State.{State, Progress, instance_found}
+use Rattle.rx_model.specs.State.{State, Progress}
 use Rattle.rx_model.specs.Stretch.{Stretch, silent, followed_by}
-use Rattle.rx_model.specs.Accepting.{between_events}
+use Rattle.rx_model.specs.Accepting.{between_events, last_value}
 use Rattle.rx_model.specs.Committing.{passive_run, starting}
 use Rattle.rx_model.specs.Turns.{OfRender, AnyRender, unit_bound, GoesOn, Continues, TurnBy, choice_of}
 use Rattle.rx_model.specs.Machine.{IsAtRest, Flushes, FlushSync, StepTo, RunTo}
@@ -55,9 +53,9 @@ sync-keeps true p s r h can = turn-keeps p s (choice_of s) None r h can
 sync-keeps false p s r h can = same-can p r (silent s) h can
 
 step-keeps : (p : Program) (s : State) (x : Step) (r : Stretch) → StepTo AnyRender p s x r → CanGoOn p s → CanGoOn p r.after
-step-keeps p s (step.Dispatch d) r h can = same-can p r _ h (dispatched-can p s d (instance_found p s.tree (path_of d)) can)
+step-keeps p s (step.Dispatch d) r h can = same-can p r _ h (dispatched-can p s d can)
 step-keeps p s (step.Resolve name v) r h can =
-    same-can p r _ h (resolved-can p (between_events s) name v (resolved_now s.journal (resource_number p name)) (can-between p s can))
+    same-can p r _ h (resolved-can p (between_events s) name v (last_value (between_events s) (resource_number p name)) (can-between p s can))
 step-keeps p s (step.Tick n) r h can = same-can p r _ h (record { below = can.below; due = can.due })
 step-keeps p s (step.Work n) r h can = turn-keeps p (between_events s) (choice_of (between_events s)) (Some n) r h (can-between p s can)
 step-keeps p s step.Flush r h can = flushes-keep h.0 p (between_events s) r h.2 (can-between p s can)

@@ -4,13 +4,12 @@ use Rattle.rx_lane.specs.declared.lane.Lane.TheVariants as lane
 use Rattle.rx_lane.specs.Lanes.{Lanes, has}
 use Rattle.rx_ast.specs.Syntax.{Program}
 use Rattle.rx_rules.specs.Names.{resource_number}
-use Rattle.rx_queue.specs.Journal.{resolved_now}
 use Rattle.rx_sched.specs.declared.choice.Choice.TheVariants as choice
 use Rattle.rx_step.specs.declared.step.Step.{Step}
 use Rattle.rx_step.specs.declared.step.Step.TheVariants as step
 use Rattle.rx_model.specs.State.{State}
 use Rattle.rx_model.specs.Stretch.{Stretch, silent, followed_by}
-use Rattle.rx_model.specs.Accepting.{between_events}
+use Rattle.rx_model.specs.Accepting.{between_events, last_value}
 use Rattle.rx_model.specs.Committing.{passive_run}
 use Rattle.rx_model.specs.Turns.{OfRender, choice_of, unit_bound}
 use Rattle.rx_model.specs.Machine.{Flushes, RunTo, flush_limit}
@@ -36,7 +35,7 @@ FlushBreaksOff Asked limit p s r = (n : ℕ) × (n < limit) × Flushes Asked Tur
 -- From a state, this stretch is what is done of a step that breaks off: of one that renders what its turns have finished, and of any other nothing. A resolution breaks off only if it is refused, since its line is to be written; time and the end of an event take no memory.
 abbrev pub BreaksOff : OfRender → Program → State → Step → Stretch → Type 0
 BreaksOff Asked p s (step.Dispatch d) r = r ≡ silent s
-BreaksOff Asked p s (step.Resolve name x) r = IsTrue (is_some (resolved_now s.journal (resource_number p name))) × (r ≡ silent s)
+BreaksOff Asked p s (step.Resolve name x) r = IsTrue (is_some (last_value s (resource_number p name))) × (r ≡ silent s)
 BreaksOff Asked p s (step.Tick n) r = ⊥
 BreaksOff Asked p s (step.Work n) r = TurnBreaksOff p (between_events s) r
 BreaksOff Asked p s step.Flush r = FlushBreaksOff Asked flush_limit p (between_events s) r

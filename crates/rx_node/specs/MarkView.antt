@@ -8,7 +8,14 @@ use Rattle.rx_node.specs.declared.mark.Mark.TheVariants as mark
 -- an instance
 abbrev pub instance_seen : Instance → trees.Instance
 instance_seen i =
-    record { number = i.number; component = i.component; initials = i.initials.value; reads = i.reads.value.items; effects = i.effects.value.items }
+    record {
+      number = i.number;
+      component = i.component;
+      initials = i.initials.value;
+      reads = i.reads.value.items;
+      versions = i.versions.value.items;
+      effects = i.effects.value.items;
+    }
 
 -- what a node has beside its element and its children
 abbrev pub mark_seen : Mark → trees.Mark

@@ -11,6 +11,7 @@ use Rattle.rx_elem.specs.ElementCode.{element_code, head, tail, third}
 use Rattle.rx_elem.specs.Trees.{Instance, Mark, of_instance, of_host, of_boundary, plain, Node, node, Forest, none, vacant, child}
 use Rattle.rx_elem.specs.declared.effect.EffectRecord.{EffectRecord}
 use Rattle.rx_elem.specs.declared.effect.ContextRead.{ContextRead}
+use Rattle.rx_elem.specs.declared.effect.VersionRead.{VersionRead}
 
 abbrev numbers : Coded (List ℕ)
 numbers = coded_list coded_ℕ
@@ -21,19 +22,22 @@ integers = coded_list coded_ℤ
 abbrev read_code : Coded ContextRead
 read_code = code_by (ℕ × ℤ) (coded× coded_ℕ coded_ℤ) (λ r. (r.context, r.value)) (λ p. record { context = p.0; value = p.1 }) (λ _. refl)
 
+abbrev version_code : Coded VersionRead
+version_code = code_by (ℕ × ℕ) (coded× coded_ℕ coded_ℕ) (λ r. (r.resource, r.version)) (λ p. record { resource = p.0; version = p.1 }) (λ _. refl)
+
 abbrev effect_code : Coded EffectRecord
 effect_code =
     code_by (Bool × (List ℕ × List ℤ)) (coded× coded_bool (coded× numbers integers)) (λ e. (e.layout, (e.label, e.values)))
     (λ p. record { layout = p.0; label = p.1.0; values = p.1.1 }) (λ _. refl)
 
 abbrev InstanceParts : Type 0
-InstanceParts = Option ℕ × (ℕ × (List ℤ × (List ContextRead × List EffectRecord)))
+InstanceParts = Option ℕ × (ℕ × (List ℤ × (List ContextRead × (List VersionRead × List EffectRecord))))
 
 abbrev instance_code : Coded Instance
 instance_code =
-    code_by InstanceParts (coded× (coded_option coded_ℕ) (coded× coded_ℕ (coded× integers (coded× (coded_list read_code) (coded_list effect_code)))))
-    (λ i. (i.number, (i.component, (i.initials, (i.reads, i.effects)))))
-    (λ p. record { number = p.0; component = p.1.0; initials = p.1.1.0; reads = p.1.1.1.0; effects = p.1.1.1.1 }) (λ _. refl)
+    code_by InstanceParts (coded× (coded_option coded_ℕ) (coded× coded_ℕ (coded× integers (coded× (coded_list read_code) (coded× (coded_list version_code) (coded_list effect_code))))))
+    (λ i. (i.number, (i.component, (i.initials, (i.reads, (i.versions, i.effects))))))
+    (λ p. record { number = p.0; component = p.1.0; initials = p.1.1.0; reads = p.1.1.1.0; versions = p.1.1.1.1.0; effects = p.1.1.1.1.1 }) (λ _. refl)
 
 abbrev of_state : BoundaryState → Option Awaits
 of_state Shown = None

@@ -4,20 +4,21 @@ ghost use Rattle.rx_elem.specs.Trees.{instance_in, effects_in, is_host, is_hidde
 ghost use Rattle.rx_node.specs.MarkView.{instance_seen, mark_seen};
 
 use rx_base::{Awaits, Ints};
-use rx_elem::{ContextRead, EffectRecord};
+use rx_elem::{ContextRead, EffectRecord, VersionRead};
 use rx_susp::BoundaryState;
 use std::alloc::AllocError;
 use std::rc::Rc;
 
 /// What is kept of a component's instance (react.dev, State as a Snapshot): its number, from its first commit on; its
-/// component, by its number in the order of the text; the initial values of its hooks; the contexts that it read; and its
-/// effects. What does not change from one render to the next is shared by the trees of both.
+/// component, by its number in the order of the text; the initial values of its hooks; the contexts and the versions of resources that
+/// it read; and its effects. What does not change from one render to the next is shared by the trees of both.
 #[derive(Drop)]
 pub struct Instance {
     pub number: Option<u64>,
     pub component: u32,
     pub initials: Rc<Ints>,
     pub reads: Rc<Vec<ContextRead>>,
+    pub versions: Rc<Vec<VersionRead>>,
     pub effects: Rc<Vec<EffectRecord>>,
 }
 
@@ -47,6 +48,7 @@ impl Instance {
             component: self.component,
             initials: self.initials.clone()?,
             reads: self.reads.clone()?,
+            versions: self.versions.clone()?,
             effects: self.effects.clone()?,
         })
     }

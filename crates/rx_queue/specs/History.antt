@@ -5,7 +5,7 @@ use Rattle.rx_base.specs.declared.cut.Cut.{Cut}
 use Rattle.rx_lane.specs.declared.lane.Lane.{Lane}
 use Rattle.rx_lane.specs.Lanes.{Lanes, has, same_lane, lanes_where}
 use Rattle.rx_queue.specs.declared.update.Op.{Op}
-use Rattle.rx_queue.specs.declared.update.Op.TheVariants.{Set, Call}
+use Rattle.rx_queue.specs.declared.update.Op.TheVariants.{Set, Call, Refresh}
 use Rattle.rx_queue.specs.declared.update.Update.{Update}
 use Rattle.rx_queue.specs.declared.entry.Standing.{Standing}
 use Rattle.rx_queue.specs.declared.entry.Standing.TheVariants.{Open, Done, Owed}
@@ -15,10 +15,11 @@ use Rattle.rx_queue.specs.declared.entry.Entry.{Entry}
 abbrev pub Answers : Type 0
 Answers = ℕ → ℤ → ℤ → ℤ
 
--- what an operation makes of a state
+-- what an operation makes of a state; a refresh is of a resource, and of no state
 abbrev pub applied : Answers → ℤ → Op → ℤ
 applied answers state (Set x) = x
 applied answers state (Call f x) = answers f state x
+applied answers state Refresh = state
 
 -- ---- how an update stands
 

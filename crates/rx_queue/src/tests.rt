@@ -18,6 +18,7 @@ impl Fold for Digits {
         match *op {
             Op::Set(x) => x,
             Op::Call(_, x) => Int::of(state.value().wrapping_mul(10).wrapping_add(x.value())),
+            Op::Refresh => state,
         }
     }
 }

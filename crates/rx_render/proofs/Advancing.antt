@@ -34,6 +34,7 @@ use Rattle.rx_causes.specs.declared.scene.Scene.{Scene}
 use Rattle.rx_causes.specs.Scenes.{IsSceneOf, KeepsHooks, GivesHooks, TellsNews}
 use Rattle.rx_causes.specs.Hidden.{KeepsHooksIf, GivesHooksIf, ForEach, ForEachIn}
 use Rattle.rx_children.specs.Again.{HasOldFallback}
+use Rattle.rx_meaning.specs.Touched.{sees_refresh}
 use Rattle.rx_begin.specs.Beginning.{IsAtPlace, stands, HasLists, IsHiddenAgain, IsTakenOver, BeginsPlace}
 use Rattle.rx_children.specs.Units.{IsPlace, IsEnd}
 use Rattle.rx_ways.specs.Ways.{is_way, CoversIf}
@@ -115,7 +116,7 @@ PaysOpened s kept t st new id bodies at =
 -- what it pays if a body waits, and the fallback of a boundary opens
 abbrev pub PaysWaiting : Sight → (kept : ℕ → Option (List Hook)) → Trees Fiber → Stack → Trees Fiber → Stack → (id bodies r : ℕ) → Trees Fiber → At → Type 0
 PaysWaiting s kept t st new st' id bodies r last at =
-    (n : ℕ) (fs : List Frame) (cs : Contexts) (e : Element) (old : Option Node) (us : Flags) → StandsAt t st (Some id) (at_place (suc n) fs cs e old) → TellsIf s kept old → shape_of s cs e old ≡ waiting r
+    (n : ℕ) (fs : List Frame) (cs : Contexts) (e : Element) (old : Option Node) (us : Flags) → StandsAt t st (Some id) (at_place (suc n) fs cs e old) → TellsIf s kept old → ((v : ℕ) × (shape_of s cs e old ≡ waiting r v))
     → IsWithin new st' id fs → FlagsAtPlace t id us → Paid s t.current bodies us (at_place (suc n) fs cs e old) (unit s (at_place (suc n) fs cs e old)) last at
 
 -- there is no news in what the old node of a fiber keeps
@@ -126,12 +127,12 @@ HasNoNewsThere s kept t id = (x : Node) → IsOld t.current (old_of t.draft id) 
 abbrev pub RestsThere : Sight → (way : ℕ → Bool) → (kept : ℕ → Option (List Hook)) → Trees Fiber → ℕ → Type 0
 RestsThere s way kept t id = (x : Node) → IsOld t.current (old_of t.draft id) (Some x) → EachBut way (Rests kept s.lanes s.cut) x
 
--- a hidden boundary waits still that awaits nothing with a value and keeps nothing with news
+-- a hidden boundary waits still if no resource has another version, it awaits nothing with a value, and it keeps nothing with news
 waits_there : (s : Sight) (kept : ℕ → Option (List Hook)) (t : Trees Fiber) (id : ℕ) (old : Option Node) (e : Element) (a : Awaits) (ns fs : Forest) → old ≡ Some (node e (of_boundary (Hidden a)) ns fs)
-    → IsOld t.current (old_of t.draft id) old → TellsIf s kept old → AreUnresolved s a → HasNoNewsThere s kept t id → waits_still s old ≡ true
-waits_there s kept t id old e a ns fs was old_is tells unresolved none =
+    → IsOld t.current (old_of t.draft id) old → TellsIf s kept old → sees_refresh s ≡ false → AreUnresolved s a → HasNoNewsThere s kept t id → waits_still s old ≡ true
+waits_there s kept t id old e a ns fs was old_is tells calm unresolved none =
     let there : TellsIf s kept (Some (node e (of_boundary (Hidden a)) ns fs)) = subst (TellsIf s kept) was tells in
-    ap (waits_still s) was ∙ there.waits a refl unresolved (none (node e (of_boundary (Hidden a)) ns fs) (subst (IsOld t.current (old_of t.draft id)) was old_is))
+    ap (waits_still s) was ∙ there.waits a refl calm unresolved (none (node e (of_boundary (Hidden a)) ns fs) (subst (IsOld t.current (old_of t.draft id)) was old_is))
 
 -- if its fiber tells that it stands as it did, and it has its element, it is untouched
 all_three : (a b c : Bool) → a ≡ true → b ≡ true → c ≡ true → (a && (b && c)) ≡ true
@@ -207,7 +208,7 @@ module _ (s : Sight) (t new : Trees Fiber) (st' : Stack) (p n : ℕ) (fs : List 
   hidden_old = subst (IsOld t.current (old_of t.draft p)) (h.was ∙ ap (λ x. Some (node x (of_boundary (Hidden a)) h.kept h.shown)) h.boundary) h.old_is
 
   hidden_goes : (bodies : ℕ) → bodies ≡ 0 → Goes s t.current bodies (at_place (suc n) fs cs e old) (open_part n fs (falling e old a) (part cs (fallback_in e ∷ []) (fallback_if old)))
-  hidden_goes bodies none = rw (h.was, h.boundary) (past_attempt none linked h.stood hidden_old h.unresolved h.agree)
+  hidden_goes bodies none = rw (h.was, h.boundary) (past_attempt none linked h.stood hidden_old h.versions h.unresolved h.agree)
 
 -- what it pays there, by the flags that its fallback opens with
 module _ (s : Sight) (t new last : Trees Fiber) (st' : Stack) (p n : ℕ) (fs : List Frame) (cs : Contexts) (e : Element) (old : Option Node) (a : Awaits) (us : Flags) (next : At) (linked : IsLinked t.current)
@@ -218,7 +219,7 @@ module _ (s : Sight) (t new last : Trees Fiber) (st' : Stack) (p n : ℕ) (fs : 
       let so : is_untouched s (flag us).stood (elements.boundary h.key h.fallback h.given) (Some (node (elements.boundary h.key h.fallback h.given) (of_boundary (Hidden a)) h.kept h.shown)) ≡ true =
       subst (λ x. is_untouched s (flag us).stood x (Some (node x (of_boundary (Hidden a)) h.kept h.shown)) ≡ true) h.boundary (subst (λ o. is_untouched s (flag us).stood e o ≡ true) h.was out)
       in
-      rw (h.was, h.boundary) (paying.past_attempt none linked h.stood (hidden_old s t new st' p n fs cs e old a linked h) h.unresolved h.agree so)
+      rw (h.was, h.boundary) (paying.past_attempt none linked h.stood (hidden_old s t new st' p n fs cs e old a linked h) h.versions h.unresolved h.agree so)
 
   hidden_paid : (bodies : ℕ) → bodies ≡ 0 → is_untouched s (flag us).stood e old ≡ true → HasFlags last next (beside_kept ∷ us)
       → Paid s t.current bodies us (at_place (suc n) fs cs e old) (open_part n fs (falling e old a) (part cs (fallback_in e ∷ []) (fallback_if old))) last next
@@ -237,7 +238,7 @@ module _ (s : Sight) (way : ℕ → Bool) (kept : ℕ → Option (List Hook)) (t
         goes = hidden_goes s t new st' id n fs cs e old a linked b bodies none;
         comes = comes _ b.left b.again;
         paid = λ us causes are.
-            let still = waits_there s kept t id old e a b.kept b.shown b.was b.old_is causes.0 b.unresolved none_new in
+            let still = waits_there s kept t id old e a b.kept b.shown b.was b.old_is causes.0 b.versions b.unresolved none_new in
             let out = untouched_there s (flag us).stood e old a b.kept b.shown b.was (told_there t id us fits are b.told) still in
             hidden_paid s t new last st' id n fs cs e old a us next linked b bodies none out (opened us are);
       }
@@ -248,7 +249,7 @@ module _ (s : Sight) (t new : Trees Fiber) (st' : Stack) (p n : ℕ) (fs : List 
   taken_goes : (bodies : ℕ) → bodies ≡ 0 → Goes s t.current bodies (at_place (suc n) fs cs e old) (arrive (suc n) fs (Some h.node))
   taken_goes bodies none =
       subst (λ o. Goes s t.current bodies (at_place (suc n) fs cs e o) (arrive (suc n) fs (Some h.node))) (sym h.was)
-      (past_subtree none linked h.stood (subst (IsOld t.current (old_of t.draft p)) h.was h.old_is) h.same h.idle)
+      (past_subtree none linked h.reads (subst (IsOld t.current (old_of t.draft p)) h.was h.old_is) h.same h.idle)
 
   -- nothing is due in it
   taken_undue : (way : ℕ → Bool) (kept : ℕ → Option (List Hook)) → RestsThere s way kept t p → CausesAt s way kept (at_place (suc n) fs cs e old) → marks.ForEach (IsUndue s) h.node
@@ -261,7 +262,7 @@ module _ (s : Sight) (t new : Trees Fiber) (st' : Stack) (p n : ℕ) (fs : List 
       → UnitPays s t.current bodies us (at_place (suc n) fs cs e old) us (arrive (suc n) fs (Some h.node))
   taken_pays way kept us bodies none rested causes again =
       subst (λ o. UnitPays s t.current bodies us (at_place (suc n) fs cs e o) us (arrive (suc n) fs (Some h.node))) (sym h.was)
-      (paying.past_subtree none linked h.stood (subst (IsOld t.current (old_of t.draft p)) h.was h.old_is) h.same h.idle (taken_undue way kept rested causes) again)
+      (paying.past_subtree none linked h.reads (subst (IsOld t.current (old_of t.draft p)) h.was h.old_is) h.same h.idle (taken_undue way kept rested causes) again)
 
 module _ (s : Sight) (way : ℕ → Bool) (kept : ℕ → Option (List Hook)) (t : Trees Fiber) (st : Stack) (new : Trees Fiber) (st' : Stack) (id bodies : ℕ) where
   pub taken_advances : (r : Next) → bodies ≡ 0 → IsLinked t.current → BeginsPlace s way kept t st new st' id answers.Taken → RestsThere s way kept t id → Fits t → ((v : Fiber) → Some v ≡ made_value_of t.draft id → generation_of v.stage ≡ 0)

@@ -59,20 +59,20 @@ module _ (base : Contexts) where
   -- the lists of what stands in a place, if these values are given around it
   abbrev ShapeGiven : Element → List (ℕ × ℤ) → Shape → Type 0
   ShapeGiven e ws absent = Unit {0}
-  ShapeGiven e ws (waiting r) = Unit {0}
+  ShapeGiven e ws (waiting r v) = Unit {0}
   ShapeGiven e ws (one_list m p) = p.contexts ≡ given_contexts base (given_more e ws)
   ShapeGiven e ws (two_lists p f) = (given_in e ≡ None) × (p.contexts ≡ given_contexts base ws) × (f.contexts ≡ given_contexts base ws)
 
   begin_given : (levels : ℕ) (fs : List Frame) (e : Element) (old : Option Node) (shape : Shape) → ShapeGiven e (given_along fs) shape → FramesGiven base fs → CursorGiven base (begin levels fs e old shape)
   begin_given levels fs e old absent h k = arrive_given (suc levels) fs None k
-  begin_given levels fs e old (waiting r) h k = unwind_given (suc levels) fs (awaits.one r) k
+  begin_given levels fs e old (waiting r v) h k = unwind_given (suc levels) fs (awaits.one r) k
   begin_given levels fs e old (one_list m p) h k = open_given levels fs (around e m) p h tt k
   begin_given levels fs e old (two_lists p f) h k = open_given levels fs (trying e old f) p (unchanged e (given_along fs) p.contexts h.0 h.1) (h.0, h.2) k
 
   body_given : (cs : Contexts) (c : ℕ) (key : elements.Key) (props : List ℤ) (given : Elements) (ws : List (ℕ × ℤ)) (old : Option Node) (b : Body) → cs ≡ given_contexts base ws
       → ShapeGiven (elements.comp c key props given) ws (shape_of_body cs c old b)
-  body_given cs c key props given ws old (wait r) h = tt
-  body_given cs c key props given ws old (ready es effects initials reads) h = h
+  body_given cs c key props given ws old (wait r v) h = tt
+  body_given cs c key props given ws old (ready es effects initials reads versions) h = h
 
   component_given : (s : Sight) (cs : Contexts) (c : ℕ) (key : elements.Key) (props : List ℤ) (given : Elements) (ws : List (ℕ × ℤ)) (old : Option Node) (d : Option Component)
       → cs ≡ given_contexts base ws → ShapeGiven (elements.comp c key props given) ws (shape_of_component s cs c props given old d)

@@ -15,7 +15,7 @@ use Rattle.rx_links.specs.Drafts.{grafted, taken, Trees}
 use Rattle.rx_meaning.specs.Fresh.{Sight, Contexts, default_contexts}
 use Rattle.rx_meaning.specs.Cursor.{Open, Frame, Cursor, at_place, at_end, ended, is_null, unit, HasLevel}
 use Rattle.rx_meaning.specs.Cursor as cursors
-use Rattle.rx_meaning.specs.Settled.{DoneBefore, IfReadsHold, IfSettled, known_by}
+use Rattle.rx_meaning.specs.Settled.{DoneBefore, IfReadsHold, IfSettled, known_by, version_done}
 use Rattle.rx_model.specs.State.{State, Progress}
 use Rattle.rx_model.specs.Committing.{sight_of}
 use Rattle.rx_model.specs.HooksOf.{KeepsAllHooks}
@@ -56,6 +56,7 @@ use Rattle.cost_laws.specs.Undue.{IsUndue}
 use Rattle.begin_laws.proofs.Hooks.{hooks_tell}
 use Rattle.rx_render.specs.Costing.{CausesAt}
 use Rattle.rx_render.specs.Advancing.{IsReadyAt, GivesAt, Advances}
+use Rattle.rx_render.proofs.SameVersions.{versions_same}
 use Rattle.rx_render.proofs.Contexts.{as_many, one_each}
 use Rattle.rx_render.proofs.Reaching.{DrawsOn, Reaches, pays, reaches}
 use Rattle.rx_render.proofs.Ending.{come_bounded}
@@ -103,7 +104,7 @@ gives_at s way tree kept gives settled covers (ended x) h r = tt
 -- A unit
 
 renders_sees : (p : Program) (st : State) (g : Progress) (v : Rendering) → Renders p st g v → Sees v (sight_of p st g)
-renders_sees p st g v r = record { program = sym r.program; resources = r.resources; lanes = sym r.lanes; cut = sym r.cut }
+renders_sees p st g v r = record { program = sym r.program; resources = r.resources; declared = r.declared; lanes = sym r.lanes; cut = sym r.cut }
 
 renders_give : (p : Program) (st : State) (g : Progress) (v : Rendering) → Renders p st g v → GivesAll (sight_of p st g) st.tree (kept_hooks v.hooks)
 renders_give p st g v r k m at = keeps-give p st g (kept_hooks v.hooks) m.number m.initials r.done (each-keeps p st (kept_hooks v.hooks) r.keeps k m at)
@@ -111,7 +112,7 @@ renders_give p st g v r k m at = keeps-give p st g (kept_hooks v.hooks) m.number
 -- if a render is in progress one is under way
 pub renders_under_way : (st : State) (g : Progress) (v : Rendering) → Renders v.program st g v → IsUnderWay v
 renders_under_way st g v r =
-    record { sight = sight_of v.program st g; tree = st.tree; sees = renders_sees v.program st g v r; gives = renders_give v.program st g v r; current = r.current; settled = r.settled; waits = r.waits; reads = r.reads; covers = r.covers; come = r.come }
+    record { sight = sight_of v.program st g; tree = st.tree; sees = renders_sees v.program st g v r; gives = renders_give v.program st g v r; current = r.current; done = r.done; settled = r.settled; waits = r.waits; reads = r.reads; covers = r.covers; come = r.come }
 
 -- what a unit makes of a rendering
 pub record Stepped (old new : Rendering) (evaluated : ℕ) : Type 0 where
@@ -129,13 +130,13 @@ pub record Stepped (old new : Rendering) (evaluated : ℕ) : Type 0 where
 
 module _ (old new : Rendering) (evaluated : ℕ) (step : Stepped old new evaluated) (draws : DrawsOn) (known : unknowns old.program ≡ []) (left : 0 < left_of old) where
   step_comes : (s : Sight) (tree : Option Node) → Sees old s → GivesAll s tree (kept_hooks old.hooks) → IsTreeOf tree old.trees.current → IfSettled s.program (known_by s) tree
-      → IfWaitsAgain s (default_contexts s.program) tree → IfReadsHold (default_contexts s.program) tree → CoversIf (is_way old.ways) (IsIdleMark s) tree → HasCome s tree old → HasCome s tree new
-  step_comes s tree sees gives current settled waits reads covers come =
+      → IfWaitsAgain s (default_contexts s.program) tree → DoneBefore s.cut s.journal.updates → IfReadsHold (version_done s.journal.updates) (default_contexts s.program) tree → CoversIf (is_way old.ways) (IsIdleMark s) tree → HasCome s tree old → HasCome s tree new
+  step_comes s tree sees gives current settled waits done reads covers come =
       let c = come.cursor in
       let busy : cursors.is_over c ≡ false = left_busy old.trees old.contexts old.at c (unit_bound old.program) old.units come.comes left in
       let level : HasLevel c = fit_has_level s.program c come.goes.fits come.goes.stands in
       let next = step.advances s sees c come.comes level (gives_at s (is_way old.ways) tree (kept_hooks old.hooks) gives settled covers c come.olds come.rests) in
-      let h = reaches s tree old.trees.current current settled waits reads draws (subst (λ q. unknowns q ≡ []) (sym sees.program) known) old.units old.bodies evaluated c next.next next.goes
+      let h = reaches s tree old.trees.current current settled waits reads (versions_same s done sees.declared) draws (subst (λ q. unknowns q ≡ []) (sym sees.program) known) old.units old.bodies evaluated c next.next next.goes
       (record { goes = come.goes; drawn = come.drawn; given = come.given; olds = come.olds; rests = come.rests; reached = come.reached }) busy in
       record {
         cursor = next.next;
@@ -159,11 +160,11 @@ module _ (old new : Rendering) (evaluated : ℕ) (step : Stepped old new evaluat
   -- what the unit costs is paid
   step_costs : (p : Program) (st : State) (g : Progress) → (sees : Sees old (sight_of p st g)) → KeepsAllHooks p st (kept_hooks old.hooks) → (gives : GivesAll (sight_of p st g) st.tree (kept_hooks old.hooks))
       → (current : IsTreeOf st.tree old.trees.current) → (settled : IfSettled p (known_by (sight_of p st g)) st.tree) → (waits : IfWaitsAgain (sight_of p st g) (default_contexts p) st.tree)
-      → (reads : IfReadsHold (default_contexts p) st.tree) → (covers : CoversIf (is_way old.ways) (IsIdleMark (sight_of p st g)) st.tree) → (come : HasCome (sight_of p st g) st.tree old)
+      → (done : DoneBefore g.cut st.journal.updates) → (reads : IfReadsHold (version_done st.journal.updates) (default_contexts p) st.tree) → (covers : CoversIf (is_way old.ways) (IsIdleMark (sight_of p st g)) st.tree) → (come : HasCome (sight_of p st g) st.tree old)
       → HasCosts (sight_of p st g) st.tree old come.cursor
-      → HasCosts (sight_of p st g) st.tree new (step_comes (sight_of p st g) st.tree sees gives current settled waits reads covers come).cursor
+      → HasCosts (sight_of p st g) st.tree new (step_comes (sight_of p st g) st.tree sees gives current settled waits done reads covers come).cursor
   unfolding step_comes
-  step_costs p st g sees keeps gives current settled waits reads covers come costs =
+  step_costs p st g sees keeps gives current settled waits done reads covers come costs =
       let s = sight_of p st g in
       let c = come.cursor in
       let level : HasLevel c = fit_has_level s.program c come.goes.fits come.goes.stands in
@@ -174,7 +175,7 @@ module _ (old new : Rendering) (evaluated : ℕ) (step : Stepped old new evaluat
       record {
         flags = paid.flags;
         are = paid.are;
-        counted = subst (λ b. Costs s st.tree b paid.flags next.next) (sym step.bodies) (pays s st.tree old.trees.current current settled waits reads draws checked old.units old.bodies evaluated c next.next costs.flags paid.flags paid.pays at costs.counted);
+        counted = subst (λ b. Costs s st.tree b paid.flags next.next) (sym step.bodies) (pays s st.tree old.trees.current current settled waits reads (versions_same s done sees.declared) draws checked old.units old.bodies evaluated c next.next costs.flags paid.flags paid.pays at costs.counted);
         undue = subst (λ w. CoversIf (is_way w) (IsUndue s) st.tree) (sym step.ways) costs.undue;
       }
 
@@ -183,6 +184,7 @@ module _ (old new : Rendering) (evaluated : ℕ) (step : Stepped old new evaluat
       record {
         program = sees.program ∙ sym step.program;
         resources = step.resources ∙ sees.resources;
+        declared = sees.declared;
         lanes = sees.lanes ∙ sym step.lanes;
         cut = sees.cut ∙ sym step.cut;
       }
@@ -197,6 +199,7 @@ module _ (old new : Rendering) (evaluated : ℕ) (step : Stepped old new evaluat
       record {
         program = step.program ∙ r.program;
         resources = step.resources ∙ r.resources;
+        declared = r.declared;
         lanes = step.lanes ∙ r.lanes;
         cut = step.cut ∙ r.cut;
         current = subst (IsTreeOf st.tree) (sym step.current) r.current;
@@ -208,8 +211,8 @@ module _ (old new : Rendering) (evaluated : ℕ) (step : Stepped old new evaluat
         waits = r.waits;
         reads = r.reads;
         covers = subst (λ w. CoversIf (is_way w) (IsIdleMark (sight_of p st g)) st.tree) (sym step.ways) r.covers;
-        come = step_comes (sight_of p st g) st.tree (renders_sees p st g old r) (renders_give p st g old r) r.current r.settled r.waits r.reads r.covers r.come;
-        costs = step_costs p st g (renders_sees p st g old r) r.keeps (renders_give p st g old r) r.current r.settled r.waits r.reads r.covers r.come r.costs;
+        come = step_comes (sight_of p st g) st.tree (renders_sees p st g old r) (renders_give p st g old r) r.current r.settled r.waits r.done r.reads r.covers r.come;
+        costs = step_costs p st g (renders_sees p st g old r) r.keeps (renders_give p st g old r) r.current r.settled r.waits r.done r.reads r.covers r.come r.costs;
       }
 
   pub step_goes_on : Proceeds old new
@@ -232,11 +235,12 @@ module _ (old new : Rendering) (evaluated : ℕ) (step : Stepped old new evaluat
         sees = step_sees way.sight way.sees;
         gives = λ k m at. step.still way.sight m.number m.initials way.sees (way.gives k m at);
         current = subst (IsTreeOf way.tree) (sym step.current) way.current;
+        done = way.done;
         settled = way.settled;
         waits = way.waits;
         reads = way.reads;
         covers = subst (λ w. CoversIf (is_way w) (IsIdleMark way.sight) way.tree) (sym step.ways) way.covers;
-        come = step_comes way.sight way.tree way.sees way.gives way.current way.settled way.waits way.reads way.covers way.come;
+        come = step_comes way.sight way.tree way.sees way.gives way.current way.settled way.waits way.done way.reads way.covers way.come;
       }
 
 if_left : (at : At) {A : Type 0} → A → IfLeft at A

@@ -1,15 +1,15 @@
 -- What changes nothing of a render in progress: a longer journal, and whatever leaves the journal, the tree and the links.
-use Rattle.std.specs.Prelude.{◌≡◌, ℤ, ℕ, ◌≤◌, Bool, true, false, List, [], ◌∷◌, ◌++◌, Option, IfSome, length, refl}
+use Rattle.std.specs.Prelude.{◌≡◌, ℤ, ℕ, ◌≤◌, Bool, true, false, List, [], ◌∷◌, ◌++◌, Option, IfSome, length, map, refl}
 use Rattle.std.proofs.Common.{sym, ap, ◌∙◌, subst, arith}
-use Rattle.std.proofs.lemmas.List.{append-nil, length-append}
+use Rattle.std.proofs.lemmas.List.{append-nil, length-append, take-append-le}
 use Rattle.rx_base.specs.declared.cut.Cut.{Cut}
 use Rattle.rx_ast.specs.Syntax.{Program}
 use Rattle.rx_elem.specs.Trees.{Node, element_of}
-use Rattle.rx_queue.specs.Journal.{Journal, Posted}
+use Rattle.rx_queue.specs.Journal.{Journal, Posted, resolutions_by}
 use Rattle.rx_meaning.specs.Cursor.{Cursor}
-use Rattle.rx_meaning.specs.Fresh.{Sight, default_contexts, resources_seen, root_element}
+use Rattle.rx_meaning.specs.Fresh.{Sight, default_contexts, resource_numbers, root_element, version_seen}
 use Rattle.rx_meaning.specs.Again.{AllOpen}
-use Rattle.rx_meaning.specs.Settled.{DoneBefore, IfReadsHold, IfSettled, known_by}
+use Rattle.rx_meaning.specs.Settled.{DoneBefore, IfReadsHold, IfSettled, known_by, version_done}
 use Rattle.rx_model.specs.State.{State, Progress}
 use Rattle.rx_model.specs.Accepting.{with_value}
 use Rattle.rx_model.specs.Committing.{sight_of}
@@ -21,11 +21,13 @@ use Rattle.commit_laws.specs.Idle.{IsIdleMark}
 use Rattle.commit_laws.specs.WaitsAgain.{without_lanes, IfWaitsAgain}
 use Rattle.rx_ways.specs.Ways.{CoversIf, is_way}
 use Rattle.render_laws.specs.SameSight.{SeesSame}
-use Rattle.render_laws.proofs.LaterEntries.{holds_later, longer_sees_same}
+use Rattle.render_laws.proofs.LaterEntries.{holds_later, longer_sees_same, longer_versions}
+use Rattle.commit_laws.proofs.VersionsStay.{open_versions}
 use Rattle.run_laws.proofs.WaitingAgain.{later_waits_again}
 use Rattle.rx_render.proofs.Covered.{covered_later, covers_if}
 use Rattle.rx_render.proofs.Settled.{settled_later}
 use Rattle.rx_render.specs.Rendering.{Rendering}
+use Rattle.rx_render.specs.Resources.{AsksForDeclared, resources_by}
 use Rattle.cost_laws.specs.Undue.{IsUndue}
 use Rattle.cost_laws.specs.SameWork.{SeesSameWork}
 use Rattle.cost_laws.proofs.CostLaws.{later_costs}
@@ -77,7 +79,7 @@ come_later s j same tree v hooks h =
 later_work : (p : Program) (g : Progress) (st later : State) → IsLater g st later → SeesSameWork (sight_of p st g) later.journal
 later_work p g st later l =
     let journal : record { updates = st.journal.updates ++ l.new; resolutions = st.journal.resolutions ++ l.more } ≡ later.journal = rw (← l.updates, ← l.resolutions) refl in
-    subst (SeesSameWork (sight_of p st g)) journal (longer_sees_same_work (sight_of p st g) l.new l.more l.after)
+    subst (SeesSameWork (sight_of p st g)) journal (longer_sees_same_work (sight_of p st g) l.new l.more l.after l.opened)
 
 -- it has cost as much
 costs_later : (s : Sight) (j : Journal) → SeesSame s j → SeesSameWork s j → (tree : Option Node) (v : Rendering) (hooks : Kept) (c : Cursor) → HasCosts s tree v c → HasCosts (record s { journal = j }) tree (with_hooks v hooks) c
@@ -95,6 +97,20 @@ covers_longer p g st later way l h =
     let journal : record { updates = st.journal.updates ++ l.new; resolutions = st.journal.resolutions ++ l.more } ≡ later.journal = rw (← l.updates, ← l.resolutions) refl in
     subst (λ (j : Journal). CoversIf way (IsIdleMark (record { program = p; journal = j; lanes = g.lanes; cut = g.cut })) st.tree) journal (covered_later way (sight_of p st g) l.new l.more l.after l.opened st.tree h)
 
+-- it sees each resource in the same version
+versions_later : (p : Program) (g : Progress) (st later : State) → IsLater g st later → (r : ℕ) → version_seen (sight_of p st g) r ≡ version_seen (sight_of p later g) r
+versions_later p g st later l r =
+    let journal : record { updates = st.journal.updates ++ l.new; resolutions = st.journal.resolutions ++ l.more } ≡ later.journal = rw (← l.updates, ← l.resolutions) refl in
+    subst (λ (j : Journal). version_seen (sight_of p st g) r ≡ version_seen (record { program = p; journal = j; lanes = g.lanes; cut = g.cut }) r) journal (longer_versions (sight_of p st g) l.new l.more l.after r)
+
+-- the same resolutions lie before the cut
+resolutions_later : (g : Progress) (st later : State) → IsPast g.cut st.journal → IsLater g st later → resolutions_by g.cut st.journal ≡ resolutions_by g.cut later.journal
+resolutions_later g st later past l = rw l.resolutions (sym (take-append-le g.cut.resolutions st.journal.resolutions l.more past.resolutions))
+
+-- the same versions are done
+done_later : (g : Progress) (st later : State) → IsLater g st later → version_done st.journal.updates ≡ version_done later.journal.updates
+done_later g st later l = rw l.updates (λ i r. sym (open_versions st.journal.updates l.new l.opened r) i)
+
 pub renders_later : (p : Program) (st later : State) (g : Progress) (v : Rendering) (hooks : Kept) → Renders p st g v → IsLater g st later
     → KeepsAllHooks p later (kept_hooks hooks) → Renders p later g (with_hooks v hooks)
 unfolding come_later
@@ -103,20 +119,23 @@ renders_later p st later g v hooks r l keeps =
     let come = subst (λ t. HasComeSo (sight_of p later g) t (with_hooks v hooks)) (sym l.tree)
     (come_later (sight_of p st g) later.journal same st.tree v hooks r.come, costs_later (sight_of p st g) later.journal same (later_work p g st later l) st.tree v hooks r.come.cursor r.costs)
     in
+    let work = later_work p g st later l in
+    let seen : resources_by (sight_of p st g) ≡ resources_by (sight_of p later g) = (λ i. record { versions = map (λ n. same.versions n i) (resource_numbers p); values = same.resources i; refreshes = work.refresh i }) in
     record {
       program = r.program;
-      resources = r.resources ∙ same.resources;
+      resources = r.resources ∙ seen;
+      declared = λ n past. sym (versions_later p g st later l n) ∙ r.declared n past;
       lanes = r.lanes;
       cut = r.cut;
       current = subst (λ t. IsTreeOf t v.trees.current) (sym l.tree) r.current;
       keeps = keeps;
       done = subst (DoneBefore g.cut) (sym l.updates) (done_longer g.cut st.journal.updates l.new l.opened r.done);
       past = past_longer g.cut g st later l r.past;
-      settled = subst (IfSettled p (known_by (sight_of p later g))) (sym l.tree) (settled_later p (sight_of p st g) (sight_of p later g) l.new st.tree l.opened l.updates same.resources r.settled);
+      settled = subst (IfSettled p (known_by (sight_of p later g))) (sym l.tree) (settled_later p (sight_of p st g) (sight_of p later g) l.new st.tree l.opened l.updates (resolutions_later g st later r.past l) r.settled);
       rooted = subst (λ t. IfSome t (λ x. element_of x ≡ root_element p)) (sym l.tree) r.rooted;
       waits = subst (IfWaitsAgain (sight_of p later g) (default_contexts p)) (sym l.tree)
-          (later_waits_again (sight_of p st g) later.journal same (later_sees_without p g st later r.past l) (default_contexts p) st.tree r.waits);
-      reads = subst (IfReadsHold (default_contexts p)) (sym l.tree) r.reads;
+          (later_waits_again (sight_of p st g) later.journal same (later_sees_without p g st later r.past l) work.refresh (default_contexts p) st.tree r.waits);
+      reads = subst (IfReadsHold (version_done later.journal.updates) (default_contexts p)) (sym l.tree) (subst (λ v. IfReadsHold v (default_contexts p) st.tree) (done_later g st later l) r.reads);
       covers = subst (CoversIf (is_way v.ways) (IsIdleMark (sight_of p later g))) (sym l.tree) (covers_longer p g st later (is_way v.ways) l r.covers);
       come = come.0;
       costs = come.1;
@@ -150,7 +169,8 @@ module _ (p : Program) (st later : State) (g : Progress) (v : Rendering) (journa
   renders_same r =
       record {
         program = r.program;
-        resources = subst (λ s. v.resources ≡ resources_seen s) sight r.resources;
+        resources = subst (λ s. v.resources ≡ resources_by s) sight r.resources;
+        declared = subst AsksForDeclared sight r.declared;
         lanes = r.lanes;
         cut = r.cut;
         current = subst (λ t. IsTreeOf t v.trees.current) (sym tree) r.current;
@@ -160,7 +180,7 @@ module _ (p : Program) (st later : State) (g : Progress) (v : Rendering) (journa
         settled = subst (IfSettled p (known_by (sight_of p later g))) (sym tree) (subst (λ s. IfSettled p (known_by s) st.tree) sight r.settled);
         rooted = subst (λ t. IfSome t (λ x. element_of x ≡ root_element p)) (sym tree) r.rooted;
         waits = subst (IfWaitsAgain (sight_of p later g) (default_contexts p)) (sym tree) (subst (λ s. IfWaitsAgain s (default_contexts p) st.tree) sight r.waits);
-        reads = subst (IfReadsHold (default_contexts p)) (sym tree) r.reads;
+        reads = subst (IfReadsHold (version_done later.journal.updates) (default_contexts p)) (sym tree) (subst (λ j. IfReadsHold (version_done j.updates) (default_contexts p) st.tree) (sym journal) r.reads);
         covers = subst (CoversIf (is_way v.ways) (IsIdleMark (sight_of p later g))) (sym tree) (subst (λ s. CoversIf (is_way v.ways) (IsIdleMark s) st.tree) sight r.covers);
         come = (come_same r).0;
         costs = (come_same r).1;
@@ -173,7 +193,8 @@ renders_as p st g h v lanes cut r =
     let come = subst (λ s. HasComeSo s st.tree v) sight (r.come, r.costs) in
     record {
       program = r.program;
-      resources = subst (λ s. v.resources ≡ resources_seen s) sight r.resources;
+      resources = subst (λ s. v.resources ≡ resources_by s) sight r.resources;
+      declared = subst AsksForDeclared sight r.declared;
       lanes = r.lanes ∙ sym lanes;
       cut = r.cut ∙ sym cut;
       current = r.current;

@@ -9,6 +9,7 @@ pub mod Live
 pub mod StoodNodes
 pub mod Waiting
 pub mod Idle
+pub mod SameVersions
 pub mod Advancing
 pub mod Paying
 pub mod Gathering

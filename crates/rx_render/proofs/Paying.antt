@@ -206,6 +206,6 @@ module _ (s : Sight) (scene : Scene) (sees : IsSceneOf scene s) (kept : ℕ → 
         let goes = may s scene kept t st id n fs cs e old us sees fits h tells flags tries in
         record {
           flags = unit_flags s us (at_place (suc n) fs cs e old);
-          are = subst (HasFlags last at) (sym (ap (begun_flags s fs us cs e old) shape)) (out fs us (subst (λ x. FlagsHere x id (taken shapes.none) us) (sym same) flags.flags) within);
+          are = subst (HasFlags last at) (sym (ap (begun_flags s fs us cs e old) shape.1)) (out fs us (subst (λ x. FlagsHere x id (taken shapes.none) us) (sym same) flags.flags) within);
           pays = paying.by_unit goes (counts s scene kept t st id n fs cs e old us evaluated sees fits h tells flags (body_at n fs cs e old h) (few n fs cs e old h));
         }

@@ -141,9 +141,10 @@ sent_rendering result old hooks w u pending place i ok err later is =
         record {
           sight = way.sight;
           tree = way.tree;
-          sees = record { program = way.sees.program; resources = way.sees.resources; lanes = way.sees.lanes; cut = way.sees.cut };
+          sees = record { program = way.sees.program; resources = way.sees.resources; declared = way.sees.declared; lanes = way.sees.lanes; cut = way.sees.cut };
           gives = λ k m there. gives way.sight at m.number m.initials (way.gives k m there);
           current = way.current;
+          done = way.done;
           settled = way.settled;
           waits = way.waits;
           reads = way.reads;
@@ -165,7 +166,7 @@ event_journal word.Input s t l = refl
 event_journal word.Default s t l = refl
 event_journal word.Transition s t l = refl
 
-dispatch_later : (g : Progress) (st : State) (w : LaneWord) (t : Target) (o : Op) → g.cut.updates ≤ length st.journal.updates → IsLater g st (dispatched_for st w t o)
+pub dispatch_later : (g : Progress) (st : State) (w : LaneWord) (t : Target) (o : Op) → g.cut.updates ≤ length st.journal.updates → IsLater g st (dispatched_for st w t o)
 dispatch_later g st w t o past =
     let l = lane_of st w in
     let u = next_update st.journal t o l in
@@ -202,6 +203,7 @@ with_kept v hooks p st g keeps r =
     record {
       program = r.program;
       resources = r.resources;
+      declared = r.declared;
       lanes = r.lanes;
       cut = r.cut;
       current = r.current;

@@ -7,11 +7,11 @@ use Rattle.rx_elem.specs.Elements.{Element, Elements, listed}
 use Rattle.rx_elem.specs.Elements as elements
 use Rattle.rx_elem.specs.Trees.{Instance, Mark, Node, node, Forest, none, vacant, child, elements_in}
 use Rattle.rx_queue.specs.History.{stands_done}
-use Rattle.rx_queue.specs.Journal.{Posted, committed_value, hook, same_target}
+use Rattle.rx_queue.specs.Journal.{Posted, Resolution, committed_value, hook, resolutions_by, same_target, values_at}
 use Rattle.rx_meaning.specs.Again.{AllOpen}
 use Rattle.rx_meaning.specs.Body.{body_of, ready}
 use Rattle.rx_meaning.specs.Expressions.{answers_of}
-use Rattle.rx_meaning.specs.Fresh.{Sight, resources_seen}
+use Rattle.rx_meaning.specs.Fresh.{Sight, resource_numbers}
 use Rattle.rx_meaning.specs.Settled.{Known, IsBodyOf, IsOwn, IsSettled, AllSettled, IfSettled, done_values, known_by}
 
 -- Values of what is done
@@ -38,8 +38,8 @@ done_more n k (v ∷ us) new h = go (same_target (hook n k) v.target) (stands_do
     go true false e r = rw (e, r) refl
     go false d e r = r
 
-values_more : (p : Program) (us new : List Posted) (res more : List (Option ℤ)) → AllOpen new → (n : ℕ) (initials : List ℤ)
-    → done_values p (record { updates = us; resources = res }) n initials ≡ done_values p (record { updates = us ++ new; resources = more }) n initials
+values_more : (p : Program) (us new : List Posted) (res more : List Resolution) → AllOpen new → (n : ℕ) (initials : List ℤ)
+    → done_values p (record { updates = us; resolutions = res }) n initials ≡ done_values p (record { updates = us ++ new; resolutions = more }) n initials
 unfolding committed_value
 values_more p us new res more h n initials = from 0 initials
   where
@@ -51,7 +51,7 @@ values_more p us new res more h n initials = from 0 initials
 
 -- Trees
 
-module _ (p : Program) (k l : Known) (values : (n : ℕ) (initials : List ℤ) → done_values p k n initials ≡ done_values p l n initials) (resources : k.resources ≡ l.resources) where
+module _ (p : Program) (k l : Known) (values : (n : ℕ) (initials : List ℤ) → done_values p k n initials ≡ done_values p l n initials) (resolutions : k.resolutions ≡ l.resolutions) where
   body_stays : (c : ℕ) (props : List ℤ) (given : Elements) (i : Instance) (es : List Element) → IsBodyOf p k c props given i es → IsBodyOf p l c props given i es
   body_stays c props given i es b = record {
     component = b.component;
@@ -60,10 +60,10 @@ module _ (p : Program) (k l : Known) (values : (n : ℕ) (initials : List ℤ) �
     instance = b.instance;
     is_numbered = b.is_numbered;
     initials = b.initials;
-    gives = λ cs agrees.
-        subst (λ r. body_of p b.component (record { props = props; children = listed given; hooks = Some (done_values p l b.instance i.initials); contexts = cs; resources = r }) ≡ ready es i.effects b.initials i.reads) resources
-        (subst (λ v. body_of p b.component (record { props = props; children = listed given; hooks = Some v; contexts = cs; resources = k.resources }) ≡ ready es i.effects b.initials i.reads)
-        (values b.instance i.initials) (b.gives cs agrees));
+    gives = λ cs version agrees same.
+        subst (λ rs. body_of p b.component (record { props = props; children = listed given; hooks = Some (done_values p l b.instance i.initials); contexts = cs; versions = map version (resource_numbers p); resources = values_at rs (map version (resource_numbers p)) }) ≡ ready es i.effects b.initials i.reads i.versions) resolutions
+        (subst (λ v. body_of p b.component (record { props = props; children = listed given; hooks = Some v; contexts = cs; versions = map version (resource_numbers p); resources = values_at k.resolutions (map version (resource_numbers p)) }) ≡ ready es i.effects b.initials i.reads i.versions)
+        (values b.instance i.initials) (b.gives cs version agrees same));
   }
 
   own_stays : (e : Element) (m : Mark) (ns fs : Forest) → IsOwn p k e m ns fs → IsOwn p l e m ns fs
@@ -88,12 +88,12 @@ module _ (p : Program) (k l : Known) (values : (n : ℕ) (initials : List ℤ) �
   tree_stays None h = tt
   tree_stays (Some n) h = node_stays n h
 
--- the tree is settled for a later sight, which sees the same resources
-pub settled_later : (p : Program) (s later : Sight) (new : List Posted) (tree : Option Node) → AllOpen new → later.journal.updates ≡ s.journal.updates ++ new → resources_seen s ≡ resources_seen later
+-- the tree is settled for a later sight, to which the same resolutions are known
+pub settled_later : (p : Program) (s later : Sight) (new : List Posted) (tree : Option Node) → AllOpen new → later.journal.updates ≡ s.journal.updates ++ new → resolutions_by s.cut s.journal ≡ resolutions_by later.cut later.journal
     → IfSettled p (known_by s) tree → IfSettled p (known_by later) tree
-settled_later p s later new tree opened updates resources h =
+settled_later p s later new tree opened updates resolutions h =
     tree_stays p (known_by s) (known_by later)
     (λ n initials.
-    values_more p s.journal.updates new (resources_seen s) (resources_seen later) opened n initials
-    ∙ ap (λ us. done_values p (record { updates = us; resources = resources_seen later }) n initials) (sym updates))
-    resources tree h
+    values_more p s.journal.updates new (resolutions_by s.cut s.journal) (resolutions_by later.cut later.journal) opened n initials
+    ∙ ap (λ us. done_values p (record { updates = us; resolutions = resolutions_by later.cut later.journal }) n initials) (sym updates))
+    resolutions tree h

@@ -46,6 +46,7 @@ use Rattle.rx_render.specs.Costing.{HasFlags}
 use Rattle.rx_render.specs.declared.at.At.TheVariants.{Begins, Over}
 use Rattle.rx_render.specs.Gathers.{IsGathering}
 use Rattle.rx_render.specs.Rendering.{Rendering, IfLeft, ComesTo, to_place}
+use Rattle.rx_resources.specs.Seen.{Resources}
 use Rattle.rx_render.specs.Renders.{GivesAll, Renders, IsStartOf, CanStart, IsUnderWay, IsRendering}
 use Rattle.rx_render.proofs.Contexts.{start_given}
 use Rattle.rx_render.proofs.Instances.{start_instances, start_rests}
@@ -92,7 +93,7 @@ root_flags t id v origin stage stood generation here = record {
 }
 
 -- a rendering whose root waits for its first unit
-pub record StandsAtRoot (lanes : Lanes) (cut : Cut) (resources : List (Option ℤ)) (old new : Rendering) : Type 0 where
+pub record StandsAtRoot (lanes : Lanes) (cut : Cut) (resources : Resources) (old new : Rendering) : Type 0 where
   pub program : new.program ≡ old.program
   pub current : new.trees.current ≡ old.trees.current
   pub hooks : new.hooks ≡ old.hooks
@@ -119,12 +120,12 @@ pub record StandsAtRoot (lanes : Lanes) (cut : Cut) (resources : List (Option �
   pub contexts_are : new.contexts ≡ contexts.opening (default_contexts old.program)
 
 -- hooks give it the values of the instances of the committed tree
-start_gives : (lanes : Lanes) (cut : Cut) (resources : List (Option ℤ)) (old : Rendering) (st : State) → IsStartOf st lanes cut resources old
+start_gives : (lanes : Lanes) (cut : Cut) (resources : Resources) (old : Rendering) (st : State) → IsStartOf st lanes cut resources old
     → GivesAll (sight_of old.program st (starting st lanes)) st.tree (kept_hooks old.hooks)
 start_gives lanes cut resources old st is k m at =
     keeps-give old.program st (starting st lanes) (kept_hooks old.hooks) m.number m.initials (subst (λ c. DoneBefore c st.journal.updates) is.cut_is is.done) (each-keeps old.program st (kept_hooks old.hooks) is.keeps k m at)
 
-pub start_renders : (lanes : Lanes) (cut : Cut) (resources : List (Option ℤ)) (old new : Rendering) → StandsAtRoot lanes cut resources old new → DrawsStart → IsBounded old.program
+pub start_renders : (lanes : Lanes) (cut : Cut) (resources : Resources) (old new : Rendering) → StandsAtRoot lanes cut resources old new → DrawsStart → IsBounded old.program
     → (st : State) → IsStartOf st lanes cut resources old → Renders old.program st (starting st lanes) new
 start_renders lanes cut resources old new r draws bounded st is =
     let s = sight_of old.program st (starting st lanes) in
@@ -132,6 +133,7 @@ start_renders lanes cut resources old new r draws bounded st is =
     record {
       program = r.program;
       resources = r.resources_are ∙ is.resources_are;
+      declared = is.declared;
       lanes = r.lanes_are;
       cut = r.cut_is ∙ is.cut_is;
       current = tree;
@@ -162,7 +164,7 @@ start_renders lanes cut resources old new r draws bounded st is =
     }
 
 -- what a start leaves, by what it makes
-module _ (lanes : Lanes) (cut : Cut) (resources : List (Option ℤ)) (old inside : Rendering) (t : Trees Fiber) (id : ℕ) (st : Stack) (ways : Ways) where
+module _ (lanes : Lanes) (cut : Cut) (resources : Resources) (old inside : Rendering) (t : Trees Fiber) (id : ℕ) (st : Stack) (ways : Ways) where
   abbrev pub started : Rendering
   started = record inside { trees = t; contexts = st; resources = resources; lanes = lanes; cut = cut; ways = ways; at = Begins id; units = 0; bodies = 0 }
 
@@ -204,7 +206,7 @@ module _ (lanes : Lanes) (cut : Cut) (resources : List (Option ℤ)) (old inside
       }
 
 -- a rendering that has started is one
-pub start_rendering : (lanes : Lanes) (cut : Cut) (resources : List (Option ℤ)) (old new : Rendering) (id : ℕ) → StandsAtRoot lanes cut resources old new → DrawsStart
+pub start_rendering : (lanes : Lanes) (cut : Cut) (resources : Resources) (old new : Rendering) (id : ℕ) → StandsAtRoot lanes cut resources old new → DrawsStart
     → unknowns new.program ≡ [] → IsBounded new.program → IsGathered new.trees.current → CanStart lanes cut resources old → IsRendering new
 start_rendering lanes cut resources old new id r draws known bounded current can =
     record {

@@ -1,5 +1,5 @@
 -- What a unit needs and what it leaves, by the parts of a rendering.
-use Rattle.std.specs.Prelude.{◌≡◌, ◌≤◌, ℕ, suc, Bool, false, List, [], ◌∷◌, Option, Some, ◌⊎◌, length}
+use Rattle.std.specs.Prelude.{◌≡◌, ◌≤◌, ℕ, suc, Bool, false, List, [], ◌∷◌, Option, Some, length}
 use Rattle.rx_base.specs.Awaits.{Awaits}
 use Rattle.rx_ast.specs.Syntax.{contexts}
 use Rattle.rx_ctx.specs.Contexts.{Stack, values_at}
@@ -14,7 +14,8 @@ use Rattle.rx_meaning.specs.Again.{AllValuesAgree, AreUnresolved}
 use Rattle.rx_meaning.specs.Fresh.{Sight, Contexts, part}
 use Rattle.rx_meaning.specs.Counts.{each_body, next_counts}
 use Rattle.rx_meaning.specs.Cursor.{Frame, falling, Cursor, at_place, at_end, ended, open_part, arrive, is_null, unit, HasLevel}
-use Rattle.rx_meaning.specs.Settled.{IfSettled, ReadsHold, known_by}
+use Rattle.rx_meaning.specs.Settled.{IfSettled, known_by}
+use Rattle.rx_meaning.specs.Touched.{sees_refresh}
 use Rattle.commit_laws.specs.Idle.{IsIdle, IsIdleMark}
 use Rattle.commit_laws.specs.WaitsAgain.{without_lanes}
 use Rattle.rx_fiber.specs.Fibers.{Fiber}
@@ -31,6 +32,7 @@ use Rattle.rx_causes.specs.declared.scene.Scene.{Scene}
 use Rattle.rx_causes.specs.Scenes.{IsSceneOf}
 use Rattle.rx_causes.specs.Hidden.{GivesHooksIf}
 use Rattle.rx_ways.specs.Ways.{CoversIf, is_way}
+use Rattle.rx_begin.specs.Beginning.{ReadsTheSame}
 use Rattle.rx_fallback.specs.declared.opening.Opened.{Opened}
 use Rattle.rx_fallback.specs.declared.opening.Opened.TheVariants.{First, Empty}
 use Rattle.rx_render.specs.declared.at.At.{At}
@@ -81,16 +83,16 @@ GivesAt s way kept (at_place levels fs cs e old) = GivesHooksIf s kept old × If
 GivesAt s way kept (at_end levels fs o done) = Unit {0}
 GivesAt s way kept (ended p) = Unit {0}
 
--- Where a render comes in one unit that evaluates so many bodies: where the unit of its cursor comes, past the attempt of a hidden boundary, or past a whole subtree. The last two evaluate none. The boundary stands as its current fiber does, nothing that it awaits has a value, and nothing is new for what it keeps; the subtree stands as its current fiber does, or its instances read what the contexts give here, and it is idle.
+-- Where a render comes in one unit that evaluates so many bodies: where the unit of its cursor comes, past the attempt of a hidden boundary, or past a whole subtree. The last two evaluate none. The boundary stands as its current fiber does, no resource has another version than the last commit showed, nothing that it awaits has a value, and nothing is new for what it keeps; the subtree read what the render gives where it stands, and it is idle.
 pub data Goes (s : Sight) (current : Shape Fiber) (bodies : ℕ) : (before after : Cursor) → Type 0 where
   by_unit : {c : Cursor} → bodies ≤ next_counts each_body s c → Goes s current bodies c (unit s c)
   past_attempt : {n : ℕ} {fs : List Frame} {cs : Contexts} {key : Key} {f : Element} {es : Elements} {a : Awaits} {ns kept : Forest} {o : Option ℕ}
       → bodies ≡ 0 → IsLinked current → StoodAt current (given_along fs) o → IsOld current o (Some (node (boundary key f es) (of_boundary (Hidden a)) ns kept))
-      → AreUnresolved s a → AllValuesAgree (without_lanes s) s ns
+      → sees_refresh s ≡ false → AreUnresolved s a → AllValuesAgree (without_lanes s) s ns
       → Goes s current bodies (at_place (suc n) fs cs (boundary key f es) (Some (node (boundary key f es) (of_boundary (Hidden a)) ns kept)))
       (open_part n fs (falling (boundary key f es) (Some (node (boundary key f es) (of_boundary (Hidden a)) ns kept)) a) (part cs (f ∷ []) kept))
   past_subtree : {n : ℕ} {fs : List Frame} {cs : Contexts} {e : Element} {x : Node} {o : Option ℕ}
-      → bodies ≡ 0 → IsLinked current → StoodAt current (given_along fs) o ⊎ ReadsHold cs x → IsOld current o (Some x) → element_of x ≡ e → IsIdle s x
+      → bodies ≡ 0 → IsLinked current → ReadsTheSame s current (given_along fs) cs o x → IsOld current o (Some x) → element_of x ≡ e → IsIdle s x
       → Goes s current bodies (at_place (suc n) fs cs e (Some x)) (arrive (suc n) fs (Some x))
 
 -- what the parts come to from a cursor, with so many bodies; and what these cost, if the hooks tell which causes there are

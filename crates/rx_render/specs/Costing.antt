@@ -1,5 +1,5 @@
 -- What a render costs as it goes.
-use Rattle.std.specs.Prelude.{◌≡◌, ℕ, suc, Bool, true, List, [], ◌∷◌, Option, Some, ◌⊎◌}
+use Rattle.std.specs.Prelude.{◌≡◌, ℕ, suc, Bool, true, false, List, [], ◌∷◌, Option, Some}
 use Rattle.rx_base.specs.Awaits.{Awaits}
 use Rattle.rx_susp.specs.declared.boundary.BoundaryState.TheVariants.{Hidden}
 use Rattle.rx_elem.specs.Elements.{Element, Elements, Key, boundary}
@@ -11,7 +11,7 @@ use Rattle.rx_links.specs.Readers.{IsLinked}
 use Rattle.rx_meaning.specs.Again.{AllValuesAgree, AreUnresolved}
 use Rattle.rx_meaning.specs.Cursor.{Cursor, Frame, arrive, at_end, at_place, ended, falling, open_part, unit}
 use Rattle.rx_meaning.specs.Fresh.{Contexts, Sight, part}
-use Rattle.rx_meaning.specs.Settled.{ReadsHold}
+use Rattle.rx_meaning.specs.Touched.{sees_refresh}
 use Rattle.commit_laws.specs.Each.{ForEach}
 use Rattle.commit_laws.specs.Idle.{IsIdle}
 use Rattle.commit_laws.specs.WaitsAgain.{without_lanes}
@@ -24,6 +24,7 @@ use Rattle.cost_laws.specs.Evaluated.{beside_kept}
 use Rattle.cost_laws.specs.Left.{Flags, MayGo, flag, next_evaluated, unit_flags}
 use Rattle.cost_laws.specs.Undue.{IsUndue}
 use Rattle.cost_laws.specs.Untouched.{is_untouched}
+use Rattle.rx_begin.specs.Beginning.{ReadsTheSame}
 use Rattle.begin_laws.specs.Flagged.{FlagsAtEnd, FlagsAtPlace}
 use Rattle.begin_laws.specs.Telling.{TellsIf}
 use Rattle.rx_render.specs.declared.at.At.{At}
@@ -46,13 +47,13 @@ pub data UnitPays (s : Sight) (current : Shape Fiber) (bodies : ℕ) (us : Flags
   by_unit : {c : Cursor} → MayGo s us c → bodies ≡ next_evaluated s us c → UnitPays s current bodies us c (unit_flags s us c) (unit s c)
   past_attempt : {n : ℕ} {fs : List Frame} {cs : Contexts} {key : Key} {f : Element} {es : Elements} {a : Awaits} {ns kept : Forest} {o : Option ℕ}
       → bodies ≡ 0 → IsLinked current → StoodAt current (given_along fs) o → IsOld current o (Some (node (boundary key f es) (of_boundary (Hidden a)) ns kept))
-      → AreUnresolved s a → AllValuesAgree (without_lanes s) s ns
+      → sees_refresh s ≡ false → AreUnresolved s a → AllValuesAgree (without_lanes s) s ns
       → is_untouched s (flag us).stood (boundary key f es) (Some (node (boundary key f es) (of_boundary (Hidden a)) ns kept)) ≡ true
       → UnitPays s current bodies us (at_place (suc n) fs cs (boundary key f es) (Some (node (boundary key f es) (of_boundary (Hidden a)) ns kept)))
       (beside_kept ∷ us)
       (open_part n fs (falling (boundary key f es) (Some (node (boundary key f es) (of_boundary (Hidden a)) ns kept)) a) (part cs (f ∷ []) kept))
   past_subtree : {n : ℕ} {fs : List Frame} {cs : Contexts} {e : Element} {x : Node} {o : Option ℕ}
-      → bodies ≡ 0 → IsLinked current → StoodAt current (given_along fs) o ⊎ ReadsHold cs x → IsOld current o (Some x) → element_of x ≡ e → IsIdle s x → ForEach (IsUndue s) x → (flag us).generation ≡ 0
+      → bodies ≡ 0 → IsLinked current → ReadsTheSame s current (given_along fs) cs o x → IsOld current o (Some x) → element_of x ≡ e → IsIdle s x → ForEach (IsUndue s) x → (flag us).generation ≡ 0
       → UnitPays s current bodies us (at_place (suc n) fs cs e (Some x)) us (arrive (suc n) fs (Some x))
 
 -- so many bodies are paid if the parts come to a cursor, and these are the flags there

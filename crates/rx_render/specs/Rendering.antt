@@ -1,5 +1,5 @@
 -- A render in progress, as contracts see it.
-use Rattle.std.specs.Prelude.{◌≡◌, ℕ, ◌-◌, List, ℤ, Option, Some, None}
+use Rattle.std.specs.Prelude.{◌≡◌, ℕ, ◌-◌, List, Option, Some, None}
 use Rattle.rx_base.specs.Awaits.{Awaits}
 use Rattle.rx_base.specs.declared.cut.Cut.{Cut}
 use Rattle.rx_lane.specs.Lanes.{Lanes}
@@ -16,6 +16,7 @@ use Rattle.rx_fiber.specs.Fibers.{Fiber}
 use Rattle.rx_fiber.specs.Standing.{StandsAt}
 use Rattle.rx_hook_store.specs.Store.{Kept}
 use Rattle.rx_ways.specs.Ways.{Ways}
+use Rattle.rx_resources.specs.Seen.{Resources}
 use Rattle.rx_render.specs.declared.at.At.{At}
 use Rattle.rx_render.specs.declared.at.At.TheVariants.{Begins, Completes, Over}
 
@@ -25,7 +26,7 @@ pub record Rendering : Type 0 where
   pub trees : Trees Fiber
   pub hooks : Kept
   pub contexts : Stack
-  pub resources : List (Option ℤ)
+  pub resources : Resources
   pub lanes : Lanes
   pub cut : Cut
   pub ways : Ways

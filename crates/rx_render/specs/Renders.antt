@@ -1,5 +1,5 @@
 -- Which render of the machine is in progress.
-use Rattle.std.specs.Prelude.{◌≡◌, ℕ, ◌≤◌, ◌++◌, Bool, true, List, [], ℤ, Option, Some, IfSome, length, slice_get}
+use Rattle.std.specs.Prelude.{◌≡◌, ℕ, ◌≤◌, ◌++◌, Bool, true, List, [], Option, Some, IfSome, length, slice_get}
 use Rattle.rx_base.specs.declared.cut.Cut.{Cut}
 use Rattle.rx_lane.specs.Lanes.{Lanes}
 use Rattle.rx_ast.specs.Syntax.{Program}
@@ -8,10 +8,10 @@ use Rattle.rx_elem.specs.Trees.{Node, element_of}
 use Rattle.rx_elem.specs.Spots.{Mounted, mounted}
 use Rattle.rx_hooks.specs.declared.hook.Hook.{Hook}
 use Rattle.rx_queue.specs.Journal.{Journal, Posted, Resolution, cut_now}
-use Rattle.rx_meaning.specs.Fresh.{Sight, default_contexts, resources_seen, root_element}
+use Rattle.rx_meaning.specs.Fresh.{Sight, default_contexts, root_element}
 use Rattle.rx_meaning.specs.Cursor.{Cursor}
 use Rattle.rx_meaning.specs.Again.{AllOpen}
-use Rattle.rx_meaning.specs.Settled.{DoneBefore, HasOwnNumbers, IfReadsHold, IfSettled, known_by}
+use Rattle.rx_meaning.specs.Settled.{DoneBefore, HasOwnNumbers, IfReadsHold, IfSettled, known_by, version_done}
 use Rattle.rx_model.specs.State.{State, Progress}
 use Rattle.rx_model.specs.Committing.{sight_of, starting}
 use Rattle.rx_model.specs.HooksOf.{KeepsAllHooks}
@@ -36,6 +36,8 @@ use Rattle.cost_laws.specs.Undue.{IsUndue}
 use Rattle.begin_laws.specs.Mounting.{HasInstances}
 use Rattle.rx_render.specs.Mounting.{GoesWith}
 use Rattle.rx_render.specs.GivenContexts.{CursorGiven}
+use Rattle.rx_resources.specs.Seen.{Resources}
+use Rattle.rx_render.specs.Resources.{AsksForDeclared, resources_by}
 use Rattle.rx_render.specs.Rendering.{Rendering, IfLeft, ComesTo}
 use Rattle.rx_render.specs.Gathers.{IsGathering}
 use Rattle.rx_render.specs.Costing.{HasFlags}
@@ -43,7 +45,8 @@ use Rattle.rx_render.specs.Costing.{HasFlags}
 -- a rendering sees what a render sees
 pub record Sees (v : Rendering) (s : Sight) : Type 0 where
   pub program : s.program ≡ v.program
-  pub resources : v.resources ≡ resources_seen s
+  pub resources : v.resources ≡ resources_by s
+  pub declared : AsksForDeclared s
   pub lanes : s.lanes ≡ v.lanes
   pub cut : s.cut ≡ v.cut
 
@@ -80,7 +83,8 @@ pub record IsPast (cut : Cut) (j : Journal) : Type 0 where
 -- The machine's state and its render in progress, by lanes and cut, are those of a rendering: it sees what the render sees, over the committed tree and the hooks of its instances, and stands where the render stands after so many units.
 pub record Renders (p : Program) (st : State) (g : Progress) (v : Rendering) : Type 0 where
   pub program : v.program ≡ p
-  pub resources : v.resources ≡ resources_seen (sight_of p st g)
+  pub resources : v.resources ≡ resources_by (sight_of p st g)
+  pub declared : AsksForDeclared (sight_of p st g)
   pub lanes : v.lanes ≡ g.lanes
   pub cut : v.cut ≡ g.cut
   pub current : IsTreeOf st.tree v.trees.current
@@ -94,23 +98,24 @@ pub record Renders (p : Program) (st : State) (g : Progress) (v : Rendering) : T
   pub rooted : IfSome st.tree (λ x. element_of x ≡ root_element p)
   -- its hidden boundaries wait again
   pub waits : IfWaitsAgain (sight_of p st g) (default_contexts p) st.tree
-  -- and what is shown of it read what the contexts give
-  pub reads : IfReadsHold (default_contexts p) st.tree
+  -- and what is shown of it read what the contexts give, and the versions that the last commit showed
+  pub reads : IfReadsHold (version_done st.journal.updates) (default_contexts p) st.tree
   -- what stands on no way is idle
   pub covers : CoversIf (is_way v.ways) (IsIdleMark (sight_of p st g)) st.tree
   pub come : HasCome (sight_of p st g) st.tree v
   pub costs : HasCosts (sight_of p st g) st.tree v come.cursor
 
--- a render is under way: what it is over is the current tree, which is settled, whose hidden boundaries wait again and whose reads hold, which is idle if it stands on no way, and hooks give it the values of the instances there
+-- a render is under way: what is done lies before its cut; what it is over is the current tree, which is settled, whose hidden boundaries wait again and whose reads hold, which is idle if it stands on no way, and hooks give it the values of the instances there
 pub record IsUnderWay (v : Rendering) : Type 0 where
   pub sight : Sight
   pub tree : Option Node
   pub sees : Sees v sight
   pub gives : GivesAll sight tree (kept_hooks v.hooks)
   pub current : IsTreeOf tree v.trees.current
+  pub done : DoneBefore sight.cut sight.journal.updates
   pub settled : IfSettled sight.program (known_by sight) tree
   pub waits : IfWaitsAgain sight (default_contexts sight.program) tree
-  pub reads : IfReadsHold (default_contexts sight.program) tree
+  pub reads : IfReadsHold (version_done sight.journal.updates) (default_contexts sight.program) tree
   pub covers : CoversIf (is_way v.ways) (IsIdleMark sight) tree
   pub come : HasCome sight tree v
 
@@ -123,17 +128,18 @@ pub record IsRendering (v : Rendering) : Type 0 where
   pub gathered : IsGathered v.trees.current
   pub gathering : IsGathering v.trees v.at
 
--- what a render that starts now needs: the current tree is the committed one, which is settled, has the root's element at its root, hidden boundaries that wait again and reads that hold, and its instances have numbers of their own; the hooks are those of its instances, the cut has all before it, and the resources are what it sees
-pub record IsStartOf (st : State) (lanes : Lanes) (cut : Cut) (resources : List (Option ℤ)) (v : Rendering) : Type 0 where
+-- what a render that starts now needs: the current tree is the committed one, which is settled, has the root's element at its root, hidden boundaries that wait again and reads that hold, and its instances have numbers of their own; the hooks are those of its instances, the cut has all before it, and the resources are what it sees of them
+pub record IsStartOf (st : State) (lanes : Lanes) (cut : Cut) (resources : Resources) (v : Rendering) : Type 0 where
   pub current : IsTreeOf st.tree v.trees.current
   pub keeps : KeepsAllHooks v.program st (kept_hooks v.hooks)
   pub done : DoneBefore cut st.journal.updates
   pub cut_is : cut ≡ cut_now st.journal
-  pub resources_are : resources ≡ resources_seen (sight_of v.program st (starting st lanes))
+  pub resources_are : resources ≡ resources_by (sight_of v.program st (starting st lanes))
+  pub declared : AsksForDeclared (sight_of v.program st (starting st lanes))
   pub settled : IfSettled v.program (known_by (sight_of v.program st (starting st lanes))) st.tree
   pub rooted : IfSome st.tree (λ x. element_of x ≡ root_element v.program)
   pub waits : IfWaitsAgain (sight_of v.program st (starting st lanes)) (default_contexts v.program) st.tree
-  pub reads : IfReadsHold (default_contexts v.program) st.tree
+  pub reads : IfReadsHold (version_done st.journal.updates) (default_contexts v.program) st.tree
   pub numbered : IfNumbered st.tree
   pub apart : (next : ℕ) × HasOwnNumbers next st.tree
 
@@ -144,7 +150,7 @@ pub record LeadsToWork (lanes : Lanes) (cut : Cut) (kept : ℕ → Option (List 
   pub leads_there : leads these n tree ≡ true
 
 -- a render can start
-pub record CanStart (lanes : Lanes) (cut : Cut) (resources : List (Option ℤ)) (v : Rendering) : Type 0 where
+pub record CanStart (lanes : Lanes) (cut : Cut) (resources : Resources) (v : Rendering) : Type 0 where
   pub state : State
   pub is : IsStartOf state lanes cut resources v
 

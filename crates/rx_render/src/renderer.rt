@@ -62,6 +62,7 @@ use rx_node::Node;
 use rx_pruned::Beside;
 use rx_queue::Update;
 use rx_read::{Numbers, number_made};
+use rx_resources::Seen;
 use rx_settle::settle_hooks;
 use rx_step::LaneWord;
 use rx_ways::{Ways, find_ways};
@@ -78,7 +79,7 @@ pub struct Renderer {
     fibers: FiberTree<Fiber>,
     hooks: HookStore,
     contexts: ContextStack,
-    resources: Vec<Option<Int>>,
+    resources: Seen,
     lanes: Lanes,
     cut: Cut,
     ways: Ways,
@@ -99,9 +100,9 @@ impl Model for Renderer {
 
     ghost coded = { Prim.hlevel (codes, program_code, fiber_trees_code) };
 
-    ghost view = { λ r. record { program = r.checked; trees = r.fibers; hooks = r.hooks; contexts = r.contexts; resources = r.resources.items; lanes = r.lanes; cut = r.cut; ways = r.ways; at = r.at; units = r.units; bodies = r.bodies } };
+    ghost view = { λ r. record { program = r.checked; trees = r.fibers; hooks = r.hooks; contexts = r.contexts; resources = r.resources; lanes = r.lanes; cut = r.cut; ways = r.ways; at = r.at; units = r.units; bodies = r.bodies } };
 
-    ghost invariant = { λ r. IsRendering (record { program = r.checked; trees = r.fibers; hooks = r.hooks; contexts = r.contexts; resources = r.resources.items; lanes = r.lanes; cut = r.cut; ways = r.ways; at = r.at; units = r.units; bodies = r.bodies }) };
+    ghost invariant = { λ r. IsRendering (record { program = r.checked; trees = r.fibers; hooks = r.hooks; contexts = r.contexts; resources = r.resources; lanes = r.lanes; cut = r.cut; ways = r.ways; at = r.at; units = r.units; bodies = r.bodies }) };
 }
 
 // How many bodies were evaluated.
@@ -131,7 +132,11 @@ impl Renderer {
             fibers: FiberTree::new(alloc),
             hooks: HookStore::new(alloc),
             contexts,
-            resources: Vec::new(alloc),
+            resources: Seen {
+                versions: Vec::new(alloc),
+                values: Vec::new(alloc),
+                refreshes: false,
+            },
             lanes: Lanes::none(),
             cut: Cut {
                 updates: 0,
@@ -200,8 +205,8 @@ impl Renderer {
         self.cut
     }
 
-    /// The values of the resources that it sees, by their numbers.
-    pub fn resources(&self) -> &[Option<Int>]
+    /// What it sees of the resources.
+    pub fn resources(&self) -> &Seen
         ensures { result.now ≡ self.now.resources }
     {
         &self.resources
@@ -265,8 +270,8 @@ impl Renderer {
         find_ways(self.alloc, &self.fibers, &working, hints, hints)
     }
 
-    /// Discards what is in progress, and starts a render with these lanes at this cut, which sees these values of the
-    /// resources, by their numbers: the next unit begins the root. Since the last render started updates were sent along these
+    /// Discards what is in progress, and starts a render with these lanes at this cut, which sees this of the
+    /// resources: the next unit begins the root. Since the last render started updates were sent along these
     /// ways.
     ///
     /// # Errors
@@ -276,11 +281,11 @@ impl Renderer {
         &mut self,
         lanes: Lanes,
         cut: Cut,
-        resources: Vec<Option<Int>>,
+        resources: Seen,
         sent: &Ways,
     ) -> Result<(), AllocError>
-        requires { CanStart lanes cut resources.items self.old }
-        ensures started { OnOk result ((st : State) → IsStartOf st lanes cut resources.items self.old → Renders self.old.program st (starting st lanes) self.new) }
+        requires { CanStart lanes cut resources self.old }
+        ensures started { OnOk result ((st : State) → IsStartOf st lanes cut resources self.old → Renders self.old.program st (starting st lanes) self.new) }
         ensures units { OnOk result (self.new.units ≡ 0) }
         ensures bodies { OnOk result (self.new.bodies ≡ 0) }
         ensures left { OnOk result (0 < left_of self.new) }
@@ -459,7 +464,9 @@ impl Renderer {
         self.at = At::Over;
         let scene = Scene {
             checked: &self.checked,
-            resources: &self.resources,
+            versions: &self.resources.versions,
+            resources: &self.resources.values,
+            refreshes: self.resources.refreshes,
             lanes: self.lanes,
             cut: self.cut,
             ways: &self.ways,

@@ -149,7 +149,7 @@ but_for p s asks v w shown h program current keeps shows =
       commits = h.commits;
       updates = h.updates;
       resolutions = h.resolutions;
-      values = h.values;
+      resources = h.resources;
       now = h.now;
       event = h.event;
       numbers = h.numbers;
@@ -253,7 +253,7 @@ passive_broken p s v new w shown log written h none is program current hooks is_
         commits = h.commits;
         updates = h.updates;
         resolutions = h.resolutions;
-        values = h.values;
+        resources = h.resources;
         now = h.now;
         event = h.event;
         numbers = h.numbers;

@@ -1,7 +1,6 @@
 -- What the end of a render needs, and which lanes it leaves pending.
 use Rattle.std.proofs.Common.{◌≡◌, ◌<◌, ◌≤◌, ◌^◌, Bool, false, cond, List, [], ◌∷◌, refl, sym, ap, ◌∙◌, subst, arith, Option, Some}
 use Rattle.std.specs.Prelude.{◌&&◌}
-use Rattle.std.specs.List.{list_any}
 use Rattle.rx_lane.specs.declared.lane.Lane.{Lane}
 use Rattle.rx_lane.specs.declared.lane.Lane.TheVariants.{Retry}
 use Rattle.rx_lane.specs.Lanes.{Lanes, has, no_lanes, one, union, intersection, lanes_where, only_transitions}
@@ -16,9 +15,9 @@ use Rattle.rx_elem.specs.Trees.{Node}
 use Rattle.rx_elem.specs.Compare.{Change}
 use Rattle.rx_elem.specs.Numbers.{numbered}
 use Rattle.rx_elem.specs.Spots.{node_count}
-use Rattle.rx_queue.specs.Journal.{has_later, resolved_since}
+use Rattle.rx_queue.specs.Journal.{has_later}
 use Rattle.rx_meaning.specs.Fresh.{fresh, made}
-use Rattle.rx_meaning.specs.Outcome.{commit, outcome, outcome_by, newly_hidden, visible_awaits, still_pending}
+use Rattle.rx_meaning.specs.Outcome.{commit, outcome, outcome_by, newly_hidden, awaits_resolved, still_pending}
 use Rattle.rx_model.specs.State.{State, Progress}
 use Rattle.rx_model.specs.Committing.{sight_of}
 use Rattle.rx_model.specs.Laws.{IsBounded, IsReached}
@@ -58,11 +57,11 @@ not_deferred lanes old tree other = go (newly_hidden old tree)
 
 -- the resources with a value are some that a program reaches
 pub within_reach : (p : Program) → IsAccepted p → (s : State) → AreDeclared p s.journal → AreWithinReach s.journal
-within_reach p accepted s declared r late = declared r (omega (arith, late, few-resources p accepted))
+within_reach p accepted s declared r v late = declared.values r v (omega (arith, late, few-resources p accepted))
 
 -- the lanes that are pending again after a commit
 pub still_as : (s : State) (g : Progress) (tree : Node) (later : Lanes) (waits : Bool) → ((l : Lane) → has later l ≡ has_later g.cut s.journal l)
-    → waits ≡ list_any (resolved_since g.cut s.journal) (visible_awaits (Some tree))
+    → waits ≡ awaits_resolved g.lanes g.cut s.journal tree
     → union (intersection g.lanes later) (cond waits (one Retry) no_lanes) ≡ still_pending g.lanes g.cut s.journal tree
 still_as s g tree later waits same e =
     ap (λ (ls : Lanes). union ls (cond waits (one Retry) no_lanes))

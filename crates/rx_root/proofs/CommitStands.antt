@@ -1,5 +1,5 @@
 -- A root stands for the state after a commit.
-use Rattle.std.proofs.Common.{◌≡◌, ℕ, ◌+◌, Bool, true, false, cond, List, [], ◌++◌, refl, sym, ap, ◌∙◌, subst, Option, Some}
+use Rattle.std.proofs.Common.{◌≡◌, ℕ, ◌+◌, Bool, true, false, cond, List, [], ◌++◌, map, refl, sym, ap, ◌∙◌, subst, Option, Some}
 use Rattle.std.proofs.lemmas.List.{length-map}
 use Rattle.rx_lane.specs.declared.lane.Lane.TheVariants as lane
 use Rattle.rx_lane.specs.Lanes.{Lanes, has, lanes_where}
@@ -34,7 +34,9 @@ use Rattle.rx_render.specs.Rendering.{Rendering, HasNoRender}
 use Rattle.rx_render.specs.Renders.{with_hooks}
 use Rattle.rx_root.specs.Rooted.{Rooted}
 use Rattle.rx_root.specs.Stands.{StandsBy, Stands}
-use Rattle.rx_meaning.specs.Settled.{known_by}
+use Rattle.rx_meaning.specs.Settled.{DoneBefore, known_by}
+use Rattle.rx_resources.specs.Kept.{Kept, committed}
+use Rattle.rx_root.proofs.Resources.{commit_declared, commit_stays}
 use Rattle.prune_laws.proofs.Present.{if_settled_present}
 use Rattle.rx_root.specs.Turning.{IsAtEndOf, StandsAtEnd, KnowsSince, HasNumbered, CanFollow, counts_of, passive_left}
 use Rattle.rx_root.proofs.CommitReady.{is_commit}
@@ -47,6 +49,7 @@ after_commit_of s g tree w shown v =
       shown = shown;
       schedule = after_commit v.schedule g.lanes (still_pending g.lanes g.cut s.journal (numbered s.numbers tree).1) v.now;
       commits = v.commits + 1;
+      resources = map (committed g.lanes g.cut) v.resources;
       numbers = (numbered s.numbers tree).0;
     }
 
@@ -60,10 +63,10 @@ pub record IsCommitted (p : Program) (s : State) (g : Progress) (tree : Node) (w
 
 -- the state after a commit, with these passive effects pending
 committed_with : (p : Program) (s : State) (asks : Rooted → Type 0) (g : Progress) (tree : Node) (passive : Passive) (v : Rooted) (w : Rendering) (shown : Shown)
-    → StandsBy p s asks v → IsReached p (record (committed_state s g (numbered s.numbers tree)) { passive = passive }) → IsCommitted p s g tree w
+    → StandsBy p s asks v → DoneBefore g.cut s.journal.updates → IsReached p (record (committed_state s g (numbered s.numbers tree)) { passive = passive }) → IsCommitted p s g tree w
     → Shows (Some (numbered s.numbers tree).1) passive shown
     → Stands p (record (committed_state s g (numbered s.numbers tree)) { passive = passive }) (after_commit_of s g tree w shown v)
-committed_with p s asks g tree passive v w shown h reached c shows =
+committed_with p s asks g tree passive v w shown h done reached c shows =
     let st : State = committed_state s g (numbered s.numbers tree) in
     record {
       reached = reached;
@@ -77,28 +80,28 @@ committed_with p s asks g tree passive v w shown h reached c shows =
       commits = rw h.commits refl;
       updates = h.updates ∙ sym (length-map s.journal.updates _);
       resolutions = h.resolutions;
-      values = h.values;
+      resources = commit_stays p s.journal s.linked v.resources g.lanes g.cut (numbered s.numbers tree).1 done h.resources;
       now = h.now;
       event = h.event;
       numbers = refl;
-      declared = h.declared;
+      declared = commit_declared p s.journal g.lanes g.cut (numbered s.numbers tree).1 h.declared;
       progress = c.idle;
     }
 
 -- a commit, with its passive effects if it runs them itself
 pub committed_stands : (p : Program) (s : State) (asks : Rooted → Type 0) (g : Progress) (counts : Counts) (tree : Node) (v : Rooted) (w : Rendering) (shown : Shown)
-    → StandsBy p s asks v → IsReached p (committed_as s g counts (numbered s.numbers tree)).after → IsCommitted p s g tree w
+    → StandsBy p s asks v → DoneBefore g.cut s.journal.updates → IsReached p (committed_as s g counts (numbered s.numbers tree)).after → IsCommitted p s g tree w
     → Shows (Some (numbered s.numbers tree).1) (passive_left g.lanes (passive_of (compare_trees s.tree (numbered s.numbers tree).1))) shown
     → Stands p (committed_as s g counts (numbered s.numbers tree)).after (after_commit_of s g tree w shown v)
-committed_stands p s asks g counts tree v w shown h reached c shows = by_sync (has g.lanes lane.Sync) reached shows
+committed_stands p s asks g counts tree v w shown h done reached c shows = by_sync (has g.lanes lane.Sync) reached shows
   where
     st : State
     st = committed_state s g (numbered s.numbers tree)
 
     by_sync : (b : Bool) → IsReached p (cond b (passive_run st) (silent st)).after → Shows (Some (numbered s.numbers tree).1) (cond b no_passive st.passive) shown
         → Stands p (cond b (passive_run st) (silent st)).after (after_commit_of s g tree w shown v)
-    by_sync true reached shows = committed_with p s asks g tree no_passive v w shown h reached c shows
-    by_sync false reached shows = committed_with p s asks g tree st.passive v w shown h reached c shows
+    by_sync true reached shows = committed_with p s asks g tree no_passive v w shown h done reached c shows
+    by_sync false reached shows = committed_with p s asks g tree st.passive v w shown h done reached c shows
 
 -- the lines of a commit, with those of its passive effects if it runs them itself
 pub committed_lines : (s : State) (g : Progress) (counts : Counts) (tree : Node)
@@ -122,7 +125,7 @@ module _ (p : Program) (s : State) (g : Progress) (tree : Node) (v x : Rooted) (
   pub numbered_knows : KnowsSince p s g x
   numbered_knows = subst (λ (y : Rooted). KnowsSince p s g y) (sym n.rest) (record {
     program = h.program;
-    values = h.values;
+    resources = h.resources;
     seen = h.progress.renders.resources;
     lanes = h.progress.renders.lanes;
     declared = h.declared;
@@ -163,7 +166,7 @@ module _ (p : Program) (s : State) (g : Progress) (tree : Node) (v x : Rooted) (
       }
 
 -- what the parts of a root did at a commit, once its new nodes had their numbers: its hooks are settled, the tree is shown, it is the current one, and its lanes are finished
-pub record HasCommitted (s : State) (g : Progress) (tree : Node) (x : Rooted) (w : Rendering) (shown : Shown) (y : Rooted) (last : Rendering) (schedule : Schedule) : Type 0 where
+pub record HasCommitted (s : State) (g : Progress) (tree : Node) (x : Rooted) (w : Rendering) (shown : Shown) (y : Rooted) (last : Rendering) (schedule : Schedule) (kept : List Kept) : Type 0 where
   pub settled : w ≡ with_hooks x.rendering w.hooks
   pub is_shown : y ≡ record x { rendering = w; shown = shown; commits = x.commits + 1 }
   pub is_last : last ≡ record y.rendering { trees = record { current = grafted y.rendering.trees.draft; draft = taken shapes.none }; at = Over }
@@ -171,10 +174,11 @@ pub record HasCommitted (s : State) (g : Progress) (tree : Node) (x : Rooted) (w
   pub still : Lanes
   pub is_schedule : schedule ≡ after_commit y.schedule lanes still y.now
   pub lanes_are : lanes ≡ g.lanes
+  pub is_kept : kept ≡ map (committed g.lanes g.cut) y.resources
   pub still_is : still ≡ still_pending g.lanes g.cut s.journal (numbered s.numbers tree).1
 
 module _ (p : Program) (s : State) (g : Progress) (tree : Node) (v x : Rooted) (h : StandsAtEnd p s g tree v) (n : HasNumbered p s g tree v x) (w : Rendering) (shown : Shown) (y : Rooted)
-    (last : Rendering) (schedule : Schedule) (c : HasCommitted s g tree x w shown y last schedule) where
+    (last : Rendering) (schedule : Schedule) (kept : List Kept) (c : HasCommitted s g tree x w shown y last schedule kept) where
   -- the rendering at the end
   last_is : last ≡ record (with_hooks x.rendering w.hooks) { trees = record { current = grafted x.rendering.trees.draft; draft = taken shapes.none }; at = Over }
   last_is =
@@ -199,24 +203,29 @@ module _ (p : Program) (s : State) (g : Progress) (tree : Node) (v x : Rooted) (
       ∙ ap (λ (ls : Lanes). after_commit v.schedule ls c.still v.now) c.lanes_are
       ∙ ap (λ (ls : Lanes). after_commit v.schedule g.lanes ls v.now) c.still_is
 
-  root_is : record y { rendering = last; schedule = schedule } ≡ after_commit_of s g tree last shown v
+  kept_is : kept ≡ map (committed g.lanes g.cut) v.resources
+  kept_is =
+      c.is_kept ∙ ap (λ (z : Rooted). map (committed g.lanes g.cut) z.resources) (c.is_shown ∙ ap (λ (z : Rooted). record z { rendering = w; shown = shown; commits = z.commits + 1 }) n.rest)
+
+  root_is : record y { rendering = last; schedule = schedule; resources = kept } ≡ after_commit_of s g tree last shown v
   root_is =
-      ap (λ (z : Rooted). record z { rendering = last; schedule = schedule })
+      ap (λ (z : Rooted). record z { rendering = last; schedule = schedule; resources = kept })
       (c.is_shown ∙ ap (λ (z : Rooted). record z { rendering = w; shown = shown; commits = z.commits + 1 }) n.rest)
-      ∙ ap (λ (m : Numbers). record v { rendering = last; shown = shown; schedule = schedule; commits = v.commits + 1; numbers = m }) n.next
-      ∙ ap (λ (sch : Schedule). record v { rendering = last; shown = shown; schedule = sch; commits = v.commits + 1; numbers = (numbered s.numbers tree).0 }) schedule_is
+      ∙ ap (λ (m : Numbers). record v { rendering = last; shown = shown; schedule = schedule; resources = kept; commits = v.commits + 1; numbers = m }) n.next
+      ∙ ap (λ (ks : List Kept). record v { rendering = last; shown = shown; schedule = schedule; resources = ks; commits = v.commits + 1; numbers = (numbered s.numbers tree).0 }) kept_is
+      ∙ ap (λ (sch : Schedule). record v { rendering = last; shown = shown; schedule = sch; resources = map (committed g.lanes g.cut) v.resources; commits = v.commits + 1; numbers = (numbered s.numbers tree).0 }) schedule_is
 
   -- so the root stands for the state after the commit
   pub commit_stands : (counts : Counts) → IsReached p (committed_as s g counts (numbered s.numbers tree)).after
       → KeepsAllHooks x.rendering.program (committed_state s g (numbered s.numbers tree)) (kept_hooks w.hooks)
       → Shows (Some (numbered s.numbers tree).1) (passive_left w.lanes (passive_of (compare_trees s.tree (numbered s.numbers tree).1))) shown
-      → Stands p (committed_as s g counts (numbered s.numbers tree)).after (record y { rendering = last; schedule = schedule })
+      → Stands p (committed_as s g counts (numbered s.numbers tree)).after (record y { rendering = last; schedule = schedule; resources = kept })
   commit_stands counts reached keeps shows =
       let lanes : w.lanes ≡ g.lanes = ap (λ (z : Rendering). z.lanes) c.settled ∙ ap (λ (z : Rooted). z.rendering.lanes) n.rest ∙ h.progress.renders.lanes in
       let shows_it =
       subst (λ (ls : Lanes). Shows (Some (numbered s.numbers tree).1) (passive_left ls (passive_of (compare_trees s.tree (numbered s.numbers tree).1))) shown) lanes shows in
       subst (λ (z : Rooted). Stands p (committed_as s g counts (numbered s.numbers tree)).after z) (sym root_is)
-      (committed_stands p s (IsAtEndOf p s g tree) g counts tree v last shown h reached (last_committed keeps) shows_it)
+      (committed_stands p s (IsAtEndOf p s g tree) g counts tree v last shown h h.progress.renders.done reached (last_committed keeps) shows_it)
 
 module _ (p : Program) (s : State) (g : Progress) (tree : Node) (v x : Rooted) (h : StandsAtEnd p s g tree v) (n : HasNumbered p s g tree v x) where
   -- and its lines are written

@@ -119,7 +119,7 @@ module _ (p : Program) (bounded : IsBounded p) (s : State) (g : Progress) (slice
           commits = h.stands.commits;
           updates = h.stands.updates;
           resolutions = h.stands.resolutions;
-          values = h.stands.values;
+          resources = h.stands.resources;
           now = h.stands.now;
           event = h.stands.event;
           numbers = h.stands.numbers;

@@ -25,3 +25,5 @@ pub mod Live
 pub mod Findable
 pub mod Fitting
 pub mod Overdue
+pub mod Resources
+pub mod Dispatches

@@ -1,22 +1,26 @@
 -- Whether a resource that is waited for got its value after a cut, by the values that are known now and those before.
 use Rattle.std.proofs.Common.{◌≡◌, ◌⊎◌, inl, inr, ℕ, ◌<◌, ◌≤◌, ◌^◌, Bool, true, false, ◌||◌, List, [], ◌∷◌, length, refl, sym, ap, ◌∙◌, arith, Option, None}
-use Rattle.std.specs.Prelude.{ℤ, not, ◌&&◌, is_some, nat_eq, slice_index_or}
+use Rattle.std.specs.Prelude.{ℤ, not, ◌&&◌, is_some, map, nat_eq, slice_index_or, if◌then◌else◌}
 use Rattle.std.specs.List.{list_any}
 use Rattle.std.proofs.lemmas.Bool.Decides.{nat_tests}
-use Rattle.std.proofs.lemmas.List.{length-map}
-use Rattle.std.proofs.lemmas.List.FromFn.{get_or-map-range_with_len, length-range_with_len}
 use Rattle.rx_base.specs.Awaits.{Awaits, has}
 use Rattle.rx_ast.specs.Syntax.{Program}
 use Rattle.rx_rules.specs.Names.{resources}
 use Rattle.rx_check.specs.Accepted.{IsAccepted}
 use Rattle.rx_check.proofs.Limited.{few-resources}
-use Rattle.rx_queue.specs.Journal.{Journal, resolved_by, resolved_now, resolved_since}
-use Rattle.rx_meaning.specs.Fresh.{resources_seen}
+use Rattle.rx_queue.specs.Pairs.{Pair, in_versions}
+use Rattle.rx_queue.specs.Journal.{Journal, resolutions_by, resolved_by, resolved_now, resolved_since, version_of}
 use Rattle.rx_model.specs.State.{State, Progress}
-use Rattle.rx_model.specs.Committing.{sight_of}
-use Rattle.run_laws.specs.Carried.{values_now}
-use Rattle.rx_root.specs.Stands.{AreDeclared}
-use Rattle.rx_root.specs.Turning.{is_new, is_news}
+use Rattle.rx_model.specs.Committing.{schedule_deferred, sight_of}
+use Rattle.rx_sched.specs.Schedule.{after_deferral}
+use Rattle.commit_laws.proofs.Versions.{value_at, version_at}
+use Rattle.rx_resources.specs.Kept.{Kept, value_of}
+use Rattle.rx_resources.specs.Seen.{Resources, is_new, is_news}
+use Rattle.rx_resources.specs.Store.{kept_at}
+use Rattle.rx_resources.proofs.Counting.{value_agrees}
+use Rattle.rx_render.specs.Resources.{resources_by}
+use Rattle.rx_root.specs.Stands.{AreDeclared, KeepsResources}
+use Rattle.rx_root.proofs.Resources.{asks_for_declared, values_length, version_listed, versions_length}
 
 -- two tests of which each follows from the other
 same_test : (a b : Bool) → (a ≡ true → b ≡ true) → (b ≡ true → a ≡ true) → a ≡ b
@@ -61,95 +65,122 @@ any_parts q (w ∷ ws) h =
     behind true b f = refl
     behind false b f = f
 
--- a resource of the program that is waited for is news if it got its value after the cut
-news_at : (p : Program) (s : State) (g : Progress) (waits : Awaits) (r : ℕ) → r < length (resources p)
-    → is_news (values_now p s.journal) (resources_seen (sight_of p s g)) waits r
-    ≡ (has waits r && (is_some (resolved_now s.journal r) && not (is_some (resolved_by g.cut s.journal r))))
-news_at p s g waits r few =
-    let now : slice_index_or (values_now p s.journal) r None ≡ resolved_now s.journal r = get_or-map-range_with_len (resolved_now s.journal) 0 (length (resources p)) r r None few (omega arith) in
-    let then : slice_index_or (resources_seen (sight_of p s g)) r None ≡ resolved_by g.cut s.journal r =
-    get_or-map-range_with_len (resolved_by g.cut s.journal) 0 (length (resources p)) r r None few (omega arith) in
-    rw (now, then) refl
+-- the version of a resource that a render sees
+abbrev seen_in : State → Progress → ℕ → ℕ
+seen_in s g r = version_of g.lanes g.cut s.journal r
 
-pub values_length : (p : Program) (j : Journal) → length (values_now p j) ≡ length (resources p)
-values_length p j = length-map _ _ ∙ length-range_with_len 0 (length (resources p))
+-- in the version that a render sees, a resource got its value after the render's cut
+abbrev got_since : State → Progress → ℕ → Bool
+got_since s g r = is_some (resolved_now s.journal r (seen_in s g r)) && not (is_some (resolved_by g.cut s.journal r (seen_in s g r)))
 
-pub seen_length : (p : Program) (s : State) (g : Progress) → length (resources_seen (sight_of p s g)) ≡ length (resources p)
-seen_length p s g = length-map _ _ ∙ length-range_with_len 0 (length (resources p))
+any_mapped : (test : Pair → Bool) (f : ℕ → Pair) (ws : List ℕ) → list_any test (map f ws) ≡ list_any (λ w. test (f w)) ws
+any_mapped test f [] = refl
+any_mapped test f (w ∷ ws) = ap (λ b. test (f w) || b) (any_mapped test f ws)
 
--- so a test for news among the resources of the program tells whether one got its value after the cut
-pub news_since : (p : Program) (s : State) (g : Progress) (waits : Awaits) (b : Bool) → AreDeclared p s.journal
-    → (b ≡ true → (r : ℕ) × (r < length (resources p)) × (is_news (values_now p s.journal) (resources_seen (sight_of p s g)) waits r ≡ true))
-    → (b ≡ false → (r : ℕ) → r < length (resources p) → is_news (values_now p s.journal) (resources_seen (sight_of p s g)) waits r ≡ false)
-    → b ≡ resolved_since g.cut s.journal waits
-news_since p s g waits b declared some none = same_test b (resolved_since g.cut s.journal waits) there back
-  where
-    since : ℕ → Bool
-    since r = is_some (resolved_now s.journal r) && not (is_some (resolved_by g.cut s.journal r))
+-- one of some resources did
+since_is : (s : State) (g : Progress) (waits : Awaits) → resolved_since g.cut s.journal (in_versions (seen_in s g) waits) ≡ list_any (got_since s g) waits
+since_is s g waits =
+    any_mapped (λ w. is_some (resolved_now s.journal w.resource w.version) && not (is_some (resolved_by g.cut s.journal w.resource w.version))) (λ r. record { resource = r; version = seen_in s g r }) waits
 
-    there : b ≡ true → resolved_since g.cut s.journal waits ≡ true
-    there e =
-        let h = some e in
-        let parts = and_parts (has waits h.0) (is_some (resolved_now s.journal h.0) && not (is_some (resolved_by g.cut s.journal h.0))) (sym (news_at p s g waits h.0 h.1) ∙ h.2) in
-        any_has (λ r. is_some (resolved_now s.journal r) && not (is_some (resolved_by g.cut s.journal r))) waits h.0 parts.0 parts.1
+module _ (p : Program) (s : State) (g : Progress) (kept : List Kept) (h : KeepsResources p s.journal s.linked kept) where
+  -- a resource of the program is new if it did
+  new_at : (r : ℕ) → r < length (resources p) → is_new kept (resources_by (sight_of p s g)) r ≡ got_since s g r
+  new_at r few =
+      let version : slice_index_or (resources_by (sight_of p s g)).versions r 0 ≡ seen_in s g r = version_at (seen_in s g) (length (resources p)) r few in
+      let then : slice_index_or (resources_by (sight_of p s g)).values r None ≡ resolved_by g.cut s.journal r (seen_in s g r) = value_at (resolutions_by g.cut s.journal) (seen_in s g) (length (resources p)) r few in
+      let now : value_of (kept_at kept r) (seen_in s g r) ≡ resolved_now s.journal r (seen_in s g r) =
+      value_agrees s.journal r (seen_in s g r) (kept_at kept r) (h.each r (let all = h.all in omega (arith, all, few))) in
+      ap (λ v. is_some (value_of (kept_at kept r) v) && not (is_some (slice_index_or (resources_by (sight_of p s g)).values r None))) version
+      ∙ ap (λ o. is_some (value_of (kept_at kept r) (seen_in s g r)) && not (is_some o)) then
+      ∙ ap (λ o. is_some o && not (is_some (resolved_by g.cut s.journal r (seen_in s g r)))) now
 
-    -- a resource with a value is one of the program
-    known : (r : ℕ) → is_some (resolved_now s.journal r) ≡ true → length (resources p) ≤ r → ⊥
-    known r e late = let none : resolved_now s.journal r ≡ None = declared r late in let f : false ≡ true = sym (ap (λ (x : Option ℤ). is_some x) none) ∙ e in cc
+  -- so a test for news among the resources of the program tells whether one did
+  news_since : (waits : Awaits) (b : Bool) → AreDeclared p s.journal
+      → (b ≡ true → (r : ℕ) × (r < length (resources p)) × (is_news kept (resources_by (sight_of p s g)) waits r ≡ true))
+      → (b ≡ false → (r : ℕ) → r < length (resources p) → is_news kept (resources_by (sight_of p s g)) waits r ≡ false)
+      → b ≡ list_any (got_since s g) waits
+  news_since waits b declared some none = same_test b (list_any (got_since s g) waits) there back
+    where
+      there : b ≡ true → list_any (got_since s g) waits ≡ true
+      there e =
+          let n = some e in
+          let parts = and_parts (has waits n.0) (got_since s g n.0) (ap (λ x. has waits n.0 && x) (sym (new_at n.0 n.1)) ∙ n.2) in
+          any_has (got_since s g) waits n.0 parts.0 parts.1
 
-    back : resolved_since g.cut s.journal waits ≡ true → b ≡ true
-    back e = go b refl
-      where
-        h : (r : ℕ) × (has waits r ≡ true) × ((is_some (resolved_now s.journal r) && not (is_some (resolved_by g.cut s.journal r))) ≡ true)
-        h = any_parts (λ r. is_some (resolved_now s.journal r) && not (is_some (resolved_by g.cut s.journal r))) waits e
+      -- a resource with a value is one of the program
+      known : (r : ℕ) → is_some (resolved_now s.journal r (seen_in s g r)) ≡ true → length (resources p) ≤ r → ⊥
+      known r e late =
+          let none : resolved_now s.journal r (seen_in s g r) ≡ None = declared.values r (seen_in s g r) late in
+          let f : false ≡ true = sym (ap (λ (x : Option ℤ). is_some x) none) ∙ e in cc
 
-        within : h.0 < length (resources p)
-        within = by_order (known h.0 (and_parts (is_some (resolved_now s.journal h.0)) (not (is_some (resolved_by g.cut s.journal h.0))) h.2).0)
-          where
-            by_order : (length (resources p) ≤ h.0 → ⊥) → h.0 < length (resources p)
-            by_order never = grind (arith, never)
+      back : list_any (got_since s g) waits ≡ true → b ≡ true
+      back e = go b refl
+        where
+          n : (r : ℕ) × (has waits r ≡ true) × (got_since s g r ≡ true)
+          n = any_parts (got_since s g) waits e
 
-        go : (c : Bool) → b ≡ c → b ≡ true
-        go true f = f
-        go false f =
-            let not_there = none f h.0 within in
-            let yes : is_news (values_now p s.journal) (resources_seen (sight_of p s g)) waits h.0 ≡ true = news_at p s g waits h.0 within ∙ rw (h.1, h.2) refl in
-            absurd (let k : false ≡ true = sym not_there ∙ yes in cc)
+          within : n.0 < length (resources p)
+          within = by_order (known n.0 (and_parts (is_some (resolved_now s.journal n.0 (seen_in s g n.0))) (not (is_some (resolved_by g.cut s.journal n.0 (seen_in s g n.0)))) n.2).0)
+            where
+              by_order : (length (resources p) ≤ n.0 → ⊥) → n.0 < length (resources p)
+              by_order never = grind (arith, never)
 
--- there are few values
-pub few_values : (p : Program) (j : Journal) (values : List (Option ℤ)) → IsAccepted p → values ≡ values_now p j → length values < 2 ^ 32
-few_values p j values accepted e =
-    let long : length values ≡ length (resources p) = ap (λ (xs : List (Option ℤ)). length xs) e ∙ values_length p j in
-    omega (arith, long, few-resources p accepted)
+          go : (c : Bool) → b ≡ c → b ≡ true
+          go true f = f
+          go false f =
+              let not_there = none f n.0 within in
+              let yes : is_news kept (resources_by (sight_of p s g)) waits n.0 ≡ true = ap (λ x. has waits n.0 && x) (new_at n.0 within) ∙ rw (n.1, n.2) refl in
+              absurd (let k : false ≡ true = sym not_there ∙ yes in cc)
 
--- the same, by lists that are these values
-pub news_is : (p : Program) (s : State) (g : Progress) (waits : Awaits) (values seen : List (Option ℤ)) (b : Bool) → values ≡ values_now p s.journal
-    → seen ≡ resources_seen (sight_of p s g) → AreDeclared p s.journal
-    → (b ≡ true → (r : ℕ) × (r < length values) × (is_news values seen waits r ≡ true))
-    → (b ≡ false → (r : ℕ) → r < length values → is_news values seen waits r ≡ false) → b ≡ resolved_since g.cut s.journal waits
-news_is p s g waits values seen b e f declared some none =
-    let long : length values ≡ length (resources p) = ap (λ (xs : List (Option ℤ)). length xs) e ∙ values_length p s.journal in
-    news_since p s g waits b declared
-    (λ h. let t = some h in (t.0, omega (arith, t.1, long), sym (same t.0) ∙ t.2))
-    (λ h r few. sym (same r) ∙ none h r (omega (arith, few, long)))
-  where
-    same : (r : ℕ) → is_news values seen waits r ≡ is_news (values_now p s.journal) (resources_seen (sight_of p s g)) waits r
-    same r =
-        ap (λ (xs : List (Option ℤ)). is_news xs seen waits r) e
-        ∙ ap (λ (xs : List (Option ℤ)). is_news (values_now p s.journal) xs waits r) f
+  -- the same, by what the render in progress tells that it sees
+  pub news_is : (waits : Awaits) (seen : Resources) (b : Bool) → seen ≡ resources_by (sight_of p s g) → AreDeclared p s.journal
+      → (b ≡ true → (r : ℕ) × (r < length kept) × (is_news kept seen waits r ≡ true))
+      → (b ≡ false → (r : ℕ) → r < length kept → is_news kept seen waits r ≡ false) → b ≡ resolved_since g.cut s.journal (in_versions (seen_in s g) waits)
+  news_is waits seen b f declared some none =
+      news_since waits b declared
+      (λ e. let t = some e in (t.0, (let long = h.all in omega (arith, t.1, long)), ap (λ x. is_news kept x waits t.0) (sym f) ∙ t.2))
+      (λ e r few. ap (λ x. is_news kept x waits r) (sym f) ∙ none e r (let long = h.all in omega (arith, few, long)))
+      ∙ sym (since_is s g waits)
 
--- if no resource is new, none that is waited for is
-pub none_new : (p : Program) (s : State) (g : Progress) (values seen : List (Option ℤ)) → values ≡ values_now p s.journal → seen ≡ resources_seen (sight_of p s g) → AreDeclared p s.journal
-    → ((r : ℕ) → r < length values → is_new values seen r ≡ false) → (waits : Awaits) → resolved_since g.cut s.journal waits ≡ false
-none_new p s g values seen e f declared none waits =
-    sym (news_is p s g waits values seen false e f declared (λ h. absurd (let k : false ≡ true = h in cc)) (λ h r few. rw (none r few) (never (has waits r))))
-  where
-    never : (b : Bool) → (b && false) ≡ false
-    never true = refl
-    never false = refl
+  -- if no resource is new, none that is waited for is
+  pub none_new : (seen : Resources) → seen ≡ resources_by (sight_of p s g) → AreDeclared p s.journal
+      → ((r : ℕ) → r < length kept → is_new kept seen r ≡ false) → (waits : Awaits) → resolved_since g.cut s.journal (in_versions (seen_in s g) waits) ≡ false
+  none_new seen f declared none waits =
+      sym (news_is waits seen false f declared (λ e. absurd (let k : false ≡ true = e in cc)) (λ e r few. rw (none r few) (never (has waits r))))
+    where
+      never : (b : Bool) → (b && false) ≡ false
+      never true = refl
+      never false = refl
+
+  -- there are few resources
+  pub few_kept : IsAccepted p → length kept < 2 ^ 32
+  few_kept accepted = let long = h.all in omega (arith, long, few-resources p accepted)
+
+  -- what is kept and what the render sees are as many
+  pub as_many_versions : (seen : Resources) → seen ≡ resources_by (sight_of p s g) → length seen.versions ≡ length kept
+  as_many_versions seen f = ap (λ (x : Resources). length x.versions) f ∙ versions_length (sight_of p s g) ∙ sym h.all
+
+  pub as_many_values : (seen : Resources) → seen ≡ resources_by (sight_of p s g) → length seen.values ≡ length kept
+  as_many_values seen f = ap (λ (x : Resources). length x.values) f ∙ values_length (sight_of p s g) ∙ sym h.all
 
 -- and so of lists of what is waited for
-pub none_of_all : (p : Program) (s : State) (g : Progress) → ((waits : Awaits) → resolved_since g.cut s.journal waits ≡ false) → (all : List Awaits)
-    → list_any (resolved_since g.cut s.journal) all ≡ false
-none_of_all p s g none [] = refl
-none_of_all p s g none (waits ∷ all) = rw (none waits) (none_of_all p s g none all)
+pub none_of_all : (s : State) (g : Progress) → ((waits : Awaits) → resolved_since g.cut s.journal (in_versions (seen_in s g) waits) ≡ false) → (all : List Awaits)
+    → list_any (λ waits. resolved_since g.cut s.journal (in_versions (seen_in s g) waits)) all ≡ false
+none_of_all s g none [] = refl
+none_of_all s g none (waits ∷ all) = rw (none waits) (none_of_all s g none all)
+
+-- what a render in progress sees of the versions tells those of what it waits for
+pub waits_seen : (p : Program) (s : State) (g : Progress) (waits : Awaits) (seen : Resources) → seen ≡ resources_by (sight_of p s g) → AreDeclared p s.journal
+    → in_versions (λ r. slice_index_or seen.versions r 0) waits ≡ in_versions (seen_in s g) waits
+waits_seen p s g waits seen is declared =
+    ap (λ (f : ℕ → ℕ). in_versions f waits)
+    (λ i r. (ap (λ (x : Resources). slice_index_or x.versions r 0) is ∙ version_listed (sight_of p s g) (asks_for_declared p s.journal g.lanes g.cut declared) r) i)
+
+module _ (p : Program) (s : State) (g : Progress) (waits : Awaits) where
+  -- a render of which something got its value since is not suspended
+  pub not_suspended : resolved_since g.cut s.journal (in_versions (seen_in s g) waits) ≡ true → schedule_deferred s g waits ≡ s.schedule
+  not_suspended yes = ap (λ (b : Bool). if b then s.schedule else after_deferral s.schedule g.lanes (in_versions (seen_in s g) waits) s.now) yes
+
+  -- another one is
+  pub suspended : resolved_since g.cut s.journal (in_versions (seen_in s g) waits) ≡ false → schedule_deferred s g waits ≡ after_deferral s.schedule g.lanes (in_versions (seen_in s g) waits) s.now
+  suspended no = ap (λ (b : Bool). if b then s.schedule else after_deferral s.schedule g.lanes (in_versions (seen_in s g) waits) s.now) no

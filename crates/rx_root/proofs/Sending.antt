@@ -1,5 +1,5 @@
 -- What a root stands for after a dispatch.
-use Rattle.std.proofs.Common.{◌≡◌, ℕ, ◌+◌, ◌<◌, ◌≤◌, true, length, refl, sym, ap, ◌∙◌, subst, arith, Option, Some, None}
+use Rattle.std.proofs.Common.{◌≡◌, ℕ, ◌+◌, ◌<◌, ◌≤◌, true, length, refl, sym, ap, ◌∙◌, subst, arith, Option, Some, None, List}
 use Rattle.std.specs.Prelude.{is_none, slice_get, if◌then◌else◌}
 use Rattle.rx_lane.specs.declared.lane.Lane.{Lane}
 use Rattle.rx_lane.specs.Lanes.{Lanes, one, union}
@@ -9,7 +9,8 @@ use Rattle.rx_check.specs.Accepted.{IsAccepted}
 use Rattle.rx_elem.specs.Spots.{Mounted, mounted}
 use Rattle.rx_queue.specs.declared.update.Op.{Op}
 use Rattle.rx_queue.specs.declared.update.Update.{Update}
-use Rattle.rx_queue.specs.Journal.{hook}
+use Rattle.rx_queue.specs.declared.update.Op.TheVariants.{Refresh}
+use Rattle.rx_queue.specs.Journal.{Target, resource}
 use Rattle.rx_sched.specs.Schedule.{Schedule, after_update, claimed, linked as linked_lanes_of}
 use Rattle.rx_hooks.specs.Hooks.{links_with}
 use Rattle.rx_step.specs.declared.step.Dispatch.{Dispatch}
@@ -29,14 +30,18 @@ use Rattle.rx_hook_store.specs.Store.{kept_hooks}
 use Rattle.rx_hook_store.specs.Changing.{lanes_linked}
 use Rattle.rx_hook_store.specs.Commits.{LinksBelow}
 use Rattle.rx_hook_store.proofs.Numbered.{mounted_below}
+use Rattle.rx_hook_store.proofs.Dispatching.{keeps_refreshed}
 use Rattle.rx_hook_store.proofs.Staying.{all_stay}
 use Rattle.rx_render.specs.declared.at.At.{At}
 use Rattle.rx_render.specs.declared.at.At.TheVariants.{Begins, Completes, Over}
 use Rattle.rx_render.specs.Rendering.{IfLeft, Rendering}
 use Rattle.rx_render.specs.Renders.{Renders, with_hooks}
+use Rattle.rx_render.proofs.Later.{renders_later}
+use Rattle.rx_render.proofs.Sending.{dispatch_later}
 use Rattle.rx_root.specs.declared.events.Sent.{Sent}
 use Rattle.rx_root.specs.Rooted.{Rooted}
-use Rattle.rx_root.specs.Stands.{HasProgress, Stands}
+use Rattle.rx_resources.specs.Kept.{Kept}
+use Rattle.rx_root.specs.Stands.{AreDeclared, HasProgress, KeepsResources, Stands}
 use Rattle.rx_root.specs.Taking.{CanTake, IsFor, claimed_by, root_accepted}
 use Rattle.rx_root.proofs.HookCounts.{mounted_hooks}
 use Rattle.rx_root.proofs.Paths.{dispatch_hook, found_hook, found_there}
@@ -50,7 +55,7 @@ pub is_for : (p : Program) (s : State) (v : Rooted) (d : Dispatch) (m : Mounted)
     → (has_name (hooks_at p m.component) (hook_name d) ≡ true → sent.place < length (hooks_at p m.component)) → sent.op ≡ op_of p m.component d → IsFor p s d sent
 is_for p s v d m sent accepted h can here number place below op =
     let there = found_there p (mounted s.tree) (path_of d) m here in
-    let named = dispatch_hook p d can in
+    let named = dispatch_hook p d can (λ none. let f : None ≡ Some m = sym (ap (instance_found p s.tree) none) ∙ here in cc) in
     let has = found_hook p accepted (mounted s.tree) (mounted_hooks p s.tree (reached_tree p s h.reached)) (path_of d) (hook_name d) named.0 named.1 m here in
     record {
       place_in_tree = there.0;
@@ -107,45 +112,55 @@ transition_root v rd lanes ls lane l sc ev some is schedule event =
     ap (λ (x : Option Lanes). root_accepted x lane (record v { rendering = rd; schedule = claimed_by word.Transition v.event v.schedule })) some
     ∙ (λ i. record v { rendering = rd; schedule = after_update (linked_lanes_of (if is_none (event i) then claimed (schedule i) else schedule i) ls) (is i) v.now; updates = v.updates + 1; event = Some (is i); later = union v.later (one (is i)) })
 
-module _ (p : Program) (s : State) (v : Rooted) (i k : ℕ) (o : Op) (rd : Rendering) (lanes : Option Lanes) (lane : Lane) (new : Rooted) (h : Stands p s v)
+module _ (p : Program) (s : State) (v : Rooted) (t : Target) (o : Op) (rd : Rendering) (kept : List Kept) (lanes : Option Lanes) (lane : Lane) (new : Rooted) (h : Stands p s v)
     (same : rd ≡ with_hooks v.rendering rd.hooks) where
   -- an update that links nothing
-  plain : (l : Lane) → lane ≡ l → lanes ≡ None → KeepsAllHooks p (accepted s (next_update s.journal (hook i k) o l)) (kept_hooks rd.hooks)
-      → ((g : Progress) → Renders p s g v.rendering → Renders p (accepted s (next_update s.journal (hook i k) o l)) g rd)
-      → LinksBelow (accepted s (next_update s.journal (hook i k) o l)) → IsReached p (accepted s (next_update s.journal (hook i k) o l))
-      → new ≡ root_accepted lanes lane (record v { rendering = rd }) → Stands p (accepted s (next_update s.journal (hook i k) o l)) new
-  plain l lane_is none keeps goes below reached is =
-      subst (λ (r : Rooted). Stands p (accepted s (next_update s.journal (hook i k) o l)) r)
-      (sym (is ∙ plain_root v rd lanes lane l s.schedule s.event none lane_is h.schedule h.event))
-      (stands_after p s s.schedule s.linked s.event (next_update s.journal (hook i k) o l) v rd same refl goes keeps below reached h)
+  plain : (l : Lane) → lane ≡ l → lanes ≡ None → KeepsAllHooks p (accepted s (next_update s.journal t o l)) (kept_hooks rd.hooks)
+      → ((g : Progress) → Renders p s g v.rendering → Renders p (accepted s (next_update s.journal t o l)) g rd)
+      → LinksBelow (accepted s (next_update s.journal t o l)) → IsReached p (accepted s (next_update s.journal t o l))
+      → KeepsResources p (accepted s (next_update s.journal t o l)).journal s.linked kept → AreDeclared p (accepted s (next_update s.journal t o l)).journal
+      → new ≡ root_accepted lanes lane (record v { rendering = rd; resources = kept }) → Stands p (accepted s (next_update s.journal t o l)) new
+  plain l lane_is none keeps goes below reached res declared is =
+      subst (λ (r : Rooted). Stands p (accepted s (next_update s.journal t o l)) r)
+      (sym (is ∙ plain_root (record v { resources = kept }) rd lanes lane l s.schedule s.event none lane_is h.schedule h.event))
+      (stands_after p s s.schedule s.linked s.event (next_update s.journal t o l) v rd kept same refl goes keeps below reached res declared h)
 
   -- a transition
-  transition : lane ≡ lane_of s word.Transition → lanes ≡ Some (links_with lane v.schedule.pending (linked_lanes s.linked (hook i k)))
-      → KeepsAllHooks p (dispatched_for s word.Transition (hook i k) o) (kept_hooks rd.hooks)
-      → ((g : Progress) → Renders p s g v.rendering → Renders p (dispatched_for s word.Transition (hook i k) o) g rd) → LinksBelow (dispatched_for s word.Transition (hook i k) o)
-      → IsReached p (dispatched_for s word.Transition (hook i k) o)
-      → new ≡ root_accepted lanes lane (record v { rendering = rd; schedule = claimed_by word.Transition v.event v.schedule })
-      → Stands p (dispatched_for s word.Transition (hook i k) o) new
-  transition lane_is some keeps goes below reached is =
+  transition : lane ≡ lane_of s word.Transition → lanes ≡ Some (links_with lane v.schedule.pending (linked_lanes s.linked t))
+      → KeepsAllHooks p (dispatched_for s word.Transition t o) (kept_hooks rd.hooks)
+      → ((g : Progress) → Renders p s g v.rendering → Renders p (dispatched_for s word.Transition t o) g rd) → LinksBelow (dispatched_for s word.Transition t o)
+      → IsReached p (dispatched_for s word.Transition t o)
+      → KeepsResources p (dispatched_for s word.Transition t o).journal (dispatched_for s word.Transition t o).linked kept → AreDeclared p (dispatched_for s word.Transition t o).journal
+      → new ≡ root_accepted lanes lane (record v { rendering = rd; resources = kept; schedule = claimed_by word.Transition v.event v.schedule })
+      → Stands p (dispatched_for s word.Transition t o) new
+  transition lane_is some keeps goes below reached res declared is =
       let l = lane_of s word.Transition in
-      let ls : Lanes = links_with l s.schedule.pending (linked_lanes s.linked (hook i k)) in
-      let linked_is : lanes ≡ Some ls = some ∙ (λ j. Some (links_with (lane_is j) (h.schedule j).pending (linked_lanes s.linked (hook i k)))) in
-      subst (λ (r : Rooted). Stands p (dispatched_for s word.Transition (hook i k) o) r)
-      (sym (is ∙ transition_root v rd lanes ls lane l s.schedule s.event linked_is lane_is h.schedule h.event))
-      (stands_after p s (linked_lanes_of (claimed_if_first s) ls) (with_linked s.linked (hook i k) ls) (Some l) (next_update s.journal (hook i k) o l) v rd same refl
-      goes keeps below reached h)
+      let ls : Lanes = links_with l s.schedule.pending (linked_lanes s.linked t) in
+      let linked_is : lanes ≡ Some ls = some ∙ (λ j. Some (links_with (lane_is j) (h.schedule j).pending (linked_lanes s.linked t))) in
+      subst (λ (r : Rooted). Stands p (dispatched_for s word.Transition t o) r)
+      (sym (is ∙ transition_root (record v { resources = kept }) rd lanes ls lane l s.schedule s.event linked_is lane_is h.schedule h.event))
+      (stands_after p s (linked_lanes_of (claimed_if_first s) ls) (with_linked s.linked t ls) (Some l) (next_update s.journal t o l) v rd kept same refl
+      goes keeps below reached res declared h)
 
   -- the root stands for the state after the dispatch
-  pub sent_stands : (w : LaneWord) (u : Update) → lane ≡ lane_of s w → u.lane ≡ lane → lanes ≡ lanes_linked w u v.schedule.pending (linked_lanes s.linked (hook i k))
-      → KeepsAllHooks p (dispatched_for s w (hook i k) o) (kept_hooks rd.hooks)
-      → ((g : Progress) → Renders p s g v.rendering → Renders p (dispatched_for s w (hook i k) o) g rd) → LinksBelow (dispatched_for s w (hook i k) o)
-      → IsReached p (dispatched_for s w (hook i k) o) → new ≡ root_accepted lanes lane (record v { rendering = rd; schedule = claimed_by w v.event v.schedule })
-      → Stands p (dispatched_for s w (hook i k) o) new
-  sent_stands word.Sync u lane_is has lanes_are keeps goes below reached is = plain (lane_of s word.Sync) lane_is lanes_are keeps goes below reached is
-  sent_stands word.Input u lane_is has lanes_are keeps goes below reached is = plain (lane_of s word.Input) lane_is lanes_are keeps goes below reached is
-  sent_stands word.Default u lane_is has lanes_are keeps goes below reached is = plain (lane_of s word.Default) lane_is lanes_are keeps goes below reached is
-  sent_stands word.Transition u lane_is has lanes_are keeps goes below reached is =
-      transition lane_is (lanes_are ∙ ap (λ (l : Lane). Some (links_with l v.schedule.pending (linked_lanes s.linked (hook i k)))) has) keeps goes below reached is
+  pub sent_stands : (w : LaneWord) (u : Update) → lane ≡ lane_of s w → u.lane ≡ lane → lanes ≡ lanes_linked w u v.schedule.pending (linked_lanes s.linked t)
+      → KeepsAllHooks p (dispatched_for s w t o) (kept_hooks rd.hooks)
+      → ((g : Progress) → Renders p s g v.rendering → Renders p (dispatched_for s w t o) g rd) → LinksBelow (dispatched_for s w t o)
+      → IsReached p (dispatched_for s w t o)
+      → KeepsResources p (dispatched_for s w t o).journal (dispatched_for s w t o).linked kept → AreDeclared p (dispatched_for s w t o).journal
+      → new ≡ root_accepted lanes lane (record v { rendering = rd; resources = kept; schedule = claimed_by w v.event v.schedule })
+      → Stands p (dispatched_for s w t o) new
+  sent_stands word.Sync u lane_is has lanes_are keeps goes below reached res declared is = plain (lane_of s word.Sync) lane_is lanes_are keeps goes below reached res declared is
+  sent_stands word.Input u lane_is has lanes_are keeps goes below reached res declared is = plain (lane_of s word.Input) lane_is lanes_are keeps goes below reached res declared is
+  sent_stands word.Default u lane_is has lanes_are keeps goes below reached res declared is = plain (lane_of s word.Default) lane_is lanes_are keeps goes below reached res declared is
+  sent_stands word.Transition u lane_is has lanes_are keeps goes below reached res declared is =
+      transition lane_is (lanes_are ∙ ap (λ (l : Lane). Some (links_with l v.schedule.pending (linked_lanes s.linked t))) has) keeps goes below reached res declared is
+
+-- a render in progress goes on after a refresh, which lies behind its cut
+pub refresh_goes : (p : Program) (s : State) (w : LaneWord) (r : ℕ) (g : Progress) (v : Rendering) → Renders p s g v → Renders p (dispatched_for s w (resource r) Refresh) g v
+refresh_goes p s w r g v on =
+    renders_later p s (dispatched_for s w (resource r) Refresh) g v v.hooks on (dispatch_later g s w (resource r) Refresh on.past.updates)
+    (keeps_refreshed p s w r Refresh (kept_hooks v.hooks) on.keeps)
 
 -- ---- if memory runs out
 
@@ -181,7 +196,7 @@ unsent_stands p s v rd new h same kept goes is =
       commits = h.commits;
       updates = h.updates;
       resolutions = h.resolutions;
-      values = h.values;
+      resources = h.resources;
       now = h.now;
       event = h.event;
       numbers = h.numbers;

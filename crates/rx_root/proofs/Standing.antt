@@ -12,15 +12,13 @@ use Rattle.rx_lane.specs.Lanes.{Lanes, has, one, same_lane, union}
 use Rattle.rx_lane.specs.SetLaws.{has-lanes_where}
 use Rattle.rx_ast.specs.Syntax.{Program}
 use Rattle.rx_rules.specs.Names.{resources}
-use Rattle.rx_queue.specs.Journal.{Journal, Posted, Resolution, has_later, resolved_now}
+use Rattle.rx_queue.specs.Journal.{Journal, Posted, Resolution, has_later, next_version}
 use Rattle.rx_sched.specs.Schedule.{Schedule, after_resolution, after_update}
-use Rattle.rx_meaning.specs.Outcome.{is_awaited}
 use Rattle.rx_effect.specs.EffectLog.{Passive}
 use Rattle.rx_model.specs.State.{Linked, Progress, State}
-use Rattle.rx_model.specs.Accepting.{accepted, with_value}
+use Rattle.rx_model.specs.Accepting.{accepted, is_awaited_in, with_value}
 use Rattle.rx_model.specs.HooksOf.{KeepsAllHooks}
 use Rattle.rx_model.specs.Laws.{IsReached}
-use Rattle.run_laws.proofs.Keeping.{now_stays}
 use Rattle.rx_fiber.specs.Reading.{IsTreeOf}
 use Rattle.rx_read.specs.Numbering.{IsAllNumbered}
 use Rattle.rx_hook_store.specs.Store.{kept_hooks}
@@ -31,7 +29,10 @@ use Rattle.rx_render.specs.Rendering.{IfLeft, Rendering}
 use Rattle.rx_render.specs.Renders.{Renders, with_hooks}
 use Rattle.rx_render.proofs.Later.{renders_resolved, renders_same}
 use Rattle.rx_root.specs.Rooted.{Rooted}
-use Rattle.rx_root.specs.Stands.{HasProgress, Stands}
+use Rattle.rx_resources.specs.Kept.{Kept}
+use Rattle.rx_resources.specs.Store.{resolved_at}
+use Rattle.rx_root.specs.Stands.{AreDeclared, HasProgress, KeepsResources, Stands}
+use Rattle.rx_root.proofs.Resources.{resolution_declared, resolution_stays}
 
 -- ---- the clock, the event and the passive effects
 
@@ -68,7 +69,7 @@ stands_at p s now event passive v clock shown time shows reached h =
       commits = h.commits;
       updates = h.updates;
       resolutions = h.resolutions;
-      values = h.values;
+      resources = h.resources;
       now = time;
       event = refl;
       numbers = h.numbers;
@@ -93,7 +94,7 @@ later_more cut j u a l before behind =
     ap (λ b. (b && same_lane u.update.lane l) || false) behind ∙ or_nothing (same_lane u.update.lane l) in
     both ∙ (ap (λ b. b || has (one u.update.lane) l) before ∙ (ap (λ b. list_any test j.updates || b) (own ∙ sym last) ∙ sym (list_any-append test j.updates (u ∷ []))))
 
-module _ (p : Program) (s : State) (sc : Schedule) (ln : List Linked) (ev : Option Lane) (u : Posted) (v : Rooted) (rd : Rendering) where
+module _ (p : Program) (s : State) (sc : Schedule) (ln : List Linked) (ev : Option Lane) (u : Posted) (v : Rooted) (rd : Rendering) (kept : List Kept) where
   -- the state after the update
   abbrev state_after : State
   state_after = accepted (record s { schedule = sc; linked = ln; event = ev }) u
@@ -103,6 +104,7 @@ module _ (p : Program) (s : State) (sc : Schedule) (ln : List Linked) (ev : Opti
   root_after =
       record v {
         rendering = rd;
+        resources = kept;
         schedule = after_update sc u.update.lane v.now;
         updates = v.updates + 1;
         event = ev;
@@ -128,8 +130,9 @@ module _ (p : Program) (s : State) (sc : Schedule) (ln : List Linked) (ev : Opti
   -- an update is accepted
   pub stands_after : rd ≡ with_hooks v.rendering rd.hooks → u.update.number ≡ length s.journal.updates → ((g : Progress) → Renders p s g v.rendering → Renders p state_after g rd)
       → KeepsAllHooks p state_after (kept_hooks rd.hooks) → LinksBelow state_after → IsReached p state_after
+      → KeepsResources p state_after.journal state_after.linked kept → AreDeclared p state_after.journal
       → Stands p s v → Stands p state_after root_after
-  stands_after same number goes keeps below reached h =
+  stands_after same number goes keeps below reached resources declared h =
       record {
         reached = reached;
         program = ap (λ (r : Rendering). r.program) same ∙ h.program;
@@ -142,66 +145,24 @@ module _ (p : Program) (s : State) (sc : Schedule) (ln : List Linked) (ev : Opti
         commits = h.commits;
         updates = ap (λ n. n + 1) h.updates ∙ sym (length-append s.journal.updates (u ∷ []));
         resolutions = h.resolutions;
-        values = h.values;
+        resources = resources;
         now = h.now;
         event = refl;
         numbers = h.numbers;
-        declared = h.declared;
+        declared = declared;
         progress = progress_after same number goes s.progress h.progress;
       }
 
 -- ---- resolutions
-
-find_later : (test : Resolution → Bool) (xs : List Resolution) (x : Resolution) → test x ≡ true → option_map (λ (y : Resolution). y.value) (find test xs) ≡ None
-    → option_map (λ (y : Resolution). y.value) (find test (xs ++ x ∷ [])) ≡ Some x.value
-find_later test [] x passes none = rw passes refl
-find_later test (y ∷ ys) x passes none = go (test y) none (find_later test ys x passes)
-  where
-    go : (b : Bool) → option_map (λ (y : Resolution). y.value) (cond b (Some y) (find test ys)) ≡ None
-        → (option_map (λ (y : Resolution). y.value) (find test ys) ≡ None → option_map (λ (y : Resolution). y.value) (find test (ys ++ x ∷ [])) ≡ Some x.value)
-        → option_map (λ (y : Resolution). y.value) (cond b (Some y) (find test (ys ++ x ∷ []))) ≡ Some x.value
-    go true e later = cc
-    go false e later = later e
-
-take_all : (xs : List Resolution) → take (length xs) xs ≡ xs
-take_all [] = refl
-take_all (x ∷ xs) = ap (λ ys. x ∷ ys) (take_all xs)
-
-now_is : (j : Journal) (r : ℕ) → resolved_now j r ≡ option_map (λ (x : Resolution). x.value) (find (λ x. nat_eq x.resource r) j.resolutions)
-now_is j r = ap (λ (xs : List Resolution). option_map (λ (x : Resolution). x.value) (find (λ x. nat_eq x.resource r) xs)) (take_all j.resolutions)
-
--- a resource without a value has that of its resolution
-now_resolved : (us : List Posted) (xs : List Resolution) (x : Resolution) → resolved_now (record { updates = us; resolutions = xs }) x.resource ≡ None
-    → resolved_now (record { updates = us; resolutions = xs ++ x ∷ [] }) x.resource ≡ Some x.value
-now_resolved us xs x none =
-    now_is (record { updates = us; resolutions = xs ++ x ∷ [] }) x.resource
-    ∙ find_later (λ y. nat_eq y.resource x.resource) xs x (grind (arith, nat_tests)) (sym (now_is (record { updates = us; resolutions = xs }) x.resource) ∙ none)
-
-map_alike : (f g : ℕ → Option ℤ) (k n : ℕ) → ((q : ℕ) → k ≤ q → g q ≡ f q) → map f (range_with_len k n) ≡ map g (range_with_len k n)
-map_alike f g k zero same = refl
-map_alike f g k (suc n) same = rw (same k (omega arith), map_alike f g (k + 1) n (λ q le. same q (omega arith))) refl
-
--- the values of resources, if one of them gets one
-values_set : (f g : ℕ → Option ℤ) (y : Option ℤ) (k n r : ℕ) → ((q : ℕ) → nat_eq (k + r) q ≡ false → g q ≡ f q) → g (k + r) ≡ y
-    → slice_set (map f (range_with_len k n)) r y ≡ map g (range_with_len k n)
-values_set f g y k zero r others here = refl
-values_set f g y k (suc n) zero others here =
-    let at : k + 0 ≡ k = omega arith in
-    let first : y ≡ g k = sym here ∙ ap g at in
-    rw (first, map_alike f g (k + 1) n (λ q le. others q (grind (arith, nat_tests)))) refl
-values_set f g y k (suc n) (suc r) others here =
-    let at : (k + 1) + r ≡ k + suc r = omega arith in
-    let first : g k ≡ f k = others k (grind (arith, nat_tests)) in
-    rw (sym first, values_set f g y (k + 1) n r (λ q no. others q (rw (← at) no)) (ap g at ∙ here)) refl
 
 module _ (p : Program) (s : State) (r : ℕ) (x : ℤ) (v : Rooted) where
   -- the root after the resolution
   abbrev root_resolved : Rooted
   root_resolved =
       record v {
-        schedule = after_resolution v.schedule r (is_awaited s.tree r) v.now;
+        schedule = after_resolution v.schedule r (next_version s.journal r) (is_awaited_in s r (next_version s.journal r)) v.now;
         resolutions = v.resolutions + 1;
-        values = slice_set v.values r (Some x);
+        resources = resolved_at x r v.resources;
       }
 
   progress_resolved : (g : Option Progress) → HasProgress p s g v → HasProgress p (with_value s r x) g root_resolved
@@ -217,8 +178,8 @@ module _ (p : Program) (s : State) (r : ℕ) (x : ℤ) (v : Rooted) where
       }
 
   -- a resource gets its value
-  pub stands_resolved : resolved_now s.journal r ≡ None → r < length (resources p) → IsReached p (with_value s r x) → Stands p s v → Stands p (with_value s r x) root_resolved
-  stands_resolved none within reached h =
+  pub stands_resolved : r < length (resources p) → IsReached p (with_value s r x) → Stands p s v → Stands p (with_value s r x) root_resolved
+  stands_resolved within reached h =
       let last : Resolution = record { resource = r; value = x } in
       record {
         reached = reached;
@@ -228,18 +189,16 @@ module _ (p : Program) (s : State) (r : ℕ) (x : ℤ) (v : Rooted) where
         keeps = all_stay s (with_value s r x) refl refl p (kept_hooks v.rendering.hooks) (kept_hooks v.rendering.hooks) refl (λ n. refl) h.keeps;
         below = h.below;
         shows = h.shows;
-        schedule = ap (λ (sc : Schedule). after_resolution sc r (is_awaited s.tree r) v.now) h.schedule ∙ ap (after_resolution s.schedule r (is_awaited s.tree r)) h.now;
+        schedule =
+            ap (λ (sc : Schedule). after_resolution sc r (next_version s.journal r) (is_awaited_in s r (next_version s.journal r)) v.now) h.schedule
+            ∙ ap (after_resolution s.schedule r (next_version s.journal r) (is_awaited_in s r (next_version s.journal r))) h.now;
         commits = h.commits;
         updates = h.updates;
         resolutions = ap (λ n. n + 1) h.resolutions ∙ sym (length-append s.journal.resolutions (last ∷ []));
-        values =
-            ap (λ (xs : List (Option ℤ)). slice_set xs r (Some x)) h.values
-            ∙ values_set (resolved_now s.journal) (resolved_now (with_value s r x).journal) (Some x) 0 (length (resources p)) r
-            (λ q no. let zero_more : 0 + r ≡ r = omega arith in now_stays s.journal.updates s.journal.resolutions last q (rw zero_more at no))
-            (let zero_more : 0 + r ≡ r = omega arith in rw zero_more (now_resolved s.journal.updates s.journal.resolutions last none));
+        resources = resolution_stays p s r x v.resources (let all = h.resources.all in omega (arith, all, within)) h.resources;
         now = h.now;
         event = h.event;
         numbers = h.numbers;
-        declared = λ q late. now_stays s.journal.updates s.journal.resolutions last q (grind (arith, nat_tests)) ∙ h.declared q late;
+        declared = resolution_declared p s r x within h.declared;
         progress = progress_resolved s.progress h.progress;
       }

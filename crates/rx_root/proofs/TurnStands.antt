@@ -11,7 +11,7 @@ use Rattle.rx_ast.specs.Syntax.{Program}
 use Rattle.rx_elem.specs.Trees.{Node, element_of}
 use Rattle.rx_meaning.specs.Fresh.{root_element}
 use Rattle.commit_laws.proofs.Soundness.{resolution_keeps}
-use Rattle.rx_queue.specs.Journal.{Posted, cut_now, has_later}
+use Rattle.rx_queue.specs.Journal.{Posted, cut_now, has_later, resolutions_by}
 use Rattle.rx_sched.specs.Schedule.{Schedule}
 use Rattle.rx_meaning.specs.Settled.{DoneBefore, HasOwnNumbers}
 use Rattle.rx_effect.specs.EffectLog.{no_passive}
@@ -22,9 +22,9 @@ use Rattle.rx_model.specs.Committing.{passive_run, starting, schedule_deferred, 
 use Rattle.rx_model.specs.Kept.{IsSet}
 use Rattle.rx_model.specs.Laws.{IsBounded, IsReached}
 use Rattle.rx_model.proofs.Reached.{reached-can}
-use Rattle.run_laws.specs.Carried.{IfRooted, NumbersBelow, values_now}
+use Rattle.run_laws.specs.Carried.{IfRooted, NumbersBelow}
 use Rattle.run_laws.proofs.AlongRuns.{reached_carries}
-use Rattle.run_laws.proofs.Carrying.{all_accounted, done_before}
+use Rattle.run_laws.proofs.Carrying.{all_accounted, done_before, start_renders}
 use Rattle.rx_fiber.specs.Reading.{IsTreeOf}
 use Rattle.rx_hook_store.specs.Store.{kept_hooks}
 use Rattle.rx_hook_store.proofs.Staying.{all_stay}
@@ -41,9 +41,11 @@ use Rattle.run_laws.proofs.WaitingAgain.{starting_waits_again}
 use Rattle.commit_laws.specs.HiddenWaits.{IfNumbered}
 use Rattle.rx_root.proofs.Findable.{state_numbered}
 use Rattle.rx_render.specs.Renders.{Renders, IsStartOf}
+use Rattle.rx_resources.specs.Seen.{seen_of}
 use Rattle.rx_root.specs.Rooted.{Rooted}
 use Rattle.rx_root.specs.Stands.{HasProgress, StandsBy, StandsWith, Stands}
 use Rattle.rx_root.specs.Turning.{IsAtEndOf, StandsAtEnd, KnowsSince}
+use Rattle.rx_root.proofs.Resources.{asks_for_declared, seen_is}
 use Rattle.rx_root.proofs.TurnLines.{with_one}
 
 -- if the schedule and the rendering change, and another render is in progress, or none
@@ -65,7 +67,7 @@ moved_stands p s asks v schedule progress w h reached program current keeps has 
       commits = h.commits;
       updates = h.updates;
       resolutions = h.resolutions;
-      values = h.values;
+      resources = h.resources;
       now = h.now;
       event = h.event;
       numbers = h.numbers;
@@ -101,19 +103,22 @@ rooted_so p (Some n) h = h
 
 -- what a render that starts now needs, once pending passive effects have run
 pub can_start : (p : Program) → IsAccepted p → IsBounded p → (s : State) (v : Rooted) (lanes : Lanes) → Stands p s v → IsReached p (passive_run s).after
-    → IsStartOf (passive_run s).after lanes (record { updates = v.updates; resolutions = v.resolutions }) v.values v.rendering
+    → IsStartOf (passive_run s).after lanes (record { updates = v.updates; resolutions = v.resolutions }) (seen_of lanes (record { updates = v.updates; resolutions = v.resolutions }) v.resources) v.rendering
 can_start p accepted bounded s v lanes h reached =
     let after : State = (passive_run s).after in
     let carried = reached_carries p bounded.shallow bounded.declared after reached in
-    let sound = resolution_keeps p s.journal.updates carried.0 (values_now p s.journal) after.numbers.instance s.tree carried.2.seen carried.2.sound in
+    let on = start_renders p s.journal after.numbers s.tree lanes carried.0 carried.1 carried.2 in
+    let sound = resolution_keeps p s.journal.updates carried.0 (resolutions_by (cut_now s.journal) s.journal) after.numbers.instance s.tree on.more carried.2.sound in
+    let done = done_now p (passive_run s).after reached in
     let cut : record { updates = v.updates; resolutions = v.resolutions } ≡ cut_now s.journal = rw (h.updates, h.resolutions) refl in
     let numbered = state_numbered p bounded after reached in
     record {
       current = h.current;
       keeps = rw h.program (all_stay s (passive_run s).after refl refl p (kept_hooks v.rendering.hooks) (kept_hooks v.rendering.hooks) refl (λ n. refl) h.keeps);
-      done = subst (λ (c : Cut). DoneBefore c s.journal.updates) (sym cut) (done_now p (passive_run s).after reached);
+      done = subst (λ (c : Cut). DoneBefore c s.journal.updates) (sym cut) done;
       cut_is = cut;
-      resources_are = rw h.program h.values;
+      resources_are = rw h.program (ap (λ (c : Cut). seen_of lanes c v.resources) cut ∙ seen_is p s.journal s.linked v.resources lanes h.resources done);
+      declared = rw h.program (asks_for_declared p s.journal lanes (cut_now s.journal) h.declared);
       settled = rw h.program sound.settled;
       rooted = rw h.program (rooted_so p s.tree carried.2.rooted);
       waits = rw h.program (starting_waits_again p bounded.shallow (few-resources p accepted) after carried lanes);
@@ -145,7 +150,7 @@ started_stands p s v lanes w h reached set program current hooks renders units b
       commits = h.commits;
       updates = h.updates;
       resolutions = h.resolutions;
-      values = h.values;
+      resources = h.resources;
       now = h.now;
       event = h.event;
       numbers = h.numbers;
@@ -177,7 +182,7 @@ pub knows_at_end : (p : Program) (s : State) (g : Progress) (tree : Node) (v : R
 knows_at_end p s g tree v h =
     record {
       program = h.program;
-      values = h.values;
+      resources = h.resources;
       seen = h.progress.renders.resources;
       lanes = h.progress.renders.lanes;
       declared = h.declared;

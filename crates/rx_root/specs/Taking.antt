@@ -7,6 +7,7 @@ use Rattle.rx_ast.specs.Syntax.{Program}
 use Rattle.rx_elem.specs.Spots.{Mounted, mounted}
 use Rattle.rx_sched.specs.Schedule.{Schedule, after_update, claimed, linked}
 use Rattle.rx_step.specs.declared.step.Dispatch.{Dispatch}
+use Rattle.rx_step.specs.declared.step.Dispatch.TheVariants as dispatch
 use Rattle.rx_step.specs.declared.step.LaneWord.{LaneWord}
 use Rattle.rx_step.specs.declared.step.LaneWord.TheVariants as word
 use Rattle.rx_step.specs.declared.step.Step.{Step}
@@ -14,6 +15,8 @@ use Rattle.rx_step.specs.Steps.{hook_name, path_of}
 use Rattle.rx_script.specs.Lines.{has_targets, in_bounds}
 use Rattle.rx_model.specs.State.{State, hook_number, instance_found}
 use Rattle.rx_model.specs.Accepting.{op_of}
+use Rattle.rx_resources.specs.Kept.{Kept}
+use Rattle.rx_resources.specs.Store.{asked_at, linked_at}
 use Rattle.rx_root.specs.declared.events.Sent.{Sent}
 use Rattle.rx_root.specs.Rooted.{Rooted}
 
@@ -38,10 +41,17 @@ pub record IsFor (p : Program) (s : State) (d : Dispatch) (sent : Sent) : Type 0
   pub below : sent.place < length instance.initials
   pub op : sent.op ≡ op_of p instance.component d
 
--- what a dispatch is for, or there is no such instance
+-- what a dispatch to a hook is for, or there is no such instance
 abbrev pub IsTargetOf : Program → State → Dispatch → Option Sent → Type 0
 IsTargetOf p s d None = instance_found p s.tree (path_of d) ≡ None
 IsTargetOf p s d (Some sent) = IsFor p s d sent
+
+-- a dispatch is to a hook of an instance that is not there
+abbrev pub HasNoInstance : Program → State → Dispatch → Type 0
+HasNoInstance p s (dispatch.Set word path name x) = instance_found p s.tree path ≡ None
+HasNoInstance p s (dispatch.Call word path name f x) = instance_found p s.tree path ≡ None
+HasNoInstance p s (dispatch.Send word path name x) = instance_found p s.tree path ≡ None
+HasNoInstance p s (dispatch.Refresh word name) = ⊥
 
 -- the first transition of an event claims its lane
 abbrev pub claimed_by : LaneWord → (event : Option Lane) → Schedule → Schedule
@@ -56,3 +66,10 @@ root_accepted None l v =
     record v { schedule = after_update v.schedule l v.now; updates = v.updates + 1; later = union v.later (one l) }
 root_accepted (Some lanes) l v =
     record v { schedule = after_update (linked v.schedule lanes) l v.now; updates = v.updates + 1; event = Some l; later = union v.later (one l) }
+
+-- what is kept of the resources after another version of one is asked for: a transition links its lane with those of the resource
+abbrev pub asked_for : LaneWord → (number : ℕ) → Lane → (pending : Lanes) → (resource : ℕ) → List Kept → List Kept
+asked_for word.Sync n l pending r kept = asked_at n l r kept
+asked_for word.Input n l pending r kept = asked_at n l r kept
+asked_for word.Default n l pending r kept = asked_at n l r kept
+asked_for word.Transition n l pending r kept = linked_at l pending r (asked_at n l r kept)

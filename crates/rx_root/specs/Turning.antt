@@ -1,7 +1,5 @@
 -- Turns of a root, by the turns of the machine.
-use Rattle.std.specs.Prelude.{◌≡◌, ℕ, ◌+◌, ◌*◌, ◌<◌, ◌≤◌, ◌^◌, Bool, not, ◌&&◌, List, [], ℤ, Option, Some, None, is_some, length, slice_index_or, if◌then◌else◌}
-use Rattle.rx_base.specs.Awaits.{Awaits}
-use Rattle.rx_base.specs.Awaits.{has as has_resource}
+use Rattle.std.specs.Prelude.{◌≡◌, ℕ, ◌+◌, ◌*◌, ◌<◌, ◌≤◌, ◌^◌, [], Option, Some, None, length, if◌then◌else◌}
 use Rattle.rx_lane.specs.declared.lane.Lane.{Lane}
 use Rattle.rx_lane.specs.declared.lane.Lane.TheVariants as lane
 use Rattle.rx_lane.specs.Lanes.{Lanes, has}
@@ -10,7 +8,7 @@ use Rattle.rx_rules.specs.Versions.{greatest_node_limit}
 use Rattle.rx_elem.specs.Trees.{Node}
 use Rattle.rx_elem.specs.Numbers.{numbered}
 use Rattle.rx_queue.specs.Journal.{has_later}
-use Rattle.rx_meaning.specs.Fresh.{fresh, made, resources_seen}
+use Rattle.rx_meaning.specs.Fresh.{fresh, made}
 use Rattle.rx_effect.specs.EffectLog.{Passive, no_passive}
 use Rattle.rx_forest.specs.Forests.{forest_of}
 use Rattle.rx_forest.specs.Hosts.{hosts}
@@ -23,7 +21,6 @@ use Rattle.rx_model.specs.Turns.{AnyRender, Finishes, Yields, GoesOn}
 use Rattle.rx_model.specs.Machine.{FlushWithin}
 use Rattle.rx_model.specs.Kept.{IsSet}
 use Rattle.rx_model.specs.Laws.{IsReached}
-use Rattle.run_laws.specs.Carried.{values_now}
 use Rattle.cost_laws.specs.Places.{AreEvaluated, evaluated_places}
 use Rattle.rx_links.specs.Drafts.{grafted}
 use Rattle.rx_fiber.specs.Reading.{IsTreeOf}
@@ -34,9 +31,10 @@ use Rattle.rx_commit.specs.Shown.{CanCommit, Prepared, Prepares, Shown, Shows}
 use Rattle.rx_commit.specs.Written.{with_lines}
 use Rattle.rx_render.specs.declared.at.At.TheVariants.{Over}
 use Rattle.rx_render.specs.Renders.{Renders}
+use Rattle.rx_render.specs.Resources.{resources_by}
 use Rattle.rx_render.specs.Turning.{KeepsHooks}
 use Rattle.rx_root.specs.Rooted.{Rooted}
-use Rattle.rx_root.specs.Stands.{AreDeclared, StandsBy, StandsButForRender, StandsWith, Stands}
+use Rattle.rx_root.specs.Stands.{AreDeclared, KeepsResources, StandsBy, StandsButForRender, StandsWith, Stands}
 
 -- the numbers of a root leave room for so many turns more, each with one commit at most
 pub record HasRoomForTurns (turns : ℕ) (v : Rooted) : Type 0 where
@@ -83,11 +81,11 @@ pub record StandsBetween (v : Rooted) : Type 0 where
   pub stands : Stands program state v
   pub between : state.event ≡ None
 
--- what a root knows of the time since a render began: the values that resources have now and those that the render sees, and the lanes of the updates since its cut
+-- what a root knows of the time since a render began: what is kept of the resources now and what the render sees of them, and the lanes of the updates since its cut
 pub record KnowsSince (p : Program) (s : State) (g : Progress) (v : Rooted) : Type 0 where
   pub program : v.rendering.program ≡ p
-  pub values : v.values ≡ values_now p s.journal
-  pub seen : v.rendering.resources ≡ resources_seen (sight_of p s g)
+  pub resources : KeepsResources p s.journal s.linked v.resources
+  pub seen : v.rendering.resources ≡ resources_by (sight_of p s g)
   pub lanes : v.rendering.lanes ≡ g.lanes
   pub declared : AreDeclared p s.journal
   pub later : (l : Lane) → has v.later l ≡ has_later g.cut s.journal l
@@ -124,14 +122,6 @@ LeadsOn p s g budget = (r : Stretch) → GoesOn AnyRender p s g budget r → IsR
 -- the passive effects that a commit leaves pending: none, if it has the lane Sync
 abbrev pub passive_left : Lanes → Passive → Passive
 passive_left lanes passive = if has lanes lane.Sync then no_passive else passive
-
--- a resource has a value by now, and had none before
-abbrev pub is_new : (values seen : List (Option ℤ)) → (resource : ℕ) → Bool
-is_new values seen r = is_some (slice_index_or values r None) && not (is_some (slice_index_or seen r None))
-
--- one of these resources has a value by now, and had none before
-abbrev pub is_news : (values seen : List (Option ℤ)) → Awaits → (resource : ℕ) → Bool
-is_news values seen waits r = has_resource waits r && is_new values seen r
 
 -- A render in progress is finished within its slice: the root is at its end, and its bodies are counted.
 pub record HasFinished (p : Program) (s : State) (g : Progress) (slice : Option ℕ) (v : Rooted) (steps counted : ℕ) : Type 0 where

@@ -1,26 +1,30 @@
 // Events, and what they send.
-ghost use Rattle.std.specs.Prelude.{◌≡◌, ◌+◌, ◌<◌, ◌≤◌, ◌^◌, ◌↔◌, ℕ, ℤ, suc, true, Some, None, IfOk, IsErrOf, IsSomeAnd, IsTrue, OnErr, OnOk, bytes_eq, is_some, length, position, slice_get, slice_set};
+ghost use Rattle.std.specs.Prelude.{◌≡◌, ◌+◌, ◌<◌, ◌≤◌, ◌^◌, ◌↔◌, ℕ, ℤ, suc, true, Some, None, Err, IfOk, IsErrOf, IsSomeAnd, IsTrue, OnErr, OnOk, bytes_eq, is_some, length, position, slice_get};
 ghost use Rattle.rx_lane.specs.Lanes.{is_transition};
 ghost use Rattle.rx_rules.specs.Names.{resource_number, resources};
 ghost use Rattle.rx_elem.specs.Spots.{Mounted, mounted};
 ghost use Rattle.rx_forest.specs.Hosts.{hosts};
 ghost use Rattle.rx_lines.specs.Lines.{tree_lines};
-ghost use Rattle.rx_queue.specs.Journal.{hook, resolved_now};
+ghost use Rattle.rx_queue.specs.Journal.{hook, next_version};
+ghost use Rattle.rx_queue.specs.Journal as journal;
 ghost use Rattle.rx_sched.specs.Deadlines.{later};
 ghost use Rattle.rx_sched.specs.Schedule.{Schedule, after_resolution};
-ghost use Rattle.rx_meaning.specs.Outcome.{is_awaited};
 ghost use Rattle.rx_model.specs.State.{State, instance_found, state_lines};
-ghost use Rattle.rx_model.specs.Accepting.{between_events, dispatched, dispatched_for, lane_of as lane_in, resolved};
+ghost use Rattle.rx_model.specs.Accepting.{between_events, dispatched, dispatched_for, is_awaited_in, lane_of as lane_in, last_value, resolved, sent};
 ghost use Rattle.rx_model.specs.Committing.{passive_run};
 ghost use Rattle.rx_model.specs.Laws.{IsReached};
+ghost use Rattle.rx_hook_store.specs.Changing.{lanes_linked};
 ghost use Rattle.rx_hook_store.specs.Store.{kept_hooks};
+ghost use Rattle.rx_instances.specs.Kinds.{is_refresh};
+ghost use Rattle.rx_resources.specs.Kept.{last_version};
+ghost use Rattle.rx_resources.specs.Store.{kept_at, resolved_at};
 ghost use Rattle.rx_commit.specs.Written.{with_lines};
 ghost use Rattle.rx_render.specs.Rendering.{IfLeft};
 ghost use Rattle.rx_step.specs.Steps.{path_of};
 ghost use Rattle.rx_step.specs.declared.step.Step.TheVariants as step;
 ghost use Rattle.rx_root.specs.Stands.{HasRoomFor, Stands, StandsForSome};
 ghost use Rattle.rx_root.specs.Turning.{HasDone};
-ghost use Rattle.rx_root.specs.Taking.{CanTake, IsTargetOf, claimed_by, root_accepted};
+ghost use Rattle.rx_root.specs.Taking.{CanTake, HasNoInstance, IsTargetOf, asked_for, claimed_by, root_accepted};
 
 use crate::errors::{DispatchError, ResolveError};
 use crate::root::Root;
@@ -28,7 +32,7 @@ use rx_base::{Int, Name};
 use rx_hook_store::{hooks_are_there, links_are_below};
 use rx_instances::{
     awaited, dispatch_hook, dispatch_op, dispatch_path, dispatch_word, find_instance, hook_place,
-    show_hooks,
+    is_refresh, show_hooks,
 };
 use rx_lane::{Lane, Lanes};
 use rx_queue::{Op, Update};
@@ -238,25 +242,84 @@ impl Root {
         }
     }
 
-    /// Sends an update to the hook that a dispatch is for (react.dev, useState and useReducer), and answers the update's number,
-    /// from 0 on in the order in which they are accepted. A transition goes on with the lane of its event, or claims the next
-    /// one (react.dev, startTransition). Nothing is rendered.
-    ///
-    /// # Errors
-    ///
-    /// `NoInstance` exactly if the path leads to no instance of the committed tree: then nothing has changed. Out of memory:
-    /// then the root stands for what it stood for.
-    pub fn dispatch(&mut self, dispatch: &Dispatch) -> Result<u64, DispatchError>
+    // Asks for another version of a resource with this lane. A transition links it with those of the resource. An `Err` changes
+    // nothing.
+    fn ask(
+        &mut self,
+        resource: u32,
+        word: LaneWord,
+        lane: Lane,
+        pending: Lanes,
+    ) -> Result<Option<Lanes>, AllocError>
+        requires within { resource < length self.old.resources }
+        requires room { last_version (kept_at self.old.resources resource) < 2 ^ 62 }
+        ensures asked { OnOk result (self.new ≡ record self.old { resources = asked_for word self.old.updates lane pending resource self.old.resources }) }
+        ensures linked { IfOk result (λ lanes. lanes ≡ lanes_linked word (record { number = self.old.updates; op = Op.Refresh; lane = lane }) pending (kept_at self.old.resources resource).linked) }
+        ensures same { OnErr result (self.new ≡ self.old) }
+    {
+        self.resources.refresh(resource, self.updates, lane)?;
+        match word {
+            LaneWord::Transition => Ok(Some(self.resources.link(resource, lane, pending))),
+            LaneWord::Sync | LaneWord::Input | LaneWord::Default => Ok(None),
+        }
+    }
+
+    // Accepts an update that asks for another version of a resource, with the event's lane or another lane of this word. An `Err`
+    // changes nothing of what the root stands for.
+    fn refresh(&mut self, word: LaneWord, resource: u32) -> Result<(), AllocError>
+        requires within { resource < length self.old.resources }
+        requires asked { last_version (kept_at self.old.resources resource) < 2 ^ 62 }
+        requires room { self.old.updates < 2 ^ 62 }
+        ensures ok { OnOk result ((s : State) → Stands self.old.rendering.program s self.old → IsReached self.old.rendering.program (dispatched_for s word (journal.resource resource) Op.Refresh)
+            → Stands self.old.rendering.program (dispatched_for s word (journal.resource resource) Op.Refresh) self.new) }
+        ensures err { OnErr result ((s : State) → Stands self.old.rendering.program s self.old → Stands self.old.rendering.program s self.new) }
+        ensures same { self.new ≡ record self.old { resources = self.new.resources; schedule = self.new.schedule; updates = self.new.updates; event = self.new.event; later = self.new.later } }
+        ensures one { self.new.updates ≤ self.old.updates + 1 }
+    {
+        let pending = self.lanes.pending();
+        let lane = self.lane(word);
+        match self.ask(resource, word, lane, pending) {
+            Ok(linked) => {
+                self.accept(lane, linked);
+                Ok(())
+            }
+            Err(error) => {
+                self.forget_lane(word);
+                Err(error)
+            }
+        }
+    }
+
+    // Asks for another version of the resource that a dispatch is for.
+    fn refresh_for(&mut self, dispatch: &Dispatch) -> Result<u64, DispatchError>
+        requires stands { StandsForSome self.old }
+        requires fits { CanTake self.old.rendering.program (step.Dispatch dispatch.now) }
+        requires refresh { is_refresh dispatch.now ≡ true }
+        requires room { HasRoomFor 1 self.old }
+        ensures ok { IfOk result (λ number. (s : State) → Stands self.old.rendering.program s self.old
+            → (number ≡ length s.journal.updates) × Stands self.old.rendering.program (dispatched self.old.rendering.program s dispatch.now).after self.new) }
+        ensures memory { OnErr result (result ≡ Err DispatchError.OutOfMemory) }
+        ensures err { OnErr result ((s : State) → Stands self.old.rendering.program s self.old → Stands self.old.rendering.program s self.new) }
+        ensures program { self.new.rendering.program ≡ self.old.rendering.program }
+        ensures left { (k : ℕ) → HasRoomFor (suc k) self.old → HasRoomFor k self.new }
+    {
+        let number = self.updates;
+        let resource = self.resource(dispatch_hook(dispatch));
+        self.refresh(dispatch_word(dispatch), resource)?;
+        Ok(number)
+    }
+
+    // Sends an update to the hook that a dispatch is for, if its path leads to an instance.
+    fn send_to(&mut self, dispatch: &Dispatch) -> Result<u64, DispatchError>
         requires stands { StandsForSome self.old }
         requires fits { CanTake self.old.rendering.program (step.Dispatch dispatch.now) }
         requires room { HasRoomFor 1 self.old }
         ensures ok { IfOk result (λ number. (s : State) → Stands self.old.rendering.program s self.old
-            → (number ≡ length s.journal.updates) × Stands self.old.rendering.program (dispatched self.old.rendering.program s dispatch.now).after self.new) }
+            → (number ≡ length s.journal.updates) × Stands self.old.rendering.program (sent self.old.rendering.program s dispatch.now).after self.new) }
         ensures no_instance { (s : State) → Stands self.old.rendering.program s self.old
             → IsErrOf result DispatchError.NoInstance ↔ (instance_found self.old.rendering.program s.tree (path_of dispatch.now) ≡ None) }
         ensures same { IsErrOf result DispatchError.NoInstance → self.new ≡ self.old }
         ensures err { OnErr result ((s : State) → Stands self.old.rendering.program s self.old → Stands self.old.rendering.program s self.new) }
-        ensures stands { StandsForSome self.new }
         ensures program { self.new.rendering.program ≡ self.old.rendering.program }
         ensures left { (k : ℕ) → HasRoomFor (suc k) self.old → HasRoomFor k self.new }
     {
@@ -271,6 +334,34 @@ impl Root {
         }
     }
 
+    /// Accepts a dispatch, and answers the number of its update, from 0 on in the order in which they are accepted: it sends the
+    /// update to the hook that it is for (react.dev, useState and useReducer), or asks for another version of its resource. A
+    /// transition goes on with the lane of its event, or claims the next one (react.dev, startTransition). Nothing is rendered.
+    ///
+    /// # Errors
+    ///
+    /// `NoInstance` exactly if the path to a hook leads to no instance of the committed tree: then nothing has changed. Out of
+    /// memory: then the root stands for what it stood for.
+    pub fn dispatch(&mut self, dispatch: &Dispatch) -> Result<u64, DispatchError>
+        requires stands { StandsForSome self.old }
+        requires fits { CanTake self.old.rendering.program (step.Dispatch dispatch.now) }
+        requires room { HasRoomFor 1 self.old }
+        ensures ok { IfOk result (λ number. (s : State) → Stands self.old.rendering.program s self.old
+            → (number ≡ length s.journal.updates) × Stands self.old.rendering.program (dispatched self.old.rendering.program s dispatch.now).after self.new) }
+        ensures no_instance { (s : State) → Stands self.old.rendering.program s self.old
+            → IsErrOf result DispatchError.NoInstance ↔ HasNoInstance self.old.rendering.program s dispatch.now }
+        ensures same { IsErrOf result DispatchError.NoInstance → self.new ≡ self.old }
+        ensures err { OnErr result ((s : State) → Stands self.old.rendering.program s self.old → Stands self.old.rendering.program s self.new) }
+        ensures stands { StandsForSome self.new }
+        ensures program { self.new.rendering.program ≡ self.old.rendering.program }
+        ensures left { (k : ℕ) → HasRoomFor (suc k) self.old → HasRoomFor k self.new }
+    {
+        if is_refresh(dispatch) {
+            return self.refresh_for(dispatch);
+        }
+        self.send_to(dispatch)
+    }
+
     // The number of a resource.
     fn resource(&self, name: &Name) -> u32
         ensures number { result ≡ resource_number self.entry.now.rendering.program name.now }
@@ -279,30 +370,36 @@ impl Root {
         self.renderer.checked().resource(name.text()).unwrap_or(0)
     }
 
-    // True if a visible boundary waits for a resource.
+    // True if a visible boundary waits for the version of a resource that gets its value next.
     fn is_awaited(&self, resource: u32) -> bool
-        ensures { (s : State) → Stands self.entry.now.rendering.program s self.entry.now → resource < length (resources self.entry.now.rendering.program) → result ≡ is_awaited s.tree resource }
+        requires { resource < length self.now.resources }
+        ensures { (s : State) → Stands self.entry.now.rendering.program s self.entry.now → result ≡ is_awaited_in s resource (next_version s.journal resource) }
     {
         self.renderer.checked().program();
-        awaited(self.renderer.fibers()).has(resource)
+        let kept = self.resources.get(resource);
+        awaited(self.renderer.fibers()).has(resource) && kept.done() == kept.next()
     }
 
-    // A resource gets its value, for which a visible boundary may wait.
+    // The next version of a resource gets its value, for which a visible boundary may wait.
     fn give(&mut self, resource: u32, value: Int, waits: bool)
-        requires within { resource < length self.old.values }
+        requires within { resource < length self.old.resources }
+        requires asked { length (kept_at self.old.resources resource).values ≤ last_version (kept_at self.old.resources resource) }
         requires room { self.old.resolutions < 2 ^ 62 }
-        ensures { self.new ≡ record self.old { schedule = after_resolution self.old.schedule resource waits self.old.now; resolutions = self.old.resolutions + 1; values = slice_set self.old.values resource (Some value) } }
+        ensures { self.new ≡ record self.old { schedule = after_resolution self.old.schedule resource (length (kept_at self.old.resources resource).values) waits self.old.now; resolutions = self.old.resolutions + 1; resources = resolved_at value resource self.old.resources } }
     {
-        self.lanes.resolved(resource, waits, self.now);
-        self.values[resource as usize] = Some(value);
+        let version = self.resources.get(resource).next();
+        self.lanes.resolved(resource, version, waits, self.now);
+        self.resources.resolve(resource, value);
         self.resolutions += 1;
     }
 
-    /// Gives a resource its value (react.dev, use), and an event ends. What waits for it may be rendered again.
+    /// Gives the next version of a resource its value (react.dev, use), and an event ends. What waits for it may be rendered
+    /// again.
     ///
     /// # Errors
     ///
-    /// `Already` exactly if the resource has that value: then nothing has changed, save that the event has ended.
+    /// `Already` exactly if the last version that was asked for has that value: then nothing has changed, save that the event has
+    /// ended.
     pub fn resolve(&mut self, name: &Name, value: Int) -> Result<(), ResolveError>
         requires stands { StandsForSome self.old }
         requires fits { is_some (position (bytes_eq name.now) (resources self.old.rendering.program)) ≡ true }
@@ -310,14 +407,14 @@ impl Root {
         ensures after { (s : State) → Stands self.old.rendering.program s self.old
             → Stands self.old.rendering.program (resolved self.old.rendering.program (between_events s) name.now value).after self.new }
         ensures already { (s : State) (known : ℤ) → Stands self.old.rendering.program s self.old
-            → IsErrOf result (ResolveError.Already known) ↔ (resolved_now s.journal (resource_number self.old.rendering.program name.now) ≡ Some known) }
+            → IsErrOf result (ResolveError.Already known) ↔ (last_value s (resource_number self.old.rendering.program name.now) ≡ Some known) }
         ensures same { OnErr result (self.new ≡ record self.old { event = None }) }
         ensures stands { StandsForSome self.new }
         ensures program { self.new.rendering.program ≡ self.old.rendering.program }
         ensures left { (k : ℕ) → HasRoomFor (suc k) self.old → HasRoomFor k self.new }
     {
         let number = self.resource(name);
-        match self.values[number as usize] {
+        match self.resources.get(number).last_value() {
             Some(known) => {
                 self.event = None;
                 Err(ResolveError::Already { value: known })

@@ -11,7 +11,6 @@ ghost use Rattle.rx_model.specs.State.{Progress, State, opening};
 ghost use Rattle.rx_model.specs.Committing.{sight_of};
 ghost use Rattle.rx_model.specs.Laws.{ShowsEverything};
 ghost use Rattle.rx_render.specs.Renders.{HasCome};
-ghost use Rattle.run_laws.specs.Carried.{values_now};
 ghost use Rattle.rx_commit.specs.Written.{with_lines};
 ghost use Rattle.rx_step.specs.declared.step.Step.TheVariants as steps;
 ghost use Rattle.rx_root.specs.Stands.{HasRoomFor, Stands, StandsForSome};
@@ -20,7 +19,7 @@ ghost use Rattle.rx_root.specs.Taking.{CanTake};
 use crate::turns::FLUSH_LIMIT;
 use room_laws::fibers_have_room;
 use run_laws::quiet_ends;
-use rx_base::{Int, Name};
+use rx_base::Name;
 use rx_check::Checked;
 use rx_commit::Shown;
 use rx_fiber::Fiber;
@@ -31,6 +30,7 @@ use rx_links::FiberTree;
 use rx_read::Numbers;
 use rx_render::Renderer;
 use rx_report::Report;
+use rx_resources::ResourceStore;
 use rx_sched::RootLanes;
 use rx_script::{dispatch_fits, step_fits};
 use rx_step::{Dispatch, Step};
@@ -55,8 +55,8 @@ pub struct Root {
     pub(crate) commits: u64,
     pub(crate) updates: u64,
     pub(crate) resolutions: u64,
-    // The values of the resources, by their numbers.
-    pub(crate) values: Vec<Option<Int>>,
+    // What is kept of the resources, by their numbers.
+    pub(crate) resources: ResourceStore,
     pub(crate) now: u64,
     // The transition lane of the event that goes on.
     pub(crate) event: Option<Lane>,
@@ -80,23 +80,12 @@ impl Model for Root {
 
     ghost coded = { Prim.hlevel (codes, program_code, node_code, fiber_trees_code) };
 
-    ghost view = { λ r. record { rendering = r.renderer; shown = r.shown; schedule = r.lanes; commits = r.commits; updates = r.updates; resolutions = r.resolutions; values = r.values.items; now = r.now; event = r.event; numbers = numbers_seen r.numbers; later = r.later } };
-}
-
-// No resource of a program has a value.
-fn no_values(alloc: Global, checked: &Checked) -> Result<Vec<Option<Int>>, AllocError>
-    ensures { IfOk result (λ v. v.items ≡ values_now checked.now opening.journal) }
-{
-    let mut values = Vec::new(alloc);
-    'resources: for _name in checked.resources() {
-        values.push(None)?;
-    }
-    Ok(values)
+    ghost view = { λ r. record { rendering = r.renderer; shown = r.shown; schedule = r.lanes; commits = r.commits; updates = r.updates; resolutions = r.resolutions; resources = r.resources; now = r.now; event = r.event; numbers = numbers_seen r.numbers; later = r.later } };
 }
 
 impl Root {
     /// A root before its first render (react.dev, createRoot): there is no tree, and `Default` is pending. It has the room for
-    /// the values of all resources of the program.
+    /// the first values of all resources of the program.
     ///
     /// # Errors
     ///
@@ -104,11 +93,11 @@ impl Root {
     pub fn new(alloc: Global, checked: Checked) -> Result<Root, AllocError>
         ensures stands { IfOk result (λ r. Stands checked opening r) }
         ensures program { IfOk result (λ r. r.rendering.program ≡ checked) }
-        ensures values { IfOk result (λ r. length r.values ≡ length (resources checked)) }
+        ensures resources { IfOk result (λ r. length r.resources ≡ length (resources checked)) }
         ensures some { IfOk result (λ r. StandsForSome r) }
     {
         links_are_below();
-        let values = no_values(alloc, &checked)?;
+        let resources = ResourceStore::new(alloc, checked.resources().len())?;
         let renderer = Renderer::new(alloc, checked)?;
         Ok(Root {
             alloc,
@@ -118,7 +107,7 @@ impl Root {
             commits: 0,
             updates: 0,
             resolutions: 0,
-            values,
+            resources,
             now: 0,
             event: None,
             numbers: Numbers {

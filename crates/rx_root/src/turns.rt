@@ -1,7 +1,7 @@
 // Turns of rendering.
 ghost use Rattle.std.specs.Prelude.{◌≡◌, ◌≢◌, ◌⊎◌, ℕ, ◌+◌, ◌<◌, ◌≤◌, ◌^◌, true, false, Option, Some, None, option_map, IfOk, IfSome, OnErr, OnOk, length};
-ghost use Rattle.std.specs.List.{list_any};
 ghost use Rattle.rx_base.specs.Awaits as awaits;
+ghost use Rattle.rx_queue.specs.Pairs.{in_versions};
 ghost use Rattle.rx_ast.specs.Syntax as syntax;
 ghost use Rattle.rx_check.specs.Accepted.{IsAccepted};
 ghost use Rattle.rx_elem.specs.Trees as trees;
@@ -11,9 +11,9 @@ ghost use Rattle.rx_effect.specs.EffectLog as effects;
 ghost use Rattle.rx_effect.specs.EffectLog.{passive_of};
 ghost use Rattle.rx_lane.specs.declared.lane.Lane.TheVariants as lane;
 ghost use Rattle.rx_lane.specs.Lanes.{has, lanes_where};
-ghost use Rattle.rx_queue.specs.Journal.{resolved_since};
+ghost use Rattle.rx_queue.specs.Journal.{resolved_since, version_of};
 ghost use Rattle.rx_loop.specs.Ends.{MatchDriven};
-ghost use Rattle.rx_meaning.specs.Outcome.{outcome, still_pending, visible_awaits};
+ghost use Rattle.rx_meaning.specs.Outcome.{awaits_resolved, outcome, still_pending};
 ghost use Rattle.rx_model.specs.State.{State, Progress};
 ghost use Rattle.rx_model.specs.Committing.{passive_run, starting, committed_as, committed_state, schedule_deferred, deferred_as, ended};
 ghost use Rattle.rx_model.specs.HooksOf.{KeepsAllHooks};
@@ -35,10 +35,10 @@ ghost use Rattle.rx_render.specs.Renders.{with_hooks};
 ghost use Rattle.rx_render.specs.Turning.{GivesUp, KeepsHooks, Proceeds};
 ghost use Rattle.rx_root.specs.Stands.{Stands, StandsWith};
 ghost use Rattle.rx_root.specs.Paying.{Pays};
-ghost use Rattle.rx_root.specs.Turning.{CanFollow, CanShow, FlushesFrom, GaveUp, HasBroken, HasDone, HasFinished, HasNumbered, HasRoomForTurns, HasSomeProgress, HasYielded, IsAtSomeEnd, IsPrepared, IsPreparedFor, KnowsSince, KnowsSinceSome, LeadsOn, LeavesRoom, StandsAtEnd, StandsBetween, Takes, counts_of, is_new, is_news, passive_left};
+ghost use Rattle.rx_root.specs.Turning.{CanFollow, CanShow, FlushesFrom, GaveUp, HasBroken, HasDone, HasFinished, HasNumbered, HasRoomForTurns, HasSomeProgress, HasYielded, IsAtSomeEnd, IsPrepared, IsPreparedFor, KnowsSince, KnowsSinceSome, LeadsOn, LeavesRoom, StandsAtEnd, StandsBetween, Takes, counts_of, passive_left};
 
 use crate::root::Root;
-use rx_base::{Awaits, Cut, Int, Steps};
+use rx_base::{Awaits, Cut, Steps};
 use rx_commit::{Prepared, Shown, cut_back};
 use rx_lane::{Lane, Lanes};
 use rx_loop::{Driven, drive};
@@ -53,42 +53,6 @@ use std::sync::ledger::Ledger;
 
 // No flush finishes more renders.
 pub(crate) const FLUSH_LIMIT: u64 = 24;
-
-// Whether one of these resources has a value by now, and had none before.
-fn has_news(values: &[Option<Int>], seen: &[Option<Int>], waits: &Awaits) -> bool
-    requires same { length seen.now ≡ length values.now }
-    requires few { length values.now < 2 ^ 32 }
-    ensures some { result ≡ true → (r : ℕ) × (r < length values.now) × (is_news values.now seen.now waits.now r ≡ true) }
-    ensures none { result ≡ false → (r : ℕ) → r < length values.now → is_news values.now seen.now waits.now r ≡ false }
-{
-    for resource in 0..values.len() {
-        if waits.has(resource as u32) && values[resource].is_some() && seen[resource].is_none() {
-            return true;
-        }
-    }
-    false
-}
-
-// Whether any resource has a value by now, and had none before.
-fn has_any_news(values: &[Option<Int>], seen: &[Option<Int>]) -> bool
-    requires { length seen.now ≡ length values.now }
-    ensures some { result ≡ true → (r : ℕ) × (r < length values.now) × (is_new values.now seen.now r ≡ true) }
-    ensures none { result ≡ false → (r : ℕ) → r < length values.now → is_new values.now seen.now r ≡ false }
-{
-    for resource in 0..values.len() {
-        if values[resource].is_some() && seen[resource].is_none() {
-            return true;
-        }
-    }
-    false
-}
-
-// The same values, for a render that starts.
-fn copied(alloc: Global, values: &[Option<Int>]) -> Result<Vec<Option<Int>>, AllocError>
-    ensures { IfOk result (λ v. v.items ≡ values.now) }
-{
-    values.iter().copied().collect(alloc)
-}
 
 // A commit with the lane Sync has run its passive effects itself (react.dev, flushSync).
 fn end_passive_of(shown: &mut Shown, lanes: Lanes)
@@ -134,12 +98,12 @@ impl Root {
     {
         self.facts();
         self.shown.flush_passive(log)?;
-        let values = copied(self.alloc, &self.values)?;
         let cut = Cut {
             updates: self.updates,
             resolutions: self.resolutions,
         };
-        self.renderer.start(lanes, cut, values, &self.sent)?;
+        let seen = self.resources.seen(self.alloc, lanes, cut)?;
+        self.renderer.start(lanes, cut, seen, &self.sent)?;
         self.later = Lanes::none();
         self.sent = Ways::new(self.alloc);
         Ok(())
@@ -171,13 +135,13 @@ impl Root {
         )
     }
 
-    // Whether one of these resources got its value since the render in progress began.
+    // Whether one of these resources, in the version that the render in progress sees, got its value since the render began.
     fn is_resolved_since(&self, waits: &Awaits) -> bool
         requires { KnowsSinceSome self.now }
-        ensures { (p : syntax.Program) (s : State) (g : Progress) → KnowsSince p s g self.entry.now → result ≡ resolved_since g.cut s.journal waits.now }
+        ensures { (p : syntax.Program) (s : State) (g : Progress) → KnowsSince p s g self.entry.now → result ≡ resolved_since g.cut s.journal (in_versions (version_of g.lanes g.cut s.journal) waits.now) }
     {
         self.facts();
-        has_news(&self.values, self.renderer.resources(), waits)
+        self.resources.is_new(self.renderer.resources(), waits)
     }
 
     // What a finished render waits for, if it is deferred: only transitions may be (react.dev, useTransition).
@@ -199,9 +163,12 @@ impl Root {
         ensures { (p : syntax.Program) (s : State) (g : Progress) → KnowsSince p s g self.old → self.old.schedule ≡ s.schedule → self.old.now ≡ s.now
             → self.new ≡ record self.old { schedule = schedule_deferred s g waits.now } }
     {
-        if !self.is_resolved_since(waits) {
-            self.lanes.deferred(self.renderer.lanes(), waits, self.now);
+        if self.is_resolved_since(waits) {
+            return;
         }
+        let versions = &self.renderer.resources().versions;
+        self.lanes
+            .deferred(self.renderer.lanes(), waits, versions, self.now);
     }
 
     // Defers a finished render until what it waits for has a value.
@@ -219,13 +186,14 @@ impl Root {
         Ok(())
     }
 
-    // Whether any resource got its value since the render in progress began.
+    // Whether any resource, in the version that the render in progress sees, got its value since the render began.
     fn is_any_resolved_since(&self) -> bool
         requires { KnowsSinceSome self.now }
-        ensures { (p : syntax.Program) (s : State) (g : Progress) → KnowsSince p s g self.entry.now → result ≡ false → (waits : awaits.Awaits) → resolved_since g.cut s.journal waits ≡ false }
+        ensures { (p : syntax.Program) (s : State) (g : Progress) → KnowsSince p s g self.entry.now → result ≡ false
+            → (waits : awaits.Awaits) → resolved_since g.cut s.journal (in_versions (version_of g.lanes g.cut s.journal) waits) ≡ false }
     {
         self.facts();
-        has_any_news(&self.values, self.renderer.resources())
+        self.resources.is_any_new(self.renderer.resources())
     }
 
     // Whether a visible boundary of this tree waits for a resource that got its value since the render in progress began. The
@@ -233,7 +201,7 @@ impl Root {
     fn has_retry(&self, tree: &Node) -> bool
         requires { KnowsSinceSome self.now }
         ensures { (p : syntax.Program) (s : State) (g : Progress) → KnowsSince p s g self.entry.now
-            → result ≡ list_any (resolved_since g.cut s.journal) (visible_awaits (Some tree.now)) }
+            → result ≡ awaits_resolved g.lanes g.cut s.journal tree.now }
     {
         self.facts();
         if !self.is_any_resolved_since() {
@@ -365,6 +333,7 @@ impl Root {
         let still = self.still(&beside.tree);
         let prepared = self.prepare(&beside, first, log)?;
         self.show(prepared);
+        self.resources.commit(lanes, self.renderer.cut());
         self.renderer.commit();
         self.lanes.finished(lanes, still, self.now);
         Ok(())

@@ -3,7 +3,6 @@ use Rattle.std.specs.Prelude.{Bool, true, false, not, ◌≡◌, ◌&&◌, ◌||
 use Rattle.std.specs.List.{list_any, list_all}
 use Rattle.std.proofs.Common.{sym, ◌∙◌, ap, arith, subst}
 use Rattle.std.proofs.lemmas.Bool.Decides.{nat_tests}
-use Rattle.rx_base.specs.Awaits.{Awaits}
 use Rattle.rx_lane.specs.declared.lane.Lane.{Lane}
 use Rattle.rx_lane.specs.declared.lane.Lane.TheVariants.{Retry}
 use Rattle.rx_lane.specs.Lanes.{Lanes, priority, same_lane, is_transition, all_lanes, has, lanes_where, one, union, intersection, transitions, within, is_empty}
@@ -11,12 +10,13 @@ use Rattle.rx_lane.specs.SetLaws.{has-lanes_where, lanes_agree, list_all-agree}
 use Rattle.rx_sched.specs.declared.choice.Choice.TheVariants as choice
 use Rattle.rx_sched.specs.Deadlines.{Deadlines}
 use Rattle.rx_sched.specs.Links.{Links, reached, IsAllReached}
+use Rattle.rx_sched.specs.Waiting.{Waiting}
 use Rattle.rx_sched.specs.Schedule.{Schedule, first_lanes, with_default, lanes_to_start}
 use Rattle.rx_sched.proofs.Gather.{list_any-members}
 use Rattle.rx_sched.proofs.Reach.{all_reached}
 
 -- two schedules with the same parts
-pub same_parts : (pending : Lanes) (d e : Deadlines) (u v : Lanes) (w x : Awaits) (links : Links) (next : Lane) → d ≡ e → u ≡ v → w ≡ x
+pub same_parts : (pending : Lanes) (d e : Deadlines) (u v : Lanes) (w x : Waiting) (links : Links) (next : Lane) → d ≡ e → u ≡ v → w ≡ x
     → let s : Schedule = record { pending = pending; deadlines = d; suspended = u; waiting = w; links = links; next_transition = next } in
     let t : Schedule = record { pending = pending; deadlines = e; suspended = v; waiting = x; links = links; next_transition = next } in s ≡ t
 same_parts pending d e u v w x links next hd hu hw = cc

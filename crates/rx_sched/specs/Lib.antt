@@ -1,3 +1,5 @@
 pub mod Deadlines
 pub mod Links
+pub mod Waiting
+pub mod WaitingLaws
 pub mod Schedule

@@ -1,8 +1,8 @@
 -- Which lanes are pending, and what is rendered next.
-use Rattle.std.specs.Prelude.{◌≡◌, ℕ, Bool, false, not, ◌&&◌, ◌||◌, [], ◌∷◌, Option, Some, None, is_none, if◌then◌else◌}
+use Rattle.std.specs.Prelude.{◌≡◌, ℕ, Bool, true, false, not, ◌&&◌, ◌||◌, [], ◌∷◌, Option, Some, None, is_none, if◌then◌else◌}
 use Rattle.std.specs.List.{list_any, list_all}
-use Rattle.rx_base.specs.Awaits.{Awaits}
-use Rattle.rx_base.specs.Awaits as awaits
+use Rattle.rx_sched.specs.Waiting.{Waiting}
+use Rattle.rx_sched.specs.Waiting as waiting
 use Rattle.rx_lane.specs.declared.lane.Lane.{Lane}
 use Rattle.rx_lane.specs.declared.lane.Lane.TheVariants.{Input, Default, T1, T2, T3, T4, T5, T6, T7, T8, T9, T10, T11, T12, T13, T14, T15, T16, Retry}
 use Rattle.rx_lane.specs.Lanes.{Lanes, same_lane, has, is_transition, is_higher, lanes_where, no_lanes, one, union, minus, intersection, transitions}
@@ -15,9 +15,9 @@ use Rattle.rx_sched.specs.Links.{Links, no_links, linked_by, links_among, reache
 pub record Schedule : Type 0 where
   pub pending : Lanes
   pub deadlines : Deadlines
-  -- the lanes whose last render was deferred, and what those renders wait for
+  -- the lanes whose last render was deferred, and what those renders wait for, of each resource the least version
   pub suspended : Lanes
-  pub waiting : Awaits
+  pub waiting : Waiting
   pub links : Links
   -- the transition lane that the next event gets
   pub next_transition : Lane
@@ -32,12 +32,12 @@ abbrev pub leave_pending : Lanes → Schedule → Schedule
 leave_pending lanes s = record s { deadlines = timed s.deadlines lanes (λ l. None); pending = minus s.pending lanes }
 
 -- lanes are suspended, and what their renders wait for is added. The deadline of each goes, unless it is expired by then.
-abbrev pub suspend : ℕ → Lanes → Awaits → Schedule → Schedule
+abbrev pub suspend : ℕ → Lanes → Waiting → Schedule → Schedule
 suspend now lanes waits s =
     record s {
       deadlines = timed s.deadlines (lanes_where (λ l. has lanes l && not (is_expired s.deadlines now l))) (λ l. None);
       suspended = union s.suspended lanes;
-      waiting = awaits.union s.waiting waits;
+      waiting = waiting.union s.waiting waits;
     }
 
 -- Nothing is suspended any more. A pending lane that has no deadline gets one, as if it became pending now.
@@ -46,7 +46,7 @@ wake now s =
     record s {
       deadlines = timed s.deadlines (lanes_where (λ l. has (intersection s.suspended s.pending) l && is_none (deadline_of s.deadlines l))) (deadline_from now);
       suspended = no_lanes;
-      waiting = awaits.nothing;
+      waiting = waiting.nothing;
     }
 
 -- nothing is pending
@@ -56,7 +56,7 @@ empty_schedule =
       pending = no_lanes;
       deadlines = no_deadlines;
       suspended = no_lanes;
-      waiting = awaits.nothing;
+      waiting = waiting.nothing;
       links = no_links;
       next_transition = T1;
     }
@@ -69,19 +69,19 @@ opening_schedule = become_pending 0 (one Default) empty_schedule
 abbrev pub after_update : Schedule → Lane → ℕ → Schedule
 after_update s l now = become_pending now (one l) (wake now s)
 
--- a resource got its value. It matters if the scheduler waits for it, and if a visible boundary does.
-abbrev pub after_resolution : Schedule → ℕ → (boundary_waits : Bool) → ℕ → Schedule
-after_resolution s name boundary_waits now =
-    let woken = if awaits.has s.waiting name then wake now s else s in
+-- a version of a resource got its value. It matters if the scheduler waits for it, and if a visible boundary does.
+abbrev pub after_resolution : Schedule → (name version : ℕ) → (boundary_waits : Bool) → ℕ → Schedule
+after_resolution s name version boundary_waits now =
+    let woken = if waiting.has s.waiting name version then wake now s else s in
     if boundary_waits then become_pending now (one Retry) woken else woken
 
 -- a render with these lanes was deferred
-abbrev pub after_deferral : Schedule → Lanes → Awaits → ℕ → Schedule
+abbrev pub after_deferral : Schedule → Lanes → Waiting → ℕ → Schedule
 after_deferral s lanes waits now = suspend now lanes waits s
 
 -- a wait that lasts only as long as some lane is suspended
-abbrev pub while_suspended : Lanes → Awaits → Awaits
-while_suspended [] waits = awaits.nothing
+abbrev pub while_suspended : Lanes → Waiting → Waiting
+while_suspended [] waits = waiting.nothing
 while_suspended (l ∷ ls) waits = waits
 
 -- what isn't pending any more is neither suspended nor linked

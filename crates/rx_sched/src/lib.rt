@@ -5,6 +5,7 @@ mod choice;
 mod deadlines;
 mod links;
 mod root_lanes;
+mod waiting;
 
 pub use choice::Choice;
 pub use root_lanes::RootLanes;

@@ -1,12 +1,14 @@
 // What is pending, suspended and linked, and what is rendered next.
-ghost use Rattle.std.specs.Prelude.{◌≡◌, IsTrue};
+ghost use Rattle.std.specs.Prelude.{◌≡◌, IsTrue, slice_index_or};
 ghost use Rattle.std.specs.List.{list_any};
+ghost use Rattle.rx_queue.specs.Pairs.{in_versions};
 ghost use Rattle.rx_lane.specs.Lanes.{is_transition};
 ghost use Rattle.rx_sched.specs.Schedule.{StartsAllLinked, after_commit, after_deferral, after_resolution, after_update, become_pending, claimed, first_lanes, goes_on, is_sliced, keep_pending, keeps_on, lanes_to_start, leave_pending, linked, next, next_claim, opening_schedule, wake};
 
 use crate::choice::Choice;
 use crate::deadlines::Deadlines;
 use crate::links::Links;
+use crate::waiting::Waiting;
 use rx_base::Awaits;
 use rx_lane::{Lane, Lanes};
 use std::marker::Model;
@@ -18,7 +20,7 @@ pub struct RootLanes {
     pending: Lanes,
     deadlines: Deadlines,
     suspended: Lanes,
-    waiting: Awaits,
+    waiting: Waiting,
     links: Links,
     next_transition: Lane,
 }
@@ -44,7 +46,7 @@ impl RootLanes {
             pending: Lanes::none(),
             deadlines: Deadlines::none(),
             suspended: Lanes::none(),
-            waiting: Awaits::none(),
+            waiting: Waiting::none(),
             links: Links::none(),
             next_transition: Lane::T1,
         };
@@ -76,7 +78,7 @@ impl RootLanes {
         self.deadlines
             .begin(woken.intersection(self.deadlines.missing()), now);
         self.suspended = Lanes::none();
-        self.waiting = Awaits::none();
+        self.waiting = Waiting::none();
     }
 
     /// What isn't pending any more is neither suspended nor linked.
@@ -86,7 +88,7 @@ impl RootLanes {
         self.links.keep(self.pending);
         self.suspended = self.suspended.intersection(self.pending);
         if self.suspended.is_none() {
-            self.waiting = Awaits::none();
+            self.waiting = Waiting::none();
         }
     }
 
@@ -116,21 +118,22 @@ impl RootLanes {
         lane
     }
 
-    /// A render with these lanes was deferred, and waits for resources. None of them got its value since it began.
-    pub fn deferred(&mut self, lanes: Lanes, waits: &Awaits, now: u64)
-        ensures { self.new ≡ after_deferral self.old lanes waits.now now }
+    /// A render with these lanes was deferred, and waits for resources, each in the version that `versions` gives by its
+    /// number, 0 past its end. None of them got its value in that version since the render began.
+    pub fn deferred(&mut self, lanes: Lanes, waits: &Awaits, versions: &[u64], now: u64)
+        ensures { self.new ≡ after_deferral self.old lanes (in_versions (λ r. slice_index_or versions.now r 0) waits.now) now }
     {
         self.deadlines
             .end(lanes.intersection(self.deadlines.unexpired(now)));
         self.suspended = self.suspended.union(lanes);
-        self.waiting = self.waiting.union(*waits);
+        self.waiting.add(waits, versions);
     }
 
-    /// A resource got its value; `waits` says that a visible boundary waits for it.
-    pub fn resolved(&mut self, name: u32, waits: bool, now: u64)
-        ensures { self.new ≡ after_resolution self.old name waits now }
+    /// A version of a resource got its value; `waits` says that a visible boundary waits for it.
+    pub fn resolved(&mut self, name: u32, version: u64, waits: bool, now: u64)
+        ensures { self.new ≡ after_resolution self.old name version waits now }
     {
-        if self.waiting.has(name) {
+        if self.waiting.has(name, version) {
             self.wake(now);
         }
         if waits {

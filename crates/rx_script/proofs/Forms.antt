@@ -1,5 +1,5 @@
 -- What is read of the words of a line is the reading of its form.
-use Rattle.std.proofs.Common.{◌≡◌, ◌∙◌, sym, ap, ◌≤◌, ◌<◌, ℤ, Bool, true, false, cond, List, [], ◌∷◌, length, map, get_or, Option, Some, None, option_map, refl, arith, bytes_eq, codes}
+use Rattle.std.proofs.Common.{◌≡◌, ◌∙◌, sym, ap, ◌≤◌, ◌<◌, ℤ, Bool, true, false, cond, List, [], ◌∷◌, length, map, get_or, Option, Some, None, Result, Ok, Err, IfOk, option_map, refl, arith, bytes_eq, codes}
 use Rattle.std.specs.Borrow.{Bor}
 use Rattle.rx_base.specs.Values.{Name, Text}
 use Rattle.rx_step.specs.declared.step.LaneWord.{LaneWord}
@@ -10,7 +10,7 @@ use Rattle.rx_script.specs.declared.form.Place.{Place}
 use Rattle.rx_script.specs.declared.form.Form.{Form}
 use Rattle.rx_step.specs.Steps.{Path}
 use Rattle.rx_script.specs.Words.{lower_of, integer_of}
-use Rattle.rx_script.specs.Lines.{◌◂◌, lane_of, path_of, form_of, value_form, call_form}
+use Rattle.rx_script.specs.Lines.{◌◂◌, either, lane_of, path_of, form_of, value_form, call_form}
 use Rattle.rx_script.specs.Readings.{held_path, held_value, held_integer, place_of, reading, value_reading, call_reading}
 
 -- what the parts of a dispatch name
@@ -122,3 +122,15 @@ more-words (a ∷ b ∷ c ∷ d ∷ []) least = absurd (omega arith)
 more-words (a ∷ b ∷ c ∷ d ∷ e ∷ []) least = absurd (omega arith)
 more-words (a ∷ b ∷ c ∷ d ∷ e ∷ f ∷ []) least = absurd (omega arith)
 more-words (a ∷ b ∷ c ∷ d ∷ e ∷ f ∷ g ∷ ws) least = refl
+
+-- the first form of three words is read
+pub first-of-three : (r s : Option Step) (f : Form) → Some f ≡ option_map reading r → Some f ≡ option_map reading (either r s)
+first-of-three None s f is = cc
+first-of-three (Some r) s f is = is
+
+-- the second form of three words is read
+pub second-of-three : {E : Type 0} (r s : Option Step) (answer : Result (Option Form) E) → None ≡ option_map reading r
+    → IfOk answer (λ f. f ≡ option_map reading s) → IfOk answer (λ f. f ≡ option_map reading (either r s))
+second-of-three None s (Ok f) none is = is
+second-of-three None s (Err e) none is = tt
+second-of-three (Some r) s answer none is = cc

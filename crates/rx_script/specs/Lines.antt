@@ -1,5 +1,5 @@
 -- Which lines of a script are steps of a program, and why a line is bad.
-use Rattle.std.specs.Prelude.{ℕ, ◌+◌, Bool, true, false, ◌&&◌, ◌==◌, nat_le, List, [], ◌∷◌, ℤ, Option, Some, None, is_some, Result, Ok, Err, codes, bytes_eq, position, option_map, option_and_then, if◌then◌else◌}
+use Rattle.std.specs.Prelude.{ℕ, ◌+◌, Bool, true, false, ◌&&◌, ◌==◌, nat_le, List, [], ◌∷◌, ℤ, pos, Option, Some, None, is_some, Result, Ok, Err, codes, bytes_eq, position, option_map, option_and_then, if◌then◌else◌}
 use Rattle.std.specs.List.{list_all, slice_split}
 use Rattle.std.specs.Option.{option_map_or}
 use Rattle.rx_base.specs.Values.{Text, Name}
@@ -14,7 +14,7 @@ use Rattle.rx_check.specs.declared.hook.HookKind.TheVariants as kind
 use Rattle.rx_step.specs.declared.step.LaneWord.{LaneWord}
 use Rattle.rx_step.specs.declared.step.LaneWord.TheVariants.{Sync, Input, Default, Transition}
 use Rattle.rx_step.specs.declared.step.Dispatch.{Dispatch}
-use Rattle.rx_step.specs.declared.step.Dispatch.TheVariants.{Set, Call, Send}
+use Rattle.rx_step.specs.declared.step.Dispatch.TheVariants.{Set, Call, Send, Refresh}
 use Rattle.rx_step.specs.declared.step.Step.{Step}
 use Rattle.rx_step.specs.declared.step.Step.TheVariants as step
 use Rattle.rx_step.specs.Steps.{Path, path_of as path_in}
@@ -84,9 +84,18 @@ number_form w =
     else if bytes_eq w (codes "work") then Some (λ n. step.Work n)
     else None
 
--- a line that gives a resource its value
+-- a line that gives the next version of a resource its value
 abbrev pub resolve_form : Text → Option (Name → ℤ → Step)
 resolve_form w = if bytes_eq w (codes "resolve") then Some (λ name x. step.Resolve name x) else None
+
+-- a dispatch that asks for another version of a resource
+abbrev pub refresh_form : Text → Option (LaneWord → Name → Step)
+refresh_form w = if bytes_eq w (codes "refresh") then Some (λ lane name. step.Dispatch (Refresh lane name)) else None
+
+-- a line of three words, the one or the other
+abbrev pub either : Option Step → Option Step → Option Step
+either None s = s
+either (Some s) t = Some s
 
 -- a dispatch with a hook and a number
 abbrev pub value_form : Text → Option (LaneWord → Path → Name → ℤ → Step)
@@ -104,7 +113,7 @@ abbrev pub form_of : List Text → Option Step
 form_of [] = None
 form_of (w ∷ []) = plain_form w
 form_of (w ∷ n ∷ []) = number_form w ◂ natural_of n
-form_of (w ∷ r ∷ x ∷ []) = resolve_form w ◂ resource_of r ◂ integer_of x
+form_of (w ∷ a ∷ b ∷ []) = either (resolve_form w ◂ resource_of a ◂ integer_of b) (refresh_form w ◂ lane_of a ◂ resource_of b)
 form_of (w ∷ a ∷ b ∷ c ∷ []) = None
 form_of (w ∷ l ∷ p ∷ h ∷ x ∷ []) = value_form w ◂ lane_of l ◂ path_of p ◂ lower_of h ◂ integer_of x
 form_of (w ∷ l ∷ p ∷ h ∷ f ∷ x ∷ []) = call_form w ◂ lane_of l ◂ path_of p ◂ lower_of h ◂ lower_of f ◂ integer_of x
@@ -143,12 +152,17 @@ is_reducer (Some (kind.Reducer n f)) = true
 abbrev pub is_updater : Program → Name → Bool
 is_updater p name = option_map_or (λ f. parameter_count p f == 2) (position (bytes_eq name) (function_names p)) false
 
+-- the name is one of a resource
+abbrev pub is_resource : Program → Name → Bool
+is_resource p name = is_some (position (bytes_eq name) (resources p))
+
 -- all that a step names is there
 abbrev pub has_targets : Program → Step → Bool
 has_targets p (step.Dispatch (Set lane path name x)) = is_state (hook_at p path name)
 has_targets p (step.Dispatch (Call lane path name f x)) = is_state (hook_at p path name) && is_updater p f
 has_targets p (step.Dispatch (Send lane path name x)) = is_reducer (hook_at p path name)
-has_targets p (step.Resolve name x) = is_some (position (bytes_eq name) (resources p))
+has_targets p (step.Dispatch (Refresh lane name)) = is_resource p name
+has_targets p (step.Resolve name x) = is_resource p name
 has_targets p (step.Tick n) = true
 has_targets p (step.Work n) = true
 has_targets p step.Flush = true
@@ -168,11 +182,12 @@ is_integer p x = fits_width (width p) x
 abbrev pub path_in_bounds : Program → Path → Bool
 path_in_bounds p path = list_all (λ part. nat_le part.1 (instance_limit p)) path
 
--- the number of a dispatch
+-- the number of a dispatch, 0 where it has none
 abbrev pub operand : Dispatch → ℤ
 operand (Set lane path name x) = x
 operand (Call lane path name f x) = x
 operand (Send lane path name x) = x
+operand (Refresh lane name) = pos 0
 
 -- the greatest time of a tick, and the greatest budget of a turn
 abbrev pub step_limit : ℕ

@@ -1,9 +1,9 @@
 // The forms of lines.
-ghost use Rattle.std.specs.Prelude.{◌≡◌, map, option_map, IfOk};
+ghost use Rattle.std.specs.Prelude.{◌≡◌, [], ◌∷◌, map, option_map, IfOk};
 ghost use Rattle.std.specs.Int.{w64};
 ghost use Rattle.rx_base.specs.Values.{wrap};
 ghost use Rattle.rx_base.specs.Widths.{fits_width as is_of_width, width_of};
-ghost use Rattle.rx_script.specs.Lines.{◌◂◌, call_form, form_of, is_integer as is_one_of_integers, lane_of, number_form as number_form_of, plain_form as plain_form_of, resolve_form, value_form};
+ghost use Rattle.rx_script.specs.Lines.{◌◂◌, call_form, form_of, is_integer as is_one_of_integers, lane_of, number_form as number_form_of, plain_form as plain_form_of, refresh_form, resolve_form, value_form};
 ghost use Rattle.rx_script.specs.Readings.{at_place, call_at_place, call_reading, counts_in_bounds, form_in_bounds, place_of, reading, value_reading};
 ghost use Rattle.rx_script.specs.Words.{integer_of, natural_of, resource_of};
 
@@ -91,7 +91,7 @@ fn held(value: i128) -> Int
     Int::of(residue.cast_signed())
 }
 
-/// The form of a line that gives a resource its value.
+/// The form of a line that gives the next version of a resource its value.
 fn resolve_line(
     alloc: Global,
     word: &[u8],
@@ -111,6 +111,43 @@ fn resolve_line(
     };
     let step = Step::Resolve(name, held(value));
     Ok(Some(Form { step, value }))
+}
+
+/// The form of a line that asks for another version of a resource.
+fn refresh_line(
+    alloc: Global,
+    word: &[u8],
+    lane_word: &[u8],
+    name: &[u8],
+) -> Result<Option<Form>, AllocError>
+    ensures { IfOk result (λ f. f ≡ option_map reading (refresh_form word.now ◂ lane_of lane_word.now ◂ resource_of name.now)) }
+{
+    if word != b"refresh".as_slice() {
+        return Ok(None);
+    }
+    let Some(lane) = lane(lane_word) else {
+        return Ok(None);
+    };
+    let Some(name) = resource(alloc, name)? else {
+        return Ok(None);
+    };
+    let step = Step::Dispatch(Dispatch::Refresh(lane, name));
+    Ok(Some(Form { step, value: 0 }))
+}
+
+/// The form of a line of three words.
+fn three_words(
+    alloc: Global,
+    word: &[u8],
+    second: &[u8],
+    third: &[u8],
+) -> Result<Option<Form>, AllocError>
+    ensures { IfOk result (λ f. f ≡ option_map reading (form_of (word.now ∷ second.now ∷ third.now ∷ []))) }
+{
+    match resolve_line(alloc, word, second, third)? {
+        Some(form) => Ok(Some(form)),
+        None => refresh_line(alloc, word, second, third),
+    }
 }
 
 /// The lane, the instance and the hook that a dispatch names.
@@ -206,7 +243,7 @@ pub(crate) fn read_form(alloc: Global, words: &[&[u8]]) -> Result<Option<Form>, 
         [] => Ok(None),
         [word] => Ok(plain_form(word)),
         [word, number] => Ok(number_form(word, number)),
-        [word, name, value] => resolve_line(alloc, word, name, value),
+        [word, second, third] => three_words(alloc, word, second, third),
         [_, _, _, _] => Ok(None),
         [word, lane, path, hook, value] => {
             let place = read_place(alloc, lane, path, hook)?;

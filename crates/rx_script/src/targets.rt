@@ -1,7 +1,7 @@
 // What the steps of a script name.
 ghost use Rattle.std.specs.Prelude.{◌≡◌};
 ghost use Rattle.rx_step.specs.declared.step.Step.TheVariants as step;
-ghost use Rattle.rx_script.specs.Lines.{has_targets as are_targets_there, hook_at, is_reducer as is_one_of_reducer, is_state as is_one_of_state, is_updater as is_one_of_two, target_from, target_of};
+ghost use Rattle.rx_script.specs.Lines.{has_targets as are_targets_there, hook_at, is_reducer as is_one_of_reducer, is_resource as is_one_of_resources, is_state as is_one_of_state, is_updater as is_one_of_two, target_from, target_of};
 
 use rx_base::Name;
 use rx_check::{Checked, HookKind};
@@ -74,6 +74,13 @@ fn is_updater(checked: &Checked, name: &Name) -> bool
     }
 }
 
+/// Whether this is the name of a resource.
+fn is_resource(checked: &Checked, name: &Name) -> bool
+    ensures { result ≡ is_one_of_resources checked.now name.now }
+{
+    checked.resource(name.text()).is_some()
+}
+
 /// Whether all that a dispatch names is there.
 pub(crate) fn has_dispatch_targets(checked: &Checked, dispatch: &Dispatch) -> bool
     ensures { result ≡ are_targets_there checked.now (step.Dispatch dispatch.now) }
@@ -84,6 +91,7 @@ pub(crate) fn has_dispatch_targets(checked: &Checked, dispatch: &Dispatch) -> bo
             is_state(hook(checked, path, name)) && is_updater(checked, function)
         }
         Dispatch::Send(_, path, name, _) => is_reducer(hook(checked, path, name)),
+        Dispatch::Refresh(_, name) => is_resource(checked, name),
     }
 }
 
@@ -93,7 +101,7 @@ pub(crate) fn has_targets(checked: &Checked, step: &Step) -> bool
 {
     match step {
         Step::Dispatch(dispatch) => has_dispatch_targets(checked, dispatch),
-        Step::Resolve(name, _) => checked.resource(name.text()).is_some(),
+        Step::Resolve(name, _) => is_resource(checked, name),
         Step::Tick(_)
         | Step::Work(_)
         | Step::Flush

@@ -7,6 +7,7 @@ use Rattle.std.proofs.lemmas.List.Elements.{filter-append}
 use Rattle.std.proofs.lemmas.List.Folds.{list_any-append}
 use Rattle.rx_base.specs.Awaits.{Awaits, awaits_where, has, nothing, union, resource_limit}
 use Rattle.rx_base.specs.AwaitsLaws.{awaits_agree, has-awaits_where}
+use Rattle.rx_queue.specs.Pairs.{in_versions}
 use Rattle.rx_base.specs.declared.cut.Cut.{Cut}
 use Rattle.rx_queue.specs.Journal.{Journal, resolved_now, resolved_by, resolved_since}
 use Rattle.rx_elem.specs.Trees.{Node, node, Forest, none, vacant, child, Mark, of_instance, of_host, of_boundary, plain, mark_of, children_of, fallback_of, forest, awaits_in, is_hidden}
@@ -129,13 +130,29 @@ any-where_any p below (waits ∷ all) =
     ∙ ap (λ b. b || list_any p (awaits_where (λ r. list_any (λ w. has w r) all))) (any-where_has p below waits)
     ∙ ap (λ b. list_any p waits || b) (any-where_any p below all)
 
--- a resource that was resolved after the cut has a value
-abbrev is_since : Cut → Journal → ℕ → Bool
-is_since cut j r = is_some (resolved_now j r) && not (is_some (resolved_by cut j r))
+-- this version of a resource was resolved after the cut
+abbrev is_since : (version : ℕ → ℕ) → Cut → Journal → ℕ → Bool
+is_since version cut j r = is_some (resolved_now j r (version r)) && not (is_some (resolved_by cut j r (version r)))
+
+-- so a test of resources in their versions is one of the resources
+since-in : (version : ℕ → ℕ) (cut : Cut) (j : Journal) (waits : Awaits) → resolved_since cut j (in_versions version waits) ≡ list_any (is_since version cut j) waits
+since-in version cut j [] = refl
+since-in version cut j (r ∷ waits) = ap (λ b. is_since version cut j r || b) (since-in version cut j waits)
+
+since-each : (version : ℕ → ℕ) (cut : Cut) (j : Journal) (all : List Awaits)
+    → list_any (λ waits. resolved_since cut j (in_versions version waits)) all ≡ list_any (list_any (is_since version cut j)) all
+since-each version cut j [] = refl
+since-each version cut j (waits ∷ all) =
+    ap (λ b. b || list_any (λ w. resolved_since cut j (in_versions version w)) all) (since-in version cut j waits)
+    ∙ ap (λ b. list_any (is_since version cut j) waits || b) (since-each version cut j all)
 
 -- one of the resources that a tree waits for was resolved after the cut if one boundary's was
-pub resolved_since-all_awaited : (cut : Cut) (j : Journal) → AreWithinReach j → (tree : Option Node) → resolved_since cut j (all_awaited tree) ≡ list_any (resolved_since cut j) (visible_awaits tree)
-resolved_since-all_awaited cut j reach tree = any-where_any (is_since cut j) (λ r h. ap (λ v. is_some v && not (is_some (resolved_by cut j r))) (reach r h)) (visible_awaits tree)
+pub resolved_since-all_awaited : (version : ℕ → ℕ) (cut : Cut) (j : Journal) → AreWithinReach j → (tree : Option Node)
+    → resolved_since cut j (in_versions version (all_awaited tree)) ≡ list_any (λ waits. resolved_since cut j (in_versions version waits)) (visible_awaits tree)
+resolved_since-all_awaited version cut j reach tree =
+    since-in version cut j (all_awaited tree)
+    ∙ any-where_any (is_since version cut j) (λ r h. ap (λ v. is_some v && not (is_some (resolved_by cut j r (version r)))) (reach r (version r) h)) (visible_awaits tree)
+    ∙ sym (since-each version cut j (visible_awaits tree))
 
 -- What a tree waits for, over its nodes in tree order
 
@@ -307,5 +324,7 @@ pub waits-start : (ns : List (Option Node)) (waits : Awaits) → waits ≡ nothi
 waits-start ns waits e = (e ∙ none-where ∙ awaits_where-has _ ∙ ap (λ w. awaits_where (has w)) (sym (e ∙ none-where)), λ r lt. ap (λ w. has w r || waits_in (forest ns) r) e)
 
 -- what a set is used for
-pub resolved_since-set : (tree : Option Node) (waits : Awaits) → waits ≡ all_awaited tree → (cut : Cut) (j : Journal) → AreWithinReach j → resolved_since cut j waits ≡ list_any (resolved_since cut j) (visible_awaits tree)
-resolved_since-set tree waits e cut j reach = ap (resolved_since cut j) e ∙ resolved_since-all_awaited cut j reach tree
+pub resolved_since-set : (tree : Option Node) (waits : Awaits) → waits ≡ all_awaited tree → (version : ℕ → ℕ) (cut : Cut) (j : Journal) → AreWithinReach j
+    → resolved_since cut j (in_versions version waits) ≡ list_any (λ w. resolved_since cut j (in_versions version w)) (visible_awaits tree)
+resolved_since-set tree waits e version cut j reach =
+    ap (λ w. resolved_since cut j (in_versions version w)) e ∙ resolved_since-all_awaited version cut j reach tree

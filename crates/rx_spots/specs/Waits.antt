@@ -20,6 +20,6 @@ abbrev mutual
 abbrev pub all_awaited : Option Node → Awaits
 all_awaited tree = awaits_where (is_awaited tree)
 
--- the resources of a journal that have a value are some that a program reaches
+-- the resources of a journal that have a value in some version are some that a program reaches
 abbrev pub AreWithinReach : Journal → Type 0
-AreWithinReach j = (r : ℕ) → resource_limit ≤ r → resolved_now j r ≡ None
+AreWithinReach j = (r v : ℕ) → resource_limit ≤ r → resolved_now j r v ≡ None

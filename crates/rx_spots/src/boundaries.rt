@@ -1,8 +1,9 @@
 // What visible boundaries wait for.
-ghost use Rattle.std.specs.Prelude.{◌≡◌};
+ghost use Rattle.std.specs.Prelude.{◌≡◌, ℕ};
 ghost use Rattle.std.specs.List.{list_any};
 ghost use Rattle.std.specs.Option.{option_copied};
 ghost use Rattle.rx_base.specs.Awaits.{awaits_where};
+ghost use Rattle.rx_queue.specs.Pairs.{in_versions};
 ghost use Rattle.rx_base.specs.declared.cut.Cut as cut;
 ghost use Rattle.rx_elem.specs.Trees.{awaits_in, forest, is_hidden};
 ghost use Rattle.rx_meaning.specs.Outcome.{visible_awaits};
@@ -63,7 +64,8 @@ fn awaits_in(places: &[Option<Node>]) -> Awaits
 /// value, there is something to retry.
 pub fn awaited(tree: Option<&Node>) -> Awaits
     ensures are { result ≡ all_awaited (option_copied tree.entry) }
-    ensures resolved { (c : cut.Cut) (j : Journal) → AreWithinReach j → resolved_since c j result ≡ list_any (resolved_since c j) (visible_awaits (option_copied tree.entry)) }
+    ensures resolved { (version : ℕ → ℕ) (c : cut.Cut) (j : Journal) → AreWithinReach j
+        → resolved_since c j (in_versions version result) ≡ list_any (λ waits. resolved_since c j (in_versions version waits)) (visible_awaits (option_copied tree.entry)) }
 {
     match tree {
         None => Awaits::none(),

@@ -33,7 +33,7 @@ usage_line = codes "usage: fiber_run run [--counts] [--ops] | check | gen N\n"
 
 -- the line for an input that is too long
 abbrev pub too_long_line : Text
-too_long_line = codes "input over 1048576 bytes\n"
+too_long_line = codes "input over 8388608 bytes\n"
 
 -- the line for what is accepted: the most nodes and levels that a tree of the program has, and how many steps there are
 abbrev pub accepted_line : (nodes levels steps : ℕ) → Text
@@ -42,7 +42,7 @@ accepted_line nodes levels steps =
 
 -- the most bytes that an input has
 abbrev pub limit : ℕ
-limit = 1048576
+limit = 8388608
 
 -- What is due
 

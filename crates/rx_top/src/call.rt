@@ -18,7 +18,7 @@ use rx_words::{Task, read_words};
 use std::alloc::Global;
 use std::sync::ledger::Ledger;
 
-const LIMIT: usize = 1_048_576;
+const LIMIT: usize = 8_388_608;
 
 /// Writes the line for words that are not valid.
 fn refuse_words<K: Sink>(out: &mut K) -> Status
@@ -42,7 +42,7 @@ fn refuse_words<K: Sink>(out: &mut K) -> Status
 /// and says how it ended.
 ///
 /// The words are valid if they are `run` with `--counts` and `--ops` each at most once, `check` alone, or `gen` with a
-/// number from 1 to 1,000. `run` and `check` read the source to its end, or until more than 1,048,576 bytes were taken. It
+/// number from 1 to 1,000. `run` and `check` read the source to its end, or until more than 8,388,608 bytes were taken. It
 /// holds a program, a line `---`, and a script. Both refuse what is not accepted; `check` tells the bounds of what is
 /// accepted, and `run` runs it. `gen` reads nothing, runs a generated program and script, and sums up their run.
 ///
@@ -128,7 +128,7 @@ pub fn top<S: Source, K: Sink, L: Ledger>(
         Ok(input) => answer(alloc, reading, &input, out, steps),
         Err(ReadError::Failed) => Status::ReadFault,
         Err(ReadError::OutOfMemory) => Status::OutOfMemory,
-        Err(ReadError::TooLong) => match write_all(out, b"input over 1048576 bytes\n") {
+        Err(ReadError::TooLong) => match write_all(out, b"input over 8388608 bytes\n") {
             Ok(()) => Status::TooLong,
             Err(_) => Status::WriteFault,
         },

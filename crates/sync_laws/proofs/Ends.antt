@@ -1,6 +1,6 @@
 -- If a steady run ends quiet, what it shows is told by its script without the lanes.
 use Rattle.std.specs.List.{AllByRecursion}
-use Rattle.std.specs.Prelude.{Bool, IfSome, List, Option, Some, [], cond, false, filter, length, map, not, refl, slice_get, true, ℤ, ◌++◌, ◌∷◌, ◌≡◌}
+use Rattle.std.specs.Prelude.{Bool, IfSome, List, Option, Some, [], cond, false, filter, length, map, not, refl, slice_get, true, ℕ, ℤ, ◌++◌, ◌∷◌, ◌≡◌}
 use Rattle.std.specs.List.{zip}
 use Rattle.std.proofs.Common.{ap, append-nil, arith, subst, sym, ◌∙◌}
 use Rattle.std.proofs.lemmas.Option.{same_Some}
@@ -11,7 +11,7 @@ use Rattle.rx_elem.specs.Trees.{Node, element_of, is_hidden}
 use Rattle.rx_forest.specs.Hosts.{hosts}
 use Rattle.rx_lines.specs.Lines.{HookValue, Line, report_bytes, state_head, state_of, tree_lines}
 use Rattle.rx_meaning.specs.Fresh.{default_contexts, root_element}
-use Rattle.rx_meaning.specs.Settled.{IsSound, Known}
+use Rattle.rx_meaning.specs.Settled.{IsSound, Known, ReadsHold, version_done}
 use Rattle.rx_model.proofs.NeverWaits.{app_never_waits}
 use Rattle.rx_model.proofs.AskingLess.{any-run}
 use Rattle.rx_model.proofs.Reached.{runs-reach, start-reached}
@@ -20,23 +20,26 @@ use Rattle.rx_model.specs.Turns.{OfRender, AnyRender}
 use Rattle.rx_model.specs.Machine.{RunTo}
 use Rattle.rx_model.specs.State.{State, committed_values, end_line, hooks_at, is_quiet, name_of, opening, state_line}
 use Rattle.rx_model.specs.Stretch.{Stretch}
-use Rattle.rx_queue.specs.Journal.{Journal, Resolution}
+use Rattle.rx_queue.specs.Journal.{Journal, Target}
+use Rattle.rx_queue.specs.declared.update.Op.{Op}
 use Rattle.rx_step.specs.declared.step.Step.{Step}
 use Rattle.rx_step.specs.declared.step.Step.TheVariants as step
 use Rattle.host_laws.specs.Commits.{IfSound}
 use Rattle.host_laws.specs.Commits as commits
 use Rattle.commit_laws.proofs.Soundness.{resolution_keeps}
 use Rattle.commit_laws.specs.HiddenWaits.{Numbered}
+use Rattle.commit_laws.specs.Quiet.{RefreshesDone}
 use Rattle.replay_laws.specs.Attributes.{AttributesApart}
 use Rattle.replay_laws.proofs.Committing.{renders_commit}
 use Rattle.replay_laws.proofs.Reached.{reached_committed}
 use Rattle.run_laws.proofs.AlongRuns.{reached_carries}
 use Rattle.run_laws.proofs.QuietEnds.{quiet_shows}
-use Rattle.run_laws.specs.Carried.{Carries, values_now}
+use Rattle.run_laws.specs.Carried.{Carries}
 use Rattle.sync_laws.proofs.SameTexts.{texts_same}
 use Rattle.sync_laws.proofs.SameTrees.{Beside, HasSameValues, NoneAt, SameTree, trees_same}
 use Rattle.sync_laws.proofs.SameValues.{each_place, sent, values_same}
 use Rattle.sync_laws.proofs.Sending.{HasInstances, Mounts, resolves, same_resolves, same_sends, sends, told_in_sync, trees_first}
+use Rattle.sync_laws.proofs.Versions.{done_sent, quiet_refreshes, refreshes_sent}
 use Rattle.sync_laws.proofs.Starting.{Comes, first_before, first_tree, run_comes}
 use Rattle.sync_laws.specs.Sync.{IsLike, IsSteady, LanesLaw, ShowTheSame, SyncLaw, all_in_sync, told, trees_of}
 
@@ -68,12 +71,13 @@ record IsEnd (p : Program) (all : List Mounted) (s : State) : Type 0 where
   tree : Node
   is_tree : s.tree ≡ Some tree
   instances : mounted (Some tree) ≡ all
-  sound : IsSound p (record { updates = s.journal.updates; resources = values_now p s.journal }) s.numbers.instance (Some tree)
+  sound : IsSound p (record { updates = s.journal.updates; resolutions = s.journal.resolutions }) s.numbers.instance (Some tree)
   numbered : Numbered tree
   rooted : element_of tree ≡ root_element p
   none_hidden : NoneAt (spots at_root tree)
   hosts_sound : commits.IsSound tree
   shows : ShowsEverything p s
+  refreshed : RefreshesDone s.journal.updates
 
 module _ (p : Program) (bounded : IsBounded p) (apart : AttributesApart p) where
   quiet_end : (all : List Mounted) (s : State) → IsReached p s → is_quiet s ≡ true → Mounts all s → IsEnd p all s
@@ -86,13 +90,14 @@ module _ (p : Program) (bounded : IsBounded p) (apart : AttributesApart p) where
         tree = mounts.0;
         is_tree = mounts.1;
         instances = mounts.2;
-        sound = resolution_keeps p s.journal.updates carried.0 (values_now p s.journal) s.numbers.instance (Some mounts.0) carries.seen carries.sound;
+        sound = resolution_keeps p s.journal.updates carried.0 s.journal.resolutions s.numbers.instance (Some mounts.0) carries.seen carries.sound;
         numbered = carries.numbered;
         rooted = carries.rooted;
         none_hidden = mounts.3;
         hosts_sound = subst IfSound mounts.1
             (renders_commit p bounded apart (everything p s) s.numbers s.tree again.0 refl (reached_committed p s reached) again.1).0.old_sound;
         shows = quiet_shows p bounded s reached quiet;
+        refreshed = quiet_refreshes p bounded s reached quiet;
       }
 
   -- two quiet ends with the same instances show the same, if the same was sent and resolved
@@ -117,28 +122,34 @@ module _ (p : Program) (bounded : IsBounded p) (apart : AttributesApart p) where
           (f.shows.hooks k m (ap (λ (ms : List Mounted). slice_get ms k) (listed t f) ∙ there)) same)
 
       one : Known
-      one = record { updates = s.journal.updates; resources = values_now p s.journal }
+      one = record { updates = s.journal.updates; resolutions = s.journal.resolutions }
 
       two : Known
-      two = record { updates = t.journal.updates; resources = values_now p t.journal }
+      two = record { updates = t.journal.updates; resolutions = t.journal.resolutions }
 
-      resources_are : values_now p s.journal ≡ values_now p t.journal
-      resources_are = ap (λ (rs : List Resolution). values_now p (record { updates = []; resolutions = rs })) resolved
+      version : ℕ → ℕ
+      version = version_done s.journal.updates
 
-      beside : Beside p one two resources_are (spots at_root e.tree) (spots at_root f.tree)
+      versions_are : version_done t.journal.updates ≡ version
+      versions_are =
+          λ i r. (done_sent r t.journal.updates f.refreshed
+          ∙ (ap (λ (zs : List (Target × Op)). refreshes_sent zs r) (sym same) ∙ sym (done_sent r s.journal.updates e.refreshed))) i
+
+      beside : Beside p one two resolved version (spots at_root e.tree) (spots at_root f.tree)
       beside = (
         e.none_hidden,
         f.none_hidden,
         e.instances ∙ sym f.instances,
-        subst (AllByRecursion (HasSameValues p one two resources_are)) (sym e.instances) values,
+        subst (AllByRecursion (HasSameValues p one two resolved version)) (sym e.instances) values,
       )
 
       trees : SameTree e.tree f.tree
       trees =
-          (trees_same p one two resources_are (default_contexts p) at_root at_root e.tree f.tree [] [] e.sound.settled f.sound.settled e.numbered f.numbered e.sound.reads f.sound.reads
+          (trees_same p one two resolved version (default_contexts p) at_root at_root e.tree f.tree [] [] e.sound.settled f.sound.settled e.numbered f.numbered e.sound.reads
+          (subst (λ (v : ℕ → ℕ). ReadsHold v (default_contexts p) f.tree) versions_are f.sound.reads)
           (e.rooted ∙ sym f.rooted)
-          (subst (λ (xs : List Spot). Beside p one two resources_are xs (spots at_root f.tree ++ [])) (sym (append-nil (spots at_root e.tree)))
-          (subst (λ (ys : List Spot). Beside p one two resources_are (spots at_root e.tree) ys) (sym (append-nil (spots at_root f.tree))) beside))).0
+          (subst (λ (xs : List Spot). Beside p one two resolved version xs (spots at_root f.tree ++ [])) (sym (append-nil (spots at_root e.tree)))
+          (subst (λ (ys : List Spot). Beside p one two resolved version (spots at_root e.tree) ys) (sym (append-nil (spots at_root f.tree))) beside))).0
 
   -- Runs
 
@@ -165,7 +176,7 @@ module _ (p : Program) (bounded : IsBounded p) (apart : AttributesApart p) where
   runs_same xs ys same a b run other c d good good_too quiet quiet_too =
       ends_same all a.after b.after (quiet_end all a.after (runs-reach p opening (start-reached p) (step.Flush ∷ xs) a run) quiet first.0)
       (quiet_end all b.after (runs-reach p opening (start-reached p) (step.Flush ∷ ys) b other) quiet_too second.0)
-      (first.1 ∙ sym (second.1 ∙ same_sends p all xs ys same)) (first.2 ∙ sym (second.2 ∙ same_resolves p xs ys [] same))
+      (first.1 ∙ sym (second.1 ∙ same_sends p all xs ys same)) (first.2 ∙ sym (second.2 ∙ same_resolves p all xs ys [] [] same))
     where
       trees : c.tree ≡ d.tree
       trees = let both = sym c.gives ∙ d.gives in cc
@@ -173,13 +184,13 @@ module _ (p : Program) (bounded : IsBounded p) (apart : AttributesApart p) where
       all : List Mounted
       all = mounted (Some (first_tree c.tree))
 
-      first : Mounts all a.after × (sent a.after.journal.updates ≡ sends p all xs) × (a.after.journal.resolutions ≡ resolves p xs [])
+      first : Mounts all a.after × (sent a.after.journal.updates ≡ sends p all xs) × (a.after.journal.resolutions ≡ resolves p all xs [] [])
       first = c.ends good
 
-      second : Mounts all b.after × (sent b.after.journal.updates ≡ sends p all ys) × (b.after.journal.resolutions ≡ resolves p ys [])
+      second : Mounts all b.after × (sent b.after.journal.updates ≡ sends p all ys) × (b.after.journal.resolutions ≡ resolves p all ys [] [])
       second =
           subst (λ (n : Node). Mounts (mounted (Some (first_tree n))) b.after × (sent b.after.journal.updates ≡ sends p (mounted (Some (first_tree n))) ys)
-          × (b.after.journal.resolutions ≡ resolves p ys [])) (sym trees) (d.ends good_too)
+          × (b.after.journal.resolutions ≡ resolves p (mounted (Some (first_tree n))) ys [] [])) (sym trees) (d.ends good_too)
 
 -- Neither lanes nor when renders are made show in quiet ends of steady runs.
 pub lanes_law : (First Second : OfRender) (p : Program) → LanesLaw First Second p

@@ -17,7 +17,7 @@ use Rattle.rx_lines.specs.Lines.{Counts, Line, logged}
 use Rattle.rx_effect.specs.EffectLog.{passive_log}
 use Rattle.rx_meaning.specs.Fresh.{depth_limit, fresh, made}
 use Rattle.rx_meaning.specs.Outcome.{Outcome, commit, defer, outcome}
-use Rattle.rx_model.specs.Accepting.{between_events, dispatched_for, dispatched_to, lane_of, next_update, op_of, resolved_as, target_of}
+use Rattle.rx_model.specs.Accepting.{between_events, dispatched, dispatched_for, dispatched_to, lane_of, last_value, next_update, op_of, resolved, resolved_as, target_of}
 use Rattle.rx_model.specs.Committing.{committed_state, ended, ended_by, passive_run, sight_of, starting}
 use Rattle.rx_model.proofs.Reached.{step-reached}
 use Rattle.rx_model.specs.Laws.{IsReached}
@@ -25,8 +25,9 @@ use Rattle.rx_model.specs.Machine.{IsAtRest, FlushSync, Flushes, RunTo, StepTo}
 use Rattle.rx_model.specs.State.{Progress, State, find_from, instance_found}
 use Rattle.rx_model.specs.Stretch.{Stretch, followed_by, silent}
 use Rattle.rx_model.specs.Turns.{AnyRender, Continues, GoesOn, TurnBy, choice_of, gone_on}
-use Rattle.rx_queue.specs.Journal.{Posted, Resolution, Target, marked_update, resolved_now}
+use Rattle.rx_queue.specs.Journal.{Posted, Resolution, Target, marked_update, resolved_now, resource}
 use Rattle.rx_queue.specs.declared.update.Op.{Op}
+use Rattle.rx_queue.specs.declared.update.Op.TheVariants as op
 use Rattle.rx_sched.specs.declared.choice.Choice.{Choice}
 use Rattle.rx_sched.specs.declared.choice.Choice.TheVariants as choice
 use Rattle.rx_step.specs.Steps.{path_of, word_of}
@@ -41,6 +42,7 @@ use Rattle.run_laws.specs.Carried.{Carries, IsCarried}
 use Rattle.sync_laws.proofs.Instances.{instances_kept}
 use Rattle.sync_laws.proofs.SameTrees.{NoneAt}
 use Rattle.sync_laws.proofs.SameValues.{sent, sent_by}
+use Rattle.sync_laws.proofs.Versions.{last_sent, refreshes_sent}
 use Rattle.sync_laws.specs.Sync.{all_in_sync, in_sync, told, tree_of, trees_of}
 
 -- What scripts send and resolve
@@ -50,9 +52,16 @@ abbrev pub sent_to : Program → Dispatch → Option Mounted → List (Target ×
 sent_to p d None = []
 sent_to p d (Some m) = (target_of p d m, op_of p m.component d) ∷ []
 
--- what a step sends to these instances
+-- what a dispatch sends, among these instances or to a resource
+abbrev pub dispatch_sent : Program → List Mounted → Dispatch → List (Target × Op)
+dispatch_sent p all (dispatch.Set w path name x) = sent_to p (dispatch.Set w path name x) (find_from p all None path)
+dispatch_sent p all (dispatch.Call w path name f x) = sent_to p (dispatch.Call w path name f x) (find_from p all None path)
+dispatch_sent p all (dispatch.Send w path name x) = sent_to p (dispatch.Send w path name x) (find_from p all None path)
+dispatch_sent p all (dispatch.Refresh w name) = (resource (resource_number p name), op.Refresh) ∷ []
+
+-- what a step sends, among these instances or to a resource
 abbrev pub step_sends : Program → List Mounted → Step → List (Target × Op)
-step_sends p all (step.Dispatch d) = sent_to p d (find_from p all None (path_of d))
+step_sends p all (step.Dispatch d) = dispatch_sent p all d
 step_sends p all (step.Resolve name x) = []
 step_sends p all (step.Tick n) = []
 step_sends p all (step.Work n) = []
@@ -68,28 +77,29 @@ abbrev pub sends : Program → List Mounted → List Step → List (Target × Op
 sends p all [] = []
 sends p all (x ∷ xs) = step_sends p all x ++ sends p all xs
 
--- resolutions after one more, of a resource that has this value or none
+-- resolutions after one more, of a resource whose last version has this value or none
 abbrev pub resolved_into : Program → Name → ℤ → List Resolution → Option ℤ → List Resolution
 resolved_into p name x rs None = rs ++ (record { resource = resource_number p name; value = x }) ∷ []
 resolved_into p name x rs (Some y) = rs
 
--- resolutions after a step
-abbrev pub step_resolves : Program → Step → List Resolution → List Resolution
-step_resolves p (step.Dispatch d) rs = rs
-step_resolves p (step.Resolve name x) rs = resolved_into p name x rs (resolved_now (record { updates = []; resolutions = rs }) (resource_number p name))
-step_resolves p (step.Tick n) rs = rs
-step_resolves p (step.Work n) rs = rs
-step_resolves p step.Flush rs = rs
-step_resolves p step.FlushSync rs = rs
-step_resolves p step.Passive rs = rs
-step_resolves p step.Event rs = rs
-step_resolves p step.State rs = rs
-step_resolves p step.Tree rs = rs
+-- resolutions after a step, by what was sent before it
+abbrev pub step_resolves : Program → Step → List (Target × Op) → List Resolution → List Resolution
+step_resolves p (step.Dispatch d) ss rs = rs
+step_resolves p (step.Resolve name x) ss rs =
+    let r = resource_number p name in resolved_into p name x rs (resolved_now (record { updates = []; resolutions = rs }) r (refreshes_sent ss r))
+step_resolves p (step.Tick n) ss rs = rs
+step_resolves p (step.Work n) ss rs = rs
+step_resolves p step.Flush ss rs = rs
+step_resolves p step.FlushSync ss rs = rs
+step_resolves p step.Passive ss rs = rs
+step_resolves p step.Event ss rs = rs
+step_resolves p step.State ss rs = rs
+step_resolves p step.Tree ss rs = rs
 
--- resolutions after steps
-abbrev pub resolves : Program → List Step → List Resolution → List Resolution
-resolves p [] rs = rs
-resolves p (x ∷ xs) rs = resolves p xs (step_resolves p x rs)
+-- resolutions after steps, by what was sent before them
+abbrev pub resolves : Program → List Mounted → List Step → List (Target × Op) → List Resolution → List Resolution
+resolves p all [] ss rs = rs
+resolves p all (x ∷ xs) ss rs = resolves p all xs (ss ++ step_sends p all x) (step_resolves p x ss rs)
 
 -- the lane of a dispatch doesn't matter to what it sends
 sent_in_sync : (p : Program) (all : List Mounted) (d : Dispatch) → step_sends p all (step.Dispatch (in_sync d)) ≡ step_sends p all (step.Dispatch d)
@@ -108,6 +118,7 @@ sent_in_sync p all (dispatch.Send w path name x) = go (find_from p all None path
     go : (o : Option Mounted) → sent_to p (dispatch.Send word.Sync path name x) o ≡ sent_to p (dispatch.Send w path name x) o
     go None = refl
     go (Some m) = refl
+sent_in_sync p all (dispatch.Refresh w name) = refl
 
 -- so what a script tells beside its lanes sends the same
 sends_told : (p : Program) (all : List Mounted) (xs : List Step) → sends p all (told xs) ≡ sends p all xs
@@ -123,31 +134,37 @@ sends_told p all (step.Event ∷ xs) = sends_told p all xs
 sends_told p all (step.State ∷ xs) = sends_told p all xs
 sends_told p all (step.Tree ∷ xs) = sends_told p all xs
 
+-- to send nothing changes nothing of what is resolved
+sends_nothing : (p : Program) (all : List Mounted) (xs : List Step) (ss : List (Target × Op)) (rs : List Resolution) → resolves p all xs ss rs ≡ resolves p all xs (ss ++ []) rs
+sends_nothing p all xs ss rs = ap (λ (zs : List (Target × Op)). resolves p all xs zs rs) (sym (append-nil ss))
+
 -- and resolves the same
-resolves_told : (p : Program) (xs : List Step) (rs : List Resolution) → resolves p (told xs) rs ≡ resolves p xs rs
-resolves_told p [] rs = refl
-resolves_told p (step.Dispatch d ∷ xs) rs = resolves_told p xs rs
-resolves_told p (step.Resolve name x ∷ xs) rs = resolves_told p xs (step_resolves p (step.Resolve name x) rs)
-resolves_told p (step.Tick n ∷ xs) rs = resolves_told p xs rs
-resolves_told p (step.Work n ∷ xs) rs = resolves_told p xs rs
-resolves_told p (step.Flush ∷ xs) rs = resolves_told p xs rs
-resolves_told p (step.FlushSync ∷ xs) rs = resolves_told p xs rs
-resolves_told p (step.Passive ∷ xs) rs = resolves_told p xs rs
-resolves_told p (step.Event ∷ xs) rs = resolves_told p xs rs
-resolves_told p (step.State ∷ xs) rs = resolves_told p xs rs
-resolves_told p (step.Tree ∷ xs) rs = resolves_told p xs rs
+resolves_told : (p : Program) (all : List Mounted) (xs : List Step) (ss : List (Target × Op)) (rs : List Resolution) → resolves p all (told xs) ss rs ≡ resolves p all xs ss rs
+resolves_told p all [] ss rs = refl
+resolves_told p all (step.Dispatch d ∷ xs) ss rs =
+    ap (λ (zs : List (Target × Op)). resolves p all (told xs) (ss ++ zs) rs) (sent_in_sync p all d) ∙ resolves_told p all xs (ss ++ step_sends p all (step.Dispatch d)) rs
+resolves_told p all (step.Resolve name x ∷ xs) ss rs = resolves_told p all xs (ss ++ []) (step_resolves p (step.Resolve name x) ss rs)
+resolves_told p all (step.Tick n ∷ xs) ss rs = resolves_told p all xs ss rs ∙ sends_nothing p all xs ss rs
+resolves_told p all (step.Work n ∷ xs) ss rs = resolves_told p all xs ss rs ∙ sends_nothing p all xs ss rs
+resolves_told p all (step.Flush ∷ xs) ss rs = resolves_told p all xs ss rs ∙ sends_nothing p all xs ss rs
+resolves_told p all (step.FlushSync ∷ xs) ss rs = resolves_told p all xs ss rs ∙ sends_nothing p all xs ss rs
+resolves_told p all (step.Passive ∷ xs) ss rs = resolves_told p all xs ss rs ∙ sends_nothing p all xs ss rs
+resolves_told p all (step.Event ∷ xs) ss rs = resolves_told p all xs ss rs ∙ sends_nothing p all xs ss rs
+resolves_told p all (step.State ∷ xs) ss rs = resolves_told p all xs ss rs ∙ sends_nothing p all xs ss rs
+resolves_told p all (step.Tree ∷ xs) ss rs = resolves_told p all xs ss rs ∙ sends_nothing p all xs ss rs
 
 -- scripts that tell the same send and resolve the same
 pub same_sends : (p : Program) (all : List Mounted) (xs ys : List Step) → told ys ≡ told xs → sends p all ys ≡ sends p all xs
 same_sends p all xs ys same = sym (sends_told p all ys) ∙ (ap (sends p all) same ∙ sends_told p all xs)
 
-pub same_resolves : (p : Program) (xs ys : List Step) (rs : List Resolution) → told ys ≡ told xs → resolves p ys rs ≡ resolves p xs rs
-same_resolves p xs ys rs same = sym (resolves_told p ys rs) ∙ (ap (λ (zs : List Step). resolves p zs rs) same ∙ resolves_told p xs rs)
+pub same_resolves : (p : Program) (all : List Mounted) (xs ys : List Step) (ss : List (Target × Op)) (rs : List Resolution) → told ys ≡ told xs → resolves p all ys ss rs ≡ resolves p all xs ss rs
+same_resolves p all xs ys ss rs same = sym (resolves_told p all ys ss rs) ∙ (ap (λ (zs : List Step). resolves p all zs ss rs) same ∙ resolves_told p all xs ss rs)
 
 in_sync_already : (d : Dispatch) → in_sync (in_sync d) ≡ in_sync d
 in_sync_already (dispatch.Set w path name x) = refl
 in_sync_already (dispatch.Call w path name f x) = refl
 in_sync_already (dispatch.Send w path name x) = refl
+in_sync_already (dispatch.Refresh w name) = refl
 
 -- a script in Sync tells what the script tells
 pub told_in_sync : (xs : List Step) → told (all_in_sync xs) ≡ told xs
@@ -225,7 +242,7 @@ module _ (p : Program) (deep : depth_bound p ≤ depth_limit) (declared : ReadsD
       let c : Carries p s.journal s.numbers (Some h.0) carried.0 carried.1 =
       subst (λ (o : Option Node). Carries p s.journal s.numbers o carried.0 carried.1) h.1 carried.2 in
       let gives_there : fresh (sight_of p s g) (Some h.0) ≡ made new = subst (λ (o : Option Node). fresh (sight_of p s g) o ≡ made new) h.1 gives in
-      instances_kept (sight_of p s g) (record { updates = s.journal.updates; resources = carried.0 }) s.numbers h.0 new c.sound.settled c.numbered c.sound.own_numbers c.rooted gives_there
+      instances_kept (sight_of p s g) (record { updates = s.journal.updates; resolutions = carried.0 }) s.numbers h.0 new c.sound.settled c.numbered c.sound.own_numbers c.rooted gives_there
       h.3 good.1 (good.0 ∙ sym (ap numbers_of h.2))
       ∙ h.2
 
@@ -276,28 +293,48 @@ module _ (p : Program) (deep : depth_bound p ≤ depth_limit) (declared : ReadsD
 
   -- what steps send is sent, what they resolve is resolved, and the instances are the same
   abbrev pub Sends : State → List Step → State → Type 0
-  Sends s xs t = Mounts all t × (sent t.journal.updates ≡ sent s.journal.updates ++ sends p all xs) × (t.journal.resolutions ≡ resolves p xs s.journal.resolutions)
+  Sends s xs t = Mounts all t × (sent t.journal.updates ≡ sent s.journal.updates ++ sends p all xs) × (t.journal.resolutions ≡ resolves p all xs (sent s.journal.updates) s.journal.resolutions)
 
   quiet_sends : (s t : State) → Stays s t → Mounts all t × (sent t.journal.updates ≡ sent s.journal.updates ++ []) × (t.journal.resolutions ≡ s.journal.resolutions)
   quiet_sends s t h = (h.0, h.1 ∙ sym (append-nil (sent s.journal.updates)), h.2)
 
-  -- what one step sends is sent
+  -- what one step sends is sent, and what it resolves is resolved
   abbrev StepSends : State → Step → State → Type 0
-  StepSends s x t = Mounts all t × (sent t.journal.updates ≡ sent s.journal.updates ++ step_sends p all x) × (t.journal.resolutions ≡ step_resolves p x s.journal.resolutions)
+  StepSends s x t = Mounts all t × (sent t.journal.updates ≡ sent s.journal.updates ++ step_sends p all x) × (t.journal.resolutions ≡ step_resolves p x (sent s.journal.updates) s.journal.resolutions)
 
-  dispatch_sends : (s : State) (d : Dispatch) (o : Option Mounted) → Mounts all s
+  -- an update that is accepted is sent
+  accepted_sends : (s : State) (w : LaneWord) (t : Target) (o : Op) → Mounts all s
+      → Mounts all (dispatched_for s w t o) × (sent (dispatched_for s w t o).journal.updates ≡ sent s.journal.updates ++ (t, o) ∷ [])
+      × ((dispatched_for s w t o).journal.resolutions ≡ s.journal.resolutions)
+  accepted_sends s word.Sync t o h = (h, sent_append s.journal.updates (next_update s.journal t o (lane_of s word.Sync) ∷ []), refl)
+  accepted_sends s word.Input t o h = (h, sent_append s.journal.updates (next_update s.journal t o (lane_of s word.Input) ∷ []), refl)
+  accepted_sends s word.Default t o h = (h, sent_append s.journal.updates (next_update s.journal t o (lane_of s word.Default) ∷ []), refl)
+  accepted_sends s word.Transition t o h = (h, sent_append s.journal.updates (next_update s.journal t o (lane_of s word.Transition) ∷ []), refl)
+
+  found_sends : (s : State) (d : Dispatch) (o : Option Mounted) → Mounts all s
       → Mounts all (dispatched_to p s d o).after × (sent (dispatched_to p s d o).after.journal.updates ≡ sent s.journal.updates ++ sent_to p d o)
       × ((dispatched_to p s d o).after.journal.resolutions ≡ s.journal.resolutions)
-  dispatch_sends s d None h = (h, sym (append-nil (sent s.journal.updates)), refl)
-  dispatch_sends s d (Some m) h = go (word_of d)
-    where
-      go : (w : LaneWord) → Mounts all (dispatched_for s w (target_of p d m) (op_of p m.component d))
-          × (sent (dispatched_for s w (target_of p d m) (op_of p m.component d)).journal.updates ≡ sent s.journal.updates ++ sent_to p d (Some m))
-          × ((dispatched_for s w (target_of p d m) (op_of p m.component d)).journal.resolutions ≡ s.journal.resolutions)
-      go word.Sync = (h, sent_append s.journal.updates (next_update s.journal (target_of p d m) (op_of p m.component d) (lane_of s word.Sync) ∷ []), refl)
-      go word.Input = (h, sent_append s.journal.updates (next_update s.journal (target_of p d m) (op_of p m.component d) (lane_of s word.Input) ∷ []), refl)
-      go word.Default = (h, sent_append s.journal.updates (next_update s.journal (target_of p d m) (op_of p m.component d) (lane_of s word.Default) ∷ []), refl)
-      go word.Transition = (h, sent_append s.journal.updates (next_update s.journal (target_of p d m) (op_of p m.component d) (lane_of s word.Transition) ∷ []), refl)
+  found_sends s d None h = (h, sym (append-nil (sent s.journal.updates)), refl)
+  found_sends s d (Some m) h = accepted_sends s (word_of d) (target_of p d m) (op_of p m.component d) h
+
+  found : (s : State) (d : Dispatch) → Mounts all s → instance_found p s.tree (path_of d) ≡ find_from p all None (path_of d)
+  found s d h = ap (λ (t : Option Node). find_from p (mounted t) None (path_of d)) h.1 ∙ ap (λ (ms : List Mounted). find_from p ms None (path_of d)) h.2
+
+  -- a dispatch to a hook sends to the instance that is found
+  hook_sends : (s : State) (d : Dispatch) → Mounts all s
+      → Mounts all (dispatched_to p s d (instance_found p s.tree (path_of d))).after
+      × (sent (dispatched_to p s d (instance_found p s.tree (path_of d))).after.journal.updates ≡ sent s.journal.updates ++ sent_to p d (find_from p all None (path_of d)))
+      × ((dispatched_to p s d (instance_found p s.tree (path_of d))).after.journal.resolutions ≡ s.journal.resolutions)
+  hook_sends s d h =
+      subst (λ (q : Stretch). Mounts all q.after × (sent q.after.journal.updates ≡ sent s.journal.updates ++ sent_to p d (find_from p all None (path_of d)))
+      × (q.after.journal.resolutions ≡ s.journal.resolutions))
+      (sym (ap (dispatched_to p s d) (found s d h))) (found_sends s d (find_from p all None (path_of d)) h)
+
+  dispatch_sends : (s : State) (d : Dispatch) → Mounts all s → StepSends s (step.Dispatch d) (dispatched p s d).after
+  dispatch_sends s (dispatch.Set w path name x) h = hook_sends s (dispatch.Set w path name x) h
+  dispatch_sends s (dispatch.Call w path name f x) h = hook_sends s (dispatch.Call w path name f x) h
+  dispatch_sends s (dispatch.Send w path name x) h = hook_sends s (dispatch.Send w path name x) h
+  dispatch_sends s (dispatch.Refresh w name) h = accepted_sends s w (resource (resource_number p name)) op.Refresh h
 
   resolution_sends : (s : State) (name : Name) (x : ℤ) (o : Option ℤ) → Mounts all s
       → Mounts all (resolved_as p s name x o).after × (sent (resolved_as p s name x o).after.journal.updates ≡ sent s.journal.updates ++ [])
@@ -305,14 +342,19 @@ module _ (p : Program) (deep : depth_bound p ≤ depth_limit) (declared : ReadsD
   resolution_sends s name x None h = (h, sym (append-nil (sent s.journal.updates)), refl)
   resolution_sends s name x (Some y) h = (h, sym (append-nil (sent s.journal.updates)), refl)
 
-  found : (s : State) (d : Dispatch) → Mounts all s → instance_found p s.tree (path_of d) ≡ find_from p all None (path_of d)
-  found s d h = ap (λ (t : Option Node). find_from p (mounted t) None (path_of d)) h.1 ∙ ap (λ (ms : List Mounted). find_from p ms None (path_of d)) h.2
+  -- whether the last version has a value is told by what was sent
+  resolved_sends : (s : State) (name : Name) (x : ℤ) → Mounts all s → StepSends s (step.Resolve name x) (resolved p (between_events s) name x).after
+  resolved_sends s name x h =
+      let r = resource_number p name in
+      let ends = resolution_sends (between_events s) name x (last_value s r) h in (
+        ends.0,
+        ends.1,
+        ends.2 ∙ ap (λ (v : ℕ). resolved_into p name x s.journal.resolutions (resolved_now s.journal r v)) (last_sent r s.journal.updates),
+      )
 
   step_ends : (s : State) (x : Step) (r : Stretch) → StepTo AnyRender p s x r → IsCarried p s → Mounts all s → Good r.lines → StepSends s x r.after
-  step_ends s (step.Dispatch d) r t carried h good =
-      subst (λ (q : Stretch). StepSends s (step.Dispatch d) q.after) (sym (t ∙ ap (dispatched_to p s d) (found s d h))) (dispatch_sends s d (find_from p all None (path_of d)) h)
-  step_ends s (step.Resolve name x) r t carried h good =
-      subst (λ (q : Stretch). StepSends s (step.Resolve name x) q.after) (sym t) (resolution_sends (between_events s) name x (resolved_now s.journal (resource_number p name)) h)
+  step_ends s (step.Dispatch d) r t carried h good = subst (λ (q : Stretch). StepSends s (step.Dispatch d) q.after) (sym t) (dispatch_sends s d h)
+  step_ends s (step.Resolve name x) r t carried h good = subst (λ (q : Stretch). StepSends s (step.Resolve name x) q.after) (sym t) (resolved_sends s name x h)
   step_ends s (step.Tick n) r t carried h good = subst (λ (q : Stretch). StepSends s (step.Tick n) q.after) (sym t) (quiet_sends s s (h, refl, refl))
   step_ends s (step.Work n) r t carried h good = quiet_sends s r.after (turn_stays (between_events s) (choice_of (between_events s)) (Some n) r t carried h good)
   step_ends s step.Flush r t carried h good = quiet_sends s r.after (flushes_stay t.0 (between_events s) r t.2 carried h good)
@@ -332,5 +374,5 @@ module _ (p : Program) (deep : depth_bound p ≤ depth_limit) (declared : ReadsD
       subst (λ (q : Stretch). Sends s (x ∷ xs) q.after) (sym run.4) (
         later.0,
         later.1 ∙ (ap (λ (zs : List (Target × Op)). zs ++ sends p all xs) first.1 ∙ append_assoc (sent s.journal.updates) (step_sends p all x) (sends p all xs)),
-        later.2 ∙ ap (resolves p xs) first.2,
+        later.2 ∙ (λ i. resolves p all xs (first.1 i) (first.2 i)),
       )

@@ -9,7 +9,6 @@ use Rattle.rx_elem.specs.Compare.{Change}
 use Rattle.rx_elem.specs.Numbers.{numbered}
 use Rattle.rx_elem.specs.Spots.{Mounted, mounted}
 use Rattle.rx_elem.specs.Trees.{Node}
-use Rattle.rx_base.specs.Awaits.{awaits_where}
 use Rattle.rx_lane.specs.Lanes.{lanes_where}
 use Rattle.rx_sched.specs.Deadlines.{timed}
 use Rattle.rx_sched.specs.Links.{linked_by, links_among, one_link_on, links_on}
@@ -73,7 +72,7 @@ going_begins p r (inl f, _) = subst (Begins p) (sym f.stretch_is) (commit_begins
 going_begins p r (inr y, _) = absurd (cc y.sliced)
 
 turn_begins : (p : Program) (r : Stretch) → Turn AnyRender p (between_events opening) None r → Begins p r
-unfolding lanes_where linked_by links_among one_link_on links_on timed awaits_where
+unfolding lanes_where linked_by links_among one_link_on links_on timed
 turn_begins p r t = go t
   where
     go : Starts AnyRender p (between_events opening) (lane.Default ∷ []) None r → Begins p r
@@ -90,7 +89,7 @@ pub record Comes (p : Program) (xs : List Step) (r : Stretch) : Type 0 where
   pub ends : AllByRecursion (HasInstances (mounted (Some (first_tree tree)))) (trees_of r.lines)
       → Mounts (mounted (Some (first_tree tree))) r.after
       × (sent r.after.journal.updates ≡ sends p (mounted (Some (first_tree tree))) xs)
-      × (r.after.journal.resolutions ≡ resolves p xs [])
+      × (r.after.journal.resolutions ≡ resolves p (mounted (Some (first_tree tree))) xs [] [])
 
 pub first_before : (xs ys : List Line) (n : Node) → slice_get (trees_of xs) 0 ≡ Some n → slice_get (trees_of (xs ++ ys)) 0 ≡ Some n
 first_before [] ys n h = absurd (cc h)
@@ -121,7 +120,7 @@ module _ (p : Program) (deep : depth_bound p ≤ depth_limit) (declared : ReadsD
       all = mounted (Some (first_tree begins.tree))
 
       ends : AllByRecursion (HasInstances all) (trees_of ((first.lines ++ more.lines) ++ rest.lines))
-          → Mounts all rest.after × (sent rest.after.journal.updates ≡ sends p all xs) × (rest.after.journal.resolutions ≡ resolves p xs [])
+          → Mounts all rest.after × (sent rest.after.journal.updates ≡ sends p all xs) × (rest.after.journal.resolutions ≡ resolves p all xs [] [])
       ends good =
           let flushed = trees_first (HasInstances all) (first.lines ++ more.lines) rest.lines good in
           let like = first_meets (HasInstances all) (trees_of first.lines) (first_tree begins.tree) begins.first (trees_first (HasInstances all) first.lines more.lines flushed) in
@@ -130,12 +129,12 @@ module _ (p : Program) (deep : depth_bound p ≤ depth_limit) (declared : ReadsD
           let later = run_sends p deep declared all more.after xs rest runs reached stays.0 (trees_last (HasInstances all) (first.lines ++ more.lines) rest.lines good) in (
             later.0,
             later.1 ∙ ap (λ (zs : List (Target × Op)). zs ++ sends p all xs) (stays.1 ∙ begins.nothing_sent),
-            later.2 ∙ ap (resolves p xs) (stays.2 ∙ begins.nothing_resolved),
+            later.2 ∙ (λ i. resolves p all xs ((stays.1 ∙ begins.nothing_sent) i) ((stays.2 ∙ begins.nothing_resolved) i)),
           )
 
   -- each run of a script that begins with a flush comes to such a state, if it is steady
   pub run_comes : (r : Stretch) → RunTo AnyRender p opening (step.Flush ∷ xs) r → Comes p xs r
-  unfolding lanes_where linked_by links_among one_link_on links_on timed awaits_where
+  unfolding lanes_where linked_by links_among one_link_on links_on timed
   run_comes r run =
       subst (Comes p xs) (sym run.4) (flushed run.0 run.1 run.2.0 run.2.2 (step-reached p opening step.Flush run.0 (start-reached p) run.2) run.3)
     where

@@ -23,6 +23,7 @@ abbrev pub in_sync : Dispatch → Dispatch
 in_sync (dispatch.Set w path name x) = dispatch.Set word.Sync path name x
 in_sync (dispatch.Call w path name f x) = dispatch.Call word.Sync path name f x
 in_sync (dispatch.Send w path name x) = dispatch.Send word.Sync path name x
+in_sync (dispatch.Refresh w name) = dispatch.Refresh word.Sync name
 
 -- what stands for a step if each dispatch is Sync and flushed at once
 abbrev pub step_in_sync : Step → List Step

@@ -53,7 +53,25 @@ const WHOLE: [Row<'static>; 3] = [
     },
 ];
 
-const ROWS: [Row<'static>; 8] = [
+const ROWS: [Row<'static>; 10] = [
+    // A resource is asked for anew in a transition: what is shown stays until its value has come.
+    Row {
+        words: &["run"],
+        input: "function User() { const u = use(\"user\"); return <b>{u}</b>; } function App() { return <Suspense fallback={<i/>}><User/></Suspense>; }\n---\nresolve user 1\nflush\nrefresh transition user\nflush\ntree\nresolve user 2\nflush\ntree\n",
+        failing_reads: &[],
+        failing_writes: &[],
+        status: 0,
+        output: "commit 1 Default\ndefer T1\ntree\n  b\n    \"1\"\ncommit 2 T1\ntree\n  b\n    \"2\"\nend quiet\n",
+    },
+    // It is asked for anew in Sync: the fallback is shown until its value has come, and no further value is taken.
+    Row {
+        words: &["run"],
+        input: "function User() { const u = use(\"user\"); return <b>{u}</b>; } function App() { return <Suspense fallback={<i/>}><User/></Suspense>; }\n---\nresolve user 1\nflush\nrefresh sync user\nflush\ntree\nresolve user 2\nresolve user 3\nflush\ntree\n",
+        failing_reads: &[],
+        failing_writes: &[],
+        status: 0,
+        output: "commit 1 Default\ncommit 2 Sync\ntree\n  b hidden\n    \"1\"\n  i\nalready user 2\ncommit 3 Retry\ntree\n  b\n    \"2\"\nend quiet\n",
+    },
     // Integers of a program of version 2 have 64 bits.
     Row {
         words: &["run"],

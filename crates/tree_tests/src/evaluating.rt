@@ -69,6 +69,7 @@ fn mounted<L: Ledger>(
         children: &[],
         hooks: None,
         contexts: &[],
+        versions: &[],
         resources: &[],
     };
     let Some(root) = checked.program().component(0) else {
@@ -78,7 +79,7 @@ fn mounted<L: Ledger>(
         return Ok(0);
     }
     match eval_body(alloc, checked, 0, &inputs, steps)? {
-        Body::Wait(_) => Ok(0),
+        Body::Wait(..) => Ok(0),
         Body::Ready { elements, .. } => {
             let initials = init_hooks(alloc, checked, 0, &inputs)?;
             let values = initials.as_slice();

@@ -13,6 +13,7 @@ fn copies_a_mark(rt: HostRuntime) -> Result<(), AllocError> {
         component: 0,
         initials: Rc::new(alloc, Ints::new(Vec::new(alloc)))?,
         reads: Rc::new(alloc, Vec::new(alloc))?,
+        versions: Rc::new(alloc, Vec::new(alloc))?,
         effects: Rc::new(alloc, Vec::new(alloc))?,
     };
     let number = instance.copy()?.number;

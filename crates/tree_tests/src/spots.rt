@@ -14,6 +14,7 @@ fn kept(alloc: Global) -> Result<Node, AllocError> {
         component: 2,
         initials: Rc::new(alloc, Ints::new(Vec::new(alloc)))?,
         reads: Rc::new(alloc, Vec::new(alloc))?,
+        versions: Rc::new(alloc, Vec::new(alloc))?,
         effects: Rc::new(alloc, Vec::new(alloc))?,
     };
     let element = Element::new(alloc, ElementKind::Null)?;

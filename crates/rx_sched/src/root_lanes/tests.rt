@@ -16,7 +16,7 @@ fn next_of(pending: &[Lane], suspended: &[Lane], linked: &[Lane], wip: Option<La
         root.updated(*lane, 0);
     }
     root.link(set(linked));
-    root.deferred(set(suspended), &Awaits::one(0), 0);
+    root.deferred(set(suspended), &Awaits::one(0), &[], 0);
     root.next(wip)
 }
 
@@ -75,7 +75,7 @@ fn deadlines_follow_the_lanes(rt: HostRuntime) {
     assert_eq!(rt; root.deadlines.of(Lane::Sync), Some(260));
     root.updated(Lane::Input, u64::MAX - 1);
     assert_eq!(rt; root.deadlines.of(Lane::Input), Some(u64::MAX));
-    root.resolved(9, true, 10);
+    root.resolved(9, 0, true, 10);
     assert_eq!(rt; root.deadlines.of(Lane::Retry), None);
     root.finished(Lanes::one(Lane::Sync), Lanes::none(), 10);
     assert_eq!(rt; root.deadlines.of(Lane::Sync), None);
@@ -88,10 +88,25 @@ fn a_suspended_lane_loses_its_deadline(rt: HostRuntime) {
     root.updated(Lane::T1, 0);
     assert_eq!(rt; root.sliced(first, 4999), true);
     assert_eq!(rt; root.sliced(first, 5000), false);
-    root.deferred(first, &Awaits::one(3), 4999);
+    root.deferred(first, &Awaits::one(3), &[], 4999);
     assert_eq!(rt; root.deadlines.of(Lane::T1), None);
-    root.resolved(3, false, 6000);
+    root.resolved(3, 0, false, 6000);
     assert_eq!(rt; root.deadlines.of(Lane::T1), Some(11000));
-    root.deferred(first, &Awaits::one(4), 11000);
+    root.deferred(first, &Awaits::one(4), &[], 11000);
     assert_eq!(rt; root.deadlines.of(Lane::T1), Some(11000));
+}
+
+#[test]
+fn a_wait_is_for_the_lesser_version(rt: HostRuntime) {
+    let mut root = RootLanes::new();
+    let first = Lanes::one(Lane::T1);
+    let second = Lanes::one(Lane::T2);
+    root.updated(Lane::T1, 0);
+    root.updated(Lane::T2, 0);
+    root.deferred(first, &Awaits::one(1), &[0, 2], 10);
+    root.deferred(second, &Awaits::one(1), &[0, 1], 10);
+    root.resolved(1, 0, false, 20);
+    assert_eq!(rt; root.suspended(), first.union(second));
+    root.resolved(1, 1, false, 30);
+    assert_eq!(rt; root.suspended(), Lanes::none());
 }

@@ -8,13 +8,13 @@ use Rattle.commit_laws.proofs.laws.hidden_waits_again.Goals as goal
 pub returns : goal.returns
 returns c =
     record {
-      attempt = λ s j lanes cut small more levels p a agree waited unresolved. attempt_waits_again s j lanes cut small more levels p a agree waited unresolved;
+      attempt = λ s j lanes cut small same more levels p a agree waited unresolved. attempt_waits_again s j lanes cut small same more levels p a agree waited unresolved;
       commit = commit_hides;
       listed = tree_seen;
       small = waits_are_small;
       resources = values_stay;
       awaits = awaits_unresolved;
       tested = still_waiting;
-      untouched = λ s lanes cut visible kept apart grows new resolutions accounted opened small n cs key f es a ns own seen old_calm new_calm more unresolved.
-          untouched_waits s lanes cut visible kept apart grows new resolutions accounted opened small n cs key f es a ns own seen old_calm new_calm more unresolved;
+      untouched = λ s lanes cut visible kept apart grows new resolutions accounted opened small n cs key f es a ns own seen old_calm new_calm no_refresh more unresolved.
+          untouched_waits s lanes cut visible kept apart grows new resolutions accounted opened small n cs key f es a ns own seen old_calm new_calm no_refresh more unresolved;
     }

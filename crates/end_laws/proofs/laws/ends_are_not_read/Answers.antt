@@ -14,7 +14,7 @@ returns c =
       kept = λ t. rw (mounted_same t) refl;
       waits = visible_awaits_same;
       awaited = λ t r. rw (visible_awaits_same t) refl;
-      resolved = λ cut j new. rw (visible_awaits_same (Some new)) refl;
+      resolved = λ lanes cut j new. rw (visible_awaits_same (Some new)) refl;
       pending = λ lanes cut j new. rw (visible_awaits_same (Some new)) refl;
       journal = λ lanes cut new j. rw (mounted_same (Some new)) refl;
     }

@@ -131,7 +131,7 @@ returns-then-takes_over-clause-begun g c s is n fs cs e old at gives settled cov
     (λ so. ((c.is_again-again.ensures c.value-fiber.result.now (c.value-fiber.ensures.made (made_at _ _ _ _ _ c.place_facts.ensures c.requires.place))).0 so).same) (c.takes_over.ensures.again c.if-takes_over.true) c.origin-origin.result.stood
     (ap (λ x. x.stood) c.origin-origin.ensures ∙ place_stood _ _ c.args.tree.now c.args.contexts.now c.args.at c.place_facts.ensures c.requires.place c.value-fiber.result.now (c.value-fiber.ensures.made (made_at _ _ _ _ _ c.place_facts.ensures c.requires.place)))
     c.in_ok-take_node.ensures.taken c.take_node.ensures.current refl (is_way c.args.scene.now.ways.now) (c.takes_over.ensures.there c.if-takes_over.true)
-    (λ x was. c.takes_over.ensures.idle c.if-takes_over.true s x is was) (c.takes_over.ensures.reads c.if-takes_over.true) gives covers
+    (λ x was. c.takes_over.ensures.idle c.if-takes_over.true s x is was) (c.takes_over.ensures.reads c.if-takes_over.true) c.args.scene.now.refreshes is.refreshes (c.takes_over.ensures.uses c.if-takes_over.true) gives covers
 
 pub returns-in-Some-clause-begun : goal.returns-in-Some-clause-begun
 returns-in-Some-clause-begun g c =

@@ -9,7 +9,7 @@ use Rattle.rx_begin.proofs.Kids.{matched_marked, opened_waits_not, opened_no_bod
 use Rattle.rx_begin.proofs.body.open_body.Goals as goal
 
 pub returns-in-Wait-clause-opened : goal.returns-in-Wait-clause-opened
-returns-in-Wait-clause-opened c cs node again same = waits c.in-Wait.resource (ap (λ b. shape_of_body cs c.args.component node (body_seen b)) c.in-Wait.is) refl refl
+returns-in-Wait-clause-opened c cs node again same = waits c.in-Wait.resource _ (ap (λ b. shape_of_body cs c.args.component node (body_seen b)) c.in-Wait.is) refl refl
 
 pub returns-in_ok-instance-in-Ready-clause-anew : goal.returns-in_ok-instance-in-Ready-clause-anew
 returns-in_ok-instance-in-Ready-clause-anew c = if_ok c.open_node.result _ _ (λ b h. opened_anew _ _ _ _ _ _ _ b h) c.open_node.ensures.opened

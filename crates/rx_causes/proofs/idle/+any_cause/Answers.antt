@@ -1,5 +1,5 @@
 use Rattle.std.specs.Prelude.{option_and_then}
-use Rattle.std.proofs.Common.{◌≡◌, true, false, refl, sym, ap, ◌∙◌, subst, inl, inr, arith, IfSome}
+use Rattle.std.proofs.Common.{◌≡◌, true, false, refl, sym, ◌∙◌, subst, inl, inr, arith, IfSome}
 use Rattle.rx_lists.specs.Shapes.{Holds, first}
 use Rattle.rx_links.specs.Drafts.{kids_of}
 use Rattle.rx_elem.specs.Trees.{instance_in}
@@ -7,7 +7,6 @@ use Rattle.rx_ways.specs.Ways.{is_way}
 use Rattle.rx_hook_store.specs.Store.{kept_hooks}
 use Rattle.rx_links.specs.Readers.{rest_of}
 use Rattle.rx_fiber.proofs.OldReads.{some_held, kids_held, rest_held}
-use Rattle.rx_causes.specs.Marks.{is_spared, begun_mark}
 use Rattle.rx_causes.specs.Scenes.{KeepsHooks}
 use Rattle.rx_causes.specs.Idle.{HasNoCauseAt, LeadsAt}
 use Rattle.rx_causes.proofs.Free.{passed_here}

@@ -104,7 +104,7 @@ returns-then-not-has_cause-clause-calm c free so =
     elim c.if-not-is_anew.branch [
       | then-not-is_anew w ↦
           calm_without (kept_hooks c.args.hooks.now) c.args.scene.now c.args.contexts.now (mark_at trees c.args.old) c.args.component so
-          (ap (λ m. is_anew c.args.component c.args.contexts.now (option_and_then instance_in m)) (sym marked)
+          (ap (λ m. is_anew c.args.scene.now c.args.component c.args.contexts.now (option_and_then instance_in m)) (sym marked)
           ∙ (sym c.is_anew.ensures ∙ w.if-not-is_anew.true))
           (subst (HasNoCauseAt (kept_hooks c.args.hooks.now) c.args.scene.now.lanes c.args.scene.now.cut) marked
           (w.has_cause.ensures.none (shown_again w.has_cause.result (sym w.value-is ∙ c.if-not-has_cause.true))))
@@ -139,7 +139,7 @@ returns-else-not-has_cause-clause-cause c busy x was =
           (w.has_cause.ensures.some (told_again w.has_cause.result (sym w.value-is ∙ busy)))))))
       | else-not-is_anew w ↦
           inl
-          (ap (λ m. is_anew c.args.component c.args.contexts.now (option_and_then instance_in m)) (sym (marked ∙ mark_is trees c.args.old (Some x) was))
+          (ap (λ m. is_anew c.args.scene.now c.args.component c.args.contexts.now (option_and_then instance_in m)) (sym (marked ∙ mark_is trees c.args.old (Some x) was))
           ∙ (sym c.is_anew.ensures ∙ w.if-not-is_anew.false))
     ]
 

@@ -1,4 +1,4 @@
-use Rattle.std.proofs.Common.{false, ◌≡◌, refl, sym, ap, ◌∙◌}
+use Rattle.std.proofs.Common.{refl, sym, ap, ◌∙◌}
 use Rattle.rx_lists.specs.Shapes.{first}
 use Rattle.rx_links.specs.Drafts.{kids_of}
 use Rattle.rx_links.specs.Readers.{rest_of}

@@ -17,11 +17,11 @@ returns-clause-are c y tree =
     ∙ tree_waits y current tree
 
 pub returns-clause-resolved : goal.returns-clause-resolved
-returns-clause-resolved c y cut j tree reach =
+returns-clause-resolved c y version cut j tree reach =
     let current = c.args.tree.now.current in
     resolved_since-set y _
     (c.awaits_in.ensures
     ∙ ap (λ o. awaits_where (waits_list (list_from current o))) c.current.ensures
     ∙ ap (λ (s : Shape Fiber). awaits_where (waits_list s)) (sym c.facts.ensures.linked.root)
     ∙ tree_waits y current tree)
-    cut j reach
+    version cut j reach

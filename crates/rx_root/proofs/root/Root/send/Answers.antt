@@ -15,6 +15,7 @@ use Rattle.rx_render.specs.Rendering.{Rendering}
 use Rattle.rx_render.specs.Renders.{Renders, with_hooks}
 use Rattle.rx_root.specs.Rooted.{Rooted}
 use Rattle.rx_root.specs.Taking.{claimed_by, root_accepted}
+use Rattle.rx_root.proofs.Resources.{sent_declared, sent_kept}
 use Rattle.rx_root.proofs.Sending.{number_below, sent_stands, unsent_stands}
 use Rattle.rx_root.proofs.root.Root.send.Goals as goal
 
@@ -39,7 +40,7 @@ returns-in-Ok-clause-ok c s k m h at same reached =
     let u : Update = record { number = c.self-2.inside.updates; op = op; lane = lane } in
     let bounded = subst IsBounded (ap (λ (r : Rooted). r.rendering.program) c.self.view_is) c.facts.ensures.bounded in
     let below : i < s.numbers.instance = subst (λ (n : ℕ). n < s.numbers.instance) same (number_below p bounded s h.reached k m at) in
-    sent_stands p s v i place op c.dispatch.new.self c.in-Ok.linked lane c.accept.new.self h
+    sent_stands p s v (hook i place) op c.dispatch.new.self v.resources c.in-Ok.linked lane c.accept.new.self h
     (c.in-Ok.ensures.same ∙ ap (λ (r : Rendering). with_hooks r c.dispatch.new.self.hooks) rendering)
     w u lane_is refl
     (c.in-Ok.ensures.links p s m.initials instance ∙ ap (λ (q : Lanes). lanes_linked w u q (linked_lanes s.linked (hook i place))) here)
@@ -47,6 +48,8 @@ returns-in-Ok-clause-ok c s k m h at same reached =
     (λ g on. c.in-Ok.ensures.renders p s g updates lane_is pending (subst (λ (r : Rendering). Renders p s g r) (sym rendering) on))
     (c.links_are_below.ensures.dispatch s w i place op below h.below)
     reached
+    (sent_kept p s w i place op v.resources h.resources)
+    (sent_declared p s w i place op h.declared)
     (c.accept.ensures ∙ ap (λ (r : Rooted). root_accepted c.in-Ok.linked lane (record r { rendering = c.dispatch.new.self })) view)
 
 pub returns-in-Err-clause-err : goal.returns-in-Err-clause-err

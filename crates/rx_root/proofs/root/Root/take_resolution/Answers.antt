@@ -1,8 +1,7 @@
 use Rattle.std.proofs.Common.{◌∙◌, ap, sym, subst}
 use Rattle.std.specs.Prelude.{Err}
 use Rattle.rx_rules.specs.Names.{resource_number}
-use Rattle.rx_queue.specs.Journal.{resolved_now}
-use Rattle.rx_model.specs.Accepting.{between_events, resolved}
+use Rattle.rx_model.specs.Accepting.{between_events, last_value, resolved}
 use Rattle.rx_root.specs.Rooted.{Rooted}
 use Rattle.rx_root.specs.Stands.{Stands}
 use Rattle.rx_root.proofs.Broken.{on_err_both}
@@ -13,7 +12,7 @@ use Rattle.rx_root.proofs.root.Root.take_resolution.Goals as goal
 pub returns-in-Ok-clause-ok : goal.returns-in-Ok-clause-ok
 returns-in-Ok-clause-ok c s n h =
     let p = c.args.self.now.rendering.program in
-    let none = none_known (resolved_now s.journal (resource_number p c.args.name.now)) (λ known e. absurd (let is = (c.in-Ok.ensures.already s known h).1 e in cc)) in
+    let none = none_known (last_value s (resource_number p c.args.name.now)) (λ known e. absurd (let is = (c.in-Ok.ensures.already s known h).1 e in cc)) in
     resolved_taken p s c.args.name.now c.args.value c.resolve.new.self c.args.log.now n none (c.resolve.ensures.after s h)
 
 pub returns-in-Err-clause-ok : goal.returns-in-Err-clause-ok

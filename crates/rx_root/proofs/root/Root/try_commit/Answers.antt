@@ -106,7 +106,7 @@ returns-clause-done c p s g tree h reached =
     let settling =
     settling_of p s g tree v x h n bounded x.shown.tree c.in_ok-beside.beside.tree c.self.inside.numbers.instance refl is_new (ap (λ (z : Rooted). z.numbers.instance) c.self.view_is) in
     let settled = ap (λ (z : Rooted). z.rendering) c.in_ok-prepared.ensures.rest in
-    let committed : HasCommitted s g tree x w c.show.new.self.shown y c.commit.new.self c.finished.new.self =
+    let committed : HasCommitted s g tree x w c.show.new.self.shown y c.commit.new.self c.finished.new.self c.commit-resources.new.self =
     record {
       settled = settled;
       is_shown =
@@ -118,10 +118,11 @@ returns-clause-done c p s g tree h reached =
       still = c.still-still.result;
       is_schedule = c.finished.ensures;
       lanes_are = c.lanes-lanes.ensures ∙ ap (λ (z : Rooted). z.rendering.lanes) c.self.view_is ∙ h.progress.renders.lanes;
+      is_kept = c.commit-resources.ensures;
       still_is = c.still-still.ensures p s g (numbered s.numbers tree).1 (numbered_knows p s g tree v x h n) is_new;
     } in
     record {
-      stands = commit_stands p s g tree v x h n w c.show.new.self.shown y c.commit.new.self c.finished.new.self committed (counts_of v) reached
+      stands = commit_stands p s g tree v x h n w c.show.new.self.shown y c.commit.new.self c.finished.new.self c.commit-resources.new.self committed (counts_of v) reached
           (c.in_ok-prepared.ensures.settled s g tree settling)
           (c.show.ensures.shown s.tree (numbered s.numbers tree).1 (c.in_ok-prepared.ensures.ready s.tree s.passive (numbered s.numbers tree).1 follows));
       written = commit_written p s g tree v x h n c.args.log.now c.prepare.new.log

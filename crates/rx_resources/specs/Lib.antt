@@ -1,0 +1,4 @@
+pub mod Kept
+pub mod Stands
+pub mod Store
+pub mod Seen

@@ -1,0 +1,13 @@
+//! The resources of a root: their versions and the values of these.
+#![tactic(auto)]
+
+pub mod laws;
+mod resource;
+mod seen;
+mod store;
+#[cfg(test)]
+mod tests;
+
+pub use resource::{Asked, Resource};
+pub use seen::Seen;
+pub use store::ResourceStore;
