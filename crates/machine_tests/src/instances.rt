@@ -125,6 +125,7 @@ fn a_boundary_waits(rt: HostRuntime) -> Result<(), Fail> {
     let mark = Mark::Boundary(BoundaryState::Hidden(Awaits::one(3)));
     let own = Subtree {
         reads: false,
+        uses: false,
         hides: true,
         instances: false,
     };

@@ -48,12 +48,7 @@ fn first_render(alloc: Global, checked: Checked) -> Result<Renderer, AllocError>
     let lanes = Lanes::one(Lane::Default);
     let store = ResourceStore::new(alloc, 0)?;
     let seen = store.seen(alloc, lanes, cut)?;
-    renderer.start(
-        lanes,
-        cut,
-        seen,
-        &Ways::new(alloc),
-    )?;
+    renderer.start(lanes, cut, seen, &Ways::new(alloc))?;
     renderer.facts();
     Ok(renderer)
 }

@@ -34,11 +34,10 @@ returns-clause-ok c s h =
     let p = v.rendering.program in
     let d = c.args.dispatch.now in
     let r = c.resource-resource.result in
-    let number : r ≡ resource_number p (hook_name d) = c.resource-resource.ensures.number ∙ ap (resource_number p) c.dispatch_hook.ensures in
-    (
+    let number : r ≡ resource_number p (hook_name d) = c.resource-resource.ensures.number ∙ ap (resource_number p) c.dispatch_hook.ensures in (
       ap (λ (x : Rooted). x.updates) c.self.view_is ∙ h.updates,
       refresh_stands p s d c.dispatch_word.result r c.refresh.new.self c.requires.refresh c.dispatch_word.ensures number
-      (c.in_ok-refresh.ensures.ok s h (refresh_reached p s d c.dispatch_word.result r c.requires.refresh c.dispatch_word.ensures number h.reached)),
+          (c.in_ok-refresh.ensures.ok s h (refresh_reached p s d c.dispatch_word.result r c.requires.refresh c.dispatch_word.ensures number h.reached)),
     )
 
 pub returns-in_err-refresh-clause-err : goal.returns-in_err-refresh-clause-err
