@@ -16,9 +16,10 @@ use Rattle.commit_laws.proofs.ResourceLaws.{versions_done}
 use Rattle.commit_laws.proofs.Versions.{version_at}
 use Rattle.rx_causes.specs.declared.scene.Scene.{Scene}
 use Rattle.rx_causes.specs.Scenes.{IsSceneOf, version_in}
+use Rattle.rx_resources.specs.Seen.{Resources}
 use Rattle.rx_render.specs.Rendering.{Rendering}
 use Rattle.rx_render.specs.Renders.{Sees}
-use Rattle.rx_render.specs.Resources.{AsksForDeclared}
+use Rattle.rx_render.specs.Resources.{AsksForDeclared, resources_by}
 
 -- an update that is done is included if it lies before the cut
 done_included : (lanes : Lanes) (cut : Cut) (u : Posted) → (stands_done u.standing ≡ true → nat_lt u.update.number cut.updates ≡ true) → stands_done u.standing ≡ true → is_included lanes cut u ≡ true
@@ -28,22 +29,20 @@ module _ (mine : Posted → Bool) (lanes : Lanes) (cut : Cut) where
   -- no more updates are done than are included
   done_fewer : (us : List Posted) → DoneBefore cut us → length (filter (λ u. stands_done u.standing) (filter mine us)) ≤ length (filter (is_included lanes cut) (filter mine us))
   done_fewer [] h = omega arith
-  done_fewer (u ∷ us) h = go (mine u)
+  done_fewer (u ∷ us) h = go (mine u) (done_fewer us h.1)
     where
-      rest : length (filter (λ u. stands_done u.standing) (filter mine us)) ≤ length (filter (is_included lanes cut) (filter mine us))
-      rest = done_fewer us h.1
-
-      by_done : (d i : Bool) → (d ≡ true → i ≡ true)
+      by_done : (d i : Bool) → (d ≡ true → i ≡ true) → length (filter (λ u. stands_done u.standing) (filter mine us)) ≤ length (filter (is_included lanes cut) (filter mine us))
           → length (cond d (u ∷ filter (λ u. stands_done u.standing) (filter mine us)) (filter (λ u. stands_done u.standing) (filter mine us)))
           ≤ length (cond i (u ∷ filter (is_included lanes cut) (filter mine us)) (filter (is_included lanes cut) (filter mine us)))
-      by_done true true f = omega (arith, rest)
-      by_done true false f = absurd (cc (f refl))
-      by_done false true f = omega (arith, rest)
-      by_done false false f = rest
+      by_done true true f rest = omega (arith, rest)
+      by_done true false f rest = absurd (cc (f refl))
+      by_done false true f rest = omega (arith, rest)
+      by_done false false f rest = rest
 
-      go : (m : Bool) → length (filter (λ u. stands_done u.standing) (cond m (u ∷ filter mine us) (filter mine us))) ≤ length (filter (is_included lanes cut) (cond m (u ∷ filter mine us) (filter mine us)))
-      go true = by_done (stands_done u.standing) (is_included lanes cut u) (done_included lanes cut u h.0)
-      go false = rest
+      go : (m : Bool) → length (filter (λ u. stands_done u.standing) (filter mine us)) ≤ length (filter (is_included lanes cut) (filter mine us))
+          → length (filter (λ u. stands_done u.standing) (cond m (u ∷ filter mine us) (filter mine us))) ≤ length (filter (is_included lanes cut) (cond m (u ∷ filter mine us) (filter mine us)))
+      go true rest = by_done (stands_done u.standing) (is_included lanes cut u) (done_included lanes cut u h.0) rest
+      go false rest = rest
 
 -- The versions that are done are those that it sees.
 pub versions_same : (s : Sight) → DoneBefore s.cut s.journal.updates → AsksForDeclared s → sees_refresh s ≡ false → version_done s.journal.updates ≡ version_seen s
@@ -77,16 +76,17 @@ versions_in scene s list declared r = ap (λ (l : List ℕ). slice_index_or l r 
         past_end (versions_seen s) r (omega (arith, late, long)) ∙ sym (declared r late)
 
 -- A scene of what a rendering sees is what its render sees.
-pub scene_seen : (scene : Scene) (v : Rendering) (s : Sight) → scene.checked.now ≡ v.program → scene.versions.now ≡ v.resources.versions → scene.resources.now ≡ v.resources.values → scene.refreshes ≡ v.resources.refreshes
+pub scene_seen : (scene : Scene) (v : Rendering) (s : Sight) (seen : Resources) → seen ≡ v.resources → scene.checked.now ≡ v.program → scene.versions.now ≡ seen.versions → scene.resources.now ≡ seen.values → scene.refreshes ≡ seen.refreshes
     → scene.lanes ≡ v.lanes → scene.cut ≡ v.cut → Sees v s → IsSceneOf scene s
-scene_seen scene v s program versions values refreshes lanes cut sees =
-    let list : scene.versions.now ≡ versions_seen s = versions ∙ ap (λ x. x.versions) sees.resources in
+scene_seen scene v s seen same program versions values refreshes lanes cut sees =
+    let are : seen ≡ resources_by s = same ∙ sees.resources in
+    let list : scene.versions.now ≡ versions_seen s = versions ∙ ap (λ (x : Resources). x.versions) are in
     record {
       program = sees.program ∙ sym program;
-      resources = values ∙ ap (λ x. x.values) sees.resources;
+      resources = values ∙ ap (λ (x : Resources). x.values) are;
       list = list;
       versions = versions_in scene s list sees.declared;
-      refreshes = refreshes ∙ ap (λ x. x.refreshes) sees.resources;
+      refreshes = refreshes ∙ ap (λ (x : Resources). x.refreshes) are;
       lanes = sees.lanes ∙ sym lanes;
       cut = sees.cut ∙ sym cut;
     }

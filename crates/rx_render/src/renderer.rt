@@ -462,11 +462,12 @@ impl Renderer {
         cursors_are_drawn();
         let at = self.at;
         self.at = At::Over;
+        let seen = &self.resources;
         let scene = Scene {
             checked: &self.checked,
-            versions: &self.resources.versions,
-            resources: &self.resources.values,
-            refreshes: self.resources.refreshes,
+            versions: &seen.versions,
+            resources: &seen.values,
+            refreshes: seen.refreshes,
             lanes: self.lanes,
             cut: self.cut,
             ways: &self.ways,
