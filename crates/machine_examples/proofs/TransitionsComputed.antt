@@ -6,6 +6,7 @@ use Rattle.rx_lane.specs.Lanes.{lanes_where}
 use Rattle.rx_rules.specs.Bounds.{body_by, node_bound}
 use Rattle.rx_sched.specs.Links.{linked_by, links_among, one_link_on, links_on}
 use Rattle.rx_sched.specs.Deadlines.{timed}
+use Rattle.rx_sched.specs.Waiting.{waiting_where}
 use Rattle.rx_queue.specs.Journal.{state_of, committed_value}
 use Rattle.rx_meaning.specs.Body.{body_of}
 use Rattle.rx_meaning.specs.Fresh.{rendered, fresh}
@@ -24,11 +25,11 @@ unfolding digits awaits_where lanes_where body_by node_bound linked_by links_amo
 deferred = written boxes deferred_script false deferred_report refl
 
 pub deferred_then_resolved : DeferredThenResolved
-unfolding digits awaits_where lanes_where body_by node_bound linked_by links_among one_link_on links_on timed state_of committed_value body_of rendered fresh host_ops report_bytes
+unfolding digits awaits_where waiting_where lanes_where body_by node_bound linked_by links_among one_link_on links_on timed state_of committed_value body_of rendered fresh host_ops report_bytes
 deferred_then_resolved = written boxes deferred_then_resolved_script false deferred_then_resolved_report refl
 
 pub new_deadline : NewDeadline
-unfolding digits awaits_where lanes_where body_by node_bound linked_by links_among one_link_on links_on timed state_of committed_value body_of rendered fresh host_ops report_bytes
+unfolding digits awaits_where waiting_where lanes_where body_by node_bound linked_by links_among one_link_on links_on timed state_of committed_value body_of rendered fresh host_ops report_bytes
 new_deadline = written boxes new_deadline_script false new_deadline_report refl
 
 pub linked : Linked

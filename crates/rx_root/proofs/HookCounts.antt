@@ -15,6 +15,7 @@ use Rattle.rx_elem.specs.Numbers.{Numbers, numbered, numbered_host, numbered_in,
 use Rattle.rx_elem.specs.Spots.{Around, Mounted, Spot, around_children, at_root, mounted, mounted_as, mounted_in, spot_mark, spots, spots_in}
 use Rattle.rx_elem.specs.Trees.{Forest, Instance, Mark, Node, child, children_if, element_of, elements_in, fallback_if, instance_in, node, none, of_boundary, of_host, of_instance, places, plain, vacant}
 use Rattle.rx_elem.specs.declared.effect.ContextRead.{ContextRead}
+use Rattle.rx_elem.specs.declared.effect.VersionRead.{VersionRead}
 use Rattle.rx_elem.specs.declared.effect.EffectRecord.{EffectRecord}
 use Rattle.rx_elem.proofs.Equality.{same_kind-self}
 use Rattle.rx_meaning.specs.Body.{Body, Frame, Inputs, Taken, and_then, body_of, finished, opening_frame, ready, stopped_at, take_all, take_one, taken, wait, with_hook, with_resource}
@@ -66,16 +67,16 @@ PlacesHave p (one_waits a) = Unit {0}
 
 -- how many values the statements that keep a state give
 abbrev Grown : Taken → ℕ → Type 0
-Grown (stopped_at r) n = Unit {0}
+Grown (stopped_at r v) n = Unit {0}
 Grown (taken f) n = length f.initials ≡ n
 
 hook_grown : (states : Option (List ℤ)) (name : _) (v : ℤ) (f : Frame) → states ≡ None → length (with_hook states name v f).initials ≡ length f.initials + 1
 hook_grown None name v f e = length-append f.initials (v ∷ [])
 hook_grown (Some states) name v f e = cc
 
-resource_grown : (name : _) (r : ℕ) (x : Option ℤ) (f : Frame) → Grown (with_resource name r x f) (length f.initials)
-resource_grown name r None f = tt
-resource_grown name r (Some x) f = refl
+resource_grown : (name : _) (r v : ℕ) (x : Option ℤ) (f : Frame) → Grown (with_resource name r v x f) (length f.initials)
+resource_grown name r v None f = tt
+resource_grown name r v (Some x) f = refl
 
 -- one for a statement that keeps a state
 abbrev one_if_hook : Statement → ℕ
@@ -87,7 +88,7 @@ one_grown p i (reducer name setter function e) f new = hook_grown i.hooks name _
 one_grown p i (context name source) f new = let e : length f.initials ≡ length f.initials + 0 = omega arith in e
 one_grown p i (use_resource name resource) f new =
     let e : length f.initials ≡ length f.initials + 0 = omega arith in
-    subst (Grown (with_resource name _ _ f)) e (resource_grown name _ _ f)
+    subst (Grown (with_resource name _ _ _ f)) e (resource_grown name _ _ _ f)
 one_grown p i (constant name e) f new = let e : length f.initials ≡ length f.initials + 0 = omega arith in e
 one_grown p i (effect layout label es) f new = let e : length f.initials ≡ length f.initials + 0 = omega arith in e
 
@@ -104,21 +105,21 @@ all_grown p i (t ∷ ts) f new = go (take_one p i t f) (one_grown p i t f new) (
   where
     go : (x : Taken) → Grown x (length f.initials + one_if_hook t) → ((g : Frame) → Grown (take_all p i ts g) (length g.initials + length (filter_map hook_in ts)))
         → Grown (and_then x (take_all p i ts)) (length f.initials + length (filter_map hook_in (t ∷ ts)))
-    go (stopped_at r) h k = tt
+    go (stopped_at r v) h k = tt
     go (taken g) h k =
         let e : length g.initials + length (filter_map hook_in ts) ≡ length f.initials + length (filter_map hook_in (t ∷ ts)) = omega (arith, h, counted t ts) in
         subst (Grown (take_all p i ts g)) e (k g)
 
 -- a body that is evaluated at mount gives a value for each hook
-body_grown : (p : Program) (c : Component) (i : Inputs) (es : List Element) (effects : List EffectRecord) (initials : List ℤ) (reads : List ContextRead)
-    → i.hooks ≡ None → body_of p c i ≡ ready es effects initials reads → length initials ≡ length (hooks_of c)
+body_grown : (p : Program) (c : Component) (i : Inputs) (es : List Element) (effects : List EffectRecord) (initials : List ℤ) (reads : List ContextRead) (versions : List VersionRead)
+    → i.hooks ≡ None → body_of p c i ≡ ready es effects initials reads versions → length initials ≡ length (hooks_of c)
 unfolding body_of
-body_grown p c i es effects initials reads new same =
+body_grown p c i es effects initials reads versions new same =
     go (take_all p i c.statements (opening_frame c i.props)) (all_grown p i c.statements (opening_frame c i.props) new) same
   where
-    go : (x : Taken) → Grown x (0 + length (filter_map hook_in c.statements)) → finished p i (body_slots c.body) x ≡ ready es effects initials reads
+    go : (x : Taken) → Grown x (0 + length (filter_map hook_in c.statements)) → finished p i (body_slots c.body) x ≡ ready es effects initials reads versions
         → length initials ≡ length (hooks_of c)
-    go (stopped_at r) h e = absurd (cc e)
+    go (stopped_at r v) h e = absurd (cc e)
     go (taken f) h e = let equal : f.initials ≡ initials = cc in omega (arith, h, ap length equal)
 
 -- ---- the old nodes of a list
@@ -216,20 +217,20 @@ module _ (n : ℕ) (s : Sight) (below : BelowHas n s) where
   comp_has cs c key props kids old h same = found (component_at s.program c) refl
     where
       after_has : (d : Component) → component_at s.program c ≡ Some d
-          → (es : List Element) (effects : List EffectRecord) (initials : List ℤ) (reads : List ContextRead) → (o : Option Instance) → old_instance old ≡ o
-          → body_of s.program d (inputs_at s cs props kids o) ≡ ready es effects initials reads
-          → MarkHas s.program (elements.comp c key props kids) (of_instance (instance_after c o initials reads effects))
-      after_has d there es effects initials reads None at b =
-          (refl, record { of = d; is = there; each = body_grown s.program d (inputs_at s cs props kids None) es effects initials reads refl b })
-      after_has d there es effects initials reads (Some i) at b = (refl, old_instance_has s.program c key props kids old i h same at)
+          → (es : List Element) (effects : List EffectRecord) (initials : List ℤ) (reads : List ContextRead) (versions : List VersionRead) → (o : Option Instance) → old_instance old ≡ o
+          → body_of s.program d (inputs_at s cs props kids o) ≡ ready es effects initials reads versions
+          → MarkHas s.program (elements.comp c key props kids) (of_instance (instance_after c o initials reads versions effects))
+      after_has d there es effects initials reads versions None at b =
+          (refl, record { of = d; is = there; each = body_grown s.program d (inputs_at s cs props kids None) es effects initials reads versions refl b })
+      after_has d there es effects initials reads versions (Some i) at b = (refl, old_instance_has s.program c key props kids old i h same at)
 
       with_body : (d : Component) → component_at s.program c ≡ Some d → (b : Body) → body_of s.program d (inputs_at s cs props kids (old_instance old)) ≡ b
           → PlaceHas s.program (place_of (rendered n s) (elements.comp c key props kids) old (shape_of_body cs c old b))
-      with_body d there (wait r) is = tt
-      with_body d there (ready es effects initials reads) is =
-          over_has s.program (elements.comp c key props kids) (of_instance (instance_after c (old_instance old) initials reads effects))
+      with_body d there (wait r v) is = tt
+      with_body d there (ready es effects initials reads versions) is =
+          over_has s.program (elements.comp c key props kids) (of_instance (instance_after c (old_instance old) initials reads versions effects))
           (render_part (rendered n s) (part cs es (children_if old)))
-          (after_has d there es effects initials reads (old_instance old) refl is)
+          (after_has d there es effects initials reads versions (old_instance old) refl is)
           (list_has n s below (part cs es (children_if old)) (children_have s.program old h))
 
       found : (d : Option Component) → component_at s.program c ≡ d

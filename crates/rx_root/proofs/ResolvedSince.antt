@@ -87,11 +87,11 @@ module _ (p : Program) (s : State) (g : Progress) (kept : List Kept) (h : KeepsR
   new_at : (r : ℕ) → r < length (resources p) → is_new kept (resources_by (sight_of p s g)) r ≡ got_since s g r
   new_at r few =
       let version : slice_index_or (resources_by (sight_of p s g)).versions r 0 ≡ seen_in s g r = version_at (seen_in s g) (length (resources p)) r few in
-      let then : slice_index_or (resources_by (sight_of p s g)).values r None ≡ resolved_by g.cut s.journal r (seen_in s g r) = value_at (resolutions_by g.cut s.journal) (seen_in s g) (length (resources p)) r few in
+      let before : slice_index_or (resources_by (sight_of p s g)).values r None ≡ resolved_by g.cut s.journal r (seen_in s g r) = value_at (resolutions_by g.cut s.journal) (seen_in s g) (length (resources p)) r few in
       let now : value_of (kept_at kept r) (seen_in s g r) ≡ resolved_now s.journal r (seen_in s g r) =
       value_agrees s.journal r (seen_in s g r) (kept_at kept r) (h.each r (let all = h.all in omega (arith, all, few))) in
       ap (λ v. is_some (value_of (kept_at kept r) v) && not (is_some (slice_index_or (resources_by (sight_of p s g)).values r None))) version
-      ∙ ap (λ o. is_some (value_of (kept_at kept r) (seen_in s g r)) && not (is_some o)) then
+      ∙ ap (λ o. is_some (value_of (kept_at kept r) (seen_in s g r)) && not (is_some o)) before
       ∙ ap (λ o. is_some o && not (is_some (resolved_by g.cut s.journal r (seen_in s g r)))) now
 
   -- so a test for news among the resources of the program tells whether one did
@@ -179,8 +179,8 @@ waits_seen p s g waits seen is declared =
 module _ (p : Program) (s : State) (g : Progress) (waits : Awaits) where
   -- a render of which something got its value since is not suspended
   pub not_suspended : resolved_since g.cut s.journal (in_versions (seen_in s g) waits) ≡ true → schedule_deferred s g waits ≡ s.schedule
-  not_suspended yes = ap (λ (b : Bool). if b then s.schedule else after_deferral s.schedule g.lanes (in_versions (seen_in s g) waits) s.now) yes
+  not_suspended since = ap (λ (b : Bool). if b then s.schedule else after_deferral s.schedule g.lanes (in_versions (seen_in s g) waits) s.now) since
 
   -- another one is
   pub suspended : resolved_since g.cut s.journal (in_versions (seen_in s g) waits) ≡ false → schedule_deferred s g waits ≡ after_deferral s.schedule g.lanes (in_versions (seen_in s g) waits) s.now
-  suspended no = ap (λ (b : Bool). if b then s.schedule else after_deferral s.schedule g.lanes (in_versions (seen_in s g) waits) s.now) no
+  suspended none = ap (λ (b : Bool). if b then s.schedule else after_deferral s.schedule g.lanes (in_versions (seen_in s g) waits) s.now) none

@@ -1,4 +1,4 @@
-use Rattle.std.proofs.Common.{◌≡◌, ◌<◌, ◌∙◌, sym, ap, subst, arith, Bool, length, nat_eq, ◌&&◌, List}
+use Rattle.std.proofs.Common.{◌≡◌, ℕ, ◌<◌, ◌≤◌, ◌∙◌, sym, ap, subst, arith, Bool, true, false, length, nat_eq, ◌&&◌, List}
 use Rattle.rx_base.specs.Awaits.{Awaits, has, resource_limit}
 use Rattle.rx_base.specs.AwaitsLaws.{has-awaits_where}
 use Rattle.rx_check.specs.Accepted.{IsAccepted}
@@ -13,3 +13,35 @@ use Rattle.rx_resources.specs.Store.{kept_at}
 use Rattle.rx_resources.proofs.Counting.{next_agrees}
 use Rattle.rx_root.specs.Rooted.{Rooted}
 use Rattle.rx_root.proofs.root.Root.is_awaited.Goals as goal
+
+pub returns-then-has : goal.returns-then-has
+returns-then-has c s h =
+    let v = c.args.self.now in
+    let r = c.args.resource in
+    let program = c.checked.ensures ∙ ap (λ (x : Rooted). x.rendering.program) c.self.view_is in
+    let few = few-resources v.rendering.program (subst IsAccepted program c.program.ensures.accepted) in
+    let all = h.resources.all in
+    let within : r < length v.resources = c.requires in
+    let lt : r < resource_limit = omega (arith, few, within, all) in
+    let fibers : c.fibers.result.now ≡ v.rendering.trees = c.fibers.ensures.trees ∙ ap (λ (x : Rooted). x.rendering.trees) c.self.view_is in
+    let current = subst (λ (t : Trees Fiber). IsTreeOf s.tree t.current) (sym fibers) h.current in
+    let waits : c.has.result ≡ is_awaited s.tree r = c.has.ensures ∙ (ap (λ (a : Awaits). has a r) (c.awaited.ensures.are s.tree current) ∙ has-awaits_where (is_awaited s.tree) r lt) in
+    let kept : c.get-kept.result.now ≡ kept_at v.resources r = c.get-kept.ensures ∙ ap (λ (x : Rooted). kept_at x.resources r) c.self.view_is in
+    let is = h.resources.each r within in
+    let done : c.done.result ≡ done_version s.journal r = c.done.ensures ∙ ap (λ (k : Kept). k.done) kept ∙ is.done in
+    let next : c.next.result ≡ next_version s.journal r = c.next.ensures ∙ ap (λ (k : Kept). length k.values) kept ∙ next_agrees s.journal r (kept_at v.resources r) is in
+    (λ i. nat_eq (done i) (next i)) ∙ sym (ap (λ b. b && nat_eq (done_version s.journal r) (next_version s.journal r)) (sym waits ∙ c.if-has.true))
+
+pub returns-else-has : goal.returns-else-has
+returns-else-has c s h =
+    let v = c.args.self.now in
+    let r = c.args.resource in
+    let program = c.checked.ensures ∙ ap (λ (x : Rooted). x.rendering.program) c.self.view_is in
+    let few = few-resources v.rendering.program (subst IsAccepted program c.program.ensures.accepted) in
+    let all = h.resources.all in
+    let within : r < length v.resources = c.requires in
+    let lt : r < resource_limit = omega (arith, few, within, all) in
+    let fibers : c.fibers.result.now ≡ v.rendering.trees = c.fibers.ensures.trees ∙ ap (λ (x : Rooted). x.rendering.trees) c.self.view_is in
+    let current = subst (λ (t : Trees Fiber). IsTreeOf s.tree t.current) (sym fibers) h.current in
+    let waits : c.has.result ≡ is_awaited s.tree r = c.has.ensures ∙ (ap (λ (a : Awaits). has a r) (c.awaited.ensures.are s.tree current) ∙ has-awaits_where (is_awaited s.tree) r lt) in
+    c.if-has.false ∙ sym (ap (λ b. b && nat_eq (done_version s.journal r) (next_version s.journal r)) (sym waits ∙ c.if-has.false))

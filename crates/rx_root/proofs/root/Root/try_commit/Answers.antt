@@ -1,9 +1,10 @@
-use Rattle.std.proofs.Common.{◌≡◌, ◌+◌, refl, sym, ap, ◌∙◌, subst, arith}
+use Rattle.std.proofs.Common.{◌≡◌, ◌+◌, map, refl, sym, ap, ◌∙◌, subst, arith}
 use Rattle.rx_check.specs.Accepted.{IsAccepted}
 use Rattle.rx_elem.specs.Numbers.{numbered}
 use Rattle.rx_model.specs.Laws.{IsBounded}
 use Rattle.rx_render.specs.Rendering.{Rendering}
 use Rattle.rx_pruned.specs.Besides.{IsBeside}
+use Rattle.rx_resources.specs.Kept.{committed}
 use Rattle.rx_root.specs.Rooted.{Rooted}
 use Rattle.rx_root.specs.Turning.{counts_of}
 use Rattle.rx_root.specs.contracts.root.Root.{the_view}
@@ -81,12 +82,6 @@ show-requires-clause-ready c =
           (subst IsAccepted e.stands.program c.facts.ensures.accepted) c.in_ok-beside.beside.tree (c.in_ok-beside.ensures.tree e.program e.state e.progress e.tree e.stands));
     }
 
-pub commit-requires : goal.commit-requires
-commit-requires c =
-    let e = c.requires.end in
-    let over = numbered_over e.program e.state e.progress e.tree c.args.self.now c.number.new.self e.stands (c.in_ok-beside.ensures.numbers e.program e.state e.progress e.tree e.stands) in
-    ap (λ (v : Rooted). v.rendering.at) (c.self-2.view_is ∙ c.show.ensures.rest) ∙ (ap (λ (v : Rooted). v.rendering.at) c.in_ok-prepared.ensures.rest ∙ over)
-
 pub returns-in_err-beside-clause-gave_up : goal.returns-in_err-beside-clause-gave_up
 returns-in_err-beside-clause-gave_up c = any_err c.from_residual.result _ (numbered_gave_up c.args.self.now c.number.new.self c.number.new.self c.number.ensures.rest (gave_up_same c.number.new.self))
 
@@ -106,23 +101,27 @@ returns-clause-done c p s g tree h reached =
     let settling =
     settling_of p s g tree v x h n bounded x.shown.tree c.in_ok-beside.beside.tree c.self.inside.numbers.instance refl is_new (ap (λ (z : Rooted). z.numbers.instance) c.self.view_is) in
     let settled = ap (λ (z : Rooted). z.rendering) c.in_ok-prepared.ensures.rest in
-    let committed : HasCommitted s g tree x w c.show.new.self.shown y c.commit.new.self c.finished.new.self c.commit-resources.new.self =
+    let is_shown =
+    c.self-2.view_is ∙ c.show.ensures.rest
+    ∙ ap (λ (z : Rooted). record z { shown = c.show.new.self.shown; commits = z.commits + 1 }) c.in_ok-prepared.ensures.rest
+    ∙ ap (λ (r : Rendering). record x { rendering = r; shown = c.show.new.self.shown; commits = x.commits + 1 }) (sym settled) in
+    let lanes_are : c.lanes-lanes.result ≡ g.lanes = c.lanes-lanes.ensures ∙ ap (λ (z : Rooted). z.rendering.lanes) c.self.view_is ∙ h.progress.renders.lanes in
+    let cut_is : c.cut.result ≡ g.cut =
+    c.cut.ensures ∙ ap (λ (z : Rooted). z.rendering.cut) is_shown ∙ ap (λ (r : Rendering). r.cut) settled ∙ ap (λ (z : Rooted). z.rendering.cut) n.rest ∙ h.progress.renders.cut in
+    let has_committed : HasCommitted s g tree x w c.show.new.self.shown y c.commit-2.new.self c.finished.new.self c.commit.new.self =
     record {
       settled = settled;
-      is_shown =
-          c.self-2.view_is ∙ c.show.ensures.rest
-          ∙ ap (λ (z : Rooted). record z { shown = c.show.new.self.shown; commits = z.commits + 1 }) c.in_ok-prepared.ensures.rest
-          ∙ ap (λ (r : Rendering). record x { rendering = r; shown = c.show.new.self.shown; commits = x.commits + 1 }) (sym settled);
-      is_last = c.commit.ensures;
+      is_shown = is_shown;
+      is_last = c.commit-2.ensures;
       lanes = c.lanes-lanes.result;
       still = c.still-still.result;
       is_schedule = c.finished.ensures;
-      lanes_are = c.lanes-lanes.ensures ∙ ap (λ (z : Rooted). z.rendering.lanes) c.self.view_is ∙ h.progress.renders.lanes;
-      is_kept = c.commit-resources.ensures;
+      lanes_are = lanes_are;
+      is_kept = c.commit.ensures ∙ (λ i. map (committed (lanes_are i) (cut_is i)) y.resources);
       still_is = c.still-still.ensures p s g (numbered s.numbers tree).1 (numbered_knows p s g tree v x h n) is_new;
     } in
     record {
-      stands = commit_stands p s g tree v x h n w c.show.new.self.shown y c.commit.new.self c.finished.new.self c.commit-resources.new.self committed (counts_of v) reached
+      stands = commit_stands p s g tree v x h n w c.show.new.self.shown y c.commit-2.new.self c.finished.new.self c.commit.new.self has_committed (counts_of v) reached
           (c.in_ok-prepared.ensures.settled s g tree settling)
           (c.show.ensures.shown s.tree (numbered s.numbers tree).1 (c.in_ok-prepared.ensures.ready s.tree s.passive (numbered s.numbers tree).1 follows));
       written = commit_written p s g tree v x h n c.args.log.now c.prepare.new.log
