@@ -13,3 +13,6 @@ returns-clause-ok c = λ s stands.
       hooks_are = c.in_ok-hooks.ensures.ok s stands ∙ ap (λ (o : Options). report_bytes o (state_lines c.args.root.now.rendering.program s)) c.in_ok-tree.ensures.options;
       facts = c.facts_of.ensures s stands;
     }
+
+pub returns-clause-options : goal.returns-clause-options
+returns-clause-options c = c.in_ok-hooks.ensures.options ∙ c.in_ok-tree.ensures.options
