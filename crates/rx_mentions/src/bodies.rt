@@ -36,6 +36,7 @@ impl<'a> Walk<'a> {
         ensures mentions { OnOk result (self.new ≡ self.old ++ parameters_mentions scope.old parameters.now) }
         ensures scope { OnOk result (scope.new ≡ fold after_parameter scope.old parameters.now) }
     {
+        scope.reserve(parameters.len())?;
         for parameter in parameters {
             self.opened(scope, name_of(parameter))?;
             scope.parameter(parameter)?;
@@ -48,6 +49,7 @@ impl<'a> Walk<'a> {
         ensures mentions { OnOk result (self.new ≡ self.old ++ names_mentions scope.old names.now) }
         ensures scope { OnOk result (scope.new ≡ fold bound scope.old names.now) }
     {
+        scope.reserve(names.len())?;
         for name in names {
             self.opened(scope, name.text())?;
             scope.bind(name)?;
@@ -60,6 +62,7 @@ impl<'a> Walk<'a> {
         ensures mentions { OnOk result (self.new ≡ self.old ++ lines_mentions scope.old lines.now) }
         ensures scope { OnOk result (scope.new ≡ fold after_line scope.old lines.now) }
     {
+        scope.reserve(lines.len())?;
         for line in lines {
             self.opened(scope, line.name().text())?;
             self.expr(scope.values(), line.value())?;
@@ -227,6 +230,7 @@ impl<'a> Walk<'a> {
         ensures { OnOk result (self.new ≡ self.old ++ declarations_mentions [] declarations.now) }
     {
         let mut taken = BorrowedNames::new(self.alloc);
+        taken.reserve(declarations.len())?;
         for declaration in declarations {
             let name = declaration.name().text();
             self.introduced(&taken, name)?;

@@ -49,6 +49,13 @@ impl<'a> Scope<'a> {
         self.values.contains(name) || self.others.contains(name)
     }
 
+    /// Makes room for so many names more that stand for values.
+    pub fn reserve(&mut self, more: usize) -> Result<(), AllocError>
+        ensures { self.new ≡ self.old }
+    {
+        self.values.reserve(more)
+    }
+
     /// Binds a name that stands for a value.
     pub fn bind(&mut self, name: &'a Name) -> Result<(), AllocError>
         ensures { OnOk result (self.new ≡ bound self.old name.now) }

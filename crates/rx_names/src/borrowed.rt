@@ -38,6 +38,18 @@ impl<'a> BorrowedNames<'a> {
         }
     }
 
+    /// Makes room for so many more, so that as many can be pushed without the table growing between.
+    ///
+    /// # Errors
+    ///
+    /// Only if out of memory. The names are what they were in any case.
+    pub fn reserve(&mut self, more: usize) -> Result<(), AllocError>
+        ensures { self.new ≡ self.old }
+    {
+        self.items.reserve(more)?;
+        self.places.reserve(more)
+    }
+
     /// Whether a name is one of them.
     pub fn contains(&self, name: &str) -> bool
         ensures { result ≡ has_name self.now name.now }
