@@ -6,7 +6,7 @@ use Rattle.std.specs.Prelude.{Bool, List, None, Option, Some, [], false, length,
 use Rattle.std.proofs.Common.{ap, append-nil, append_assoc, arith, subst, sym, ◌∙◌}
 use Rattle.std.proofs.lemmas.Bool.Decides.{Decides-int_eq, nat_tests}
 use Rattle.std.proofs.lemmas.List.{length-append}
-use Rattle.rx_ast.specs.Syntax.{Component, Program, Statement, body_slots, constant, context, contexts, effect, reducer, state, use_resource}
+use Rattle.rx_ast.specs.Syntax.{Component, Program, Statement, body_slots, constant, context, contexts, effect, reducer, state, transition, use_resource}
 use Rattle.rx_rules.specs.Names.{context_number, resource_number, resources}
 use Rattle.rx_elem.specs.Elements.{Element}
 use Rattle.rx_elem.specs.declared.effect.ContextRead.{ContextRead}
@@ -69,6 +69,7 @@ resource_grows name r v (Some x) f =
 one_grows : (p : Program) (i : Inputs) (s : Statement) (f : Frame) → IfTaken (Grows f) (take_one p i s f)
 one_grows p i (state name setter e) f = hook_grows i.hooks name (value_in p f.env e) f
 one_grows p i (reducer name setter function e) f = hook_grows i.hooks name (value_in p f.env e) f
+one_grows p i (transition name starter) f = hook_grows i.hooks name (pos 0) f
 one_grows p i (context name source) f =
     record { initials = begins_itself f.initials; reads = ((record { context = context_number p source; value = slice_index_or i.contexts (context_number p source) (pos 0) }) ∷ [], refl); versions = begins_itself f.versions }
 one_grows p i (use_resource name resource) f =
@@ -165,6 +166,7 @@ module _ (p : Program) (i : Inputs) (cs : List ℤ) (version : ℕ → ℕ) (vs 
   one_agrees : (s : Statement) (f : Frame) → IfTaken (OneAgrees s f) (take_one p i s f)
   one_agrees (state name setter e) f = λ g grows a. refl
   one_agrees (reducer name setter function e) f = λ g grows a. refl
+  one_agrees (transition name starter) f = λ g grows a. refl
   one_agrees (context name source) f =
       λ g grows a. rw (read_agrees cs g.reads f.reads (context_number p source)
       (slice_index_or i.contexts (context_number p source) (pos 0)) grows.reads a.contexts_agree) refl
@@ -235,6 +237,7 @@ module _ (p : Program) (i : Inputs) (initials : List ℤ) where
   one_counted : (s : Statement) (f : Frame) → IsCounted f → IfTaken IsCounted (take_one p at_mount s f)
   one_counted (state name setter e) f h = hook_counted name (value_in p f.env e) f h
   one_counted (reducer name setter function e) f h = hook_counted name (value_in p f.env e) f h
+  one_counted (transition name starter) f h = hook_counted name (pos 0) f h
   one_counted (context name source) f h = h
   one_counted (use_resource name resource) f h =
       resource_counted name (resource_number p resource) (slice_index_or i.versions (resource_number p resource) 0) (slice_index_or i.resources (resource_number p resource) None) f h
@@ -260,6 +263,7 @@ module _ (p : Program) (i : Inputs) (initials : List ℤ) where
   one_later : (s : Statement) (f : Frame) → IsCounted f → IfTaken (OneLater s f) (take_one p at_mount s f)
   one_later (state name setter e) f h = hook_later name (value_in p f.env e) f h
   one_later (reducer name setter function e) f h = hook_later name (value_in p f.env e) f h
+  one_later (transition name starter) f h = hook_later name (pos 0) f h
   one_later (context name source) f h = λ g grows begins. refl
   one_later (use_resource name resource) f h =
       resource_later name (resource_number p resource) (slice_index_or i.versions (resource_number p resource) 0) f (slice_index_or i.resources (resource_number p resource) None)
@@ -335,6 +339,7 @@ resource_read i name r v (Some x) f h = h
 one_read : (p : Program) (i : Inputs) → IsFull p i.contexts → (s : Statement) (f : Frame) → IsDeclared p s → WasRead i f → IfTaken (WasRead i) (take_one p i s f)
 one_read p i full (state name setter e) f d h = hook_read i i.hooks name (value_in p f.env e) f h
 one_read p i full (reducer name setter function e) f d h = hook_read i i.hooks name (value_in p f.env e) f h
+one_read p i full (transition name starter) f d h = hook_read i i.hooks name (pos 0) f h
 one_read p i full (context name source) f d h =
     list_any_push (is_read_anew i.contexts) f.reads
     (record { context = context_number p source; value = slice_index_or i.contexts (context_number p source) (pos 0) }) h
@@ -385,6 +390,7 @@ resource_seen version name r v (Some x) f is h =
 one_seen : (p : Program) (version : ℕ → ℕ) (i : Inputs) → InVersions version i → (s : Statement) (f : Frame) → WasSeen version f → IfTaken (WasSeen version) (take_one p i s f)
 one_seen p version i is (state name setter e) f h = hook_seen version i.hooks name (value_in p f.env e) f h
 one_seen p version i is (reducer name setter function e) f h = hook_seen version i.hooks name (value_in p f.env e) f h
+one_seen p version i is (transition name starter) f h = hook_seen version i.hooks name (pos 0) f h
 one_seen p version i is (context name source) f h = h
 one_seen p version i is (use_resource name resource) f h =
     resource_seen version name (resource_number p resource) (slice_index_or i.versions (resource_number p resource) 0) (slice_index_or i.resources (resource_number p resource) None) f
@@ -433,6 +439,7 @@ module _ (p : Program) (i : Inputs) (res : List (Option ℤ)) (more : (r : ℕ) 
   one_again : (s : Statement) (f : Frame) → OneAgain s f (take_one p i s f)
   one_again (state name setter e) f = refl
   one_again (reducer name setter function e) f = refl
+  one_again (transition name starter) f = refl
   one_again (context name source) f = refl
   one_again (use_resource name resource) f =
       resource_again name (resource_number p resource) (slice_index_or i.versions (resource_number p resource) 0) f (slice_index_or i.resources (resource_number p resource) None) refl

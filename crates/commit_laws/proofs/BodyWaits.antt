@@ -3,7 +3,7 @@ use Rattle.std.specs.List.{position_or_len}
 use Rattle.std.specs.Prelude.{Bool, List, None, Option, Some, [], bytes_eq, cond, false, filter_map, flat_map, length, nat_lt, refl, slice_get, slice_index_or, suc, true, unwrap_or, zero, ℕ, ℤ, ◌++◌, ◌<◌, ◌∷◌, ◌≡◌}
 use Rattle.std.proofs.Common.{arith, subst, sym, ◌∙◌}
 use Rattle.std.proofs.lemmas.Bool.Decides.{nat_tests}
-use Rattle.rx_ast.specs.Syntax.{Component, Program, Statement, body_slots, components, constant, context, effect, reducer, state, use_resource}
+use Rattle.rx_ast.specs.Syntax.{Component, Program, Statement, body_slots, components, constant, context, effect, reducer, state, transition, use_resource}
 use Rattle.rx_base.specs.Values.{Name}
 use Rattle.rx_rules.specs.Names.{component_at, distinct, resource_in, resource_number, resources, resources_of}
 use Rattle.rx_meaning.specs.Body.{Frame, Inputs, Taken, and_then, body_of, finished, opening_frame, stopped_at, take_all, take_one, taken, wait, with_resource}
@@ -65,6 +65,7 @@ resource_within p some name =
 statement_stops : (p : Program) → 0 < length (resources p) → (i : Inputs) (s : Statement) (f : Frame) → StopsAt i.resources (length (resources p)) (take_one p i s f)
 statement_stops p some i (state name setter e) f = tt
 statement_stops p some i (reducer name setter function e) f = tt
+statement_stops p some i (transition name starter) f = tt
 statement_stops p some i (context name source) f = tt
 statement_stops p some i (use_resource name resource) f =
     one_stop name (resource_number p resource) (slice_index_or i.versions (resource_number p resource) 0) (length (resources p)) i.resources (slice_index_or i.resources (resource_number p resource) None) f refl (resource_within p some resource)
@@ -87,6 +88,7 @@ NeverStops (taken f) = Unit {0}
 statement_goes_on : (p : Program) (i : Inputs) (s : Statement) (f : Frame) → resource_in s ≡ None → NeverStops (take_one p i s f)
 statement_goes_on p i (state name setter e) f h = tt
 statement_goes_on p i (reducer name setter function e) f h = tt
+statement_goes_on p i (transition name starter) f h = tt
 statement_goes_on p i (context name source) f h = tt
 statement_goes_on p i (use_resource name resource) f h = absurd (cc h)
 statement_goes_on p i (constant name e) f h = tt

@@ -3,7 +3,7 @@ use Rattle.std.specs.List.{position_or_len}
 use Rattle.std.specs.Prelude.{List, [], bytes_eq, length, map, nat_lt, refl, ◌<◌, ◌∷◌, ◌≡◌}
 use Rattle.std.proofs.Common.{arith}
 use Rattle.std.proofs.lemmas.Bool.Decides.{nat_tests}
-use Rattle.rx_ast.specs.Syntax.{Context, Program, Statement, constant, context, contexts, effect, reducer, state, use_resource}
+use Rattle.rx_ast.specs.Syntax.{Context, Program, Statement, constant, context, contexts, effect, reducer, state, transition, use_resource}
 use Rattle.rx_base.specs.Values.{Name}
 use Rattle.rx_rules.specs.Names.{context_number, place_among}
 use Rattle.rx_rules.specs.Reads.{AllDeclared, IsDeclared, ReadsDeclared}
@@ -25,6 +25,7 @@ context_within p name some =
 one_declared : (p : Program) → 0 < length (contexts p) → (s : Statement) → IsDeclared p s
 one_declared p some (state x setter e) = tt
 one_declared p some (reducer x setter f e) = tt
+one_declared p some (transition x starter) = tt
 one_declared p some (context x c) = let lt = context_within p c some in grind (arith, nat_tests)
 one_declared p some (use_resource x r) = tt
 one_declared p some (constant x e) = tt

@@ -3,7 +3,7 @@ use Rattle.std.specs.List.{position_or_len}
 use Rattle.std.specs.Prelude.{Bool, List, None, Option, Some, [], bytes_eq, cond, false, length, nat_lt, refl, slice_index_or, true, unwrap_or, ℕ, ℤ, ◌<◌, ◌∷◌, ◌≡◌, ◌≤◌}
 use Rattle.std.proofs.Common.{arith, subst}
 use Rattle.std.proofs.lemmas.Bool.Decides.{nat_tests}
-use Rattle.rx_ast.specs.Syntax.{Component, Program, Statement, body_slots, constant, context, effect, reducer, state, use_resource}
+use Rattle.rx_ast.specs.Syntax.{Component, Program, Statement, body_slots, constant, context, effect, reducer, state, transition, use_resource}
 use Rattle.rx_base.specs.Awaits.{resource_limit}
 use Rattle.rx_base.specs.Values.{Name}
 use Rattle.rx_rules.specs.Names.{resource_number, resources}
@@ -30,6 +30,7 @@ one_resource name r v (Some x) f l = tt
 one_small : (p : Program) → length (resources p) ≤ resource_limit → (i : Inputs) (s : Statement) (f : Frame) → IsSmall (take_one p i s f)
 one_small p l i (state name setter e) f = tt
 one_small p l i (reducer name setter function e) f = tt
+one_small p l i (transition name starter) f = tt
 one_small p l i (context name source) f = tt
 one_small p l i (use_resource name resource) f =
     one_resource name (resource_number p resource) (slice_index_or i.versions (resource_number p resource) 0) (slice_index_or i.resources (resource_number p resource) None) f (resource_small p l resource)

@@ -6,8 +6,9 @@ use Rattle.rx_lines.specs.Lines.{part_text}
 use Rattle.rx_step.specs.declared.step.Step.{Step}
 use Rattle.rx_step.specs.declared.step.Step.TheVariants as step
 use Rattle.rx_step.specs.declared.step.Dispatch.{Dispatch}
-use Rattle.rx_step.specs.declared.step.Dispatch.TheVariants.{Set, Call, Send, Refresh}
+use Rattle.rx_step.specs.declared.step.Dispatch.TheVariants.{Set, Call, Send, Start, Refresh}
 use Rattle.rx_step.specs.declared.step.LaneWord.{LaneWord}
+use Rattle.rx_step.specs.Steps.{start_lane}
 use Rattle.rx_step.specs.declared.step.LaneWord.TheVariants as word
 
 -- the word of a lane
@@ -35,6 +36,7 @@ abbrev pub dispatch_text : Dispatch → Text
 dispatch_text (Set lane path hook x) = target_text (codes "set ") lane path hook ++ codes " " ++ signed_decimal x
 dispatch_text (Call lane path hook function x) = target_text (codes "call ") lane path hook ++ codes " " ++ function ++ codes " " ++ signed_decimal x
 dispatch_text (Send lane path hook x) = target_text (codes "send ") lane path hook ++ codes " " ++ signed_decimal x
+dispatch_text (Start lane path hook) = target_text (codes "start ") (start_lane lane) path hook
 dispatch_text (Refresh lane name) = codes "refresh " ++ lane_text lane ++ codes " " ++ name
 
 -- a step

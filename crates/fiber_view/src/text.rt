@@ -111,6 +111,7 @@ fn push_dispatch(text: &mut Vec<u8>, dispatch: &Dispatch) -> Result<(), AllocErr
             push_target(text, b"send ", *lane, path, hook)?;
             push_int(text, *value)
         }
+        Dispatch::Start(lane, path, hook) => push_target(text, b"start ", lane.lane(), path, hook),
         Dispatch::Refresh(lane, name) => {
             text.extend_from_slice(b"refresh ")?;
             text.extend_from_slice(lane_word(*lane))?;

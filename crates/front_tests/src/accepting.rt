@@ -1,6 +1,6 @@
 // Inputs that are accepted or refused, and each beginning of a program.
 
-use crate::cases::{COUNTS, Case, PLACES, REFRESHES, REFUSALS, SECOND};
+use crate::cases::{COUNTS, Case, PLACES, REFRESHES, REFUSALS, SECOND, STARTS};
 use itoa::Buffer;
 use rx_accept::{Verdict, accept};
 use std::alloc::{AllocError, AllocGlobal, Global};
@@ -76,6 +76,11 @@ fn each_fault_has_its_place(rt: HostRuntime) -> Result<(), Fail> {
 #[test]
 fn a_refresh_names_a_lane_and_a_resource(rt: HostRuntime) -> Result<(), Fail> {
     are_judged(&rt, &REFRESHES)
+}
+
+#[test]
+fn a_start_names_a_lane_and_a_flag(rt: HostRuntime) -> Result<(), Fail> {
+    are_judged(&rt, &STARTS)
 }
 
 #[test]

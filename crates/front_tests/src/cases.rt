@@ -9,6 +9,9 @@ const TWO_KEYS: &[u8] =
 const ONE_RESOURCE: &[u8] =
     b"function User() { const u = use(\"user\"); return <b>{u}</b>; } function App() { return <Suspense fallback={<i/>}><User/></Suspense>; }";
 
+const ONE_FLAG: &[u8] =
+    b"function app(s, a) { return s * 10 + a; } function App() { const [w, go] = useTransition(); const [s, setS] = useState(0); return <p>{w}{s}</p>; }";
+
 /// An input, and what is told of it. Its program is written in pieces: a text, once for each number from one to another,
 /// both of them too; `#` stands for the number and `~` for the one before it.
 pub(crate) struct Case<'a> {
@@ -786,5 +789,94 @@ pub(crate) const REFRESHES: [Case<'static>; 10] = [
         pieces: &[(ONE_RESOURCE, 1, 1)],
         script: b"flush\nrefresh transition user\nrefresh sync 9\nrefresh user",
         told: "script refused 15 line 3\n",
+    },
+];
+
+/// Lines that start a transition, and the statement of its flag: what is accepted, and why others are refused.
+pub(crate) const STARTS: [Case<'static>; 14] = [
+    // A start in both lanes, and dispatches of its event.
+    Case {
+        pieces: &[(ONE_FLAG, 1, 1)],
+        script: b"start sync App w\nset transition App s 1\nstart\tinput  App w \nevent",
+        told: "accepted nodes 4 depth 3 steps 4\n",
+    },
+    // Another number of words.
+    Case {
+        pieces: &[(ONE_FLAG, 1, 1)],
+        script: b"start sync App",
+        told: "script refused 14 line 1\n",
+    },
+    Case {
+        pieces: &[(ONE_FLAG, 1, 1)],
+        script: b"start sync App w 1",
+        told: "script refused 14 line 1\n",
+    },
+    // A lane in which no start is.
+    Case {
+        pieces: &[(ONE_FLAG, 1, 1)],
+        script: b"start default App w",
+        told: "script refused 14 line 1\n",
+    },
+    Case {
+        pieces: &[(ONE_FLAG, 1, 1)],
+        script: b"start transition App w",
+        told: "script refused 14 line 1\n",
+    },
+    // A hook of another kind, the function in place of the flag, and a component that is not there.
+    Case {
+        pieces: &[(ONE_FLAG, 1, 1)],
+        script: b"start sync App s",
+        told: "script refused 15 line 1\n",
+    },
+    Case {
+        pieces: &[(ONE_FLAG, 1, 1)],
+        script: b"start sync App go",
+        told: "script refused 15 line 1\n",
+    },
+    Case {
+        pieces: &[(ONE_FLAG, 1, 1)],
+        script: b"start sync App/Zed w",
+        told: "script refused 15 line 1\n",
+    },
+    // The flag takes no other dispatch.
+    Case {
+        pieces: &[(ONE_FLAG, 1, 1)],
+        script: b"set sync App w 1",
+        told: "script refused 15 line 1\n",
+    },
+    Case {
+        pieces: &[(ONE_FLAG, 1, 1)],
+        script: b"call sync App w app 1",
+        told: "script refused 15 line 1\n",
+    },
+    Case {
+        pieces: &[(ONE_FLAG, 1, 1)],
+        script: b"send sync App w 1",
+        told: "script refused 15 line 1\n",
+    },
+    // A place in the path out of its bounds.
+    Case {
+        pieces: &[(ONE_FLAG, 1, 1)],
+        script: b"start sync App/App@4096 w",
+        told: "script refused 16 line 1\n",
+    },
+    // The statement has no argument, and its names are bound once.
+    Case {
+        pieces: &[(
+            b"function App() { const [w, go] = useTransition(0); return null; }",
+            1,
+            1,
+        )],
+        script: b"",
+        told: "program refused 3 at 47\n",
+    },
+    Case {
+        pieces: &[(
+            b"function App() { const [w, w] = useTransition(); return null; }",
+            1,
+            1,
+        )],
+        script: b"",
+        told: "program refused 4 w\n",
     },
 ];

@@ -1,6 +1,6 @@
 -- In each state that can be reached, the tree is what commits left, so its operations replay.
 use Rattle.std.specs.Prelude.{◌≡◌, ℕ, zero, suc, Bool, true, false, cond, List, [], ◌∷◌, ℤ, Option, Some, None, refl}
-use Rattle.std.proofs.Common.{arith, inl, inr, sym, subst}
+use Rattle.std.proofs.Common.{◌∙◌, arith, inl, inr, sym, subst}
 use Rattle.rx_base.specs.Awaits.{Awaits}
 use Rattle.rx_lane.specs.declared.lane.Lane.{Lane}
 use Rattle.rx_lane.specs.declared.lane.Lane.TheVariants as lane
@@ -20,16 +20,17 @@ use Rattle.rx_elem.specs.Trees.{Node}
 use Rattle.rx_elem.specs.Spots.{Mounted}
 use Rattle.rx_elem.specs.Compare.{Change}
 use Rattle.rx_elem.specs.Numbers.{numbered}
-use Rattle.rx_queue.specs.Journal.{Target}
+use Rattle.rx_queue.specs.Journal.{Target, hook, resource}
+use Rattle.rx_queue.specs.declared.update.Op.TheVariants as op
 use Rattle.rx_meaning.specs.Fresh.{made, fresh}
 use Rattle.rx_meaning.specs.Outcome.{commit, defer, outcome_by, newly_hidden}
 use Rattle.rx_model.specs.State.{State, Progress, opening, instance_found}
 use Rattle.rx_model.specs.Stretch.{Stretch, silent, followed_by}
-use Rattle.rx_model.specs.Accepting.{in_event, dispatched, dispatched_to, last_value, resolved, resolved_as, between_events}
+use Rattle.rx_model.specs.Accepting.{between_events, dispatched, dispatched_for, dispatched_to, enqueued, in_event, lane_of, last_value, op_of, resolved, resolved_as, target_of, unset_by, within}
 use Rattle.rx_model.specs.Committing.{passive_run, starting, sight_of, committed_state, ended_by}
 use Rattle.rx_model.specs.Turns.{AnyRender, GoesOn, Continues, TurnBy, choice_of}
 use Rattle.rx_model.specs.Machine.{IsAtRest, Flushes, FlushSync, StepTo}
-use Rattle.rx_model.specs.Laws.{IsReached, IsReachedBy, MovesTo}
+use Rattle.rx_model.specs.Laws.{IsReached, IsReachedBy, Move, MovesTo, begins, discards, refreshes, sends, takes}
 use Rattle.rx_lines.specs.Lines.{Counts}
 use Rattle.host_laws.proofs.Replay.{commit_replays}
 use Rattle.host_laws.proofs.Replayable.{commit_made}
@@ -58,15 +59,30 @@ event_tree word.Transition s t l = (refl, refl)
 alike_holds : (p : Program) (s t : State) → Alike s t → Holds p t → Holds p s
 alike_holds p s t a h = subst (λ n. IsCommitted p n s.tree) (sym a.1) (subst (λ o. IsCommitted p t.numbers o) (sym a.0) h)
 
+unset_tree : (s : State) (d : Dispatch) (t : Target) → Alike (unset_by d t s) s
+unset_tree s (dispatch.Set w path name x) t = (refl, refl)
+unset_tree s (dispatch.Call w path name f x) t = (refl, refl)
+unset_tree s (dispatch.Send w path name x) t = (refl, refl)
+unset_tree s (dispatch.Start w path name) t = event_tree word.Transition s t (lane_of s word.Transition)
+unset_tree s (dispatch.Refresh w name) t = (refl, refl)
+
 sent_tree : (p : Program) (s : State) (d : Dispatch) (m : Option Mounted) → Alike (dispatched_to p s d m).after s
 sent_tree p s d None = (refl, refl)
-sent_tree p s d (Some m) = event_tree (word_of d) s _ _
+sent_tree p s d (Some m) =
+    let t = target_of p d m in
+    let first = dispatched_for s (word_of d) t (op_of p m.component d) in
+    let other = unset_tree first d t in
+    let one = event_tree (word_of d) s t (lane_of s (word_of d)) in (other.0 ∙ one.0, other.1 ∙ one.1)
+
+enqueued_tree : (p : Program) (s : State) (d : Dispatch) → Alike (enqueued p s d).after s
+enqueued_tree p s (dispatch.Set w path name x) = sent_tree p s (dispatch.Set w path name x) (instance_found p s.tree path)
+enqueued_tree p s (dispatch.Call w path name f x) = sent_tree p s (dispatch.Call w path name f x) (instance_found p s.tree path)
+enqueued_tree p s (dispatch.Send w path name x) = sent_tree p s (dispatch.Send w path name x) (instance_found p s.tree path)
+enqueued_tree p s (dispatch.Start w path name) = sent_tree p s (dispatch.Start w path name) (instance_found p s.tree path)
+enqueued_tree p s (dispatch.Refresh w name) = event_tree w s _ _
 
 dispatched_tree : (p : Program) (s : State) (d : Dispatch) → Alike (dispatched p s d).after s
-dispatched_tree p s (dispatch.Set w path name x) = sent_tree p s (dispatch.Set w path name x) (instance_found p s.tree path)
-dispatched_tree p s (dispatch.Call w path name f x) = sent_tree p s (dispatch.Call w path name f x) (instance_found p s.tree path)
-dispatched_tree p s (dispatch.Send w path name x) = sent_tree p s (dispatch.Send w path name x) (instance_found p s.tree path)
-dispatched_tree p s (dispatch.Refresh w name) = event_tree w s _ _
+dispatched_tree p s d = enqueued_tree p (within d s) d
 
 resolved_tree : (p : Program) (s : State) (name : List ℕ) (x : ℤ) (v : Option ℤ) → Alike (resolved_as p s name x v).after s
 resolved_tree p s name x None = (refl, refl)
@@ -138,11 +154,14 @@ step_holds p s step.Event r t h = same_holds p r _ t h
 step_holds p s step.State r t h = same_holds p r _ t h
 step_holds p s step.Tree r t h = same_holds p r _ t h
 
-move_holds : (p : Program) (s : State) (x : Option Step) (t : State) → MovesTo p s x t → Holds p s → Holds p t
-move_holds p s (Some x) t m h = subst (λ (u : State). Holds p u) (sym m.2) (step_holds p s x m.0 m.1 h)
-move_holds p s None t m h = subst (λ (u : State). Holds p u) (sym m) h
+move_holds : (p : Program) (s : State) (x : Move) (t : State) → MovesTo p s x t → Holds p s → Holds p t
+move_holds p s (takes x) t m h = subst (λ (u : State). Holds p u) (sym m.2) (step_holds p s x m.0 m.1 h)
+move_holds p s discards t m h = subst (λ (u : State). Holds p u) (sym m) h
+move_holds p s (begins started) t m h = subst (λ (u : State). Holds p u) (sym m) h
+move_holds p s (sends w path k o) t m h = subst (λ (u : State). Holds p u) (sym m.2) (alike_holds p (dispatched_for s w (hook m.0.number k) o) s (event_tree w s _ _) h)
+move_holds p s (refreshes w r) t m h = subst (λ (u : State). Holds p u) (sym m) (alike_holds p (dispatched_for s w (resource r) op.Refresh) s (event_tree w s _ _) h)
 
-moves_hold : (p : Program) (moves : List (Option Step)) (t : State) → IsReachedBy p moves t → Holds p t
+moves_hold : (p : Program) (moves : List Move) (t : State) → IsReachedBy p moves t → Holds p t
 moves_hold p [] t m = subst (λ (u : State). Holds p u) (sym m) (none_yet opening.numbers (omega arith))
 moves_hold p (x ∷ before) t m = move_holds p m.0 x t m.2 (moves_hold p before m.0 m.1)
 

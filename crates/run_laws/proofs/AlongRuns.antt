@@ -15,10 +15,10 @@ use Rattle.rx_meaning.specs.Fresh.{depth_limit, fresh, made}
 use Rattle.rx_meaning.specs.Outcome.{Outcome, all_awaits, commit, defer, newly_hidden, outcome, outcome_by}
 use Rattle.rx_lane.specs.Lanes.{Lanes, only_transitions}
 use Rattle.rx_lane.specs.declared.lane.Lane.{Lane}
-use Rattle.rx_model.specs.Accepting.{accepted, dispatched_for, dispatched_to, in_event, lane_of, next_update, op_of, resolved_as, target_of}
+use Rattle.rx_model.specs.Accepting.{accepted, dispatched_for, in_event, lane_of, next_update, resolved_as}
 use Rattle.rx_model.specs.Committing.{committed_state, ended, ended_by, passive_run, sight_of, starting}
 use Rattle.rx_model.specs.Laws.{Always, IsReached}
-use Rattle.rx_model.specs.State.{Progress, State, hook_number, instance_found, opening}
+use Rattle.rx_model.specs.State.{Progress, State, instance_found, opening}
 use Rattle.rx_model.specs.Stretch.{Stretch, followed_by, silent}
 use Rattle.rx_model.specs.Turns.{AnyRender, Continues, GoesOn, TurnBy, choice_of, gone_on}
 use Rattle.rx_queue.specs.Journal.{Resolution, Target, hook, resolutions_by, resource, same_target}
@@ -26,8 +26,7 @@ use Rattle.rx_queue.specs.declared.update.Op.{Op}
 use Rattle.rx_queue.specs.declared.update.Op.TheVariants as op
 use Rattle.rx_lines.specs.Lines.{Counts}
 use Rattle.rx_sched.specs.declared.choice.Choice.{Choice}
-use Rattle.rx_step.specs.Steps.{hook_name, path_of, word_of}
-use Rattle.rx_step.specs.declared.step.Dispatch.{Dispatch}
+use Rattle.rx_step.specs.Steps.{Path}
 use Rattle.rx_step.specs.declared.step.LaneWord.{LaneWord}
 use Rattle.run_laws.proofs.Carrying.{commit_carries, done_before, resolution_carries, resolution_renders, start_renders, target_below, update_carries, update_renders}
 use Rattle.commit_laws.proofs.Soundness.{resolution_keeps}
@@ -128,11 +127,10 @@ module _ (p : Program) (deep : depth_bound p ≤ depth_limit) (declared : ReadsD
   sent_keeps s word.Default t o below c = accepted_keeps s t o (lane_of s word.Default) below c
   sent_keeps s word.Transition t o below c = accepted_keeps (in_event word.Transition s t (lane_of s word.Transition)) t o (lane_of s word.Transition) below c
 
-  pub dispatched_keeps : (s : State) (d : Dispatch) (x : Option Mounted) → instance_found p s.tree (path_of d) ≡ x → IsCarried p s → IsCarried p (dispatched_to p s d x).after
-  dispatched_keeps s d None e c = c
-  dispatched_keeps s d (Some m) e c =
-      sent_keeps s (word_of d) (target_of p d m) (op_of p m.component d)
-      (λ k i late. target_below p s.numbers.instance s.tree (path_of d) m c.2.sound.own_numbers e (hook_number p m.component (hook_name d)) k i late) c
+  pub hook_keeps : (s : State) (w : LaneWord) (path : Path) (m : Mounted) (k : ℕ) (o : Op) → instance_found p s.tree path ≡ Some m → IsCarried p s
+      → IsCarried p (dispatched_for s w (hook m.number k) o)
+  hook_keeps s w path m k o e c =
+      sent_keeps s w (hook m.number k) o (λ i n late. target_below p s.numbers.instance s.tree path m c.2.sound.own_numbers e k i n late) c
 
   -- a refresh has no instance's target
   pub refreshed_keeps : (s : State) (w : LaneWord) (r : ℕ) → IsCarried p s → IsCarried p (dispatched_for s w (resource r) op.Refresh)
@@ -158,11 +156,11 @@ module _ (p : Program) (deep : depth_bound p ≤ depth_limit) (declared : ReadsD
       holds_along p (IsCarried p)
       (record {
         starts = opening_carries p;
-        between = λ s c. c;
+        events = λ s e c. c;
         ticks = λ s n c. c;
         passive = λ s c. c;
         turns = λ s budget r t c. turn_keeps s (choice_of s) budget r t c;
-        dispatches = dispatched_keeps;
+        sends = hook_keeps;
         refreshes = refreshed_keeps;
         resolves = λ s name v x e c. resolved_keeps s name v x c;
         discards = λ s c. (c.0, c.1, c.2, tt);

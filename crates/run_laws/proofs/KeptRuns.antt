@@ -24,14 +24,14 @@ use Rattle.rx_lane.specs.Lanes.{Lanes, has, lanes_where, minus, no_lanes, one, o
 use Rattle.rx_lane.specs.SetLaws.{has-lanes_where}
 use Rattle.rx_lane.specs.declared.lane.Lane.{Lane}
 use Rattle.rx_lane.specs.declared.lane.Lane.TheVariants as lane
-use Rattle.rx_model.specs.Accepting.{accepted, dispatched_for, dispatched_to, is_awaited_in, lane_of, last_value, next_update, op_of, resolved_as, target_of, with_linked, with_transition}
+use Rattle.rx_model.specs.Accepting.{accepted, dispatched_for, is_awaited_in, lane_of, last_value, next_update, op_of, resolved_as, target_of, with_linked, with_transition}
 use Rattle.rx_model.specs.Committing.{committed_state, ended, ended_by, passive_run, sight_of, starting}
 use Rattle.rx_model.specs.Kept.{IsSet, NoUpdateIsLost}
 use Rattle.rx_model.specs.Laws.{IsReached}
 use Rattle.rx_model.specs.State.{Progress, State, linked_lanes, opening}
 use Rattle.rx_model.specs.Stretch.{Stretch, followed_by, silent}
 use Rattle.rx_model.specs.Turns.{AnyRender, Continues, GoesOn, TurnBy, choice_of, gone_on}
-use Rattle.rx_queue.specs.Journal.{Posted, Resolution, Target, done_version, has_later, next_version, resolved_by, resolved_now, resolved_since, resource, values_in, version_of}
+use Rattle.rx_queue.specs.Journal.{Posted, Resolution, Target, done_version, has_later, hook, next_version, resolved_by, resolved_now, resolved_since, resource, values_in, version_of}
 use Rattle.rx_queue.specs.declared.update.Op.{Op}
 use Rattle.rx_queue.specs.declared.update.Op.TheVariants as op
 use Rattle.rx_sched.specs.Waiting as waiting
@@ -47,7 +47,7 @@ use Rattle.commit_laws.proofs.NewlyHidden.{awaited_open, committed_open, deferre
 use Rattle.commit_laws.proofs.Settling.{versions_are_done}
 use Rattle.commit_laws.proofs.VersionsStay.{open_versions}
 use Rattle.commit_laws.proofs.NoneLost.{commit_none_lost, more_pending, one_itself, push_pending, union_left, union_right}
-use Rattle.run_laws.proofs.AlongRuns.{commit_is, dispatched_keeps, opening_carries, refreshed_keeps, resolved_keeps, turn_keeps}
+use Rattle.run_laws.proofs.AlongRuns.{commit_is, hook_keeps, opening_carries, refreshed_keeps, resolved_keeps, turn_keeps}
 use Rattle.run_laws.proofs.Carrying.{done_before, start_renders}
 use Rattle.run_laws.proofs.DueLanes.{DueIn, due_more, set_of, start_due}
 use Rattle.run_laws.proofs.Keeping.{AskedFor, Numbered, Retries, Waits, asked_marked, asked_push, asked_resolved, commit_retries, commit_waits, deferral_waits, marked_numbered, more_waits, next_is, none_waits, now_stays, push_numbered, resolution_retries}
@@ -105,12 +105,12 @@ accepted_kept s t o l h = (
     due (Some g) d = due_more s.schedule (after_update s.schedule l s.now) g.lanes more (λ m k. absurd (cc k)) d
 
 transition_kept : (s : State) (t : Target) (l : Lane) → Keeps s → Keeps (with_transition s t l)
-transition_kept s t l h = go (is_none s.event)
+transition_kept s t l h = go (is_none s.event.lane)
   where
     go : (b : Bool) → Keeps (record s {
       schedule = linked (if b then claimed s.schedule else s.schedule) (links_with l s.schedule.pending (linked_lanes s.linked t));
       linked = with_linked s.linked t (links_with l s.schedule.pending (linked_lanes s.linked t));
-      event = Some l;
+      event = record s.event { lane = Some l };
     })
     go true = h
     go false = h
@@ -121,10 +121,6 @@ sent_kept s word.Input t o h = accepted_kept s t o (lane_of s word.Input) h
 sent_kept s word.Default t o h = accepted_kept s t o (lane_of s word.Default) h
 sent_kept s word.Transition t o h =
     accepted_kept (with_transition s t (lane_of s word.Transition)) t o (lane_of s word.Transition) (transition_kept s t (lane_of s word.Transition) h)
-
-dispatched_kept : (p : Program) (s : State) (d : Dispatch) (x : Option Mounted) → Keeps s → Keeps (dispatched_to p s d x).after
-dispatched_kept p s d None h = h
-dispatched_kept p s d (Some m) h = sent_kept s (word_of d) (target_of p d m) (op_of p m.component d) h
 
 refreshed_kept : (s : State) (w : LaneWord) (r : ℕ) → Keeps s → Keeps (dispatched_for s w (resource r) op.Refresh)
 refreshed_kept s w r h = sent_kept s w (resource r) op.Refresh h
@@ -346,11 +342,11 @@ module _ (p : Program) (deep : depth_bound p ≤ depth_limit) (declared : ReadsD
       (holds_along p (λ s. IsCarried p s × Keeps s)
       (record {
         starts = (opening_carries p, opening_kept);
-        between = λ s h. h;
+        events = λ s e h. h;
         ticks = λ s n h. h;
         passive = λ s h. h;
         turns = λ s budget r t h. (turn_keeps p deep declared s (choice_of s) budget r t h.0, turn_kept s budget r t h.0 h.1);
-        dispatches = λ s d x e h. (dispatched_keeps p deep declared s d x e h.0, dispatched_kept p s d x h.1);
+        sends = λ s w path m k o e h. (hook_keeps p deep declared s w path m k o e h.0, sent_kept s w (hook m.number k) o h.1);
         refreshes = λ s w r h. (refreshed_keeps p deep declared s w r h.0, refreshed_kept s w r h.1);
         resolves = λ s name v x e h. (resolved_keeps p deep declared s name v x h.0, resolved_kept p s name v x e h.1);
         discards = λ s h. ((h.0.0, h.0.1, h.0.2, tt), (h.1.0, h.1.1, h.1.2, h.1.3, h.1.4, tt, h.1.6));

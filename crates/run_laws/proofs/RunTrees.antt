@@ -6,29 +6,25 @@ use Rattle.rx_lane.specs.declared.lane.Lane.{Lane}
 use Rattle.rx_lane.specs.declared.lane.Lane.TheVariants as lane
 use Rattle.rx_lane.specs.Lanes.{has, only_transitions}
 use Rattle.rx_ast.specs.Syntax.{Program}
-use Rattle.rx_step.specs.declared.step.LaneWord.{LaneWord}
-use Rattle.rx_step.specs.declared.step.LaneWord.TheVariants as word
-use Rattle.rx_step.specs.declared.step.Dispatch.{Dispatch}
-use Rattle.rx_step.specs.Steps.{word_of}
 use Rattle.rx_sched.specs.declared.choice.Choice.{Choice}
 use Rattle.rx_sched.specs.declared.choice.Choice.TheVariants as choice
 use Rattle.rx_elem.specs.Trees.{Node, element_of}
-use Rattle.rx_elem.specs.Spots.{Mounted}
 use Rattle.rx_elem.specs.Compare.{Change}
 use Rattle.rx_elem.specs.Numbers.{numbered}
-use Rattle.rx_queue.specs.Journal.{Target, resource}
+use Rattle.rx_queue.specs.Journal.{hook, resource}
+use Rattle.rx_queue.specs.declared.update.Op.TheVariants as op
 use Rattle.rx_meaning.specs.Fresh.{made, fresh, root_element, IsTree, none_yet, given}
 use Rattle.rx_meaning.specs.Outcome.{commit, defer, outcome_by, newly_hidden}
 use Rattle.rx_model.specs.State.{State, Progress}
 use Rattle.rx_model.specs.Stretch.{Stretch, silent, followed_by}
-use Rattle.rx_model.specs.Accepting.{in_event, dispatched_to, lane_of, resolved_as}
+use Rattle.rx_model.specs.Accepting.{resolved_as}
 use Rattle.rx_model.specs.Committing.{passive_run, starting, sight_of, committed_state, ended_by}
 use Rattle.rx_model.specs.Turns.{AnyRender, GoesOn, Continues, TurnBy, choice_of}
 use Rattle.rx_model.specs.Kept.{TreeIsBounded, RendersAreBounded}
 use Rattle.rx_model.specs.Laws.{IsBounded, IsReached}
 use Rattle.rx_lines.specs.Lines.{Counts}
 use Rattle.render_laws.proofs.Bounded.{tree_within}
-use Rattle.run_laws.proofs.Walk.{holds_along, same_after}
+use Rattle.run_laws.proofs.Walk.{holds_along, same_after, sent_tree}
 use Rattle.run_laws.proofs.RenderBounds.{render_within}
 use Rattle.commit_laws.proofs.QuietTree.{root_stays}
 
@@ -36,17 +32,7 @@ use Rattle.commit_laws.proofs.QuietTree.{root_stays}
 abbrev Holds : Program → State → Type 0
 Holds p s = IsTree p s.tree
 
--- Dispatches and resolutions change no tree
-
-event_tree : (w : LaneWord) (s : State) (t : Target) (l : Lane) → (in_event w s t l).tree ≡ s.tree
-event_tree word.Sync s t l = refl
-event_tree word.Input s t l = refl
-event_tree word.Default s t l = refl
-event_tree word.Transition s t l = refl
-
-dispatched_tree : (p : Program) (s : State) (d : Dispatch) (m : Option Mounted) → (dispatched_to p s d m).after.tree ≡ s.tree
-dispatched_tree p s d None = refl
-dispatched_tree p s d (Some m) = event_tree (word_of d) s _ _
+-- Resolutions change no tree
 
 resolved_tree : (p : Program) (s : State) (name : List ℕ) (x : ℤ) (v : Option ℤ) → (resolved_as p s name x v).after.tree ≡ s.tree
 resolved_tree p s name x None = refl
@@ -97,12 +83,12 @@ reached_tree p s t =
     holds_along p (Holds p)
     (record {
       starts = none_yet;
-      between = λ s h. h;
+      events = λ s e h. h;
       ticks = λ s n h. h;
       passive = λ s h. h;
       turns = λ s budget r t h. turn_holds p s (choice_of s) budget r t h;
-      dispatches = λ s d m e h. subst (λ (o : Option Node). IsTree p o) (sym (dispatched_tree p s d m)) h;
-      refreshes = λ s w r h. subst (λ (o : Option Node). IsTree p o) (sym (event_tree w s (resource r) (lane_of s w))) h;
+      sends = λ s w path m k o e h. subst (λ (t : Option Node). IsTree p t) (sym (sent_tree w s (hook m.number k) o)) h;
+      refreshes = λ s w r h. subst (λ (t : Option Node). IsTree p t) (sym (sent_tree w s (resource r) op.Refresh)) h;
       resolves = λ s name v x e h. subst (λ (o : Option Node). IsTree p o) (sym (resolved_tree p s name v x)) h;
       discards = λ s h. h;
     }) s t

@@ -6,7 +6,7 @@ use mathlib.Core.Path.{ap}
 use Rattle.rx_base.specs.Values.{Name}
 use Rattle.rx_ast.specs.Codes.{head, tail, text, expr_code}
 use Rattle.rx_ast.specs.SlotCodes.{slot_code, slots_code}
-use Rattle.rx_ast.specs.Syntax.{Expr, Body, single, fragment, enclosed_fragment, Statement, state, reducer, context, use_resource, constant, effect}
+use Rattle.rx_ast.specs.Syntax.{Expr, Body, single, fragment, enclosed_fragment, Statement, state, reducer, transition, context, use_resource, constant, effect}
 use Rattle.rx_ast.specs.Syntax.{Context, Line, Function, Parameter, integer, given_children, Component, Declaration, of_context, of_function, of_component, Program}
 
 abbrev pub stored_body : Body → Gv
@@ -40,6 +40,7 @@ abbrev pub stored_statement : Statement → Gv
 stored_statement (state x s e) = gcons (gnum 0) (gcons (text.code x) (gcons (text.code s) (expr_code.code e)))
 stored_statement (reducer x s f e) =
     gcons (gnum 1) (gcons (text.code x) (gcons (text.code s) (gcons (text.code f) (expr_code.code e))))
+stored_statement (transition x s) = gcons (gnum 6) (gcons (text.code x) (text.code s))
 stored_statement (context x c) = gcons (gnum 2) (gcons (text.code x) (text.code c))
 stored_statement (use_resource x r) = gcons (gnum 3) (gcons (text.code x) (text.code r))
 stored_statement (constant x e) = gcons (gnum 4) (gcons (text.code x) (expr_code.code e))
@@ -51,6 +52,8 @@ stored_statement_one (state x s d) (state y t e) p =
 stored_statement_one (reducer x s f d) (reducer y t g e) p =
     λ i. reducer (text.inj x y (ap first p) i) (text.inj s t (ap second p) i) (text.inj f g (ap third p) i)
     (expr_code.inj d e (ap (λ g. tail (tail (tail (tail g)))) p) i)
+stored_statement_one (transition x s) (transition y t) p =
+    λ i. transition (text.inj x y (ap first p) i) (text.inj s t (ap (λ g. tail (tail g)) p) i)
 stored_statement_one (context x c) (context y d) p =
     λ i. context (text.inj x y (ap first p) i) (text.inj c d (ap (λ g. tail (tail g)) p) i)
 stored_statement_one (use_resource x r) (use_resource y s) p =

@@ -19,6 +19,7 @@ body_of (body.Enclosed f) = syntax.enclosed_fragment f
 abbrev pub statement_of : StatementKind → syntax.Statement
 statement_of (statement.State x s e) = syntax.state x s e
 statement_of (statement.Reducer x s f e) = syntax.reducer x s f e
+statement_of (statement.Transition x s) = syntax.transition x s
 statement_of (statement.Context x c) = syntax.context x c
 statement_of (statement.Resource x r) = syntax.use_resource x r
 statement_of (statement.Constant x e) = syntax.constant x e

@@ -161,6 +161,8 @@ pub data Statement : Type 0 where
   state : (name setter : Name) → (initial : Expr) → Statement
   -- `const [name, setter] = useReducer(function, initial);`
   reducer : (name setter function : Name) → (initial : Expr) → Statement
+  -- `const [name, starter] = useTransition();`
+  transition : (name starter : Name) → Statement
   -- `const name = useContext(source);`
   context : (name source : Name) → Statement
   -- `const name = use("resource");`

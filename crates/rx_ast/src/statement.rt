@@ -1,6 +1,6 @@
 // Statements of a component's body.
 ghost use Rattle.std.specs.Prelude.{◌≡◌};
-ghost use Rattle.rx_ast.specs.Syntax.{state, reducer, context, use_resource, constant, effect};
+ghost use Rattle.rx_ast.specs.Syntax.{state, reducer, transition, context, use_resource, constant, effect};
 
 use crate::expr::Expr;
 use rx_base::Name;
@@ -28,6 +28,11 @@ pub enum StatementKind {
         setter: Name,
         function: Name,
         initial: Expr,
+    },
+    /// `const [name, starter] = useTransition();` (react.dev, useTransition)
+    Transition {
+        name: Name,
+        starter: Name,
     },
     /// `const name = useContext(source);` (react.dev, useContext)
     Context {
@@ -90,6 +95,15 @@ impl Statement {
                 function,
                 initial,
             },
+        }
+    }
+
+    /// `const [name, starter] = useTransition();`
+    pub fn transition(name: Name, starter: Name) -> Statement
+        ensures { result ≡ transition name starter }
+    {
+        Statement {
+            kind: StatementKind::Transition { name, starter },
         }
     }
 

@@ -4,7 +4,7 @@ use Rattle.std.proofs.lemmas.List.{length-map}
 use Rattle.std.specs.Prelude.{ℕ, nat_lt, cond, unwrap_or, bytes_eq}
 use Rattle.std.specs.List.{position_or_len}
 use Rattle.rx_base.specs.Values.{Name}
-use Rattle.rx_ast.specs.Syntax.{Program, Statement, state, reducer, context, use_resource, constant, effect, contexts}
+use Rattle.rx_ast.specs.Syntax.{Program, Statement, state, reducer, transition, context, use_resource, constant, effect, contexts}
 use Rattle.rx_rules.specs.Names.{has_name, place_among, context_number}
 use Rattle.rx_rules.specs.Reads.{IsDeclared, AllDeclared, ReadsDeclared}
 use Rattle.rx_mentions.specs.Mentions.{Scope, no_scope, statement_mentions, statements_mentions, after_statement, parameters_mentions, component_scope, mentions}
@@ -51,6 +51,7 @@ context-declared p a c i =
 statement-declared : (p : Program) → IsAccepted p → (s : Scope) (t : Statement) → ((m : Mention) → IsIn m (statement_mentions s t) → IsIn m (mentions p)) → IsDeclared p t
 statement-declared p a s (state x y e) h = tt
 statement-declared p a s (reducer x y f e) h = tt
+statement-declared p a s (transition x y) h = tt
 statement-declared p a s (context x c) h = context-declared p a c (h (mention.Context c) (inr (inl refl)))
 statement-declared p a s (use_resource x r) h = tt
 statement-declared p a s (constant x e) h = tt

@@ -1,5 +1,5 @@
 -- What is kept of a program that is accepted, and how its hooks are found by their names.
-use Rattle.std.specs.Prelude.{◌≡◌, ℕ, ◌+◌, List, [], ◌∷◌, Option, Some, None, cond, bytes_eq, slice_get, length}
+use Rattle.std.specs.Prelude.{◌≡◌, ℕ, ◌+◌, Bool, true, false, List, [], ◌∷◌, Option, Some, None, cond, bytes_eq, slice_get, length}
 use Rattle.std.specs.Option.{option_map_or, option_and_then}
 use Rattle.rx_base.specs.Values.{Name}
 use Rattle.rx_ast.specs.Syntax.{Program, functions}
@@ -20,9 +20,14 @@ pub record IsChecked (p : Program) (bound depth : ℕ) (components functions con
   pub contexts_are : contexts ≡ context_names p
   pub resources_are : used ≡ resources p
 
+-- the kind of a hook of this number without a function
+abbrev pub plain_kind : (flag : Bool) → (number : ℕ) → HookKind
+plain_kind false number = kind.State number
+plain_kind true number = kind.Transition number
+
 -- the kind of the hook of this number
 abbrev pub kind_of : (functions : List Name) → (number : ℕ) → StateHook → HookKind
-kind_of functions number h = option_map_or (λ f. kind.Reducer number (place_among functions f)) h.reducer (kind.State number)
+kind_of functions number h = option_map_or (λ f. kind.Reducer number (place_among functions f)) h.reducer (plain_kind h.flag number)
 
 -- the hook of this name among these, which are numbered from here on
 abbrev pub hook_among : (functions : List Name) → Name → (number : ℕ) → List StateHook → Option HookKind

@@ -67,6 +67,12 @@ fn hook_among(statements: &[Statement], functions: &Table, name: &str) -> Option
                 }
                 number += 1;
             }
+            StatementKind::Transition { name: hook, .. } => {
+                if name == hook.text() {
+                    return Some(HookKind::Transition { number });
+                }
+                number += 1;
+            }
             _ => {}
         }
     }

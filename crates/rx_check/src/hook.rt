@@ -7,4 +7,6 @@ pub enum HookKind {
     State { number: u32 },
     /// `useReducer` with the number of its function (react.dev, useReducer).
     Reducer { number: u32, function: u32 },
+    /// `useTransition` (react.dev, useTransition).
+    Transition { number: u32 },
 }

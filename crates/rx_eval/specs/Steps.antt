@@ -1,7 +1,7 @@
 -- What statements have given so far, as the definitions have it.
 use Rattle.std.specs.Prelude.{[], ◌∷◌, ℤ, Option, Some, None}
 use Rattle.rx_base.specs.Values.{Name}
-use Rattle.rx_ast.specs.Syntax.{Statement, state, reducer, context, use_resource, constant, effect}
+use Rattle.rx_ast.specs.Syntax.{Statement, state, reducer, transition, context, use_resource, constant, effect}
 use Rattle.rx_meaning.specs.Expressions.{Env}
 use Rattle.rx_meaning.specs.Body.{Frame, Taken, stopped_at, taken}
 use Rattle.rx_eval.specs.declared.statements.Gathered.{Gathered}
@@ -16,6 +16,7 @@ frame_of env g = record { env = env; hooks = g.hooks; initials = g.initials.item
 abbrev pub name_in : Statement → Option Name
 name_in (state x setter e) = Some x
 name_in (reducer x setter f e) = Some x
+name_in (transition x starter) = Some x
 name_in (context x source) = Some x
 name_in (use_resource x r) = Some x
 name_in (constant x e) = Some x

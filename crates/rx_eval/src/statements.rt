@@ -141,6 +141,7 @@ pub(crate) fn name_of(statement: &Statement) -> Option<&Name>
     match &statement.kind {
         StatementKind::State { name, .. } => Some(name),
         StatementKind::Reducer { name, .. } => Some(name),
+        StatementKind::Transition { name, .. } => Some(name),
         StatementKind::Context { name, .. } => Some(name),
         StatementKind::Resource { name, .. } => Some(name),
         StatementKind::Constant { name, .. } => Some(name),
@@ -184,6 +185,9 @@ pub(crate) fn take(
         StatementKind::Reducer { initial, .. } => {
             let initial = evaluator.value(env, initial);
             Ok(Step::Value(gathered.hook(inputs.hooks, initial)?))
+        }
+        StatementKind::Transition { .. } => {
+            Ok(Step::Value(gathered.hook(inputs.hooks, Int::of(0))?))
         }
         StatementKind::Context { source, .. } => {
             let context = evaluator.context(source);

@@ -1,6 +1,6 @@
 -- What the expressions of a declaration cost at most.
 use Rattle.std.specs.Prelude.{◌≡◌, ◌≤◌, true, ℕ, zero, suc, ◌+◌, ◌*◌, List, [], ◌∷◌, Option, Some, None, nat_lt, find, length, map, slice_get, slice_index}
-use Rattle.rx_ast.specs.Syntax.{Program, Function, Line, Component, functions, Expr, Links, Exprs, exprs_of, Attribute, key, computed, literal, KeyPlace, unkeyed, key_first, key_last, Slot, Slots, body_slots, Statement, state, reducer, context, use_resource, constant, effect, Declaration, of_context, of_function, of_component}
+use Rattle.rx_ast.specs.Syntax.{Program, Function, Line, Component, functions, Expr, Links, Exprs, exprs_of, Attribute, key, computed, literal, KeyPlace, unkeyed, key_first, key_last, Slot, Slots, body_slots, Statement, state, reducer, transition, context, use_resource, constant, effect, Declaration, of_context, of_function, of_component}
 use Rattle.rx_ast.specs.Syntax as syntax
 use Rattle.rx_ast.specs.SlotView.{key_place_of}
 use Rattle.rx_ast.specs.declared.slot.Tag.{Tag}
@@ -107,6 +107,7 @@ tag_cost costs p (tag.Provider x k e) = held_sum (key_cost costs p (key_place_of
 abbrev pub statement_cost : (ℕ → ℕ) → Program → Statement → ℕ
 statement_cost costs p (state x y e) = expr_cost costs p e
 statement_cost costs p (reducer x y f e) = expr_cost costs p e
+statement_cost costs p (transition x y) = 0
 statement_cost costs p (context x c) = 0
 statement_cost costs p (use_resource x r) = 0
 statement_cost costs p (constant x e) = expr_cost costs p e

@@ -272,7 +272,9 @@ fn statement(program: &Index, costs: &[u64], statement: &Statement) -> u64
         }
         StatementKind::Constant { value, .. } => expr(program, costs, value),
         StatementKind::Effect { dependencies, .. } => exprs(program, costs, dependencies),
-        StatementKind::Context { .. } | StatementKind::Resource { .. } => 0,
+        StatementKind::Transition { .. }
+        | StatementKind::Context { .. }
+        | StatementKind::Resource { .. } => 0,
     }
 }
 

@@ -9,7 +9,7 @@ use Rattle.rx_lex.specs.declared.token.Kind.{Kind}
 use Rattle.rx_lex.specs.declared.token.Kind.TheVariants.{Upper, Lower, Text, Word, Mark}
 use Rattle.std.specs.List.{list_all}
 use Rattle.rx_lex.specs.Tokens.{IsRun, is_word_byte}
-use Rattle.rx_ast.specs.Syntax.{Expr, exprs_of, Statement, state, reducer, context, use_resource, constant, effect}
+use Rattle.rx_ast.specs.Syntax.{Expr, exprs_of, Statement, state, reducer, transition, context, use_resource, constant, effect}
 use Rattle.rx_print.specs.Printing.{expr_tokens, exprs_tokens, statement_tokens}
 use Rattle.rx_print.specs.Levels.{whole_line, ExprFits, ExprsFit, StatementFits, StatementsFit}
 use Rattle.rx_grammar.specs.Steps.{is_mark, is_word}
@@ -81,21 +81,34 @@ State n x y s p = (e : Expr) × (s ≡ state x y e) × ExprFits e whole_line n �
 abbrev Reducer : ℕ → Name → Name → Statement → List Kind → Type 0
 Reducer n x y s p = (f : Name) × (e : Expr) × (s ≡ reducer x y f e) × ExprFits e whole_line n × (p ≡ Word word.UseReducer ∷ Mark sign.OpenParen ∷ Lower f ∷ Mark sign.Comma ∷ (expr_tokens e ++ Mark sign.CloseParen ∷ Mark sign.Semicolon ∷ []))
 
-hook_reads : (n : ℕ) (x y : Name) → Reads (hook_at n x y) (Or (State n x y) (Reducer n x y)) 1 0 true
+abbrev Transition : Name → Name → Statement → List Kind → Type 0
+Transition x y s p = (s ≡ transition x y) × (p ≡ Word word.UseTransition ∷ Mark sign.OpenParen ∷ Mark sign.CloseParen ∷ Mark sign.Semicolon ∷ [])
+
+abbrev Hook : ℕ → Name → Name → Statement → List Kind → Type 0
+Hook n x y = Or (State n x y) (Or (Transition x y) (Reducer n x y))
+
+hook_reads : (n : ℕ) (x y : Name) → Reads (hook_at n x y) (Hook n x y) 1 0 true
 unfolding hook_at
 hook_reads n x y = alt (is_word word.UseState)
     (said (State n x y) 1 0 (after (reserved word.UseState) (λ w. after (mark sign.OpenParen) (λ p. seq (argument_reads n) (λ e. pure (state x y e) 0) (omega arith)) (omega arith)) (omega arith)) (omega arith) (omega arith)
     (λ s p h. let a = h.4.4 in (a.0, a.5.0, a.4.0, let b = a.4.1 in let nil = append-nil a.1 in cc))
     (λ s p l. (tt, _, l.3, tt, (tt, _, refl, tt, (l.0, _, [], sym (append-nil _), (l.2, refl), (l.1, refl))))))
+    (alt (is_word word.UseTransition)
+    (said (Transition x y) 1 0 (after (reserved word.UseTransition) (λ w. after (mark sign.OpenParen) (λ p. after (mark sign.CloseParen) (λ c. after (mark sign.Semicolon) (λ s. pure (transition x y) 0) (omega arith)) (omega arith)) (omega arith)) (omega arith)) (omega arith) (omega arith)
+    (λ s p h. (h.4.4.4.4.0, cc))
+    (λ s p l. (tt, _, l.1, tt, (tt, _, refl, tt, (tt, _, refl, tt, (tt, [], refl, tt, (l.0, refl)))))))
     (said (Reducer n x y) 1 0 (after (reserved word.UseReducer) (λ w. after (mark sign.OpenParen) (λ p. after lower (λ f. after (mark sign.Comma) (λ c. seq (argument_reads n) (λ e. pure (reducer x y f e) 0) (omega arith)) (omega arith)) (omega arith)) (omega arith)) (omega arith)) (omega arith) (omega arith)
     (λ s p h. let a = h.4.4.4.4 in (h.4.4.0, a.0, a.5.0, a.4.0, let b = a.4.1 in let nil = append-nil a.1 in cc))
     (λ s p l. (tt, _, l.4, tt, (tt, _, refl, tt, (l.0, _, refl, tt, (tt, _, refl, tt, (l.1, _, [], sym (append-nil _), (l.3, refl), (l.2, refl))))))))
+    (λ s p l. (Word word.UseTransition, _, l.1, refl))
+    (avoids (is_word word.UseTransition) (Reducer n x y) 0 (λ s p l. (Word word.UseReducer, _, l.4, refl))))
     (λ s p l. (Word word.UseState, _, l.3, refl))
-    (avoids (is_word word.UseState) (Reducer n x y) 0 (λ s p l. (Word word.UseReducer, _, l.4, refl)))
+    (avoids (is_word word.UseState) (Or (Transition x y) (Reducer n x y)) 0
+    (misses_or (is_word word.UseState) (Transition x y) (Reducer n x y) (λ s p l. (Word word.UseTransition, _, l.1, refl)) (λ s p l. (Word word.UseReducer, _, l.4, refl))))
 
 -- behind `const`
 abbrev Pair : ℕ → Statement → List Kind → Type 0
-Pair n s p = (x : Name) × (y : Name) × (v : List Kind) × (p ≡ Mark sign.OpenBracket ∷ Lower x ∷ Mark sign.Comma ∷ Lower y ∷ Mark sign.CloseBracket ∷ Mark sign.Equals ∷ v) × Or (State n x y) (Reducer n x y) s v
+Pair n s p = (x : Name) × (y : Name) × (v : List Kind) × (p ≡ Mark sign.OpenBracket ∷ Lower x ∷ Mark sign.Comma ∷ Lower y ∷ Mark sign.CloseBracket ∷ Mark sign.Equals ∷ v) × Hook n x y s v
 
 pair_reads : (n : ℕ) → Reads (pair_at n) (Pair n) 1 0 true
 unfolding pair_at
@@ -195,7 +208,8 @@ effect_ends ks = simp append_assoc
 
 statement_to : (n : ℕ) (s : Statement) (p : List Kind) → Any n s p → StatementL n s p
 statement_to n s p (inl (u, v, e, t, inl (x, y, w, f, inl (a, made, fit, g)))) = subst (λ z. StatementL n z p) (sym made) (fit, let h = ends (expr_tokens a) in cc)
-statement_to n s p (inl (u, v, e, t, inl (x, y, w, f, inr (c, a, made, fit, g)))) = subst (λ z. StatementL n z p) (sym made) (fit, let h = ends (expr_tokens a) in cc)
+statement_to n s p (inl (u, v, e, t, inl (x, y, w, f, inr (inl (made, g))))) = subst (λ z. StatementL n z p) (sym made) (tt, cc)
+statement_to n s p (inl (u, v, e, t, inl (x, y, w, f, inr (inr (c, a, made, fit, g))))) = subst (λ z. StatementL n z p) (sym made) (fit, let h = ends (expr_tokens a) in cc)
 statement_to n s p (inl (u, v, e, t, inr (x, w, f, inl (c, made, g)))) = subst (λ z. StatementL n z p) (sym made) (tt, cc)
 statement_to n s p (inl (u, v, e, t, inr (x, w, f, inr (inl (r, made, named, g))))) = subst (λ z. StatementL n z p) (sym made) (resource_named r named, cc)
 statement_to n s p (inl (u, v, e, t, inr (x, w, f, inr (inr (a, made, fit, g))))) = subst (λ z. StatementL n z p) (sym made) (fit, cc)
@@ -206,7 +220,8 @@ statement_back : (n : ℕ) (s : Statement) (p : List Kind) → StatementL n s p 
 statement_back n (state x y e) p l =
     inl (tt, _, l.1, tt, inl (x, y, _, refl, inl (e, refl, l.0, ap (λ z. Word word.UseState ∷ Mark sign.OpenParen ∷ z) (ends (expr_tokens e)))))
 statement_back n (reducer x y f e) p l =
-    inl (tt, _, l.1, tt, inl (x, y, _, refl, inr (f, e, refl, l.0, ap (λ z. Word word.UseReducer ∷ Mark sign.OpenParen ∷ Lower f ∷ Mark sign.Comma ∷ z) (ends (expr_tokens e)))))
+    inl (tt, _, l.1, tt, inl (x, y, _, refl, inr (inr (f, e, refl, l.0, ap (λ z. Word word.UseReducer ∷ Mark sign.OpenParen ∷ Lower f ∷ Mark sign.Comma ∷ z) (ends (expr_tokens e))))))
+statement_back n (transition x y) p l = inl (tt, _, l.1, tt, inl (x, y, _, refl, inr (inl (refl, refl))))
 statement_back n (context x c) p l = inl (tt, _, l.1, tt, inr (x, _, refl, inl (c, refl, refl)))
 statement_back n (use_resource x r) p l = inl (tt, _, l.1, tt, inr (x, _, refl, inr (inl (r, refl, named_resource r l.0.0 l.0.1, refl))))
 statement_back n (constant x e) p l = inl (tt, _, l.1, tt, inr (x, _, refl, inr (inr (e, refl, l.0, refl))))

@@ -17,7 +17,7 @@ use Rattle.rx_ast.specs.ExprView.{links_of}
 use Rattle.rx_ast.specs.Syntax.{Expr, number, variable, grouped, prefixed, chain, chosen, called, exprs_of}
 use Rattle.rx_ast.specs.Syntax.{Attribute, key, computed, literal, KeyPlace, unkeyed, key_first, key_last, at_once, by_tag, parentheses, braces}
 use Rattle.rx_ast.specs.Syntax.{Slot, null, words, number_of, children, repeated, choice, enclosed, no_slots, slots_of}
-use Rattle.rx_ast.specs.Syntax.{Body, single, fragment, enclosed_fragment, Statement, state, reducer, context, use_resource, constant, effect}
+use Rattle.rx_ast.specs.Syntax.{Body, single, fragment, enclosed_fragment, Statement, state, reducer, transition, context, use_resource, constant, effect}
 use Rattle.rx_ast.specs.Syntax.{Line, Parameter, integer, given_children, Declaration, of_context, of_function, of_component, Program}
 use Rattle.rx_print.specs.Printing.{prefix_sign}
 use Rattle.rx_print.specs.Levels.{operator_line, or_line}
@@ -365,7 +365,8 @@ argument_at n ts = expr_at n ts >>= λ e. sign_at sign.CloseParen e.1 >>= λ c. 
 unfoldable pub hook_at : ℕ → Name → Name → List Kind → Read Statement
 hook_at n x y ts =
     if next (is_word word.UseState) ts then (taken (as_word word.UseState) ts >>= λ w. sign_at sign.OpenParen w.1 >>= λ p. argument_at n p.1 >>= λ e. Ok (state x y e.0, e.1))
-    else (taken (as_word word.UseReducer) ts >>= λ w. sign_at sign.OpenParen w.1 >>= λ p. taken as_lower p.1 >>= λ f. sign_at sign.Comma f.1 >>= λ c. argument_at n c.1 >>= λ e. Ok (reducer x y f.0 e.0, e.1))
+    else (if next (is_word word.UseTransition) ts then (taken (as_word word.UseTransition) ts >>= λ w. sign_at sign.OpenParen w.1 >>= λ p. sign_at sign.CloseParen p.1 >>= λ c. sign_at sign.Semicolon c.1 >>= λ s. Ok (transition x y, s.1))
+    else (taken (as_word word.UseReducer) ts >>= λ w. sign_at sign.OpenParen w.1 >>= λ p. taken as_lower p.1 >>= λ f. sign_at sign.Comma f.1 >>= λ c. argument_at n c.1 >>= λ e. Ok (reducer x y f.0 e.0, e.1)))
 
 -- `[name, setter] =` and a hook
 unfoldable pub pair_at : ℕ → List Kind → Read Statement

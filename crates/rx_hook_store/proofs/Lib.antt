@@ -8,3 +8,4 @@ pub mod Numbered
 pub mod Staying
 pub mod Idle
 pub mod Listing
+pub mod Reserving

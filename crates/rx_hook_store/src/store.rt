@@ -1,5 +1,5 @@
 // The hooks of the mounted instances.
-ghost use Rattle.std.specs.Prelude.{◌≡◌, ◌+◌, ◌^◌, ◌<◌, ◌≤◌, ℕ, ℤ, true, false, nat_eq, List, Some, None, OnOk, OnErr, IfOk, IfSome, IsSome, IsSomeAnd, if◌then◌else◌, length, map, slice_get};
+ghost use Rattle.std.specs.Prelude.{◌≡◌, ◌+◌, ◌^◌, ◌<◌, ◌≤◌, ℕ, ℤ, true, false, nat_eq, List, Some, None, OnOk, OnErr, IfOk, IfSome, IsOk, IsSome, IsSomeAnd, if◌then◌else◌, length, map, slice_get};
 ghost use Rattle.rx_ast.specs.Syntax.{Program};
 ghost use Rattle.rx_base.specs.declared.cut.Cut.{Cut};
 ghost use Rattle.rx_lane.specs.Lanes.{Lanes};
@@ -7,7 +7,7 @@ ghost use Rattle.rx_elem.specs.Spots.{Mounted, mounted};
 ghost use Rattle.rx_queue.specs.Journal.{hook};
 ghost use Rattle.rx_queue.specs.History.{Answers, committed_value};
 ghost use Rattle.rx_hooks.specs.declared.hook.Hook.{Hook};
-ghost use Rattle.rx_hooks.specs.Hooks.{HookHistory, HooksStandFor, changed_at, committed_hook, owed_hook};
+ghost use Rattle.rx_hooks.specs.Hooks.{HookHistory, HooksStandFor, changed_at, committed_hook, owed_hook, room_at};
 ghost use Rattle.rx_meaning.specs.Expressions.{answers_of};
 ghost use Rattle.rx_meaning.specs.Fresh.{Sight, hook_values};
 ghost use Rattle.rx_meaning.specs.Settled.{DoneBefore, done_values, known_by};
@@ -15,7 +15,7 @@ ghost use Rattle.rx_model.specs.State.{State, committed_values, linked_lanes, op
 ghost use Rattle.rx_model.specs.Accepting.{dispatched_for, lane_of};
 ghost use Rattle.rx_model.specs.HooksOf.{KeepsAllHooks};
 ghost use Rattle.commit_laws.specs.WaitsAgain.{without_lanes};
-ghost use Rattle.rx_hook_store.specs.Store.{kept_hooks};
+ghost use Rattle.rx_hook_store.specs.Store.{hook_room, kept_hooks};
 ghost use Rattle.rx_hook_store.specs.Gives.{GivesValues, has_news_in, has_work_in};
 ghost use Rattle.rx_hook_store.specs.Rendered.{IsRendered, KeepsInstance, RendersHooks};
 ghost use Rattle.rx_hook_store.specs.Changing.{ChangesHooks, dispatched_hook, lanes_linked};
@@ -73,6 +73,8 @@ fn send(
     ensures linked { IfOk result (λ lanes. (answers : Answers) (histories : List HookHistory) (history : HookHistory)
         → HooksStandFor answers hooks.old histories → slice_get histories place ≡ Some history
         → lanes ≡ lanes_linked word update pending history.linked) }
+    ensures succeeds { 0 < room_at place hooks.old → IsOk result }
+    ensures room { room_at place hooks.old ≤ room_at place hooks.new + 1 }
 {
     let lane = update.lane;
     hooks.push(place, update)?;
@@ -192,9 +194,39 @@ impl HookStore {
         values
     }
 
-    /// Sends an update to a hook of an instance, by its place from 0. A transition also links the update's lane with those
-    /// lanes of the hook that are still pending, and gives all of them: React renders the transitions of one queue together
-    /// (react.dev, useTransition). An `Err` changes nothing.
+    /// Makes room for so many updates more of a hook of an instance, by its place from 0. An `Err` changes nothing.
+    ///
+    /// # Errors
+    ///
+    /// Only if out of memory.
+    pub fn reserve_updates(
+        &mut self,
+        instance: u64,
+        place: u32,
+        more: usize,
+    ) -> Result<(), AllocError>
+        requires { IsSomeAnd (kept_hooks self.old instance) (λ hooks. place < length hooks) }
+        ensures ok { OnOk result (more ≤ hook_room instance place (kept_hooks self.new)) }
+        ensures err { OnErr result ((n : ℕ) → kept_hooks self.new n ≡ kept_hooks self.old n) }
+        ensures spare { self.new.spare ≡ self.old.spare }
+
+        // The hooks stand for what they stood for.
+        ensures same { ChangesHooks (λ histories. histories) instance (kept_hooks self.old) (kept_hooks self.new) }
+
+        // What gave a render its values still does, what is kept stands for the machine's state as before, and what a render
+        // has rendered stays so.
+        ensures still { (s : Sight) (k : ℕ) (initials : List ℤ) → GivesValues s (kept_hooks self.old) k initials → GivesValues s (kept_hooks self.new) k initials }
+        ensures states { (p : Program) (s : State) → KeepsAllHooks p s (kept_hooks self.old) → KeepsAllHooks p s (kept_hooks self.new) }
+        ensures rendered { (p : Program) (s : State) (lanes : Lanes) (cut : Cut) (k : ℕ) (initials : List ℤ) → IsRendered p s lanes cut (kept_hooks self.old) k initials
+            → IsRendered p s lanes cut (kept_hooks self.new) k initials }
+    {
+        let hooks = self.hooks.get_mut(&instance).unwrap();
+        hooks.reserve(place, more)
+    }
+
+    /// Sends an update to a hook of an instance, by its place from 0. If the hook has room for it, it succeeds. A transition
+    /// also links the update's lane with those lanes of the hook that are still pending, and gives all of them: React renders
+    /// the transitions of one queue together (react.dev, useTransition). An `Err` changes nothing.
     ///
     /// # Errors
     ///
@@ -225,6 +257,10 @@ impl HookStore {
         ensures rendered { OnOk result ((p : Program) (s : State) (lanes : Lanes) (cut : Cut) (k : ℕ) (initials : List ℤ) → update.number ≡ length s.journal.updates
             → update.lane ≡ lane_of s word → pending ≡ s.schedule.pending → cut.updates ≤ update.number → IsRendered p s lanes cut (kept_hooks self.old) k initials
             → IsRendered p (dispatched_for s word (hook instance place) update.op) lanes cut (kept_hooks self.new) k initials) }
+
+        // It succeeds if there is room, and takes no more of it than for one update.
+        ensures succeeds { 0 < hook_room instance place (kept_hooks self.old) → IsOk result }
+        ensures room { hook_room instance place (kept_hooks self.old) ≤ hook_room instance place (kept_hooks self.new) + 1 }
     {
         let hooks = self.hooks.get_mut(&instance).unwrap();
         let linked = send(hooks, place, word, update, pending);

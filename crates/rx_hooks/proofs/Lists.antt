@@ -1,5 +1,5 @@
 -- Facts on one hook, carried to a list of hooks.
-use Rattle.std.proofs.Common.{◌≡◌, ℕ, zero, suc, ◌+◌, ◌<◌, ◌∙◌, Bool, true, false, ◌||◌, if◌then◌else◌, add-one, Some, List, [], ◌∷◌, ◌++◌, length, take, map, get_or, slice_get, refl, sym, ap, arith, subst}
+use Rattle.std.proofs.Common.{◌≡◌, ℕ, zero, suc, ◌+◌, ◌<◌, ◌∙◌, Bool, true, false, ◌||◌, ◌↔◌, if◌then◌else◌, add-one, Some, List, [], ◌∷◌, ◌++◌, length, take, map, get_or, slice_get, refl, sym, ap, arith, subst}
 use Rattle.std.specs.List.{list_any, AllZip}
 use Rattle.std.proofs.Math.ListN.{set}
 use Rattle.std.proofs.lemmas.List.Folds.{list_any-append}
@@ -12,7 +12,7 @@ use Rattle.rx_queue.specs.declared.queue.Work.TheVariants.{New, Owed, Nothing}
 use Rattle.rx_queue.specs.History.{Answers, IsAboveDone, is_pending, pending_of, state_of}
 use Rattle.rx_queue.specs.Stands.{work_of}
 use Rattle.rx_hooks.specs.declared.hook.Hook.{Hook}
-use Rattle.rx_hooks.specs.Hooks.{AllAboveDone, HookHistory, HookStandsFor, HooksStandFor, changed_at, is_new_work, is_owed_work, rendered, states_of, pending_of_hooks, work_among, work_of_hooks}
+use Rattle.rx_hooks.specs.Hooks.{AllAboveDone, HookHistory, HookStandsFor, HooksStandFor, changed_at, is_new_work, is_owed_work, rendered, room_at, states_of, pending_of_hooks, work_among, work_of_hooks}
 
 -- ---- what each hook does, all do
 
@@ -67,6 +67,18 @@ stand-changed_at answers (k ∷ kept) [] place change d new within stand one = a
 stand-changed_at answers (k ∷ kept) (h ∷ hs) zero change d new within stand one = (one h stand.0, stand.1)
 stand-changed_at answers (k ∷ kept) (h ∷ hs) (suc place) change d new within stand one =
     (stand.0, stand-changed_at answers kept hs place change d new (omega arith) stand.1 one)
+
+-- one hook gives way to one that stands for just what it stood for
+pub stand-as_at : (answers : Answers) (kept : List Hook) (histories : List HookHistory) (place : ℕ) (d new : Hook) → place < length kept
+    → ((history : HookHistory) → HookStandsFor answers (get_or kept place d) history ↔ HookStandsFor answers new history)
+    → HooksStandFor answers kept histories ↔ HooksStandFor answers (set kept place new) histories
+stand-as_at answers [] histories place d new within alike = absurd (omega arith)
+stand-as_at answers (k ∷ kept) [] zero d new within alike = (λ stand. absurd stand, λ stand. absurd stand)
+stand-as_at answers (k ∷ kept) [] (suc place) d new within alike = (λ stand. absurd stand, λ stand. absurd stand)
+stand-as_at answers (k ∷ kept) (h ∷ hs) zero d new within alike = (λ stand. ((alike h).0 stand.0, stand.1), λ stand. ((alike h).1 stand.0, stand.1))
+stand-as_at answers (k ∷ kept) (h ∷ hs) (suc place) d new within alike =
+    let rest = stand-as_at answers kept hs place d new (omega arith) alike in
+    (λ stand. (stand.0, rest.0 stand.1), λ stand. (stand.0, rest.1 stand.1))
 
 -- one hook of the list
 pub stand-at : (answers : Answers) (kept : List Hook) (histories : List HookHistory) (place : ℕ) (d : Hook) (history : HookHistory)
@@ -161,3 +173,26 @@ pending-more answers kept histories i d here within stand one =
     lanes_agree (λ l. has (pending_of_hooks (take i histories)) l || has here l) (λ l. list_any (λ (h : HookHistory). is_pending h.updates.entries l) (take (i + 1) histories))
     (λ l. ap (λ b. b || has here l) (has-lanes_where (λ m. list_any (λ (h : HookHistory). is_pending h.updates.entries m) (take i histories)) l)
     ∙ sym (pending-has answers kept histories i d here l within stand one))
+
+-- ---- room
+
+-- the room of one hook of the list
+pub room-at : (kept : List Hook) (place : ℕ) (d : Hook) → place < length kept → room_at place kept ≡ (get_or kept place d).queue.room
+room-at [] place d within = absurd (omega arith)
+room-at (k ∷ kept) zero d within = refl
+room-at (k ∷ kept) (suc place) d within = room-at kept place d (omega arith)
+
+-- the room of a hook that takes its place
+pub room-set : (kept : List Hook) (place : ℕ) (new : Hook) → place < length kept → room_at place (set kept place new) ≡ new.queue.room
+room-set [] place new within = absurd (omega arith)
+room-set (k ∷ kept) zero new within = refl
+room-set (k ∷ kept) (suc place) new within = room-set kept place new (omega arith)
+
+-- a hook that takes its place with the same room leaves the room of each
+pub room-same : (kept : List Hook) (place other : ℕ) (d new : Hook) → place < length kept → (get_or kept place d).queue.room ≡ new.queue.room
+    → room_at other (set kept place new) ≡ room_at other kept
+room-same [] place other d new within same = absurd (omega arith)
+room-same (k ∷ kept) zero zero d new within same = sym same
+room-same (k ∷ kept) zero (suc other) d new within same = refl
+room-same (k ∷ kept) (suc place) zero d new within same = refl
+room-same (k ∷ kept) (suc place) (suc other) d new within same = room-same kept place other d new (omega arith) same

@@ -97,3 +97,11 @@ pub record HookStandsFor (answers : Answers) (kept : Hook) (hook : HookHistory) 
 -- a list of hooks stands for as many histories, each for its own
 abbrev pub HooksStandFor : Answers → List Hook → List HookHistory → Type 0
 HooksStandFor answers kept hooks = AllZip (HookStandsFor answers) kept hooks
+
+-- ---- their room
+
+-- how many more updates the hook at a place has room for; none if there is no hook
+abbrev pub room_at : (place : ℕ) → List Hook → ℕ
+room_at place [] = 0
+room_at zero (hook ∷ hooks) = hook.queue.room
+room_at (suc place) (hook ∷ hooks) = room_at place hooks

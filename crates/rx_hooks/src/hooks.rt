@@ -1,8 +1,8 @@
 // The hooks of a component instance.
-ghost use Rattle.std.specs.Prelude.{◌≡◌, ◌≤◌, ◌<◌, ◌↔◌, IsTrue, [], List, length, map, slice_get, Some, OnOk, OnErr, IfOk, vec_capacity};
+ghost use Rattle.std.specs.Prelude.{◌≡◌, ◌+◌, ◌≤◌, ◌<◌, ◌↔◌, ℕ, IsTrue, [], List, length, map, slice_get, Some, OnOk, OnErr, IfOk, IsOk, vec_capacity};
 ghost use Rattle.rx_queue.specs.History.{Answers, committed_value};
 ghost use Rattle.rx_hooks.specs.declared.hook.Hook.{Hook};
-ghost use Rattle.rx_hooks.specs.Hooks.{AllAboveDone, HookHistory, HooksStandFor, changed_at, committed_hook, links_with, mounted, owed_hook, pending_of_hooks, relinked, rendered, sent, states_of, work_of_hooks};
+ghost use Rattle.rx_hooks.specs.Hooks.{AllAboveDone, HookHistory, HooksStandFor, changed_at, committed_hook, links_with, mounted, owed_hook, pending_of_hooks, relinked, rendered, room_at, sent, states_of, work_of_hooks};
 
 use crate::hook::Hook;
 use crate::work::first_work;
@@ -111,7 +111,25 @@ impl Hooks {
         Ok(Hooks { hooks })
     }
 
-    /// Sends an update to a hook, by its place from 0. An `Err` changes nothing.
+    /// Makes room for so many updates more of a hook, by its place from 0. An `Err` changes nothing.
+    ///
+    /// # Errors
+    ///
+    /// Only if out of memory.
+    pub fn reserve(&mut self, hook: u32, more: usize) -> Result<(), AllocError>
+        requires { hook < length self.old }
+        ensures ok { OnOk result (more ≤ room_at hook self.new) }
+        ensures err { OnErr result (self.new ≡ self.old) }
+
+        // They stand for just what they stood for.
+        ensures same { (answers : Answers) (histories : List HookHistory) → HooksStandFor answers self.old histories ↔ HooksStandFor answers self.new histories }
+        ensures count { length self.new ≡ length self.old }
+    {
+        let hook = &mut self.hooks[hook as usize];
+        hook.queue.reserve(more)
+    }
+
+    /// Sends an update to a hook, by its place from 0. If the hook has room for it, it succeeds. An `Err` changes nothing.
     ///
     /// # Errors
     ///
@@ -122,6 +140,10 @@ impl Hooks {
             → HooksStandFor answers self.new (changed_at hook (sent update) histories)) }
         ensures count { length self.new ≡ length self.old }
         ensures err { OnErr result (self.new ≡ self.old) }
+
+        // It succeeds if there is room, and takes no more of it than for one update.
+        ensures succeeds { 0 < room_at hook self.old → IsOk result }
+        ensures room { room_at hook self.old ≤ room_at hook self.new + 1 }
     {
         let hook = &mut self.hooks[hook as usize];
         hook.queue.push(update)
@@ -219,6 +241,7 @@ impl Hooks {
         ensures count { length self.new ≡ length self.old }
         ensures linked { (answers : Answers) (histories : List HookHistory) (history : HookHistory) → HooksStandFor answers self.old histories
             → slice_get histories hook ≡ Some history → result ≡ links_with lane pending history.linked }
+        ensures room { (place : ℕ) → room_at place self.new ≡ room_at place self.old }
     {
         let hook = &mut self.hooks[hook as usize];
         let linked = hook.linked.intersection(pending).union(Lanes::one(lane));

@@ -41,6 +41,7 @@ const CUT: Cut = Cut {
 #[test]
 fn each_hook_has_a_state_of_its_own(rt: HostRuntime) -> Result<(), Fail> {
     let mut hooks = mounted(rt.alloc())?;
+    hooks.reserve(1, 2)?;
     hooks.push(1, update(0, 7, Lane::Sync))?;
     hooks.push(1, update(1, 8, Lane::T1))?;
     let sync = Lanes::one(Lane::Sync);

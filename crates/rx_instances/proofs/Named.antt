@@ -12,20 +12,23 @@ use Rattle.rx_ast.specs.Syntax.{Component, Program}
 use Rattle.rx_rules.specs.Names.{StateHook, component_at, function_number, has_name, hook_in, hook_names, hooks_of, place_among}
 use Rattle.rx_names.specs.Listed.{function_names}
 use Rattle.rx_check.specs.Accepted.{IsAccepted}
-use Rattle.rx_check.specs.Tables.{hook_among, hook_named, kind_of}
+use Rattle.rx_check.specs.Tables.{hook_among, hook_named, kind_of, plain_kind}
 use Rattle.rx_check.specs.declared.hook.HookKind.TheVariants as kind
 use Rattle.rx_check.proofs.Limited.{few-statements, fewer}
 use Rattle.rx_instances.specs.Kinds.{function_in, number_in}
 use Rattle.rx_model.specs.State.{hook_number, reducer_named}
 
-number_of_kind : (fs : List Name) (n : ℕ) (r : Option Name) → number_in (option_map_or (λ f. kind.Reducer n (place_among fs f)) r (kind.State n)) ≡ n
-number_of_kind fs n None = refl
-number_of_kind fs n (Some f) = refl
+number_of_kind : (fs : List Name) (n : ℕ) (r : Option Name) (flag : Bool)
+    → number_in (option_map_or (λ f. kind.Reducer n (place_among fs f)) r (plain_kind flag n)) ≡ n
+number_of_kind fs n None false = refl
+number_of_kind fs n None true = refl
+number_of_kind fs n (Some f) flag = refl
 
-function_of_kind : (fs : List Name) (n : ℕ) (r : Option Name)
-    → function_in fs (Some (option_map_or (λ f. kind.Reducer n (place_among fs f)) r (kind.State n))) ≡ place_among fs (unwrap_or r [])
-function_of_kind fs n None = refl
-function_of_kind fs n (Some f) = refl
+function_of_kind : (fs : List Name) (n : ℕ) (r : Option Name) (flag : Bool)
+    → function_in fs (Some (option_map_or (λ f. kind.Reducer n (place_among fs f)) r (plain_kind flag n))) ≡ place_among fs (unwrap_or r [])
+function_of_kind fs n None false = refl
+function_of_kind fs n None true = refl
+function_of_kind fs n (Some f) flag = refl
 
 -- a hook that is found stands where its name does
 among-number : (fs : List Name) (name : Name) (n : ℕ) (hs : List StateHook)
@@ -35,7 +38,7 @@ among-number fs name n (h ∷ hs) = go (bytes_eq name h.name) (among-number fs n
   where
     go : (b : Bool) → option_map number_in (hook_among fs name (n + 1) hs) ≡ position_from (bytes_eq name) (n + 1) (map (λ h. h.name) hs)
         → option_map number_in (cond b (Some (kind_of fs n h)) (hook_among fs name (n + 1) hs)) ≡ cond b (Some n) (position_from (bytes_eq name) (n + 1) (map (λ h. h.name) hs))
-    go true e = ap Some (number_of_kind fs n h.reducer)
+    go true e = ap Some (number_of_kind fs n h.reducer h.flag)
     go false e = e
 
 same_tests : (x y : Name) → bytes_eq x y ≡ bytes_eq y x
@@ -57,7 +60,7 @@ among-function fs name n (h ∷ hs) = rw (same_tests h.name name) (go (bytes_eq 
         → function_in fs (hook_among fs name (n + 1) hs) ≡ place_among fs (unwrap_or (option_and_then (λ h. h.reducer) (find (λ h. bytes_eq h.name name) hs)) [])
         → function_in fs (cond b (Some (kind_of fs n h)) (hook_among fs name (n + 1) hs))
         ≡ place_among fs (unwrap_or (option_and_then (λ h. h.reducer) (cond b (Some h) (find (λ h. bytes_eq h.name name) hs))) [])
-    go true e = function_of_kind fs n h.reducer
+    go true e = function_of_kind fs n h.reducer h.flag
     go false e = e
 
 -- the number of a hook of a component

@@ -1,15 +1,16 @@
 // What a dispatch says.
 ghost use Rattle.std.specs.Prelude.{◌≡◌, true, false};
-ghost use Rattle.rx_model.specs.Accepting.{op_of};
+ghost use Rattle.rx_model.specs.Accepting.{event_of, goes_on, op_of};
 ghost use Rattle.rx_model.specs.State.{reducer_named};
 ghost use Rattle.rx_names.specs.Listed.{function_names};
 ghost use Rattle.rx_rules.specs.Names.{function_number};
 ghost use Rattle.rx_step.specs.Steps.{hook_name, path_of, word_of};
-ghost use Rattle.rx_instances.specs.Kinds.{function_in, is_refresh};
+ghost use Rattle.rx_instances.specs.Kinds.{function_in, is_refresh, is_start};
 
-use rx_base::Name;
+use rx_base::{Int, Name};
 use rx_check::{Checked, HookKind};
 use rx_queue::Op;
+use rx_sched::Event;
 use rx_step::{Dispatch, LaneWord};
 
 /// The lane that a dispatch asks for.
@@ -21,6 +22,7 @@ pub fn dispatch_word(dispatch: &Dispatch) -> LaneWord
         | Dispatch::Call(word, ..)
         | Dispatch::Send(word, ..)
         | Dispatch::Refresh(word, _) => *word,
+        Dispatch::Start(word, ..) => word.lane(),
     }
 }
 
@@ -29,10 +31,52 @@ pub fn dispatch_path(dispatch: &Dispatch) -> &[(Name, u64)]
     ensures { result.now ≡ path_of dispatch.now }
 {
     match dispatch {
-        Dispatch::Set(_, path, ..) | Dispatch::Call(_, path, ..) | Dispatch::Send(_, path, ..) => {
-            &path.parts
-        }
+        Dispatch::Set(_, path, ..)
+        | Dispatch::Call(_, path, ..)
+        | Dispatch::Send(_, path, ..)
+        | Dispatch::Start(_, path, _) => &path.parts,
         Dispatch::Refresh(..) => &[],
+    }
+}
+
+// The event of a dispatch with this lane: it goes on with the one before it; if a start began that, only a transition does.
+fn goes_on(word: LaneWord, event: Event) -> Event
+    ensures { result ≡ goes_on word event }
+{
+    match word {
+        LaneWord::Transition => event,
+        LaneWord::Sync | LaneWord::Input | LaneWord::Default => {
+            if event.started {
+                Event::new(false)
+            } else {
+                event
+            }
+        }
+    }
+}
+
+/// The event that a dispatch is part of, by the one before it: a start begins one of its own (react.dev, startTransition).
+pub fn dispatch_event(dispatch: &Dispatch, event: Event) -> Event
+    ensures { result ≡ event_of dispatch.now event }
+{
+    match dispatch {
+        Dispatch::Set(word, ..)
+        | Dispatch::Call(word, ..)
+        | Dispatch::Send(word, ..)
+        | Dispatch::Refresh(word, _) => goes_on(*word, event),
+        Dispatch::Start(..) => Event::new(true),
+    }
+}
+
+/// Whether a dispatch starts a transition.
+pub fn is_start(dispatch: &Dispatch) -> bool
+    ensures { result ≡ is_start dispatch.now }
+{
+    match dispatch {
+        Dispatch::Start(..) => true,
+        Dispatch::Set(..) | Dispatch::Call(..) | Dispatch::Send(..) | Dispatch::Refresh(..) => {
+            false
+        }
     }
 }
 
@@ -42,7 +86,7 @@ pub fn is_refresh(dispatch: &Dispatch) -> bool
 {
     match dispatch {
         Dispatch::Refresh(..) => true,
-        Dispatch::Set(..) | Dispatch::Call(..) | Dispatch::Send(..) => false,
+        Dispatch::Set(..) | Dispatch::Call(..) | Dispatch::Send(..) | Dispatch::Start(..) => false,
     }
 }
 
@@ -54,6 +98,7 @@ pub fn dispatch_hook(dispatch: &Dispatch) -> &Name
         Dispatch::Set(_, _, name, _)
         | Dispatch::Call(_, _, name, _, _)
         | Dispatch::Send(_, _, name, _)
+        | Dispatch::Start(_, _, name)
         | Dispatch::Refresh(_, name) => name,
     }
 }
@@ -71,7 +116,9 @@ fn function_in(checked: &Checked, found: Option<HookKind>) -> u32
 {
     match found {
         Some(HookKind::Reducer { function, .. }) => function,
-        Some(HookKind::State { .. }) | None => function_number(checked, ""),
+        Some(HookKind::State { .. } | HookKind::Transition { .. }) | None => {
+            function_number(checked, "")
+        }
     }
 }
 
@@ -95,6 +142,7 @@ pub fn dispatch_op(checked: &Checked, component: u32, dispatch: &Dispatch) -> Op
         Dispatch::Send(_, _, name, action) => {
             Op::Call(reducer_number(checked, component, name), *action)
         }
+        Dispatch::Start(..) => Op::Set(Int::of(1)),
         Dispatch::Refresh(..) => Op::Refresh,
     }
 }

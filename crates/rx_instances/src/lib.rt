@@ -12,7 +12,9 @@ mod show;
 
 pub use awaits::awaited;
 pub use counts::{hidden_count, node_count};
-pub use dispatch::{dispatch_hook, dispatch_op, dispatch_path, dispatch_word, is_refresh};
+pub use dispatch::{
+    dispatch_event, dispatch_hook, dispatch_op, dispatch_path, dispatch_word, is_refresh, is_start,
+};
 pub use find::{Found, find_instance};
 pub use names::hook_place;
 pub use show::show_hooks;

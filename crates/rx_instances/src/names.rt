@@ -25,7 +25,9 @@ fn number_in(kind: HookKind) -> u32
     ensures { result ≡ number_in kind }
 {
     match kind {
-        HookKind::State { number } | HookKind::Reducer { number, .. } => number,
+        HookKind::State { number }
+        | HookKind::Reducer { number, .. }
+        | HookKind::Transition { number } => number,
     }
 }
 
@@ -45,7 +47,9 @@ fn hook_name(statement: &Statement) -> Option<&Name>
     ensures { option_copied result ≡ option_map (λ h. h.name) (hook_in statement.now) }
 {
     match &statement.kind {
-        StatementKind::State { name, .. } | StatementKind::Reducer { name, .. } => Some(name),
+        StatementKind::State { name, .. }
+        | StatementKind::Reducer { name, .. }
+        | StatementKind::Transition { name, .. } => Some(name),
         _ => None,
     }
 }

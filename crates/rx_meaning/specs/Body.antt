@@ -5,7 +5,7 @@ use Rattle.std.specs.Option.{option_map_or}
 use Rattle.std.specs.Fmt.{signed_decimal}
 use Rattle.rx_base.specs.Values.{Name}
 use Rattle.rx_base.specs.Arithmetic.{is_zero}
-use Rattle.rx_ast.specs.Syntax.{Expr, Statement, state, reducer, context, use_resource, constant, effect, Slot, Slots, Attribute, key, computed, literal, Component, Program, body_slots, slot_key}
+use Rattle.rx_ast.specs.Syntax.{Expr, Statement, state, reducer, transition, context, use_resource, constant, effect, Slot, Slots, Attribute, key, computed, literal, Component, Program, body_slots, slot_key}
 use Rattle.rx_ast.specs.Syntax as syntax
 use Rattle.rx_rules.specs.Names.{component_number, component_at, context_number, resource_number, prop_names}
 use Rattle.rx_elem.specs.Elements.{Element, Elements, Key, gathered}
@@ -73,6 +73,7 @@ with_effect e f = record f { effects = f.effects ++ e ∷ [] }
 abbrev pub take_one : Program → Inputs → Statement → Frame → Taken
 take_one p i (state name setter e) f = taken (with_hook i.hooks name (value_in p f.env e) f)
 take_one p i (reducer name setter function e) f = taken (with_hook i.hooks name (value_in p f.env e) f)
+take_one p i (transition name starter) f = taken (with_hook i.hooks name (pos 0) f)
 take_one p i (context name source) f =
     let c = context_number p source in taken (with_read name c (slice_index_or i.contexts c (pos 0)) f)
 take_one p i (use_resource name resource) f =

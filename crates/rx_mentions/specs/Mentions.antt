@@ -1,7 +1,7 @@
 -- What a program mentions, in the order of its text. Each check of names and counts is a filter of this list, so "the first place in the text" is the first of what the filter leaves.
 use Rattle.std.specs.Prelude.{Bool, true, false, ◌||◌, List, [], ◌∷◌, ◌++◌, length, fold, cond, filter_map, flat_map, Option, Some, None, codes}
 use Rattle.rx_base.specs.Values.{Name}
-use Rattle.rx_ast.specs.Syntax.{Expr, Links, Exprs, exprs, Attribute, key, computed, literal, KeyPlace, unkeyed, key_first, key_last, Slot, Slots, body_slots, Statement, state, reducer, context, use_resource, constant, effect, Parameter, integer, given_children, Line, Function, Component, Declaration, of_context, of_function, of_component, declared_name, Program}
+use Rattle.rx_ast.specs.Syntax.{Expr, Links, Exprs, exprs, Attribute, key, computed, literal, KeyPlace, unkeyed, key_first, key_last, Slot, Slots, body_slots, Statement, state, reducer, transition, context, use_resource, constant, effect, Parameter, integer, given_children, Line, Function, Component, Declaration, of_context, of_function, of_component, declared_name, Program}
 use Rattle.rx_ast.specs.Syntax as syntax
 use Rattle.rx_rules.specs.Names.{has_name}
 use Rattle.rx_rules.specs.Keys.{carries_key}
@@ -120,6 +120,7 @@ pair_mentions s x y = opened s x ∷ opened (bound s x) y ∷ []
 abbrev pub statement_mentions : Scope → Statement → List Mention
 statement_mentions s (state x y e) = pair_mentions s x y ++ expr_mentions s.values e
 statement_mentions s (reducer x y f e) = pair_mentions s x y ++ (mention.Reduction f ∷ expr_mentions s.values e)
+statement_mentions s (transition x y) = pair_mentions s x y
 statement_mentions s (context x c) = opened s x ∷ mention.Context c ∷ []
 statement_mentions s (use_resource x r) = opened s x ∷ mention.Resource r ∷ []
 statement_mentions s (constant x e) = opened s x ∷ expr_mentions s.values e
@@ -130,6 +131,7 @@ statement_mentions s (effect layout label es) =
 abbrev pub after_statement : Scope → Statement → Scope
 after_statement s (state x y e) = kept (bound s x) y
 after_statement s (reducer x y f e) = kept (bound s x) y
+after_statement s (transition x y) = kept (bound s x) y
 after_statement s (context x c) = bound s x
 after_statement s (use_resource x r) = bound s x
 after_statement s (constant x e) = bound s x

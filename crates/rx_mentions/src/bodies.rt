@@ -143,6 +143,7 @@ impl<'a> Walk<'a> {
                 self.reduction(function)?;
                 self.expr(scope.values(), initial)
             }
+            StatementKind::Transition { name, starter } => self.pair(scope, name, starter),
             StatementKind::Context { name, source } => {
                 self.opened(scope, name.text())?;
                 self.context(source)

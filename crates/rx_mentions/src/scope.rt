@@ -93,7 +93,11 @@ impl<'a> Scope<'a> {
     {
         match &statement.kind {
             StatementKind::State { name, setter, .. }
-            | StatementKind::Reducer { name, setter, .. } => {
+            | StatementKind::Reducer { name, setter, .. }
+            | StatementKind::Transition {
+                name,
+                starter: setter,
+            } => {
                 self.bind(name)?;
                 self.keep(setter.text())
             }

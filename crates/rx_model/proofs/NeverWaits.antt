@@ -115,6 +115,7 @@ or-right false b e = e
 takes-one : (p : Program) (i : Inputs) (t : Statement) (f : Frame) → is_some (resource_in t) ≡ false → (g : Frame) × (take_one p i t f ≡ taken g)
 takes-one p i (syntax.state x y e) f h = (_, refl)
 takes-one p i (syntax.reducer x y g e) f h = (_, refl)
+takes-one p i (syntax.transition x y) f h = (_, refl)
 takes-one p i (syntax.context x c) f h = (_, refl)
 takes-one p i (syntax.use_resource x r) f h = absurd (cc h)
 takes-one p i (syntax.constant x e) f h = (_, refl)

@@ -1,5 +1,5 @@
 -- Runs go on: each turn can be taken, a flush ends, and each step can be taken.
-use Rattle.std.proofs.Common.{◌≡◌, ◌≢◌, ◌⊎◌, inl, inr, ℕ, zero, suc, ◌+◌, ◌<◌, ◌≤◌, Bool, true, false, cond, List, [], ◌∷◌, ◌++◌, ℤ, length, map, refl, sym, ap, ◌∙◌, subst, arith, Option, Some, None}
+use Rattle.std.proofs.Common.{◌≡◌, ◌≢◌, ◌⊎◌, inl, inr, ℕ, zero, suc, ◌+◌, ◌<◌, ◌≤◌, Bool, true, false, cond, List, [], ◌∷◌, ◌++◌, ℤ, length, map, refl, sym, ap, ◌∙◌, subst, arith, Option, Some, None, pos}
 use Rattle.std.specs.Prelude.{not, ◌&&◌, ◌||◌, IfSome, is_some, option_map, nat_le}
 use Rattle.std.specs.List.{list_any, AllByRecursion}
 use Rattle.std.proofs.lemmas.List.{length-map}
@@ -36,7 +36,7 @@ use Rattle.rx_meaning.specs.Outcome.{Outcome, commit, defer, outcome, still_pend
 use Rattle.rx_lines.specs.Lines.{Counts}
 use Rattle.rx_model.specs.State.{State, Progress, opening, instance_found}
 use Rattle.rx_model.specs.Stretch.{Stretch, silent, followed_by}
-use Rattle.rx_model.specs.Accepting.{accepted, dispatched, dispatched_to, dispatched_for, in_event, lane_of, next_update, op_of, target_of, resolved, resolved_as, last_value, between_events}
+use Rattle.rx_model.specs.Accepting.{accepted, dispatched, dispatched_to, dispatched_for, enqueued, in_event, lane_of, next_update, op_of, target_of, resolved, resolved_as, last_value, between_events, unset_by, within}
 use Rattle.rx_model.specs.Committing.{passive_run, starting, sight_of, committed_state, ended, ended_by}
 use Rattle.rx_model.specs.Turns.{AnyRender, unit_bound, slice_of, Finishes, Yields, gone_on, Continues, TurnBy, Turn, choice_of}
 use Rattle.rx_model.specs.Machine.{IsAtRest, Flushes, Flush, FlushSync, StepTo}
@@ -431,7 +431,7 @@ accepted-can p s u number can =
       due = can.due;
     }
 
-dispatched_for-can : (p : Program) (s : State) (w : LaneWord) (t : Target) (o : Op) → CanGoOn p s → CanGoOn p (dispatched_for s w t o)
+pub dispatched_for-can : (p : Program) (s : State) (w : LaneWord) (t : Target) (o : Op) → CanGoOn p s → CanGoOn p (dispatched_for s w t o)
 dispatched_for-can p s word.Sync t o can = accepted-can p s (next_update s.journal t o (lane_of s word.Sync)) refl can
 dispatched_for-can p s word.Input t o can = accepted-can p s (next_update s.journal t o (lane_of s word.Input)) refl can
 dispatched_for-can p s word.Default t o can = accepted-can p s (next_update s.journal t o (lane_of s word.Default)) refl can
@@ -439,15 +439,26 @@ dispatched_for-can p s word.Transition t o can =
     let l = lane_of s word.Transition in
     accepted-can p (in_event word.Transition s t l) (next_update s.journal t o l) refl (record { below = can.below; due = can.due })
 
+unset_by-can : (p : Program) (s : State) (d : Dispatch) (t : Target) → CanGoOn p s → CanGoOn p (unset_by d t s)
+unset_by-can p s (dispatch.Set word path name x) t can = can
+unset_by-can p s (dispatch.Call word path name f x) t can = can
+unset_by-can p s (dispatch.Send word path name x) t can = can
+unset_by-can p s (dispatch.Start asked path name) t can = dispatched_for-can p s word.Transition t (op.Set (pos 0)) can
+unset_by-can p s (dispatch.Refresh word name) t can = can
+
 dispatched_to-can : (p : Program) (s : State) (d : Dispatch) (m : Option Mounted) → CanGoOn p s → CanGoOn p (dispatched_to p s d m).after
 dispatched_to-can p s d None can = can
-dispatched_to-can p s d (Some m) can = dispatched_for-can p s (word_of d) (target_of p d m) (op_of p m.component d) can
+dispatched_to-can p s d (Some m) can = unset_by-can p (dispatched_for s (word_of d) (target_of p d m) (op_of p m.component d)) d (target_of p d m) (dispatched_for-can p s (word_of d) (target_of p d m) (op_of p m.component d) can)
+
+enqueued-can : (p : Program) (s : State) (d : Dispatch) → CanGoOn p s → CanGoOn p (enqueued p s d).after
+enqueued-can p s (dispatch.Set word path name x) can = dispatched_to-can p s (dispatch.Set word path name x) (instance_found p s.tree path) can
+enqueued-can p s (dispatch.Call word path name f x) can = dispatched_to-can p s (dispatch.Call word path name f x) (instance_found p s.tree path) can
+enqueued-can p s (dispatch.Send word path name x) can = dispatched_to-can p s (dispatch.Send word path name x) (instance_found p s.tree path) can
+enqueued-can p s (dispatch.Start word path name) can = dispatched_to-can p s (dispatch.Start word path name) (instance_found p s.tree path) can
+enqueued-can p s (dispatch.Refresh word name) can = dispatched_for-can p s word (resource (resource_number p name)) op.Refresh can
 
 pub dispatched-can : (p : Program) (s : State) (d : Dispatch) → CanGoOn p s → CanGoOn p (dispatched p s d).after
-dispatched-can p s (dispatch.Set word path name x) can = dispatched_to-can p s (dispatch.Set word path name x) (instance_found p s.tree path) can
-dispatched-can p s (dispatch.Call word path name f x) can = dispatched_to-can p s (dispatch.Call word path name f x) (instance_found p s.tree path) can
-dispatched-can p s (dispatch.Send word path name x) can = dispatched_to-can p s (dispatch.Send word path name x) (instance_found p s.tree path) can
-dispatched-can p s (dispatch.Refresh word name) can = dispatched_for-can p s word (resource (resource_number p name)) op.Refresh can
+dispatched-can p s d can = enqueued-can p (within d s) d (record { below = can.below; due = can.due })
 
 pub resolved-can : (p : Program) (s : State) (name : Name) (x : ℤ) (o : Option ℤ) → CanGoOn p s → CanGoOn p (resolved_as p s name x o).after
 resolved-can p s name x None can = record { below = can.below; due = can.due }

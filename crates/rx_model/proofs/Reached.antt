@@ -6,20 +6,27 @@ use Rattle.rx_lane.specs.Lanes.{has}
 use Rattle.rx_ast.specs.Syntax.{Program}
 use Rattle.rx_rules.specs.Names.{resource_number}
 use Rattle.rx_step.specs.declared.step.Step.{Step}
+use Rattle.rx_step.specs.declared.step.LaneWord.{LaneWord}
+use Rattle.rx_step.specs.Steps.{Path}
+use Rattle.rx_elem.specs.Spots.{Mounted}
+use Rattle.rx_queue.specs.Journal.{hook, resource}
+use Rattle.rx_queue.specs.declared.update.Op.{Op}
+use Rattle.rx_queue.specs.declared.update.Op.TheVariants as op
 use Rattle.rx_step.specs.declared.step.Step.TheVariants as step
 use Rattle.rx_sched.specs.declared.choice.Choice.{Choice}
 use Rattle.rx_sched.specs.declared.choice.Choice.TheVariants as choice
 use Rattle.rx_meaning.specs.Outcome.{outcome}
-use Rattle.rx_model.specs.State.{State, Progress}
+use Rattle.rx_sched.specs.Events.{new_event}
+use Rattle.rx_model.specs.State.{State, Progress, instance_found}
 use Rattle.rx_model.specs.Stretch.{Stretch, silent, followed_by}
-use Rattle.rx_model.specs.Accepting.{between_events, last_value}
+use Rattle.rx_model.specs.Accepting.{between_events, dispatched_for, last_value}
 use Rattle.rx_model.specs.Committing.{passive_run, starting}
 use Rattle.rx_model.specs.Turns.{OfRender, AnyRender, unit_bound, GoesOn, Continues, TurnBy, choice_of}
 use Rattle.rx_model.specs.Machine.{IsAtRest, Flushes, FlushSync, StepTo, RunTo}
 use Rattle.rx_model.specs.Kept.{CanGoOn}
-use Rattle.rx_model.specs.Laws.{AppNeverWaits, DiscardsReach, IsReached, IsReachedBy, MovesTo, Progresses, RunsReach, StartIsReached}
+use Rattle.rx_model.specs.Laws.{AppNeverWaits, DiscardsReach, IsReached, IsReachedBy, Move, MovesTo, Progresses, RunsReach, StartIsReached, begins, discards, refreshes, sends, takes}
 use Rattle.rx_model.proofs.AskingLess.{any-run}
-use Rattle.rx_model.proofs.Progress.{ended-can, can-passive, can-between, dispatched-can, resolved-can, opening_can, goes_on_from}
+use Rattle.rx_model.proofs.Progress.{ended-can, can-passive, can-between, dispatched-can, dispatched_for-can, resolved-can, opening_can, goes_on_from}
 
 -- a stretch that is another one ends in a state that can go on, if that does
 same-can : (p : Program) (r q : Stretch) → r ≡ q → CanGoOn p q.after → CanGoOn p r.after
@@ -65,11 +72,14 @@ step-keeps p s step.Event r h can = same-can p r _ h (record { below = can.below
 step-keeps p s step.State r h can = same-can p r _ h (record { below = can.below; due = can.due })
 step-keeps p s step.Tree r h can = same-can p r _ h (record { below = can.below; due = can.due })
 
-move-keeps : (p : Program) (s : State) (x : Option Step) (t : State) → MovesTo p s x t → CanGoOn p s → CanGoOn p t
-move-keeps p s (Some x) t h can = subst (CanGoOn p) (sym h.2) (step-keeps p s x h.0 h.1 can)
-move-keeps p s None t h can = subst (CanGoOn p) (sym h) (record { below = can.below; due = tt })
+move-keeps : (p : Program) (s : State) (x : Move) (t : State) → MovesTo p s x t → CanGoOn p s → CanGoOn p t
+move-keeps p s (takes x) t h can = subst (CanGoOn p) (sym h.2) (step-keeps p s x h.0 h.1 can)
+move-keeps p s discards t h can = subst (CanGoOn p) (sym h) (record { below = can.below; due = tt })
+move-keeps p s (begins started) t h can = subst (CanGoOn p) (sym h) (record { below = can.below; due = can.due })
+move-keeps p s (sends w path k o) t h can = subst (CanGoOn p) (sym h.2) (dispatched_for-can p s w (hook h.0.number k) o can)
+move-keeps p s (refreshes w r) t h can = subst (CanGoOn p) (sym h) (dispatched_for-can p s w (resource r) op.Refresh can)
 
-moves-keep : (p : Program) (moves : List (Option Step)) (t : State) → IsReachedBy p moves t → CanGoOn p t
+moves-keep : (p : Program) (moves : List Move) (t : State) → IsReachedBy p moves t → CanGoOn p t
 moves-keep p [] t h = subst (CanGoOn p) (sym h) (opening_can p)
 moves-keep p (x ∷ before) t h = move-keeps p h.0 x t h.2 (moves-keep p before h.0 h.1)
 
@@ -83,7 +93,7 @@ start-reached p = ([], refl)
 
 -- after a step of a state that can be reached one can be reached
 pub step-reached : (p : Program) (s : State) (x : Step) (r : Stretch) → IsReached p s → StepTo AnyRender p s x r → IsReached p r.after
-step-reached p s x r h step = (Some x ∷ h.0, (s, h.1, (r, step, refl)))
+step-reached p s x r h step = (takes x ∷ h.0, (s, h.1, (r, step, refl)))
 
 -- and so after each run
 pub runs-reach : (p : Program) → RunsReach p
@@ -97,7 +107,20 @@ asked-runs-reach Asked p s h steps r run = runs-reach p s h steps r (any-run Ask
 
 -- and if a render is discarded
 pub discards-reach : (p : Program) → DiscardsReach p
-discards-reach p s h = (None ∷ h.0, (s, h.1, refl))
+discards-reach p s h = (discards ∷ h.0, (s, h.1, refl))
+
+-- and if an event begins
+pub begins-reach : (p : Program) (s : State) (started : Bool) → IsReached p s → IsReached p (record s { event = new_event started })
+begins-reach p s started h = (begins started ∷ h.0, (s, h.1, refl))
+
+-- if a hook is sent an update
+pub sends-reach : (p : Program) (s : State) (w : LaneWord) (path : Path) (m : Mounted) (k : ℕ) (o : Op) → instance_found p s.tree path ≡ Some m → IsReached p s
+    → IsReached p (dispatched_for s w (hook m.number k) o)
+sends-reach p s w path m k o found h = (sends w path k o ∷ h.0, (s, h.1, (m, found, refl)))
+
+-- and if a resource is asked for another version
+pub refreshes-reach : (p : Program) (s : State) (w : LaneWord) (r : ℕ) → IsReached p s → IsReached p (dispatched_for s w (resource r) op.Refresh)
+refreshes-reach p s w r h = (refreshes w r ∷ h.0, (s, h.1, refl))
 
 -- so each list of steps has a run from there, if App never waits
 pub progresses : (p : Program) → AppNeverWaits p → Progresses p

@@ -42,6 +42,13 @@ fn hook<'a>(
         let (initial, rest) = argument(alloc, rest, level)?;
         return Ok((Statement::state(name, setter, initial), rest));
     }
+    if next_is_word(rest, Keyword::UseTransition) {
+        let rest = expect_word(rest, Keyword::UseTransition)?;
+        let rest = expect(rest, Sign::OpenParen)?;
+        let rest = expect(rest, Sign::CloseParen)?;
+        let rest = expect(rest, Sign::Semicolon)?;
+        return Ok((Statement::transition(name, setter), rest));
+    }
     let rest = expect_word(rest, Keyword::UseReducer)?;
     let rest = expect(rest, Sign::OpenParen)?;
     let (function, rest) = lower(alloc, rest)?;

@@ -8,7 +8,7 @@ use Rattle.rx_ast.specs.declared.expr.Operator.TheVariants as operator
 use Rattle.rx_ast.specs.Syntax.{Expr, number, variable, grouped, prefixed, chain, chosen, called, Links, no_links, link, Exprs, no_exprs, expr, exprs_of}
 use Rattle.rx_ast.specs.Syntax.{Attribute, key, computed, literal, KeyPlace, unkeyed, key_first, key_last, Ending, at_once, by_tag, parentheses, braces}
 use Rattle.rx_ast.specs.Syntax.{Slot, null, words, number_of, children, repeated, choice, host, comp, boundary, provider, enclosed, Slots, no_slots, slot}
-use Rattle.rx_ast.specs.Syntax.{Body, single, fragment, enclosed_fragment, Statement, state, reducer, context, use_resource, constant, effect}
+use Rattle.rx_ast.specs.Syntax.{Body, single, fragment, enclosed_fragment, Statement, state, reducer, transition, context, use_resource, constant, effect}
 use Rattle.rx_ast.specs.Syntax.{Line, Parameter, Declaration, of_context, of_function, of_component, Program}
 use Rattle.rx_print.specs.Printing.{program_tokens}
 
@@ -151,6 +151,7 @@ BodyFits (enclosed_fragment ss) n = (1 < n) × SlotsFit ss (n - 2)
 abbrev pub StatementFits : Statement → (levels : ℕ) → Type 0
 StatementFits (state x y e) n = ExprFits e whole_line n
 StatementFits (reducer x y f e) n = ExprFits e whole_line n
+StatementFits (transition x y) n = Unit {0}
 StatementFits (context x c) n = Unit {0}
 StatementFits (use_resource x r) n = (r ≢ []) × IsRun is_word_byte r
 StatementFits (constant x e) n = ExprFits e whole_line n

@@ -16,7 +16,7 @@ use Rattle.rx_ast.specs.declared.expr.Operator.TheVariants as operator
 use Rattle.rx_ast.specs.Syntax.{Expr, number, variable, grouped, prefixed, chain, chosen, called, Links, no_links, link, Exprs, no_exprs, expr, exprs_of}
 use Rattle.rx_ast.specs.Syntax.{Attribute, key, computed, literal, KeyPlace, unkeyed, key_first, key_last, Ending, at_once, by_tag, parentheses, braces}
 use Rattle.rx_ast.specs.Syntax.{Slot, null, words, number_of, children, repeated, choice, host, comp, boundary, provider, enclosed, Slots, no_slots, slot}
-use Rattle.rx_ast.specs.Syntax.{Body, single, fragment, enclosed_fragment, Statement, state, reducer, context, use_resource, constant, effect}
+use Rattle.rx_ast.specs.Syntax.{Body, single, fragment, enclosed_fragment, Statement, state, reducer, transition, context, use_resource, constant, effect}
 use Rattle.rx_ast.specs.Syntax.{Line, Parameter, integer, given_children, Declaration, of_context, of_function, of_component, Program}
 
 -- the sign of an operator before an operand
@@ -173,6 +173,7 @@ abbrev pub statement_tokens : Statement → List Kind
 statement_tokens (state x y e) = pair_binding x y (Word word.UseState ∷ in_parentheses (expr_tokens e))
 statement_tokens (reducer x y f e) =
     pair_binding x y (Word word.UseReducer ∷ in_parentheses (Lower f ∷ Mark sign.Comma ∷ expr_tokens e))
+statement_tokens (transition x y) = pair_binding x y (Word word.UseTransition ∷ in_parentheses [])
 statement_tokens (context x c) = binding (Lower x) (Word word.UseContext ∷ in_parentheses (Upper c ∷ []))
 statement_tokens (use_resource x r) = binding (Lower x) (Word word.Use ∷ in_parentheses (Text r ∷ []))
 statement_tokens (constant x e) = binding (Lower x) (expr_tokens e)

@@ -104,6 +104,11 @@ impl Printer {
                 self.expr(initial)?;
                 self.closed_line()
             }
+            StatementKind::Transition { name, starter } => {
+                self.pair(name, starter)?;
+                self.opened(Keyword::UseTransition)?;
+                self.closed_line()
+            }
             StatementKind::Context { name, source } => self.context(name, source),
             StatementKind::Resource { name, resource } => self.resource(name, resource),
             StatementKind::Constant { name, value } => self.constant(name, value),

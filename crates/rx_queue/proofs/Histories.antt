@@ -276,9 +276,13 @@ owed_included lanes cut e = go (becomes_owed lanes cut e)
 
 -- ---- the calls of a queue
 
-pub pushes : (answers : Answers) (kept : Kept) (queue : List Entry) (history : History) (update : Update) → queue ≡ kept.queue ++ new_entry update ∷ []
-    → StandsFor answers kept history → StandsFor answers (record kept { queue = queue }) (pushed update history)
-pushes answers kept queue history update is stands =
+-- the room for more updates is none of what it stands for
+pub with_room : (answers : Answers) (kept : Kept) (room : ℕ) (history : History) → StandsFor answers kept history → StandsFor answers (record kept { room = room }) history
+with_room answers kept room history stands = record { queue_is = stands.queue_is; base_is = stands.base_is; committed_is = stands.committed_is }
+
+pub pushes : (answers : Answers) (kept : Kept) (queue : List Entry) (room : ℕ) (history : History) (update : Update) → queue ≡ kept.queue ++ new_entry update ∷ []
+    → StandsFor answers kept history → StandsFor answers (record kept { queue = queue; room = room }) (pushed update history)
+pushes answers kept queue room history update is stands =
     record {
       queue_is = is ∙ ap (λ (l : List Entry). l ++ new_entry update ∷ []) stands.queue_is ∙ sym (base_queue-push history.entries (new_entry update) refl);
       base_is = stands.base_is ∙ sym (state_before-push answers is_done history.initial history.entries (new_entry update) refl);
@@ -343,10 +347,10 @@ last-noted answers kept history lanes cut given stands above value base =
       done_included = noted_are_included lanes cut history.entries (done_are_included lanes cut history.entries above);
     }
 
-pub commits : (answers : Answers) (kept : Kept) (queue : List Entry) (history : History) (given : Processed)
+pub commits : (answers : Answers) (kept : Kept) (queue : List Entry) (room : ℕ) (history : History) (given : Processed)
     → queue ≡ drop (prefix_len is_done (map settled kept.queue)) (map settled kept.queue) → StandsFor answers kept history → IsLast answers history given
-    → StandsFor answers (record { base = given.base; committed = given.value; queue = queue }) (committed history)
-commits answers kept queue history given is stands last =
+    → StandsFor answers (record { base = given.base; committed = given.value; queue = queue; room = room }) (committed history)
+commits answers kept queue room history given is stands last =
     record {
       queue_is = is ∙ base_queue-drop (map settled kept.queue) ∙ ap (λ (l : List Entry). base_queue (map settled l)) stands.queue_is
           ∙ base_queue-map_more settled settled_done history.entries;

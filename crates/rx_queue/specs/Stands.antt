@@ -1,5 +1,5 @@
 -- What a queue keeps, and which histories it stands for.
-use Rattle.std.specs.Prelude.{◌≡◌, true, if◌then◌else◌, Bool, List, [], ◌∷◌, ℤ}
+use Rattle.std.specs.Prelude.{◌≡◌, true, if◌then◌else◌, Bool, List, [], ◌∷◌, ℕ, ℤ}
 use Rattle.std.specs.List.{list_any, AllByRecursion}
 use Rattle.rx_base.specs.declared.cut.Cut.{Cut}
 use Rattle.rx_lane.specs.Lanes.{Lanes}
@@ -9,11 +9,12 @@ use Rattle.rx_queue.specs.declared.queue.Work.{Work}
 use Rattle.rx_queue.specs.declared.queue.Work.TheVariants.{New, Owed, Nothing}
 use Rattle.rx_queue.specs.History.{Answers, History, applied, is_done, was_included, state_from, committed_value, is_new, is_owed_before}
 
--- a queue keeps a base state, the committed value, and the base queue: updates that are not folded into the base state
+-- a queue keeps a base state, the committed value, and the base queue: updates that are not folded into the base state; and room for how many more updates
 pub record Kept : Type 0 where
   pub base : ℤ
   pub committed : ℤ
   pub queue : List Entry
+  pub room : ℕ
 
 -- the updates from the first one that is not done on
 abbrev pub base_queue : List Entry → List Entry

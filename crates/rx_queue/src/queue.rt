@@ -1,5 +1,5 @@
 // The queue of a hook.
-ghost use Rattle.std.specs.Prelude.{◌≡◌, drop, map, OnOk, OnErr};
+ghost use Rattle.std.specs.Prelude.{◌≡◌, ◌+◌, ◌<◌, ◌≤◌, ◌↔◌, drop, map, OnOk, OnErr, IsOk};
 ghost use Rattle.std.specs.List.{list_any, prefix_len};
 ghost use Rattle.rx_queue.specs.declared.queue.Processed.{Processed};
 ghost use Rattle.rx_queue.specs.History.{Answers, AllDone, History, IsAboveDone, committed as committed_history, committed_value, in_order, is_done, is_new, is_owed_before, marked_owed as marked_history, noted, opening, owed_after, pending_of, processed as processed_history, pushed, settled, state_from, state_of, was_included};
@@ -30,7 +30,7 @@ pub struct Processed {
 
 /// The updates of one hook (react.dev, Queueing a Series of State Updates). It keeps a base state and a base queue, which
 /// begins at the first update that is not done: an update that a render skips keeps its place, and later ones are applied
-/// again on top of it. Contracts say for which histories of the hook it stands.
+/// again on top of it. Contracts say for which histories of the hook it stands, and how many more updates it has room for.
 #[derive(Drop)]
 pub struct Queue {
     base: Int,
@@ -39,11 +39,12 @@ pub struct Queue {
 }
 
 impl Model for Queue {
+    ghost use Rattle.std.specs.Prelude.{◌-◌, vec_capacity, vec_len};
     ghost use Rattle.rx_queue.specs.Stands.{Kept};
 
     ghost Value = { Kept };
 
-    ghost view = { λ q. record { base = q.base; committed = q.committed; queue = q.entries.items } };
+    ghost view = { λ q. record { base = q.base; committed = q.committed; queue = q.entries.items; room = vec_capacity q.entries - vec_len q.entries } };
 }
 
 // Notes of each update whether a render with these lanes at this cut includes it.
@@ -158,7 +159,24 @@ impl Queue {
         }
     }
 
-    /// Takes an update, which stays open. An `Err` changes nothing.
+    /// Makes room for so many updates more. An `Err` changes nothing.
+    ///
+    /// # Errors
+    ///
+    /// Only if out of memory.
+    pub fn reserve(&mut self, more: usize) -> Result<(), AllocError>
+        ensures ok { OnOk result (more ≤ self.new.room) }
+        ensures err { OnErr result (self.new ≡ self.old) }
+
+        // Nothing but the room changes, so it stands for just what it stood for.
+        ensures rest { self.new ≡ record self.old { room = self.new.room } }
+        ensures same { (answers : Answers) (history : History) → StandsFor answers self.old history ↔ StandsFor answers self.new history }
+        ensures room { self.old.room ≤ self.new.room }
+    {
+        self.entries.reserve(more)
+    }
+
+    /// Takes an update, which stays open. If there is room for it, it succeeds. An `Err` changes nothing.
     ///
     /// # Errors
     ///
@@ -169,12 +187,17 @@ impl Queue {
 
         // What was processed last stays so.
         ensures last { (answers : Answers) (history : History) (processed : Processed) → IsLast answers history processed → IsLast answers (pushed update history) processed }
+
+        // It succeeds if there is room, and takes no more of it than for one update.
+        ensures succeeds { 0 < self.old.room → IsOk result }
+        ensures room { self.old.room ≤ self.new.room + 1 }
     {
-        self.entries.push(Entry {
+        self.entries.reserve(1)?;
+        self.entries.push_reserved(Entry {
             update,
             standing: Standing::Open,
             included: false,
-        })?;
+        });
         Ok(())
     }
 

@@ -120,6 +120,37 @@ both_left (Begins id) a b f = f a b
 both_left (Completes id) a b f = f a b
 both_left Over a b f = tt
 
+-- a render that is under way is with other hooks that give it its values too
+pub goes_with : (old : Rendering) (hooks : Kept) (way : IsUnderWay old)
+    → ((k : ℕ) (initials : List ℤ) → GivesValues way.sight (kept_hooks old.hooks) k initials → GivesValues way.sight (kept_hooks hooks) k initials) → IsUnderWay (with_hooks old hooks)
+goes_with old hooks way gives =
+    record {
+      sight = way.sight;
+      tree = way.tree;
+      sees = record { program = way.sees.program; resources = way.sees.resources; declared = way.sees.declared; lanes = way.sees.lanes; cut = way.sees.cut };
+      gives = λ k m there. gives m.number m.initials (way.gives k m there);
+      current = way.current;
+      done = way.done;
+      settled = way.settled;
+      waits = way.waits;
+      reads = way.reads;
+      covers = way.covers;
+      come = record { cursor = way.come.cursor; comes = way.come.comes; goes = way.come.goes; drawn = way.come.drawn; given = way.come.given; olds = way.come.olds; rests = way.come.rests; reached = way.come.reached };
+    }
+
+-- one whose hooks go on giving what they gave is one
+pub kept_rendering : (old : Rendering) (hooks : Kept)
+    → ((s : Sight) (k : ℕ) (initials : List ℤ) → GivesValues s (kept_hooks old.hooks) k initials → GivesValues s (kept_hooks hooks) k initials)
+    → IsRendering old → IsRendering (with_hooks old hooks)
+kept_rendering old hooks gives is =
+    record {
+      known = is.known;
+      bounded = is.bounded;
+      under_way = both_left old.at is.under_way is.under_way (λ way again. goes_with old hooks way (gives way.sight));
+      gathered = is.gathered;
+      gathering = is.gathering;
+    }
+
 -- one to whose hooks an update is sent is one, if the cut lies before it whenever a unit is left
 pub sent_rendering : {T E : Type 0} (result : Result T E) (old : Rendering) (hooks : Kept) (w : LaneWord) (u : Update) (pending : Lanes) (place i : ℕ)
     → OnOk result (ChangesHooks (changed_at place (dispatched_hook w u pending)) i (kept_hooks old.hooks) (kept_hooks hooks))
@@ -136,21 +167,7 @@ sent_rendering result old hooks w u pending place i ok err later is =
         go (Err y) c same = gives-same s k (kept_hooks old.hooks) (kept_hooks hooks) initials (same k) g
 
     goes : IsUnderWay old → old.cut.updates ≤ u.number → IsUnderWay (with_hooks old hooks)
-    goes way late =
-        let at : way.sight.cut.updates ≤ u.number = subst (λ c. c.updates ≤ u.number) (sym way.sees.cut) late in
-        record {
-          sight = way.sight;
-          tree = way.tree;
-          sees = record { program = way.sees.program; resources = way.sees.resources; declared = way.sees.declared; lanes = way.sees.lanes; cut = way.sees.cut };
-          gives = λ k m there. gives way.sight at m.number m.initials (way.gives k m there);
-          current = way.current;
-          done = way.done;
-          settled = way.settled;
-          waits = way.waits;
-          reads = way.reads;
-          covers = way.covers;
-          come = record { cursor = way.come.cursor; comes = way.come.comes; goes = way.come.goes; drawn = way.come.drawn; given = way.come.given; olds = way.come.olds; rests = way.come.rests; reached = way.come.reached };
-        }
+    goes way late = goes_with old hooks way (gives way.sight (subst (λ c. c.updates ≤ u.number) (sym way.sees.cut) late))
 
 -- A render of the machine
 

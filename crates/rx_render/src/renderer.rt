@@ -1,5 +1,5 @@
 // A render in progress.
-ghost use Rattle.std.specs.Prelude.{◌≡◌, ◌+◌, ◌*◌, ◌<◌, ◌≤◌, ◌^◌, ℕ, ℤ, true, false, List, [], Option, None, Some, length, slice_get, IfOk, OnOk, OnErr, IsSomeAnd, if◌then◌else◌};
+ghost use Rattle.std.specs.Prelude.{◌≡◌, ◌+◌, ◌*◌, ◌<◌, ◌≤◌, ◌^◌, ℕ, ℤ, true, false, List, [], Option, None, Some, length, slice_get, IfOk, OnOk, OnErr, IsOk, IsSomeAnd, if◌then◌else◌};
 ghost use Rattle.std.specs.Option.{option_copied};
 ghost use Rattle.rx_ast.specs.Syntax.{Program};
 ghost use Rattle.rx_check.specs.Checks.{unknowns};
@@ -30,7 +30,7 @@ ghost use Rattle.rx_pruned.specs.Besides.{IsBeside};
 ghost use Rattle.end_laws.specs.Trimmed.{trimmed, trimmed_if};
 ghost use Rattle.rx_read.specs.NumbersView.{numbers_seen};
 ghost use Rattle.rx_read.specs.Numbering.{numbered_draft, IsAllNumbered};
-ghost use Rattle.rx_hook_store.specs.Store.{kept_hooks};
+ghost use Rattle.rx_hook_store.specs.Store.{hook_room, kept_hooks};
 ghost use Rattle.rx_hook_store.specs.Changing.{ChangesHooks, dispatched_hook, lanes_linked};
 ghost use Rattle.rx_hook_store.specs.Rendered.{IsRendered, KeepsInstance};
 ghost use Rattle.rx_settle.specs.Passes.{has_instance};
@@ -407,9 +407,34 @@ impl Renderer {
         self.at = At::Over;
     }
 
+    /// Makes room for so many updates more of a hook of an instance, by its place from 0. It changes nothing of what the hooks
+    /// stand for.
+    ///
+    /// # Errors
+    ///
+    /// Only if out of memory.
+    pub fn reserve(&mut self, instance: u64, place: u32, more: usize) -> Result<(), AllocError>
+        requires { IsSomeAnd (kept_hooks self.old.hooks instance) (λ hooks. place < length hooks) }
+        ensures same { self.new ≡ with_hooks self.old self.new.hooks }
+        ensures ok { OnOk result (more ≤ hook_room instance place (kept_hooks self.new.hooks)) }
+        ensures err { OnErr result ((n : ℕ) → kept_hooks self.new.hooks n ≡ kept_hooks self.old.hooks n) }
+        ensures spare { self.new.hooks.spare ≡ self.old.hooks.spare }
+
+        // What is kept stands for the machine's state as before, and what a render has rendered stays so.
+        ensures states { (p : Program) (s : State) → KeepsAllHooks p s (kept_hooks self.old.hooks) → KeepsAllHooks p s (kept_hooks self.new.hooks) }
+        ensures rendered { (p : Program) (s : State) (lanes : Lanes) (cut : Cut) (k : ℕ) (initials : List ℤ) → IsRendered p s lanes cut (kept_hooks self.old.hooks) k initials
+            → IsRendered p s lanes cut (kept_hooks self.new.hooks) k initials }
+
+        // A render that is in progress still is.
+        ensures renders { (p : Program) (s : State) (g : Progress) → Renders p s g self.old → Renders p s g self.new }
+    {
+        self.hooks.reserve_updates(instance, place, more)
+    }
+
     /// Sends an update to a hook of an instance, by its place from 0; the update lies behind the cut of a render in progress.
-    /// A transition also links the update's lane with those lanes of the hook that are still pending, and gives all of them
-    /// (react.dev, useTransition). An `Err` changes nothing of what the hooks stand for.
+    /// If the hook has room for it, it succeeds. A transition also links the update's lane with those lanes of the hook that
+    /// are still pending, and gives all of them (react.dev, useTransition). An `Err` changes nothing of what the hooks stand
+    /// for.
     ///
     /// # Errors
     ///
@@ -442,6 +467,10 @@ impl Renderer {
         ensures renders { OnOk result ((p : Program) (s : State) (g : Progress) → update.number ≡ length s.journal.updates → update.lane ≡ lane_of s word → pending ≡ s.schedule.pending
             → Renders p s g self.old → Renders p (dispatched_for s word (hook instance place) update.op) g self.new) }
         ensures stays { OnErr result ((p : Program) (s : State) (g : Progress) → Renders p s g self.old → Renders p s g self.new) }
+
+        // It succeeds if there is room, and takes no more of it than for one update.
+        ensures succeeds { 0 < hook_room instance place (kept_hooks self.old.hooks) → IsOk result }
+        ensures room { hook_room instance place (kept_hooks self.old.hooks) ≤ hook_room instance place (kept_hooks self.new.hooks) + 1 }
     {
         self.hooks.dispatch(instance, place, word, update, pending)
     }

@@ -1,4 +1,5 @@
 -- What a root stands for if memory runs out within a turn.
+use Rattle.rx_sched.specs.Events.{no_event}
 use Rattle.std.proofs.Common.{◌≡◌, ◌≢◌, inl, inr, ℕ, suc, ◌+◌, ◌-◌, ◌≤◌, true, List, ◌++◌, length, take, refl, sym, ap, ◌∙◌, subst, arith, Option, Some, None}
 use Rattle.std.specs.Prelude.{◌⊎◌, OnErr, OnOk, Result, Ok, Err}
 use Rattle.rx_ast.specs.Syntax.{Program}
@@ -229,7 +230,7 @@ none_broken p s v new log written h is same =
     }
 
 -- the pending passive effects have run
-pub passive_broken : (p : Program) (s : State) (v new : Rooted) (w : Rendering) (shown : Shown) (log written : Written) → Stands p s v → s.event ≡ None
+pub passive_broken : (p : Program) (s : State) (v new : Rooted) (w : Rendering) (shown : Shown) (log written : Written) → Stands p s v → s.event ≡ no_event
     → new ≡ record v { rendering = w; shown = shown } → w.program ≡ v.rendering.program → w.trees.current ≡ v.rendering.trees.current → w.hooks ≡ v.rendering.hooks
     → shown ≡ record v.shown { passive = no_passive } → written ≡ with_lines log (passive_lines v.shown.passive)
     → HasBroken p (λ r. (r ≡ silent s) ⊎ (r ≡ passive_run s)) new log written

@@ -1,4 +1,5 @@
 -- A flush ends: the turns that it takes come to the states of one that ends.
+use Rattle.rx_sched.specs.Events.{no_event}
 use Rattle.std.proofs.Common.{◌≡◌, ◌≢◌, inl, inr, ℕ, zero, suc, [], ◌∷◌, refl, sym, ap, ◌∙◌, subst, arith, Option, Some, None}
 use Rattle.rx_ast.specs.Syntax.{Program}
 use Rattle.rx_step.specs.declared.step.Step.TheVariants as step
@@ -52,7 +53,7 @@ turns_alike p s (choice.Start lanes) r q h i =
     ∙ sym (ap (λ (x : Stretch). x.after) i.stretch_is)
 
 -- from a state between two events that a run comes to, a flush ends within the limit
-pub can_flush : (p : Program) → IsBounded p → (s : State) → IsReached p s → s.event ≡ None → CanFlush flush_limit p s
+pub can_flush : (p : Program) → IsBounded p → (s : State) → IsReached p s → s.event ≡ no_event → CanFlush flush_limit p s
 can_flush p bounded s reached none =
     let run = progresses p (app_never_waits p) bounded s reached (step.Flush ∷ []) in
     subst (λ (u : State). CanFlush flush_limit p u) (sym (same_between s none)) (run.1.0, run.1.2)

@@ -1,4 +1,5 @@
 -- The turns of a flush, one after another, and the room that they leave.
+use Rattle.rx_sched.specs.Events.{no_event}
 use Rattle.std.proofs.Common.{◌≡◌, ◌≢◌, ℕ, zero, suc, ◌+◌, ◌-◌, ◌≤◌, refl, sym, ◌∙◌, subst, arith, Option, None}
 use Rattle.rx_ast.specs.Syntax.{Program}
 use Rattle.rx_sched.specs.declared.choice.Choice.TheVariants as choice
@@ -20,7 +21,7 @@ use Rattle.rx_root.proofs.TurnsTaken.{flush_more}
 -- Room
 
 -- a turn leaves room
-pub turn_leaves : (p : Program) (s : State) (budget : Option ℕ) (v w : Rooted) (log new : Written) (steps counted : ℕ) → IsBounded v.rendering.program → Stands p s v → s.event ≡ None
+pub turn_leaves : (p : Program) (s : State) (budget : Option ℕ) (v w : Rooted) (log new : Written) (steps counted : ℕ) → IsBounded v.rendering.program → Stands p s v → s.event ≡ no_event
     → Takes p (Turn Pays p s budget) w log new steps counted → LeavesRoom 1 v w
 turn_leaves p s budget v w log new steps counted bounded h none t =
     let grows = turn_grows Pays p (subst IsBounded h.program bounded) s budget t.stretch h.reached (reached_passive p s h.reached none) t.asked in

@@ -5,7 +5,7 @@ use Rattle.std.specs.List.{cons_option, zip}
 use Rattle.std.specs.Option.{option_flatten, option_map, option_map_or}
 use Rattle.std.proofs.lemmas.Bool.Decides.{nat_tests}
 use Rattle.std.proofs.lemmas.List.{length-append}
-use Rattle.rx_ast.specs.Syntax.{Component, Program, Statement, body_slots, constant, context, effect, reducer, state, use_resource}
+use Rattle.rx_ast.specs.Syntax.{Component, Program, Statement, body_slots, constant, context, effect, reducer, state, transition, use_resource}
 use Rattle.rx_rules.specs.Names.{component_at, hook_in, hooks_of}
 use Rattle.rx_elem.specs.Compare.{node_at, old_nodes}
 use Rattle.rx_elem.specs.Elements.{Element, Elements, Kind, kind_of, listed, of_comp, same_kind}
@@ -85,6 +85,7 @@ one_if_hook t = option_map_or (λ h. 1) (hook_in t) 0
 one_grown : (p : Program) (i : Inputs) (t : Statement) (f : Frame) → i.hooks ≡ None → Grown (take_one p i t f) (length f.initials + one_if_hook t)
 one_grown p i (state name setter e) f new = hook_grown i.hooks name _ f new
 one_grown p i (reducer name setter function e) f new = hook_grown i.hooks name _ f new
+one_grown p i (transition name starter) f new = hook_grown i.hooks name _ f new
 one_grown p i (context name source) f new = let e : length f.initials ≡ length f.initials + 0 = omega arith in e
 one_grown p i (use_resource name resource) f new =
     let e : length f.initials ≡ length f.initials + 0 = omega arith in

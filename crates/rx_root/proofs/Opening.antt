@@ -1,4 +1,6 @@
 -- What a root stands for before its first render.
+use Rattle.rx_sched.specs.declared.event.Event.{Event}
+use Rattle.rx_sched.specs.Events.{no_event}
 use Rattle.std.proofs.Common.{◌≡◌, None, List, length, refl, sym, subst}
 use Rattle.std.specs.Prelude.{replicate}
 use Rattle.rx_lane.specs.Lanes.{Lanes}
@@ -31,8 +33,8 @@ opening_reached : (p : Program) → IsReached p opening
 opening_reached p = start-reached p
 
 -- a root before its first render
-abbrev pub opening_root : Rendering → Shown → Schedule → List Kept → Lanes → Rooted
-opening_root rd shown schedule kept later =
+abbrev pub opening_root : Rendering → Shown → Schedule → List Kept → Event → Lanes → Rooted
+opening_root rd shown schedule kept event later =
     record {
       rendering = rd;
       shown = shown;
@@ -42,16 +44,16 @@ opening_root rd shown schedule kept later =
       resolutions = 0;
       resources = kept;
       now = 0;
-      event = None;
+      event = event;
       numbers = record { instance = 1; host = 1 };
       later = later;
     }
 
 -- it stands for the opening state
-pub opening_stands : (p : Program) (rd : Rendering) (shown : Shown) (schedule : Schedule) (kept : List Kept) (later : Lanes) → rd.program ≡ p → rd.trees.current ≡ none
-    → KeepsAllHooks rd.program opening (kept_hooks rd.hooks) → HasNoRender rd → Shows None no_passive shown → schedule ≡ opening_schedule → kept ≡ replicate (length (resources p)) kept_of.opening → LinksBelow opening
-    → Stands p opening (opening_root rd shown schedule kept later)
-opening_stands p rd shown schedule kept later same current keeps idle shows first are below =
+pub opening_stands : (p : Program) (rd : Rendering) (shown : Shown) (schedule : Schedule) (kept : List Kept) (event : Event) (later : Lanes) → rd.program ≡ p → rd.trees.current ≡ none
+    → KeepsAllHooks rd.program opening (kept_hooks rd.hooks) → HasNoRender rd → Shows None no_passive shown → schedule ≡ opening_schedule → kept ≡ replicate (length (resources p)) kept_of.opening → event ≡ no_event → LinksBelow opening
+    → Stands p opening (opening_root rd shown schedule kept event later)
+opening_stands p rd shown schedule kept event later same current keeps idle shows first are ends below =
     record {
       reached = opening_reached p;
       program = same;
@@ -66,7 +68,7 @@ opening_stands p rd shown schedule kept later same current keeps idle shows firs
       resolutions = refl;
       resources = subst (KeepsResources p opening.journal opening.linked) (sym are) (opening_kept p);
       now = refl;
-      event = refl;
+      event = ends;
       numbers = refl;
       declared = opening_declared p;
       progress = idle;

@@ -1,5 +1,5 @@
 -- Which transition lanes have reached their deadlines, as a loop over all lanes finds them.
-use Rattle.std.proofs.Common.{◌≡◌, ◌∙◌, sym, ap, ℕ, Bool, true, false, List, refl, get_or, take, length, ◌+◌, ◌<◌, ◌≤◌, ◌||◌}
+use Rattle.std.proofs.Common.{◌≡◌, ◌∙◌, sym, ap, ℕ, Bool, true, false, refl, get_or, take, length, ◌+◌, ◌<◌, ◌≤◌, ◌||◌}
 use Rattle.std.specs.Prelude.{not, ◌&&◌, if◌then◌else◌}
 use Rattle.std.specs.List.{list_any}
 use Rattle.std.proofs.lemmas.List.{take_all}

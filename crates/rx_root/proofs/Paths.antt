@@ -21,10 +21,10 @@ use Rattle.rx_check.specs.Tables.{hook_among, hook_named, kind_of}
 use Rattle.rx_check.specs.declared.hook.HookKind.{HookKind}
 use Rattle.rx_step.specs.Steps.{Path, hook_name, path_of}
 use Rattle.rx_step.specs.declared.step.Dispatch.{Dispatch}
-use Rattle.rx_step.specs.declared.step.Dispatch.TheVariants.{Set, Call, Send, Refresh}
+use Rattle.rx_step.specs.declared.step.Dispatch.TheVariants.{Set, Call, Send, Start, Refresh}
 use Rattle.rx_step.specs.declared.step.Step.{Step}
 use Rattle.rx_step.specs.declared.step.Step.TheVariants as step
-use Rattle.rx_script.specs.Lines.{BadStep, Line, bad, form_of, formed, good, has_targets, hook_at, in_bounds, is_comment, is_reducer, is_state, line_of, meant, out_of_range, silent, steps_from, steps_of, target_from, target_of, unknown_target, with_line}
+use Rattle.rx_script.specs.Lines.{BadStep, Line, bad, form_of, formed, good, has_targets, hook_at, in_bounds, is_comment, is_flag, is_reducer, is_state, line_of, meant, out_of_range, silent, steps_from, steps_of, target_from, target_of, unknown_target, with_line}
 use Rattle.rx_script.specs.Words.{lines_of, words_of}
 use Rattle.rx_elem.specs.Spots.{Mounted}
 use Rattle.rx_model.specs.State.{find_from, hooks_at, is_step, name_of, step_to}
@@ -295,9 +295,14 @@ reducer_some : (o : Option HookKind) → is_reducer o ≡ true → (k : HookKind
 reducer_some None is = cc
 reducer_some (Some k) is = (k, refl)
 
+flag_some : (o : Option HookKind) → is_flag o ≡ true → (k : HookKind) × (o ≡ Some k)
+flag_some None is = cc
+flag_some (Some k) is = (k, refl)
+
 -- a dispatch that can be taken, and has a path, names a hook of the component that the path ends at
 pub dispatch_hook : (p : Program) (d : Dispatch) → CanTake p (step.Dispatch d) → (path_of d ≡ [] → ⊥) → (k : HookKind) × (hook_at p (path_of d) (hook_name d) ≡ Some k)
 dispatch_hook p (Set word path name x) can some = state_some (hook_at p path name) can.0
 dispatch_hook p (Call word path name f x) can some = state_some (hook_at p path name) (both (is_state (hook_at p path name)) _ can.0).0
 dispatch_hook p (Send word path name x) can some = reducer_some (hook_at p path name) can.0
+dispatch_hook p (Start word path name) can some = flag_some (hook_at p path name) can.0
 dispatch_hook p (Refresh word name) can some = absurd (some refl)

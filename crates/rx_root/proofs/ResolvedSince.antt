@@ -9,7 +9,7 @@ use Rattle.rx_rules.specs.Names.{resources}
 use Rattle.rx_check.specs.Accepted.{IsAccepted}
 use Rattle.rx_check.proofs.Limited.{few-resources}
 use Rattle.rx_queue.specs.Pairs.{Pair, in_versions}
-use Rattle.rx_queue.specs.Journal.{Journal, resolutions_by, resolved_by, resolved_now, resolved_since, version_of}
+use Rattle.rx_queue.specs.Journal.{resolutions_by, resolved_by, resolved_now, resolved_since, version_of}
 use Rattle.rx_model.specs.State.{State, Progress}
 use Rattle.rx_model.specs.Committing.{schedule_deferred, sight_of}
 use Rattle.rx_sched.specs.Schedule.{after_deferral}

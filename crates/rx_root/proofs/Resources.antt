@@ -1,6 +1,6 @@
 -- What a root keeps of the resources stands for the machine's state, step by step, and tells what a render sees.
-use Rattle.std.proofs.Common.{◌≡◌, ◌∙◌, sym, ap, refl, ℕ, ℤ, zero, suc, ◌+◌, ◌<◌, ◌≤◌, ◌^◌, Bool, true, false, cond, not, ◌&&◌, ◌||◌, Option, Some, None, List, [], ◌∷◌, ◌++◌, map, filter, length, nat_eq, nat_lt, subst, arith}
-use Rattle.std.specs.Prelude.{is_some, replicate, slice_get, slice_index_or, slice_set}
+use Rattle.std.proofs.Common.{◌≡◌, ◌∙◌, sym, ap, refl, ℕ, ℤ, zero, suc, ◌+◌, ◌<◌, ◌≤◌, Bool, true, false, cond, not, Some, None, List, [], ◌∷◌, ◌++◌, map, filter, length, nat_eq, nat_lt, subst, arith}
+use Rattle.std.specs.Prelude.{replicate, slice_get, slice_index_or, slice_set}
 use Rattle.std.specs.List.{AllByRecursion, enumerate_from, list_any, range_with_len}
 use Rattle.std.proofs.lemmas.Bool.Decides.{nat_tests}
 use Rattle.std.proofs.lemmas.List.FromFn.{length-range_with_len}
@@ -15,22 +15,20 @@ use Rattle.rx_elem.specs.Spots.{kept_instances, visible_instances}
 use Rattle.rx_hooks.specs.Hooks.{links_with}
 use Rattle.rx_queue.specs.declared.entry.Standing.TheVariants.{Open}
 use Rattle.rx_queue.specs.declared.update.Op.{Op}
-use Rattle.rx_queue.specs.History.{stands_done, stands_owed}
-use Rattle.rx_queue.specs.Journal.{Journal, Posted, Resolution, hook, resource, cut_now, done_version, last_version, next_version, resolved_now, same_target, value_in, values_at, version_of, updates_of, resolutions_by}
+use Rattle.rx_queue.specs.History.{stands_owed}
+use Rattle.rx_queue.specs.Journal.{Journal, Posted, Resolution, hook, resource, cut_now, done_version, last_version, resolved_now, same_target, value_in, version_of, resolutions_by}
 use Rattle.rx_step.specs.declared.step.LaneWord.{LaneWord}
 use Rattle.rx_step.specs.declared.step.LaneWord.TheVariants as word
 use Rattle.rx_meaning.specs.Fresh.{Sight, resources_seen, version_seen, versions_seen}
 use Rattle.rx_meaning.specs.Outcome.{journal_after}
 use Rattle.rx_meaning.specs.Settled.{DoneBefore}
-use Rattle.rx_meaning.specs.Touched.{sees_refresh}
 use Rattle.rx_model.specs.State.{Linked, State, linked_lanes, opening}
 use Rattle.rx_model.specs.Accepting.{dispatched_for, lane_of, next_update, with_linked, with_value}
 use Rattle.commit_laws.proofs.Versions.{version_at}
-use Rattle.rx_hook_store.proofs.Dispatching.{linked-other, linked-own, targets_equal}
-use Rattle.rx_resources.specs.declared.resource.Asked.{Asked}
+use Rattle.rx_hook_store.proofs.Dispatching.{linked-other, linked-own}
 use Rattle.rx_resources.specs.Kept.{Kept, committed, refreshed, relinked, value_of}
 use Rattle.rx_resources.specs.Kept as kept_of
-use Rattle.rx_resources.specs.Seen.{Resources, seen_of, sees_another}
+use Rattle.rx_resources.specs.Seen.{seen_of, sees_another}
 use Rattle.rx_resources.specs.Store.{asked_at, kept_at, linked_at, resolved_at}
 use Rattle.rx_resources.specs.Stands.{AreOpenOrDone, IsKeptOf, IsOpenOrDone, NoneOwed}
 use Rattle.rx_resources.proofs.Counting.{asked_few, commit_asked, commit_kept, commit_owed, last_agrees, open_owed, others_asked, others_kept, refresh_kept, resolved_kept, seen_agrees, seen_asked, unresolved_kept, value_agrees}

@@ -1,4 +1,5 @@
 -- What a root stands for after a dispatch.
+use Rattle.rx_sched.specs.declared.event.Event.{Event}
 use Rattle.std.proofs.Common.{◌≡◌, ℕ, ◌+◌, ◌<◌, ◌≤◌, true, length, refl, sym, ap, ◌∙◌, subst, arith, Option, Some, None, List}
 use Rattle.std.specs.Prelude.{is_none, slice_get, if◌then◌else◌}
 use Rattle.rx_lane.specs.declared.lane.Lane.{Lane}
@@ -7,10 +8,13 @@ use Rattle.rx_ast.specs.Syntax.{Program}
 use Rattle.rx_rules.specs.Names.{has_name}
 use Rattle.rx_check.specs.Accepted.{IsAccepted}
 use Rattle.rx_elem.specs.Spots.{Mounted, mounted}
+use Rattle.rx_elem.specs.Trees.{Node}
+use Rattle.rx_hooks.specs.declared.hook.Hook.{Hook}
+use Rattle.std.specs.Option.{IsSomeAnd}
 use Rattle.rx_queue.specs.declared.update.Op.{Op}
 use Rattle.rx_queue.specs.declared.update.Update.{Update}
 use Rattle.rx_queue.specs.declared.update.Op.TheVariants.{Refresh}
-use Rattle.rx_queue.specs.Journal.{Target, resource}
+use Rattle.rx_queue.specs.Journal.{Target, hook, resource}
 use Rattle.rx_sched.specs.Schedule.{Schedule, after_update, claimed, linked as linked_lanes_of}
 use Rattle.rx_hooks.specs.Hooks.{links_with}
 use Rattle.rx_step.specs.declared.step.Dispatch.{Dispatch}
@@ -31,7 +35,8 @@ use Rattle.rx_hook_store.specs.Changing.{lanes_linked}
 use Rattle.rx_hook_store.specs.Commits.{LinksBelow}
 use Rattle.rx_hook_store.proofs.Numbered.{mounted_below}
 use Rattle.rx_hook_store.proofs.Dispatching.{keeps_refreshed}
-use Rattle.rx_hook_store.proofs.Staying.{all_stay}
+use Rattle.rx_hook_store.proofs.Staying.{all_stay, hook_is}
+use Rattle.rx_hook_store.proofs.Stores.{each-keeps}
 use Rattle.rx_render.specs.declared.at.At.{At}
 use Rattle.rx_render.specs.declared.at.At.TheVariants.{Begins, Completes, Over}
 use Rattle.rx_render.specs.Rendering.{IfLeft, Rendering}
@@ -68,6 +73,28 @@ is_for p s v d m sent accepted h can here number place below op =
       op = op;
     }
 
+-- a dispatch is for the same in a state with the same tree
+pub for_after : (p : Program) (s t : State) (d : Dispatch) (sent : Sent) → t.tree ≡ s.tree → IsFor p s d sent → IsFor p t d sent
+for_after p s t d sent same is =
+    record {
+      place_in_tree = is.place_in_tree;
+      instance = is.instance;
+      there = ap (λ (x : Option Node). slice_get (mounted x) is.place_in_tree) same ∙ is.there;
+      found = ap (λ (x : Option Node). instance_found p x (path_of d)) same ∙ is.found;
+      number = is.number;
+      hook = is.hook;
+      below = is.below;
+      op = is.op;
+    }
+
+-- the hook that a dispatch is for is kept
+pub hook_kept : (p : Program) (s : State) (v : Rooted) (d : Dispatch) (sent : Sent) → Stands p s v → IsFor p s d sent
+    → IsSomeAnd (kept_hooks v.rendering.hooks sent.instance) (λ (hooks : List Hook). sent.place < length hooks)
+hook_kept p s v d sent h is =
+    subst (λ (n : ℕ). IsSomeAnd (kept_hooks v.rendering.hooks n) (λ (hooks : List Hook). sent.place < length hooks)) (sym is.number)
+    (hook_is p s (kept_hooks v.rendering.hooks) is.instance.number sent.place is.instance.initials is.below
+    (each-keeps p s (kept_hooks v.rendering.hooks) h.keeps is.place_in_tree is.instance is.there))
+
 -- an update that comes now lies behind the cut of a render in progress
 pub lies_behind : (p : Program) (s : State) (v : Rooted) → Stands p s v → IfLeft v.rendering.at (v.rendering.cut.updates ≤ v.updates)
 lies_behind p s v h = go s.progress h.progress
@@ -96,7 +123,7 @@ number_below p bounded s reached k m at =
 -- ---- after it
 
 -- the root after an update that links nothing
-plain_root : (v : Rooted) (rd : Rendering) (lanes : Option Lanes) (lane l : Lane) (sc : Schedule) (ev : Option Lane) → lanes ≡ None → lane ≡ l → v.schedule ≡ sc → v.event ≡ ev
+plain_root : (v : Rooted) (rd : Rendering) (lanes : Option Lanes) (lane l : Lane) (sc : Schedule) (ev : Event) → lanes ≡ None → lane ≡ l → v.schedule ≡ sc → v.event ≡ ev
     → root_accepted lanes lane (record v { rendering = rd })
     ≡ record v { rendering = rd; schedule = after_update sc l v.now; updates = v.updates + 1; event = ev; later = union v.later (one l) }
 plain_root v rd lanes lane l sc ev none is schedule event =
@@ -104,13 +131,13 @@ plain_root v rd lanes lane l sc ev none is schedule event =
     ∙ (λ i. record v { rendering = rd; schedule = after_update (schedule i) (is i) v.now; updates = v.updates + 1; event = event i; later = union v.later (one (is i)) })
 
 -- the root after a transition
-transition_root : (v : Rooted) (rd : Rendering) (lanes : Option Lanes) (ls : Lanes) (lane l : Lane) (sc : Schedule) (ev : Option Lane) → lanes ≡ Some ls → lane ≡ l → v.schedule ≡ sc
+transition_root : (v : Rooted) (rd : Rendering) (lanes : Option Lanes) (ls : Lanes) (lane l : Lane) (sc : Schedule) (ev : Event) → lanes ≡ Some ls → lane ≡ l → v.schedule ≡ sc
     → v.event ≡ ev
     → root_accepted lanes lane (record v { rendering = rd; schedule = claimed_by word.Transition v.event v.schedule })
-    ≡ record v { rendering = rd; schedule = after_update (linked_lanes_of (if is_none ev then claimed sc else sc) ls) l v.now; updates = v.updates + 1; event = Some l; later = union v.later (one l) }
+    ≡ record v { rendering = rd; schedule = after_update (linked_lanes_of (if is_none ev.lane then claimed sc else sc) ls) l v.now; updates = v.updates + 1; event = record ev { lane = Some l }; later = union v.later (one l) }
 transition_root v rd lanes ls lane l sc ev some is schedule event =
     ap (λ (x : Option Lanes). root_accepted x lane (record v { rendering = rd; schedule = claimed_by word.Transition v.event v.schedule })) some
-    ∙ (λ i. record v { rendering = rd; schedule = after_update (linked_lanes_of (if is_none (event i) then claimed (schedule i) else schedule i) ls) (is i) v.now; updates = v.updates + 1; event = Some (is i); later = union v.later (one (is i)) })
+    ∙ (λ i. record v { rendering = rd; schedule = after_update (linked_lanes_of (if is_none (event i).lane then claimed (schedule i) else schedule i) ls) (is i) v.now; updates = v.updates + 1; event = record (event i) { lane = Some (is i) }; later = union v.later (one (is i)) })
 
 module _ (p : Program) (s : State) (v : Rooted) (t : Target) (o : Op) (rd : Rendering) (kept : List Kept) (lanes : Option Lanes) (lane : Lane) (new : Rooted) (h : Stands p s v)
     (same : rd ≡ with_hooks v.rendering rd.hooks) where
@@ -139,7 +166,7 @@ module _ (p : Program) (s : State) (v : Rooted) (t : Target) (o : Op) (rd : Rend
       let linked_is : lanes ≡ Some ls = some ∙ (λ j. Some (links_with (lane_is j) (h.schedule j).pending (linked_lanes s.linked t))) in
       subst (λ (r : Rooted). Stands p (dispatched_for s word.Transition t o) r)
       (sym (is ∙ transition_root (record v { resources = kept }) rd lanes ls lane l s.schedule s.event linked_is lane_is h.schedule h.event))
-      (stands_after p s (linked_lanes_of (claimed_if_first s) ls) (with_linked s.linked t ls) (Some l) (next_update s.journal t o l) v rd kept same refl
+      (stands_after p s (linked_lanes_of (claimed_if_first s) ls) (with_linked s.linked t ls) (record s.event { lane = Some l }) (next_update s.journal t o l) v rd kept same refl
       goes keeps below reached res declared h)
 
   -- the root stands for the state after the dispatch
@@ -179,17 +206,17 @@ unsent_progress p s v rd same goes (Some g) h =
     }
 
 -- hooks that stand for the same leave all else
-pub unsent_stands : (p : Program) (s : State) (v : Rooted) (rd : Rendering) (new : Rooted) → Stands p s v → rd ≡ with_hooks v.rendering rd.hooks
-    → ((n : ℕ) → kept_hooks rd.hooks n ≡ kept_hooks v.rendering.hooks n) → ((g : Progress) → Renders p s g v.rendering → Renders p s g rd) → new ≡ record v { rendering = rd }
+pub reserved_stands : (p : Program) (s : State) (v : Rooted) (rd : Rendering) (new : Rooted) → Stands p s v → rd ≡ with_hooks v.rendering rd.hooks
+    → KeepsAllHooks p s (kept_hooks rd.hooks) → ((g : Progress) → Renders p s g v.rendering → Renders p s g rd) → new ≡ record v { rendering = rd }
     → Stands p s new
-unsent_stands p s v rd new h same kept goes is =
+reserved_stands p s v rd new h same keeps goes is =
     subst (λ (r : Rooted). Stands p s r) (sym is)
     (record {
       reached = h.reached;
       program = ap (λ (r : Rendering). r.program) same ∙ h.program;
       current = subst (λ (r : Rendering). IsTreeOf s.tree r.trees.current) (sym same) h.current;
       numbered = subst (λ (r : Rendering). IsAllNumbered r.trees) (sym same) h.numbered;
-      keeps = all_stay s s refl refl p (kept_hooks v.rendering.hooks) (kept_hooks rd.hooks) refl kept h.keeps;
+      keeps = keeps;
       below = h.below;
       shows = h.shows;
       schedule = h.schedule;
@@ -203,3 +230,38 @@ unsent_stands p s v rd new h same kept goes is =
       declared = h.declared;
       progress = unsent_progress p s v rd same goes s.progress h.progress;
     })
+
+-- so do the hooks that were kept
+pub unsent_stands : (p : Program) (s : State) (v : Rooted) (rd : Rendering) (new : Rooted) → Stands p s v → rd ≡ with_hooks v.rendering rd.hooks
+    → ((n : ℕ) → kept_hooks rd.hooks n ≡ kept_hooks v.rendering.hooks n) → ((g : Progress) → Renders p s g v.rendering → Renders p s g rd) → new ≡ record v { rendering = rd }
+    → Stands p s new
+unsent_stands p s v rd new h same kept goes is =
+    reserved_stands p s v rd new h same (all_stay s s refl refl p (kept_hooks v.rendering.hooks) (kept_hooks rd.hooks) refl kept h.keeps) goes is
+
+-- so does a root whose hooks have more room
+pub room_stands : (p : Program) (s : State) (v : Rooted) (inside rd : Rendering) (new : Rooted) → Stands p s v → inside ≡ v.rendering → rd ≡ with_hooks inside rd.hooks
+    → ((q : Program) (t : State) → KeepsAllHooks q t (kept_hooks inside.hooks) → KeepsAllHooks q t (kept_hooks rd.hooks))
+    → ((q : Program) (t : State) (g : Progress) → Renders q t g inside → Renders q t g rd)
+    → new ≡ record v { rendering = rd } → Stands p s new
+room_stands p s v inside rd new h here same states renders is =
+    reserved_stands p s v rd new h (same ∙ ap (λ (r : Rendering). with_hooks r rd.hooks) here)
+    (states p s (subst (λ (r : Rendering). KeepsAllHooks p s (kept_hooks r.hooks)) (sym here) h.keeps))
+    (λ g on. renders p s g (subst (λ (r : Rendering). Renders p s g r) (sym here) on))
+    is
+
+-- ---- what sending promises
+
+-- once an update is sent to the hook that a dispatch is for
+pub sends : (p : Program) (s : State) (d : Dispatch) (to : Sent) (w new : Rooted) (x y : LaneWord) (o q : Op) → x ≡ y → o ≡ q → Stands p s w → IsFor p s d to
+    → IsReached p (dispatched_for s y (hook to.instance to.place) q)
+    → ((t : State) (k : ℕ) (m : Mounted) → Stands w.rendering.program t w → slice_get (mounted t.tree) k ≡ Some m → m.number ≡ to.instance
+    → IsReached w.rendering.program (dispatched_for t x (hook to.instance to.place) o) → Stands w.rendering.program (dispatched_for t x (hook to.instance to.place) o) new)
+    → Stands p (dispatched_for s y (hook to.instance to.place) q) new
+sends p s d to w new x y o q same-word same-op h is reached ok =
+    let goes : IsReached p (dispatched_for s x (hook to.instance to.place) o) → Stands p (dispatched_for s x (hook to.instance to.place) o) new =
+    subst (λ (z : Program). (t : State) (k : ℕ) (m : Mounted) → Stands z t w → slice_get (mounted t.tree) k ≡ Some m → m.number ≡ to.instance
+    → IsReached z (dispatched_for t x (hook to.instance to.place) o) → Stands z (dispatched_for t x (hook to.instance to.place) o) new) h.program
+    ok s is.place_in_tree is.instance h is.there (sym is.number) in
+    subst (λ (z : LaneWord). IsReached p (dispatched_for s z (hook to.instance to.place) q) → Stands p (dispatched_for s z (hook to.instance to.place) q) new) same-word
+    (subst (λ (z : Op). IsReached p (dispatched_for s x (hook to.instance to.place) z) → Stands p (dispatched_for s x (hook to.instance to.place) z) new) same-op goes)
+    reached

@@ -1,8 +1,7 @@
 -- What a root stands for after a step that renders nothing.
-use Rattle.std.proofs.Common.{◌≡◌, ℕ, ℤ, zero, suc, ◌+◌, ◌<◌, ◌≤◌, Bool, true, false, ◌&&◌, ◌||◌, cond, nat_eq, nat_le, Option, Some, None, List, [], ◌∷◌, ◌++◌, length, map, refl, sym, ap, ◌∙◌, subst, arith}
-use Rattle.std.specs.Prelude.{find, slice_set, take}
-use Rattle.std.specs.List.{list_any, range_with_len}
-use Rattle.std.specs.Option.{option_map}
+use Rattle.rx_sched.specs.declared.event.Event.{Event}
+use Rattle.std.proofs.Common.{◌≡◌, ℕ, ℤ, ◌+◌, ◌<◌, Bool, true, false, ◌&&◌, ◌||◌, nat_le, Option, Some, None, List, [], ◌∷◌, ◌++◌, length, refl, sym, ap, ◌∙◌, subst, arith}
+use Rattle.std.specs.List.{list_any}
 use Rattle.std.proofs.lemmas.Bool.Decides.{nat_tests}
 use Rattle.std.proofs.lemmas.List.{length-append}
 use Rattle.std.proofs.lemmas.List.Folds.{list_any-append}
@@ -37,10 +36,10 @@ use Rattle.rx_root.proofs.Resources.{resolution_declared, resolution_stays}
 -- ---- the clock, the event and the passive effects
 
 -- a state with this time, this event and these passive effects
-abbrev pub at_time : State → ℕ → Option Lane → Passive → State
+abbrev pub at_time : State → ℕ → Event → Passive → State
 at_time s now event passive = record s { now = now; event = event; passive = passive }
 
-progress_stays : (p : Program) (s : State) (now : ℕ) (event : Option Lane) (passive : Passive) (v : Rooted) (clock : ℕ) (shown : Shown) (x : Option Progress)
+progress_stays : (p : Program) (s : State) (now : ℕ) (event : Event) (passive : Passive) (v : Rooted) (clock : ℕ) (shown : Shown) (x : Option Progress)
     → HasProgress p s x v → HasProgress p (at_time s now event passive) x (record v { now = clock; event = event; shown = shown })
 progress_stays p s now event passive v clock shown None h = h
 progress_stays p s now event passive v clock shown (Some g) h =
@@ -54,7 +53,7 @@ progress_stays p s now event passive v clock shown (Some g) h =
     }
 
 -- another time, event or passive effects leave all else
-pub stands_at : (p : Program) (s : State) (now : ℕ) (event : Option Lane) (passive : Passive) (v : Rooted) (clock : ℕ) (shown : Shown) → clock ≡ now → Shows s.tree passive shown
+pub stands_at : (p : Program) (s : State) (now : ℕ) (event : Event) (passive : Passive) (v : Rooted) (clock : ℕ) (shown : Shown) → clock ≡ now → Shows s.tree passive shown
     → IsReached p (at_time s now event passive) → Stands p s v → Stands p (at_time s now event passive) (record v { now = clock; event = event; shown = shown })
 stands_at p s now event passive v clock shown time shows reached h =
     record {
@@ -94,7 +93,7 @@ later_more cut j u a l before behind =
     ap (λ b. (b && same_lane u.update.lane l) || false) behind ∙ or_nothing (same_lane u.update.lane l) in
     both ∙ (ap (λ b. b || has (one u.update.lane) l) before ∙ (ap (λ b. list_any test j.updates || b) (own ∙ sym last) ∙ sym (list_any-append test j.updates (u ∷ []))))
 
-module _ (p : Program) (s : State) (sc : Schedule) (ln : List Linked) (ev : Option Lane) (u : Posted) (v : Rooted) (rd : Rendering) (kept : List Kept) where
+module _ (p : Program) (s : State) (sc : Schedule) (ln : List Linked) (ev : Event) (u : Posted) (v : Rooted) (rd : Rendering) (kept : List Kept) where
   -- the state after the update
   abbrev state_after : State
   state_after = accepted (record s { schedule = sc; linked = ln; event = ev }) u

@@ -1,5 +1,6 @@
 -- The room that a step of rendering needs and leaves, once the event before it has ended.
-use Rattle.std.proofs.Common.{◌≡◌, ℕ, suc, ◌+◌, ◌-◌, ◌*◌, ◌≤◌, None, refl, sym, subst, arith}
+use Rattle.rx_sched.specs.Events.{no_event}
+use Rattle.std.proofs.Common.{◌≡◌, ℕ, suc, ◌+◌, ◌-◌, ◌*◌, ◌≤◌, refl, sym, subst, arith}
 use Rattle.rx_ast.specs.Syntax.{Program}
 use Rattle.rx_model.specs.State.{State}
 use Rattle.rx_model.specs.Accepting.{between_events}
@@ -13,18 +14,18 @@ pub stands_between : (p : Program) (s : State) (w : Rooted) → Stands p (betwee
 stands_between p s w h = record { program = p; state = between_events s; stands = h; between = refl }
 
 -- room for a step is room for its turns
-turns_room : (v : Rooted) (n : ℕ) → n ≤ flush_limit → HasRoomFor 1 v → HasRoomForTurns n (record v { event = None })
+turns_room : (v : Rooted) (n : ℕ) → n ≤ flush_limit → HasRoomFor 1 v → HasRoomForTurns n (record v { event = no_event })
 turns_room v n few h = record { commits = omega (arith, h.commits); instances = omega (arith, h.instances); hosts = omega (arith, h.hosts) }
 
-pub room_for_turns : (v w : Rooted) (n : ℕ) → n ≤ flush_limit → w ≡ record v { event = None } → HasRoomFor 1 v → HasRoomForTurns n w
+pub room_for_turns : (v w : Rooted) (n : ℕ) → n ≤ flush_limit → w ≡ record v { event = no_event } → HasRoomFor 1 v → HasRoomForTurns n w
 room_for_turns v w n few is h = subst (HasRoomForTurns n) (sym is) (turns_room v n few h)
 
 -- the room that is left after the turns of a step
-left_over : (v new : Rooted) (n : ℕ) → n ≤ flush_limit → LeavesRoom n (record v { event = None }) new → (k : ℕ) → HasRoomFor (suc k) v → HasRoomFor k new
+left_over : (v new : Rooted) (n : ℕ) → n ≤ flush_limit → LeavesRoom n (record v { event = no_event }) new → (k : ℕ) → HasRoomFor (suc k) v → HasRoomFor k new
 left_over v new n few leaves k h =
     let more : ℕ = flush_limit * k + (flush_limit - n) in
     let all : n + more ≡ flush_limit * suc k = omega (arith, few) in
-    let before : HasRoomForTurns (n + more) (record v { event = None }) =
+    let before : HasRoomForTurns (n + more) (record v { event = no_event }) =
     record { commits = omega (arith, h.commits, all); instances = omega (arith, h.instances, all); hosts = omega (arith, h.hosts, all) } in
     let after = leaves.room more before in
     record {
@@ -35,5 +36,5 @@ left_over v new n few leaves k h =
       hosts = omega (arith, after.hosts);
     }
 
-pub room_left : (v w new : Rooted) (n : ℕ) → n ≤ flush_limit → w ≡ record v { event = None } → LeavesRoom n w new → (k : ℕ) → HasRoomFor (suc k) v → HasRoomFor k new
+pub room_left : (v w new : Rooted) (n : ℕ) → n ≤ flush_limit → w ≡ record v { event = no_event } → LeavesRoom n w new → (k : ℕ) → HasRoomFor (suc k) v → HasRoomFor k new
 room_left v w new n few is leaves = left_over v new n few (subst (λ (r : Rooted). LeavesRoom n r new) is leaves)

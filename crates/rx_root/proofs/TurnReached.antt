@@ -1,7 +1,8 @@
 -- The state after a turn is one that a run comes to.
+use Rattle.rx_sched.specs.declared.event.Event.{Event}
+use Rattle.rx_sched.specs.Events.{no_event}
 use Rattle.std.proofs.Common.{◌≡◌, inl, inr, ℕ, ◌+◌, ◌≤◌, Bool, true, false, cond, refl, sym, ap, ◌∙◌, subst, arith, Option, Some, None}
 use Rattle.std.specs.Prelude.{IfSome}
-use Rattle.rx_lane.specs.declared.lane.Lane.{Lane}
 use Rattle.rx_lane.specs.declared.lane.Lane.TheVariants as lane
 use Rattle.rx_lane.specs.Lanes.{has}
 use Rattle.rx_ast.specs.Syntax.{Program}
@@ -61,8 +62,8 @@ turn_within p s (choice.Start lanes) r h =
     record { rest = h.rest; begins = goes_within p (passive_run s).after (starting s lanes) h.rest h.begins; stretch_is = h.stretch_is }
 
 -- a state between two events
-pub same_between : (s : State) → s.event ≡ None → s ≡ between_events s
-same_between s h = ap (λ (e : Option Lane). record s { event = e }) h
+pub same_between : (s : State) → s.event ≡ no_event → s ≡ between_events s
+same_between s h = ap (λ (e : Event). record s { event = e }) h
 
 work_reached : (p : Program) (s : State) (budget : Option ℕ) (r : Stretch) → IsReached p s → Turn AnyRender p (between_events s) budget r → IsReached p r.after
 work_reached p s (Some n) r h t = step-reached p s (step.Work n) r h t
@@ -70,11 +71,11 @@ work_reached p s None r h t =
     step-reached p s (step.Work (unit_bound p)) r h (turn_within p (between_events s) (choice_of (between_events s)) r t)
 
 -- the state after a turn is one that a run comes to, if the state before is
-pub reached_turn : (A : OfRender) (p : Program) (s : State) (budget : Option ℕ) (r : Stretch) → IsReached p s → s.event ≡ None → Turn A p s budget r → IsReached p r.after
+pub reached_turn : (A : OfRender) (p : Program) (s : State) (budget : Option ℕ) (r : Stretch) → IsReached p s → s.event ≡ no_event → Turn A p s budget r → IsReached p r.after
 reached_turn A p s budget r h none t = work_reached p s budget r h (subst (λ (u : State). Turn AnyRender p u budget r) (same_between s none) (any-turn A p s budget r t))
 
 -- and so is the state after the pending passive effects ran
-pub reached_passive : (p : Program) (s : State) → IsReached p s → s.event ≡ None → IsReached p (passive_run s).after
+pub reached_passive : (p : Program) (s : State) → IsReached p s → s.event ≡ no_event → IsReached p (passive_run s).after
 reached_passive p s h none =
     subst (λ (u : State). IsReached p (passive_run u).after) (sym (same_between s none))
     (step-reached p s step.Passive (passive_run (between_events s)) h refl)
@@ -104,5 +105,5 @@ turn_event_by A p s (choice.Start lanes) budget r h =
     ap (λ (x : Stretch). x.after.event) h.stretch_is ∙ goes_event A p (passive_run s).after (starting s lanes) budget h.rest h.begins
 
 -- a turn between two events ends between two events
-pub turn_event : (A : OfRender) (p : Program) (s : State) (budget : Option ℕ) (r : Stretch) → s.event ≡ None → Turn A p s budget r → r.after.event ≡ None
+pub turn_event : (A : OfRender) (p : Program) (s : State) (budget : Option ℕ) (r : Stretch) → s.event ≡ no_event → Turn A p s budget r → r.after.event ≡ no_event
 turn_event A p s budget r none t = turn_event_by A p s (choice_of s) budget r t ∙ none

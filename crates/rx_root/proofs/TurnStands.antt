@@ -13,7 +13,7 @@ use Rattle.rx_meaning.specs.Fresh.{root_element}
 use Rattle.commit_laws.proofs.Soundness.{resolution_keeps}
 use Rattle.rx_queue.specs.Journal.{Posted, cut_now, has_later, resolutions_by}
 use Rattle.rx_sched.specs.Schedule.{Schedule}
-use Rattle.rx_meaning.specs.Settled.{DoneBefore, HasOwnNumbers}
+use Rattle.rx_meaning.specs.Settled.{DoneBefore}
 use Rattle.rx_effect.specs.EffectLog.{no_passive}
 use Rattle.rx_lines.specs.Lines.{Counts, Written, deferred, with_line}
 use Rattle.rx_model.specs.State.{State, Progress}
@@ -38,7 +38,6 @@ use Rattle.rx_render.specs.Rendering.{Rendering, IfLeft, units_left, left_of}
 use Rattle.rx_check.specs.Accepted.{IsAccepted}
 use Rattle.rx_check.proofs.Limited.{few-resources}
 use Rattle.run_laws.proofs.WaitingAgain.{starting_waits_again}
-use Rattle.commit_laws.specs.HiddenWaits.{IfNumbered}
 use Rattle.rx_root.proofs.Findable.{state_numbered}
 use Rattle.rx_render.specs.Renders.{Renders, IsStartOf}
 use Rattle.rx_resources.specs.Seen.{seen_of}

@@ -1,4 +1,5 @@
 -- The turns that a root takes are turns of the machine.
+use Rattle.rx_sched.specs.Events.{no_event}
 use Rattle.std.proofs.Common.{◌≡◌, ◌≢◌, inl, inr, ℕ, zero, suc, ◌+◌, Bool, true, false, cond, List, [], ◌∷◌, refl, sym, ap, ◌∙◌, subst, arith, add-zero, add_assoc, Option, Some, None}
 use Rattle.std.specs.Prelude.{OnOk, Result, Ok, Err, option_map}
 use Rattle.rx_lane.specs.declared.lane.Lane.TheVariants as lane
@@ -86,10 +87,10 @@ starts_turn A p s lanes budget rest e h =
     subst (λ (c : Choice). TurnBy A p s c budget (followed_by (passive_run s) rest)) (sym e) (record { rest = rest; begins = h; stretch_is = refl })
 
 -- so what a render leads to is reached
-pub keep_leads : (p : Program) (s : State) (g : Progress) (budget : Option ℕ) → IsReached p s → s.event ≡ None → choice_of s ≡ choice.Keep → s.progress ≡ Some g → LeadsOn p s g budget
+pub keep_leads : (p : Program) (s : State) (g : Progress) (budget : Option ℕ) → IsReached p s → s.event ≡ no_event → choice_of s ≡ choice.Keep → s.progress ≡ Some g → LeadsOn p s g budget
 keep_leads p s g budget reached none e f r h = reached_turn AnyRender p s budget r reached none (continues_turn AnyRender p s g budget r e f h)
 
-pub start_leads : (p : Program) (s : State) (lanes : Lanes) (budget : Option ℕ) → IsReached p s → s.event ≡ None → choice_of s ≡ choice.Start lanes
+pub start_leads : (p : Program) (s : State) (lanes : Lanes) (budget : Option ℕ) → IsReached p s → s.event ≡ no_event → choice_of s ≡ choice.Start lanes
     → LeadsOn p (passive_run s).after (starting s lanes) budget
 start_leads p s lanes budget reached none e r h =
     reached_turn AnyRender p s budget (followed_by (passive_run s) r) reached none (starts_turn AnyRender p s lanes budget r e h)

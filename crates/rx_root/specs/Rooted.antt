@@ -1,6 +1,6 @@
 -- A root, as contracts see it.
-use Rattle.std.specs.Prelude.{ℕ, List, Option}
-use Rattle.rx_lane.specs.declared.lane.Lane.{Lane}
+use Rattle.rx_sched.specs.declared.event.Event.{Event}
+use Rattle.std.specs.Prelude.{ℕ, List}
 use Rattle.rx_lane.specs.Lanes.{Lanes}
 use Rattle.rx_elem.specs.Numbers.{Numbers}
 use Rattle.rx_sched.specs.Schedule.{Schedule}
@@ -18,6 +18,6 @@ pub record Rooted : Type 0 where
   pub resolutions : ℕ
   pub resources : List Kept
   pub now : ℕ
-  pub event : Option Lane
+  pub event : Event
   pub numbers : Numbers
   pub later : Lanes

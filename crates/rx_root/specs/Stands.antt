@@ -86,9 +86,9 @@ StandsForSome v = (s : State) × Stands v.rendering.program s v
 abbrev pub StandsButForRender : Program → State → Rooted → Type 0
 StandsButForRender p s v = StandsBy p s (λ w. Unit {0}) v
 
--- the numbers of a root leave room for so many steps more
+-- the numbers of a root leave room for so many steps more, each of which accepts two updates at most
 pub record HasRoomFor (steps : ℕ) (v : Rooted) : Type 0 where
-  pub updates : v.updates + steps < 2 ^ 62
+  pub updates : v.updates + 2 * steps < 2 ^ 62
   pub resolutions : v.resolutions + steps < 2 ^ 62
   pub commits : v.commits + flush_limit * steps < 2 ^ 62
   pub instances : v.numbers.instance + greatest_node_limit * (flush_limit * steps) < 2 ^ 62

@@ -1,20 +1,22 @@
 -- Steps that a root takes, and what they do to it.
+use Rattle.rx_sched.specs.declared.event.Event.{Event}
 use Rattle.std.specs.Prelude.{◌≡◌, ℕ, ◌+◌, ◌<◌, true, List, Option, Some, None, is_none, length, slice_get, if◌then◌else◌}
 use Rattle.std.specs.List.{AllByRecursion}
 use Rattle.rx_lane.specs.declared.lane.Lane.{Lane}
 use Rattle.rx_lane.specs.Lanes.{Lanes, one, union}
 use Rattle.rx_ast.specs.Syntax.{Program}
 use Rattle.rx_elem.specs.Spots.{Mounted, mounted}
+use Rattle.rx_queue.specs.Journal.{hook}
 use Rattle.rx_sched.specs.Schedule.{Schedule, after_update, claimed, linked}
 use Rattle.rx_step.specs.declared.step.Dispatch.{Dispatch}
 use Rattle.rx_step.specs.declared.step.Dispatch.TheVariants as dispatch
 use Rattle.rx_step.specs.declared.step.LaneWord.{LaneWord}
 use Rattle.rx_step.specs.declared.step.LaneWord.TheVariants as word
 use Rattle.rx_step.specs.declared.step.Step.{Step}
-use Rattle.rx_step.specs.Steps.{hook_name, path_of}
+use Rattle.rx_step.specs.Steps.{hook_name, path_of, word_of}
 use Rattle.rx_script.specs.Lines.{has_targets, in_bounds}
 use Rattle.rx_model.specs.State.{State, hook_number, instance_found}
-use Rattle.rx_model.specs.Accepting.{op_of}
+use Rattle.rx_model.specs.Accepting.{dispatched_for, op_of, unset_by}
 use Rattle.rx_resources.specs.Kept.{Kept}
 use Rattle.rx_resources.specs.Store.{asked_at, linked_at}
 use Rattle.rx_root.specs.declared.events.Sent.{Sent}
@@ -51,21 +53,30 @@ abbrev pub HasNoInstance : Program → State → Dispatch → Type 0
 HasNoInstance p s (dispatch.Set word path name x) = instance_found p s.tree path ≡ None
 HasNoInstance p s (dispatch.Call word path name f x) = instance_found p s.tree path ≡ None
 HasNoInstance p s (dispatch.Send word path name x) = instance_found p s.tree path ≡ None
+HasNoInstance p s (dispatch.Start word path name) = instance_found p s.tree path ≡ None
 HasNoInstance p s (dispatch.Refresh word name) = ⊥
 
+-- the state once what is sent is accepted by the hook that a dispatch is for
+abbrev pub state_sent : State → Dispatch → Sent → State
+state_sent s d sent = dispatched_for s (word_of d) (hook sent.instance sent.place) sent.op
+
+-- the state after a dispatch to a hook
+abbrev pub state_after : State → Dispatch → Sent → State
+state_after s d sent = unset_by d (hook sent.instance sent.place) (state_sent s d sent)
+
 -- the first transition of an event claims its lane
-abbrev pub claimed_by : LaneWord → (event : Option Lane) → Schedule → Schedule
+abbrev pub claimed_by : LaneWord → (event : Event) → Schedule → Schedule
 claimed_by word.Sync event s = s
 claimed_by word.Input event s = s
 claimed_by word.Default event s = s
-claimed_by word.Transition event s = if is_none event then claimed s else s
+claimed_by word.Transition event s = if is_none event.lane then claimed s else s
 
 -- a root after an update with this lane, which links lanes of its hook if it is a transition
 abbrev pub root_accepted : Option Lanes → Lane → Rooted → Rooted
 root_accepted None l v =
     record v { schedule = after_update v.schedule l v.now; updates = v.updates + 1; later = union v.later (one l) }
 root_accepted (Some lanes) l v =
-    record v { schedule = after_update (linked v.schedule lanes) l v.now; updates = v.updates + 1; event = Some l; later = union v.later (one l) }
+    record v { schedule = after_update (linked v.schedule lanes) l v.now; updates = v.updates + 1; event = record v.event { lane = Some l }; later = union v.later (one l) }
 
 -- what is kept of the resources after another version of one is asked for: a transition links its lane with those of the resource
 abbrev pub asked_for : LaneWord → (number : ℕ) → Lane → (pending : Lanes) → (resource : ℕ) → List Kept → List Kept

@@ -1,5 +1,6 @@
 -- Turns of a root, by the turns of the machine.
-use Rattle.std.specs.Prelude.{◌≡◌, ℕ, ◌+◌, ◌*◌, ◌<◌, ◌≤◌, ◌^◌, [], Option, Some, None, length, if◌then◌else◌}
+use Rattle.rx_sched.specs.Events.{no_event}
+use Rattle.std.specs.Prelude.{◌≡◌, ℕ, ◌+◌, ◌*◌, ◌<◌, ◌≤◌, ◌^◌, [], Option, Some, length, if◌then◌else◌}
 use Rattle.rx_lane.specs.declared.lane.Lane.{Lane}
 use Rattle.rx_lane.specs.declared.lane.Lane.TheVariants as lane
 use Rattle.rx_lane.specs.Lanes.{Lanes, has}
@@ -79,7 +80,7 @@ pub record StandsBetween (v : Rooted) : Type 0 where
   pub program : Program
   pub state : State
   pub stands : Stands program state v
-  pub between : state.event ≡ None
+  pub between : state.event ≡ no_event
 
 -- what a root knows of the time since a render began: what is kept of the resources now and what the render sees of them, and the lanes of the updates since its cut
 pub record KnowsSince (p : Program) (s : State) (g : Progress) (v : Rooted) : Type 0 where
@@ -173,7 +174,7 @@ pub record FlushesFrom (limit : ℕ) (v : Rooted) : Type 0 where
   pub program : Program
   pub state : State
   pub stands : Stands program state v
-  pub between : state.event ≡ None
+  pub between : state.event ≡ no_event
   pub ends : CanFlush limit program state
 
 -- A commit is prepared: what is shown is that of the old tree and can take it, it is that of the new tree, and the trees are related as a commit relates them.

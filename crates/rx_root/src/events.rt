@@ -1,5 +1,5 @@
 // Events, and what they send.
-ghost use Rattle.std.specs.Prelude.{◌≡◌, ◌+◌, ◌<◌, ◌≤◌, ◌^◌, ◌↔◌, ℕ, ℤ, suc, true, Some, None, Err, IfOk, IsErrOf, IsSomeAnd, IsTrue, OnErr, OnOk, bytes_eq, is_some, length, position, slice_get};
+ghost use Rattle.std.specs.Prelude.{◌≡◌, ◌+◌, ◌<◌, ◌≤◌, ◌^◌, ◌↔◌, ℕ, ℤ, suc, true, Some, None, Err, IfOk, IsErrOf, IsOk, IsSomeAnd, IsTrue, OnErr, OnOk, bytes_eq, is_some, length, position, slice_get};
 ghost use Rattle.rx_lane.specs.Lanes.{is_transition};
 ghost use Rattle.rx_rules.specs.Names.{resource_number, resources};
 ghost use Rattle.rx_elem.specs.Spots.{Mounted, mounted};
@@ -8,14 +8,15 @@ ghost use Rattle.rx_lines.specs.Lines.{tree_lines};
 ghost use Rattle.rx_queue.specs.Journal.{hook, next_version};
 ghost use Rattle.rx_queue.specs.Journal as journal;
 ghost use Rattle.rx_sched.specs.Deadlines.{later};
+ghost use Rattle.rx_sched.specs.Events.{no_event};
 ghost use Rattle.rx_sched.specs.Schedule.{Schedule, after_resolution};
 ghost use Rattle.rx_model.specs.State.{State, instance_found, state_lines};
-ghost use Rattle.rx_model.specs.Accepting.{between_events, dispatched, dispatched_for, is_awaited_in, lane_of as lane_in, last_value, resolved, sent};
+ghost use Rattle.rx_model.specs.Accepting.{between_events, dispatched, dispatched_for, enqueued, event_of, is_awaited_in, lane_of as lane_in, last_value, resolved, sent, within};
 ghost use Rattle.rx_model.specs.Committing.{passive_run};
 ghost use Rattle.rx_model.specs.Laws.{IsReached};
 ghost use Rattle.rx_hook_store.specs.Changing.{lanes_linked};
-ghost use Rattle.rx_hook_store.specs.Store.{kept_hooks};
-ghost use Rattle.rx_instances.specs.Kinds.{is_refresh};
+ghost use Rattle.rx_hook_store.specs.Store.{hook_room, kept_hooks};
+ghost use Rattle.rx_instances.specs.Kinds.{is_refresh, is_start};
 ghost use Rattle.rx_resources.specs.Kept.{last_version};
 ghost use Rattle.rx_resources.specs.Store.{kept_at, resolved_at};
 ghost use Rattle.rx_commit.specs.Written.{with_lines};
@@ -24,20 +25,20 @@ ghost use Rattle.rx_step.specs.Steps.{path_of};
 ghost use Rattle.rx_step.specs.declared.step.Step.TheVariants as step;
 ghost use Rattle.rx_root.specs.Stands.{HasRoomFor, Stands, StandsForSome};
 ghost use Rattle.rx_root.specs.Turning.{HasDone};
-ghost use Rattle.rx_root.specs.Taking.{CanTake, HasNoInstance, IsTargetOf, asked_for, claimed_by, root_accepted};
+ghost use Rattle.rx_root.specs.Taking.{CanTake, HasNoInstance, IsFor, IsTargetOf, asked_for, claimed_by, root_accepted, state_after};
 
 use crate::errors::{DispatchError, ResolveError};
 use crate::root::Root;
 use rx_base::{Int, Name};
 use rx_hook_store::{hooks_are_there, links_are_below};
 use rx_instances::{
-    awaited, dispatch_hook, dispatch_op, dispatch_path, dispatch_word, find_instance, hook_place,
-    is_refresh, show_hooks,
+    awaited, dispatch_event, dispatch_hook, dispatch_op, dispatch_path, dispatch_word,
+    find_instance, hook_place, is_refresh, is_start, show_hooks,
 };
 use rx_lane::{Lane, Lanes};
 use rx_queue::{Op, Update};
 use rx_report::{Report, a_commit_is_in_tree_order};
-use rx_sched::RootLanes;
+use rx_sched::{Event, RootLanes};
 use rx_step::{Dispatch, LaneWord};
 use std::alloc::AllocError;
 
@@ -51,7 +52,7 @@ pub(crate) struct Sent {
 
 // An event takes back the claim of its lane: fifteen claims later it is that lane's turn again.
 fn take_back(lanes: &mut RootLanes)
-    ensures { (s : Schedule) → IsTrue (is_transition s.next_transition) → lanes.old ≡ claimed_by LaneWord.Transition None s → lanes.new ≡ s }
+    ensures { (s : Schedule) → IsTrue (is_transition s.next_transition) → lanes.old ≡ claimed_by LaneWord.Transition no_event s → lanes.new ≡ s }
 {
     'claims: for _claim in 0..15u32 {
         lanes.claim_transition();
@@ -64,23 +65,23 @@ impl Root {
     pub fn tick(&mut self, time: u64)
         requires stands { StandsForSome self.old }
         ensures after { (s : State) → Stands self.old.rendering.program s self.old → Stands self.old.rendering.program (record (between_events s) { now = later s.now time }) self.new }
-        ensures changes { self.new ≡ record self.old { now = later self.old.now time; event = None } }
+        ensures changes { self.new ≡ record self.old { now = later self.old.now time; event = no_event } }
         ensures stands { StandsForSome self.new }
         ensures room { (k : ℕ) → HasRoomFor k self.old → HasRoomFor k self.new }
     {
         self.now = self.now.saturating_add(time);
-        self.event = None;
+        self.event = Event::new(false);
     }
 
     /// An event ends: the next transition takes a lane of its own (react.dev, startTransition).
     pub fn end_event(&mut self)
         requires stands { StandsForSome self.old }
         ensures after { (s : State) → Stands self.old.rendering.program s self.old → Stands self.old.rendering.program (between_events s) self.new }
-        ensures changes { self.new ≡ record self.old { event = None } }
+        ensures changes { self.new ≡ record self.old { event = no_event } }
         ensures stands { StandsForSome self.new }
         ensures room { (k : ℕ) → HasRoomFor k self.old → HasRoomFor k self.new }
     {
-        self.event = None;
+        self.event = Event::new(false);
     }
 
     /// Runs the passive effects that are pending, whose lines the report gets, and an event ends (react.dev, useEffect). After
@@ -99,7 +100,7 @@ impl Root {
         ensures room { (k : ℕ) → HasRoomFor k self.old → HasRoomFor k self.new }
     {
         self.shown.flush_passive(log)?;
-        self.event = None;
+        self.event = Event::new(false);
         Ok(())
     }
 
@@ -166,13 +167,13 @@ impl Root {
     fn lane(&mut self, word: LaneWord) -> Lane
         ensures lane { (s : State) → self.old.schedule ≡ s.schedule → self.old.event ≡ s.event → result ≡ lane_in s word }
         ensures claims { self.new ≡ record self.old { schedule = claimed_by word self.old.event self.old.schedule } }
-        ensures transition { word ≡ LaneWord.Transition → self.old.event ≡ None → IsTrue (is_transition self.old.schedule.next_transition) }
+        ensures transition { word ≡ LaneWord.Transition → self.old.event.lane ≡ None → IsTrue (is_transition self.old.schedule.next_transition) }
     {
         match word {
             LaneWord::Sync => Lane::Sync,
             LaneWord::Input => Lane::Input,
             LaneWord::Default => Lane::Default,
-            LaneWord::Transition => match self.event {
+            LaneWord::Transition => match self.event.lane {
                 Some(lane) => lane,
                 None => self.lanes.claim_transition(),
             },
@@ -186,7 +187,7 @@ impl Root {
     {
         if let Some(lanes) = linked {
             self.lanes.link(lanes);
-            self.event = Some(lane);
+            self.event.lane = Some(lane);
         }
         self.lanes.updated(lane, self.now);
         self.updates += 1;
@@ -195,10 +196,10 @@ impl Root {
 
     // An event takes back the claim of its lane, if it claimed one.
     fn forget_lane(&mut self, word: LaneWord)
-        ensures { (schedule : Schedule) → (word ≡ LaneWord.Transition → self.old.event ≡ None → IsTrue (is_transition schedule.next_transition))
+        ensures { (schedule : Schedule) → (word ≡ LaneWord.Transition → self.old.event.lane ≡ None → IsTrue (is_transition schedule.next_transition))
             → self.old.schedule ≡ claimed_by word self.old.event schedule → self.new ≡ record self.old { schedule = schedule } }
     {
-        if word == LaneWord::Transition && self.event.is_none() {
+        if word == LaneWord::Transition && self.event.lane.is_none() {
             take_back(&mut self.lanes);
         }
     }
@@ -216,6 +217,8 @@ impl Root {
         ensures same { self.new ≡ record self.old { rendering = self.new.rendering; schedule = self.new.schedule; updates = self.new.updates; event = self.new.event; later = self.new.later } }
         ensures program { self.new.rendering.program ≡ self.old.rendering.program }
         ensures one { self.new.updates ≤ self.old.updates + 1 }
+        ensures succeeds { 0 < hook_room sent.instance sent.place (kept_hooks self.old.rendering.hooks) → IsOk result }
+        ensures spare { OnOk result (hook_room sent.instance sent.place (kept_hooks self.old.rendering.hooks) ≤ hook_room sent.instance sent.place (kept_hooks self.new.rendering.hooks) + 1) }
     {
         hooks_are_there();
         links_are_below();
@@ -297,7 +300,7 @@ impl Root {
         requires refresh { is_refresh dispatch.now ≡ true }
         requires room { HasRoomFor 1 self.old }
         ensures ok { IfOk result (λ number. (s : State) → Stands self.old.rendering.program s self.old
-            → (number ≡ length s.journal.updates) × Stands self.old.rendering.program (dispatched self.old.rendering.program s dispatch.now).after self.new) }
+            → (number ≡ length s.journal.updates) × Stands self.old.rendering.program (enqueued self.old.rendering.program s dispatch.now).after self.new) }
         ensures memory { OnErr result (result ≡ Err DispatchError.OutOfMemory) }
         ensures err { OnErr result ((s : State) → Stands self.old.rendering.program s self.old → Stands self.old.rendering.program s self.new) }
         ensures program { self.new.rendering.program ≡ self.old.rendering.program }
@@ -307,6 +310,34 @@ impl Root {
         let resource = self.resource(dispatch_hook(dispatch));
         self.refresh(dispatch_word(dispatch), resource)?;
         Ok(number)
+    }
+
+    // Sends the two updates of a start to the hook that it is for: one that sets it, and one that unsets it as a transition. Room
+    // for both is taken first, so that an `Err` changes nothing of what the root stands for.
+    fn send_start(&mut self, dispatch: &Dispatch, sent: Sent) -> Result<(), AllocError>
+        requires target { (s : State) × Stands self.old.rendering.program s self.old × IsFor self.old.rendering.program s dispatch.now sent }
+        requires start { is_start dispatch.now ≡ true }
+        requires room { self.old.updates + 1 < 2 ^ 62 }
+        ensures ok { OnOk result ((s : State) → Stands self.old.rendering.program s self.old → IsFor self.old.rendering.program s dispatch.now sent
+            → Stands self.old.rendering.program (state_after s dispatch.now sent) self.new) }
+        ensures err { OnErr result ((s : State) → Stands self.old.rendering.program s self.old → Stands self.old.rendering.program s self.new) }
+        ensures same { self.new ≡ record self.old { rendering = self.new.rendering; schedule = self.new.schedule; updates = self.new.updates; event = self.new.event; later = self.new.later } }
+        ensures program { self.new.rendering.program ≡ self.old.rendering.program }
+        ensures two { self.new.updates ≤ self.old.updates + 2 }
+    {
+        self.renderer.reserve(sent.instance, sent.place, 2)?;
+        let unset = Sent {
+            op: Op::Set(Int::of(0)),
+            ..sent
+        };
+        match self.send(dispatch_word(dispatch), sent) {
+            Ok(()) => {}
+            Err(_) => unreachable!(),
+        }
+        match self.send(LaneWord::Transition, unset) {
+            Ok(()) => Ok(()),
+            Err(_) => unreachable!(),
+        }
     }
 
     // Sends an update to the hook that a dispatch is for, if its path leads to an instance.
@@ -323,25 +354,58 @@ impl Root {
         ensures program { self.new.rendering.program ≡ self.old.rendering.program }
         ensures left { (k : ℕ) → HasRoomFor (suc k) self.old → HasRoomFor k self.new }
     {
-        hooks_are_there();
         let number = self.updates;
         match self.target(dispatch) {
             None => Err(DispatchError::NoInstance),
             Some(sent) => {
-                self.send(dispatch_word(dispatch), sent)?;
+                if is_start(dispatch) {
+                    self.send_start(dispatch, sent)?;
+                } else {
+                    self.send(dispatch_word(dispatch), sent)?;
+                }
                 Ok(number)
             }
         }
     }
 
+    // A dispatch goes on with the event before it, or begins one of its own.
+    fn enter(&mut self, dispatch: &Dispatch)
+        ensures event { self.new ≡ record self.old { event = event_of dispatch.now self.old.event } }
+        ensures stands { (s : State) → Stands self.old.rendering.program s self.old → Stands self.old.rendering.program (within dispatch.now s) self.new }
+    {
+        self.event = dispatch_event(dispatch, self.event);
+    }
+
+    // Accepts a dispatch in its event.
+    fn enqueue(&mut self, dispatch: &Dispatch) -> Result<u64, DispatchError>
+        requires stands { StandsForSome self.old }
+        requires fits { CanTake self.old.rendering.program (step.Dispatch dispatch.now) }
+        requires room { HasRoomFor 1 self.old }
+        ensures ok { IfOk result (λ number. (s : State) → Stands self.old.rendering.program s self.old
+            → (number ≡ length s.journal.updates) × Stands self.old.rendering.program (enqueued self.old.rendering.program s dispatch.now).after self.new) }
+        ensures no_instance { (s : State) → Stands self.old.rendering.program s self.old
+            → IsErrOf result DispatchError.NoInstance ↔ HasNoInstance self.old.rendering.program s dispatch.now }
+        ensures same { IsErrOf result DispatchError.NoInstance → self.new ≡ self.old }
+        ensures err { OnErr result ((s : State) → Stands self.old.rendering.program s self.old → Stands self.old.rendering.program s self.new) }
+        ensures program { self.new.rendering.program ≡ self.old.rendering.program }
+        ensures left { (k : ℕ) → HasRoomFor (suc k) self.old → HasRoomFor k self.new }
+    {
+        if is_refresh(dispatch) {
+            return self.refresh_for(dispatch);
+        }
+        self.send_to(dispatch)
+    }
+
     /// Accepts a dispatch, and answers the number of its update, from 0 on in the order in which they are accepted: it sends the
     /// update to the hook that it is for (react.dev, useState and useReducer), or asks for another version of its resource. A
-    /// transition goes on with the lane of its event, or claims the next one (react.dev, startTransition). Nothing is rendered.
+    /// start sends two, of which it answers the number of the first: that sets its hook to 1, and the other one to 0 as a
+    /// transition (react.dev, useTransition). A transition goes on with the lane of its event, or claims the next one (react.dev,
+    /// startTransition). A start begins an event, with which only transitions go on. Nothing is rendered.
     ///
     /// # Errors
     ///
-    /// `NoInstance` exactly if the path to a hook leads to no instance of the committed tree: then nothing has changed. Out of
-    /// memory: then the root stands for what it stood for.
+    /// `NoInstance` exactly if the path to a hook leads to no instance of the committed tree: then nothing has changed, save the
+    /// event. Out of memory: then the root stands for what it stood for.
     pub fn dispatch(&mut self, dispatch: &Dispatch) -> Result<u64, DispatchError>
         requires stands { StandsForSome self.old }
         requires fits { CanTake self.old.rendering.program (step.Dispatch dispatch.now) }
@@ -350,16 +414,23 @@ impl Root {
             → (number ≡ length s.journal.updates) × Stands self.old.rendering.program (dispatched self.old.rendering.program s dispatch.now).after self.new) }
         ensures no_instance { (s : State) → Stands self.old.rendering.program s self.old
             → IsErrOf result DispatchError.NoInstance ↔ HasNoInstance self.old.rendering.program s dispatch.now }
-        ensures same { IsErrOf result DispatchError.NoInstance → self.new ≡ self.old }
-        ensures err { OnErr result ((s : State) → Stands self.old.rendering.program s self.old → Stands self.old.rendering.program s self.new) }
+        ensures same { IsErrOf result DispatchError.NoInstance → self.new ≡ record self.old { event = event_of dispatch.now self.old.event } }
+        ensures refused { IsErrOf result DispatchError.NoInstance → (s : State) → Stands self.old.rendering.program s self.old → Stands self.old.rendering.program (within dispatch.now s) self.new }
+        ensures memory { IsErrOf result DispatchError.OutOfMemory → (s : State) → Stands self.old.rendering.program s self.old → Stands self.old.rendering.program s self.new }
         ensures stands { StandsForSome self.new }
         ensures program { self.new.rendering.program ≡ self.old.rendering.program }
         ensures left { (k : ℕ) → HasRoomFor (suc k) self.old → HasRoomFor k self.new }
     {
-        if is_refresh(dispatch) {
-            return self.refresh_for(dispatch);
+        let event = self.event;
+        self.enter(dispatch);
+        match self.enqueue(dispatch) {
+            Ok(number) => Ok(number),
+            Err(DispatchError::NoInstance) => Err(DispatchError::NoInstance),
+            Err(DispatchError::OutOfMemory) => {
+                self.event = event;
+                Err(DispatchError::OutOfMemory)
+            }
         }
-        self.send_to(dispatch)
     }
 
     // The number of a resource.
@@ -408,7 +479,7 @@ impl Root {
             → Stands self.old.rendering.program (resolved self.old.rendering.program (between_events s) name.now value).after self.new }
         ensures already { (s : State) (known : ℤ) → Stands self.old.rendering.program s self.old
             → IsErrOf result (ResolveError.Already known) ↔ (last_value s (resource_number self.old.rendering.program name.now) ≡ Some known) }
-        ensures same { OnErr result (self.new ≡ record self.old { event = None }) }
+        ensures same { OnErr result (self.new ≡ record self.old { event = no_event }) }
         ensures stands { StandsForSome self.new }
         ensures program { self.new.rendering.program ≡ self.old.rendering.program }
         ensures left { (k : ℕ) → HasRoomFor (suc k) self.old → HasRoomFor k self.new }
@@ -416,13 +487,13 @@ impl Root {
         let number = self.resource(name);
         match self.resources.get(number).last_value() {
             Some(known) => {
-                self.event = None;
+                self.event = Event::new(false);
                 Err(ResolveError::Already { value: known })
             }
             None => {
                 let waits = self.is_awaited(number);
                 self.give(number, value, waits);
-                self.event = None;
+                self.event = Event::new(false);
                 Ok(())
             }
         }

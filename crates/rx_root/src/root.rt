@@ -31,7 +31,7 @@ use rx_read::Numbers;
 use rx_render::Renderer;
 use rx_report::Report;
 use rx_resources::ResourceStore;
-use rx_sched::RootLanes;
+use rx_sched::{Event, RootLanes};
 use rx_script::{dispatch_fits, step_fits};
 use rx_step::{Dispatch, Step};
 use rx_ways::Ways;
@@ -58,8 +58,8 @@ pub struct Root {
     // What is kept of the resources, by their numbers.
     pub(crate) resources: ResourceStore,
     pub(crate) now: u64,
-    // The transition lane of the event that goes on.
-    pub(crate) event: Option<Lane>,
+    // The event that goes on.
+    pub(crate) event: Event,
     // The numbers of the next new instance and the next new host.
     pub(crate) numbers: Numbers,
     // The lanes of the updates since the render in progress began.
@@ -109,7 +109,7 @@ impl Root {
             resolutions: 0,
             resources,
             now: 0,
-            event: None,
+            event: Event::new(false),
             numbers: Numbers {
                 instance: 1,
                 host: 1,
@@ -120,13 +120,13 @@ impl Root {
     }
 
     /// Whether one more step may be taken: the numbers that come next stay below 2 to the 62nd power with all that one step may
-    /// add to them. Those are one update or resolution, or 24 commits, each of at most 65,536 new instances and hosts. No script
+    /// add to them. Those are two updates, or one resolution, or 24 commits, each of at most 65,536 new instances and hosts. No script
     /// comes near that.
     pub fn has_room(&self) -> bool
         ensures { IsTrue result ↔ HasRoomFor 1 self.entry.now }
     {
         let nodes = NODE_LIMIT * FLUSH_LIMIT;
-        self.updates < NUMBER_LIMIT - 1
+        self.updates < NUMBER_LIMIT - 2
             && self.resolutions < NUMBER_LIMIT - 1
             && self.commits < NUMBER_LIMIT - FLUSH_LIMIT
             && self.numbers.instance < NUMBER_LIMIT - nodes

@@ -1,10 +1,11 @@
 // The steps of a script, one by one.
 ghost use Rattle.std.specs.Prelude.{◌≡◌, ◌≤◌, ℕ, suc, true, OnErr, OnOk, bytes_eq, is_some, position};
 ghost use Rattle.rx_rules.specs.Names.{resources};
-ghost use Rattle.rx_lines.specs.Lines.{already, with_line};
+ghost use Rattle.rx_lines.specs.Lines.{already, no_instance, with_line};
 ghost use Rattle.rx_model.specs.State.{State};
 ghost use Rattle.rx_model.specs.Breaking.{BreaksOff};
 ghost use Rattle.rx_model.specs.Machine.{StepTo};
+ghost use Rattle.rx_step.specs.Steps.{path_of};
 ghost use Rattle.rx_step.specs.declared.step.Step.TheVariants as step;
 ghost use Rattle.rx_root.specs.Paying.{Pays};
 ghost use Rattle.rx_root.specs.Stands.{HasRoomFor, Stands, StandsForSome};
@@ -15,8 +16,8 @@ use crate::errors::DispatchError;
 use crate::root::Root;
 use rx_base::{Int, Name, Steps};
 use rx_instances::dispatch_path;
-use rx_lane::Lane;
 use rx_report::Report;
+use rx_sched::Event;
 use rx_step::{Dispatch, Step};
 use std::alloc::AllocError;
 use std::sync::ledger::Ledger;
@@ -33,10 +34,32 @@ impl Root {
             → Takes self.old.rendering.program (BreaksOff Pays self.old.rendering.program s (step.Dispatch dispatch.now)) self.new log.old log.new n n) }
         ensures left { (k : ℕ) → HasRoomFor (suc k) self.old → HasRoomFor k self.new }
     {
+        let event = self.event;
         match self.dispatch(dispatch) {
             Ok(_) => Ok(()),
-            Err(DispatchError::NoInstance) => log.no_instance_line(dispatch_path(dispatch)),
+            Err(DispatchError::NoInstance) => self.tell_no_instance(dispatch, event, log),
             Err(DispatchError::OutOfMemory) => Err(AllocError),
+        }
+    }
+
+    // The line is written that there is no such instance. If it is not, the event is this one again.
+    fn tell_no_instance(
+        &mut self,
+        dispatch: &Dispatch,
+        event: Event,
+        log: &mut Report,
+    ) -> Result<(), AllocError>
+        ensures same { OnOk result (self.new ≡ self.old) }
+        ensures written { OnOk result (log.new ≡ with_line log.old (no_instance (path_of dispatch.now))) }
+        ensures back { OnErr result (self.new ≡ record self.old { event = event }) }
+        ensures unchanged { OnErr result (log.new ≡ log.old) }
+    {
+        match log.no_instance_line(dispatch_path(dispatch)) {
+            Ok(()) => Ok(()),
+            Err(error) => {
+                self.event = event;
+                Err(error)
+            }
         }
     }
 
@@ -45,7 +68,7 @@ impl Root {
         &mut self,
         name: &Name,
         known: Int,
-        event: Option<Lane>,
+        event: Event,
         log: &mut Report,
     ) -> Result<(), AllocError>
         ensures same { OnOk result (self.new ≡ self.old) }

@@ -18,6 +18,7 @@ ghost use Rattle.rx_model.specs.State.{State, Progress};
 ghost use Rattle.rx_model.specs.Committing.{passive_run, starting, committed_as, committed_state, schedule_deferred, deferred_as, ended};
 ghost use Rattle.rx_model.specs.HooksOf.{KeepsAllHooks};
 ghost use Rattle.rx_model.specs.Stretch.{silent};
+ghost use Rattle.rx_sched.specs.Events.{no_event};
 ghost use Rattle.rx_sched.specs.declared.choice.Choice.TheVariants as choices;
 ghost use Rattle.rx_settle.specs.Settling.{CanSettle, IsSettlingOf};
 ghost use Rattle.rx_hook_store.specs.Store.{kept_hooks};
@@ -90,11 +91,11 @@ impl Root {
     // (react.dev, useEffect).
     fn start(&mut self, lanes: Lanes, log: &mut Report) -> Result<(), AllocError>
         requires { StandsBetween self.old }
-        ensures starts { OnOk result ((p : syntax.Program) (s : State) → Stands p s self.old → s.event ≡ None → IsSet lanes
+        ensures starts { OnOk result ((p : syntax.Program) (s : State) → Stands p s self.old → s.event ≡ no_event → IsSet lanes
             → StandsWith p (passive_run s).after (Some (starting s lanes)) self.new) }
         ensures written { OnOk result (log.new ≡ with_lines log.old (passive_lines self.old.shown.passive)) }
         ensures rest { self.new ≡ record self.old { rendering = self.new.rendering; shown = self.new.shown; later = self.new.later } }
-        ensures broken { OnErr result ((p : syntax.Program) (s : State) → Stands p s self.old → s.event ≡ None → HasBroken p (λ r. (r ≡ silent s) ⊎ (r ≡ passive_run s)) self.new log.old log.new) }
+        ensures broken { OnErr result ((p : syntax.Program) (s : State) → Stands p s self.old → s.event ≡ no_event → HasBroken p (λ r. (r ≡ silent s) ⊎ (r ≡ passive_run s)) self.new log.old log.new) }
     {
         self.facts();
         self.shown.flush_passive(log)?;
@@ -409,8 +410,8 @@ impl Root {
         requires stands { StandsBetween self.old }
         requires room { HasRoomForTurns 1 self.old }
         requires positive { IfSome budget (λ n. 0 < n) }
-        ensures takes { OnOk result ((p : syntax.Program) (s : State) → Stands p s self.old → s.event ≡ None → Takes p (Turn Pays p s budget) self.new log.old log.new steps.old steps.new) }
-        ensures broken { OnErr result ((p : syntax.Program) (s : State) → Stands p s self.old → s.event ≡ None → HasBroken p (λ r. (choice_of s ≢ choices.None) × HasBegun s r) self.new log.old log.new) }
+        ensures takes { OnOk result ((p : syntax.Program) (s : State) → Stands p s self.old → s.event ≡ no_event → Takes p (Turn Pays p s budget) self.new log.old log.new steps.old steps.new) }
+        ensures broken { OnErr result ((p : syntax.Program) (s : State) → Stands p s self.old → s.event ≡ no_event → HasBroken p (λ r. (choice_of s ≢ choices.None) × HasBegun s r) self.new log.old log.new) }
         ensures rises { steps.old ≤ steps.new }
         ensures few { steps.new ≤ steps.old + unit_bound self.old.rendering.program }
     {
@@ -435,8 +436,8 @@ impl Root {
         requires stands { StandsBetween self.old }
         requires room { HasRoomForTurns 1 self.old }
         requires positive { IfSome budget (λ n. 0 < n) }
-        ensures takes { OnOk result ((p : syntax.Program) (s : State) → Stands p s self.old → s.event ≡ None → Takes p (Turn Pays p s budget) self.new log.old log.new steps.old steps.new) }
-        ensures breaks { OnErr result ((p : syntax.Program) (s : State) → Stands p s self.old → s.event ≡ None → Takes p (TurnBreaksOff p s) self.new log.old log.new steps.old steps.new) }
+        ensures takes { OnOk result ((p : syntax.Program) (s : State) → Stands p s self.old → s.event ≡ no_event → Takes p (Turn Pays p s budget) self.new log.old log.new steps.old steps.new) }
+        ensures breaks { OnErr result ((p : syntax.Program) (s : State) → Stands p s self.old → s.event ≡ no_event → Takes p (TurnBreaksOff p s) self.new log.old log.new steps.old steps.new) }
         ensures leaves { LeavesRoom 1 self.old self.new }
         ensures rises { steps.old ≤ steps.new }
     {
@@ -459,8 +460,8 @@ impl Root {
     ) -> Result<(), AllocError>
         requires flushes { FlushesFrom limit self.old }
         requires room { HasRoomForTurns limit self.old }
-        ensures takes { OnOk result ((p : syntax.Program) (s : State) → Stands p s self.old → s.event ≡ None → Takes p (FlushWithin Pays limit p s) self.new log.old log.new steps.old steps.new) }
-        ensures breaks { OnErr result ((p : syntax.Program) (s : State) → Stands p s self.old → s.event ≡ None → Takes p (FlushBreaksOff Pays limit p s) self.new log.old log.new steps.old steps.new) }
+        ensures takes { OnOk result ((p : syntax.Program) (s : State) → Stands p s self.old → s.event ≡ no_event → Takes p (FlushWithin Pays limit p s) self.new log.old log.new steps.old steps.new) }
+        ensures breaks { OnErr result ((p : syntax.Program) (s : State) → Stands p s self.old → s.event ≡ no_event → Takes p (FlushBreaksOff Pays limit p s) self.new log.old log.new steps.old steps.new) }
         ensures leaves { LeavesRoom limit self.old self.new }
         ensures rises { steps.old ≤ steps.new }
     {

@@ -1,12 +1,13 @@
 -- Contexts that are read are declared.
 use Rattle.std.specs.Prelude.{◌≡◌, ℕ, true, List, [], ◌∷◌, Some, length, nat_lt}
-use Rattle.rx_ast.specs.Syntax.{Statement, state, reducer, context, use_resource, constant, effect, Component, Program, contexts}
+use Rattle.rx_ast.specs.Syntax.{Statement, state, reducer, transition, context, use_resource, constant, effect, Component, Program, contexts}
 use Rattle.rx_rules.specs.Names.{component_at, context_number}
 
 -- a context that a statement reads is one of the program's
 abbrev pub IsDeclared : Program → Statement → Type 0
 IsDeclared p (state x setter e) = Unit {0}
 IsDeclared p (reducer x setter f e) = Unit {0}
+IsDeclared p (transition x starter) = Unit {0}
 IsDeclared p (context x c) = nat_lt (context_number p c) (length (contexts p)) ≡ true
 IsDeclared p (use_resource x r) = Unit {0}
 IsDeclared p (constant x e) = Unit {0}

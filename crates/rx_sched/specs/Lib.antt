@@ -3,3 +3,4 @@ pub mod Links
 pub mod Waiting
 pub mod WaitingLaws
 pub mod Schedule
+pub mod Events

@@ -3,9 +3,11 @@
 
 mod choice;
 mod deadlines;
+mod event;
 mod links;
 mod root_lanes;
 mod waiting;
 
 pub use choice::Choice;
+pub use event::Event;
 pub use root_lanes::RootLanes;

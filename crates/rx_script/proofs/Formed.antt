@@ -1,17 +1,17 @@
 -- What a line is, from what is read of its form.
-use Rattle.std.proofs.Common.{◌≡◌, ◌∙◌, sym, ap, ℕ, ◌<◌, Bool, true, false, cond, ◌&&◌, ◌==◌, nat_le, bytes_eq, List, [], ◌∷◌, map, length, Option, Some, None, option_map, refl, arith}
+use Rattle.std.proofs.Common.{◌≡◌, ◌∙◌, sym, ap, ℕ, pos, ◌<◌, Bool, true, false, cond, ◌&&◌, ◌==◌, nat_le, bytes_eq, List, [], ◌∷◌, map, length, Option, Some, None, option_map, refl, arith}
 use Rattle.std.specs.Prelude.{position, option_and_then}
 use Rattle.std.specs.Borrow.{Bor}
 use Rattle.rx_base.specs.Values.{Name, Text}
 use Rattle.rx_ast.specs.Syntax.{Program}
 use Rattle.rx_rules.specs.Names.{component_names, root_name}
 use Rattle.rx_check.specs.Tables.{hook_named}
-use Rattle.rx_step.specs.declared.step.Dispatch.TheVariants.{Set, Call, Send, Refresh}
+use Rattle.rx_step.specs.declared.step.Dispatch.TheVariants.{Set, Call, Send, Start, Refresh}
 use Rattle.rx_step.specs.declared.step.Step.{Step}
 use Rattle.rx_step.specs.declared.step.Step.TheVariants as step
 use Rattle.rx_script.specs.declared.form.Form.{Form}
 use Rattle.rx_step.specs.Steps.{Path}
-use Rattle.rx_script.specs.Lines.{form_of, meant, formed, bad, good, bad_line, unknown_target, out_of_range, has_targets, in_bounds, is_integer, path_in_bounds, step_limit, target_from, target_of, hook_at, is_state, is_reducer, is_updater}
+use Rattle.rx_script.specs.Lines.{form_of, meant, formed, bad, good, bad_line, unknown_target, out_of_range, has_targets, in_bounds, is_integer, path_in_bounds, step_limit, target_from, target_of, hook_at, is_state, is_reducer, is_flag, is_updater}
 use Rattle.rx_script.specs.Readings.{held_path, held_step, reading, form_in_bounds}
 use Rattle.rx_script.proofs.Bounds.{zero-fits, fits-held, limit-held, one-held, path-held, held-small, held-path-small, held_value-small, both-true}
 
@@ -41,6 +41,7 @@ targets-held : (p : Program) (s : Step) → has_targets p (held_step s) ≡ has_
 targets-held p (step.Dispatch (Set lane path name x)) = ap is_state (hook-held p path name)
 targets-held p (step.Dispatch (Call lane path name f x)) = ap (λ h. is_state h && is_updater p f) (hook-held p path name)
 targets-held p (step.Dispatch (Send lane path name x)) = ap is_reducer (hook-held p path name)
+targets-held p (step.Dispatch (Start lane path name)) = ap is_flag (hook-held p path name)
 targets-held p (step.Dispatch (Refresh lane name)) = refl
 targets-held p (step.Resolve name x) = refl
 targets-held p (step.Tick n) = refl
@@ -62,6 +63,7 @@ bounds-held : (p : Program) (s : Step) → form_in_bounds p (reading s) ≡ in_b
 bounds-held p (step.Dispatch (Set lane path name x)) = rw (fits-held p x, path-held p path) refl
 bounds-held p (step.Dispatch (Call lane path name f x)) = rw (fits-held p x, path-held p path) refl
 bounds-held p (step.Dispatch (Send lane path name x)) = rw (fits-held p x, path-held p path) refl
+bounds-held p (step.Dispatch (Start lane path name)) = rw (zero-fits p, path-held p path) refl
 bounds-held p (step.Dispatch (Refresh lane name)) = rw (zero-fits p) refl
 bounds-held p (step.Resolve name x) = and_true _ ∙ fits-held p x
 bounds-held p (step.Tick n) = rw (zero-fits p) (limit-held n)
@@ -88,6 +90,9 @@ step-held p (step.Dispatch (Send lane path name x)) is =
     let both = both-true (is_integer p x) (path_in_bounds p path) is in
     let here = held-path-small p path both.1 in
     let value = held_value-small p x both.0 in rw (here, value) refl
+step-held p (step.Dispatch (Start lane path name)) is =
+    let both = both-true (is_integer p (pos 0)) (path_in_bounds p path) is in
+    let here = held-path-small p path both.1 in rw here refl
 step-held p (step.Dispatch (Refresh lane name)) is = refl
 step-held p (step.Resolve name x) is = ap (λ y. step.Resolve name y) (held_value-small p x is)
 step-held p (step.Tick n) is = ap (λ k. step.Tick k) (held-small n step_limit (omega arith) is)

@@ -74,14 +74,6 @@ call-reads false l p h f x = call-none (named l p h) f x
 abbrev texts : List (Bor Text) → List Text
 texts ws = map (λ w. w.now) ws
 
-pub four-words : (ws : List (Bor Text)) → 4 ≤ length ws → length ws < 5 → None ≡ option_map reading (form_of (texts ws))
-four-words [] least below = absurd (omega arith)
-four-words (a ∷ []) least below = absurd (omega arith)
-four-words (a ∷ b ∷ []) least below = absurd (omega arith)
-four-words (a ∷ b ∷ c ∷ []) least below = absurd (omega arith)
-four-words (a ∷ b ∷ c ∷ d ∷ []) least below = refl
-four-words (a ∷ b ∷ c ∷ d ∷ e ∷ ws) least below = absurd (omega arith)
-
 pub five-words : (ws : List (Bor Text)) (d0 d1 d2 d3 d4 : Bor Text) (place : Option Place) (answer : Option Form) → 5 ≤ length ws → length ws < 6
     → place ≡ place_of (get_or ws 1 d1).now (get_or ws 2 d2).now (get_or ws 3 d3).now
     → answer ≡ value_reading (value_form (get_or ws 0 d0).now) place (integer_of (get_or ws 4 d4).now)

@@ -13,8 +13,10 @@ use Rattle.rx_check.specs.declared.hook.HookKind.{HookKind}
 use Rattle.rx_check.specs.declared.hook.HookKind.TheVariants as kind
 use Rattle.rx_step.specs.declared.step.LaneWord.{LaneWord}
 use Rattle.rx_step.specs.declared.step.LaneWord.TheVariants.{Sync, Input, Default, Transition}
+use Rattle.rx_step.specs.declared.step.StartWord.{StartWord}
+use Rattle.rx_step.specs.declared.step.StartWord.TheVariants as start
 use Rattle.rx_step.specs.declared.step.Dispatch.{Dispatch}
-use Rattle.rx_step.specs.declared.step.Dispatch.TheVariants.{Set, Call, Send, Refresh}
+use Rattle.rx_step.specs.declared.step.Dispatch.TheVariants.{Set, Call, Send, Start, Refresh}
 use Rattle.rx_step.specs.declared.step.Step.{Step}
 use Rattle.rx_step.specs.declared.step.Step.TheVariants as step
 use Rattle.rx_step.specs.Steps.{Path, path_of as path_in}
@@ -35,6 +37,13 @@ lane_of w =
     else if bytes_eq w (codes "input") then Some Input
     else if bytes_eq w (codes "default") then Some Default
     else if bytes_eq w (codes "transition") then Some Transition
+    else None
+
+-- the lane of a word in which a start sets its flag
+abbrev pub start_lane_of : Text → Option StartWord
+start_lane_of w =
+    if bytes_eq w (codes "sync") then Some start.Sync
+    else if bytes_eq w (codes "input") then Some start.Input
     else None
 
 -- a part of a path: a name, or a name, `@` and a number; without a number it is 0
@@ -92,6 +101,10 @@ resolve_form w = if bytes_eq w (codes "resolve") then Some (λ name x. step.Reso
 abbrev pub refresh_form : Text → Option (LaneWord → Name → Step)
 refresh_form w = if bytes_eq w (codes "refresh") then Some (λ lane name. step.Dispatch (Refresh lane name)) else None
 
+-- a dispatch that starts a transition
+abbrev pub start_form : Text → Option (StartWord → Path → Name → Step)
+start_form w = if bytes_eq w (codes "start") then Some (λ lane path name. step.Dispatch (Start lane path name)) else None
+
 -- a line of three words, the one or the other
 abbrev pub either : Option Step → Option Step → Option Step
 either None s = s
@@ -114,7 +127,7 @@ form_of [] = None
 form_of (w ∷ []) = plain_form w
 form_of (w ∷ n ∷ []) = number_form w ◂ natural_of n
 form_of (w ∷ a ∷ b ∷ []) = either (resolve_form w ◂ resource_of a ◂ integer_of b) (refresh_form w ◂ lane_of a ◂ resource_of b)
-form_of (w ∷ a ∷ b ∷ c ∷ []) = None
+form_of (w ∷ l ∷ p ∷ h ∷ []) = start_form w ◂ start_lane_of l ◂ path_of p ◂ lower_of h
 form_of (w ∷ l ∷ p ∷ h ∷ x ∷ []) = value_form w ◂ lane_of l ◂ path_of p ◂ lower_of h ◂ integer_of x
 form_of (w ∷ l ∷ p ∷ h ∷ f ∷ x ∷ []) = call_form w ◂ lane_of l ◂ path_of p ◂ lower_of h ◂ lower_of f ◂ integer_of x
 form_of (w ∷ a ∷ b ∷ c ∷ d ∷ e ∷ f ∷ more) = None
@@ -141,12 +154,21 @@ abbrev pub is_state : Option HookKind → Bool
 is_state None = false
 is_state (Some (kind.State n)) = true
 is_state (Some (kind.Reducer n f)) = false
+is_state (Some (kind.Transition n)) = false
 
 -- there is a hook, and it is one of useReducer
 abbrev pub is_reducer : Option HookKind → Bool
 is_reducer None = false
 is_reducer (Some (kind.State n)) = false
 is_reducer (Some (kind.Reducer n f)) = true
+is_reducer (Some (kind.Transition n)) = false
+
+-- there is a hook, and it is one of useTransition
+abbrev pub is_flag : Option HookKind → Bool
+is_flag None = false
+is_flag (Some (kind.State n)) = false
+is_flag (Some (kind.Reducer n f)) = false
+is_flag (Some (kind.Transition n)) = true
 
 -- the name is one of a function of a state and an argument
 abbrev pub is_updater : Program → Name → Bool
@@ -161,6 +183,7 @@ abbrev pub has_targets : Program → Step → Bool
 has_targets p (step.Dispatch (Set lane path name x)) = is_state (hook_at p path name)
 has_targets p (step.Dispatch (Call lane path name f x)) = is_state (hook_at p path name) && is_updater p f
 has_targets p (step.Dispatch (Send lane path name x)) = is_reducer (hook_at p path name)
+has_targets p (step.Dispatch (Start lane path name)) = is_flag (hook_at p path name)
 has_targets p (step.Dispatch (Refresh lane name)) = is_resource p name
 has_targets p (step.Resolve name x) = is_resource p name
 has_targets p (step.Tick n) = true
@@ -187,6 +210,7 @@ abbrev pub operand : Dispatch → ℤ
 operand (Set lane path name x) = x
 operand (Call lane path name f x) = x
 operand (Send lane path name x) = x
+operand (Start lane path name) = pos 0
 operand (Refresh lane name) = pos 0
 
 -- the greatest time of a tick, and the greatest budget of a turn

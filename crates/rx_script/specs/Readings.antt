@@ -4,7 +4,7 @@ use Rattle.std.specs.Int.{w64}
 use Rattle.rx_base.specs.Values.{wrap, Name, Text}
 use Rattle.rx_ast.specs.Syntax.{Program}
 use Rattle.rx_step.specs.declared.step.Dispatch.{Dispatch}
-use Rattle.rx_step.specs.declared.step.Dispatch.TheVariants.{Set, Call, Send, Refresh}
+use Rattle.rx_step.specs.declared.step.Dispatch.TheVariants.{Set, Call, Send, Start, Refresh}
 use Rattle.rx_step.specs.declared.step.Step.{Step}
 use Rattle.rx_step.specs.declared.step.Step.TheVariants as step
 use Rattle.rx_script.specs.declared.form.Form.{Form}
@@ -52,6 +52,7 @@ abbrev pub held_dispatch : Dispatch → Dispatch
 held_dispatch (Set lane path name x) = Set lane (held_path path) name (held_value x)
 held_dispatch (Call lane path name f x) = Call lane (held_path path) name f (held_value x)
 held_dispatch (Send lane path name x) = Send lane (held_path path) name (held_value x)
+held_dispatch (Start lane path name) = Start lane (held_path path) name
 held_dispatch (Refresh lane name) = Refresh lane name
 
 -- a step with held numbers

@@ -19,6 +19,7 @@ fn is_dispatch_in_bounds(checked: &Checked, dispatch: &Dispatch) -> bool
         | Dispatch::Send(_, path, _, value) => {
             is_integer(checked, i128::from(value.value())) && is_path_in_bounds(checked, path)
         }
+        Dispatch::Start(_, path, _) => is_integer(checked, 0) && is_path_in_bounds(checked, path),
         Dispatch::Refresh(_, _) => true,
     }
 }

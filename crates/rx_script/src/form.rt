@@ -3,7 +3,7 @@ ghost use Rattle.std.specs.Prelude.{◌≡◌, [], ◌∷◌, map, option_map, I
 ghost use Rattle.std.specs.Int.{w64};
 ghost use Rattle.rx_base.specs.Values.{wrap};
 ghost use Rattle.rx_base.specs.Widths.{fits_width as is_of_width, width_of};
-ghost use Rattle.rx_script.specs.Lines.{◌◂◌, call_form, form_of, is_integer as is_one_of_integers, lane_of, number_form as number_form_of, plain_form as plain_form_of, refresh_form, resolve_form, value_form};
+ghost use Rattle.rx_script.specs.Lines.{◌◂◌, call_form, form_of, is_integer as is_one_of_integers, lane_of, number_form as number_form_of, plain_form as plain_form_of, refresh_form, resolve_form, start_lane_of, value_form};
 ghost use Rattle.rx_script.specs.Readings.{at_place, call_at_place, call_reading, counts_in_bounds, form_in_bounds, place_of, reading, value_reading};
 ghost use Rattle.rx_script.specs.Words.{integer_of, natural_of, resource_of};
 
@@ -11,7 +11,7 @@ use crate::path::{is_path_in_bounds, read_path};
 use crate::words::{integer, lower, natural, resource};
 use rx_base::{Int, Name, Width};
 use rx_check::Checked;
-use rx_step::{Dispatch, LaneWord, Path, Step};
+use rx_step::{Dispatch, LaneWord, Path, StartWord, Step};
 use std::alloc::{AllocError, Global};
 
 /// A step whose names may name nothing and whose numbers may be out of their bounds.
@@ -35,6 +35,19 @@ fn lane(word: &[u8]) -> Option<LaneWord>
         Some(LaneWord::Default)
     } else if word == b"transition".as_slice() {
         Some(LaneWord::Transition)
+    } else {
+        None
+    }
+}
+
+/// The lane of a word in which a start sets its flag.
+fn start_lane(word: &[u8]) -> Option<StartWord>
+    ensures { result ≡ start_lane_of word.now }
+{
+    if word == b"sync".as_slice() {
+        Some(StartWord::Sync)
+    } else if word == b"input".as_slice() {
+        Some(StartWord::Input)
     } else {
         None
     }
@@ -150,6 +163,32 @@ fn three_words(
     }
 }
 
+/// The form of a line that starts a transition.
+fn start_line(
+    alloc: Global,
+    word: &[u8],
+    lane_word: &[u8],
+    path: &[u8],
+    hook: &[u8],
+) -> Result<Option<Form>, AllocError>
+    ensures { IfOk result (λ f. f ≡ option_map reading (form_of (word.now ∷ lane_word.now ∷ path.now ∷ hook.now ∷ []))) }
+{
+    if word != b"start".as_slice() {
+        return Ok(None);
+    }
+    let Some(lane) = start_lane(lane_word) else {
+        return Ok(None);
+    };
+    let Some(path) = read_path(alloc, path)? else {
+        return Ok(None);
+    };
+    let Some(hook) = lower(alloc, hook)? else {
+        return Ok(None);
+    };
+    let step = Step::Dispatch(Dispatch::Start(lane, path, hook));
+    Ok(Some(Form { step, value: 0 }))
+}
+
 /// The lane, the instance and the hook that a dispatch names.
 #[derive(Drop)]
 struct Place {
@@ -244,7 +283,7 @@ pub(crate) fn read_form(alloc: Global, words: &[&[u8]]) -> Result<Option<Form>, 
         [word] => Ok(plain_form(word)),
         [word, number] => Ok(number_form(word, number)),
         [word, second, third] => three_words(alloc, word, second, third),
-        [_, _, _, _] => Ok(None),
+        [word, lane, path, hook] => start_line(alloc, word, lane, path, hook),
         [word, lane, path, hook, value] => {
             let place = read_place(alloc, lane, path, hook)?;
             Ok(value_line(word, place, value))
@@ -285,6 +324,7 @@ fn are_counts_in_bounds(checked: &Checked, step: &Step) -> bool
         Step::Dispatch(Dispatch::Set(_, path, _, _)) => is_path_in_bounds(checked, path),
         Step::Dispatch(Dispatch::Call(_, path, _, _, _)) => is_path_in_bounds(checked, path),
         Step::Dispatch(Dispatch::Send(_, path, _, _)) => is_path_in_bounds(checked, path),
+        Step::Dispatch(Dispatch::Start(_, path, _)) => is_path_in_bounds(checked, path),
         Step::Tick(time) => *time <= GREATEST_COUNT,
         Step::Work(budget) => 1 <= *budget && *budget <= GREATEST_COUNT,
         _ => true,

@@ -1,7 +1,7 @@
 // What the steps of a script name.
 ghost use Rattle.std.specs.Prelude.{◌≡◌};
 ghost use Rattle.rx_step.specs.declared.step.Step.TheVariants as step;
-ghost use Rattle.rx_script.specs.Lines.{has_targets as are_targets_there, hook_at, is_reducer as is_one_of_reducer, is_resource as is_one_of_resources, is_state as is_one_of_state, is_updater as is_one_of_two, target_from, target_of};
+ghost use Rattle.rx_script.specs.Lines.{has_targets as are_targets_there, hook_at, is_flag as is_one_of_transition, is_reducer as is_one_of_reducer, is_resource as is_one_of_resources, is_state as is_one_of_state, is_updater as is_one_of_two, target_from, target_of};
 
 use rx_base::Name;
 use rx_check::{Checked, HookKind};
@@ -49,6 +49,7 @@ fn is_state(hook: Option<HookKind>) -> bool
     match hook {
         Some(HookKind::State { .. }) => true,
         Some(HookKind::Reducer { .. }) => false,
+        Some(HookKind::Transition { .. }) => false,
         None => false,
     }
 }
@@ -60,6 +61,19 @@ fn is_reducer(hook: Option<HookKind>) -> bool
     match hook {
         Some(HookKind::State { .. }) => false,
         Some(HookKind::Reducer { .. }) => true,
+        Some(HookKind::Transition { .. }) => false,
+        None => false,
+    }
+}
+
+/// Whether there is a hook, one of `useTransition`.
+fn is_flag(hook: Option<HookKind>) -> bool
+    ensures { result ≡ is_one_of_transition hook }
+{
+    match hook {
+        Some(HookKind::State { .. }) => false,
+        Some(HookKind::Reducer { .. }) => false,
+        Some(HookKind::Transition { .. }) => true,
         None => false,
     }
 }
@@ -91,6 +105,7 @@ pub(crate) fn has_dispatch_targets(checked: &Checked, dispatch: &Dispatch) -> bo
             is_state(hook(checked, path, name)) && is_updater(checked, function)
         }
         Dispatch::Send(_, path, name, _) => is_reducer(hook(checked, path, name)),
+        Dispatch::Start(_, path, name) => is_flag(hook(checked, path, name)),
         Dispatch::Refresh(_, name) => is_resource(checked, name),
     }
 }

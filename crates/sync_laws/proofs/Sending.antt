@@ -1,6 +1,6 @@
 -- What a steady run sends to hooks and resolves, by its script alone.
 use Rattle.std.specs.List.{AllByRecursion, cons_option}
-use Rattle.std.specs.Prelude.{Bool, List, None, Option, Some, [], if◌then◌else◌, map, refl, suc, zero, false, true, ℕ, ℤ, ◌++◌, ◌∷◌, ◌≡◌, ◌≤◌}
+use Rattle.std.specs.Prelude.{Bool, List, None, Option, Some, [], if◌then◌else◌, map, refl, suc, zero, false, true, ℕ, ℤ, pos, ◌++◌, ◌∷◌, ◌≡◌, ◌≤◌}
 use Rattle.std.proofs.Common.{ap, append-nil, append_assoc, inl, inr, subst, sym, ◌∙◌}
 use Rattle.rx_ast.specs.Syntax.{Program}
 use Rattle.rx_base.specs.Values.{Name}
@@ -17,7 +17,7 @@ use Rattle.rx_lines.specs.Lines.{Counts, Line, logged}
 use Rattle.rx_effect.specs.EffectLog.{passive_log}
 use Rattle.rx_meaning.specs.Fresh.{depth_limit, fresh, made}
 use Rattle.rx_meaning.specs.Outcome.{Outcome, commit, defer, outcome}
-use Rattle.rx_model.specs.Accepting.{between_events, dispatched, dispatched_for, dispatched_to, lane_of, last_value, next_update, op_of, resolved, resolved_as, target_of}
+use Rattle.rx_model.specs.Accepting.{between_events, dispatched, dispatched_for, dispatched_to, enqueued, lane_of, last_value, next_update, op_of, resolved, resolved_as, target_of, unset_by, within}
 use Rattle.rx_model.specs.Committing.{committed_state, ended, ended_by, passive_run, sight_of, starting}
 use Rattle.rx_model.proofs.Reached.{step-reached}
 use Rattle.rx_model.specs.Laws.{IsReached}
@@ -35,6 +35,7 @@ use Rattle.rx_step.specs.declared.step.Dispatch.{Dispatch}
 use Rattle.rx_step.specs.declared.step.Dispatch.TheVariants as dispatch
 use Rattle.rx_step.specs.declared.step.LaneWord.{LaneWord}
 use Rattle.rx_step.specs.declared.step.LaneWord.TheVariants as word
+use Rattle.rx_step.specs.declared.step.StartWord.TheVariants as start
 use Rattle.rx_step.specs.declared.step.Step.{Step}
 use Rattle.rx_step.specs.declared.step.Step.TheVariants as step
 use Rattle.run_laws.proofs.AlongRuns.{commit_is, reached_carries, turn_keeps}
@@ -47,16 +48,25 @@ use Rattle.sync_laws.specs.Sync.{all_in_sync, in_sync, told, tree_of, trees_of}
 
 -- What scripts send and resolve
 
+-- what a dispatch sends to its target beside its update: a start unsets its flag
+abbrev pub unset_sent : Dispatch → Target → List (Target × Op)
+unset_sent (dispatch.Set w path name x) t = []
+unset_sent (dispatch.Call w path name f x) t = []
+unset_sent (dispatch.Send w path name x) t = []
+unset_sent (dispatch.Start w path name) t = (t, op.Set (pos 0)) ∷ []
+unset_sent (dispatch.Refresh w name) t = []
+
 -- what a dispatch sends to the instance that its path leads to, if it leads to one
 abbrev pub sent_to : Program → Dispatch → Option Mounted → List (Target × Op)
 sent_to p d None = []
-sent_to p d (Some m) = (target_of p d m, op_of p m.component d) ∷ []
+sent_to p d (Some m) = (target_of p d m, op_of p m.component d) ∷ unset_sent d (target_of p d m)
 
 -- what a dispatch sends, among these instances or to a resource
 abbrev pub dispatch_sent : Program → List Mounted → Dispatch → List (Target × Op)
 dispatch_sent p all (dispatch.Set w path name x) = sent_to p (dispatch.Set w path name x) (find_from p all None path)
 dispatch_sent p all (dispatch.Call w path name f x) = sent_to p (dispatch.Call w path name f x) (find_from p all None path)
 dispatch_sent p all (dispatch.Send w path name x) = sent_to p (dispatch.Send w path name x) (find_from p all None path)
+dispatch_sent p all (dispatch.Start w path name) = sent_to p (dispatch.Start w path name) (find_from p all None path)
 dispatch_sent p all (dispatch.Refresh w name) = (resource (resource_number p name), op.Refresh) ∷ []
 
 -- what a step sends, among these instances or to a resource
@@ -118,6 +128,11 @@ sent_in_sync p all (dispatch.Send w path name x) = go (find_from p all None path
     go : (o : Option Mounted) → sent_to p (dispatch.Send word.Sync path name x) o ≡ sent_to p (dispatch.Send w path name x) o
     go None = refl
     go (Some m) = refl
+sent_in_sync p all (dispatch.Start w path name) = go (find_from p all None path)
+  where
+    go : (o : Option Mounted) → sent_to p (dispatch.Start start.Sync path name) o ≡ sent_to p (dispatch.Start w path name) o
+    go None = refl
+    go (Some m) = refl
 sent_in_sync p all (dispatch.Refresh w name) = refl
 
 -- so what a script tells beside its lanes sends the same
@@ -164,6 +179,7 @@ in_sync_already : (d : Dispatch) → in_sync (in_sync d) ≡ in_sync d
 in_sync_already (dispatch.Set w path name x) = refl
 in_sync_already (dispatch.Call w path name f x) = refl
 in_sync_already (dispatch.Send w path name x) = refl
+in_sync_already (dispatch.Start w path name) = refl
 in_sync_already (dispatch.Refresh w name) = refl
 
 -- a script in Sync tells what the script tells
@@ -311,11 +327,28 @@ module _ (p : Program) (deep : depth_bound p ≤ depth_limit) (declared : ReadsD
   accepted_sends s word.Default t o h = (h, sent_append s.journal.updates (next_update s.journal t o (lane_of s word.Default) ∷ []), refl)
   accepted_sends s word.Transition t o h = (h, sent_append s.journal.updates (next_update s.journal t o (lane_of s word.Transition) ∷ []), refl)
 
+  -- so is that which unsets the flag of a start
+  unset_sends : (s : State) (d : Dispatch) (t : Target) → Mounts all s
+      → Mounts all (unset_by d t s) × (sent (unset_by d t s).journal.updates ≡ sent s.journal.updates ++ unset_sent d t)
+      × ((unset_by d t s).journal.resolutions ≡ s.journal.resolutions)
+  unset_sends s (dispatch.Set w path name x) t h = (h, sym (append-nil (sent s.journal.updates)), refl)
+  unset_sends s (dispatch.Call w path name f x) t h = (h, sym (append-nil (sent s.journal.updates)), refl)
+  unset_sends s (dispatch.Send w path name x) t h = (h, sym (append-nil (sent s.journal.updates)), refl)
+  unset_sends s (dispatch.Start w path name) t h = accepted_sends s word.Transition t (op.Set (pos 0)) h
+  unset_sends s (dispatch.Refresh w name) t h = (h, sym (append-nil (sent s.journal.updates)), refl)
+
   found_sends : (s : State) (d : Dispatch) (o : Option Mounted) → Mounts all s
       → Mounts all (dispatched_to p s d o).after × (sent (dispatched_to p s d o).after.journal.updates ≡ sent s.journal.updates ++ sent_to p d o)
       × ((dispatched_to p s d o).after.journal.resolutions ≡ s.journal.resolutions)
   found_sends s d None h = (h, sym (append-nil (sent s.journal.updates)), refl)
-  found_sends s d (Some m) h = accepted_sends s (word_of d) (target_of p d m) (op_of p m.component d) h
+  found_sends s d (Some m) h =
+      let t = target_of p d m in
+      let first = accepted_sends s (word_of d) t (op_of p m.component d) h in
+      let other = unset_sends (dispatched_for s (word_of d) t (op_of p m.component d)) d t first.0 in (
+        other.0,
+        other.1 ∙ (ap (λ (us : List (Target × Op)). us ++ unset_sent d t) first.1 ∙ append_assoc (sent s.journal.updates) ((t, op_of p m.component d) ∷ []) (unset_sent d t)),
+        other.2 ∙ first.2,
+      )
 
   found : (s : State) (d : Dispatch) → Mounts all s → instance_found p s.tree (path_of d) ≡ find_from p all None (path_of d)
   found s d h = ap (λ (t : Option Node). find_from p (mounted t) None (path_of d)) h.1 ∙ ap (λ (ms : List Mounted). find_from p ms None (path_of d)) h.2
@@ -330,11 +363,15 @@ module _ (p : Program) (deep : depth_bound p ≤ depth_limit) (declared : ReadsD
       × (q.after.journal.resolutions ≡ s.journal.resolutions))
       (sym (ap (dispatched_to p s d) (found s d h))) (found_sends s d (find_from p all None (path_of d)) h)
 
+  enqueued_sends : (s : State) (d : Dispatch) → Mounts all s → StepSends s (step.Dispatch d) (enqueued p s d).after
+  enqueued_sends s (dispatch.Set w path name x) h = hook_sends s (dispatch.Set w path name x) h
+  enqueued_sends s (dispatch.Call w path name f x) h = hook_sends s (dispatch.Call w path name f x) h
+  enqueued_sends s (dispatch.Send w path name x) h = hook_sends s (dispatch.Send w path name x) h
+  enqueued_sends s (dispatch.Start w path name) h = hook_sends s (dispatch.Start w path name) h
+  enqueued_sends s (dispatch.Refresh w name) h = accepted_sends s w (resource (resource_number p name)) op.Refresh h
+
   dispatch_sends : (s : State) (d : Dispatch) → Mounts all s → StepSends s (step.Dispatch d) (dispatched p s d).after
-  dispatch_sends s (dispatch.Set w path name x) h = hook_sends s (dispatch.Set w path name x) h
-  dispatch_sends s (dispatch.Call w path name f x) h = hook_sends s (dispatch.Call w path name f x) h
-  dispatch_sends s (dispatch.Send w path name x) h = hook_sends s (dispatch.Send w path name x) h
-  dispatch_sends s (dispatch.Refresh w name) h = accepted_sends s w (resource (resource_number p name)) op.Refresh h
+  dispatch_sends s d h = enqueued_sends (within d s) d h
 
   resolution_sends : (s : State) (name : Name) (x : ℤ) (o : Option ℤ) → Mounts all s
       → Mounts all (resolved_as p s name x o).after × (sent (resolved_as p s name x o).after.journal.updates ≡ sent s.journal.updates ++ [])

@@ -4,6 +4,7 @@ use Rattle.std.specs.List.{AllByRecursion}
 use Rattle.rx_base.specs.Values.{Text}
 use Rattle.rx_ast.specs.Syntax.{Program}
 use Rattle.rx_step.specs.declared.step.LaneWord.TheVariants as word
+use Rattle.rx_step.specs.declared.step.StartWord.TheVariants as start
 use Rattle.rx_step.specs.declared.step.Dispatch.{Dispatch}
 use Rattle.rx_step.specs.declared.step.Dispatch.TheVariants as dispatch
 use Rattle.rx_step.specs.declared.step.Step.{Step}
@@ -23,6 +24,7 @@ abbrev pub in_sync : Dispatch → Dispatch
 in_sync (dispatch.Set w path name x) = dispatch.Set word.Sync path name x
 in_sync (dispatch.Call w path name f x) = dispatch.Call word.Sync path name f x
 in_sync (dispatch.Send w path name x) = dispatch.Send word.Sync path name x
+in_sync (dispatch.Start w path name) = dispatch.Start start.Sync path name
 in_sync (dispatch.Refresh w name) = dispatch.Refresh word.Sync name
 
 -- what stands for a step if each dispatch is Sync and flushed at once

@@ -53,7 +53,25 @@ const WHOLE: [Row<'static>; 3] = [
     },
 ];
 
-const ROWS: [Row<'static>; 10] = [
+const ROWS: [Row<'static>; 12] = [
+    // A flag shows that a transition is pending: it is set at once, and unset with the transition.
+    Row {
+        words: &["run"],
+        input: "function App() { const [w, go] = useTransition(); const [s, setS] = useState(0); return <p>{w}{s}</p>; }\n---\nflush\nstart sync App w\nset transition App s 5\nflushsync\ntree\nflush\ntree\n",
+        failing_reads: &[],
+        failing_writes: &[],
+        status: 0,
+        output: "commit 1 Default\ncommit 2 Sync\ntree\n  p\n    \"1\"\n    \"0\"\ncommit 3 T1\ntree\n  p\n    \"0\"\n    \"5\"\nend quiet\n",
+    },
+    // A transition that is held back leaves its flag set.
+    Row {
+        words: &["run"],
+        input: "function Wait() { const u = use(\"r\"); return <b>{u}</b>; } function App() { const [w, go] = useTransition(); const [s, setS] = useState(0); return <div>{w}<Suspense fallback={<i/>}>{s ? <Wait/> : <u/>}</Suspense></div>; }\n---\nflush\nstart input App w\nset transition App s 1\nflush\ntree\nresolve r 5\nflush\ntree\n",
+        failing_reads: &[],
+        failing_writes: &[],
+        status: 0,
+        output: "commit 1 Default\ncommit 2 Input\ndefer T1\ntree\n  div\n    \"1\"\n    u\ncommit 3 T1\ntree\n  div\n    \"0\"\n    b\n      \"5\"\nend quiet\n",
+    },
     // A resource is asked for anew in a transition: what is shown stays until its value has come.
     Row {
         words: &["run"],

@@ -1,4 +1,4 @@
-use Rattle.std.proofs.Common.{List, Some, subst, sym, ap, ◌∙◌}
+use Rattle.std.proofs.Common.{List, Some, subst, sym, ap, ◌∙◌, arith}
 use Rattle.rx_lane.specs.Lanes.{Lanes}
 use Rattle.rx_step.specs.declared.step.LaneWord.{LaneWord}
 use Rattle.rx_hooks.specs.Hooks.{HookHistory, HooksStandFor, changed_at, relinked, sent}
@@ -18,3 +18,6 @@ returns-in-Transition-clause-linked c answers histories history stand at =
     let lanes = c.transition.ensures.linked answers (changed_at c.args.place (sent c.args.update) histories) (sent c.args.update history) (c.in_ok-push.ensures.ok answers histories stand)
     (get-changed_at c.args.place (sent c.args.update) histories history at) in
     ap (λ (l : Lanes). Some l) lanes ∙ sym (ap (λ (w : LaneWord). lanes_linked w c.args.update c.args.pending history.linked) c.in-Transition.is)
+
+pub returns-in-Transition-clause-room : goal.returns-in-Transition-clause-room
+returns-in-Transition-clause-room c = omega (arith, c.transition.ensures.room c.args.place, c.push.ensures.room)

@@ -1,8 +1,5 @@
-use Rattle.rx_script.proofs.Forms.{four-words, five-words, six-words, more-words}
+use Rattle.rx_script.proofs.Forms.{five-words, six-words, more-words}
 use Rattle.rx_script.proofs.form.read_form.Goals as goal
-
-pub returns-in-len4 : goal.returns-in-len4
-returns-in-len4 c = four-words c.args.words.now c.in-len4.len_at_least c.in-len4.len_below
 
 pub returns-in_ok-place-in-len5 : goal.returns-in_ok-place-in-len5
 returns-in_ok-place-in-len5 c =

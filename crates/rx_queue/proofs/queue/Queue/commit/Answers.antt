@@ -13,7 +13,7 @@ returns-clause-stands c answers history stands last =
     let settle = written c.self.inside.entries settled c.settle_included.new.entries (c.settle_included.ensures ∙ ap (map settled) c.deref_mut.ensures.value) in
     let queue : c.drop_leading_done.new.entries.items ≡ drop (prefix_len is_done (map settled c.self.inside.entries.items)) (map settled c.self.inside.entries.items) =
     c.drop_leading_done.ensures ∙ ap (λ (l : List Entry). drop (prefix_len is_done l) l) settle in
-    commits answers (the_view c.self.inside) c.drop_leading_done.new.entries.items history c.args.processed queue before last
+    commits answers (the_view c.self.inside) c.drop_leading_done.new.entries.items _ history c.args.processed queue before last
 
 pub returns-clause-last : goal.returns-clause-last
 returns-clause-last c answers history last = last-commits answers history c.args.processed last

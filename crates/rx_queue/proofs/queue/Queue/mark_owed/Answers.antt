@@ -11,7 +11,7 @@ returns-clause-stands c answers history stands =
     let before : StandsFor answers (the_view c.self.inside) history = rw c.self.view_is stands in
     let owes = owed_after c.args.lanes c.args.cut in
     let queue = written c.self.inside.entries owes c.owe.new.entries (c.owe.ensures ∙ ap (map owes) c.deref_mut.ensures.value) in
-    subst (λ (l : List Entry). StandsFor answers (record { base = c.self.inside.base; committed = c.self.inside.committed; queue = l }) (marked_owed c.args.lanes c.args.cut history))
+    subst (λ (l : List Entry). StandsFor answers (record { base = c.self.inside.base; committed = c.self.inside.committed; queue = l; room = (the_view c.self.inside).room }) (marked_owed c.args.lanes c.args.cut history))
     (sym queue) (marks answers (the_view c.self.inside) history c.args.lanes c.args.cut before)
 
 pub returns-clause-last : goal.returns-clause-last

@@ -14,7 +14,7 @@ returns-clause-stands g c answers history stands =
     let before : StandsFor answers (the_view c.self.inside) history = rw c.self.view_is stands in
     let notes_it = noted c.args.lanes c.args.cut in
     let queue = written c.self.inside.entries notes_it c.note_included.new.entries (c.note_included.ensures ∙ ap (map notes_it) c.deref_mut.ensures.value) in
-    subst (λ (l : List Entry). StandsFor answers (record { base = c.self.inside.base; committed = c.self.inside.committed; queue = l }) (processed c.args.lanes c.args.cut history))
+    subst (λ (l : List Entry). StandsFor answers (record { base = c.self.inside.base; committed = c.self.inside.committed; queue = l; room = (the_view c.self.inside).room }) (processed c.args.lanes c.args.cut history))
     (sym queue) (notes answers (the_view c.self.inside) history c.args.lanes c.args.cut before)
 
 pub returns-clause-last : goal.returns-clause-last

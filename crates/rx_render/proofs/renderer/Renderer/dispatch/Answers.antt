@@ -1,9 +1,9 @@
-use Rattle.std.specs.Prelude.{◌≡◌, ℤ, List, IfOk}
+use Rattle.std.specs.Prelude.{◌≡◌, ◌+◌, ◌<◌, ◌≤◌, ℤ, List, IfOk, IsOk}
 use Rattle.std.proofs.Common.{subst}
 use Rattle.rx_ast.specs.Syntax.{Program}
 use Rattle.rx_queue.specs.Journal.{hook}
 use Rattle.rx_model.specs.State.{State, linked_lanes}
-use Rattle.rx_hook_store.specs.Store.{kept_hooks}
+use Rattle.rx_hook_store.specs.Store.{hook_room, kept_hooks}
 use Rattle.rx_hook_store.specs.Changing.{lanes_linked}
 use Rattle.rx_hook_store.specs.Rendered.{KeepsInstance}
 use Rattle.rx_render.specs.contracts.renderer.Renderer.{the_view}
@@ -35,3 +35,12 @@ pub returns-clause-stays : goal.returns-clause-stays
 returns-clause-stays c =
     then_stays c.dispatch.result c.args.self.now (the_view c.self.inside) c.self.view_is c.dispatch.new.self c.args.word c.args.update c.args.pending c.args.place c.args.instance
     c.dispatch.ensures.err
+
+pub returns-clause-succeeds : goal.returns-clause-succeeds
+returns-clause-succeeds c =
+    subst (λ v. 0 < hook_room c.args.instance c.args.place (kept_hooks v.hooks) → IsOk c.dispatch.result) c.self.view_is c.dispatch.ensures.succeeds
+
+pub returns-clause-room : goal.returns-clause-room
+returns-clause-room c =
+    subst (λ v. hook_room c.args.instance c.args.place (kept_hooks v.hooks) ≤ hook_room c.args.instance c.args.place (kept_hooks c.dispatch.new.self) + 1) c.self.view_is
+    c.dispatch.ensures.room

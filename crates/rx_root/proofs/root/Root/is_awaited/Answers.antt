@@ -1,4 +1,4 @@
-use Rattle.std.proofs.Common.{◌≡◌, ℕ, ◌<◌, ◌≤◌, ◌∙◌, sym, ap, subst, arith, Bool, true, false, length, nat_eq, ◌&&◌, List}
+use Rattle.std.proofs.Common.{◌≡◌, ◌<◌, ◌∙◌, sym, ap, subst, arith, length, nat_eq, ◌&&◌}
 use Rattle.rx_base.specs.Awaits.{Awaits, has, resource_limit}
 use Rattle.rx_base.specs.AwaitsLaws.{has-awaits_where}
 use Rattle.rx_check.specs.Accepted.{IsAccepted}

@@ -1,4 +1,4 @@
-use Rattle.std.proofs.Common.{◌≡◌, ◌∙◌, ap, sym, subst, None}
+use Rattle.std.proofs.Common.{◌≡◌, ◌∙◌, ap, sym, subst}
 use Rattle.rx_effect.specs.EffectLog.{no_passive}
 use Rattle.rx_commit.specs.Written.{passive_lines, with_lines}
 use Rattle.rx_model.specs.Accepting.{between_events}
@@ -12,7 +12,7 @@ use Rattle.rx_root.proofs.root.Root.passive.Goals as goal
 pub returns-clause-ok : goal.returns-clause-ok
 returns-clause-ok c s h =
     let shown : c.flush_passive.new.self ≡ record c.args.self.now.shown { passive = no_passive } = c.in_ok-flush_passive.ensures.ended ∙ ap (λ (v : Rooted). record v.shown { passive = no_passive }) c.self.view_is in
-    passive_done c.args.self.now.rendering.program s c.args.self.now _ c.args.log.now c.flush_passive.new.log h (λ i. record (c.self.view_is i) { shown = shown i; event = None })
+    passive_done c.args.self.now.rendering.program s c.args.self.now _ c.args.log.now c.flush_passive.new.log h (λ i. record (c.self.view_is i) { shown = shown i; event = c.new-self-inside.ensures i })
     (c.in_ok-flush_passive.ensures.written ∙ ap (λ (v : Rooted). with_lines c.args.log.now (passive_lines v.shown.passive)) c.self.view_is)
 
 pub returns-clause-stands : goal.returns-clause-stands

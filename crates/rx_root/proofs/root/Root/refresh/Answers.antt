@@ -1,6 +1,5 @@
-use Rattle.std.proofs.Common.{◌≡◌, ◌<◌, ◌∙◌, ap, sym, subst, ℕ, Option, List, length, refl, arith}
-use Rattle.rx_lane.specs.declared.lane.Lane.{Lane}
-use Rattle.rx_lane.specs.Lanes.{Lanes}
+use Rattle.rx_sched.specs.declared.event.Event.{Event}
+use Rattle.std.proofs.Common.{◌≡◌, ◌<◌, ◌∙◌, ap, sym, subst, List, length, refl, arith}
 use Rattle.rx_queue.specs.declared.update.Op.TheVariants.{Refresh}
 use Rattle.rx_queue.specs.declared.update.Update.{Update}
 use Rattle.rx_queue.specs.Journal.{resource}
@@ -55,6 +54,6 @@ returns-in-Err-clause-err c s h =
     let p = v.rendering.program in
     let view = c.in-Err.ensures.same ∙ c.lane-lane.ensures.claims in
     let back = c.forget_lane.ensures v.schedule
-    (λ is none. c.lane-lane.ensures.transition is (sym (ap (λ (r : Rooted). r.event) view) ∙ none))
-    (ap (λ (r : Rooted). r.schedule) view ∙ ap (λ (e : Option Lane). claimed_by c.args.word e v.schedule) (sym (ap (λ (r : Rooted). r.event) view))) in
+    (λ is none. c.lane-lane.ensures.transition is (sym (ap (λ (r : Rooted). r.event.lane) view) ∙ none))
+    (ap (λ (r : Rooted). r.schedule) view ∙ ap (λ (e : Event). claimed_by c.args.word e v.schedule) (sym (ap (λ (r : Rooted). r.event) view))) in
     subst (λ (r : Rooted). Stands p s r) (sym (back ∙ ap (λ (r : Rooted). record r { schedule = v.schedule }) view)) h

@@ -1,14 +1,14 @@
-use Rattle.std.proofs.Common.{◌≡◌, ◌<◌, ◌+◌, ◌∙◌, ap, sym, subst, ℕ, List, length, arith, true}
+use Rattle.std.proofs.Common.{◌≡◌, ◌∙◌, ap, sym, subst, arith, true}
 use Rattle.std.specs.Prelude.{bytes_eq, is_some, position}
 use Rattle.rx_base.specs.Values.{Name}
 use Rattle.rx_rules.specs.Names.{resource_number, resources}
-use Rattle.rx_step.specs.Steps.{hook_name, word_of}
-use Rattle.rx_resources.specs.Kept.{Kept}
+use Rattle.rx_step.specs.Steps.{hook_name}
 use Rattle.rx_root.specs.Rooted.{Rooted}
 use Rattle.rx_root.proofs.Broken.{any_err}
 use Rattle.rx_root.proofs.Dispatches.{refresh_fits}
 use Rattle.rx_root.proofs.Resources.{asked_below}
-use Rattle.rx_root.proofs.Taken.{refresh_reached, refresh_stands}
+use Rattle.rx_root.proofs.Taken.{refresh_stands}
+use Rattle.rx_model.proofs.Reached.{refreshes-reach}
 use Rattle.rx_root.proofs.root.Root.refresh_for.Goals as goal
 
 pub refresh-requires-clause-within : goal.refresh-requires-clause-within
@@ -37,7 +37,7 @@ returns-clause-ok c s h =
     let number : r ≡ resource_number p (hook_name d) = c.resource-resource.ensures.number ∙ ap (resource_number p) c.dispatch_hook.ensures in (
       ap (λ (x : Rooted). x.updates) c.self.view_is ∙ h.updates,
       refresh_stands p s d c.dispatch_word.result r c.refresh.new.self c.requires.refresh c.dispatch_word.ensures number
-          (c.in_ok-refresh.ensures.ok s h (refresh_reached p s d c.dispatch_word.result r c.requires.refresh c.dispatch_word.ensures number h.reached)),
+          (c.in_ok-refresh.ensures.ok s h (refreshes-reach p s c.dispatch_word.result r h.reached)),
     )
 
 pub returns-in_err-refresh-clause-err : goal.returns-in_err-refresh-clause-err

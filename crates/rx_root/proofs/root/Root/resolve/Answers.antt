@@ -8,7 +8,6 @@ use Rattle.rx_resources.specs.Kept as kept_of
 use Rattle.rx_resources.specs.Store.{kept_at, resolved_at}
 use Rattle.rx_resources.proofs.Counting.{next_agrees}
 use Rattle.rx_root.specs.Rooted.{Rooted}
-use Rattle.rx_root.specs.Stands.{Stands}
 use Rattle.rx_root.proofs.Broken.{for_some}
 use Rattle.rx_root.proofs.Resources.{next_asked}
 use Rattle.rx_root.proofs.Taken.{already_stands, resolved_stands, value_kept}
@@ -54,7 +53,7 @@ returns-in-Some-clause-already c s known h =
 pub returns-in-Some-clause-after : goal.returns-in-Some-clause-after
 returns-in-Some-clause-after c s h =
     already_stands c.args.self.now.rendering.program s c.args.name.now c.args.value c.in-Some.known c.args.self.now _ h ((returns-in-Some-clause-already c s c.in-Some.known h).0 refl)
-    (ap (λ (x : Rooted). record x { event = None }) c.self.view_is)
+    (λ i. record (c.self.view_is i) { event = c.new-self-inside.ensures i })
 
 pub returns-in-Some-clause-stands : goal.returns-in-Some-clause-stands
 returns-in-Some-clause-stands c =
@@ -74,8 +73,8 @@ returns-in-None-clause-after c s h =
     let within : resource_number p c.args.name.now < length (resources p) = subst (λ (k : ℕ). k < length (resources p)) number lt in
     let next : length (kept_at v.resources r).values ≡ next_version s.journal r = next_agrees s.journal r (kept_at v.resources r) (h.resources.each r (let all = h.resources.all in omega (arith, all, lt))) in
     resolved_stands p s c.args.name.now c.args.value v _ h none within
-    (ap (λ (x : Rooted). record x { event = None }) (c.self-in-None.view_is ∙ c.give.ensures
-    ∙ (λ i. record v { schedule = after_resolution v.schedule (number i) ((next ∙ ap (λ (k : ℕ). next_version s.journal k) number) i) ((c.is_awaited-waits.ensures s h ∙ ap (λ (k : ℕ). is_awaited_in s k (next_version s.journal k)) number) i) v.now; resolutions = v.resolutions + 1; resources = resolved_at c.args.value (number i) v.resources })))
+    (λ j. record ((c.self-in-None.view_is ∙ c.give.ensures
+    ∙ (λ i. record v { schedule = after_resolution v.schedule (number i) ((next ∙ ap (λ (k : ℕ). next_version s.journal k) number) i) ((c.is_awaited-waits.ensures s h ∙ ap (λ (k : ℕ). is_awaited_in s k (next_version s.journal k)) number) i) v.now; resolutions = v.resolutions + 1; resources = resolved_at c.args.value (number i) v.resources })) j) { event = c.new-self-inside-in-None.ensures j })
 
 pub returns-in-None-clause-already : goal.returns-in-None-clause-already
 returns-in-None-clause-already c s known h =

@@ -1,5 +1,5 @@
-use Rattle.std.proofs.Common.{◌≡◌, ◌<◌, ◌∙◌, ap, sym, subst, ℕ, Option, length, refl}
-use Rattle.rx_lane.specs.declared.lane.Lane.{Lane}
+use Rattle.rx_sched.specs.declared.event.Event.{Event}
+use Rattle.std.proofs.Common.{◌≡◌, ◌<◌, ◌∙◌, ap, sym, subst, ℕ, length, refl}
 use Rattle.rx_lane.specs.Lanes.{Lanes}
 use Rattle.rx_queue.specs.declared.update.Update.{Update}
 use Rattle.rx_queue.specs.Journal.{hook}
@@ -59,8 +59,8 @@ returns-in-Err-clause-err c s h =
     let view = c.self-2.view_is ∙ c.lane-lane.ensures.claims in
     let rendering = ap (λ (r : Rooted). r.rendering) view in
     let back = c.forget_lane.ensures v.schedule
-    (λ is none. c.lane-lane.ensures.transition is (sym (ap (λ (r : Rooted). r.event) view) ∙ none))
-    (ap (λ (r : Rooted). r.schedule) view ∙ ap (λ (e : Option Lane). claimed_by c.args.word e v.schedule) (sym (ap (λ (r : Rooted). r.event) view))) in
+    (λ is none. c.lane-lane.ensures.transition is (sym (ap (λ (r : Rooted). r.event.lane) view) ∙ none))
+    (ap (λ (r : Rooted). r.schedule) view ∙ ap (λ (e : Event). claimed_by c.args.word e v.schedule) (sym (ap (λ (r : Rooted). r.event) view))) in
     unsent_stands p s v c.dispatch.new.self c.forget_lane.new.self h
     (c.in-Err.ensures.same ∙ ap (λ (r : Rendering). with_hooks r c.dispatch.new.self.hooks) rendering)
     (λ n. c.in-Err.ensures.err n ∙ ap (λ (r : Rendering). kept_hooks r.hooks n) rendering)
