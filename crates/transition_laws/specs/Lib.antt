@@ -1,0 +1,3 @@
+pub mod Transitions
+pub mod Flags
+pub mod Laws
