@@ -12,7 +12,8 @@ use Rattle.rx_elem.specs.Elements.{Element, Elements, Key, same_element, stands_
 use Rattle.rx_elem.specs.Elements as elements
 use Rattle.rx_elem.specs.Trees.{Mark, Node, node, element_of, mark_of, instance_in, is_hidden, Forest, of_instance, of_host, of_boundary, plain, was_hidden}
 use Rattle.rx_hooks.specs.declared.hook.Hook.{Hook}
-use Rattle.rx_elem.proofs.Deciding.{and_passes, both_hold, same_itself, same_number}
+use Rattle.rx_elem.proofs.Deciding.{and_passes, both_hold, or_right, same_itself, same_number}
+use Rattle.rx_meaning.specs.Touched.{is_memo}
 use Rattle.rx_elem.proofs.Equality.{same_element-self}
 use Rattle.rx_lists.specs.Shapes.{Shape}
 use Rattle.rx_lists.specs.Shapes as shapes
@@ -41,7 +42,7 @@ use Rattle.rx_causes.proofs.Marks.{mark_is, old_instance_is}
 use Rattle.commit_laws.proofs.SameElements.{elements_tell}
 use Rattle.cost_laws.specs.Causes.{is_called, waits_still}
 use Rattle.cost_laws.specs.Untouched.{gives_same, is_element_of, is_untouched, same_given, stands_below, value_given}
-use Rattle.cost_laws.specs.Evaluated.{Flag, below_boundary, below_node, is_again, is_evaluated, own_body}
+use Rattle.cost_laws.specs.Evaluated.{Flag, below_boundary, below_node, is_again, is_as_before, is_evaluated, own_body}
 use Rattle.cost_laws.specs.Left.{Flags, MayGo, MayTry, begins_evaluated, begun_flags, flag, next_evaluated, unit_flags}
 use Rattle.begin_laws.specs.Flagged.{AllBare, AreTold, FlagsAtPlace, FlagsOpened, IsTold, KeepsTold}
 use Rattle.begin_laws.proofs.Going.{opens}
@@ -109,6 +110,10 @@ equal_element : (c : Shape Fiber) (o : Option ℕ) (old : Option Node) (e : Elem
 equal_element c o None e was h = absurd (cc h)
 equal_element c o (Some x) e was h = subst (IsElementOf c o) (sym (elements_tell e (element_of x) h)) (old_element c o x was)
 
+or_nothing : (b : Bool) → (b || false) ≡ b
+or_nothing true = refl
+or_nothing false = refl
+
 same_test : (a b : Bool) → (a ≡ true → b ≡ true) → (b ≡ true → a ≡ true) → a ≡ b
 same_test true b f g = sym (f refl)
 same_test false true f g = g refl
@@ -123,20 +128,45 @@ element_equal c o (Some x) e was h =
     subst (λ y. same_element e y ≡ true) (sym same) (same_element-self e)
 
 -- a test tells whether the element of a place is given again exactly as what is told of the place does
-pub again_is : (c : Shape Fiber) (o : Option ℕ) (v : Fiber) (u : Flag) (e : Element) (old : Option Node) (b : Bool) → IsOld c o old → v.element ≡ e → generation_of v.stage ≡ u.generation → TellsAgain c o v b
+pub again_is : (c : Shape Fiber) (o : Option ℕ) (v : Fiber) (u : Flag) (e : Element) (old : Option Node) (b : Bool) → IsOld c o old → v.element ≡ e → generation_of v.stage ≡ u.generation → TellsAgain false c o v b
     → b ≡ is_again u e old
 again_is c o v u e old b was element told tells = same_test b (is_again u e old) there back
   where
     there : b ≡ true → is_again u e old ≡ true
     there so =
-        let a : IsAgain c o v = tells.0 so in
-        let zeroth : nat_eq u.generation 0 ≡ true = subst (λ g. nat_eq g 0 ≡ true) (sym (sym told ∙ a.generation)) refl in
+        let a : IsAgain false c o v = tells.0 so in
+        let zeroth : nat_eq u.generation 0 ≡ true = subst (λ g. nat_eq g 0 ≡ true) (sym (sym told ∙ a.generation refl)) refl in
         both_hold (nat_eq u.generation 0) (is_element_of e old) zeroth (element_equal c o old e was (subst (IsElementOf c o) element a.same))
 
     back : is_again u e old ≡ true → b ≡ true
     back so =
         let a = and_passes (nat_eq u.generation 0) (is_element_of e old) so in
-        tells.1 (record { generation = told ∙ same_number u.generation 0 a.0; same = subst (IsElementOf c o) (sym element) (equal_element c o old e was a.1) })
+        tells.1 (record { generation = λ plain. told ∙ same_number u.generation 0 a.0; same = subst (IsElementOf c o) (sym element) (equal_element c o old e was a.1) })
+
+-- and whether it is as before, if that tells of a component that is declared by `memo` too
+pub before_is : (p : Program) (c : Shape Fiber) (o : Option ℕ) (v : Fiber) (u : Flag) (e : Element) (old : Option Node) (b : Bool) → IsOld c o old → v.element ≡ e → generation_of v.stage ≡ u.generation
+    → TellsAgain (is_memo p e) c o v b → b ≡ (is_again u e old || (is_memo p e && is_element_of e old))
+before_is p c o v u e old b was element told tells = go (is_memo p e) tells
+  where
+    go : (memo : Bool) → TellsAgain memo c o v b → b ≡ (is_again u e old || (memo && is_element_of e old))
+    go false tells_b = again_is c o v u e old b was element told tells_b ∙ sym (or_nothing (is_again u e old))
+    go true tells_b = same_test b (is_again u e old || is_element_of e old) there back
+      where
+        there : b ≡ true → (is_again u e old || is_element_of e old) ≡ true
+        there so = or_right (is_again u e old) (is_element_of e old) (element_equal c o old e was (subst (IsElementOf c o) element (tells_b.0 so).same))
+
+        equal : (x y : Bool) → ((x && y) || y) ≡ true → y ≡ true
+        equal true true h = refl
+        equal true false h = h
+        equal false y h = h
+
+        back : (is_again u e old || is_element_of e old) ≡ true → b ≡ true
+        back so =
+            tells_b.1
+            (record {
+              generation = λ plain. absurd (cc plain);
+              same = subst (IsElementOf c o) (sym element) (equal_element c o old e was (equal (nat_eq u.generation 0) (is_element_of e old) so));
+            })
 
 hidden_is : (c : Shape Fiber) (o : Option ℕ) (x : Node) (w : Fiber) → IsOld c o (Some x) → option_and_then (value_of c) o ≡ Some w → is_hidden (mark_of x) ≡ hides_in w.stage
 hidden_is c o x w was there = sym (ap (λ m. option_map_or is_hidden m false) (mark_is c o (Some x) was)) ∙ mark_hides c o w there
@@ -274,8 +304,10 @@ module _ (s : Sight) (scene : Scene) (kept : ℕ → Option (List Hook)) (t : Tr
   element_here : (x : Element) → e ≡ x → v.element ≡ x
   element_here x form = is.element ∙ form
 
-  again_here : (us : Flags) → FlagsAtPlace t id us → (x : Element) → e ≡ x → (b : Bool) → TellsAgain t.current (old_of t.draft id) v b → b ≡ is_again (flag us) x old
-  again_here us h x form b tells_b = again_is t.current (old_of t.draft id) v (flag us) x old b was_at (element_here x form) (told_here us h).0 tells_b
+  again_here : (us : Flags) → FlagsAtPlace t id us → (x : Element) → e ≡ x → (b : Bool) → TellsAgain (is_memo scene.checked.now v.element) t.current (old_of t.draft id) v b → b ≡ is_as_before s (flag us) x old
+  again_here us h x form b tells_b =
+      before_is s.program t.current (old_of t.draft id) v (flag us) x old b was_at (element_here x form) (told_here us h).0
+      (subst (λ m. TellsAgain m t.current (old_of t.draft id) v b) (λ i. is_memo (sym sees.program i) (element_here x form i)) tells_b)
 
   module _ (evaluated : Bool) (body : TellsBody scene kept t cs id evaluated) where
     none_where : (x : Element) → e ≡ x → parts_in x ≡ None → evaluated ≡ false
@@ -291,7 +323,7 @@ module _ (s : Sight) (scene : Scene) (kept : ℕ → Option (List Hook)) (t : Tr
     evaluated_is : (us : Flags) → FlagsAtPlace t id us → (c : ℕ) (key : Key) (ps : List ℤ) (kids : Elements) → e ≡ elements.comp c key ps kids → evaluated ≡ is_evaluated s (flag us) cs (elements.comp c key ps kids) old
     evaluated_is us h c key ps kids form =
         let (again, tells_again, calm, anew) = body.some v value_is (subst (λ x. IsSome (parts_in x)) (sym (element_here (elements.comp c key ps kids) form)) refl) in
-        let same : again ≡ is_again (flag us) (elements.comp c key ps kids) old = again_here us h (elements.comp c key ps kids) form again tells_again in
+        let same : again ≡ is_as_before s (flag us) (elements.comp c key ps kids) old = again_here us h (elements.comp c key ps kids) form again tells_again in
         called_or evaluated (is_called s cs (old_instance old)) again (λ so. called_is (not evaluated) (calm so)) anew ∙ ap (λ b. is_called s cs (old_instance old) || not b) same
 
     bodies_counted : (us : Flags) → FlagsAtPlace t id us → (x : Element) → e ≡ x → (if evaluated then 1 else 0) ≤ next_counts each_body s (at_place (suc n) fs cs x old)
@@ -328,7 +360,7 @@ module _ (s : Sight) (scene : Scene) (kept : ℕ → Option (List Hook)) (t : Tr
     may_go tries (elements.provider a b c d) form = tt
     may_go tries (elements.boundary a b c) form = subst (λ x. is_untouched s (flag us).stood x old ≡ false) form (tried_not tries (ap parts_in form) (flag us).stood refl)
 
-    module _ (evaluated : Bool) (body : TellsBody scene kept t cs id evaluated) (settled : IfSettled s.program (known_by s) old) (new : Trees Fiber) (opened : OpensKids t new id evaluated) where
+    module _ (evaluated : Bool) (body : TellsBody scene kept t cs id evaluated) (settled : IfSettled s.program (known_by s) old) (new : Trees Fiber) (opened : OpensKids scene.checked.now t new id evaluated) where
       opened_value : opened.value ≡ v
       opened_value = let q : Some opened.value ≡ Some v = opened.is ∙ sym value_is in cc
 
@@ -353,8 +385,8 @@ module _ (s : Sight) (scene : Scene) (kept : ℕ → Option (List Hook)) (t : Tr
           as_was None = refl
           as_was (Some x) = refl
 
-      again_told : (x : Element) → e ≡ x → opened.again ≡ is_again (flag us) x old
-      again_told x form = again_here us h x form opened.again (subst (λ w. TellsAgain t.current (old_of t.draft id) w opened.again) opened_value opened.telling)
+      again_told : (x : Element) → e ≡ x → opened.again ≡ is_as_before s (flag us) x old
+      again_told x form = again_here us h x form opened.again (subst (λ w. TellsAgain (is_memo scene.checked.now w.element) t.current (old_of t.draft id) w opened.again) opened_value opened.telling)
 
       both_if : (a b : Bool) → (a ≡ true → b ≡ true) → (a && b) ≡ a
       both_if true b f = f refl
@@ -362,7 +394,7 @@ module _ (s : Sight) (scene : Scene) (kept : ℕ → Option (List Hook)) (t : Tr
 
       -- what is given again is kept, but by a hidden boundary
       again_kept : (x : Element) → e ≡ x → ((key : Key) (f : Element) (es : Elements) → x ≡ elements.boundary key f es → ⊥)
-          → (opened.again && keeps_children true (mark_at t.current (old_of t.draft id))) ≡ is_again (flag us) x old
+          → (opened.again && keeps_children true (mark_at t.current (old_of t.draft id))) ≡ is_as_before s (flag us) x old
       again_kept x form other =
           both_if opened.again (keeps_children true (mark_at t.current (old_of t.draft id)))
           (λ so.
@@ -409,7 +441,7 @@ module _ (s : Sight) (scene : Scene) (kept : ℕ → Option (List Hook)) (t : Tr
           → FlagsOpened new id (below_node s (flag us) cs x old ∷ us) (entry opened.kids.kids)
       plain_opens x form gone none other =
           open_as (below_node s (flag us) cs x old)
-          (kids_generation x form (is_evaluated s (flag us) cs x old) (is_again (flag us) x old) (none_where evaluated body x form gone ∙ sym none) (again_kept x form other))
+          (kids_generation x form (is_evaluated s (flag us) cs x old) (is_as_before s (flag us) x old) (none_where evaluated body x form gone ∙ sym none) (again_kept x form other))
           (kids_stood x form)
 
       unit_opens : (x : Element) → e ≡ x → HasLists (shape_of s cs x old) → FlagsOpened new id (unit_flags s us (at_place (suc n) fs cs x old)) (entry opened.kids.kids)
@@ -421,13 +453,13 @@ module _ (s : Sight) (scene : Scene) (kept : ℕ → Option (List Hook)) (t : Tr
       unit_opens (elements.boundary a b c) form lists =
           open_as (below_boundary (flag us) (elements.boundary a b c) old)
           (kids_generation (elements.boundary a b c) form false (is_again (flag us) (elements.boundary a b c) old && not (was_hidden old)) (none_where evaluated body (elements.boundary a b c) form refl)
-          (ap (λ z. z && keeps_children true (mark_at t.current (old_of t.draft id))) (again_told (elements.boundary a b c) form)
+          (ap (λ z. z && keeps_children true (mark_at t.current (old_of t.draft id))) (again_told (elements.boundary a b c) form ∙ or_nothing (is_again (flag us) (elements.boundary a b c) old))
           ∙ ap (λ z. is_again (flag us) (elements.boundary a b c) old && z) keeps_is))
           (kids_stood (elements.boundary a b c) form)
       unit_opens (elements.comp c key ps kids) form lists =
           subst (λ (fl : Flags). FlagsOpened new id fl (entry opened.kids.kids)) (sym (lists_of_component s cs c ps kids old (component_at s.program c) us fs (elements.comp c key ps kids) lists))
           (open_as (below_node s (flag us) cs (elements.comp c key ps kids) old)
-          (kids_generation (elements.comp c key ps kids) form (is_evaluated s (flag us) cs (elements.comp c key ps kids) old) (is_again (flag us) (elements.comp c key ps kids) old)
+          (kids_generation (elements.comp c key ps kids) form (is_evaluated s (flag us) cs (elements.comp c key ps kids) old) (is_as_before s (flag us) (elements.comp c key ps kids) old)
           (evaluated_is evaluated body us h c key ps kids form) (again_kept (elements.comp c key ps kids) form (λ k2 f2 es q. cc)))
           (kids_stood (elements.comp c key ps kids) form))
 
@@ -446,6 +478,6 @@ may s scene kept t st id n fs cs e old us sees fits (begins {n = place} {v = v} 
 
 pub opens_so : (s : Sight) (scene : Scene) (kept : ℕ → Option (List Hook)) (t new : Trees Fiber) (st : Stack) (id n : ℕ) (fs : List Frame) (cs : Contexts) (e : Element) (old : Option Node) (us : Flags) (evaluated : Bool)
     → IsSceneOf scene s → Fits t → StandsAt t st (Some id) (at_place (suc n) fs cs e old) → IfSettled s.program (known_by s) old → TellsIf s kept old → FlagsAtPlace t id us → TellsBody scene kept t cs id evaluated
-    → MayGo s us (at_place (suc n) fs cs e old) → HasLists (shape_of s cs e old) → (k : OpensKids t new id evaluated) → FlagsOpened new id (unit_flags s us (at_place (suc n) fs cs e old)) (entry k.kids.kids)
+    → MayGo s us (at_place (suc n) fs cs e old) → HasLists (shape_of s cs e old) → (k : OpensKids scene.checked.now t new id evaluated) → FlagsOpened new id (unit_flags s us (at_place (suc n) fs cs e old)) (entry k.kids.kids)
 opens_so s scene kept t new st id n fs cs e old us evaluated sees fits (begins {n = place} {v = v} {o = o} {rs = rs} {k = k} here is was surrounds values stack) settled tells h body goes lists opened =
     unit_opens s scene kept t id n place v o rs k fs cs e old sees fits here is was tells us h evaluated body settled new opened e refl lists

@@ -26,11 +26,12 @@ use Rattle.rx_elem.specs.Elements as elements
 
 -- No old node is taken twice
 
-abbrev kids : List Element → Forest → List Child
+-- the children of a list of trees, each with its identity, by the elements before them
+abbrev pub kids : List Element → Forest → List Child
 kids before ns = map child_of (zip (identities_after before (elements_in ns)) (elements_in ns))
 
 -- the first old node that passes a test
-abbrev first_that : (Child → Bool) → List Element → Forest → Option Node
+abbrev pub first_that : (Child → Bool) → List Element → Forest → Option Node
 first_that test before none = None
 first_that test before (vacant ns) =
     cond (test (record { identity = identity_after before None; element = elements.null })) None (first_that test (before ++ elements.null ∷ []) ns)
@@ -69,7 +70,8 @@ same_length before none = refl
 same_length before (vacant ns) = ap suc (same_length (before ++ elements.null ∷ []) ns)
 same_length before (child n ns) = ap suc (same_length (before ++ element_of n ∷ []) ns)
 
-found_first : (test : Child → Bool) (ns : Forest) → option_and_then (node_at ns) (position test (kids [] ns)) ≡ first_that test [] ns
+-- the old node of a new child is the first that is the same
+pub found_first : (test : Child → Bool) (ns : Forest) → option_and_then (node_at ns) (position test (kids [] ns)) ≡ first_that test [] ns
 found_first test ns = go (nat_lt (position_or_len test (kids [] ns)) (length (kids [] ns))) refl ∙ first_at test [] ns
   where
     go : (b : Bool) → nat_lt (position_or_len test (kids [] ns)) (length (kids [] ns)) ≡ b

@@ -1,5 +1,5 @@
 -- Which of the places that a render comes to are evaluated: those that have a cause, and some below one that has or that is tried again.
-use Rattle.std.specs.Prelude.{◌≡◌, ℕ, zero, suc, Bool, true, false, not, ◌||◌, cond, List, [], ◌∷◌, ◌++◌, ◌⊎◌, Option, Some, None, IfSome, map, option_and_then, refl, slice_set, if◌then◌else◌}
+use Rattle.std.specs.Prelude.{◌≡◌, ℕ, zero, suc, Bool, true, false, not, ◌||◌, cond, List, [], ◌∷◌, ◌⊎◌, Option, Some, None, IfSome, map, option_and_then, refl, slice_set}
 use Rattle.std.specs.List.{All, zip}
 use Rattle.std.specs.Option.{option_map_or}
 use Rattle.std.proofs.Common.{ap, inl, inr, subst, sym}
@@ -15,39 +15,20 @@ use Rattle.rx_elem.proofs.SelfMatch.{matches_itself}
 use Rattle.rx_meaning.specs.Body.{Body, body_of, ready, wait}
 use Rattle.rx_meaning.specs.Fresh.{Sight, Contexts, Renders, default_contexts, depth_limit, inputs_at, old_host, part, rendered, root_element, Part, Shape, absent, waiting, one_list, two_lists, shape_of, shape_of_body, shape_of_component, version_seen}
 use Rattle.rx_meaning.specs.Settled.{AllSettled, DoneBefore, IfSettled, IsBodyOf, IsOwn, IsSettled, known_by, read_anew, refreshed}
-use Rattle.rx_meaning.specs.Touched.{children_with_old, part_waits, waits_at}
+use Rattle.rx_meaning.specs.Touched.{children_with_old, part_waits}
 use Rattle.rx_rules.specs.Names.{component_at}
 use Rattle.rx_susp.specs.declared.boundary.BoundaryState.TheVariants.{Hidden, Shown}
 use Rattle.commit_laws.proofs.TakeOver.{idle_shape, settled_no_null}
 use Rattle.cost_laws.specs.Causes.{has_cause, is_called, is_due, some_update}
-use Rattle.cost_laws.specs.Evaluated.{Flag, above_root, after_attempt, below_boundary, below_node, beside_kept, in_fallback, is_again, is_evaluated}
-use Rattle.cost_laws.specs.Places.{Above, AreEvaluated, Coming, Comings, above_with, come_all, come_part, come_shape, coming_here, comings, whole_comings}
+use Rattle.cost_laws.specs.Evaluated.{Flag, above_root, after_attempt, below_boundary, below_node, beside_kept, in_fallback, is_as_before, is_evaluated}
+use Rattle.cost_laws.specs.Places.{Above, AreEvaluated, Coming, Comings, above_with, come_part, come_shape, coming_here, comings, whole_comings}
 use Rattle.cost_laws.specs.Untouched.{is_retried, is_untouched}
 use Rattle.cost_laws.proofs.ComingOnce.{places_once}
 use Rattle.cost_laws.proofs.CommittedHooks.{committed_hooks}
-use Rattle.cost_laws.proofs.Each.{Each, all_of, each_and}
+use Rattle.cost_laws.proofs.Each.{Each, all_of}
+use Rattle.cost_laws.proofs.EachComing.{all_come, any_pairs, boundary_comes, stands_or_not, whole_each}
 use Rattle.cost_laws.proofs.Resting.{boundary_zeroth, node_zeroth, not_evaluated}
-
--- Lists of places
-
--- what holds of each place at and below each child of a list
-all_come : (P : Coming → Type 0) (come : Comings) (render : Renders) (a : Above) (cs : Contexts) (k : ℕ) (xs : List (Element × Option Node))
-    → Each (λ x. (j : ℕ) → Each P (come (record a { address = j ∷ a.address }) cs x.0 x.1)) xs → Each P (come_all come render a cs k xs)
-all_come P come render a cs k [] h = tt
-all_come P come render a cs k (x ∷ xs) h =
-    each_and P (come (record a { address = k ∷ a.address }) cs x.0 x.1) (if waits_at (render x.0 x.1) then [] else come_all come render a cs (suc k) xs)
-    (h.0 k) (go (waits_at (render x.0 x.1)) (all_come P come render a cs (suc k) xs h.1))
-  where
-    go : (b : Bool) → Each P (come_all come render a cs (suc k) xs) → Each P (if b then [] else come_all come render a cs (suc k) xs)
-    go true l = tt
-    go false l = l
-
-boundary_comes : (P : Coming → Type 0) (untouched waits : Bool) (primary second : List Coming) → (untouched ≡ false → Each P primary) → Each P second
-    → Each P ((if untouched then [] else primary) ++ (if waits then second else []))
-boundary_comes P true true primary second h k = k
-boundary_comes P true false primary second h k = tt
-boundary_comes P false true primary second h k = each_and P primary second (h refl) k
-boundary_comes P false false primary second h k = each_and P primary [] (h refl) tt
+use Rattle.cost_laws.proofs.MemoExact.{memos_exact, places_exact}
 
 -- A place that has a cause is evaluated
 
@@ -55,7 +36,7 @@ cause_evaluates : (s : Sight) (u : Flag) (cs : Contexts) (e : Element) (old : Op
 cause_evaluates s u cs elements.null old h = absurd (cc h)
 cause_evaluates s u cs (elements.text t) old h = absurd (cc h)
 cause_evaluates s u cs (elements.host n k attrs es) old h = absurd (cc h)
-cause_evaluates s u cs (elements.comp c k ps es) old h = ap (λ b. b || not (is_again u (elements.comp c k ps es) old)) h
+cause_evaluates s u cs (elements.comp c k ps es) old h = ap (λ b. b || not (is_as_before s u (elements.comp c k ps es) old)) h
 cause_evaluates s u cs (elements.list marked es) old h = absurd (cc h)
 cause_evaluates s u cs (elements.boundary k f es) old h = absurd (cc h)
 cause_evaluates s u cs (elements.provider c k x es) old h = absurd (cc h)
@@ -68,37 +49,11 @@ each_child : (P : Element × Option Node → Type 0) → ((x : Element × Option
 each_child P h [] = tt
 each_child P h (x ∷ xs) = (h x, each_child P h xs)
 
-part_met : (come : Comings) → ((a : Above) (cs : Contexts) (e : Element) (old : Option Node) → Each IsMet (come a cs e old)) → (below : Contexts → Renders) (a : Above) (p : Part)
-    → Each IsMet (come_part come below a p)
-part_met come met below a p =
-    all_come IsMet come (below p.contexts) a p.contexts 0 (children_with_old p)
-    (each_child (λ x. (j : ℕ) → Each IsMet (come (record a { address = j ∷ a.address }) p.contexts x.0 x.1)) (λ x j. met (record a { address = j ∷ a.address }) p.contexts x.0 x.1) (children_with_old p))
-
-shape_met : (come : Comings) → ((a : Above) (cs : Contexts) (e : Element) (old : Option Node) → Each IsMet (come a cs e old)) → (below : Contexts → Renders) (s : Sight) (a : Above) (cs : Contexts) (e : Element) (old : Option Node) (shape : Shape)
-    → Each IsMet (come_shape come below s a cs e old shape)
-shape_met come met below s a cs e old absent = tt
-shape_met come met below s a cs e old (waiting r v) = (cause_evaluates s a.flag cs e old, tt)
-shape_met come met below s a cs e old (one_list m p) = (cause_evaluates s a.flag cs e old, part_met come met below (above_with a s cs e old (below_node s a.flag cs e old)) p)
-shape_met come met below s a cs e old (two_lists p f) =
-    let b = above_with a s cs e old (below_boundary a.flag e old) in
-    let c = above_with a s cs e old (in_fallback s a.flag e old) in (
-      cause_evaluates s a.flag cs e old,
-      boundary_comes IsMet (is_untouched s a.flag.stood e old) (part_waits below p)
-          (come_part come below (record b { address = 0 ∷ a.address }) p) (come_part come below (record c { address = 1 ∷ a.address }) f)
-          (λ h. part_met come met below (record b { address = 0 ∷ a.address }) p) (part_met come met below (record c { address = 1 ∷ a.address }) f),
-    )
-
-comings_met : (n : ℕ) (s : Sight) (a : Above) (cs : Contexts) (e : Element) (old : Option Node) → Each IsMet (comings n s a cs e old)
-unfolding comings
-comings_met zero s a cs e old = tt
-comings_met (suc n) s a cs e old = shape_met (comings n s) (comings_met n s) (rendered n s) s a cs e old (shape_of s cs e old)
-
 -- Each place that has a cause is one whose body is evaluated.
 pub causes_met : (s : Sight) (old : Option Node) → All (λ v. v.caused ≡ true → v.evaluated ≡ true) (whole_comings s old)
-unfolding whole_comings
 causes_met s old =
     all_of IsMet (whole_comings s old)
-    (comings_met depth_limit s (record { address = []; below = false; flag = above_root }) (default_contexts s.program) (root_element s.program) old)
+    (whole_each (λ e o. Unit {0}) any_pairs IsMet s old tt (λ a cs e o k. stands_or_not (IsMet (coming_here s a cs e o)) (cause_evaluates s a.flag cs e o) (shape_of s cs e o)))
 
 -- A place that is evaluated has a cause, or lies below one that has or that is tried again
 
@@ -374,4 +329,4 @@ none_other s old settled done rooted =
 -- So the places whose bodies are evaluated are those that have a cause, some below one that has or that is tried again, and none twice.
 pub are_evaluated : (s : Sight) (old : Option Node) → IfSettled s.program (known_by s) old → DoneBefore s.cut s.journal.updates → IfSome old (λ x. element_of x ≡ root_element s.program)
     → AreEvaluated s old
-are_evaluated s old settled done rooted = record { each = causes_met s old; none_else = none_other s old settled done rooted; once = places_once s old }
+are_evaluated s old settled done rooted = record { each = causes_met s old; none_else = none_other s old settled done rooted; once = places_once s old; memo = memos_exact s old rooted; exact = places_exact s old rooted }

@@ -9,7 +9,7 @@ use Rattle.rx_meaning.specs.Counts.{Tries, unless_waits, if_waits, if_made, try_
 use Rattle.rx_meaning.specs.Touched.{children_with_old}
 use Rattle.render_laws.proofs.UnitBound.{if_made_nothing}
 use Rattle.cost_laws.specs.Causes.{has_cause}
-use Rattle.cost_laws.specs.Evaluated.{Evaluates, Flag, above_root, below_boundary, below_node, evaluate_shape, evaluated, in_fallback, is_again, own_body, whole_evaluated}
+use Rattle.cost_laws.specs.Evaluated.{Evaluates, Flag, above_root, below_boundary, below_node, evaluate_shape, evaluated, in_fallback, is_as_before, own_body, whole_evaluated}
 use Rattle.cost_laws.specs.Untouched.{is_untouched}
 
 -- one count is at most another
@@ -39,7 +39,7 @@ own_less : (s : Sight) (u : Flag) (cs : Contexts) (e : Element) (old : Option No
 own_less s u cs elements.null old = omega arith
 own_less s u cs (elements.text t) old = omega arith
 own_less s u cs (elements.host n k attrs es) old = omega arith
-own_less s u cs (elements.comp c k ps es) old = one_less (has_cause s cs (elements.comp c k ps es) old || not (is_again u (elements.comp c k ps es) old))
+own_less s u cs (elements.comp c k ps es) old = one_less (has_cause s cs (elements.comp c k ps es) old || not (is_as_before s u (elements.comp c k ps es) old))
 own_less s u cs (elements.list marked es) old = omega arith
 own_less s u cs (elements.boundary k f es) old = omega arith
 own_less s u cs (elements.provider c k x es) old = omega arith

@@ -20,7 +20,7 @@ use Rattle.render_laws.specs.SameSight.{SeesSame, AllAfter}
 use Rattle.render_laws.proofs.LaterEntries.{renders_same, shape_same, AllFail, late_fail, longer_refresh}
 use Rattle.rx_meaning.specs.Again.{AllOpen}
 use Rattle.cost_laws.specs.Causes.{has_cause, instance_news, is_called, is_due, is_left_waiting, is_news, news_at, news_in, some_update, waits_still}
-use Rattle.cost_laws.specs.Evaluated.{Evaluates, Flag, above_root, after_attempt, below_boundary, below_node, beside_kept, evaluate_shape, evaluated, in_fallback, is_again, is_evaluated, own_body, whole_evaluated}
+use Rattle.cost_laws.specs.Evaluated.{Evaluates, Flag, above_root, after_attempt, below_boundary, below_node, beside_kept, evaluate_shape, evaluated, in_fallback, is_as_before, is_evaluated, own_body, whole_evaluated}
 use Rattle.cost_laws.specs.Untouched.{is_element_of, is_untouched, stands_below}
 use Rattle.cost_laws.specs.Left.{Flags, flag, outer, evaluate_open, evaluate_around, left_evaluated}
 use Rattle.cost_laws.specs.SameWork.{SeesSameWork}
@@ -77,11 +77,11 @@ module _ (s : Sight) (j : Journal) (same : SeesSame s j) (work : SeesSameWork s 
   fallback_same u e old = ap (λ b. cond b beside_kept (after_attempt u e old)) (untouched_same u.stood e old)
 
   called_here : (u : Flag) (cs : Contexts) (e : Element) (old : Option Node) → is_evaluated s u cs e old ≡ is_evaluated seen u cs e old
-  called_here u cs e old = ap (λ b. is_some (component_in e) && (b || not (is_again u e old))) (cause_same cs e old)
+  called_here u cs e old = ap (λ b. is_some (component_in e) && (b || not (is_as_before s u e old))) (cause_same cs e old)
 
   node_same : (u : Flag) (cs : Contexts) (e : Element) (old : Option Node) → below_node s u cs e old ≡ below_node seen u cs e old
   node_same u cs e old =
-      λ i. record { generation = generation_below (called_here u cs e old i) (is_again u e old) (stands_for_children e) u.generation; stood = stands_below u.stood e old }
+      λ i. record { generation = generation_below (called_here u cs e old i) (is_as_before s u e old) (stands_for_children e) u.generation; stood = stands_below u.stood e old }
 
   own_same : (u : Flag) (cs : Contexts) (e : Element) (old : Option Node) → own_body s u cs e old ≡ own_body seen u cs e old
   own_same u cs e old = ap (λ b. cond b 1 0) (called_here u cs e old)

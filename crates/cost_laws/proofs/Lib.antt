@@ -7,4 +7,8 @@ pub mod Each
 pub mod ComingCounts
 pub mod ComingOnce
 pub mod CommittedHooks
+pub mod EachComing
+pub mod Paired
 pub mod Caused
+pub mod MemoExact
+pub mod MemoComputed

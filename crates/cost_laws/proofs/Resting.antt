@@ -12,14 +12,14 @@ use Rattle.rx_meaning.specs.Fresh.{Sight, Contexts, Place, empty, made, waits, P
 use Rattle.rx_meaning.specs.Counts.{count_part, if_waits, try_all, unless_waits}
 use Rattle.rx_meaning.specs.Settled.{AllReadsHold, AllSettled, IfHidden, IsOwn, IsSettled, ReadsHold, kept_shape, known_by, read_anew, reads_another, refreshed}
 use Rattle.rx_meaning.specs.Generations.{generation_below, own_generation}
-use Rattle.rx_meaning.specs.Touched.{component_in, contexts_below}
+use Rattle.rx_meaning.specs.Touched.{component_in, contexts_below, is_memo}
 use Rattle.commit_laws.specs.Each.{ForEach, ForEachIn}
 use Rattle.commit_laws.specs.Idle.{AllIdle, IsIdle, IsIdleMark}
 use Rattle.commit_laws.proofs.TakeOver.{idle_shape, settled_no_null}
 use Rattle.cost_laws.specs.Causes.{has_cause, is_called, is_due, some_update}
-use Rattle.cost_laws.specs.Evaluated.{Flag, below_boundary, below_node, evaluate_shape, evaluated, in_fallback, is_again, is_evaluated, own_body}
+use Rattle.cost_laws.specs.Evaluated.{Flag, below_boundary, below_node, evaluate_shape, evaluated, in_fallback, is_again, is_as_before, is_evaluated, own_body}
 use Rattle.cost_laws.specs.Undue.{IsUndue}
-use Rattle.cost_laws.specs.Untouched.{is_untouched}
+use Rattle.cost_laws.specs.Untouched.{is_element_of, is_untouched}
 
 -- Causes
 
@@ -49,15 +49,22 @@ body_rests s cs (elements.provider c key x es) m ns fs own undue calm = refl
 given_again : (u : Flag) (e : Element) (m : Mark) (ns fs : Forest) → u.generation ≡ 0 → is_again u e (Some (node e m ns fs)) ≡ true
 given_again u e m ns fs zeroth = rw (zeroth, same_element-self e) refl
 
+-- So it is as before, of whatever component.
+pub as_before : (s : Sight) (u : Flag) (e : Element) (m : Mark) (ns fs : Forest) → u.generation ≡ 0 → is_as_before s u e (Some (node e m ns fs)) ≡ true
+as_before s u e m ns fs zeroth = ap (λ b. b || (is_memo s.program e && is_element_of e (Some (node e m ns fs)))) (given_again u e m ns fs zeroth)
+
 nothing_evaluated : (component cause again : Bool) → cause ≡ false → again ≡ true → (component && (cause || not again)) ≡ false
 nothing_evaluated true cause again h k = rw (h, k) refl
 nothing_evaluated false cause again h k = refl
 
+-- If its element is as before and it has no cause, the body of a place is not evaluated.
+calm_body : (s : Sight) (u : Flag) (cs : Contexts) (e : Element) (old : Option Node) → is_as_before s u e old ≡ true → has_cause s cs e old ≡ false → is_evaluated s u cs e old ≡ false
+calm_body s u cs e old same calm = nothing_evaluated (is_some (component_in e)) (has_cause s cs e old) (is_as_before s u e old) calm same
+
 -- If its element is of generation 0 and it has no cause, the body of an old node's place is not evaluated.
 pub not_evaluated : (s : Sight) (u : Flag) (cs : Contexts) (e : Element) (m : Mark) (ns fs : Forest) → u.generation ≡ 0 → has_cause s cs e (Some (node e m ns fs)) ≡ false
     → is_evaluated s u cs e (Some (node e m ns fs)) ≡ false
-not_evaluated s u cs e m ns fs zeroth calm =
-    nothing_evaluated (is_some (component_in e)) (has_cause s cs e (Some (node e m ns fs))) (is_again u e (Some (node e m ns fs))) calm (given_again u e m ns fs zeroth)
+not_evaluated s u cs e m ns fs zeroth calm = calm_body s u cs e (Some (node e m ns fs)) (as_before s u e m ns fs zeroth) calm
 
 generation_kept : (evaluated again for_children : Bool) (g : ℕ) → evaluated ≡ false → again ≡ true → generation_below evaluated again for_children g ≡ 0
 generation_kept false true true g h k = refl
@@ -65,23 +72,52 @@ generation_kept false true false g h k = refl
 generation_kept true again for_children g h k = absurd (cc h)
 generation_kept false false for_children g h k = absurd (cc k)
 
--- Then the elements of its children are of generation 0 too.
+-- Then the elements of its children are of generation 0.
+calm_zeroth : (s : Sight) (u : Flag) (cs : Contexts) (e : Element) (old : Option Node) → is_as_before s u e old ≡ true → has_cause s cs e old ≡ false → (below_node s u cs e old).generation ≡ 0
+calm_zeroth s u cs e old same calm =
+    generation_kept (is_evaluated s u cs e old) (is_as_before s u e old) (stands_for_children e) u.generation (calm_body s u cs e old same calm) same
+
 pub node_zeroth : (s : Sight) (u : Flag) (cs : Contexts) (e : Element) (m : Mark) (ns fs : Forest) → u.generation ≡ 0 → has_cause s cs e (Some (node e m ns fs)) ≡ false
     → (below_node s u cs e (Some (node e m ns fs))).generation ≡ 0
-node_zeroth s u cs e m ns fs zeroth calm =
-    generation_kept (is_evaluated s u cs e (Some (node e m ns fs))) (is_again u e (Some (node e m ns fs))) (stands_for_children e) u.generation
-    (not_evaluated s u cs e m ns fs zeroth calm) (given_again u e m ns fs zeroth)
+node_zeroth s u cs e m ns fs zeroth calm = calm_zeroth s u cs e (Some (node e m ns fs)) (as_before s u e m ns fs zeroth) calm
 
 own_kept : (again hidden : Bool) (g : ℕ) → again ≡ true → hidden ≡ false → own_generation (again && not hidden) g ≡ 0
 own_kept true false g h k = refl
 own_kept true true g h k = absurd (cc k)
 own_kept false hidden g h k = absurd (cc h)
 
+first_holds : (a : Bool) → a || false ≡ true → a ≡ true
+first_holds true h = refl
+first_holds false h = h
+
 -- So are those of a boundary that is shown.
 pub boundary_zeroth : (u : Flag) (e : Element) (m : Mark) (ns fs : Forest) → u.generation ≡ 0 → is_hidden m ≡ false
     → (below_boundary u e (Some (node e m ns fs))).generation ≡ 0
 boundary_zeroth u e m ns fs zeroth shown =
     own_kept (is_again u e (Some (node e m ns fs))) (is_hidden m) u.generation (given_again u e m ns fs zeroth) shown
+
+-- what is said of a boundary, and of no other element
+abbrev IfBoundary : Type 0 → Element → Type 0
+IfBoundary A elements.null = Unit {0}
+IfBoundary A (elements.text t) = Unit {0}
+IfBoundary A (elements.host n k attrs es) = Unit {0}
+IfBoundary A (elements.comp c k ps es) = Unit {0}
+IfBoundary A (elements.list marked es) = Unit {0}
+IfBoundary A (elements.boundary k f es) = A
+IfBoundary A (elements.provider c k x es) = Unit {0}
+
+-- The children of a boundary that is as before and is shown are of generation 0.
+calm_boundary : (s : Sight) (u : Flag) (e : Element) (m : Mark) (ns fs : Forest) → is_as_before s u e (Some (node e m ns fs)) ≡ true → is_hidden m ≡ false
+    → IfBoundary ((below_boundary u e (Some (node e m ns fs))).generation ≡ 0) e
+calm_boundary s u elements.null m ns fs same shown = tt
+calm_boundary s u (elements.text t) m ns fs same shown = tt
+calm_boundary s u (elements.host n k attrs es) m ns fs same shown = tt
+calm_boundary s u (elements.comp c k ps es) m ns fs same shown = tt
+calm_boundary s u (elements.list marked es) m ns fs same shown = tt
+calm_boundary s u (elements.boundary k f es) m ns fs same shown =
+    own_kept (is_again u (elements.boundary k f es) (Some (node (elements.boundary k f es) m ns fs))) (is_hidden m) u.generation
+    (first_holds (is_again u (elements.boundary k f es) (Some (node (elements.boundary k f es) m ns fs))) same) shown
+calm_boundary s u (elements.provider c k x es) m ns fs same shown = tt
 
 idle_shown : (s : Sight) (m : Mark) → IsIdleMark s m → is_hidden m ≡ false
 idle_shown s (of_instance i) idle = refl
@@ -163,7 +199,7 @@ two_rest n s u cs e old p f h = (
 )
 
 kept_rests : (n : ℕ) (s : Sight) (u : Flag) (cs : Contexts) (e : Element) (old : Option Node) (m : Mark) (ns fs : Forest)
-    → own_body s u cs e old ≡ 0 → (below_node s u cs e old).generation ≡ 0 → (below_boundary u e old).generation ≡ 0
+    → own_body s u cs e old ≡ 0 → (below_node s u cs e old).generation ≡ 0 → IfBoundary ((below_boundary u e old).generation ≡ 0) e
     → ((v : Flag) → v.generation ≡ 0 → PartRests n s v (part (contexts_below e cs) (elements_in ns) ns)) → ShapeRests n s u cs e old (kept_shape cs e m ns fs)
 kept_rests n s u cs elements.null old m ns fs body one two h = (refl, tt)
 kept_rests n s u cs (elements.text t) old m ns fs body one two h =
@@ -217,15 +253,19 @@ no_level_rests : (s : Sight) (u : Flag) (cs : Contexts) (e : Element) (old : Opt
 unfolding evaluated rendered
 no_level_rests s u cs e old = (refl, tt)
 
+-- of whatever old node
+pub node_before : (s : Sight) (u : Flag) (x : Node) → u.generation ≡ 0 → is_as_before s u (element_of x) (Some x) ≡ true
+node_before s u (node e m ns fs) zeroth = as_before s u e m ns fs zeroth
+
 mutual
-  tree_rests : (n : ℕ) (s : Sight) (u : Flag) (cs : Contexts) (x : Node) → u.generation ≡ 0 → IsSettled s.program (known_by s) x → IsIdle s x → ForEach (IsUndue s) x → ReadsHold (version_seen s) cs x
+  tree_rests : (n : ℕ) (s : Sight) (u : Flag) (cs : Contexts) (x : Node) → is_as_before s u (element_of x) (Some x) ≡ true → IsSettled s.program (known_by s) x → IsIdle s x → ForEach (IsUndue s) x → ReadsHold (version_seen s) cs x
       → Rests n s u cs (element_of x) (Some x)
-  tree_rests zero s u cs (node e m ns fs) zeroth settled idle undue reads = no_level_rests s u cs e (Some (node e m ns fs))
-  tree_rests (suc n) s u cs (node e m ns fs) zeroth settled idle undue reads =
+  tree_rests zero s u cs (node e m ns fs) same settled idle undue reads = no_level_rests s u cs e (Some (node e m ns fs))
+  tree_rests (suc n) s u cs (node e m ns fs) same settled idle undue reads =
       let calm = body_rests s cs e m ns fs settled.0 undue.0 reads.0 in
       place_rests n s u cs e m ns fs (idle_shape s cs e m ns fs settled.0 idle.0 reads.0)
-      (kept_rests n s u cs e (Some (node e m ns fs)) m ns fs (ap (λ b. cond b 1 0) (not_evaluated s u cs e m ns fs zeroth calm))
-      (node_zeroth s u cs e m ns fs zeroth calm) (boundary_zeroth u e m ns fs zeroth (idle_shown s m idle.0))
+      (kept_rests n s u cs e (Some (node e m ns fs)) m ns fs (ap (λ b. cond b 1 0) (calm_body s u cs e (Some (node e m ns fs)) same calm))
+      (calm_zeroth s u cs e (Some (node e m ns fs)) same calm) (calm_boundary s u e m ns fs same (idle_shown s m idle.0))
       (λ v h. own_part_rests n s v (contexts_below e cs) ns (settled_no_null s.program (known_by s) ns settled.1)
       (trees_rest n s v (contexts_below e cs) ns h settled.1 idle.1 undue.1 (reads_below s m (AllReadsHold (version_seen s) (contexts_below e cs) ns) idle.0 reads.1))))
 
@@ -236,9 +276,9 @@ mutual
       first_rests n s u cs elements.null None (zip (elements_in ns) (places ns)) (gap_rests n s u cs) (trees_rest n s u cs ns zeroth settled idle undue reads)
   trees_rest n s u cs (child x ns) zeroth settled idle undue reads =
       first_rests n s u cs (element_of x) (Some x) (zip (elements_in ns) (places ns))
-      (tree_rests n s u cs x zeroth settled.0 idle.0 undue.0 reads.0) (trees_rest n s u cs ns zeroth settled.1 idle.1 undue.1 reads.1)
+      (tree_rests n s u cs x (node_before s u x zeroth) settled.0 idle.0 undue.0 reads.0) (trees_rest n s u cs ns zeroth settled.1 idle.1 undue.1 reads.1)
 
--- Nothing is evaluated of a tree whose elements are given again, that is idle, whose instances have each included update done, and in which reads hold.
-pub nothing_rests : (s : Sight) (u : Flag) (cs : Contexts) (x : Node) (n : ℕ) → u.generation ≡ 0 → IsSettled s.program (known_by s) x
+-- Nothing is evaluated of a tree whose element is as before, that is idle, whose instances have each included update done, and in which reads hold.
+pub nothing_rests : (s : Sight) (u : Flag) (cs : Contexts) (x : Node) (n : ℕ) → is_as_before s u (element_of x) (Some x) ≡ true → IsSettled s.program (known_by s) x
     → IsIdle s x → ForEach (IsUndue s) x → ReadsHold (version_seen s) cs x → evaluated n s u cs (element_of x) (Some x) ≡ 0
-nothing_rests s u cs x n zeroth settled idle undue reads = (tree_rests n s u cs x zeroth settled idle undue reads).0
+nothing_rests s u cs x n same settled idle undue reads = (tree_rests n s u cs x same settled idle undue reads).0

@@ -11,7 +11,7 @@ use Rattle.rx_elem.specs.Trees.{Forest, Instance, Node, boundary_in, child, chil
 use Rattle.rx_queue.specs.History.{stands_done}
 use Rattle.rx_queue.specs.Journal.{Posted, hook, is_included, is_new, updates_of}
 use Rattle.rx_meaning.specs.Fresh.{Contexts, Sight, old_instance, resources_seen}
-use Rattle.rx_meaning.specs.Touched.{is_read_anew, is_refreshed, sees_refresh}
+use Rattle.rx_meaning.specs.Touched.{component_in, has_same_inputs, is_read_anew, is_refreshed, sees_refresh}
 
 -- Updates
 
@@ -44,6 +44,10 @@ has_cause s cs (elements.comp c k ps es) old = is_called s cs (old_instance old)
 has_cause s cs (elements.list marked es) old = false
 has_cause s cs (elements.boundary k f es) old = false
 has_cause s cs (elements.provider c k x es) old = false
+
+-- a component's place is dirty: it has a cause of its own, or the component has other props or other children than when it was evaluated last
+abbrev pub is_dirty : Sight → Contexts → Element → Option Node → Bool
+is_dirty s cs e old = is_some (component_in e) && (has_cause s cs e old || not (has_same_inputs e old))
 
 -- Boundaries
 

@@ -1,11 +1,11 @@
--- Which bodies a render evaluates: those of components that have a cause, and of those whose element was made anew.
+-- Which bodies a render evaluates: those of components that have a cause, and of those whose element was made anew. If a component is declared by `memo`, an equal element is none that was made anew.
 use Rattle.std.specs.Prelude.{ℕ, zero, suc, ◌+◌, Bool, true, not, ◌&&◌, ◌||◌, cond, nat_eq, is_some, Option}
 use Rattle.rx_elem.specs.Elements.{Element, stands_for_children}
 use Rattle.rx_elem.specs.Trees.{Node, was_hidden}
 use Rattle.rx_meaning.specs.Counts.{Tries, count_part, if_waits}
 use Rattle.rx_meaning.specs.Fresh.{Sight, Contexts, Renders, rendered, depth_limit, default_contexts, root_element, render_part, Shape, absent, waiting, one_list, two_lists, shape_of}
 use Rattle.rx_meaning.specs.Generations.{generation_below, own_generation}
-use Rattle.rx_meaning.specs.Touched.{component_in}
+use Rattle.rx_meaning.specs.Touched.{component_in, is_memo}
 use Rattle.cost_laws.specs.Causes.{has_cause}
 use Rattle.cost_laws.specs.Untouched.{is_element_of, is_untouched, stands_below}
 
@@ -24,15 +24,19 @@ above_root = record { generation = 0; stood = true }
 abbrev pub is_again : Flag → Element → Option Node → Bool
 is_again u e old = nat_eq u.generation 0 && is_element_of e old
 
--- the place is a component's, and its body is evaluated: the component has a cause, or its element was made anew
+-- the element of a place is as before: it is the committed one, given again, or an equal one of a component that is declared by `memo`
+abbrev pub is_as_before : Sight → Flag → Element → Option Node → Bool
+is_as_before s u e old = is_again u e old || (is_memo s.program e && is_element_of e old)
+
+-- the place is a component's, and its body is evaluated: the component has a cause, or its element is not as before
 abbrev pub is_evaluated : Sight → Flag → Contexts → Element → Option Node → Bool
-is_evaluated s u cs e old = is_some (component_in e) && (has_cause s cs e old || not (is_again u e old))
+is_evaluated s u cs e old = is_some (component_in e) && (has_cause s cs e old || not (is_as_before s u e old))
 
 -- what is told of the children of a node of no boundary
 abbrev pub below_node : Sight → Flag → Contexts → Element → Option Node → Flag
 below_node s u cs e old =
     record {
-      generation = generation_below (is_evaluated s u cs e old) (is_again u e old) (stands_for_children e) u.generation;
+      generation = generation_below (is_evaluated s u cs e old) (is_as_before s u e old) (stands_for_children e) u.generation;
       stood = stands_below u.stood e old;
     }
 

@@ -5,3 +5,5 @@ pub mod Left
 pub mod Undue
 pub mod SameWork
 pub mod Places
+pub mod Moments
+pub mod Examples

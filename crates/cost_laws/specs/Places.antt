@@ -1,11 +1,12 @@
 -- The places whose bodies a render evaluates, as a set.
 use Rattle.std.specs.Prelude.{◌≡◌, ℕ, zero, suc, Bool, true, false, ◌||◌, List, [], ◌∷◌, ◌++◌, ◌⊎◌, Option, filter, map, if◌then◌else◌}
-use Rattle.std.specs.List.{All}
+use Rattle.std.specs.List.{All, list_all}
+use Rattle.rx_ast.specs.Syntax.{Program, components}
 use Rattle.rx_elem.specs.Elements.{Element}
 use Rattle.rx_elem.specs.Trees.{Node}
 use Rattle.rx_meaning.specs.Fresh.{Sight, Contexts, Renders, rendered, depth_limit, default_contexts, root_element, Part, Shape, absent, waiting, one_list, two_lists, shape_of}
-use Rattle.rx_meaning.specs.Touched.{Address, children_with_old, part_waits, waits_at}
-use Rattle.cost_laws.specs.Causes.{has_cause}
+use Rattle.rx_meaning.specs.Touched.{Address, children_with_old, is_memo, part_waits, waits_at}
+use Rattle.cost_laws.specs.Causes.{has_cause, is_dirty}
 use Rattle.cost_laws.specs.Evaluated.{Flag, above_root, below_boundary, below_node, in_fallback, is_evaluated}
 use Rattle.cost_laws.specs.Untouched.{is_retried, is_untouched}
 
@@ -16,6 +17,10 @@ pub record Coming : Type 0 where
   pub evaluated : Bool
   -- it is a component's place that has a cause
   pub caused : Bool
+  -- it is a component's place that is dirty: it has a cause, or other props or other children than when it was evaluated last
+  pub dirty : Bool
+  -- it is the place of a component that is declared by `memo`
+  pub memo : Bool
   -- it is that of a boundary that was hidden and is tried again
   pub retried : Bool
   -- it lies below a place that has a cause or is tried again
@@ -45,7 +50,15 @@ come_part come below a p = come_all come (below p.contexts) a p.contexts 0 (chil
 -- to a place itself
 abbrev pub coming_here : Sight → Above → Contexts → Element → Option Node → Coming
 coming_here s a cs e old =
-    record { address = a.address; evaluated = is_evaluated s a.flag cs e old; caused = has_cause s cs e old; retried = is_retried s a.flag.stood e old; below = a.below }
+    record {
+      address = a.address;
+      evaluated = is_evaluated s a.flag cs e old;
+      caused = has_cause s cs e old;
+      dirty = is_dirty s cs e old;
+      memo = is_memo s.program e;
+      retried = is_retried s a.flag.stood e old;
+      below = a.below;
+    }
 
 -- what is told of the places below one
 abbrev pub above_with : Above → Sight → Contexts → Element → Option Node → Flag → Above
@@ -77,13 +90,23 @@ whole_comings s old = comings depth_limit s (record { address = []; below = fals
 abbrev pub evaluated_places : Sight → Option Node → List Address
 evaluated_places s old = map (λ v. v.address) (filter (λ v. v.evaluated) (whole_comings s old))
 
+-- the component places that a render comes to and that are dirty
+abbrev pub dirty_places : Sight → Option Node → List Address
+dirty_places s old = map (λ v. v.address) (filter (λ v. v.dirty) (whole_comings s old))
+
+-- every component of a program is declared by `memo`
+abbrev pub all_memo : Program → Bool
+all_memo p = list_all (λ c. c.memo) (components p)
+
 -- no two of these addresses are equal
 abbrev pub AllApart : List Address → Type 0
 AllApart [] = Unit {0}
 AllApart (a ∷ others) = All (λ b. a ≡ b → ⊥) others × AllApart others
 
--- The places whose bodies a render evaluates: each that has a cause is one; each of them has one, or lies below a place that has one or that is tried again; and none is there twice.
+-- The places whose bodies a render evaluates: each that has a cause is one; each of them has one, or lies below a place that has one or that is tried again; and none is there twice. Of the places of components that are declared by `memo` just the dirty ones are; if all components are, the evaluated places are the dirty ones.
 pub record AreEvaluated (s : Sight) (old : Option Node) : Type 0 where
   pub each : All (λ v. v.caused ≡ true → v.evaluated ≡ true) (whole_comings s old)
   pub none_else : All (λ v. v.evaluated ≡ true → (v.caused ≡ true) ⊎ (v.below ≡ true)) (whole_comings s old)
   pub once : AllApart (evaluated_places s old)
+  pub memo : All (λ v. v.memo ≡ true → v.evaluated ≡ v.dirty) (whole_comings s old)
+  pub exact : all_memo s.program ≡ true → evaluated_places s old ≡ dirty_places s old

@@ -13,9 +13,9 @@ ghost use Rattle.rx_meaning.specs.Settled.{DoneBefore, IfSettled, IsSettled, Rea
 ghost use Rattle.commit_laws.specs.Each.{ForEach};
 ghost use Rattle.commit_laws.specs.Idle.{IsIdle};
 ghost use Rattle.render_laws.specs.SameSight.{SeesSame, AllAfter};
-ghost use Rattle.cost_laws.specs.Evaluated.{Flag, beside_kept, evaluated, whole_evaluated};
+ghost use Rattle.cost_laws.specs.Evaluated.{Flag, beside_kept, evaluated, is_as_before, whole_evaluated};
 ghost use Rattle.cost_laws.specs.Left.{Costs, Flags, flag, MayGo, next_evaluated, unit_flags};
-ghost use Rattle.cost_laws.specs.Places.{AllApart, AreEvaluated, evaluated_places, whole_comings};
+ghost use Rattle.cost_laws.specs.Places.{AllApart, AreEvaluated, all_memo, dirty_places, evaluated_places, whole_comings};
 ghost use Rattle.cost_laws.specs.SameWork.{SeesSameWork};
 ghost use Rattle.cost_laws.specs.Undue.{IsUndue};
 ghost use Rattle.cost_laws.specs.Untouched.{is_untouched};
@@ -48,10 +48,14 @@ pub fn bodies_are_counted()
     ensures places { (s : Sight) (old : Option Node) → length (evaluated_places s old) ≡ whole_evaluated s old }
     ensures each { (s : Sight) (old : Option Node) → All (λ v. v.caused ≡ true → v.evaluated ≡ true) (whole_comings s old) }
     ensures once { (s : Sight) (old : Option Node) → AllApart (evaluated_places s old) }
+    // Of the places of components that are declared by `memo`, exactly the dirty ones are evaluated; if all components are,
+    // the evaluated places are the dirty ones.
+    ensures memo { (s : Sight) (old : Option Node) → IfSome old (λ x. element_of x ≡ root_element s.program) → All (λ v. v.memo ≡ true → v.evaluated ≡ v.dirty) (whole_comings s old) }
+    ensures exact { (s : Sight) (old : Option Node) → IfSome old (λ x. element_of x ≡ root_element s.program) → all_memo s.program ≡ true → evaluated_places s old ≡ dirty_places s old }
     ensures fewer { (s : Sight) (old : Option Node) → whole_evaluated s old ≤ whole each_body s old }
-    // Nothing is evaluated of a tree whose elements are given again, that is idle, whose instances have each included update
-    // done, and in which reads hold.
-    ensures rests { (s : Sight) (u : Flag) (cs : Contexts) (x : Node) (n : ℕ) → u.generation ≡ 0 → IsSettled s.program (known_by s) x
+    // Nothing is evaluated of a tree whose element is as before, that is idle, whose instances have each included update done, and
+    // in which reads hold.
+    ensures rests { (s : Sight) (u : Flag) (cs : Contexts) (x : Node) (n : ℕ) → is_as_before s u (element_of x) (Some x) ≡ true → IsSettled s.program (known_by s) x
         → IsIdle s x → ForEach (IsUndue s) x → ReadsHold (version_seen s) cs x → evaluated n s u cs (element_of x) (Some x) ≡ 0 }
     ensures undue_later { (s : Sight) (j : Journal) (m : Mark) → SeesSameWork s j → IsUndue s m → IsUndue (record s { journal = j }) m }
 {}

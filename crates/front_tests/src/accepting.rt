@@ -1,6 +1,6 @@
 // Inputs that are accepted or refused, and each beginning of a program.
 
-use crate::cases::{COUNTS, Case, PLACES, REFRESHES, REFUSALS, SECOND, STARTS};
+use crate::cases::{COUNTS, Case, MEMOS, PLACES, REFRESHES, REFUSALS, SECOND, STARTS};
 use itoa::Buffer;
 use rx_accept::{Verdict, accept};
 use std::alloc::{AllocError, AllocGlobal, Global};
@@ -84,6 +84,11 @@ fn a_start_names_a_lane_and_a_flag(rt: HostRuntime) -> Result<(), Fail> {
 }
 
 #[test]
+fn memo_declares_a_component(rt: HostRuntime) -> Result<(), Fail> {
+    are_judged(&rt, &MEMOS)
+}
+
+#[test]
 fn version_2_is_judged_by_its_own_limits(rt: HostRuntime) -> Result<(), Fail> {
     are_judged(&rt, &SECOND)
 }
@@ -102,11 +107,23 @@ enum Within {
 }
 
 /// A program in pieces, each with what a beginning is that ends within it. The last `}` of the program is left out.
-const PIECES: [(&[u8], Within); 51] = [
+const PIECES: [(&[u8], Within); 63] = [
     (b"const", Within::Word),
     (b" Theme = ", Within::Open),
     (b"createContext", Within::Word),
     (b"(-1)", Within::Open),
+    (b"; ", Within::Whole),
+    (b"const", Within::Word),
+    (b" Note = ", Within::Open),
+    (b"memo", Within::Word),
+    (b"(", Within::Open),
+    (b"function", Within::Word),
+    (b" ", Within::Open),
+    (b"Note", Within::Word),
+    (b"() { ", Within::Open),
+    (b"return", Within::Word),
+    (b" null; ", Within::Open),
+    (b"})", Within::Open),
     (b"; ", Within::Whole),
     (b"function", Within::Word),
     (b" add(s, a) { ", Within::Open),

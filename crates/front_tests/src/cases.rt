@@ -12,6 +12,9 @@ const ONE_RESOURCE: &[u8] =
 const ONE_FLAG: &[u8] =
     b"function app(s, a) { return s * 10 + a; } function App() { const [w, go] = useTransition(); const [s, setS] = useState(0); return <p>{w}{s}</p>; }";
 
+const TWO_MEMOS: &[u8] =
+    b"const Cell = memo(function Cell({v}) { return <i>{v}</i>; }); const App = memo(function App() { const [v, setV] = useState(0); const [w, setW] = useState(0); return <div>{w}{for (k < 20, 20) <Cell key={k} v={k < v}/>}</div>; });";
+
 /// An input, and what is told of it. Its program is written in pieces: a text, once for each number from one to another,
 /// both of them too; `#` stands for the number and `~` for the one before it.
 pub(crate) struct Case<'a> {
@@ -878,5 +881,135 @@ pub(crate) const STARTS: [Case<'static>; 14] = [
         )],
         script: b"",
         told: "program refused 4 w\n",
+    },
+];
+
+/// Components that are declared by `memo`: what is accepted, and why others are refused.
+pub(crate) const MEMOS: [Case<'static>; 16] = [
+    // Two components, and steps that name a hook of one.
+    Case {
+        pieces: &[(TWO_MEMOS, 1, 1)],
+        script: b"flush\nset sync App w 7\nflush\nset sync App/Cell v 1",
+        told: "script refused 15 line 4\n",
+    },
+    Case {
+        pieces: &[(TWO_MEMOS, 1, 1)],
+        script: b"flush\nset sync App w 7\nflush",
+        told: "accepted nodes 64 depth 6 steps 3\n",
+    },
+    // Another name of the function.
+    Case {
+        pieces: &[(
+            b"const A = memo(function B() { return null; }); function App() { return null; }",
+            1,
+            1,
+        )],
+        script: b"",
+        told: "program refused 3 at 24\n",
+    },
+    Case {
+        pieces: &[(
+            b"const A = memo(function a() { return null; }); function App() { return null; }",
+            1,
+            1,
+        )],
+        script: b"",
+        told: "program refused 3 at 24\n",
+    },
+    // A name that begins with no capital letter.
+    Case {
+        pieces: &[(b"const a = memo(function a() { return null; });", 1, 1)],
+        script: b"",
+        told: "program refused 3 at 6\n",
+    },
+    // The end is missing, in part and whole.
+    Case {
+        pieces: &[(b"const A = memo(function A() { return null; };", 1, 1)],
+        script: b"",
+        told: "program refused 3 at 44\n",
+    },
+    Case {
+        pieces: &[(
+            b"const A = memo(function A() { return null; }) function App() { return null; }",
+            1,
+            1,
+        )],
+        script: b"",
+        told: "program refused 3 at 46\n",
+    },
+    // A component in place of its function, and the word elsewhere.
+    Case {
+        pieces: &[(b"function A() { return null; } const App = memo(A);", 1, 1)],
+        script: b"",
+        told: "program refused 3 at 47\n",
+    },
+    Case {
+        pieces: &[(b"function App() { const memo = 1; return null; }", 1, 1)],
+        script: b"",
+        told: "program refused 3 at 23\n",
+    },
+    // It is a component of that name, for each check.
+    Case {
+        pieces: &[(
+            b"const A = memo(function A() { return null; }); function A() { return null; }",
+            1,
+            1,
+        )],
+        script: b"",
+        told: "program refused 4 A\n",
+    },
+    Case {
+        pieces: &[(
+            b"const A = memo(function A({x, x}) { return null; }); function App() { return null; }",
+            1,
+            1,
+        )],
+        script: b"",
+        told: "program refused 4 x\n",
+    },
+    Case {
+        pieces: &[(
+            b"const A = memo(function A() { return <p>{x}</p>; }); function App() { return null; }",
+            1,
+            1,
+        )],
+        script: b"",
+        told: "program refused 5 x\n",
+    },
+    Case {
+        pieces: &[(
+            b"const A = memo(function A({x}) { return null; }); function App() { return <A/>; }",
+            1,
+            1,
+        )],
+        script: b"",
+        told: "program refused 6 A\n",
+    },
+    Case {
+        pieces: &[(
+            b"const A = memo(function A() { return <A/>; }); function App() { return null; }",
+            1,
+            1,
+        )],
+        script: b"",
+        told: "program refused 8 A\n",
+    },
+    Case {
+        pieces: &[(
+            b"const App = memo(function App() { const u = use(\"r\"); return <p>{u}</p>; });",
+            1,
+            1,
+        )],
+        script: b"",
+        told: "program refused 9 App\n",
+    },
+    Case {
+        pieces: &[(
+            b"const App = memo(function App({x}) { return null; });",
+            1,
+            1,
+        )],
+        script: b"",
+        told: "program refused 10\n",
     },
 ];

@@ -17,6 +17,7 @@ pub(crate) fn counter(alloc: Global) -> Result<Program, AllocError> {
     let app = Component::new(
         Name::new(alloc, "App")?,
         false,
+        false,
         Vec::new(alloc),
         statements,
         Body::slot(Slot::null()),

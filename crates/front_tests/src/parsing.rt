@@ -29,6 +29,19 @@ fn texts_have_these_places(rt: HostRuntime) -> Result<(), Fail> {
             "\"use 2\"; function App() { return <p>{9223372036854775807}</p>; }",
             None,
         ),
+        ("const App = memo(function App() { return null; });", None),
+        (
+            "const App = memo(function Apps() { return null; });",
+            Some(26),
+        ),
+        (
+            "const App = memo(function App() { return null; };",
+            Some(48),
+        ),
+        (
+            "const App = memo(function App() { return null; })",
+            Some(49),
+        ),
         ("\"use 2\";", None),
         ("\"use 2\" function App() { return null; }", Some(8)),
         ("\"use 1\"; function App() { return null; }", Some(0)),

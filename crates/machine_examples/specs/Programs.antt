@@ -13,6 +13,7 @@ two_counters =
       declarations =
           of_component (record {
             name = codes "Counter";
+            memo = false;
             braces = true;
             parameters = (integer (codes "start") ∷ []);
             statements = (state (codes "n") (codes "setN") (variable (codes "start")) ∷ []);
@@ -20,6 +21,7 @@ two_counters =
           })
           ∷ of_component (record {
             name = codes "App";
+            memo = false;
             braces = false;
             parameters = [];
             statements = [];
@@ -38,6 +40,7 @@ switch =
       declarations =
           of_component (record {
             name = codes "A";
+            memo = false;
             braces = false;
             parameters = [];
             statements = (state (codes "n") (codes "setN") (number 0) ∷ []);
@@ -45,6 +48,7 @@ switch =
           })
           ∷ of_component (record {
             name = codes "B";
+            memo = false;
             braces = false;
             parameters = [];
             statements = [];
@@ -52,6 +56,7 @@ switch =
           })
           ∷ of_component (record {
             name = codes "App";
+            memo = false;
             braces = false;
             parameters = [];
             statements = (state (codes "c") (codes "setC") (number 1) ∷ []);
@@ -68,6 +73,7 @@ sums =
       declarations =
           of_component (record {
             name = codes "App";
+            memo = false;
             braces = false;
             parameters = [];
             statements = [];
@@ -84,6 +90,7 @@ attributes_of_a_host =
       declarations =
           of_component (record {
             name = codes "App";
+            memo = false;
             braces = false;
             parameters = [];
             statements = (state (codes "n") (codes "setN") (number 1) ∷ []);
@@ -100,6 +107,7 @@ rotating =
       declarations =
           of_component (record {
             name = codes "App";
+            memo = false;
             braces = false;
             parameters = [];
             statements = (state (codes "r") (codes "setR") (number 0) ∷ []);
@@ -117,6 +125,7 @@ equal_items =
       declarations =
           of_component (record {
             name = codes "Item";
+            memo = false;
             braces = true;
             parameters = (integer (codes "v") ∷ []);
             statements = (state (codes "n") (codes "setN") (variable (codes "v")) ∷ []);
@@ -124,6 +133,7 @@ equal_items =
           })
           ∷ of_component (record {
             name = codes "App";
+            memo = false;
             braces = false;
             parameters = [];
             statements = (state (codes "a") (codes "setA") (number 1) ∷ []);
@@ -147,6 +157,7 @@ appending =
           })
           ∷ of_component (record {
             name = codes "App";
+            memo = false;
             braces = false;
             parameters = [];
             statements = (state (codes "s") (codes "setS") (number 0) ∷ []);
@@ -170,6 +181,7 @@ reducing =
           })
           ∷ of_component (record {
             name = codes "App";
+            memo = false;
             braces = false;
             parameters = [];
             statements = (reducer (codes "s") (codes "d") (codes "red") (number 0) ∷ state (codes "t") (codes "setT") (number 0) ∷ []);
@@ -187,6 +199,7 @@ effects_of_kids =
       declarations =
           of_component (record {
             name = codes "Kid";
+            memo = false;
             braces = true;
             parameters = (integer (codes "v") ∷ []);
             statements = (effect true (codes "kl") ((variable (codes "v")) ∷ []) ∷ effect false (codes "kp") ((variable (codes "v")) ∷ []) ∷ []);
@@ -194,6 +207,7 @@ effects_of_kids =
           })
           ∷ of_component (record {
             name = codes "App";
+            memo = false;
             braces = false;
             parameters = [];
             statements = (state (codes "v") (codes "setV") (number 0) ∷ state (codes "g") (codes "setG") (number 1) ∷ effect true (codes "al") ((variable (codes "v")) ∷ []) ∷ effect false (codes "ap") ((variable (codes "v")) ∷ []) ∷ []);
@@ -217,6 +231,7 @@ themes =
           })
           ∷ of_component (record {
             name = codes "Leaf";
+            memo = false;
             braces = false;
             parameters = [];
             statements = (syntax.context (codes "t") (codes "Theme") ∷ []);
@@ -224,6 +239,7 @@ themes =
           })
           ∷ of_component (record {
             name = codes "Mid";
+            memo = false;
             braces = false;
             parameters = [];
             statements = [];
@@ -231,6 +247,7 @@ themes =
           })
           ∷ of_component (record {
             name = codes "App";
+            memo = false;
             braces = false;
             parameters = [];
             statements = (state (codes "t") (codes "setT") (number 2) ∷ []);
@@ -254,6 +271,7 @@ placing_twice =
           })
           ∷ of_component (record {
             name = codes "Box";
+            memo = false;
             braces = true;
             parameters = (given_children ∷ integer (codes "w") ∷ []);
             statements = [];
@@ -261,6 +279,7 @@ placing_twice =
           })
           ∷ of_component (record {
             name = codes "Leaf";
+            memo = false;
             braces = false;
             parameters = [];
             statements = (syntax.context (codes "c") (codes "C") ∷ []);
@@ -268,6 +287,7 @@ placing_twice =
           })
           ∷ of_component (record {
             name = codes "App";
+            memo = false;
             braces = false;
             parameters = [];
             statements = (state (codes "w") (codes "setW") (number 2) ∷ []);
@@ -285,6 +305,7 @@ cells =
       declarations =
           of_component (record {
             name = codes "Cell";
+            memo = false;
             braces = true;
             parameters = (integer (codes "v") ∷ []);
             statements = [];
@@ -292,6 +313,7 @@ cells =
           })
           ∷ of_component (record {
             name = codes "App";
+            memo = false;
             braces = false;
             parameters = [];
             statements = (state (codes "v") (codes "setV") (number 0) ∷ state (codes "w") (codes "setW") (number 0) ∷ effect true (codes "v") ((variable (codes "v")) ∷ []) ∷ []);
@@ -309,6 +331,7 @@ users =
       declarations =
           of_component (record {
             name = codes "User";
+            memo = false;
             braces = true;
             parameters = (integer (codes "p") ∷ []);
             statements = (state (codes "n") (codes "setN") (variable (codes "p")) ∷ use_resource (codes "u") (codes "user") ∷ []);
@@ -316,6 +339,7 @@ users =
           })
           ∷ of_component (record {
             name = codes "App";
+            memo = false;
             braces = false;
             parameters = [];
             statements = (state (codes "p") (codes "setP") (number 1) ∷ []);
@@ -333,6 +357,7 @@ late_users =
       declarations =
           of_component (record {
             name = codes "User";
+            memo = false;
             braces = false;
             parameters = [];
             statements = (use_resource (codes "u") (codes "user") ∷ []);
@@ -340,6 +365,7 @@ late_users =
           })
           ∷ of_component (record {
             name = codes "App";
+            memo = false;
             braces = false;
             parameters = [];
             statements = (state (codes "s") (codes "setS") (number 0) ∷ []);
@@ -358,6 +384,7 @@ nested_boundaries =
       declarations =
           of_component (record {
             name = codes "W";
+            memo = false;
             braces = false;
             parameters = [];
             statements = (use_resource (codes "u") (codes "a") ∷ []);
@@ -365,6 +392,7 @@ nested_boundaries =
           })
           ∷ of_component (record {
             name = codes "F";
+            memo = false;
             braces = false;
             parameters = [];
             statements = (use_resource (codes "u") (codes "f") ∷ []);
@@ -372,6 +400,7 @@ nested_boundaries =
           })
           ∷ of_component (record {
             name = codes "App";
+            memo = false;
             braces = false;
             parameters = [];
             statements = [];
@@ -397,6 +426,7 @@ boxes =
           })
           ∷ of_component (record {
             name = codes "Wait";
+            memo = false;
             braces = false;
             parameters = [];
             statements = (use_resource (codes "u") (codes "r") ∷ []);
@@ -404,6 +434,7 @@ boxes =
           })
           ∷ of_component (record {
             name = codes "Box";
+            memo = false;
             braces = true;
             parameters = (integer (codes "w") ∷ []);
             statements = (state (codes "s") (codes "setS") (number 0) ∷ []);
@@ -411,6 +442,7 @@ boxes =
           })
           ∷ of_component (record {
             name = codes "App";
+            memo = false;
             braces = false;
             parameters = [];
             statements = (state (codes "w") (codes "setW") (number 0) ∷ []);
@@ -429,6 +461,7 @@ boxes_with_effects =
       declarations =
           of_component (record {
             name = codes "Wait";
+            memo = false;
             braces = false;
             parameters = [];
             statements = (use_resource (codes "u") (codes "r") ∷ []);
@@ -436,6 +469,7 @@ boxes_with_effects =
           })
           ∷ of_component (record {
             name = codes "Box";
+            memo = false;
             braces = true;
             parameters = (integer (codes "w") ∷ []);
             statements = (effect true (codes "bl") ((variable (codes "w")) ∷ []) ∷ effect false (codes "bp") ((variable (codes "w")) ∷ []) ∷ []);
@@ -443,6 +477,7 @@ boxes_with_effects =
           })
           ∷ of_component (record {
             name = codes "App";
+            memo = false;
             braces = false;
             parameters = [];
             statements = (state (codes "w") (codes "setW") (number 0) ∷ []);

@@ -10,7 +10,7 @@ counter =
     record {
       second = false;
       declarations =
-          of_component (record { name = codes "App"; braces = false; parameters = []; statements = state (codes "n") (codes "setN") (number 5) ∷ []; body = single null })
+          of_component (record { name = codes "App"; memo = false; braces = false; parameters = []; statements = state (codes "n") (codes "setN") (number 5) ∷ []; body = single null })
           ∷ [];
     }
 

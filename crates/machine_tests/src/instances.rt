@@ -35,7 +35,7 @@ fn app(alloc: Global) -> Result<Component, AllocError> {
     let statements = state(alloc)?;
     let name = Name::new(alloc, "App")?;
     let body = Body::slot(Slot::null());
-    Ok(Component::new(name, false, Vec::new(alloc), statements, body))
+    Ok(Component::new(name, false, false, Vec::new(alloc), statements, body))
 }
 
 // The program of that component.

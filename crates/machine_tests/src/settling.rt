@@ -27,7 +27,7 @@ fn counter(alloc: Global) -> Result<Program, AllocError>
     statements.push(state)?;
     let name = Name::new(alloc, "App")?;
     let body = Body::slot(Slot::null());
-    let app = Component::new(name, false, Vec::new(alloc), statements, body);
+    let app = Component::new(name, false, false, Vec::new(alloc), statements, body);
     let mut declarations = Vec::new(alloc);
     declarations.push(Declaration::component(app))?;
     Ok(Program::new(false, declarations))

@@ -1,11 +1,11 @@
 -- The touched component places of a whole render, by the count of its units.
-use Rattle.std.specs.Prelude.{◌≡◌, ℕ, ◌+◌, Bool, true, false, cond, List, [], ◌∷◌, Option, Some, refl}
+use Rattle.std.specs.Prelude.{◌≡◌, ℕ, ◌+◌, Bool, true, false, not, ◌||◌, cond, List, [], ◌∷◌, Option, Some, refl}
 use Rattle.std.proofs.Common.{arith, sym}
 use Rattle.rx_elem.specs.Elements.{Element}
 use Rattle.rx_elem.specs.Elements as elements
 use Rattle.rx_elem.specs.Trees.{Node}
 use Rattle.rx_meaning.specs.Fresh.{Sight, Contexts, Place, made, rendered, old_instance}
-use Rattle.rx_meaning.specs.Touched.{Visit, visits, touched_instance}
+use Rattle.rx_meaning.specs.Touched.{Visit, visits, has_same_inputs, touched_instance}
 use Rattle.rx_meaning.specs.Cursor.{Frame, Cursor, at_place, ended, arrive, unit, start, StandsAtNode}
 use Rattle.rx_meaning.specs.Counts.{counted, whole, next_counts, left}
 use Rattle.render_laws.specs.TouchedCounts.{each_touched, touched_in, NonePassedOver}
@@ -22,8 +22,9 @@ touched_here s at elements.null old = refl
 touched_here s at (elements.text x) old = refl
 touched_here s at (elements.host n k attrs es) old = refl
 touched_here s at (elements.comp c k ps es) old =
-    one_visit (record { address = at.address; component = Some c; touched = touched_instance s at.contexts (old_instance old); spared = at.spared })
-    (touched_instance s at.contexts (old_instance old)) refl
+    let touched = touched_instance s at.contexts (old_instance old) in
+    let dirty = touched || not (has_same_inputs (elements.comp c k ps es) old) in
+    one_visit (record { address = at.address; component = Some c; touched = touched; dirty = dirty; spared = at.spared }) touched refl
 touched_here s at (elements.list marked es) old = refl
 touched_here s at (elements.boundary k f es) old = refl
 touched_here s at (elements.provider c k x es) old = refl

@@ -56,7 +56,7 @@ if_made_none (one_waits a) n h = refl
 
 -- each place's own visit passes the test as often as its beginning counts
 abbrev pub CountsHere : (Visit → Bool) → Weights → Sight → Type 0
-CountsHere test w s = (at : Setting) (e : Element) (old : Option Node) → passing test (visit_as s at old (component_in e) ∷ []) ≡ w.begins at.contexts e old
+CountsHere test w s = (at : Setting) (e : Element) (old : Option Node) → passing test (visit_as s at e old (component_in e) ∷ []) ≡ w.begins at.contexts e old
 
 module _ (test : Visit → Bool) (w : Weights) (nothing : w.misses ≡ 0) (free : w.completes ≡ 0) (s : Sight) (own : CountsHere test w s) where
   -- as many visits pass as a count says
@@ -88,13 +88,13 @@ module _ (test : Visit → Bool) (w : Weights) (nothing : w.misses ≡ 0) (free 
       neither false = refl
   shape_counted v t below h at e old (waiting r version) = own at e old
   shape_counted v t below h at e old (one_list m p) =
-      passing_append test (visit_as s at old (component_in e) ∷ []) (visit_part v below (setting_below old at) p)
+      passing_append test (visit_as s at e old (component_in e) ∷ []) (visit_part v below (setting_below old at) p)
       ∙ omega (arith, own at e old, part_counted v t below h (setting_below old at) p, if_made_none (render_part below p) w.completes free)
   shape_counted v t below h at e old (two_lists p f) =
       let inner = setting_of_primary s (setting_below old at) e old in
       let outer = setting_of_fallback (setting_below old at) in
       let rest = if part_waits below p then visit_part v below outer f else [] in
-      passing_append test (visit_as s at old (component_in e) ∷ []) (visit_part v below inner p ++ rest)
+      passing_append test (visit_as s at e old (component_in e) ∷ []) (visit_part v below inner p ++ rest)
       ∙ omega (
         arith,
         own at e old,

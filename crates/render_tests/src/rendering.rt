@@ -25,6 +25,7 @@ fn paragraph(alloc: Global) -> Result<Program, AllocError> {
     let app = Component::new(
         Name::new(alloc, "App")?,
         false,
+        false,
         Vec::new(alloc),
         Vec::new(alloc),
         Body::slot(Slot::element(element)),

@@ -16,6 +16,7 @@ abbrev leaf : Component
 leaf =
     record {
       name = codes "Leaf";
+      memo = false;
       braces = false;
       parameters = [];
       statements = syntax.use_resource (codes "u") (codes "r") ∷ [];
@@ -33,6 +34,7 @@ abbrev app : Component
 app =
     record {
       name = codes "App";
+      memo = false;
       braces = false;
       parameters = [];
       statements = syntax.state (codes "n") (codes "s") (syntax.number 0) ∷ [];

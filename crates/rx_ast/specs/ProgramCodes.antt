@@ -97,10 +97,10 @@ parameter_code = record { code = stored_parameter; inj = stored_parameter_one }
 
 abbrev pub component_code : Coded Component
 component_code =
-    code_by (Name × (Bool × (List Parameter × (List Statement × Body))))
-    (coded× text (coded× coded_bool (coded× (coded_list parameter_code) (coded× (coded_list statement_code) body_code))))
-    (λ c. (c.name, (c.braces, (c.parameters, (c.statements, c.body)))))
-    (λ p. record { name = p.0; braces = p.1.0; parameters = p.1.1.0; statements = p.1.1.1.0; body = p.1.1.1.1 }) (λ _. refl)
+    code_by (Name × (Bool × (Bool × (List Parameter × (List Statement × Body)))))
+    (coded× text (coded× coded_bool (coded× coded_bool (coded× (coded_list parameter_code) (coded× (coded_list statement_code) body_code)))))
+    (λ c. (c.name, (c.memo, (c.braces, (c.parameters, (c.statements, c.body))))))
+    (λ p. record { name = p.0; memo = p.1.0; braces = p.1.1.0; parameters = p.1.1.1.0; statements = p.1.1.1.1.0; body = p.1.1.1.1.1 }) (λ _. refl)
 
 abbrev pub stored_declaration : Declaration → Gv
 stored_declaration (of_context c) = gcons (gnum 0) (context_code.code c)

@@ -195,9 +195,10 @@ pub data Parameter : Type 0 where
   integer : Name → Parameter
   given_children : Parameter
 
--- A component. `braces` tells `({})` from `()` if there is no parameter.
+-- A component. `memo` tells whether it is declared by `memo`, and `braces` tells `({})` from `()` if there is no parameter.
 pub record Component : Type 0 where
   pub name : Name
+  pub memo : Bool
   pub braces : Bool
   pub parameters : List Parameter
   pub statements : List Statement

@@ -217,6 +217,7 @@ impl Parameter {
 #[derive(Drop)]
 pub struct Component {
     name: Name,
+    memo: bool,
     braces: bool,
     parameters: Vec<Parameter>,
     statements: Vec<Statement>,
@@ -231,22 +232,25 @@ impl Model for Component {
 
     ghost coded = { component_code };
 
-    ghost view = { λ c. record { name = c.name; braces = c.braces; parameters = c.parameters.items; statements = c.statements.items; body = c.body } };
+    ghost view = { λ c. record { name = c.name; memo = c.memo; braces = c.braces; parameters = c.parameters.items; statements = c.statements.items; body = c.body } };
 }
 
 impl Component {
-    /// `function name({ parameters }) { statements return body; }`, and `braces` says whether the braces stand there.
+    /// `function name({ parameters }) { statements return body; }`, where `braces` says whether the braces stand there, and
+    /// `memo` whether the whole stands in `const name = memo(` and `);` (react.dev, memo).
     pub fn new(
         name: Name,
+        memo: bool,
         braces: bool,
         parameters: Vec<Parameter>,
         statements: Vec<Statement>,
         body: Body,
     ) -> Component
-        ensures { result ≡ record { name = name; braces = braces; parameters = parameters.items; statements = statements.items; body = body } }
+        ensures { result ≡ record { name = name; memo = memo; braces = braces; parameters = parameters.items; statements = statements.items; body = body } }
     {
         Component {
             name,
+            memo,
             braces,
             parameters,
             statements,
@@ -259,6 +263,13 @@ impl Component {
         ensures { result.now ≡ self.now.name }
     {
         &self.name
+    }
+
+    /// Whether it is declared by `memo` (react.dev, memo).
+    pub fn is_memo(&self) -> bool
+        ensures { result ≡ self.now.memo }
+    {
+        self.memo
     }
 
     /// Whether braces stand in its parentheses.

@@ -33,8 +33,8 @@ abbrev pub KnowsElement : Trees Fiber → (p : ℕ) → Fiber → (again : Bool)
 KnowsElement t p v again = again ≡ true → IsElementOf t.current (old_of t.draft p) v.element
 
 -- what is told of a place's element is told of its fiber
-pub element_is_again : (c : Shape Fiber) (o : Option ℕ) (v : Fiber) (e : Element) (again : Bool) → TellsAgain c o v again → e ≡ v.element → again ≡ true → IsElementOf c o e
-element_is_again c o v e again tells is so = subst (IsElementOf c o) (sym is) (tells.0 so).same
+pub element_is_again : (memo : Bool) (c : Shape Fiber) (o : Option ℕ) (v : Fiber) (e : Element) (again : Bool) → TellsAgain memo c o v again → e ≡ v.element → again ≡ true → IsElementOf c o e
+element_is_again memo c o v e again tells is so = subst (IsElementOf c o) (sym is) (tells.0 so).same
 
 -- That is the element of the place.
 pub same_here : (t : Trees Fiber) (st : Stack) (p n : ℕ) (fs : List Frame) (cs : Contexts) (e : Element) (old : Option Node) → KnowsPlaces t
@@ -61,7 +61,7 @@ clone_again t st p n fs cs e old knows (begins {v = w} {o = o} {rs = rs} {k = k}
     let stage : v.stage ≡ waiting is.origin = ap (λ u. u.stage) same ∙ is.stage in
     let too : is.origin.cloned ≡ true = sym (ap is_cloned stage) ∙ clone in
     record {
-      generation = ap generation_of stage ∙ is.first too;
+      generation = λ plain. ap generation_of stage ∙ is.first too;
       same =
           subst (λ q. IsElementOf t.current q v.element) (sym (knows k p w o (taken shapes.none) rs here).old)
           (subst (λ y. IsElementOf t.current o y) (sym (ap (λ u. u.element) same ∙ is.element)) (is.same too));

@@ -27,6 +27,7 @@ ghost use Rattle.rx_meaning.specs.Cursor.{Frame, at_place};
 ghost use Rattle.rx_meaning.specs.Counts.{each_body, next_counts};
 ghost use Rattle.rx_meaning.specs.Generations.{generation_below};
 ghost use Rattle.rx_meaning.specs.Settled.{DoneBefore};
+ghost use Rattle.rx_meaning.specs.Touched.{is_memo};
 ghost use Rattle.rx_model.specs.State.{State};
 ghost use Rattle.rx_model.specs.HooksOf.{KeepsAllHooks};
 ghost use Rattle.rx_fiber.specs.Standing.{StandsAt};
@@ -40,12 +41,13 @@ ghost use Rattle.rx_children.specs.declared.node.Begun.TheVariants.{Suspended};
 ghost use Rattle.rx_begin.specs.Beginning.{IsAtPlace, BeginsPlace, awaited_again, is_opened, is_taken};
 
 use crate::body::begin_component;
+use crate::memo::is_as_before;
 use crate::place::Place;
 use rx_base::{Awaits, Steps};
 use rx_causes::{Scene, waits_still};
 use rx_children::{
-    Begun, begun_children, begun_stage, enter, generation_below, is_again, is_component,
-    is_hidden_again, is_steady, keep_node, keeps_children, old_host, open_node, parts_of,
+    Begun, begun_children, begun_stage, enter, generation_below, is_component, is_hidden_again,
+    is_steady, keep_node, keeps_children, old_host, open_node, parts_of,
     take_node, takes_over,
 };
 use rx_ctx::ContextStack;
@@ -189,7 +191,7 @@ pub fn begin<L: Ledger>(
     // calm. No other element has one.
     ensures none { IfOk result (λ b. (v : fibers.Fiber) → Some v ≡ made_value_of tree.old.draft at → parts_in v.element ≡ None → b.1 ≡ false) }
     ensures body { IfOk result (λ b. (v : fibers.Fiber) → Some v ≡ made_value_of tree.old.draft at → IsSome (parts_in v.element)
-        → (again : Bool) × TellsAgain tree.old.current (old_of tree.old.draft at) v again
+        → (again : Bool) × TellsAgain (is_memo scene.now.checked.now v.element) tree.old.current (old_of tree.old.draft at) v again
         × (again ≡ true → TellsCalm scene.now (kept_hooks hooks.old) (values_at contexts.old) (option_and_then instance_in (mark_at tree.old.current (old_of tree.old.draft at))) (not b.1))
         × (again ≡ false → b.1 ≡ true)) }
     // A hidden boundary's children are tried only if its element is another one than that of its current fiber, or it may stand
@@ -203,7 +205,7 @@ pub fn begin<L: Ledger>(
     // hidden boundary counts as one that was made anew. They are made for no current fiber if the fiber is.
     ensures kids { IfOk result (λ b. (v : fibers.Fiber) → Some v ≡ made_value_of tree.old.draft at → is_opened b.0 ≡ true
         → (origin : Origin) × (again : Bool) × TellsSteady tree.old.current (old_of tree.old.draft at) v origin.stood
-        × TellsAgain tree.old.current (old_of tree.old.draft at) v again
+        × TellsAgain (is_memo scene.now.checked.now v.element) tree.old.current (old_of tree.old.draft at) v again
         × (origin.generation ≡ generation_below b.1 (again && keeps_children true (mark_at tree.old.current (old_of tree.old.draft at))) (stands_for_children v.element) (generation_of v.stage))
         × ((h : HasKids origin tree.old tree.new at) × (b.0 ≡ begun_over h.kids))) }
     // A hidden boundary that waits still is to try its children, of which none is made; old children stand as they are; and if a
@@ -214,13 +216,13 @@ pub fn begin<L: Ledger>(
     ensures waits { IfOk result (λ b. (r : ℕ) → b.0 ≡ Suspended r → tree.new ≡ tree.old) }
     // Old children are taken over only if the element is given again, with no body evaluated; and the tree of the old node
     // rests, but for what is passed.
-    ensures again { IfOk result (λ b. is_taken b.0 ≡ true → (v : fibers.Fiber) → Some v ≡ made_value_of tree.old.draft at → IsAgain tree.old.current (old_of tree.old.draft at) v) }
+    ensures again { IfOk result (λ b. is_taken b.0 ≡ true → (v : fibers.Fiber) → Some v ≡ made_value_of tree.old.draft at → IsAgain (is_memo scene.now.checked.now v.element) tree.old.current (old_of tree.old.draft at) v) }
     ensures taken { IfOk result (λ b. is_taken b.0 ≡ true → b.1 ≡ false) }
     ensures rests { IfOk result (λ b. is_taken b.0 ≡ true → (x : Node) → IsOld tree.old.current (old_of tree.old.draft at) (Some x)
         → EachBut (is_way scene.now.ways.now) (Rests (kept_hooks hooks.old) scene.now.lanes scene.now.cut) x) }
     // What is given again is begun over its own children only if there is a cause in the tree of its old node, or an instance
     // there stands on a way; else its old children are taken over.
-    ensures causes { IfOk result (λ b. (v : fibers.Fiber) → Some v ≡ made_value_of tree.old.draft at → IsAgain tree.old.current (old_of tree.old.draft at) v → is_taken b.0 ≡ false
+    ensures causes { IfOk result (λ b. (v : fibers.Fiber) → Some v ≡ made_value_of tree.old.draft at → IsAgain (is_memo scene.now.checked.now v.element) tree.old.current (old_of tree.old.draft at) v → is_taken b.0 ≡ false
         → HasCauseToBegin scene.now (kept_hooks hooks.old) (values_at contexts.old) (is_some (parts_in v.element)) (is_stood v.stage) tree.old.current (old_of tree.old.draft at)) }
     ensures few { IfOk result (λ b. (s : Sight) (n : ℕ) (fs : List Frame) (cs : Contexts) (e : elements.Element) (old : Option Node) → IsSceneOf scene.now s → StandsAt tree.old contexts.old (Some at) (at_place (suc n) fs cs e old)
         → (if b.1 then 1 else 0) ≤ next_counts each_body s (at_place (suc n) fs cs e old)) }
@@ -232,7 +234,7 @@ pub fn begin<L: Ledger>(
 {
     tree.place_facts();
     tree.facts();
-    let again = is_again(tree, at);
+    let again = is_as_before(tree, at, scene.checked);
     let fiber = tree.value(at);
     let origin = fiber.origin();
     let element = fiber.element().copy()?;

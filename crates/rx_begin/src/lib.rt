@@ -3,6 +3,7 @@
 
 mod beginning;
 mod body;
+mod memo;
 mod place;
 
 pub use beginning::begin;

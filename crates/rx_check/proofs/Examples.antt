@@ -15,7 +15,7 @@ use Rattle.rx_check.specs.declared.refusal.Refusal.TheVariants as refusal
 -- a component that returns one slot
 abbrev component : Name → List Parameter → List Statement → Slot → syntax.Declaration
 component name parameters statements body =
-    syntax.of_component (record { name = name; braces = true; parameters = parameters; statements = statements; body = syntax.single body })
+    syntax.of_component (record { name = name; memo = false; braces = true; parameters = parameters; statements = statements; body = syntax.single body })
 
 -- an element without attributes around these
 abbrev around : Slot → syntax.Slots → Slot

@@ -93,17 +93,17 @@ module _ (t : Trees Fiber) (p : ℕ) (w v : Fiber) (reads : Some w ≡ made_valu
   waits_with own c is waits = is ∙ (ap (λ (u : Fiber). origin_of u.stage) same_fiber ∙ ap origin_of waits)
 
 -- one that is no clone, and of a later generation, is not given again
-pub later_not_again : (c : Shape Fiber) (o : Option ℕ) (v : Fiber) (g : ℕ) → g ≡ generation_of v.stage → (g ≡ 0 → ⊥) → TellsAgain c o v false
-later_not_again c o v g is later = (λ so. absurd (let q : ⊥ = cc in q), λ h. absurd (later (is ∙ h.generation)))
+pub later_not_again : (c : Shape Fiber) (o : Option ℕ) (v : Fiber) (g : ℕ) → g ≡ generation_of v.stage → (g ≡ 0 → ⊥) → TellsAgain false c o v false
+later_not_again c o v g is later = (λ so. absurd (let q : ⊥ = cc in q), λ h. absurd (later (is ∙ h.generation refl)))
 
 -- a clone is given again
-pub clone_is_again : (c : Shape Fiber) (o : Option ℕ) (v : Fiber) → IsAgain c o v → TellsAgain c o v true
-clone_is_again c o v h = (λ so. h, λ i. refl)
+pub clone_is_again : (memo : Bool) (c : Shape Fiber) (o : Option ℕ) (v : Fiber) → IsAgain false c o v → TellsAgain memo c o v true
+clone_is_again memo c o v h = (λ so. record { generation = λ plain. h.generation refl; same = h.same }, λ i. refl)
 
--- and one of the first generation if it is equal
-pub equal_is_again : (c : Shape Fiber) (o : Option ℕ) (v : Fiber) (g : ℕ) (e : Element) (b : Bool) → g ≡ generation_of v.stage → g ≡ 0 → e ≡ v.element → (b ≡ true → IsElementOf c o e) → (IsElementOf c o e → b ≡ true)
-    → TellsAgain c o v b
-equal_is_again c o v g e b is none element equal all = (
-  λ so. record { generation = sym is ∙ none; same = subst (IsElementOf c o) element (equal so) },
+-- and one of the first generation, or of a component that is declared by `memo`, if it is equal
+pub equal_is_again : (memo : Bool) (c : Shape Fiber) (o : Option ℕ) (v : Fiber) (e : Element) (b : Bool) → (memo ≡ false → generation_of v.stage ≡ 0) → e ≡ v.element → (b ≡ true → IsElementOf c o e) → (IsElementOf c o e → b ≡ true)
+    → TellsAgain memo c o v b
+equal_is_again memo c o v e b first element equal all = (
+  λ so. record { generation = first; same = subst (IsElementOf c o) element (equal so) },
   λ h. all (subst (IsElementOf c o) (sym element) h.same),
 )

@@ -27,18 +27,18 @@ pub record IsSteady (current : Shape Fiber) (o : Option ℕ) (v : Fiber) : Type 
 abbrev pub TellsSteady : Shape Fiber → Option ℕ → Fiber → Bool → Type 0
 TellsSteady current o v b = (b ≡ true → IsSteady current o v) × (IsSteady current o v → b ≡ true)
 
--- the element of a place's fiber is that of the current fiber for which it was made, given again
-pub record IsAgain (current : Shape Fiber) (o : Option ℕ) (v : Fiber) : Type 0 where
-  pub generation : generation_of v.stage ≡ 0
+-- the element of a place's fiber is that of the current fiber for which it was made, given again; or it is equal to that, and its component is declared by `memo`
+pub record IsAgain (memo : Bool) (current : Shape Fiber) (o : Option ℕ) (v : Fiber) : Type 0 where
+  pub generation : memo ≡ false → generation_of v.stage ≡ 0
   pub same : IsElementOf current o v.element
 
 -- a test tells whether it is
-abbrev pub TellsAgain : Shape Fiber → Option ℕ → Fiber → Bool → Type 0
-TellsAgain current o v b = (b ≡ true → IsAgain current o v) × (IsAgain current o v → b ≡ true)
+abbrev pub TellsAgain : (memo : Bool) → Shape Fiber → Option ℕ → Fiber → Bool → Type 0
+TellsAgain memo current o v b = (b ≡ true → IsAgain memo current o v) × (IsAgain memo current o v → b ≡ true)
 
 -- if the fiber of a place is a clone, its element is given again
 abbrev pub KnowsClone : Trees Fiber → ℕ → Type 0
-KnowsClone t p = (v : Fiber) → Some v ≡ made_value_of t.draft p → is_cloned v.stage ≡ true → IsAgain t.current (old_of t.draft p) v
+KnowsClone t p = (v : Fiber) → Some v ≡ made_value_of t.draft p → is_cloned v.stage ≡ true → IsAgain false t.current (old_of t.draft p) v
 
 -- this element stands in an old node
 abbrev pub StoodIn : Option Node → Element → Type 0

@@ -251,12 +251,12 @@ pub fn open_fallback(
     requires { IsLeft tree.old at awaits }
     ensures opened { IfOk result (λ f. (st : Stack) (c : Cursor) → IsLeftAt tree.old st at (taken none) awaits c → HasOpenedAs tree.new st c f) }
     // Its fibers wait as ones that stood exactly where the boundary did, and are of the generation of the boundary's element.
-    ensures kids { IfOk result (λ f. (v : fibers.Fiber) → Some v ≡ made_value_of tree.old.draft at → (again : Bool) × TellsAgain tree.old.current (old_of tree.old.draft at) v again
+    ensures kids { IfOk result (λ f. (v : fibers.Fiber) → Some v ≡ made_value_of tree.old.draft at → (again : Bool) × TellsAgain false tree.old.current (old_of tree.old.draft at) v again
         × HasFallbackKids (as_matched (origin_of v.stage).stood (own_generation again (generation_of v.stage))) tree.old tree.new at f) }
     ensures current { tree.new.current ≡ tree.old.current }
 {
     tree.place_facts();
-    let again = is_again(tree, at);
+    let again = is_again(tree, at, false);
     let fiber = tree.value(at);
     let origin = fiber.origin();
     let generation = own_generation(again, origin.generation);

@@ -30,6 +30,7 @@ abbrev pub a_cell : Component
 a_cell =
     record {
       name = codes "Cell";
+      memo = false;
       braces = true;
       parameters = integer (codes "i") ∷ [];
       statements = state (codes "v") (codes "setV") (variable (codes "i")) ∷ [];
@@ -41,6 +42,7 @@ abbrev pub all_cells : Component
 all_cells =
     record {
       name = codes "App";
+      memo = false;
       braces = false;
       parameters = [];
       statements = state (codes "n") (codes "setN") (number 32) ∷ [];

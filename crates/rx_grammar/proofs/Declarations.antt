@@ -8,14 +8,14 @@ use Rattle.rx_lex.specs.declared.token.Kind.{Kind}
 use Rattle.rx_lex.specs.declared.token.Kind.TheVariants.{Upper, Lower, Number, Word, Mark}
 use Rattle.rx_ast.specs.Syntax as syntax
 use Rattle.rx_ast.specs.Syntax.{Expr, Statement, Body, Line, Parameter, integer, given_children, Declaration, of_context, of_function, of_component}
-use Rattle.rx_print.specs.Printing.{expr_tokens, statement_tokens, line_tokens, body_tokens, separated, more_separated, parameter_token, parameters_tokens, default_tokens, declaration_tokens}
+use Rattle.rx_print.specs.Printing.{expr_tokens, statement_tokens, line_tokens, body_tokens, separated, more_separated, parameter_token, parameters_tokens, default_tokens, component_form, component_tokens, declaration_tokens}
 use Rattle.rx_print.specs.Levels.{whole_line, ExprFits, LinesFit, ParametersFit, StatementsFit, BodyFits, DeclarationFits, DeclarationsFit}
 use Rattle.rx_grammar.specs.Steps.{is_mark, is_word, is_lower, taken, as_lower}
-use Rattle.rx_grammar.specs.Reading.{behind_comma, function_line, lines_at, default_at, context_at, answer_at, function_at, parameter_at, parameters_at, result_at, component_at, declaration_at, is_declaration, declarations_at}
+use Rattle.rx_grammar.specs.Reading.{behind_comma, function_line, lines_at, default_at, context_at, answer_at, function_at, parameter_at, parameters_at, result_at, component_at, memo_at, named_declaration, declaration_at, is_declaration, declarations_at}
 use Rattle.rx_grammar.proofs.Readings.{kind_rank, Reads, said}
 use Rattle.rx_grammar.proofs.Combine.{pure, seq, after, token, alt, After, Or, Starts, Misses, avoids, Always}
 use Rattle.rx_grammar.proofs.Many.{Row, row, Loop, loop}
-use Rattle.rx_grammar.proofs.Tokens.{mark, reserved, lower, upper, numeral, word_ranked}
+use Rattle.rx_grammar.proofs.Tokens.{mark, reserved, lower, upper, upper_name, numeral, word_ranked}
 use Rattle.rx_grammar.proofs.Lists.{Comma, Commas, list, list_loop}
 use Rattle.rx_grammar.proofs.Exprs.{expr_reads}
 use Rattle.rx_grammar.proofs.Bodies.{body_reads}
@@ -76,28 +76,25 @@ default_reads = said Default 1 0
     back (true, n) p e = inl (n, refl, e)
     back (false, n) p e = inr (n, refl, e)
 
--- a context
-abbrev Context : Declaration → List Kind → Type 0
-Context d p = (c : syntax.Context) × (d ≡ of_context c) × (p ≡ declaration_tokens (of_context c))
+-- a context behind its name and `=`
+abbrev Context : Name → Declaration → List Kind → Type 0
+Context x d p = (b : Bool) × (n : ℕ) × (d ≡ of_context (record { name = x; negative = b; number = n }))
+    × (p ≡ Word word.CreateContext ∷ Mark sign.OpenParen ∷ (default_tokens b n ++ Mark sign.CloseParen ∷ Mark sign.Semicolon ∷ []))
 
+-- the two ways to write the end of what stands in parentheses
 ends : (ks : List Kind) → (ks ++ Mark sign.CloseParen ∷ []) ++ Mark sign.Semicolon ∷ [] ≡ ks ++ Mark sign.CloseParen ∷ Mark sign.Semicolon ∷ []
 ends ks = append_assoc ks (Mark sign.CloseParen ∷ []) (Mark sign.Semicolon ∷ [])
 
-context_reads : Reads context_at Context 1 0 true
+context_reads : (x : Name) → Reads (context_at x) (Context x) 11 0 true
 unfolding context_at
-context_reads = said Context 1 0
-    (after (reserved word.Const) (λ w. after upper (λ x. after (mark sign.Equals) (λ q. after (reserved word.CreateContext) (λ k. after (mark sign.OpenParen) (λ p. seq default_reads (λ d. after (mark sign.CloseParen) (λ c. after (mark sign.Semicolon) (λ s. pure (of_context (record { name = x; negative = d.0; number = d.1 })) 0) (omega arith)) (omega arith)) (omega arith)) (omega arith)) (omega arith)) (omega arith)) (omega arith)) (omega arith)) (omega arith) (omega arith)
+context_reads x = said (Context x) 11 0
+    (after (reserved word.CreateContext) (λ k. after (mark sign.OpenParen) (λ p. seq default_reads (λ d. after (mark sign.CloseParen) (λ c. after (mark sign.Semicolon) (λ s. pure (of_context (record { name = x; negative = d.0; number = d.1 })) 0) (omega arith)) (omega arith)) (omega arith)) (omega arith)) (omega arith)) (omega arith) (omega arith)
     (λ d p h.
-    let a = h.4.4.4.4.4 in
-    let fin = ends (default_tokens a.0.0 a.0.1) in
+    let a = h.4.4 in
     let b = a.4 in
-    (record { name = h.4.0; negative = a.0.0; number = a.0.1 }, a.5.4.4.0, cc))
+    (a.0.0, a.0.1, a.5.4.4.0, cc))
     (λ d p l.
-    let c = l.0 in
-    let ks = default_tokens c.negative c.number in
-    let written : p ≡ Word word.Const ∷ Upper c.name ∷ Mark sign.Equals ∷ Word word.CreateContext ∷ Mark sign.OpenParen ∷ (ks ++ Mark sign.CloseParen ∷ Mark sign.Semicolon ∷ []) =
-    l.2 ∙ ap (λ z. Word word.Const ∷ Upper c.name ∷ Mark sign.Equals ∷ Word word.CreateContext ∷ Mark sign.OpenParen ∷ z) (ends ks) in
-    (tt, _, written, tt, (c.name, _, refl, tt, (tt, _, refl, tt, (tt, _, refl, tt, (tt, _, refl, tt, ((c.negative, c.number), ks, _, refl, refl, (tt, _, refl, tt, (tt, [], refl, tt, (l.1, refl))))))))))
+    (tt, _, l.3, tt, (tt, _, refl, tt, ((l.0, l.1), default_tokens l.0 l.1, _, refl, refl, (tt, _, refl, tt, (tt, [], refl, tt, (l.2, refl)))))))
 
 -- a token for each item
 abbrev pub Single : {A : Type 0} → (A → Kind) → A → List Kind → Type 0
@@ -253,15 +250,20 @@ result_reads n = said (Result n) 11 0
     (λ e p h. let a = h.4 in let made = a.5.4.4.0 in subst (λ z. Result n z p) (sym made) (a.4.0, let b = a.4.1 in cc))
     (λ e p l. (tt, _, l.1, tt, (e, body_tokens e, _, refl, (l.0, refl), (tt, _, refl, tt, (tt, [], refl, tt, (refl, refl))))))
 
--- a component behind its name
-abbrev ComponentBehind : ℕ → Name → Declaration → List Kind → Type 0
-ComponentBehind n x d p = (b : Bool) × (xs : List Parameter) × (ss : List Statement) × (e : Body) × (d ≡ of_component (record { name = x; braces = b; parameters = xs; statements = ss; body = e })) × ParametersFit b xs × StatementsFit ss n × BodyFits e n
-    × (p ≡ Mark sign.OpenParen ∷ (parameters_tokens b xs ++ Mark sign.CloseParen ∷ Mark sign.OpenBrace ∷ (flat_map statement_tokens ss ++ Word word.Return ∷ (body_tokens e ++ Mark sign.Semicolon ∷ Mark sign.CloseBrace ∷ []))))
+-- what stands behind the name of a component
+abbrev behind_name : Bool → List Parameter → List Statement → Body → List Kind
+behind_name b xs ss e =
+    Mark sign.OpenParen ∷ (parameters_tokens b xs ++ Mark sign.CloseParen ∷ Mark sign.OpenBrace ∷ (flat_map statement_tokens ss ++ Word word.Return ∷ (body_tokens e ++ Mark sign.Semicolon ∷ Mark sign.CloseBrace ∷ [])))
 
-component_reads : (n : ℕ) (x : Name) → Reads (component_at n x) (ComponentBehind n x) 1 0 true
+-- a component behind its name
+abbrev ComponentBehind : ℕ → (memo : Bool) → Name → Declaration → List Kind → Type 0
+ComponentBehind n memo x d p = (b : Bool) × (xs : List Parameter) × (ss : List Statement) × (e : Body) × (d ≡ of_component (record { name = x; memo = memo; braces = b; parameters = xs; statements = ss; body = e })) × ParametersFit b xs × StatementsFit ss n × BodyFits e n
+    × (p ≡ behind_name b xs ss e)
+
+component_reads : (n : ℕ) (memo : Bool) (x : Name) → Reads (component_at n memo x) (ComponentBehind n memo x) 1 0 true
 unfolding component_at
-component_reads n x = said (ComponentBehind n x) 1 0
-    (after (mark sign.OpenParen) (λ p. seq parameters_reads (λ xs. after (mark sign.OpenBrace) (λ o. seq (statements_read n) (λ ls. seq (result_reads n) (λ b. pure (of_component (record { name = x; braces = xs.0; parameters = xs.1; statements = ls; body = b })) 0) (omega arith)) (omega arith)) (omega arith)) (omega arith)) (omega arith)) (omega arith) (omega arith)
+component_reads n memo x = said (ComponentBehind n memo x) 1 0
+    (after (mark sign.OpenParen) (λ p. seq parameters_reads (λ xs. after (mark sign.OpenBrace) (λ o. seq (statements_read n) (λ ls. seq (result_reads n) (λ b. pure (of_component (record { name = x; memo = memo; braces = xs.0; parameters = xs.1; statements = ls; body = b })) 0) (omega arith)) (omega arith)) (omega arith)) (omega arith)) (omega arith)) (omega arith) (omega arith)
     (λ d p h.
     let a = h.4 in
     let b = a.5.4 in
@@ -291,47 +293,112 @@ component_reads n x = said (ComponentBehind n x) 1 0
       ),
     ))
 
+-- a component that is declared by `memo`, behind its name and `=`
+abbrev Memo : ℕ → Name → Declaration → List Kind → Type 0
+Memo n x d p = (q : List Kind) × ComponentBehind n true x d q × (p ≡ Word word.Memo ∷ Mark sign.OpenParen ∷ Word word.Function ∷ Upper x ∷ (q ++ Mark sign.CloseParen ∷ Mark sign.Semicolon ∷ []))
+
+memo_reads : (n : ℕ) (x : Name) → Reads (memo_at n x) (Memo n x) 11 0 true
+unfolding memo_at
+memo_reads n x = said (Memo n x) 11 0
+    (after (reserved word.Memo) (λ m. after (mark sign.OpenParen) (λ p. after (reserved word.Function) (λ f. after (upper_name x) (λ y. seq (component_reads n true x) (λ d. after (mark sign.CloseParen) (λ c. after (mark sign.Semicolon) (λ s. pure d 0) (omega arith)) (omega arith)) (omega arith)) (omega arith)) (omega arith)) (omega arith)) (omega arith)) (omega arith) (omega arith)
+    (λ d p h.
+    let a = h.4.4.4.4 in
+    let made = a.5.4.4.0 in
+    (a.1, subst (λ z. ComponentBehind n true x z a.1) (sym made) a.4, cc))
+    (λ d p l.
+    (tt, _, l.2, tt, (tt, _, refl, tt, (tt, _, refl, tt, (tt, _, refl, tt, (d, l.0, _, refl, l.1, (tt, _, refl, tt, (tt, [], refl, tt, (refl, refl)))))))))
+
+-- a declaration that begins with `const`
+abbrev Named : ℕ → Declaration → List Kind → Type 0
+Named n = After (λ (u : Unit {0}). Word word.Const) Always (λ u. After (λ x. Upper x) Always (λ x. After (λ (v : Unit {0}). Mark sign.Equals) Always (λ v. Or (Memo n x) (Context x))))
+
+named_reads : (n : ℕ) → Reads (named_declaration n) (Named n) 1 0 true
+unfolding named_declaration
+named_reads n = said (Named n) 1 0
+    (after (reserved word.Const) (λ w. after upper (λ x. after (mark sign.Equals) (λ q.
+    alt (is_word word.Memo) (memo_reads n x) (context_reads x)
+    (λ d p l. (Word word.Memo, _, l.2, refl))
+    (avoids (is_word word.Memo) (Context x) 0 (λ d p l. (Word word.CreateContext, _, l.3, refl))))
+    (omega arith)) (omega arith)) (omega arith)) (omega arith) (omega arith)
+    (λ d p h. h) (λ d p l. l)
+
 -- a declaration
 abbrev pub DeclarationL : ℕ → Declaration → List Kind → Type 0
 DeclarationL n d p = DeclarationFits d n × (p ≡ declaration_tokens d)
 
 abbrev Function : ℕ → Declaration → List Kind → Type 0
-Function n = After (λ (u : Unit {0}). Word word.Function) Always (λ u. Or (After (λ f. Lower f) Always (λ f. FunctionBehind n f)) (After (λ x. Upper x) Always (λ x. ComponentBehind n x)))
+Function n = After (λ (u : Unit {0}). Word word.Function) Always (λ u. Or (After (λ f. Lower f) Always (λ f. FunctionBehind n f)) (After (λ x. Upper x) Always (λ x. ComponentBehind n false x)))
 
 -- the two ways to write the end of a declaration
 form_ends : (xs ls ks : List Kind) → (xs ++ Mark sign.CloseParen ∷ []) ++ (Mark sign.OpenBrace ∷ ((ls ++ (Word word.Return ∷ (ks ++ Mark sign.Semicolon ∷ []))) ++ Mark sign.CloseBrace ∷ [])) ≡ xs ++ Mark sign.CloseParen ∷ Mark sign.OpenBrace ∷ (ls ++ Word word.Return ∷ (ks ++ Mark sign.Semicolon ∷ Mark sign.CloseBrace ∷ []))
 form_ends xs ls ks = simp append_assoc
 
-declaration_to : (n : ℕ) (d : Declaration) (p : List Kind) → Or Context (Function n) d p → DeclarationL n d p
-declaration_to n d p (inl (c, made, e)) = subst (λ z. DeclarationL n z p) (sym made) (tt, e)
+-- what the function of a component is, by its name and what stands behind it
+form_is : (c : syntax.Component) → component_form c ≡ Word word.Function ∷ Upper c.name ∷ behind_name c.braces c.parameters c.statements c.body
+form_is c = ap (λ z. Word word.Function ∷ Upper c.name ∷ Mark sign.OpenParen ∷ z) (form_ends (parameters_tokens c.braces c.parameters) (flat_map statement_tokens c.statements) (body_tokens c.body))
+
+-- the same of a component that is declared by `memo`
+memo_is : (c : syntax.Component) → component_tokens true c ≡ Word word.Const ∷ Upper c.name ∷ Mark sign.Equals ∷ Word word.Memo ∷ Mark sign.OpenParen ∷ Word word.Function ∷ Upper c.name ∷ (behind_name c.braces c.parameters c.statements c.body ++ Mark sign.CloseParen ∷ Mark sign.Semicolon ∷ [])
+memo_is c =
+    ap (λ z. Word word.Const ∷ Upper c.name ∷ Mark sign.Equals ∷ Word word.Memo ∷ Mark sign.OpenParen ∷ z) (ends (component_form c))
+    ∙ ap (λ z. Word word.Const ∷ Upper c.name ∷ Mark sign.Equals ∷ Word word.Memo ∷ Mark sign.OpenParen ∷ (z ++ Mark sign.CloseParen ∷ Mark sign.Semicolon ∷ [])) (form_is c)
+
+-- the two ways to write the declaration of a context
+context_is : (c : syntax.Context) → declaration_tokens (of_context c) ≡ Word word.Const ∷ Upper c.name ∷ Mark sign.Equals ∷ Word word.CreateContext ∷ Mark sign.OpenParen ∷ (default_tokens c.negative c.number ++ Mark sign.CloseParen ∷ Mark sign.Semicolon ∷ [])
+context_is c = ap (λ z. Word word.Const ∷ Upper c.name ∷ Mark sign.Equals ∷ Word word.CreateContext ∷ Mark sign.OpenParen ∷ z) (ends (default_tokens c.negative c.number))
+
+named_to : (n : ℕ) (d : Declaration) (p : List Kind) → Named n d p → DeclarationL n d p
+named_to n d p (u, v, e, t, (x, w, f, s, (y, q, g, r, inl (m, (b, xs, ss, a, made, fp, fs, fb, h), k)))) =
+    let is = memo_is (record { name = x; memo = true; braces = b; parameters = xs; statements = ss; body = a }) in
+    subst (λ z. DeclarationL n z p) (sym made) ((fp, fs, fb), cc)
+named_to n d p (u, v, e, t, (x, w, f, s, (y, q, g, r, inr (b, m, made, k)))) =
+    let is = context_is (record { name = x; negative = b; number = m }) in
+    subst (λ z. DeclarationL n z p) (sym made) (tt, cc)
+
+declaration_to : (n : ℕ) (d : Declaration) (p : List Kind) → Or (Named n) (Function n) d p → DeclarationL n d p
+declaration_to n d p (inl l) = named_to n d p l
 declaration_to n d p (inr (u, v, e, t, inl (f, w, g, s, (xs, ls, a, made, fl, fa, h)))) =
     subst (λ z. DeclarationL n z p) (sym made) ((fl, fa), let k = form_ends (separated (map (λ x. Lower x) xs)) (flat_map line_tokens ls) (expr_tokens a) in cc)
 declaration_to n d p (inr (u, v, e, t, inr (x, w, g, s, (b, xs, ss, a, made, fp, fs, fb, h)))) =
-    subst (λ z. DeclarationL n z p) (sym made) ((fp, fs, fb), let k = form_ends (parameters_tokens b xs) (flat_map statement_tokens ss) (body_tokens a) in cc)
+    let is = form_is (record { name = x; memo = false; braces = b; parameters = xs; statements = ss; body = a }) in
+    subst (λ z. DeclarationL n z p) (sym made) ((fp, fs, fb), cc)
 
-declaration_back : (n : ℕ) (d : Declaration) (p : List Kind) → DeclarationL n d p → Or Context (Function n) d p
-declaration_back n (of_context c) p l = inl (c, refl, l.1)
+component_back : (n : ℕ) (c : syntax.Component) (p : List Kind) (memo : Bool) → c.memo ≡ memo → DeclarationFits (of_component c) n → p ≡ component_tokens memo c → Or (Named n) (Function n) (of_component c) p
+component_back n c p true is fit e =
+    let made : ◌≡◌ {A = Declaration} (of_component c) (of_component (record { name = c.name; memo = true; braces = c.braces; parameters = c.parameters; statements = c.statements; body = c.body })) =
+    ap (λ m. of_component (record { name = c.name; memo = m; braces = c.braces; parameters = c.parameters; statements = c.statements; body = c.body })) is in
+    inl (tt, _, e ∙ memo_is c, tt, (c.name, _, refl, tt, (tt, _, refl, tt, inl (behind_name c.braces c.parameters c.statements c.body, (c.braces, c.parameters, c.statements, c.body, made, fit.0, fit.1, fit.2, refl), refl))))
+component_back n c p false is fit e =
+    let made : ◌≡◌ {A = Declaration} (of_component c) (of_component (record { name = c.name; memo = false; braces = c.braces; parameters = c.parameters; statements = c.statements; body = c.body })) =
+    ap (λ m. of_component (record { name = c.name; memo = m; braces = c.braces; parameters = c.parameters; statements = c.statements; body = c.body })) is in
+    inr (tt, _, e ∙ form_is c, tt, inr (c.name, _, refl, tt, (c.braces, c.parameters, c.statements, c.body, made, fit.0, fit.1, fit.2, refl)))
+
+declaration_back : (n : ℕ) (d : Declaration) (p : List Kind) → DeclarationL n d p → Or (Named n) (Function n) d p
+declaration_back n (of_context c) p l = inl (tt, _, l.1 ∙ context_is c, tt, (c.name, _, refl, tt, (tt, _, refl, tt, inr (c.negative, c.number, refl, refl))))
 declaration_back n (of_function f) p l =
     inr (tt, _, l.1, tt, inl (f.name, _, refl, tt, (f.parameters, f.lines, f.answer, refl, l.0.0, l.0.1, ap (λ z. Mark sign.OpenParen ∷ z) (form_ends (separated (map (λ x. Lower x) f.parameters)) (flat_map line_tokens f.lines) (expr_tokens f.answer)))))
-declaration_back n (of_component c) p l =
-    inr (tt, _, l.1, tt, inr (c.name, _, refl, tt, (c.braces, c.parameters, c.statements, c.body, refl, l.0.0, l.0.1, l.0.2, ap (λ z. Mark sign.OpenParen ∷ z) (form_ends (parameters_tokens c.braces c.parameters) (flat_map statement_tokens c.statements) (body_tokens c.body)))))
+declaration_back n (of_component c) p l = component_back n c p c.memo refl l.0 l.1
 
 pub declaration_reads : (n : ℕ) → Reads (declaration_at n) (DeclarationL n) 1 0 true
 unfolding declaration_at
 declaration_reads n = said (DeclarationL n) 1 0
-    (alt (is_word word.Const) context_reads
+    (alt (is_word word.Const) (named_reads n)
     (after (reserved word.Function) (λ w. alt is_lower (after lower (λ f. function_reads n f) (omega arith))
-    (said (After (λ x. Upper x) Always (λ x. ComponentBehind n x)) 1 0 (after upper (λ x. component_reads n x) (omega arith)) (omega arith) (omega arith) (λ a p h. h) (λ a p h. h))
+    (said (After (λ x. Upper x) Always (λ x. ComponentBehind n false x)) 1 0 (after upper (λ x. component_reads n false x) (omega arith)) (omega arith) (omega arith) (λ a p h. h) (λ a p h. h))
     (λ d p l. (Lower l.0, l.1, l.2, refl))
-    (avoids is_lower (After (λ x. Upper x) Always (λ x. ComponentBehind n x)) 0 (λ d p l. (Upper l.0, l.1, l.2, refl)))) (omega arith))
-    (λ d p l. (Word word.Const, _, l.2, refl))
+    (avoids is_lower (After (λ x. Upper x) Always (λ x. ComponentBehind n false x)) 0 (λ d p l. (Upper l.0, l.1, l.2, refl)))) (omega arith))
+    (λ d p l. (Word word.Const, l.1, l.2, refl))
     (avoids (is_word word.Const) (Function n) 0 (λ d p l. (Word word.Function, l.1, l.2, refl))))
     (omega arith) (omega arith) (declaration_to n) (declaration_back n)
+
+component_starts : (c : syntax.Component) (memo : Bool) (p : List Kind) → p ≡ component_tokens memo c → (k : Kind) × (v : List Kind) × (p ≡ k ∷ v) × (is_declaration k ≡ true)
+component_starts c true p e = (Word word.Const, _, e, refl)
+component_starts c false p e = (Word word.Function, _, e, refl)
 
 declaration_starts : (n : ℕ) → Starts is_declaration (DeclarationL n)
 declaration_starts n (of_context c) p l = (Word word.Const, _, l.1, refl)
 declaration_starts n (of_function f) p l = (Word word.Function, _, l.1, refl)
-declaration_starts n (of_component c) p l = (Word word.Function, _, l.1, refl)
+declaration_starts n (of_component c) p l = component_starts c c.memo p l.1
 
 declaration_ranked : (k : Kind) → is_declaration k ≡ true → kind_rank k ≤ 1
 declaration_ranked k h = ⊎_elim (λ w. word_ranked word.Const 1 (omega arith) k w) (λ w. word_ranked word.Function 1 (omega arith) k w) (or_true (is_word word.Const k) (is_word word.Function k) h)

@@ -8,8 +8,8 @@ use Rattle.rx_lex.specs.declared.token.Kind.{Kind}
 use Rattle.rx_lex.specs.declared.token.Kind.TheVariants.{Text, Mark, End}
 use Rattle.rx_lex.specs.declared.token.Sign.TheVariants as sign
 use Rattle.rx_lex.specs.Tokens.{is_text_of, second_text}
-use Rattle.rx_ast.specs.Syntax.{Declaration, of_context, of_function, of_component, Program}
-use Rattle.rx_print.specs.Printing.{declaration_tokens, version_tokens, program_tokens}
+use Rattle.rx_ast.specs.Syntax.{Component, Declaration, of_context, of_function, of_component, Program}
+use Rattle.rx_print.specs.Printing.{component_tokens, declaration_tokens, version_tokens, program_tokens}
 use Rattle.rx_print.specs.Levels.{level_limit, DeclarationsFit, HasTokens}
 use Rattle.rx_grammar.specs.Steps.{Read, ◌>>=◌, is_end, is_mark, next, as_end, taken, taken_as, where_true}
 use Rattle.rx_grammar.specs.Reading.{sign_at, declarations_at, program_at, version_at}
@@ -91,12 +91,18 @@ front_of (k ∷ ts) = by_text (is_second k) refl
     by_text false e = of_first e (ap (λ b. version_by b k ts) e)
     by_text true e = by_sign e ts
 
+-- no component begins with a text
+component_no_text : (c : Component) (memo : Bool) (rest : List Kind) → next is_second (component_tokens memo c ++ rest) ≡ false
+component_no_text c true rest = refl
+component_no_text c false rest = refl
+
 -- no declaration begins with a text
 no_text : (ds : List Declaration) (rest : List Kind) → next is_second (flat_map declaration_tokens ds ++ End ∷ rest) ≡ false
 no_text [] rest = refl
 no_text (of_context c ∷ ds) rest = refl
 no_text (of_function f ∷ ds) rest = refl
-no_text (of_component c ∷ ds) rest = refl
+no_text (of_component c ∷ ds) rest =
+    ap (next is_second) (append_assoc (component_tokens c.memo c) (flat_map declaration_tokens ds) (End ∷ rest)) ∙ component_no_text c c.memo (flat_map declaration_tokens ds ++ End ∷ rest)
 
 -- tokens of a program behind the front of a version are those of its declarations
 same_version : (s v : Bool) (ds : List Declaration) (ks : List Kind) → IsBehind v ks → (version_tokens s ++ flat_map declaration_tokens ds) ++ End ∷ [] ≡ version_tokens v ++ ks → flat_map declaration_tokens ds ++ End ∷ [] ≡ ks

@@ -416,9 +416,9 @@ lines_at n = all_of (is_word word.Const) (function_line n)
 abbrev pub default_at : List Kind → Read (Bool × ℕ)
 default_at ts = if next (is_mark sign.Minus) ts then (sign_at sign.Minus ts >>= λ m. taken as_number m.1 >>= λ n. Ok ((true, n.0), n.1)) else (taken as_number ts >>= λ n. Ok ((false, n.0), n.1))
 
--- a context
-unfoldable pub context_at : List Kind → Read Declaration
-context_at ts = taken (as_word word.Const) ts >>= λ w. taken as_upper w.1 >>= λ x. sign_at sign.Equals x.1 >>= λ q. taken (as_word word.CreateContext) q.1 >>= λ k. sign_at sign.OpenParen k.1 >>= λ p. default_at p.1 >>= λ d. sign_at sign.CloseParen d.1 >>= λ c. sign_at sign.Semicolon c.1 >>= λ s. Ok (of_context (record { name = x.0; negative = d.0.0; number = d.0.1 }), s.1)
+-- a context behind its name and `=`
+unfoldable pub context_at : Name → List Kind → Read Declaration
+context_at x ts = taken (as_word word.CreateContext) ts >>= λ k. sign_at sign.OpenParen k.1 >>= λ p. default_at p.1 >>= λ d. sign_at sign.CloseParen d.1 >>= λ c. sign_at sign.Semicolon c.1 >>= λ s. Ok (of_context (record { name = x; negative = d.0.0; number = d.0.1 }), s.1)
 
 -- `return`, an expression and `;}`
 abbrev pub answer_at : ℕ → List Kind → Read Expr
@@ -443,14 +443,23 @@ abbrev pub result_at : ℕ → List Kind → Read Body
 result_at n ts = taken (as_word word.Return) ts >>= λ w. body_at n w.1 >>= λ b. sign_at sign.Semicolon b.1 >>= λ s. sign_at sign.CloseBrace s.1 >>= λ c. Ok (b.0, c.1)
 
 -- a component behind its name
-unfoldable pub component_at : ℕ → Name → List Kind → Read Declaration
-component_at n x ts = sign_at sign.OpenParen ts >>= λ p. parameters_at p.1 >>= λ xs. sign_at sign.OpenBrace xs.1 >>= λ o. statements_at n o.1 >>= λ ls. result_at n ls.1 >>= λ b. Ok (of_component (record { name = x; braces = xs.0.0; parameters = xs.0.1; statements = ls.0; body = b.0 }), b.1)
+unfoldable pub component_at : ℕ → (memo : Bool) → Name → List Kind → Read Declaration
+component_at n memo x ts = sign_at sign.OpenParen ts >>= λ p. parameters_at p.1 >>= λ xs. sign_at sign.OpenBrace xs.1 >>= λ o. statements_at n o.1 >>= λ ls. result_at n ls.1 >>= λ b. Ok (of_component (record { name = x; memo = memo; braces = xs.0.0; parameters = xs.0.1; statements = ls.0; body = b.0 }), b.1)
+
+-- a component that is declared by `memo`, behind its name and `=`: the function's name repeats it
+unfoldable pub memo_at : ℕ → Name → List Kind → Read Declaration
+memo_at n x ts = taken (as_word word.Memo) ts >>= λ m. sign_at sign.OpenParen m.1 >>= λ p. taken (as_word word.Function) p.1 >>= λ f. taken (as_upper_name x) f.1 >>= λ y. component_at n true x y.1 >>= λ d. sign_at sign.CloseParen d.1 >>= λ c. sign_at sign.Semicolon c.1 >>= λ s. Ok (d.0, s.1)
+
+-- a declaration that begins with `const`
+unfoldable pub named_declaration : ℕ → List Kind → Read Declaration
+named_declaration n ts = taken (as_word word.Const) ts >>= λ w. taken as_upper w.1 >>= λ x. sign_at sign.Equals x.1 >>= λ q.
+    if next (is_word word.Memo) q.1 then memo_at n x.0 q.1 else context_at x.0 q.1
 
 -- a declaration
 unfoldable pub declaration_at : ℕ → List Kind → Read Declaration
 declaration_at n ts =
-    if next (is_word word.Const) ts then context_at ts
-    else (taken (as_word word.Function) ts >>= λ w. if next is_lower w.1 then (taken as_lower w.1 >>= λ f. function_at n f.0 f.1) else (taken as_upper w.1 >>= λ x. component_at n x.0 x.1))
+    if next (is_word word.Const) ts then named_declaration n ts
+    else (taken (as_word word.Function) ts >>= λ w. if next is_lower w.1 then (taken as_lower w.1 >>= λ f. function_at n f.0 f.1) else (taken as_upper w.1 >>= λ x. component_at n false x.0 x.1))
 
 -- whether a token begins a declaration
 abbrev pub is_declaration : Kind → Bool

@@ -6,9 +6,10 @@ use Rattle.std.specs.Ordering.{int_eq}
 use Rattle.std.specs.Cmp.Lexicographic.{pointwise}
 use Rattle.rx_base.specs.Awaits.{Awaits, awaits_where}
 use Rattle.rx_ast.specs.Syntax.{Program}
+use Rattle.rx_rules.specs.Names.{component_at}
 use Rattle.rx_susp.specs.declared.boundary.BoundaryState.{BoundaryState}
 use Rattle.rx_susp.specs.Boundary.{hides, may_skip}
-use Rattle.rx_elem.specs.Elements.{Element, same_element}
+use Rattle.rx_elem.specs.Elements.{Element, same_element, same_elements}
 use Rattle.rx_elem.specs.Elements as elements
 use Rattle.rx_elem.specs.Trees.{Node, Forest, Instance, element_of, mark_of, children_of, boundary_in, was_hidden}
 use Rattle.rx_elem.specs.declared.effect.ContextRead.{ContextRead}
@@ -30,6 +31,8 @@ pub record Visit : Type 0 where
   pub component : Option ℕ
   -- it is a component's place and has a cause to be evaluated anew
   pub touched : Bool
+  -- it is a component's place that is touched, or whose component has other props or other children than when it was evaluated last
+  pub dirty : Bool
   -- it lies in what an untouched boundary keeps
   pub spared : Bool
 
@@ -65,6 +68,18 @@ abbrev pub touched_instance : Sight → Contexts → Option Instance → Bool
 touched_instance s cs None = true
 touched_instance s cs (Some i) =
     has_update s (option_to_list i.number) || (list_any (is_read_anew cs) i.reads || list_any (is_refreshed s) i.versions)
+
+-- Inputs
+
+-- two elements of components have equal props and equal children
+abbrev pub same_inputs : Element → Element → Bool
+same_inputs (elements.comp c k ps es) (elements.comp d l qs fs) = pointwise int_eq ps qs && same_elements es fs
+same_inputs _ _ = false
+
+-- there is an old node, and its element gives a component the same props and the same children as this one
+abbrev pub has_same_inputs : Element → Option Node → Bool
+has_same_inputs e None = false
+has_same_inputs e (Some n) = same_inputs e (element_of n)
 
 -- Boundaries
 
@@ -165,10 +180,11 @@ visit_below visit below s at e old (two_lists p f) =
     ++ (if part_waits below p then visit_part visit below (setting_of_fallback at) f else [])
 
 -- the visit of a component's place, or of another
-abbrev pub visit_as : Sight → Setting → Option Node → (component : Option ℕ) → Visit
-visit_as s at old None = record { address = at.address; component = None; touched = false; spared = at.spared }
-visit_as s at old (Some c) =
-    record { address = at.address; component = Some c; touched = touched_instance s at.contexts (old_instance old); spared = at.spared }
+abbrev pub visit_as : Sight → Setting → Element → Option Node → (component : Option ℕ) → Visit
+visit_as s at e old None = record { address = at.address; component = None; touched = false; dirty = false; spared = at.spared }
+visit_as s at e old (Some c) =
+    let touched = touched_instance s at.contexts (old_instance old) in
+    record { address = at.address; component = Some c; touched = touched; dirty = touched || not (has_same_inputs e old); spared = at.spared }
 
 -- the component of an element, if it is one of a component
 abbrev pub component_in : Element → Option ℕ
@@ -180,12 +196,16 @@ component_in (elements.list marked es) = None
 component_in (elements.boundary k f es) = None
 component_in (elements.provider c k x es) = None
 
+-- the component of an element is declared by `memo`
+abbrev pub is_memo : Program → Element → Bool
+is_memo p e = option_map_or (λ c. option_map_or (λ d. d.memo) (component_at p c) false) (component_in e) false
+
 -- the visit of the place itself; if nothing stands there, there is none
 abbrev pub visit_here : Sight → Setting → Element → Option Node → Shape → List Visit
 visit_here s at e old absent = []
-visit_here s at e old (waiting r v) = visit_as s at old (component_in e) ∷ []
-visit_here s at e old (one_list m p) = visit_as s at old (component_in e) ∷ []
-visit_here s at e old (two_lists p f) = visit_as s at old (component_in e) ∷ []
+visit_here s at e old (waiting r v) = visit_as s at e old (component_in e) ∷ []
+visit_here s at e old (one_list m p) = visit_as s at e old (component_in e) ∷ []
+visit_here s at e old (two_lists p f) = visit_as s at e old (component_in e) ∷ []
 
 -- the visits of one place and of those below it, given the visits and the results of the places below
 abbrev pub visit_place : Visits → (Contexts → Renders) → Sight → Visits
@@ -209,3 +229,7 @@ visits s old = visited depth_limit s (at_top s.program) (root_element s.program)
 -- the component places that a whole render evaluates, in their order
 abbrev pub evaluated : Sight → Option Node → List Visit
 evaluated s old = filter (λ v. is_some v.component) (visits s old)
+
+-- the component places of a whole render that are dirty, in their order, without those in what untouched boundaries keep
+abbrev pub dirty_places : Sight → Option Node → List Visit
+dirty_places s old = filter (λ v. v.dirty && not v.spared) (visits s old)

@@ -3,7 +3,7 @@ ghost use Rattle.std.specs.Prelude.{◌≡◌};
 ghost use Rattle.rx_lex.specs.Spans.{kinds_of};
 ghost use Rattle.rx_lex.specs.declared.token.Sign.TheVariants as sign;
 ghost use Rattle.rx_grammar.specs.Steps.{next, is_mark, all_of, taken, as_lower};
-ghost use Rattle.rx_grammar.specs.Reading.{behind_comma, list_to, default_at, context_at, answer_at, function_at, parameter_at, parameters_at, result_at, component_at, declaration_at, is_declaration, declarations_at};
+ghost use Rattle.rx_grammar.specs.Reading.{behind_comma, list_to, default_at, context_at, answer_at, function_at, parameter_at, parameters_at, result_at, component_at, memo_at, named_declaration, declaration_at, is_declaration, declarations_at};
 ghost use Rattle.rx_expression.specs.Results.{Gives, in_front};
 
 use crate::statements::{lines, statements};
@@ -13,7 +13,7 @@ use rx_expression::beside::{beside, closed};
 use rx_expression::expressions::expr;
 use rx_expression::fault::Fault;
 use rx_expression::steps::{
-    expect, expect_word, lower, next_is, next_is_lower, next_is_word, number, upper,
+    expect, expect_upper, expect_word, lower, next_is, next_is_lower, next_is_word, number, upper,
 };
 use rx_lex::{Keyword, Rest, Sign};
 use rx_slots::body;
@@ -32,14 +32,11 @@ fn default_number(rest: Rest<'_>) -> Result<((bool, u64), Rest<'_>), Fault>
     Ok(((false, number), rest))
 }
 
-/// A context.
+/// A context behind its name and `=`.
 #[tactic(auto, unfolding(rx_grammar::specs::Reading::context_at))]
-fn context<'a>(alloc: Global, rest: Rest<'a>) -> Result<(Declaration, Rest<'a>), Fault>
-    ensures { Gives (λ x. (x.0, kinds_of x.1)) result (context_at (kinds_of rest.entry)) }
+fn context(name: Name, rest: Rest<'_>) -> Result<(Declaration, Rest<'_>), Fault>
+    ensures { Gives (λ x. (x.0, kinds_of x.1)) result (context_at name (kinds_of rest.entry)) }
 {
-    let rest = expect_word(rest, Keyword::Const)?;
-    let (name, rest) = upper(alloc, rest)?;
-    let rest = expect(rest, Sign::Equals)?;
     let rest = expect_word(rest, Keyword::CreateContext)?;
     let rest = expect(rest, Sign::OpenParen)?;
     let ((negative, number), rest) = default_number(rest)?;
@@ -188,19 +185,53 @@ fn returned<'a>(alloc: Global, rest: Rest<'a>, level: usize) -> Result<(Body, Re
 #[tactic(auto, unfolding(rx_grammar::specs::Reading::component_at))]
 fn component<'a>(
     alloc: Global,
+    memo: bool,
     name: Name,
     rest: Rest<'a>,
     level: usize,
 ) -> Result<(Declaration, Rest<'a>), Fault>
-    ensures { Gives (λ x. (x.0, kinds_of x.1)) result (component_at level name (kinds_of rest.entry)) }
+    ensures { Gives (λ x. (x.0, kinds_of x.1)) result (component_at level memo name (kinds_of rest.entry)) }
 {
     let rest = expect(rest, Sign::OpenParen)?;
     let (braces, parameters, rest) = parameters(alloc, rest)?;
     let (parameters, rest) = closed(parameters, expect(rest, Sign::OpenBrace))?;
     let (parameters, statements, rest) = beside(parameters, statements(alloc, rest, level))?;
     let (statements, body, rest) = beside(statements, returned(alloc, rest, level))?;
-    let component = Component::new(name, braces, parameters, statements, body);
+    let component = Component::new(name, memo, braces, parameters, statements, body);
     Ok((Declaration::component(component), rest))
+}
+
+/// A component that is declared by `memo`, behind its name and `=`. The function's name repeats it.
+#[tactic(auto, unfolding(rx_grammar::specs::Reading::memo_at))]
+fn memo<'a>(
+    alloc: Global,
+    name: Name,
+    rest: Rest<'a>,
+    level: usize,
+) -> Result<(Declaration, Rest<'a>), Fault>
+    ensures { Gives (λ x. (x.0, kinds_of x.1)) result (memo_at level name (kinds_of rest.entry)) }
+{
+    let rest = expect_word(rest, Keyword::Memo)?;
+    let rest = expect(rest, Sign::OpenParen)?;
+    let rest = expect_word(rest, Keyword::Function)?;
+    let rest = expect_upper(rest, name.text())?;
+    let (declaration, rest) = component(alloc, true, name, rest, level)?;
+    let (declaration, rest) = closed(declaration, expect(rest, Sign::CloseParen))?;
+    closed(declaration, expect(rest, Sign::Semicolon))
+}
+
+/// A declaration that begins with `const`.
+#[tactic(auto, unfolding(rx_grammar::specs::Reading::named_declaration))]
+fn named<'a>(alloc: Global, rest: Rest<'a>, level: usize) -> Result<(Declaration, Rest<'a>), Fault>
+    ensures { Gives (λ x. (x.0, kinds_of x.1)) result (named_declaration level (kinds_of rest.entry)) }
+{
+    let rest = expect_word(rest, Keyword::Const)?;
+    let (name, rest) = upper(alloc, rest)?;
+    let rest = expect(rest, Sign::Equals)?;
+    if next_is_word(rest, Keyword::Memo) {
+        return memo(alloc, name, rest, level);
+    }
+    context(name, rest)
 }
 
 /// A declaration.
@@ -213,7 +244,7 @@ fn declaration<'a>(
     ensures { Gives (λ x. (x.0, kinds_of x.1)) result (declaration_at level (kinds_of rest.entry)) }
 {
     if next_is_word(rest, Keyword::Const) {
-        return context(alloc, rest);
+        return named(alloc, rest, level);
     }
     let rest = expect_word(rest, Keyword::Function)?;
     if next_is_lower(rest) {
@@ -221,7 +252,7 @@ fn declaration<'a>(
         return function(alloc, name, rest, level);
     }
     let (name, rest) = upper(alloc, rest)?;
-    component(alloc, name, rest, level)
+    component(alloc, false, name, rest, level)
 }
 
 /// Whether the next token begins a declaration.

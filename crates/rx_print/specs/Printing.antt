@@ -17,7 +17,7 @@ use Rattle.rx_ast.specs.Syntax.{Expr, number, variable, grouped, prefixed, chain
 use Rattle.rx_ast.specs.Syntax.{Attribute, key, computed, literal, KeyPlace, unkeyed, key_first, key_last, Ending, at_once, by_tag, parentheses, braces}
 use Rattle.rx_ast.specs.Syntax.{Slot, null, words, number_of, children, repeated, choice, host, comp, boundary, provider, enclosed, Slots, no_slots, slot}
 use Rattle.rx_ast.specs.Syntax.{Body, single, fragment, enclosed_fragment, Statement, state, reducer, transition, context, use_resource, constant, effect}
-use Rattle.rx_ast.specs.Syntax.{Line, Parameter, integer, given_children, Declaration, of_context, of_function, of_component, Program}
+use Rattle.rx_ast.specs.Syntax.{Line, Parameter, integer, given_children, Component, Declaration, of_context, of_function, of_component, Program}
 
 -- the sign of an operator before an operand
 abbrev pub prefix_sign : Prefix → Sign
@@ -216,14 +216,23 @@ abbrev pub default_tokens : Bool → ℕ → List Kind
 default_tokens false n = Number n ∷ []
 default_tokens true n = Mark sign.Minus ∷ Number n ∷ []
 
+-- `function name(parameters) { statements return body; }`
+abbrev pub component_form : Component → List Kind
+component_form c =
+    function_form (Upper c.name) (parameters_tokens c.braces c.parameters) (flat_map statement_tokens c.statements) (body_tokens c.body)
+
+-- the tokens of a component, in `const name = memo(` and `);` if it is declared so
+abbrev pub component_tokens : (memo : Bool) → Component → List Kind
+component_tokens false c = component_form c
+component_tokens true c = binding (Upper c.name) (Word word.Memo ∷ in_parentheses (component_form c))
+
 -- the tokens of a declaration
 abbrev pub declaration_tokens : Declaration → List Kind
 declaration_tokens (of_context c) =
     binding (Upper c.name) (Word word.CreateContext ∷ in_parentheses (default_tokens c.negative c.number))
 declaration_tokens (of_function f) =
     function_form (Lower f.name) (separated (map (λ x. Lower x) f.parameters)) (flat_map line_tokens f.lines) (expr_tokens f.answer)
-declaration_tokens (of_component c) =
-    function_form (Upper c.name) (parameters_tokens c.braces c.parameters) (flat_map statement_tokens c.statements) (body_tokens c.body)
+declaration_tokens (of_component c) = component_tokens c.memo c
 
 -- what stands at the front of a program of version 2
 abbrev pub version_tokens : (second : Bool) → List Kind

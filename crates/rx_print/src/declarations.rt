@@ -2,7 +2,7 @@
 ghost use Rattle.std.specs.Prelude.{◌≡◌, [], ◌∷◌, ◌++◌, OnOk, map};
 ghost use Rattle.std.specs.List.{flat_map};
 ghost use Rattle.rx_ast.specs.Syntax.{of_context, of_function, of_component};
-ghost use Rattle.rx_print.specs.Printing.{expr_tokens, slots_tokens, parameter_token, separated, parameters_tokens, default_tokens, line_tokens, fragment_tokens, body_tokens, declaration_tokens, version_tokens};
+ghost use Rattle.rx_print.specs.Printing.{expr_tokens, slots_tokens, parameter_token, separated, parameters_tokens, default_tokens, line_tokens, fragment_tokens, body_tokens, component_form, declaration_tokens, version_tokens};
 
 use crate::printer::Printer;
 use rx_ast::{
@@ -150,15 +150,30 @@ impl Printer {
         self.answer(function.answer())
     }
 
-    /// Writes the declaration of a component.
-    fn component(&mut self, component: &Component) -> Result<(), AllocError>
-        ensures { OnOk result (self.new ≡ self.old ++ declaration_tokens (of_component component.now)) }
+    /// Writes the function of a component.
+    fn component_function(&mut self, component: &Component) -> Result<(), AllocError>
+        ensures { OnOk result (self.new ≡ self.old ++ component_form component.now) }
     {
         self.component_start(component.name())?;
         self.braced_parameters(component)?;
         self.opened_body()?;
         self.statements(component.statements())?;
         self.returned(component.body())
+    }
+
+    /// Writes the declaration of a component, by `memo` if it is declared so.
+    fn component(&mut self, component: &Component) -> Result<(), AllocError>
+        ensures { OnOk result (self.new ≡ self.old ++ declaration_tokens (of_component component.now)) }
+    {
+        if !component.is_memo() {
+            return self.component_function(component);
+        }
+        self.word(Keyword::Const)?;
+        self.upper(component.name())?;
+        self.sign(Sign::Equals)?;
+        self.opened(Keyword::Memo)?;
+        self.component_function(component)?;
+        self.closed_line()
     }
 
     /// Writes `)` and `{`.

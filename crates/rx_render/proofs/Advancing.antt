@@ -12,7 +12,7 @@ use Rattle.rx_elem.specs.Trees as trees
 use Rattle.rx_hooks.specs.declared.hook.Hook.{Hook}
 use Rattle.rx_lists.specs.Shapes as shapes
 use Rattle.rx_elem.proofs.Equality.{same_element-self}
-use Rattle.rx_links.specs.Drafts.{Fits, Trees, Makes, taken, old_of, valued}
+use Rattle.rx_links.specs.Drafts.{Fits, Trees, Makes, made, taken, old_of, valued}
 use Rattle.rx_links.specs.Readers.{IsLinked, made_value_in, made_value_of}
 use Rattle.rx_links.proofs.Placed.{is-at}
 use Rattle.rx_meaning.specs.Fresh.{Sight, Contexts, part, shape_of, waiting}
@@ -34,7 +34,7 @@ use Rattle.rx_causes.specs.declared.scene.Scene.{Scene}
 use Rattle.rx_causes.specs.Scenes.{IsSceneOf, KeepsHooks, GivesHooks, TellsNews}
 use Rattle.rx_causes.specs.Hidden.{KeepsHooksIf, GivesHooksIf, ForEach, ForEachIn}
 use Rattle.rx_children.specs.Again.{HasOldFallback}
-use Rattle.rx_meaning.specs.Touched.{sees_refresh}
+use Rattle.rx_meaning.specs.Touched.{sees_refresh, is_memo}
 use Rattle.rx_begin.specs.Beginning.{IsAtPlace, stands, HasLists, IsHiddenAgain, IsTakenOver, BeginsPlace}
 use Rattle.rx_children.specs.Units.{IsPlace, IsEnd}
 use Rattle.rx_ways.specs.Ways.{is_way, CoversIf}
@@ -48,7 +48,7 @@ use Rattle.rx_meaning.specs.Again.{AreUnresolved}
 use Rattle.rx_meaning.specs.Settled.{IfSettled, known_by}
 use Rattle.rx_causes.specs.Idle.{Rests}
 use Rattle.rx_causes.specs.Marks.{EachBut}
-use Rattle.cost_laws.specs.Evaluated.{beside_kept}
+use Rattle.cost_laws.specs.Evaluated.{beside_kept, is_as_before}
 use Rattle.cost_laws.specs.Causes.{waits_still}
 use Rattle.cost_laws.specs.Left.{Flags, flag, outer}
 use Rattle.cost_laws.specs.Undue.{IsUndue}
@@ -60,6 +60,8 @@ use Rattle.rx_render.specs.Costing as paying
 use Rattle.rx_render.specs.declared.at.At.{At}
 use Rattle.rx_render.specs.declared.at.At.TheVariants.{Begins, Completes}
 use Rattle.rx_render.specs.Rendering.{ComesTo, to_place, to_end, to_tree}
+use Rattle.rx_children.specs.Origins.{IsAgain, TellsAgain}
+use Rattle.begin_laws.proofs.Costing.{before_is}
 use Rattle.rx_render.specs.Advancing.{at_after, at_opened, Goes, by_unit, past_attempt, past_subtree, CanBegin, Advances}
 
 -- A wait for a number that is no resource's
@@ -149,10 +151,20 @@ told_there t id us fits h told =
     let at = is-at t fits h.flags.around id h.flags.value h.flags.old (taken shapes.none) h.flags.rest h.flags.here in
     sym h.told.1 ∙ told h.flags.value (sym (ap made_value_in at.list))
 
-generation_there : (t : Trees Fiber) (id : ℕ) (us : Flags) → Fits t → FlagsAtPlace t id us → ((v : Fiber) → Some v ≡ made_value_of t.draft id → generation_of v.stage ≡ 0) → (flag us).generation ≡ 0
-generation_there t id us fits h told =
+-- what its fiber tells of its element is told too
+before_there : (s : Sight) (t : Trees Fiber) (st : Stack) (id n : ℕ) (us : Flags) (fs : List Frame) (cs : Contexts) (e : Element) (old : Option Node) (x : Node) → Fits t → FlagsAtPlace t id us
+    → StandsAt t st (Some id) (at_place (suc n) fs cs e old) → IsOld t.current (old_of t.draft id) (Some x)
+    → ((v : Fiber) → Some v ≡ made_value_of t.draft id → IsAgain (is_memo s.program v.element) t.current (old_of t.draft id) v) → is_as_before s (flag us) e (Some x) ≡ true
+before_there s t st id n us fs cs e old x fits h (begins_place {v = v} {o = o} {rs = rs} {k = k} here is was surrounds values stack) is_old again =
     let at = is-at t fits h.flags.around id h.flags.value h.flags.old (taken shapes.none) h.flags.rest h.flags.here in
-    sym h.told.0 ∙ told h.flags.value (sym (ap made_value_in at.list))
+    let first = is-at t fits k id v o (taken shapes.none) rs here in
+    let both : Some (made id h.flags.value h.flags.old (taken shapes.none) h.flags.rest) ≡ Some (made id v o (taken shapes.none) rs) = sym at.list ∙ first.list in
+    let same : h.flags.value ≡ v = cc in
+    let element : h.flags.value.element ≡ e = ap (λ (w : Fiber). w.element) same ∙ is.element in
+    let told = again h.flags.value (sym (ap made_value_in at.list)) in
+    sym
+    (before_is s.program t.current (old_of t.draft id) h.flags.value (flag us) e (Some x) true is_old element h.told.0
+    (subst (λ m. TellsAgain m t.current (old_of t.draft id) h.flags.value true) (ap (is_memo s.program) element) (λ so. told, λ so. refl)))
 
 -- a unit that begins the place of a fiber evaluates at most so many bodies
 abbrev pub AreFew : Sight → Trees Fiber → Stack → (id bodies : ℕ) → Type 0
@@ -258,14 +270,14 @@ module _ (s : Sight) (t new : Trees Fiber) (st' : Stack) (p n : ℕ) (fs : List 
       let covered : CoversIf way (IsUndue s) (Some h.node) = subst (CoversIf way (IsUndue s)) h.was causes.1 in
       there.undue way (rested h.node (subst (IsOld t.current (old_of t.draft p)) h.was h.old_is)) covered
 
-  taken_pays : (way : ℕ → Bool) (kept : ℕ → Option (List Hook)) (us : Flags) (bodies : ℕ) → bodies ≡ 0 → RestsThere s way kept t p → CausesAt s way kept (at_place (suc n) fs cs e old) → (flag us).generation ≡ 0
+  taken_pays : (way : ℕ → Bool) (kept : ℕ → Option (List Hook)) (us : Flags) (bodies : ℕ) → bodies ≡ 0 → RestsThere s way kept t p → CausesAt s way kept (at_place (suc n) fs cs e old) → is_as_before s (flag us) e (Some h.node) ≡ true
       → UnitPays s t.current bodies us (at_place (suc n) fs cs e old) us (arrive (suc n) fs (Some h.node))
   taken_pays way kept us bodies none rested causes again =
       subst (λ o. UnitPays s t.current bodies us (at_place (suc n) fs cs e o) us (arrive (suc n) fs (Some h.node))) (sym h.was)
       (paying.past_subtree none linked h.reads (subst (IsOld t.current (old_of t.draft p)) h.was h.old_is) h.same h.idle (taken_undue way kept rested causes) again)
 
 module _ (s : Sight) (way : ℕ → Bool) (kept : ℕ → Option (List Hook)) (t : Trees Fiber) (st : Stack) (new : Trees Fiber) (st' : Stack) (id bodies : ℕ) where
-  pub taken_advances : (r : Next) → bodies ≡ 0 → IsLinked t.current → BeginsPlace s way kept t st new st' id answers.Taken → RestsThere s way kept t id → Fits t → ((v : Fiber) → Some v ≡ made_value_of t.draft id → generation_of v.stage ≡ 0)
+  pub taken_advances : (r : Next) → bodies ≡ 0 → IsLinked t.current → BeginsPlace s way kept t st new st' id answers.Taken → RestsThere s way kept t id → Fits t → ((v : Fiber) → Some v ≡ made_value_of t.draft id → IsAgain (is_memo s.program v.element) t.current (old_of t.draft id) v)
       → ((us : Flags) (x : Node) → FlagsAtPlace t id us → IsOld t.current (old_of t.draft id) (Some x) → HasFlags new (at_after r) us)
       → ((levels : ℕ) (fs : List Frame) (x : Node) → IsPassed new st' id fs x → StandsAt new st' (fiber_in r) (arrive levels fs (Some x)))
       → ((levels : ℕ) (fs : List Frame) (x : Node) → IsPassed new st' id fs x → LeadsTo r (arrive levels fs (Some x)))
@@ -281,7 +293,7 @@ module _ (s : Sight) (way : ℕ → Bool) (kept : ℕ → Option (List Hook)) (t
             record {
               flags = us;
               are = passed us b.node are (subst (IsOld t.current (old_of t.draft id)) b.was b.old_is);
-              pays = taken_pays s t new st' id n fs cs e old linked b way kept us bodies none rested causes (generation_there t id us fits are again);
+              pays = taken_pays s t new st' id n fs cs e old linked b way kept us bodies none rested causes (before_there s t st id n us fs cs e old b.node fits are h (subst (IsOld t.current (old_of t.draft id)) b.was b.old_is) again);
             };
       }
 

@@ -49,6 +49,8 @@ use Rattle.rx_read.specs.Numbering.{numbered_at, numbered_draft, numbered_fiber}
 use Rattle.rx_render.specs.declared.at.At.{At}
 use Rattle.rx_render.specs.declared.at.At.TheVariants.{Begins, Completes, Over}
 use Rattle.rx_render.specs.Advancing.{at_after, at_opened, CanBegin}
+use Rattle.rx_meaning.specs.Touched.{is_memo}
+use Rattle.rx_ast.specs.Syntax.{Program}
 use Rattle.rx_render.specs.Gathers.{AroundGathered, GatheredHere, GatheredAtEnd, IsGathering}
 
 -- Around a place
@@ -224,9 +226,9 @@ begun_none : (d : Draft Fiber) → AllBare d → Leaf ≡ begun_over d → entry
 begun_none (taken s) bare e = ap shapes.first bare
 begun_none (made id v o ks rs) bare e = absurd (let q : ⊥ = cc in q)
 
-module _ (t new : Trees Fiber) (id : ℕ) (fits : Fits t) (evaluated : Bool) (b : Begun)
+module _ (p : Program) (t new : Trees Fiber) (id : ℕ) (fits : Fits t) (evaluated : Bool) (b : Begun)
     (says : (v : Fiber) → Some v ≡ made_value_of t.draft id → is_opened b ≡ true
-    → (origin : Origin) × (again : Bool) × TellsSteady t.current (old_of t.draft id) v origin.stood × TellsAgain t.current (old_of t.draft id) v again
+    → (origin : Origin) × (again : Bool) × TellsSteady t.current (old_of t.draft id) v origin.stood × TellsAgain (is_memo p v.element) t.current (old_of t.draft id) v again
     × (origin.generation ≡ generation_below evaluated (again && keeps_children true (mark_at t.current (old_of t.draft id))) (stands_for_children v.element) (generation_of v.stage))
     × ((h : HasKids origin t new id) × (b ≡ begun_over h.kids))) (here : GatheredHere t id) where
   its_value : Some here.value ≡ made_value_of t.draft id

@@ -48,6 +48,7 @@ use Rattle.rx_render.specs.declared.at.At.TheVariants.{Begins, Completes}
 use Rattle.rx_render.specs.Advancing.{at_after, at_opened}
 use Rattle.rx_render.specs.Costing.{HasFlags, Paid, UnitPays}
 use Rattle.rx_render.specs.Costing as paying
+use Rattle.rx_meaning.specs.Touched.{is_memo}
 use Rattle.rx_render.proofs.Advancing.{AreFew, PaysOpened, PaysWaiting}
 
 -- Where flags go
@@ -119,7 +120,7 @@ passed_flags t new id r fits fits_new takes next us x h was =
 -- what opens the fallback of a boundary says of its fibers: they stood exactly if the boundary did, and are of the generation of its own element
 abbrev pub SaysFallback : Trees Fiber → Trees Fiber → ℕ → Opened → Type 0
 SaysFallback t new q f =
-    (v : Fiber) → Some v ≡ made_value_of t.draft q → (again : Bool) × TellsAgain t.current (old_of t.draft q) v again
+    (v : Fiber) → Some v ≡ made_value_of t.draft q → (again : Bool) × TellsAgain false t.current (old_of t.draft q) v again
     × HasFallbackKids (as_matched (origin_of v.stage).stood (own_generation again (generation_of v.stage))) t new q f
 
 -- out of a place that waits, to the fallback of the nearest boundary
@@ -172,7 +173,7 @@ module _ (s : Sight) (scene : Scene) (sees : IsSceneOf scene s) (kept : ℕ → 
   abbrev pub SaysKids : Trees Fiber → Begun → Type 0
   SaysKids new b =
       (v : Fiber) → Some v ≡ made_value_of t.draft id → is_opened b ≡ true → (origin : Origin) × (again : Bool) × TellsSteady t.current (old_of t.draft id) v origin.stood
-      × TellsAgain t.current (old_of t.draft id) v again
+      × TellsAgain (is_memo scene.checked.now v.element) t.current (old_of t.draft id) v again
       × (origin.generation ≡ generation_below evaluated (again && keeps_children true (mark_at t.current (old_of t.draft id))) (stands_for_children v.element) (generation_of v.stage))
       × ((h : HasKids origin t new id) × (b ≡ begun_over h.kids))
 
@@ -183,7 +184,7 @@ module _ (s : Sight) (scene : Scene) (sees : IsSceneOf scene s) (kept : ℕ → 
         let goes = may s scene kept t st id n fs cs e old us sees fits h tells flags tries in
         let (v, there) = value_there n fs cs e old h in
         let (origin, again, steadiness, telling, generation, (kids, over)) = says v there opens_it in
-        let opened : OpensKids t new id evaluated = record { value = v; is = there; origin = origin; steadiness = steadiness; again = again; telling = telling; generation = generation; kids = kids } in
+        let opened : OpensKids scene.checked.now t new id evaluated = record { value = v; is = there; origin = origin; steadiness = steadiness; again = again; telling = telling; generation = generation; kids = kids } in
         record {
           flags = unit_flags s us (at_place (suc n) fs cs e old);
           are = as_flags (unit_flags s us (at_place (suc n) fs cs e old))

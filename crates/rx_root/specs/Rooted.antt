@@ -8,7 +8,7 @@ use Rattle.rx_commit.specs.Shown.{Shown}
 use Rattle.rx_resources.specs.Kept.{Kept}
 use Rattle.rx_render.specs.Rendering.{Rendering}
 
--- The program with the fibers, the hooks and the render in progress; what is shown; the lanes; how many commits and updates there were, and how many resolutions; what is kept of the resources; the clock; the transition lane of the event that goes on; the numbers that come next; and the lanes of the updates since the render in progress began.
+-- The program with the fibers, the hooks and the render in progress; what is shown; the lanes; how many commits and updates there were, and how many resolutions; what is kept of the resources; the clock; the event that goes on; the numbers that come next; and the lanes of the updates since the render in progress began.
 pub record Rooted : Type 0 where
   pub rendering : Rendering
   pub shown : Shown

@@ -25,7 +25,7 @@ use Rattle.transition_laws.proofs.Instances.{IsIn}
 use Rattle.transition_laws.proofs.NamesApart.{found_by_name}
 
 -- the name that a path ends with
-abbrev last_name : Name × ℕ → Path → Name
+abbrev pub last_name : Name × ℕ → Path → Name
 last_name part [] = part.0
 last_name part (q ∷ parts) = last_name q parts
 
@@ -44,7 +44,7 @@ target_last p c part (q ∷ parts) d is = go (position (bytes_eq part.0) (compon
     go None later is = cc
     go (Some e) later is = later e is
 
-target_ends : (p : Program) (part : Name × ℕ) (parts : Path) (d : ℕ) → target_of p (part ∷ parts) ≡ Some d
+pub target_ends : (p : Program) (part : Name × ℕ) (parts : Path) (d : ℕ) → target_of p (part ∷ parts) ≡ Some d
     → position (bytes_eq (last_name part parts)) (component_names p) ≡ Some d
 target_ends p part parts d is = go (bytes_eq part.0 root_name) is
   where

@@ -44,6 +44,7 @@ fn app(alloc: Global) -> Result<Component, AllocError> {
     Ok(Component::new(
         Name::new(alloc, "App")?,
         false,
+        false,
         Vec::new(alloc),
         statements,
         Returned::slot(Slot::element(paragraph)),

@@ -112,8 +112,8 @@ returns-in-Some-clause-news g c = if_ok c.begin_component.result _ _ (λ b own i
 
 -- what is given again, and what is not
 
-pub is_again-again-requires-clause-clone : goal.is_again-again-requires-clause-clone
-is_again-again-requires-clause-clone g c = place_clone _ _ c.args.tree.now c.args.contexts.now c.args.at c.place_facts.ensures c.requires.place
+pub is_as_before-again-requires-clause-clone : goal.is_as_before-again-requires-clause-clone
+is_as_before-again-requires-clause-clone g c = place_clone _ _ c.args.tree.now c.args.contexts.now c.args.at c.place_facts.ensures c.requires.place
 
 pub keeps_children-kept-requires : goal.keeps_children-kept-requires
 keeps_children-kept-requires g c =
@@ -121,14 +121,14 @@ keeps_children-kept-requires g c =
 
 pub begin_or_hide-requires-clause-again : goal.begin_or_hide-requires-clause-again
 begin_or_hide-requires-clause-again g c so =
-    element_is_again c.args.tree.now.current (old_of c.args.tree.now.draft c.args.at) c.value-fiber.result.now c.in_ok-element.element c.is_again-again.result
-    (c.is_again-again.ensures c.value-fiber.result.now (c.value-fiber.ensures.made (made_at _ _ _ _ _ c.place_facts.ensures c.requires.place))) (c.in_ok-element.ensures ∙ c.element.ensures) so
+    element_is_again _ c.args.tree.now.current (old_of c.args.tree.now.draft c.args.at) c.value-fiber.result.now c.in_ok-element.element c.is_as_before-again.result
+    (c.is_as_before-again.ensures c.value-fiber.result.now (c.value-fiber.ensures.made (made_at _ _ _ _ _ c.place_facts.ensures c.requires.place))) (c.in_ok-element.ensures ∙ c.element.ensures) so
 
 pub returns-then-takes_over-clause-begun : goal.returns-then-takes_over-clause-begun
 returns-then-takes_over-clause-begun g c s is n fs cs e old at gives settled covers =
     taken_over s (kept_hooks c.args.hooks.now) c.args.tree.now c.args.contexts.now c.take_node.new.tree c.args.contexts.now c.args.at n fs cs e old c.facts.ensures.linked c.place_facts.ensures at
-    c.value-fiber.result.now (c.value-fiber.ensures.made (made_at _ _ _ _ _ c.place_facts.ensures c.requires.place)) c.is_again-again.result
-    (λ so. ((c.is_again-again.ensures c.value-fiber.result.now (c.value-fiber.ensures.made (made_at _ _ _ _ _ c.place_facts.ensures c.requires.place))).0 so).same) (c.takes_over.ensures.again c.if-takes_over.true) c.origin-origin.result.stood
+    c.value-fiber.result.now (c.value-fiber.ensures.made (made_at _ _ _ _ _ c.place_facts.ensures c.requires.place)) c.is_as_before-again.result
+    (λ so. ((c.is_as_before-again.ensures c.value-fiber.result.now (c.value-fiber.ensures.made (made_at _ _ _ _ _ c.place_facts.ensures c.requires.place))).0 so).same) (c.takes_over.ensures.again c.if-takes_over.true) c.origin-origin.result.stood
     (ap (λ x. x.stood) c.origin-origin.ensures ∙ place_stood _ _ c.args.tree.now c.args.contexts.now c.args.at c.place_facts.ensures c.requires.place c.value-fiber.result.now (c.value-fiber.ensures.made (made_at _ _ _ _ _ c.place_facts.ensures c.requires.place)))
     c.in_ok-take_node.ensures.taken c.take_node.ensures.current refl (is_way c.args.scene.now.ways.now) (c.takes_over.ensures.there c.if-takes_over.true)
     (λ x was. c.takes_over.ensures.idle c.if-takes_over.true s x is was) (c.takes_over.ensures.reads c.if-takes_over.true) c.args.scene.now.refreshes is.refreshes (c.takes_over.ensures.uses c.if-takes_over.true) gives covers
@@ -138,8 +138,8 @@ returns-in-Some-clause-begun g c =
     if_ok c.begin_component.result _ _
     (λ b has s is.
     begins_body s _ c.args.tree.now c.args.contexts.now c.begin_component.new.tree _ c.args.at c.facts.ensures.linked c.place_facts.ensures c.value-fiber.result.now c.in_ok-element.element
-    (c.value-fiber.ensures.made (made_at _ _ _ _ _ c.place_facts.ensures c.requires.place)) (c.in_ok-element.ensures ∙ c.element.ensures) b.0 (is_way c.args.scene.now.ways.now) c.is_again-again.result c.is_steady-steady.result c.generation_below-generation.result
-    (λ so. ((c.is_again-again.ensures c.value-fiber.result.now (c.value-fiber.ensures.made (made_at _ _ _ _ _ c.place_facts.ensures c.requires.place))).0 so).same) (c.is_steady-steady.ensures c.value-fiber.result.now (c.value-fiber.ensures.made (made_at _ _ _ _ _ c.place_facts.ensures c.requires.place))).0 c.in-Some.parts.component c.in-Some.parts.props.now
+    (c.value-fiber.ensures.made (made_at _ _ _ _ _ c.place_facts.ensures c.requires.place)) (c.in_ok-element.ensures ∙ c.element.ensures) b.0 (is_way c.args.scene.now.ways.now) c.is_as_before-again.result c.is_steady-steady.result c.generation_below-generation.result
+    (λ so. ((c.is_as_before-again.ensures c.value-fiber.result.now (c.value-fiber.ensures.made (made_at _ _ _ _ _ c.place_facts.ensures c.requires.place))).0 so).same) (c.is_steady-steady.ensures c.value-fiber.result.now (c.value-fiber.ensures.made (made_at _ _ _ _ _ c.place_facts.ensures c.requires.place))).0 c.in-Some.parts.component c.in-Some.parts.props.now
     c.in-Some.parts.children.now c.values.result.now (sym c.parts_of.ensures ∙ ap (option_map parts_seen) c.in-Some.is) c.values.ensures refl
     (λ old key kids was gives settled stood same. has s old key kids is was gives settled stood same))
     c.begin_component.ensures.evaluated
@@ -148,8 +148,8 @@ pub returns-clause-begun : goal.returns-clause-begun
 returns-clause-begun g c s is =
     begins_other s _ c.args.tree.now c.args.contexts.now c.begin_or_hide.new.tree c.begin_or_hide.new.contexts c.args.at c.facts.ensures.linked c.place_facts.ensures c.value-fiber.result.now c.in_ok-element.element
     (c.value-fiber.ensures.made (made_at _ _ _ _ _ c.place_facts.ensures c.requires.place)) (c.in_ok-element.ensures ∙ c.element.ensures) c.in_ok-begun-in-None.begun
-    (is_way c.args.scene.now.ways.now) c.args.scene.now c.origin-origin.result c.is_again-again.result c.is_steady-steady.result c.generation_below-generation.result is
-    (λ so. ((c.is_again-again.ensures c.value-fiber.result.now (c.value-fiber.ensures.made (made_at _ _ _ _ _ c.place_facts.ensures c.requires.place))).0 so).same)
+    (is_way c.args.scene.now.ways.now) c.args.scene.now c.origin-origin.result c.is_as_before-again.result c.is_steady-steady.result c.generation_below-generation.result is
+    (λ so. ((c.is_as_before-again.ensures c.value-fiber.result.now (c.value-fiber.ensures.made (made_at _ _ _ _ _ c.place_facts.ensures c.requires.place))).0 so).same)
     (ap (λ x. x.stood) c.origin-origin.ensures ∙ place_stood _ _ c.args.tree.now c.args.contexts.now c.args.at c.place_facts.ensures c.requires.place c.value-fiber.result.now (c.value-fiber.ensures.made (made_at _ _ _ _ _ c.place_facts.ensures c.requires.place))) (c.is_steady-steady.ensures c.value-fiber.result.now (c.value-fiber.ensures.made (made_at _ _ _ _ _ c.place_facts.ensures c.requires.place))).0
     (place_there c.args.scene.now.checked.now _ c.args.tree.now c.args.contexts.now c.args.at c.place_facts.ensures c.requires.place c.value-fiber.result.now c.in_ok-element.element
     (c.value-fiber.ensures.made (made_at _ _ _ _ _ c.place_facts.ensures c.requires.place)) (c.in_ok-element.ensures ∙ c.element.ensures))
@@ -160,8 +160,8 @@ pub returns-in-Some-clause-body : goal.returns-in-Some-clause-body
 returns-in-Some-clause-body g c =
     if_both c.begin_component.result _ _
     (λ b exact anew v here some. (
-      c.is_again-again.result,
-      c.is_again-again.ensures v here,
+      c.is_as_before-again.result,
+      c.is_as_before-again.ensures v here,
       (λ so.
           subst (λ cs. TellsCalm c.args.scene.now (kept_hooks c.args.hooks.now) cs (option_and_then instance_in (mark_at c.args.tree.now.current (old_of c.args.tree.now.draft c.args.at))) (not b.1)) c.values.ensures
           (exact so)),
@@ -175,18 +175,18 @@ returns-clause-body g c v here some =
 
 pub returns-then-takes_over-clause-body : goal.returns-then-takes_over-clause-body
 returns-then-takes_over-clause-body g c v here some = (
-  c.is_again-again.result,
-  c.is_again-again.ensures v here,
+  c.is_as_before-again.result,
+  c.is_as_before-again.ensures v here,
   (λ so.
       c.takes_over.ensures.calm c.if-takes_over.true
       (c.is_component-component.ensures
       ∙ (ap is_some (sym (parts_here c.args.tree.now c.args.at c.value-fiber.result.now v c.in_ok-element.element _ (c.value-fiber.ensures.made (made_at _ _ _ _ _ c.place_facts.ensures c.requires.place)) here (c.in_ok-element.ensures ∙ c.element.ensures) refl))
       ∙ some))),
-  (λ not. absurd (not_both c.is_again-again.result not (c.takes_over.ensures.again c.if-takes_over.true))),
+  (λ not. absurd (not_both c.is_as_before-again.result not (c.takes_over.ensures.again c.if-takes_over.true))),
 )
 
 pub returns-then-takes_over-clause-again : goal.returns-then-takes_over-clause-again
-returns-then-takes_over-clause-again g c is v here = (c.is_again-again.ensures v here).0 (c.takes_over.ensures.again c.if-takes_over.true)
+returns-then-takes_over-clause-again g c is v here = (c.is_as_before-again.ensures v here).0 (c.takes_over.ensures.again c.if-takes_over.true)
 
 pub returns-in-Some-clause-again : goal.returns-in-Some-clause-again
 returns-in-Some-clause-again g c = if_ok c.begin_component.result _ _ (λ b own is. absurd (not_both (is_taken b.0) own.0 is)) c.begin_component.ensures.own
@@ -194,7 +194,7 @@ returns-in-Some-clause-again g c = if_ok c.begin_component.result _ _ (λ b own 
 pub returns-clause-again : goal.returns-clause-again
 returns-clause-again g c is =
     absurd (not_both (is_taken c.in_ok-begun-in-None.begun) (other_takes_not c.args.scene.now (kept_hooks c.args.hooks.now) c.args.tree.now c.args.contexts.now c.begin_or_hide.new.tree c.begin_or_hide.new.contexts c.args.at c.in_ok-element.element
-    c.origin-origin.result c.is_again-again.result c.is_steady-steady.result c.generation_below-generation.result c.place_facts.ensures
+    c.origin-origin.result c.is_as_before-again.result c.is_steady-steady.result c.generation_below-generation.result c.place_facts.ensures
     (λ v here. c.origin-origin.ensures ∙ ap (λ u. origin_of u.stage) (same_fiber c.args.tree.now c.args.at c.value-fiber.result.now v (c.value-fiber.ensures.made (made_at _ _ _ _ _ c.place_facts.ensures c.requires.place)) here)) c.in_ok-begun-in-None.begun c.in_ok-begun-in-None.ensures.begun) is)
 
 pub returns-clause-tries : goal.returns-clause-tries
@@ -213,7 +213,7 @@ returns-in-Some-clause-causes g c =
     (subst (λ component. HasCauseToBegin c.args.scene.now (kept_hooks c.args.hooks.now) (values_at c.args.contexts.now) component c.origin-origin.result.stood c.args.tree.now.current (old_of c.args.tree.now.draft c.args.at))
     (c.is_component-component.ensures
     ∙ ap is_some (sym (parts_here c.args.tree.now c.args.at c.value-fiber.result.now v c.in_ok-element.element _ (c.value-fiber.ensures.made (made_at _ _ _ _ _ c.place_facts.ensures c.requires.place)) here (c.in_ok-element.ensures ∙ c.element.ensures) refl)))
-    (c.takes_over.ensures.cause ((c.is_again-again.ensures v here).1 so) c.if-takes_over.false)))
+    (c.takes_over.ensures.cause ((c.is_as_before-again.ensures v here).1 so) c.if-takes_over.false)))
     c.begin_component.ensures.once
 
 pub returns-clause-causes : goal.returns-clause-causes
@@ -223,21 +223,21 @@ returns-clause-causes g c v here so free =
     (subst (λ component. HasCauseToBegin c.args.scene.now (kept_hooks c.args.hooks.now) (values_at c.args.contexts.now) component c.origin-origin.result.stood c.args.tree.now.current (old_of c.args.tree.now.draft c.args.at))
     (c.is_component-component.ensures
     ∙ ap is_some (sym (parts_here c.args.tree.now c.args.at c.value-fiber.result.now v c.in_ok-element.element _ (c.value-fiber.ensures.made (made_at _ _ _ _ _ c.place_facts.ensures c.requires.place)) here (c.in_ok-element.ensures ∙ c.element.ensures) refl)))
-    (c.takes_over.ensures.cause ((c.is_again-again.ensures v here).1 so) c.if-takes_over.false))
+    (c.takes_over.ensures.cause ((c.is_as_before-again.ensures v here).1 so) c.if-takes_over.false))
 
 pub returns-in-Some-clause-kids : goal.returns-in-Some-clause-kids
 returns-in-Some-clause-kids g c =
     if_both c.begin_component.result _ _
     (λ b kids skipped v here is. (
       kids_as b.1 c.is_steady-steady.result c.generation_below-generation.result,
-      c.is_again-again.result,
+      c.is_as_before-again.result,
       kids_steady c.args.tree.now.current (old_of c.args.tree.now.draft c.args.at) v b.1 c.is_steady-steady.result c.generation_below-generation.result (c.is_steady-steady.ensures v here),
-      c.is_again-again.ensures v here,
-      component_below b.1 c.is_steady-steady.result (keeps_children c.is_again-again.result (mark_at c.args.tree.now.current (old_of c.args.tree.now.draft c.args.at))) (stands_for_children v.element) (generation_of v.stage) c.generation_below-generation.result
+      c.is_as_before-again.ensures v here,
+      component_below b.1 c.is_steady-steady.result (keeps_children c.is_as_before-again.result (mark_at c.args.tree.now.current (old_of c.args.tree.now.draft c.args.at))) (stands_for_children v.element) (generation_of v.stage) c.generation_below-generation.result
           (below_here c.generation_below-generation.result c.is_component-component.result c.keeps_children-kept.result c.stands_for_children.result c.origin-origin.result.generation true
-          (keeps_children c.is_again-again.result (mark_at c.args.tree.now.current (old_of c.args.tree.now.draft c.args.at))) (stands_for_children v.element) (generation_of v.stage) c.generation_below-generation.ensures
+          (keeps_children c.is_as_before-again.result (mark_at c.args.tree.now.current (old_of c.args.tree.now.draft c.args.at))) (stands_for_children v.element) (generation_of v.stage) c.generation_below-generation.ensures
           (c.is_component-component.ensures ∙ ap is_some (sym c.parts_of.ensures ∙ ap (option_map parts_seen) c.in-Some.is))
-          (c.keeps_children-kept.ensures ∙ ap (λ o. keeps_children c.is_again-again.result (mark_at c.args.tree.now.current o)) (c.alternate.ensures.made (made_at _ _ _ _ _ c.place_facts.ensures c.requires.place)))
+          (c.keeps_children-kept.ensures ∙ ap (λ o. keeps_children c.is_as_before-again.result (mark_at c.args.tree.now.current o)) (c.alternate.ensures.made (made_at _ _ _ _ _ c.place_facts.ensures c.requires.place)))
           (c.stands_for_children.ensures ∙ ap stands_for_children ((c.in_ok-element.ensures ∙ c.element.ensures) ∙ ap (λ u. u.element) (same_fiber c.args.tree.now c.args.at c.value-fiber.result.now v (c.value-fiber.ensures.made (made_at _ _ _ _ _ c.place_facts.ensures c.requires.place)) here)))
           (ap (λ x. x.generation) c.origin-origin.ensures ∙ ap (λ u. generation_of u.stage) (same_fiber c.args.tree.now c.args.at c.value-fiber.result.now v (c.value-fiber.ensures.made (made_at _ _ _ _ _ c.place_facts.ensures c.requires.place)) here)))
           skipped,
@@ -248,17 +248,17 @@ returns-in-Some-clause-kids g c =
 pub returns-clause-kids : goal.returns-clause-kids
 returns-clause-kids g c v here is =
     let (origin, stands, generation, opens) = other_kids c.args.scene.now (kept_hooks c.args.hooks.now) c.args.tree.now c.args.contexts.now c.begin_or_hide.new.tree c.begin_or_hide.new.contexts c.args.at c.in_ok-element.element
-    c.origin-origin.result c.is_again-again.result c.is_steady-steady.result c.generation_below-generation.result c.place_facts.ensures
+    c.origin-origin.result c.is_as_before-again.result c.is_steady-steady.result c.generation_below-generation.result c.place_facts.ensures
     (λ v here. c.origin-origin.ensures ∙ ap (λ u. origin_of u.stage) (same_fiber c.args.tree.now c.args.at c.value-fiber.result.now v (c.value-fiber.ensures.made (made_at _ _ _ _ _ c.place_facts.ensures c.requires.place)) here)) c.in_ok-begun-in-None.begun c.in_ok-begun-in-None.ensures.begun is in (
       origin,
-      c.is_again-again.result,
+      c.is_as_before-again.result,
       subst (TellsSteady c.args.tree.now.current (old_of c.args.tree.now.draft c.args.at) v) (sym stands) (c.is_steady-steady.ensures v here),
-      c.is_again-again.ensures v here,
-      kept_below (keeps_children c.is_again-again.result (mark_at c.args.tree.now.current (old_of c.args.tree.now.draft c.args.at))) (stands_for_children v.element) (generation_of v.stage) origin.generation c.generation_below-generation.result generation
+      c.is_as_before-again.ensures v here,
+      kept_below (keeps_children c.is_as_before-again.result (mark_at c.args.tree.now.current (old_of c.args.tree.now.draft c.args.at))) (stands_for_children v.element) (generation_of v.stage) origin.generation c.generation_below-generation.result generation
           (below_here c.generation_below-generation.result c.is_component-component.result c.keeps_children-kept.result c.stands_for_children.result c.origin-origin.result.generation false
-          (keeps_children c.is_again-again.result (mark_at c.args.tree.now.current (old_of c.args.tree.now.draft c.args.at))) (stands_for_children v.element) (generation_of v.stage) c.generation_below-generation.ensures
+          (keeps_children c.is_as_before-again.result (mark_at c.args.tree.now.current (old_of c.args.tree.now.draft c.args.at))) (stands_for_children v.element) (generation_of v.stage) c.generation_below-generation.ensures
           (c.is_component-component.ensures ∙ ap is_some (sym c.parts_of.ensures ∙ ap (option_map parts_seen) c.in-None.is))
-          (c.keeps_children-kept.ensures ∙ ap (λ o. keeps_children c.is_again-again.result (mark_at c.args.tree.now.current o)) (c.alternate.ensures.made (made_at _ _ _ _ _ c.place_facts.ensures c.requires.place)))
+          (c.keeps_children-kept.ensures ∙ ap (λ o. keeps_children c.is_as_before-again.result (mark_at c.args.tree.now.current o)) (c.alternate.ensures.made (made_at _ _ _ _ _ c.place_facts.ensures c.requires.place)))
           (c.stands_for_children.ensures ∙ ap stands_for_children ((c.in_ok-element.ensures ∙ c.element.ensures) ∙ ap (λ u. u.element) (same_fiber c.args.tree.now c.args.at c.value-fiber.result.now v (c.value-fiber.ensures.made (made_at _ _ _ _ _ c.place_facts.ensures c.requires.place)) here)))
           (ap (λ x. x.generation) c.origin-origin.ensures ∙ ap (λ u. generation_of u.stage) (same_fiber c.args.tree.now c.args.at c.value-fiber.result.now v (c.value-fiber.ensures.made (made_at _ _ _ _ _ c.place_facts.ensures c.requires.place)) here))),
       opens,
@@ -269,23 +269,23 @@ returns-clause-tried g c is v d here waits =
     subst (λ x. c.begin_or_hide.new.tree ≡ record c.args.tree.now { draft = valued c.args.at (changed (change.Try x)) c.args.tree.now.draft })
     (waits_with c.args.tree.now c.args.at c.value-fiber.result.now v (c.value-fiber.ensures.made (made_at _ _ _ _ _ c.place_facts.ensures c.requires.place)) here c.origin-origin.result d c.origin-origin.ensures waits)
     (other_tried c.args.scene.now (kept_hooks c.args.hooks.now) c.args.tree.now c.args.contexts.now c.begin_or_hide.new.tree c.begin_or_hide.new.contexts c.args.at c.in_ok-element.element
-    c.origin-origin.result c.is_again-again.result c.is_steady-steady.result c.generation_below-generation.result c.place_facts.ensures
+    c.origin-origin.result c.is_as_before-again.result c.is_steady-steady.result c.generation_below-generation.result c.place_facts.ensures
     (λ v here. c.origin-origin.ensures ∙ ap (λ u. origin_of u.stage) (same_fiber c.args.tree.now c.args.at c.value-fiber.result.now v (c.value-fiber.ensures.made (made_at _ _ _ _ _ c.place_facts.ensures c.requires.place)) here)) c.in_ok-begun-in-None.begun c.in_ok-begun-in-None.ensures.begun is)
 
 pub returns-clause-taken_over : goal.returns-clause-taken_over
 returns-clause-taken_over g c is =
     absurd (not_both (is_taken c.in_ok-begun-in-None.begun) (other_takes_not c.args.scene.now (kept_hooks c.args.hooks.now) c.args.tree.now c.args.contexts.now c.begin_or_hide.new.tree c.begin_or_hide.new.contexts c.args.at c.in_ok-element.element
-    c.origin-origin.result c.is_again-again.result c.is_steady-steady.result c.generation_below-generation.result c.place_facts.ensures
+    c.origin-origin.result c.is_as_before-again.result c.is_steady-steady.result c.generation_below-generation.result c.place_facts.ensures
     (λ v here. c.origin-origin.ensures ∙ ap (λ u. origin_of u.stage) (same_fiber c.args.tree.now c.args.at c.value-fiber.result.now v (c.value-fiber.ensures.made (made_at _ _ _ _ _ c.place_facts.ensures c.requires.place)) here)) c.in_ok-begun-in-None.begun c.in_ok-begun-in-None.ensures.begun) is)
 
 pub returns-clause-waits : goal.returns-clause-waits
 returns-clause-waits g c r is =
     absurd (other_no_body c.args.scene.now (kept_hooks c.args.hooks.now) c.args.tree.now c.args.contexts.now c.begin_or_hide.new.tree c.begin_or_hide.new.contexts c.args.at c.in_ok-element.element
-    c.origin-origin.result c.is_again-again.result c.is_steady-steady.result c.generation_below-generation.result c.place_facts.ensures
+    c.origin-origin.result c.is_as_before-again.result c.is_steady-steady.result c.generation_below-generation.result c.place_facts.ensures
     (λ v here. c.origin-origin.ensures ∙ ap (λ u. origin_of u.stage) (same_fiber c.args.tree.now c.args.at c.value-fiber.result.now v (c.value-fiber.ensures.made (made_at _ _ _ _ _ c.place_facts.ensures c.requires.place)) here)) c.in_ok-begun-in-None.begun c.in_ok-begun-in-None.ensures.begun r is)
 
 pub returns-clause-rests : goal.returns-clause-rests
 returns-clause-rests g c is =
     absurd (not_both (is_taken c.in_ok-begun-in-None.begun) (other_takes_not c.args.scene.now (kept_hooks c.args.hooks.now) c.args.tree.now c.args.contexts.now c.begin_or_hide.new.tree c.begin_or_hide.new.contexts c.args.at c.in_ok-element.element
-    c.origin-origin.result c.is_again-again.result c.is_steady-steady.result c.generation_below-generation.result c.place_facts.ensures
+    c.origin-origin.result c.is_as_before-again.result c.is_steady-steady.result c.generation_below-generation.result c.place_facts.ensures
     (λ v here. c.origin-origin.ensures ∙ ap (λ u. origin_of u.stage) (same_fiber c.args.tree.now c.args.at c.value-fiber.result.now v (c.value-fiber.ensures.made (made_at _ _ _ _ _ c.place_facts.ensures c.requires.place)) here)) c.in_ok-begun-in-None.begun c.in_ok-begun-in-None.ensures.begun) is)
