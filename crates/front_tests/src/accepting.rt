@@ -1,6 +1,6 @@
 // Inputs that are accepted or refused, and each beginning of a program.
 
-use crate::cases::{COUNTS, Case, MEMOS, PLACES, REFRESHES, REFUSALS, SECOND, STARTS};
+use crate::cases::{BYTES, COUNTS, MEMOS, PLACES, REFRESHES, REFUSALS, SECOND, STARTS};
 use itoa::Buffer;
 use rx_accept::{Verdict, accept};
 use std::alloc::{AllocError, AllocGlobal, Global};
@@ -26,169 +26,221 @@ fn told(alloc: Global, input: &[u8]) -> Result<Vec<u8>, AllocError> {
     }
 }
 
-/// The input of a case.
-fn input_of(alloc: Global, case: &Case) -> Result<Vec<u8>, AllocError> {
-    let mut input = Vec::new(alloc);
+/// Adds a piece of a program, once for each number from one to another: `A..B TEXT`.
+fn add_each(program: &mut Vec<u8>, piece: &str) -> Result<(), AllocError> {
+    let (span, text) = piece.split_once(' ').unwrap_or(("", piece));
+    let (first, last) = span.split_once("..").unwrap_or(("", ""));
+    let first = first.parse::<u64>().unwrap_or(0);
+    let last = last.parse::<u64>().unwrap_or(0);
     let mut buffer = Buffer::new();
-    for (text, first, last) in case.pieces {
-        for number in *first..last.saturating_add(1) {
-            for byte in *text {
-                match *byte {
-                    b'#' => input.extend_from_slice(buffer.format(number).as_bytes())?,
-                    b'~' => input.extend_from_slice(
-                        buffer.format(number.saturating_sub(1)).as_bytes(),
-                    )?,
-                    other => input.push(other)?,
-                }
+    for number in first..last.saturating_add(1) {
+        for byte in text.as_bytes() {
+            match *byte {
+                b'#' => program.extend_from_slice(buffer.format(number).as_bytes())?,
+                b'~' => program.extend_from_slice(
+                    buffer.format(number.saturating_sub(1)).as_bytes(),
+                )?,
+                other => program.push(other)?,
             }
         }
     }
+    Ok(())
+}
+
+/// The input of a program and a script.
+fn input_of(alloc: Global, program: &[u8], script: &[u8]) -> Result<Vec<u8>, AllocError> {
+    let mut input = Vec::from_slice(alloc, program)?;
     input.extend_from_slice(b"\n---\n")?;
-    input.extend_from_slice(case.script)?;
+    input.extend_from_slice(script)?;
     Ok(input)
 }
 
-// Each input is told what is told of it.
-fn are_judged<R: Abort + AllocGlobal>(rt: &R, cases: &[Case<'_>]) -> Result<(), Fail> {
-    for (i, case) in cases.iter().enumerate() {
-        let input = input_of(rt.alloc(), case)?;
-        let found = told(rt.alloc(), &input)?;
-        assert_eq!(rt; found.as_slice(), case.told.as_bytes(), "case {i}");
+// An input is told what is told of it.
+fn is_judged<R: Abort + AllocGlobal>(
+    rt: &R,
+    program: &[u8],
+    script: &[u8],
+    wanted: &str,
+) -> Result<(), Fail> {
+    let input = input_of(rt.alloc(), program, script)?;
+    let found = told(rt.alloc(), &input)?;
+    let line = format!(in rt.alloc(); "{wanted}\n")?;
+    assert_eq!(rt; found.as_slice(), line.as_bytes(), "{wanted}");
+    Ok(())
+}
+
+// So is each input of a table.
+fn are_judged<R: Abort + AllocGlobal>(rt: &R, table: &str) -> Result<(), Fail> {
+    let mut program = Vec::new(rt.alloc());
+    let mut script = Vec::new(rt.alloc());
+    let mut ended = false;
+    for line in table.lines() {
+        if let Some(wanted) = line.strip_prefix("= ") {
+            is_judged(rt, &program, &script, wanted)?;
+            script.clear();
+            ended = true;
+        } else if let Some(step) = line.strip_prefix("> ") {
+            if !script.is_empty() {
+                script.push(b'\n')?;
+            }
+            script.extend_from_slice(step.as_bytes())?;
+        } else if !line.starts_with("# ") {
+            if ended {
+                program.clear();
+                ended = false;
+            }
+            match line.strip_prefix('*') {
+                Some(piece) => add_each(&mut program, piece)?,
+                None => program.extend_from_slice(line.as_bytes())?,
+            }
+        }
+    }
+    assert!(rt; ended);
+    Ok(())
+}
+
+#[test]
+fn bytes_of_no_character_are_refused(rt: HostRuntime) -> Result<(), Fail> {
+    for (program, script, wanted) in BYTES {
+        is_judged(&rt, program, script, wanted)?;
     }
     Ok(())
 }
 
 #[test]
 fn each_refusal_is_told(rt: HostRuntime) -> Result<(), Fail> {
-    are_judged(&rt, &REFUSALS)
+    are_judged(&rt, REFUSALS)
 }
 
 #[test]
 fn each_count_has_its_limit(rt: HostRuntime) -> Result<(), Fail> {
-    are_judged(&rt, &COUNTS)
+    are_judged(&rt, COUNTS)
 }
 
 #[test]
 fn each_fault_has_its_place(rt: HostRuntime) -> Result<(), Fail> {
-    are_judged(&rt, &PLACES)
+    are_judged(&rt, PLACES)
 }
 
 #[test]
 fn a_refresh_names_a_lane_and_a_resource(rt: HostRuntime) -> Result<(), Fail> {
-    are_judged(&rt, &REFRESHES)
+    are_judged(&rt, REFRESHES)
 }
 
 #[test]
 fn a_start_names_a_lane_and_a_flag(rt: HostRuntime) -> Result<(), Fail> {
-    are_judged(&rt, &STARTS)
+    are_judged(&rt, STARTS)
 }
 
 #[test]
 fn memo_declares_a_component(rt: HostRuntime) -> Result<(), Fail> {
-    are_judged(&rt, &MEMOS)
+    are_judged(&rt, MEMOS)
 }
 
 #[test]
 fn version_2_is_judged_by_its_own_limits(rt: HostRuntime) -> Result<(), Fail> {
-    are_judged(&rt, &SECOND)
+    are_judged(&rt, SECOND)
 }
 
-/// What a beginning of the program is that ends within a piece of it.
-#[derive(Clone, Copy)]
-enum Within {
-    /// Some program goes on from it.
-    Open,
-    /// Its last word or sign is cut, and no program has another one there.
-    Word,
-    /// Its last string or sign is cut, and no token covers that.
-    Token,
-    /// It is a program without the component `App`.
-    Whole,
-}
+/// A program in pieces, each between a word with a blank and a bar. The last `}` of the program is left out. The word says what a
+/// beginning of the program is that ends within the piece:
+/// `Open`, some program goes on from it; `Word`, its last word or sign is cut, and no program has another one there; `Token`, its last
+/// string or sign is cut, and no token covers that; `Whole`, it is a program without the component `App`.
+const PIECES: &str = r#"
+Word const|
+Open  Theme = |
+Word createContext|
+Open (-1)|
+Whole ; |
+Word const|
+Open  Note = |
+Word memo|
+Open (|
+Word function|
+Open  |
+Word Note|
+Open () { |
+Word return|
+Open  null; |
+Open })|
+Whole ; |
+Word function|
+Open  add(s, a) { |
+Word return|
+Open  s + a; |
+Whole } |
+Word function|
+Open  User({p, children}) { |
+Word const|
+Open  [n, setN] = |
+Word useReducer|
+Open (add, p); |
+Word const|
+Open  c = useContext(Theme); |
+Word const|
+Open  u = use(|
+Token "user"|
+Open ); |
+Word useEffect|
+Open (|
+Token "e"|
+Open , [u]); |
+Word return|
+Open  <b key={u}>{c |
+Word ===|
+Open  1 ? |
+Token "x"|
+Open  : u |
+Token &&|
+Open  n}</b>; |
+Whole } |
+Word function|
+Open  App() { |
+Word return|
+Open  <Suspense |
+Word fallback|
+Open ={<i/>}><Theme.|
+Word Provider|
+Open  |
+Word value|
+Open ={1}><User p={2}/></|
+Word Theme|
+Open .|
+Word Provider|
+Open ></|
+Word Suspense|
+Open >; |
+"#;
 
-/// A program in pieces, each with what a beginning is that ends within it. The last `}` of the program is left out.
-const PIECES: [(&[u8], Within); 63] = [
-    (b"const", Within::Word),
-    (b" Theme = ", Within::Open),
-    (b"createContext", Within::Word),
-    (b"(-1)", Within::Open),
-    (b"; ", Within::Whole),
-    (b"const", Within::Word),
-    (b" Note = ", Within::Open),
-    (b"memo", Within::Word),
-    (b"(", Within::Open),
-    (b"function", Within::Word),
-    (b" ", Within::Open),
-    (b"Note", Within::Word),
-    (b"() { ", Within::Open),
-    (b"return", Within::Word),
-    (b" null; ", Within::Open),
-    (b"})", Within::Open),
-    (b"; ", Within::Whole),
-    (b"function", Within::Word),
-    (b" add(s, a) { ", Within::Open),
-    (b"return", Within::Word),
-    (b" s + a; ", Within::Open),
-    (b"} ", Within::Whole),
-    (b"function", Within::Word),
-    (b" User({p, children}) { ", Within::Open),
-    (b"const", Within::Word),
-    (b" [n, setN] = ", Within::Open),
-    (b"useReducer", Within::Word),
-    (b"(add, p); ", Within::Open),
-    (b"const", Within::Word),
-    (b" c = useContext(Theme); ", Within::Open),
-    (b"const", Within::Word),
-    (b" u = use(", Within::Open),
-    (b"\"user\"", Within::Token),
-    (b"); ", Within::Open),
-    (b"useEffect", Within::Word),
-    (b"(", Within::Open),
-    (b"\"e\"", Within::Token),
-    (b", [u]); ", Within::Open),
-    (b"return", Within::Word),
-    (b" <b key={u}>{c ", Within::Open),
-    (b"===", Within::Word),
-    (b" 1 ? ", Within::Open),
-    (b"\"x\"", Within::Token),
-    (b" : u ", Within::Open),
-    (b"&&", Within::Token),
-    (b" n}</b>; ", Within::Open),
-    (b"} ", Within::Whole),
-    (b"function", Within::Word),
-    (b" App() { ", Within::Open),
-    (b"return", Within::Word),
-    (b" <Suspense ", Within::Open),
-    (b"fallback", Within::Word),
-    (b"={<i/>}><Theme.", Within::Open),
-    (b"Provider", Within::Word),
-    (b" ", Within::Open),
-    (b"value", Within::Word),
-    (b"={1}><User p={2}/></", Within::Open),
-    (b"Theme", Within::Word),
-    (b".", Within::Open),
-    (b"Provider", Within::Word),
-    (b"></", Within::Open),
-    (b"Suspense", Within::Word),
-    (b">; ", Within::Open),
-];
+/// What is told of a beginning that ends at `end`, within a piece or with it, where the piece starts at `start`.
+fn told_within(
+    alloc: Global,
+    within: &str,
+    cut: bool,
+    start: usize,
+    end: usize,
+) -> Result<String, AllocError> {
+    match within {
+        "Whole" => format!(in alloc; "program refused 10\n"),
+        "Word" if cut => format!(in alloc; "program refused 3 at {start}\n"),
+        "Token" if cut => format!(in alloc; "program refused 2 at {start}\n"),
+        _ => format!(in alloc; "program refused 3 at {end}\n"),
+    }
+}
 
 #[test]
 fn each_beginning_of_a_program_is_judged(rt: HostRuntime) -> Result<(), Fail> {
     let alloc = rt.alloc();
     let mut program = Vec::new(alloc);
-    for (piece, within) in PIECES {
+    for line in PIECES.lines() {
+        let (within, text) = line.split_once(' ').unwrap_or(("", ""));
+        let piece = text.strip_suffix('|').unwrap_or("");
         let start = program.len();
-        for byte in piece {
+        for byte in piece.as_bytes() {
             program.push(*byte)?;
             let end = program.len();
             let cut = end.wrapping_sub(start) < piece.len();
-            let wanted = match within {
-                Within::Whole => format!(in alloc; "program refused 10\n")?,
-                Within::Word if cut => format!(in alloc; "program refused 3 at {start}\n")?,
-                Within::Token if cut => format!(in alloc; "program refused 2 at {start}\n")?,
-                _ => format!(in alloc; "program refused 3 at {end}\n")?,
-            };
+            let wanted = told_within(alloc, within, cut, start, end)?;
             let found = told(alloc, &program)?;
             assert_eq!(rt; found.as_slice(), wanted.as_bytes(), "of {end} bytes");
         }
