@@ -1,24 +1,22 @@
 -- What the beginning of a place costs.
-use Rattle.std.specs.Prelude.{◌≡◌, ◌≤◌, ℕ, suc, Bool, true, false, not, ◌&&◌, ◌||◌, cond, List, ℤ, ◌∷◌, Option, Some, None, IsSome, if◌then◌else◌, nat_eq, option_map, option_and_then}
+use Rattle.std.specs.Prelude.{◌≡◌, ◌≤◌, ℕ, suc, Bool, true, false, not, ◌&&◌, ◌||◌, List, ℤ, ◌∷◌, Option, Some, None, IsSome, if◌then◌else◌, nat_eq, option_map, option_and_then}
 use Rattle.std.specs.Option.{option_map_or}
-use Rattle.std.specs.Ordering.{int_eq}
-use Rattle.std.proofs.lemmas.Bool.Decides.{Decides-int_eq}
-use Rattle.std.proofs.Common.{refl, sym, ap, ◌∙◌, subst, arith, inl, inr}
+use Rattle.std.proofs.Common.{refl, sym, ap, ◌∙◌, subst, arith}
 use Rattle.rx_ast.specs.Syntax.{Component, Program}
 use Rattle.rx_rules.specs.Names.{component_at}
-use Rattle.rx_ctx.specs.Contexts.{Stack}
+use Rattle.rx_ctx.specs.Contexts.{Stack, moved_in, moves_by}
 use Rattle.rx_susp.specs.declared.boundary.BoundaryState.TheVariants.{Shown, Hidden}
-use Rattle.rx_elem.specs.Elements.{Element, Elements, Key, same_element, stands_for_children}
+use Rattle.rx_elem.specs.Elements.{Element, Elements, Key, kind_of, same_element, same_kind, stands_for_children}
 use Rattle.rx_elem.specs.Elements as elements
 use Rattle.rx_elem.specs.Trees.{Mark, Node, node, element_of, mark_of, instance_in, is_hidden, Forest, of_instance, of_host, of_boundary, plain, was_hidden}
 use Rattle.rx_hooks.specs.declared.hook.Hook.{Hook}
-use Rattle.rx_elem.proofs.Deciding.{and_passes, both_hold, or_right, same_itself, same_number}
+use Rattle.rx_elem.proofs.Deciding.{and_passes, both_hold, or_right, same_number}
 use Rattle.rx_meaning.specs.Touched.{is_memo}
 use Rattle.rx_elem.proofs.Equality.{same_element-self}
 use Rattle.rx_lists.specs.Shapes.{Shape}
 use Rattle.rx_lists.specs.Shapes as shapes
 use Rattle.rx_links.specs.Drafts.{Draft, taken, made, Fits, Trees, entry, old_of}
-use Rattle.rx_links.specs.Places.{Around, placed, IsAt}
+use Rattle.rx_links.specs.Places.{Around, below, placed, IsAt}
 use Rattle.rx_links.specs.Readers.{made_value_in, made_value_of, value_of}
 use Rattle.rx_links.proofs.Placed.{is-at}
 use Rattle.rx_meaning.specs.Body.{Body, body_of, wait, ready}
@@ -27,13 +25,13 @@ use Rattle.rx_meaning.specs.Cursor.{Frame, at_place}
 use Rattle.rx_meaning.specs.Generations.{generation_below}
 use Rattle.rx_meaning.specs.Fresh.{Contexts, Sight, inputs_at, old_instance, shape_of, shape_of_component, shape_of_body}
 use Rattle.rx_meaning.specs.Settled.{IfSettled, IsOwn, Known, known_by}
-use Rattle.rx_fiber.specs.Fibers.{Fiber, generation_of, is_stood, origin_of}
+use Rattle.rx_fiber.specs.Fibers.{Fiber, generation_of, is_visible, origin_of}
 use Rattle.rx_fiber.specs.declared.stage.Origin.{Origin}
 use Rattle.rx_fiber.specs.OldLists.{hides_in}
 use Rattle.rx_fiber.specs.Reading.{IsOld, new as none_old, next, of as some_old}
-use Rattle.rx_fiber.specs.Standing.{StandsAt, begins}
-use Rattle.rx_fiber.specs.Stood.{given_in}
-use Rattle.rx_fiber.specs.Surround.{IsElementOf, IsWaiting, given_along}
+use Rattle.rx_fiber.specs.Standing.{StandsAt, begins, is_stood}
+use Rattle.rx_fiber.specs.Stood.{gave, given_in}
+use Rattle.rx_fiber.specs.Surround.{IsElementOf, IsWaiting, given_along, moved_along, moves_along}
 use Rattle.rx_causes.specs.declared.scene.Scene.{Scene}
 use Rattle.rx_causes.specs.Marks.{keeps_children, mark_at}
 use Rattle.rx_causes.specs.Scenes.{IsSceneOf, TellsCalm}
@@ -41,11 +39,12 @@ use Rattle.rx_causes.proofs.Causes.{shown_again}
 use Rattle.rx_causes.proofs.Marks.{mark_is, old_instance_is}
 use Rattle.commit_laws.proofs.SameElements.{elements_tell}
 use Rattle.cost_laws.specs.Causes.{is_called, waits_still}
-use Rattle.cost_laws.specs.Untouched.{gives_same, is_element_of, is_untouched, same_given, stands_below, value_given}
-use Rattle.cost_laws.specs.Evaluated.{Flag, below_boundary, below_node, is_again, is_as_before, is_evaluated, own_body}
+use Rattle.cost_laws.specs.Untouched.{given_before, is_element_of, is_kind_of, is_untouched, moved_below, moved_more, value_given, visible_below}
+use Rattle.cost_laws.specs.Evaluated.{Flag, below_boundary, below_node, is_again, is_as_before, is_evaluated, own_body, stood}
 use Rattle.cost_laws.specs.Left.{Flags, MayGo, MayTry, begins_evaluated, begun_flags, flag, next_evaluated, unit_flags}
 use Rattle.begin_laws.specs.Flagged.{AllBare, AreTold, FlagsAtPlace, FlagsOpened, IsTold, KeepsTold}
-use Rattle.begin_laws.proofs.Going.{opens}
+use Rattle.begin_laws.proofs.Going.{flagged_moved, opens, told_stood}
+use Rattle.begin_laws.proofs.Once.{same_around}
 use Rattle.rx_begin.specs.Beginning.{HasLists}
 use Rattle.rx_children.specs.Nodes.{parts_in}
 use Rattle.rx_children.specs.Children.{AllWait}
@@ -60,9 +59,9 @@ pub wait_bare : (origin : Origin) (d : Draft Fiber) → AllWait origin d → All
 wait_bare origin (taken s) h = h
 wait_bare origin (made id v o ks rs) h = (h.1, wait_bare origin rs h.2)
 
-pub wait_told : (origin : Origin) (u : Flag) → origin.generation ≡ u.generation → origin.stood ≡ u.stood → (d : Draft Fiber) → AllWait origin d → AreTold u d
-wait_told origin u generation stood (taken s) h = tt
-wait_told origin u generation stood (made id v o ks rs) h = ((ap generation_of h.0 ∙ generation, ap is_stood h.0 ∙ stood), wait_told origin u generation stood rs h.2)
+pub wait_told : (origin : Origin) (u : Flag) → origin.generation ≡ u.generation → origin.visible ≡ u.visible → (d : Draft Fiber) → AllWait origin d → AreTold u d
+wait_told origin u generation visible (taken s) h = tt
+wait_told origin u generation visible (made id v o ks rs) h = ((ap generation_of h.0 ∙ generation, ap is_visible h.0 ∙ visible), wait_told origin u generation visible rs h.2)
 
 -- What elements give
 
@@ -75,27 +74,10 @@ given_is (elements.list marked es) = refl
 given_is (elements.boundary k f es) = refl
 given_is (elements.provider c k x es) = refl
 
-given_tells : (x y : Option (ℕ × ℤ)) → same_given x y ≡ true → x ≡ y
-given_tells None None h = refl
-given_tells None (Some w) h = absurd (cc h)
-given_tells (Some v) None h = absurd (cc h)
-given_tells (Some v) (Some w) h =
-    let both = and_passes (nat_eq v.0 w.0) (int_eq v.1 w.1) h in
-    let contexts : v.0 ≡ w.0 = same_number v.0 w.0 both.0 in
-    let values : v.1 ≡ w.1 = (Decides-int_eq v.1 w.1).0 both.1 in
-    λ i. Some (contexts i, values i)
-
-given_self : (x : Option (ℕ × ℤ)) → same_given x x ≡ true
-given_self None = refl
-given_self (Some v) =
-    let value : int_eq v.1 v.1 ≡ true = (Decides-int_eq v.1 v.1).1 refl in
-    rw (same_itself v.0, value) refl
-
-gives_is : (e : Element) (x : Node) → given_in e ≡ given_in (element_of x) → gives_same e (Some x) ≡ true
-gives_is e x h = subst (λ g. same_given (value_given e) g ≡ true) (given_is e ∙ (h ∙ sym (given_is (element_of x)))) (given_self (value_given e))
-
-gives_tells : (e : Element) (x : Node) → gives_same e (Some x) ≡ true → given_in e ≡ given_in (element_of x)
-gives_tells e x h = sym (given_is e) ∙ (given_tells (value_given e) (value_given (element_of x)) h ∙ given_is (element_of x))
+-- what one node more moves
+more_is : (g w : Option (ℕ × ℤ)) (moves : List (ℕ × Bool)) → moved_more g w (moved_in moves) ≡ moved_in (moves_by g w moves)
+more_is None w moves = refl
+more_is (Some v) w moves = refl
 
 -- The old node of a place, by its current fiber
 
@@ -104,6 +86,23 @@ no_fiber c _ w none_old there = let q : ⊥ = cc in q
 
 old_element : (c : Shape Fiber) (o : Option ℕ) (x : Node) → IsOld c o (Some x) → IsElementOf c o (element_of x)
 old_element c _ _ (some_old {j = j} {n = n} {x = x} {s = s} here leads (next {rest = rest} is a)) = node_element c j n x s rest is here
+
+-- what it gave is what the current fiber gave
+gave_is : (c : Shape Fiber) (o : Option ℕ) (old : Option Node) → IsOld c o old → gave c o ≡ given_before old
+gave_is c _ None none_old = refl
+gave_is c o (Some x) was = go (option_and_then (value_of c) o) (old_element c o x was)
+  where
+    go : (v : Option Fiber) → option_map (λ (u : Fiber). u.element) v ≡ Some (element_of x) → option_and_then (λ (u : Fiber). given_in u.element) v ≡ value_given (element_of x)
+    go None same = absurd (let q : ⊥ = cc in q)
+    go (Some v) same = let its : v.element ≡ element_of x = cc in ap given_in its ∙ sym (given_is (element_of x))
+
+-- so what has moved below a node is told by the current fiber
+moved_is : (c : Shape Fiber) (o : Option ℕ) (old : Option Node) (e : Element) (moved : List ℕ) (moves : List (ℕ × Bool)) → IsOld c o old → moved ≡ moved_in moves
+    → moved_below moved e old ≡ moved_in (moves_by (given_in e) (gave c o) moves)
+moved_is c o old e moved moves was is =
+    ap (λ g. moved_more g (given_before old) moved) (given_is e)
+    ∙ (ap (λ w. moved_more (given_in e) w moved) (sym (gave_is c o old was))
+    ∙ (ap (moved_more (given_in e) (gave c o)) is ∙ more_is (given_in e) (gave c o) moves))
 
 -- an equal element is that of the current fiber
 equal_element : (c : Shape Fiber) (o : Option ℕ) (old : Option Node) (e : Element) → IsOld c o old → is_element_of e old ≡ true → IsElementOf c o e
@@ -173,46 +172,47 @@ hidden_is c o x w was there = sym (ap (λ m. option_map_or is_hidden m false) (m
 
 -- Steady places
 
-all_three : (a b c : Bool) → a ≡ true → b ≡ false → c ≡ true → (a && (not b && c)) ≡ true
+all_three : (a b c : Bool) → a ≡ true → b ≡ true → c ≡ false → (a && (b && not c)) ≡ true
 all_three a b c f g h = rw (f, g, h) refl
 
--- if a place is steady the places below it stand
-steady_stands : (c : Shape Fiber) (o : Option ℕ) (v : Fiber) (stood : Bool) (e : Element) (old : Option Node) → IsOld c o old → v.element ≡ e → is_stood v.stage ≡ stood → IsSteady c o v
-    → stands_below stood e old ≡ true
-steady_stands c o v stood e None was element told s = absurd (no_fiber c o s.old was s.old_is)
-steady_stands c o v stood e (Some x) was element told s =
+-- if a place is steady the old nodes below it are visible
+steady_shows : (c : Shape Fiber) (o : Option ℕ) (v : Fiber) (visible : Bool) (e : Element) (old : Option Node) → IsOld c o old → v.element ≡ e → is_visible v.stage ≡ visible → IsSteady c o v
+    → visible_below visible e old ≡ true
+steady_shows c o v visible e None was element told s = absurd (no_fiber c o s.old was s.old_is)
+steady_shows c o v visible e (Some x) was element told s =
     let both : Some s.old.element ≡ Some (element_of x) = sym (ap (option_map (λ (u : Fiber). u.element)) s.old_is) ∙ old_element c o x was in
     let its : s.old.element ≡ element_of x = cc in
-    all_three stood (is_hidden (mark_of x)) (gives_same e (Some x)) (sym told ∙ s.stood) (hidden_is c o x s.old was s.old_is ∙ s.shown)
-    (gives_is e x (ap given_in (sym element) ∙ (s.gives ∙ ap given_in its)))
+    all_three visible (is_kind_of e (Some x)) (is_hidden (mark_of x)) (sym told ∙ s.visible)
+    (subst (λ y. same_kind (kind_of e) (kind_of y) ≡ true) its (subst (λ y. same_kind (kind_of y) (kind_of s.old.element) ≡ true) element s.kind))
+    (hidden_is c o x s.old was s.old_is ∙ s.shown)
 
-steady_by : (c : Shape Fiber) (o : Option ℕ) (v : Fiber) (e : Element) (x : Node) → IsOld c o (Some x) → v.element ≡ e → is_stood v.stage ≡ true → is_hidden (mark_of x) ≡ false → gives_same e (Some x) ≡ true
+steady_by : (c : Shape Fiber) (o : Option ℕ) (v : Fiber) (e : Element) (x : Node) → IsOld c o (Some x) → v.element ≡ e → is_visible v.stage ≡ true → is_hidden (mark_of x) ≡ false → is_kind_of e (Some x) ≡ true
     → (w : Option Fiber) → option_and_then (value_of c) o ≡ w → option_map (λ (u : Fiber). u.element) w ≡ Some (element_of x) → IsSteady c o v
-steady_by c o v e x was element stood shown gives None there same = absurd (let q : ⊥ = cc in q)
-steady_by c o v e x was element stood shown gives (Some w) there same =
+steady_by c o v e x was element visible shown kind None there same = absurd (let q : ⊥ = cc in q)
+steady_by c o v e x was element visible shown kind (Some w) there same =
     let its : w.element ≡ element_of x = cc in
     record {
-      stood = stood;
+      visible = visible;
       old = w;
       old_is = there;
       shown = sym (hidden_is c o x w was there) ∙ shown;
-      gives = ap given_in element ∙ (gives_tells e x gives ∙ ap given_in (sym its));
+      kind = subst (λ y. same_kind (kind_of y) (kind_of w.element) ≡ true) (sym element) (subst (λ y. same_kind (kind_of e) (kind_of y) ≡ true) (sym its) kind);
     }
 
--- and if these stand it is steady
-stands_steady : (c : Shape Fiber) (o : Option ℕ) (v : Fiber) (stood : Bool) (e : Element) (old : Option Node) → IsOld c o old → v.element ≡ e → is_stood v.stage ≡ stood → stands_below stood e old ≡ true
+-- and if these are it is steady
+shows_steady : (c : Shape Fiber) (o : Option ℕ) (v : Fiber) (visible : Bool) (e : Element) (old : Option Node) → IsOld c o old → v.element ≡ e → is_visible v.stage ≡ visible → visible_below visible e old ≡ true
     → IsSteady c o v
-stands_steady c o v stood e None was element told h =
-    let a = and_passes stood (not false && false) h in absurd (let q : false ≡ true = a.1 in let r : ⊥ = cc in r)
-stands_steady c o v stood e (Some x) was element told h =
-    let a = and_passes stood (not (is_hidden (mark_of x)) && gives_same e (Some x)) h in
-    let b = and_passes (not (is_hidden (mark_of x))) (gives_same e (Some x)) a.1 in
-    steady_by c o v e x was element (told ∙ a.0) (shown_again (is_hidden (mark_of x)) b.0) b.1 (option_and_then (value_of c) o) refl (old_element c o x was)
+shows_steady c o v visible e None was element told h =
+    let a = and_passes visible (false && not false) h in absurd (let q : false ≡ true = a.1 in let r : ⊥ = cc in r)
+shows_steady c o v visible e (Some x) was element told h =
+    let a = and_passes visible (is_kind_of e (Some x) && not (is_hidden (mark_of x))) h in
+    let b = and_passes (is_kind_of e (Some x)) (not (is_hidden (mark_of x))) a.1 in
+    steady_by c o v e x was element (told ∙ a.0) (shown_again (is_hidden (mark_of x)) b.1) b.0 (option_and_then (value_of c) o) refl (old_element c o x was)
 
-steady_is : (c : Shape Fiber) (o : Option ℕ) (v : Fiber) (stood : Bool) (e : Element) (old : Option Node) (steady : Bool) → IsOld c o old → v.element ≡ e → is_stood v.stage ≡ stood → TellsSteady c o v steady
-    → steady ≡ stands_below stood e old
-steady_is c o v stood e old steady was element told tells =
-    same_test steady (stands_below stood e old) (λ so. steady_stands c o v stood e old was element told (tells.0 so)) (λ so. tells.1 (stands_steady c o v stood e old was element told so))
+steady_is : (c : Shape Fiber) (o : Option ℕ) (v : Fiber) (visible : Bool) (e : Element) (old : Option Node) (steady : Bool) → IsOld c o old → v.element ≡ e → is_visible v.stage ≡ visible → TellsSteady c o v steady
+    → steady ≡ visible_below visible e old
+steady_is c o v visible e old steady was element told tells =
+    same_test steady (visible_below visible e old) (λ so. steady_shows c o v visible e old was element told (tells.0 so)) (λ so. tells.1 (shows_steady c o v visible e old was element told so))
 
 -- The instance of a node that may be missing
 
@@ -272,8 +272,8 @@ own_shown p k (elements.provider c key x es) m ns fs own other = ap is_hidden ow
 
 -- A place that begins
 
-module _ (s : Sight) (scene : Scene) (kept : ℕ → Option (List Hook)) (t : Trees Fiber) (id n place : ℕ) (v : Fiber) (o : Option ℕ) (rs : Draft Fiber) (k : Around Fiber) (fs : List Frame) (cs : Contexts) (e : Element) (old : Option Node)
-    (sees : IsSceneOf scene s) (fits : Fits t) (here : t.draft ≡ placed k (made id v o (taken shapes.none) rs)) (is : IsWaiting t.current (given_along fs) o v place e) (was : IsOld t.current o old) (tells : TellsIf s kept old) where
+module _ (s : Sight) (scene : Scene) (kept : ℕ → Option (List Hook)) (t : Trees Fiber) (id n place : ℕ) (v : Fiber) (o : Option ℕ) (rs : Draft Fiber) (k : Around Fiber) (st : Stack) (fs : List Frame) (cs : Contexts) (e : Element) (old : Option Node)
+    (sees : IsSceneOf scene s) (fits : Fits t) (here : t.draft ≡ placed k (made id v o (taken shapes.none) rs)) (is : IsWaiting t.current (moved_along t.current k) (given_along fs) o v place e) (was : IsOld t.current o old) (moves : st.moves ≡ moves_along t.current k) (tells : TellsIf s kept old) where
   at : IsAt t k id v o (taken shapes.none) rs
   at = is-at t fits k id v o (taken shapes.none) rs here
 
@@ -300,6 +300,16 @@ module _ (s : Sight) (scene : Scene) (kept : ℕ → Option (List Hook)) (t : Tr
 
   told_here : (us : Flags) → FlagsAtPlace t id us → IsTold (flag us) v
   told_here us h = subst (IsTold (flag us)) (value_here us h).0 h.told
+
+  -- its flag knows the contexts that have moved
+  moved_here : (us : Flags) → FlagsAtPlace t id us → (flag us).moved ≡ moved_along t.current k
+  moved_here us h =
+      flagged_moved t.current h.flags.around h.flags.rest us h.flags.flagged
+      ∙ ap (moved_along t.current) (same_around t fits id h.flags.around h.flags.value h.flags.old (taken shapes.none) h.flags.rest h.flags.here k v o (taken shapes.none) rs here)
+
+  -- so it tells whether the place stood
+  stood_is : (us : Flags) → FlagsAtPlace t id us → is_stood st v.stage ≡ stood (flag us)
+  stood_is us h = told_stood t st id us fits h k v o rs here moves
 
   element_here : (x : Element) → e ≡ x → v.element ≡ x
   element_here x form = is.element ∙ form
@@ -340,7 +350,7 @@ module _ (s : Sight) (scene : Scene) (kept : ℕ → Option (List Hook)) (t : Tr
 
   module _ (us : Flags) (h : FlagsAtPlace t id us) where
     -- what is tried is not untouched
-    tried_not : TellsTries scene kept t id → parts_in e ≡ None → (stood : Bool) → (flag us).stood ≡ stood → is_untouched s stood e old ≡ false
+    tried_not : TellsTries scene kept t st id → parts_in e ≡ None → (b : Bool) → stood (flag us) ≡ b → is_untouched s b e old ≡ false
     tried_not tries none false f = refl
     tried_not tries none true f = go (is_element_of e old) refl
       where
@@ -349,16 +359,16 @@ module _ (s : Sight) (scene : Scene) (kept : ℕ → Option (List Hook)) (t : Tr
         go true g =
             let its : IsElementOf t.current (old_of t.draft id) e = equal_element t.current (old_of t.draft id) old e was_at g in
             old_waits s scene kept sees t id old tells was_at
-            (tries v value_is (ap parts_in is.element ∙ none) (subst (IsElementOf t.current (old_of t.draft id)) (sym is.element) its) ((told_here us h).1 ∙ f))
+            (tries v value_is (ap parts_in is.element ∙ none) (subst (IsElementOf t.current (old_of t.draft id)) (sym is.element) its) (stood_is us h ∙ f))
 
-    may_go : TellsTries scene kept t id → (x : Element) → e ≡ x → MayGo s us (at_place (suc n) fs cs x old)
+    may_go : TellsTries scene kept t st id → (x : Element) → e ≡ x → MayGo s us (at_place (suc n) fs cs x old)
     may_go tries elements.null form = tt
     may_go tries (elements.text a) form = tt
     may_go tries (elements.host a b c d) form = tt
     may_go tries (elements.comp c key ps kids) form = may_component s (flag us) cs (elements.comp c key ps kids) c ps kids old (component_at s.program c)
     may_go tries (elements.list a b) form = tt
     may_go tries (elements.provider a b c d) form = tt
-    may_go tries (elements.boundary a b c) form = subst (λ x. is_untouched s (flag us).stood x old ≡ false) form (tried_not tries (ap parts_in form) (flag us).stood refl)
+    may_go tries (elements.boundary a b c) form = subst (λ x. is_untouched s (stood (flag us)) x old ≡ false) form (tried_not tries (ap parts_in form) (stood (flag us)) refl)
 
     module _ (evaluated : Bool) (body : TellsBody scene kept t cs id evaluated) (settled : IfSettled s.program (known_by s) old) (new : Trees Fiber) (opened : OpensKids scene.checked.now t new id evaluated) where
       opened_value : opened.value ≡ v
@@ -413,36 +423,43 @@ module _ (s : Sight) (scene : Scene) (kept : ℕ → Option (List Hook)) (t : Tr
           ∙ (ap (λ z. generation_below b c (stands_for_children z) (generation_of opened.value.stage)) (value_at ∙ form)
           ∙ ap (λ z. generation_below b c (stands_for_children x) z) (ap (λ w. generation_of w.stage) opened_value ∙ (told_here us h).0))))
 
-      -- they stand exactly if the places below do
-      kids_stood : (x : Element) → e ≡ x → opened.origin.stood ≡ stands_below (flag us).stood x old
-      kids_stood x form =
-          steady_is t.current (old_of t.draft id) opened.value (flag us).stood x old opened.origin.stood was_at (value_at ∙ form) (ap (λ u. is_stood u.stage) opened_value ∙ (told_here us h).1) opened.steadiness
+      -- their old nodes are visible exactly if those below are
+      kids_shown : (x : Element) → e ≡ x → opened.origin.visible ≡ visible_below (flag us).visible x old
+      kids_shown x form =
+          steady_is t.current (old_of t.draft id) opened.value (flag us).visible x old opened.origin.visible was_at (value_at ∙ form) (ap (λ u. is_visible u.stage) opened_value ∙ (told_here us h).1) opened.steadiness
 
-      keeps_told : (l : Around Fiber) (w : Fiber) (q : Option ℕ) (ls : Draft Fiber) → t.draft ≡ placed l (made id w q (taken shapes.none) ls)
+      keeps_told : (x : Element) → e ≡ x → (l : Around Fiber) (w : Fiber) (q : Option ℕ) (ls : Draft Fiber) → t.draft ≡ placed l (made id w q (taken shapes.none) ls)
           → (new.draft ≡ placed l (made id (opened.kids.value w) q opened.kids.kids ls)) × KeepsTold (flag us) (opened.kids.value w)
-      keeps_told l w q ls there =
+          × (moved_below (flag us).moved x old ≡ moved_along t.current (below id (opened.kids.value w) q ls l))
+      keeps_told x form l w q ls there =
           let one = (is-at t fits l id w q (taken shapes.none) ls there).list in
           let both : Some (made id w q (taken shapes.none) ls) ≡ Some (made id v o (taken shapes.none) rs) = sym one ∙ at.list in
-          let same : w ≡ v = cc in (
+          let same : w ≡ v = cc in
+          let same_old : q ≡ o = cc in (
             opened.kids.stands l w q ls there,
             (λ tries.
                 let its = opened.kids.keeps l w q ls there tries ∙ ap (λ u. origin_of u.stage) same in (
                   ap (λ (c : Origin). c.generation) its ∙ (told_here us h).0,
-                  ap (λ (c : Origin). c.stood) its ∙ (ap (λ x. (origin_of x).stood) is.stage ∙ (sym (ap is_stood is.stage) ∙ (told_here us h).1)),
+                  ap (λ (c : Origin). c.visible) its ∙ (ap (λ x. (origin_of x).visible) is.stage ∙ (sym (ap is_visible is.stage) ∙ (told_here us h).1)),
                 )),
+            moved_is t.current o old x (flag us).moved (moves_along t.current k) was (moved_here us h)
+                ∙ (ap (λ y. moved_in (moves_by (given_in y) (gave t.current o) (moves_along t.current k))) (sym (opened.kids.element w ∙ (ap (λ u. u.element) same ∙ (is.element ∙ form))))
+                ∙ (ap (λ y. moved_in (moves_by (given_in (opened.kids.value w).element) (gave t.current y) (moves_along t.current k))) (sym same_old)
+                ∙ ap (λ y. moved_in (moves_by (given_in (opened.kids.value w).element) (gave t.current q) (moves_along t.current y))) (same_around t fits id k v o (taken shapes.none) rs here l w q (taken shapes.none) ls there))),
           )
 
-      open_as : (u : Flag) → opened.origin.generation ≡ u.generation → opened.origin.stood ≡ u.stood → FlagsOpened new id (u ∷ us) (entry opened.kids.kids)
-      open_as u generation stood =
-          opens t new id us u opened.kids.kids opened.kids.value h.flags keeps_told (wait_bare opened.origin opened.kids.kids opened.kids.all)
-          (wait_told opened.origin u generation stood opened.kids.kids opened.kids.all)
+      open_as : (x : Element) → e ≡ x → (u : Flag) → opened.origin.generation ≡ u.generation → opened.origin.visible ≡ u.visible → u.moved ≡ moved_below (flag us).moved x old → FlagsOpened new id (u ∷ us) (entry opened.kids.kids)
+      open_as x form u generation visible moved =
+          opens t new id us u opened.kids.kids opened.kids.value h.flags
+          (λ l w q ls there. let (stands, keeps, moves_so) = keeps_told x form l w q ls there in (stands, keeps, moved ∙ moves_so)) opened.current (wait_bare opened.origin opened.kids.kids opened.kids.all)
+          (wait_told opened.origin u generation visible opened.kids.kids opened.kids.all)
 
       plain_opens : (x : Element) → e ≡ x → parts_in x ≡ None → is_evaluated s (flag us) cs x old ≡ false → ((key : Key) (f : Element) (es : Elements) → x ≡ elements.boundary key f es → ⊥)
           → FlagsOpened new id (below_node s (flag us) cs x old ∷ us) (entry opened.kids.kids)
       plain_opens x form gone none other =
-          open_as (below_node s (flag us) cs x old)
+          open_as x form (below_node s (flag us) cs x old)
           (kids_generation x form (is_evaluated s (flag us) cs x old) (is_as_before s (flag us) x old) (none_where evaluated body x form gone ∙ sym none) (again_kept x form other))
-          (kids_stood x form)
+          (kids_shown x form) refl
 
       unit_opens : (x : Element) → e ≡ x → HasLists (shape_of s cs x old) → FlagsOpened new id (unit_flags s us (at_place (suc n) fs cs x old)) (entry opened.kids.kids)
       unit_opens elements.null form lists = absurd lists
@@ -451,33 +468,33 @@ module _ (s : Sight) (scene : Scene) (kept : ℕ → Option (List Hook)) (t : Tr
       unit_opens (elements.list a b) form lists = plain_opens (elements.list a b) form refl refl (λ key f es q. cc)
       unit_opens (elements.provider a b c d) form lists = plain_opens (elements.provider a b c d) form refl refl (λ key f es q. cc)
       unit_opens (elements.boundary a b c) form lists =
-          open_as (below_boundary (flag us) (elements.boundary a b c) old)
+          open_as (elements.boundary a b c) form (below_boundary (flag us) (elements.boundary a b c) old)
           (kids_generation (elements.boundary a b c) form false (is_again (flag us) (elements.boundary a b c) old && not (was_hidden old)) (none_where evaluated body (elements.boundary a b c) form refl)
           (ap (λ z. z && keeps_children true (mark_at t.current (old_of t.draft id))) (again_told (elements.boundary a b c) form ∙ or_nothing (is_again (flag us) (elements.boundary a b c) old))
           ∙ ap (λ z. is_again (flag us) (elements.boundary a b c) old && z) keeps_is))
-          (kids_stood (elements.boundary a b c) form)
+          (kids_shown (elements.boundary a b c) form) refl
       unit_opens (elements.comp c key ps kids) form lists =
           subst (λ (fl : Flags). FlagsOpened new id fl (entry opened.kids.kids)) (sym (lists_of_component s cs c ps kids old (component_at s.program c) us fs (elements.comp c key ps kids) lists))
-          (open_as (below_node s (flag us) cs (elements.comp c key ps kids) old)
+          (open_as (elements.comp c key ps kids) form (below_node s (flag us) cs (elements.comp c key ps kids) old)
           (kids_generation (elements.comp c key ps kids) form (is_evaluated s (flag us) cs (elements.comp c key ps kids) old) (is_as_before s (flag us) (elements.comp c key ps kids) old)
           (evaluated_is evaluated body us h c key ps kids form) (again_kept (elements.comp c key ps kids) form (λ k2 f2 es q. cc)))
-          (kids_stood (elements.comp c key ps kids) form))
+          (kids_shown (elements.comp c key ps kids) form) refl)
 
 -- The laws
 
 pub counts : (s : Sight) (scene : Scene) (kept : ℕ → Option (List Hook)) (t : Trees Fiber) (st : Stack) (id n : ℕ) (fs : List Frame) (cs : Contexts) (e : Element) (old : Option Node) (us : Flags) (evaluated : Bool)
     → IsSceneOf scene s → Fits t → StandsAt t st (Some id) (at_place (suc n) fs cs e old) → TellsIf s kept old → FlagsAtPlace t id us → TellsBody scene kept t cs id evaluated
     → (if evaluated then 1 else 0) ≤ next_counts each_body s (at_place (suc n) fs cs e old) → (if evaluated then 1 else 0) ≡ next_evaluated s us (at_place (suc n) fs cs e old)
-counts s scene kept t st id n fs cs e old us evaluated sees fits (begins {n = place} {v = v} {o = o} {rs = rs} {k = k} here is was surrounds values stack) tells h body few =
-    bodies_counted s scene kept t id n place v o rs k fs cs e old sees fits here is was tells evaluated body us h e refl few
+counts s scene kept t st id n fs cs e old us evaluated sees fits (begins {n = place} {v = v} {o = o} {rs = rs} {k = k} here is was surrounds values stack moves) tells h body few =
+    bodies_counted s scene kept t id n place v o rs k st fs cs e old sees fits here is was moves tells evaluated body us h e refl few
 
 pub may : (s : Sight) (scene : Scene) (kept : ℕ → Option (List Hook)) (t : Trees Fiber) (st : Stack) (id n : ℕ) (fs : List Frame) (cs : Contexts) (e : Element) (old : Option Node) (us : Flags)
-    → IsSceneOf scene s → Fits t → StandsAt t st (Some id) (at_place (suc n) fs cs e old) → TellsIf s kept old → FlagsAtPlace t id us → TellsTries scene kept t id → MayGo s us (at_place (suc n) fs cs e old)
-may s scene kept t st id n fs cs e old us sees fits (begins {n = place} {v = v} {o = o} {rs = rs} {k = k} here is was surrounds values stack) tells h tries =
-    may_go s scene kept t id n place v o rs k fs cs e old sees fits here is was tells us h tries e refl
+    → IsSceneOf scene s → Fits t → StandsAt t st (Some id) (at_place (suc n) fs cs e old) → TellsIf s kept old → FlagsAtPlace t id us → TellsTries scene kept t st id → MayGo s us (at_place (suc n) fs cs e old)
+may s scene kept t st id n fs cs e old us sees fits (begins {n = place} {v = v} {o = o} {rs = rs} {k = k} here is was surrounds values stack moves) tells h tries =
+    may_go s scene kept t id n place v o rs k st fs cs e old sees fits here is was moves tells us h tries e refl
 
 pub opens_so : (s : Sight) (scene : Scene) (kept : ℕ → Option (List Hook)) (t new : Trees Fiber) (st : Stack) (id n : ℕ) (fs : List Frame) (cs : Contexts) (e : Element) (old : Option Node) (us : Flags) (evaluated : Bool)
     → IsSceneOf scene s → Fits t → StandsAt t st (Some id) (at_place (suc n) fs cs e old) → IfSettled s.program (known_by s) old → TellsIf s kept old → FlagsAtPlace t id us → TellsBody scene kept t cs id evaluated
     → MayGo s us (at_place (suc n) fs cs e old) → HasLists (shape_of s cs e old) → (k : OpensKids scene.checked.now t new id evaluated) → FlagsOpened new id (unit_flags s us (at_place (suc n) fs cs e old)) (entry k.kids.kids)
-opens_so s scene kept t new st id n fs cs e old us evaluated sees fits (begins {n = place} {v = v} {o = o} {rs = rs} {k = k} here is was surrounds values stack) settled tells h body goes lists opened =
-    unit_opens s scene kept t id n place v o rs k fs cs e old sees fits here is was tells us h evaluated body settled new opened e refl lists
+opens_so s scene kept t new st id n fs cs e old us evaluated sees fits (begins {n = place} {v = v} {o = o} {rs = rs} {k = k} here is was surrounds values stack moves) settled tells h body goes lists opened =
+    unit_opens s scene kept t id n place v o rs k st fs cs e old sees fits here is was moves tells us h evaluated body settled new opened e refl lists

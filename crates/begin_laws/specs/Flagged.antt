@@ -1,4 +1,4 @@
--- What is told of lists of fibers in progress: of which generation their elements are, and whether they stand where the same values of contexts are given; and what that tells of the fibers that wait there.
+-- What is told of lists of fibers in progress: of which generation their elements are, whether their old nodes are visible, and which contexts have other values there; and what that tells of the fibers that wait there.
 use Rattle.std.specs.Prelude.{◌≡◌, ℕ, true, [], ◌∷◌, List, Option, Some, None}
 use Rattle.rx_lists.specs.Shapes.{Shape}
 use Rattle.rx_lists.specs.Shapes as shapes
@@ -6,38 +6,38 @@ use Rattle.rx_links.specs.Drafts.{Draft, taken, made, Trees}
 use Rattle.rx_links.specs.Places.{Around, top, below, placed}
 use Rattle.rx_meaning.specs.Cursor.{Frame}
 use Rattle.rx_elem.specs.Trees.{Node}
-use Rattle.rx_fiber.specs.Fibers.{Fiber, generation_of, is_stood, origin_of}
+use Rattle.rx_fiber.specs.Fibers.{Fiber, generation_of, is_visible, origin_of}
 use Rattle.rx_fiber.specs.Reading.{IsOld}
-use Rattle.rx_fiber.specs.Surround.{above_list}
+use Rattle.rx_fiber.specs.Surround.{above_list, moved_along}
 use Rattle.rx_fiber.specs.Unwound.{is_trying}
 use Rattle.rx_complete.specs.declared.completing.Next.{Next}
 use Rattle.rx_complete.specs.declared.completing.Next.TheVariants.{Sibling, Parent, Done}
 use Rattle.cost_laws.specs.Evaluated.{Flag, above_root, after_attempt}
 use Rattle.cost_laws.specs.Left.{Flags, flag, outer, unwound}
 
--- a fiber that waits is as a flag tells: its element is of the generation of the place, and it stood exactly if the place does
+-- a fiber that waits is as a flag tells: its element is of the generation of the place, and its current fiber is visible exactly if the old node is
 abbrev pub IsTold : Flag → Fiber → Type 0
-IsTold u v = (generation_of v.stage ≡ u.generation) × (is_stood v.stage ≡ u.stood)
+IsTold u v = (generation_of v.stage ≡ u.generation) × (is_visible v.stage ≡ u.visible)
 
 -- so is each fiber of a list in progress
 abbrev pub AreTold : Flag → Draft Fiber → Type 0
 AreTold u (taken s) = Unit {0}
 AreTold u (made id v o ks rs) = IsTold u v × AreTold u rs
 
--- a fiber that tries its children keeps what a flag tells of its place: the generation, and whether it stood
+-- a fiber that tries its children keeps what a flag tells of its place: the generation, and whether the old node is visible
 abbrev pub KeepsTold : Flag → Fiber → Type 0
-KeepsTold u v = is_trying v.stage ≡ true → (generation_of v.stage ≡ u.generation) × ((origin_of v.stage).stood ≡ u.stood)
+KeepsTold u v = is_trying v.stage ≡ true → (generation_of v.stage ≡ u.generation) × ((origin_of v.stage).visible ≡ u.visible)
 
 -- the fibers of a list in progress have no children
 abbrev pub AllBare : Draft Fiber → Type 0
 AllBare (taken s) = s ≡ shapes.none
 AllBare (made id v o ks rs) = (ks ≡ taken shapes.none) × AllBare rs
 
--- These flags are those of the lists that are open around a place, innermost first, with what follows the place in its list: the fibers that follow are as their flag tells, and a boundary above keeps what its own flag tells. Nothing is above the root.
-pub data IsFlagged : Around Fiber → (rest : Draft Fiber) → Flags → Type 0 where
-  at_root : {k : Around Fiber} {d : Draft Fiber} → above_list k ≡ top → AllBare d → AreTold above_root d → IsFlagged k d []
+-- These flags are those of the lists that are open around a place, innermost first, with what follows the place in its list: the fibers that follow are as their flag tells, which knows the contexts that have moved, and a boundary above keeps what its own flag tells. Nothing is above the root.
+pub data IsFlagged (current : Shape Fiber) : Around Fiber → (rest : Draft Fiber) → Flags → Type 0 where
+  at_root : {k : Around Fiber} {d : Draft Fiber} → above_list k ≡ top → AllBare d → AreTold above_root d → IsFlagged current k d []
   inside : {k k₁ : Around Fiber} {d rest : Draft Fiber} {q : ℕ} {v : Fiber} {o : Option ℕ} {u : Flag} {us : Flags}
-      → above_list k ≡ below q v o rest k₁ → KeepsTold (flag us) v → AllBare d → AreTold u d → IsFlagged k₁ rest us → IsFlagged k d (u ∷ us)
+      → above_list k ≡ below q v o rest k₁ → KeepsTold (flag us) v → u.moved ≡ moved_along current k → AllBare d → AreTold u d → IsFlagged current k₁ rest us → IsFlagged current k d (u ∷ us)
 
 -- the flags of the lists around a made fiber that has these children
 pub record FlagsHere (t : Trees Fiber) (p : ℕ) (kids : Draft Fiber) (us : Flags) : Type 0 where
@@ -46,7 +46,7 @@ pub record FlagsHere (t : Trees Fiber) (p : ℕ) (kids : Draft Fiber) (us : Flag
   pub old : Option ℕ
   pub rest : Draft Fiber
   pub here : t.draft ≡ placed around (made p value old kids rest)
-  pub flagged : IsFlagged around rest us
+  pub flagged : IsFlagged t.current around rest us
 
 -- the flags when the next unit begins the place of a fiber: it is as its flag tells too
 pub record FlagsAtPlace (t : Trees Fiber) (p : ℕ) (us : Flags) : Type 0 where
@@ -62,7 +62,7 @@ pub record FlagsAtEnd (t : Trees Fiber) (q : ℕ) (us : Flags) : Type 0 where
   pub old : Option ℕ
   pub rest : Draft Fiber
   pub up : above_list inner ≡ below q value old rest around
-  pub flagged : IsFlagged inner (taken shapes.none) us
+  pub flagged : IsFlagged t.current inner (taken shapes.none) us
 
 -- the flags where a render comes from a node that is done
 abbrev pub FlagsAfter : Trees Fiber → Flags → Next → Type 0
@@ -81,4 +81,4 @@ pub record HasUnwound (t new : Trees Fiber) (q : ℕ) (v : Fiber) (old : Option 
   pub was : IsOld t.current old node
   pub flags : FlagsHere new q (taken shapes.none) (outer (unwound fs us))
   pub some : unwound fs us ≡ after_attempt (flag (outer (unwound fs us))) v.element node ∷ outer (unwound fs us)
-  pub kept : (generation_of v.stage ≡ (flag (outer (unwound fs us))).generation) × ((origin_of v.stage).stood ≡ (flag (outer (unwound fs us))).stood)
+  pub kept : (generation_of v.stage ≡ (flag (outer (unwound fs us))).generation) × ((origin_of v.stage).visible ≡ (flag (outer (unwound fs us))).visible)

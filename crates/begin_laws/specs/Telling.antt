@@ -3,14 +3,16 @@ use Rattle.std.specs.Prelude.{◌≡◌, ℕ, Bool, true, false, not, ◌&&◌, 
 use Rattle.rx_base.specs.Awaits.{Awaits}
 use Rattle.rx_elem.specs.Elements.{stands_for_children}
 use Rattle.rx_elem.specs.Trees.{Node, children_of, instance_in, mark_of, of_boundary}
+use Rattle.rx_ctx.specs.Contexts.{Stack}
 use Rattle.rx_susp.specs.declared.boundary.BoundaryState.TheVariants.{Hidden}
 use Rattle.rx_hooks.specs.declared.hook.Hook.{Hook}
 use Rattle.rx_links.specs.Drafts.{Trees, old_of}
 use Rattle.rx_links.specs.Readers.{made_value_of}
 use Rattle.rx_meaning.specs.Fresh.{Contexts, Sight}
 use Rattle.rx_meaning.specs.Generations.{generation_below}
-use Rattle.rx_fiber.specs.Fibers.{Fiber, generation_of, is_stood}
+use Rattle.rx_fiber.specs.Fibers.{Fiber, generation_of}
 use Rattle.rx_fiber.specs.declared.stage.Origin.{Origin}
+use Rattle.rx_fiber.specs.Standing.{is_stood}
 use Rattle.rx_fiber.specs.Surround.{IsElementOf}
 use Rattle.rx_meaning.specs.Again.{AreUnresolved}
 use Rattle.rx_ast.specs.Syntax.{Program}
@@ -47,18 +49,19 @@ pub record TellsBody (scene : Scene) (kept : ℕ → Option (List Hook)) (t : Tr
   pub some : (v : Fiber) → Some v ≡ made_value_of t.draft id → IsSome (parts_in v.element) → (again : Bool) × TellsAgain (is_memo scene.checked.now v.element) t.current (old_of t.draft id) v again
       × (again ≡ true → TellsCalm scene kept cs (option_and_then instance_in (mark_at t.current (old_of t.draft id))) (not evaluated)) × (again ≡ false → evaluated ≡ true)
 
--- A hidden boundary's children are tried only for a cause, if its element is that of the current fiber, and that stands where the same values of contexts are given.
-abbrev pub TellsTries : Scene → (kept : ℕ → Option (List Hook)) → Trees Fiber → (id : ℕ) → Type 0
-TellsTries scene kept t id =
-    (v : Fiber) → Some v ≡ made_value_of t.draft id → parts_in v.element ≡ None → IsElementOf t.current (old_of t.draft id) v.element → is_stood v.stage ≡ true → IsCauseToTry scene kept t id
+-- A hidden boundary's children are tried only for a cause, if its element is that of the current fiber, and that is shown, and no context has another value at the place.
+abbrev pub TellsTries : Scene → (kept : ℕ → Option (List Hook)) → Trees Fiber → Stack → (id : ℕ) → Type 0
+TellsTries scene kept t st id =
+    (v : Fiber) → Some v ≡ made_value_of t.draft id → parts_in v.element ≡ None → IsElementOf t.current (old_of t.draft id) v.element → is_stood st v.stage ≡ true → IsCauseToTry scene kept t id
 
--- A fiber is begun over these children: they stood exactly if the fiber is steady, and are of the generation below it.
+-- A fiber is begun over these children: their old ones are visible exactly if the fiber is steady, and they are of the generation below it.
 pub record OpensKids (p : Program) (t new : Trees Fiber) (id : ℕ) (evaluated : Bool) : Type 0 where
   pub value : Fiber
   pub is : Some value ≡ made_value_of t.draft id
   pub origin : Origin
-  pub steadiness : TellsSteady t.current (old_of t.draft id) value origin.stood
+  pub steadiness : TellsSteady t.current (old_of t.draft id) value origin.visible
   pub again : Bool
   pub telling : TellsAgain (is_memo p value.element) t.current (old_of t.draft id) value again
   pub generation : origin.generation ≡ generation_below evaluated (again && keeps_children true (mark_at t.current (old_of t.draft id))) (stands_for_children value.element) (generation_of value.stage)
   pub kids : HasKids origin t new id
+  pub current : new.current ≡ t.current

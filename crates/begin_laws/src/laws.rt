@@ -31,7 +31,7 @@ pub fn places_cost()
         → (if evaluated then 1 else 0) ≤ next_counts each_body s (at_place (suc n) fs cs e old)
         → (if evaluated then 1 else 0) ≡ next_evaluated s us (at_place (suc n) fs cs e old) }
     ensures tries { (s : Sight) (scene : Scene) (kept : ℕ → Option (List Hook)) (t : Trees Fiber) (st : Stack) (id n : ℕ) (fs : List Frame) (cs : Contexts) (e : Element) (old : Option Node) (us : Flags)
-        → IsSceneOf scene s → Fits t → StandsAt t st (Some id) (at_place (suc n) fs cs e old) → TellsIf s kept old → FlagsAtPlace t id us → TellsTries scene kept t id
+        → IsSceneOf scene s → Fits t → StandsAt t st (Some id) (at_place (suc n) fs cs e old) → TellsIf s kept old → FlagsAtPlace t id us → TellsTries scene kept t st id
         → MayGo s us (at_place (suc n) fs cs e old) }
     ensures opens { (s : Sight) (scene : Scene) (kept : ℕ → Option (List Hook)) (t new : Trees Fiber) (st : Stack) (id n : ℕ) (fs : List Frame) (cs : Contexts) (e : Element) (old : Option Node) (us : Flags) (evaluated : Bool)
         → IsSceneOf scene s → Fits t → StandsAt t st (Some id) (at_place (suc n) fs cs e old) → IfSettled s.program (known_by s) old → TellsIf s kept old → FlagsAtPlace t id us → TellsBody scene kept t cs id evaluated

@@ -20,7 +20,7 @@ use Rattle.rx_rules.specs.Names.{component_at}
 use Rattle.rx_susp.specs.declared.boundary.BoundaryState.TheVariants.{Hidden, Shown}
 use Rattle.commit_laws.proofs.TakeOver.{idle_shape, settled_no_null}
 use Rattle.cost_laws.specs.Causes.{has_cause, is_called, is_due, some_update}
-use Rattle.cost_laws.specs.Evaluated.{Flag, above_root, after_attempt, below_boundary, below_node, beside_kept, in_fallback, is_as_before, is_evaluated}
+use Rattle.cost_laws.specs.Evaluated.{Flag, above_root, after_attempt, below_boundary, below_node, beside_kept, in_fallback, is_as_before, is_evaluated, stood}
 use Rattle.cost_laws.specs.Places.{Above, AreEvaluated, Coming, Comings, above_with, come_part, come_shape, coming_here, comings, whole_comings}
 use Rattle.cost_laws.specs.Untouched.{is_retried, is_untouched}
 use Rattle.cost_laws.proofs.ComingOnce.{places_once}
@@ -93,7 +93,7 @@ part_below s come founded below a p h =
 
 -- all that is below such a place, by what stands there
 shape_below : (s : Sight) (come : Comings) → IsFounded s come → (below : Contexts → Renders) (a : Above) (cs : Contexts) (e : Element) (old : Option Node) (shape : Shape)
-    → IsCaused (coming_here s a cs e old) → (a.below || (has_cause s cs e old || is_retried s a.flag.stood e old)) ≡ true
+    → IsCaused (coming_here s a cs e old) → (a.below || (has_cause s cs e old || is_retried s (stood a.flag) e old)) ≡ true
     → Each IsCaused (come_shape come below s a cs e old shape)
 shape_below s come founded below a cs e old absent here h = tt
 shape_below s come founded below a cs e old (waiting r v) here h = (here, tt)
@@ -102,7 +102,7 @@ shape_below s come founded below a cs e old (two_lists p f) here h =
     let b = above_with a s cs e old (below_boundary a.flag e old) in
     let c = above_with a s cs e old (in_fallback s a.flag e old) in (
       here,
-      boundary_comes IsCaused (is_untouched s a.flag.stood e old) (part_waits below p)
+      boundary_comes IsCaused (is_untouched s (stood a.flag) e old) (part_waits below p)
           (come_part come below (record b { address = 0 ∷ a.address }) p) (come_part come below (record c { address = 1 ∷ a.address }) f)
           (λ _. part_below s come founded below (record b { address = 0 ∷ a.address }) p h) (part_below s come founded below (record c { address = 1 ∷ a.address }) f h),
     )
@@ -170,7 +170,7 @@ new_founded s come founded below a cs e (two_lists p f) h =
     let b = above_with a s cs e None (below_boundary a.flag e None) in
     let c = above_with a s cs e None (in_fallback s a.flag e None) in (
       new_caused s a cs e,
-      boundary_comes IsCaused (is_untouched s a.flag.stood e None) (part_waits below p)
+      boundary_comes IsCaused (is_untouched s (stood a.flag) e None) (part_waits below p)
           (come_part come below (record b { address = 0 ∷ a.address }) p) (come_part come below (record c { address = 1 ∷ a.address }) f)
           (λ _. new_part s come founded below (record b { address = 0 ∷ a.address }) p h.0) (new_part s come founded below (record c { address = 1 ∷ a.address }) f h.1),
     )
@@ -210,7 +210,7 @@ called_founded : (s : Sight) (come : Comings) → IsFounded s come → (below : 
     → has_cause s cs e old ≡ true → Each IsCaused (come_shape come below s a cs e old shape)
 called_founded s come founded below a cs e old shape called =
     shape_below s come founded below a cs e old shape (λ h. inl called)
-    (or_right a.below (has_cause s cs e old || is_retried s a.flag.stood e old) (ap (λ b. b || is_retried s a.flag.stood e old) called))
+    (or_right a.below (has_cause s cs e old || is_retried s (stood a.flag) e old) (ap (λ b. b || is_retried s (stood a.flag) e old) called))
 
 -- a component that is not called gives its old elements again
 calm_shape : (s : Sight) (cs : Contexts) (c : ℕ) (key : _) (props : _) (given : Elements) (m : Mark) (ns fs : Forest) (i : Instance) → m ≡ of_instance i
@@ -246,7 +246,7 @@ shown_founded s come founded below a cs key f es m ns fs zeroth shown same empty
     let b = above_with a s cs e old (below_boundary a.flag e old) in
     let c = above_with a s cs e old (in_fallback s a.flag e old) in (
       not_caused s a cs e old refl,
-      boundary_comes IsCaused (is_untouched s a.flag.stood e old) (part_waits below (part cs (listed es) ns))
+      boundary_comes IsCaused (is_untouched s (stood a.flag) e old) (part_waits below (part cs (listed es) ns))
           (come_part come below (record b { address = 0 ∷ a.address }) (part cs (listed es) ns)) (come_part come below (record c { address = 1 ∷ a.address }) (part cs (f ∷ []) fs))
           (λ _. given_part s come founded below (record b { address = 0 ∷ a.address }) cs (listed es) ns (boundary_zeroth a.flag e m ns fs zeroth (ap is_hidden shown)) settled same)
           (new_part s come founded below (record c { address = 1 ∷ a.address }) (part cs (f ∷ []) fs) empty),
@@ -254,7 +254,7 @@ shown_founded s come founded below a cs key f es m ns fs zeroth shown same empty
 
 hidden_founded : (s : Sight) (come : Comings) → IsFounded s come → (below : Contexts → Renders) (a : Above) (cs : Contexts) (key : _) (f : Element) (es : Elements) (m : Mark) (ns fs : Forest) (w : Awaits)
     → m ≡ of_boundary (Hidden w) → elements_in fs ≡ f ∷ [] → AllSettled s.program (known_by s) fs
-    → (untouched : Bool) → is_untouched s a.flag.stood (elements.boundary key f es) (Some (node (elements.boundary key f es) m ns fs)) ≡ untouched
+    → (untouched : Bool) → is_untouched s (stood a.flag) (elements.boundary key f es) (Some (node (elements.boundary key f es) m ns fs)) ≡ untouched
     → Each IsCaused (come_shape come below s a cs (elements.boundary key f es) (Some (node (elements.boundary key f es) m ns fs)) (two_lists (part cs (listed es) ns) (part cs (f ∷ []) fs)))
 hidden_founded s come founded below a cs key f es m ns fs w hidden same settled true kept =
     let e = elements.boundary key f es in
@@ -264,7 +264,7 @@ hidden_founded s come founded below a cs key f es m ns fs w hidden same settled 
     let beside : in_fallback s a.flag e old ≡ beside_kept = ap (λ t. cond t beside_kept (after_attempt a.flag e old)) kept in
     let zeroth : (in_fallback s a.flag e old).generation ≡ 0 = ap (λ (u : Flag). u.generation) beside in (
       not_caused s a cs e old refl,
-      boundary_comes IsCaused (is_untouched s a.flag.stood e old) (part_waits below (part cs (listed es) ns))
+      boundary_comes IsCaused (is_untouched s (stood a.flag) e old) (part_waits below (part cs (listed es) ns))
           (come_part come below (record b { address = 0 ∷ a.address }) (part cs (listed es) ns)) (come_part come below (record c { address = 1 ∷ a.address }) (part cs (f ∷ []) fs))
           (λ tried. absurd (cc (kept, tried)))
           (given_part s come founded below (record c { address = 1 ∷ a.address }) cs (f ∷ []) fs zeroth settled same),
@@ -273,9 +273,9 @@ hidden_founded s come founded below a cs key f es m ns fs w hidden same settled 
     let e = elements.boundary key f es in
     let old : Option Node = Some (node e m ns fs) in
     let was : is_hidden m ≡ true = ap is_hidden hidden in
-    let retried : is_retried s a.flag.stood e old ≡ true = rw (was, tried) refl in
+    let retried : is_retried s (stood a.flag) e old ≡ true = rw (was, tried) refl in
     shape_below s come founded below a cs e old (two_lists (part cs (listed es) ns) (part cs (f ∷ []) fs)) (not_caused s a cs e old refl)
-    (or_right a.below (is_retried s a.flag.stood e old) retried)
+    (or_right a.below (is_retried s (stood a.flag) e old) retried)
 
 given_founded : (s : Sight) (come : Comings) → IsFounded s come → (below : Contexts → Renders) (a : Above) (cs : Contexts) (e : Element) (m : Mark) (ns fs : Forest)
     → DoneBefore s.cut s.journal.updates → a.flag.generation ≡ 0 → IsOwn s.program (known_by s) e m ns fs → AllSettled s.program (known_by s) ns → AllSettled s.program (known_by s) fs
@@ -293,7 +293,7 @@ given_founded s come founded below a cs (elements.boundary key f es) m ns fs don
     shown_founded s come founded below a cs key f es m ns fs zeroth own.0 own.1 own.2 kids
 given_founded s come founded below a cs (elements.boundary key f es) m ns fs done zeroth (inr own) kids second =
     hidden_founded s come founded below a cs key f es m ns fs own.0 own.1 own.2 second
-    (is_untouched s a.flag.stood (elements.boundary key f es) (Some (node (elements.boundary key f es) m ns fs))) refl
+    (is_untouched s (stood a.flag) (elements.boundary key f es) (Some (node (elements.boundary key f es) m ns fs))) refl
 given_founded s come founded below a cs (elements.provider c key x es) m ns fs done zeroth own kids second =
     kept_list s come founded below a cs (slice_set cs c x) (elements.provider c key x es) m ns fs plain (listed es) zeroth refl kids own.1
 
@@ -304,7 +304,7 @@ settled_founded s come founded below a cs (node e m ns fs) done zeroth settled =
 placed_founded : (s : Sight) (come : Comings) → IsFounded s come → (below : Contexts → Renders) (a : Above) (cs : Contexts) (e : Element) (old : Option Node) → DoneBefore s.cut s.journal.updates
     → IsPlaced s a e old → Each IsCaused (come_shape come below s a cs e old (shape_of s cs e old))
 placed_founded s come founded below a cs e old done (inl h) =
-    shape_below s come founded below a cs e old (shape_of s cs e old) (λ _. inr h) (ap (λ b. b || (has_cause s cs e old || is_retried s a.flag.stood e old)) h)
+    shape_below s come founded below a cs e old (shape_of s cs e old) (λ _. inr h) (ap (λ b. b || (has_cause s cs e old || is_retried s (stood a.flag) e old)) h)
 placed_founded s come founded below a cs e None done (inr h) = new_founded s come founded below a cs e (shape_of s cs e None) (new_shape s cs e)
 placed_founded s come founded below a cs e (Some x) done (inr h) =
     subst (λ d. Each IsCaused (come_shape come below s a cs d (Some x) (shape_of s cs d (Some x)))) (sym h.1) (settled_founded s come founded below a cs x done h.0 h.2)

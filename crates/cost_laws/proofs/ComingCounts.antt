@@ -13,7 +13,7 @@ use Rattle.rx_meaning.specs.Counts.{count_part, if_waits, try_all, unless_waits}
 use Rattle.rx_meaning.specs.Touched.{children_with_old, component_in, part_waits, waits_at}
 use Rattle.rx_rules.specs.Names.{component_at}
 use Rattle.cost_laws.specs.Causes.{has_cause}
-use Rattle.cost_laws.specs.Evaluated.{Evaluates, above_root, below_boundary, below_node, evaluate_shape, evaluated, in_fallback, is_as_before, own_body, whole_evaluated}
+use Rattle.cost_laws.specs.Evaluated.{Evaluates, above_root, below_boundary, below_node, evaluate_shape, evaluated, in_fallback, is_as_before, own_body, stood, whole_evaluated}
 use Rattle.cost_laws.specs.Places.{Above, Coming, Comings, above_with, come_all, come_part, come_shape, coming_here, comings, evaluated_places, whole_comings}
 use Rattle.cost_laws.specs.Untouched.{is_untouched}
 
@@ -100,7 +100,7 @@ shape_counted come evaluate counted below s a cs e old (two_lists p f) fits =
     let c = above_with a s cs e old (in_fallback s a.flag e old) in
     let primary = come_part come below (record b { address = 0 ∷ a.address }) p in
     let second = come_part come below (record c { address = 1 ∷ a.address }) f in
-    let tried = if is_untouched s a.flag.stood e old then [] else primary in
+    let tried = if is_untouched s (stood a.flag) e old then [] else primary in
     let fallen = if part_waits below p then second else [] in
     let as_component : Option ℕ → ℕ = λ c. cond (is_some c && (has_cause s cs e old || not (is_as_before s a.flag e old))) 1 0 in
     let none_here : own_body s a.flag cs e old ≡ 0 = ap as_component fits in
@@ -109,7 +109,7 @@ shape_counted come evaluate counted below s a cs e old (two_lists p f) fits =
       counts_first (coming_here s a cs e old) (tried ++ fallen),
       none_here,
       counts_and tried fallen,
-      counts_unless (is_untouched s a.flag.stood e old) primary (count_part (evaluate (below_boundary a.flag e old)) below p) (part_counted come evaluate counted below (record b { address = 0 ∷ a.address }) p),
+      counts_unless (is_untouched s (stood a.flag) e old) primary (count_part (evaluate (below_boundary a.flag e old)) below p) (part_counted come evaluate counted below (record b { address = 0 ∷ a.address }) p),
       counts_where (part_waits below p) second (count_part (evaluate (in_fallback s a.flag e old)) below f) (part_counted come evaluate counted below (record c { address = 1 ∷ a.address }) f),
       one_of_them_waits (below p.contexts) (children_with_old p) (count_part (evaluate (in_fallback s a.flag e old)) below f),
     )

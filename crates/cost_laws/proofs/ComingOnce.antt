@@ -5,7 +5,7 @@ use Rattle.rx_elem.specs.Elements.{Element}
 use Rattle.rx_elem.specs.Trees.{Node}
 use Rattle.rx_meaning.specs.Fresh.{Sight, Contexts, Renders, default_contexts, depth_limit, rendered, root_element, Part, Shape, absent, waiting, one_list, two_lists, shape_of}
 use Rattle.rx_meaning.specs.Touched.{Address, children_with_old, part_waits, waits_at}
-use Rattle.cost_laws.specs.Evaluated.{above_root, below_boundary, below_node, in_fallback}
+use Rattle.cost_laws.specs.Evaluated.{above_root, below_boundary, below_node, in_fallback, stood}
 use Rattle.cost_laws.specs.Places.{Above, AllApart, Coming, Comings, above_with, come_all, come_part, come_shape, coming_here, comings, evaluated_places, whole_comings}
 use Rattle.cost_laws.specs.Untouched.{is_untouched}
 use Rattle.cost_laws.proofs.Each.{Each, all_of, each_and, each_kept, each_so}
@@ -134,12 +134,12 @@ shape_once come once below s a cs e old (two_lists p f) =
     let c = above_with a s cs e old (in_fallback s a.flag e old) in
     let primary = come_part come below (record b { address = 0 ∷ a.address }) p in
     let second = come_part come below (record c { address = 1 ∷ a.address }) f in
-    let tried = if is_untouched s a.flag.stood e old then [] else primary in
+    let tried = if is_untouched s (stood a.flag) e old then [] else primary in
     let fallen = if part_waits below p then second else [] in
     let first = part_once come once below (record b { address = 0 ∷ a.address }) p in
     let next = part_once come once below (record c { address = 1 ∷ a.address }) f in
     let left : Apart tried × Each (λ v. IsBelow (0 ∷ a.address) v.address) tried =
-    none_if (λ vs. Apart vs × Each (λ v. IsBelow (0 ∷ a.address) v.address) vs) (tt, tt) (is_untouched s a.flag.stood e old) primary (first.0, in_list a.address 0 primary first.1)
+    none_if (λ vs. Apart vs × Each (λ v. IsBelow (0 ∷ a.address) v.address) vs) (tt, tt) (is_untouched s (stood a.flag) e old) primary (first.0, in_list a.address 0 primary first.1)
     in
     let right : Apart fallen × Each (λ v. IsBelow (1 ∷ a.address) v.address) fallen =
     some_if (λ vs. Apart vs × Each (λ v. IsBelow (1 ∷ a.address) v.address) vs) (tt, tt) (part_waits below p) second (next.0, in_list a.address 1 second next.1)

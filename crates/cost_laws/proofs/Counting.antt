@@ -12,7 +12,7 @@ use Rattle.rx_meaning.specs.Touched.{children_with_old}
 use Rattle.rx_meaning.specs.Cursor.{given_by, is_null, Open, around, trying, falling, Frame, Cursor, at_place, at_end, ended, come_to, open_part, arrive, past, unwind, begin, finished, unit, start}
 use Rattle.rx_meaning.specs.Rest.{onto, from_open}
 use Rattle.render_laws.proofs.Resuming.{onto_push, onto_waits, onto_made, open_made, null_is_empty}
-use Rattle.cost_laws.specs.Evaluated.{Flag, after_attempt, below_boundary, beside_kept, evaluate_shape, evaluated, in_fallback, whole_evaluated}
+use Rattle.cost_laws.specs.Evaluated.{Flag, after_attempt, below_boundary, beside_kept, evaluate_shape, evaluated, in_fallback, stood, whole_evaluated}
 use Rattle.cost_laws.specs.Untouched.{is_untouched}
 use Rattle.cost_laws.specs.Left.{Flags, flag, outer, evaluate_open, evaluate_around, left_evaluated, unwound_by, unwound, begun_flags, unit_flags, begins_evaluated, next_evaluated, MayTry, MayGo}
 
@@ -95,7 +95,7 @@ unwind_evaluates n s us (f ∷ fs) a =
     ∙ rw (onto_waits f.done a) (omega arith)
 
 -- the fallback of a boundary that is tried has what its children leave it
-tried_fallback : (s : Sight) (u : Flag) (e : Element) (old : Option Node) → is_untouched s u.stood e old ≡ false → in_fallback s u e old ≡ after_attempt u e old
+tried_fallback : (s : Sight) (u : Flag) (e : Element) (old : Option Node) → is_untouched s (stood u) e old ≡ false → in_fallback s u e old ≡ after_attempt u e old
 tried_fallback s u e old h = ap (λ b. cond b beside_kept (after_attempt u e old)) h
 
 begin_evaluates : (n : ℕ) (s : Sight) (us : Flags) (fs : List Frame) (cs : Contexts) (e : Element) (old : Option Node) (shape : Shape) → MayTry s (flag us) e old shape
@@ -107,7 +107,7 @@ begin_evaluates n s us fs cs e old (one_list m p) h = omega (arith, part_evaluat
 begin_evaluates n s us fs cs e old (two_lists p f) h =
     let u = below_boundary (flag us) e old in
     let w = after_attempt (flag us) e old in
-    let tried : cond (is_untouched s (flag us).stood e old) 0 (count_part (evaluated n s u) (rendered n s) p) ≡ count_part (evaluated n s u) (rendered n s) p =
+    let tried : cond (is_untouched s (stood (flag us)) e old) 0 (count_part (evaluated n s u) (rendered n s) p) ≡ count_part (evaluated n s u) (rendered n s) p =
     ap (λ b. cond b 0 (count_part (evaluated n s u) (rendered n s) p)) h
     in
     let after : if_waits (render_part (rendered n s) p) (count_part (evaluated n s (in_fallback s (flag us) e old)) (rendered n s) f) ≡ if_waits (render_part (rendered n s) p) (count_part (evaluated n s w) (rendered n s) f) =
@@ -154,16 +154,16 @@ taken_evaluates s us n fs cs e o again =
 
 -- A boundary whose children would wait again
 
-untouched_fallback : (s : Sight) (u : Flag) (e : Element) (old : Option Node) → is_untouched s u.stood e old ≡ true → in_fallback s u e old ≡ beside_kept
+untouched_fallback : (s : Sight) (u : Flag) (e : Element) (old : Option Node) → is_untouched s (stood u) e old ≡ true → in_fallback s u e old ≡ beside_kept
 untouched_fallback s u e old h = ap (λ b. cond b beside_kept (after_attempt u e old)) h
 
 waiting_evaluates : (s : Sight) (u : Flag) (n : ℕ) (e : Element) (o : Option Node) (p f : Part) (a : Awaits) (w : Flag)
-    → render_part (rendered n s) p ≡ one_waits a → is_untouched s u.stood e o ≡ true → in_fallback s u e o ≡ w
-    → cond (is_untouched s u.stood e o) 0 (count_part (evaluated n s (below_boundary u e o)) (rendered n s) p)
+    → render_part (rendered n s) p ≡ one_waits a → is_untouched s (stood u) e o ≡ true → in_fallback s u e o ≡ w
+    → cond (is_untouched s (stood u) e o) 0 (count_part (evaluated n s (below_boundary u e o)) (rendered n s) p)
     + if_waits (render_part (rendered n s) p) (count_part (evaluated n s (in_fallback s u e o)) (rendered n s) f)
     ≡ count_part (evaluated n s w) (rendered n s) f
 waiting_evaluates s u n e o p f a w waited out fallback =
-    let none : cond (is_untouched s u.stood e o) 0 (count_part (evaluated n s (below_boundary u e o)) (rendered n s) p) ≡ 0 =
+    let none : cond (is_untouched s (stood u) e o) 0 (count_part (evaluated n s (below_boundary u e o)) (rendered n s) p) ≡ 0 =
     ap (λ b. cond b 0 (count_part (evaluated n s (below_boundary u e o)) (rendered n s) p)) out
     in
     let waits : if_waits (render_part (rendered n s) p) (count_part (evaluated n s (in_fallback s u e o)) (rendered n s) f) ≡ count_part (evaluated n s w) (rendered n s) f =
@@ -173,7 +173,7 @@ waiting_evaluates s u n e o p f a w waited out fallback =
     omega (arith, none, waits)
 
 fallback_at : (s : Sight) (u : Flag) (n : ℕ) (cs : Contexts) (e : Element) (o : Option Node) (p f : Part) (a : Awaits) → shape_of s cs e o ≡ two_lists p f
-    → render_part (rendered n s) p ≡ one_waits a → is_untouched s u.stood e o ≡ true
+    → render_part (rendered n s) p ≡ one_waits a → is_untouched s (stood u) e o ≡ true
     → (evaluated (suc n) s u cs e o ≡ count_part (evaluated n s beside_kept) (rendered n s) f)
     × (rendered (suc n) s cs e o ≡ over_boundary e o (one_waits a) (render_part (rendered n s) f))
 unfolding evaluated rendered
@@ -185,7 +185,7 @@ fallback_at s u n cs e o p f a shape waited out = (
 
 -- An attempt that is left out, of an untouched boundary, leaves what there was.
 pub attempt_evaluates : (s : Sight) (us : Flags) (n : ℕ) (fs : List Frame) (cs : Contexts) (e : Element) (o : Option Node) (p f : Part) (a : Awaits) → shape_of s cs e o ≡ two_lists p f
-    → render_part (rendered n s) p ≡ one_waits a → is_untouched s (flag us).stood e o ≡ true
+    → render_part (rendered n s) p ≡ one_waits a → is_untouched s (stood (flag us)) e o ≡ true
     → left_evaluated s us (at_place (suc n) fs cs e o) ≡ left_evaluated s (beside_kept ∷ us) (open_part n fs (falling e o a) f)
 attempt_evaluates s us n fs cs e o p f a shape waited out =
     let at = fallback_at s (flag us) n cs e o p f a shape waited out in

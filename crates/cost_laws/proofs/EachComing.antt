@@ -6,7 +6,7 @@ use Rattle.rx_elem.specs.Elements.{Element}
 use Rattle.rx_elem.specs.Trees.{Forest, Node}
 use Rattle.rx_meaning.specs.Fresh.{Sight, Contexts, Renders, default_contexts, depth_limit, rendered, root_element, Part, Shape, absent, waiting, one_list, two_lists, shape_of}
 use Rattle.rx_meaning.specs.Touched.{children_with_old, part_waits, waits_at}
-use Rattle.cost_laws.specs.Evaluated.{above_root, below_boundary, below_node, in_fallback}
+use Rattle.cost_laws.specs.Evaluated.{above_root, below_boundary, below_node, in_fallback, stood}
 use Rattle.cost_laws.specs.Places.{Above, Coming, Comings, above_with, come_all, come_part, come_shape, coming_here, comings, whole_comings}
 use Rattle.cost_laws.specs.Untouched.{is_untouched}
 use Rattle.cost_laws.proofs.Each.{Each, each_and, each_so}
@@ -74,7 +74,7 @@ module _ (K : Element → Option Node → Type 0) (pairs : OfPairs K) (P : Comin
       let b = above_with a s cs e old (below_boundary a.flag e old) in
       let c = above_with a s cs e old (in_fallback s a.flag e old) in (
         here,
-        boundary_comes P (is_untouched s a.flag.stood e old) (part_waits below p)
+        boundary_comes P (is_untouched s (stood a.flag) e old) (part_waits below p)
             (come_part come below (record b { address = 0 ∷ a.address }) p) (come_part come below (record c { address = 1 ∷ a.address }) f)
             (λ _. part_each come h below (record b { address = 0 ∷ a.address }) p) (part_each come h below (record c { address = 1 ∷ a.address }) f),
       )

@@ -9,7 +9,7 @@ use Rattle.rx_meaning.specs.Counts.{Tries, unless_waits, if_waits, if_made, try_
 use Rattle.rx_meaning.specs.Touched.{children_with_old}
 use Rattle.render_laws.proofs.UnitBound.{if_made_nothing}
 use Rattle.cost_laws.specs.Causes.{has_cause}
-use Rattle.cost_laws.specs.Evaluated.{Evaluates, Flag, above_root, below_boundary, below_node, evaluate_shape, evaluated, in_fallback, is_as_before, own_body, whole_evaluated}
+use Rattle.cost_laws.specs.Evaluated.{Evaluates, Flag, above_root, below_boundary, below_node, evaluate_shape, evaluated, in_fallback, is_as_before, own_body, stood, whole_evaluated}
 use Rattle.cost_laws.specs.Untouched.{is_untouched}
 
 -- one count is at most another
@@ -59,7 +59,7 @@ shape_less f g below h s u cs e old (waiting r v) = own_less s u cs e old
 shape_less f g below h s u cs e old (one_list m p) =
     omega (arith, own_less s u cs e old, part_less (f (below_node s u cs e old)) g below (h (below_node s u cs e old)) p, if_made_nothing (render_part below p))
 shape_less f g below h s u cs e old (two_lists p q) =
-    lists_less (is_untouched s u.stood e old) (render_part below p) (render_part below q)
+    lists_less (is_untouched s (stood u) e old) (render_part below p) (render_part below q)
     (count_part (f (below_boundary u e old)) below p) (count_part g below p) (count_part (f (in_fallback s u e old)) below q) (count_part g below q) (one_if_component e)
     (part_less (f (below_boundary u e old)) g below (h (below_boundary u e old)) p)
     (part_less (f (in_fallback s u e old)) g below (h (in_fallback s u e old)) q)

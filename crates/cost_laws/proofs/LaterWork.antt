@@ -20,8 +20,8 @@ use Rattle.render_laws.specs.SameSight.{SeesSame, AllAfter}
 use Rattle.render_laws.proofs.LaterEntries.{renders_same, shape_same, AllFail, late_fail, longer_refresh}
 use Rattle.rx_meaning.specs.Again.{AllOpen}
 use Rattle.cost_laws.specs.Causes.{has_cause, instance_news, is_called, is_due, is_left_waiting, is_news, news_at, news_in, some_update, waits_still}
-use Rattle.cost_laws.specs.Evaluated.{Evaluates, Flag, above_root, after_attempt, below_boundary, below_node, beside_kept, evaluate_shape, evaluated, in_fallback, is_as_before, is_evaluated, own_body, whole_evaluated}
-use Rattle.cost_laws.specs.Untouched.{is_element_of, is_untouched, stands_below}
+use Rattle.cost_laws.specs.Evaluated.{Evaluates, Flag, above_root, after_attempt, below_boundary, below_node, beside_kept, evaluate_shape, evaluated, in_fallback, is_as_before, is_evaluated, own_body, stood, whole_evaluated}
+use Rattle.cost_laws.specs.Untouched.{is_element_of, is_untouched, moved_below, visible_below}
 use Rattle.cost_laws.specs.Left.{Flags, flag, outer, evaluate_open, evaluate_around, left_evaluated}
 use Rattle.cost_laws.specs.SameWork.{SeesSameWork}
 use Rattle.cost_laws.specs.Undue.{IsUndue}
@@ -70,18 +70,18 @@ module _ (s : Sight) (j : Journal) (same : SeesSame s j) (work : SeesSameWork s 
   still_same (Some n) = waiting_same n (boundary_in (mark_of n))
 
   -- The same are untouched.
-  pub untouched_same : (stood : Bool) (e : Element) (old : Option Node) → is_untouched s stood e old ≡ is_untouched seen stood e old
-  untouched_same stood e old = ap (λ b. stood && (is_element_of e old && b)) (still_same old)
+  pub untouched_same : (there : Bool) (e : Element) (old : Option Node) → is_untouched s there e old ≡ is_untouched seen there e old
+  untouched_same there e old = ap (λ b. there && (is_element_of e old && b)) (still_same old)
 
   fallback_same : (u : Flag) (e : Element) (old : Option Node) → in_fallback s u e old ≡ in_fallback seen u e old
-  fallback_same u e old = ap (λ b. cond b beside_kept (after_attempt u e old)) (untouched_same u.stood e old)
+  fallback_same u e old = ap (λ b. cond b beside_kept (after_attempt u e old)) (untouched_same (stood u) e old)
 
   called_here : (u : Flag) (cs : Contexts) (e : Element) (old : Option Node) → is_evaluated s u cs e old ≡ is_evaluated seen u cs e old
   called_here u cs e old = ap (λ b. is_some (component_in e) && (b || not (is_as_before s u e old))) (cause_same cs e old)
 
   node_same : (u : Flag) (cs : Contexts) (e : Element) (old : Option Node) → below_node s u cs e old ≡ below_node seen u cs e old
   node_same u cs e old =
-      λ i. record { generation = generation_below (called_here u cs e old i) (is_as_before s u e old) (stands_for_children e) u.generation; stood = stands_below u.stood e old }
+      λ i. record { generation = generation_below (called_here u cs e old i) (is_as_before s u e old) (stands_for_children e) u.generation; visible = visible_below u.visible e old; moved = moved_below u.moved e old }
 
   own_same : (u : Flag) (cs : Contexts) (e : Element) (old : Option Node) → own_body s u cs e old ≡ own_body seen u cs e old
   own_same u cs e old = ap (λ b. cond b 1 0) (called_here u cs e old)
@@ -92,7 +92,7 @@ module _ (s : Sight) (j : Journal) (same : SeesSame s j) (work : SeesSameWork s 
   place_same evaluate below u cs e old (waiting r v) = own_same u cs e old
   place_same evaluate below u cs e old (one_list m p) = λ i. own_same u cs e old i + count_part (evaluate (node_same u cs e old i)) below p
   place_same evaluate below u cs e old (two_lists p f) =
-      λ i. cond (untouched_same u.stood e old i) 0 (count_part (evaluate (below_boundary u e old)) below p)
+      λ i. cond (untouched_same (stood u) e old i) 0 (count_part (evaluate (below_boundary u e old)) below p)
       + if_waits (render_part below p) (count_part (evaluate (fallback_same u e old i)) below f)
 
   evaluated_same : (n : ℕ) (u : Flag) (cs : Contexts) (e : Element) (old : Option Node) → evaluated n s u cs e old ≡ evaluated n seen u cs e old

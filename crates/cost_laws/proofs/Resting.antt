@@ -17,7 +17,7 @@ use Rattle.commit_laws.specs.Each.{ForEach, ForEachIn}
 use Rattle.commit_laws.specs.Idle.{AllIdle, IsIdle, IsIdleMark}
 use Rattle.commit_laws.proofs.TakeOver.{idle_shape, settled_no_null}
 use Rattle.cost_laws.specs.Causes.{has_cause, is_called, is_due, some_update}
-use Rattle.cost_laws.specs.Evaluated.{Flag, below_boundary, below_node, evaluate_shape, evaluated, in_fallback, is_again, is_as_before, is_evaluated, own_body}
+use Rattle.cost_laws.specs.Evaluated.{Flag, below_boundary, below_node, evaluate_shape, evaluated, in_fallback, is_again, is_as_before, is_evaluated, own_body, stood}
 use Rattle.cost_laws.specs.Undue.{IsUndue}
 use Rattle.cost_laws.specs.Untouched.{is_element_of, is_untouched}
 
@@ -192,7 +192,7 @@ two_rest : (n : ℕ) (s : Sight) (u : Flag) (cs : Contexts) (e : Element) (old :
 two_rest n s u cs e old p f h = (
   omega (
     arith,
-    nothing_if (is_untouched s u.stood e old) (count_part (evaluated n s (below_boundary u e old)) (rendered n s) p) h.0,
+    nothing_if (is_untouched s (stood u) e old) (count_part (evaluated n s (below_boundary u e old)) (rendered n s) p) h.0,
     no_fallback (render_part (rendered n s) p) (count_part (evaluated n s (in_fallback s u e old)) (rendered n s) f) h.1,
   ),
   boundary_stands e old (render_part (rendered n s) p) (render_part (rendered n s) f) h.1,

@@ -1,5 +1,6 @@
 -- Which bodies a render evaluates: those of components that have a cause, and of those whose element was made anew. If a component is declared by `memo`, an equal element is none that was made anew.
-use Rattle.std.specs.Prelude.{ℕ, zero, suc, ◌+◌, Bool, true, not, ◌&&◌, ◌||◌, cond, nat_eq, is_some, Option}
+use Rattle.std.specs.Prelude.{ℕ, zero, suc, ◌+◌, Bool, true, not, ◌&&◌, ◌||◌, cond, List, [], nat_eq, is_some, Option}
+use Rattle.rx_ctx.specs.Contexts.{none_moved}
 use Rattle.rx_elem.specs.Elements.{Element, stands_for_children}
 use Rattle.rx_elem.specs.Trees.{Node, was_hidden}
 use Rattle.rx_meaning.specs.Counts.{Tries, count_part, if_waits}
@@ -7,18 +8,23 @@ use Rattle.rx_meaning.specs.Fresh.{Sight, Contexts, Renders, rendered, depth_lim
 use Rattle.rx_meaning.specs.Generations.{generation_below, own_generation}
 use Rattle.rx_meaning.specs.Touched.{component_in, is_memo}
 use Rattle.cost_laws.specs.Causes.{has_cause}
-use Rattle.cost_laws.specs.Untouched.{is_element_of, is_untouched, stands_below}
+use Rattle.cost_laws.specs.Untouched.{is_element_of, is_untouched, moved_below, visible_below}
 
 -- The places above
 
--- What the places above tell of one: the generation of its element, and whether its old node is visible and stands where the same values of contexts are given.
+-- What the places above tell of one: the generation of its element, whether its old node is visible, and the contexts that have another value at the place than the committed tree has there.
 pub record Flag : Type 0 where
   pub generation : ℕ
-  pub stood : Bool
+  pub visible : Bool
+  pub moved : List ℕ
 
 -- nothing stands above the root, whose element is always the same
 abbrev pub above_root : Flag
-above_root = record { generation = 0; stood = true }
+above_root = record { generation = 0; visible = true; moved = [] }
+
+-- the old node is visible, and no context has another value at the place
+abbrev pub stood : Flag → Bool
+stood u = u.visible && none_moved u.moved
 
 -- the element of a place is the committed one, given again
 abbrev pub is_again : Flag → Element → Option Node → Bool
@@ -37,25 +43,30 @@ abbrev pub below_node : Sight → Flag → Contexts → Element → Option Node 
 below_node s u cs e old =
     record {
       generation = generation_below (is_evaluated s u cs e old) (is_as_before s u e old) (stands_for_children e) u.generation;
-      stood = stands_below u.stood e old;
+      visible = visible_below u.visible e old;
+      moved = moved_below u.moved e old;
     }
 
 -- of the children of a boundary; what it kept while it was hidden was made for another element
 abbrev pub below_boundary : Flag → Element → Option Node → Flag
 below_boundary u e old =
-    record { generation = own_generation (is_again u e old && not (was_hidden old)) u.generation; stood = stands_below u.stood e old }
+    record {
+      generation = own_generation (is_again u e old && not (was_hidden old)) u.generation;
+      visible = visible_below u.visible e old;
+      moved = u.moved;
+    }
 
 -- of its fallback if its children are not tried, since it is untouched: its element is the committed one, and it stands as the boundary does
 abbrev pub beside_kept : Flag
-beside_kept = record { generation = 0; stood = true }
+beside_kept = record { generation = 0; visible = true; moved = [] }
 
 -- of its fallback once its children were tried: it stands as the boundary does
 abbrev pub after_attempt : Flag → Element → Option Node → Flag
-after_attempt u e old = record { generation = own_generation (is_again u e old) u.generation; stood = u.stood }
+after_attempt u e old = record u { generation = own_generation (is_again u e old) u.generation }
 
 -- of its fallback
 abbrev pub in_fallback : Sight → Flag → Element → Option Node → Flag
-in_fallback s u e old = cond (is_untouched s u.stood e old) beside_kept (after_attempt u e old)
+in_fallback s u e old = cond (is_untouched s (stood u) e old) beside_kept (after_attempt u e old)
 
 -- Bodies
 
@@ -73,7 +84,7 @@ evaluate_shape evaluate below s u cs e old absent = 0
 evaluate_shape evaluate below s u cs e old (waiting r v) = own_body s u cs e old
 evaluate_shape evaluate below s u cs e old (one_list m p) = own_body s u cs e old + count_part (evaluate (below_node s u cs e old)) below p
 evaluate_shape evaluate below s u cs e old (two_lists p f) =
-    cond (is_untouched s u.stood e old) 0 (count_part (evaluate (below_boundary u e old)) below p)
+    cond (is_untouched s (stood u) e old) 0 (count_part (evaluate (below_boundary u e old)) below p)
     + if_waits (render_part below p) (count_part (evaluate (in_fallback s u e old)) below f)
 
 -- at a place and below it, with so many levels

@@ -6,7 +6,7 @@ use Rattle.rx_meaning.specs.Counts.{count_part, if_waits, try_all, unless_waits}
 use Rattle.rx_meaning.specs.Cursor.{Open, around, trying, falling, Frame, Cursor, at_place, at_end, ended, finished}
 use Rattle.rx_meaning.specs.Fresh.{Sight, Contexts, Renders, Place, made, Places, rendered, Shape, absent, waiting, one_list, two_lists, shape_of}
 use Rattle.rx_meaning.specs.Rest.{from_open, list_from}
-use Rattle.cost_laws.specs.Evaluated.{Evaluates, Flag, above_root, after_attempt, below_boundary, below_node, evaluated, own_body, whole_evaluated}
+use Rattle.cost_laws.specs.Evaluated.{Evaluates, Flag, above_root, after_attempt, below_boundary, below_node, evaluated, own_body, stood, whole_evaluated}
 use Rattle.cost_laws.specs.Untouched.{is_untouched}
 
 -- for each list that is open, innermost first, what is told of its places
@@ -91,7 +91,7 @@ abbrev pub MayTry : Sight → Flag → Element → Option Node → Shape → Typ
 MayTry s u e old absent = Unit {0}
 MayTry s u e old (waiting r v) = Unit {0}
 MayTry s u e old (one_list m p) = Unit {0}
-MayTry s u e old (two_lists p f) = is_untouched s u.stood e old ≡ false
+MayTry s u e old (two_lists p f) = is_untouched s (stood u) e old ≡ false
 
 -- the next unit tries no untouched boundary's children
 abbrev pub MayGo : Sight → Flags → Cursor → Type 0

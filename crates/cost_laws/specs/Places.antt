@@ -7,7 +7,7 @@ use Rattle.rx_elem.specs.Trees.{Node}
 use Rattle.rx_meaning.specs.Fresh.{Sight, Contexts, Renders, rendered, depth_limit, default_contexts, root_element, Part, Shape, absent, waiting, one_list, two_lists, shape_of}
 use Rattle.rx_meaning.specs.Touched.{Address, children_with_old, is_memo, part_waits, waits_at}
 use Rattle.cost_laws.specs.Causes.{has_cause, is_dirty}
-use Rattle.cost_laws.specs.Evaluated.{Flag, above_root, below_boundary, below_node, in_fallback, is_evaluated}
+use Rattle.cost_laws.specs.Evaluated.{Flag, above_root, below_boundary, below_node, in_fallback, is_evaluated, stood}
 use Rattle.cost_laws.specs.Untouched.{is_retried, is_untouched}
 
 -- a place that a render comes to, what untouched boundaries keep apart
@@ -56,13 +56,13 @@ coming_here s a cs e old =
       caused = has_cause s cs e old;
       dirty = is_dirty s cs e old;
       memo = is_memo s.program e;
-      retried = is_retried s a.flag.stood e old;
+      retried = is_retried s (stood a.flag) e old;
       below = a.below;
     }
 
 -- what is told of the places below one
 abbrev pub above_with : Above → Sight → Contexts → Element → Option Node → Flag → Above
-above_with a s cs e old u = record { address = a.address; below = a.below || (has_cause s cs e old || is_retried s a.flag.stood e old); flag = u }
+above_with a s cs e old u = record { address = a.address; below = a.below || (has_cause s cs e old || is_retried s (stood a.flag) e old); flag = u }
 
 -- to a place and to those below it, by what stands there; the primary of a boundary has the address 0 below it, its fallback 1
 abbrev pub come_shape : Comings → (Contexts → Renders) → Sight → Above → Contexts → Element → Option Node → Shape → List Coming
@@ -74,7 +74,7 @@ come_shape come below s a cs e old (two_lists p f) =
     let primary = above_with a s cs e old (below_boundary a.flag e old) in
     let second = above_with a s cs e old (in_fallback s a.flag e old) in
     coming_here s a cs e old
-    ∷ ((if is_untouched s a.flag.stood e old then [] else come_part come below (record primary { address = 0 ∷ a.address }) p)
+    ∷ ((if is_untouched s (stood a.flag) e old then [] else come_part come below (record primary { address = 0 ∷ a.address }) p)
     ++ (if part_waits below p then come_part come below (record second { address = 1 ∷ a.address }) f else []))
 
 -- to a place and below it, with so many levels

@@ -1,7 +1,7 @@
 -- Which hidden boundaries are untouched.
-use Rattle.std.specs.Ordering.{int_eq}
-use Rattle.std.specs.Prelude.{ℕ, ℤ, Bool, true, false, not, ◌&&◌, nat_eq, Option, Some, None}
-use Rattle.rx_elem.specs.Elements.{Element, same_element}
+use Rattle.std.specs.Prelude.{ℕ, ℤ, Bool, false, not, ◌&&◌, List, Option, Some, None}
+use Rattle.rx_ctx.specs.Contexts.{moved_by, same_given}
+use Rattle.rx_elem.specs.Elements.{Element, kind_of, same_element, same_kind}
 use Rattle.rx_elem.specs.Elements as elements
 use Rattle.rx_elem.specs.Trees.{Node, element_of, was_hidden}
 use Rattle.rx_meaning.specs.Fresh.{Sight}
@@ -19,17 +19,10 @@ value_given (elements.list marked es) = None
 value_given (elements.boundary k f es) = None
 value_given (elements.provider c k x es) = Some (c, x)
 
--- both give nothing, or one context the same value
-abbrev pub same_given : Option (ℕ × ℤ) → Option (ℕ × ℤ) → Bool
-same_given None None = true
-same_given None (Some w) = false
-same_given (Some v) None = false
-same_given (Some v) (Some w) = nat_eq v.0 w.0 && int_eq v.1 w.1
-
--- there is an old node, and it gives the same to the contexts below it as an element
-abbrev pub gives_same : Element → Option Node → Bool
-gives_same e None = false
-gives_same e (Some n) = same_given (value_given e) (value_given (element_of n))
+-- what an old node gives, if there is one
+abbrev pub given_before : Option Node → Option (ℕ × ℤ)
+given_before None = None
+given_before (Some n) = value_given (element_of n)
 
 -- there is an old node, and its element is equal to this one
 abbrev pub is_element_of : Element → Option Node → Bool
@@ -38,13 +31,27 @@ is_element_of e (Some n) = same_element e (element_of n)
 
 -- Places
 
--- the children of an old node stand where the same values of contexts are given: the node does, it hides nothing, and it gives them the same
-abbrev pub stands_below : (stood : Bool) → Element → Option Node → Bool
-stands_below stood e old = stood && (not (was_hidden old) && gives_same e old)
+-- there is an old node, and it is of an element's kind
+abbrev pub is_kind_of : Element → Option Node → Bool
+is_kind_of e None = false
+is_kind_of e (Some n) = same_kind (kind_of e) (kind_of (element_of n))
+
+-- the children of an old node are visible: there is one of the element's kind, it is visible, and it hides nothing
+abbrev pub visible_below : (visible : Bool) → Element → Option Node → Bool
+visible_below visible e old = visible && (is_kind_of e old && not (was_hidden old))
+
+-- the contexts with other values below a node that gives this, and whose old node gave that, by those at it
+abbrev pub moved_more : (gives gave : Option (ℕ × ℤ)) → (moved : List ℕ) → List ℕ
+moved_more None w moved = moved
+moved_more (Some v) w moved = moved_by v.0 (not (same_given (Some v) w)) moved
+
+-- the contexts with other values below a node than the committed tree has there, by those at the node
+abbrev pub moved_below : (moved : List ℕ) → Element → Option Node → List ℕ
+moved_below moved e old = moved_more (value_given e) (given_before old) moved
 
 -- Boundaries
 
--- a hidden boundary's place is untouched: its old node is visible and stands where the same values of contexts are given, its element is equal to the committed one, and nothing new has come for it
+-- a hidden boundary's place is untouched: its old node is visible and no context has another value there (it stood so), its element is equal to the committed one, and nothing new has come for it
 abbrev pub is_untouched : Sight → (stood : Bool) → Element → Option Node → Bool
 is_untouched s stood e old = stood && (is_element_of e old && waits_still s old)
 

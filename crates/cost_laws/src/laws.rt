@@ -13,7 +13,7 @@ ghost use Rattle.rx_meaning.specs.Settled.{DoneBefore, IfSettled, IsSettled, Rea
 ghost use Rattle.commit_laws.specs.Each.{ForEach};
 ghost use Rattle.commit_laws.specs.Idle.{IsIdle};
 ghost use Rattle.render_laws.specs.SameSight.{SeesSame, AllAfter};
-ghost use Rattle.cost_laws.specs.Evaluated.{Flag, beside_kept, evaluated, is_as_before, whole_evaluated};
+ghost use Rattle.cost_laws.specs.Evaluated.{Flag, beside_kept, evaluated, is_as_before, stood, whole_evaluated};
 ghost use Rattle.cost_laws.specs.Left.{Costs, Flags, flag, MayGo, next_evaluated, unit_flags};
 ghost use Rattle.cost_laws.specs.Places.{AllApart, AreEvaluated, all_memo, dirty_places, evaluated_places, whole_comings};
 ghost use Rattle.cost_laws.specs.SameWork.{SeesSameWork};
@@ -33,7 +33,7 @@ pub fn bodies_are_counted()
         → Costs s old bodies us (at_place n fs cs e (Some o)) → Costs s old bodies us (arrive n fs (Some o)) }
     ensures skips_attempt { (s : Sight) (old : Option Node) (bodies n : ℕ) (us : Flags) (fs : List Frame) (cs : Contexts) (e : Element)
         (o : Option Node) (p f : Part) (a : Awaits) → shape_of s cs e o ≡ two_lists p f
-        → render_part (rendered n s) p ≡ one_waits a → is_untouched s (flag us).stood e o ≡ true
+        → render_part (rendered n s) p ≡ one_waits a → is_untouched s (stood (flag us)) e o ≡ true
         → Costs s old bodies us (at_place (suc n) fs cs e o)
         → Costs s old bodies (beside_kept ∷ us) (open_part n fs (falling e o a) f) }
     ensures later { (s : Sight) (j : Journal) (old : Option Node) (bodies : ℕ) (us : Flags) (c : Cursor) → SeesSame s j → SeesSameWork s j

@@ -43,7 +43,7 @@ made_above (below id v o rs k) = omega arith
 made_above (after id v o ks k) = omega (arith, made_above k)
 
 -- one fiber is made for each element that is still to begin
-next_made : {c : Shape Fiber} {ws : List (ℕ × ℤ)} {n : ℕ} {xs : List (Element × Option Node)} {d : Draft Fiber} → AreNext c ws n xs d → made_size d ≡ to_begin xs
+next_made : {c : Shape Fiber} {ms : List ℕ} {ws : List (ℕ × ℤ)} {n : ℕ} {xs : List (Element × Option Node)} {d : Draft Fiber} → AreNext c ms ws n xs d → made_size d ≡ to_begin xs
 next_made surround.no_more = omega arith
 next_made (surround.gap {x = x} {xs = xs} null more) =
     let one : to_begin (x ∷ []) ≡ 0 = rw null refl in
@@ -71,10 +71,10 @@ mutual
 
 -- no more fibers are made than a render in progress has places
 pub stands_made : (t : Trees Fiber) (st : Stack) (at : Option ℕ) (c : Cursor) → StandsAtNode c → StandsAt t st at c → made_size t.draft ≤ places_in c
-stands_made t st _ _ there (begins {p = p} {v = v} {o = o} {rs = rs} {k = k} {e = e} {old = was} here waits old within values stack) =
+stands_made t st _ _ there (begins {p = p} {v = v} {o = o} {rs = rs} {k = k} {e = e} {old = was} here waits old within values stack moves) =
     let one : to_begin ((e, was) ∷ []) ≡ 1 = rw there refl in
     omega (arith, one, ap made_size here, made_placed k (made p v o (taken shapes.none) rs), around_made within)
-stands_made t st _ _ there (completes {k = k} here done list stack) =
+stands_made t st _ _ there (completes {k = k} here done list stack moves) =
     omega (arith, ap made_size here, made_placed k (taken shapes.none), made_above k, done.few, list_made list)
 stands_made t st _ _ there (over tree less empty) = omega (arith, less)
 

@@ -39,10 +39,16 @@ impl Fragment {
 }
 
 /// What a component returns.
-#[derive(Drop)]
 pub struct Body {
     /// What it is, with its part.
     pub kind: BodyKind,
+}
+
+// It is taken apart here alone, once for all crates.
+impl Drop for Body {
+    fn drop(self) {
+        let Body { kind: _kind } = self;
+    }
 }
 
 /// What a component returns: one slot, or a fragment.

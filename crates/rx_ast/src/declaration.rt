@@ -103,7 +103,6 @@ impl Line {
 }
 
 /// A function of integers.
-#[derive(Drop)]
 pub struct Function {
     name: Name,
     parameters: Vec<Name>,
@@ -120,6 +119,18 @@ impl Model for Function {
     ghost coded = { function_code };
 
     ghost view = { λ f. record { name = f.name; parameters = f.parameters.items; lines = f.lines.items; answer = f.answer } };
+}
+
+// It is taken apart here alone, once for all crates.
+impl Drop for Function {
+    fn drop(self) {
+        let Function {
+            name: _name,
+            parameters: _parameters,
+            lines: _lines,
+            answer: _answer,
+        } = self;
+    }
 }
 
 impl Function {
@@ -214,7 +225,6 @@ impl Parameter {
 }
 
 /// A component.
-#[derive(Drop)]
 pub struct Component {
     name: Name,
     memo: bool,
@@ -233,6 +243,20 @@ impl Model for Component {
     ghost coded = { component_code };
 
     ghost view = { λ c. record { name = c.name; memo = c.memo; braces = c.braces; parameters = c.parameters.items; statements = c.statements.items; body = c.body } };
+}
+
+// It is taken apart here alone, once for all crates.
+impl Drop for Component {
+    fn drop(self) {
+        let Component {
+            name: _name,
+            memo: _memo,
+            braces: _braces,
+            parameters: _parameters,
+            statements: _statements,
+            body: _body,
+        } = self;
+    }
 }
 
 impl Component {
@@ -302,10 +326,16 @@ impl Component {
 }
 
 /// What a program declares.
-#[derive(Drop)]
 pub struct Declaration {
     /// What it is, with its part.
     pub kind: DeclarationKind,
+}
+
+// It is taken apart here alone, once for all crates.
+impl Drop for Declaration {
+    fn drop(self) {
+        let Declaration { kind: _kind } = self;
+    }
 }
 
 /// What a program declares.

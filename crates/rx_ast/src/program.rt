@@ -6,7 +6,6 @@ use crate::declaration::{Component, Context, Declaration, DeclarationKind, Funct
 use std::marker::Model;
 
 /// A program, as its declarations in the order of the text, and whether it is of version 2 of the language.
-#[derive(Drop)]
 pub struct Program {
     second: bool,
     declarations: Vec<Declaration>,
@@ -21,6 +20,16 @@ impl Model for Program {
     ghost coded = { program_code };
 
     ghost view = { λ p. record { second = p.second; declarations = p.declarations.items } };
+}
+
+// The trees of a program are taken apart here alone, once for all crates.
+impl Drop for Program {
+    fn drop(self) {
+        let Program {
+            second: _,
+            declarations: _declarations,
+        } = self;
+    }
 }
 
 impl Program {

@@ -7,10 +7,16 @@ use rx_base::Name;
 use std::marker::Model;
 
 /// A statement of a component's body.
-#[derive(Drop)]
 pub struct Statement {
     /// What it is, with its parts.
     pub kind: StatementKind,
+}
+
+// It is taken apart here alone, once for all crates.
+impl Drop for Statement {
+    fn drop(self) {
+        let Statement { kind: _kind } = self;
+    }
 }
 
 /// What a statement is, with its parts in the order of the text.

@@ -5,7 +5,7 @@ use crate::int::Int;
 use std::marker::Model;
 
 /// A list of integers: the values of a component's hooks, or of an effect's dependencies. Contracts see it as that list.
-#[derive(Drop, Debug)]
+#[derive(Debug)]
 pub struct Ints {
     values: Vec<Int>,
 }
@@ -16,6 +16,13 @@ impl Model for Ints {
     ghost Value = { List ℤ };
 
     ghost view = { λ a. a.values.items };
+}
+
+// It is taken apart here alone, once for all crates.
+impl Drop for Ints {
+    fn drop(self) {
+        let Ints { values: _values } = self;
+    }
 }
 
 impl Ints {

@@ -5,7 +5,7 @@ use std::alloc::{AllocError, Global};
 use std::marker::Model;
 
 /// A name of a program: of a component, a host, a hook or a variable. Contracts see it as its bytes.
-#[derive(Drop, Debug)]
+#[derive(Debug)]
 pub struct Name {
     text: String,
 }
@@ -16,6 +16,13 @@ impl Model for Name {
     ghost Value = { List ℕ };
 
     ghost view = { λ n. string_bytes n.text };
+}
+
+// It is taken apart here alone, once for all crates.
+impl Drop for Name {
+    fn drop(self) {
+        let Name { text: _text } = self;
+    }
 }
 
 impl Name {

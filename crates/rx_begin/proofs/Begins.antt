@@ -1,10 +1,10 @@
 -- What is asked when a place begins, and what it leaves.
-use Rattle.std.specs.Prelude.{◌≡◌, ℕ, ℤ, suc, ◌<◌, ◌≤◌, Bool, true, false, if◌then◌else◌, List, Option, Some, None, Result, Ok, Err, IfOk, OnOk, IfSome, IsSome, length, option_and_then, option_map}
+use Rattle.std.specs.Prelude.{◌≡◌, ℕ, ℤ, suc, ◌<◌, ◌≤◌, Bool, true, false, ◌&&◌, if◌then◌else◌, List, Option, Some, None, Result, Ok, Err, IfOk, OnOk, IfSome, IsSome, length, option_and_then, option_map}
 use Rattle.std.proofs.Common.{refl, sym, ap, ◌∙◌, subst, arith}
 use Rattle.rx_ast.specs.Syntax.{Program, Component}
 use Rattle.rx_ast.specs.Syntax as syntax
 use Rattle.rx_rules.specs.Names.{component_at, prop_names}
-use Rattle.rx_ctx.specs.Contexts.{Stack, values_at}
+use Rattle.rx_ctx.specs.Contexts.{Stack, moved_at, none_moved, values_at}
 use Rattle.rx_elem.specs.Elements.{Element, Elements, Key, listed}
 use Rattle.rx_elem.specs.Elements as elements
 use Rattle.rx_elem.specs.Trees.{Node, host_number, instance_in}
@@ -17,12 +17,13 @@ use Rattle.rx_meaning.specs.Body.{Body, wait, ready, body_of}
 use Rattle.rx_meaning.specs.Counts.{each_body, begins_as, one_if_component, next_counts}
 use Rattle.rx_meaning.specs.Cursor.{Frame, at_place, is_null}
 use Rattle.rx_meaning.specs.Fresh.{Sight, Contexts, Shape, absent, waiting, one_list, two_lists, shape_of, shape_of_body, shape_of_component, inputs_at, old_instance}
-use Rattle.rx_fiber.specs.Fibers.{Fiber, is_stood, origin_of}
+use Rattle.rx_fiber.specs.Fibers.{Fiber, is_visible, origin_of}
 use Rattle.rx_fiber.specs.Fibers as stage
 use Rattle.rx_fiber.specs.declared.stage.Origin.{Origin}
 use Rattle.rx_meaning.specs.Settled.{IfSettled, known_by}
 use Rattle.rx_fiber.specs.Reading.{IsOld}
-use Rattle.rx_fiber.specs.Standing.{StandsAt}
+use Rattle.rx_fiber.specs.Stood.{gives_another}
+use Rattle.rx_fiber.specs.Standing.{StandsAt, is_stood}
 use Rattle.draw_laws.specs.Drawn.{IsDrawn}
 use Rattle.rx_causes.specs.declared.scene.Scene.{Scene}
 use Rattle.rx_causes.specs.Marks.{mark_at}
@@ -44,7 +45,7 @@ use Rattle.rx_children.proofs.Nodes.{bare_made}
 use Rattle.rx_begin.proofs.Bodies.{kept_if}
 use Rattle.rx_children.proofs.OldNodes.{stood_in}
 use Rattle.rx_begin.proofs.Keeping.{old_no_null, kept_children}
-use Rattle.rx_begin.proofs.Standing.{KidsStand, KnowsElement, clone_again, kids_stand, same_here, stood_here, waits_here}
+use Rattle.rx_begin.proofs.Standing.{KidsStand, KnowsElement, clone_again, kids_stand, same_here, shown_here, waits_here}
 
 pub on_ok : {A E : Type 0} (r : Result A E) (P Q : Type 0) → (P → Q) → OnOk r P → OnOk r Q
 on_ok (Ok a) P Q f h = f h
@@ -125,9 +126,13 @@ module _ (p : Program) (kept : ℕ → Option (List Hook)) (t : Trees Fiber) (st
         waits_here t st q n fs cs e old knows at v value
   ]
 
-  -- where it stood is told with what is known of it
-  pub place_stood : (v : Fiber) → Some v ≡ made_value_of t.draft q → (origin_of v.stage).stood ≡ is_stood v.stage
-  place_stood v value = let (c, is) = place_waits v value in ap (λ s. (origin_of s).stood) is ∙ sym (ap is_stood is)
+  -- whether it is visible is told with what is known of it
+  pub place_shown : (v : Fiber) → Some v ≡ made_value_of t.draft q → (origin_of v.stage).visible ≡ is_visible v.stage
+  place_shown v value = let (c, is) = place_waits v value in ap (λ s. (origin_of s).visible) is ∙ sym (ap is_visible is)
+
+  -- so whether it stood, if that is told with whether a context has moved
+  pub place_stood : (v : Fiber) → Some v ≡ made_value_of t.draft q → (origin : Origin) (stood : Bool) → origin ≡ origin_of v.stage → stood ≡ (origin.visible && none_moved (moved_at st)) → stood ≡ is_stood st v.stage
+  place_stood v value origin stood is tells = tells ∙ (ap (λ (c : Origin). c.visible && none_moved (moved_at st)) is ∙ ap (λ b. b && none_moved (moved_at st)) (place_shown v value))
 
   module _ (v : Fiber) (element : Element) (value : Some v ≡ made_value_of t.draft q) (is : element ≡ v.element) where
     pub place_drawn : IsDrawn p element
@@ -170,10 +175,10 @@ module _ (s : Sight) (kept : ℕ → Option (List Hook)) (t : Trees Fiber) (st :
       has old key kids (old_at t st p n fs cs e old knows at) (own_gives s kept old gives) settled (λ so. subst (StoodIn old) (sym f) (stood_so n fs cs e old at again its so)) g)
       stacks
 
-  pub begins_other : (scene : Scene) (origin : Origin) (again steady : Bool) (generation : ℕ) → IsSceneOf scene s → KnowsElement t p v again → origin.stood ≡ is_stood v.stage → (steady ≡ true → IsSteady t.current (old_of t.draft p) v) → is_null element ≡ false → parts_in element ≡ None
-      → new.current ≡ t.current → HasBegunOther scene kept t st new st' p element origin again steady generation answer → BeginsPlace s way kept t st new st' p answer
-  begins_other scene origin again steady generation sees its stood_is steadies there none current has n fs cs e old at gives settled covers =
-      by_case answer (subst (λ y. HasBegunOther scene kept t st new st' p y origin again steady generation answer) x has)
+  pub begins_other : (scene : Scene) (origin : Origin) (stood again steady : Bool) (generation : ℕ) → IsSceneOf scene s → KnowsElement t p v again → origin.visible ≡ is_visible v.stage → stood ≡ is_stood st v.stage → (steady ≡ true → IsSteady t.current (old_of t.draft p) v) → is_null element ≡ false → parts_in element ≡ None
+      → new.current ≡ t.current → HasBegunOther scene kept t st new st' p element origin stood again steady generation answer → BeginsPlace s way kept t st new st' p answer
+  begins_other scene origin stood again steady generation sees its shown_is stood_is steadies there none current has n fs cs e old at gives settled covers =
+      by_case answer (subst (λ y. HasBegunOther scene kept t st new st' p y origin stood again steady generation answer) x has)
     where
       x : element ≡ e
       x = its_element n fs cs e old at
@@ -181,14 +186,14 @@ module _ (s : Sight) (kept : ℕ → Option (List Hook)) (t : Trees Fiber) (st :
       number : Option ℕ
       number = option_and_then host_number (mark_at t.current (old_of t.draft p))
 
-      stand : KidsStand t p fs e steady
+      stand : KidsStand t st p fs e steady
       stand = kids_stand t st p n fs cs e old knows at v value (element_at t st p n fs cs e old knows at v value) steady steadies
 
-      opened : (b : Begun) → Opens s t st new st' p n fs cs e old linked knows at b (begun_stage e origin number) (begun_children e) → st' ≡ begun_stack e st → HasBegun s t st new st' p n fs cs e old b
+      opened : (b : Begun) → Opens s t st new st' p n fs cs e old linked knows at b (begun_stage e origin number) (begun_children e) → st' ≡ begun_stack e (gives_another t.current (old_of t.draft p) e) st → HasBegun s t st new st' p n fs cs e old b
       opened b done stacks =
-          other_begun s t st new st' p n fs cs e old linked knows at b origin number (old_of t.draft p) (λ so. stood_here t st p n fs cs e old knows at v value (sym stood_is ∙ so)) (ap is_null (sym x) ∙ there) (ap parts_in (sym x) ∙ none) refl refl done stacks
+          other_begun s t st new st' p n fs cs e old linked knows at b origin number (old_of t.draft p) (λ so. shown_here t st p n fs cs e old knows at v value (sym shown_is ∙ so)) (ap is_null (sym x) ∙ there) (ap parts_in (sym x) ∙ none) refl refl done stacks
 
-      by_case : (b : Begun) → HasBegunOther scene kept t st new st' p e origin again steady generation b → HasBegun s t st new st' p n fs cs e old b
+      by_case : (b : Begun) → HasBegunOther scene kept t st new st' p e origin stood again steady generation b → HasBegun s t st new st' p n fs cs e old b
       by_case b (others.keeps h kept_so stacks) =
           opened b
           (from_clones s t st new st' p n fs cs e old linked knows at b (begun_stage e origin number) (begun_children e) steady stand (old_no_null s.program (known_by s) old settled)
@@ -197,7 +202,7 @@ module _ (s : Sight) (kept : ℕ → Option (List Hook)) (t : Trees Fiber) (st :
           stacks
       by_case b (others.opens not done stacks) = opened b (from_matched s t st new st' p n fs cs e old linked knows at b (begun_stage e origin number) (begun_children e) steady generation stand done) stacks
       by_case _ (others.hides {a = a} same too mark waits tried stacks) =
-          hidden_again s kept t st new st' p n fs cs e old a knows at v value origin same stood_is too mark (λ y. waits s y sees) gives settled current tried stacks
+          hidden_again s kept t st new st' p n fs cs e old a knows at v value origin stood same shown_is stood_is too mark (λ y. waits s y sees) gives settled current tried stacks
 
 -- How many bodies are evaluated
 

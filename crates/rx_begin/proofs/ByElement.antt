@@ -5,7 +5,7 @@ use Rattle.std.specs.Option.{option_flatten}
 use Rattle.std.proofs.Common.{refl, sym, ap, ◌∙◌, subst}
 use Rattle.rx_base.specs.Values.{Text, Name}
 use Rattle.rx_rules.specs.Names.{component_at}
-use Rattle.rx_ctx.specs.Contexts.{Stack, values_at}
+use Rattle.rx_ctx.specs.Contexts.{Stack, moved_at, moves_by, values_at}
 use Rattle.rx_ctx.specs.Contexts as contexts
 use Rattle.rx_elem.specs.declared.attr.Attr.{Attr}
 use Rattle.rx_elem.specs.Elements.{Element, Elements, Key, listed}
@@ -24,7 +24,7 @@ use Rattle.rx_fiber.specs.declared.stage.Origin.{Origin}
 use Rattle.rx_fiber.specs.Fibers as stage
 use Rattle.rx_fiber.specs.OldLists.{primary_list, matched, old_elements, old_fibers}
 use Rattle.rx_fiber.specs.Reading.{IsOld}
-use Rattle.rx_fiber.specs.Stood.{given_in, given_more}
+use Rattle.rx_fiber.specs.Stood.{gave, given_in, given_more, gives_another}
 use Rattle.rx_fiber.specs.Surround.{given_along, AreNext, StandsIf, fallback_in, is_boundary}
 use Rattle.rx_fiber.proofs.OldLists.{primary_is}
 use Rattle.rx_fiber.specs.Standing.{IsStack, opened, StandsAt, begins}
@@ -41,7 +41,7 @@ use Rattle.rx_begin.proofs.Starts.{olds_of, begun_one, begun_trying, begun_waiti
 use Rattle.rx_children.proofs.Cloning.{kept_next}
 use Rattle.rx_children.proofs.Matched.{matched_at}
 use Rattle.rx_children.proofs.Waiting.{all_wait}
-use Rattle.rx_begin.proofs.Standing.{KidsStand}
+use Rattle.rx_begin.proofs.Standing.{KidsStand, moved_below}
 use Rattle.std.proofs.lemmas.Option.{same_Some}
 
 abbrev pub PartsOf : Type 0
@@ -56,20 +56,20 @@ same_parts b c ps props xs es e =
 module _ (t : Trees Fiber) (st : Stack) (p n : ℕ) (fs : List Frame) (cs : Contexts) (e : Element) (old : Option Node) where
   -- the fiber's element is the one of the place
   pub element_at : KnowsPlaces t → StandsAt t st (Some p) (at_place (suc n) fs cs e old) → (v : Fiber) → Some v ≡ made_value_of t.draft p → v.element ≡ e
-  element_at knows (begins {v = v} {o = o} {rs = rs} {k = k} here is was surrounds values stack) w f =
+  element_at knows (begins {v = v} {o = o} {rs = rs} {k = k} here is was surrounds values stack moves) w f =
       let l : made_value_of t.draft p ≡ Some v = ap made_value_in (knows k p v o (taken shapes.none) rs here).list in
       let same : w ≡ v = cc in
       ap (λ u. u.element) same ∙ is.element
 
   pub old_at : KnowsPlaces t → StandsAt t st (Some p) (at_place (suc n) fs cs e old) → IsOld t.current (old_of t.draft p) old
-  old_at knows (begins {v = v} {o = o} {rs = rs} {k = k} here is was surrounds values stack) =
+  old_at knows (begins {v = v} {o = o} {rs = rs} {k = k} here is was surrounds values stack moves) =
       subst (λ q. IsOld t.current q old) (sym (knows k p v o (taken shapes.none) rs here).old) was
 
   pub values_here : StandsAt t st (Some p) (at_place (suc n) fs cs e old) → values_at st ≡ cs
-  values_here (begins here is was surrounds values stack) = values
+  values_here (begins here is was surrounds values stack moves) = values
 
   pub bare_at : StandsAt t st (Some p) (at_place (suc n) fs cs e old) → IsBareAt t p
-  bare_at (begins {v = v} {o = o} {rs = rs} {k = k} here is was surrounds values stack) = record { around = k; value = v; old = o; rest = rs; here = here }
+  bare_at (begins {v = v} {o = o} {rs = rs} {k = k} here is was surrounds values stack moves) = record { around = k; value = v; old = o; rest = rs; here = here }
 
 -- a node that gives nothing leaves the stack as it is
 around_stack : (st st' : Stack) (x : Open) (xs : List (Open × Contexts)) (e : Element) (m : Mark) (cs : Contexts) → given_in e ≡ None → st' ≡ st → values_at st ≡ cs → IsStack st xs
@@ -85,10 +85,10 @@ module _ (s : Sight) (t : Trees Fiber) (st : Stack) (new : Trees Fiber) (st' : S
     pub olds : List (Option ℕ)
     pub origin : Origin
     pub opened : HasOpened origin t new p m given olds answer
-    pub nexts : AreNext t.current (given_more e (given_along fs)) 0 (zip es (old_nodes (children_if old) es)) opened.kids
+    pub nexts : AreNext t.current (moved_below t st p e) (given_more e (given_along fs)) 0 (zip es (old_nodes (children_if old) es)) opened.kids
 
   -- children that are matched with the old ones
-  pub from_matched : (m : Stage) (es : List Element) (steady : Bool) (generation : ℕ) → KidsStand t p fs e steady → HasOpened (as_matched steady generation) t new p m es (matched (primary_list (list_from t.current (old_of t.draft p))) es) answer
+  pub from_matched : (m : Stage) (es : List Element) (steady : Bool) (generation : ℕ) → KidsStand t st p fs e steady → HasOpened (as_matched steady generation) t new p m es (matched (primary_list (list_from t.current (old_of t.draft p))) es) answer
       → Opens m es
   from_matched m es steady generation stand done = record {
     given = es;
@@ -96,15 +96,15 @@ module _ (s : Sight) (t : Trees Fiber) (st : Stack) (new : Trees Fiber) (st' : S
     origin = as_matched steady generation;
     opened = done;
     nexts =
-        nexts t.current (given_more e (given_along fs)) 0 es (matched (primary_list (list_from t.current (old_of t.draft p))) es) (old_nodes (children_if old) es) done.kids
-        (all_wait t.current (given_more e (given_along fs)) (as_matched steady generation) 0 es (matched (primary_list (list_from t.current (old_of t.draft p))) es) done.kids
+        nexts t.current (moved_below t st p e) (given_more e (given_along fs)) 0 es (matched (primary_list (list_from t.current (old_of t.draft p))) es) (old_nodes (children_if old) es) done.kids
+        (all_wait t.current (moved_below t st p e) (given_more e (given_along fs)) (as_matched steady generation) 0 es (matched (primary_list (list_from t.current (old_of t.draft p))) es) done.kids
         (λ so. absurd (let q : ⊥ = cc in q))
         (λ so i j is. let (place, there, here) = matched_at (primary_list (list_from t.current (old_of t.draft p))) es i j is in stand so place j here) done.are)
         (olds_of s t st new st' p n fs cs e old linked knows (old_of t.draft p) es (old_at t st p n fs cs e old knows at));
   }
 
   -- clones of the old ones
-  pub from_clones : (m : Stage) (es : List Element) (steady : Bool) → KidsStand t p fs e steady → NoNull (children_if old) → es ≡ elements_in (children_if old)
+  pub from_clones : (m : Stage) (es : List Element) (steady : Bool) → KidsStand t st p fs e steady → NoNull (children_if old) → es ≡ elements_in (children_if old)
       → HasOpened (as_cloned steady) t new p m (old_elements (primary_list (list_from t.current (old_of t.draft p)))) (old_fibers (primary_list (list_from t.current (old_of t.draft p)))) answer → Opens m es
   from_clones m es steady stand no_null same done = record {
     given = old_elements (primary_list (list_from t.current (old_of t.draft p)));
@@ -112,15 +112,19 @@ module _ (s : Sight) (t : Trees Fiber) (st : Stack) (new : Trees Fiber) (st' : S
     origin = as_cloned steady;
     opened = done;
     nexts =
-        subst (λ xs. AreNext t.current (given_more e (given_along fs)) 0 (zip xs (old_nodes (children_if old) xs)) done.kids) (sym same)
-        (kept_next t.current linked (given_more e (given_along fs)) (children_if old) (primary_list (list_from t.current (old_of t.draft p)))
+        subst (λ xs. AreNext t.current (moved_below t st p e) (given_more e (given_along fs)) 0 (zip xs (old_nodes (children_if old) xs)) done.kids) (sym same)
+        (kept_next t.current linked (moved_below t st p e) (given_more e (given_along fs)) (children_if old) (primary_list (list_from t.current (old_of t.draft p)))
         (primary_is t.current linked (old_of t.draft p) old (old_at t st p n fs cs e old knows at)) no_null done.kids
-        (all_wait t.current (given_more e (given_along fs)) (as_cloned steady) 0 (old_elements (primary_list (list_from t.current (old_of t.draft p)))) (old_fibers (primary_list (list_from t.current (old_of t.draft p)))) done.kids
+        (all_wait t.current (moved_below t st p e) (given_more e (given_along fs)) (as_cloned steady) 0 (old_elements (primary_list (list_from t.current (old_of t.draft p)))) (old_fibers (primary_list (list_from t.current (old_of t.draft p)))) done.kids
         (λ so. refl) (λ so i j is. stand so i j (ap option_flatten is)) done.are));
   }
 
   again : (m l : Stage) (es xs : List Element) → m ≡ l → es ≡ xs → Opens m es → Opens l xs
   again m l es xs f g h = subst (λ q. Opens q xs) f (subst (λ ys. Opens m ys) g h)
+
+  -- what gives nothing moves no context
+  still : given_in e ≡ None → st' ≡ st → st'.moves ≡ moves_by (given_in e) (gave t.current (old_of t.draft p)) st.moves
+  still given stacks = ap (λ (x : Stack). x.moves) stacks ∙ ap (λ g. moves_by g (gave t.current (old_of t.draft p)) st.moves) (sym given)
 
   -- a node with one list that gives nothing
   plain_begun : (m : Mark) (l : Stage) (es : List Element) (list : Part) → shape_of s cs e old ≡ one_list m list → given_in e ≡ None → list.contexts ≡ cs → list.old ≡ children_if old
@@ -128,8 +132,8 @@ module _ (s : Sight) (t : Trees Fiber) (st : Stack) (new : Trees Fiber) (st' : S
   plain_begun m l es list shape given same was shown stage_is elements_are done stacks =
       let o = again l (begun m) es list.elements stage_is elements_are done in
       begun_one s t st new st' p n fs cs e old linked knows o.origin answer m list o.given o.olds o.opened
-      (subst (λ ns. AreNext t.current (given_more e (given_along fs)) 0 (zip list.elements (old_nodes ns list.elements)) o.opened.kids) (sym was) o.nexts) at shape shown
-      (λ values stack. subst (λ c. IsStack st' ((around e m, c) ∷ opened fs)) (sym same) (around_stack st st' (around e m) (opened fs) e m cs given stacks values stack))
+      (subst (λ ns. AreNext t.current (moved_below t st p e) (given_more e (given_along fs)) 0 (zip list.elements (old_nodes ns list.elements)) o.opened.kids) (sym was) o.nexts) at shape shown
+      (λ values stack. subst (λ c. IsStack st' ((around e m, c) ∷ opened fs)) (sym same) (around_stack st st' (around e m) (opened fs) e m cs given stacks values stack)) (still given stacks)
 
   host_mark : (number : Option ℕ) (o : Option ℕ) → number ≡ option_and_then host_number (mark_at t.current o) → o ≡ old_of t.draft p → begun (of_host number) ≡ begun (of_host (old_host old))
   host_mark number o f g =
@@ -141,7 +145,7 @@ module _ (s : Sight) (t : Trees Fiber) (st : Stack) (new : Trees Fiber) (st' : S
   text_begun x number o is f g done stacks =
       let x = again (begun (of_host number)) (begun (of_host (old_host old))) [] [] (host_mark number o f g) refl done in
       begun_one s t st new st' p n fs cs e old linked knows x.origin answer (of_host (old_host old)) (part cs [] trees.none) x.given x.olds x.opened x.nexts at (shape is) refl
-      (λ values stack. around_stack st st' (around e (of_host (old_host old))) (opened fs) e (of_host (old_host old)) cs (given is) stacks values stack)
+      (λ values stack. around_stack st st' (around e (of_host (old_host old))) (opened fs) e (of_host (old_host old)) cs (given is) stacks values stack) (still (given is) stacks)
     where
       shape : elements.text x ≡ e → shape_of s cs e old ≡ one_list (of_host (old_host old)) (part cs [] trees.none)
       shape f = subst (λ y. shape_of s cs y old ≡ one_list (of_host (old_host old)) (part cs [] trees.none)) f refl
@@ -162,7 +166,7 @@ module _ (s : Sight) (t : Trees Fiber) (st : Stack) (new : Trees Fiber) (st' : S
       (subst (λ y. shape_of s cs y old ≡ one_list plain (part cs (listed es) (children_if old))) is refl)
       (subst (λ y. given_in y ≡ None) is refl) refl refl refl refl refl done stacks
 
-  pub provider_begun : (c : ℕ) (key : Key) (x : ℤ) (es : Elements) → elements.provider c key x es ≡ e → Opens (begun plain) (listed es) → st' ≡ contexts.below c x st
+  pub provider_begun : (c : ℕ) (key : Key) (x : ℤ) (es : Elements) → elements.provider c key x es ≡ e → Opens (begun plain) (listed es) → st' ≡ contexts.below c x (gives_another t.current (old_of t.draft p) e) st
       → HasBegun s t st new st' p n fs cs e old answer
   provider_begun c key x es is done stacks =
       let list : Part = part (slice_set cs c x) (listed es) (children_if old) in
@@ -170,10 +174,12 @@ module _ (s : Sight) (t : Trees Fiber) (st : Stack) (new : Trees Fiber) (st' : S
       (subst (λ y. shape_of s cs y old ≡ one_list plain list) is refl) refl
       (λ values stack.
       subst (λ q. IsStack q ((around e plain, slice_set cs c x) ∷ opened fs)) (sym stacks)
-      (subst (λ l. IsStack (contexts.below c x st) ((around e plain, slice_set l c x) ∷ opened fs)) values
-      (pushed st (around e plain) (opened fs) c x (subst (λ y. given_in y ≡ Some (c, x)) is refl) stack)))
+      (subst (λ l. IsStack (contexts.below c x (gives_another t.current (old_of t.draft p) e) st) ((around e plain, slice_set l c x) ∷ opened fs)) values
+      (pushed st (around e plain) (opened fs) c x (gives_another t.current (old_of t.draft p) e) (subst (λ y. given_in y ≡ Some (c, x)) is refl) stack)))
+      (ap (λ (q : Stack). q.moves) stacks
+      ∙ subst (λ y. (c, gives_another t.current (old_of t.draft p) y) ∷ st.moves ≡ moves_by (given_in y) (gave t.current (old_of t.draft p)) st.moves) is refl)
 
-  pub boundary_begun : (key : Key) (f : Element) (es : Elements) (own : Origin) → (own.stood ≡ true → StandsIf t.current (given_along fs) (old_of t.draft p)) → elements.boundary key f es ≡ e → Opens (stage.trying own) (listed es) → st' ≡ st → HasBegun s t st new st' p n fs cs e old answer
+  pub boundary_begun : (key : Key) (f : Element) (es : Elements) (own : Origin) → (own.visible ≡ true → StandsIf t.current (moved_at st) (given_along fs) (old_of t.draft p)) → elements.boundary key f es ≡ e → Opens (stage.trying own) (listed es) → st' ≡ st → HasBegun s t st new st' p n fs cs e old answer
   boundary_begun key f es own stood is done stacks =
       begun_trying s t st new st' p n fs cs e old linked knows done.origin own answer (listed es) done.given done.olds done.opened done.nexts at
       (subst (λ y. is_boundary y ≡ true) is refl) stood
@@ -182,8 +188,9 @@ module _ (s : Sight) (t : Trees Fiber) (st : Stack) (new : Trees Fiber) (st' : S
       let x : Open = trying e old (part cs (fallback_in e ∷ []) (fallback_if old)) in
       subst (λ q. IsStack q ((x, cs) ∷ opened fs)) (sym stacks)
       (subst (λ l. IsStack st ((x, l) ∷ opened fs)) values (unchanged st x (opened fs) (subst (λ y. given_in y ≡ None) is refl) stack)))
+      (still (subst (λ y. given_in y ≡ None) is refl) stacks)
 
-  pub comp_begun : NoNull (children_if old) → (is_again steady : Bool) (generation : ℕ) → KidsStand t p fs e steady → (c : ℕ) (key : Key) (props : List ℤ) (kids : Elements) (contexts_here : Contexts) → elements.comp c key props kids ≡ e → contexts_here ≡ values_at st
+  pub comp_begun : NoNull (children_if old) → (is_again steady : Bool) (generation : ℕ) → KidsStand t st p fs e steady → (c : ℕ) (key : Key) (props : List ℤ) (kids : Elements) (contexts_here : Contexts) → elements.comp c key props kids ≡ e → contexts_here ≡ values_at st
       → HasShape is_again steady generation (shape_of_component s contexts_here c props kids old (component_at s.program c)) contexts_here old t new p answer → st' ≡ st → HasBegun s t st new st' p n fs cs e old answer
   comp_begun no_null is_again steady generation stand c key props kids here is same has stacks = by_shape (subst (λ l. HasShape is_again steady generation (shape_of_component s l c props kids old (component_at s.program c)) l old t new p answer) (same ∙ values_here t st p n fs cs e old at) has)
     where
@@ -201,32 +208,32 @@ module _ (s : Sight) (t : Trees Fiber) (st : Stack) (new : Trees Fiber) (st' : S
           (from_clones (begun o.mark) (elements_in (children_if old)) steady stand no_null refl o.opened) stacks
 
   -- a place of no component
-  pub other_begun : (own : Origin) (number o : Option ℕ) → (own.stood ≡ true → StandsIf t.current (given_along fs) (old_of t.draft p)) → is_null e ≡ false → parts_in e ≡ None → number ≡ option_and_then host_number (mark_at t.current o) → o ≡ old_of t.draft p
-      → Opens (begun_stage e own number) (begun_children e) → st' ≡ begun_stack e st → HasBegun s t st new st' p n fs cs e old answer
+  pub other_begun : (own : Origin) (number o : Option ℕ) → (own.visible ≡ true → StandsIf t.current (moved_at st) (given_along fs) (old_of t.draft p)) → is_null e ≡ false → parts_in e ≡ None → number ≡ option_and_then host_number (mark_at t.current o) → o ≡ old_of t.draft p
+      → Opens (begun_stage e own number) (begun_children e) → st' ≡ begun_stack e (gives_another t.current (old_of t.draft p) e) st → HasBegun s t st new st' p n fs cs e old answer
   other_begun own number o stood there none f g done stacks = by_element e refl
     where
       by_element : (x : Element) → x ≡ e → HasBegun s t st new st' p n fs cs e old answer
       by_element elements.null h = absurd (let q : is_null elements.null ≡ false = ap is_null h ∙ there in let r : ⊥ = cc in r)
       by_element (elements.text y) h =
           text_begun y number o h f g (again (begun_stage e own number) (begun (of_host number)) (begun_children e) [] (ap (λ z. begun_stage z own number) (sym h)) (ap begun_children (sym h)) done)
-          (stacks ∙ ap (λ z. begun_stack z st) (sym h))
+          (stacks ∙ ap (λ z. begun_stack z (gives_another t.current (old_of t.draft p) e) st) (sym h))
       by_element (elements.host name key attrs es) h =
           host_begun name key attrs es number o h f g
           (again (begun_stage e own number) (begun (of_host number)) (begun_children e) (listed es) (ap (λ z. begun_stage z own number) (sym h)) (ap begun_children (sym h)) done)
-          (stacks ∙ ap (λ z. begun_stack z st) (sym h))
+          (stacks ∙ ap (λ z. begun_stack z (gives_another t.current (old_of t.draft p) e) st) (sym h))
       by_element (elements.comp c key props kids) h = absurd (let q : parts_in (elements.comp c key props kids) ≡ None = ap parts_in h ∙ none in let r : ⊥ = cc in r)
       by_element (elements.list marked es) h =
           list_begun marked es h (again (begun_stage e own number) (begun plain) (begun_children e) (listed es) (ap (λ z. begun_stage z own number) (sym h)) (ap begun_children (sym h)) done)
-          (stacks ∙ ap (λ z. begun_stack z st) (sym h))
+          (stacks ∙ ap (λ z. begun_stack z (gives_another t.current (old_of t.draft p) e) st) (sym h))
       by_element (elements.boundary key fallback es) h =
           boundary_begun key fallback es own stood h (again (begun_stage e own number) (stage.trying own) (begun_children e) (listed es) (ap (λ z. begun_stage z own number) (sym h)) (ap begun_children (sym h)) done)
-          (stacks ∙ ap (λ z. begun_stack z st) (sym h))
+          (stacks ∙ ap (λ z. begun_stack z (gives_another t.current (old_of t.draft p) e) st) (sym h))
       by_element (elements.provider c key x es) h =
           provider_begun c key x es h (again (begun_stage e own number) (begun plain) (begun_children e) (listed es) (ap (λ z. begun_stage z own number) (sym h)) (ap begun_children (sym h)) done)
-          (stacks ∙ ap (λ z. begun_stack z st) (sym h))
+          (stacks ∙ ap (λ z. begun_stack z (gives_another t.current (old_of t.draft p) e) st) (sym h))
 
   -- a component's place
-  pub body_begun : NoNull (children_if old) → (is_again steady : Bool) (generation : ℕ) → KidsStand t p fs e steady → (c : ℕ) (props : List ℤ) (es : List Element) (here : Contexts) → parts_in e ≡ Some (c, (props, es)) → here ≡ values_at st
+  pub body_begun : NoNull (children_if old) → (is_again steady : Bool) (generation : ℕ) → KidsStand t st p fs e steady → (c : ℕ) (props : List ℤ) (es : List Element) (here : Contexts) → parts_in e ≡ Some (c, (props, es)) → here ≡ values_at st
       → ((key : Key) (kids : Elements) → elements.comp c key props kids ≡ e → listed kids ≡ es → HasShape is_again steady generation (shape_of_component s here c props kids old (component_at s.program c)) here old t new p answer) → st' ≡ st
       → HasBegun s t st new st' p n fs cs e old answer
   body_begun no_null is_again steady generation stand c props es here parts same has stacks = by_element e refl

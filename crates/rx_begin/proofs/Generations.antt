@@ -19,14 +19,14 @@ kept_below true false generation children made is below = is
 kept_below false for_children generation children made is below = is ∙ below
 
 -- so are the children of a component that is skipped
-pub component_below : (evaluated stood keeps for_children : Bool) (generation made : ℕ) → made ≡ generation_below true keeps for_children generation → (evaluated ≡ false → keeps ≡ true)
-    → (kids_as evaluated stood made).generation ≡ generation_below evaluated keeps for_children generation
-component_below true stood keeps for_children generation made below skipped = below
-component_below false stood true true generation made below skipped = refl
-component_below false stood true false generation made below skipped = refl
-component_below false stood false for_children generation made below skipped = absurd (let q : false ≡ true = skipped refl in let r : ⊥ = cc in r)
+pub component_below : (evaluated visible keeps for_children : Bool) (generation made : ℕ) → made ≡ generation_below true keeps for_children generation → (evaluated ≡ false → keeps ≡ true)
+    → (kids_as evaluated visible made).generation ≡ generation_below evaluated keeps for_children generation
+component_below true visible keeps for_children generation made below skipped = below
+component_below false visible true true generation made below skipped = refl
+component_below false visible true false generation made below skipped = refl
+component_below false visible false for_children generation made below skipped = absurd (let q : false ≡ true = skipped refl in let r : ⊥ = cc in r)
 
--- they stood if the place is steady
-pub kids_steady : (c : Shape Fiber) (o : Option ℕ) (v : Fiber) (evaluated steady : Bool) (made : ℕ) → TellsSteady c o v steady → TellsSteady c o v (kids_as evaluated steady made).stood
+-- their old ones are visible if the place is steady
+pub kids_steady : (c : Shape Fiber) (o : Option ℕ) (v : Fiber) (evaluated steady : Bool) (made : ℕ) → TellsSteady c o v steady → TellsSteady c o v (kids_as evaluated steady made).visible
 kids_steady c o v true steady made tells = tells
 kids_steady c o v false steady made tells = tells

@@ -3,7 +3,7 @@ use Rattle.std.specs.Prelude.{◌≡◌, ℕ, suc, Bool, true, false, List, [], 
 use Rattle.std.proofs.Common.{refl, sym, ap, ◌∙◌, subst, inl, inr}
 use Rattle.rx_base.specs.Awaits.{Awaits}
 use Rattle.rx_ast.specs.Syntax.{Program}
-use Rattle.rx_ctx.specs.Contexts.{Stack}
+use Rattle.rx_ctx.specs.Contexts.{Stack, moved_at, moved_in}
 use Rattle.rx_susp.specs.declared.boundary.BoundaryState.TheVariants.{Hidden}
 use Rattle.rx_elem.specs.Elements.{Element, Elements, Key}
 use Rattle.rx_elem.specs.Elements as elements
@@ -16,14 +16,14 @@ use Rattle.rx_links.specs.Readers.{list_from, made_value_of}
 use Rattle.rx_meaning.specs.Cursor.{Frame, falling, at_place, open_part}
 use Rattle.rx_meaning.specs.Fresh.{Sight, Contexts, part, old_instance}
 use Rattle.rx_meaning.specs.Settled.{Known, IsOwn, IfSettled, known_by}
-use Rattle.rx_fiber.specs.Fibers.{Fiber, as_cloned, as_matched, is_stood}
+use Rattle.rx_fiber.specs.Fibers.{Fiber, as_cloned, as_matched, is_visible}
 use Rattle.rx_fiber.specs.declared.stage.Origin.{Origin}
 use Rattle.rx_fiber.specs.FiberView.{changed}
 use Rattle.rx_fiber.specs.declared.stage.StageChange.TheVariants as change
 use Rattle.rx_fiber.specs.Reading.{IsOld}
-use Rattle.rx_fiber.specs.Stood.{StoodAt}
-use Rattle.rx_fiber.specs.Surround.{IsElementOf, IsAround, StandsIf, given_along, fallback_in, is_boundary}
-use Rattle.rx_fiber.specs.Standing.{StandsAt, begins}
+use Rattle.rx_fiber.specs.Stood.{gives_another, StandsSame}
+use Rattle.rx_fiber.specs.Surround.{IsElementOf, IsAround, StandsIf, given_along, moved_along, moves_along, fallback_in, is_boundary}
+use Rattle.rx_fiber.specs.Standing.{StandsAt, begins, is_stood}
 use Rattle.rx_fiber.specs.Unwound.{IsLeftAt}
 use Rattle.rx_fiber.specs.OldLists.{primary_list, matched, old_elements, old_fibers}
 use Rattle.rx_causes.specs.declared.scene.Scene.{Scene}
@@ -40,7 +40,7 @@ use Rattle.rx_begin.specs.Beginning.{IsHiddenAgain}
 use Rattle.rx_begin.proofs.ByElement.{old_at}
 use Rattle.rx_children.proofs.OldNodes.{stood_in}
 use Rattle.rx_children.proofs.Making.{KnowsPlaces}
-use Rattle.rx_begin.proofs.Standing.{stands_so, stood_here}
+use Rattle.rx_begin.proofs.Standing.{shown_here, stood_here}
 
 -- what was a hidden boundary keeps no children that are shown
 pub hides_there : (c : Shape Fiber) (o : Option ℕ) (x : Node) (a : Awaits) → IsOld c o (Some x) → mark_of x ≡ of_boundary (Hidden a) → keeps_children true (mark_at c o) ≡ false
@@ -48,7 +48,7 @@ hides_there c o x a was is = ap (keeps_children true) (mark_is c o (Some x) was 
 
 -- What begins as no hidden boundary
 
-module _ (scene : Scene) (kept : ℕ → Option (List Hook)) (t : Trees Fiber) (st : Stack) (new : Trees Fiber) (st' : Stack) (p : ℕ) (e : Element) (origin : Origin) (again steady : Bool) (generation : ℕ) where
+module _ (scene : Scene) (kept : ℕ → Option (List Hook)) (t : Trees Fiber) (st : Stack) (new : Trees Fiber) (st' : Stack) (p : ℕ) (e : Element) (origin : Origin) (stood again steady : Bool) (generation : ℕ) where
   abbrev mark : Option Mark
   mark = mark_at t.current (old_of t.draft p)
 
@@ -58,11 +58,11 @@ module _ (scene : Scene) (kept : ℕ → Option (List Hook)) (t : Trees Fiber) (
   pub other_begins : {E : Type 0} (r : Result Begun E)
       → IfOk r (λ b. keeps_children again mark ≡ true → HasOpened (as_cloned steady) t new p (begun_stage e origin (option_and_then host_number mark)) (old_elements olds) (old_fibers olds) b)
       → IfOk r (λ b. keeps_children again mark ≡ false → HasOpened (as_matched steady generation) t new p (begun_stage e origin (option_and_then host_number mark)) (begun_children e) (matched olds (begun_children e)) b)
-      → OnOk r (st' ≡ begun_stack e st) → IfOk r (λ b. HasBegunOther scene kept t st new st' p e origin again steady generation b)
+      → OnOk r (st' ≡ begun_stack e (gives_another t.current (old_of t.draft p) e) st) → IfOk r (λ b. HasBegunOther scene kept t st new st' p e origin stood again steady generation b)
   other_begins (Err f) k o stacks = tt
   other_begins (Ok b) k o stacks = by_kept (keeps_children again mark) refl
     where
-      by_kept : (q : Bool) → keeps_children again mark ≡ q → HasBegunOther scene kept t st new st' p e origin again steady generation b
+      by_kept : (q : Bool) → keeps_children again mark ≡ q → HasBegunOther scene kept t st new st' p e origin stood again steady generation b
       by_kept true h = others.keeps h (k h) stacks
       by_kept false h = others.opens h (o h) stacks
 
@@ -93,16 +93,16 @@ own_boundary p k (elements.boundary key f es) a ns fs (inl own) = absurd (let g 
 own_boundary p k (elements.boundary key f es) a ns fs (inr own) = (key, f, es, refl)
 
 module _ (s : Sight) (kept : ℕ → Option (List Hook)) (t : Trees Fiber) (st : Stack) (new : Trees Fiber) (st' : Stack) (p n : ℕ) (fs : List Frame) (cs : Contexts) (e : Element) (old : Option Node) (a : Awaits)
-    (knows : KnowsPlaces t) (at : StandsAt t st (Some p) (at_place (suc n) fs cs e old)) (v : Fiber) (value : Some v ≡ made_value_of t.draft p) (origin : Origin) (element : IsElementOf t.current (old_of t.draft p) e)
-    (stood_is : origin.stood ≡ is_stood v.stage) where
+    (knows : KnowsPlaces t) (at : StandsAt t st (Some p) (at_place (suc n) fs cs e old)) (v : Fiber) (value : Some v ≡ made_value_of t.draft p) (origin : Origin) (stood : Bool) (element : IsElementOf t.current (old_of t.draft p) e)
+    (shown_is : origin.visible ≡ is_visible v.stage) (stood_is : stood ≡ is_stood st v.stage) where
   -- from the old node
-  by_node : (x : Node) → old ≡ Some x → origin.stood ≡ true → mark_of x ≡ of_boundary (Hidden a) → StoodIn (Some x) e → IfSettled s.program (known_by s) (Some x) → WaitsStill s a x → new.current ≡ t.current
-      → new ≡ record t { draft = valued p (changed (change.Try origin)) t.draft } → st' ≡ st → IsHiddenAgain s t new st' p n fs cs e old a
-  by_node (node f m ns ws) was too mark stood settled waits current tried stacks =
-      let stands = stands_so t.current (given_along fs) (old_of t.draft p) e element (stood_here t st p n fs cs e old knows at v value (sym stood_is ∙ too)) in
-      let stands_if : origin.stood ≡ true → StandsIf t.current (given_along fs) (old_of t.draft p) = λ so. stood_here t st p n fs cs e old knows at v value (sym stood_is ∙ so) in
+  by_node : (x : Node) → old ≡ Some x → stood ≡ true → mark_of x ≡ of_boundary (Hidden a) → StoodIn (Some x) e → IfSettled s.program (known_by s) (Some x) → WaitsStill s a x → new.current ≡ t.current
+      → new ≡ record t { draft = valued p (changed (change.Try origin)) t.draft } → st' ≡ st → IsHiddenAgain s t st new st' p n fs cs e old a
+  by_node (node f m ns ws) was too mark stood_there settled waits current tried stacks =
+      let stands = stood_here t st p n fs cs e old knows at v value (sym stood_is ∙ too) element in
+      let stands_if : origin.visible ≡ true → StandsIf t.current (moved_at st) (given_along fs) (old_of t.draft p) = λ so. shown_here t st p n fs cs e old knows at v value (sym shown_is ∙ so) in
       elim at [
-        | begins {v = w} {o = o} {rs = rs} {k = k} here is is_old surrounds values stack ↦ (
+        | begins {v = w} {o = o} {rs = rs} {k = k} here is is_old surrounds values stack moves ↦ (
             let same : f ≡ e = cc in
             let x_is : node f m ns ws ≡ node e (of_boundary (Hidden a)) ns ws = ap (λ y. node y m ns ws) same ∙ ap (λ y. node e y ns ws) mark in
             let (key, g, es, e_is) = own_boundary s.program (known_by s) e a ns ws (subst (λ y. IsOwn s.program (known_by s) y (of_boundary (Hidden a)) ns ws) same (subst (λ y. IsOwn s.program (known_by s) f y ns ws) mark settled.0)) in
@@ -120,9 +120,13 @@ module _ (s : Sight) (kept : ℕ → Option (List Hook)) (t : Trees Fiber) (st :
               stage = refl;
               boundary = ap is_boundary (is.element ∙ e_is);
               was = subst (λ c. IsOld c o old) (sym current) is_old;
-              stands = λ so. subst (λ c. StandsIf c (given_along fs) o) (sym current) (subst (λ q. StandsIf t.current (given_along fs) q) at_it.old (stands_if so));
+              stands = λ so.
+                  subst (λ c. StandsIf c (moved_along c k) (given_along fs) o) (sym current)
+                  (subst (λ (ms : List (ℕ × Bool)). StandsIf t.current (moved_in ms) (given_along fs) o) moves
+                  (subst (λ q. StandsIf t.current (moved_at st) (given_along fs) q) at_it.old (stands_if so)));
               surrounds = subst (λ c. IsAround c k w.place rs fs) (sym current) (subst (λ place. IsAround t.current k place rs fs) (sym is.at) surrounds);
               stack = rw stacks stack;
+              moves = ap (λ (x : Stack). x.moves) stacks ∙ (moves ∙ ap (λ c. moves_along c k) (sym current));
               opens = rw (is.element, stacks, values) refl;
             } in
             record {
@@ -140,11 +144,11 @@ module _ (s : Sight) (kept : ℕ → Option (List Hook)) (t : Trees Fiber) (st :
               stood = stands;
               told = λ u there.
                   let one : v ≡ u = (let q : Some v ≡ Some u = value ∙ sym there in cc) in
-                  sym (ap (λ y. is_stood y.stage) one) ∙ (sym stood_is ∙ too);
+                  sym (ap (λ y. is_stood st y.stage) one) ∙ (sym stood_is ∙ too);
               left = l;
               again = record {
                 same = subst (λ c. IsElementOf c o w.element) (sym current) (subst (λ y. IsElementOf t.current o y) (sym is.element) (subst (λ q. IsElementOf t.current q e) at_it.old element));
-                stood = subst (λ c. StoodAt c (given_along fs) o) (sym current) (subst (λ q. StoodAt t.current (given_along fs) q) at_it.old stands);
+                stands = subst (λ c. StandsSame c (given_along fs) o) (sym current) (subst (λ q. StandsSame t.current (given_along fs) q) at_it.old stands);
                 hidden = ap was_hidden (was ∙ ap Some x_is);
                 program = s.program;
                 known = known_by s;
@@ -154,13 +158,13 @@ module _ (s : Sight) (kept : ℕ → Option (List Hook)) (t : Trees Fiber) (st :
       ]
 
   -- Its fallback opens next.
-  pub hidden_again : origin.stood ≡ true → mark_at t.current (old_of t.draft p) ≡ Some (of_boundary (Hidden a))
+  pub hidden_again : stood ≡ true → mark_at t.current (old_of t.draft p) ≡ Some (of_boundary (Hidden a))
       → ((x : Node) → IsOld t.current (old_of t.draft p) (Some x) → GivesHooksIn s kept (children_of x) → WaitsStill s a x) → GivesHooksIf s kept old → IfSettled s.program (known_by s) old
-      → new.current ≡ t.current → new ≡ record t { draft = valued p (changed (change.Try origin)) t.draft } → st' ≡ st → IsHiddenAgain s t new st' p n fs cs e old a
+      → new.current ≡ t.current → new ≡ record t { draft = valued p (changed (change.Try origin)) t.draft } → st' ≡ st → IsHiddenAgain s t st new st' p n fs cs e old a
   hidden_again too mark waits gives settled current tried stacks =
       by_old old refl
     where
-      by_old : (o : Option Node) → old ≡ o → IsHiddenAgain s t new st' p n fs cs e old a
+      by_old : (o : Option Node) → old ≡ o → IsHiddenAgain s t st new st' p n fs cs e old a
       by_old None f =
           absurd (let g : option_map mark_of old ≡ Some (of_boundary (Hidden a)) = sym (mark_is t.current (old_of t.draft p) old (old_at t st p n fs cs e old knows at)) ∙ mark in
           let h : None ≡ Some (of_boundary (Hidden a)) = sym (ap (option_map mark_of) f) ∙ g in let q : ⊥ = cc in q)

@@ -73,6 +73,7 @@ opened_kids origin t new p stage es os b keeps none h = (
   record {
     kids = h.kids;
     value = λ v. record v { stage = stage };
+    element = λ v. refl;
     stands = h.stands;
     all = kids_wait t.current origin 0 es os h.kids h.are;
     new = λ e. kids_new t.current origin 0 es os h.kids h.are (none e);
@@ -127,7 +128,7 @@ pub opened_takes_not : (origin : Origin) (t new : Trees Fiber) (p : ℕ) (b : Be
 opened_takes_not origin t new p b h = ap is_taken h.1 ∙ begun_anew h.0.kids
 
 -- The place of no component
-module _ (scene : Scene) (kept : ℕ → Option (List Hook)) (t : Trees Fiber) (st : Stack) (new : Trees Fiber) (st' : Stack) (p : ℕ) (e : Element) (origin : Origin) (again steady : Bool) (generation : ℕ)
+module _ (scene : Scene) (kept : ℕ → Option (List Hook)) (t : Trees Fiber) (st : Stack) (new : Trees Fiber) (st' : Stack) (p : ℕ) (e : Element) (origin : Origin) (stood again steady : Bool) (generation : ℕ)
     (knows : KnowsPlaces t) (own : (v : Fiber) → Some v ≡ made_value_of t.draft p → origin ≡ origin_of v.stage) where
   -- the stage that it is begun with
   abbrev its_stage : Stage
@@ -143,26 +144,26 @@ module _ (scene : Scene) (kept : ℕ → Option (List Hook)) (t : Trees Fiber) (
   over_own b h = matched_kids t new p its_stage (begun_children e) steady generation b stage_keeps h
 
   -- is begun over clones if its element is given again, and its old node hides nothing, and else over children of this generation
-  pub other_kids : (b : Begun) → HasBegunOther scene kept t st new st' p e origin again steady generation b → is_opened b ≡ true
-      → (c : Origin) × (c.stood ≡ steady) × (c.generation ≡ cond (keeps_children again (mark_at t.current (old_of t.draft p))) 0 generation) × OpensOver c t new p b
+  pub other_kids : (b : Begun) → HasBegunOther scene kept t st new st' p e origin stood again steady generation b → is_opened b ≡ true
+      → (c : Origin) × (c.visible ≡ steady) × (c.generation ≡ cond (keeps_children again (mark_at t.current (old_of t.draft p))) 0 generation) × OpensOver c t new p b
   other_kids b (others.keeps h opened stacks) is = (as_cloned steady, refl, sym (ap (λ k. cond k 0 generation) h), over_clones b opened)
   other_kids b (others.opens not opened stacks) is = (as_matched steady generation, refl, sym (ap (λ k. cond k 0 generation) not), over_own b opened)
   other_kids _ (others.hides same too mark waits tried stacks) is = absurd (let q : ⊥ = cc in q)
 
   -- comes to try its children if it waits still
-  pub other_tried : (b : Begun) → HasBegunOther scene kept t st new st' p e origin again steady generation b → IsSome (awaited_again b) → new ≡ record t { draft = valued p (changed (change.Try origin)) t.draft }
+  pub other_tried : (b : Begun) → HasBegunOther scene kept t st new st' p e origin stood again steady generation b → IsSome (awaited_again b) → new ≡ record t { draft = valued p (changed (change.Try origin)) t.draft }
   other_tried b (others.keeps h opened stacks) is = absurd (is_none (awaited_again b) (opened_waits_not (as_cloned steady) t new p b (over_clones b opened)) is)
   other_tried b (others.opens not opened stacks) is = absurd (is_none (awaited_again b) (opened_waits_not (as_matched steady generation) t new p b (over_own b opened)) is)
   other_tried _ (others.hides same too mark waits tried stacks) is = tried
 
   -- takes nothing over
-  pub other_takes_not : (b : Begun) → HasBegunOther scene kept t st new st' p e origin again steady generation b → is_taken b ≡ false
+  pub other_takes_not : (b : Begun) → HasBegunOther scene kept t st new st' p e origin stood again steady generation b → is_taken b ≡ false
   other_takes_not b (others.keeps h opened stacks) = opened_takes_not (as_cloned steady) t new p b (over_clones b opened)
   other_takes_not b (others.opens not opened stacks) = opened_takes_not (as_matched steady generation) t new p b (over_own b opened)
   other_takes_not _ (others.hides same too mark waits tried stacks) = refl
 
   -- and has no body that waits
-  pub other_no_body : (b : Begun) → HasBegunOther scene kept t st new st' p e origin again steady generation b → (r : ℕ) → b ≡ Suspended r → ⊥
+  pub other_no_body : (b : Begun) → HasBegunOther scene kept t st new st' p e origin stood again steady generation b → (r : ℕ) → b ≡ Suspended r → ⊥
   other_no_body b (others.keeps h opened stacks) r is = opened_no_body (as_cloned steady) t new p b (over_clones b opened) r is
   other_no_body b (others.opens not opened stacks) r is = opened_no_body (as_matched steady generation) t new p b (over_own b opened) r is
   other_no_body _ (others.hides same too mark waits tried stacks) r is = let q : ⊥ = cc in q

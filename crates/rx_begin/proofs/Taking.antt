@@ -16,13 +16,13 @@ use Rattle.rx_meaning.specs.Fresh.{Contexts, Sight, version_seen}
 use Rattle.rx_meaning.specs.Touched.{sees_refresh}
 use Rattle.commit_laws.specs.Idle.{IsIdle, IsIdleMark}
 use Rattle.rx_ways.specs.Ways.{Covers, CoversIf}
-use Rattle.rx_fiber.specs.Fibers.{Fiber, is_stood}
+use Rattle.rx_fiber.specs.Fibers.{Fiber}
 use Rattle.rx_fiber.specs.declared.subtree.Subtree.{Subtree}
 use Rattle.rx_fiber.specs.Subtrees.{subtree_at}
 use Rattle.rx_fiber.specs.Reading.{IsFor, whole, alone, beside, IsOld, of, next}
-use Rattle.rx_fiber.specs.Stood.{StoodAt}
-use Rattle.rx_fiber.specs.Surround.{IsAround, IsElementOf, IsOfNode, given_along}
-use Rattle.rx_fiber.specs.Standing.{StandsAt, begins}
+use Rattle.rx_fiber.specs.Stood.{StandsSame}
+use Rattle.rx_fiber.specs.Surround.{IsAround, IsElementOf, IsOfNode, given_along, moves_along}
+use Rattle.rx_fiber.specs.Standing.{StandsAt, begins, is_stood}
 use Rattle.rx_fiber.proofs.OldLists.{kids_are, old_of_node}
 use Rattle.rx_causes.specs.Marks.{mark_at}
 use Rattle.rx_causes.specs.Scenes.{GivesHooks}
@@ -36,7 +36,7 @@ use Rattle.rx_begin.specs.Beginning.{IsTakenOver, ReadsTheSame}
 use Rattle.rx_begin.proofs.ByElement.{old_at, values_here}
 use Rattle.rx_children.proofs.OldNodes.{stood_in}
 use Rattle.rx_children.proofs.Making.{KnowsPlaces}
-use Rattle.rx_begin.proofs.Standing.{KnowsElement, both_true, same_here, stands_so, stood_here}
+use Rattle.rx_begin.proofs.Standing.{KnowsElement, both_true, same_here, stood_here}
 
 idle_mark : (s : Sight) (m : Mark) → IsIdleMark s m → is_hidden m ≡ false
 idle_mark s (of_instance i) h = refl
@@ -66,21 +66,21 @@ stands_again under c _ _ linked (of {j = j} {n = n} {x = x} {s = s} here leads (
 
 module _ (s : Sight) (kept : ℕ → Option (List Hook)) (t : Trees Fiber) (st : Stack) (new : Trees Fiber) (st' : Stack) (p n : ℕ) (fs : List Frame) (cs : Contexts) (e : Element) (old : Option Node)
     (linked : IsLinked t.current) (knows : KnowsPlaces t) (at : StandsAt t st (Some p) (at_place (suc n) fs cs e old)) (v : Fiber) (value : Some v ≡ made_value_of t.draft p)
-    (again : Bool) (its : KnowsElement t p v again) (so : again ≡ true) (stood : Bool) (stood_is : stood ≡ is_stood v.stage) (took : HasTaken t new p) (current : new.current ≡ t.current) (stacks : st' ≡ st) where
+    (again : Bool) (its : KnowsElement t p v again) (so : again ≡ true) (stood : Bool) (stood_is : stood ≡ is_stood st v.stage) (took : HasTaken t new p) (current : new.current ≡ t.current) (stacks : st' ≡ st) where
   -- it has the element of its current fiber
   element_here : IsElementOf t.current (old_of t.draft p) e
   element_here = same_here t st p n fs cs e old knows at v value again its so
 
-  -- that one stands where the same values are given, if it stood
-  stands_there : stood ≡ true → StoodAt t.current (given_along fs) (old_of t.draft p)
-  stands_there f = stands_so t.current (given_along fs) (old_of t.draft p) e element_here (stood_here t st p n fs cs e old knows at v value (sym stood_is ∙ f))
+  -- that one stands where all contexts have the same values, if it stood
+  stands_there : stood ≡ true → StandsSame t.current (given_along fs) (old_of t.draft p)
+  stands_there f = stood_here t st p n fs cs e old knows at v value (sym stood_is ∙ f) element_here
 
   -- else what was read there of the contexts holds
   stood_or_read : (x : Node) → old ≡ Some x → (stood ≡ false → (y : Node) → IsOld t.current (old_of t.draft p) (Some y) → ContextsHold (values_at st) y)
-      → StoodAt t.current (given_along fs) (old_of t.draft p) ⊎ ContextsHold cs x
+      → StandsSame t.current (given_along fs) (old_of t.draft p) ⊎ ContextsHold cs x
   stood_or_read x was reads = by_stood stood refl
     where
-      by_stood : (b : Bool) → stood ≡ b → StoodAt t.current (given_along fs) (old_of t.draft p) ⊎ ContextsHold cs x
+      by_stood : (b : Bool) → stood ≡ b → StandsSame t.current (given_along fs) (old_of t.draft p) ⊎ ContextsHold cs x
       by_stood true f = inl (stands_there f)
       by_stood false f =
           inr (subst (λ l. ContextsHold l x) (values_here t st p n fs cs e old at)
@@ -89,10 +89,10 @@ module _ (s : Sight) (kept : ℕ → Option (List Hook)) (t : Trees Fiber) (st :
   -- and what was read there of the resources, if it did not stand or a resource has another version
   stood_or_used : (x : Node) → old ≡ Some x → (refreshes : Bool) → refreshes ≡ sees_refresh s
       → ((stood && not refreshes) ≡ false → (version : ℕ → ℕ) (y : Node) → IsOld t.current (old_of t.draft p) (Some y) → VersionsHold version y)
-      → (StoodAt t.current (given_along fs) (old_of t.draft p) × (sees_refresh s ≡ false)) ⊎ VersionsHold (version_seen s) x
+      → (StandsSame t.current (given_along fs) (old_of t.draft p) × (sees_refresh s ≡ false)) ⊎ VersionsHold (version_seen s) x
   stood_or_used x was refreshes sees uses = by_both (stood && not refreshes) refl
     where
-      by_both : (b : Bool) → (stood && not refreshes) ≡ b → (StoodAt t.current (given_along fs) (old_of t.draft p) × (sees_refresh s ≡ false)) ⊎ VersionsHold (version_seen s) x
+      by_both : (b : Bool) → (stood && not refreshes) ≡ b → (StandsSame t.current (given_along fs) (old_of t.draft p) × (sees_refresh s ≡ false)) ⊎ VersionsHold (version_seen s) x
       by_both true f = let (so, none) = both_true stood (not refreshes) f in inl (stands_there so, sym sees ∙ shown_again refreshes none)
       by_both false f = inr (uses f (version_seen s) x (subst (IsOld t.current (old_of t.draft p)) was (old_at t st p n fs cs e old knows at)))
 
@@ -101,7 +101,7 @@ module _ (s : Sight) (kept : ℕ → Option (List Hook)) (t : Trees Fiber) (st :
   by_node x was stood_there idle read =
       let same : element_of x ≡ e = cc in
       elim at [
-        | begins {v = w} {o = o} {rs = rs} {k = k} here is is_old surrounds values stack ↦ (
+        | begins {v = w} {o = o} {rs = rs} {k = k} here is is_old surrounds values stack moves ↦ (
             let at_it = knows k p w o (taken shapes.none) rs here in
             let its : IsOld t.current o (Some x) = subst (IsOld t.current o) was is_old in
             record {
@@ -122,6 +122,7 @@ module _ (s : Sight) (kept : ℕ → Option (List Hook)) (t : Trees Fiber) (st :
                 of_node = subst (λ c. IsOfNode c o) (sym current) (old_of_node t.current o (Some x) its);
                 surrounds = subst (λ c. IsAround c k w.place rs fs) (sym current) (subst (λ place. IsAround t.current k place rs fs) (sym is.at) surrounds);
                 stack = rw stacks stack;
+                moves = ap (λ (z : Stack). z.moves) stacks ∙ (moves ∙ ap (λ c. moves_along c k) (sym current));
               };
             })
       ]

@@ -19,12 +19,12 @@ use Rattle.rx_meaning.specs.Cursor.{Frame, falling, at_place, is_null, open_part
 use Rattle.commit_laws.specs.Idle.{IsIdle, IsIdleMark}
 use Rattle.commit_laws.specs.WaitsAgain.{without_lanes}
 use Rattle.rx_ways.specs.Ways.{CoversIf}
-use Rattle.rx_fiber.specs.Fibers.{Fiber, is_stood}
+use Rattle.rx_fiber.specs.Fibers.{Fiber}
 use Rattle.rx_fiber.specs.Passed.{IsPassed}
 use Rattle.rx_fiber.specs.Reading.{IsOld}
-use Rattle.rx_fiber.specs.Stood.{StoodAt}
+use Rattle.rx_fiber.specs.Stood.{StandsSame}
 use Rattle.rx_fiber.specs.Surround.{fallback_in, given_along}
-use Rattle.rx_fiber.specs.Standing.{StandsAt}
+use Rattle.rx_fiber.specs.Standing.{StandsAt, is_stood}
 use Rattle.rx_fiber.specs.Unwound.{IsWithin, IsLeftAt}
 use Rattle.draw_laws.specs.Drawn.{IsDrawn}
 use Rattle.rx_causes.specs.Hidden.{KeepsHooksIf, GivesHooksIf}
@@ -41,7 +41,7 @@ pub data IsAtPlace (p : Program) (kept : ℕ → Option (List Hook)) (t : Trees 
       → StandsAt t st (Some q) (at_place (suc n) fs cs e old) → is_null e ≡ false → IsDrawn p e → KeepsHooksIf kept old → IsAtPlace p kept t st q
 
 -- The place is that of a hidden boundary, with its element and where it stood, as its fiber tells, which waits still for these: its children are not tried, and its fallback opens next.
-pub record IsHiddenAgain (s : Sight) (t new : Trees Fiber) (st' : Stack) (p n : ℕ) (fs : List Frame) (cs : Contexts) (e : Element) (old : Option Node) (a : Awaits) : Type 0 where
+pub record IsHiddenAgain (s : Sight) (t : Trees Fiber) (st : Stack) (new : Trees Fiber) (st' : Stack) (p n : ℕ) (fs : List Frame) (cs : Contexts) (e : Element) (old : Option Node) (a : Awaits) : Type 0 where
   pub key : Key
   pub fallback : Element
   pub given : Elements
@@ -53,15 +53,15 @@ pub record IsHiddenAgain (s : Sight) (t new : Trees Fiber) (st' : Stack) (p n : 
   pub versions : sees_refresh s ≡ false
   pub agree : AllValuesAgree (without_lanes s) s kept
   pub old_is : IsOld t.current (old_of t.draft p) old
-  pub stood : StoodAt t.current (given_along fs) (old_of t.draft p)
-  pub told : (v : Fiber) → Some v ≡ made_value_of t.draft p → is_stood v.stage ≡ true
+  pub stood : StandsSame t.current (given_along fs) (old_of t.draft p)
+  pub told : (v : Fiber) → Some v ≡ made_value_of t.draft p → is_stood st v.stage ≡ true
   pub left : IsLeftAt new st' p (taken shapes.none) a (open_part n fs (falling e old a) (part cs (fallback_in e ∷ []) (fallback_if old)))
   pub again : HasOldFallback new.current (given_along left.frames) left.old left.node left.value.element
 
--- What is rendered of an old tree read what a render gives at a place: the tree stands where the same values of contexts are given, or read those that are given here; and it stands so, and no resource has another version than the last commit showed, or it read the versions that the render sees.
+-- What is rendered of an old tree read what a render gives at a place: the tree is shown, and stands where each context has the same value, or read those that are given here; and it stands so, and no resource has another version than the last commit showed, or it read the versions that the render sees.
 pub record ReadsTheSame (s : Sight) (current : shapes.Shape Fiber) (ws : List (ℕ × ℤ)) (cs : Contexts) (o : Option ℕ) (x : Node) : Type 0 where
-  pub contexts : StoodAt current ws o ⊎ ContextsHold cs x
-  pub versions : (StoodAt current ws o × (sees_refresh s ≡ false)) ⊎ VersionsHold (version_seen s) x
+  pub contexts : StandsSame current ws o ⊎ ContextsHold cs x
+  pub versions : (StandsSame current ws o × (sees_refresh s ≡ false)) ⊎ VersionsHold (version_seen s) x
 
 -- The place is that of a clone whose old node is idle, and read what the render gives here: its old children are taken over, and it is done.
 pub record IsTakenOver (s : Sight) (t new : Trees Fiber) (st' : Stack) (p : ℕ) (fs : List Frame) (cs : Contexts) (e : Element) (old : Option Node) : Type 0 where
@@ -92,7 +92,7 @@ HasBegun s t st new st' p n fs cs e old (Suspended r) =
     × (new ≡ t)
     × (st' ≡ st)
     × IsWithin new st' p fs
-HasBegun s t st new st' p n fs cs e old (answers.Hidden a) = IsHiddenAgain s t new st' p n fs cs e old a
+HasBegun s t st new st' p n fs cs e old (answers.Hidden a) = IsHiddenAgain s t st new st' p n fs cs e old a
 HasBegun s t st new st' p n fs cs e old Taken = IsTakenOver s t new st' p fs cs e old
 
 -- whether old children are taken over

@@ -15,6 +15,7 @@ use Rattle.rx_fiber.specs.FiberView.{changed}
 use Rattle.rx_fiber.specs.declared.stage.StageChange.TheVariants as change
 use Rattle.rx_fiber.specs.OldLists.{primary_list, matched, old_elements, old_fibers}
 use Rattle.rx_fiber.specs.Reading.{IsOld}
+use Rattle.rx_fiber.specs.Stood.{gives_another}
 use Rattle.rx_fiber.specs.Surround.{IsElementOf}
 use Rattle.rx_causes.specs.declared.scene.Scene.{Scene}
 use Rattle.rx_causes.specs.Marks.{mark_at, keeps_children}
@@ -25,18 +26,18 @@ use Rattle.rx_children.specs.declared.node.Begun.{Begun}
 use Rattle.rx_children.specs.declared.node.Begun.TheVariants as answers
 
 -- The fiber is begun over clones of its old node's children, or over its own, matched with those; or its old node is a hidden boundary that waits still, and it comes to try its children, of which none is made.
-pub data HasBegunOther (scene : Scene) (kept : ℕ → Option (List Hook)) (t : Trees Fiber) (st : Stack) (new : Trees Fiber) (st' : Stack) (p : ℕ) (e : Element) (origin : Origin) (again steady : Bool) (generation : ℕ) : Begun → Type 0 where
+pub data HasBegunOther (scene : Scene) (kept : ℕ → Option (List Hook)) (t : Trees Fiber) (st : Stack) (new : Trees Fiber) (st' : Stack) (p : ℕ) (e : Element) (origin : Origin) (stood again steady : Bool) (generation : ℕ) : Begun → Type 0 where
   keeps : {b : Begun} → keeps_children again (mark_at t.current (old_of t.draft p)) ≡ true
       → HasOpened (as_cloned steady) t new p (begun_stage e origin (option_and_then host_number (mark_at t.current (old_of t.draft p))))
       (old_elements (primary_list (list_from t.current (old_of t.draft p)))) (old_fibers (primary_list (list_from t.current (old_of t.draft p)))) b
-      → st' ≡ begun_stack e st → HasBegunOther scene kept t st new st' p e origin again steady generation b
+      → st' ≡ begun_stack e (gives_another t.current (old_of t.draft p) e) st → HasBegunOther scene kept t st new st' p e origin stood again steady generation b
   opens : {b : Begun} → keeps_children again (mark_at t.current (old_of t.draft p)) ≡ false
       → HasOpened (as_matched steady generation) t new p (begun_stage e origin (option_and_then host_number (mark_at t.current (old_of t.draft p)))) (begun_children e)
       (matched (primary_list (list_from t.current (old_of t.draft p))) (begun_children e)) b
-      → st' ≡ begun_stack e st → HasBegunOther scene kept t st new st' p e origin again steady generation b
-  hides : {a : Awaits} → IsElementOf t.current (old_of t.draft p) e → origin.stood ≡ true → mark_at t.current (old_of t.draft p) ≡ Some (of_boundary (Hidden a))
+      → st' ≡ begun_stack e (gives_another t.current (old_of t.draft p) e) st → HasBegunOther scene kept t st new st' p e origin stood again steady generation b
+  hides : {a : Awaits} → IsElementOf t.current (old_of t.draft p) e → stood ≡ true → mark_at t.current (old_of t.draft p) ≡ Some (of_boundary (Hidden a))
       → ((s : Sight) (x : Node) → IsSceneOf scene s → IsOld t.current (old_of t.draft p) (Some x) → GivesHooksIn s kept (children_of x) → WaitsStill s a x)
-      → new ≡ record t { draft = valued p (changed (change.Try origin)) t.draft } → st' ≡ st → HasBegunOther scene kept t st new st' p e origin again steady generation (answers.Hidden a)
+      → new ≡ record t { draft = valued p (changed (change.Try origin)) t.draft } → st' ≡ st → HasBegunOther scene kept t st new st' p e origin stood again steady generation (answers.Hidden a)
 
 -- if the old node is a hidden boundary, there is a cause to try its children again
 abbrev pub IsCauseToTry : Scene → (kept : ℕ → Option (List Hook)) → Trees Fiber → ℕ → Type 0

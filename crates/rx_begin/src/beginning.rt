@@ -1,7 +1,7 @@
 // A place begins.
 ghost use Rattle.std.specs.Prelude.{◌≡◌, ◌+◌, ◌<◌, ◌≤◌, suc, ℕ, ℤ, Bool, true, false, not, ◌&&◌, List, Option, Some, None, length, IfOk, IsSome, IfSome, OnOk, is_some, if◌then◌else◌, option_and_then};
 ghost use Rattle.rx_ast.specs.Syntax as syntax;
-ghost use Rattle.rx_ctx.specs.Contexts.{values_at};
+ghost use Rattle.rx_ctx.specs.Contexts.{moved_at, none_moved, values_at};
 ghost use Rattle.rx_elem.specs.Elements as elements;
 ghost use Rattle.rx_elem.specs.Elements.{stands_for_children};
 ghost use Rattle.rx_elem.specs.Trees.{Node, host_number, instance_in, children_of, of_boundary};
@@ -10,11 +10,12 @@ ghost use Rattle.rx_fiber.specs.Reading.{IsOld};
 ghost use Rattle.rx_links.specs.Drafts.{old_of, valued};
 ghost use Rattle.rx_links.specs.Readers.{list_from, made_value_of};
 ghost use Rattle.rx_fiber.specs.Fibers as fibers;
-ghost use Rattle.rx_fiber.specs.Fibers.{as_cloned, as_matched, generation_of, is_stood, waiting};
+ghost use Rattle.rx_fiber.specs.Fibers.{as_cloned, as_matched, generation_of, waiting};
 ghost use Rattle.rx_fiber.specs.declared.stage.Origin.{Origin};
 ghost use Rattle.rx_fiber.specs.FiberView.{changed};
 ghost use Rattle.rx_fiber.specs.declared.stage.StageChange.TheVariants as change;
 ghost use Rattle.rx_fiber.specs.Subtrees.{IsGathered};
+ghost use Rattle.rx_fiber.specs.Stood.{gives_another};
 ghost use Rattle.rx_fiber.specs.Surround.{IsElementOf};
 ghost use Rattle.rx_fiber.specs.OldLists.{matched, old_elements, old_fibers, primary_list};
 ghost use Rattle.rx_causes.specs.Marks.{EachBut, mark_at, keeps_children};
@@ -30,7 +31,7 @@ ghost use Rattle.rx_meaning.specs.Settled.{DoneBefore};
 ghost use Rattle.rx_meaning.specs.Touched.{is_memo};
 ghost use Rattle.rx_model.specs.State.{State};
 ghost use Rattle.rx_model.specs.HooksOf.{KeepsAllHooks};
-ghost use Rattle.rx_fiber.specs.Standing.{StandsAt};
+ghost use Rattle.rx_fiber.specs.Standing.{StandsAt, is_stood};
 ghost use Rattle.rx_ways.specs.Ways.{is_way};
 ghost use Rattle.rx_hook_store.specs.Store.{kept_hooks};
 ghost use Rattle.rx_hook_store.specs.Gives.{GivesValues};
@@ -73,11 +74,12 @@ fn begin_other(
         (old_elements (primary_list (list_from tree.old.current (old_of tree.old.draft at)))) (old_fibers (primary_list (list_from tree.old.current (old_of tree.old.draft at)))) b) }
     ensures opened { IfOk result (λ b. keeps_children place.again (mark_at tree.old.current (old_of tree.old.draft at)) ≡ false → HasOpened (as_matched place.steady place.generation) tree.old tree.new at (begun_stage element.now place.origin (option_and_then host_number (mark_at tree.old.current (old_of tree.old.draft at)))) (begun_children element.now)
         (matched (primary_list (list_from tree.old.current (old_of tree.old.draft at))) (begun_children element.now)) b) }
-    ensures stack { OnOk result (contexts.new ≡ begun_stack element.now contexts.old) }
+    ensures stack { OnOk result (contexts.new ≡ begun_stack element.now (gives_another tree.old.current (old_of tree.old.draft at) element.now) contexts.old) }
     ensures current { tree.new.current ≡ tree.old.current }
 {
     tree.place_facts();
-    enter(element, contexts)?;
+    let moves = gives_another(tree, at, element);
+    enter(element, moves, contexts)?;
     let number = old_host(tree, tree.alternate(at));
     let stage = begun_stage(element, place.origin, number);
     if keeps_children(tree, tree.alternate(at), place.again) {
@@ -95,13 +97,13 @@ fn begin_other(
     }
 }
 
-// What a boundary waits for still, if it is hidden, has an element equal to the current one, and stands where the same values of
-// contexts are given: nothing new has come for which its children are to be tried.
+// What a boundary waits for still, if it is hidden, has an element equal to the current one, which is shown, and no context has
+// another value there (`stood`): nothing new has come for which its children are to be tried.
 fn still_awaited(
     tree: &FiberTree<Fiber>,
     at: FiberId,
     element: &Element,
-    origin: Origin,
+    stood: bool,
     again: bool,
     scene: &Scene,
     hooks: &HookStore,
@@ -110,13 +112,13 @@ fn still_awaited(
     requires kept { KeepsOld (kept_hooks hooks.now) tree.now.current (old_of tree.now.draft at) }
     requires again { again ≡ true → IsElementOf tree.now.current (old_of tree.now.draft at) element.now }
     ensures same { IfSome result (λ a. IsElementOf tree.now.current (old_of tree.now.draft at) element.now) }
-    ensures stood { IfSome result (λ a. origin.stood ≡ true) }
+    ensures stood { IfSome result (λ a. stood ≡ true) }
     ensures hidden { IfSome result (λ a. mark_at tree.now.current (old_of tree.now.draft at) ≡ Some (of_boundary (Hidden a))) }
     ensures waits { IfSome result (λ a. (s : Sight) (x : Node) → IsSceneOf scene.now s → IsOld tree.now.current (old_of tree.now.draft at) (Some x) → GivesHooksIn s (kept_hooks hooks.now) (children_of x) → WaitsStill s a x) }
     ensures news { IfSome result (λ a. (x : Node) → IsOld tree.now.current (old_of tree.now.draft at) (Some x) → ForEachIn (λ i. TellsNews (kept_hooks hooks.now) scene.now.lanes scene.now.cut i false) (children_of x)) }
-    ensures tries { IsElementOf tree.now.current (old_of tree.now.draft at) element.now → origin.stood ≡ true → result ≡ None → IsCauseToTry scene.now (kept_hooks hooks.now) tree.now at }
+    ensures tries { IsElementOf tree.now.current (old_of tree.now.draft at) element.now → stood ≡ true → result ≡ None → IsCauseToTry scene.now (kept_hooks hooks.now) tree.now at }
 {
-    if !origin.stood {
+    if !stood {
         return None;
     }
     if !is_hidden_again(tree, at, element, again) {
@@ -141,13 +143,13 @@ fn begin_or_hide(
     requires again { place.again ≡ true → IsElementOf tree.old.current (old_of tree.old.draft at) element.now }
     requires context { IfSome (given_context element.now) (λ c. c < length (values_at contexts.old)) }
     requires kept { KeepsOld (kept_hooks hooks.now) tree.old.current (old_of tree.old.draft at) }
-    ensures begun { IfOk result (λ b. HasBegunOther scene.now (kept_hooks hooks.now) tree.old contexts.old tree.new contexts.new at element.now place.origin place.again place.steady place.generation b) }
-    ensures tries { IfOk result (λ b. IsElementOf tree.old.current (old_of tree.old.draft at) element.now → place.origin.stood ≡ true → awaited_again b ≡ None → IsCauseToTry scene.now (kept_hooks hooks.now) tree.old at) }
+    ensures begun { IfOk result (λ b. HasBegunOther scene.now (kept_hooks hooks.now) tree.old contexts.old tree.new contexts.new at element.now place.origin place.stood place.again place.steady place.generation b) }
+    ensures tries { IfOk result (λ b. IsElementOf tree.old.current (old_of tree.old.draft at) element.now → place.stood ≡ true → awaited_again b ≡ None → IsCauseToTry scene.now (kept_hooks hooks.now) tree.old at) }
     ensures news { IfOk result (λ b. IsSome (awaited_again b) → (x : Node) → IsOld tree.old.current (old_of tree.old.draft at) (Some x)
         → ForEachIn (λ i. TellsNews (kept_hooks hooks.now) scene.now.lanes scene.now.cut i false) (children_of x)) }
     ensures current { tree.new.current ≡ tree.old.current }
 {
-    match still_awaited(tree, at, element, place.origin, place.again, scene, hooks) {
+    match still_awaited(tree, at, element, place.stood, place.again, scene, hooks) {
         Some(awaits) => {
             tree.place_facts();
             tree.mark_made(at, &StageChange::Try(place.origin));
@@ -157,16 +159,23 @@ fn begin_or_hide(
     }
 }
 
+// Whether the current fiber for which a place's fiber was made is shown, and no context has another value here than there.
+fn has_stood(origin: Origin, contexts: &ContextStack) -> bool
+    ensures { result ≡ (origin.visible && none_moved (moved_at contexts.now)) }
+{
+    origin.visible && !contexts.has_moved()
+}
+
 /// Begins the place of a fiber, as one unit of a render (react.dev, Render and Commit): a component's body is evaluated, once;
 /// a provider gives its value; the fibers of all children are made, each for the old child of its identity and type. If the
 /// element is the current one, given again, and its component has no cause to be rendered anew, the body is skipped, and the
 /// children are clones of the old ones (react.dev, useState: React skips the component). If the place is a hidden boundary's,
-/// has an element equal to the current one, stands where the same values of contexts are given, and nothing new has come for what
-/// it waits for and keeps, its children are not tried. If the element is given again, nothing in the tree of the old node has a
-/// cause, and what is read there is the same, the old children are taken over as they stand (react.dev, useContext: React finds the
-/// readers, also below components that it skips): it stands where the same values of contexts are given, or nothing there reads one,
-/// and it stands there and no resource has another version, or nothing there reads a resource. The current tree stays as it is. Also answered is
-/// whether a body was evaluated.
+/// has an element equal to the current one, which is shown, no context has another value there than in the committed tree, and
+/// nothing new has come for what it waits for and keeps, its children are not tried. If the element is given again, nothing in the
+/// tree of the old node has a cause, and what is read there is the same, the old children are taken over as they stand (react.dev,
+/// useContext: React finds the readers, also below components that it skips): the old node is shown and no context has another
+/// value there, or nothing there reads one, and it stands so and no resource has another version, or nothing there reads a
+/// resource. The current tree stays as it is. Also answered is whether a body was evaluated.
 ///
 /// # Errors
 ///
@@ -193,17 +202,17 @@ pub fn begin<L: Ledger>(
         → (again : Bool) × TellsAgain (is_memo scene.now.checked.now v.element) tree.old.current (old_of tree.old.draft at) v again
         × (again ≡ true → TellsCalm scene.now (kept_hooks hooks.old) (values_at contexts.old) (option_and_then instance_in (mark_at tree.old.current (old_of tree.old.draft at))) (not b.1))
         × (again ≡ false → b.1 ≡ true)) }
-    // A hidden boundary's children are tried only if its element is another one than that of its current fiber, or it may stand
-    // where other values of contexts are given, or there is a cause.
-    ensures tries { IfOk result (λ b. (v : fibers.Fiber) → Some v ≡ made_value_of tree.old.draft at → parts_in v.element ≡ None → IsElementOf tree.old.current (old_of tree.old.draft at) v.element → is_stood v.stage ≡ true
+    // A hidden boundary's children are tried only if its element is another one than that of its current fiber, or that one is not
+    // known to be shown, or a context has another value there, or there is a cause.
+    ensures tries { IfOk result (λ b. (v : fibers.Fiber) → Some v ≡ made_value_of tree.old.draft at → parts_in v.element ≡ None → IsElementOf tree.old.current (old_of tree.old.draft at) v.element → is_stood contexts.old v.stage ≡ true
         → awaited_again b.0 ≡ None → IsCauseToTry scene.now (kept_hooks hooks.old) tree.old at) }
     // If they are not tried, there is no news in what it keeps.
     ensures news { IfOk result (λ b. IsSome (awaited_again b.0) → (x : Node) → IsOld tree.old.current (old_of tree.old.draft at) (Some x)
         → ForEachIn (λ i. TellsNews (kept_hooks hooks.old) scene.now.lanes scene.now.cut i false) (children_of x)) }
-    // The children that are made wait as ones that stood exactly if the place is steady, and are of the generation below it; a
-    // hidden boundary counts as one that was made anew. They are made for no current fiber if the fiber is.
+    // The children that are made wait as ones whose old fibers are shown exactly if the place is steady, and are of the generation
+    // below it; a hidden boundary counts as one that was made anew. They are made for no current fiber if the fiber is.
     ensures kids { IfOk result (λ b. (v : fibers.Fiber) → Some v ≡ made_value_of tree.old.draft at → is_opened b.0 ≡ true
-        → (origin : Origin) × (again : Bool) × TellsSteady tree.old.current (old_of tree.old.draft at) v origin.stood
+        → (origin : Origin) × (again : Bool) × TellsSteady tree.old.current (old_of tree.old.draft at) v origin.visible
         × TellsAgain (is_memo scene.now.checked.now v.element) tree.old.current (old_of tree.old.draft at) v again
         × (origin.generation ≡ generation_below b.1 (again && keeps_children true (mark_at tree.old.current (old_of tree.old.draft at))) (stands_for_children v.element) (generation_of v.stage))
         × ((h : HasKids origin tree.old tree.new at) × (b.0 ≡ begun_over h.kids))) }
@@ -222,7 +231,7 @@ pub fn begin<L: Ledger>(
     // What is given again is begun over its own children only if there is a cause in the tree of its old node, or an instance
     // there stands on a way; else its old children are taken over.
     ensures causes { IfOk result (λ b. (v : fibers.Fiber) → Some v ≡ made_value_of tree.old.draft at → IsAgain (is_memo scene.now.checked.now v.element) tree.old.current (old_of tree.old.draft at) v → is_taken b.0 ≡ false
-        → HasCauseToBegin scene.now (kept_hooks hooks.old) (values_at contexts.old) (is_some (parts_in v.element)) (is_stood v.stage) tree.old.current (old_of tree.old.draft at)) }
+        → HasCauseToBegin scene.now (kept_hooks hooks.old) (values_at contexts.old) (is_some (parts_in v.element)) (is_stood contexts.old v.stage) tree.old.current (old_of tree.old.draft at)) }
     ensures few { IfOk result (λ b. (s : Sight) (n : ℕ) (fs : List Frame) (cs : Contexts) (e : elements.Element) (old : Option Node) → IsSceneOf scene.now s → StandsAt tree.old contexts.old (Some at) (at_place (suc n) fs cs e old)
         → (if b.1 then 1 else 0) ≤ next_counts each_body s (at_place (suc n) fs cs e old)) }
     ensures rises { steps.old ≤ steps.new }
@@ -238,11 +247,12 @@ pub fn begin<L: Ledger>(
     let origin = fiber.origin();
     let element = fiber.element().copy()?;
     let component = is_component(&element);
+    let stood = has_stood(origin, contexts);
     if takes_over(
         tree,
         at,
         again,
-        origin.stood,
+        stood,
         component,
         scene,
         hooks,
@@ -262,6 +272,7 @@ pub fn begin<L: Ledger>(
     let place = Place {
         origin,
         again,
+        stood,
         steady,
         generation,
     };

@@ -8,7 +8,9 @@ pub(crate) struct Place {
     pub origin: Origin,
     /// Whether its element is that of its current fiber, given again.
     pub again: bool,
-    /// Whether the old children stand where the same values of contexts are given.
+    /// Whether its current fiber is shown, and no context has another value at the place than in the committed tree.
+    pub stood: bool,
+    /// Whether the old children are shown.
     pub steady: bool,
     /// Of which generation children are that are made anew.
     pub generation: u32,

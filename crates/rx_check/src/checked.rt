@@ -17,7 +17,6 @@ use rx_names::{Listing, Table};
 use std::marker::Model;
 
 /// A program that meets every check. Contracts see it as the program.
-#[derive(Drop)]
 pub struct Checked {
     program: Program,
     bound: u64,
@@ -40,6 +39,21 @@ impl Model for Checked {
     ghost view = { λ c. c.program };
 
     ghost invariant = { λ c. IsChecked c.program c.bound c.depth c.components c.functions c.contexts c.resources };
+}
+
+// It is taken apart here alone, once for all crates.
+impl Drop for Checked {
+    fn drop(self) {
+        let Checked {
+            program: _program,
+            bound: _bound,
+            depth: _depth,
+            components: _components,
+            functions: _functions,
+            contexts: _contexts,
+            resources: _resources,
+        } = self;
+    }
 }
 
 /// The hook that keeps a state under this name among those of these statements.

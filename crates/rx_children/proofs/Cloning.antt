@@ -81,19 +81,19 @@ room_for_clones t p first os beside held linked is =
 
 -- The children that begin next
 
-module _ (c : Shape Fiber) (linked : IsLinked c) (ws : List (ℕ × ℤ)) where
-  past_gap : (n : ℕ) (es : List Element) (os : List (Option ℕ)) (d : Draft Fiber) → AreWaiting c ws n (elements.null ∷ es) (None ∷ os) d → AreWaiting c ws (suc n) es os d
+module _ (c : Shape Fiber) (linked : IsLinked c) (ms : List ℕ) (ws : List (ℕ × ℤ)) where
+  past_gap : (n : ℕ) (es : List Element) (os : List (Option ℕ)) (d : Draft Fiber) → AreWaiting c ms ws n (elements.null ∷ es) (None ∷ os) d → AreWaiting c ms ws (suc n) es os d
   past_gap n es os d (waiting.gap null more) = more
   past_gap n es os _ (waiting.next there waits more) = absurd (let q : ⊥ = cc in q)
 
   by_first : (n id : ℕ) (x : Node) (s rest : Shape Fiber) (ns : Forest) (es : List Element) (os : List (Option ℕ)) (d : Draft Fiber) → IsOld c (Some id) (Some x)
-      → ((d : Draft Fiber) → AreWaiting c ws (suc n) es os d → AreNext c ws (suc n) (zip (elements_in ns) (places ns)) d) → AreWaiting c ws n (element_of x ∷ es) (Some id ∷ os) d
-      → AreNext c ws n (zip (elements_in (trees.child x ns)) (places (trees.child x ns))) d
+      → ((d : Draft Fiber) → AreWaiting c ms ws (suc n) es os d → AreNext c ms ws (suc n) (zip (elements_in ns) (places ns)) d) → AreWaiting c ms ws n (element_of x ∷ es) (Some id ∷ os) d
+      → AreNext c ms ws n (zip (elements_in (trees.child x ns)) (places (trees.child x ns))) d
   by_first n id x s rest ns es os d is rec (waiting.gap null more) = surround.gap null (rec d more)
   by_first n id x s rest ns es os _ is rec (waiting.next {d = d} there waits more) = surround.next there waits is (rec d more)
 
   clones_next : (n : ℕ) (ns : Forest) (s : Shape Fiber) → AreFor n ns s → IsListIn c s → (d : Draft Fiber)
-      → AreWaiting c ws n (spread elements.null (λ id v. v.element) n s) (spread None (λ id v. Some id) n s) d → AreNext c ws n (zip (elements_in ns) (places ns)) d
+      → AreWaiting c ms ws n (spread elements.null (λ id v. v.element) n s) (spread None (λ id v. Some id) n s) d → AreNext c ms ws n (zip (elements_in ns) (places ns)) d
   clones_next n _ _ no_more l _ waiting.no_more = surround.no_more
   clones_next n (trees.vacant ns) none (gap a) l _ waiting.no_more = surround.gap refl (clones_next (suc n) ns none a l (taken shapes.none) waiting.no_more)
   clones_next n (trees.vacant ns) (fiber id v ks rs) (gap a) l d are =
@@ -102,19 +102,19 @@ module _ (c : Shape Fiber) (linked : IsLinked c) (ws : List (ℕ × ℤ)) where
       surround.gap refl
       (clones_next (suc n) ns (fiber id v ks rs) a l d
       (past_gap n (spread elements.null (λ id v. v.element) (suc n) (fiber id v ks rs)) (spread None (λ id v. Some id) (suc n) (fiber id v ks rs)) d
-      (subst (λ x. AreWaiting c ws n x (None ∷ spread None (λ id v. Some id) (suc n) (fiber id v ks rs)) d) e
-      (subst (λ x. AreWaiting c ws n (spread elements.null (λ id v. v.element) n (fiber id v ks rs)) x d) f are))))
+      (subst (λ x. AreWaiting c ms ws n x (None ∷ spread None (λ id v. Some id) (suc n) (fiber id v ks rs)) d) e
+      (subst (λ x. AreWaiting c ms ws n (spread elements.null (λ id v. v.element) n (fiber id v ks rs)) x d) f are))))
   clones_next n (trees.child x ns) s (next {rest = rest} is a) l d are =
       let (jd, u, h, same, e) = spread_node elements.null (λ id v. v.element) n x s rest is in
       let (id, v, f, _, g) = spread_node None (λ id v. Some id) n x s rest is in
       by_first n id x s rest ns (spread elements.null (λ id v. v.element) (suc n) rest) (spread None (λ id v. Some id) (suc n) rest) d (of (at_first c s id l f) f (next is a))
       (clones_next (suc n) ns rest a (rest_in c linked n x s rest is l))
-      (subst (λ y. AreWaiting c ws n (y ∷ spread elements.null (λ id v. v.element) (suc n) rest) (Some id ∷ spread None (λ id v. Some id) (suc n) rest) d) same
-      (subst (λ y. AreWaiting c ws n y (Some id ∷ spread None (λ id v. Some id) (suc n) rest) d) e
-      (subst (λ y. AreWaiting c ws n (spread elements.null (λ id v. v.element) n s) y d) g are)))
+      (subst (λ y. AreWaiting c ms ws n (y ∷ spread elements.null (λ id v. v.element) (suc n) rest) (Some id ∷ spread None (λ id v. Some id) (suc n) rest) d) same
+      (subst (λ y. AreWaiting c ms ws n y (Some id ∷ spread None (λ id v. Some id) (suc n) rest) d) e
+      (subst (λ y. AreWaiting c ms ws n (spread elements.null (λ id v. v.element) n s) y d) g are)))
 
   -- Clones of a list begin next if its nodes are matched with their own elements.
-  pub kept_next : (ns : Forest) (s : Shape Fiber) → IsListFor c ns s → NoNull ns → (d : Draft Fiber) → AreWaiting c ws 0 (old_elements s) (old_fibers s) d
-      → AreNext c ws 0 (zip (elements_in ns) (old_nodes ns (elements_in ns))) d
+  pub kept_next : (ns : Forest) (s : Shape Fiber) → IsListFor c ns s → NoNull ns → (d : Draft Fiber) → AreWaiting c ms ws 0 (old_elements s) (old_fibers s) d
+      → AreNext c ms ws 0 (zip (elements_in ns) (old_nodes ns (elements_in ns))) d
   kept_next ns s list no_null d are =
-      subst (λ xs. AreNext c ws 0 (zip (elements_in ns) xs) d) (sym (matches_itself ns no_null)) (clones_next 0 ns s list.are list.listed d are)
+      subst (λ xs. AreNext c ms ws 0 (zip (elements_in ns) xs) d) (sym (matches_itself ns no_null)) (clones_next 0 ns s list.are list.listed d are)

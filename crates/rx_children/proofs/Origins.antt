@@ -12,6 +12,7 @@ use Rattle.rx_fiber.specs.Fibers.{Fiber, generation_of, origin_of, waiting}
 use Rattle.rx_fiber.specs.OldLists.{matched, old_fibers}
 use Rattle.rx_fiber.proofs.OldTops.{fiber_top}
 use Rattle.rx_fiber.specs.declared.stage.Origin.{Origin}
+use Rattle.rx_fiber.specs.Stood.{gave, given_in}
 use Rattle.rx_fiber.specs.Surround.{IsElementOf}
 use Rattle.rx_children.specs.Children.{AreMade, no_more, gap, next, AllWait, AllNew}
 use Rattle.rx_children.specs.Nodes.{IsBareAt}
@@ -38,6 +39,14 @@ module _ (t : Trees Fiber) (p : ℕ) (knows : KnowsPlaces t) (bare : IsBareAt t 
       let f : Some u.element ≡ Some e = sym (ap (option_map (λ (x : Fiber). x.element)) (current_value u reads)) ∙ element in
       let its : u.element ≡ e = cc in
       sym its
+
+  -- what it gives is what was given
+  pub gave_so : (u : Fiber) → (Holds t.current old → Some u ≡ value_of t.current old) → given_in u.element ≡ gave t.current (old_of t.draft p)
+  gave_so u reads = sym (ap (option_and_then (λ (x : Fiber). given_in x.element)) (current_value u reads))
+
+-- no current fiber gives nothing
+pub gave_none : (t : Trees Fiber) (p : ℕ) (o : Option ℕ) → o ≡ old_of t.draft p → o ≡ None → None ≡ gave t.current (old_of t.draft p)
+gave_none t p o same none = ap (gave t.current) (sym none ∙ same)
 
 -- equal elements are the same
 pub equal_same : (e f : Element) → e ≡ f → same_element e f ≡ true

@@ -1,5 +1,5 @@
 -- What a fiber is begun with, and what its current fiber tells of before.
-use Rattle.std.specs.Prelude.{◌≡◌, ℕ, ℤ, List, [], Option, Some, None}
+use Rattle.std.specs.Prelude.{◌≡◌, ℕ, ℤ, Bool, List, [], Option, Some, None}
 use Rattle.rx_ctx.specs.Contexts as contexts
 use Rattle.rx_ctx.specs.Contexts.{Stack}
 use Rattle.rx_elem.specs.Elements.{Element, listed}
@@ -108,15 +108,15 @@ begun_children (elements.list marked es) = listed es
 begun_children (elements.boundary k f es) = listed es
 begun_children (elements.provider c k x es) = listed es
 
--- what it makes of the stack of contexts
-abbrev pub begun_stack : Element → Stack → Stack
-begun_stack elements.null st = st
-begun_stack (elements.text t) st = st
-begun_stack (elements.host name k attrs es) st = st
-begun_stack (elements.comp c k ps es) st = st
-begun_stack (elements.list marked es) st = st
-begun_stack (elements.boundary k f es) st = st
-begun_stack (elements.provider c k x es) st = contexts.below c x st
+-- what it makes of the stack of contexts, if it may give another value than its old node gave
+abbrev pub begun_stack : Element → (moves : Bool) → Stack → Stack
+begun_stack elements.null b st = st
+begun_stack (elements.text t) b st = st
+begun_stack (elements.host name k attrs es) b st = st
+begun_stack (elements.comp c k ps es) b st = st
+begun_stack (elements.list marked es) b st = st
+begun_stack (elements.boundary k f es) b st = st
+begun_stack (elements.provider c k x es) b st = contexts.below c x b st
 
 -- the context that it gives a value, if it is one of a provider
 abbrev pub given_context : Element → Option ℕ

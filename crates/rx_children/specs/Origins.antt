@@ -6,22 +6,21 @@ use Rattle.rx_lists.specs.Shapes.{Shape}
 use Rattle.rx_links.specs.Drafts.{Trees, old_of}
 use Rattle.rx_links.specs.Readers.{made_value_of, value_of}
 use Rattle.rx_meaning.specs.Fresh.{Contexts}
-use Rattle.rx_fiber.specs.Fibers.{Fiber, generation_of, is_cloned, is_stood}
+use Rattle.rx_fiber.specs.Fibers.{Fiber, generation_of, is_cloned, is_visible}
 use Rattle.rx_fiber.specs.OldLists.{hides_in}
-use Rattle.rx_fiber.specs.Stood.{given_in}
 use Rattle.rx_fiber.specs.Subtrees.{subtree_at}
 use Rattle.rx_fiber.specs.Surround.{IsElementOf}
 use Rattle.rx_causes.specs.Idle.{HasCauseIn}
 use Rattle.rx_causes.specs.declared.scene.Scene.{Scene}
-use Rattle.rx_elem.specs.Elements.{Element}
+use Rattle.rx_elem.specs.Elements.{Element, kind_of, same_kind}
 
--- A fiber that waits stood, and its current fiber hides nothing and gives the same to the contexts below it. So the children of that one stand where those of the fiber will.
+-- The current fiber of one that waits is shown, is of its element's kind, and hides nothing. So the children of that one are shown, and those of the fiber will stand below providers of the same contexts.
 pub record IsSteady (current : Shape Fiber) (o : Option ℕ) (v : Fiber) : Type 0 where
-  pub stood : is_stood v.stage ≡ true
+  pub visible : is_visible v.stage ≡ true
   pub old : Fiber
   pub old_is : option_and_then (value_of current) o ≡ Some old
   pub shown : hides_in old.stage ≡ false
-  pub gives : given_in v.element ≡ given_in old.element
+  pub kind : same_kind (kind_of v.element) (kind_of old.element) ≡ true
 
 -- a test tells whether a place is steady
 abbrev pub TellsSteady : Shape Fiber → Option ℕ → Fiber → Bool → Type 0
@@ -44,7 +43,7 @@ KnowsClone t p = (v : Fiber) → Some v ≡ made_value_of t.draft p → is_clone
 abbrev pub StoodIn : Option Node → Element → Type 0
 StoodIn old e = option_map element_of old ≡ Some e
 
--- There is a cause to begin a place whose element is given again: the tree of its old node leads to one; or it may stand where other values of contexts are given, and an instance at or below the old node reads a context; or it may stand so or some resource has another version, and an instance there reads a resource.
+-- There is a cause to begin a place whose element is given again: the tree of its old node leads to one; or it is not known to be shown or a context may have another value there, and an instance at or below the old node reads a context; or that is so or some resource has another version, and an instance there reads a resource.
 abbrev pub HasCauseToBegin : Scene → (kept : ℕ → Option (List Hook)) → Contexts → (component stood : Bool) → Shape Fiber → Option ℕ → Type 0
 HasCauseToBegin scene kept cs component stood current o =
     HasCauseIn scene kept cs component current o

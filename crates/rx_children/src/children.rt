@@ -125,8 +125,8 @@ fn make_all(
 
 /// Makes the fibers of a list of children below a made fiber that has none: each element that is not `null` gets one, at its
 /// place, for the old child of its identity and type in the current list that begins with a fiber, or a new one. They are made
-/// from the last to the first (react.dev, Preserving and Resetting State). `stood` tells whether the old ones stand where the
-/// same values of contexts are given; the elements are of this generation.
+/// from the last to the first (react.dev, Preserving and Resetting State). `visible` tells whether the old ones are shown; the
+/// elements are of this generation.
 ///
 /// # Errors
 ///
@@ -137,27 +137,27 @@ pub fn make_children(
     at: FiberId,
     elements: &[Element],
     first_old: Option<FiberId>,
-    stood: bool,
+    visible: bool,
     generation: u32,
 ) -> Result<(), AllocError>
     requires held { IfSome first_old (Holds tree.old.current) }
     requires beside { IsBareBeside tree.old at first_old }
-    ensures made { OnOk result (HasMadeFrom (as_matched stood generation) 0 tree.old tree.new at elements.now (matched (list_from tree.old.current first_old) elements.now)) }
+    ensures made { OnOk result (HasMadeFrom (as_matched visible generation) 0 tree.old tree.new at elements.now (matched (list_from tree.old.current first_old) elements.now)) }
     ensures current { tree.new.current ≡ tree.old.current }
 {
     tree.facts();
     let olds = match_fibers(alloc, tree, elements, first_old)?;
     let origin = Origin {
         cloned: false,
-        stood,
+        visible,
         generation,
     };
     make_all(tree, at, elements, &olds, origin)
 }
 
 /// Makes clones of the children of a current list below a made fiber that has none: each for its old fiber, at its place and with
-/// its element, so that nothing is matched. They are made from the last to the first. `stood` tells whether the old ones stand
-/// where the same values of contexts are given.
+/// its element, so that nothing is matched. They are made from the last to the first. `visible` tells whether the old ones
+/// are shown.
 ///
 /// # Errors
 ///
@@ -167,11 +167,11 @@ pub fn clone_children(
     tree: &mut FiberTree<Fiber>,
     at: FiberId,
     first_old: Option<FiberId>,
-    stood: bool,
+    visible: bool,
 ) -> Result<(), AllocError>
     requires held { IfSome first_old (Holds tree.old.current) }
     requires beside { IsBareBeside tree.old at first_old }
-    ensures made { OnOk result (HasMadeFrom (as_cloned stood) 0 tree.old tree.new at (old_elements (list_from tree.old.current first_old)) (old_fibers (list_from tree.old.current first_old))) }
+    ensures made { OnOk result (HasMadeFrom (as_cloned visible) 0 tree.old tree.new at (old_elements (list_from tree.old.current first_old)) (old_fibers (list_from tree.old.current first_old))) }
     ensures current { tree.new.current ≡ tree.old.current }
 {
     tree.facts();
@@ -179,7 +179,7 @@ pub fn clone_children(
     count_places(&known.elements)?;
     let origin = Origin {
         cloned: true,
-        stood,
+        visible,
         generation: 0,
     };
     make_all(tree, at, &known.elements, &known.fibers, origin)

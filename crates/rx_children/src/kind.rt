@@ -1,12 +1,12 @@
 // What an element's fiber begins with.
 ghost use Rattle.std.specs.Prelude.{◌≡◌, ◌<◌, true, length, IfSome, OnOk, is_some, option_map};
-ghost use Rattle.rx_ctx.specs.Contexts.{values_at};
+ghost use Rattle.rx_ctx.specs.Contexts.{same_given, values_at};
 ghost use Rattle.rx_fiber.specs.FiberView.{stage_seen};
 ghost use Rattle.rx_fiber.specs.Stood.{given_in};
 ghost use Rattle.rx_children.specs.Nodes.{parts_in, begun_stage, begun_children, begun_stack, given_context};
 ghost use Rattle.rx_children.specs.PartsView.{parts_seen};
 
-use rx_base::Ints;
+use rx_base::{Int, Ints};
 use rx_ctx::ContextStack;
 use rx_elem::{Element, ElementKind};
 use rx_fiber::{Origin, Stage};
@@ -72,32 +72,45 @@ pub fn begun_children(element: &Element) -> &[Element]
     }
 }
 
-/// Whether two elements give the same to the contexts below them: both nothing, or one context the same value.
-pub(crate) fn gives_same(element: &Element, old: &Element) -> bool
-    ensures same { result ≡ true → given_in element.now ≡ given_in old.now }
-    ensures other { given_in element.now ≡ given_in old.now → result ≡ true }
+/// What a provider's element gives: to which context, and which value.
+pub(crate) fn given_in(element: &Element) -> Option<(u32, Int)>
+    ensures { result ≡ given_in element.now }
 {
-    match (element.kind(), old.kind()) {
-        (ElementKind::Provider(c, _, x, _), ElementKind::Provider(d, _, y, _)) => {
-            *c == *d && x.same(*y)
-        }
-        (ElementKind::Provider(_, _, _, _), _) => false,
-        (_, ElementKind::Provider(_, _, _, _)) => false,
-        _ => true,
+    match element.kind() {
+        ElementKind::Provider(context, _, value, _) => Some((*context, *value)),
+        _ => None,
     }
 }
 
-/// Gives a provider's value to those below it; any other element leaves the stack as it is.
+/// Whether both give nothing, or one context the same value.
+pub(crate) fn same_given(given: Option<(u32, Int)>, other: Option<(u32, Int)>) -> bool
+    ensures { result ≡ same_given given other }
+{
+    match (given, other) {
+        (None, None) => true,
+        (Some((context, value)), Some((other_context, other_value))) => {
+            context == other_context && value.same(other_value)
+        }
+        _ => false,
+    }
+}
+
+/// Gives a provider's value to those below it; any other element leaves the stack as it is. `moves` tells whether it is another
+/// value than the provider's old node gave.
 ///
 /// # Errors
 ///
 /// Only if out of memory.
-pub fn enter(element: &Element, contexts: &mut ContextStack) -> Result<(), AllocError>
+pub fn enter(
+    element: &Element,
+    moves: bool,
+    contexts: &mut ContextStack,
+) -> Result<(), AllocError>
     requires { IfSome (given_context element.now) (λ c. c < length (values_at contexts.old)) }
-    ensures { OnOk result (contexts.new ≡ begun_stack element.now contexts.old) }
+    ensures { OnOk result (contexts.new ≡ begun_stack element.now moves contexts.old) }
 {
     if let ElementKind::Provider(context, _, value, _) = element.kind() {
-        contexts.push(*context, *value)?;
+        contexts.push(*context, *value, moves)?;
     }
     Ok(())
 }

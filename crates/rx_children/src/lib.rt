@@ -14,4 +14,4 @@ pub use node::{
     Begun, keep_node, keeps_children, old_host, old_instance, open_clones, open_list, open_node,
     take_node,
 };
-pub use origin::{is_again, is_hidden_again, is_steady, takes_over};
+pub use origin::{gives_another, is_again, is_hidden_again, is_steady, takes_over};

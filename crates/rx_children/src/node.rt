@@ -111,8 +111,7 @@ fn set_stage(tree: &mut FiberTree<Fiber>, at: FiberId, stage: Stage) -> Result<(
 }
 
 /// Begins a fiber with this stage over these children, which are of this generation, each made for its old one in the current list
-/// that begins with a fiber, and gives the first of them. `stood` tells whether the old ones stand where the same values of contexts
-/// are given.
+/// that begins with a fiber, and gives the first of them. `visible` tells whether the old ones are shown.
 ///
 /// # Errors
 ///
@@ -124,23 +123,23 @@ pub fn open_list(
     stage: Stage,
     elements: &[Element],
     first_old: Option<FiberId>,
-    stood: bool,
+    visible: bool,
     generation: u32,
 ) -> Result<Option<FiberId>, AllocError>
     requires held { IfSome first_old (Holds tree.old.current) }
     requires beside { IsBareBeside tree.old at first_old }
-    ensures opened { IfOk result (λ first. HasList (as_matched stood generation) tree.old tree.new at (stage_seen stage) elements.now (matched (list_from tree.old.current first_old) elements.now) first) }
+    ensures opened { IfOk result (λ first. HasList (as_matched visible generation) tree.old tree.new at (stage_seen stage) elements.now (matched (list_from tree.old.current first_old) elements.now) first) }
     ensures current { tree.new.current ≡ tree.old.current }
 {
-    make_children(alloc, tree, at, elements, first_old, stood, generation)?;
+    make_children(alloc, tree, at, elements, first_old, visible, generation)?;
     tree.place_facts();
     set_stage(tree, at, stage)?;
     tree.place_facts();
     Ok(tree.first_child(at))
 }
 
-/// Begins a fiber with this stage over clones of the current list that begins with a fiber, and gives the first of them. `stood`
-/// tells whether the old ones stand where the same values of contexts are given.
+/// Begins a fiber with this stage over clones of the current list that begins with a fiber, and gives the first of them. `visible`
+/// tells whether the old ones are shown.
 ///
 /// # Errors
 ///
@@ -151,14 +150,14 @@ pub fn open_clones(
     at: FiberId,
     stage: Stage,
     first_old: Option<FiberId>,
-    stood: bool,
+    visible: bool,
 ) -> Result<Option<FiberId>, AllocError>
     requires held { IfSome first_old (Holds tree.old.current) }
     requires beside { IsBareBeside tree.old at first_old }
-    ensures opened { IfOk result (λ first. HasList (as_cloned stood) tree.old tree.new at (stage_seen stage) (old_elements (list_from tree.old.current first_old)) (old_fibers (list_from tree.old.current first_old)) first) }
+    ensures opened { IfOk result (λ first. HasList (as_cloned visible) tree.old tree.new at (stage_seen stage) (old_elements (list_from tree.old.current first_old)) (old_fibers (list_from tree.old.current first_old)) first) }
     ensures current { tree.new.current ≡ tree.old.current }
 {
-    clone_children(alloc, tree, at, first_old, stood)?;
+    clone_children(alloc, tree, at, first_old, visible)?;
     tree.place_facts();
     set_stage(tree, at, stage)?;
     tree.place_facts();
@@ -175,7 +174,7 @@ fn begun_from(first: Option<FiberId>) -> Begun
 }
 
 /// Begins a fiber with this stage beside the children of its old node, over elements of this generation, and gives where the render
-/// comes from there. `steady` tells whether the old children stand where the same values of contexts are given.
+/// comes from there. `steady` tells whether the old children are shown.
 ///
 /// # Errors
 ///
@@ -203,7 +202,7 @@ pub fn open_node(
 }
 
 /// Begins a fiber with this stage over clones of the children of its old node, and gives where the render comes from there. `steady`
-/// tells whether the old children stand where the same values of contexts are given.
+/// tells whether the old children are shown.
 ///
 /// # Errors
 ///

@@ -11,6 +11,7 @@ ghost use Rattle.commit_laws.specs.Idle.{IsIdle, IsIdleMark};
 ghost use Rattle.rx_fiber.specs.Fibers as fibers;
 ghost use Rattle.rx_fiber.specs.Reading.{IsOld};
 ghost use Rattle.rx_fiber.specs.Subtrees.{IsGathered, subtree_at};
+ghost use Rattle.rx_fiber.specs.Stood.{gave, gives_another};
 ghost use Rattle.rx_fiber.specs.Surround.{IsElementOf};
 ghost use Rattle.rx_ways.specs.Ways.{Covers, is_way};
 ghost use Rattle.rx_hook_store.specs.Store.{kept_hooks};
@@ -22,8 +23,9 @@ ghost use Rattle.rx_causes.specs.Reads.{ContextsHold, VersionsHold};
 ghost use Rattle.rx_children.specs.Nodes.{IsBareAt};
 ghost use Rattle.rx_children.specs.Origins.{HasCauseToBegin, KnowsClone, TellsAgain, TellsSteady};
 
-use crate::kind::gives_same;
+use crate::kind::{given_in, same_given};
 use crate::node::keeps_children;
+use rx_base::Int;
 use rx_causes::{Scene, is_idle, reads_nothing, uses_nothing};
 use rx_ctx::ContextStack;
 use rx_elem::Element;
@@ -82,8 +84,30 @@ pub fn is_hidden_again(tree: &FiberTree<Fiber>, at: FiberId, element: &Element, 
     is_equal(tree, at, element)
 }
 
-/// Whether a place is steady: its current fiber is shown, stands where the same values of contexts are given, and gives the same
-/// to those below it. Then its children stand where the same values are given too.
+// What the current fiber gives for which a place's fiber was made, if it is there.
+fn gave(tree: &FiberTree<Fiber>, at: FiberId) -> Option<(u32, Int)>
+    requires { IsBareAt tree.now at }
+    ensures { result ≡ gave tree.now.current (old_of tree.now.draft at) }
+{
+    tree.place_facts();
+    tree.facts();
+    match tree.alternate(at) {
+        Some(old) => given_in(tree.value(old).element()),
+        None => None,
+    }
+}
+
+/// Whether an element gives a context another value than the current fiber for which a place's fiber was made, or there is none
+/// that gives it one.
+pub fn gives_another(tree: &FiberTree<Fiber>, at: FiberId, element: &Element) -> bool
+    requires { IsBareAt tree.now at }
+    ensures { result ≡ gives_another tree.now.current (old_of tree.now.draft at) element.now }
+{
+    !same_given(given_in(element), gave(tree, at))
+}
+
+/// Whether a place is steady: its current fiber is shown, is of the kind of its element, and hides nothing. Then the children of
+/// that one are shown, and the children of the place stand below providers of the same contexts.
 pub fn is_steady(tree: &FiberTree<Fiber>, at: FiberId) -> bool
     requires { IsBareAt tree.now at }
     ensures { (v : fibers.Fiber) → Some v ≡ made_value_of tree.now.draft at → TellsSteady tree.now.current (old_of tree.now.draft at) v result }
@@ -94,16 +118,16 @@ pub fn is_steady(tree: &FiberTree<Fiber>, at: FiberId) -> bool
     match tree.alternate(at) {
         Some(old) => {
             let current = tree.value(old);
-            fiber.is_stood()
+            fiber.is_visible()
                 && !hides(current.stage())
-                && gives_same(fiber.element(), current.element())
+                && fiber.element().is_same_kind(current.element())
         }
         None => false,
     }
 }
 
-// Whether what is read of the contexts at or below an old node is the same: it stood where the same values are given, or nothing
-// there reads one.
+// Whether what is read of the contexts at or below an old node is the same: it is shown and no context has another value there, or
+// nothing there reads one.
 fn reads_the_same(tree: &FiberTree<Fiber>, old: Option<FiberId>, stood: bool) -> bool
     requires held { IfSome old (Holds tree.now.current) }
     requires gathered { IsGathered tree.now.current }
@@ -114,8 +138,8 @@ fn reads_the_same(tree: &FiberTree<Fiber>, old: Option<FiberId>, stood: bool) ->
     stood || reads_nothing(tree, old)
 }
 
-// Whether what is read of the resources there is the same: it stood, and no resource has another version, or nothing there reads
-// one.
+// Whether what is read of the resources there is the same: it stood so, and no resource has another version, or nothing there
+// reads one.
 fn uses_the_same(tree: &FiberTree<Fiber>, old: Option<FiberId>, stood: bool, scene: &Scene) -> bool
     requires held { IfSome old (Holds tree.now.current) }
     requires gathered { IsGathered tree.now.current }
@@ -127,8 +151,8 @@ fn uses_the_same(tree: &FiberTree<Fiber>, old: Option<FiberId>, stood: bool, sce
 }
 
 /// Whether a fiber takes over the old children: its element is given again, nothing in the tree of its old node has a cause to be
-/// rendered, and what is read there is the same: it stood where the same values of contexts are given, or nothing there reads a
-/// context; and it stood, and no resource has another version, or nothing there reads a resource.
+/// rendered, and what is read there is the same: it is shown and no context has another value there (`stood`), or nothing there reads
+/// a context; and it stood so, and no resource has another version, or nothing there reads a resource.
 pub fn takes_over(
     tree: &FiberTree<Fiber>,
     at: FiberId,

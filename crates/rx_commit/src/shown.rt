@@ -34,7 +34,6 @@ use std::marker::Model;
 
 /// What is shown: the committed tree, its hosts, and the passive effects that are pending (react.dev, Render and Commit).
 /// Contracts see the tree as plain data, the hosts as a forest with room for more, and the effects as lists.
-#[derive(Drop)]
 pub struct Shown {
     tree: Option<node::Node>,
     hosts: HostTree,
@@ -53,6 +52,17 @@ impl Model for Shown {
     ghost coded = { Prim.hlevel (codes, node_code) };
 
     ghost view = { λ s. record { tree = s.tree; hosts = s.hosts; passive = passive_seen s.passive } };
+}
+
+// It is taken apart here alone, once for all crates.
+impl Drop for Shown {
+    fn drop(self) {
+        let Shown {
+            tree: _tree,
+            hosts: _hosts,
+            passive: _passive,
+        } = self;
+    }
 }
 
 impl Shown {

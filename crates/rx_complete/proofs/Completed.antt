@@ -1,7 +1,7 @@
 -- What completing a fiber makes of the two trees and the stack.
-use Rattle.std.specs.Prelude.{◌≡◌, ℕ, List, ◌∷◌, Option, Some}
+use Rattle.std.specs.Prelude.{◌≡◌, ℕ, ℤ, Bool, List, ◌∷◌, Option, Some}
 use Rattle.std.proofs.Common.{sym, ap, ◌∙◌, subst}
-use Rattle.rx_ctx.specs.Contexts.{Stack}
+use Rattle.rx_ctx.specs.Contexts.{Stack, moves_by}
 use Rattle.rx_elem.specs.Elements.{Element}
 use Rattle.rx_elem.specs.Trees.{Node}
 use Rattle.rx_links.specs.Drafts.{Draft, made, Trees, Makes, valued, entry}
@@ -13,7 +13,8 @@ use Rattle.rx_fiber.specs.Fibers.{Fiber, completed}
 use Rattle.rx_fiber.specs.declared.subtree.Subtree.{Subtree}
 use Rattle.rx_fiber.specs.FiberView.{changed}
 use Rattle.rx_fiber.specs.declared.stage.StageChange.TheVariants as change
-use Rattle.rx_fiber.specs.Surround.{open_element}
+use Rattle.rx_fiber.specs.Stood.{gave, given_in}
+use Rattle.rx_fiber.specs.Surround.{moves_along, open_element}
 use Rattle.rx_fiber.specs.Standing.{IsStack, opened, StandsAt, completes}
 use Rattle.rx_fiber.proofs.Completing.{Completes, completing}
 use Rattle.rx_complete.specs.declared.completing.Next.{Next}
@@ -23,6 +24,12 @@ use Rattle.rx_complete.proofs.Leading.{fiber_next, next_is, arrive_leads}
 -- what each made fiber is to the two trees
 abbrev pub KnowsPlaces : Trees Fiber → Type 0
 KnowsPlaces t = (k : Around Fiber) (p : ℕ) (v : Fiber) (o : Option ℕ) (ks rs : Draft Fiber) → t.draft ≡ placed k (made p v o ks rs) → IsAt t k p v o ks rs
+
+-- what leaving an open node of this element makes of the stack
+abbrev pub Leaves : Element → Stack → Stack → Type 0
+Leaves e st new =
+    ((x : Open) (cs : Contexts) (xs : List (Open × Contexts)) → e ≡ open_element x → IsStack st ((x, cs) ∷ xs) → IsStack new xs)
+    × ((g : Option (ℕ × ℤ)) (moves : List (ℕ × Bool)) → st.moves ≡ moves_by (given_in e) g moves → new.moves ≡ moves)
 
 -- the change that completes a fiber
 abbrev pub marked : Subtree → Trees Fiber → ℕ → Trees Fiber
@@ -39,7 +46,7 @@ end_list t st q (ends h) =
 
 module _ (g : Subtree) (t : Trees Fiber) (st : Stack) (q : ℕ) (levels : ℕ) (fs : List Frame) (x : Open) (done : List (Option Node))
     (h : StandsAt t st (Some q) (at_end levels fs x done)) (knows : KnowsPlaces t) where
-  abbrev it : Completes t q fs x done
+  abbrev it : Completes t st q fs x done
   it = completing t st q levels fs x done h
 
   marked_here : (new : Trees Fiber) → new ≡ marked g t q → new.draft ≡ placed it.around (made q (completed g it.value) it.old it.kids it.rest)
@@ -52,7 +59,7 @@ module _ (g : Subtree) (t : Trees Fiber) (st : Stack) (q : ℕ) (levels : ℕ) (
       (f it.around q (completed g it.value) it.old it.kids it.rest (marked_here new e))
 
   marked_stack : (st' : Stack) → ((cs : Contexts) → IsStack st ((x, cs) ∷ opened fs) → IsStack st' (opened fs)) → IsStack st' (opened fs)
-  marked_stack st' f = elim h [ completes here before list stack ↦ f _ stack ]
+  marked_stack st' f = elim h [ completes here before list stack moves ↦ f _ stack ]
 
   value_is : (v : Fiber) → Some v ≡ made_value_of t.draft q → v ≡ it.value
   value_is v e =
@@ -63,14 +70,16 @@ module _ (g : Subtree) (t : Trees Fiber) (st : Stack) (q : ℕ) (levels : ℕ) (
   -- the render stands where the unit of its cursor comes
   pub marked_stands : (s : Sight) (new : Trees Fiber) (st' : Stack) (result : Next) (element : Element) (v : Fiber)
       → new ≡ marked g t q → KnowsPlaces new → Some v ≡ made_value_of t.draft q → element ≡ v.element
-      → ((y : Open) (cs : Contexts) (xs : List (Open × Contexts)) → element ≡ open_element y → IsStack st ((y, cs) ∷ xs) → IsStack st' xs)
+      → Leaves element st st'
       → result ≡ next_after new.draft q → StandsAt new st' (fiber_in result) (unit s (at_end levels fs x done))
   unfolding unit
   marked_stands s new st' result element v e f value is leaves answer =
       subst (λ at. StandsAt new st' at (arrive levels fs (Some (finished x done))))
       (sym (ap fiber_in (answer ∙ marked_next new e f) ∙ fiber_next (entry it.rest) (up_of it.around)))
       (it.arrives g new st' levels (ap (λ n. n.current) e) (marked_here new e)
-      (marked_stack st' (λ cs stack. leaves x cs (opened fs) (is ∙ (ap (λ u. u.element) (value_is v value) ∙ it.element)) stack)))
+      (marked_stack st' (λ cs stack. leaves.0 x cs (opened fs) (is ∙ (ap (λ u. u.element) (value_is v value) ∙ it.element)) stack))
+      (leaves.1 (gave t.current it.old) (moves_along t.current it.around)
+      (subst (λ y. st.moves ≡ moves_by (given_in y) (gave t.current it.old) (moves_along t.current it.around)) (sym (is ∙ ap (λ u. u.element) (value_is v value))) it.moves)))
 
   -- the answer is of the form of that place
   pub marked_leads : (s : Sight) (new : Trees Fiber) (result : Next) → new ≡ marked g t q → KnowsPlaces new → result ≡ next_after new.draft q

@@ -1,9 +1,9 @@
 -- The children of a fiber are gone through.
 use Rattle.std.specs.Prelude.{◌≡◌, ◌<◌, ◌+◌, ℕ, suc, Option, Some, None}
-use Rattle.std.proofs.Common.{arith, refl, sym, ap, ◌∙◌, subst}
-use Rattle.rx_lists.specs.Shapes.{Shape, none, first}
+use Rattle.std.proofs.Common.{arith, sym, ap, ◌∙◌, subst}
+use Rattle.rx_lists.specs.Shapes.{first}
 use Rattle.rx_links.specs.Drafts.{Draft, taken, made, Trees, Makes, IsMadeList, entry, grafted, made_size}
-use Rattle.rx_links.specs.Places.{Around, below, after, placed, IsAt}
+use Rattle.rx_links.specs.Places.{Around, below, after, placed}
 use Rattle.rx_links.specs.Readers.{made_list_at, made_value_in, made_value_of, made_kids_in, made_kids_of, made_rest_in, made_rest_of}
 use Rattle.rx_fiber.specs.declared.subtree.Subtree.{Subtree}
 use Rattle.rx_fiber.specs.Fibers.{Fiber, nothing, joined}

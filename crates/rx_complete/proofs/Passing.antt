@@ -27,7 +27,7 @@ module _ (t : Trees Fiber) (st : Stack) (q levels : ℕ) (fs : List Frame) (x : 
       subst (λ at. StandsAt t st at (arrive levels fs (Some x))) (sym (ap fiber_in passed_next ∙ fiber_next (entry l.rest) (up_of l.around)))
       (arrives t st l.around (after q l.value l.old (taken l.kids) l.around) l.value.place levels l.rest fs x l.here refl
       (λ done are. taken_done t.current l.around l.value.place done x q l.value l.old l.kids are l.of_node l.is_for)
-      l.surrounds l.stack)
+      l.surrounds l.stack l.moves)
 
   -- the answer is of the form of that place
   pub passed_leads : LeadsTo result (arrive levels fs (Some x))

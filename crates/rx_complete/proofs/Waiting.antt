@@ -2,19 +2,20 @@
 use Rattle.std.specs.Prelude.{◌≡◌, ℕ, suc, ◌<◌, true, false, List, [], ◌∷◌, Some, None}
 use Rattle.std.proofs.Common.{refl, sym, ap, ◌∙◌, subst, arith}
 use Rattle.rx_base.specs.Awaits.{Awaits}
-use Rattle.rx_ctx.specs.Contexts.{Stack}
+use Rattle.rx_ctx.specs.Contexts.{Stack, moves_by}
 use Rattle.rx_elem.specs.Elements.{Element}
 use Rattle.rx_links.specs.Drafts.{Draft, Trees, Makes, Fits}
 use Rattle.rx_links.specs.Readers.{made_parent_of, made_value_of}
-use Rattle.rx_meaning.specs.Fresh.{Contexts, waits}
-use Rattle.rx_meaning.specs.Cursor.{Open, Frame, ended, unwind}
+use Rattle.rx_meaning.specs.Fresh.{waits}
+use Rattle.rx_meaning.specs.Cursor.{Frame, ended, unwind}
 use Rattle.rx_fiber.specs.Fibers.{Fiber}
-use Rattle.rx_fiber.specs.Surround.{open_element}
+use Rattle.rx_fiber.specs.Stood.{gave, given_in}
+use Rattle.rx_fiber.specs.Surround.{moves_along}
 use Rattle.rx_fiber.specs.Standing.{IsStack, opened}
 use Rattle.rx_fiber.specs.Unwound.{IsWithin, is_trying, passed_on, IsLeftAt}
 use Rattle.rx_fiber.proofs.Unwinding.{Outside, outside, at_top, depth}
 use Rattle.rx_complete.specs.Ends.{IsOpenBelow, lies}
-use Rattle.rx_complete.proofs.Completed.{KnowsPlaces}
+use Rattle.rx_complete.proofs.Completed.{KnowsPlaces, Leaves}
 use Rattle.rx_complete.proofs.Depths.{depth_of, depth_is}
 
 -- The wait outside of `at` has come to `here`: it is the same from there.
@@ -22,10 +23,6 @@ abbrev pub Reaches : Trees Fiber → Stack → ℕ → Awaits → Stack → ℕ 
 Reaches t st at a new here b =
     (levels : ℕ) (fs : List Frame) → IsWithin t st at fs
     → (more : ℕ) × (outer : List Frame) × IsWithin t new here outer × (unwind levels fs a ≡ unwind more outer b)
-
--- what leaving an open node of this element makes of the stack
-abbrev pub Leaves : Element → Stack → Stack → Type 0
-Leaves e st new = (x : Open) (cs : Contexts) (xs : List (Open × Contexts)) → e ≡ open_element x → IsStack st ((x, cs) ∷ xs) → IsStack new xs
 
 pub here_below : (t : Trees Fiber) (st new : Stack) (at here : ℕ) (a b : Awaits) → Reaches t st at a new here b → IsOpenBelow t st at → IsOpenBelow t new here
 here_below t st new at here a b f (lies {fs = fs} w) = let (more, outer, v, e) = f 0 fs w in lies v
@@ -82,7 +79,9 @@ module _ (t : Trees Fiber) (knows : KnowsPlaces t) (st : Stack) (p : ℕ) where
         let same = outer_value v value in (
           suc levels,
           n.frames,
-          subst (λ i. IsWithin t new i n.frames) n.same (o.within new (leaves n.frame.node n.frame.contexts (opened n.frames) (element ∙ (ap (λ u. u.element) same ∙ o.element)) n.stack)),
+          subst (λ i. IsWithin t new i n.frames) n.same (o.within new (leaves.0 n.frame.node n.frame.contexts (opened n.frames) (element ∙ (ap (λ u. u.element) same ∙ o.element)) n.stack)
+              (leaves.1 (gave t.current o.old) (moves_along t.current o.around)
+              (subst (λ y. st.moves ≡ moves_by (given_in y) (gave t.current o.old) (moves_along t.current o.around)) (sym (element ∙ ap (λ u. u.element) same)) o.moves))),
           ap (λ l. unwind levels l a) n.are
               ∙ (o.outwards (subst (λ u. is_trying u.stage ≡ false) same out) levels a ∙ ap (λ u. unwind (suc levels) n.frames (passed_on u.stage a)) (sym same)),
         )

@@ -1,6 +1,6 @@
 // A node is completed.
-ghost use Rattle.std.specs.Prelude.{◌≡◌, ℕ, List, ◌∷◌, Option, Some};
-ghost use Rattle.rx_ctx.specs.Contexts.{Stack};
+ghost use Rattle.std.specs.Prelude.{◌≡◌, ℕ, ℤ, Bool, List, ◌∷◌, Option, Some};
+ghost use Rattle.rx_ctx.specs.Contexts.{Stack, moves_by};
 ghost use Rattle.rx_elem.specs.Trees.{Node};
 ghost use Rattle.rx_links.specs.Drafts.{Makes, grafted, valued};
 ghost use Rattle.rx_links.specs.Readers.{made_kids_of};
@@ -9,6 +9,7 @@ ghost use Rattle.rx_meaning.specs.Cursor.{Open, Frame, arrive, at_end, unit};
 ghost use Rattle.rx_fiber.specs.FiberView.{changed};
 ghost use Rattle.rx_fiber.specs.declared.stage.StageChange.TheVariants as change;
 ghost use Rattle.rx_fiber.specs.Passed.{IsPassed};
+ghost use Rattle.rx_fiber.specs.Stood.{given_in};
 ghost use Rattle.rx_fiber.specs.Surround.{open_element};
 ghost use Rattle.rx_fiber.specs.Standing.{StandsAt, IsStack};
 ghost use Rattle.rx_fiber.specs.Subtrees.{subtrees_of};
@@ -32,7 +33,8 @@ pub enum Next {
 
 // At the end of a provider its context has the value from outside again.
 pub(crate) fn leave(element: &Element, contexts: &mut ContextStack)
-    ensures { (x : Open) (cs : Contexts) (xs : List (Open × Contexts)) → element.now ≡ open_element x → IsStack contexts.old ((x, cs) ∷ xs) → IsStack contexts.new xs }
+    ensures stack { (x : Open) (cs : Contexts) (xs : List (Open × Contexts)) → element.now ≡ open_element x → IsStack contexts.old ((x, cs) ∷ xs) → IsStack contexts.new xs }
+    ensures moves { (g : Option (ℕ × ℤ)) (moves : List (ℕ × Bool)) → contexts.old.moves ≡ moves_by (given_in element.now) g moves → contexts.new.moves ≡ moves }
 {
     if let ElementKind::Provider(_, _, _, _) = element.kind() {
         contexts.pop();

@@ -8,22 +8,22 @@ use Rattle.rx_ctx.specs.Contexts.{Stack, value_at, values_at, below}
 use Rattle.rx_ctx.specs.Hidden.{given_in, defaults_in, AreContexts, stack_of}
 
 -- the values are those of the stack
-pub values_at-stack_of : (values : List ℤ) (hs : List HiddenValue) → values_at (stack_of values hs) ≡ values
-values_at-stack_of values [] = refl
-values_at-stack_of values (h ∷ hs) =
-    ap (λ vs. set vs h.context (get_or values h.context (pos 0))) (values_at-stack_of (set values h.context h.value) hs)
+pub values_at-stack_of : (values : List ℤ) (others : List Bool) (hs : List HiddenValue) → values_at (stack_of values others hs) ≡ values
+values_at-stack_of values others [] = refl
+values_at-stack_of values others (h ∷ hs) =
+    ap (λ vs. set vs h.context (get_or values h.context (pos 0))) (values_at-stack_of (set values h.context h.value) (set others h.context h.other) hs)
     ∙ set-set values h.context h.value (get_or values h.context (pos 0))
     ∙ set-get_or values h.context (pos 0)
 
 -- what a context is is read from the values
-pub value_at-stack_of : (values : List ℤ) (hs : List HiddenValue) (c : ℕ) → value_at (stack_of values hs) c ≡ get_or values c (pos 0)
-value_at-stack_of values [] c = refl
-value_at-stack_of values (h ∷ hs) c = go (nat_eq h.context c) refl (value_at-stack_of (set values h.context h.value) hs c)
+pub value_at-stack_of : (values : List ℤ) (others : List Bool) (hs : List HiddenValue) (c : ℕ) → value_at (stack_of values others hs) c ≡ get_or values c (pos 0)
+value_at-stack_of values others [] c = refl
+value_at-stack_of values others (h ∷ hs) c = go (nat_eq h.context c) refl (value_at-stack_of (set values h.context h.value) (set others h.context h.other) hs c)
   where
     after : List ℤ
     after = set values h.context h.value
 
-    go : (b : Bool) → nat_eq h.context c ≡ b → value_at (stack_of after hs) c ≡ get_or after c (pos 0)
+    go : (b : Bool) → nat_eq h.context c ≡ b → value_at (stack_of after (set others h.context h.other) hs) c ≡ get_or after c (pos 0)
         → unwrap_or (option_map (λ (p : ℕ × ℤ). p.1) (cond b (Some (h.context, get_or values h.context (pos 0))) (find (λ p. nat_eq p.0 c) (given_in after hs)))) (get_or (defaults_in after hs) c (pos 0))
         ≡ get_or values c (pos 0)
     go true e rest = let same : h.context ≡ c = grind (arith, nat_tests) in ap (λ i. get_or values i (pos 0)) same
@@ -33,42 +33,40 @@ value_at-stack_of values (h ∷ hs) c = go (nat_eq h.context c) refl (value_at-s
 pub AreContexts-set : (values : List ℤ) (i : ℕ) (x : ℤ) (hs : List HiddenValue) → AreContexts (length values) hs → AreContexts (length (set values i x)) hs
 AreContexts-set values i x hs h = subst (λ n. AreContexts n hs) (sym (length-set values i x)) h
 
+-- what one write hides, a second brings back
+pub back : {X : Type 0} (xs : List X) (c : ℕ) (x d : X) → set (set xs c x) c (get_or xs c d) ≡ xs
+back xs c x d = set-set xs c x (get_or xs c d) ∙ set-get_or xs c d
+
 -- a provider's value hides the one before
-pub stack_of-set : (values : List ℤ) (c : ℕ) (x : ℤ) (hs : List HiddenValue) → c < length values
-    → stack_of (set values c x) (record { context = c; value = get_or values c (pos 0) } ∷ hs) ≡ below c x (stack_of values hs)
-stack_of-set values c x hs h = rw (back, get_or-set_same values c x (pos 0) h) refl
-  where
-    back : set (set values c x) c (get_or values c (pos 0)) ≡ values
-    back = set-set values c x (get_or values c (pos 0)) ∙ set-get_or values c (pos 0)
+pub stack_of-set : (values : List ℤ) (others : List Bool) (c : ℕ) (x : ℤ) (b : Bool) (hs : List HiddenValue) → c < length values → c < length others
+    → stack_of (set values c x) (set others c b) (record { context = c; value = get_or values c (pos 0); other = get_or others c false } ∷ hs) ≡ below c x b (stack_of values others hs)
+stack_of-set values others c x b hs h k =
+    rw (back values c x (pos 0), get_or-set_same values c x (pos 0) h, back others c b false, get_or-set_same others c b false k) refl
 
 -- a context of the stack is one of the values
-pub in_range : (values : List ℤ) (hs : List HiddenValue) (s : Stack) (c : ℕ) → stack_of values hs ≡ s → c < length (values_at s) → c < length values
-in_range values hs s c e h = subst (λ (vs : List ℤ). c < length vs) (values_at-stack_of values hs) (subst (λ (t : Stack). c < length (values_at t)) (sym e) h)
+pub in_range : (values : List ℤ) (others : List Bool) (hs : List HiddenValue) (s : Stack) (c : ℕ) → stack_of values others hs ≡ s → c < length (values_at s) → c < length values
+in_range values others hs s c e h =
+    subst (λ (vs : List ℤ). c < length vs) (values_at-stack_of values others hs) (subst (λ (t : Stack). c < length (values_at t)) (sym e) h)
 
 -- what is read is what the context is
-pub read-value_at : (values : List ℤ) (hs : List HiddenValue) (s : Stack) (c : ℕ) (x : ℤ) → stack_of values hs ≡ s → c < length values → x ≡ get_or values c x → x ≡ value_at s c
-read-value_at values hs s c x e h r =
-    r ∙ get_or_default values c x (pos 0) h ∙ sym (value_at-stack_of values hs c) ∙ ap (λ (t : Stack). value_at t c) e
+pub read-value_at : (values : List ℤ) (others : List Bool) (hs : List HiddenValue) (s : Stack) (c : ℕ) (x : ℤ) → stack_of values others hs ≡ s → c < length values → x ≡ get_or values c x → x ≡ value_at s c
+read-value_at values others hs s c x e h r =
+    r ∙ get_or_default values c x (pos 0) h ∙ sym (value_at-stack_of values others hs c) ∙ ap (λ (t : Stack). value_at t c) e
 
 -- the values are those of the stack
-pub all-values_at : (values : List ℤ) (hs : List HiddenValue) (s : Stack) → stack_of values hs ≡ s → values ≡ values_at s
-all-values_at values hs s e = sym (values_at-stack_of values hs) ∙ ap values_at e
+pub all-values_at : (values : List ℤ) (others : List Bool) (hs : List HiddenValue) (s : Stack) → stack_of values others hs ≡ s → values ≡ values_at s
+all-values_at values others hs s e = sym (values_at-stack_of values others hs) ∙ ap values_at e
 
 -- what one more provider hides stands first
-reverse-pushed : (hs items : List HiddenValue) (h : HiddenValue) → items ≡ hs ++ h ∷ [] → reverse items ≡ h ∷ reverse hs
+pub reverse-pushed : (hs items : List HiddenValue) (h : HiddenValue) → items ≡ hs ++ h ∷ [] → reverse items ≡ h ∷ reverse hs
 reverse-pushed hs items h e = ap reverse e ∙ reverse-append hs (h ∷ [])
 
-pub AreContexts-pushed : (values : List ℤ) (hs items : List HiddenValue) (c : ℕ) (x old : ℤ) → c < length values
-    → AreContexts (length values) (reverse hs) → items ≡ hs ++ record { context = c; value = old } ∷ [] → AreContexts (length (set values c x)) (reverse items)
-AreContexts-pushed values hs items c x old lt h e =
-    subst (AreContexts (length (set values c x))) (sym (reverse-pushed hs items (record { context = c; value = old }) e))
-    (AreContexts-set values c x (record { context = c; value = old } ∷ reverse hs) (lt, h))
-
-pub stack_of-pushed : (values : List ℤ) (hs items : List HiddenValue) (s : Stack) (c : ℕ) (x old : ℤ) → c < length values
-    → old ≡ get_or values c old → items ≡ hs ++ record { context = c; value = old } ∷ [] → stack_of values (reverse hs) ≡ s
-    → stack_of (set values c x) (reverse items) ≡ below c x s
-stack_of-pushed values hs items s c x old lt r e v =
-    ap (stack_of (set values c x)) (reverse-pushed hs items (record { context = c; value = old }) e)
-    ∙ ap (λ (y : ℤ). stack_of (set values c x) (record { context = c; value = y } ∷ reverse hs)) (r ∙ get_or_default values c old (pos 0) lt)
-    ∙ stack_of-set values c x (reverse hs) lt
-    ∙ ap (below c x) v
+pub stack_of-pushed : (values : List ℤ) (others : List Bool) (hs items : List HiddenValue) (s : Stack) (c : ℕ) (x old : ℤ) (b was : Bool) → c < length values → c < length others
+    → old ≡ get_or values c old → was ≡ get_or others c was → items ≡ hs ++ record { context = c; value = old; other = was } ∷ [] → stack_of values others (reverse hs) ≡ s
+    → stack_of (set values c x) (set others c b) (reverse items) ≡ below c x b s
+stack_of-pushed values others hs items s c x old b was lt lt_too r q e v =
+    ap (stack_of (set values c x) (set others c b)) (reverse-pushed hs items (record { context = c; value = old; other = was }) e)
+    ∙ ap (λ (y : ℤ). stack_of (set values c x) (set others c b) (record { context = c; value = y; other = was } ∷ reverse hs)) (r ∙ get_or_default values c old (pos 0) lt)
+    ∙ ap (λ (y : Bool). stack_of (set values c x) (set others c b) (record { context = c; value = get_or values c (pos 0); other = y } ∷ reverse hs)) (q ∙ get_or_default others c was false lt_too)
+    ∙ stack_of-set values others c x b (reverse hs) lt lt_too
+    ∙ ap (below c x b) v

@@ -11,7 +11,6 @@ use std::rc::Rc;
 
 /// What stands in a place of a tree (react.dev, createElement). A parent and a child both hold the child's element: each
 /// holds a handle of it, and what is in it stands once. Contracts see it as plain data.
-#[derive(Drop)]
 #[cycle(element)]
 pub struct Element {
     kind: Rc<ElementKind>,
@@ -53,6 +52,14 @@ impl Model for Element {
     ghost use Rattle.rx_elem.specs.ElementFalls.{depth_falls};
 
     ghost size_decreases = { λ a h. depth_falls a.kind.value };
+}
+
+// An element is taken apart here alone, once for all crates.
+impl Drop for Element {
+    #[cycle(taken_apart)]
+    fn drop(self) {
+        let Element { kind: _kind } = self;
+    }
 }
 
 impl Element {

@@ -2,7 +2,7 @@
 use Rattle.std.specs.Prelude.{◌≡◌, ℕ, ℤ, Bool, true, false, List, [], ◌∷◌, Option, Some, None, IfSome, is_some, slice_get}
 use Rattle.std.proofs.Common.{refl, sym, ap, ◌∙◌, subst}
 use Rattle.rx_base.specs.Awaits.{Awaits}
-use Rattle.rx_ctx.specs.Contexts.{Stack, values_at}
+use Rattle.rx_ctx.specs.Contexts.{Stack, moved_in, moves_by, values_at}
 use Rattle.rx_elem.specs.Elements.{Element}
 use Rattle.rx_elem.specs.Elements as elements
 use Rattle.rx_elem.specs.Trees.{Node, children_if, fallback_if, of_boundary}
@@ -20,8 +20,8 @@ use Rattle.rx_fiber.specs.FiberView.{changed}
 use Rattle.rx_fiber.specs.declared.stage.StageChange.TheVariants as change
 use Rattle.rx_fiber.specs.OldLists.{primary_list, fallback_list, matched}
 use Rattle.rx_fiber.specs.Reading.{has_node}
-use Rattle.rx_fiber.specs.Stood.{StoodAt, given_in, given_more, one_more}
-use Rattle.rx_fiber.specs.Surround.{given_along, AreNext, IsAround, IsOfNode, IsOldBehind, StandsIf, fallback_in, is_boundary}
+use Rattle.rx_fiber.specs.Stood.{gave, given_in, given_more, one_more, StandsBut}
+use Rattle.rx_fiber.specs.Surround.{given_along, moved_along, moves_along, AreNext, IsAround, IsOfNode, IsOldBehind, StandsIf, fallback_in, is_boundary}
 use Rattle.rx_fiber.specs.Standing.{IsStack, opened, StandsAt}
 use Rattle.rx_fiber.specs.Unwound.{IsLeftAt}
 use Rattle.rx_fiber.proofs.Coming.{come_at}
@@ -54,14 +54,14 @@ boundary_gives (elements.list marked es) h = refl
 boundary_gives (elements.boundary k f es) h = refl
 boundary_gives (elements.provider c k x es) h = cc
 
-has_fallen : (t : Trees Fiber) (st : Stack) (q levels : ℕ) (fs : List Frame) (e : Element) (old : Option Node) (a : Awaits) (list : Part) (d : Draft Fiber) → IsMadeList d
-    → StandsAt t st (Some (come_at d q)) (open_part levels fs (falling e old a) list) → AreNext t.current (given_more e (given_along fs)) 0 (children_with_old list) d
+has_fallen : (t : Trees Fiber) (st : Stack) (ms : List ℕ) (q levels : ℕ) (fs : List Frame) (e : Element) (old : Option Node) (a : Awaits) (list : Part) (d : Draft Fiber) → IsMadeList d
+    → StandsAt t st (Some (come_at d q)) (open_part levels fs (falling e old a) list) → AreNext t.current ms (given_more e (given_along fs)) 0 (children_with_old list) d
     → HasOpenedAs t st (open_part levels fs (falling e old a) list) (opened_at (entry d) q)
-has_fallen t st q levels fs e old a list (taken s) is at more =
+has_fallen t st ms q levels fs e old a list (taken s) is at more =
     subst (λ f. HasOpenedAs t st (open_part levels fs (falling e old a) list) (opened_at f q)) (sym (ap first is))
-    (at, leads t.current (given_more e (given_along fs)) 0 levels fs (falling e old a) list.contexts [] (children_with_old list) (taken s) more)
-has_fallen t st q levels fs e old a list (made id v o ks rs) is at more =
-    (at, leads t.current (given_more e (given_along fs)) 0 levels fs (falling e old a) list.contexts [] (children_with_old list) (made id v o ks rs) more)
+    (at, leads t.current ms (given_more e (given_along fs)) 0 levels fs (falling e old a) list.contexts [] (children_with_old list) (taken s) more)
+has_fallen t st ms q levels fs e old a list (made id v o ks rs) is at more =
+    (at, leads t.current ms (given_more e (given_along fs)) 0 levels fs (falling e old a) list.contexts [] (children_with_old list) (made id v o ks rs) more)
 
 module _ (t : Trees Fiber) (st : Stack) (p : ℕ) (a : Awaits) (c : Cursor) (l : IsLeftAt t st p (taken none) a c) (linked : IsLinked t.current) where
   abbrev its_list : Part
@@ -73,28 +73,44 @@ module _ (t : Trees Fiber) (st : Stack) (p : ℕ) (a : Awaits) (c : Cursor) (l :
   abbrev its_given : List (ℕ × ℤ)
   its_given = given_more l.value.element (given_along l.frames)
 
+  abbrev its_moved : List ℕ
+  its_moved = moved_along t.current l.around
+
   -- the fibers that are made for the fallback's list begin next
   abbrev pub BeginsNext : Draft Fiber → Type 0
-  BeginsNext d = AreNext t.current its_given 0 (children_with_old its_list) d
+  BeginsNext d = AreNext t.current its_moved its_given 0 (children_with_old its_list) d
 
-  -- the old fibers of the fallback stand where its new ones will, if that of the boundary stands where it does
-  olds_stand : StandsIf t.current (given_along l.frames) l.old → (i j : ℕ) → slice_get its_olds i ≡ Some (Some j) → StoodAt t.current its_given (Some j)
+  -- the old fibers of the fallback stand where its new ones will, but for contexts that have moved, if that of the boundary stands where it does
+  olds_stand : StandsIf t.current its_moved (given_along l.frames) l.old → (i j : ℕ) → slice_get its_olds i ≡ Some (Some j) → StandsBut t.current its_moved its_given (Some j)
   olds_stand stands i j is =
       let (place, there, here) = matched_at (fallback_list (list_from t.current l.old)) (fallback_in l.value.element ∷ []) i j is in
-      subst (λ g. StoodAt t.current (one_more g (given_along l.frames)) (Some j)) (sym (boundary_gives l.value.element l.boundary))
-      (fallback_stands t.current (given_along l.frames) l.value.element l.old place j stands here)
+      subst (λ g. StandsBut t.current its_moved (one_more g (given_along l.frames)) (Some j)) (sym (boundary_gives l.value.element l.boundary))
+      (fallback_stands t.current its_moved (given_along l.frames) l.value.element l.old place j stands here)
 
   -- so do those that are matched with the old ones
-  pub matched_next : (stood : Bool) (generation : ℕ) → (stood ≡ true → StandsIf t.current (given_along l.frames) l.old) → (es : List Element) (os : List (Option ℕ)) → es ≡ fallback_in l.value.element ∷ [] → os ≡ its_olds → (d : Draft Fiber) → AreMade t.current (as_matched stood generation) 0 es os d → BeginsNext d
-  matched_next stood generation stands es os es_are os_are d are =
-      let here : AreMade t.current (as_matched stood generation) 0 (fallback_in l.value.element ∷ []) its_olds d =
-      subst (λ x. AreMade t.current (as_matched stood generation) 0 x its_olds d) es_are (subst (λ x. AreMade t.current (as_matched stood generation) 0 es x d) os_are are) in
-      nexts t.current its_given 0 (fallback_in l.value.element ∷ []) its_olds (old_nodes (fallback_if l.node) (fallback_in l.value.element ∷ [])) d
-      (all_wait t.current its_given (as_matched stood generation) 0 (fallback_in l.value.element ∷ []) its_olds d (λ so. absurd (let q : ⊥ = cc in q)) (λ so. olds_stand (stands so)) here)
+  pub matched_next : (visible : Bool) (generation : ℕ) → (visible ≡ true → StandsIf t.current its_moved (given_along l.frames) l.old) → (es : List Element) (os : List (Option ℕ)) → es ≡ fallback_in l.value.element ∷ [] → os ≡ its_olds → (d : Draft Fiber) → AreMade t.current (as_matched visible generation) 0 es os d → BeginsNext d
+  matched_next visible generation stands es os es_are os_are d are =
+      let here : AreMade t.current (as_matched visible generation) 0 (fallback_in l.value.element ∷ []) its_olds d =
+      subst (λ x. AreMade t.current (as_matched visible generation) 0 x its_olds d) es_are (subst (λ x. AreMade t.current (as_matched visible generation) 0 es x d) os_are are) in
+      nexts t.current its_moved its_given 0 (fallback_in l.value.element ∷ []) its_olds (old_nodes (fallback_if l.node) (fallback_in l.value.element ∷ [])) d
+      (all_wait t.current its_moved its_given (as_matched visible generation) 0 (fallback_in l.value.element ∷ []) its_olds d (λ so. absurd (let q : ⊥ = cc in q)) (λ so. olds_stand (stands so)) here)
       (matched_old t.current linked (fallback_if l.node) (fallback_list (list_from t.current l.old)) (fallback_is t.current linked l.old l.node l.was) (fallback_in l.value.element ∷ []))
 
-  kids_next : (new : Trees Fiber) (d : Draft Fiber) → new.current ≡ t.current → BeginsNext d → AreNext new.current its_given 0 (children_with_old its_list) d
-  kids_next new d same begins = subst (λ k. AreNext k its_given 0 (children_with_old its_list) d) (sym same) begins
+  -- a fiber with the element of the boundary moves no context
+  quiet : (new : Trees Fiber) (w : Fiber) (r : Option ℕ) → new.current ≡ t.current → w.element ≡ l.value.element
+      → moves_along t.current l.around ≡ moves_by (given_in w.element) (gave new.current r) (moves_along new.current l.around)
+  quiet new w r same element =
+      ap (λ k. moves_along k l.around) (sym same)
+      ∙ ap (λ g. moves_by g (gave new.current r) (moves_along new.current l.around)) (sym (ap given_in element ∙ boundary_gives l.value.element l.boundary))
+
+  -- which contexts have moved below one
+  abbrev moved_under : Trees Fiber → Fiber → Option ℕ → List ℕ
+  moved_under new w r = moved_in (moves_by (given_in w.element) (gave new.current r) (moves_along new.current l.around))
+
+  kids_next : (new : Trees Fiber) (w : Fiber) (r : Option ℕ) (d : Draft Fiber) → new.current ≡ t.current → w.element ≡ l.value.element → BeginsNext d → AreNext new.current (moved_under new w r) its_given 0 (children_with_old its_list) d
+  kids_next new w r d same element begins =
+      subst (λ (ms : List (ℕ × Bool)). AreNext new.current (moved_in ms) its_given 0 (children_with_old its_list) d) (quiet new w r same element)
+      (subst (λ k. AreNext k its_moved its_given 0 (children_with_old its_list) d) (sym same) begins)
 
   surrounds_new : (new : Trees Fiber) → new.current ≡ t.current → IsAround new.current l.around l.value.place l.rest l.frames
   surrounds_new new same = subst (λ k. IsAround k l.around l.value.place l.rest l.frames) (sym same) l.surrounds
@@ -113,12 +129,13 @@ module _ (t : Trees Fiber) (st : Stack) (p : ℕ) (a : Awaits) (c : Cursor) (l :
   pub left_alone : (origin : Origin) (new : Trees Fiber) (es : List Element) (os : List (Option ℕ)) (link : Option ℕ) → HasList origin t new p (begun (of_boundary (Hidden a))) es os link
       → ((d : Draft Fiber) → AreMade t.current origin 0 es os d → BeginsNext d) → has_node (children_if l.node) ≡ false → HasOpenedAs new st c (opened_at link p)
   left_alone origin new es os link done begins gone =
-      let next = kids_next new done.kids done.current (begins done.kids done.are) in
+      let w : Fiber = record l.value { stage = begun (of_boundary (Hidden a)) } in
+      let next = kids_next new w l.old done.kids done.current refl (begins done.kids done.are) in
       subst (λ x. HasOpenedAs new st c (opened_at x p)) (sym done.first_is)
       (opens_so new (opened_at (entry done.kids) p)
-      (has_fallen new st p l.levels l.frames l.value.element l.node a its_list done.kids (made_list 0 es os done.kids done.are)
-      (falls_alone new st l.around p l.levels (record l.value { stage = begun (of_boundary (Hidden a)) }) l.old done.kids l.rest l.frames l.value.element l.node a its_list
-      (done.stands l.around l.value l.old l.rest l.here) refl refl gone (own_new new done.current) next (surrounds_new new done.current) stack_new)
+      (has_fallen new st (moved_under new w l.old) p l.levels l.frames l.value.element l.node a its_list done.kids (made_list 0 es os done.kids done.are)
+      (falls_alone new st l.around p l.levels w l.old done.kids l.rest l.frames l.value.element l.node a its_list
+      (done.stands l.around l.value l.old l.rest l.here) refl refl gone (own_new new done.current) next (surrounds_new new done.current) stack_new (l.moves ∙ quiet new w l.old done.current refl))
       next))
 
   -- one that keeps something has it in a fiber of its own
@@ -128,13 +145,13 @@ module _ (t : Trees Fiber) (st : Stack) (p : ℕ) (a : Awaits) (c : Cursor) (l :
   left_beside origin u w new r q es os link kept same put done begins link_is some behind =
       let current : new.current ≡ t.current = done.current ∙ (put.current ∙ same) in
       let are : AreMade t.current origin 0 es os done.kids = subst (λ k. AreMade k origin 0 es os done.kids) (put.current ∙ same) done.are in
-      let next = kids_next new done.kids current (begins done.kids are) in
       let v : Fiber = hidden_over a (kept_below t p) l.value in
       let keeps : Shape Fiber = kids_under t.current l.old in
       let (element, there) = put.stands l.around v l.old (taken keeps) l.rest (kept l.around l.value l.old l.rest l.here) in
+      let next = kids_next new put.value r done.kids current element (begins done.kids are) in
       subst (λ x. HasOpenedAs new st c (opened_at x q)) (sym link_is)
       (opens_so new (opened_at (entry done.kids) q)
-      (has_fallen new st q l.levels l.frames l.value.element l.node a its_list done.kids (made_list 0 es os done.kids are)
+      (has_fallen new st (moved_under new put.value r) q l.levels l.frames l.value.element l.node a its_list done.kids (made_list 0 es os done.kids are)
       (falls_beside new st l.around p q l.levels v put.value l.old r keeps done.kids l.rest l.frames l.value.element l.node a its_list
       (done.stands (after p v l.old (taken keeps) l.around) put.value r l.rest there)
       (record {
@@ -145,7 +162,7 @@ module _ (t : Trees Fiber) (st : Stack) (p : ℕ) (a : Awaits) (c : Cursor) (l :
         are = kept_is t.current linked l.old l.node l.was some;
       })
       (own_new new current) (subst (λ k. IsOldBehind k l.old r) (sym current) (old_behind t.current l.old r behind))
-      next (surrounds_new new current) stack_new)
+      next (surrounds_new new current) stack_new (l.moves ∙ quiet new put.value r current element))
       next))
 
   -- it keeps something if its old primary list has a fiber

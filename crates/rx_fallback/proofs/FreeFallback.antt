@@ -125,10 +125,10 @@ module _ (t : Trees Fiber) (fits : Fits t) (p b j : ℕ) (falls : begins_fallbac
       let q : ⊥ = cc in q
 
   -- none of the fibers that wait is for it
-  next_free : (ws : List (ℕ × ℤ)) (n : ℕ) (xs : List (Element × Option Node)) (d : Draft Fiber) → AreNext t.current ws n xs d → IsTopUnused d j
-  next_free ws n [] _ surround.no_more = tt
-  next_free ws n (x ∷ xs) d (surround.gap null more) = next_free ws (suc n) xs d more
-  next_free ws n (x ∷ xs) (made id v o ks d) (surround.next there waits old more) = (no_node o (old_of_node t.current o x.1 old), next_free ws (suc n) xs d more)
+  next_free : (ms : List ℕ) (ws : List (ℕ × ℤ)) (n : ℕ) (xs : List (Element × Option Node)) (d : Draft Fiber) → AreNext t.current ms ws n xs d → IsTopUnused d j
+  next_free ms ws n [] _ surround.no_more = tt
+  next_free ms ws n (x ∷ xs) d (surround.gap null more) = next_free ms ws (suc n) xs d more
+  next_free ms ws n (x ∷ xs) (made id v o ks d) (surround.next there waits old more) = (no_node o (old_of_node t.current o x.1 old), next_free ms ws (suc n) xs d more)
 
   -- none but p is made for the boundary's
   no_other : (k : Around Fiber) (d : Draft Fiber) → t.draft ≡ placed k d → IsFor d p (Some b) → second (list_from t.current (old_before k)) ≡ Some j → ⊥

@@ -20,8 +20,8 @@ use Rattle.commit_laws.proofs.TakeOver.{settled_no_null}
 use Rattle.rx_fiber.specs.Fibers.{Fiber, as_cloned}
 use Rattle.rx_fiber.specs.OldLists.{fallback_list, hides_in, matched, old_elements, old_fibers}
 use Rattle.rx_fiber.specs.Reading.{IsOld}
-use Rattle.rx_fiber.specs.Stood.{StoodAt, given_in, one_more}
-use Rattle.rx_fiber.specs.Surround.{AreNext, fallback_in, given_along, is_boundary}
+use Rattle.rx_fiber.specs.Stood.{StandsBut, given_in, one_more}
+use Rattle.rx_fiber.specs.Surround.{AreNext, fallback_in, given_along, moved_along, is_boundary}
 use Rattle.rx_fiber.specs.Unwound.{IsLeftAt}
 use Rattle.rx_fiber.proofs.OldLists.{fallback_is}
 use Rattle.rx_fiber.proofs.Stood.{stood_in_fallback}
@@ -69,27 +69,28 @@ module _ (t : Trees Fiber) (st : Stack) (p : ℕ) (a : Awaits) (c : Cursor) (l :
 
   -- clones of the old fallback's fibers stand where these stand
   clones_stand : HasOldFallback t.current (given_along l.frames) l.old l.node l.value.element → (i j : ℕ) → slice_get (old_fibers its_old) i ≡ Some (Some j)
-      → StoodAt t.current (given_along l.frames) (Some j)
+      → StandsBut t.current (moved_along t.current l.around) (given_along l.frames) (Some j)
   clones_stand h i j is =
-      stood_in_fallback t.current (given_along l.frames) l.value.element l.old i j h.stood h.same (λ v value. hides_if t.current l.old l.node v l.was h.hidden value) (ap option_flatten is)
+      let stands : StandsBut t.current (moved_along t.current l.around) (given_along l.frames) l.old = record { given = h.stands.given; stood = h.stands.stood; same = λ d f. h.stands.same d refl } in
+      stood_in_fallback t.current (moved_along t.current l.around) (given_along l.frames) l.value.element l.old i j stands h.same (λ v value. hides_if t.current l.old l.node v l.was h.hidden value) (ap option_flatten is)
 
   -- clones begin next
-  cloned_next : HasOldFallback t.current (given_along l.frames) l.old l.node l.value.element → (stood : Bool) (d : Draft Fiber) → AreMade t.current (as_cloned stood) 0 (old_elements its_old) (old_fibers its_old) d
+  cloned_next : HasOldFallback t.current (given_along l.frames) l.old l.node l.value.element → (visible : Bool) (d : Draft Fiber) → AreMade t.current (as_cloned visible) 0 (old_elements its_old) (old_fibers its_old) d
       → BeginsNext t st p a c l linked d
-  cloned_next h stood d are =
+  cloned_next h visible d are =
       let own = fallback_is_own h.program h.known l.value.element l.node h.settled (stood_in t.current l.old l.node l.value.element l.was h.same) l.boundary h.hidden in
       let gives : given_along l.frames ≡ one_more (given_in l.value.element) (given_along l.frames) = ap (λ g. one_more g (given_along l.frames)) (sym (boundary_gives l.value.element l.boundary)) in
-      subst (λ ws. AreNext t.current ws 0 (zip (fallback_in l.value.element ∷ []) (old_nodes (fallback_if l.node) (fallback_in l.value.element ∷ []))) d) gives
-      (subst (λ es. AreNext t.current (given_along l.frames) 0 (zip es (old_nodes (fallback_if l.node) es)) d) own.0
-      (kept_next t.current linked (given_along l.frames) (fallback_if l.node) its_old (fallback_is t.current linked l.old l.node l.was) own.1 d
-      (all_wait t.current (given_along l.frames) (as_cloned stood) 0 (old_elements its_old) (old_fibers its_old) d (λ so. refl) (λ so. clones_stand h) are)))
+      subst (λ ws. AreNext t.current (moved_along t.current l.around) ws 0 (zip (fallback_in l.value.element ∷ []) (old_nodes (fallback_if l.node) (fallback_in l.value.element ∷ []))) d) gives
+      (subst (λ es. AreNext t.current (moved_along t.current l.around) (given_along l.frames) 0 (zip es (old_nodes (fallback_if l.node) es)) d) own.0
+      (kept_next t.current linked (moved_along t.current l.around) (given_along l.frames) (fallback_if l.node) its_old (fallback_is t.current linked l.old l.node l.was) own.1 d
+      (all_wait t.current (moved_along t.current l.around) (given_along l.frames) (as_cloned visible) 0 (old_elements its_old) (old_fibers its_old) d (λ so. refl) (λ so. clones_stand h) are)))
 
   -- So do those of the elements that are given, and clones if none are.
-  pub given_next : (given : Option (List Element)) (stood : Bool) (generation : ℕ) → IsFallbackOf t.current (given_along l.frames) l.old l.node l.value.element given stood → (s : Shape Fiber) → s ≡ its_old
-      → (d : Draft Fiber) → AreMade t.current (given_as given stood generation) 0 (given_elements given s) (given_fibers given s) d → BeginsNext t st p a c l linked d
-  given_next None stood generation h s is d are = cloned_next h stood d (subst (λ x. AreMade t.current (as_cloned stood) 0 (old_elements x) (old_fibers x) d) is are)
-  given_next (Some es) stood generation h s is d are =
-      matched_next t st p a c l linked stood generation h.1 es (matched s es) h.0 (ap (λ x. matched x es) is ∙ ap (matched its_old) h.0) d are
+  pub given_next : (given : Option (List Element)) (visible : Bool) (generation : ℕ) → IsFallbackOf t.current (moved_along t.current l.around) (given_along l.frames) l.old l.node l.value.element given visible → (s : Shape Fiber) → s ≡ its_old
+      → (d : Draft Fiber) → AreMade t.current (given_as given visible generation) 0 (given_elements given s) (given_fibers given s) d → BeginsNext t st p a c l linked d
+  given_next None visible generation h s is d are = cloned_next h visible d (subst (λ x. AreMade t.current (as_cloned visible) 0 (old_elements x) (old_fibers x) d) is are)
+  given_next (Some es) visible generation h s is d are =
+      matched_next t st p a c l linked visible generation h.1 es (matched s es) h.0 (ap (λ x. matched x es) is ∙ ap (matched its_old) h.0) d are
 
 -- the old list of the fallback is that of the definition
 pub same_old : (t u : Trees Fiber) (old o first : Option ℕ) → list_from t.current first ≡ fallback_list (list_from t.current o) → o ≡ old → u.current ≡ t.current

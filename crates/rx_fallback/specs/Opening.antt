@@ -71,10 +71,10 @@ pub record HasFallback (before after : Trees Fiber) (p : ℕ) (old : Option ℕ)
       → (value.element ≡ v.element) × (after.draft ≡ placed k (made p v o ks (made id value old (taken shapes.none) rs)))
   pub current : after.current ≡ before.current
 
--- a fallback's list has these elements, which are the fallback of the boundary's element alone, and if they stood the boundary's current fiber, if it is there, stands where these values are given; if none are given, it has those of the old fallback
-abbrev pub IsFallbackOf : Shape Fiber → List (ℕ × ℤ) → Option ℕ → Option Node → Element → (given : Option (List Element)) (stood : Bool) → Type 0
-IsFallbackOf current ws o old e None stood = HasOldFallback current ws o old e
-IsFallbackOf current ws o old e (Some es) stood = (es ≡ fallback_in e ∷ []) × (stood ≡ true → StandsIf current ws o)
+-- a fallback's list has these elements, which are the fallback of the boundary's element alone, and if they are visible the boundary's current fiber, if it is there, stands where these values are given, but for contexts that have moved; if none are given, it has those of the old fallback
+abbrev pub IsFallbackOf : Shape Fiber → (moved : List ℕ) → List (ℕ × ℤ) → Option ℕ → Option Node → Element → (given : Option (List Element)) (visible : Bool) → Type 0
+IsFallbackOf current moved ws o old e None visible = HasOldFallback current ws o old e
+IsFallbackOf current moved ws o old e (Some es) visible = (es ≡ fallback_in e ∷ []) × (visible ≡ true → StandsIf current moved ws o)
 
 -- the elements that its fibers get, beside the list of the old fallback
 abbrev pub given_elements : (given : Option (List Element)) → Shape Fiber → List Element
@@ -86,14 +86,14 @@ abbrev pub given_fibers : (given : Option (List Element)) → Shape Fiber → Li
 given_fibers None s = old_fibers s
 given_fibers (Some es) s = matched s es
 
--- what is known of them: they are clones, or elements that may be others, of this generation; either may have stood
-abbrev pub given_as : (given : Option (List Element)) (stood : Bool) (generation : ℕ) → Origin
-given_as None stood generation = as_cloned stood
-given_as (Some es) stood generation = as_matched stood generation
+-- what is known of them: they are clones, or elements that may be others, of this generation; the old ones of either may be visible
+abbrev pub given_as : (given : Option (List Element)) (visible : Bool) (generation : ℕ) → Origin
+given_as None visible generation = as_cloned visible
+given_as (Some es) visible generation = as_matched visible generation
 
--- A boundary's fallback has fibers that wait, and of which so much is known; if the old fallback has none, each is made for no current fiber. They stand below the boundary's own fiber, or below one right behind it, if that one keeps a list; neither tries its children. The boundary's fiber has gathered what it keeps.
+-- A boundary's fallback has fibers that wait, and of which so much is known; if the old fallback has none, each is made for no current fiber. They stand below the boundary's own fiber, or below one right behind it, if that one keeps a list; neither tries its children, and both have its element. The boundary's fiber has gathered what it keeps.
 pub data HasFallbackKids (origin : Origin) (before after : Trees Fiber) (q : ℕ) : Opened → Type 0 where
-  alone : {f : Opened} (kids : Draft Fiber) (value : Fiber → Fiber) → ((v : Fiber) → is_trying (value v).stage ≡ false) → AllWait origin kids
+  alone : {f : Opened} (kids : Draft Fiber) (value : Fiber → Fiber) → ((v : Fiber) → is_trying (value v).stage ≡ false) → ((v : Fiber) → (value v).element ≡ v.element) → AllWait origin kids
       → (fallback_list (list_from before.current (old_of before.draft q)) ≡ shapes.none → AllNew kids)
       → ((k : Around Fiber) (v : Fiber) (o : Option ℕ) (rs : Draft Fiber) → before.draft ≡ placed k (made q v o (taken shapes.none) rs) → after.draft ≡ placed k (made q (value v) o kids rs))
       → f ≡ opened_at (entry kids) q → HasFallbackKids origin before after q f
@@ -101,6 +101,6 @@ pub data HasFallbackKids (origin : Origin) (before after : Trees Fiber) (q : ℕ
       → ((v : Fiber) → is_trying (value v).stage ≡ false) → is_trying w.stage ≡ false → AllWait origin kids
       → (fallback_list (list_from before.current (old_of before.draft q)) ≡ shapes.none → AllNew kids)
       → ((k : Around Fiber) (v : Fiber) (o : Option ℕ) (rs : Draft Fiber) → before.draft ≡ placed k (made q v o (taken shapes.none) rs)
-      → after.draft ≡ placed k (made q (value v) o (taken (kept o)) (made id w old kids rs)))
+      → (w.element ≡ v.element) × (after.draft ≡ placed k (made q (value v) o (taken (kept o)) (made id w old kids rs))))
       → ((k : Around Fiber) (v : Fiber) (o : Option ℕ) (rs : Draft Fiber) → before.draft ≡ placed k (made q v o (taken shapes.none) rs) → IsGathered before.current → IsGatheredOver (value v) (kept o))
       → f ≡ opened_at (entry kids) id → HasFallbackKids origin before after q f

@@ -10,7 +10,7 @@ ghost use Rattle.rx_meaning.specs.Generations.{own_generation};
 ghost use Rattle.rx_fiber.specs.Fibers as fibers;
 ghost use Rattle.rx_fiber.specs.Fibers.{as_cloned, as_matched, generation_of, origin_of};
 ghost use Rattle.rx_fiber.specs.FiberView.{stage_seen};
-ghost use Rattle.rx_fiber.specs.Surround.{fallback_in, given_along};
+ghost use Rattle.rx_fiber.specs.Surround.{fallback_in, given_along, moved_along};
 ghost use Rattle.rx_fiber.specs.Unwound.{IsLeftAt};
 ghost use Rattle.rx_children.specs.Children.{HasMadeFrom};
 ghost use Rattle.rx_children.specs.Nodes.{IsBareAt, IsBareBeside, HasList};
@@ -108,25 +108,24 @@ fn opened_at(first: Option<FiberId>, at: FiberId) -> Opened
 }
 
 // Makes the fibers of a fallback's list below a made fiber that has no children: those of these elements, of this generation, or
-// if none are given, clones of the old ones. `stood` tells whether the old ones stand where the same values of contexts are
-// given.
+// if none are given, clones of the old ones. `visible` tells whether the old ones are shown.
 fn make_listed(
     alloc: Global,
     tree: &mut FiberTree<Fiber>,
     at: FiberId,
     given: Option<&[Element]>,
-    stood: bool,
+    visible: bool,
     generation: u32,
     first_old: Option<FiberId>,
 ) -> Result<(), AllocError>
     requires held { IfSome first_old (Holds tree.old.current) }
     requires beside { IsBareBeside tree.old at first_old }
-    ensures made { OnOk result (HasMadeFrom (given_as (option_copied given.entry) stood generation) 0 tree.old tree.new at (given_elements (option_copied given.entry) (list_from tree.old.current first_old)) (given_fibers (option_copied given.entry) (list_from tree.old.current first_old))) }
+    ensures made { OnOk result (HasMadeFrom (given_as (option_copied given.entry) visible generation) 0 tree.old tree.new at (given_elements (option_copied given.entry) (list_from tree.old.current first_old)) (given_fibers (option_copied given.entry) (list_from tree.old.current first_old))) }
     ensures current { tree.new.current ≡ tree.old.current }
 {
     match given {
-        Some(elements) => make_children(alloc, tree, at, elements, first_old, stood, generation),
-        None => clone_children(alloc, tree, at, first_old, stood),
+        Some(elements) => make_children(alloc, tree, at, elements, first_old, visible, generation),
+        None => clone_children(alloc, tree, at, first_old, visible),
     }
 }
 
@@ -137,20 +136,20 @@ fn open_listed(
     at: FiberId,
     stage: Stage,
     given: Option<&[Element]>,
-    stood: bool,
+    visible: bool,
     generation: u32,
     first_old: Option<FiberId>,
 ) -> Result<Option<FiberId>, AllocError>
     requires held { IfSome first_old (Holds tree.old.current) }
     requires beside { IsBareBeside tree.old at first_old }
-    ensures opened { IfOk result (λ first. HasList (given_as (option_copied given.entry) stood generation) tree.old tree.new at (stage_seen stage) (given_elements (option_copied given.entry) (list_from tree.old.current first_old)) (given_fibers (option_copied given.entry) (list_from tree.old.current first_old)) first) }
+    ensures opened { IfOk result (λ first. HasList (given_as (option_copied given.entry) visible generation) tree.old tree.new at (stage_seen stage) (given_elements (option_copied given.entry) (list_from tree.old.current first_old)) (given_fibers (option_copied given.entry) (list_from tree.old.current first_old)) first) }
     ensures current { tree.new.current ≡ tree.old.current }
 {
     match given {
         Some(elements) => open_list(
-            alloc, tree, at, stage, elements, first_old, stood, generation,
+            alloc, tree, at, stage, elements, first_old, visible, generation,
         ),
-        None => open_clones(alloc, tree, at, stage, first_old, stood),
+        None => open_clones(alloc, tree, at, stage, first_old, visible),
     }
 }
 
@@ -161,21 +160,21 @@ fn fall_alone(
     at: FiberId,
     awaits: Awaits,
     given: Option<&[Element]>,
-    stood: bool,
+    visible: bool,
     generation: u32,
 ) -> Result<Opened, AllocError>
     requires bare { IsBareAt tree.old at }
     requires left { IsLeft tree.old at awaits }
     requires gone { KeepsNode tree.old at awaits false }
-    ensures opened { IfOk result (λ f. (st : Stack) (c : Cursor) → (l : IsLeftAt tree.old st at (taken none) awaits c) → IsFallbackOf tree.old.current (given_along l.frames) l.old l.node l.value.element (option_copied given.entry) stood → HasOpenedAs tree.new st c f) }
-    ensures kids { IfOk result (λ f. HasFallbackKids (given_as (option_copied given.entry) stood generation) tree.old tree.new at f) }
+    ensures opened { IfOk result (λ f. (st : Stack) (c : Cursor) → (l : IsLeftAt tree.old st at (taken none) awaits c) → IsFallbackOf tree.old.current (moved_along tree.old.current l.around) (given_along l.frames) l.old l.node l.value.element (option_copied given.entry) visible → HasOpenedAs tree.new st c f) }
+    ensures kids { IfOk result (λ f. HasFallbackKids (given_as (option_copied given.entry) visible generation) tree.old tree.new at f) }
     ensures current { tree.new.current ≡ tree.old.current }
 {
     tree.place_facts();
     tree.facts();
     let first_old = old_fallback(tree, tree.alternate(at));
     let stage = Stage::Begun(Mark::Boundary(BoundaryState::Hidden(awaits)));
-    let first = open_listed(alloc, tree, at, stage, given, stood, generation, first_old)?;
+    let first = open_listed(alloc, tree, at, stage, given, visible, generation, first_old)?;
     Ok(opened_at(first, at))
 }
 
@@ -186,14 +185,14 @@ fn fall_beside(
     at: FiberId,
     awaits: Awaits,
     given: Option<&[Element]>,
-    stood: bool,
+    visible: bool,
     generation: u32,
 ) -> Result<Opened, AllocError>
     requires bare { IsBareAt tree.old at }
     requires left { IsLeft tree.old at awaits }
     requires keeps { KeepsNode tree.old at awaits true }
-    ensures opened { IfOk result (λ f. (st : Stack) (c : Cursor) → (l : IsLeftAt tree.old st at (taken none) awaits c) → IsFallbackOf tree.old.current (given_along l.frames) l.old l.node l.value.element (option_copied given.entry) stood → HasOpenedAs tree.new st c f) }
-    ensures kids { IfOk result (λ f. HasFallbackKids (given_as (option_copied given.entry) stood generation) tree.old tree.new at f) }
+    ensures opened { IfOk result (λ f. (st : Stack) (c : Cursor) → (l : IsLeftAt tree.old st at (taken none) awaits c) → IsFallbackOf tree.old.current (moved_along tree.old.current l.around) (given_along l.frames) l.old l.node l.value.element (option_copied given.entry) visible → HasOpenedAs tree.new st c f) }
+    ensures kids { IfOk result (λ f. HasFallbackKids (given_as (option_copied given.entry) visible generation) tree.old tree.new at f) }
     ensures current { tree.new.current ≡ tree.old.current }
 {
     tree.place_facts();
@@ -205,32 +204,32 @@ fn fall_beside(
     tree.facts();
     let id = put_fallback(tree, at, awaits, beside)?;
     tree.place_facts();
-    make_listed(alloc, tree, id, given, stood, generation, first_old)?;
+    make_listed(alloc, tree, id, given, visible, generation, first_old)?;
     tree.place_facts();
     Ok(opened_at(tree.first_child(id), id))
 }
 
 // A boundary opens its fallback over fibers of these elements, which are of this generation, or, if none are given, over clones
-// of the old ones. `stood` tells whether its current fiber stands where the same values of contexts are given.
+// of the old ones. `visible` tells whether its current fiber is shown.
 fn fall(
     alloc: Global,
     tree: &mut FiberTree<Fiber>,
     at: FiberId,
     awaits: Awaits,
     given: Option<&[Element]>,
-    stood: bool,
+    visible: bool,
     generation: u32,
 ) -> Result<Opened, AllocError>
     requires { IsLeft tree.old at awaits }
-    ensures opened { IfOk result (λ f. (st : Stack) (c : Cursor) → (l : IsLeftAt tree.old st at (taken none) awaits c) → IsFallbackOf tree.old.current (given_along l.frames) l.old l.node l.value.element (option_copied given.entry) stood → HasOpenedAs tree.new st c f) }
-    ensures kids { IfOk result (λ f. HasFallbackKids (given_as (option_copied given.entry) stood generation) tree.old tree.new at f) }
+    ensures opened { IfOk result (λ f. (st : Stack) (c : Cursor) → (l : IsLeftAt tree.old st at (taken none) awaits c) → IsFallbackOf tree.old.current (moved_along tree.old.current l.around) (given_along l.frames) l.old l.node l.value.element (option_copied given.entry) visible → HasOpenedAs tree.new st c f) }
+    ensures kids { IfOk result (λ f. HasFallbackKids (given_as (option_copied given.entry) visible generation) tree.old tree.new at f) }
     ensures current { tree.new.current ≡ tree.old.current }
 {
     tree.place_facts();
     tree.facts();
     match old_primary(tree, tree.alternate(at)) {
-        None => fall_alone(alloc, tree, at, awaits, given, stood, generation),
-        Some(_) => fall_beside(alloc, tree, at, awaits, given, stood, generation),
+        None => fall_alone(alloc, tree, at, awaits, given, visible, generation),
+        Some(_) => fall_beside(alloc, tree, at, awaits, given, visible, generation),
     }
 }
 
@@ -250,9 +249,9 @@ pub fn open_fallback(
 ) -> Result<Opened, AllocError>
     requires { IsLeft tree.old at awaits }
     ensures opened { IfOk result (λ f. (st : Stack) (c : Cursor) → IsLeftAt tree.old st at (taken none) awaits c → HasOpenedAs tree.new st c f) }
-    // Its fibers wait as ones that stood exactly where the boundary did, and are of the generation of the boundary's element.
+    // Their old fibers are shown exactly if the boundary's is, and they are of the generation of the boundary's element.
     ensures kids { IfOk result (λ f. (v : fibers.Fiber) → Some v ≡ made_value_of tree.old.draft at → (again : Bool) × TellsAgain false tree.old.current (old_of tree.old.draft at) v again
-        × HasFallbackKids (as_matched (origin_of v.stage).stood (own_generation again (generation_of v.stage))) tree.old tree.new at f) }
+        × HasFallbackKids (as_matched (origin_of v.stage).visible (own_generation again (generation_of v.stage))) tree.old tree.new at f) }
     ensures current { tree.new.current ≡ tree.old.current }
 {
     tree.place_facts();
@@ -267,7 +266,7 @@ pub fn open_fallback(
         at,
         awaits,
         Some(&fallback),
-        origin.stood,
+        origin.visible,
         generation,
     )
 }

@@ -1,8 +1,8 @@
 -- A node that is done becomes an earlier sibling, and the render comes to the next one or to the parent.
-use Rattle.std.specs.Prelude.{◌≡◌, ℕ, ℤ, suc, ◌+◌, ◌≤◌, List, [], ◌∷◌, ◌++◌, Option, Some}
+use Rattle.std.specs.Prelude.{◌≡◌, ℕ, ℤ, suc, ◌+◌, ◌≤◌, Bool, List, [], ◌∷◌, ◌++◌, Option, Some}
 use Rattle.std.proofs.Common.{arith, refl, sym, ap, ◌∙◌, subst}
 use Rattle.std.proofs.lemmas.List.{append_assoc}
-use Rattle.rx_ctx.specs.Contexts.{Stack}
+use Rattle.rx_ctx.specs.Contexts.{Stack, moved_in}
 use Rattle.rx_elem.specs.Elements.{Element}
 use Rattle.rx_elem.specs.Spots.{node_count}
 use Rattle.rx_elem.specs.Trees.{Node, forest}
@@ -15,7 +15,7 @@ use Rattle.rx_meaning.specs.Cursor.{Open, Frame, arrive}
 use Rattle.rx_fiber.specs.Fibers.{Fiber}
 use Rattle.rx_fiber.specs.Reading.{AreFor, IsFor, IsTreeOf, next}
 use Rattle.rx_fiber.specs.Reading as reading
-use Rattle.rx_fiber.specs.Surround.{given_along, IsOfNode, IsOldBehind, AreDone, AreNext, IsAround, at_root, inside, IsListOf, of_node, of_fallback, behind_earlier, made_earlier, above_list}
+use Rattle.rx_fiber.specs.Surround.{given_along, moved_along, moves_along, IsOfNode, IsOldBehind, AreDone, AreNext, IsAround, at_root, inside, IsListOf, of_node, of_fallback, behind_earlier, made_earlier, above_list}
 use Rattle.rx_fiber.specs.Surround as around
 use Rattle.rx_fiber.specs.Standing.{IsStack, bottom, opened, StandsAt, over}
 use Rattle.rx_fiber.proofs.Few.{node_more, node_there}
@@ -75,6 +75,12 @@ up_above top = refl
 up_above (below id v o rs k) = refl
 up_above (after id v o ks k) = up_above k
 
+-- what moves around a place moves around its list
+pub moves_above : (c : Shape Fiber) (k : Around Fiber) → moves_along c k ≡ moves_along c (above_list k)
+moves_above c top = refl
+moves_above c (below id v o rs k) = refl
+moves_above c (after id v o ks k) = moves_above c k
+
 pub list_parent : (c : Shape Fiber) (k : Around Fiber) (q : ℕ) (x : Open) (cs : Contexts) (fs : List Frame) → IsListOf c k q x cs fs → up_of k ≡ Some q
 list_parent c k q x cs fs (of_node above is old around) = up_above k ∙ ap up_of above
 list_parent c k q x cs fs (of_fallback above is old behind around) = up_above k ∙ ap up_of above
@@ -88,21 +94,23 @@ list_along c k j q x cs fs e (of_fallback above is old behind around) = of_fallb
 abbrev pub next_at : Around Fiber → Draft Fiber → Option ℕ
 next_at k rs = or_else (entry rs) (up_of k)
 
-pub next_is : (c : Shape Fiber) (ws : List (ℕ × ℤ)) (k : Around Fiber) (n q : ℕ) (xs : List (Element × Option Node)) (d : Draft Fiber) → AreNext c ws n xs d → up_of k ≡ Some q → Some (come_at d q) ≡ next_at k d
-next_is c ws k n q xs d around.no_more e = sym e
-next_is c ws k n q (x ∷ xs) d (around.gap null more) e = next_is c ws k (suc n) q xs d more e
-next_is c ws k n q (x ∷ xs) (made id _ _ _ _) (around.next there waits old more) e = refl
+pub next_is : (c : Shape Fiber) (ms : List ℕ) (ws : List (ℕ × ℤ)) (k : Around Fiber) (n q : ℕ) (xs : List (Element × Option Node)) (d : Draft Fiber) → AreNext c ms ws n xs d → up_of k ≡ Some q → Some (come_at d q) ≡ next_at k d
+next_is c ms ws k n q xs d around.no_more e = sym e
+next_is c ms ws k n q (x ∷ xs) d (around.gap null more) e = next_is c ms ws k (suc n) q xs d more e
+next_is c ms ws k n q (x ∷ xs) (made id _ _ _ _) (around.next there waits old more) e = refl
 
 -- The render arrives: the node x of the place is done. j is what surrounds the rest of the list then.
 pub arrives : (t : Trees Fiber) (st : Stack) (k j : Around Fiber) (n levels : ℕ) (rs : Draft Fiber) (fs : List Frame) (x : Node)
     → t.draft ≡ placed j rs → above_list j ≡ above_list k → ((done : List (Option Node)) → AreDone t.current k n done → AreDone t.current j (suc n) (done ++ Some x ∷ []))
-    → IsAround t.current k n rs fs → IsStack st (opened fs) → StandsAt t st (next_at k rs) (arrive levels fs (Some x))
-arrives t st _ j _ levels _ _ x here same more at_root (bottom none) =
+    → IsAround t.current k n rs fs → IsStack st (opened fs) → st.moves ≡ moves_along t.current k → StandsAt t st (next_at k rs) (arrive levels fs (Some x))
+arrives t st _ j _ levels _ _ x here same more at_root (bottom none) moves =
     let done : AreDone t.current j 1 (Some x ∷ []) = more [] (none_done t.current top refl (λ s. refl) tt) in
     over (subst (λ d. AreFor 0 (forest (Some x ∷ [])) (grafted d)) (sym here)
     (subst (λ s. AreFor 0 (forest (Some x ∷ [])) s) (sym (grafted_top j (taken shapes.none) same)) (done.are [] shapes.none reading.no_more)))
     (subst (λ d. made_size d ≤ node_count (Some x)) (sym here) (omega (arith, made_top j (taken shapes.none) same, done.few, node_more [] x)))
     none
-arrives t st k j n levels rs (f ∷ fs) x here same more (inside before behind list) stack =
-    subst (λ at. StandsAt t st at (arrive levels (f ∷ fs) (Some x))) (next_is t.current (given_along (f ∷ fs)) k (suc n) _ f.rest rs behind (list_parent t.current k _ f.node f.contexts fs list))
-    (comes t st j (suc n) _ levels fs f.node f.contexts (f.done ++ Some x ∷ []) f.rest rs here (more f.done before) behind (list_along t.current k j _ f.node f.contexts fs same list) stack)
+arrives t st k j n levels rs (f ∷ fs) x here same more (inside before behind list) stack moves =
+    let along : moves_along t.current k ≡ moves_along t.current j = moves_above t.current k ∙ (ap (moves_along t.current) (sym same) ∙ sym (moves_above t.current j)) in
+    subst (λ at. StandsAt t st at (arrive levels (f ∷ fs) (Some x))) (next_is t.current (moved_along t.current k) (given_along (f ∷ fs)) k (suc n) _ f.rest rs behind (list_parent t.current k _ f.node f.contexts fs list))
+    (comes t st j (suc n) _ levels fs f.node f.contexts (f.done ++ Some x ∷ []) f.rest rs here (more f.done before)
+    (subst (λ (ms : List (ℕ × Bool)). AreNext t.current (moved_in ms) (given_along (f ∷ fs)) (suc n) f.rest rs) along behind) (list_along t.current k j _ f.node f.contexts fs same list) stack (moves ∙ along))

@@ -13,7 +13,7 @@ use Rattle.rx_meaning.specs.Cursor.{Open, Frame, come_to, at_place}
 use Rattle.rx_fiber.specs.Fibers.{Fiber}
 use Rattle.rx_fiber.specs.Reading.{AreFor, gap}
 use Rattle.rx_fiber.specs.Stood.{given_more}
-use Rattle.rx_fiber.specs.Surround.{open_element, given_along, AreOldBehind, AreDone, AreNext, IsAround, inside, IsListOf}
+use Rattle.rx_fiber.specs.Surround.{open_element, given_along, moved_along, moves_along, AreOldBehind, AreDone, AreNext, IsAround, inside, IsListOf}
 use Rattle.rx_fiber.specs.Surround as around
 use Rattle.rx_fiber.specs.Standing.{IsStack, same, gives, opened, StandsAt, begins, completes}
 use Rattle.rx_fiber.proofs.Few.{none_more}
@@ -44,12 +44,12 @@ top_values (gives g v rest) = v
 
 pub comes : (t : Trees Fiber) (st : Stack) (k : Around Fiber) (n q levels : ℕ) (fs : List Frame) (x : Open) (cs : Contexts) (done : List (Option Node))
     (xs : List (Element × Option Node)) (d : Draft Fiber)
-    → t.draft ≡ placed k d → AreDone t.current k n done → AreNext t.current (given_more (open_element x) (given_along fs)) n xs d → IsListOf t.current k q x cs fs → IsStack st ((x, cs) ∷ opened fs)
+    → t.draft ≡ placed k d → AreDone t.current k n done → AreNext t.current (moved_along t.current k) (given_more (open_element x) (given_along fs)) n xs d → IsListOf t.current k q x cs fs → IsStack st ((x, cs) ∷ opened fs) → st.moves ≡ moves_along t.current k
     → StandsAt t st (Some (come_at d q)) (come_to levels fs x cs done xs)
-comes t st k n q levels fs x cs done [] _ here before around.no_more list stack = completes here before list stack
-comes t st k n q levels fs x cs done (y ∷ ys) d here before (around.gap null more) list stack =
+comes t st k n q levels fs x cs done [] _ here before around.no_more list stack moves = completes here before list stack moves
+comes t st k n q levels fs x cs done (y ∷ ys) d here before (around.gap null more) list stack moves =
     subst (λ b. StandsAt t st (Some (come_at d q)) (cond b (come_to levels fs x cs (done ++ None ∷ []) ys) (at_place levels ((record { node = x; contexts = cs; done = done; rest = ys }) ∷ fs) cs y.0 y.1)))
-    (sym null) (comes t st k (suc n) q levels fs x cs (done ++ None ∷ []) ys d here (gap_done t.current k n done before) more list stack)
-comes t st k n q levels fs x cs done (y ∷ ys) (made id _ _ _ _) here before (around.next there waits old more) list stack =
+    (sym null) (comes t st k (suc n) q levels fs x cs (done ++ None ∷ []) ys d here (gap_done t.current k n done before) more list stack moves)
+comes t st k n q levels fs x cs done (y ∷ ys) (made id _ _ _ _) here before (around.next there waits old more) list stack moves =
     subst (λ b. StandsAt t st (Some id) (cond b (come_to levels fs x cs (done ++ None ∷ []) ys) (at_place levels ((record { node = x; contexts = cs; done = done; rest = ys }) ∷ fs) cs y.0 y.1)))
-    (sym there) (begins here waits old (inside before more list) (top_values stack) stack)
+    (sym there) (begins here waits old (inside before more list) (top_values stack) stack moves)

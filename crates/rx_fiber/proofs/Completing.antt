@@ -2,7 +2,7 @@
 use Rattle.std.specs.Prelude.{◌≡◌, ℕ, ℤ, suc, ◌+◌, ◌≤◌, true, List, [], Option, Some, length}
 use Rattle.std.proofs.Common.{arith, refl, sym, ap, ◌∙◌, subst}
 use Rattle.std.proofs.lemmas.List.{append-nil}
-use Rattle.rx_ctx.specs.Contexts.{Stack}
+use Rattle.rx_ctx.specs.Contexts.{Stack, moves_by}
 use Rattle.rx_base.specs.Awaits.{Awaits}
 use Rattle.rx_susp.specs.declared.boundary.BoundaryState.TheVariants.{Shown, Hidden}
 use Rattle.rx_elem.specs.Elements.{Element}
@@ -19,10 +19,11 @@ use Rattle.rx_fiber.specs.Fibers.{Fiber, completed, completed_stage}
 use Rattle.rx_fiber.specs.declared.subtree.Subtree.{Subtree}
 use Rattle.rx_fiber.specs.Reading.{has_node, AreFor, IsFor, whole, alone, beside}
 use Rattle.rx_fiber.specs.Reading as reading
-use Rattle.rx_fiber.specs.Surround.{IsOfNode, IsOldBehind, AreDone, IsOpenAs, opens, tries, falls, IsAround, of_node, of_fallback, behind_earlier, made_earlier, above_list, open_element, given_along}
+use Rattle.rx_fiber.specs.Surround.{IsOfNode, IsOldBehind, AreDone, IsOpenAs, opens, tries, falls, IsAround, of_node, of_fallback, behind_earlier, made_earlier, above_list, open_element, given_along, moved_along, moves_along}
+use Rattle.rx_fiber.specs.Stood.{gave, given_in}
 use Rattle.rx_fiber.specs.Standing.{IsStack, opened, StandsAt, completes}
 use Rattle.rx_fiber.proofs.Few.{node_parts, some_there}
-use Rattle.rx_fiber.proofs.Arriving.{one_done, two_done, next_at, arrives}
+use Rattle.rx_fiber.proofs.Arriving.{moves_above, one_done, two_done, next_at, arrives}
 
 -- a list in progress with the earlier siblings of its place
 abbrev pub whole_list : Around Fiber → Draft Fiber → Draft Fiber
@@ -73,19 +74,19 @@ whole_made (below id v o rs k) d m = m
 whole_made (after id v o ks k) d m = whole_made k (made id v o ks d) m
 
 -- a list that is done stands for the node of its fiber, once that one is completed
-pub node_finished : (under : Subtree) (c : Shape Fiber) (ws : List (ℕ × ℤ)) (v : Fiber) (o : Option ℕ) (cs : Contexts) (x : Open) (q : ℕ) (done : List (Option Node)) (ks rest : Shape Fiber)
-    → IsOpenAs c ws v o cs x → AreFor 0 (forest done) ks → IsFor v.place (finished x done) (fiber q (completed under v) ks rest) rest
-node_finished under c ws v o cs x q done ks rest (opens e m shown) a = whole (record { at = refl; element = e; stage = ap completed_stage m }) shown a
-node_finished under c ws v o cs x q done ks rest (tries e s b old stands) a = whole (record { at = refl; element = e; stage = ap completed_stage s }) refl a
-node_finished under c ws v o cs x q done ks rest (falls e m empty) a = alone (record { at = refl; element = e; stage = ap completed_stage m }) refl empty a
+pub node_finished : (under : Subtree) (c : Shape Fiber) (ms : List ℕ) (ws : List (ℕ × ℤ)) (v : Fiber) (o : Option ℕ) (cs : Contexts) (x : Open) (q : ℕ) (done : List (Option Node)) (ks rest : Shape Fiber)
+    → IsOpenAs c ms ws v o cs x → AreFor 0 (forest done) ks → IsFor v.place (finished x done) (fiber q (completed under v) ks rest) rest
+node_finished under c ms ws v o cs x q done ks rest (opens e m shown) a = whole (record { at = refl; element = e; stage = ap completed_stage m }) shown a
+node_finished under c ms ws v o cs x q done ks rest (tries e s b old stands) a = whole (record { at = refl; element = e; stage = ap completed_stage s }) refl a
+node_finished under c ms ws v o cs x q done ks rest (falls e m empty) a = alone (record { at = refl; element = e; stage = ap completed_stage m }) refl empty a
 
-pub opens_element : (c : Shape Fiber) (ws : List (ℕ × ℤ)) (v : Fiber) (o : Option ℕ) (cs : Contexts) (x : Open) → IsOpenAs c ws v o cs x → v.element ≡ open_element x
-opens_element c ws v o cs x (opens e m shown) = e
-opens_element c ws v o cs x (tries e s is old stands) = e
-opens_element c ws v o cs x (falls e m empty) = e
+pub opens_element : (c : Shape Fiber) (ms : List ℕ) (ws : List (ℕ × ℤ)) (v : Fiber) (o : Option ℕ) (cs : Contexts) (x : Open) → IsOpenAs c ms ws v o cs x → v.element ≡ open_element x
+opens_element c ms ws v o cs x (opens e m shown) = e
+opens_element c ms ws v o cs x (tries e s is old stands) = e
+opens_element c ms ws v o cs x (falls e m empty) = e
 
 -- What the fiber that is completed next is to the two trees: once its value is that of a node that is done, and what its element gave is taken from the stack, the render arrives with its node.
-pub record Completes (t : Trees Fiber) (q : ℕ) (fs : List Frame) (x : Open) (done : List (Option Node)) : Type 0 where
+pub record Completes (t : Trees Fiber) (st : Stack) (q : ℕ) (fs : List Frame) (x : Open) (done : List (Option Node)) : Type 0 where
   -- what surrounds the fiber, and what surrounds the first fiber of its node: another one if it is that of a fallback beside kept content
   pub around : Around Fiber
   pub first : Around Fiber
@@ -99,12 +100,13 @@ pub record Completes (t : Trees Fiber) (q : ℕ) (fs : List Frame) (x : Open) (d
   pub parent : up_of around ≡ up_of first
   pub element : value.element ≡ open_element x
   pub all_made : IsMadeList kids
-  pub arrives : (under : Subtree) (new : Trees Fiber) (st : Stack) (levels : ℕ) → new.current ≡ t.current → new.draft ≡ placed around (made q (completed under value) old kids rest)
-      → IsStack st (opened fs) → StandsAt new st (next_at around rest) (arrive levels fs (Some (finished x done)))
+  pub moves : st.moves ≡ moves_by (given_in value.element) (gave t.current old) (moves_along t.current around)
+  pub arrives : (under : Subtree) (new : Trees Fiber) (after : Stack) (levels : ℕ) → new.current ≡ t.current → new.draft ≡ placed around (made q (completed under value) old kids rest)
+      → IsStack after (opened fs) → after.moves ≡ moves_along t.current around → StandsAt new after (next_at around rest) (arrive levels fs (Some (finished x done)))
 
 pub completing : (t : Trees Fiber) (st : Stack) (q levels : ℕ) (fs : List Frame) (x : Open) (done : List (Option Node))
-    → StandsAt t st (Some q) (at_end levels fs x done) → Completes t q fs x done
-completing t st q levels fs x done (completes {n = n} {k = k} here before (of_node {k₁ = k₁} {v = v} {o = o} {rest = rest} {cs = cs} above is own around) stack) =
+    → StandsAt t st (Some q) (at_end levels fs x done) → Completes t st q fs x done
+completing t st q levels fs x done (completes {n = n} {k = k} here before (of_node {k₁ = k₁} {v = v} {o = o} {rest = rest} {cs = cs} above is own around) stack moves) =
     let ks : Draft Fiber = whole_list k (taken shapes.none) in
     record {
       around = k₁;
@@ -117,16 +119,17 @@ completing t st q levels fs x done (completes {n = n} {k = k} here before (of_no
       kids = ks;
       rest = rest;
       here = here ∙ (placed_list k (taken shapes.none) ∙ ap (λ a. placed a ks) above);
-      element = opens_element t.current (given_along fs) v o cs x is;
+      element = opens_element t.current (moved_along t.current k₁) (given_along fs) v o cs x is;
       all_made = whole_made k (taken shapes.none) refl;
-      arrives = λ under new st levels same there stack.
-          arrives new st k₁ (after q (completed under v) o ks k₁) v.place levels rest fs (finished x done) there refl
+      moves = moves ∙ (moves_above t.current k ∙ ap (moves_along t.current) above);
+      arrives = λ under new outer levels same there stack still.
+          arrives new outer k₁ (after q (completed under v) o ks k₁) v.place levels rest fs (finished x done) there refl
           (λ earlier are. one_done new.current k₁ v.place earlier (finished x done) q (completed under v) o ks are (subst (λ c. IsOfNode c o) (sym same) own)
-          (λ more. node_finished under t.current (given_along fs) v o cs x q done (grafted ks) more is (list_done t.current k n done before))
+          (λ more. node_finished under t.current (moved_along t.current k₁) (given_along fs) v o cs x q done (grafted ks) more is (list_done t.current k n done before))
           (omega (arith, list_few t.current k n done before, finished_few x done)))
-          (subst (λ c. IsAround c k₁ v.place rest fs) (sym same) around) stack;
+          (subst (λ c. IsAround c k₁ v.place rest fs) (sym same) around) stack (still ∙ ap (λ c. moves_along c k₁) (sym same));
     }
-completing t st q levels fs x done (completes {n = n} {k = k} here before (of_fallback {k₁ = k₁} {b = b} {v = v} {w = w} {o = o} {p = p} {kept = kept} {rest = rest} {e = e} {old = old} {a = a} above is own behind around) stack) =
+completing t st q levels fs x done (completes {n = n} {k = k} here before (of_fallback {k₁ = k₁} {b = b} {v = v} {w = w} {o = o} {p = p} {kept = kept} {rest = rest} {e = e} {old = old} {a = a} above is own behind around) stack moves) =
     let ks : Draft Fiber = whole_list k (taken shapes.none) in
     record {
       around = after b v o (taken kept) k₁;
@@ -141,10 +144,11 @@ completing t st q levels fs x done (completes {n = n} {k = k} here before (of_fa
       here = here ∙ (placed_list k (taken shapes.none) ∙ ap (λ a. placed a ks) above);
       element = is.element;
       all_made = whole_made k (taken shapes.none) refl;
-      arrives = λ under new st levels same there stack.
-          arrives new st k₁ (after q (completed under w) p ks (after b v o (taken kept) k₁)) v.place levels rest fs (finished x done) there refl
+      moves = moves ∙ (moves_above t.current k ∙ ap (moves_along t.current) above);
+      arrives = λ under new outer levels same there stack still.
+          arrives new outer k₁ (after q (completed under w) p ks (after b v o (taken kept) k₁)) v.place levels rest fs (finished x done) there refl
           (λ earlier are. two_done new.current k₁ v.place earlier (finished x done) b q v (completed under w) o p (taken kept) ks are (subst (λ c. IsOfNode c o) (sym same) own) (subst (λ c. IsOldBehind c o p) (sym same) behind)
           (λ more. beside is.of refl is.keeps is.are (ap completed_stage is.stage) (list_done t.current k n done before))
           (omega (arith, list_few t.current k n done before, kept_few e old a done is.keeps)))
-          (subst (λ c. IsAround c k₁ v.place rest fs) (sym same) around) stack;
+          (subst (λ c. IsAround c k₁ v.place rest fs) (sym same) around) stack (still ∙ ap (λ c. moves_along c k₁) (sym same));
     }

@@ -1,5 +1,5 @@
 -- The stack of contexts at the beginning and at the end of an open node.
-use Rattle.std.specs.Prelude.{◌≡◌, ℕ, ℤ, List, [], ◌∷◌, Some, None, slice_set}
+use Rattle.std.specs.Prelude.{◌≡◌, ℕ, ℤ, Bool, List, [], ◌∷◌, Some, None, slice_set}
 use Rattle.std.proofs.Common.{refl, sym, ap, ◌∙◌, subst}
 use Rattle.rx_ctx.specs.Contexts.{Stack, values_at}
 use Rattle.rx_ctx.specs.Contexts as contexts
@@ -14,18 +14,20 @@ pub kept : (st : Stack) (x : Open) (cs : Contexts) (xs : List (Open × Contexts)
 kept st x cs xs none (same g v rest) = rest
 kept _ x cs xs none (gives g v rest) = absurd (let h : ⊥ = cc in h)
 
-below_one : (s t : Stack) (p q : ℕ × ℤ) → contexts.below p.0 p.1 s ≡ contexts.below q.0 q.1 t → s ≡ t
-below_one s t p q e =
+below_one : (s t : Stack) (p q : ℕ × ℤ) (a b : Bool) → contexts.below p.0 p.1 a s ≡ contexts.below q.0 q.1 b t → s ≡ t
+below_one s t p q a b e =
     let d : s.defaults ≡ t.defaults = ap (λ x. x.defaults) e in
     let f : (p ∷ s.given) ≡ (q ∷ t.given) = ap (λ x. x.given) e in
     let g : s.given ≡ t.given = cc in
-    λ i. record { defaults = d i; given = g i }
+    let m : ((p.0, a) ∷ s.moves) ≡ ((q.0, b) ∷ t.moves) = ap (λ x. x.moves) e in
+    let n : s.moves ≡ t.moves = cc in
+    λ i. record { defaults = d i; given = g i; moves = n i }
 
 -- a provider leaves the stack without what it gave
-pub popped : (st new : Stack) (x : Open) (cs : Contexts) (xs : List (Open × Contexts)) (c d : ℕ) (y z : ℤ)
-    → given_by x ≡ Some (c, y) → IsStack st ((x, cs) ∷ xs) → st ≡ contexts.below d z new → IsStack new xs
-popped st new x cs xs c d y z given (same g v rest) e = absurd (let h : ⊥ = cc in h)
-popped _ new x cs xs c d y z given (gives {st = old} g v rest) e = subst (λ s. IsStack s xs) (below_one old new _ _ e) rest
+pub popped : (st new : Stack) (x : Open) (cs : Contexts) (xs : List (Open × Contexts)) (c d : ℕ) (y z : ℤ) (a : Bool)
+    → given_by x ≡ Some (c, y) → IsStack st ((x, cs) ∷ xs) → st ≡ contexts.below d z a new → IsStack new xs
+popped st new x cs xs c d y z a given (same g v rest) e = absurd (let h : ⊥ = cc in h)
+popped _ new x cs xs c d y z a given (gives {st = old} g v rest) e = subst (λ s. IsStack s xs) (below_one old new _ _ _ _ e) rest
 
 -- so something is on the stack there
 pub provided : (st : Stack) (x : Open) (cs : Contexts) (xs : List (Open × Contexts)) (c : ℕ) (y : ℤ)
@@ -34,9 +36,9 @@ provided st x cs xs c y given (same g v rest) e = cc
 provided _ x cs xs c y given (gives g v rest) e = cc
 
 -- a provider opens
-pub pushed : (st : Stack) (x : Open) (xs : List (Open × Contexts)) (c : ℕ) (y : ℤ)
-    → given_by x ≡ Some (c, y) → IsStack st xs → IsStack (contexts.below c y st) ((x, slice_set (values_at st) c y) ∷ xs)
-pushed st x xs c y given stack = gives given refl stack
+pub pushed : (st : Stack) (x : Open) (xs : List (Open × Contexts)) (c : ℕ) (y : ℤ) (a : Bool)
+    → given_by x ≡ Some (c, y) → IsStack st xs → IsStack (contexts.below c y a st) ((x, slice_set (values_at st) c y) ∷ xs)
+pushed st x xs c y a given stack = gives given refl stack
 
 -- any other node opens
 pub unchanged : (st : Stack) (x : Open) (xs : List (Open × Contexts)) → given_by x ≡ None → IsStack st xs → IsStack st ((x, values_at st) ∷ xs)

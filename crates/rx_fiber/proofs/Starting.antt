@@ -49,10 +49,10 @@ root_old c (Some x) (next {rest = rest} is a) =
 
 -- A render is at its start once the root's fiber is made, with no provider around it.
 pub starts : (s : Sight) (old : Option Node) (t : Trees Fiber) (id : ℕ) (v : Fiber)
-    → IsTreeOf old t.current → IsWaiting t.current [] (first t.current) v 0 (root_element s.program) → t.draft ≡ made id v (first t.current) (taken shapes.none) (taken shapes.none)
+    → IsTreeOf old t.current → IsWaiting t.current [] [] (first t.current) v 0 (root_element s.program) → t.draft ≡ made id v (first t.current) (taken shapes.none) (taken shapes.none)
     → StandsAt t (contexts.opening (default_contexts s.program)) (Some id) (start s old)
 unfolding start
-starts s old t id v tree waits here = begins {k = top} here waits (root_old t.current old tree) at_root refl (bottom refl)
+starts s old t id v tree waits here = begins {k = top} here waits (root_old t.current old tree) at_root refl (bottom refl) refl
 
 -- if no unit is left, the tree in progress is that of the node that was made, and so it is once the trees are swapped
 pub swaps : (t : Trees Fiber) (st : Stack) (x : Node) → StandsAt t st None (ended (fresh.made x)) → IsTreeOf (Some x) (grafted t.draft)

@@ -17,7 +17,7 @@ numbers = coded_list coded_ℕ
 abbrev origin_code : Coded Origin
 origin_code =
     code_by (Bool × (Bool × ℕ)) (coded× coded_bool (coded× coded_bool coded_ℕ))
-    (λ c. (c.cloned, (c.stood, c.generation))) (λ p. record { cloned = p.0; stood = p.1.0; generation = p.1.1 }) (λ _. refl)
+    (λ c. (c.cloned, (c.visible, c.generation))) (λ p. record { cloned = p.0; visible = p.1.0; generation = p.1.1 }) (λ _. refl)
 
 abbrev StageParts : Type 0
 StageParts = (Origin ⊎ Mark) ⊎ (Origin ⊎ Awaits)

@@ -20,12 +20,12 @@ pub data Stage : Type 0 where
   fallback : Awaits → Stage
 
 -- what is known of a fiber whose element may be another than that of the current fiber for which it was made; it has this generation
-abbrev pub as_matched : (stood : Bool) (generation : ℕ) → Origin
-as_matched stood generation = record { cloned = false; stood = stood; generation = generation }
+abbrev pub as_matched : (visible : Bool) (generation : ℕ) → Origin
+as_matched visible generation = record { cloned = false; visible = visible; generation = generation }
 
 -- what is known of a clone
-abbrev pub as_cloned : (stood : Bool) → Origin
-as_cloned stood = record { cloned = true; stood = stood; generation = 0 }
+abbrev pub as_cloned : (visible : Bool) → Origin
+as_cloned visible = record { cloned = true; visible = visible; generation = 0 }
 
 -- it is made for a place that the render has not come to, and cloned: its element is that of the current fiber for which it was made
 abbrev pub is_cloned : Stage → Bool
@@ -34,12 +34,12 @@ is_cloned (begun m) = false
 is_cloned (trying c) = false
 is_cloned (fallback a) = false
 
--- it is made for a place that the render has not come to, and the current fiber for which it was made, if for one, stands where the same values of contexts are given
-abbrev pub is_stood : Stage → Bool
-is_stood (waiting c) = c.stood
-is_stood (begun m) = false
-is_stood (trying c) = false
-is_stood (fallback a) = false
+-- it is made for a place that the render has not come to, and the current fiber for which it was made, if for one, is shown
+abbrev pub is_visible : Stage → Bool
+is_visible (waiting c) = c.visible
+is_visible (begun m) = false
+is_visible (trying c) = false
+is_visible (fallback a) = false
 
 -- what is known of the place of a fiber that waits or tries its children
 abbrev pub origin_of : Stage → Origin

@@ -8,7 +8,7 @@ use Rattle.rx_links.specs.Places.{Around, placed}
 use Rattle.rx_meaning.specs.Cursor.{Frame}
 use Rattle.rx_fiber.specs.Fibers.{Fiber}
 use Rattle.rx_fiber.specs.Reading.{IsFor}
-use Rattle.rx_fiber.specs.Surround.{IsAround, IsOfNode}
+use Rattle.rx_fiber.specs.Surround.{IsAround, IsOfNode, moves_along}
 use Rattle.rx_fiber.specs.Standing.{IsStack, opened}
 
 -- The made fiber has taken over children of the current tree, and stands with them for this node, which is done; these nodes are open around it.
@@ -23,3 +23,4 @@ pub record IsPassed (t : Trees Fiber) (st : Stack) (q : ℕ) (fs : List Frame) (
   pub of_node : IsOfNode t.current old
   pub surrounds : IsAround t.current around value.place rest fs
   pub stack : IsStack st (opened fs)
+  pub moves : st.moves ≡ moves_along t.current around

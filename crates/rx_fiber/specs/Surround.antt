@@ -1,6 +1,7 @@
 -- What surrounds the place that a render has come to, read from the fibers around it.
 use Rattle.std.specs.Prelude.{◌≡◌, ℕ, ℤ, suc, ◌+◌, ◌≤◌, Bool, true, false, List, [], ◌∷◌, ◌++◌, Option, Some, None, option_map, option_and_then, length}
 use Rattle.rx_base.specs.Awaits.{Awaits}
+use Rattle.rx_ctx.specs.Contexts.{moved_in, moves_by}
 use Rattle.rx_elem.specs.Elements.{Element}
 use Rattle.rx_elem.specs.Elements as elements
 use Rattle.rx_elem.specs.Trees.{Mark, of_boundary, Node, forest, children_if, fallback_if, is_hidden}
@@ -18,35 +19,45 @@ use Rattle.rx_fiber.specs.Fibers as stage
 use Rattle.rx_fiber.specs.declared.stage.Origin.{Origin}
 use Rattle.rx_fiber.specs.OldLists.{begins_fallback}
 use Rattle.rx_fiber.specs.Reading.{has_node, IsOf, AreFor, IsOld}
-use Rattle.rx_fiber.specs.Stood.{given_in, given_more, StoodAt}
+use Rattle.rx_fiber.specs.Stood.{gave, given_in, given_more, StandsBut}
 
 -- this element stands in a current fiber
 abbrev pub IsElementOf : Shape Fiber → Option ℕ → Element → Type 0
 IsElementOf current o e = option_map (λ v. v.element) (option_and_then (value_of current) o) ≡ Some e
 
--- a current fiber, if it is there, stands where these values are given
-abbrev pub StandsIf : Shape Fiber → List (ℕ × ℤ) → Option ℕ → Type 0
-StandsIf current ws None = Unit {0}
-StandsIf current ws (Some i) = StoodAt current ws (Some i)
+-- a current fiber, if it is there, is shown, and stands where these values are given, but for some contexts
+abbrev pub StandsIf : Shape Fiber → (moved : List ℕ) → List (ℕ × ℤ) → Option ℕ → Type 0
+StandsIf current moved ws None = Unit {0}
+StandsIf current moved ws (Some i) = StandsBut current moved ws (Some i)
 
--- the fiber of a place that the render has not come to, made for this current fiber, if for one; if it is cloned, it has the element of that one, and is of generation 0; if it stood, that one stands where the same values are given
-pub record IsWaiting (current : Shape Fiber) (ws : List (ℕ × ℤ)) (o : Option ℕ) (v : Fiber) (place : ℕ) (e : Element) : Type 0 where
+-- which of the providers around a place give another value than their old nodes gave, the nearest first
+abbrev pub moves_along : Shape Fiber → Around Fiber → List (ℕ × Bool)
+moves_along current top = []
+moves_along current (below id v o rs k) = moves_by (given_in v.element) (gave current o) (moves_along current k)
+moves_along current (after id v o ks k) = moves_along current k
+
+-- the contexts that have another value at a place than at the old one
+abbrev pub moved_along : Shape Fiber → Around Fiber → List ℕ
+moved_along current k = moved_in (moves_along current k)
+
+-- the fiber of a place that the render has not come to, made for this current fiber, if for one; if it is cloned, it has the element of that one, and is of generation 0; if that one is visible, it stands where the same values are given, but for contexts that have moved
+pub record IsWaiting (current : Shape Fiber) (moved : List ℕ) (ws : List (ℕ × ℤ)) (o : Option ℕ) (v : Fiber) (place : ℕ) (e : Element) : Type 0 where
   pub at : v.place ≡ place
   pub element : v.element ≡ e
   pub origin : Origin
   pub stage : v.stage ≡ waiting origin
   pub same : origin.cloned ≡ true → IsElementOf current o e
-  pub stands : origin.stood ≡ true → StandsIf current ws o
+  pub stands : origin.visible ≡ true → StandsIf current moved ws o
   pub first : origin.cloned ≡ true → origin.generation ≡ 0
 
--- The children of a list that are still to begin, from a place on, below providers that give these values: each that isn't null has a fiber, made beside the current fiber of its old node.
-pub data AreNext (current : Shape Fiber) (ws : List (ℕ × ℤ)) : (place : ℕ) → List (Element × Option Node) → Draft Fiber → Type 0 where
-  no_more : {n : ℕ} → AreNext current ws n [] (taken shapes.none)
+-- The children of a list that are still to begin, from a place on, below providers that give these values, some of which have moved: each that isn't null has a fiber, made beside the current fiber of its old node.
+pub data AreNext (current : Shape Fiber) (moved : List ℕ) (ws : List (ℕ × ℤ)) : (place : ℕ) → List (Element × Option Node) → Draft Fiber → Type 0 where
+  no_more : {n : ℕ} → AreNext current moved ws n [] (taken shapes.none)
   gap : {n : ℕ} {x : Element × Option Node} {xs : List (Element × Option Node)} {d : Draft Fiber}
-      → is_null x.0 ≡ true → AreNext current ws (suc n) xs d → AreNext current ws n (x ∷ xs) d
+      → is_null x.0 ≡ true → AreNext current moved ws (suc n) xs d → AreNext current moved ws n (x ∷ xs) d
   next : {n id : ℕ} {v : Fiber} {o : Option ℕ} {x : Element × Option Node} {xs : List (Element × Option Node)} {d : Draft Fiber}
-      → is_null x.0 ≡ false → IsWaiting current ws o v n x.0 → IsOld current o x.1 → AreNext current ws (suc n) xs d
-      → AreNext current ws n (x ∷ xs) (made id v o (taken shapes.none) d)
+      → is_null x.0 ≡ false → IsWaiting current moved ws o v n x.0 → IsOld current o x.1 → AreNext current moved ws (suc n) xs d
+      → AreNext current moved ws n (x ∷ xs) (made id v o (taken shapes.none) d)
 
 -- a list of fibers behind the earlier siblings of a place
 abbrev pub behind_earlier : Around Fiber → Shape Fiber → Shape Fiber
@@ -132,13 +143,13 @@ is_boundary (elements.list marked es) = false
 is_boundary (elements.boundary k f es) = true
 is_boundary (elements.provider c k x es) = false
 
--- the fiber is that of an open node, whose list, in these contexts, is among its children; o is the current fiber that it was made for; if a boundary that tries its children stood, that one stands where the same values are given
-pub data IsOpenAs (current : Shape Fiber) (ws : List (ℕ × ℤ)) (v : Fiber) (o : Option ℕ) (cs : Contexts) : Open → Type 0 where
-  opens : {e : Element} {m : Mark} → v.element ≡ e → v.stage ≡ begun m → is_hidden m ≡ false → IsOpenAs current ws v o cs (around e m)
+-- the fiber is that of an open node, whose list, in these contexts, is among its children; o is the current fiber that it was made for; of a boundary that tries its children, if that one is visible, it stands where the same values are given, but for contexts that have moved
+pub data IsOpenAs (current : Shape Fiber) (moved : List ℕ) (ws : List (ℕ × ℤ)) (v : Fiber) (o : Option ℕ) (cs : Contexts) : Open → Type 0 where
+  opens : {e : Element} {m : Mark} → v.element ≡ e → v.stage ≡ begun m → is_hidden m ≡ false → IsOpenAs current moved ws v o cs (around e m)
   tries : {e : Element} {old : Option Node} {c : Origin} → v.element ≡ e → v.stage ≡ stage.trying c → is_boundary e ≡ true → IsOld current o old
-      → (c.stood ≡ true → StandsIf current ws o) → IsOpenAs current ws v o cs (trying e old (part cs (fallback_in e ∷ []) (fallback_if old)))
+      → (c.visible ≡ true → StandsIf current moved ws o) → IsOpenAs current moved ws v o cs (trying e old (part cs (fallback_in e ∷ []) (fallback_if old)))
   falls : {e : Element} {old : Option Node} {a : Awaits} → v.element ≡ e → v.stage ≡ begun (of_boundary (Hidden a)) → has_node (children_if old) ≡ false
-      → IsOpenAs current ws v o cs (falling e old a)
+      → IsOpenAs current moved ws v o cs (falling e old a)
 
 -- the fibers are those of a boundary that keeps its primary content, and of its fallback, with the element of the boundary, whose list is among the children of the latter
 pub record IsKeptAs (v w : Fiber) (kept : Shape Fiber) (e : Element) (old : Option Node) (a : Awaits) : Type 0 where
@@ -154,12 +165,12 @@ mutual
   pub data IsAround (current : Shape Fiber) : Around Fiber → (place : ℕ) → (rs : Draft Fiber) → List Frame → Type 0 where
     at_root : IsAround current top 0 (taken shapes.none) []
     inside : {k : Around Fiber} {n q : ℕ} {rs : Draft Fiber} {f : Frame} {fs : List Frame}
-        → AreDone current k n f.done → AreNext current (given_along (f ∷ fs)) (suc n) f.rest rs → IsListOf current k q f.node f.contexts fs → IsAround current k n rs (f ∷ fs)
+        → AreDone current k n f.done → AreNext current (moved_along current k) (given_along (f ∷ fs)) (suc n) f.rest rs → IsListOf current k q f.node f.contexts fs → IsAround current k n rs (f ∷ fs)
 
   -- the list that is surrounded so is that of an open node, in these contexts, and is among the children of q
   pub data IsListOf (current : Shape Fiber) : Around Fiber → (q : ℕ) → Open → Contexts → List Frame → Type 0 where
     of_node : {k k₁ : Around Fiber} {q : ℕ} {v : Fiber} {o : Option ℕ} {rest : Draft Fiber} {x : Open} {cs : Contexts} {fs : List Frame}
-        → above_list k ≡ below q v o rest k₁ → IsOpenAs current (given_along fs) v o cs x → IsOfNode current o → IsAround current k₁ v.place rest fs → IsListOf current k q x cs fs
+        → above_list k ≡ below q v o rest k₁ → IsOpenAs current (moved_along current k₁) (given_along fs) v o cs x → IsOfNode current o → IsAround current k₁ v.place rest fs → IsListOf current k q x cs fs
     of_fallback : {k k₁ : Around Fiber} {q b : ℕ} {v w : Fiber} {o p : Option ℕ} {kept : Shape Fiber} {rest : Draft Fiber} {cs : Contexts} {fs : List Frame}
         {e : Element} {old : Option Node} {a : Awaits}
         → above_list k ≡ below q w p rest (after b v o (taken kept) k₁) → IsKeptAs v w kept e old a → IsOfNode current o → IsOldBehind current o p → IsAround current k₁ v.place rest fs

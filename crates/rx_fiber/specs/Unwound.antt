@@ -10,7 +10,7 @@ use Rattle.rx_meaning.specs.Cursor.{Frame, falling, Cursor, open_part}
 use Rattle.rx_fiber.specs.Fibers.{Stage, Fiber, waiting, begun, trying, fallback}
 use Rattle.rx_fiber.specs.declared.stage.Origin.{Origin}
 use Rattle.rx_fiber.specs.Reading.{IsOld}
-use Rattle.rx_fiber.specs.Surround.{above_list, fallback_in, given_along, is_boundary, StandsIf, IsAround}
+use Rattle.rx_fiber.specs.Surround.{above_list, fallback_in, given_along, moved_along, moves_along, is_boundary, StandsIf, IsAround}
 use Rattle.rx_fiber.specs.Standing.{IsStack, opened}
 
 -- a fiber lies in the list of the innermost of these open nodes, or is the root
@@ -28,6 +28,7 @@ pub record IsWithin (t : Trees Fiber) (st : Stack) (p : ℕ) (fs : List Frame) :
   pub same_list : above_list around ≡ above_list beside
   pub surrounds : IsAround t.current beside place later fs
   pub stack : IsStack st (opened fs)
+  pub moves : st.moves ≡ moves_along t.current around
 
 -- the fiber is that of a boundary that tries its children
 abbrev pub is_trying : Stage → Bool
@@ -57,7 +58,8 @@ pub record IsLeftAt (t : Trees Fiber) (st : Stack) (q : ℕ) (kids : Draft Fiber
   pub stage : value.stage ≡ trying origin
   pub boundary : is_boundary value.element ≡ true
   pub was : IsOld t.current old node
-  pub stands : origin.stood ≡ true → StandsIf t.current (given_along frames) old
+  pub stands : origin.visible ≡ true → StandsIf t.current (moved_along t.current around) (given_along frames) old
   pub surrounds : IsAround t.current around value.place rest frames
   pub stack : IsStack st (opened frames)
+  pub moves : st.moves ≡ moves_along t.current around
   pub opens : c ≡ open_part levels frames (falling value.element node a) (part (values_at st) (fallback_in value.element ∷ []) (fallback_if node))

@@ -1,7 +1,7 @@
 // A fiber's value.
 ghost use Rattle.std.specs.Prelude.{◌≡◌};
 ghost use Rattle.rx_fiber.specs.Fibers as fibers;
-ghost use Rattle.rx_fiber.specs.Fibers.{is_cloned, is_stood, generation_of, origin_of, nothing};
+ghost use Rattle.rx_fiber.specs.Fibers.{is_cloned, is_visible, generation_of, origin_of, nothing};
 ghost use Rattle.rx_fiber.specs.FiberView.{stage_seen, changed};
 
 use crate::stage::{Origin, Stage, StageChange};
@@ -13,7 +13,6 @@ use std::marker::Model;
 
 /// What a fiber holds beside its links: its place among the children of its parent, counted from 0 with the places that are
 /// `null`; the element that stands there; how far it has come; and once it is done what is at or below it.
-#[derive(Drop)]
 pub struct Fiber {
     place: u32,
     element: Element,
@@ -34,6 +33,18 @@ impl Model for Fiber {
     ghost view = { λ v. record { place = v.place; element = v.element; stage = stage_seen v.stage; subtree = v.subtree } };
 }
 
+// It is taken apart here alone, once for all crates.
+impl Drop for Fiber {
+    fn drop(self) {
+        let Fiber {
+            place: _place,
+            element: _element,
+            stage: _stage,
+            subtree: _subtree,
+        } = self;
+    }
+}
+
 impl Fiber {
     /// A fiber of this place.
     pub fn new(place: u32, element: Element, stage: Stage) -> Fiber
@@ -51,10 +62,16 @@ impl Fiber {
     pub fn with_subtree(self, subtree: Subtree) -> Fiber
         ensures { result ≡ record self { subtree = subtree } }
     {
+        let Fiber {
+            place,
+            element,
+            stage,
+            subtree: _,
+        } = self;
         Fiber {
-            place: self.place,
-            element: self.element,
-            stage: self.stage,
+            place,
+            element,
+            stage,
             subtree,
         }
     }
@@ -97,13 +114,12 @@ impl Fiber {
         }
     }
 
-    /// Whether it waits and the current fiber for which it was made, if it was for one, stands where the same values of
-    /// contexts are given.
-    pub fn is_stood(&self) -> bool
-        ensures { result ≡ is_stood self.now.stage }
+    /// Whether it waits and the current fiber for which it was made, if it was for one, is shown.
+    pub fn is_visible(&self) -> bool
+        ensures { result ≡ is_visible self.now.stage }
     {
         match self.stage {
-            Stage::Waiting(origin) => origin.stood,
+            Stage::Waiting(origin) => origin.visible,
             _ => false,
         }
     }
@@ -116,7 +132,7 @@ impl Fiber {
             Stage::Waiting(origin) | Stage::Trying(origin) => origin,
             _ => Origin {
                 cloned: false,
-                stood: false,
+                visible: false,
                 generation: 0,
             },
         }

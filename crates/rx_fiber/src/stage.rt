@@ -12,8 +12,8 @@ use rx_node::Mark;
 pub struct Origin {
     /// It is cloned: its element is that of the current fiber, so that nothing above asks for another.
     pub cloned: bool,
-    /// The current fiber, if it was made for one, stands where the same values of contexts are given.
-    pub stood: bool,
+    /// The current fiber, if it was made for one, is shown, and stands below providers of the same contexts.
+    pub visible: bool,
     /// The generation of its element: 0 if that is of the current tree, else at least 1 and one more with each body that
     /// made it from one of these.
     pub generation: u32,

@@ -35,7 +35,6 @@ use std::marker::Model;
 
 /// The hooks of the mounted instances, by the numbers of the instances. The fibers of an instance share them, as React's
 /// share the queues of its hooks. Contracts see what is kept under each number, and the room for more.
-#[derive(Drop)]
 pub struct HookStore {
     hooks: HashMap<u64, Hooks>,
     busy: Busy,
@@ -56,6 +55,16 @@ impl Model for HookStore {
 
     // The hooks of an instance that is not listed as busy are idle.
     ghost invariant = { λ s. (n : ℕ) (hooks : List Hook) → lookup (nat_eq n) s.hooks.entries ≡ Some hooks → is_listed s.busy n ≡ false → AreIdle hooks };
+}
+
+// It is taken apart here alone, once for all crates.
+impl Drop for HookStore {
+    fn drop(self) {
+        let HookStore {
+            hooks: _hooks,
+            busy: _busy,
+        } = self;
+    }
 }
 
 // Sends an update to a hook, and links the lane of a transition.

@@ -18,13 +18,13 @@ use Rattle.rx_links.proofs.Placed.{is-at}
 use Rattle.rx_meaning.specs.Fresh.{Sight, Contexts, part, shape_of, waiting}
 use Rattle.rx_meaning.specs.Cursor.{Open, falling, Frame, Cursor, at_place, at_end, ended, open_part, arrive, unit, unwind}
 use Rattle.rx_meaning.specs.Counts.{each_body, next_counts}
-use Rattle.rx_fiber.specs.Fibers.{Fiber, generation_of, is_stood, waiting as waits_with}
+use Rattle.rx_fiber.specs.Fibers.{Fiber, generation_of, waiting as waits_with}
 use Rattle.rx_fiber.specs.Passed.{IsPassed}
 use Rattle.rx_fiber.specs.Reading.{IsOld}
 use Rattle.rx_fiber.specs.FiberView.{changed}
 use Rattle.rx_fiber.specs.declared.stage.Origin.{Origin}
 use Rattle.rx_fiber.specs.declared.stage.StageChange.TheVariants as change
-use Rattle.rx_fiber.specs.Standing.{StandsAt, begins as begins_place}
+use Rattle.rx_fiber.specs.Standing.{StandsAt, begins as begins_place, is_stood}
 use Rattle.rx_fiber.specs.Surround.{fallback_in, given_along}
 use Rattle.rx_fiber.specs.Unwound.{IsWithin, IsLeftAt}
 use Rattle.rx_complete.specs.Ends.{IsOpenBelow, lies, fiber_in, LeadsTo, to_sibling, to_parent, to_none}
@@ -48,7 +48,8 @@ use Rattle.rx_meaning.specs.Again.{AreUnresolved}
 use Rattle.rx_meaning.specs.Settled.{IfSettled, known_by}
 use Rattle.rx_causes.specs.Idle.{Rests}
 use Rattle.rx_causes.specs.Marks.{EachBut}
-use Rattle.cost_laws.specs.Evaluated.{beside_kept, is_as_before}
+use Rattle.cost_laws.specs.Evaluated.{beside_kept, is_as_before, stood}
+use Rattle.begin_laws.proofs.Going.{told_stood}
 use Rattle.cost_laws.specs.Causes.{waits_still}
 use Rattle.cost_laws.specs.Left.{Flags, flag, outer}
 use Rattle.cost_laws.specs.Undue.{IsUndue}
@@ -140,22 +141,22 @@ waits_there s kept t id old e a ns fs was old_is tells calm unresolved none =
 all_three : (a b c : Bool) → a ≡ true → b ≡ true → c ≡ true → (a && (b && c)) ≡ true
 all_three a b c f g h = rw (f, g, h) refl
 
-untouched_there : (s : Sight) (stood : Bool) (e : Element) (old : Option Node) (a : Awaits) (ns fs : Forest) → old ≡ Some (node e (of_boundary (Hidden a)) ns fs) → stood ≡ true → waits_still s old ≡ true
-    → is_untouched s stood e old ≡ true
-untouched_there s stood e old a ns fs was so still =
-    all_three stood (is_element_of e old) (waits_still s old) so (ap (is_element_of e) was ∙ same_element-self e) still
+untouched_there : (s : Sight) (shown : Bool) (e : Element) (old : Option Node) (a : Awaits) (ns fs : Forest) → old ≡ Some (node e (of_boundary (Hidden a)) ns fs) → shown ≡ true → waits_still s old ≡ true
+    → is_untouched s shown e old ≡ true
+untouched_there s shown e old a ns fs was so still =
+    all_three shown (is_element_of e old) (waits_still s old) so (ap (is_element_of e) was ∙ same_element-self e) still
 
 -- what its fiber tells is told of its list
-told_there : (t : Trees Fiber) (id : ℕ) (us : Flags) → Fits t → FlagsAtPlace t id us → ((v : Fiber) → Some v ≡ made_value_of t.draft id → is_stood v.stage ≡ true) → (flag us).stood ≡ true
-told_there t id us fits h told =
-    let at = is-at t fits h.flags.around id h.flags.value h.flags.old (taken shapes.none) h.flags.rest h.flags.here in
-    sym h.told.1 ∙ told h.flags.value (sym (ap made_value_in at.list))
+told_there : (t : Trees Fiber) (st : Stack) (id n : ℕ) (us : Flags) (fs : List Frame) (cs : Contexts) (e : Element) (old : Option Node) → Fits t → FlagsAtPlace t id us
+    → StandsAt t st (Some id) (at_place (suc n) fs cs e old) → ((v : Fiber) → Some v ≡ made_value_of t.draft id → is_stood st v.stage ≡ true) → stood (flag us) ≡ true
+told_there t st id n us fs cs e old fits h (begins_place {v = v} {o = o} {rs = rs} {k = k} here is was surrounds values stack moves) told =
+    sym (told_stood t st id us fits h k v o rs here moves) ∙ told v (sym (ap made_value_in (is-at t fits k id v o (taken shapes.none) rs here).list))
 
 -- what its fiber tells of its element is told too
 before_there : (s : Sight) (t : Trees Fiber) (st : Stack) (id n : ℕ) (us : Flags) (fs : List Frame) (cs : Contexts) (e : Element) (old : Option Node) (x : Node) → Fits t → FlagsAtPlace t id us
     → StandsAt t st (Some id) (at_place (suc n) fs cs e old) → IsOld t.current (old_of t.draft id) (Some x)
     → ((v : Fiber) → Some v ≡ made_value_of t.draft id → IsAgain (is_memo s.program v.element) t.current (old_of t.draft id) v) → is_as_before s (flag us) e (Some x) ≡ true
-before_there s t st id n us fs cs e old x fits h (begins_place {v = v} {o = o} {rs = rs} {k = k} here is was surrounds values stack) is_old again =
+before_there s t st id n us fs cs e old x fits h (begins_place {v = v} {o = o} {rs = rs} {k = k} here is was surrounds values stack moves) is_old again =
     let at = is-at t fits h.flags.around id h.flags.value h.flags.old (taken shapes.none) h.flags.rest h.flags.here in
     let first = is-at t fits k id v o (taken shapes.none) rs here in
     let both : Some (made id h.flags.value h.flags.old (taken shapes.none) h.flags.rest) ≡ Some (made id v o (taken shapes.none) rs) = sym at.list ∙ first.list in
@@ -214,8 +215,8 @@ boundary_none s bodies n fs cs e old key f es is few =
     let h : bodies ≤ 0 = subst (λ x. bodies ≤ next_counts each_body s (at_place (suc n) fs cs x old)) is few in omega (arith, h)
 
 -- if a hidden boundary waits still, past its attempt
-module _ (s : Sight) (t new : Trees Fiber) (st' : Stack) (p n : ℕ) (fs : List Frame) (cs : Contexts) (e : Element) (old : Option Node) (a : Awaits) (linked : IsLinked t.current)
-    (h : IsHiddenAgain s t new st' p n fs cs e old a) where
+module _ (s : Sight) (t : Trees Fiber) (st : Stack) (new : Trees Fiber) (st' : Stack) (p n : ℕ) (fs : List Frame) (cs : Contexts) (e : Element) (old : Option Node) (a : Awaits) (linked : IsLinked t.current)
+    (h : IsHiddenAgain s t st new st' p n fs cs e old a) where
   hidden_old : IsOld t.current (old_of t.draft p) (Some (node (elements.boundary h.key h.fallback h.given) (of_boundary (Hidden a)) h.kept h.shown))
   hidden_old = subst (IsOld t.current (old_of t.draft p)) (h.was ∙ ap (λ x. Some (node x (of_boundary (Hidden a)) h.kept h.shown)) h.boundary) h.old_is
 
@@ -223,36 +224,37 @@ module _ (s : Sight) (t new : Trees Fiber) (st' : Stack) (p n : ℕ) (fs : List 
   hidden_goes bodies none = rw (h.was, h.boundary) (past_attempt none linked h.stood hidden_old h.versions h.unresolved h.agree)
 
 -- what it pays there, by the flags that its fallback opens with
-module _ (s : Sight) (t new last : Trees Fiber) (st' : Stack) (p n : ℕ) (fs : List Frame) (cs : Contexts) (e : Element) (old : Option Node) (a : Awaits) (us : Flags) (next : At) (linked : IsLinked t.current)
-    (h : IsHiddenAgain s t new st' p n fs cs e old a) where
-  hidden_pays : (bodies : ℕ) → bodies ≡ 0 → is_untouched s (flag us).stood e old ≡ true
+module _ (s : Sight) (t : Trees Fiber) (st : Stack) (new last : Trees Fiber) (st' : Stack) (p n : ℕ) (fs : List Frame) (cs : Contexts) (e : Element) (old : Option Node) (a : Awaits) (us : Flags) (next : At) (linked : IsLinked t.current)
+    (h : IsHiddenAgain s t st new st' p n fs cs e old a) where
+  hidden_pays : (bodies : ℕ) → bodies ≡ 0 → is_untouched s (stood (flag us)) e old ≡ true
       → UnitPays s t.current bodies us (at_place (suc n) fs cs e old) (beside_kept ∷ us) (open_part n fs (falling e old a) (part cs (fallback_in e ∷ []) (fallback_if old)))
   hidden_pays bodies none out =
-      let so : is_untouched s (flag us).stood (elements.boundary h.key h.fallback h.given) (Some (node (elements.boundary h.key h.fallback h.given) (of_boundary (Hidden a)) h.kept h.shown)) ≡ true =
-      subst (λ x. is_untouched s (flag us).stood x (Some (node x (of_boundary (Hidden a)) h.kept h.shown)) ≡ true) h.boundary (subst (λ o. is_untouched s (flag us).stood e o ≡ true) h.was out)
+      let so : is_untouched s (stood (flag us)) (elements.boundary h.key h.fallback h.given) (Some (node (elements.boundary h.key h.fallback h.given) (of_boundary (Hidden a)) h.kept h.shown)) ≡ true =
+      subst (λ x. is_untouched s (stood (flag us)) x (Some (node x (of_boundary (Hidden a)) h.kept h.shown)) ≡ true) h.boundary (subst (λ o. is_untouched s (stood (flag us)) e o ≡ true) h.was out)
       in
-      rw (h.was, h.boundary) (paying.past_attempt none linked h.stood (hidden_old s t new st' p n fs cs e old a linked h) h.versions h.unresolved h.agree so)
+      rw (h.was, h.boundary) (paying.past_attempt none linked h.stood (hidden_old s t st new st' p n fs cs e old a linked h) h.versions h.unresolved h.agree so)
 
-  hidden_paid : (bodies : ℕ) → bodies ≡ 0 → is_untouched s (flag us).stood e old ≡ true → HasFlags last next (beside_kept ∷ us)
+  hidden_paid : (bodies : ℕ) → bodies ≡ 0 → is_untouched s (stood (flag us)) e old ≡ true → HasFlags last next (beside_kept ∷ us)
       → Paid s t.current bodies us (at_place (suc n) fs cs e old) (open_part n fs (falling e old a) (part cs (fallback_in e ∷ []) (fallback_if old))) last next
   hidden_paid bodies none out flags = record { flags = beside_kept ∷ us; are = flags; pays = hidden_pays bodies none out }
 
 module _ (s : Sight) (way : ℕ → Bool) (kept : ℕ → Option (List Hook)) (t : Trees Fiber) (st : Stack) (new : Trees Fiber) (st' : Stack) (id bodies : ℕ) where
   pub hidden_advances : (a : Awaits) (last : Trees Fiber) (next : At) → AreFew s t st id bodies → Fits t → IsLinked t.current → BeginsPlace s way kept t st new st' id (answers.Hidden a)
       → ((c : Cursor) → (l : IsLeftAt new st' id (taken shapes.none) a c) → HasOldFallback new.current (given_along l.frames) l.old l.node l.value.element → ComesTo last st' next c)
-      → HasNoNewsThere s kept t id → ((us : Flags) → FlagsAtPlace t id us → HasFlags last next (beside_kept ∷ us)) → Advances s way kept t st (Begins id) bodies last st' next
+      → HasNoNewsThere s kept t id → ((us : Flags) → FlagsAtPlace t id us → stood (flag us) ≡ true → HasFlags last next (beside_kept ∷ us)) → Advances s way kept t st (Begins id) bodies last st' next
   hidden_advances a last next few fits linked begins comes none_new opened _ (to_place {levels = zero} h) level gives = absurd (omega (arith, level))
   hidden_advances a last next few fits linked begins comes none_new opened _ (to_place {levels = suc n} {fs = fs} {cs = cs} {e = e} {old = old} h) level gives =
       let b = begins n fs cs e old h gives.0 gives.1 gives.2 in
       let none = boundary_none s bodies n fs cs e old b.key b.fallback b.given b.boundary (few n fs cs e old h) in
       record {
         next = _;
-        goes = hidden_goes s t new st' id n fs cs e old a linked b bodies none;
+        goes = hidden_goes s t st new st' id n fs cs e old a linked b bodies none;
         comes = comes _ b.left b.again;
         paid = λ us causes are.
             let still = waits_there s kept t id old e a b.kept b.shown b.was b.old_is causes.0 b.versions b.unresolved none_new in
-            let out = untouched_there s (flag us).stood e old a b.kept b.shown b.was (told_there t id us fits are b.told) still in
-            hidden_paid s t new last st' id n fs cs e old a us next linked b bodies none out (opened us are);
+            let so = told_there t st id n us fs cs e old fits are h b.told in
+            let out = untouched_there s (stood (flag us)) e old a b.kept b.shown b.was so still in
+            hidden_paid s t st new last st' id n fs cs e old a us next linked b bodies none out (opened us are so);
       }
 
 -- past a subtree that is taken over
@@ -338,7 +340,7 @@ pub hidden_tried : (scene : Scene) (kept : ℕ → Option (List Hook)) (t : Tree
 hidden_tried scene kept t st new id fits can tells = go can.stands
   where
     go : StandsAt t st (Some id) (at_place (suc can.levels) can.frames can.contexts_are can.element can.old) → (c : Origin) × (new ≡ record t { draft = valued id (changed (change.Try c)) t.draft })
-    go (begins_place {v = v} {o = o} {rs = rs} {k = k} here is was surrounds values stack) =
+    go (begins_place {v = v} {o = o} {rs = rs} {k = k} here is was surrounds values stack moves) =
         (is.origin, tells v is.origin (sym (ap made_value_in (is-at t fits k id v o (taken shapes.none) rs here).list)) is.stage)
 
 -- if a subtree is taken over, its fiber can be passed

@@ -228,7 +228,7 @@ begun_none (made id v o ks rs) bare e = absurd (let q : ⊥ = cc in q)
 
 module _ (p : Program) (t new : Trees Fiber) (id : ℕ) (fits : Fits t) (evaluated : Bool) (b : Begun)
     (says : (v : Fiber) → Some v ≡ made_value_of t.draft id → is_opened b ≡ true
-    → (origin : Origin) × (again : Bool) × TellsSteady t.current (old_of t.draft id) v origin.stood × TellsAgain (is_memo p v.element) t.current (old_of t.draft id) v again
+    → (origin : Origin) × (again : Bool) × TellsSteady t.current (old_of t.draft id) v origin.visible × TellsAgain (is_memo p v.element) t.current (old_of t.draft id) v again
     × (origin.generation ≡ generation_below evaluated (again && keeps_children true (mark_at t.current (old_of t.draft id))) (stands_for_children v.element) (generation_of v.stage))
     × ((h : HasKids origin t new id) × (b ≡ begun_over h.kids))) (here : GatheredHere t id) where
   its_value : Some here.value ≡ made_value_of t.draft id
@@ -250,12 +250,12 @@ module _ (p : Program) (t new : Trees Fiber) (id : ℕ) (fits : Fits t) (evaluat
 
 -- a fallback
 fallback_gathered : (origin : Origin) (t new : Trees Fiber) (q : ℕ) → GatheredHere t q → IsGathered t.current → (f : Opened) → HasFallbackKids origin t new q f → IsGathering new (at_opened f)
-fallback_gathered origin t new q h current f (alone kids value still all new_if stands is) =
+fallback_gathered origin t new q h current f (alone kids value still same all new_if stands is) =
     subst (λ x. IsGathering new (at_opened x)) (sym is)
     (open_gathered new h.around q (value h.value) h.old kids h.rest (stands h.around h.value h.old h.rest h.here) h.gathered h.follow (wait_bare origin kids all))
 fallback_gathered origin t new q h current f (beside kids value kept id w old still too all new_if stands over is) =
     subst (λ x. IsGathering new (at_opened x)) (sym is)
-    (open_gathered new (after q (value h.value) h.old (taken (kept h.old)) h.around) id w old kids h.rest (stands h.around h.value h.old h.rest h.here)
+    (open_gathered new (after q (value h.value) h.old (taken (kept h.old)) h.around) id w old kids h.rest (stands h.around h.value h.old h.rest h.here).1
     (over h.around h.value h.old h.rest h.here current, h.gathered) h.follow (wait_bare origin kids all))
 
 -- that of a boundary that waits still

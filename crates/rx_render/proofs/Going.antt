@@ -291,7 +291,7 @@ ready_as s tree v see gives settled covers draws scene sees same ways gathered _
     }
   where
     values_are : StandsAt v.trees v.contexts (Some id) (at_place (suc n) fs cs e old) → length (values_at v.contexts) ≡ length cs
-    values_are (begins here waits was around values stack) = ap length values
+    values_are (begins here waits was around values stack moves) = ap length values
 ready_as s tree v see gives settled covers draws scene sees same ways gathered _ _ (to_end h) goes drawn given olds rests busy = ends h
 ready_as s tree v see gives settled covers draws scene sees same ways gathered _ _ (to_tree h) goes drawn given olds rests busy = absurd (let f : ⊥ = cc in f)
 ready_as s tree v see gives settled covers draws scene sees same ways gathered _ _ to_wait goes drawn given olds rests busy = absurd (let f : ⊥ = cc in f)

@@ -11,9 +11,9 @@ use Rattle.end_laws.specs.Trimmed.{vacant_before, trimmed, trimmed_in}
 use Rattle.render_laws.specs.OldNodes.{AllHave, OldHas}
 use Rattle.rx_fiber.specs.Fibers.{Fiber}
 use Rattle.rx_fiber.specs.Reading.{IsOld, IsTreeOf}
-use Rattle.rx_fiber.specs.Stood.{StoodAt}
+use Rattle.rx_fiber.specs.Stood.{StandsSame}
 use Rattle.rx_render.specs.GivenContexts.{given_contexts}
-use Rattle.rx_render.proofs.StoodNodes.{HandsDown, same_trimmed, stood_has}
+use Rattle.rx_render.proofs.StoodNodes.{HandsDown, same_trimmed, shown_has}
 use Rattle.rx_render.proofs.Waiting.{not_hidden}
 
 -- Reads don't depend on the vacant places at the ends of lists
@@ -80,9 +80,9 @@ root_reads v cs None h = tt
 root_reads v cs (Some x) h = h
 
 module _ (v : ℕ → ℕ) (c : Shape Fiber) (linked : IsLinked c) (base : Contexts) (tree : Option Node) (is : IsTreeOf tree c) (reads : IfReadsHold v base tree)
-    (ws : List (ℕ × ℤ)) (o : Option ℕ) (x : Node) (stood : StoodAt c ws o) (old : IsOld c o (Some x)) where
+    (ws : List (ℕ × ℤ)) (o : Option ℕ) (x : Node) (stood : StandsSame c ws o) (old : IsOld c o (Some x)) where
   -- an old node read what the contexts give where its current fiber stands, and the resources in these versions
   pub reads_here : ReadsHold v (given_contexts base ws) x
   reads_here =
-      let y = stood_has (ReadsHold v) (reads_down v) c linked base tree is (root_reads v base tree reads) ws o stood in
+      let y = shown_has (ReadsHold v) (reads_down v) c linked base tree is (root_reads v base tree reads) ws o stood in
       reads_same v (given_contexts base ws) y.node_is x (same_trimmed c o y.node_is x y.is old) y.has

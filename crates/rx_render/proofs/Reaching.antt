@@ -28,7 +28,7 @@ use Rattle.draw_laws.specs.Cursors.{CursorDrawn}
 use Rattle.rx_fiber.specs.Fibers.{Fiber}
 use Rattle.rx_links.specs.Readers.{IsLinked}
 use Rattle.rx_fiber.specs.Reading.{IsOld, IsTreeOf}
-use Rattle.rx_fiber.specs.Stood.{StoodAt}
+use Rattle.rx_fiber.specs.Stood.{StandsSame}
 use Rattle.rx_fiber.specs.Surround.{given_along}
 use Rattle.rx_causes.specs.Reads.{VersionsHold}
 use Rattle.rx_causes.proofs.Halves.{reads_known}
@@ -126,11 +126,11 @@ module _ (s : Sight) (tree : Option Node) (current : Shape Fiber) (is : IsTreeOf
         let base = default_contexts s.program in
         let here : cs ≡ given_contexts base (given_along fs) = h.given.0 in
         let done = version_done s.journal.updates in
-        reads_known (StoodAt current (given_along fs) o) done (version_seen s) cs x (λ stood. subst (λ l. ReadsHold done l x) (sym here) (reads_here done current linked base tree is reads (given_along fs) o x stood was))
+        reads_known (StandsSame current (given_along fs) o) done (version_seen s) cs x (λ stood. subst (λ l. ReadsHold done l x) (sym here) (reads_here done current linked base tree is reads (given_along fs) o x stood was))
         same.contexts (by_versions same.versions)
       where
-        by_versions : (StoodAt current (given_along fs) o × (sees_refresh s ≡ false)) ⊎ VersionsHold (version_seen s) x
-            → (StoodAt current (given_along fs) o × (version_done s.journal.updates ≡ version_seen s)) ⊎ VersionsHold (version_seen s) x
+        by_versions : (StandsSame current (given_along fs) o × (sees_refresh s ≡ false)) ⊎ VersionsHold (version_seen s) x
+            → (StandsSame current (given_along fs) o × (version_done s.journal.updates ≡ version_seen s)) ⊎ VersionsHold (version_seen s) x
         by_versions (inl both) = inl (both.0, versions both.1)
         by_versions (inr so) = inr so
 
@@ -159,7 +159,7 @@ module _ (s : Sight) (tree : Option Node) (current : Shape Fiber) (is : IsTreeOf
 
   -- What it pays
 
-  waits_at : (n : ℕ) (fs : List Frame) (cs : Contexts) (key : Key) (f : Element) (es : Elements) (a : Awaits) (ns kept : Forest) (o : Option ℕ) → IsLinked current → StoodAt current (given_along fs) o
+  waits_at : (n : ℕ) (fs : List Frame) (cs : Contexts) (key : Key) (f : Element) (es : Elements) (a : Awaits) (ns kept : Forest) (o : Option ℕ) → IsLinked current → StandsSame current (given_along fs) o
       → IsOld current o (Some (node (boundary key f es) (of_boundary (Hidden a)) ns kept)) → sees_refresh s ≡ false → AreUnresolved s a → AllValuesAgree (without_lanes s) s ns
       → Reaches s tree units bodies (at_place (suc n) fs cs (boundary key f es) (Some (node (boundary key f es) (of_boundary (Hidden a)) ns kept))) → render_part (rendered n s) (part cs (listed es) ns) ≡ one_waits a
   waits_at n fs cs key f es a ns kept o linked stood was calm unresolved agree h =

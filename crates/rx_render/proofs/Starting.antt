@@ -19,7 +19,7 @@ use Rattle.rx_model.specs.State.{Progress, State}
 use Rattle.rx_model.specs.Committing.{sight_of, starting}
 use Rattle.rx_model.specs.HooksOf.{KeepsAllHooks}
 use Rattle.rx_model.specs.Laws.{IsBounded}
-use Rattle.rx_fiber.specs.Fibers.{Fiber, generation_of, is_stood, waiting, nothing}
+use Rattle.rx_fiber.specs.Fibers.{Fiber, generation_of, is_visible, waiting, nothing}
 use Rattle.rx_fiber.specs.Subtrees.{IsGathered}
 use Rattle.rx_fiber.specs.declared.stage.Origin.{Origin}
 use Rattle.rx_fiber.specs.Reading.{IsTreeOf, IsOld, of, next}
@@ -62,12 +62,12 @@ root_same c _ _ e reading.new rooted there = cc
 root_same c _ _ e (of {j = j} {n = n} {x = x} {s = s} here leads (next {rest = rest} is a)) rooted there = node_element c j n x s rest is here ∙ ap Some rooted
 
 -- it stands at the root, if it is there
-root_stands_if : (c : Shape Fiber) (o : Option ℕ) → first c ≡ o → StandsIf c [] o
+root_stands_if : (c : Shape Fiber) (o : Option ℕ) → first c ≡ o → StandsIf c [] [] o
 root_stands_if c None e = tt
-root_stands_if c (Some i) e = at_root e
+root_stands_if c (Some i) e = record { given = []; stood = at_root e; same = λ d f. refl }
 
 root_waits : (p : Program) (c : Shape Fiber) (old : Option Node) (v : Fiber) (origin : Origin) → IsTreeOf old c → IfSome old (λ x. element_of x ≡ root_element p) → v.place ≡ 0
-    → v.element ≡ root_element p → v.stage ≡ waiting origin → (origin.cloned ≡ true → is_some (first c) ≡ true) → origin.generation ≡ 0 → IsWaiting c [] (first c) v 0 (root_element p)
+    → v.element ≡ root_element p → v.stage ≡ waiting origin → (origin.cloned ≡ true → is_some (first c) ≡ true) → origin.generation ≡ 0 → IsWaiting c [] [] (first c) v 0 (root_element p)
 root_waits p c old v origin tree rooted place element stage clones generation = record {
   at = place;
   element = element;
@@ -79,17 +79,17 @@ root_waits p c old v origin tree rooted place element stage clones generation = 
 }
 
 comes_to_start : (s : Sight) (old : Option Node) (t : Trees Fiber) (id : ℕ) (v : Fiber)
-    → IsTreeOf old t.current → IsWaiting t.current [] (first t.current) v 0 (root_element s.program) → t.draft ≡ made id v (first t.current) (taken shapes.none) (taken shapes.none)
+    → IsTreeOf old t.current → IsWaiting t.current [] [] (first t.current) v 0 (root_element s.program) → t.draft ≡ made id v (first t.current) (taken shapes.none) (taken shapes.none)
     → ComesTo t (contexts.opening (default_contexts s.program)) (Begins id) (start s old)
 unfolding start
 comes_to_start s old t id v tree waits here = to_place (starts s old t id v tree waits here)
 
--- nothing is above the root's list, and its fiber stood, with an element that is always the same
-root_flags : (t : Trees Fiber) (id : ℕ) (v : Fiber) (origin : Origin) → v.stage ≡ waiting origin → origin.stood ≡ true → origin.generation ≡ 0
+-- nothing is above the root's list, and what its fiber was made for is visible, with an element that is always the same
+root_flags : (t : Trees Fiber) (id : ℕ) (v : Fiber) (origin : Origin) → v.stage ≡ waiting origin → origin.visible ≡ true → origin.generation ≡ 0
     → t.draft ≡ made id v (first t.current) (taken shapes.none) (taken shapes.none) → FlagsAtPlace t id []
-root_flags t id v origin stage stood generation here = record {
+root_flags t id v origin stage visible generation here = record {
   flags = record { around = top; value = v; old = first t.current; rest = taken shapes.none; here = here; flagged = flagged.at_root refl refl tt };
-  told = (ap generation_of stage ∙ generation, ap is_stood stage ∙ stood);
+  told = (ap generation_of stage ∙ generation, ap is_visible stage ∙ visible);
 }
 
 -- a rendering whose root waits for its first unit
@@ -113,7 +113,7 @@ pub record StandsAtRoot (lanes : Lanes) (cut : Cut) (resources : Resources) (old
   pub element : value.element ≡ root_element old.program
   pub stage : value.stage ≡ waiting origin
   pub clones : origin.cloned ≡ is_some (first new.trees.current)
-  pub stood : origin.stood ≡ true
+  pub visible : origin.visible ≡ true
   pub generation : origin.generation ≡ 0
   pub here : new.trees.draft ≡ made id value (first new.trees.current) (taken shapes.none) (taken shapes.none)
   pub at : new.at ≡ Begins id
@@ -157,7 +157,7 @@ start_renders lanes cut resources old new r draws bounded st is =
       };
       costs = record {
         flags = [];
-        are = subst (λ a. HasFlags new.trees a []) (sym r.at) (root_flags new.trees r.id r.value r.origin r.stage r.stood r.generation r.here);
+        are = subst (λ a. HasFlags new.trees a []) (sym r.at) (root_flags new.trees r.id r.value r.origin r.stage r.visible r.generation r.here);
         counted = subst (λ b. Costs s st.tree b [] (start s st.tree)) (sym r.bodies) (start_costs s st.tree);
         undue = r.undue old.program st (starting st lanes) is.apart.0 refl (sym is.cut_is) is.keeps is.current is.numbered is.apart.1;
       };
@@ -170,14 +170,14 @@ module _ (lanes : Lanes) (cut : Cut) (resources : Resources) (old inside : Rende
 
   pub root_stands : inside ≡ record old { trees = record old.trees { draft = taken shapes.none }; at = Over } → (v : Fiber) (root : Element) (given defaults : List ℤ)
       → t ≡ record inside.trees { draft = made id v (first inside.trees.current) (taken shapes.none) (taken shapes.none) }
-      → (origin : Origin) → origin.cloned ≡ is_some (first inside.trees.current) → origin.stood ≡ true → origin.generation ≡ 0 → v ≡ record { place = 0; element = root; stage = waiting origin; subtree = nothing } → root ≡ root_element inside.program
+      → (origin : Origin) → origin.cloned ≡ is_some (first inside.trees.current) → origin.visible ≡ true → origin.generation ≡ 0 → v ≡ record { place = 0; element = root; stage = waiting origin; subtree = nothing } → root ≡ root_element inside.program
       → st ≡ contexts.opening given → given ≡ defaults → defaults ≡ default_contexts inside.program
       → ((s : Sight) (tree : Option Node) (next : ℕ) → s.lanes ≡ lanes → s.cut ≡ cut → GivesAll s tree (kept_hooks inside.hooks) → IsTreeOf tree inside.trees.current → IfNumbered tree → HasOwnNumbers next tree
       → CoversIf (is_way ways) (IsIdleMark s) tree)
       → ((p : Program) (st : State) (g : Progress) (next : ℕ) → g.lanes ≡ lanes → g.cut ≡ cut → KeepsAllHooks p st (kept_hooks inside.hooks) → IsTreeOf st.tree inside.trees.current → IfNumbered st.tree → HasOwnNumbers next st.tree
       → CoversIf (is_way ways) (IsUndue (sight_of p st g)) st.tree)
       → StandsAtRoot lanes cut resources old started
-  root_stands was v root given defaults grown origin cloned_is stood_is generation_is value element stack same all covers undue =
+  root_stands was v root given defaults grown origin cloned_is visible_is generation_is value element stack same all covers undue =
       let program : inside.program ≡ old.program = ap (λ r. r.program) was in
       let kept : t.current ≡ inside.trees.current = ap (λ u. u.current) grown in
       record {
@@ -198,7 +198,7 @@ module _ (lanes : Lanes) (cut : Cut) (resources : Resources) (old inside : Rende
         element = ap (λ u. u.element) value ∙ (element ∙ ap root_element program);
         stage = ap (λ u. u.stage) value;
         clones = cloned_is ∙ ap (λ c. is_some (first c)) (sym kept);
-        stood = stood_is;
+        visible = visible_is;
         generation = generation_is;
         here = ap (λ u. u.draft) grown ∙ ap (λ c. made id v (first c) (taken shapes.none) (taken shapes.none)) (sym kept);
         at = refl;

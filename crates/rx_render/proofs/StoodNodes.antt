@@ -1,6 +1,9 @@
 -- What goes down a tree to all that is shown holds of the node of a current fiber, if that stands.
-use Rattle.std.specs.Prelude.{◌≡◌, ℕ, ℤ, zero, suc, false, List, [], Option, Some, None, option_map, refl}
-use Rattle.std.proofs.Common.{sym, ap, ◌∙◌, subst}
+use Rattle.std.specs.Prelude.{◌≡◌, ℕ, ℤ, zero, suc, ◌<◌, Bool, true, false, cond, nat_eq, List, [], ◌∷◌, length, Option, Some, None, option_map, unwrap_or, refl}
+use Rattle.std.proofs.Common.{◌≢◌, arith, sym, ap, ◌∙◌, subst}
+use Rattle.std.proofs.Math.ListN.{set, get_or}
+use Rattle.std.proofs.lemmas.List.{get_or-set_same, get_or-set_other, same_lists}
+use Rattle.std.proofs.lemmas.Bool.Decides.{nat_tests}
 use Rattle.rx_elem.specs.Elements.{Element}
 use Rattle.rx_elem.specs.Elements as elements
 use Rattle.rx_elem.specs.Trees.{Mark, Node, node, Forest, none, vacant, child, forest, is_hidden, mark_of}
@@ -14,7 +17,7 @@ use Rattle.render_laws.specs.OldNodes.{AllHave, OldHas}
 use Rattle.rx_fiber.specs.Fibers.{Fiber, Stage, waiting, begun, trying, fallback}
 use Rattle.rx_fiber.specs.OldLists.{hides_in, primary_list, fallback_list, fiber_at}
 use Rattle.rx_fiber.specs.Reading.{IsFor, whole, alone, beside, next, IsOld, new, of, IsTreeOf}
-use Rattle.rx_fiber.specs.Stood.{given_more, StoodAt, at_root, below, in_fallback}
+use Rattle.rx_fiber.specs.Stood.{given_more, nearest_given, StoodAt, StandsSame, at_root, below, in_fallback}
 use Rattle.rx_fiber.proofs.Matching.{old_at}
 use Rattle.rx_fiber.proofs.OldLists.{primary_is, fallback_is}
 use Rattle.rx_fiber.proofs.Starting.{root_old}
@@ -24,6 +27,7 @@ use Rattle.rx_children.proofs.OldNodes.{stood_in}
 use Rattle.rx_read.proofs.Trims.{places_are}
 use Rattle.rx_read.specs.Places.{places_in}
 use Rattle.rx_render.specs.GivenContexts.{given_contexts}
+use Rattle.rx_render.proofs.Contexts.{as_many}
 
 -- The fibers of one node
 
@@ -74,6 +78,26 @@ got Q (vacant ns) (suc p) y h e = got Q ns p y h e
 got Q (child x ns) zero y h e = let q : x ≡ y = cc in subst Q q h.0
 got Q (child x ns) (suc p) y h e = got Q ns p y h.1 e
 
+-- each is the nearest that is given, or as at first
+value_given : (base : Contexts) (ws : List (ℕ × ℤ)) (c : ℕ) (d : ℤ) → c < length base → get_or (given_contexts base ws) c d ≡ unwrap_or (option_map (λ w. w.1) (nearest_given c ws)) (get_or base c d)
+value_given base [] c d lt = refl
+value_given base (w ∷ ws) c d lt = go (nat_eq w.0 c) refl (value_given base ws c d lt)
+  where
+    go : (b : Bool) → nat_eq w.0 c ≡ b → get_or (given_contexts base ws) c d ≡ unwrap_or (option_map (λ (p : ℕ × ℤ). p.1) (nearest_given c ws)) (get_or base c d)
+        → get_or (set (given_contexts base ws) w.0 w.1) c d ≡ unwrap_or (option_map (λ (p : ℕ × ℤ). p.1) (cond b (Some w) (nearest_given c ws))) (get_or base c d)
+    go true e rest =
+        let same : w.0 ≡ c = grind (arith, nat_tests) in
+        ap (λ i. get_or (set (given_contexts base ws) w.0 w.1) i d) (sym same) ∙ get_or-set_same (given_contexts base ws) w.0 w.1 d (omega (arith, lt, same, as_many base ws))
+    go false e rest = let other : c ≢ w.0 = grind (arith, nat_tests) in get_or-set_other (given_contexts base ws) w.0 c w.1 d other ∙ rest
+
+-- so they are the same if the nearest are
+pub same_contexts : (base : Contexts) (vs ws : List (ℕ × ℤ)) → ((c : ℕ) → nearest_given c vs ≡ nearest_given c ws) → given_contexts base vs ≡ given_contexts base ws
+same_contexts base vs ws same =
+    same_lists (given_contexts base vs) (given_contexts base ws) (as_many base vs ∙ sym (as_many base ws))
+    (λ k d lt.
+    let there : k < length base = omega (arith, lt, as_many base vs) in
+    value_given base vs k d there ∙ (ap (λ w. unwrap_or (option_map (λ (p : ℕ × ℤ). p.1) w) (get_or base k d)) (same k) ∙ sym (value_given base ws k d there)))
+
 -- a property of nodes, in the contexts of their places, goes down to the children of a node that hides nothing, and to a fallback
 pub record HandsDown (P : Contexts → Node → Type 0) : Type 0 where
   pub children : (cs : Contexts) (e : Element) (m : Mark) (ns fs : Forest) → P cs (node e m ns fs) → is_hidden m ≡ false → AllHave (P (contexts_below e cs)) ns
@@ -120,10 +144,16 @@ module _ (P : Contexts → Node → Type 0) (hands : HandsDown P) (c : Shape Fib
         by_tree None h old = absurd (no_fiber c i old)
         by_tree (Some x) h old = record { node_is = x; is = old; has = h }
 
-    -- If a current fiber stands, its node has with the values that are given there what the tree has at its root.
-    pub stood_has : (ws : List (ℕ × ℤ)) (o : Option ℕ) → StoodAt c ws o → NodeHas ws o
+    -- If a current fiber is shown, its node has with the values that are given there what the tree has at its root.
+    stood_has : (ws : List (ℕ × ℤ)) (o : Option ℕ) → StoodAt c ws o → NodeHas ws o
     stood_has _ _ (at_root {i = i} f) = root_has i f
     stood_has _ _ (below {ws = ws} {q = q} {i = i} {v = v} place h here shown at) =
         let n = stood_has ws (Some q) h in child_has ws q i v place n.node_is n.is n.has here shown at
     stood_has _ _ (in_fallback {ws = ws} {q = q} {i = i} place h here hides at) =
         let n = stood_has ws (Some q) h in fallback_has ws q i place n.node_is n.is n.has at
+
+    -- If it is shown, and these values give each context what it has there, its node has with them what the tree has at its root.
+    pub shown_has : (ws : List (ℕ × ℤ)) (o : Option ℕ) → StandsSame c ws o → NodeHas ws o
+    shown_has ws o s =
+        let n = stood_has s.given o s.stood in
+        record { node_is = n.node_is; is = n.is; has = subst (λ l. P l n.node_is) (same_contexts base s.given ws (λ d. s.same d refl)) n.has }

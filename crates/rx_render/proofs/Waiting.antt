@@ -18,9 +18,9 @@ use Rattle.end_laws.proofs.Rendered.{waits_same, values_same}
 use Rattle.render_laws.specs.OldNodes.{AllHave, OldHas}
 use Rattle.rx_fiber.specs.Fibers.{Fiber}
 use Rattle.rx_fiber.specs.Reading.{IsOld, IsTreeOf}
-use Rattle.rx_fiber.specs.Stood.{StoodAt}
+use Rattle.rx_fiber.specs.Stood.{StandsSame}
 use Rattle.rx_render.specs.GivenContexts.{given_contexts}
-use Rattle.rx_render.proofs.StoodNodes.{HandsDown, same_trimmed, stood_has}
+use Rattle.rx_render.proofs.StoodNodes.{HandsDown, same_trimmed, shown_has}
 
 pub not_hidden : (A B : Type 0) (b : Bool) → IfHidden b A B → b ≡ false → B
 not_hidden A B true h e = cc
@@ -54,10 +54,10 @@ module _ (c : Shape Fiber) (linked : IsLinked c) (s : Sight) (base : Contexts) (
       subst (λ k. OwnWaitsAgain s (given_contexts base ws) (boundary key f es) k ms) mark (subst (λ k. OwnWaitsAgain s (given_contexts base ws) k m ms) el waits.0) in
       waits_same n s (given_contexts base ws) (listed es) ms ns a ends (own calm unresolved (values_same (without_lanes s) s ns ms (sym ends) agree) n fits)
 
-  -- The children of a hidden boundary that stands where its current fiber stands wait for what it awaits.
-  pub waits_here : (ws : List (ℕ × ℤ)) (o : Option ℕ) (key : Key) (f : Element) (es : Elements) (a : Awaits) (ns fs : Forest) → StoodAt c ws o
+  -- The children of a hidden boundary wait for what it awaits, if its current fiber is shown, and these values are the same as there.
+  pub waits_here : (ws : List (ℕ × ℤ)) (o : Option ℕ) (key : Key) (f : Element) (es : Elements) (a : Awaits) (ns fs : Forest) → StandsSame c ws o
       → IsOld c o (Some (node (boundary key f es) (of_boundary (Hidden a)) ns fs)) → sees_refresh s ≡ false → AreUnresolved s a → AllValuesAgree (without_lanes s) s ns
       → (n : ℕ) → PartFits n s.program (part (given_contexts base ws) (listed es) ns) → render_part (rendered n s) (part (given_contexts base ws) (listed es) ns) ≡ one_waits a
   waits_here ws o key f es a ns fs stood old calm unresolved agree n fits =
-      let x = stood_has (WaitsAgain s) (waits_down s) c linked base tree is (root_waits s base tree again) ws o stood in
+      let x = shown_has (WaitsAgain s) (waits_down s) c linked base tree is (root_waits s base tree again) ws o stood in
       own_waits ws key f es a ns fs x.node_is (same_trimmed c o x.node_is (node (boundary key f es) (of_boundary (Hidden a)) ns fs) x.is old) x.has calm unresolved agree n fits

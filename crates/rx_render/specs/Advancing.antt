@@ -22,7 +22,7 @@ use Rattle.rx_fiber.specs.Fibers.{Fiber}
 use Rattle.rx_fiber.specs.Reading.{IsOld}
 use Rattle.rx_fiber.specs.Standing.{StandsAt}
 use Rattle.rx_fiber.specs.Subtrees.{IsGathered}
-use Rattle.rx_fiber.specs.Stood.{StoodAt}
+use Rattle.rx_fiber.specs.Stood.{StandsSame}
 use Rattle.rx_fiber.specs.Surround.{given_along}
 use Rattle.rx_complete.specs.Ends.{IsAtEnd}
 use Rattle.rx_complete.specs.declared.completing.Next.{Next}
@@ -83,11 +83,11 @@ GivesAt s way kept (at_place levels fs cs e old) = GivesHooksIf s kept old × If
 GivesAt s way kept (at_end levels fs o done) = Unit {0}
 GivesAt s way kept (ended p) = Unit {0}
 
--- Where a render comes in one unit that evaluates so many bodies: where the unit of its cursor comes, past the attempt of a hidden boundary, or past a whole subtree. The last two evaluate none. The boundary stands as its current fiber does, no resource has another version than the last commit showed, nothing that it awaits has a value, and nothing is new for what it keeps; the subtree read what the render gives where it stands, and it is idle.
+-- Where a render comes in one unit that evaluates so many bodies: where the unit of its cursor comes, past the attempt of a hidden boundary, or past a whole subtree. The last two evaluate none. The boundary's current fiber is shown, and each context has the same value as there, no resource has another version than the last commit showed, nothing that it awaits has a value, and nothing is new for what it keeps; the subtree read what the render gives where it stands, and it is idle.
 pub data Goes (s : Sight) (current : Shape Fiber) (bodies : ℕ) : (before after : Cursor) → Type 0 where
   by_unit : {c : Cursor} → bodies ≤ next_counts each_body s c → Goes s current bodies c (unit s c)
   past_attempt : {n : ℕ} {fs : List Frame} {cs : Contexts} {key : Key} {f : Element} {es : Elements} {a : Awaits} {ns kept : Forest} {o : Option ℕ}
-      → bodies ≡ 0 → IsLinked current → StoodAt current (given_along fs) o → IsOld current o (Some (node (boundary key f es) (of_boundary (Hidden a)) ns kept))
+      → bodies ≡ 0 → IsLinked current → StandsSame current (given_along fs) o → IsOld current o (Some (node (boundary key f es) (of_boundary (Hidden a)) ns kept))
       → sees_refresh s ≡ false → AreUnresolved s a → AllValuesAgree (without_lanes s) s ns
       → Goes s current bodies (at_place (suc n) fs cs (boundary key f es) (Some (node (boundary key f es) (of_boundary (Hidden a)) ns kept)))
       (open_part n fs (falling (boundary key f es) (Some (node (boundary key f es) (of_boundary (Hidden a)) ns kept)) a) (part cs (f ∷ []) kept))

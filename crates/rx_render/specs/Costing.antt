@@ -17,10 +17,10 @@ use Rattle.commit_laws.specs.Idle.{IsIdle}
 use Rattle.commit_laws.specs.WaitsAgain.{without_lanes}
 use Rattle.rx_fiber.specs.Fibers.{Fiber}
 use Rattle.rx_fiber.specs.Reading.{IsOld}
-use Rattle.rx_fiber.specs.Stood.{StoodAt}
+use Rattle.rx_fiber.specs.Stood.{StandsSame}
 use Rattle.rx_fiber.specs.Surround.{given_along}
 use Rattle.rx_ways.specs.Ways.{CoversIf}
-use Rattle.cost_laws.specs.Evaluated.{beside_kept, is_as_before}
+use Rattle.cost_laws.specs.Evaluated.{beside_kept, is_as_before, stood}
 use Rattle.cost_laws.specs.Left.{Flags, MayGo, flag, next_evaluated, unit_flags}
 use Rattle.cost_laws.specs.Undue.{IsUndue}
 use Rattle.cost_laws.specs.Untouched.{is_untouched}
@@ -46,9 +46,9 @@ CausesAt s way kept (ended p) = Unit {0}
 pub data UnitPays (s : Sight) (current : Shape Fiber) (bodies : ℕ) (us : Flags) : (before : Cursor) → Flags → (after : Cursor) → Type 0 where
   by_unit : {c : Cursor} → MayGo s us c → bodies ≡ next_evaluated s us c → UnitPays s current bodies us c (unit_flags s us c) (unit s c)
   past_attempt : {n : ℕ} {fs : List Frame} {cs : Contexts} {key : Key} {f : Element} {es : Elements} {a : Awaits} {ns kept : Forest} {o : Option ℕ}
-      → bodies ≡ 0 → IsLinked current → StoodAt current (given_along fs) o → IsOld current o (Some (node (boundary key f es) (of_boundary (Hidden a)) ns kept))
+      → bodies ≡ 0 → IsLinked current → StandsSame current (given_along fs) o → IsOld current o (Some (node (boundary key f es) (of_boundary (Hidden a)) ns kept))
       → sees_refresh s ≡ false → AreUnresolved s a → AllValuesAgree (without_lanes s) s ns
-      → is_untouched s (flag us).stood (boundary key f es) (Some (node (boundary key f es) (of_boundary (Hidden a)) ns kept)) ≡ true
+      → is_untouched s (stood (flag us)) (boundary key f es) (Some (node (boundary key f es) (of_boundary (Hidden a)) ns kept)) ≡ true
       → UnitPays s current bodies us (at_place (suc n) fs cs (boundary key f es) (Some (node (boundary key f es) (of_boundary (Hidden a)) ns kept)))
       (beside_kept ∷ us)
       (open_part n fs (falling (boundary key f es) (Some (node (boundary key f es) (of_boundary (Hidden a)) ns kept)) a) (part cs (f ∷ []) kept))

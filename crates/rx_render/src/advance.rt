@@ -143,6 +143,7 @@ fn begin_place<L: Ledger>(
             Ok((at, evaluated))
         }
         Begun::Hidden(awaits) => {
+            tree.facts();
             let opened = open_old_fallback(alloc, tree, id, awaits)?;
             Ok((at_opened(opened), evaluated))
         }

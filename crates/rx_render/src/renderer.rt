@@ -72,7 +72,6 @@ use std::sync::ledger::Ledger;
 
 /// The two trees of a root and its hooks, with the render that is in progress: what it sees, where it stands, and how many
 /// units and bodies it has taken (react.dev, Render and Commit).
-#[derive(Drop)]
 pub struct Renderer {
     alloc: Global,
     checked: Checked,
@@ -103,6 +102,27 @@ impl Model for Renderer {
     ghost view = { λ r. record { program = r.checked; trees = r.fibers; hooks = r.hooks; contexts = r.contexts; resources = r.resources; lanes = r.lanes; cut = r.cut; ways = r.ways; at = r.at; units = r.units; bodies = r.bodies } };
 
     ghost invariant = { λ r. IsRendering (record { program = r.checked; trees = r.fibers; hooks = r.hooks; contexts = r.contexts; resources = r.resources; lanes = r.lanes; cut = r.cut; ways = r.ways; at = r.at; units = r.units; bodies = r.bodies }) };
+}
+
+// It is taken apart here alone, once for all crates.
+impl Drop for Renderer {
+    fn drop(self) {
+        let Renderer {
+            alloc: _alloc,
+            checked: _checked,
+            fibers: _fibers,
+            hooks: _hooks,
+            contexts: _contexts,
+            resources: _resources,
+            lanes: _lanes,
+            cut: _cut,
+            ways: _ways,
+            hints: _hints,
+            at: _at,
+            units: _units,
+            bodies: _bodies,
+        } = self;
+    }
 }
 
 // How many bodies were evaluated.
@@ -306,7 +326,7 @@ impl Renderer {
         let cloned = self.fibers.current().is_some();
         let origin = Origin {
             cloned,
-            stood: true,
+            visible: true,
             generation: 0,
         };
         let id = self

@@ -46,7 +46,6 @@ const NODE_LIMIT: u64 = 65_536;
 
 /// A root (react.dev, createRoot): a program with its committed tree, the hooks of its instances, what is pending, and the
 /// render in progress, if there is one.
-#[derive(Drop)]
 pub struct Root {
     pub(crate) alloc: Global,
     pub(crate) renderer: Renderer,
@@ -81,6 +80,27 @@ impl Model for Root {
     ghost coded = { Prim.hlevel (codes, program_code, node_code, fiber_trees_code) };
 
     ghost view = { λ r. record { rendering = r.renderer; shown = r.shown; schedule = r.lanes; commits = r.commits; updates = r.updates; resolutions = r.resolutions; resources = r.resources; now = r.now; event = r.event; numbers = numbers_seen r.numbers; later = r.later } };
+}
+
+// It is taken apart here alone, once for all crates.
+impl Drop for Root {
+    fn drop(self) {
+        let Root {
+            alloc: _alloc,
+            renderer: _renderer,
+            shown: _shown,
+            lanes: _lanes,
+            commits: _commits,
+            updates: _updates,
+            resolutions: _resolutions,
+            resources: _resources,
+            now: _now,
+            event: _event,
+            numbers: _numbers,
+            later: _later,
+            sent: _sent,
+        } = self;
+    }
 }
 
 impl Root {

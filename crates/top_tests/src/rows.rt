@@ -53,7 +53,7 @@ const WHOLE: [Row<'static>; 3] = [
     },
 ];
 
-const ROWS: [Row<'static>; 12] = [
+const ROWS: [Row<'static>; 13] = [
     // A flag shows that a transition is pending: it is set at once, and unset with the transition.
     Row {
         words: &["run"],
@@ -107,6 +107,15 @@ const ROWS: [Row<'static>; 12] = [
         failing_writes: &[],
         status: 0,
         output: "commit 1 Default\ncommit 2 Sync\nstate\n  [1] App v=0 w=7\ncommit 3 T1\nstate\n  [1] App v=1 w=7\nend quiet\n",
+    },
+    // A boundary that waits is not tried again for a value that an inner provider hides from it.
+    Row {
+        words: &["run", "--counts"],
+        input: "const C = createContext(1); function User() { const u = use(\"r\"); return <b>{u}</b>; } function App() { const [t, setT] = useState(2); return <C.Provider value={t}><C.Provider value={1}><Suspense fallback={<i/>}><User/></Suspense></C.Provider></C.Provider>; }\n---\nflush\nset sync App t 3\nflush\n",
+        failing_reads: &[],
+        failing_writes: &[],
+        status: 0,
+        output: "commit 1 Default units 11 bodies 2\ncommit 2 Sync units 9 bodies 1\nend pending none suspended 1\n",
     },
     // Operations on hosts are shown if they are asked for.
     Row {

@@ -1,5 +1,6 @@
 use Rattle.std.proofs.Common.{sym, ap, refl, ◌∙◌, subst}
-use Rattle.rx_fiber.specs.Fibers.{generation_of, is_stood, origin_of}
+use Rattle.rx_fiber.specs.Fibers.{generation_of, origin_of}
+use Rattle.rx_fiber.specs.Standing.{is_stood}
 use Rattle.rx_fiber.specs.FiberView.{changed}
 use Rattle.rx_fiber.specs.Surround.{IsElementOf}
 use Rattle.rx_fiber.specs.declared.stage.StageChange.TheVariants as change
@@ -25,7 +26,7 @@ use Rattle.rx_begin.proofs.Standing.{element_is_again}
 use Rattle.rx_begin.proofs.Kids.{is_none, not_both, other_kids, other_no_body, other_takes_not, other_tried}
 use Rattle.rx_children.proofs.Origins.{same_fiber, waits_with}
 use Rattle.rx_begin.proofs.Taking.{taken_over}
-use Rattle.rx_begin.proofs.Begins.{place_clone, place_held, place_kept, place_olds, place_stood, place_tree, place_there, place_context, place_props, begins_body, begins_other, counts_one, made_at}
+use Rattle.rx_begin.proofs.Begins.{place_clone, place_held, place_kept, place_olds, place_shown, place_stood, place_tree, place_there, place_context, place_props, begins_body, begins_other, counts_one, made_at}
 use Rattle.rx_begin.proofs.beginning.begin.Goals as goal
 
 pub begin_component-requires-clause-kept : goal.begin_component-requires-clause-kept
@@ -128,8 +129,8 @@ pub returns-then-takes_over-clause-begun : goal.returns-then-takes_over-clause-b
 returns-then-takes_over-clause-begun g c s is n fs cs e old at gives settled covers =
     taken_over s (kept_hooks c.args.hooks.now) c.args.tree.now c.args.contexts.now c.take_node.new.tree c.args.contexts.now c.args.at n fs cs e old c.facts.ensures.linked c.place_facts.ensures at
     c.value-fiber.result.now (c.value-fiber.ensures.made (made_at _ _ _ _ _ c.place_facts.ensures c.requires.place)) c.is_as_before-again.result
-    (λ so. ((c.is_as_before-again.ensures c.value-fiber.result.now (c.value-fiber.ensures.made (made_at _ _ _ _ _ c.place_facts.ensures c.requires.place))).0 so).same) (c.takes_over.ensures.again c.if-takes_over.true) c.origin-origin.result.stood
-    (ap (λ x. x.stood) c.origin-origin.ensures ∙ place_stood _ _ c.args.tree.now c.args.contexts.now c.args.at c.place_facts.ensures c.requires.place c.value-fiber.result.now (c.value-fiber.ensures.made (made_at _ _ _ _ _ c.place_facts.ensures c.requires.place)))
+    (λ so. ((c.is_as_before-again.ensures c.value-fiber.result.now (c.value-fiber.ensures.made (made_at _ _ _ _ _ c.place_facts.ensures c.requires.place))).0 so).same) (c.takes_over.ensures.again c.if-takes_over.true) c.has_stood-stood.result
+    (place_stood _ _ c.args.tree.now c.args.contexts.now c.args.at c.place_facts.ensures c.requires.place c.value-fiber.result.now (c.value-fiber.ensures.made (made_at _ _ _ _ _ c.place_facts.ensures c.requires.place)) c.origin-origin.result c.has_stood-stood.result c.origin-origin.ensures c.has_stood-stood.ensures)
     c.in_ok-take_node.ensures.taken c.take_node.ensures.current refl (is_way c.args.scene.now.ways.now) (c.takes_over.ensures.there c.if-takes_over.true)
     (λ x was. c.takes_over.ensures.idle c.if-takes_over.true s x is was) (c.takes_over.ensures.reads c.if-takes_over.true) c.args.scene.now.refreshes is.refreshes (c.takes_over.ensures.uses c.if-takes_over.true) gives covers
 
@@ -148,9 +149,10 @@ pub returns-clause-begun : goal.returns-clause-begun
 returns-clause-begun g c s is =
     begins_other s _ c.args.tree.now c.args.contexts.now c.begin_or_hide.new.tree c.begin_or_hide.new.contexts c.args.at c.facts.ensures.linked c.place_facts.ensures c.value-fiber.result.now c.in_ok-element.element
     (c.value-fiber.ensures.made (made_at _ _ _ _ _ c.place_facts.ensures c.requires.place)) (c.in_ok-element.ensures ∙ c.element.ensures) c.in_ok-begun-in-None.begun
-    (is_way c.args.scene.now.ways.now) c.args.scene.now c.origin-origin.result c.is_as_before-again.result c.is_steady-steady.result c.generation_below-generation.result is
+    (is_way c.args.scene.now.ways.now) c.args.scene.now c.origin-origin.result c.has_stood-stood.result c.is_as_before-again.result c.is_steady-steady.result c.generation_below-generation.result is
     (λ so. ((c.is_as_before-again.ensures c.value-fiber.result.now (c.value-fiber.ensures.made (made_at _ _ _ _ _ c.place_facts.ensures c.requires.place))).0 so).same)
-    (ap (λ x. x.stood) c.origin-origin.ensures ∙ place_stood _ _ c.args.tree.now c.args.contexts.now c.args.at c.place_facts.ensures c.requires.place c.value-fiber.result.now (c.value-fiber.ensures.made (made_at _ _ _ _ _ c.place_facts.ensures c.requires.place))) (c.is_steady-steady.ensures c.value-fiber.result.now (c.value-fiber.ensures.made (made_at _ _ _ _ _ c.place_facts.ensures c.requires.place))).0
+    (ap (λ x. x.visible) c.origin-origin.ensures ∙ place_shown _ _ c.args.tree.now c.args.contexts.now c.args.at c.place_facts.ensures c.requires.place c.value-fiber.result.now (c.value-fiber.ensures.made (made_at _ _ _ _ _ c.place_facts.ensures c.requires.place)))
+    (place_stood _ _ c.args.tree.now c.args.contexts.now c.args.at c.place_facts.ensures c.requires.place c.value-fiber.result.now (c.value-fiber.ensures.made (made_at _ _ _ _ _ c.place_facts.ensures c.requires.place)) c.origin-origin.result c.has_stood-stood.result c.origin-origin.ensures c.has_stood-stood.ensures) (c.is_steady-steady.ensures c.value-fiber.result.now (c.value-fiber.ensures.made (made_at _ _ _ _ _ c.place_facts.ensures c.requires.place))).0
     (place_there c.args.scene.now.checked.now _ c.args.tree.now c.args.contexts.now c.args.at c.place_facts.ensures c.requires.place c.value-fiber.result.now c.in_ok-element.element
     (c.value-fiber.ensures.made (made_at _ _ _ _ _ c.place_facts.ensures c.requires.place)) (c.in_ok-element.ensures ∙ c.element.ensures))
     (sym c.parts_of.ensures ∙ ap (option_map parts_seen) c.in-None.is) c.begin_or_hide.ensures.current c.in_ok-begun-in-None.ensures.begun
@@ -194,7 +196,7 @@ returns-in-Some-clause-again g c = if_ok c.begin_component.result _ _ (λ b own 
 pub returns-clause-again : goal.returns-clause-again
 returns-clause-again g c is =
     absurd (not_both (is_taken c.in_ok-begun-in-None.begun) (other_takes_not c.args.scene.now (kept_hooks c.args.hooks.now) c.args.tree.now c.args.contexts.now c.begin_or_hide.new.tree c.begin_or_hide.new.contexts c.args.at c.in_ok-element.element
-    c.origin-origin.result c.is_as_before-again.result c.is_steady-steady.result c.generation_below-generation.result c.place_facts.ensures
+    c.origin-origin.result c.has_stood-stood.result c.is_as_before-again.result c.is_steady-steady.result c.generation_below-generation.result c.place_facts.ensures
     (λ v here. c.origin-origin.ensures ∙ ap (λ u. origin_of u.stage) (same_fiber c.args.tree.now c.args.at c.value-fiber.result.now v (c.value-fiber.ensures.made (made_at _ _ _ _ _ c.place_facts.ensures c.requires.place)) here)) c.in_ok-begun-in-None.begun c.in_ok-begun-in-None.ensures.begun) is)
 
 pub returns-clause-tries : goal.returns-clause-tries
@@ -202,15 +204,15 @@ returns-clause-tries g c v here none same too again x a was is =
     c.in_ok-begun-in-None.ensures.tries
     (subst (IsElementOf c.args.tree.now.current (old_of c.args.tree.now.draft c.args.at))
     (sym ((c.in_ok-element.ensures ∙ c.element.ensures) ∙ ap (λ u. u.element) (same_fiber c.args.tree.now c.args.at c.value-fiber.result.now v (c.value-fiber.ensures.made (made_at _ _ _ _ _ c.place_facts.ensures c.requires.place)) here))) same)
-    ((ap (λ x. x.stood) c.origin-origin.ensures ∙ place_stood _ _ c.args.tree.now c.args.contexts.now c.args.at c.place_facts.ensures c.requires.place c.value-fiber.result.now (c.value-fiber.ensures.made (made_at _ _ _ _ _ c.place_facts.ensures c.requires.place))) ∙ (ap (λ u. is_stood u.stage) (same_fiber c.args.tree.now c.args.at c.value-fiber.result.now v (c.value-fiber.ensures.made (made_at _ _ _ _ _ c.place_facts.ensures c.requires.place)) here) ∙ too)) again x a was is
+    ((place_stood _ _ c.args.tree.now c.args.contexts.now c.args.at c.place_facts.ensures c.requires.place c.value-fiber.result.now (c.value-fiber.ensures.made (made_at _ _ _ _ _ c.place_facts.ensures c.requires.place)) c.origin-origin.result c.has_stood-stood.result c.origin-origin.ensures c.has_stood-stood.ensures) ∙ (ap (λ u. is_stood c.args.contexts.now u.stage) (same_fiber c.args.tree.now c.args.at c.value-fiber.result.now v (c.value-fiber.ensures.made (made_at _ _ _ _ _ c.place_facts.ensures c.requires.place)) here) ∙ too)) again x a was is
 
 pub returns-in-Some-clause-causes : goal.returns-in-Some-clause-causes
 returns-in-Some-clause-causes g c =
     if_ok c.begin_component.result _ _
     (λ b once v here so free.
     subst (λ stood. HasCauseToBegin c.args.scene.now (kept_hooks c.args.hooks.now) (values_at c.args.contexts.now) (is_some (parts_in v.element)) stood c.args.tree.now.current (old_of c.args.tree.now.draft c.args.at))
-    ((ap (λ x. x.stood) c.origin-origin.ensures ∙ place_stood _ _ c.args.tree.now c.args.contexts.now c.args.at c.place_facts.ensures c.requires.place c.value-fiber.result.now (c.value-fiber.ensures.made (made_at _ _ _ _ _ c.place_facts.ensures c.requires.place))) ∙ ap (λ u. is_stood u.stage) (same_fiber c.args.tree.now c.args.at c.value-fiber.result.now v (c.value-fiber.ensures.made (made_at _ _ _ _ _ c.place_facts.ensures c.requires.place)) here))
-    (subst (λ component. HasCauseToBegin c.args.scene.now (kept_hooks c.args.hooks.now) (values_at c.args.contexts.now) component c.origin-origin.result.stood c.args.tree.now.current (old_of c.args.tree.now.draft c.args.at))
+    ((place_stood _ _ c.args.tree.now c.args.contexts.now c.args.at c.place_facts.ensures c.requires.place c.value-fiber.result.now (c.value-fiber.ensures.made (made_at _ _ _ _ _ c.place_facts.ensures c.requires.place)) c.origin-origin.result c.has_stood-stood.result c.origin-origin.ensures c.has_stood-stood.ensures) ∙ ap (λ u. is_stood c.args.contexts.now u.stage) (same_fiber c.args.tree.now c.args.at c.value-fiber.result.now v (c.value-fiber.ensures.made (made_at _ _ _ _ _ c.place_facts.ensures c.requires.place)) here))
+    (subst (λ component. HasCauseToBegin c.args.scene.now (kept_hooks c.args.hooks.now) (values_at c.args.contexts.now) component c.has_stood-stood.result c.args.tree.now.current (old_of c.args.tree.now.draft c.args.at))
     (c.is_component-component.ensures
     ∙ ap is_some (sym (parts_here c.args.tree.now c.args.at c.value-fiber.result.now v c.in_ok-element.element _ (c.value-fiber.ensures.made (made_at _ _ _ _ _ c.place_facts.ensures c.requires.place)) here (c.in_ok-element.ensures ∙ c.element.ensures) refl)))
     (c.takes_over.ensures.cause ((c.is_as_before-again.ensures v here).1 so) c.if-takes_over.false)))
@@ -219,8 +221,8 @@ returns-in-Some-clause-causes g c =
 pub returns-clause-causes : goal.returns-clause-causes
 returns-clause-causes g c v here so free =
     subst (λ stood. HasCauseToBegin c.args.scene.now (kept_hooks c.args.hooks.now) (values_at c.args.contexts.now) (is_some (parts_in v.element)) stood c.args.tree.now.current (old_of c.args.tree.now.draft c.args.at))
-    ((ap (λ x. x.stood) c.origin-origin.ensures ∙ place_stood _ _ c.args.tree.now c.args.contexts.now c.args.at c.place_facts.ensures c.requires.place c.value-fiber.result.now (c.value-fiber.ensures.made (made_at _ _ _ _ _ c.place_facts.ensures c.requires.place))) ∙ ap (λ u. is_stood u.stage) (same_fiber c.args.tree.now c.args.at c.value-fiber.result.now v (c.value-fiber.ensures.made (made_at _ _ _ _ _ c.place_facts.ensures c.requires.place)) here))
-    (subst (λ component. HasCauseToBegin c.args.scene.now (kept_hooks c.args.hooks.now) (values_at c.args.contexts.now) component c.origin-origin.result.stood c.args.tree.now.current (old_of c.args.tree.now.draft c.args.at))
+    ((place_stood _ _ c.args.tree.now c.args.contexts.now c.args.at c.place_facts.ensures c.requires.place c.value-fiber.result.now (c.value-fiber.ensures.made (made_at _ _ _ _ _ c.place_facts.ensures c.requires.place)) c.origin-origin.result c.has_stood-stood.result c.origin-origin.ensures c.has_stood-stood.ensures) ∙ ap (λ u. is_stood c.args.contexts.now u.stage) (same_fiber c.args.tree.now c.args.at c.value-fiber.result.now v (c.value-fiber.ensures.made (made_at _ _ _ _ _ c.place_facts.ensures c.requires.place)) here))
+    (subst (λ component. HasCauseToBegin c.args.scene.now (kept_hooks c.args.hooks.now) (values_at c.args.contexts.now) component c.has_stood-stood.result c.args.tree.now.current (old_of c.args.tree.now.draft c.args.at))
     (c.is_component-component.ensures
     ∙ ap is_some (sym (parts_here c.args.tree.now c.args.at c.value-fiber.result.now v c.in_ok-element.element _ (c.value-fiber.ensures.made (made_at _ _ _ _ _ c.place_facts.ensures c.requires.place)) here (c.in_ok-element.ensures ∙ c.element.ensures) refl)))
     (c.takes_over.ensures.cause ((c.is_as_before-again.ensures v here).1 so) c.if-takes_over.false))
@@ -248,7 +250,7 @@ returns-in-Some-clause-kids g c =
 pub returns-clause-kids : goal.returns-clause-kids
 returns-clause-kids g c v here is =
     let (origin, stands, generation, opens) = other_kids c.args.scene.now (kept_hooks c.args.hooks.now) c.args.tree.now c.args.contexts.now c.begin_or_hide.new.tree c.begin_or_hide.new.contexts c.args.at c.in_ok-element.element
-    c.origin-origin.result c.is_as_before-again.result c.is_steady-steady.result c.generation_below-generation.result c.place_facts.ensures
+    c.origin-origin.result c.has_stood-stood.result c.is_as_before-again.result c.is_steady-steady.result c.generation_below-generation.result c.place_facts.ensures
     (λ v here. c.origin-origin.ensures ∙ ap (λ u. origin_of u.stage) (same_fiber c.args.tree.now c.args.at c.value-fiber.result.now v (c.value-fiber.ensures.made (made_at _ _ _ _ _ c.place_facts.ensures c.requires.place)) here)) c.in_ok-begun-in-None.begun c.in_ok-begun-in-None.ensures.begun is in (
       origin,
       c.is_as_before-again.result,
@@ -269,23 +271,23 @@ returns-clause-tried g c is v d here waits =
     subst (λ x. c.begin_or_hide.new.tree ≡ record c.args.tree.now { draft = valued c.args.at (changed (change.Try x)) c.args.tree.now.draft })
     (waits_with c.args.tree.now c.args.at c.value-fiber.result.now v (c.value-fiber.ensures.made (made_at _ _ _ _ _ c.place_facts.ensures c.requires.place)) here c.origin-origin.result d c.origin-origin.ensures waits)
     (other_tried c.args.scene.now (kept_hooks c.args.hooks.now) c.args.tree.now c.args.contexts.now c.begin_or_hide.new.tree c.begin_or_hide.new.contexts c.args.at c.in_ok-element.element
-    c.origin-origin.result c.is_as_before-again.result c.is_steady-steady.result c.generation_below-generation.result c.place_facts.ensures
+    c.origin-origin.result c.has_stood-stood.result c.is_as_before-again.result c.is_steady-steady.result c.generation_below-generation.result c.place_facts.ensures
     (λ v here. c.origin-origin.ensures ∙ ap (λ u. origin_of u.stage) (same_fiber c.args.tree.now c.args.at c.value-fiber.result.now v (c.value-fiber.ensures.made (made_at _ _ _ _ _ c.place_facts.ensures c.requires.place)) here)) c.in_ok-begun-in-None.begun c.in_ok-begun-in-None.ensures.begun is)
 
 pub returns-clause-taken_over : goal.returns-clause-taken_over
 returns-clause-taken_over g c is =
     absurd (not_both (is_taken c.in_ok-begun-in-None.begun) (other_takes_not c.args.scene.now (kept_hooks c.args.hooks.now) c.args.tree.now c.args.contexts.now c.begin_or_hide.new.tree c.begin_or_hide.new.contexts c.args.at c.in_ok-element.element
-    c.origin-origin.result c.is_as_before-again.result c.is_steady-steady.result c.generation_below-generation.result c.place_facts.ensures
+    c.origin-origin.result c.has_stood-stood.result c.is_as_before-again.result c.is_steady-steady.result c.generation_below-generation.result c.place_facts.ensures
     (λ v here. c.origin-origin.ensures ∙ ap (λ u. origin_of u.stage) (same_fiber c.args.tree.now c.args.at c.value-fiber.result.now v (c.value-fiber.ensures.made (made_at _ _ _ _ _ c.place_facts.ensures c.requires.place)) here)) c.in_ok-begun-in-None.begun c.in_ok-begun-in-None.ensures.begun) is)
 
 pub returns-clause-waits : goal.returns-clause-waits
 returns-clause-waits g c r is =
     absurd (other_no_body c.args.scene.now (kept_hooks c.args.hooks.now) c.args.tree.now c.args.contexts.now c.begin_or_hide.new.tree c.begin_or_hide.new.contexts c.args.at c.in_ok-element.element
-    c.origin-origin.result c.is_as_before-again.result c.is_steady-steady.result c.generation_below-generation.result c.place_facts.ensures
+    c.origin-origin.result c.has_stood-stood.result c.is_as_before-again.result c.is_steady-steady.result c.generation_below-generation.result c.place_facts.ensures
     (λ v here. c.origin-origin.ensures ∙ ap (λ u. origin_of u.stage) (same_fiber c.args.tree.now c.args.at c.value-fiber.result.now v (c.value-fiber.ensures.made (made_at _ _ _ _ _ c.place_facts.ensures c.requires.place)) here)) c.in_ok-begun-in-None.begun c.in_ok-begun-in-None.ensures.begun r is)
 
 pub returns-clause-rests : goal.returns-clause-rests
 returns-clause-rests g c is =
     absurd (not_both (is_taken c.in_ok-begun-in-None.begun) (other_takes_not c.args.scene.now (kept_hooks c.args.hooks.now) c.args.tree.now c.args.contexts.now c.begin_or_hide.new.tree c.begin_or_hide.new.contexts c.args.at c.in_ok-element.element
-    c.origin-origin.result c.is_as_before-again.result c.is_steady-steady.result c.generation_below-generation.result c.place_facts.ensures
+    c.origin-origin.result c.has_stood-stood.result c.is_as_before-again.result c.is_steady-steady.result c.generation_below-generation.result c.place_facts.ensures
     (λ v here. c.origin-origin.ensures ∙ ap (λ u. origin_of u.stage) (same_fiber c.args.tree.now c.args.at c.value-fiber.result.now v (c.value-fiber.ensures.made (made_at _ _ _ _ _ c.place_facts.ensures c.requires.place)) here)) c.in_ok-begun-in-None.begun c.in_ok-begun-in-None.ensures.begun) is)

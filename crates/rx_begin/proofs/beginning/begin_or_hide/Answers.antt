@@ -14,7 +14,7 @@ returns-in-Some-clause-begun c = hides c.in-Some.ensures.same c.in-Some.ensures.
 
 pub returns-in-None-clause-begun : goal.returns-in-None-clause-begun
 returns-in-None-clause-begun c =
-    other_begins c.args.scene.now (kept_hooks c.args.hooks.now) c.args.tree.now c.args.contexts.now c.begin_other.new.tree c.begin_other.new.contexts c.args.at c.args.element.now c.args.place.origin c.args.place.again c.args.place.steady c.args.place.generation
+    other_begins c.args.scene.now (kept_hooks c.args.hooks.now) c.args.tree.now c.args.contexts.now c.begin_other.new.tree c.begin_other.new.contexts c.args.at c.args.element.now c.args.place.origin c.args.place.stood c.args.place.again c.args.place.steady c.args.place.generation
     c.begin_other.result c.begin_other.ensures.kept c.begin_other.ensures.opened c.begin_other.ensures.stack
 
 pub returns-in-None-clause-news : goal.returns-in-None-clause-news

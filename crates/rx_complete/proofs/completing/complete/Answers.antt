@@ -17,7 +17,7 @@ returns-clause-stands c s levels fs x done h =
     let made = end_made c.args.tree.now c.args.contexts.now c.args.at c.place_facts.ensures c.requires in
     marked_stands c.gather-below.result c.args.tree.now c.args.contexts.now c.args.at levels fs x done h c.place_facts.ensures s c.mark_made.new.self c.leave.new.contexts
     c.next_of.result c.element.result.now c.value.result.now c.mark_made.ensures c.place_facts-2.ensures (c.value.ensures.made made) c.element.ensures
-    c.leave.ensures c.next_of.ensures
+    (c.leave.ensures.stack, c.leave.ensures.moves) c.next_of.ensures
 
 pub returns-clause-leads : goal.returns-clause-leads
 returns-clause-leads c s levels fs x done h =

@@ -43,7 +43,7 @@ outwards-preserved c =
     let value = c.value-fiber.ensures.made (outer_made _ _ _ _ c.place_facts.ensures below parent) in
     let not = sym (ap is_trying c.stage.ensures) ∙ (sym c.tries.ensures ∙ c.if-tries.false) in (
       goes_on _ c.place_facts.ensures _ _ _ _ _ _ c.outwards.invariant.0 c.leave.new.contexts c.in-Some.outer c.value-fiber.result.now c.element.result.now c.past.result
-          parent value not c.element.ensures c.leave.ensures (c.past.ensures ∙ ap (λ s. passed_on s c.outwards.awaits) c.stage-in-Some.ensures),
+          parent value not c.element.ensures (c.leave.ensures.stack, c.leave.ensures.moves) (c.past.ensures ∙ ap (λ s. passed_on s c.outwards.awaits) c.stage-in-Some.ensures),
       passes _ c.place_facts.ensures _ _ c.outwards.invariant.1 c.in-Some.outer c.value-fiber.result.now parent value not,
     )
 

@@ -50,7 +50,7 @@ pub first_child-requires : goal.first_child-requires
 first_child-requires c =
     let given = option_copied c.args.given in
     let s = list_from c.put_fallback.new.tree.current c.old_fallback-first_old.result in
-    inr (new_made (given_as given c.args.stood c.args.generation) c.put_fallback.new.tree c.make_listed.new.tree c.in_ok-id.id c.old_fallback-first_old.result (given_elements given s) (given_fibers given s)
+    inr (new_made (given_as given c.args.visible c.args.generation) c.put_fallback.new.tree c.make_listed.new.tree c.in_ok-id.id c.old_fallback-first_old.result (given_elements given s) (given_fibers given s)
     (room_beside c.args.tree.now c.keep_primary.new.tree c.args.at c.args.awaits c.alternate.result c.requires.left c.place_facts.ensures
     (c.alternate.ensures.made (bare_made c.args.tree.now c.args.at c.place_facts.ensures c.requires.bare)) c.keep_primary.ensures.kept c.keep_primary.ensures.current
     c.put_fallback.new.tree c.old_beside-beside.result c.old_fallback-first_old.result c.in_ok-id.id c.requires.keeps c.facts.ensures.linked
@@ -69,18 +69,18 @@ returns-clause-opened c st d l h =
     (c.old_beside-beside.ensures.is ∙ ap (λ q. fallback_behind (list_from c.args.tree.now.current q))
     (c.alternate-2.ensures.made (bare_made c.args.tree.now c.args.at c.place_facts.ensures c.requires.bare)
     ∙ sym (c.alternate.ensures.made (bare_made c.args.tree.now c.args.at c.place_facts.ensures c.requires.bare)))) c.in_ok-id.ensures.put c.old_fallback-first_old.ensures.list in
-    let made = new_made (given_as given c.args.stood c.args.generation) c.put_fallback.new.tree c.make_listed.new.tree c.in_ok-id.id c.old_fallback-first_old.result (given_elements given s) (given_fibers given s) beside
+    let made = new_made (given_as given c.args.visible c.args.generation) c.put_fallback.new.tree c.make_listed.new.tree c.in_ok-id.id c.old_fallback-first_old.result (given_elements given s) (given_fibers given s) beside
     c.in_ok-make_listed.ensures.made c.place_facts-4.ensures in
     let old = left_old c.args.tree.now st c.args.at c.args.awaits d l c.place_facts.ensures c.alternate.result
     (c.alternate.ensures.made (bare_made c.args.tree.now c.args.at c.place_facts.ensures c.requires.bare)) in
     subst (λ f. HasOpenedAs c.make_listed.new.tree st d f) (sym c.opened_at.ensures)
-    (left_beside c.args.tree.now st c.args.at c.args.awaits d l c.facts.ensures.linked (given_as given c.args.stood c.args.generation) c.keep_primary.new.tree c.put_fallback.new.tree
+    (left_beside c.args.tree.now st c.args.at c.args.awaits d l c.facts.ensures.linked (given_as given c.args.visible c.args.generation) c.keep_primary.new.tree c.put_fallback.new.tree
     c.make_listed.new.tree c.old_beside-beside.result c.in_ok-id.id (given_elements given s) (given_fibers given s) c.first_child.result
     c.keep_primary.ensures.kept c.keep_primary.ensures.current c.in_ok-id.ensures.put c.in_ok-make_listed.ensures.made
-    (given_next c.args.tree.now st c.args.at c.args.awaits d l c.facts.ensures.linked given c.args.stood c.args.generation h s
+    (given_next c.args.tree.now st c.args.at c.args.awaits d l c.facts.ensures.linked given c.args.visible c.args.generation h s
     (same_old c.args.tree.now c.put_fallback.new.tree l.old c.alternate.result c.old_fallback-first_old.result c.old_fallback-first_old.ensures.list old
     (c.in_ok-id.ensures.current ∙ c.keep_primary.ensures.current)))
-    (new_link (given_as given c.args.stood c.args.generation) c.put_fallback.new.tree c.make_listed.new.tree c.in_ok-id.id c.old_fallback-first_old.result (given_elements given s) (given_fibers given s) beside
+    (new_link (given_as given c.args.visible c.args.generation) c.put_fallback.new.tree c.make_listed.new.tree c.in_ok-id.id c.old_fallback-first_old.result (given_elements given s) (given_fibers given s) beside
     c.in_ok-make_listed.ensures.made c.place_facts-4.ensures c.first_child.result (c.first_child.ensures.made made))
     (c.requires.keeps st d l)
     (c.old_beside-beside.ensures.is ∙ ap (λ q. fallback_behind (list_from c.args.tree.now.current q))
@@ -97,12 +97,12 @@ returns-clause-kids c =
     (c.old_beside-beside.ensures.is ∙ ap (λ q. fallback_behind (list_from c.args.tree.now.current q))
     (c.alternate-2.ensures.made (bare_made c.args.tree.now c.args.at c.place_facts.ensures c.requires.bare)
     ∙ sym (c.alternate.ensures.made (bare_made c.args.tree.now c.args.at c.place_facts.ensures c.requires.bare)))) c.in_ok-id.ensures.put c.old_fallback-first_old.ensures.list in
-    let made = new_made (given_as given c.args.stood c.args.generation) c.put_fallback.new.tree c.make_listed.new.tree c.in_ok-id.id c.old_fallback-first_old.result (given_elements given s) (given_fibers given s) beside
+    let made = new_made (given_as given c.args.visible c.args.generation) c.put_fallback.new.tree c.make_listed.new.tree c.in_ok-id.id c.old_fallback-first_old.result (given_elements given s) (given_fibers given s) beside
     c.in_ok-make_listed.ensures.made c.place_facts-4.ensures in
-    beside_kids c.args.tree.now c.make_listed.new.tree c.args.at c.args.awaits given c.args.stood c.args.generation s c.first_child.result c.opened_at.result
+    beside_kids c.args.tree.now c.make_listed.new.tree c.args.at c.args.awaits given c.args.visible c.args.generation s c.first_child.result c.opened_at.result
     (same_old c.args.tree.now c.put_fallback.new.tree (old_of c.args.tree.now.draft c.args.at) c.alternate.result c.old_fallback-first_old.result c.old_fallback-first_old.ensures.list
     (c.alternate.ensures.made (bare_made c.args.tree.now c.args.at c.place_facts.ensures c.requires.bare)) (c.in_ok-id.ensures.current ∙ c.keep_primary.ensures.current)) c.place_facts.ensures
     c.keep_primary.new.tree c.put_fallback.new.tree c.old_beside-beside.result c.in_ok-id.id c.keep_primary.ensures.kept c.in_ok-id.ensures.put c.in_ok-make_listed.ensures.made
-    (new_link (given_as given c.args.stood c.args.generation) c.put_fallback.new.tree c.make_listed.new.tree c.in_ok-id.id c.old_fallback-first_old.result (given_elements given s) (given_fibers given s) beside
+    (new_link (given_as given c.args.visible c.args.generation) c.put_fallback.new.tree c.make_listed.new.tree c.in_ok-id.id c.old_fallback-first_old.result (given_elements given s) (given_fibers given s) beside
     c.in_ok-make_listed.ensures.made c.place_facts-4.ensures c.first_child.result (c.first_child.ensures.made made))
     c.opened_at.ensures

@@ -24,7 +24,7 @@ returns-clause-opened c =
           ∙ left_element c.args.tree.now st c.args.at c.args.awaits d l c.place_facts.ensures c.value-fiber.result.now
           (c.value-fiber.ensures.made (bare_made c.args.tree.now c.args.at c.place_facts.ensures (left_bare c.args.tree.now c.args.at c.args.awaits c.requires))))),
       λ so.
-          l.stands (sym (ap (λ x. x.stood) (c.origin-origin.ensures
+          l.stands (sym (ap (λ x. x.visible) (c.origin-origin.ensures
           ∙ left_origin c.args.tree.now st c.args.at c.args.awaits d l c.place_facts.ensures c.value-fiber.result.now
           (c.value-fiber.ensures.made (bare_made c.args.tree.now c.args.at c.place_facts.ensures (left_bare c.args.tree.now c.args.at c.args.awaits c.requires))))) ∙ so),
     ))
@@ -39,8 +39,8 @@ returns-clause-kids c =
     (c.value-fiber.ensures.made (bare_made c.args.tree.now c.args.at c.place_facts.ensures (left_bare c.args.tree.now c.args.at c.args.awaits c.requires))) here) in (
       c.is_again-again.result,
       c.is_again-again.ensures v here,
-      subst (λ x. HasFallbackKids (as_matched x (own_generation c.is_again-again.result (generation_of v.stage))) c.args.tree.now c.fall.new.tree c.args.at f) (ap (λ x. x.stood) own)
-          (subst (λ n. HasFallbackKids (as_matched c.origin-origin.result.stood n) c.args.tree.now c.fall.new.tree c.args.at f)
+      subst (λ x. HasFallbackKids (as_matched x (own_generation c.is_again-again.result (generation_of v.stage))) c.args.tree.now c.fall.new.tree c.args.at f) (ap (λ x. x.visible) own)
+          (subst (λ n. HasFallbackKids (as_matched c.origin-origin.result.visible n) c.args.tree.now c.fall.new.tree c.args.at f)
           (c.own_generation-generation.ensures ∙ ap (λ x. own_generation c.is_again-again.result x.generation) own)
           h),
     ))

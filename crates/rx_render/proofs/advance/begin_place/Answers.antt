@@ -41,7 +41,7 @@ returns-in-Child-clause-comes g c s sees =
     (subst (BeginsPlace s (is_way c.args.scene.now.ways.now) (kept_hooks c.args.hooks.now) c.args.tree.now c.args.contexts.now c.begin.new.tree c.begin.new.contexts c.args.id) c.in-Child.is (c.in_ok-begun.ensures.begun s sees))
     (child_paid s c.args.scene.now sees (kept_hooks c.args.hooks.now) c.args.tree.now c.args.contexts.now c.args.id c.in_ok-begun.evaluated c.facts.ensures.fits
     (record { none = c.in_ok-begun.ensures.none; some = c.in_ok-begun.ensures.body }) (λ n fs cs e old. c.in_ok-begun.ensures.few s n fs cs e old sees) (λ v there none same stood. c.in_ok-begun.ensures.tries v there none same stood (ap awaited_again c.in-Child.is))
-    c.begin.new.tree c.in_ok-begun.begun c.in-Child.child c.in-Child.is c.in_ok-begun.ensures.kids)
+    c.begin.new.tree c.in_ok-begun.begun c.in-Child.child c.begin.ensures.current c.in-Child.is c.in_ok-begun.ensures.kids)
 
 pub returns-in-Leaf-clause-comes : goal.returns-in-Leaf-clause-comes
 returns-in-Leaf-clause-comes g c s sees =
@@ -49,7 +49,7 @@ returns-in-Leaf-clause-comes g c s sees =
     (subst (BeginsPlace s (is_way c.args.scene.now.ways.now) (kept_hooks c.args.hooks.now) c.args.tree.now c.args.contexts.now c.begin.new.tree c.begin.new.contexts c.args.id) c.in-Leaf.is (c.in_ok-begun.ensures.begun s sees))
     (leaf_paid s c.args.scene.now sees (kept_hooks c.args.hooks.now) c.args.tree.now c.args.contexts.now c.args.id c.in_ok-begun.evaluated c.facts.ensures.fits
     (record { none = c.in_ok-begun.ensures.none; some = c.in_ok-begun.ensures.body }) (λ n fs cs e old. c.in_ok-begun.ensures.few s n fs cs e old sees) (λ v there none same stood. c.in_ok-begun.ensures.tries v there none same stood (ap awaited_again c.in-Leaf.is))
-    c.begin.new.tree c.in_ok-begun.begun c.in-Leaf.is c.in_ok-begun.ensures.kids)
+    c.begin.new.tree c.in_ok-begun.begun c.begin.ensures.current c.in-Leaf.is c.in_ok-begun.ensures.kids)
 
 pub returns-in_ok-at-in-Suspended-clause-comes : goal.returns-in_ok-at-in-Suspended-clause-comes
 returns-in_ok-at-in-Suspended-clause-comes g c s sees =
@@ -82,7 +82,8 @@ returns-in_ok-opened-in-Hidden-clause-comes g c s sees =
     (λ d l again. opened_comes c.open_old_fallback.new.tree st opened d (c.in_ok-opened-in-Hidden.ensures.opened st d l again))
     (λ x was. subst (λ l. ForEachIn (λ i. TellsNews (kept_hooks c.args.hooks.now) l s.cut i false) (children_of x)) (sym sees.lanes)
     (subst (λ k. ForEachIn (λ i. TellsNews (kept_hooks c.args.hooks.now) c.args.scene.now.lanes k i false) (children_of x)) (sym sees.cut) (c.in_ok-begun.ensures.news (is_again c.in-Hidden.is) x was)))
-    (again_flags c.args.tree.now c.begin.new.tree c.open_old_fallback.new.tree c.args.id tries.0 opened c.facts.ensures.fits tries.1 c.in_ok-opened-in-Hidden.ensures.kids))
+    (again_flags c.args.tree.now c.begin.new.tree c.open_old_fallback.new.tree c.args.id tries.0 opened c.facts.ensures.fits tries.1 c.in_ok-opened-in-Hidden.ensures.kids
+    c.facts-in-Hidden.ensures.fits c.in-Hidden.awaits (open_old_fallback-requires g c) c.open_old_fallback.ensures.current))
 
 pub pass-requires : goal.pass-requires
 pass-requires g c =
@@ -98,7 +99,7 @@ returns-in-Taken-clause-comes g c s sees =
     (subst (BeginsPlace s (is_way c.args.scene.now.ways.now) (kept_hooks c.args.hooks.now) c.args.tree.now c.args.contexts.now c.begin.new.tree st c.args.id) c.in-Taken.is (c.in_ok-begun.ensures.begun s sees))
     (λ x was. subst (λ l. EachBut (is_way c.args.scene.now.ways.now) (Rests (kept_hooks c.args.hooks.now) l s.cut) x) (sym sees.lanes)
     (subst (λ k. EachBut (is_way c.args.scene.now.ways.now) (Rests (kept_hooks c.args.hooks.now) c.args.scene.now.lanes k) x) (sym sees.cut) (c.in_ok-begun.ensures.rests (ap is_taken c.in-Taken.is) x was))) c.facts.ensures.fits (λ v there. subst (λ p. IsAgain (is_memo p v.element) c.args.tree.now.current (old_of c.args.tree.now.draft c.args.id) v) (sym sees.program) (c.in_ok-begun.ensures.again (ap is_taken c.in-Taken.is) v there))
-    (passed_flags c.args.tree.now c.begin.new.tree c.args.id c.pass.result c.facts.ensures.fits c.facts-in-Taken.ensures.fits (c.in_ok-begun.ensures.taken_over (ap is_taken c.in-Taken.is)) c.pass.ensures.next)
+    (passed_flags c.args.tree.now c.begin.new.tree c.args.id c.pass.result c.facts.ensures.fits c.facts-in-Taken.ensures.fits c.begin.ensures.current (c.in_ok-begun.ensures.taken_over (ap is_taken c.in-Taken.is)) c.pass.ensures.next)
     (λ levels fs x. c.pass.ensures.stands st levels fs x) (λ levels fs x. c.pass.ensures.leads st levels fs x))
 
 pub returns-in-Child-clause-gathered : goal.returns-in-Child-clause-gathered
