@@ -166,7 +166,7 @@ opens t new p us u kids m h stands same bare told =
 
 pub opens_beside : (t new : Trees Fiber) (p id : ℕ) (us : Flags) (u : Flag) (kids : Draft Fiber) (m : Fiber → Fiber) (w : Fiber) (old : Option ℕ) (kept : Option ℕ → Shape Fiber)
     → FlagsHere t p (taken shapes.none) us
-    → ((k : Around Fiber) (v : Fiber) (o : Option ℕ) (rs : Draft Fiber) → t.draft ≡ placed k (made p v o (taken shapes.none) rs) 
+    → ((k : Around Fiber) (v : Fiber) (o : Option ℕ) (rs : Draft Fiber) → t.draft ≡ placed k (made p v o (taken shapes.none) rs)
     → (new.draft ≡ placed k (made p (m v) o (taken (kept o)) (made id w old kids rs))) × (u.moved ≡ moved_along t.current (below id w old rs k)))
     → new.current ≡ t.current → KeepsTold (flag us) w → AllBare kids → AreTold u kids → FlagsOpened new id (u ∷ us) (entry kids)
 opens_beside t new p id us u kids m w old kept h stands same keeps bare told =

@@ -248,16 +248,7 @@ pub fn begin<L: Ledger>(
     let element = fiber.element().copy()?;
     let component = is_component(&element);
     let stood = has_stood(origin, contexts);
-    if takes_over(
-        tree,
-        at,
-        again,
-        stood,
-        component,
-        scene,
-        hooks,
-        contexts,
-    ) {
+    if takes_over(tree, at, again, stood, component, scene, hooks, contexts) {
         take_node(tree, at)?;
         return Ok((Begun::Taken, false));
     }

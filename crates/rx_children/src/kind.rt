@@ -101,11 +101,7 @@ pub(crate) fn same_given(given: Option<(u32, Int)>, other: Option<(u32, Int)>) -
 /// # Errors
 ///
 /// Only if out of memory.
-pub fn enter(
-    element: &Element,
-    moves: bool,
-    contexts: &mut ContextStack,
-) -> Result<(), AllocError>
+pub fn enter(element: &Element, moves: bool, contexts: &mut ContextStack) -> Result<(), AllocError>
     requires { IfSome (given_context element.now) (λ c. c < length (values_at contexts.old)) }
     ensures { OnOk result (contexts.new ≡ begun_stack element.now moves contexts.old) }
 {

@@ -174,7 +174,9 @@ fn fall_alone(
     tree.facts();
     let first_old = old_fallback(tree, tree.alternate(at));
     let stage = Stage::Begun(Mark::Boundary(BoundaryState::Hidden(awaits)));
-    let first = open_listed(alloc, tree, at, stage, given, visible, generation, first_old)?;
+    let first = open_listed(
+        alloc, tree, at, stage, given, visible, generation, first_old,
+    )?;
     Ok(opened_at(first, at))
 }
 
