@@ -47,8 +47,9 @@ use crate::place::Place;
 use rx_base::{Awaits, Steps};
 use rx_causes::{Scene, waits_still};
 use rx_children::{
-    Begun, begun_children, begun_stage, enter, generation_below, is_component, is_hidden_again,
-    is_steady, keep_node, keeps_children, old_host, open_node, parts_of, take_node, takes_over,
+    Begun, begun_children, begun_stage, enter, generation_below, gives_another, is_component,
+    is_hidden_again, is_steady, keep_node, keeps_children, old_host, open_node, parts_of,
+    take_node, takes_over,
 };
 use rx_ctx::ContextStack;
 use rx_elem::Element;
