@@ -44,17 +44,10 @@ pub struct Link {
 
 /// An expression of integers.
 #[cycle(expr)]
+#[derive(Drop)]
 pub struct Expr {
     /// What it is, with its parts.
     pub kind: ExprKind,
-}
-
-// It is taken apart here alone, once for all crates.
-impl Drop for Expr {
-    #[cycle(taken_apart)]
-    fn drop(self) {
-        let Expr { kind: _kind } = self;
-    }
 }
 
 /// What an expression is, with its parts in the order of the text.

@@ -11,17 +11,10 @@ use std::marker::Model;
 
 /// What a body returns, and what stands in a place of a child list.
 #[cycle(slot)]
+#[derive(Drop)]
 pub struct Slot {
     /// What it is, with its parts.
     pub kind: SlotKind,
-}
-
-// It is taken apart here alone, once for all crates.
-impl Drop for Slot {
-    #[cycle(taken_apart)]
-    fn drop(self) {
-        let Slot { kind: _kind } = self;
-    }
 }
 
 /// What a slot is, with its parts in the order of the text.
