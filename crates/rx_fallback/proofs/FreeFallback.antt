@@ -176,7 +176,7 @@ module _ (t : Trees Fiber) (fits : Fits t) (p b j : ℕ) (falls : begins_fallbac
         by_list _ _ _ _ at_root e f =
             subst (λ w. IsUnused w j) (sym (here ∙ (ap (λ l. placed l (made p v (Some b) (taken kept) rs)) e ∙ ap (made p v (Some b) (taken kept)) f))) (no_node (Some b) own, tt, tt)
         by_list l n ls (g ∷ fs) (inside {q = q} before later list) e f =
-            let free : IsTopUnused rs j = subst (λ d. IsTopUnused d j) (sym f) (next_free _ (suc n) g.rest ls later) in
+            let free : IsTopUnused rs j = subst (λ d. IsTopUnused d j) (sym f) (next_free _ _ (suc n) g.rest ls later) in
             open_free g.node g.contexts q fs (subst (λ a. IsListOf t.current a q g.node g.contexts fs) (sym e) list)
             (earlier_free k (made p v (Some b) (taken kept) rs) here (subst (AreOldBehind t.current) (sym e) before.olds) (inl (refl, refl)) (no_node (Some b) own, free))
 
