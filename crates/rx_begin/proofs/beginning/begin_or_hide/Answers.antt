@@ -22,3 +22,7 @@ returns-in-None-clause-news c =
     if_ok c.begin_other.result _ _ (λ b none is. absurd (is_none (awaited_again b) none is))
     (begun_waits_not c.args.tree.now c.begin_other.new.tree c.args.at (keeps_children c.args.place.again (mark_at c.args.tree.now.current (old_of c.args.tree.now.draft c.args.at))) _ _ _ _ _ _ _ _
     c.begin_other.result c.begin_other.ensures.kept c.begin_other.ensures.opened)
+
+pub returns-in-None-clause-tries : goal.returns-in-None-clause-tries
+returns-in-None-clause-tries c =
+    if_ok c.begin_other.result _ _ (λ b is same stood none. c.in-None.ensures.tries same stood refl) c.begin_other.ensures.opened
