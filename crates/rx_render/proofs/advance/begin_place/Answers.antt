@@ -83,7 +83,10 @@ returns-in_ok-opened-in-Hidden-clause-comes g c s sees =
     (λ x was. subst (λ l. ForEachIn (λ i. TellsNews (kept_hooks c.args.hooks.now) l s.cut i false) (children_of x)) (sym sees.lanes)
     (subst (λ k. ForEachIn (λ i. TellsNews (kept_hooks c.args.hooks.now) c.args.scene.now.lanes k i false) (children_of x)) (sym sees.cut) (c.in_ok-begun.ensures.news (is_again c.in-Hidden.is) x was)))
     (again_flags c.args.tree.now c.begin.new.tree c.open_old_fallback.new.tree c.args.id tries.0 opened c.facts.ensures.fits tries.1 c.in_ok-opened-in-Hidden.ensures.kids
-    c.facts-in-Hidden.ensures.fits c.in-Hidden.awaits (open_old_fallback-requires g c) c.open_old_fallback.ensures.current))
+    c.facts-in-Hidden.ensures.fits c.in-Hidden.awaits
+    (hidden_left c.args.scene.now (kept_hooks c.args.hooks.now) c.args.tree.now c.args.contexts.now c.begin.new.tree c.begin.new.contexts c.args.id c.in-Hidden.awaits c.requires
+    (λ s sees. subst (BeginsPlace s (is_way c.args.scene.now.ways.now) (kept_hooks c.args.hooks.now) c.args.tree.now c.args.contexts.now c.begin.new.tree c.begin.new.contexts c.args.id) c.in-Hidden.is (c.in_ok-begun.ensures.begun s sees)))
+    c.open_old_fallback.ensures.current))
 
 pub pass-requires : goal.pass-requires
 pass-requires g c =

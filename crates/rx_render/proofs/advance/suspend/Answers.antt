@@ -39,7 +39,10 @@ returns-in_ok-opened-in-Some-clause-flags c fs us h within =
     subst (λ a. HasFlags c.open_fallback.new.tree a (unwound fs us)) (sym c.at_opened.ensures)
     (unwound_flags c.args.tree.now c.facts.ensures.fits c.args.contexts.now c.args.id fs us h within c.unwind_to_boundary.new.tree c.open_fallback.new.tree c.in-Some.boundary
     c.in_ok-opened-in-Some.opened c.facts-in-Some.ensures.fits c.unwind_to_boundary.ensures.current (c.in-Some.ensures.nearest h.around h.value h.old (taken none) h.rest h.here)
-    c.unwind_to_boundary.new.awaits (open_fallback-requires c) c.open_fallback.ensures.current c.in_ok-opened-in-Some.ensures.kids)
+    c.unwind_to_boundary.new.awaits
+    (stopped c.args.tree.now c.unwind_to_boundary.new.tree c.args.contexts.now c.unwind_to_boundary.new.contexts c.args.id c.in-Some.boundary c.awaits_for-awaits.result
+    c.unwind_to_boundary.new.awaits c.requires c.in-Some.ensures.left)
+    c.open_fallback.ensures.current c.in_ok-opened-in-Some.ensures.kids)
 
 pub returns-in-None-clause-gathered : goal.returns-in-None-clause-gathered
 returns-in-None-clause-gathered c current h = subst (λ x. IsGathered (grafted x.draft)) (sym c.discard.ensures) tt
