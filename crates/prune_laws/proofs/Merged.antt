@@ -122,6 +122,12 @@ kept_apart (leave h {ks} {ls} {hs} m) d n k =
     let whole : has_host hs n ≡ true = has_merged m n ∙ rw k refl in
     rw (flipped h.number n (other_number hs h.number n d.0 whole)) (kept_apart m d.1 n k)
 
+-- those that are kept have numbers of their own
+pub kept_distinct : {ks ls hs : List Host} → Merged ks ls hs → AreDistinct hs → AreDistinct ks
+kept_distinct ended d = tt
+kept_distinct (keep h m) d = ((neither _ _ (sym (has_merged m h.number) ∙ d.0)).0, kept_distinct m d.1)
+kept_distinct (leave h m) d = kept_distinct m d.1
+
 -- a host of a list is there, and found by its number
 in_has : (hs : List Host) (h : Host) → IsIn h hs → has_host hs h.number ≡ true
 in_has [] h i = absurd i

@@ -8,7 +8,8 @@ use Rattle.rx_forest.specs.HostOps.{ops_between, host_ops}
 use Rattle.rx_pruned.specs.Pruned.{ArePruned, first, later}
 use Rattle.host_laws.specs.Commits.{placed_by}
 use Rattle.prune_laws.specs.Staying.{AreOfCommit}
-use Rattle.prune_laws.proofs.Merged.{ops_same}
+use Rattle.host_laws.specs.Related.{AreDistinct}
+use Rattle.prune_laws.proofs.Merged.{kept_distinct, ops_same}
 use Rattle.prune_laws.proofs.Parts.{left_at}
 
 none_placed : (old : Option Node) (new : Node) → placed_by old new ≡ [] → host_ops old new ≡ ops_between (hosts old) (hosts (Some new)) []
@@ -22,3 +23,9 @@ staying_need_nothing old new p q (first {n = n}) c h = sym (none_placed None n h
 staying_need_nothing old new p q (later {o = o} {n = n} {p = po} {q = qo} pruned) c h =
     let l = left_at pruned at_root at_root (record { host = refl; concealed = refl }) in
     ops_same l.merged_old l.merged_new l.same c.old_distinct c.new_distinct c.kinds ∙ sym (none_placed (Some o) n h)
+
+-- the hosts that are left of the old tree have numbers of their own
+pub left_distinct : (old : Option Node) (new : Node) (p : Option Node) (q : Node) → ArePruned old new p q → AreOfCommit old new → AreDistinct (hosts p)
+left_distinct old new p q (first {n = n}) c = tt
+left_distinct old new p q (later {o = o} {n = n} {p = po} {q = qo} pruned) c =
+    kept_distinct (left_at pruned at_root at_root (record { host = refl; concealed = refl })).merged_old c.old_distinct

@@ -4,3 +4,4 @@ pub mod Here
 pub mod Walking
 pub mod Ending
 pub mod Roots
+pub mod Staying

@@ -75,7 +75,7 @@ both_longer d _ _ _ _ ps2 ns2 qs2 ms2 (gap {ps = ps} {qs = qs} {ns = ns} {ms = m
 both_longer d _ _ _ _ ps2 ns2 qs2 ms2 (same {ps = ps} {qs = qs} {ns = ns} {ms = ms} a) b = same (both_longer d ps ns qs ms ps2 ns2 qs2 ms2 a b)
 both_longer d _ _ _ _ ps2 ns2 qs2 ms2 (pair {ps = ps} {qs = qs} {ns = ns} {ms = ms} p a) b = pair p (both_longer d ps ns qs ms ps2 ns2 qs2 ms2 a b)
 
-more : (d : Bool) (ps qs : List Past) (xs ys : List (Option Node)) (p q : Past) (x y : Option Node) → PrunedIn d ps (forest xs) qs (forest ys)
+pub more : (d : Bool) (ps qs : List Past) (xs ys : List (Option Node)) (p q : Past) (x y : Option Node) → PrunedIn d ps (forest xs) qs (forest ys)
     → PrunedIn d (p ∷ []) (forest (x ∷ [])) (q ∷ []) (forest (y ∷ []))
     → PrunedIn d (ps ++ p ∷ []) (forest (xs ++ x ∷ [])) (qs ++ q ∷ []) (forest (ys ++ y ∷ []))
 more d ps qs xs ys p q x y a b =
@@ -112,7 +112,7 @@ set_elements (Some n ∷ xs) zero o p e f = let q : n ≡ o = cc in ap (λ x. x 
 set_elements (None ∷ xs) (suc k) o p e f = ap (λ l. elements.null ∷ l) (set_elements xs k o p e f)
 set_elements (Some n ∷ xs) (suc k) o p e f = ap (λ l. element_of n ∷ l) (set_elements xs k o p e f)
 
-same_element : (d : Bool) (o n p q : Node) → Pruned d o n p q → element_of p ≡ element_of o
+pub same_element : (d : Bool) (o n p q : Node) → Pruned d o n p q → element_of p ≡ element_of o
 same_element d o n _ _ whole = refl
 same_element d _ _ _ _ (cut g e) = refl
 same_element d _ _ _ _ (inside g k h) = refl

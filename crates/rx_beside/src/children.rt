@@ -50,18 +50,20 @@ fn add_child(
     Ok(())
 }
 
-// The made children of a made fiber that stand for nodes, place by place; none if its children were taken over.
+// The made children of a made fiber that stand for nodes, place by place; none if its children were taken over. There is room
+// for so many at once.
 pub(crate) fn children_of(
     alloc: Global,
     tree: &FiberTree<Fiber>,
     id: FiberId,
+    room: usize,
 ) -> Result<Vec<Option<FiberId>>, AllocError>
     requires { Makes tree.now.draft id }
     ensures places { IfOk result (λ v. map (λ o. first_node (list_of tree.now o)) v.items ≡ places_in 0 (list_of tree.now (made_entry (made_kids_of tree.now.draft id)))) }
     ensures children { IfOk result (λ v. All (λ o. IfSome o (IsNodeOf tree.now id)) v.items) }
 {
     tree.facts();
-    let mut fibers = Vec::new(alloc);
+    let mut fibers = Vec::with_capacity(alloc, room)?;
     let mut next = made_child(tree, id);
     'going: while let Some(child) = next {
         add_child(tree, child, &mut fibers)?;

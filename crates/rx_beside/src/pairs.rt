@@ -1,5 +1,5 @@
 // A node of the finished tree beside the old one that it was made for.
-ghost use Rattle.std.specs.Prelude.{◌≡◌, ℕ, Bool, true, false, ◌||◌, IfSome, IfOk, Some, Option, option_and_then};
+ghost use Rattle.std.specs.Prelude.{◌≡◌, ◌<◌, ◌^◌, ℕ, Bool, true, false, ◌||◌, All, IfSome, IfOk, Some, Option, length, map, option_and_then};
 ghost use Rattle.rx_elem.specs.Trees as trees;
 ghost use Rattle.rx_elem.specs.Trees.{node, none, forest, element_of, mark_of, host_number};
 ghost use Rattle.rx_elem.specs.Compare.{node_at};
@@ -11,11 +11,14 @@ ghost use Rattle.rx_read.specs.Lists.{list_of};
 ghost use Rattle.rx_read.specs.Numbering.{made_entry};
 ghost use Rattle.rx_read.specs.Places.{places_in, first_node};
 ghost use Rattle.rx_pruned.specs.Pruned.{GoesOn, displaced_below, Pruned};
+ghost use Rattle.rx_compare.specs.InPlace.{AreInPlace};
 ghost use Rattle.rx_beside.specs.Children.{IsChildOf, IsNodeOf, WasOver};
 ghost use Rattle.rx_beside.specs.Slots.{IsSlot, AreLists};
 
 use crate::children::{children_of, is_begun};
-use crate::lists::{Lists, Slot, add_slot, copy_node, copy_nodes, match_fibers};
+use crate::lists::{
+    Lists, Slot, add_slot, are_in_place, copy_node, copy_nodes, match_fibers, push_slot,
+};
 use rx_compare::node_at;
 use rx_elem::Element;
 use rx_fiber::{Fiber, Stage};
@@ -278,8 +281,66 @@ fn read_made(
     ensures pruned { IfOk result (λ l. AreLists displaced (forest old.now) (forest l.tree.items) (forest l.pruned_old.items) (forest l.pruned_new.items)) }
 {
     tree.facts();
-    let fibers = children_of(alloc, tree, id)?;
-    let matching = match_fibers(alloc, tree, old, &fibers)?;
+    let fibers = children_of(alloc, tree, id, old.len())?;
+    let made = fibers.as_slice();
+    if are_in_place(tree, old, made) {
+        let kept = read_in_place(alloc, tree, id, old, displaced, made)?;
+        return Ok(kept);
+    }
+    let lists = read_matched(alloc, tree, id, old, displaced, made)?;
+    Ok(lists)
+}
+
+// The same if each is the old one at its place.
+#[cycle(pair)]
+fn read_in_place(
+    alloc: Global,
+    tree: &FiberTree<Fiber>,
+    id: FiberId,
+    old: &[Option<Node>],
+    displaced: bool,
+    fibers: &[Option<FiberId>],
+) -> Result<Lists, AllocError>
+    requires over { WasOver tree.now id (forest old.now) }
+    requires tree { (y : Option trees.Node) × IsTreeOf y tree.now.current }
+    requires children { All (λ o. IfSome o (IsNodeOf tree.now id)) fibers.now }
+    requires same { AreInPlace (forest old.now) (forest (map (λ o. first_node (list_of tree.now o)) fibers.now)) }
+    requires few { length fibers.now < 2 ^ 32 }
+    ensures tree { IfOk result (λ l. l.tree.items ≡ map (λ o. first_node (list_of tree.now o)) fibers.now) }
+    ensures pruned { IfOk result (λ l. AreLists displaced (forest old.now) (forest l.tree.items) (forest l.pruned_old.items) (forest l.pruned_new.items)) }
+{
+    tree.facts();
+    let mut lists = Lists {
+        tree: Vec::with_capacity(alloc, fibers.len())?,
+        pruned_old: Vec::with_capacity(alloc, fibers.len())?,
+        pruned_new: Vec::with_capacity(alloc, fibers.len())?,
+        whole: true,
+    };
+    'going: for i in 0..fibers.len() {
+        let slot = read_slot(alloc, tree, fibers[i], old, Some(i as u32), displaced)?;
+        push_slot(&mut lists, &old[i], slot)?;
+    }
+    Ok(lists)
+}
+
+// The same if they are to be matched with the old ones.
+#[cycle(pair)]
+fn read_matched(
+    alloc: Global,
+    tree: &FiberTree<Fiber>,
+    id: FiberId,
+    old: &[Option<Node>],
+    displaced: bool,
+    fibers: &[Option<FiberId>],
+) -> Result<Lists, AllocError>
+    requires over { WasOver tree.now id (forest old.now) }
+    requires tree { (y : Option trees.Node) × IsTreeOf y tree.now.current }
+    requires children { All (λ o. IfSome o (IsNodeOf tree.now id)) fibers.now }
+    ensures tree { IfOk result (λ l. l.tree.items ≡ map (λ o. first_node (list_of tree.now o)) fibers.now) }
+    ensures pruned { IfOk result (λ l. AreLists displaced (forest old.now) (forest l.tree.items) (forest l.pruned_old.items) (forest l.pruned_new.items)) }
+{
+    tree.facts();
+    let matching = match_fibers(alloc, tree, old, fibers)?;
     let mut lists = Lists {
         tree: Vec::with_capacity(alloc, fibers.len())?,
         pruned_old: copy_nodes(alloc, old)?,

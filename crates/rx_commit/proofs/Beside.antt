@@ -1,5 +1,7 @@
 -- What is compared without the lists that stayed the same.
-use Rattle.std.proofs.Common.{◌≡◌, ℕ, List, Option, Some, None, sym, ap, subst, ◌∙◌}
+use Rattle.std.specs.Prelude.{◌==◌, true, false, length, ◌∷◌, refl}
+use Rattle.std.proofs.Common.{◌≡◌, ℕ, List, [], Option, Some, None, sym, ap, subst, ◌∙◌, arith}
+use Rattle.std.proofs.lemmas.Bool.Decides.{nat_tests}
 use Rattle.rx_elem.specs.Trees.{Node, node, Forest, none, vacant, child}
 use Rattle.rx_elem.specs.Compare.{Compared, changes, compare_trees}
 use Rattle.rx_forest.specs.declared.op.HostOp.{HostOp}
@@ -12,6 +14,7 @@ use Rattle.host_laws.specs.Commits.{IsCommit, IfSound}
 use Rattle.host_laws.specs.Related.{AreDistinct, KeepKinds}
 use Rattle.prune_laws.specs.Present.{HasNoNull, AllHaveNoNull, IfHasNoNull}
 use Rattle.prune_laws.proofs.PrunedAlike.{trees_alike}
+use Rattle.prune_laws.proofs.Staying.{left_distinct, staying_need_nothing}
 use Rattle.prune_laws.proofs.OutcomeAlike.{layout_alike, passive_alike, committed_alike, deferred_alike}
 use Rattle.prune_laws.specs.Staying.{AreOfCommit}
 use Rattle.end_laws.specs.Trimmed.{trimmed, trimmed_in, trimmed_if, vacant_before}
@@ -63,6 +66,25 @@ unfolding host_ops
 ops-of-all o b c placed ops beside e f g present =
     g
     ∙ ap (ops_between (hosts o) (hosts (Some b.tree))) (f ∙ ap (λ (d : Compared). placed_hosts (changes d)) e ∙ (trees_alike beside present).places)
+
+some-length : (x : ℕ) (xs : List ℕ) → (length (x ∷ xs) == 0) ≡ false
+some-length x xs = grind (arith, nat_tests)
+
+-- a list that is empty has nothing in it
+pub none-left : (xs : List ℕ) → (length xs == 0) ≡ true → xs ≡ []
+none-left [] h = refl
+none-left (x ∷ xs) h = let some : (length (x ∷ xs) == 0) ≡ false = some-length x xs in absurd (cc)
+
+-- the same if none is placed, by the hosts that are left of the trees without those lists
+pub ops-of-left : (o : Option Node) (b : Beside) (c : Compared) (placed : List ℕ) (ops : List HostOp) (p : Option Node) → IsBeside o b → c ≡ compare_trees b.pruned_old b.pruned_new
+    → placed ≡ placed_hosts (changes c) → placed ≡ [] → p ≡ b.pruned_old → (AreDistinct (hosts p) → ops ≡ ops_between (hosts p) (hosts (Some b.pruned_new)) [])
+    → IfHasNoNull o → AreOfCommit o b.tree → ops ≡ host_ops o b.tree
+ops-of-left o b c placed ops p beside e f empty same is present of =
+    let placed_none : placed_hosts (changes (compare_trees o b.tree)) ≡ [] =
+    sym (trees_alike beside present).places ∙ ap (λ (d : Compared). placed_hosts (changes d)) (sym e) ∙ sym f ∙ empty in
+    is (subst (λ (x : Option Node). AreDistinct (hosts x)) (sym same) (left_distinct o b.tree b.pruned_old b.pruned_new beside of))
+    ∙ ap (λ (x : Option Node). ops_between (hosts x) (hosts (Some b.pruned_new)) []) same
+    ∙ staying_need_nothing o b.tree b.pruned_old b.pruned_new beside of placed_none
 
 -- what is logged in one phase, by the trees without those lists
 pub layout-of : (tree : Option Node) (next : Node) (o : Option Node) (b : Beside) (c : Compared) → IsBeside o b → c ≡ compare_trees b.pruned_old b.pruned_new

@@ -1,5 +1,5 @@
 // A commit that is prepared.
-ghost use Rattle.std.specs.Prelude.{◌≡◌, ◌∷◌, ◌++◌, Option, Some, IfOk, OnErr, OnOk, map};
+ghost use Rattle.std.specs.Prelude.{◌≡◌, ◌∷◌, ◌++◌, [], Option, Some, IfOk, OnErr, OnOk, map};
 ghost use Rattle.std.specs.Option.{option_copied};
 ghost use Rattle.rx_elem.specs.Compare.{compare_trees};
 ghost use Rattle.rx_elem.specs.Trees.{Node};
@@ -10,6 +10,7 @@ ghost use Rattle.rx_lines.specs.Lines.{committed, logged, operated};
 ghost use Rattle.rx_pruned.specs.Besides.{IsBeside};
 ghost use Rattle.end_laws.specs.Trimmed.{trimmed, trimmed_if};
 ghost use Rattle.host_laws.specs.Commits.{IsCommit};
+ghost use Rattle.host_laws.specs.Related.{AreDistinct};
 ghost use Rattle.prune_laws.specs.Present.{IfHasNoNull};
 ghost use Rattle.prune_laws.specs.Staying.{AreOfCommit};
 ghost use Rattle.rx_commit.specs.Shown.{Prepares};
@@ -20,7 +21,9 @@ use prune_laws::{hosts_that_stay_need_nothing, pruned_trees_compare_alike};
 use rx_compare::{Compared, compare_trees as compare};
 use rx_effect::LogLine;
 use rx_forest::HostOp;
-use rx_host_ops::{hosts as listed, ops_between as between, placed_hosts};
+use rx_host_ops::{
+    have_same_numbers, hosts as listed, ops_between as between, ops_in_place, placed_hosts,
+};
 use rx_lane::{Lane, Lanes};
 use rx_log::{Passive, layout_log, passive_effects};
 use rx_node as node;
@@ -67,6 +70,22 @@ fn ops_from(
     between(alloc, &before, &after, placed)
 }
 
+// The operations from the hosts of one tree to those of another, if none is placed. Most often each host stands where it stood.
+fn changes_from(
+    alloc: Global,
+    old: Option<&node::Node>,
+    new: &node::Node,
+) -> Result<Vec<HostOp>, AllocError>
+    ensures { IfOk result (λ ops. AreDistinct (hosts (option_copied old.entry)) → ops.items ≡ ops_between (hosts (option_copied old.entry)) (hosts (Some new.now)) []) }
+{
+    let before = listed(alloc, old)?;
+    let after = listed(alloc, Some(new))?;
+    if have_same_numbers(&before, &after) {
+        return ops_in_place(alloc, &before, &after);
+    }
+    between(alloc, &before, &after, &[])
+}
+
 // The operations of a commit. A host that is placed goes before its next sibling, and that one may have stayed; so only if
 // none is placed are the hosts of lists that stayed left out.
 fn ops_beside(
@@ -84,7 +103,7 @@ fn ops_beside(
     let placed = placed_hosts(alloc, compared)?;
     if placed.is_empty() {
         let pruned = beside.pruned_old.as_ref();
-        ops_from(alloc, pruned, &beside.pruned_new, &placed)
+        changes_from(alloc, pruned, &beside.pruned_new)
     } else {
         ops_from(alloc, old, &beside.tree, &placed)
     }

@@ -2,3 +2,5 @@ pub mod Places
 pub mod Onto
 pub mod Comparing
 pub mod Hiding
+pub mod InPlace
+pub mod InPlaceLists

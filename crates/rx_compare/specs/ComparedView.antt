@@ -1,4 +1,5 @@
 -- Changes of the code as plain data.
+use Rattle.std.specs.Option.{option_copied}
 use Rattle.rx_elem.specs.Spots as spots
 use Rattle.rx_elem.specs.Compare as trees
 use Rattle.rx_compare.specs.declared.around.Around.{Around}
@@ -11,8 +12,8 @@ around_seen a = record { visible = a.visible; owner = a.owner; host = a.host; co
 
 -- a node beside its past
 abbrev pub change_seen : Change → trees.Change
-change_seen c = record { old = c.old; new = c.new; was_visible = c.was_visible; around = around_seen c.around; displaced = c.displaced }
+change_seen c = record { old = option_copied c.old; new = c.new.now; was_visible = c.was_visible; around = around_seen c.around; displaced = c.displaced }
 
 -- an old child that is gone
 abbrev pub gone_seen : Gone → trees.Gone
-gone_seen g = record { node = g.node; was_visible = g.was_visible }
+gone_seen g = record { node = g.node.now; was_visible = g.was_visible }

@@ -5,3 +5,4 @@ pub mod ComparedFalls
 pub mod Matched
 pub mod AboveView
 pub mod Hidden
+pub mod InPlace

@@ -6,11 +6,12 @@ ghost use Rattle.rx_elem.specs.Compare.{above_root, change_of, above_children, a
 ghost use Rattle.rx_compare.specs.AboveView.{above_seen};
 ghost use Rattle.rx_compare.specs.ComparedView.{change_seen, gone_seen};
 ghost use Rattle.rx_compare.specs.Comparisons.{all_of};
+ghost use Rattle.rx_compare.specs.InPlace.{AreInPlace};
 ghost use Rattle.rx_compare.specs.Matched.{IsMatched};
 
 use crate::around::Around;
 use crate::compared::{Change, Compared, Gone};
-use crate::lists::{add_gone, children_if, fallback_if, match_nodes, node_at};
+use crate::lists::{add_gone, are_in_place, children_if, fallback_if, match_nodes, node_at};
 use rx_keys::Matching;
 use rx_node::Node;
 use std::alloc::{AllocError, Global};
@@ -33,8 +34,8 @@ fn root_above() -> Above
     }
 }
 
-fn was_hidden(old: &Option<Node>) -> bool
-    ensures { result ≡ was_hidden old.now }
+fn was_hidden(old: Option<&Node>) -> bool
+    ensures { result ≡ was_hidden (option_copied old.entry) }
 {
     match old {
         Some(node) => node.mark().is_hidden(),
@@ -42,30 +43,20 @@ fn was_hidden(old: &Option<Node>) -> bool
     }
 }
 
-fn copy_old(old: Option<&Node>) -> Result<Option<Node>, AllocError>
-    ensures { IfOk result (λ o. o ≡ option_copied old.entry) }
-{
-    match old {
-        Some(node) => Ok(Some(node.copy()?)),
-        None => Ok(None),
-    }
-}
-
-impl Change {
+impl<'a> Change<'a> {
     // A new node with its past.
-    fn new(above: Above, old: Option<&Node>, moved: bool, new: &Node) -> Result<Change, AllocError>
-        ensures { IfOk result (λ c. change_seen c ≡ change_of (above_seen above) (record { old = option_copied old.entry; moved = moved }) new.now) }
+    fn new(above: Above, old: Option<&'a Node>, moved: bool, new: &'a Node) -> Change<'a>
+        ensures { change_seen result ≡ change_of (above_seen above) (record { old = option_copied old.entry; moved = moved }) new.now }
     {
-        let old = copy_old(old)?;
         let was_visible = above.was_visible && old.is_some();
         let displaced = above.displaced || old.is_none() || moved;
-        Ok(Change {
+        Change {
             old,
-            new: new.copy()?,
+            new,
             was_visible,
             around: above.around,
             displaced,
-        })
+        }
     }
 
     fn above_children(&self) -> Above
@@ -74,7 +65,7 @@ impl Change {
         let mark = self.new.mark();
         Above {
             around: self.around.around_children(mark),
-            was_visible: self.was_visible && !was_hidden(&self.old),
+            was_visible: self.was_visible && !was_hidden(self.old),
             displaced: !mark.is_host() && self.displaced,
         }
     }
@@ -92,17 +83,17 @@ impl Change {
 
 // The new children of a list beside the old ones that they are.
 #[cycle(compare)]
-fn compare_in(
+fn compare_in<'a>(
     alloc: Global,
     above: Above,
-    old: &[Option<Node>],
-    new: &[Option<Node>],
+    old: &'a [Option<Node>],
+    new: &'a [Option<Node>],
     matching: &Matching,
-) -> Result<Vec<Compared>, AllocError>
+) -> Result<Vec<Compared<'a>>, AllocError>
     requires { IsMatched (forest old.now) (elements_in (forest new.now)) matching.now }
     ensures { IfOk result (λ cs. all_of cs.items ≡ compare_in (above_seen above) (pasts (forest old.now) (elements_in (forest new.now))) (forest new.now)) }
 {
-    let mut all = Vec::new(alloc);
+    let mut all = Vec::with_capacity(alloc, new.len())?;
     for place in 0..new.len() {
         if let Some(node) = &new[place] {
             let past = node_at(old, matching.places[place]);
@@ -113,18 +104,43 @@ fn compare_in(
     Ok(all)
 }
 
-// A new list beside the old one; what is gone of that goes to the rest.
+// The same if each new child is the old one at its place.
 #[cycle(compare)]
-fn compare_list(
+fn compare_in_place<'a>(
     alloc: Global,
     above: Above,
-    old: &[Option<Node>],
-    new: &[Option<Node>],
-    gone: &mut Vec<Gone>,
-) -> Result<Vec<Compared>, AllocError>
+    old: &'a [Option<Node>],
+    new: &'a [Option<Node>],
+) -> Result<Vec<Compared<'a>>, AllocError>
+    requires { AreInPlace (forest old.now) (forest new.now) }
+    ensures { IfOk result (λ cs. all_of cs.items ≡ compare_in (above_seen above) (pasts (forest old.now) (elements_in (forest new.now))) (forest new.now)) }
+{
+    let mut all = Vec::with_capacity(alloc, new.len())?;
+    for place in 0..new.len() {
+        if let Some(node) = &new[place] {
+            let compared = compare(alloc, above, old[place].as_ref(), false, node)?;
+            all.push(compared)?;
+        }
+    }
+    Ok(all)
+}
+
+// A new list beside the old one; what is gone of that goes to the rest.
+#[cycle(compare)]
+fn compare_list<'a>(
+    alloc: Global,
+    above: Above,
+    old: &'a [Option<Node>],
+    new: &'a [Option<Node>],
+    gone: &mut Vec<Gone<'a>>,
+) -> Result<Vec<Compared<'a>>, AllocError>
     ensures all { IfOk result (λ cs. all_of cs.items ≡ compare_in (above_seen above) (pasts (forest old.now) (elements_in (forest new.now))) (forest new.now)) }
     ensures gone { OnOk result (map gone_seen gone.new.items ≡ map gone_seen gone.old.items ++ gone_from above.was_visible (forest old.now) (forest new.now)) }
 {
+    if are_in_place(old, new) {
+        let all = compare_in_place(alloc, above, old, new)?;
+        return Ok(all);
+    }
     let matching = match_nodes(alloc, old, new)?;
     add_gone(gone, above.was_visible, old, &matching.removed)?;
     compare_in(alloc, above, old, new, &matching)
@@ -132,16 +148,16 @@ fn compare_list(
 
 // A new node beside its past, with all below it.
 #[cycle(compare)]
-fn compare(
+fn compare<'a>(
     alloc: Global,
     above: Above,
-    old: Option<&Node>,
+    old: Option<&'a Node>,
     moved: bool,
-    new: &Node,
-) -> Result<Compared, AllocError>
+    new: &'a Node,
+) -> Result<Compared<'a>, AllocError>
     ensures { IfOk result (λ c. c ≡ compare (above_seen above) (record { old = option_copied old.entry; moved = moved }) new.now) }
 {
-    let change = Change::new(above, old, moved, new)?;
+    let change = Change::new(above, old, moved, new);
     let mut gone = Vec::new(alloc);
     let below = change.above_children();
     let children = compare_list(alloc, below, children_if(old), new.children(), &mut gone)?;
@@ -156,7 +172,11 @@ fn compare(
 /// # Errors
 ///
 /// Only if out of memory.
-pub fn compare_trees(alloc: Global, old: Option<&Node>, new: &Node) -> Result<Compared, AllocError>
+pub fn compare_trees<'a>(
+    alloc: Global,
+    old: Option<&'a Node>,
+    new: &'a Node,
+) -> Result<Compared<'a>, AllocError>
     ensures { IfOk result (λ c. c ≡ compare_trees (option_copied old.entry) new.now) }
 {
     compare(alloc, root_above(), old, false, new)

@@ -11,10 +11,10 @@ use std::marker::Model;
 
 /// A node of a new tree beside its past.
 #[derive(Drop)]
-pub struct Change {
+pub struct Change<'a> {
     /// The old node that it is, if it is one.
-    pub old: Option<Node>,
-    pub new: Node,
+    pub old: Option<&'a Node>,
+    pub new: &'a Node,
     /// The old node was visible.
     pub was_visible: bool,
     /// What surrounds the node in the new tree.
@@ -25,22 +25,22 @@ pub struct Change {
 
 /// An old child that is gone, and whether it was visible.
 #[derive(Drop)]
-pub struct Gone {
-    pub node: Node,
+pub struct Gone<'a> {
+    pub node: &'a Node,
     pub was_visible: bool,
 }
 
 /// A node of a new tree with its change, those of its old children that are gone, and the same for its children and its
 /// fallback, in order. Contracts see it as plain data.
 #[cycle(compared)]
-pub struct Compared {
-    change: Change,
-    gone: Vec<Gone>,
-    children: Vec<Compared>,
-    fallback: Vec<Compared>,
+pub struct Compared<'a> {
+    change: Change<'a>,
+    gone: Vec<Gone<'a>>,
+    children: Vec<Compared<'a>>,
+    fallback: Vec<Compared<'a>>,
 }
 
-impl Model for Compared {
+impl<'a> Model for Compared<'a> {
     ghost use Rattle.std.specs.Prelude.{map};
     ghost use Rattle.rx_elem.specs.Compare as trees;
     ghost use Rattle.rx_compare.specs.ComparedCode.{compared_code};
@@ -62,7 +62,7 @@ impl Model for Compared {
     ghost size_decreases = { λ a h. omega (arith, most_le-levels_in a.children.items, most_le-levels_in a.fallback.items) };
 }
 
-impl Drop for Compared {
+impl<'a> Drop for Compared<'a> {
     #[cycle(compared)]
     fn drop(self) {
         let Compared {
@@ -78,15 +78,15 @@ impl Drop for Compared {
     }
 }
 
-impl Compared {
+impl<'a> Compared<'a> {
     // A node with these parts.
     pub(crate) fn new(
-        change: Change,
-        gone: Vec<Gone>,
-        children: Vec<Compared>,
-        fallback: Vec<Compared>,
-    ) -> Compared
-        ensures { result ≡ trees.compared (change_seen change) (map gone_seen gone.items) (all_of children.items) (all_of fallback.items) }
+        change: Change<'a>,
+        gone: Vec<Gone<'a>>,
+        children: Vec<Compared<'a>>,
+        fallback: Vec<Compared<'a>>,
+    ) -> Compared<'a>
+        ensures { result ≡ trees.compared (change_seen change.entry) (map gone_seen gone.entry.items) (all_of children.entry.items) (all_of fallback.entry.items) }
     {
         Compared {
             change,
@@ -97,21 +97,21 @@ impl Compared {
     }
 
     /// The node beside its past.
-    pub fn change(&self) -> &Change
+    pub fn change(&self) -> &Change<'a>
         ensures { change_seen result.now ≡ change_in self.now }
     {
         &self.change
     }
 
     /// The old children of the node that are gone, those of a boundary's primary before those of its fallback.
-    pub fn gone(&self) -> &[Gone]
+    pub fn gone(&self) -> &[Gone<'a>]
         ensures { map gone_seen result.now ≡ gone_in self.now }
     {
         &self.gone
     }
 
     /// The children of the node that are there; of a boundary, its primary content.
-    pub fn children(&self) -> &[Compared]
+    pub fn children(&self) -> &[Compared<'a>]
         ensures are { all_of result.now ≡ children_in self.now }
         ensures lower { levels_in (all_of result.now) < levels self.now }
     {
@@ -119,7 +119,7 @@ impl Compared {
     }
 
     /// The nodes of a boundary's fallback.
-    pub fn fallback(&self) -> &[Compared]
+    pub fn fallback(&self) -> &[Compared<'a>]
         ensures are { all_of result.now ≡ fallback_in self.now }
         ensures lower { levels_in (all_of result.now) < levels self.now }
     {

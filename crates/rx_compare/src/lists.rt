@@ -1,9 +1,10 @@
 // The lists of a node, old and new.
-ghost use Rattle.std.specs.Prelude.{◌≡◌, ◌++◌, ◌<◌, ◌^◌, IfOk, OnOk, length, map, filter_map, option_and_then};
+ghost use Rattle.std.specs.Prelude.{◌≡◌, ◌++◌, ◌<◌, ◌^◌, ◌+◌, ◌∷◌, [], true, ℕ, IfOk, OnOk, length, map, filter_map, option_and_then};
 ghost use Rattle.std.specs.Option.{option_copied};
 ghost use Rattle.rx_elem.specs.Trees.{forest, elements_in, children_if, fallback_if};
 ghost use Rattle.rx_elem.specs.Compare.{node_at};
 ghost use Rattle.rx_compare.specs.ComparedView.{gone_seen};
+ghost use Rattle.rx_compare.specs.InPlace.{AreInPlace};
 ghost use Rattle.rx_compare.specs.Matched.{element_at, gone_as, IsMatched};
 
 use crate::compared::Gone;
@@ -67,6 +68,35 @@ pub fn elements_of(alloc: Global, nodes: &[Option<Node>]) -> Result<Vec<Element>
     Ok(elements)
 }
 
+// Whether what stands at a place of the new list is the old node there, or both places are vacant.
+fn is_in_place(old: &Option<Node>, new: &Option<Node>) -> bool
+    ensures { result ≡ true → AreInPlace (forest (old.now ∷ [])) (forest (new.now ∷ [])) }
+{
+    match (old, new) {
+        (Some(old), Some(new)) => {
+            let (was, is) = (old.element(), new.element());
+            was.key() == is.key() && is.is_same_kind(was)
+        }
+        (None, None) => true,
+        _ => false,
+    }
+}
+
+// Whether each new child is the old one at its place, and none is gone. Then nothing is to be matched.
+pub(crate) fn are_in_place(old: &[Option<Node>], new: &[Option<Node>]) -> bool
+    ensures { result ≡ true → AreInPlace (forest old.now) (forest new.now) }
+{
+    if old.len() != new.len() {
+        return false;
+    }
+    for place in 0..new.len() {
+        if !is_in_place(&old[place], &new[place]) {
+            return false;
+        }
+    }
+    true
+}
+
 // Which of the new children is which old one, which of them moved, and which old ones are gone.
 pub(crate) fn match_nodes(
     alloc: Global,
@@ -81,17 +111,16 @@ pub(crate) fn match_nodes(
 }
 
 // Goes on with the old children at these places.
-pub(crate) fn add_gone(
-    gone: &mut Vec<Gone>,
+pub(crate) fn add_gone<'a>(
+    gone: &mut Vec<Gone<'a>>,
     was_visible: bool,
-    old: &[Option<Node>],
+    old: &'a [Option<Node>],
     removed: &[u32],
 ) -> Result<(), AllocError>
     ensures { OnOk result (map gone_seen gone.new.items ≡ map gone_seen gone.old.items ++ map (gone_as was_visible) (filter_map (node_at (forest old.now)) removed.now)) }
 {
     for place in removed {
         if let Some(node) = node_at(old, Some(*place)) {
-            let node = node.copy()?;
             gone.push(Gone { node, was_visible })?;
         }
     }

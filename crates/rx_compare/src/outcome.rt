@@ -19,11 +19,11 @@ pub enum Outcome {
     Defer(Awaits),
 }
 
-impl Change {
+impl<'a> Change<'a> {
     fn old_state(&self) -> Option<BoundaryState>
         ensures { result ≡ old_state (change_seen self.now) }
     {
-        match &self.old {
+        match self.old {
             Some(node) => node.mark().boundary(),
             None => None,
         }

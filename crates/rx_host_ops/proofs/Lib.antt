@@ -5,3 +5,4 @@ mod Finding
 mod Behind
 mod Joining
 mod Gathering
+mod InPlace

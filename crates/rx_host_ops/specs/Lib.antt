@@ -2,3 +2,4 @@ pub mod HostView
 pub mod Tables
 pub mod Attrs
 pub mod Each
+pub mod Beside

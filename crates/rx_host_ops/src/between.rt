@@ -1,9 +1,11 @@
 // From one list of hosts to another.
-ghost use Rattle.std.specs.Prelude.{◌≡◌, ◌++◌, IfOk, OnOk, false};
+ghost use Rattle.std.specs.Prelude.{◌≡◌, ◌++◌, [], IfOk, OnOk, true, false};
 ghost use Rattle.std.specs.List.{flat_map};
 ghost use Rattle.std.specs.Option.{option_map_or};
 ghost use Rattle.rx_forest.specs.HostOps as forest;
 ghost use Rattle.rx_forest.specs.Hosts.{host_numbered};
+ghost use Rattle.host_laws.specs.Related.{AreDistinct};
+ghost use Rattle.rx_host_ops.specs.Beside.{beside, change_of, mark_of, numbers_in};
 ghost use Rattle.rx_host_ops.specs.Each.{contents_of, creation_of, hiding_of, removal_of};
 ghost use Rattle.rx_host_ops.specs.Tables.{KnowsAll};
 
@@ -139,6 +141,90 @@ impl<'a> Known<'a> {
         }
         Ok(())
     }
+}
+
+/// Whether the hosts of both lists have the same numbers, place by place.
+pub fn have_same_numbers(old: &[Host], new: &[Host]) -> bool
+    ensures { result ≡ true → numbers_in old.now ≡ numbers_in new.now }
+{
+    if old.len() != new.len() {
+        return false;
+    }
+    'comparing: for place in 0..new.len() {
+        let before = &old[place];
+        let after = &new[place];
+        if before.number() != after.number() {
+            return false;
+        }
+    }
+    true
+}
+
+// Changes what a host is that stands where it stood.
+fn add_change(
+    alloc: Global,
+    old: &Host,
+    new: &Host,
+    ops: &mut Vec<HostOp>,
+) -> Result<(), AllocError>
+    ensures { OnOk result (ops.new.items ≡ ops.old.items ++ change_of old.now new.now) }
+{
+    add_changes(alloc, new.number(), old.element(), new.element(), ops)
+}
+
+// Changes the mark of a host that stands where it stood, if it has another.
+fn add_mark(old: &Host, new: &Host, ops: &mut Vec<HostOp>) -> Result<(), AllocError>
+    ensures { OnOk result (ops.new.items ≡ ops.old.items ++ mark_of old.now new.now) }
+{
+    match (old.is_hidden(), new.is_hidden()) {
+        (false, true) => ops.push(HostOp::Hide(new.number()))?,
+        (true, false) => ops.push(HostOp::Show(new.number()))?,
+        _ => {}
+    }
+    Ok(())
+}
+
+// The changes of what each host is, of hosts that stand where they stood.
+fn add_all_changes(
+    alloc: Global,
+    old: &[Host],
+    new: &[Host],
+    ops: &mut Vec<HostOp>,
+) -> Result<(), AllocError>
+    requires { numbers_in old.now ≡ numbers_in new.now }
+    ensures { OnOk result (ops.new.items ≡ ops.old.items ++ beside change_of old.now new.now) }
+{
+    for place in 0..new.len() {
+        add_change(alloc, &old[place], &new[place], ops)?;
+    }
+    Ok(())
+}
+
+// The changes of their marks.
+fn add_all_marks(old: &[Host], new: &[Host], ops: &mut Vec<HostOp>) -> Result<(), AllocError>
+    requires { numbers_in old.now ≡ numbers_in new.now }
+    ensures { OnOk result (ops.new.items ≡ ops.old.items ++ beside mark_of old.now new.now) }
+{
+    for place in 0..new.len() {
+        add_mark(&old[place], &new[place], ops)?;
+    }
+    Ok(())
+}
+
+/// The operations of a commit that places no host, if each host stands where it stood and has a number of its own: changes of
+/// attributes and texts, and then of marks. It takes no table.
+///
+/// # Errors
+///
+/// Only if out of memory.
+pub fn ops_in_place(alloc: Global, old: &[Host], new: &[Host]) -> Result<Vec<HostOp>, AllocError>
+    requires { numbers_in old.now ≡ numbers_in new.now }
+    ensures { IfOk result (λ ops. AreDistinct old.now → ops.items ≡ forest.ops_between old.now new.now []) }
+{
+    let mut ops = Vec::new(alloc);
+    add_all_changes(alloc, old, new, &mut ops)?;
+    add_all_marks(old, new, &mut ops)?;
+    Ok(ops)
 }
 
 /// The operations of a commit (react.dev, Render and Commit), from the hosts of an old tree to those of a new one, if hosts

@@ -10,7 +10,7 @@ mod placed;
 mod placing;
 mod reading;
 
-pub use between::ops_between;
+pub use between::{have_same_numbers, ops_between, ops_in_place};
 pub use host::Host;
 pub use placed::placed_hosts;
 pub use reading::hosts;

@@ -150,10 +150,10 @@ fn add_changed(
     created: bool,
     change: &Change,
 ) -> Result<(), AllocError>
-    ensures { OnOk result (lines.new.items ≡ lines.old.items ++ lines_at (phase_seen phase) created (mark_of change.now.new) (map (old_or_new created) (changed_effects change.now.old change.now.new))) }
+    ensures { OnOk result (lines.new.items ≡ lines.old.items ++ lines_at (phase_seen phase) created (mark_of (change_seen change.now).new) (map (old_or_new created) (changed_effects (change_seen change.now).old (change_seen change.now).new))) }
 {
     let mark = change.new.mark();
-    match &change.old {
+    match change.old {
         Some(old) => {
             let effects = old.mark().effects();
             add_changes(alloc, lines, phase, created, mark, effects, mark.effects())

@@ -4,7 +4,7 @@ ghost use Rattle.rx_elem.specs.Trees.{forest};
 ghost use Rattle.rx_elem.specs.Spots.{spots, spots_in};
 ghost use Rattle.rx_effect.specs.EffectLog.{around_old, destroyed_at, destroyed_in, destroyed_by_hiding};
 ghost use Rattle.rx_node.specs.MarkView.{mark_seen};
-ghost use Rattle.rx_compare.specs.ComparedView.{around_seen, gone_seen};
+ghost use Rattle.rx_compare.specs.ComparedView.{around_seen, change_seen, gone_seen};
 ghost use Rattle.rx_log.specs.Phases.{phase_seen, destroyed_of};
 
 use crate::line::{Phase, add_lines};
@@ -86,7 +86,7 @@ pub(crate) fn add_gone(
     ensures { OnOk result (lines.new.items ≡ lines.old.items ++ flat_map (destroyed_in (phase_seen phase)) (map gone_seen gone.now)) }
 {
     for old in gone {
-        add_old(alloc, lines, phase, old_around(old.was_visible), &old.node)?;
+        add_old(alloc, lines, phase, old_around(old.was_visible), old.node)?;
     }
     Ok(())
 }
@@ -98,9 +98,9 @@ pub(crate) fn add_hidden(
     phase: Phase,
     change: &Change,
 ) -> Result<(), AllocError>
-    ensures { OnOk result (lines.new.items ≡ lines.old.items ++ destroyed_by_hiding (phase_seen phase) change.now.was_visible change.now.old) }
+    ensures { OnOk result (lines.new.items ≡ lines.old.items ++ destroyed_by_hiding (phase_seen phase) change.now.was_visible (change_seen change.now).old) }
 {
-    match (phase, &change.old) {
+    match (phase, change.old) {
         (Phase::Layout, Some(old)) if old.mark().is_shown() => {
             let around = old_around(change.was_visible);
             add_old_list(alloc, lines, phase, around, old.children())

@@ -58,7 +58,7 @@ one_instance ms apart j k a b here there same = go (nat_lt j k) refl (nat_lt k j
     go false e false f = at_one (grind (arith, nat_tests))
 
 -- an instance of a list has its number
-has_itself : (ms : List Mounted) (k : ℕ) (m : Mounted) → slice_get ms k ≡ Some m → has_instance ms m.number ≡ true
+pub has_itself : (ms : List Mounted) (k : ℕ) (m : Mounted) → slice_get ms k ≡ Some m → has_instance ms m.number ≡ true
 has_itself [] k m at = cc
 has_itself (x ∷ ms) zero m at =
     let same : x ≡ m = cc in

@@ -66,6 +66,23 @@ fn remove_one(store: &mut HookStore, instance: &Mounted, known: &HashSet<u64>)
     }
 }
 
+// Whether both lists have instances of the same numbers, place by place: then none is gone.
+fn have_same_numbers(before: &[Mounted], instances: &[Mounted]) -> bool
+    ensures { result ≡ true → (k : ℕ) (m : spots.Mounted) → slice_get before.now k ≡ Some m → has_instance instances.now m.number ≡ true }
+{
+    if before.len() != instances.len() {
+        return false;
+    }
+    'comparing: for place in 0..instances.len() {
+        let old = &before[place];
+        let new = &instances[place];
+        if old.number() != new.number() {
+            return false;
+        }
+    }
+    true
+}
+
 // Drops the hooks of the old instances whose numbers are none of these.
 fn remove_gone(store: &mut HookStore, before: &[Mounted], known: &HashSet<u64>)
     ensures kept { (n : ℕ) → contains nat_eq known.now n ≡ true → kept_hooks store.new n ≡ kept_hooks store.old n }
@@ -74,6 +91,23 @@ fn remove_gone(store: &mut HookStore, before: &[Mounted], known: &HashSet<u64>)
 {
     'removing: for instance in before {
         remove_one(store, instance, known);
+    }
+}
+
+// The same, where these are the numbers of the instances of a tree. If each old instance stands where it stood, none is gone.
+fn remove_old(
+    store: &mut HookStore,
+    before: &[Mounted],
+    instances: &[Mounted],
+    known: &HashSet<u64>,
+)
+    requires { (n : ℕ) → contains nat_eq known.now n ≡ has_instance instances.now n }
+    ensures kept { (n : ℕ) → contains nat_eq known.now n ≡ true → kept_hooks store.new n ≡ kept_hooks store.old n }
+    ensures gone { (k : ℕ) (m : spots.Mounted) → slice_get before.now k ≡ Some m → contains nat_eq known.now m.number ≡ false → kept_hooks store.new m.number ≡ None }
+    ensures others { (n : ℕ) → has_instance before.now n ≡ false → kept_hooks store.new n ≡ kept_hooks store.old n }
+{
+    if !have_same_numbers(before, instances) {
+        remove_gone(store, before, known);
     }
 }
 
@@ -101,5 +135,5 @@ pub(crate) fn settle_all(
 {
     settle_each(store, instances, first, lanes, cut);
     insert_all(store, made);
-    remove_gone(store, before, known);
+    remove_old(store, before, instances, known);
 }

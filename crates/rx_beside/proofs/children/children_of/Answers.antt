@@ -12,8 +12,8 @@ use Rattle.rx_beside.proofs.children.children_of.Goals as goal
 pub going-init : goal.going-init
 going-init c = record {
   here = first_here c.args.tree.now c.facts.ensures.fits c.facts.ensures.linked c.args.id c.requires _ c.made_child-next.ensures.entry;
-  places = let e = c.new-fibers.ensures.items in rw e refl;
-  children = let e = c.new-fibers.ensures.items in rw e (search rules);
+  places = let e = c.in_ok-fibers.ensures.items in rw e refl;
+  children = let e = c.in_ok-fibers.ensures.items in rw e (search rules);
 }
 
 pub add_child-requires : goal.add_child-requires

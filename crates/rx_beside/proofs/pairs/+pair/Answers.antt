@@ -1,9 +1,8 @@
-use Rattle.std.proofs.Common.{◌<◌, ◌≤◌, length, map, All, IfSome, Some, refl, sym, ap, ◌∙◌, subst, arith}
+use Rattle.std.proofs.Common.{map, All, IfSome, Some, refl, sym, ap, ◌∙◌, subst, arith}
 use Rattle.std.proofs.lemmas.List.Elements.{All-get_or}
 use Rattle.std.specs.Prelude.{option_and_then}
-use Rattle.rx_elem.specs.Trees.{node, none, forest, elements_in, is_hidden}
+use Rattle.rx_elem.specs.Trees.{node, none, forest, is_hidden}
 use Rattle.rx_elem.specs.Compare.{node_at}
-use Rattle.rx_compare.specs.Matched.{IsMatched}
 use Rattle.rx_node.specs.MarkView.{mark_seen}
 use Rattle.rx_fiber.specs.FiberView.{stage_seen}
 use Rattle.rx_pruned.specs.Pruned.{GoesOn}
@@ -15,75 +14,131 @@ use Rattle.rx_beside.proofs.Standing.{beside_at, old_children, new_node}
 use Rattle.rx_beside.proofs.Here.{slot_lower}
 use Rattle.rx_beside.proofs.Ending.{places_even, moved_even, step, done, pair_pruned, kept_by, changed_by}
 use Rattle.rx_beside.proofs.Walking.{none_walked_yet}
+use Rattle.rx_beside.proofs.Staying.{none_stays_yet}
+use Rattle.rx_beside.proofs.Staying as stay
 use Rattle.rx_beside.proofs.pairs.+pair.Goals as goal
 
-pub read_made-match_fibers-requires : goal.read_made-match_fibers-requires
-read_made-match_fibers-requires t c =
-    (c.args.id, subst (All (λ o. IfSome o (IsNodeOf c.args.tree.now c.args.id))) (sym c.deref.ensures.value) c.in_ok-fibers.ensures.children)
+pub read_made-are_in_place-requires : goal.read_made-are_in_place-requires
+read_made-are_in_place-requires t c =
+    (c.args.id, subst (All (λ o. IfSome o (IsNodeOf c.args.tree.now c.args.id))) (sym c.as_slice-made.ensures.value) c.in_ok-fibers.ensures.children)
 
-pub read_made-going-init : goal.read_made-going-init
-read_made-going-init t c = record {
+pub read_made-read_in_place-requires : goal.read_made-read_in_place-requires
+read_made-read_in_place-requires t c =
+    let children = subst (All (λ o. IfSome o (IsNodeOf c.args.tree.now c.args.id))) (sym c.as_slice-made.ensures.value) c.in_ok-fibers.ensures.children in
+    (omega (arith, c.decreases), (c.requires.over, c.requires.tree, children, c.are_in_place.ensures.same c.if-are_in_place.true, c.are_in_place.ensures.few c.if-are_in_place.true))
+
+pub read_made-read_matched-requires : goal.read_made-read_matched-requires
+read_made-read_matched-requires t c =
+    let children = subst (All (λ o. IfSome o (IsNodeOf c.args.tree.now c.args.id))) (sym c.as_slice-made.ensures.value) c.in_ok-fibers.ensures.children in
+    (omega (arith, c.decreases), (c.requires.over, c.requires.tree, children))
+
+pub read_made-returns-then-are_in_place-clause-tree : goal.read_made-returns-then-are_in_place-clause-tree
+read_made-returns-then-are_in_place-clause-tree t c =
+    c.in_ok-kept.ensures.tree ∙ ap (map (λ o. first_node (list_of c.args.tree.now o))) c.as_slice-made.ensures.value ∙ c.in_ok-fibers.ensures.places
+
+pub read_made-returns-clause-tree : goal.read_made-returns-clause-tree
+read_made-returns-clause-tree t c =
+    c.in_ok-lists.ensures.tree ∙ ap (map (λ o. first_node (list_of c.args.tree.now o))) c.as_slice-made.ensures.value ∙ c.in_ok-fibers.ensures.places
+
+pub read_matched-match_fibers-requires : goal.read_matched-match_fibers-requires
+read_matched-match_fibers-requires t c = (c.args.id, c.requires.children)
+
+pub read_matched-going-init : goal.read_matched-going-init
+read_matched-going-init t c = record {
   tree = c.in_ok-with_capacity.ensures.items;
   walked = none_walked_yet c.args.displaced c.args.old.now _ _ _ c.in_ok-with_capacity.ensures.items c.in_ok-copy_nodes.ensures c.in_ok-with_capacity-2.ensures.items;
 }
 
-pub read_made-index-place-requires : goal.read_made-index-place-requires
-read_made-index-place-requires t c =
-    let m = c.in_ok-matching.matching in
+pub read_matched-index-place-requires : goal.read_matched-index-place-requires
+read_matched-index-place-requires t c =
     let trees = c.args.tree.now in
-    let is = subst (λ fs. IsMatched (forest c.args.old.now) (elements_in (forest (map (λ o. first_node (list_of trees o)) fs))) m) c.deref.ensures.value c.in_ok-matching.ensures in
-    let e = places_even (forest c.args.old.now) (λ o. first_node (list_of trees o)) c.in_ok-fibers.fibers.items m is in
-    let n = c.len-i-end.ensures in
+    let e = places_even (forest c.args.old.now) (λ o. first_node (list_of trees o)) c.args.fibers.now c.in_ok-matching.matching c.in_ok-matching.ensures in
     let l = c.going-test.true in
     omega arith
 
-pub read_made-index-requires : goal.read_made-index-requires
-read_made-index-requires t c =
-    let m = c.in_ok-matching.matching in
+pub read_matched-index-requires : goal.read_matched-index-requires
+read_matched-index-requires t c =
     let trees = c.args.tree.now in
-    let is = subst (λ fs. IsMatched (forest c.args.old.now) (elements_in (forest (map (λ o. first_node (list_of trees o)) fs))) m) c.deref.ensures.value c.in_ok-matching.ensures in
-    let e = moved_even (forest c.args.old.now) (λ o. first_node (list_of trees o)) c.in_ok-fibers.fibers.items m is in
-    let n = c.len-i-end.ensures in
+    let e = moved_even (forest c.args.old.now) (λ o. first_node (list_of trees o)) c.args.fibers.now c.in_ok-matching.matching c.in_ok-matching.ensures in
     let l = c.going-test.true in
     omega arith
 
-pub read_made-read_slot-requires : goal.read_made-read_slot-requires
-read_made-read_slot-requires t c =
+pub read_matched-read_slot-requires : goal.read_matched-read_slot-requires
+read_matched-read_slot-requires t c =
     let trees = c.args.tree.now in
-    let n = c.len-i-end.ensures in
-    let l = c.going-test.true in
-    let o = c.index-in-going.result.now in
-    let within : c.going.i < length c.in_ok-fibers.fibers.items = omega arith in
-    let node = subst (λ q. IfSome q (IsNodeOf trees c.args.id)) (sym c.index-in-going.ensures) (All-get_or (λ q. IfSome q (IsNodeOf trees c.args.id)) c.in_ok-fibers.fibers.items c.going.i o within c.in_ok-fibers.ensures.children) in
+    let o = c.index-fibers-i.result in
+    let node = subst (λ q. IfSome q (IsNodeOf trees c.args.id)) (sym c.index-fibers-i.is) (All-get_or (λ q. IfSome q (IsNodeOf trees c.args.id)) c.args.fibers.now c.going.i o c.going-test.true c.requires.children) in
     let smaller = slot_lower trees c.facts.ensures.fits c.facts.ensures.linked c.args.id c.requires.over.made o node in
     (omega (arith, c.decreases, smaller), ((c.args.id, c.requires.over, node), c.requires.tree))
 
-pub read_made-going-preserved : goal.read_made-going-preserved
-read_made-going-preserved t c =
+pub read_matched-going-preserved : goal.read_matched-going-preserved
+read_matched-going-preserved t c =
     let trees = c.args.tree.now in
     let m = c.in_ok-matching.matching in
-    let is = subst (λ fs. IsMatched (forest c.args.old.now) (elements_in (forest (map (λ o. first_node (list_of trees o)) fs))) m) c.deref.ensures.value c.in_ok-matching.ensures in
-    let n = c.len-i-end.ensures in
-    let l = c.going-test.true in
-    let within : c.going.i < length c.in_ok-fibers.fibers.items = omega arith in
     let slot = subst (λ d. IsSlot d (option_and_then (node_at (forest c.args.old.now)) c.index-place.result.now) c.in_ok-slot.slot.tree c.in_ok-slot.slot.pruned_old c.in_ok-slot.slot.pruned_new) c.or_moved-moved.ensures c.in_ok-slot.ensures.pruned in
-    let r = step c.args.displaced c.args.old.now (λ o. first_node (list_of trees o)) c.in_ok-fibers.fibers.items m is c.going.i within
-    c.index-in-going.result.now c.index-place.result.now c.index.result.now c.index-in-going.ensures c.index-place.ensures c.index.ensures
+    let r = step c.args.displaced c.args.old.now (λ o. first_node (list_of trees o)) c.args.fibers.now m c.in_ok-matching.ensures c.going.i c.going-test.true
+    c.index-fibers-i.result c.index-place.result.now c.index.result.now c.index-fibers-i.is c.index-place.ensures c.index.ensures
     _ _ _ _ _ _ _ _ _ c.going.invariant.tree c.going.invariant.walked c.in_ok-slot.ensures.tree slot
     c.in_ok-add_slot.ensures.tree c.in_ok-add_slot.ensures.pruned_old c.in_ok-add_slot.ensures.pruned_new in
     record { tree = r.0; walked = r.1 }
 
-pub read_made-returns-clause-pruned : goal.read_made-returns-clause-pruned
-read_made-returns-clause-pruned t c =
+pub read_matched-returns-clause-tree : goal.read_matched-returns-clause-tree
+read_matched-returns-clause-tree t c =
     let trees = c.args.tree.now in
-    let m = c.in_ok-matching.matching in
-    let is = subst (λ fs. IsMatched (forest c.args.old.now) (elements_in (forest (map (λ o. first_node (list_of trees o)) fs))) m) c.deref.ensures.value c.in_ok-matching.ensures in
-    let n = c.len-i-end.ensures in
     let l = c.going-test.false in
-    let end : length c.in_ok-fibers.fibers.items ≤ c.going.i = omega arith in
-    let r = done c.args.displaced c.args.old.now (λ o. first_node (list_of trees o)) c.in_ok-fibers.fibers.items m is c.going.i end
-    _ _ _ _ c.going.invariant.tree c.in_ok-fibers.ensures.places c.going.invariant.walked in
+    let r = done c.args.displaced c.args.old.now (λ o. first_node (list_of trees o)) c.args.fibers.now c.in_ok-matching.matching c.in_ok-matching.ensures c.going.i (omega arith)
+    _ _ _ _ c.going.invariant.tree refl c.going.invariant.walked in
+    r.0
+
+pub read_matched-returns-clause-pruned : goal.read_matched-returns-clause-pruned
+read_matched-returns-clause-pruned t c =
+    let trees = c.args.tree.now in
+    let l = c.going-test.false in
+    let r = done c.args.displaced c.args.old.now (λ o. first_node (list_of trees o)) c.args.fibers.now c.in_ok-matching.matching c.in_ok-matching.ensures c.going.i (omega arith)
+    _ _ _ _ c.going.invariant.tree refl c.going.invariant.walked in
     r.1
+
+pub read_in_place-going-init : goal.read_in_place-going-init
+read_in_place-going-init t c = record {
+  tree = c.in_ok-with_capacity.ensures.items;
+  walked = none_stays_yet c.args.displaced _ _ _ c.in_ok-with_capacity.ensures.items c.in_ok-with_capacity-2.ensures.items c.in_ok-with_capacity-3.ensures.items;
+}
+
+pub read_in_place-read_slot-requires : goal.read_in_place-read_slot-requires
+read_in_place-read_slot-requires t c =
+    let trees = c.args.tree.now in
+    let o = c.index-fibers-i.result in
+    let node = subst (λ q. IfSome q (IsNodeOf trees c.args.id)) (sym c.index-fibers-i.is) (All-get_or (λ q. IfSome q (IsNodeOf trees c.args.id)) c.args.fibers.now c.going.i o c.going-test.true c.requires.children) in
+    let smaller = slot_lower trees c.facts.ensures.fits c.facts.ensures.linked c.args.id c.requires.over.made o node in
+    (omega (arith, c.decreases, smaller), ((c.args.id, c.requires.over, node), c.requires.tree))
+
+pub read_in_place-bounds-old-i : goal.read_in_place-bounds-old-i
+read_in_place-bounds-old-i t c =
+    let trees = c.args.tree.now in
+    let e = stay.even c.args.displaced c.args.old.now (λ o. first_node (list_of trees o)) c.args.fibers.now c.requires.same in
+    let l = c.going-test.true in
+    omega arith
+
+pub read_in_place-going-preserved : goal.read_in_place-going-preserved
+read_in_place-going-preserved t c =
+    let trees = c.args.tree.now in
+    let r = stay.step c.args.displaced c.args.old.now (λ o. first_node (list_of trees o)) c.args.fibers.now c.requires.same c.going.i c.going-test.true
+    c.index-fibers-i.result c.index-old-i.result c.index-fibers-i.is c.index-old-i.is
+    _ _ _ _ _ _ _ _ _ c.going.invariant.tree c.going.invariant.walked c.in_ok-slot.ensures.tree c.in_ok-slot.ensures.pruned
+    c.in_ok-push_slot.ensures.tree c.in_ok-push_slot.ensures.pruned_old c.in_ok-push_slot.ensures.pruned_new in
+    record { tree = r.0; walked = r.1 }
+
+pub read_in_place-returns-clause-tree : goal.read_in_place-returns-clause-tree
+read_in_place-returns-clause-tree t c =
+    let trees = c.args.tree.now in
+    let l = c.going-test.false in
+    (stay.done c.args.displaced c.args.old.now (λ o. first_node (list_of trees o)) c.args.fibers.now c.requires.same c.going.i (omega arith) _ _ _ c.going.invariant.tree c.going.invariant.walked).0
+
+pub read_in_place-returns-clause-pruned : goal.read_in_place-returns-clause-pruned
+read_in_place-returns-clause-pruned t c =
+    let trees = c.args.tree.now in
+    let l = c.going-test.false in
+    (stay.done c.args.displaced c.args.old.now (λ o. first_node (list_of trees o)) c.args.fibers.now c.requires.same c.going.i (omega arith) _ _ _ c.going.invariant.tree c.going.invariant.walked).1
 
 pub read_pair-read_lists-requires : goal.read_pair-read_lists-requires
 read_pair-read_lists-requires t c =

@@ -9,15 +9,15 @@ use Rattle.rx_settle.proofs.keeping.settle_all.Goals as goal
 pub returns-clause-settled : goal.returns-clause-settled
 returns-clause-settled c =
     all_settled c.args.lanes c.args.cut c.args.first c.args.instances.now c.args.made.items (contains nat_eq c.args.known.now) (kept_hooks c.args.store.now)
-    (kept_hooks c.settle_each.new.store) (kept_hooks c.insert_all.new.store) (kept_hooks c.remove_gone.new.store)
-    c.requires.apart c.requires.made c.settle_each.ensures.settled c.insert_all.ensures c.remove_gone.ensures.kept c.requires.known
+    (kept_hooks c.settle_each.new.store) (kept_hooks c.insert_all.new.store) (kept_hooks c.remove_old.new.store)
+    c.requires.apart c.requires.made c.settle_each.ensures.settled c.insert_all.ensures c.remove_old.ensures.kept c.requires.known
 
 pub returns-clause-gone : goal.returns-clause-gone
-returns-clause-gone c k m at none = c.remove_gone.ensures.gone k m at (c.requires.known m.number ∙ none)
+returns-clause-gone c k m at none = c.remove_old.ensures.gone k m at (c.requires.known m.number ∙ none)
 
 pub returns-clause-others : goal.returns-clause-others
 returns-clause-others c n none gone =
-    c.remove_gone.ensures.others n gone
+    c.remove_old.ensures.others n gone
     ∙ (c.insert_all.ensures n
     ∙ (elsewhere_stays c.args.made.items (kept_hooks c.settle_each.new.store) n
     (λ k x at.

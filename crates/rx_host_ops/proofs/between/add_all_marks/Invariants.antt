@@ -1,0 +1,7 @@
+use Rattle.std.proofs.Common.{◌≡◌, ◌++◌, drop}
+use Rattle.rx_host_ops.specs.Beside.{beside, mark_of}
+use Rattle.rx_host_ops.proofs.between.add_all_marks.Given as goal
+
+-- the operations so far, and those of the hosts from here on, are all
+abbrev pub invariant-loop-place : goal.invariant-loop-place
+invariant-loop-place l = l.ops.items ++ beside mark_of (drop l.place l.old) (drop l.place l.new) ≡ l.fn.ops.items ++ beside mark_of l.old l.new
