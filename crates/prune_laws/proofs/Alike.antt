@@ -59,7 +59,7 @@ never_hides (Some Shown) false = refl
 never_hides (Some (Hidden waits)) true = refl
 never_hides (Some (Hidden waits)) false = refl
 
-shown_by : (c : Change) (m : Mark) → mark_of c.new ≡ m → is_hidden m ≡ false → hides_shown c ≡ false
+pub shown_by : (c : Change) (m : Mark) → mark_of c.new ≡ m → is_hidden m ≡ false → hides_shown c ≡ false
 shown_by c (of_instance i) e h = rw e refl
 shown_by c (of_host n) e h = rw e refl
 shown_by c (of_boundary Shown) e h = rw e (never_hides (old_state c) c.was_visible)

@@ -45,7 +45,7 @@ both_vacant p (child o os) ps trees.none h g i q at e = absurd h
 both_vacant p (child o os) ps (vacant ns) h g i q at e = absurd h
 both_vacant p (child o os) trees.none (child n ns) h g i q at e = absurd g
 both_vacant p (child o os) (vacant ps) (child n ns) h g i q at e = absurd g
-both_vacant p (child o os) (child x ps) (child n ns) h g i q at e = go i at
+both_vacant p (child o os) (child x ps) (child n ns) h g i q at e = go (both_vacant (p + 1) os ps ns h.1 g.1) i at
   where
     is : is_present (element_of n) ≡ true
     is = new_present (element_of n) (element_of o) h.0.kind
@@ -54,11 +54,12 @@ both_vacant p (child o os) (child x ps) (child n ns) h g i q at e = go i at
     free = either_false (nat_eq q p) (is_reused (own_places (p + 1) (elements_in ns)) q)
         (subst (λ b. (option_map_or (nat_eq q) (own_place p b) false || is_reused (own_places (p + 1) (elements_in ns)) q) ≡ false) is e)
 
-    go : (i : ℕ) → q ≡ p + i → option_flatten (slice_get (Some x ∷ places ps) i) ≡ option_flatten (slice_get (Some o ∷ places os) i)
-    go zero at =
+    go : ((j r : ℕ) → r ≡ (p + 1) + j → is_reused (own_places (p + 1) (elements_in ns)) r ≡ false → option_flatten (slice_get (places ps) j) ≡ option_flatten (slice_get (places os) j))
+        → (i : ℕ) → q ≡ p + i → option_flatten (slice_get (Some x ∷ places ps) i) ≡ option_flatten (slice_get (Some o ∷ places os) i)
+    go below zero at =
         let here : nat_eq q p ≡ true = (Decides-eqb q p).1 (omega arith) in
         let not : nat_eq q p ≡ false = free.0 in absurd (cc)
-    go (suc i) at = both_vacant (p + 1) os ps ns h.1 g.1 i q (omega arith) free.1
+    go below (suc i) at = below i q (omega arith) free.1
 
 -- an old node that no new child is stays
 gone_stay : (os ps ns : Forest) → AreInPlace os ns → AreInPlace ps ns → (k : ℕ) → is_reused (old_places (elements_in os) (elements_in ns)) k ≡ false → node_at ps k ≡ node_at os k

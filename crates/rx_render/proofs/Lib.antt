@@ -19,3 +19,4 @@ pub mod Covered
 pub mod Sending
 pub mod Settling
 pub mod Sizes
+pub mod RootTells

@@ -24,6 +24,7 @@ ghost use Rattle.rx_model.specs.Committing.{committed_state, sight_of, starting}
 ghost use Rattle.rx_model.specs.Laws.{IsBounded};
 ghost use Rattle.rx_model.specs.Turns.{unit_bound};
 ghost use Rattle.rx_model.specs.HooksOf.{KeepsAllHooks};
+ghost use Rattle.rx_node.specs.Hides.{hides_within};
 ghost use Rattle.rx_fiber.specs.Reading.{IsTreeOf};
 ghost use Rattle.rx_fiber.specs.Subtrees.{IsGathered};
 ghost use Rattle.rx_pruned.specs.Besides.{IsBeside};
@@ -359,6 +360,18 @@ impl Renderer {
         ensures beside { IfOk result (λ b. IsBeside (option_copied old.entry) b) }
     {
         read_beside(self.alloc, &self.fibers, old)
+    }
+
+    /// Whether a boundary of the finished tree hides its children (react.dev, Suspense), told by the fiber of its root.
+    pub fn hides(&self) -> bool
+        requires over { self.now.at ≡ Over }
+        ensures { (x : trees.Node) → IsTreeOf (Some x) (grafted self.now.trees.draft) → result ≡ hides_within x }
+    {
+        self.fibers.facts();
+        match self.fibers.in_progress() {
+            Some(root) => self.fibers.value(root).subtree().hides,
+            None => false,
+        }
     }
 
     /// Gives each instance and each host of the finished tree that is new its number, in tree order, as its commit begins.

@@ -27,3 +27,4 @@ pub mod Fitting
 pub mod Overdue
 pub mod Resources
 pub mod Dispatches
+pub mod NoneHidden

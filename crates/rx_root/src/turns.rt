@@ -145,13 +145,17 @@ impl Root {
         self.resources.is_new(self.renderer.resources(), waits)
     }
 
-    // What a finished render waits for, if it is deferred: only transitions may be (react.dev, useTransition).
+    // What a finished render waits for, if it is deferred: only transitions may be (react.dev, useTransition), and only if they
+    // leave a boundary hidden.
     fn deferral(&self) -> Result<Option<Awaits>, AllocError>
         requires { IsAtSomeEnd self.now }
         ensures { IfOk result (λ waits. (p : syntax.Program) (s : State) (g : Progress) (tree : trees.Node) → StandsAtEnd p s g tree self.entry.now → outcome_as tree waits ≡ outcome g.lanes s.tree tree) }
     {
         let lanes = self.renderer.lanes();
         if !lanes.only_transitions() {
+            return Ok(None);
+        }
+        if !self.renderer.hides() {
             return Ok(None);
         }
         let beside = self.renderer.finished(self.shown.tree())?;

@@ -32,7 +32,7 @@ use std::collections::HashSet;
 fn numbers_of(alloc: Global, instances: &[Mounted]) -> Result<HashSet<u64>, AllocError>
     ensures { IfOk result (λ known. (n : ℕ) → contains nat_eq known n ≡ has_instance instances.now n) }
 {
-    let mut known = HashSet::with_capacity(alloc, instances.len())?;
+    let mut known = HashSet::new(alloc);
     'knowing: for instance in instances {
         known.insert(instance.number())?;
     }

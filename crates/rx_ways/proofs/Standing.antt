@@ -80,9 +80,9 @@ fallback_tells w a ws stage is =
     (ap (λ (x : Subtree). x.hides) all, ap (λ (x : Subtree). x.instances) all)
 
 -- the fibers of a list tell of its nodes
-record TellsList (ns : Forest) (s : Shape Fiber) : Type 0 where
-  hides : (subtrees_of s).hides ≡ hides_in ns
-  instances : (subtrees_of s).instances ≡ has_instance_in ns
+pub record TellsList (ns : Forest) (s : Shape Fiber) : Type 0 where
+  pub hides : (subtrees_of s).hides ≡ hides_in ns
+  pub instances : (subtrees_of s).instances ≡ has_instance_in ns
 
 -- the first fibers of a list tell of a node, and those behind them of the rest
 record TellsNode (x : Node) (s rest : Shape Fiber) : Type 0 where
@@ -90,7 +90,7 @@ record TellsNode (x : Node) (s rest : Shape Fiber) : Type 0 where
   instances : (subtrees_of s).instances ≡ (has_instance_within x || (subtrees_of rest).instances)
 
 mutual
-  list_tells : (k : ℕ) (ns : Forest) (s : Shape Fiber) → AreFor k ns s → IsGathered s → TellsList ns s
+  pub list_tells : (k : ℕ) (ns : Forest) (s : Shape Fiber) → AreFor k ns s → IsGathered s → TellsList ns s
   list_tells _ _ _ no_more g = record { hides = refl; instances = refl }
   list_tells _ _ _ (gap {n = n} {ns = ns} {s = s} a) g = let t = list_tells (suc n) ns s a g in record { hides = t.hides; instances = t.instances }
   list_tells _ _ _ (next {n = n} {x = x} {ns = ns} {s = s} {rest = rest} is a) g =

@@ -25,12 +25,12 @@ read_made-are_in_place-requires t c =
 pub read_made-read_in_place-requires : goal.read_made-read_in_place-requires
 read_made-read_in_place-requires t c =
     let children = subst (All (λ o. IfSome o (IsNodeOf c.args.tree.now c.args.id))) (sym c.as_slice-made.ensures.value) c.in_ok-fibers.ensures.children in
-    (omega (arith, c.decreases), (c.requires.over, c.requires.tree, children, c.are_in_place.ensures.same c.if-are_in_place.true, c.are_in_place.ensures.few c.if-are_in_place.true))
+    (omega (arith, c.decreases), (c.requires.over, (c.requires.tree, (children, (c.are_in_place.ensures.same c.if-are_in_place.true, c.are_in_place.ensures.few c.if-are_in_place.true)))))
 
 pub read_made-read_matched-requires : goal.read_made-read_matched-requires
 read_made-read_matched-requires t c =
     let children = subst (All (λ o. IfSome o (IsNodeOf c.args.tree.now c.args.id))) (sym c.as_slice-made.ensures.value) c.in_ok-fibers.ensures.children in
-    (omega (arith, c.decreases), (c.requires.over, c.requires.tree, children))
+    (omega (arith, c.decreases), (c.requires.over, (c.requires.tree, children)))
 
 pub read_made-returns-then-are_in_place-clause-tree : goal.read_made-returns-then-are_in_place-clause-tree
 read_made-returns-then-are_in_place-clause-tree t c =

@@ -14,7 +14,7 @@ comparing-preserved c =
     let new = c.index-instances-place.result in
     let even : length before ≡ length instances = c.comparing.invariant.0 in
     let within : place < length before = omega (arith, even, c.comparing-test.true) in
-    let numbers : old.number ≡ new.number = sym c.number.ensures ∙ c.if-number.false ∙ c.number-2.ensures in
+    let numbers : old.number ≡ new.number = sym c.number.ensures ∙ c.if-number.false ∙ c.number-in-comparing.ensures in
     let there : has_instance instances old.number ≡ true =
     ap (has_instance instances) numbers ∙ has_itself instances place new (slice_get_read instances _ place new refl c.comparing-test.true c.index-instances-place.is) in (
       even,

@@ -1,0 +1,43 @@
+-- A tree without a hidden boundary hides nothing anew, so its render is committed.
+use Rattle.std.specs.Prelude.{◌≡◌, Bool, true, false, ◌||◌, List, [], ◌∷◌, Option, Some, refl, filter}
+use Rattle.std.proofs.Common.{ap}
+use Rattle.std.proofs.lemmas.Bool.{or_parts}
+use Rattle.std.proofs.lemmas.List.Elements.{filter-append}
+use Rattle.rx_lane.specs.Lanes.{Lanes}
+use Rattle.rx_elem.specs.Trees.{Node, node, Forest, none, vacant, child, children_if, fallback_if, elements_in, is_hidden}
+use Rattle.rx_elem.specs.Compare.{Above, Past, Change, no_past, change_of, compare, compare_in, above_root, above_children, above_fallback, pasts, changes, changes_in}
+use Rattle.rx_node.specs.Hides.{hides_within, hides_in}
+use Rattle.rx_meaning.specs.Outcome.{Outcome, commit, hides_shown, outcome_by, outcome}
+use Rattle.prune_laws.proofs.Alike.{shown_by}
+
+mutual
+  none_hides : (a : Above) (p : Past) (n : Node) → hides_within n ≡ false → filter hides_shown (changes (compare a p n)) ≡ []
+  none_hides a p (node e m ns fs) h =
+      let c : Change = change_of a p (node e m ns fs) in
+      let own = or_parts (is_hidden m) (hides_in ns || hides_in fs) h in
+      let lists = or_parts (hides_in ns) (hides_in fs) own.1 in
+      let shown : hides_shown c ≡ false = shown_by c m refl own.0 in
+      let kids = none_hide (above_children c) (pasts (children_if p.old) (elements_in ns)) ns lists.0 in
+      let others = none_hide (above_fallback c) (pasts (fallback_if p.old) (elements_in fs)) fs lists.1 in
+      rw (
+        shown,
+        filter-append hides_shown (changes_in (compare_in (above_children c) (pasts (children_if p.old) (elements_in ns)) ns))
+            (changes_in (compare_in (above_fallback c) (pasts (fallback_if p.old) (elements_in fs)) fs)),
+        kids,
+        others,
+      ) refl
+
+  none_hide : (a : Above) (ps : List Past) (ns : Forest) → hides_in ns ≡ false → filter hides_shown (changes_in (compare_in a ps ns)) ≡ []
+  none_hide a ps none h = refl
+  none_hide a [] (vacant ns) h = none_hide a [] ns h
+  none_hide a (p ∷ ps) (vacant ns) h = none_hide a ps ns h
+  none_hide a [] (child n ns) h =
+      let parts = or_parts (hides_within n) (hides_in ns) h in
+      rw (filter-append hides_shown (changes (compare a no_past n)) (changes_in (compare_in a [] ns)), none_hides a no_past n parts.0, none_hide a [] ns parts.1) refl
+  none_hide a (p ∷ ps) (child n ns) h =
+      let parts = or_parts (hides_within n) (hides_in ns) h in
+      rw (filter-append hides_shown (changes (compare a p n)) (changes_in (compare_in a ps ns)), none_hides a p n parts.0, none_hide a ps ns parts.1) refl
+
+-- what hides nothing is committed
+pub committed_if_none_hides : (lanes : Lanes) (old : Option Node) (new : Node) → hides_within new ≡ false → commit new ≡ outcome lanes old new
+committed_if_none_hides lanes old new h = rw (none_hides above_root (record { old = old; moved = false }) new h) refl
