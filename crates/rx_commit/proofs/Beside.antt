@@ -1,7 +1,6 @@
 -- What is compared without the lists that stayed the same.
-use Rattle.std.specs.Prelude.{◌==◌, true, false, length, ◌∷◌, refl}
+use Rattle.std.specs.Prelude.{length, ◌∷◌, refl}
 use Rattle.std.proofs.Common.{◌≡◌, ℕ, List, [], Option, Some, None, sym, ap, subst, ◌∙◌, arith}
-use Rattle.std.proofs.lemmas.Bool.Decides.{nat_tests}
 use Rattle.rx_elem.specs.Trees.{Node, node, Forest, none, vacant, child}
 use Rattle.rx_elem.specs.Compare.{Compared, changes, compare_trees}
 use Rattle.rx_forest.specs.declared.op.HostOp.{HostOp}
@@ -67,13 +66,10 @@ ops-of-all o b c placed ops beside e f g present =
     g
     ∙ ap (ops_between (hosts o) (hosts (Some b.tree))) (f ∙ ap (λ (d : Compared). placed_hosts (changes d)) e ∙ (trees_alike beside present).places)
 
-some-length : (x : ℕ) (xs : List ℕ) → (length (x ∷ xs) == 0) ≡ false
-some-length x xs = grind (arith, nat_tests)
-
 -- a list that is empty has nothing in it
-pub none-left : (xs : List ℕ) → (length xs == 0) ≡ true → xs ≡ []
+pub none-left : (xs : List ℕ) → length xs ≡ 0 → xs ≡ []
 none-left [] h = refl
-none-left (x ∷ xs) h = let some : (length (x ∷ xs) == 0) ≡ false = some-length x xs in absurd (cc)
+none-left (x ∷ xs) h = cc
 
 -- the same if none is placed, by the hosts that are left of the trees without those lists
 pub ops-of-left : (o : Option Node) (b : Beside) (c : Compared) (placed : List ℕ) (ops : List HostOp) (p : Option Node) → IsBeside o b → c ≡ compare_trees b.pruned_old b.pruned_new

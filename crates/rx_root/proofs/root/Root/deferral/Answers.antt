@@ -7,7 +7,13 @@ use Rattle.rx_model.specs.Committing.{sight_of}
 use Rattle.prune_laws.proofs.Present.{if_settled_present}
 use Rattle.rx_root.specs.Rooted.{Rooted}
 use Rattle.rx_root.specs.Turning.{StandsAtEnd}
+use Rattle.rx_root.proofs.NoneHidden.{committed_if_none_hides}
 use Rattle.rx_root.proofs.root.Root.deferral.Goals as goal
+
+pub returns-then-not-hides : goal.returns-then-not-hides
+returns-then-not-hides c p s g tree h =
+    let at = subst (λ (v : Rooted). StandsAtEnd p s g tree v) (sym c.self.view_is) h in
+    committed_if_none_hides g.lanes s.tree tree (sym (c.hides.ensures tree at.progress.there) ∙ c.if-not-hides.true)
 
 pub returns : goal.returns
 returns c =
