@@ -1,14 +1,14 @@
 -- What the beginning of a place costs.
 use Rattle.std.specs.Prelude.{◌≡◌, ◌≤◌, ℕ, suc, Bool, true, false, not, ◌&&◌, ◌||◌, List, ℤ, ◌∷◌, Option, Some, None, IsSome, if◌then◌else◌, nat_eq, option_map, option_and_then}
 use Rattle.std.specs.Option.{option_map_or}
-use Rattle.std.proofs.Common.{refl, sym, ap, ◌∙◌, subst, arith}
+use Rattle.std.proofs.Common.{refl, sym, ap, ◌∙◌, subst, arith, inl, inr}
 use Rattle.rx_ast.specs.Syntax.{Component, Program}
 use Rattle.rx_rules.specs.Names.{component_at}
 use Rattle.rx_ctx.specs.Contexts.{Stack, moved_in, moves_by}
 use Rattle.rx_susp.specs.declared.boundary.BoundaryState.TheVariants.{Shown, Hidden}
 use Rattle.rx_elem.specs.Elements.{Element, Elements, Key, kind_of, same_element, same_kind, stands_for_children}
 use Rattle.rx_elem.specs.Elements as elements
-use Rattle.rx_elem.specs.Trees.{Mark, Node, node, element_of, mark_of, instance_in, is_hidden, Forest, of_instance, of_host, of_boundary, plain, was_hidden}
+use Rattle.rx_elem.specs.Trees.{Mark, Node, node, element_of, mark_of, instance_in, is_hidden, Forest, of_instance, of_host, of_boundary, of_catcher, plain, old_caught, was_hidden}
 use Rattle.rx_hooks.specs.declared.hook.Hook.{Hook}
 use Rattle.rx_elem.proofs.Deciding.{and_passes, both_hold, or_right, same_number}
 use Rattle.rx_meaning.specs.Touched.{is_memo}
@@ -19,11 +19,11 @@ use Rattle.rx_links.specs.Drafts.{Draft, taken, made, Fits, Trees, entry, old_of
 use Rattle.rx_links.specs.Places.{Around, below, placed, IsAt}
 use Rattle.rx_links.specs.Readers.{made_value_in, made_value_of, value_of}
 use Rattle.rx_links.proofs.Placed.{is-at}
-use Rattle.rx_meaning.specs.Body.{Body, body_of, wait, ready}
+use Rattle.rx_meaning.specs.Body.{Body, body_of, wait, throw, ready}
 use Rattle.rx_meaning.specs.Counts.{begins_as, each_body, next_counts}
 use Rattle.rx_meaning.specs.Cursor.{Frame, at_place}
 use Rattle.rx_meaning.specs.Generations.{generation_below}
-use Rattle.rx_meaning.specs.Fresh.{Contexts, Sight, inputs_at, old_instance, shape_of, shape_of_component, shape_of_body}
+use Rattle.rx_meaning.specs.Fresh.{Contexts, Sight, inputs_at, old_instance, shape_of, shape_of_catcher, shape_of_component, shape_of_body}
 use Rattle.rx_meaning.specs.Settled.{IfSettled, IsOwn, Known, known_by}
 use Rattle.rx_fiber.specs.Fibers.{Fiber, generation_of, is_visible, origin_of}
 use Rattle.rx_fiber.specs.declared.stage.Origin.{Origin}
@@ -72,6 +72,7 @@ given_is (elements.host n k attrs es) = refl
 given_is (elements.comp c k ps es) = refl
 given_is (elements.list marked es) = refl
 given_is (elements.boundary k f es) = refl
+given_is (elements.catcher k f es) = refl
 given_is (elements.provider c k x es) = refl
 
 -- what one node more moves
@@ -228,6 +229,7 @@ old_waits s scene kept sees t id None tells was cause = refl
 old_waits s scene kept sees t id (Some (node e (of_instance i) ns fs)) tells was cause = refl
 old_waits s scene kept sees t id (Some (node e (of_host h) ns fs)) tells was cause = refl
 old_waits s scene kept sees t id (Some (node e plain ns fs)) tells was cause = refl
+old_waits s scene kept sees t id (Some (node e (of_catcher c) ns fs)) tells was cause = refl
 old_waits s scene kept sees t id (Some (node e (of_boundary Shown) ns fs)) tells was cause = refl
 old_waits s scene kept sees t id (Some (node e (of_boundary (Hidden a)) ns fs)) tells was cause = tells.tried scene a sees refl (cause (node e (of_boundary (Hidden a)) ns fs) a was refl)
 
@@ -236,6 +238,7 @@ old_waits s scene kept sees t id (Some (node e (of_boundary (Hidden a)) ns fs)) 
 lists_of_body : (cs : Contexts) (c : ℕ) (old : Option Node) (b : Body) (s : Sight) (us : Flags) (fs : List Frame) (e : Element) → HasLists (shape_of_body cs c old b)
     → begun_flags s fs us cs e old (shape_of_body cs c old b) ≡ below_node s (flag us) cs e old ∷ us
 lists_of_body cs c old (wait r v) s us fs e h = absurd h
+lists_of_body cs c old (throw x) s us fs e h = absurd h
 lists_of_body cs c old (ready es effects initials reads versions) s us fs e h = refl
 
 lists_of_component : (s : Sight) (cs : Contexts) (c : ℕ) (ps : List ℤ) (kids : Elements) (old : Option Node) (d : Option Component) (us : Flags) (fs : List Frame) (e : Element) → HasLists (shape_of_component s cs c ps kids old d)
@@ -245,6 +248,7 @@ lists_of_component s cs c ps kids old (Some d) us fs e h = lists_of_body cs c ol
 
 counted_body : (s : Sight) (u : Flag) (cs : Contexts) (c : ℕ) (e : Element) (old : Option Node) (b : Body) (count : ℕ) → count ≡ own_body s u cs e old → count ≡ begins_evaluated s u cs e old (shape_of_body cs c old b)
 counted_body s u cs c e old (wait r v) count h = h
+counted_body s u cs c e old (throw x) count h = h
 counted_body s u cs c e old (ready es effects initials reads versions) count h = h
 
 counted_component : (s : Sight) (u : Flag) (cs : Contexts) (e : Element) (c : ℕ) (ps : List ℤ) (kids : Elements) (old : Option Node) (d : Option Component) (count : ℕ) → count ≡ own_body s u cs e old
@@ -254,11 +258,27 @@ counted_component s u cs e c ps kids old (Some d) count h few = counted_body s u
 
 may_body : (s : Sight) (u : Flag) (cs : Contexts) (e : Element) (c : ℕ) (old : Option Node) (b : Body) → MayTry s u e old (shape_of_body cs c old b)
 may_body s u cs e c old (wait r v) = tt
+may_body s u cs e c old (throw x) = tt
 may_body s u cs e c old (ready es effects initials reads versions) = tt
 
 may_component : (s : Sight) (u : Flag) (cs : Contexts) (e : Element) (c : ℕ) (ps : List ℤ) (kids : Elements) (old : Option Node) (d : Option Component) → MayTry s u e old (shape_of_component s cs c ps kids old d)
 may_component s u cs e c ps kids old None = tt
 may_component s u cs e c ps kids old (Some d) = may_body s u cs e c old (body_of s.program d (inputs_at s cs ps kids (old_instance old)))
+
+-- an error boundary opens one list, of its children or of its fallback; it evaluates no body, and tries no hidden boundary's children
+lists_of_catcher : (s : Sight) (cs : Contexts) (f : Element) (es : Elements) (old : Option Node) (x : Option ℤ) (us : Flags) (fs : List Frame) (e : Element)
+    → begun_flags s fs us cs e old (shape_of_catcher cs f es old x) ≡ below_node s (flag us) cs e old ∷ us
+lists_of_catcher s cs f es old None us fs e = refl
+lists_of_catcher s cs f es old (Some x) us fs e = refl
+
+counted_catcher : (s : Sight) (u : Flag) (cs : Contexts) (key : Key) (f : Element) (es : Elements) (old : Option Node) (x : Option ℤ)
+    → 0 ≡ begins_evaluated s u cs (elements.catcher key f es) old (shape_of_catcher cs f es old x)
+counted_catcher s u cs key f es old None = refl
+counted_catcher s u cs key f es old (Some x) = refl
+
+may_catcher : (s : Sight) (u : Flag) (e : Element) (cs : Contexts) (f : Element) (es : Elements) (old : Option Node) (x : Option ℤ) → MayTry s u e old (shape_of_catcher cs f es old x)
+may_catcher s u e cs f es old None = tt
+may_catcher s u e cs f es old (Some x) = tt
 
 -- a settled node of no boundary's element hides nothing
 own_shown : (p : Program) (k : Known) (e : Element) (m : Mark) (ns fs : Forest) → IsOwn p k e m ns fs → ((key : Key) (f : Element) (es : Elements) → e ≡ elements.boundary key f es → ⊥) → is_hidden m ≡ false
@@ -268,6 +288,7 @@ own_shown p k (elements.host n key attrs es) m ns fs own other = ap is_hidden ow
 own_shown p k (elements.comp c key ps es) m ns fs own other = ap is_hidden own.1
 own_shown p k (elements.list marked es) m ns fs own other = ap is_hidden own.0
 own_shown p k (elements.boundary key f es) m ns fs own other = absurd (other key f es refl)
+own_shown p k (elements.catcher key f es) m ns fs own other = elim own [ inl fine ↦ ap is_hidden fine.0 | inr caught ↦ ap is_hidden caught.1 ]
 own_shown p k (elements.provider c key x es) m ns fs own other = ap is_hidden own.0
 
 -- A place that begins
@@ -346,6 +367,7 @@ module _ (s : Sight) (scene : Scene) (kept : ℕ → Option (List Hook)) (t : Tr
         (ap (λ b. if b then 1 else 0) (evaluated_is us h c key ps kids form)) few
     bodies_counted us h (elements.list a b) form few = rw (none_where (elements.list a b) form refl) refl
     bodies_counted us h (elements.boundary a b c) form few = rw (none_where (elements.boundary a b c) form refl) refl
+    bodies_counted us h (elements.catcher a b c) form few = rw (none_where (elements.catcher a b c) form refl) (counted_catcher s (flag us) cs a b c old (old_caught old))
     bodies_counted us h (elements.provider a b c d) form few = rw (none_where (elements.provider a b c d) form refl) refl
 
   module _ (us : Flags) (h : FlagsAtPlace t id us) where
@@ -367,6 +389,7 @@ module _ (s : Sight) (scene : Scene) (kept : ℕ → Option (List Hook)) (t : Tr
     may_go tries (elements.host a b c d) form = tt
     may_go tries (elements.comp c key ps kids) form = may_component s (flag us) cs (elements.comp c key ps kids) c ps kids old (component_at s.program c)
     may_go tries (elements.list a b) form = tt
+    may_go tries (elements.catcher a b c) form = may_catcher s (flag us) (elements.catcher a b c) cs b c old (old_caught old)
     may_go tries (elements.provider a b c d) form = tt
     may_go tries (elements.boundary a b c) form = subst (λ x. is_untouched s (stood (flag us)) x old ≡ false) form (tried_not tries (ap parts_in form) (stood (flag us)) refl)
 
@@ -473,6 +496,9 @@ module _ (s : Sight) (scene : Scene) (kept : ℕ → Option (List Hook)) (t : Tr
           (ap (λ z. z && keeps_children true (mark_at t.current (old_of t.draft id))) (again_told (elements.boundary a b c) form ∙ or_nothing (is_again (flag us) (elements.boundary a b c) old))
           ∙ ap (λ z. is_again (flag us) (elements.boundary a b c) old && z) keeps_is))
           (kids_shown (elements.boundary a b c) form) refl
+      unit_opens (elements.catcher a b c) form lists =
+          subst (λ (fl : Flags). FlagsOpened new id fl (entry opened.kids.kids)) (sym (lists_of_catcher s cs b c old (old_caught old) us fs (elements.catcher a b c)))
+          (plain_opens (elements.catcher a b c) form refl refl (λ key f es q. cc))
       unit_opens (elements.comp c key ps kids) form lists =
           subst (λ (fl : Flags). FlagsOpened new id fl (entry opened.kids.kids)) (sym (lists_of_component s cs c ps kids old (component_at s.program c) us fs (elements.comp c key ps kids) lists))
           (open_as (elements.comp c key ps kids) form (below_node s (flag us) cs (elements.comp c key ps kids) old)

@@ -6,7 +6,7 @@ use Rattle.std.proofs.Common.{refl, sym, ap, ◌∙◌, subst, inl, inr, add-one
 use Rattle.rx_base.specs.Awaits.{Awaits, has}
 use Rattle.rx_ast.specs.Syntax.{Program}
 use Rattle.rx_susp.specs.declared.boundary.BoundaryState.TheVariants.{Hidden}
-use Rattle.rx_elem.specs.Trees.{Forest, Instance, Mark, Node, child, children_of, instance_in, mark_of, node, none, of_boundary, of_host, of_instance, plain, vacant}
+use Rattle.rx_elem.specs.Trees.{Forest, Instance, Mark, Node, child, children_of, instance_in, mark_of, node, none, of_boundary, of_catcher, of_host, of_instance, plain, vacant}
 use Rattle.rx_elem.proofs.Deciding.{same_itself, same_number}
 use Rattle.rx_queue.specs.declared.entry.Entry.{Entry}
 use Rattle.rx_queue.specs.declared.entry.Standing.{Standing}
@@ -20,7 +20,7 @@ use Rattle.rx_meaning.specs.Again.{AreUnresolved}
 use Rattle.rx_meaning.specs.Expressions.{answers_of}
 use Rattle.rx_meaning.specs.Fresh.{Contexts, Sight, resources_seen, version_seen}
 use Rattle.rx_meaning.specs.Settled.{number_of, read_anew, refreshed}
-use Rattle.rx_meaning.specs.Touched.{sees_refresh}
+use Rattle.rx_meaning.specs.Touched.{may_throw_anew, sees_refresh}
 use Rattle.rx_model.specs.State.{Progress, State}
 use Rattle.rx_model.specs.Committing.{sight_of}
 use Rattle.rx_model.specs.HooksOf.{AreHooksFrom, KeepsAllHooks}
@@ -171,6 +171,7 @@ module _ (p : Program) (st : State) (g : Progress) (kept : ℕ → Option (List 
   some_news (of_host h) news has = let e = news.is_numbered in let q : ⊥ = cc in absurd q
   some_news plain news has = let e = news.is_numbered in let q : ⊥ = cc in absurd q
   some_news (of_boundary b) news has = let e = news.is_numbered in let q : ⊥ = cc in absurd q
+  some_news (of_catcher c) news has = let e = news.is_numbered in let q : ⊥ = cc in absurd q
 
   no_news : (i : Option Instance) → TellsNews kept g.lanes g.cut i false → IfMounted st.tree i → instance_news seen i ≡ false
   no_news None tells has = refl
@@ -217,24 +218,26 @@ module _ (p : Program) (st : State) (g : Progress) (kept : ℕ → Option (List 
   -- a boundary waits no longer if there is a cause to try its children again
   tried_is : (scene : Scene) (x : Node) (a : Awaits) → IsSceneOf scene seen → HasInstances st.tree x → mark_of x ≡ of_boundary (Hidden a) → HasCauseToTry scene kept a x → waits_still seen (Some x) ≡ false
   tried_is scene (node e m ns fs) a sees has mark cause =
-      let new : (sees_refresh seen || (has_value seen a || news_in seen ns)) ≡ true = elim cause [
-        | inl another ↦ or_left (sees_refresh seen) (has_value seen a || news_in seen ns) (sym sees.refreshes ∙ another)
-        | inr (inl value) ↦ or_right (sees_refresh seen) (has_value seen a || news_in seen ns) (or_left (has_value seen a) (news_in seen ns)
+      let new : (sees_refresh seen || (has_value seen a || (news_in seen ns || may_throw_anew seen))) ≡ true = elim cause [
+        | inl another ↦ or_left (sees_refresh seen) (has_value seen a || (news_in seen ns || may_throw_anew seen)) (sym sees.refreshes ∙ another)
+        | inr (inl throws) ↦ or_right (sees_refresh seen) (has_value seen a || (news_in seen ns || may_throw_anew seen)) (or_right (has_value seen a) (news_in seen ns || may_throw_anew seen)
+            (or_right (news_in seen ns) (may_throw_anew seen) (sym sees.throws ∙ throws)))
+        | inr (inr (inl value)) ↦ or_right (sees_refresh seen) (has_value seen a || (news_in seen ns || may_throw_anew seen)) (or_left (has_value seen a) (news_in seen ns || may_throw_anew seen)
             (has_some (λ r. is_some (slice_index_or (resources_seen seen) r None)) a value.resource value.awaited
             (is_some_of (slice_index_or (resources_seen seen) value.resource None) (subst (λ (xs : List (Option ℤ)). IsSome (slice_index_or xs value.resource None)) sees.resources value.value))))
-        | inr (inr news) ↦ or_right (sees_refresh seen) (has_value seen a || news_in seen ns) (or_right (has_value seen a) (news_in seen ns)
-            (news_found ns (subst (λ l. SomeNodeIn (λ m. HasNews kept l g.cut (instance_in m)) ns) (sym sees.lanes) (subst (λ c. SomeNodeIn (λ m. HasNews kept scene.lanes c (instance_in m)) ns) (sym sees.cut) news)) has.1))
+        | inr (inr (inr news)) ↦ or_right (sees_refresh seen) (has_value seen a || (news_in seen ns || may_throw_anew seen)) (or_right (has_value seen a) (news_in seen ns || may_throw_anew seen) (or_left (news_in seen ns) (may_throw_anew seen)
+            (news_found ns (subst (λ l. SomeNodeIn (λ m. HasNews kept l g.cut (instance_in m)) ns) (sym sees.lanes) (subst (λ c. SomeNodeIn (λ m. HasNews kept scene.lanes c (instance_in m)) ns) (sym sees.cut) news)) has.1)))
       ] in
       rw (mark, new) refl
 
-  -- and it waits still if no resource has another version, nothing that it awaits has a value, and what it keeps has no news
-  waits_is : (x : Node) (a : Awaits) → HasInstances st.tree x → mark_of x ≡ of_boundary (Hidden a) → sees_refresh seen ≡ false → AreUnresolved seen a → ForEachIn (λ i. TellsNews kept g.lanes g.cut i false) (children_of x) → waits_still seen (Some x) ≡ true
-  waits_is (node e m ns fs) a has mark calm unresolved each =
+  -- and it waits still if no resource has another version, nothing may throw anew, nothing that it awaits has a value, and what it keeps has no news
+  waits_is : (x : Node) (a : Awaits) → HasInstances st.tree x → mark_of x ≡ of_boundary (Hidden a) → sees_refresh seen ≡ false → may_throw_anew seen ≡ false → AreUnresolved seen a → ForEachIn (λ i. TellsNews kept g.lanes g.cut i false) (children_of x) → waits_still seen (Some x) ≡ true
+  waits_is (node e m ns fs) a has mark still calm unresolved each =
       let gone : has_value seen a ≡ false =
       has_none (λ r. is_some (slice_index_or (resources_seen seen) r None)) a a (λ r there. ap is_some (unresolved r there)) (λ r there. there)
       in
       let none : news_in seen ns ≡ false = none_found ns each has.1 in
-      rw (mark, calm, gone, none) refl
+      rw (mark, still, gone, none, calm) refl
 
   -- Rest
 
@@ -247,6 +250,7 @@ module _ (p : Program) (st : State) (g : Progress) (kept : ℕ → Option (List 
       go (Some n) e some = (n, e, sym (work_is i n false has e rests.1))
   undue_at (of_host h) has rests = tt
   undue_at (of_boundary b) has rests = tt
+  undue_at (of_catcher c) has rests = tt
   undue_at plain has rests = tt
 
   spared_off : (way : ℕ → Bool) (m : Mark) → is_spared way (Some m) ≡ true → (n : ℕ) × (number_of m ≡ Some n) × (way n ≡ false)
@@ -276,7 +280,7 @@ module _ (p : Program) (st : State) (g : Progress) (kept : ℕ → Option (List 
   tells_causes (node e m ns fs) has = record {
     called = λ scene cs calm sees tells. called_is scene cs (instance_in m) calm sees has.0 tells;
     tried = λ scene a sees mark cause. tried_is scene (node e m ns fs) a sees has mark cause;
-    waits = λ a mark calm unresolved each. waits_is (node e m ns fs) a has mark calm unresolved each;
+    waits = λ a mark still calm unresolved each. waits_is (node e m ns fs) a has mark still calm unresolved each;
     undue = λ way each covers. undue_tree way (node e m ns fs) has each covers;
   }
 

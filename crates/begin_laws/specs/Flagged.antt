@@ -12,8 +12,8 @@ use Rattle.rx_fiber.specs.Surround.{above_list, moved_along}
 use Rattle.rx_fiber.specs.Unwound.{is_trying}
 use Rattle.rx_complete.specs.declared.completing.Next.{Next}
 use Rattle.rx_complete.specs.declared.completing.Next.TheVariants.{Sibling, Parent, Done}
-use Rattle.cost_laws.specs.Evaluated.{Flag, above_root, after_attempt}
-use Rattle.cost_laws.specs.Left.{Flags, flag, outer, unwound}
+use Rattle.cost_laws.specs.Evaluated.{Flag, above_root, after_attempt, once_caught}
+use Rattle.cost_laws.specs.Left.{Flags, flag, outer, thrown_past, unwound}
 
 -- a fiber that waits is as a flag tells: its element is of the generation of the place, and its current fiber is visible exactly if the old node is
 abbrev pub IsTold : Flag → Fiber → Type 0
@@ -82,3 +82,8 @@ pub record HasUnwound (t new : Trees Fiber) (q : ℕ) (v : Fiber) (old : Option 
   pub flags : FlagsHere new q (taken shapes.none) (outer (unwound fs us))
   pub some : unwound fs us ≡ after_attempt (flag (outer (unwound fs us))) v.element node ∷ outer (unwound fs us)
   pub kept : (generation_of v.stage ≡ (flag (outer (unwound fs us))).generation) × ((origin_of v.stage).visible ≡ (flag (outer (unwound fs us))).visible)
+
+-- A throw has stopped at the error boundary of a fiber: its fallback has the flag of one that is made anew, as the boundary's own flag tells.
+pub record HasThrown (new : Trees Fiber) (q : ℕ) (fs : List Frame) (us : Flags) : Type 0 where
+  pub flags : FlagsHere new q (taken shapes.none) (outer (thrown_past fs us))
+  pub some : thrown_past fs us ≡ once_caught (flag (outer (thrown_past fs us))) ∷ outer (thrown_past fs us)

@@ -16,7 +16,7 @@ use Rattle.rx_fiber.specs.Standing.{is_stood}
 use Rattle.rx_fiber.specs.Surround.{IsElementOf}
 use Rattle.rx_meaning.specs.Again.{AreUnresolved}
 use Rattle.rx_ast.specs.Syntax.{Program}
-use Rattle.rx_meaning.specs.Touched.{is_memo, sees_refresh}
+use Rattle.rx_meaning.specs.Touched.{is_memo, may_throw_anew, sees_refresh}
 use Rattle.commit_laws.specs.Each as marks
 use Rattle.rx_ways.specs.Ways.{Covers}
 use Rattle.rx_causes.specs.Hidden.{ForEachIn, HasCauseToTry}
@@ -35,7 +35,7 @@ use Rattle.rx_begin.specs.Others.{IsCauseToTry}
 pub record TellsCauses (s : Sight) (kept : ℕ → Option (List Hook)) (x : Node) : Type 0 where
   pub called : (scene : Scene) (cs : Contexts) (calm : Bool) → IsSceneOf scene s → TellsCalm scene kept cs (instance_in (mark_of x)) calm → is_called s cs (instance_in (mark_of x)) ≡ not calm
   pub tried : (scene : Scene) (a : Awaits) → IsSceneOf scene s → mark_of x ≡ of_boundary (Hidden a) → HasCauseToTry scene kept a x → waits_still s (Some x) ≡ false
-  pub waits : (a : Awaits) → mark_of x ≡ of_boundary (Hidden a) → sees_refresh s ≡ false → AreUnresolved s a → ForEachIn (λ i. TellsNews kept s.lanes s.cut i false) (children_of x) → waits_still s (Some x) ≡ true
+  pub waits : (a : Awaits) → mark_of x ≡ of_boundary (Hidden a) → sees_refresh s ≡ false → may_throw_anew s ≡ false → AreUnresolved s a → ForEachIn (λ i. TellsNews kept s.lanes s.cut i false) (children_of x) → waits_still s (Some x) ≡ true
   pub undue : (way : ℕ → Bool) → EachBut way (Rests kept s.lanes s.cut) x → Covers way (IsUndue s) x → marks.ForEach (IsUndue s) x
 
 -- the same if there may be none

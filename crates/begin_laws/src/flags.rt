@@ -9,13 +9,13 @@ ghost use Rattle.rx_meaning.specs.Cursor.{Frame};
 ghost use Rattle.rx_fiber.specs.Fibers.{Fiber};
 ghost use Rattle.rx_fiber.specs.Surround.{moved_along};
 ghost use Rattle.rx_fiber.specs.Unwound.{IsWithin};
-ghost use Rattle.rx_complete.specs.Ends.{Outer, nearest, next_after};
+ghost use Rattle.rx_complete.specs.Ends.{Outer, nearest, nearest_catch, next_after};
 ghost use Rattle.cost_laws.specs.Evaluated.{Flag};
 ghost use Rattle.cost_laws.specs.Left.{Flags, flag, outer};
-ghost use Rattle.begin_laws.specs.Flagged.{AllBare, AreTold, KeepsTold, FlagsAfter, FlagsAtEnd, FlagsHere, FlagsOpened, HasUnwound};
+ghost use Rattle.begin_laws.specs.Flagged.{AllBare, AreTold, KeepsTold, FlagsAfter, FlagsAtEnd, FlagsHere, FlagsOpened, HasThrown, HasUnwound};
 
 /// Where a unit leads, the flags of the lists that are open go along: past a node that is completed or taken over, to the
-/// children or the fallback of one that is opened, and out of what a wait drops.
+/// children or the fallback of one that is opened, and out of what a wait or a throw drops.
 pub fn flags_are_kept()
     ensures completes { (t new : Trees Fiber) (q : ℕ) (us : Flags) (m : Fiber → Fiber) → Fits t → FlagsAtEnd t q us
         → new.draft ≡ valued q m t.draft → new.current ≡ t.current → FlagsAfter new (outer us) (next_after t.draft q) }
@@ -32,4 +32,7 @@ pub fn flags_are_kept()
     ensures unwinds { (t new : Trees Fiber) (st : Stack) (p : ℕ) (kids : Draft Fiber) (fs : List Frame) (us : Flags) → Fits t → (h : FlagsHere t p kids us) → IsWithin t st p fs
         → (u : Outer) → nearest h.around ≡ Some u → new.draft ≡ placed u.around (made u.id u.value u.old (taken shapes.none) u.rest) → new.current ≡ t.current
         → HasUnwound t new u.id u.value u.old fs us }
+    ensures throws_out { (t new : Trees Fiber) (st : Stack) (p : ℕ) (kids : Draft Fiber) (fs : List Frame) (us : Flags) → Fits t → (h : FlagsHere t p kids us) → IsWithin t st p fs
+        → (u : Outer) → nearest_catch h.around ≡ Some u → new.draft ≡ placed u.around (made u.id u.value u.old (taken shapes.none) u.rest) → new.current ≡ t.current
+        → HasThrown new u.id fs us }
 {}

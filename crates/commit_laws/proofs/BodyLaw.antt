@@ -2,18 +2,19 @@
 use Rattle.std.specs.List.{list_any}
 use Rattle.std.specs.Option.{option_eq}
 use Rattle.std.specs.Ordering.{int_eq}
-use Rattle.std.specs.Prelude.{Bool, List, None, Option, Some, [], false, length, map, nat_eq, nat_lt, not, pos, refl, slice_get, slice_index_or, suc, true, zero, ℕ, ℤ, ◌++◌, ◌+◌, ◌<◌, ◌∷◌, ◌≡◌}
+use Rattle.std.specs.Prelude.{Bool, List, None, Option, Some, [], false, length, map, nat_eq, nat_lt, not, pos, refl, if◌then◌else◌, slice_get, slice_index_or, suc, true, zero, ℕ, ℤ, ◌++◌, ◌+◌, ◌<◌, ◌∷◌, ◌≡◌}
 use Rattle.std.proofs.Common.{ap, append-nil, append_assoc, arith, subst, sym, ◌∙◌}
 use Rattle.std.proofs.lemmas.Bool.Decides.{Decides-int_eq, nat_tests}
 use Rattle.std.proofs.lemmas.List.{length-append}
-use Rattle.rx_ast.specs.Syntax.{Component, Program, Statement, body_slots, constant, context, contexts, effect, reducer, state, transition, use_resource}
+use Rattle.rx_base.specs.Arithmetic.{is_zero}
+use Rattle.rx_ast.specs.Syntax.{Component, Program, Statement, body_slots, constant, context, contexts, effect, reducer, state, throw_if, transition, use_resource}
 use Rattle.rx_rules.specs.Names.{context_number, resource_number, resources}
 use Rattle.rx_elem.specs.Elements.{Element}
 use Rattle.rx_elem.specs.declared.effect.ContextRead.{ContextRead}
 use Rattle.rx_elem.specs.declared.effect.EffectRecord.{EffectRecord}
 use Rattle.rx_elem.specs.declared.effect.VersionRead.{VersionRead}
 use Rattle.rx_queue.specs.Journal.{Resolution, value_in as value_by, values_at}
-use Rattle.rx_meaning.specs.Body.{Body, Frame, Inputs, Taken, and_then, body_of, bound, elements_of, finished, opening_frame, ready, stopped_at, take_all, take_one, taken, wait, with_hook, with_resource}
+use Rattle.rx_meaning.specs.Body.{Body, Frame, Inputs, Taken, and_then, body_of, bound, elements_of, finished, opening_frame, ready, stopped_at, take_all, take_one, taken, throw, thrown, wait, with_hook, with_resource, with_throw}
 use Rattle.rx_meaning.specs.Expressions.{value_in}
 use Rattle.rx_meaning.specs.Fresh.{before, resource_numbers}
 use Rattle.rx_meaning.specs.Touched.{is_read_anew}
@@ -40,10 +41,12 @@ record Grows (f g : Frame) : Type 0 where
 
 abbrev IfTaken : (Frame → Type 0) → Taken → Type 0
 IfTaken P (stopped_at r v) = Unit {0}
+IfTaken P (thrown x) = Unit {0}
 IfTaken P (taken g) = P g
 
 both_taken : {P Q R : Frame → Type 0} (t : Taken) → IfTaken P t → IfTaken Q t → ((g : Frame) → P g → Q g → R g) → IfTaken R t
 both_taken (stopped_at r v) h k f = tt
+both_taken (thrown x) h k f = tt
 both_taken (taken g) h k f = f g h k
 
 grows_itself : (f : Frame) → Grows f f
@@ -66,6 +69,21 @@ resource_grows name r v None f = tt
 resource_grows name r v (Some x) f =
     record { initials = begins_itself f.initials; reads = begins_itself f.reads; versions = ((record { resource = r; version = v }) ∷ [], refl) }
 
+-- a statement that throws changes nothing unless it does
+throw_takes : (P : Frame → Type 0) (x : ℤ) (f : Frame) → P f → IfTaken P (with_throw x f)
+throw_takes P x f h = go (is_zero x)
+  where
+    go : (b : Bool) → IfTaken P (if b then taken f else thrown x)
+    go true = h
+    go false = tt
+
+throw_same : (x : ℤ) (f : Frame) → IfTaken (λ g. with_throw x f ≡ taken g) (with_throw x f)
+throw_same x f = go (is_zero x) refl
+  where
+    go : (b : Bool) → is_zero x ≡ b → IfTaken (λ g. with_throw x f ≡ taken g) (if b then taken f else thrown x)
+    go true e = rw e refl
+    go false e = tt
+
 one_grows : (p : Program) (i : Inputs) (s : Statement) (f : Frame) → IfTaken (Grows f) (take_one p i s f)
 one_grows p i (state name setter e) f = hook_grows i.hooks name (value_in p f.env e) f
 one_grows p i (reducer name setter function e) f = hook_grows i.hooks name (value_in p f.env e) f
@@ -76,6 +94,7 @@ one_grows p i (use_resource name resource) f =
     resource_grows name (resource_number p resource) (slice_index_or i.versions (resource_number p resource) 0) (slice_index_or i.resources (resource_number p resource) None) f
 one_grows p i (constant name e) f = record { initials = begins_itself f.initials; reads = begins_itself f.reads; versions = begins_itself f.versions }
 one_grows p i (effect layout label depends) f = record { initials = begins_itself f.initials; reads = begins_itself f.reads; versions = begins_itself f.versions }
+one_grows p i (throw_if e) f = throw_takes (Grows f) (value_in p f.env e) f (grows_itself f)
 
 all_grow : (p : Program) (i : Inputs) (ss : List Statement) (f : Frame) → IfTaken (Grows f) (take_all p i ss f)
 all_grow p i [] f = grows_itself f
@@ -83,6 +102,7 @@ all_grow p i (s ∷ ss) f = go (take_one p i s f) (one_grows p i s f) (all_grow 
   where
     go : (t : Taken) → IfTaken (Grows f) t → ((g : Frame) → IfTaken (Grows g) (take_all p i ss g)) → IfTaken (Grows f) (and_then t (take_all p i ss))
     go (stopped_at r v) h k = tt
+    go (thrown x) h k = tt
     go (taken g) h k = both_taken {P = Grows g} {Q = Grows g} (take_all p i ss g) (k g) (k g) (λ m a b. grows_through f g m h a)
 
 -- Contexts, versions and resources
@@ -174,6 +194,10 @@ module _ (p : Program) (i : Inputs) (cs : List ℤ) (version : ℕ → ℕ) (vs 
       resource_agrees name (resource_number p resource) f (slice_index_or i.resources (resource_number p resource) None) refl
   one_agrees (constant name e) f = λ g grows a. refl
   one_agrees (effect layout label depends) f = λ g grows a. refl
+  one_agrees (throw_if e) f =
+      let same = throw_same (value_in p f.env e) f in
+      both_taken {P = λ g1. with_throw (value_in p f.env e) f ≡ taken g1} {Q = λ g1. with_throw (value_in p f.env e) f ≡ taken g1} (with_throw (value_in p f.env e) f) same same
+      (λ g1 is also g grows a. is)
 
   abbrev AllAgree : List Statement → Frame → Frame → Type 0
   AllAgree ss f g = Agrees i cs version vs res g.reads g.versions → take_all p with_others ss f ≡ taken g
@@ -185,6 +209,7 @@ module _ (p : Program) (i : Inputs) (cs : List ℤ) (version : ℕ → ℕ) (vs 
       go : (t : Taken) → IfTaken (OneAgrees s f) t → ((g : Frame) → IfTaken (AllAgree ss g) (take_all p i ss g))
           → IfTaken (AllAgree (s ∷ ss) f) (and_then t (take_all p i ss))
       go (stopped_at r v) h k = tt
+      go (thrown x) h k = tt
       go (taken g1) h k =
           both_taken {P = AllAgree ss g1} {Q = Grows g1} (take_all p i ss g1) (k g1) (all_grow p i ss g1)
           (λ g rest grows a. rw (h g grows a) (rest a))
@@ -198,6 +223,7 @@ module _ (p : Program) (i : Inputs) (cs : List ℤ) (version : ℕ → ℕ) (vs 
       go : (t : Taken) → IfTaken (AllAgree c.statements (opening_frame c i.props)) t → finished p i (body_slots c.body) t ≡ ready es effects initials reads versions
           → finished p with_others (body_slots c.body) (take_all p with_others c.statements (opening_frame c i.props)) ≡ ready es effects initials reads versions
       go (stopped_at r v) k same = absurd (cc same)
+      go (thrown x) k same = absurd (cc same)
       go (taken g) k same =
           let the_reads : reads ≡ g.reads = cc in
           let the_versions : versions ≡ g.versions = cc in
@@ -243,6 +269,7 @@ module _ (p : Program) (i : Inputs) (initials : List ℤ) where
       resource_counted name (resource_number p resource) (slice_index_or i.versions (resource_number p resource) 0) (slice_index_or i.resources (resource_number p resource) None) f h
   one_counted (constant name e) f h = h
   one_counted (effect layout label depends) f h = h
+  one_counted (throw_if e) f h = throw_takes IsCounted (value_in p f.env e) f h
 
   abbrev OneLater : Statement → Frame → Frame → Type 0
   OneLater s f g1 = (g : Frame) → Grows g1 g → Begins g.initials initials → take_one p once_mounted s (later f) ≡ taken (later g1)
@@ -260,6 +287,15 @@ module _ (p : Program) (i : Inputs) (initials : List ℤ) where
   resource_later name r v f None = tt
   resource_later name r v f (Some x) = λ g grows begins. refl
 
+  throw_later : (x : ℤ) (f : Frame)
+      → IfTaken (λ g1. (g : Frame) → Grows g1 g → Begins g.initials initials → with_throw x (later f) ≡ taken (later g1)) (with_throw x f)
+  throw_later x f = go (is_zero x) refl
+    where
+      go : (b : Bool) → is_zero x ≡ b
+          → IfTaken (λ g1. (g : Frame) → Grows g1 g → Begins g.initials initials → with_throw x (later f) ≡ taken (later g1)) (if b then taken f else thrown x)
+      go true e = λ g grows begins. rw e refl
+      go false e = tt
+
   one_later : (s : Statement) (f : Frame) → IsCounted f → IfTaken (OneLater s f) (take_one p at_mount s f)
   one_later (state name setter e) f h = hook_later name (value_in p f.env e) f h
   one_later (reducer name setter function e) f h = hook_later name (value_in p f.env e) f h
@@ -269,6 +305,7 @@ module _ (p : Program) (i : Inputs) (initials : List ℤ) where
       resource_later name (resource_number p resource) (slice_index_or i.versions (resource_number p resource) 0) f (slice_index_or i.resources (resource_number p resource) None)
   one_later (constant name e) f h = λ g grows begins. refl
   one_later (effect layout label depends) f h = λ g grows begins. refl
+  one_later (throw_if e) f h = throw_later (value_in p f.env e) f
 
   abbrev AllLater : List Statement → Frame → Frame → Type 0
   AllLater ss f g = Begins g.initials initials → take_all p once_mounted ss (later f) ≡ taken (later g)
@@ -280,6 +317,7 @@ module _ (p : Program) (i : Inputs) (initials : List ℤ) where
       go : (t : Taken) → IfTaken IsCounted t → IfTaken (OneLater s f) t → ((g : Frame) → IsCounted g → IfTaken (AllLater ss g) (take_all p at_mount ss g))
           → IfTaken (AllLater (s ∷ ss) f) (and_then t (take_all p at_mount ss))
       go (stopped_at r v) c h k = tt
+      go (thrown x) c h k = tt
       go (taken g1) c h k =
           both_taken {P = AllLater ss g1} {Q = Grows g1} (take_all p at_mount ss g1) (k g1 c) (all_grow p at_mount ss g1)
           (λ g rest grows begins. rw (h g grows begins) (rest begins))
@@ -292,6 +330,7 @@ module _ (p : Program) (i : Inputs) (initials : List ℤ) where
       go : (t : Taken) → IfTaken (AllLater c.statements (opening_frame c i.props)) t → finished p at_mount (body_slots c.body) t ≡ ready es effects initials reads versions
           → finished p once_mounted (body_slots c.body) (take_all p once_mounted c.statements (opening_frame c i.props)) ≡ ready es effects [] reads versions
       go (stopped_at r v) k same = absurd (cc same)
+      go (thrown x) k same = absurd (cc same)
       go (taken g) k same =
           let the_initials : initials ≡ g.initials = cc in
           let the_elements : elements_of p i.children g.env (body_slots c.body) ≡ es = cc in
@@ -348,6 +387,7 @@ one_read p i full (use_resource name resource) f d h =
     resource_read i name (resource_number p resource) (slice_index_or i.versions (resource_number p resource) 0) (slice_index_or i.resources (resource_number p resource) None) f h
 one_read p i full (constant name e) f d h = h
 one_read p i full (effect layout label depends) f d h = h
+one_read p i full (throw_if e) f d h = throw_takes (WasRead i) (value_in p f.env e) f h
 
 all_read : (p : Program) (i : Inputs) → IsFull p i.contexts → (ss : List Statement) (f : Frame) → AllDeclared p ss → WasRead i f → IfTaken (WasRead i) (take_all p i ss f)
 all_read p i full [] f d h = h
@@ -355,6 +395,7 @@ all_read p i full (s ∷ ss) f d h = go (take_one p i s f) (one_read p i full s 
   where
     go : (t : Taken) → IfTaken (WasRead i) t → ((g : Frame) → WasRead i g → IfTaken (WasRead i) (take_all p i ss g)) → IfTaken (WasRead i) (and_then t (take_all p i ss))
     go (stopped_at r v) k rest = tt
+    go (thrown x) k rest = tt
     go (taken g) k rest = rest g k
 
 pub body_read : (p : Program) (c : Component) (i : Inputs) (es : List Element) (effects : List EffectRecord) (initials : List ℤ) (reads : List ContextRead) (versions : List VersionRead)
@@ -365,6 +406,7 @@ body_read p c i es effects initials reads versions full declared h =
   where
     go : (t : Taken) → IfTaken (WasRead i) t → finished p i (body_slots c.body) t ≡ ready es effects initials reads versions → read_anew i.contexts reads ≡ false
     go (stopped_at r v) k same = absurd (cc same)
+    go (thrown x) k same = absurd (cc same)
     go (taken g) k same = let the_reads : g.reads ≡ reads = cc in subst (λ (x : List ContextRead). read_anew i.contexts x ≡ false) the_reads k
 
 -- The versions that a body read are those of the resources.
@@ -397,6 +439,7 @@ one_seen p version i is (use_resource name resource) f h =
     (is (resource_number p resource)) h
 one_seen p version i is (constant name e) f h = h
 one_seen p version i is (effect layout label depends) f h = h
+one_seen p version i is (throw_if e) f h = throw_takes (WasSeen version) (value_in p f.env e) f h
 
 all_seen : (p : Program) (version : ℕ → ℕ) (i : Inputs) → InVersions version i → (ss : List Statement) (f : Frame) → WasSeen version f → IfTaken (WasSeen version) (take_all p i ss f)
 all_seen p version i is [] f h = h
@@ -404,6 +447,7 @@ all_seen p version i is (s ∷ ss) f h = go (take_one p i s f) (one_seen p versi
   where
     go : (t : Taken) → IfTaken (WasSeen version) t → ((g : Frame) → WasSeen version g → IfTaken (WasSeen version) (take_all p i ss g)) → IfTaken (WasSeen version) (and_then t (take_all p i ss))
     go (stopped_at r v) k rest = tt
+    go (thrown x) k rest = tt
     go (taken g) k rest = rest g k
 
 pub body_seen : (p : Program) (c : Component) (i : Inputs) (version : ℕ → ℕ) → ((r : ℕ) (x : ℤ) → slice_index_or i.resources r None ≡ Some x → slice_index_or i.versions r 0 ≡ version r)
@@ -415,26 +459,36 @@ body_seen p c i version is es effects initials reads versions h =
   where
     go : (t : Taken) → IfTaken (WasSeen version) t → finished p i (body_slots c.body) t ≡ ready es effects initials reads versions → refreshed version versions ≡ false
     go (stopped_at r v) k same = absurd (cc same)
+    go (thrown x) k same = absurd (cc same)
     go (taken g) k same = let the_versions : g.versions ≡ versions = cc in subst (λ (x : List VersionRead). refreshed version x ≡ false) the_versions k
 
--- If more resources have values, a body that was ready is ready as before, and one that waits for a resource waits for it still, unless that one has a value.
+-- If more resources have values, a body that was ready is ready as before, one that threw throws the same, and one that waits for a resource waits for it still, unless that one has a value.
 
-abbrev IfWaits : (ℕ → ℕ → Type 0) → (Frame → Type 0) → Taken → Type 0
-IfWaits W T (stopped_at r v) = W r v
-IfWaits W T (taken g) = T g
+abbrev IfWaits : (ℕ → ℕ → Type 0) → (ℤ → Type 0) → (Frame → Type 0) → Taken → Type 0
+IfWaits W E T (stopped_at r v) = W r v
+IfWaits W E T (thrown x) = E x
+IfWaits W E T (taken g) = T g
 
 module _ (p : Program) (i : Inputs) (res : List (Option ℤ)) (more : (r : ℕ) (x : ℤ) → slice_index_or i.resources r None ≡ Some x → slice_index_or res r None ≡ Some x) where
   abbrev with_more : Inputs
   with_more = record i { resources = res }
 
   abbrev OneAgain : Statement → Frame → Taken → Type 0
-  OneAgain s f = IfWaits (λ r v. slice_index_or res r None ≡ None → take_one p with_more s f ≡ stopped_at r v) (λ g. take_one p with_more s f ≡ taken g)
+  OneAgain s f = IfWaits (λ r v. slice_index_or res r None ≡ None → take_one p with_more s f ≡ stopped_at r v) (λ x. take_one p with_more s f ≡ thrown x) (λ g. take_one p with_more s f ≡ taken g)
 
   resource_again : (name : _) (r v : ℕ) (f : Frame) (x : Option ℤ) → slice_index_or i.resources r None ≡ x
       → IfWaits (λ q w. slice_index_or res q None ≡ None → with_resource name r v (slice_index_or res r None) f ≡ stopped_at q w)
-      (λ g. with_resource name r v (slice_index_or res r None) f ≡ taken g) (with_resource name r v x f)
+      (λ y. with_resource name r v (slice_index_or res r None) f ≡ thrown y) (λ g. with_resource name r v (slice_index_or res r None) f ≡ taken g) (with_resource name r v x f)
   resource_again name r v f None same = λ none. rw none refl
   resource_again name r v f (Some x) same = rw (more r x same) refl
+
+  throw_again : (x : ℤ) (f : Frame) → IfWaits (λ q w. slice_index_or res q None ≡ None → with_throw x f ≡ stopped_at q w) (λ y. with_throw x f ≡ thrown y) (λ g. with_throw x f ≡ taken g) (with_throw x f)
+  throw_again x f = go (is_zero x) refl
+    where
+      go : (b : Bool) → is_zero x ≡ b
+          → IfWaits (λ q w. slice_index_or res q None ≡ None → with_throw x f ≡ stopped_at q w) (λ y. with_throw x f ≡ thrown y) (λ g. with_throw x f ≡ taken g) (if b then taken f else thrown x)
+      go true e = rw e refl
+      go false e = rw e refl
 
   one_again : (s : Statement) (f : Frame) → OneAgain s f (take_one p i s f)
   one_again (state name setter e) f = refl
@@ -445,9 +499,10 @@ module _ (p : Program) (i : Inputs) (res : List (Option ℤ)) (more : (r : ℕ) 
       resource_again name (resource_number p resource) (slice_index_or i.versions (resource_number p resource) 0) f (slice_index_or i.resources (resource_number p resource) None) refl
   one_again (constant name e) f = refl
   one_again (effect layout label depends) f = refl
+  one_again (throw_if e) f = throw_again (value_in p f.env e) f
 
   abbrev AllAgain : List Statement → Frame → Taken → Type 0
-  AllAgain ss f = IfWaits (λ r v. slice_index_or res r None ≡ None → take_all p with_more ss f ≡ stopped_at r v) (λ g. take_all p with_more ss f ≡ taken g)
+  AllAgain ss f = IfWaits (λ r v. slice_index_or res r None ≡ None → take_all p with_more ss f ≡ stopped_at r v) (λ x. take_all p with_more ss f ≡ thrown x) (λ g. take_all p with_more ss f ≡ taken g)
 
   all_take_again : (ss : List Statement) (f : Frame) → AllAgain ss f (take_all p i ss f)
   all_take_again [] f = refl
@@ -455,14 +510,17 @@ module _ (p : Program) (i : Inputs) (res : List (Option ℤ)) (more : (r : ℕ) 
     where
       then_all : (g : Frame) (t : Taken) → take_one p with_more s f ≡ taken g → AllAgain ss g t → AllAgain (s ∷ ss) f t
       then_all g (stopped_at r v) h k = λ none. rw h (k none)
+      then_all g (thrown x) h k = rw h k
       then_all g (taken m) h k = rw h k
 
       go : (t : Taken) → OneAgain s f t → ((g : Frame) → AllAgain ss g (take_all p i ss g)) → AllAgain (s ∷ ss) f (and_then t (take_all p i ss))
       go (stopped_at r v) h k = λ none. rw (h none) refl
+      go (thrown x) h k = rw h refl
       go (taken g) h k = then_all g (take_all p i ss g) h (k g)
 
   abbrev pub BodyAgain : Body → Body → Type 0
   BodyAgain (wait r v) b = slice_index_or res r None ≡ None → b ≡ wait r v
+  BodyAgain (throw x) b = b ≡ throw x
   BodyAgain (ready es effects initials reads versions) b = b ≡ ready es effects initials reads versions
 
   pub body_again : (c : Component) → BodyAgain (body_of p c i) (body_of p c with_more)
@@ -472,4 +530,5 @@ module _ (p : Program) (i : Inputs) (res : List (Option ℤ)) (more : (r : ℕ) 
       go : (t : Taken) → AllAgain c.statements (opening_frame c i.props) t
           → BodyAgain (finished p i (body_slots c.body) t) (finished p with_more (body_slots c.body) (take_all p with_more c.statements (opening_frame c i.props)))
       go (stopped_at r v) h = λ none. rw (h none) refl
+      go (thrown x) h = rw h refl
       go (taken g) h = rw h refl

@@ -1,12 +1,14 @@
 -- A body waits only for a resource that has no value.
 use Rattle.std.specs.List.{position_or_len}
-use Rattle.std.specs.Prelude.{Bool, List, None, Option, Some, [], bytes_eq, cond, false, filter_map, flat_map, length, nat_lt, refl, slice_get, slice_index_or, suc, true, unwrap_or, zero, ℕ, ℤ, ◌++◌, ◌<◌, ◌∷◌, ◌≡◌}
+use Rattle.std.specs.Prelude.{Bool, List, None, Option, Some, [], bytes_eq, if◌then◌else◌, cond, false, filter_map, flat_map, length, nat_lt, refl, slice_get, slice_index_or, suc, true, unwrap_or, zero, ℕ, ℤ, ◌++◌, ◌<◌, ◌∷◌, ◌≡◌}
 use Rattle.std.proofs.Common.{arith, subst, sym, ◌∙◌}
 use Rattle.std.proofs.lemmas.Bool.Decides.{nat_tests}
-use Rattle.rx_ast.specs.Syntax.{Component, Program, Statement, body_slots, components, constant, context, effect, reducer, state, transition, use_resource}
+use Rattle.rx_ast.specs.Syntax.{Component, Program, Statement, body_slots, components, constant, context, effect, reducer, state, throw_if, transition, use_resource}
+use Rattle.rx_base.specs.Arithmetic.{is_zero}
 use Rattle.rx_base.specs.Values.{Name}
 use Rattle.rx_rules.specs.Names.{component_at, distinct, resource_in, resource_number, resources, resources_of}
-use Rattle.rx_meaning.specs.Body.{Frame, Inputs, Taken, and_then, body_of, finished, opening_frame, stopped_at, take_all, take_one, taken, wait, with_resource}
+use Rattle.rx_meaning.specs.Body.{Frame, Inputs, Taken, and_then, body_of, finished, opening_frame, stopped_at, take_all, take_one, taken, thrown, wait, with_resource, with_throw}
+use Rattle.rx_meaning.specs.Expressions.{value_in}
 use Rattle.rx_meaning.specs.Fresh.{Sight, resources_seen, version_seen}
 use Rattle.rx_queue.specs.Journal.{resolutions_by, resolved_by}
 use Rattle.commit_laws.proofs.Versions.{value_at}
@@ -48,7 +50,15 @@ no_reads p h c d there = none_read d.statements (each_empty (components p) (dist
 
 abbrev StopsAt : List (Option ℤ) → ℕ → Taken → Type 0
 StopsAt res n (stopped_at r v) = (slice_index_or res r None ≡ None) × (r < n)
+StopsAt res n (thrown x) = Unit {0}
 StopsAt res n (taken f) = Unit {0}
+
+throw_stops : (res : List (Option ℤ)) (n : ℕ) (x : ℤ) (f : Frame) → StopsAt res n (with_throw x f)
+throw_stops res n x f = go (is_zero x)
+  where
+    go : (b : Bool) → StopsAt res n (if b then taken f else thrown x)
+    go true = tt
+    go false = tt
 
 one_stop : (name : Name) (r v n : ℕ) (res : List (Option ℤ)) (x : Option ℤ) (f : Frame) → slice_index_or res r None ≡ x → r < n → StopsAt res n (with_resource name r v x f)
 one_stop name r v n res None f e l = (e, l)
@@ -71,6 +81,7 @@ statement_stops p some i (use_resource name resource) f =
     one_stop name (resource_number p resource) (slice_index_or i.versions (resource_number p resource) 0) (length (resources p)) i.resources (slice_index_or i.resources (resource_number p resource) None) f refl (resource_within p some resource)
 statement_stops p some i (constant name e) f = tt
 statement_stops p some i (effect layout label depends) f = tt
+statement_stops p some i (throw_if e) f = throw_stops i.resources (length (resources p)) (value_in p f.env e) f
 
 statements_stop : (p : Program) → 0 < length (resources p) → (i : Inputs) (ss : List Statement) (f : Frame) → StopsAt i.resources (length (resources p)) (take_all p i ss f)
 statements_stop p some i [] f = tt
@@ -79,11 +90,20 @@ statements_stop p some i (s ∷ ss) f = go (take_one p i s f) (statement_stops p
     go : (t : Taken) → StopsAt i.resources (length (resources p)) t → ((g : Frame) → StopsAt i.resources (length (resources p)) (take_all p i ss g))
         → StopsAt i.resources (length (resources p)) (and_then t (take_all p i ss))
     go (stopped_at r v) h k = h
+    go (thrown x) h k = h
     go (taken g) h k = k g
 
 abbrev NeverStops : Taken → Type 0
 NeverStops (stopped_at r v) = ⊥
+NeverStops (thrown x) = Unit {0}
 NeverStops (taken f) = Unit {0}
+
+throw_goes_on : (x : ℤ) (f : Frame) → NeverStops (with_throw x f)
+throw_goes_on x f = go (is_zero x)
+  where
+    go : (b : Bool) → NeverStops (if b then taken f else thrown x)
+    go true = tt
+    go false = tt
 
 statement_goes_on : (p : Program) (i : Inputs) (s : Statement) (f : Frame) → resource_in s ≡ None → NeverStops (take_one p i s f)
 statement_goes_on p i (state name setter e) f h = tt
@@ -93,6 +113,7 @@ statement_goes_on p i (context name source) f h = tt
 statement_goes_on p i (use_resource name resource) f h = absurd (cc h)
 statement_goes_on p i (constant name e) f h = tt
 statement_goes_on p i (effect layout label depends) f h = tt
+statement_goes_on p i (throw_if e) f h = throw_goes_on (value_in p f.env e) f
 
 statements_go_on : (p : Program) (i : Inputs) (ss : List Statement) (f : Frame) → ReadsNone ss → NeverStops (take_all p i ss f)
 statements_go_on p i [] f h = tt
@@ -100,6 +121,7 @@ statements_go_on p i (s ∷ ss) f h = go (take_one p i s f) (statement_goes_on p
   where
     go : (t : Taken) → NeverStops t → ((g : Frame) → NeverStops (take_all p i ss g)) → NeverStops (and_then t (take_all p i ss))
     go (stopped_at r v) h k = absurd h
+    go (thrown x) h k = h
     go (taken g) h k = k g
 
 -- what the body of a component waits for is a resource without a value
@@ -112,10 +134,12 @@ body_stops p c d there i r v h = pick (length (resources p)) refl
     stops (stopped_at q w) x same =
         let equal : q ≡ r = cc in
         subst (λ (n : ℕ). (slice_index_or i.resources n None ≡ None) × (n < length (resources p))) equal x
+    stops (thrown y) x same = absurd (cc same)
     stops (taken f) x same = absurd (cc same)
 
     never : (t : Taken) → NeverStops t → finished p i (body_slots d.body) t ≡ wait r v → (slice_index_or i.resources r None ≡ None) × (r < length (resources p))
     never (stopped_at q w) x same = absurd x
+    never (thrown y) x same = absurd (cc same)
     never (taken f) x same = absurd (cc same)
 
     pick : (n : ℕ) → length (resources p) ≡ n → (slice_index_or i.resources r None ≡ None) × (r < length (resources p))

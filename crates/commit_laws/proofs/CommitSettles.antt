@@ -7,7 +7,7 @@ use Rattle.rx_rules.specs.Names.{component_at, component_number, root_name}
 use Rattle.rx_elem.specs.Elements.{Element, Elements, listed}
 use Rattle.rx_elem.specs.Numbers.{Numbers, numbered, numbered_host, numbered_in, numbered_instance, numbered_mark}
 use Rattle.rx_elem.specs.Spots.{kept_instances, visible_instances}
-use Rattle.rx_elem.specs.Trees.{Forest, Instance, Mark, Node, child, elements_in, is_hidden, node, none, of_boundary, of_host, of_instance, plain, vacant}
+use Rattle.rx_elem.specs.Trees.{Forest, Instance, Mark, Node, child, elements_in, is_hidden, node, none, of_boundary, of_catcher, of_host, of_instance, plain, vacant}
 use Rattle.rx_meaning.specs.Body.{Inputs, body_of, ready}
 use Rattle.rx_meaning.specs.Fresh.{Contexts, Place, Sight, before, default_contexts, default_of, depth_limit, fresh, made, place_of, rendered, resource_numbers, root_element, shape_of_component, values_of}
 use Rattle.rx_meaning.specs.Touched.{contexts_below}
@@ -24,7 +24,7 @@ use Rattle.rx_elem.specs.Elements as elements
 
 -- Numbering
 
-elements_stay : (c : Numbers) (ns : Forest) → elements_in (numbered_in c ns).1 ≡ elements_in ns
+pub elements_stay : (c : Numbers) (ns : Forest) → elements_in (numbered_in c ns).1 ≡ elements_in ns
 elements_stay c none = refl
 elements_stay c (vacant ns) = ap (λ es. elements.null ∷ es) (elements_stay c ns)
 elements_stay c (child (node e m ps fs) ns) = ap (λ es. e ∷ es) (elements_stay (numbered c (node e m ps fs)).0 ns)
@@ -45,6 +45,7 @@ mark_rises c (of_host h) = go h
     go (Some n) = omega arith
 mark_rises c plain = omega arith
 mark_rises c (of_boundary b) = omega arith
+mark_rises c (of_catcher k) = omega arith
 
 mutual
   pub number_rises : (c : Numbers) (n : Node) → c.instance ≤ (numbered c n).0.instance
@@ -69,6 +70,7 @@ hidden_stays c (of_host h) = go h
     go (Some n) = refl
 hidden_stays c plain = refl
 hidden_stays c (of_boundary b) = refl
+hidden_stays c (of_catcher k) = refl
 
 host_marked : (c : Numbers) (h : Option ℕ) → (g : Option ℕ) × ((numbered_host c h).1 ≡ of_host g)
 host_marked c None = (Some c.host, refl)
@@ -103,6 +105,10 @@ own_carried c visible kept v B D carry (elements.boundary key f es) m ns fs ms g
     inl (ap (λ (q : Mark). (numbered_mark c q).1) own.0, a ∙ own.1, y own.2)
 own_carried c visible kept v B D carry (elements.boundary key f es) m ns fs ms gs a b x y seen (inr own) =
     inr (own.0, ap (λ (q : Mark). (numbered_mark c q).1) own.1, x ∙ own.2)
+own_carried c visible kept v B D carry (elements.catcher key f es) m ns fs ms gs a b x y seen (inl own) =
+    inl (ap (λ (q : Mark). (numbered_mark c q).1) own.0, a ∙ own.1, y own.2)
+own_carried c visible kept v B D carry (elements.catcher key f es) m ns fs ms gs a b x y seen (inr own) =
+    inr (own.0, ap (λ (q : Mark). (numbered_mark c q).1) own.1, b own.2, x ∙ own.3)
 own_carried c visible kept v B D carry (elements.provider k key z es) m ns fs ms gs a b x y seen own =
     (ap (λ (q : Mark). (numbered_mark c q).1) own.0, a ∙ own.1, y own.2)
 

@@ -3,7 +3,7 @@ use Rattle.std.specs.List.{position_or_len}
 use Rattle.std.specs.Prelude.{List, [], bytes_eq, length, map, nat_lt, refl, ◌<◌, ◌∷◌, ◌≡◌}
 use Rattle.std.proofs.Common.{arith}
 use Rattle.std.proofs.lemmas.Bool.Decides.{nat_tests}
-use Rattle.rx_ast.specs.Syntax.{Context, Program, Statement, constant, context, contexts, effect, reducer, state, transition, use_resource}
+use Rattle.rx_ast.specs.Syntax.{Context, Program, Statement, constant, context, contexts, effect, reducer, state, throw_if, transition, use_resource}
 use Rattle.rx_base.specs.Values.{Name}
 use Rattle.rx_rules.specs.Names.{context_number, place_among}
 use Rattle.rx_rules.specs.Reads.{AllDeclared, IsDeclared, ReadsDeclared}
@@ -30,6 +30,7 @@ one_declared p some (context x c) = let lt = context_within p c some in grind (a
 one_declared p some (use_resource x r) = tt
 one_declared p some (constant x e) = tt
 one_declared p some (effect layout label es) = tt
+one_declared p some (throw_if e) = tt
 
 all_declared : (p : Program) → 0 < length (contexts p) → (ss : List Statement) → AllDeclared p ss
 all_declared p some [] = tt

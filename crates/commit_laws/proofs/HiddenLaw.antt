@@ -6,24 +6,28 @@ use Rattle.std.proofs.Common.{ap, subst, sym, ◌∙◌}
 use Rattle.rx_ast.specs.Syntax.{Component}
 use Rattle.rx_base.specs.Awaits.{Awaits}
 use Rattle.rx_base.specs.declared.cut.Cut.{Cut}
+use Rattle.rx_rules.specs.Bounds.{may_throw_in}
 use Rattle.rx_rules.specs.Names.{component_at}
 use Rattle.rx_elem.specs.Compare.{node_at, old_nodes}
 use Rattle.rx_elem.specs.Elements.{Element, Elements, listed}
 use Rattle.rx_elem.specs.Identity.{Child, identified, identities_after, is_same_child}
 use Rattle.rx_elem.specs.Numbers.{Numbers, numbered, numbered_host, numbered_in, numbered_instance, numbered_mark}
 use Rattle.rx_elem.specs.Spots.{Around, Mounted, Spot, around_children, at_root, mounted_as, mounted_at, numbers_of, spot_mark, spots, spots_in}
-use Rattle.rx_elem.specs.Trees.{Forest, Instance, Mark, Node, child, children_if, elements_in, fallback_if, instance_in, is_hidden, node, none, of_boundary, of_host, of_instance, places, plain, vacant}
-use Rattle.rx_meaning.specs.Body.{Body, body_of, ready, wait}
-use Rattle.rx_meaning.specs.Fresh.{Contexts, Place, Places, Sight, all_made, before, default_contexts, depth_limit, empty, fresh, inputs_at, instance_after, made, old_instance, one_waits, over, over_boundary, part, place, place_of, render_all, render_list, render_part, rendered, root_element, shape_of_body, shape_of_component, values_of, waits}
-use Rattle.rx_meaning.specs.Touched.{contexts_below, instances_in, sees_refresh}
+use Rattle.rx_elem.specs.Trees.{Forest, Instance, Mark, Node, child, children_if, elements_in, fallback_if, instance_in, is_caught, is_hidden, node, node_over, none, of_boundary, of_catcher, of_host, of_instance, old_caught, places, plain, vacant}
+use Rattle.rx_meaning.specs.Body.{Body, body_of, ready, throw, wait}
+use Rattle.rx_meaning.specs.Fresh.{Contexts, Place, Places, Sight, all_made, before, default_contexts, depth_limit, empty, fresh, inputs_at, instance_after, made, old_instance, one_throws, one_waits, over, over_boundary, over_catcher, part, place, place_of, render_all, render_list, render_part, rendered, root_element, shape_of_body, shape_of_catcher, shape_of_component, throws, values_of, versions_seen, waits}
+use Rattle.rx_meaning.specs.Touched.{contexts_below, instances_in, may_throw_anew, sees_refresh}
 use Rattle.rx_lane.specs.Lanes.{Lanes}
 use Rattle.rx_queue.specs.Journal.{Posted, Resolution, marked_update, resolutions_by}
 use Rattle.rx_susp.specs.declared.boundary.BoundaryState.TheVariants.{Hidden, Shown}
+use Rattle.rx_catch.specs.declared.state.CatchState.TheVariants.{Caught, Fine}
 use Rattle.rx_elem.proofs.Identities.{child_of}
+use Rattle.rx_elem.proofs.Over.{over_children}
 use Rattle.commit_laws.proofs.KeptValues.{values_again}
 use Rattle.commit_laws.proofs.Settling.{Among, among_first, among_rest}
 use Rattle.commit_laws.proofs.Soundness.{marked_hidden}
 use Rattle.commit_laws.proofs.VersionsStay.{accounted_done, versions_stay}
+use Rattle.commit_laws.proofs.ResourceLaws.{resources_again}
 use Rattle.commit_laws.proofs.WaitsAgain.{attempt_waits_again}
 use Rattle.rx_meaning.specs.Again.{AccountedBefore, AllOpen, AllValuesAgree, AreUnresolved, NoNewUpdate, ValuesAgree, WaitsAreSmall}
 use Rattle.commit_laws.specs.HiddenWaits.{AllHiddenWait, AllNumbered, AllSeen, HiddenWaits, IfNumbered, IsNumbered, Numbered, OwnWaits, Seen, journal_since, later_sight}
@@ -51,17 +55,22 @@ abbrev PlaceHides : ℕ → Sight → Contexts → Place → Type 0
 PlaceHides n s cs empty = Unit {0}
 PlaceHides n s cs (made x) = HiddenWaits n s cs x
 PlaceHides n s cs (waits a) = Unit {0}
+PlaceHides n s cs (throws x) = Unit {0}
 
 abbrev PlacesHide : ℕ → Sight → Contexts → Places → Type 0
 PlacesHide n s cs (all_made ns) = AllHiddenWait n s cs ns
 PlacesHide n s cs (one_waits a) = Unit {0}
+PlacesHide n s cs (one_throws x) = Unit {0}
 
 before_hides : (n : ℕ) (s : Sight) (cs : Contexts) (p : Place) (ps : Places) → PlaceHides n s cs p → PlacesHide n s cs ps → PlacesHide n s cs (before p ps)
 before_hides n s cs empty (all_made ns) h k = k
 before_hides n s cs empty (one_waits a) h k = tt
+before_hides n s cs empty (one_throws y) h k = tt
 before_hides n s cs (made x) (all_made ns) h k = (h, k)
 before_hides n s cs (made x) (one_waits a) h k = tt
+before_hides n s cs (made x) (one_throws y) h k = tt
 before_hides n s cs (waits a) ps h k = tt
+before_hides n s cs (throws x) ps h k = tt
 
 abbrev AllOld : List Element → List (Option Node) → Type 0
 AllOld [] olds = Unit {0}
@@ -106,17 +115,19 @@ list_hides : (n : ℕ) (s : Sight) → BelowHides n s → (cs : Contexts) (es : 
 list_hides n s below cs es old h = all_hide n s below cs es (old_nodes old es) (olds_numbered old h (identified (elements_in old)) [] es)
 
 -- a node over one list
-over_hides : (n : ℕ) (s : Sight) (cs ds : Contexts) (e : Element) (m : Mark) (ps : Places) → PlacesHide n s ds ps
+over_hides : (n : ℕ) (s : Sight) (cs ds : Contexts) (e : Element) (m : Mark) (ps : Places) → is_caught m ≡ false → PlacesHide n s ds ps
     → ((ns : Forest) → AllHiddenWait n s ds ns → HiddenWaits (suc n) s cs (node e m ns none)) → PlaceHides (suc n) s cs (over e m ps)
-over_hides n s cs ds e m (all_made ns) h f = f ns h
-over_hides n s cs ds e m (one_waits a) h f = tt
+over_hides n s cs ds e m (all_made ns) fine h f = subst (HiddenWaits (suc n) s cs) (sym (over_children e m ns fine)) (f ns h)
+over_hides n s cs ds e m (one_waits a) fine h f = tt
+over_hides n s cs ds e m (one_throws x) fine h f = tt
 
 body_hides : (n : ℕ) (s : Sight) → BelowHides n s → (cs : Contexts) (c : ℕ) (key : _) (props : _) (given : _) (old : Option Node) → IfNumbered old → (b : Body)
     → PlaceHides (suc n) s cs (place_of (rendered n s) (elements.comp c key props given) old (shape_of_body cs c old b))
 body_hides n s below cs c key props given old h (wait r v) = tt
+body_hides n s below cs c key props given old h (throw x) = tt
 body_hides n s below cs c key props given old h (ready es effects initials reads versions) =
     over_hides n s cs cs (elements.comp c key props given) (of_instance (instance_after c (old_instance old) initials reads versions effects))
-    (render_list (rendered n s cs) es (children_if old)) (list_hides n s below cs es (children_if old) (children_numbered old h)) (λ ns all. (tt, all, tt))
+    (render_list (rendered n s cs) es (children_if old)) refl (list_hides n s below cs es (children_if old) (children_numbered old h)) (λ ns all. (tt, all, tt))
 
 component_hides : (n : ℕ) (s : Sight) → BelowHides n s → (cs : Contexts) (c : ℕ) (key : _) (props : List ℤ) (given : Elements) (old : Option Node) → IfNumbered old → (d : Option Component)
     → PlaceHides (suc n) s cs (place_of (rendered n s) (elements.comp c key props given) old (shape_of_component s cs c props given old d))
@@ -129,22 +140,56 @@ parts_hide : (n : ℕ) (s : Sight) (cs : Contexts) (key : _) (f : Element) (es :
 parts_hide n s cs key f es old o (all_made ns) qs same h k = (tt, h, tt)
 parts_hide n s cs key f es old o (one_waits a) (all_made fs) same h k = ((same, children_numbered old o), tt, k)
 parts_hide n s cs key f es old o (one_waits a) (one_waits b) same h k = tt
+parts_hide n s cs key f es old o (one_waits a) (one_throws y) same h k = tt
+parts_hide n s cs key f es old o (one_throws x) qs same h k = tt
+
+-- an error boundary over its fallback
+caught_hides : (n : ℕ) (s : Sight) (cs : Contexts) (e : Element) (x : ℤ) (qs : Places) → PlacesHide n s cs qs → PlaceHides (suc n) s cs (over e (of_catcher (Caught x)) qs)
+caught_hides n s cs e x (all_made fs) k = (own_free e, tt, k)
+  where
+    own_free : (e : Element) → OwnWaits n s cs e (of_catcher (Caught x)) none
+    own_free elements.null = tt
+    own_free (elements.text t) = tt
+    own_free (elements.host name key attrs es) = tt
+    own_free (elements.comp c key props given) = tt
+    own_free (elements.list marked es) = tt
+    own_free (elements.boundary key f es) = tt
+    own_free (elements.catcher key f es) = tt
+    own_free (elements.provider c key z es) = tt
+caught_hides n s cs e x (one_waits a) k = tt
+caught_hides n s cs e x (one_throws y) k = tt
+
+guarded_hide : (n : ℕ) (s : Sight) (cs : Contexts) (key : _) (f : Element) (es : Elements) (ps qs : Places) → PlacesHide n s cs ps → PlacesHide n s cs qs
+    → PlaceHides (suc n) s cs (over_catcher (elements.catcher key f es) ps qs)
+guarded_hide n s cs key f es (all_made ns) qs h k = (tt, h, tt)
+guarded_hide n s cs key f es (one_waits a) qs h k = tt
+guarded_hide n s cs key f es (one_throws x) qs h k = caught_hides n s cs (elements.catcher key f es) x qs k
+
+catcher_hides : (n : ℕ) (s : Sight) → BelowHides n s → (cs : Contexts) (key : _) (f : Element) (es : Elements) (old : Option Node) → IfNumbered old → (o : Option ℤ)
+    → PlaceHides (suc n) s cs (place_of (rendered n s) (elements.catcher key f es) old (shape_of_catcher cs f es old o))
+catcher_hides n s below cs key f es old h None =
+    guarded_hide n s cs key f es (render_list (rendered n s cs) (listed es) (children_if old)) (render_list (rendered n s cs) (f ∷ []) none)
+    (list_hides n s below cs (listed es) (children_if old) (children_numbered old h)) (list_hides n s below cs (f ∷ []) none tt)
+catcher_hides n s below cs key f es old h (Some x) =
+    caught_hides n s cs (elements.catcher key f es) x (render_list (rendered n s cs) (f ∷ []) (fallback_if old))
+    (list_hides n s below cs (f ∷ []) (fallback_if old) (fallback_numbered old h))
 
 place_hides : (n : ℕ) (s : Sight) → BelowHides n s → (cs : Contexts) (e : Element) (old : Option Node) → IfNumbered old → PlaceHides (suc n) s cs (place (rendered n s) s cs e old)
 place_hides n s below cs elements.null old h = tt
 place_hides n s below cs (elements.text t) old h = (tt, tt, tt)
 place_hides n s below cs (elements.host name key attrs es) old h =
-    over_hides n s cs cs (elements.host name key attrs es) (of_host _) (render_list (rendered n s cs) (listed es) (children_if old))
+    over_hides n s cs cs (elements.host name key attrs es) (of_host _) (render_list (rendered n s cs) (listed es) (children_if old)) refl
     (list_hides n s below cs (listed es) (children_if old) (children_numbered old h)) (λ ns all. (tt, all, tt))
 place_hides n s below cs (elements.comp c key props given) old h = component_hides n s below cs c key props given old h (component_at s.program c)
 place_hides n s below cs (elements.list marked es) old h =
-    over_hides n s cs cs (elements.list marked es) plain (render_list (rendered n s cs) (listed es) (children_if old))
+    over_hides n s cs cs (elements.list marked es) plain (render_list (rendered n s cs) (listed es) (children_if old)) refl
     (list_hides n s below cs (listed es) (children_if old) (children_numbered old h)) (λ ns all. (tt, all, tt))
 place_hides n s below cs (elements.boundary key f es) old h =
     parts_hide n s cs key f es old h (render_list (rendered n s cs) (listed es) (children_if old)) (render_list (rendered n s cs) (f ∷ []) (fallback_if old)) refl
     (list_hides n s below cs (listed es) (children_if old) (children_numbered old h)) (list_hides n s below cs (f ∷ []) (fallback_if old) (fallback_numbered old h))
+place_hides n s below cs (elements.catcher key f es) old h = catcher_hides n s below cs key f es old h (old_caught old)
 place_hides n s below cs (elements.provider c key x es) old h =
-    over_hides n s cs (slice_set cs c x) (elements.provider c key x es) plain (render_list (rendered n s (slice_set cs c x)) (listed es) (children_if old))
+    over_hides n s cs (slice_set cs c x) (elements.provider c key x es) plain (render_list (rendered n s (slice_set cs c x)) (listed es) (children_if old)) refl
     (list_hides n s below (slice_set cs c x) (listed es) (children_if old) (children_numbered old h)) (λ ns all. (tt, all, tt))
 
 rendered_hides : (n : ℕ) (s : Sight) → BelowHides n s
@@ -167,6 +212,7 @@ mark_numbered c (of_host h) = go h
     go (Some n) = (n, refl)
 mark_numbered c plain = tt
 mark_numbered c (of_boundary b) = tt
+mark_numbered c (of_catcher k) = tt
 
 mutual
   pub numbering_numbers : (c : Numbers) (x : Node) → Numbered (numbered c x).1
@@ -187,6 +233,7 @@ mark_stays c (of_instance i) (n, h) = go i.number h
 mark_stays c (of_host h) (n, e) = rw e refl
 mark_stays c plain h = refl
 mark_stays c (of_boundary b) h = refl
+mark_stays c (of_catcher k) h = refl
 
 mutual
   number_stays : (c : Numbers) (x : Node) → Numbered x → numbered c x ≡ (c, x)
@@ -215,10 +262,12 @@ own_numbered n s cs c d (elements.boundary key f es) (of_host g) ns h = go g
     go None = tt
     go (Some k) = tt
 own_numbered n s cs c d (elements.boundary key f es) plain ns h = tt
+own_numbered n s cs c d (elements.boundary key f es) (of_catcher k) ns h = tt
 own_numbered n s cs c d (elements.boundary key f es) (of_boundary Shown) ns h = tt
 own_numbered n s cs c d (elements.boundary key f es) (of_boundary (Hidden a)) ns h =
     let same : ns ≡ (numbered_in d ns).1 = sym (ap (λ (x : Numbers × Forest). x.1) (numbers_stay d ns h.1)) in
     subst (λ (x : Forest). OwnWaits n s cs (elements.boundary key f es) (of_boundary (Hidden a)) x) same h
+own_numbered n s cs c d (elements.catcher key f es) m ns h = tt
 own_numbered n s cs c d (elements.provider k key x es) m ns h = tt
 
 map_hidden : (A B : Type 0) (b : Bool) → IfHidden b (Unit {0}) A → (A → B) → IfHidden b (Unit {0}) B
@@ -271,6 +320,7 @@ one_mounted a (of_instance i) ys = go i.number
 one_mounted a (of_host h) ys = refl
 one_mounted a plain ys = refl
 one_mounted a (of_boundary b) ys = refl
+one_mounted a (of_catcher k) ys = refl
 
 pub all_mounted : (xs : List Spot) → numbers_of (mounted_at xs) ≡ filter_map numbered_at xs
 all_mounted [] = refl
@@ -319,7 +369,7 @@ module _ (s : Sight) (lanes : Lanes) (cut : Cut) (visible kept set : List ℕ) (
     (old_calm : NoNewUpdate lanes cut set (map (marked_update s.lanes s.cut visible kept) s.journal.updates)) (new_calm : NoNewUpdate lanes cut set new) where
   -- a later sight, after the commit
   abbrev later : Sight
-  later = record s { journal = record { updates = map (marked_update s.lanes s.cut visible kept) s.journal.updates ++ new; resolutions = resolutions }; lanes = lanes; cut = cut }
+  later = later_sight s (journal_since s visible kept new resolutions) lanes cut
 
   instance_agrees : (i : Instance) (n : ℕ) → i.number ≡ Some n → includes kept n ≡ true → includes set n ≡ true → values_of s i ≡ values_of later i
   instance_agrees i n number is_kept is_in =
@@ -334,6 +384,7 @@ module _ (s : Sight) (lanes : Lanes) (cut : Cut) (visible kept set : List ℕ) (
     values_agree (node e plain ns fs) h k l = (tt, all_values_agree ns h.1 k.1 l.1, all_values_agree fs h.2 k.2 l.2)
     values_agree (node e (of_boundary Shown) ns fs) h k l = (tt, all_values_agree ns h.1 k.1 l.1, all_values_agree fs h.2 k.2 l.2)
     values_agree (node e (of_boundary (Hidden a)) ns fs) h k l = (tt, all_values_agree ns h.1 k.1 l.1, all_values_agree fs h.2 k.2 l.2)
+    values_agree (node e (of_catcher q) ns fs) h k l = (tt, all_values_agree ns h.1 k.1 l.1, all_values_agree fs h.2 k.2 l.2)
 
     pub all_values_agree : (ns : Forest) → AllNumbered ns → AllSeen visible kept false ns → AllNumbersIn set ns → AllValuesAgree s later ns
     all_values_agree none h k l = tt
@@ -348,10 +399,15 @@ pub untouched_waits : (s : Sight) (lanes : Lanes) (cut : Cut) (visible kept : Li
     → NoNewUpdate lanes cut (instances_in ns) (map (marked_update s.lanes s.cut visible kept) s.journal.updates) → NoNewUpdate lanes cut (instances_in ns) new
     → sees_refresh (later_sight s (journal_since s visible kept new resolutions) lanes cut) ≡ false
     → HasValuesOf (resolutions_by s.cut s.journal) (resolutions_by cut (journal_since s visible kept new resolutions))
+    → (may_throw_in s.program ≡ true → (s.cut.resolutions ≤ cut.resolutions) × (cut.resolutions ≡ s.cut.resolutions → resolutions_by s.cut s.journal ≡ resolutions_by cut (journal_since s visible kept new resolutions)))
+    → may_throw_anew (later_sight s (journal_since s visible kept new resolutions) lanes cut) ≡ false
     → AreUnresolved (later_sight s (journal_since s visible kept new resolutions) lanes cut) a
     → render_part (rendered n (later_sight s (journal_since s visible kept new resolutions) lanes cut)) (part cs (listed es) ns) ≡ one_waits a
-untouched_waits s lanes cut visible kept apart grows new resolutions accounted opened small n cs key f es a ns own seen old_calm new_calm no_refresh more unresolved =
-    attempt_waits_again s (journal_since s visible kept new resolutions) lanes cut small
-    (versions_stay s visible kept (accounted_done s.cut s.journal.updates accounted) new opened resolutions lanes cut no_refresh) more n (part cs (listed es) ns) a
+untouched_waits s lanes cut visible kept apart grows new resolutions accounted opened small n cs key f es a ns own seen old_calm new_calm no_refresh more as_many no_throw unresolved =
+    attempt_waits_again s (journal_since s visible kept new resolutions) lanes cut small versions_again more
+    (resources_again s (journal_since s visible kept new resolutions) lanes cut versions_again as_many no_throw) n (part cs (listed es) ns) a
     (all_values_agree s lanes cut visible kept (instances_in ns) apart grows new resolutions accounted opened old_calm new_calm ns own.1 seen (numbers_in_itself ns))
     own.0 unresolved
+  where
+    versions_again : versions_seen s ≡ versions_seen (later_sight s (journal_since s visible kept new resolutions) lanes cut)
+    versions_again = versions_stay s visible kept (accounted_done s.cut s.journal.updates accounted) new opened resolutions lanes cut no_refresh

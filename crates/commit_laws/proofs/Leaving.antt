@@ -1,24 +1,26 @@
 -- What a render leaves: each component as its body gave it, and what hidden boundaries keep as it was.
 use Rattle.std.specs.List.{zip}
 use Rattle.std.specs.Option.{option_flatten}
-use Rattle.std.specs.Prelude.{List, None, Option, Some, [], is_some, length, map, option_and_then, position, refl, slice_get, slice_index_or, slice_set, suc, true, zero, ℕ, ℤ, ◌++◌, ◌∷◌, ◌≡◌, ◌≤◌}
+use Rattle.std.specs.Prelude.{List, None, Option, Some, [], false, is_some, length, map, option_and_then, position, refl, slice_get, slice_index_or, slice_set, suc, true, zero, ℕ, ℤ, ◌++◌, ◌∷◌, ◌≡◌, ◌≤◌}
 use Rattle.std.proofs.Common.{ap, arith, inl, inr, subst, sym, ◌∙◌}
 use Rattle.rx_ast.specs.Syntax.{Component, Program}
 use Rattle.rx_rules.specs.Names.{component_at, resources}
 use Rattle.rx_elem.specs.Compare.{node_at, old_nodes}
 use Rattle.rx_elem.specs.Elements.{Element, Elements, gathered, listed}
 use Rattle.rx_elem.specs.Identity.{Child, identified, identities_after, is_same_child}
-use Rattle.rx_elem.specs.Trees.{Forest, Instance, Mark, Node, child, children_if, element_of, elements_in, fallback_if, instance_in, node, none, of_host, of_instance, places, plain, vacant}
+use Rattle.rx_elem.specs.Trees.{Forest, Instance, Mark, Node, child, children_if, element_of, elements_in, fallback_if, instance_in, is_caught, node, none, of_catcher, of_host, of_instance, old_caught, places, plain, vacant}
+use Rattle.rx_catch.specs.declared.state.CatchState.TheVariants.{Caught}
 use Rattle.rx_elem.specs.declared.effect.ContextRead.{ContextRead}
 use Rattle.rx_elem.specs.declared.effect.EffectRecord.{EffectRecord}
 use Rattle.rx_elem.specs.declared.effect.VersionRead.{VersionRead}
 use Rattle.rx_queue.specs.Journal.{resolutions_by, values_at}
 use Rattle.commit_laws.proofs.Versions.{value_there, version_at}
-use Rattle.rx_meaning.specs.Body.{Body, body_of, ready, wait}
-use Rattle.rx_meaning.specs.Fresh.{Contexts, Place, Places, Sight, all_made, before, empty, inputs_at, instance_after, made, old_host, old_instance, one_waits, over, over_boundary, place, place_of, render_all, render_list, rendered, resource_numbers, resources_seen, shape_of, shape_of_body, shape_of_component, version_seen, versions_seen, waits}
+use Rattle.rx_meaning.specs.Body.{Body, body_of, ready, throw, wait}
+use Rattle.rx_meaning.specs.Fresh.{Contexts, Place, Places, Sight, all_made, before, empty, inputs_at, instance_after, made, old_host, old_instance, one_throws, one_waits, over, over_boundary, over_catcher, place, place_of, render_all, render_list, rendered, resource_numbers, resources_seen, shape_of, shape_of_body, shape_of_catcher, shape_of_component, throws, version_seen, versions_seen, waits}
 use Rattle.commit_laws.proofs.BodyLaw.{IsFull, agreeing, body_agrees, body_read, body_seen}
 use Rattle.rx_meaning.proofs.Depths.{ShapeFits, shape_fits}
 use Rattle.rx_elem.proofs.Identities.{child_of}
+use Rattle.rx_elem.proofs.Over.{over_children}
 use Rattle.commit_laws.proofs.Naming.{AllNamed, HasComponents, Named, body_named, listed_named}
 use Rattle.rx_meaning.specs.Levels.{Fits, body_depth, elements_depth}
 use Rattle.commit_laws.proofs.Rendered.{AllRendered, IsBodyIn, IsRendered}
@@ -31,10 +33,12 @@ abbrev pub PlaceIs : Sight → Known → Contexts → Element → Place → Type
 PlaceIs s k cs e empty = e ≡ elements.null
 PlaceIs s k cs e (made n) = (element_of n ≡ e) × IsRendered s k cs n
 PlaceIs s k cs e (waits a) = Unit {0}
+PlaceIs s k cs e (throws x) = Unit {0}
 
 abbrev PlacesAre : Sight → Known → Contexts → List Element → Places → Type 0
 PlacesAre s k cs es (all_made ns) = (elements_in ns ≡ es) × AllRendered s k cs ns
 PlacesAre s k cs es (one_waits a) = Unit {0}
+PlacesAre s k cs es (one_throws x) = Unit {0}
 
 -- the old nodes of a list
 abbrev AllOld : Program → Known → List Element → List (Option Node) → Type 0
@@ -65,15 +69,19 @@ zero_is_null p (elements.host n key attrs es) h = absurd (omega arith)
 zero_is_null p (elements.comp c key props es) h = absurd (omega arith)
 zero_is_null p (elements.list marked es) h = absurd (omega arith)
 zero_is_null p (elements.boundary key f es) h = absurd (omega arith)
+zero_is_null p (elements.catcher key f es) h = absurd (omega arith)
 zero_is_null p (elements.provider c key x es) h = absurd (omega arith)
 
 before_is : (s : Sight) (k : Known) (cs : Contexts) (e : Element) (es : List Element) (p : Place) (ps : Places) → PlaceIs s k cs e p → PlacesAre s k cs es ps
     → PlacesAre s k cs (e ∷ es) (before p ps)
 before_is s k cs e es empty (all_made ns) h l = (rw (h, l.0) refl, l.1)
 before_is s k cs e es empty (one_waits a) h l = tt
+before_is s k cs e es empty (one_throws x) h l = tt
 before_is s k cs e es (made n) (all_made ns) h l = (rw (h.0, l.0) refl, (h.1, l.1))
 before_is s k cs e es (made n) (one_waits a) h l = tt
+before_is s k cs e es (made n) (one_throws x) h l = tt
 before_is s k cs e es (waits a) ps h l = tt
+before_is s k cs e es (throws x) ps h l = tt
 
 abbrev BelowIs : ℕ → Sight → Known → Type 0
 BelowIs n s k = (cs : Contexts) (e : Element) (old : Option Node) → IsFull s.program cs → Named s.program e → Fits n s.program e → IfSettled s.program k old → PlaceIs s k cs e (rendered n s cs e old)
@@ -116,6 +124,8 @@ own_number p k (elements.comp c key props given) m ns fs own i h =
 own_number p k (elements.list marked es) m ns fs own i h = absurd (no_instance (instance_in m) i (ap instance_in own.0) h)
 own_number p k (elements.boundary key f es) m ns fs (inl own) i h = absurd (no_instance (instance_in m) i (ap instance_in own.0) h)
 own_number p k (elements.boundary key f es) m ns fs (inr own) i h = absurd (no_instance (instance_in m) i (ap instance_in own.1) h)
+own_number p k (elements.catcher key f es) m ns fs (inl own) i h = absurd (no_instance (instance_in m) i (ap instance_in own.0) h)
+own_number p k (elements.catcher key f es) m ns fs (inr own) i h = absurd (no_instance (instance_in m) i (ap instance_in own.1) h)
 own_number p k (elements.provider c key x es) m ns fs own i h = absurd (no_instance (instance_in m) i (ap instance_in own.0) h)
 
 old_number : (p : Program) (k : Known) (old : Option Node) → IfSettled p k old → (i : Instance) → old_instance old ≡ Some i → (n : ℕ) × (i.number ≡ Some n)
@@ -174,10 +184,11 @@ body_is s k declared cs full c d found props given old settled es effects initia
 -- One place
 
 -- a node over one list
-over_is : (s : Sight) (k : Known) (cs ds : Contexts) (e : Element) (m : Mark) (es : List Element) (ps : Places) → PlacesAre s k ds es ps
+over_is : (s : Sight) (k : Known) (cs ds : Contexts) (e : Element) (m : Mark) (es : List Element) (ps : Places) → is_caught m ≡ false → PlacesAre s k ds es ps
     → ((ns : Forest) → elements_in ns ≡ es → AllRendered s k ds ns → IsRendered s k cs (node e m ns none)) → PlaceIs s k cs e (over e m ps)
-over_is s k cs ds e m es (all_made ns) h f = (refl, f ns h.0 h.1)
-over_is s k cs ds e m es (one_waits a) h f = tt
+over_is s k cs ds e m es (all_made ns) fine h f = subst (λ (n : Node). (element_of n ≡ e) × IsRendered s k cs n) (sym (over_children e m ns fine)) (refl, f ns h.0 h.1)
+over_is s k cs ds e m es (one_waits a) fine h f = tt
+over_is s k cs ds e m es (one_throws x) fine h f = tt
 
 set_length : (xs : List ℤ) (i : ℕ) (x : ℤ) → length (slice_set xs i x) ≡ length xs
 set_length [] i x = refl
@@ -193,11 +204,27 @@ parts_are s k cs key f es old (all_made ns) qs settled h l = (refl, (inl (refl, 
 parts_are s k cs key f es old (one_waits a) (all_made fs) settled h l =
     (refl, (inr (a, refl, l.0), children_settled s.program k old settled, l.1))
 parts_are s k cs key f es old (one_waits a) (one_waits b) settled h l = tt
+parts_are s k cs key f es old (one_waits a) (one_throws x) settled h l = tt
+parts_are s k cs key f es old (one_throws x) qs settled h l = tt
+
+-- an error boundary over its fallback
+caught_is : (s : Sight) (k : Known) (cs : Contexts) (key : _) (f : Element) (es : Elements) (x : ℤ) (qs : Places) → PlacesAre s k cs (f ∷ []) qs
+    → PlaceIs s k cs (elements.catcher key f es) (over (elements.catcher key f es) (of_catcher (Caught x)) qs)
+caught_is s k cs key f es x (all_made fs) l = (refl, (inr (x, refl, refl, l.0), tt, l.1))
+caught_is s k cs key f es x (one_waits a) l = tt
+caught_is s k cs key f es x (one_throws y) l = tt
+
+guarded_is : (s : Sight) (k : Known) (cs : Contexts) (key : _) (f : Element) (es : Elements) (ps qs : Places) → PlacesAre s k cs (listed es) ps → PlacesAre s k cs (f ∷ []) qs
+    → PlaceIs s k cs (elements.catcher key f es) (over_catcher (elements.catcher key f es) ps qs)
+guarded_is s k cs key f es (all_made ns) qs h l = (refl, (inl (refl, h.0, refl), h.1, tt))
+guarded_is s k cs key f es (one_waits a) qs h l = tt
+guarded_is s k cs key f es (one_throws x) qs h l = caught_is s k cs key f es x qs l
 
 body_depth_is : (n : ℕ) (s : Sight) (cs : Contexts) (c : ℕ) (old : Option Node) (b : Body) → ShapeFits n s.program (shape_of_body cs c old b)
     → (es : List Element) (effects : List EffectRecord) (initials : List ℤ) (reads : List ContextRead) (versions : List VersionRead) → b ≡ ready es effects initials reads versions
     → elements_depth (body_depth n s.program) (gathered es) ≤ n
 body_depth_is n s cs c old (wait r v) h es effects initials reads versions same = absurd (cc same)
+body_depth_is n s cs c old (throw x) h es effects initials reads versions same = absurd (cc same)
 body_depth_is n s cs c old (ready xs e i r v) h es effects initials reads versions same =
     let equal : xs ≡ es = cc in subst (λ (ys : List Element). elements_depth (body_depth n s.program) (gathered ys) ≤ n) equal h
 
@@ -213,9 +240,10 @@ module _ (s : Sight) (k : Known) (declared : ReadsDeclared s.program) (some : Ha
           → ShapeFits n s.program (shape_of_body cs c old b)
           → PlaceIs s k cs (elements.comp c key props given) (place_of (rendered n s) (elements.comp c key props given) old (shape_of_body cs c old b))
       given_body d there (wait r v) same fit = tt
+      given_body d there (throw x) same fit = tt
       given_body d there (ready es effects initials reads versions) same fit =
           over_is s k cs cs (elements.comp c key props given) (of_instance (instance_after c (old_instance old) initials reads versions effects)) es
-          (render_list (rendered n s cs) es (children_if old))
+          (render_list (rendered n s cs) es (children_if old)) refl
           (list_is n s k below cs es (children_if old) full
           (body_named s.program some d (inputs_at s cs props given (old_instance old)) (listed_named s.program given named.1) es effects initials reads versions same)
           fit (children_settled s.program k old settled))
@@ -235,17 +263,28 @@ module _ (s : Sight) (k : Known) (declared : ReadsDeclared s.program) (some : Ha
       found None same h fit = absurd (cc h)
       found (Some d) same h fit = given_body d same (body_of s.program d (inputs_at s cs props given (old_instance old))) refl fit
 
+  catcher_is : (n : ℕ) → BelowIs n s k → (cs : Contexts) → IsFull s.program cs → (key : _) (f : Element) (es : Elements) (old : Option Node) → Named s.program (elements.catcher key f es)
+      → IfSettled s.program k old → (caught : Option ℤ) → ShapeFits n s.program (shape_of_catcher cs f es old caught)
+      → PlaceIs s k cs (elements.catcher key f es) (place_of (rendered n s) (elements.catcher key f es) old (shape_of_catcher cs f es old caught))
+  catcher_is n below cs full key f es old named settled None fit =
+      guarded_is s k cs key f es (render_list (rendered n s cs) (listed es) (children_if old)) (render_list (rendered n s cs) (f ∷ []) none)
+      (list_is n s k below cs (listed es) (children_if old) full (listed_named s.program es named.1) fit.0 (children_settled s.program k old settled))
+      (list_is n s k below cs (f ∷ []) none full (named.0, tt) fit.1 tt)
+  catcher_is n below cs full key f es old named settled (Some x) fit =
+      caught_is s k cs key f es x (render_list (rendered n s cs) (f ∷ []) (fallback_if old))
+      (list_is n s k below cs (f ∷ []) (fallback_if old) full (named.0, tt) fit (fallback_settled s.program k old settled))
+
   place_is : (n : ℕ) → BelowIs n s k → (cs : Contexts) (e : Element) (old : Option Node) → IsFull s.program cs → Named s.program e → Fits (suc n) s.program e → IfSettled s.program k old
       → PlaceIs s k cs e (place (rendered n s) s cs e old)
   place_is n below cs elements.null old full named fits settled = refl
   place_is n below cs (elements.text t) old full named fits settled = (refl, ((old_host old, refl, refl, refl), tt, tt))
   place_is n below cs (elements.host name key attrs es) old full named fits settled =
-      over_is s k cs cs (elements.host name key attrs es) (of_host (old_host old)) (listed es) (render_list (rendered n s cs) (listed es) (children_if old))
+      over_is s k cs cs (elements.host name key attrs es) (of_host (old_host old)) (listed es) (render_list (rendered n s cs) (listed es) (children_if old)) refl
       (list_is n s k below cs (listed es) (children_if old) full (listed_named s.program es named) (shape_fits n s cs (elements.host name key attrs es) old fits) (children_settled s.program k old settled))
       (λ ns elems all. ((old_host old, refl, elems, refl), all, tt))
   place_is n below cs (elements.comp c key props given) old full named fits settled = comp_is n below cs full c key props given old named fits settled
   place_is n below cs (elements.list marked es) old full named fits settled =
-      over_is s k cs cs (elements.list marked es) plain (listed es) (render_list (rendered n s cs) (listed es) (children_if old))
+      over_is s k cs cs (elements.list marked es) plain (listed es) (render_list (rendered n s cs) (listed es) (children_if old)) refl
       (list_is n s k below cs (listed es) (children_if old) full (listed_named s.program es named) (shape_fits n s cs (elements.list marked es) old fits) (children_settled s.program k old settled))
       (λ ns elems all. ((refl, elems, refl), all, tt))
   place_is n below cs (elements.boundary key f es) old full named fits settled =
@@ -253,8 +292,10 @@ module _ (s : Sight) (k : Known) (declared : ReadsDeclared s.program) (some : Ha
       parts_are s k cs key f es old (render_list (rendered n s cs) (listed es) (children_if old)) (render_list (rendered n s cs) (f ∷ []) (fallback_if old)) settled
       (list_is n s k below cs (listed es) (children_if old) full (listed_named s.program es named.1) parts.0 (children_settled s.program k old settled))
       (list_is n s k below cs (f ∷ []) (fallback_if old) full (named.0, tt) parts.1 (fallback_settled s.program k old settled))
+  place_is n below cs (elements.catcher key f es) old full named fits settled =
+      catcher_is n below cs full key f es old named settled (old_caught old) (shape_fits n s cs (elements.catcher key f es) old fits)
   place_is n below cs (elements.provider c key x es) old full named fits settled =
-      over_is s k cs (slice_set cs c x) (elements.provider c key x es) plain (listed es) (render_list (rendered n s (slice_set cs c x)) (listed es) (children_if old))
+      over_is s k cs (slice_set cs c x) (elements.provider c key x es) plain (listed es) (render_list (rendered n s (slice_set cs c x)) (listed es) (children_if old)) refl
       (list_is n s k below (slice_set cs c x) (listed es) (children_if old) (full_set s.program cs c x full) (listed_named s.program es named)
       (shape_fits n s cs (elements.provider c key x es) old fits) (children_settled s.program k old settled))
       (λ ns elems all. ((refl, elems, refl), all, tt))

@@ -11,6 +11,7 @@ pub mod OwnNumbers
 pub mod Soundness
 pub mod CalmLanes
 pub mod StillUntouched
+pub mod NeverThrows
 pub mod WaitsAgain
 pub mod SmallWaits
 pub mod ResourceLaws
@@ -23,3 +24,4 @@ pub mod NoneLost
 pub mod BodyWaits
 pub mod OpenAwaits
 pub mod NewlyHidden
+pub mod Catching

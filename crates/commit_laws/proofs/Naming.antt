@@ -11,7 +11,7 @@ use Rattle.rx_elem.specs.Elements.{Element, Elements, gathered, listed}
 use Rattle.rx_elem.specs.declared.effect.ContextRead.{ContextRead}
 use Rattle.rx_elem.specs.declared.effect.EffectRecord.{EffectRecord}
 use Rattle.rx_elem.specs.declared.effect.VersionRead.{VersionRead}
-use Rattle.rx_meaning.specs.Body.{Inputs, Taken, body_of, elements_of, finished, opening_frame, ready, stopped_at, take_all, taken, turns}
+use Rattle.rx_meaning.specs.Body.{Inputs, Taken, body_of, elements_of, finished, opening_frame, ready, stopped_at, take_all, taken, thrown, turns}
 use Rattle.rx_meaning.specs.Expressions.{Env, value_in}
 use Rattle.rx_meaning.proofs.Depths.{gathered-listed}
 use Rattle.rx_elem.specs.Elements as elements
@@ -27,6 +27,7 @@ abbrev mutual
   Named p (elements.comp c k ps es) = (is_some (component_at p c) ≡ true) × AllNamed p es
   Named p (elements.list marked es) = AllNamed p es
   Named p (elements.boundary k f es) = Named p f × AllNamed p es
+  Named p (elements.catcher k f es) = Named p f × AllNamed p es
   Named p (elements.provider c k x es) = AllNamed p es
 
   pub AllNamed : Program → Elements → Type 0
@@ -87,6 +88,7 @@ mutual
   slot_named p some kids h env (syntax.host n attrs w ss) = slots_named p some kids h env ss
   slot_named p some kids h env (syntax.comp n attrs w ss) = (number_named p n some, slots_named p some kids h env ss)
   slot_named p some kids h env (syntax.boundary k f w ss) = (slot_named p some kids h env f, slots_named p some kids h env ss)
+  slot_named p some kids h env (syntax.catcher k f w ss) = (slot_named p some kids h env f, slots_named p some kids h env ss)
   slot_named p some kids h env (syntax.provider n k e w ss) = slots_named p some kids h env ss
   slot_named p some kids h env (syntax.enclosed b s) = slot_named p some kids h env s
 
@@ -102,6 +104,7 @@ body_named p some c i h es effects initials reads versions same = go (take_all p
   where
     go : (t : Taken) → finished p i (body_slots c.body) t ≡ ready es effects initials reads versions → AllNamed p (gathered es)
     go (stopped_at r v) same = absurd (cc same)
+    go (thrown x) same = absurd (cc same)
     go (taken f) same =
         let equal : elements_of p i.children f.env (body_slots c.body) ≡ es = cc in
         subst (λ (xs : List Element). AllNamed p (gathered xs)) equal (slots_named p some i.children h f.env (body_slots c.body))

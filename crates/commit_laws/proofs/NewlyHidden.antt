@@ -1,7 +1,7 @@
 -- What a render would hide anew, and what is hidden and visible after a commit, awaits only what has no value that the render sees.
 use Rattle.std.specs.List.{list_any, zip}
-use Rattle.std.specs.Prelude.{Bool, List, None, Option, Some, [], cond, false, filter, fold, length, map, option_and_then, position, refl, true, ℕ, ◌||◌, ◌++◌, ◌∷◌, ◌≡◌, ◌≤◌}
-use Rattle.std.proofs.Common.{ap, arith, subst, sym, ◌∙◌}
+use Rattle.std.specs.Prelude.{Bool, List, None, Option, Some, [], cond, false, filter, fold, length, map, option_and_then, position, refl, true, ℕ, ◌||◌, ◌++◌, ◌∷◌, ◌≡◌, ◌≤◌, ◌⊎◌}
+use Rattle.std.proofs.Common.{ap, arith, inl, inr, subst, sym, ◌∙◌}
 use Rattle.std.proofs.lemmas.List.{length-map}
 use Rattle.rx_ast.specs.Syntax.{Program}
 use Rattle.rx_base.specs.Awaits.{Awaits}
@@ -11,7 +11,7 @@ use Rattle.rx_elem.specs.Elements.{Element}
 use Rattle.rx_elem.specs.Identity.{Child, identified, identities_after, is_same_child, moves, moves_after, old_places}
 use Rattle.rx_elem.specs.Numbers.{Numbers, numbered, numbered_in, numbered_instance, numbered_mark}
 use Rattle.rx_elem.specs.Spots.{Around, Spot, around_children, at_root, spot_mark, spots, spots_in}
-use Rattle.rx_elem.specs.Trees.{Forest, Mark, Node, awaits_in, boundary_in, child, children_if, elements_in, fallback_if, is_hidden, mark_of, node, none, of_boundary, of_host, of_instance, places, plain, vacant}
+use Rattle.rx_elem.specs.Trees.{Forest, Mark, Node, awaits_in, boundary_in, child, children_if, elements_in, fallback_if, is_hidden, mark_of, node, none, of_boundary, of_catcher, of_host, of_instance, places, plain, vacant}
 use Rattle.rx_meaning.specs.Fresh.{Sight, depth_limit, fresh, made, version_seen}
 use Rattle.rx_meaning.specs.Outcome.{all_awaits, hides_shown, newly_hidden, old_state, visible_awaits}
 use Rattle.rx_meaning.specs.Settled.{AllSettled, IfHidden, IfSettled, IsSettled, Known}
@@ -137,11 +137,15 @@ module _ (s : Sight) (p : Program) (k : Known) where
             (pasts_old (children_if q.old) (elements_in ns)
             ∙ (ap (λ (xs : Forest). old_nodes xs (elements_in ns)) (sym same) ∙ matches_itself ns (settled_no_null p k ns settled_kids))) settled_kids
 
-        kids : (b : Bool) → IfHidden b (ns ≡ children_if q.old) (AllHeld s (old_nodes (children_if q.old) (elements_in ns)) ns)
+        nothing_kept : (b : Above) (qs : List Past) (xs : Forest) → xs ≡ none → AllOpenIfNew s (changes_in (compare_in b qs xs))
+        nothing_kept b qs xs same = subst (λ (ys : Forest). AllOpenIfNew s (changes_in (compare_in b qs ys))) (sym same) tt
+
+        kids : (b : Bool) → IfHidden b ((ns ≡ children_if q.old) ⊎ (ns ≡ none)) (AllHeld s (old_nodes (children_if q.old) (elements_in ns)) ns)
             → (AllHeld s (old_nodes (children_if q.old) (elements_in ns)) ns
             → AllOpenIfNew s (changes_in (compare_in (above_children (change_of a q (node e m ns fs))) (pasts (children_if q.old) (elements_in ns)) ns)))
             → AllOpenIfNew s (changes_in (compare_in (above_children (change_of a q (node e m ns fs))) (pasts (children_if q.old) (elements_in ns)) ns))
-        kids true x f = kept x
+        kids true (inl x) f = kept x
+        kids true (inr x) f = nothing_kept (above_children (change_of a q (node e m ns fs))) (pasts (children_if q.old) (elements_in ns)) ns x
         kids false x f = f x
 
     all_held_open : (a : Above) (qs : List Past) (ns : Forest) → OldsSettled (map (λ (q : Past). q.old) qs) → AllHeld s (map (λ (q : Past). q.old) qs) ns
@@ -216,6 +220,7 @@ numbered_awaits c (of_instance i) = go i.number
 numbered_awaits c (of_host None) = refl
 numbered_awaits c (of_host (Some n)) = refl
 numbered_awaits c (of_boundary b) = refl
+numbered_awaits c (of_catcher k) = refl
 numbered_awaits c plain = refl
 
 mutual
@@ -227,7 +232,7 @@ mutual
         (all_seen_open s a (numbered_in (numbered_mark c m).0 ns).0 (old_nodes (fallback_if old) (elements_in fs)) fs h.2),
   )
     where
-      kids : (b : Bool) → is_hidden m ≡ b → IfHidden b (ns ≡ children_if old) (AllHeld s (old_nodes (children_if old) (elements_in ns)) ns)
+      kids : (b : Bool) → is_hidden m ≡ b → IfHidden b ((ns ≡ children_if old) ⊎ (ns ≡ none)) (AllHeld s (old_nodes (children_if old) (elements_in ns)) ns)
           → (AllHeld s (old_nodes (children_if old) (elements_in ns)) ns → SpotsOpen s (spots_in (around_children a (numbered_mark c m).1) (numbered_in (numbered_mark c m).0 ns).1))
           → SpotsOpen s (spots_in (around_children a (numbered_mark c m).1) (numbered_in (numbered_mark c m).0 ns).1)
       kids true e x f =

@@ -14,10 +14,12 @@ use Rattle.rx_elem.specs.Elements.{Element, Elements, key_of, kind_of, listed, s
 use Rattle.rx_elem.specs.Identity.{Child, Identity, identities, identities_after, identity_after, is_same_child, same_identity}
 use Rattle.rx_elem.specs.Numbers.{Numbers, numbered, numbered_host, numbered_in, numbered_instance, numbered_mark}
 use Rattle.rx_elem.specs.Spots.{Around, Spot, around_children, at_root, spot_mark, spots, spots_in, visible_instances}
-use Rattle.rx_elem.specs.Trees.{Forest, Mark, Node, child, children_if, element_of, elements_in, fallback_if, node, none, of_boundary, of_host, of_instance, places, plain, vacant}
-use Rattle.rx_meaning.specs.Body.{Body, body_of, ready, wait}
-use Rattle.rx_meaning.specs.Fresh.{Contexts, Place, Places, Renders, Sight, all_made, before, default_contexts, depth_limit, empty, fresh, inputs_at, instance_after, made, old_instance, one_waits, over, over_boundary, place, place_of, render_all, render_list, rendered, root_element, shape_of_body, shape_of_component, waits}
+use Rattle.rx_elem.specs.Trees.{Forest, Mark, Node, child, children_if, element_of, elements_in, fallback_if, is_caught, node, node_over, none, of_boundary, of_catcher, of_host, of_instance, old_caught, places, plain, vacant}
+use Rattle.rx_catch.specs.declared.state.CatchState.TheVariants.{Caught}
+use Rattle.rx_meaning.specs.Body.{Body, body_of, ready, throw, wait}
+use Rattle.rx_meaning.specs.Fresh.{Contexts, Place, Places, Renders, Sight, all_made, before, default_contexts, depth_limit, empty, fresh, inputs_at, instance_after, made, old_instance, one_throws, one_waits, over, over_boundary, over_catcher, place, place_of, render_all, render_list, rendered, root_element, shape_of_body, shape_of_catcher, shape_of_component, throws, waits}
 use Rattle.commit_laws.proofs.CommitSettles.{mark_rises, number_rises, numbers_rise}
+use Rattle.rx_elem.proofs.Over.{over_children, over_fallback}
 use Rattle.rx_elem.proofs.Identities.{Distinct, child_of, distinct_after, distinct_equals, equals}
 use Rattle.commit_laws.proofs.Settling.{kept_at, kept_listed, number_if, visible_at, visible_listed}
 use Rattle.commit_laws.proofs.Rendered.{AreApart}
@@ -162,17 +164,22 @@ abbrev pub CountIs : ℕ → ℕ → Place → Type 0
 CountIs n most empty = Unit {0}
 CountIs n most (made x) = times_numbered n x ≤ most
 CountIs n most (waits a) = Unit {0}
+CountIs n most (throws x) = Unit {0}
 
 abbrev CountsAre : ℕ → ℕ → Places → Type 0
 CountsAre n most (all_made ns) = times_numbered_in n ns ≤ most
 CountsAre n most (one_waits a) = Unit {0}
+CountsAre n most (one_throws x) = Unit {0}
 
 before_counts : (n x y : ℕ) (p : Place) (ps : Places) → CountIs n x p → CountsAre n y ps → CountsAre n (x + y) (before p ps)
 before_counts n x y empty (all_made ns) h l = omega arith
 before_counts n x y empty (one_waits a) h l = tt
+before_counts n x y empty (one_throws z) h l = tt
 before_counts n x y (made m) (all_made ns) h l = omega arith
 before_counts n x y (made m) (one_waits a) h l = tt
+before_counts n x y (made m) (one_throws z) h l = tt
 before_counts n x y (waits a) ps h l = tt
+before_counts n x y (throws z) ps h l = tt
 
 abbrev Counts : ℕ → Renders → Type 0
 Counts n f = (e : Element) (old : Option Node) → CountIs n (times_numbered_if n old) (f e old)
@@ -186,6 +193,7 @@ all_count n f h (e ∷ es) (o ∷ olds) =
 fewer_counts : (n x y : ℕ) (ps : Places) → x ≤ y → CountsAre n x ps → CountsAre n y ps
 fewer_counts n x y (all_made ns) l h = omega arith
 fewer_counts n x y (one_waits a) l h = tt
+fewer_counts n x y (one_throws z) l h = tt
 
 list_counts : (n : ℕ) (f : Renders) → Counts n f → (es : List Element) (old : Forest) → CountsAre n (times_numbered_in n old) (render_list f es old)
 list_counts n f h es old =
@@ -197,13 +205,19 @@ old_parts n None = omega arith
 old_parts n (Some (node e m ns fs)) = omega arith
 
 over_counts : (n most own : ℕ) (e : Element) (m : Mark) (ps : Places) → cond (is_numbered_so n (number_of m)) 1 0 ≤ own → CountsAre n most ps → CountIs n (own + most) (over e m ps)
-over_counts n most own e m (all_made ns) h l = omega arith
+over_counts n most own e m (all_made ns) h l = go (is_caught m) refl
+  where
+    go : (b : Bool) → is_caught m ≡ b → times_numbered n (node_over e m ns) ≤ own + most
+    go true e1 = rw (over_fallback e m ns e1) (omega arith)
+    go false e1 = rw (over_children e m ns e1) (omega arith)
 over_counts n most own e m (one_waits a) h l = tt
+over_counts n most own e m (one_throws x) h l = tt
 
 fewer_count : (n x y : ℕ) (p : Place) → x ≤ y → CountIs n x p → CountIs n y p
 fewer_count n x y empty l h = tt
 fewer_count n x y (made m) l h = omega arith
 fewer_count n x y (waits a) l h = tt
+fewer_count n x y (throws z) l h = tt
 
 -- an instance that goes on has its number, and a new one none
 instance_counts : (n c : ℕ) (old : Option Node) (initials : _) (reads : _) (versions : _) (effects : _)
@@ -213,10 +227,12 @@ instance_counts n c (Some (node e (of_instance i) ns fs)) initials reads version
 instance_counts n c (Some (node e (of_host h) ns fs)) initials reads versions effects = omega arith
 instance_counts n c (Some (node e plain ns fs)) initials reads versions effects = omega arith
 instance_counts n c (Some (node e (of_boundary b) ns fs)) initials reads versions effects = omega arith
+instance_counts n c (Some (node e (of_catcher b) ns fs)) initials reads versions effects = omega arith
 
 body_counts : (n : ℕ) (f : Contexts → Renders) (cs : Contexts) (c : ℕ) → Counts n (f cs) → (e : Element) (old : Option Node) (b : Body)
     → CountIs n (times_numbered_if n old) (place_of f e old (shape_of_body cs c old b))
 body_counts n f cs c h e old (wait r v) = tt
+body_counts n f cs c h e old (throw x) = tt
 body_counts n f cs c h e old (ready es effects initials reads versions) =
     fewer_count n (cond (is_numbered_so n (instance_after c (old_instance old) initials reads versions effects).number) 1 0 + times_numbered_in n (children_if old)) (times_numbered_if n old)
     (over e (of_instance (instance_after c (old_instance old) initials reads versions effects)) (render_list (f cs) es (children_if old)))
@@ -234,6 +250,29 @@ parts_count : (n : ℕ) (e : Element) (old : Option Node) (ps qs : Places) → C
 parts_count n e old (all_made ns) qs h l = omega (arith, old_parts n old)
 parts_count n e old (one_waits a) (all_made fs) h l = omega (arith, old_parts n old)
 parts_count n e old (one_waits a) (one_waits b) h l = tt
+parts_count n e old (one_waits a) (one_throws x) h l = tt
+parts_count n e old (one_throws x) qs h l = tt
+
+caught_count : (n : ℕ) (e : Element) (x : ℤ) (old : Option Node) (qs : Places) → CountsAre n (times_numbered_in n (fallback_if old)) qs
+    → CountIs n (times_numbered_if n old) (over e (of_catcher (Caught x)) qs)
+caught_count n e x old (all_made fs) l = omega (arith, old_parts n old)
+caught_count n e x old (one_waits a) l = tt
+caught_count n e x old (one_throws y) l = tt
+
+guarded_count : (n : ℕ) (e : Element) (old : Option Node) (ps qs : Places) → CountsAre n (times_numbered_in n (children_if old)) ps → CountsAre n 0 qs
+    → CountIs n (times_numbered_if n old) (over_catcher e ps qs)
+guarded_count n e old (all_made ns) qs h l = omega (arith, old_parts n old)
+guarded_count n e old (one_waits a) qs h l = tt
+guarded_count n e old (one_throws x) qs h l = caught_count n e x old qs (fewer_counts n 0 (times_numbered_in n (fallback_if old)) qs (omega arith) l)
+
+catcher_count : (n : ℕ) (f : Renders) → Counts n f → (below : Contexts → Renders) (cs : Contexts) → below cs ≡ f → (key : _) (g : Element) (es : Elements) (old : Option Node) (caught : Option ℤ)
+    → CountIs n (times_numbered_if n old) (place_of below (elements.catcher key g es) old (shape_of_catcher cs g es old caught))
+catcher_count n f h below cs same key g es old None =
+    rw same
+    (guarded_count n (elements.catcher key g es) old (render_list f (listed es) (children_if old)) (render_list f (g ∷ []) none)
+    (list_counts n f h (listed es) (children_if old)) (list_counts n f h (g ∷ []) none))
+catcher_count n f h below cs same key g es old (Some x) =
+    rw same (caught_count n (elements.catcher key g es) x old (render_list f (g ∷ []) (fallback_if old)) (list_counts n f h (g ∷ []) (fallback_if old)))
 
 plain_count : (n : ℕ) (f : Renders) → Counts n f → (e : Element) (m : Mark) → number_of m ≡ None → (es : List Element) (old : Option Node)
     → CountIs n (times_numbered_if n old) (over e m (render_list f es (children_if old)))
@@ -250,6 +289,7 @@ place_counts n s f h cs (elements.list marked es) old = plain_count n (f cs) (h 
 place_counts n s f h cs (elements.boundary key e es) old =
     parts_count n (elements.boundary key e es) old (render_list (f cs) (listed es) (children_if old)) (render_list (f cs) (e ∷ []) (fallback_if old))
     (list_counts n (f cs) (h cs) (listed es) (children_if old)) (list_counts n (f cs) (h cs) (e ∷ []) (fallback_if old))
+place_counts n s f h cs (elements.catcher key e es) old = catcher_count n (f cs) (h cs) f cs refl key e es old (old_caught old)
 place_counts n s f h cs (elements.provider c key x es) old =
     plain_count n (f (slice_set cs c x)) (h (slice_set cs c x)) (elements.provider c key x es) plain refl (listed es) old
 
@@ -302,6 +342,7 @@ mark_counts n c (of_host h) = go h
     go (Some k) = omega arith
 mark_counts n c plain = omega arith
 mark_counts n c (of_boundary b) = omega arith
+mark_counts n c (of_catcher b) = omega arith
 
 mutual
   pub numbered_counts : (n : ℕ) (c : Numbers) (x : Node) → times_numbered n (numbered c x).1 ≤ times_numbered n x + between c.instance (numbered c x).0.instance n

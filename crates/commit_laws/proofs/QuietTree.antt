@@ -6,12 +6,14 @@ use Rattle.rx_rules.specs.Bounds.{depth_bound}
 use Rattle.rx_elem.specs.Elements.{Element}
 use Rattle.rx_elem.specs.Numbers.{Numbers, numbered}
 use Rattle.rx_elem.specs.Spots.{kept_instances, visible_instances}
-use Rattle.rx_elem.specs.Trees.{Forest, Instance, Node, child, children_if, element_of, node, none, of_boundary, of_host, of_instance, plain, vacant}
-use Rattle.rx_meaning.specs.Fresh.{Contexts, Places, Renders, Shape, Sight, absent, all_made, before, default_contexts, depth_limit, fresh, made, one_list, one_waits, over, over_boundary, place_of, render_part, rendered, root_element, shape_of, two_lists, version_seen, waiting}
+use Rattle.rx_elem.specs.Trees.{Forest, Instance, Mark, Node, child, children_if, element_of, is_caught, node, node_over, none, of_boundary, of_catcher, of_host, of_instance, plain, vacant}
+use Rattle.rx_meaning.specs.Fresh.{Contexts, Places, Renders, Shape, Sight, absent, all_made, before, default_contexts, depth_limit, fresh, guarded, made, one_list, one_throws, one_waits, over, over_boundary, over_catcher, place_of, render_part, rendered, root_element, shape_of, throwing, two_lists, version_seen, waiting}
 use Rattle.rx_queue.specs.History.{stands_done}
 use Rattle.rx_queue.specs.Journal.{Posted, Resolution, Target, belongs_to, hook, is_included, resolutions_by, resource, same_target}
 use Rattle.rx_susp.specs.declared.boundary.BoundaryState.TheVariants.{Hidden, Shown}
+use Rattle.rx_catch.specs.declared.state.CatchState.TheVariants.{Caught, Fine}
 use Rattle.rx_elem.proofs.Deciding.{same_number}
+use Rattle.rx_elem.proofs.Over.{over_children, over_fallback}
 use Rattle.commit_laws.proofs.Settling.{of_resource, tree_seen}
 use Rattle.commit_laws.proofs.Soundness.{calm_is_still, resolution_keeps}
 use Rattle.commit_laws.proofs.TakeOver.{done_is_included, rendered_again}
@@ -52,6 +54,7 @@ module _ (s : Sight) (visible kept : List ℕ) (done : AllDone visible s.journal
     tree_calm (node e plain ns fs) n h k = (refl, all_calm ns n.1 h.1 k.1, all_calm fs n.2 h.2 k.2)
     tree_calm (node e (of_boundary Shown) ns fs) n h k = (refl, all_calm ns n.1 h.1 k.1, all_calm fs n.2 h.2 k.2)
     tree_calm (node e (of_boundary (Hidden a)) ns fs) n h k = absurd (cc h.0)
+    tree_calm (node e (of_catcher c) ns fs) n h k = (refl, all_calm ns n.1 h.1 k.1, all_calm fs n.2 h.2 k.2)
 
     all_calm : (ns : Forest) → AllNumbered ns → AllShown ns → AllSeen visible kept true ns → AllCalm s ns
     all_calm none n h k = tt
@@ -60,20 +63,37 @@ module _ (s : Sight) (visible kept : List ℕ) (done : AllDone visible s.journal
 
 -- What a render gives at a place is a node of its element.
 
+over_element : (e : Element) (m : Mark) (ns : Forest) → element_of (node_over e m ns) ≡ e
+over_element e m ns = go (is_caught m) refl
+  where
+    go : (b : Bool) → is_caught m ≡ b → element_of (node_over e m ns) ≡ e
+    go true h = ap element_of (over_fallback e m ns h)
+    go false h = ap element_of (over_children e m ns h)
+
+over_made : (e : Element) (m : Mark) (ps : Places) (n : Node) → over e m ps ≡ made n → element_of n ≡ e
+over_made e m (all_made ns) n same = let equal : node_over e m ns ≡ n = cc in ap element_of (sym equal) ∙ over_element e m ns
+over_made e m (one_waits a) n same = absurd (cc same)
+over_made e m (one_throws x) n same = absurd (cc same)
+
 place_element : (below : Contexts → Renders) (e : Element) (old : Option Node) (shape : Shape) (n : Node) → place_of below e old shape ≡ made n → element_of n ≡ e
 place_element below e old absent n h = absurd (cc h)
 place_element below e old (waiting r v) n h = absurd (cc h)
-place_element below e old (one_list m p) n h = go (render_part below p) h
-  where
-    go : (ps : Places) → over e m ps ≡ made n → element_of n ≡ e
-    go (all_made ns) same = let equal : node e m ns none ≡ n = cc in ap element_of (sym equal)
-    go (one_waits a) same = absurd (cc same)
+place_element below e old (throwing x) n h = absurd (cc h)
+place_element below e old (one_list m p) n h = over_made e m (render_part below p) n h
 place_element below e old (two_lists p f) n h = go (render_part below p) (render_part below f) h
   where
     go : (ps qs : Places) → over_boundary e old ps qs ≡ made n → element_of n ≡ e
     go (all_made ns) qs same = let equal : node e (of_boundary Shown) ns none ≡ n = cc in ap element_of (sym equal)
     go (one_waits a) (all_made fs) same = let equal : node e (of_boundary (Hidden a)) (children_if old) fs ≡ n = cc in ap element_of (sym equal)
     go (one_waits a) (one_waits b) same = absurd (cc same)
+    go (one_waits a) (one_throws x) same = absurd (cc same)
+    go (one_throws x) qs same = absurd (cc same)
+place_element below e old (guarded p f) n h = go (render_part below p) (render_part below f) h
+  where
+    go : (ps qs : Places) → over_catcher e ps qs ≡ made n → element_of n ≡ e
+    go (all_made ns) qs same = let equal : node e (of_catcher Fine) ns none ≡ n = cc in ap element_of (sym equal)
+    go (one_waits a) qs same = absurd (cc same)
+    go (one_throws x) qs same = over_made e (of_catcher (Caught x)) qs n same
 
 rendered_element : (k : ℕ) (s : Sight) (cs : Contexts) (e : Element) (old : Option Node) (n : Node) → rendered k s cs e old ≡ made n → element_of n ≡ e
 unfolding rendered

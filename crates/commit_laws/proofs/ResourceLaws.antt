@@ -1,21 +1,24 @@
--- Versions of resources keep their values when more is resolved, and the test of a hidden boundary's awaits tells that none has one.
+-- Versions of resources keep their values when more is resolved, and the test of a hidden boundary's awaits tells that none has one, and that nothing may throw anew.
 use Rattle.std.specs.List.{list_any, range_with_len}
-use Rattle.std.specs.Prelude.{Bool, List, None, Option, Some, [], cond, false, filter, is_some, length, map, nat_eq, nat_lt, not, refl, slice_get, slice_index_or, suc, take, true, zero, ℕ, ℤ, ◌++◌, ◌+◌, ◌<◌, ◌||◌, ◌∷◌, ◌≡◌, ◌≤◌}
+use Rattle.std.specs.Prelude.{Bool, List, None, Option, Some, [], cond, false, filter, is_some, length, map, nat_eq, nat_lt, not, refl, slice_get, slice_index_or, suc, take, true, zero, ℕ, ℤ, ◌++◌, ◌+◌, ◌<◌, ◌&&◌, ◌||◌, ◌∷◌, ◌≡◌, ◌≤◌}
 use Rattle.std.proofs.Common.{ap, arith, subst, sym, ◌∙◌}
 use Rattle.std.proofs.lemmas.Bool.Decides.{nat_tests}
 use Rattle.rx_base.specs.Awaits.{Awaits, resource_limit}
 use Rattle.rx_base.specs.AwaitsLaws.{has-awaits_where}
 use Rattle.rx_base.specs.declared.cut.Cut.{Cut}
+use Rattle.rx_lane.specs.Lanes.{Lanes}
+use Rattle.rx_rules.specs.Bounds.{may_throw_in}
 use Rattle.rx_rules.specs.Names.{resources}
 use Rattle.rx_elem.specs.Elements.{Element}
 use Rattle.rx_elem.specs.Trees.{Forest, node, of_boundary}
-use Rattle.rx_meaning.specs.Fresh.{Sight, resources_seen, version_seen}
-use Rattle.rx_meaning.specs.Touched.{has_new_work, instances_in, is_waiting_still, resolved_seen, sees_refresh}
-use Rattle.rx_queue.specs.Journal.{Journal, Posted, Resolution, done_version, resolutions_by, resolved_by}
+use Rattle.rx_meaning.specs.Fresh.{Sight, resources_seen, version_seen, versions_seen}
+use Rattle.rx_meaning.specs.Touched.{has_new_work, instances_in, is_waiting_still, may_throw_anew, resolved_seen, sees_refresh}
+use Rattle.rx_queue.specs.Journal.{Journal, Posted, Resolution, done_version, resolutions_by, resolved_by, values_at}
 use Rattle.rx_susp.specs.declared.boundary.BoundaryState.TheVariants.{Hidden}
 use Rattle.rx_elem.proofs.Deciding.{or_fails, same_number}
 use Rattle.commit_laws.proofs.BodyLaw.{not_false}
 use Rattle.commit_laws.proofs.Versions.{value_at, value_past}
+use Rattle.commit_laws.specs.HiddenWaits.{later_sight}
 use Rattle.rx_meaning.specs.Again.{AreUnresolved, NoNewUpdate}
 use Rattle.rx_meaning.specs.Settled.{HasValuesOf}
 use Rattle.rx_base.specs.Awaits as awaits
@@ -39,6 +42,33 @@ longer_got test (r ∷ rs) more (suc a) (suc b) l v x h = go (test r) v h (λ w.
 pub values_stay : (j : Journal) (us : List Posted) (more : List Resolution) (cut later : Cut) → cut.resolutions ≤ later.resolutions
     → HasValuesOf (resolutions_by cut j) (resolutions_by later (record { updates = us; resolutions = j.resolutions ++ more }))
 values_stay j us more cut later l r v x h = longer_got (λ z. nat_eq z.resource r) j.resolutions more cut.resolutions later.resolutions l v x h
+
+-- with as many resolutions the same are seen, if there were so many
+pub resolutions_same : (j : Journal) (us : List Posted) (more : List Resolution) (cut later : Cut) → cut.resolutions ≤ length j.resolutions → later.resolutions ≡ cut.resolutions
+    → resolutions_by cut j ≡ resolutions_by later (record { updates = us; resolutions = j.resolutions ++ more })
+resolutions_same j us more cut later within same = rw same (sym (taken_first j.resolutions cut.resolutions within))
+  where
+    taken_first : (xs : List Resolution) (n : ℕ) → n ≤ length xs → take n (xs ++ more) ≡ take n xs
+    taken_first xs zero l = refl
+    taken_first [] (suc n) l = absurd (omega arith)
+    taken_first (x ∷ xs) (suc n) l = ap (λ (ys : List Resolution). x ∷ ys) (taken_first xs n (omega arith))
+
+-- A later render of a program that may throw sees the resources of the last commit's if nothing may throw anew.
+pub resources_again : (s : Sight) (j : Journal) (lanes : Lanes) (cut : Cut) → versions_seen s ≡ versions_seen (later_sight s j lanes cut)
+    → (may_throw_in s.program ≡ true → (s.cut.resolutions ≤ cut.resolutions) × (cut.resolutions ≡ s.cut.resolutions → resolutions_by s.cut s.journal ≡ resolutions_by cut j))
+    → may_throw_anew (later_sight s j lanes cut) ≡ false → may_throw_in s.program ≡ true → resources_seen s ≡ resources_seen (later_sight s j lanes cut)
+resources_again s j lanes cut versions as_many calm throws =
+    let none_since : nat_lt s.cut.resolutions cut.resolutions ≡ false = and_right (may_throw_in s.program) (nat_lt s.cut.resolutions cut.resolutions) throws calm in
+    let least : s.cut.resolutions ≤ cut.resolutions = (as_many throws).0 in
+    let equal : cut.resolutions ≡ s.cut.resolutions = grind (arith, nat_tests) in
+    with_these (resolutions_by s.cut s.journal) (resolutions_by cut j) (versions_seen s) (versions_seen (later_sight s j lanes cut)) ((as_many throws).1 equal) versions
+  where
+    and_right : (a b : Bool) → a ≡ true → (a && b) ≡ false → b ≡ false
+    and_right true b e h = h
+    and_right false b e h = absurd (cc e)
+
+    with_these : (rs qs : List Resolution) (vs ws : List ℕ) → rs ≡ qs → vs ≡ ws → values_at rs vs ≡ values_at qs ws
+    with_these rs qs vs ws a b = rw (a, b) refl
 
 pub no_value : (o : Option ℤ) → is_some o ≡ false → o ≡ None
 no_value None h = refl
@@ -104,10 +134,11 @@ not_either true b h = absurd (cc h)
 not_either false true h = absurd (cc h)
 not_either false false h = (refl, refl)
 
--- what the test of a hidden boundary tells if the render sees no refresh: nothing that it waits for has a value, and nothing that it keeps has a new update
+-- what the test of a hidden boundary tells if the render sees no refresh: nothing that it waits for has a value, nothing that it keeps has a new update, and nothing may throw anew
 pub still_waiting : (t : Sight) (e : Element) (a : Awaits) (ns fs : Forest) → length (resources t.program) ≤ resource_limit
     → sees_refresh t ≡ false → is_waiting_still t (node e (of_boundary (Hidden a)) ns fs) (Hidden a) ≡ true
-    → AreUnresolved t a × NoNewUpdate t.lanes t.cut (instances_in ns) t.journal.updates
+    → AreUnresolved t a × NoNewUpdate t.lanes t.cut (instances_in ns) t.journal.updates × (may_throw_anew t ≡ false)
 still_waiting t e a ns fs few calm h =
-    let parts = not_either (list_any (awaits.has (resolved_seen t)) a) (has_new_work t (instances_in ns)) h in
-    (seen_unresolved t a few calm parts.0, parts.1)
+    let parts = not_either (list_any (awaits.has (resolved_seen t)) a) (has_new_work t (instances_in ns) || may_throw_anew t) h in
+    let rest = or_fails (has_new_work t (instances_in ns)) (may_throw_anew t) parts.1 in
+    (seen_unresolved t a few calm parts.0, rest.0, rest.1)

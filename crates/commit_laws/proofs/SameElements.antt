@@ -82,6 +82,12 @@ mutual
       let b : e ≡ f = elements_tell e f t.1 in
       let c : es ≡ fs = all_tell es fs t.2 in
       λ i. elements.boundary (a i) (b i) (c i)
+  elements_tell (elements.catcher k e es) (elements.catcher l f fs) h =
+      let t = three (same_key k l) (same_element e f) (same_elements es fs) h in
+      let a : k ≡ l = keys_tell k l t.0 in
+      let b : e ≡ f = elements_tell e f t.1 in
+      let c : es ≡ fs = all_tell es fs t.2 in
+      λ i. elements.catcher (a i) (b i) (c i)
   elements_tell (elements.provider m k x es) (elements.provider n l y fs) h =
       let t = four (nat_eq m n) (same_key k l) (int_eq x y) (same_elements es fs) h in
       let a : m ≡ n = same_number m n t.0 in

@@ -4,7 +4,7 @@ use Rattle.std.specs.Prelude.{Bool, List, None, Option, Some, [], cond, false, f
 use Rattle.std.proofs.Common.{ap, arith, subst, ◌∙◌}
 use Rattle.std.proofs.lemmas.Bool.Decides.{nat_tests}
 use Rattle.rx_elem.specs.Spots.{Around, Mounted, Spot, around_children, at_root, kept_instances, mounted_as, mounted_at, numbers_of, spot_mark, spots, spots_in, visible_instances}
-use Rattle.rx_elem.specs.Trees.{Forest, Mark, Node, child, instance_in, is_hidden, node, none, of_boundary, of_host, of_instance, plain, vacant}
+use Rattle.rx_elem.specs.Trees.{Forest, Mark, Node, child, instance_in, is_hidden, node, none, of_boundary, of_catcher, of_host, of_instance, plain, vacant}
 use Rattle.rx_meaning.specs.Expressions.{answers_of}
 use Rattle.rx_meaning.specs.Fresh.{Sight, hook_values, version_seen}
 use Rattle.rx_queue.specs.History.{Answers, applied, stands_done}
@@ -225,6 +225,7 @@ within_visible a (of_host (Some n)) = refl
 within_visible a plain = refl
 within_visible a (of_boundary Shown) = refl
 within_visible a (of_boundary (Hidden w)) = refl
+within_visible a (of_catcher k) = refl
 
 mutual
   spots_seen : (visible kept : List ℕ) (a : Around) (n : Node) → AllSpots visible kept (spots a n) → Seen visible kept a.visible n
@@ -275,6 +276,7 @@ one_listed f a (of_instance i) ys = go i.number (f a.visible) refl
 one_listed f a (of_host h) ys = rw (none_if (f a.visible)) refl
 one_listed f a plain ys = rw (none_if (f a.visible)) refl
 one_listed f a (of_boundary b) ys = rw (none_if (f a.visible)) refl
+one_listed f a (of_catcher k) ys = rw (none_if (f a.visible)) refl
 
 all_listed : (f : Bool → Bool) (xs : List Spot) → numbers_of (filter (λ m. f m.visible) (mounted_at xs)) ≡ filter_map (λ s. number_if (f s.around.visible) (number_of (spot_mark s))) xs
 all_listed f [] = refl

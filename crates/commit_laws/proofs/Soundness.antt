@@ -7,7 +7,7 @@ use Rattle.rx_rules.specs.Bounds.{depth_bound}
 use Rattle.rx_elem.specs.Elements.{Element, Elements, listed}
 use Rattle.rx_elem.specs.Numbers.{Numbers, numbered, numbered_host, numbered_in, numbered_instance, numbered_mark}
 use Rattle.rx_elem.specs.Spots.{kept_instances, visible_instances}
-use Rattle.rx_elem.specs.Trees.{Forest, Instance, Mark, Node, child, elements_in, is_hidden, node, none, of_boundary, of_host, of_instance, plain, vacant}
+use Rattle.rx_elem.specs.Trees.{Forest, Instance, Mark, Node, child, elements_in, is_hidden, node, none, of_boundary, of_catcher, of_host, of_instance, plain, vacant}
 use Rattle.rx_meaning.specs.Expressions.{answers_of}
 use Rattle.rx_meaning.specs.Fresh.{Contexts, Sight, before, default_contexts, depth_limit, fresh, made, resource_numbers, version_seen}
 use Rattle.rx_meaning.specs.Outcome.{journal_after}
@@ -36,6 +36,8 @@ own_reads s cs (elements.comp c key props given) m ns fs own =
 own_reads s cs (elements.list marked es) m ns fs own = rw own.0 refl
 own_reads s cs (elements.boundary key f es) m ns fs (inl own) = rw own.0 refl
 own_reads s cs (elements.boundary key f es) m ns fs (inr own) = rw own.1 refl
+own_reads s cs (elements.catcher key f es) m ns fs (inl own) = rw own.0 refl
+own_reads s cs (elements.catcher key f es) m ns fs (inr own) = rw own.1 refl
 own_reads s cs (elements.provider c key x es) m ns fs own = rw own.0 refl
 
 marked_reads : (version : ℕ → ℕ) (c : Numbers) (cs : Contexts) (m : Mark) → reads_another version cs (numbered_mark c m).1 ≡ reads_another version cs m
@@ -51,6 +53,7 @@ marked_reads version c cs (of_host h) = go h
     go (Some n) = refl
 marked_reads version c cs plain = refl
 marked_reads version c cs (of_boundary b) = refl
+marked_reads version c cs (of_catcher k) = refl
 
 pub marked_hidden : (c : Numbers) (m : Mark) → is_hidden m ≡ is_hidden (numbered_mark c m).1
 marked_hidden c (of_instance i) = go i.number
@@ -65,6 +68,7 @@ marked_hidden c (of_host h) = go h
     go (Some n) = refl
 marked_hidden c plain = refl
 marked_hidden c (of_boundary b) = refl
+marked_hidden c (of_catcher k) = refl
 
 pick_reads : (A B C : Type 0) (b : Bool) → IfHidden b A B → (B → C) → IfHidden b (Unit {0}) C
 pick_reads A B C true h f = tt
@@ -123,6 +127,7 @@ own_goes p k l f (elements.host n key attrs es) m ns fs own = own
 own_goes p k l f (elements.comp c key props given) m ns fs own = (own.0, own.1, f c props given own.0 (elements_in ns) own.2, own.3)
 own_goes p k l f (elements.list marked es) m ns fs own = own
 own_goes p k l f (elements.boundary key e es) m ns fs own = own
+own_goes p k l f (elements.catcher key e es) m ns fs own = own
 own_goes p k l f (elements.provider c key x es) m ns fs own = own
 
 mutual
@@ -222,6 +227,7 @@ calm_mark s cs (of_host n) h k = refl
 calm_mark s cs plain h k = refl
 calm_mark s cs (of_boundary Shown) h k = refl
 calm_mark s cs (of_boundary (Hidden a)) h k = h
+calm_mark s cs (of_catcher c) h k = refl
 
 not_hidden : (s : Sight) (m : Mark) → is_stirred s m ≡ false → is_hidden m ≡ false
 not_hidden s (of_instance i) h = refl
@@ -229,6 +235,7 @@ not_hidden s (of_host n) h = refl
 not_hidden s plain h = refl
 not_hidden s (of_boundary Shown) h = refl
 not_hidden s (of_boundary (Hidden a)) h = absurd (cc h)
+not_hidden s (of_catcher c) h = refl
 
 mutual
   pub calm_is_still : (s : Sight) (cs : Contexts) (n : Node) → IsCalm s n → ReadsHold (version_seen s) cs n → IsStill s cs n

@@ -6,7 +6,7 @@ use Rattle.rx_ast.specs.Syntax.{Component, Program}
 use Rattle.rx_base.specs.declared.cut.Cut.{Cut}
 use Rattle.rx_elem.specs.Compare.{old_nodes}
 use Rattle.rx_elem.specs.Elements.{Element, Elements, gathered, is_present, listed}
-use Rattle.rx_elem.specs.Trees.{Forest, Instance, Mark, Node, child, element_of, elements_in, is_hidden, node, none, of_boundary, of_host, of_instance, places, plain, vacant}
+use Rattle.rx_elem.specs.Trees.{Forest, Instance, Mark, Node, child, element_of, elements_in, is_hidden, node, none, of_boundary, of_catcher, of_host, of_instance, places, plain, vacant}
 use Rattle.rx_meaning.specs.Body.{body_of, ready}
 use Rattle.rx_meaning.specs.Expressions.{answers_of}
 use Rattle.rx_meaning.specs.Fresh.{Contexts, Renders, Sight, all_made, before, empty, hook_values, inputs_at, instance_after, made, one_list, part, place_of, render_all, rendered, resources_seen, shape_of, shape_of_body, shape_of_component, version_seen, versions_seen}
@@ -15,6 +15,7 @@ use Rattle.rx_lane.specs.Lanes.{Lanes}
 use Rattle.rx_queue.specs.History.{stands_done}
 use Rattle.rx_queue.specs.Journal.{Posted, Target, belongs_to, committed_value, hook, resource, is_included, same_target, state_of}
 use Rattle.rx_susp.specs.declared.boundary.BoundaryState.TheVariants.{Hidden, Shown}
+use Rattle.rx_catch.specs.declared.state.CatchState.TheVariants.{Caught, Fine}
 use Rattle.rx_meaning.proofs.Depths.{ShapeFits, not_deepest, shape_fits}
 use Rattle.rx_elem.proofs.Deciding.{same_itself, same_number, and_passes, or_fails}
 use Rattle.rx_elem.proofs.SelfMatch.{NoNull, matches_itself}
@@ -100,6 +101,7 @@ own_not_null p k (elements.host n key attrs es) m ns fs h = refl
 own_not_null p k (elements.comp c key props given) m ns fs h = refl
 own_not_null p k (elements.list marked es) m ns fs h = refl
 own_not_null p k (elements.boundary key f es) m ns fs h = refl
+own_not_null p k (elements.catcher key f es) m ns fs h = refl
 own_not_null p k (elements.provider c key x es) m ns fs h = refl
 
 -- the body of an instance with the committed values gives what the instance has
@@ -152,6 +154,8 @@ idle_shape s cs (elements.comp c key props given) m ns fs own idle reads =
 idle_shape s cs (elements.list marked es) m ns fs own idle reads = rw (own.0, own.1) refl
 idle_shape s cs (elements.boundary key f es) m ns fs (inl own) idle reads = rw own.1 refl
 idle_shape s cs (elements.boundary key f es) m ns fs (inr own) idle reads = absurd (hidden_not_idle s m own.0 idle own.1)
+idle_shape s cs (elements.catcher key f es) m ns fs (inl own) idle reads = rw (own.0, own.1) refl
+idle_shape s cs (elements.catcher key f es) m ns fs (inr own) idle reads = rw (own.1, own.3) refl
 idle_shape s cs (elements.provider c key x es) m ns fs own idle reads = rw (own.0, own.1) refl
 
 -- Subtrees
@@ -163,45 +167,63 @@ settled_no_null p k (child (node e m ps fs) ns) h = (own_not_null p k e m ps fs 
 
 -- the nodes of a kept shape
 place_of_kept : (below : Contexts → Renders) (p : Program) (k : Known) (s : Sight) (cs : Contexts) (e : Element) (m : Mark) (ns fs : Forest)
-    → IsOwn p k e m ns fs → IsIdleMark s m → old_nodes ns (elements_in ns) ≡ places ns
+    → IsOwn p k e m ns fs → IsIdleMark s m → old_nodes ns (elements_in ns) ≡ places ns → old_nodes fs (elements_in fs) ≡ places fs
     → render_all (below (contexts_below e cs)) (zip (elements_in ns) (places ns)) ≡ all_made ns
+    → render_all (below cs) (zip (elements_in fs) (places fs)) ≡ all_made fs
     → place_of below e (Some (node e m ns fs)) (kept_shape cs e m ns fs) ≡ made (node e m ns fs)
-place_of_kept below p k s cs elements.null m ns fs own idle found again = absurd own
-place_of_kept below p k s cs (elements.text t) m ns fs own idle found again = rw (found, again, own.3) refl
-place_of_kept below p k s cs (elements.host n key attrs es) m ns fs own idle found again = rw (found, again, own.3) refl
-place_of_kept below p k s cs (elements.comp c key props given) m ns fs own idle found again = rw (found, again, own.3) refl
-place_of_kept below p k s cs (elements.list marked es) m ns fs own idle found again = rw (found, again, own.2) refl
-place_of_kept below p k s cs (elements.boundary key f es) m ns fs (inl own) idle found again = rw (found, again, own.0, own.2) refl
-place_of_kept below p k s cs (elements.boundary key f es) m ns fs (inr own) idle found again = absurd (hidden_not_idle s m own.0 idle own.1)
-place_of_kept below p k s cs (elements.provider c key x es) m ns fs own idle found again = rw (found, again, own.2) refl
+place_of_kept below p k s cs elements.null m ns fs own idle found other again beside = absurd own
+place_of_kept below p k s cs (elements.text t) m ns fs own idle found other again beside = rw (found, again, own.1, own.3) refl
+place_of_kept below p k s cs (elements.host n key attrs es) m ns fs own idle found other again beside = rw (found, again, own.1, own.3) refl
+place_of_kept below p k s cs (elements.comp c key props given) m ns fs own idle found other again beside = rw (found, again, own.1, own.3) refl
+place_of_kept below p k s cs (elements.list marked es) m ns fs own idle found other again beside = rw (found, again, own.0, own.2) refl
+place_of_kept below p k s cs (elements.boundary key f es) m ns fs (inl own) idle found other again beside = rw (found, again, own.0, own.2) refl
+place_of_kept below p k s cs (elements.boundary key f es) m ns fs (inr own) idle found other again beside = absurd (hidden_not_idle s m own.0 idle own.1)
+place_of_kept below p k s cs (elements.catcher key f es) m ns fs (inl own) idle found other again beside = rw (own.0, found, again, own.2) refl
+place_of_kept below p k s cs (elements.catcher key f es) m ns fs (inr own) idle found other again beside = rw (own.1, other, beside, own.2) refl
+place_of_kept below p k s cs (elements.provider c key x es) m ns fs own idle found other again beside = rw (found, again, own.0, own.2) refl
 
--- the children of a kept shape are less deep
-kept_fits : (n : ℕ) (p : Program) (cs : Contexts) (e : Element) (m : Mark) (ns fs : Forest) → is_present e ≡ true
-    → ShapeFits n p (kept_shape cs e m ns fs) → elements_depth (body_depth n p) (gathered (elements_in ns)) ≤ n
-kept_fits n p cs elements.null m ns fs present h = absurd (cc present)
-kept_fits n p cs (elements.text t) m ns fs present h = h
-kept_fits n p cs (elements.host x key attrs es) m ns fs present h = h
-kept_fits n p cs (elements.comp c key props given) m ns fs present h = h
-kept_fits n p cs (elements.list marked es) m ns fs present h = h
-kept_fits n p cs (elements.boundary key f es) m ns fs present h = h.0
-kept_fits n p cs (elements.provider c key x es) m ns fs present h = h
+-- the children of a kept shape are less deep, and so is the fallback of an error boundary that has caught a value, the only one that an idle node has
+abbrev BothFit : ℕ → Program → (children fallback : Forest) → Type 0
+BothFit n p ns fs =
+    (elements_depth (body_depth n p) (gathered (elements_in ns)) ≤ n) × (elements_depth (body_depth n p) (gathered (elements_in fs)) ≤ n)
 
-idle_children_fit : (n : ℕ) (s : Sight) (cs : Contexts) (e : Element) (m : Mark) (ns fs : Forest)
+one_fits : (n : ℕ) (p : Program) (ns fs : Forest) → fs ≡ none → elements_depth (body_depth n p) (gathered (elements_in ns)) ≤ n → BothFit n p ns fs
+one_fits n p ns fs nothing h = (h, rw nothing (omega arith))
+
+kept_fits : (n : ℕ) (p : Program) (k : Known) (s : Sight) (cs : Contexts) (e : Element) (m : Mark) (ns fs : Forest) → IsOwn p k e m ns fs → IsIdleMark s m
+    → ShapeFits n p (kept_shape cs e m ns fs) → BothFit n p ns fs
+kept_fits n p k s cs elements.null m ns fs own idle h = absurd own
+kept_fits n p k s cs (elements.text t) m ns fs own idle h = one_fits n p ns fs own.3 h
+kept_fits n p k s cs (elements.host x key attrs es) m ns fs own idle h = one_fits n p ns fs own.3 h
+kept_fits n p k s cs (elements.comp c key props given) m ns fs own idle h = one_fits n p ns fs own.3 h
+kept_fits n p k s cs (elements.list marked es) m ns fs own idle h = one_fits n p ns fs own.2 h
+kept_fits n p k s cs (elements.boundary key f es) m ns fs (inl own) idle h = one_fits n p ns fs own.2 h.0
+kept_fits n p k s cs (elements.boundary key f es) m ns fs (inr own) idle h = absurd (hidden_not_idle s m own.0 idle own.1)
+kept_fits n p k s cs (elements.catcher key f es) m ns fs (inl own) idle h =
+    let tried : ShapeFits n p (kept_shape cs (elements.catcher key f es) (of_catcher Fine) ns fs) = subst (λ (q : Mark). ShapeFits n p (kept_shape cs (elements.catcher key f es) q ns fs)) own.0 h in
+    one_fits n p ns fs own.2 tried.0
+kept_fits n p k s cs (elements.catcher key f es) m ns fs (inr own) idle h =
+    let caught : ShapeFits n p (kept_shape cs (elements.catcher key f es) (of_catcher (Caught own.0)) ns fs) = subst (λ (q : Mark). ShapeFits n p (kept_shape cs (elements.catcher key f es) q ns fs)) own.1 h in
+    (rw own.2 (omega arith), caught)
+kept_fits n p k s cs (elements.provider c key x es) m ns fs own idle h = one_fits n p ns fs own.2 h
+
+idle_both_fit : (n : ℕ) (s : Sight) (cs : Contexts) (e : Element) (m : Mark) (ns fs : Forest)
     → IsOwn s.program (known_by s) e m ns fs → IsIdleMark s m → reads_another (version_seen s) cs m ≡ false → Fits (suc n) s.program e
-    → elements_depth (body_depth n s.program) (gathered (elements_in ns)) ≤ n
-idle_children_fit n s cs e m ns fs own idle reads fits =
+    → BothFit n s.program ns fs
+idle_both_fit n s cs e m ns fs own idle reads fits =
     let whole = shape_fits n s cs e (Some (node e m ns fs)) fits in
-    kept_fits n s.program cs e m ns fs (own_not_null s.program (known_by s) e m ns fs own)
+    kept_fits n s.program (known_by s) s cs e m ns fs own idle
     (subst (ShapeFits n s.program) (idle_shape s cs e m ns fs own idle reads) whole)
 
 node_again : (n : ℕ) (s : Sight) (cs : Contexts) (e : Element) (m : Mark) (ns fs : Forest)
-    → IsOwn s.program (known_by s) e m ns fs → IsIdleMark s m → reads_another (version_seen s) cs m ≡ false → NoNull ns
+    → IsOwn s.program (known_by s) e m ns fs → IsIdleMark s m → reads_another (version_seen s) cs m ≡ false → NoNull ns → NoNull fs
     → render_all (rendered n s (contexts_below e cs)) (zip (elements_in ns) (places ns)) ≡ all_made ns
+    → render_all (rendered n s cs) (zip (elements_in fs) (places fs)) ≡ all_made fs
     → rendered (suc n) s cs e (Some (node e m ns fs)) ≡ made (node e m ns fs)
 unfolding rendered
-node_again n s cs e m ns fs own idle reads there again =
+node_again n s cs e m ns fs own idle reads there others again beside =
     (ap (place_of (rendered n s) e (Some (node e m ns fs))) (idle_shape s cs e m ns fs own idle reads)
-    ∙ place_of_kept (rendered n s) s.program (known_by s) s cs e m ns fs own idle (matches_itself ns there) again)
+    ∙ place_of_kept (rendered n s) s.program (known_by s) s cs e m ns fs own idle (matches_itself ns there) (matches_itself fs others) again beside)
 
 first_again : (n : ℕ) (s : Sight) (cs : Contexts) (x : Node) (ns : Forest) → rendered n s cs (element_of x) (Some x) ≡ made x
     → render_all (rendered n s cs) (zip (elements_in ns) (places ns)) ≡ all_made ns
@@ -224,6 +246,7 @@ reads_below s (of_host h) A idle reads = reads
 reads_below s plain A idle reads = reads
 reads_below s (of_boundary Shown) A idle reads = reads
 reads_below s (of_boundary (Hidden a)) A idle reads = absurd idle
+reads_below s (of_catcher c) A idle reads = reads
 
 mutual
   -- A subtree that is idle and reads nothing anew is rendered to itself.
@@ -232,9 +255,12 @@ mutual
   idle_again zero s cs (node e m ns fs) settled idle reads fits =
       absurd (omega (arith, not_deepest s.program e fits (own_not_null s.program (known_by s) e m ns fs settled.0)))
   idle_again (suc n) s cs (node e m ns fs) settled idle reads fits =
-      node_again n s cs e m ns fs settled.0 idle.0 reads.0 (settled_no_null s.program (known_by s) ns settled.1)
-      (all_idle_again n s (contexts_below e cs) ns settled.1 idle.1 (reads_below s m (AllReadsHold (version_seen s) (contexts_below e cs) ns) idle.0 reads.1)
-      (idle_children_fit n s cs e m ns fs settled.0 idle.0 reads.0 fits))
+      node_again n s cs e m ns fs settled.0 idle.0 reads.0 (settled_no_null s.program (known_by s) ns settled.1) (settled_no_null s.program (known_by s) fs settled.2)
+      (all_idle_again n s (contexts_below e cs) ns settled.1 idle.1 (reads_below s m (AllReadsHold (version_seen s) (contexts_below e cs) ns) idle.0 reads.1) both.0)
+      (all_idle_again n s cs fs settled.2 idle.2 reads.2 both.1)
+    where
+      both : BothFit n s.program ns fs
+      both = idle_both_fit n s cs e m ns fs settled.0 idle.0 reads.0 fits
 
   all_idle_again : (n : ℕ) (s : Sight) (cs : Contexts) (ns : Forest) → AllSettled s.program (known_by s) ns → AllIdle s ns → AllReadsHold (version_seen s) cs ns
       → elements_depth (body_depth n s.program) (gathered (elements_in ns)) ≤ n
@@ -261,6 +287,7 @@ calm_mark s (of_host h) before calm = tt
 calm_mark s plain before calm = tt
 calm_mark s (of_boundary Shown) before calm = tt
 calm_mark s (of_boundary (Hidden a)) before calm = cc
+calm_mark s (of_catcher c) before calm = tt
 
 mutual
   -- A calm tree is idle.
@@ -280,6 +307,7 @@ still_mark s cs (of_host h) before still = (tt, refl)
 still_mark s cs plain before still = (tt, refl)
 still_mark s cs (of_boundary Shown) before still = (tt, refl)
 still_mark s cs (of_boundary (Hidden a)) before still = cc
+still_mark s cs (of_catcher c) before still = (tt, refl)
 
 if_shown : (b : Bool) (A : Type 0) → A → IfHidden b (Unit {0}) A
 if_shown true A h = tt
@@ -310,7 +338,12 @@ same_shape s cs e m ns fs before own calm = let idle = still_mark s cs m before 
 pub children_fit_again : (n : ℕ) (s : Sight) (cs : Contexts) (e : Element) (m : Mark) (ns fs : Forest) → DoneBefore s.cut s.journal.updates
     → IsOwn s.program (known_by s) e m ns fs → has_cause s cs m ≡ false → Fits (suc n) s.program e
     → elements_depth (body_depth n s.program) (gathered (elements_in ns)) ≤ n
-children_fit_again n s cs e m ns fs before own calm fits = let idle = still_mark s cs m before calm in idle_children_fit n s cs e m ns fs own idle.0 idle.1 fits
+children_fit_again n s cs e m ns fs before own calm fits = let idle = still_mark s cs m before calm in (idle_both_fit n s cs e m ns fs own idle.0 idle.1 fits).0
+
+pub fallback_fits_again : (n : ℕ) (s : Sight) (cs : Contexts) (e : Element) (m : Mark) (ns fs : Forest) → DoneBefore s.cut s.journal.updates
+    → IsOwn s.program (known_by s) e m ns fs → has_cause s cs m ≡ false → Fits (suc n) s.program e
+    → elements_depth (body_depth n s.program) (gathered (elements_in fs)) ≤ n
+fallback_fits_again n s cs e m ns fs before own calm fits = let idle = still_mark s cs m before calm in (idle_both_fit n s cs e m ns fs own idle.0 idle.1 fits).1
 
 -- A subtree that has no cause is rendered to itself.
 pub rendered_again : (n : ℕ) (s : Sight) (cs : Contexts) (o : Node) → DoneBefore s.cut s.journal.updates → IsSettled s.program (known_by s) o → IsStill s cs o

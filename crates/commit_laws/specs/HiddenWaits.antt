@@ -4,16 +4,16 @@ use Rattle.rx_base.specs.declared.cut.Cut.{Cut}
 use Rattle.rx_lane.specs.Lanes.{Lanes}
 use Rattle.rx_queue.specs.Journal.{Journal, Posted, Resolution, marked_update}
 use Rattle.rx_elem.specs.Elements.{Element, listed}
-use Rattle.rx_elem.specs.Trees.{Forest, Mark, Node, child, is_hidden, node, none, of_boundary, of_host, of_instance, plain, vacant}
+use Rattle.rx_elem.specs.Trees.{Forest, Mark, Node, child, is_hidden, node, none, of_boundary, of_catcher, of_host, of_instance, plain, vacant}
 use Rattle.rx_meaning.specs.Fresh.{Contexts, Sight, one_waits, part, render_part, rendered}
 use Rattle.rx_meaning.specs.Touched.{contexts_below}
 use Rattle.rx_susp.specs.declared.boundary.BoundaryState.TheVariants.{Hidden}
 use Rattle.rx_meaning.specs.Settled.{IfHidden, includes, number_of}
 use Rattle.rx_elem.specs.Elements as elements
 
--- what a later render sees
+-- what a render after the commit at this sight sees
 abbrev pub later_sight : Sight → Journal → Lanes → Cut → Sight
-later_sight s j lanes cut = record s { journal = j; lanes = lanes; cut = cut }
+later_sight s j lanes cut = record s { journal = j; lanes = lanes; cut = cut; seen = s.cut.resolutions }
 
 -- the journal that a commit leaves with these instances, and what came since
 abbrev pub journal_since : Sight → (visible kept : List ℕ) → (new : List Posted) → List Resolution → Journal
@@ -26,6 +26,7 @@ IsNumbered (of_instance i) = (n : ℕ) × (i.number ≡ Some n)
 IsNumbered (of_host h) = (n : ℕ) × (h ≡ Some n)
 IsNumbered plain = Unit {0}
 IsNumbered (of_boundary b) = Unit {0}
+IsNumbered (of_catcher c) = Unit {0}
 
 -- each instance and each host of a tree has its number
 abbrev mutual

@@ -1,6 +1,6 @@
 -- Which subtrees of a committed tree are idle for a render: each instance has the values that are committed, and nothing is hidden.
 use Rattle.std.specs.Prelude.{option_map, ◌≡◌}
-use Rattle.rx_elem.specs.Trees.{Forest, Instance, Mark, Node, of_boundary, of_host, of_instance, plain}
+use Rattle.rx_elem.specs.Trees.{Forest, Instance, Mark, Node, of_boundary, of_catcher, of_host, of_instance, plain}
 use Rattle.rx_susp.specs.declared.boundary.BoundaryState.TheVariants.{Hidden, Shown}
 use Rattle.rx_meaning.specs.Fresh.{Sight, values_of}
 use Rattle.rx_meaning.specs.Settled.{done_values, known_by}
@@ -15,6 +15,7 @@ abbrev pub IsIdleMark : Sight → Mark → Type 0
 IsIdleMark s (of_instance i) = HasCommittedValues s i
 IsIdleMark s (of_host h) = Unit {0}
 IsIdleMark s plain = Unit {0}
+IsIdleMark s (of_catcher c) = Unit {0}
 IsIdleMark s (of_boundary Shown) = Unit {0}
 IsIdleMark s (of_boundary (Hidden a)) = ⊥
 

@@ -1,4 +1,4 @@
--- When the hidden boundaries of a committed tree wait again: the children of one wait for what they waited for, while that has no value, nothing new has come for what it keeps, and no resource has another version.
+-- When the hidden boundaries of a committed tree wait again: the children of one wait for what they waited for, while that has no value, nothing new has come for what it keeps, no resource has another version, and nothing may throw anew.
 use Rattle.std.specs.Prelude.{ℕ, false, Option, Some, None, ◌≡◌}
 use Rattle.rx_lane.specs.Lanes.{no_lanes}
 use Rattle.rx_elem.specs.Elements.{Element, listed}
@@ -9,16 +9,16 @@ use Rattle.rx_meaning.specs.Again.{AllValuesAgree, AreUnresolved}
 use Rattle.rx_meaning.specs.Fresh.{Contexts, Sight, one_waits, part, render_part, rendered}
 use Rattle.rx_meaning.specs.Levels.{PartFits}
 use Rattle.rx_meaning.specs.Settled.{IfHidden}
-use Rattle.rx_meaning.specs.Touched.{contexts_below, sees_refresh}
+use Rattle.rx_meaning.specs.Touched.{contexts_below, may_throw_anew, sees_refresh}
 
 -- what a render of no lanes sees: of the updates, those that are done or owed
 abbrev pub without_lanes : Sight → Sight
 without_lanes s = record s { lanes = no_lanes }
 
--- In these contexts a hidden boundary's children wait for what it awaits, if the render sees no refresh, that has no value, and each instance that it keeps has the values by the updates that are done or owed.
+-- In these contexts a hidden boundary's children wait for what it awaits, if the render sees no refresh, nothing may throw anew, that has no value, and each instance that it keeps has the values by the updates that are done or owed.
 abbrev pub OwnWaitsAgain : Sight → Contexts → Element → Mark → Forest → Type 0
 OwnWaitsAgain s cs (elements.boundary key f es) (of_boundary (Hidden a)) ns =
-    sees_refresh s ≡ false → AreUnresolved s a → AllValuesAgree (without_lanes s) s ns
+    sees_refresh s ≡ false → may_throw_anew s ≡ false → AreUnresolved s a → AllValuesAgree (without_lanes s) s ns
     → (n : ℕ) → PartFits n s.program (part cs (listed es) ns) → render_part (rendered n s) (part cs (listed es) ns) ≡ one_waits a
 OwnWaitsAgain s cs e m ns = Unit {0}
 

@@ -6,7 +6,7 @@ ghost use Rattle.rx_base.specs.Awaits as awaits;
 ghost use Rattle.rx_base.specs.declared.cut.Cut.{Cut};
 ghost use Rattle.rx_lane.specs.Lanes.{Lanes};
 ghost use Rattle.rx_ast.specs.Syntax.{Program, contexts};
-ghost use Rattle.rx_rules.specs.Bounds.{depth_bound};
+ghost use Rattle.rx_rules.specs.Bounds.{depth_bound, may_throw_in};
 ghost use Rattle.rx_rules.specs.Names.{resources};
 ghost use Rattle.rx_susp.specs.declared.boundary.BoundaryState.TheVariants.{Hidden};
 ghost use Rattle.rx_elem.specs.Elements.{Element, Elements, same_element, Key, listed, boundary};
@@ -15,9 +15,10 @@ ghost use Rattle.rx_elem.specs.Spots.{visible_instances, kept_instances};
 ghost use Rattle.rx_elem.specs.Numbers.{Numbers, numbered};
 ghost use Rattle.rx_queue.specs.History.{stands_done};
 ghost use Rattle.rx_queue.specs.Journal.{Journal, Posted, Resolution, hook, same_target, is_included, belongs_to, marked_update, resolutions_by, resolved_by};
-ghost use Rattle.rx_meaning.specs.Fresh.{Sight, Contexts, Part, part, shape_of, rendered, render_part, made, one_waits, fresh, depth_limit, default_contexts, root_element, version_seen, versions_seen};
+ghost use Rattle.rx_meaning.specs.Fresh.{Sight, Contexts, Part, part, shape_of, rendered, render_part, made, one_waits, fresh, depth_limit, default_contexts, root_element, resources_seen, version_seen, versions_seen};
+ghost use Rattle.rx_meaning.specs.Catches.{Catches};
 ghost use Rattle.rx_meaning.specs.Outcome.{journal_after, newly_hidden, all_awaits, is_awaited};
-ghost use Rattle.rx_meaning.specs.Touched.{Setting, visited, instances_in, is_waiting_still, sees_refresh};
+ghost use Rattle.rx_meaning.specs.Touched.{Setting, visited, instances_in, is_waiting_still, may_throw_anew, sees_refresh};
 ghost use Rattle.rx_meaning.specs.Levels.{Fits};
 ghost use Rattle.rx_meaning.specs.Settled.{Known, IfSettled, IsSettled, IsOwn, known_by, DoneBefore, has_cause, kept_shape, IsStill, HasValuesOf, IsSound, IsCalm, ReadsHold, includes};
 ghost use Rattle.rx_rules.specs.Reads.{ReadsDeclared};
@@ -78,11 +79,12 @@ pub fn untouched_is_told()
 {}
 
 /// The children of a hidden boundary wait for the same again if nothing that they wait for has a value, no update of what it keeps
-/// is new, and no resource has another version.
+/// is new, no resource has another version, and nothing may throw anew: no component may throw, or no resource got its value since.
 pub fn hidden_waits_again()
     ensures attempt { (s : Sight) (j : Journal) (lanes : Lanes) (cut : Cut) → WaitsAreSmall s.program
         → versions_seen s ≡ versions_seen (later_sight s j lanes cut)
         → HasValuesOf (resolutions_by s.cut s.journal) (resolutions_by cut j)
+        → (may_throw_in s.program ≡ true → resources_seen s ≡ resources_seen (later_sight s j lanes cut))
         → (levels : ℕ) (p : Part) (a : Awaits) → AllValuesAgree s (later_sight s j lanes cut) p.old
         → render_part (rendered levels s) p ≡ one_waits a → AreUnresolved (later_sight s j lanes cut) a
         → render_part (rendered levels (later_sight s j lanes cut)) p ≡ one_waits a }
@@ -93,11 +95,14 @@ pub fn hidden_waits_again()
     ensures resources { (j : Journal) (us : List Posted) (more : List Resolution) (cut later : Cut)
         → cut.resolutions ≤ later.resolutions
         → HasValuesOf (resolutions_by cut j) (resolutions_by later (record { updates = us; resolutions = j.resolutions ++ more })) }
+    ensures as_many { (j : Journal) (us : List Posted) (more : List Resolution) (cut later : Cut)
+        → cut.resolutions ≤ length j.resolutions → later.resolutions ≡ cut.resolutions
+        → resolutions_by cut j ≡ resolutions_by later (record { updates = us; resolutions = j.resolutions ++ more }) }
     ensures awaits { (t : Sight) (a : Awaits)
         → list_any (λ r. is_some (resolved_by t.cut t.journal r (version_seen t r))) a ≡ false → AreUnresolved t a }
     ensures tested { (t : Sight) (e : Element) (a : Awaits) (ns fs : Forest) → length (resources t.program) ≤ resource_limit
         → sees_refresh t ≡ false → is_waiting_still t (node e (of_boundary (Hidden a)) ns fs) (Hidden a) ≡ true
-        → AreUnresolved t a × NoNewUpdate t.lanes t.cut (instances_in ns) t.journal.updates }
+        → AreUnresolved t a × NoNewUpdate t.lanes t.cut (instances_in ns) t.journal.updates × (may_throw_anew t ≡ false) }
     ensures untouched { (s : Sight) (lanes : Lanes) (cut : Cut) (visible kept : List ℕ)
         → ((i : ℕ) → includes kept i ≡ true → includes visible i ≡ false) → s.cut.updates ≤ cut.updates
         → (new : List Posted) (resolutions : List Resolution) → AccountedBefore s.cut s.journal.updates
@@ -108,6 +113,9 @@ pub fn hidden_waits_again()
         → NoNewUpdate lanes cut (instances_in ns) new
         → sees_refresh (later_sight s (journal_since s visible kept new resolutions) lanes cut) ≡ false
         → HasValuesOf (resolutions_by s.cut s.journal) (resolutions_by cut (journal_since s visible kept new resolutions))
+        → (may_throw_in s.program ≡ true → (s.cut.resolutions ≤ cut.resolutions)
+        × (cut.resolutions ≡ s.cut.resolutions → resolutions_by s.cut s.journal ≡ resolutions_by cut (journal_since s visible kept new resolutions)))
+        → may_throw_anew (later_sight s (journal_since s visible kept new resolutions) lanes cut) ≡ false
         → AreUnresolved (later_sight s (journal_since s visible kept new resolutions) lanes cut) a
         → render_part (rendered n (later_sight s (journal_since s visible kept new resolutions) lanes cut)) (part cs (listed es) ns) ≡ one_waits a }
 {}
@@ -132,4 +140,11 @@ pub fn awaited_has_no_value()
     ensures deferred { (s : Sight) (k : Known) (old : Option Node) (new : Node) → depth_bound s.program ≤ depth_limit
         → IfSettled s.program k old → fresh s old ≡ made new → (r : ℕ)
         → awaits.has (all_awaits (newly_hidden old new)) r ≡ true → resolved_by s.cut s.journal r (version_seen s r) ≡ None }
+{}
+
+/// In a tree that a render gives, and in the one that it becomes at its commit, each visible error boundary has caught what
+/// it had caught, or else what its children throw.
+pub fn error_boundaries_catch()
+    ensures { (s : Sight) (old : Option Node) (new : Node) (from : Numbers) → depth_bound s.program ≤ depth_limit
+        → fresh s old ≡ made new → Catches depth_limit s (default_contexts s.program) old (numbered from new).1 }
 {}

@@ -1,32 +1,33 @@
 -- Which of the places that a render comes to are evaluated: those that have a cause, and some below one that has or that is tried again.
-use Rattle.std.specs.Prelude.{◌≡◌, ℕ, zero, suc, Bool, true, false, not, ◌||◌, cond, List, [], ◌∷◌, ◌⊎◌, Option, Some, None, IfSome, map, option_and_then, refl, slice_set}
+use Rattle.std.specs.Prelude.{◌≡◌, ℕ, zero, suc, Bool, true, false, not, ◌||◌, cond, List, [], ◌∷◌, ◌⊎◌, ℤ, Option, Some, None, IfSome, map, option_and_then, refl, slice_set}
 use Rattle.std.specs.List.{All, zip}
 use Rattle.std.specs.Option.{option_map_or}
 use Rattle.std.proofs.Common.{ap, inl, inr, subst, sym}
 use Rattle.rx_ast.specs.Syntax.{Component}
 use Rattle.rx_base.specs.Awaits.{Awaits}
+use Rattle.rx_catch.specs.declared.state.CatchState.TheVariants.{Caught, Fine}
 use Rattle.rx_elem.specs.Compare.{node_at, old_nodes}
 use Rattle.rx_elem.specs.Elements.{Element, Elements, listed}
 use Rattle.rx_elem.specs.Elements as elements
 use Rattle.rx_elem.specs.Identity.{old_places}
-use Rattle.rx_elem.specs.Trees.{Forest, Instance, Mark, Node, child, element_of, elements_in, is_hidden, node, none, of_boundary, of_host, of_instance, places, plain, vacant}
+use Rattle.rx_elem.specs.Trees.{Forest, Instance, Mark, Node, caught_in, child, element_of, elements_in, is_hidden, node, none, of_boundary, of_catcher, of_host, of_instance, old_caught, places, plain, vacant}
 use Rattle.rx_elem.proofs.Deciding.{or_fails, or_right}
 use Rattle.rx_elem.proofs.SelfMatch.{matches_itself}
-use Rattle.rx_meaning.specs.Body.{Body, body_of, ready, wait}
-use Rattle.rx_meaning.specs.Fresh.{Sight, Contexts, Renders, default_contexts, depth_limit, inputs_at, old_host, part, rendered, root_element, Part, Shape, absent, waiting, one_list, two_lists, shape_of, shape_of_body, shape_of_component, version_seen}
+use Rattle.rx_meaning.specs.Body.{Body, body_of, ready, throw, wait}
+use Rattle.rx_meaning.specs.Fresh.{Sight, Contexts, Renders, default_contexts, depth_limit, inputs_at, old_host, part, render_part, rendered, root_element, Part, Shape, absent, waiting, throwing, one_list, two_lists, guarded, shape_of, shape_of_body, shape_of_catcher, shape_of_component, version_seen}
 use Rattle.rx_meaning.specs.Settled.{AllSettled, DoneBefore, IfSettled, IsBodyOf, IsOwn, IsSettled, known_by, read_anew, refreshed}
-use Rattle.rx_meaning.specs.Touched.{children_with_old, part_waits}
+use Rattle.rx_meaning.specs.Touched.{children_with_old, is_throw, is_wait}
 use Rattle.rx_rules.specs.Names.{component_at}
 use Rattle.rx_susp.specs.declared.boundary.BoundaryState.TheVariants.{Hidden, Shown}
 use Rattle.commit_laws.proofs.TakeOver.{idle_shape, settled_no_null}
 use Rattle.cost_laws.specs.Causes.{has_cause, is_called, is_due, some_update}
-use Rattle.cost_laws.specs.Evaluated.{Flag, above_root, after_attempt, below_boundary, below_node, beside_kept, in_fallback, is_as_before, is_evaluated, stood}
+use Rattle.cost_laws.specs.Evaluated.{Flag, above_root, after_attempt, below_boundary, below_node, beside_kept, in_fallback, is_as_before, is_evaluated, once_caught, stood}
 use Rattle.cost_laws.specs.Places.{Above, AreEvaluated, Coming, Comings, above_with, come_part, come_shape, coming_here, comings, whole_comings}
 use Rattle.cost_laws.specs.Untouched.{is_retried, is_untouched}
 use Rattle.cost_laws.proofs.ComingOnce.{places_once}
 use Rattle.cost_laws.proofs.CommittedHooks.{committed_hooks}
 use Rattle.cost_laws.proofs.Each.{Each, all_of}
-use Rattle.cost_laws.proofs.EachComing.{all_come, any_pairs, boundary_comes, stands_or_not, whole_each}
+use Rattle.cost_laws.proofs.EachComing.{all_come, any_pairs, boundary_comes, catcher_comes, stands_or_not, whole_each}
 use Rattle.cost_laws.proofs.Resting.{boundary_zeroth, node_zeroth, not_evaluated}
 use Rattle.cost_laws.proofs.MemoExact.{memos_exact, places_exact}
 
@@ -39,6 +40,7 @@ cause_evaluates s u cs (elements.host n k attrs es) old h = absurd (cc h)
 cause_evaluates s u cs (elements.comp c k ps es) old h = ap (λ b. b || not (is_as_before s u (elements.comp c k ps es) old)) h
 cause_evaluates s u cs (elements.list marked es) old h = absurd (cc h)
 cause_evaluates s u cs (elements.boundary k f es) old h = absurd (cc h)
+cause_evaluates s u cs (elements.catcher k f es) old h = absurd (cc h)
 cause_evaluates s u cs (elements.provider c k x es) old h = absurd (cc h)
 
 -- a place that has a cause is evaluated
@@ -97,14 +99,23 @@ shape_below : (s : Sight) (come : Comings) → IsFounded s come → (below : Con
     → Each IsCaused (come_shape come below s a cs e old shape)
 shape_below s come founded below a cs e old absent here h = tt
 shape_below s come founded below a cs e old (waiting r v) here h = (here, tt)
+shape_below s come founded below a cs e old (throwing x) here h = (here, tt)
 shape_below s come founded below a cs e old (one_list m p) here h = (here, part_below s come founded below (above_with a s cs e old (below_node s a.flag cs e old)) p h)
 shape_below s come founded below a cs e old (two_lists p f) here h =
     let b = above_with a s cs e old (below_boundary a.flag e old) in
     let c = above_with a s cs e old (in_fallback s a.flag e old) in (
       here,
-      boundary_comes IsCaused (is_untouched s (stood a.flag) e old) (part_waits below p)
+      boundary_comes IsCaused (is_untouched s (stood a.flag) e old) (is_wait (render_part below p))
           (come_part come below (record b { address = 0 ∷ a.address }) p) (come_part come below (record c { address = 1 ∷ a.address }) f)
           (λ _. part_below s come founded below (record b { address = 0 ∷ a.address }) p h) (part_below s come founded below (record c { address = 1 ∷ a.address }) f h),
+    )
+shape_below s come founded below a cs e old (guarded p f) here h =
+    let b = above_with a s cs e old (below_node s a.flag cs e old) in
+    let c = above_with a s cs e old (once_caught a.flag) in (
+      here,
+      catcher_comes IsCaused (is_throw (render_part below p))
+          (come_part come below (record b { address = 0 ∷ a.address }) p) (come_part come below (record c { address = 1 ∷ a.address }) f)
+          (part_below s come founded below (record b { address = 0 ∷ a.address }) p h) (part_below s come founded below (record c { address = 1 ∷ a.address }) f h),
     )
 
 -- Without an old node
@@ -131,11 +142,14 @@ new_part s come founded below a p h =
 abbrev IsNewShape : Shape → Type 0
 IsNewShape absent = Unit {0}
 IsNewShape (waiting r v) = Unit {0}
+IsNewShape (throwing x) = Unit {0}
 IsNewShape (one_list m p) = p.old ≡ none
 IsNewShape (two_lists p f) = (p.old ≡ none) × (f.old ≡ none)
+IsNewShape (guarded p f) = (p.old ≡ none) × (f.old ≡ none)
 
 new_body : (cs : Contexts) (c : ℕ) (b : Body) → IsNewShape (shape_of_body cs c None b)
 new_body cs c (wait r v) = tt
+new_body cs c (throw x) = tt
 new_body cs c (ready es effects initials reads versions) = refl
 
 new_component : (s : Sight) (cs : Contexts) (c : ℕ) (props : _) (given : Elements) (d : Option Component) → IsNewShape (shape_of_component s cs c props given None d)
@@ -149,6 +163,7 @@ new_shape s cs (elements.host n k attrs es) = refl
 new_shape s cs (elements.comp c k ps es) = new_component s cs c ps es (component_at s.program c)
 new_shape s cs (elements.list marked es) = refl
 new_shape s cs (elements.boundary k f es) = (refl, refl)
+new_shape s cs (elements.catcher k f es) = (refl, refl)
 new_shape s cs (elements.provider c k x es) = refl
 
 -- a component without an old node has a cause, and nothing else is evaluated
@@ -159,20 +174,30 @@ new_caused s a cs (elements.host n k attrs es) h = absurd (cc h)
 new_caused s a cs (elements.comp c k ps es) h = inl refl
 new_caused s a cs (elements.list marked es) h = absurd (cc h)
 new_caused s a cs (elements.boundary k f es) h = absurd (cc h)
+new_caused s a cs (elements.catcher k f es) h = absurd (cc h)
 new_caused s a cs (elements.provider c k x es) h = absurd (cc h)
 
 new_founded : (s : Sight) (come : Comings) → IsFounded s come → (below : Contexts → Renders) (a : Above) (cs : Contexts) (e : Element) (shape : Shape) → IsNewShape shape
     → Each IsCaused (come_shape come below s a cs e None shape)
 new_founded s come founded below a cs e absent h = tt
 new_founded s come founded below a cs e (waiting r v) h = (new_caused s a cs e, tt)
+new_founded s come founded below a cs e (throwing x) h = (new_caused s a cs e, tt)
 new_founded s come founded below a cs e (one_list m p) h = (new_caused s a cs e, new_part s come founded below (above_with a s cs e None (below_node s a.flag cs e None)) p h)
 new_founded s come founded below a cs e (two_lists p f) h =
     let b = above_with a s cs e None (below_boundary a.flag e None) in
     let c = above_with a s cs e None (in_fallback s a.flag e None) in (
       new_caused s a cs e,
-      boundary_comes IsCaused (is_untouched s (stood a.flag) e None) (part_waits below p)
+      boundary_comes IsCaused (is_untouched s (stood a.flag) e None) (is_wait (render_part below p))
           (come_part come below (record b { address = 0 ∷ a.address }) p) (come_part come below (record c { address = 1 ∷ a.address }) f)
           (λ _. new_part s come founded below (record b { address = 0 ∷ a.address }) p h.0) (new_part s come founded below (record c { address = 1 ∷ a.address }) f h.1),
+    )
+new_founded s come founded below a cs e (guarded p f) h =
+    let b = above_with a s cs e None (below_node s a.flag cs e None) in
+    let c = above_with a s cs e None (once_caught a.flag) in (
+      new_caused s a cs e,
+      catcher_comes IsCaused (is_throw (render_part below p))
+          (come_part come below (record b { address = 0 ∷ a.address }) p) (come_part come below (record c { address = 1 ∷ a.address }) f)
+          (new_part s come founded below (record b { address = 0 ∷ a.address }) p h.0) (new_part s come founded below (record c { address = 1 ∷ a.address }) f h.1),
     )
 
 -- If the old elements are given again
@@ -197,12 +222,12 @@ not_caused : (s : Sight) (a : Above) (cs : Contexts) (e : Element) (old : Option
 not_caused s a cs e old h k = absurd (cc (h, k))
 
 -- a node of one list, whose body is not evaluated, over its old elements
-kept_list : (s : Sight) (come : Comings) → IsFounded s come → (below : Contexts → Renders) (a : Above) (cs ds : Contexts) (e : Element) (m : Mark) (ns fs : Forest) (n : Mark) (es : List Element)
-    → a.flag.generation ≡ 0 → has_cause s cs e (Some (node e m ns fs)) ≡ false → AllSettled s.program (known_by s) ns → elements_in ns ≡ es
-    → Each IsCaused (come_shape come below s a cs e (Some (node e m ns fs)) (one_list n (part ds es ns)))
-kept_list s come founded below a cs ds e m ns fs n es zeroth calm settled same = (
+kept_list : (s : Sight) (come : Comings) → IsFounded s come → (below : Contexts → Renders) (a : Above) (cs ds : Contexts) (e : Element) (m : Mark) (ns fs : Forest) (n : Mark) (es : List Element) (olds : Forest)
+    → a.flag.generation ≡ 0 → has_cause s cs e (Some (node e m ns fs)) ≡ false → AllSettled s.program (known_by s) olds → elements_in olds ≡ es
+    → Each IsCaused (come_shape come below s a cs e (Some (node e m ns fs)) (one_list n (part ds es olds)))
+kept_list s come founded below a cs ds e m ns fs n es olds zeroth calm settled same = (
   not_caused s a cs e (Some (node e m ns fs)) (not_evaluated s a.flag cs e m ns fs zeroth calm),
-  given_part s come founded below (above_with a s cs e (Some (node e m ns fs)) (below_node s a.flag cs e (Some (node e m ns fs)))) ds es ns (node_zeroth s a.flag cs e m ns fs zeroth calm) settled same,
+  given_part s come founded below (above_with a s cs e (Some (node e m ns fs)) (below_node s a.flag cs e (Some (node e m ns fs)))) ds es olds (node_zeroth s a.flag cs e m ns fs zeroth calm) settled same,
 )
 
 -- a component that is called has a cause, and what is below it lies below one
@@ -234,7 +259,7 @@ component_founded s come founded below a cs c key props given m ns fs done zerot
 component_founded s come founded below a cs c key props given m ns fs done zeroth own settled false called =
     subst (λ shape. Each IsCaused (come_shape come below s a cs (elements.comp c key props given) (Some (node (elements.comp c key props given) m ns fs)) shape))
     (sym (calm_shape s cs c key props given m ns fs own.0 own.1 own.2 own.3 done called))
-    (kept_list s come founded below a cs cs (elements.comp c key props given) m ns fs m (elements_in ns) zeroth (rw own.1 called) settled refl)
+    (kept_list s come founded below a cs cs (elements.comp c key props given) m ns fs m (elements_in ns) ns zeroth (rw own.1 called) settled refl)
 
 -- a boundary that is shown, and one that is hidden
 shown_founded : (s : Sight) (come : Comings) → IsFounded s come → (below : Contexts → Renders) (a : Above) (cs : Contexts) (key : _) (f : Element) (es : Elements) (m : Mark) (ns fs : Forest)
@@ -246,7 +271,7 @@ shown_founded s come founded below a cs key f es m ns fs zeroth shown same empty
     let b = above_with a s cs e old (below_boundary a.flag e old) in
     let c = above_with a s cs e old (in_fallback s a.flag e old) in (
       not_caused s a cs e old refl,
-      boundary_comes IsCaused (is_untouched s (stood a.flag) e old) (part_waits below (part cs (listed es) ns))
+      boundary_comes IsCaused (is_untouched s (stood a.flag) e old) (is_wait (render_part below (part cs (listed es) ns)))
           (come_part come below (record b { address = 0 ∷ a.address }) (part cs (listed es) ns)) (come_part come below (record c { address = 1 ∷ a.address }) (part cs (f ∷ []) fs))
           (λ _. given_part s come founded below (record b { address = 0 ∷ a.address }) cs (listed es) ns (boundary_zeroth a.flag e m ns fs zeroth (ap is_hidden shown)) settled same)
           (new_part s come founded below (record c { address = 1 ∷ a.address }) (part cs (f ∷ []) fs) empty),
@@ -264,7 +289,7 @@ hidden_founded s come founded below a cs key f es m ns fs w hidden same settled 
     let beside : in_fallback s a.flag e old ≡ beside_kept = ap (λ t. cond t beside_kept (after_attempt a.flag e old)) kept in
     let zeroth : (in_fallback s a.flag e old).generation ≡ 0 = ap (λ (u : Flag). u.generation) beside in (
       not_caused s a cs e old refl,
-      boundary_comes IsCaused (is_untouched s (stood a.flag) e old) (part_waits below (part cs (listed es) ns))
+      boundary_comes IsCaused (is_untouched s (stood a.flag) e old) (is_wait (render_part below (part cs (listed es) ns)))
           (come_part come below (record b { address = 0 ∷ a.address }) (part cs (listed es) ns)) (come_part come below (record c { address = 1 ∷ a.address }) (part cs (f ∷ []) fs))
           (λ tried. absurd (cc (kept, tried)))
           (given_part s come founded below (record c { address = 1 ∷ a.address }) cs (f ∷ []) fs zeroth settled same),
@@ -277,6 +302,37 @@ hidden_founded s come founded below a cs key f es m ns fs w hidden same settled 
     shape_below s come founded below a cs e old (two_lists (part cs (listed es) ns) (part cs (f ∷ []) fs)) (not_caused s a cs e old refl)
     (or_right a.below (is_retried s (stood a.flag) e old) retried)
 
+-- an error boundary that tries its children, and one that had caught a value
+tried_founded : (s : Sight) (come : Comings) → IsFounded s come → (below : Contexts → Renders) (a : Above) (cs : Contexts) (key : _) (f : Element) (es : Elements) (m : Mark) (ns fs : Forest)
+    → a.flag.generation ≡ 0 → m ≡ of_catcher Fine → elements_in ns ≡ listed es → AllSettled s.program (known_by s) ns
+    → Each IsCaused (come_shape come below s a cs (elements.catcher key f es) (Some (node (elements.catcher key f es) m ns fs)) (shape_of s cs (elements.catcher key f es) (Some (node (elements.catcher key f es) m ns fs))))
+tried_founded s come founded below a cs key f es m ns fs zeroth fine same settled =
+    let e = elements.catcher key f es in
+    let old : Option Node = Some (node e m ns fs) in
+    let b = above_with a s cs e old (below_node s a.flag cs e old) in
+    let c = above_with a s cs e old (once_caught a.flag) in
+    let primary = part cs (listed es) ns in
+    let second = part cs (f ∷ []) none in
+    let before : old_caught old ≡ None = ap caught_in fine in
+    let each : Each IsCaused (come_shape come below s a cs e old (guarded primary second)) = (
+      not_caused s a cs e old refl,
+      catcher_comes IsCaused (is_throw (render_part below primary))
+          (come_part come below (record b { address = 0 ∷ a.address }) primary) (come_part come below (record c { address = 1 ∷ a.address }) second)
+          (given_part s come founded below (record b { address = 0 ∷ a.address }) cs (listed es) ns (node_zeroth s a.flag cs e m ns fs zeroth refl) settled same)
+          (new_part s come founded below (record c { address = 1 ∷ a.address }) second refl),
+    ) in
+    subst (λ caught. Each IsCaused (come_shape come below s a cs e old (shape_of_catcher cs f es old caught))) (sym before) each
+
+caught_founded : (s : Sight) (come : Comings) → IsFounded s come → (below : Contexts → Renders) (a : Above) (cs : Contexts) (key : _) (f : Element) (es : Elements) (m : Mark) (ns fs : Forest) (x : ℤ)
+    → a.flag.generation ≡ 0 → m ≡ of_catcher (Caught x) → elements_in fs ≡ f ∷ [] → AllSettled s.program (known_by s) fs
+    → Each IsCaused (come_shape come below s a cs (elements.catcher key f es) (Some (node (elements.catcher key f es) m ns fs)) (shape_of s cs (elements.catcher key f es) (Some (node (elements.catcher key f es) m ns fs))))
+caught_founded s come founded below a cs key f es m ns fs x zeroth caught same settled =
+    let e = elements.catcher key f es in
+    let old : Option Node = Some (node e m ns fs) in
+    let before : old_caught old ≡ Some x = ap caught_in caught in
+    subst (λ caught. Each IsCaused (come_shape come below s a cs e old (shape_of_catcher cs f es old caught))) (sym before)
+    (kept_list s come founded below a cs cs e m ns fs (of_catcher (Caught x)) (f ∷ []) fs zeroth refl settled same)
+
 given_founded : (s : Sight) (come : Comings) → IsFounded s come → (below : Contexts → Renders) (a : Above) (cs : Contexts) (e : Element) (m : Mark) (ns fs : Forest)
     → DoneBefore s.cut s.journal.updates → a.flag.generation ≡ 0 → IsOwn s.program (known_by s) e m ns fs → AllSettled s.program (known_by s) ns → AllSettled s.program (known_by s) fs
     → Each IsCaused (come_shape come below s a cs e (Some (node e m ns fs)) (shape_of s cs e (Some (node e m ns fs))))
@@ -284,18 +340,22 @@ given_founded s come founded below a cs elements.null m ns fs done zeroth own ki
 given_founded s come founded below a cs (elements.text t) m ns fs done zeroth own kids second =
     (not_caused s a cs (elements.text t) (Some (node (elements.text t) m ns fs)) refl, tt)
 given_founded s come founded below a cs (elements.host n key attrs es) m ns fs done zeroth own kids second =
-    kept_list s come founded below a cs cs (elements.host n key attrs es) m ns fs (of_host (old_host (Some (node (elements.host n key attrs es) m ns fs)))) (listed es) zeroth refl kids own.2
+    kept_list s come founded below a cs cs (elements.host n key attrs es) m ns fs (of_host (old_host (Some (node (elements.host n key attrs es) m ns fs)))) (listed es) ns zeroth refl kids own.2
 given_founded s come founded below a cs (elements.comp c key props given) m ns fs done zeroth own kids second =
     component_founded s come founded below a cs c key props given m ns fs done zeroth own kids (is_called s cs (Some own.0)) refl
 given_founded s come founded below a cs (elements.list marked es) m ns fs done zeroth own kids second =
-    kept_list s come founded below a cs cs (elements.list marked es) m ns fs plain (listed es) zeroth refl kids own.1
+    kept_list s come founded below a cs cs (elements.list marked es) m ns fs plain (listed es) ns zeroth refl kids own.1
 given_founded s come founded below a cs (elements.boundary key f es) m ns fs done zeroth (inl own) kids second =
     shown_founded s come founded below a cs key f es m ns fs zeroth own.0 own.1 own.2 kids
 given_founded s come founded below a cs (elements.boundary key f es) m ns fs done zeroth (inr own) kids second =
     hidden_founded s come founded below a cs key f es m ns fs own.0 own.1 own.2 second
     (is_untouched s (stood a.flag) (elements.boundary key f es) (Some (node (elements.boundary key f es) m ns fs))) refl
+given_founded s come founded below a cs (elements.catcher key f es) m ns fs done zeroth (inl own) kids second =
+    tried_founded s come founded below a cs key f es m ns fs zeroth own.0 own.1 kids
+given_founded s come founded below a cs (elements.catcher key f es) m ns fs done zeroth (inr own) kids second =
+    caught_founded s come founded below a cs key f es m ns fs own.0 zeroth own.1 own.3 second
 given_founded s come founded below a cs (elements.provider c key x es) m ns fs done zeroth own kids second =
-    kept_list s come founded below a cs (slice_set cs c x) (elements.provider c key x es) m ns fs plain (listed es) zeroth refl kids own.1
+    kept_list s come founded below a cs (slice_set cs c x) (elements.provider c key x es) m ns fs plain (listed es) ns zeroth refl kids own.1
 
 settled_founded : (s : Sight) (come : Comings) → IsFounded s come → (below : Contexts → Renders) (a : Above) (cs : Contexts) (x : Node) → DoneBefore s.cut s.journal.updates → a.flag.generation ≡ 0
     → IsSettled s.program (known_by s) x → Each IsCaused (come_shape come below s a cs (element_of x) (Some x) (shape_of s cs (element_of x) (Some x)))

@@ -3,9 +3,9 @@ use Rattle.std.specs.Prelude.{◌≡◌, ℕ, zero, suc, ◌≤◌, Bool, true, 
 use Rattle.std.proofs.Common.{ap, append_assoc, arith, length-append, sym, ◌∙◌}
 use Rattle.rx_elem.specs.Elements.{Element}
 use Rattle.rx_elem.specs.Trees.{Node}
-use Rattle.rx_meaning.specs.Fresh.{Sight, Contexts, Renders, default_contexts, depth_limit, rendered, root_element, Part, Shape, absent, waiting, one_list, two_lists, shape_of}
-use Rattle.rx_meaning.specs.Touched.{Address, children_with_old, part_waits, waits_at}
-use Rattle.cost_laws.specs.Evaluated.{above_root, below_boundary, below_node, in_fallback, stood}
+use Rattle.rx_meaning.specs.Fresh.{Sight, Contexts, Renders, default_contexts, depth_limit, rendered, root_element, Part, Shape, absent, waiting, throwing, one_list, two_lists, guarded, render_part, shape_of}
+use Rattle.rx_meaning.specs.Touched.{Address, children_with_old, ends_list, is_throw, is_wait}
+use Rattle.cost_laws.specs.Evaluated.{above_root, below_boundary, below_node, in_fallback, once_caught, stood}
 use Rattle.cost_laws.specs.Places.{Above, AllApart, Coming, Comings, above_with, come_all, come_part, come_shape, coming_here, comings, evaluated_places, whole_comings}
 use Rattle.cost_laws.specs.Untouched.{is_untouched}
 use Rattle.cost_laws.proofs.Each.{Each, all_of, each_and, each_kept, each_so}
@@ -83,10 +83,10 @@ all_once : (come : Comings) → IsOnce come → (render : Renders) (a : Above) (
 all_once come once render a cs k [] = (tt, tt)
 all_once come once render a cs k (x ∷ xs) =
     let first = come (record a { address = k ∷ a.address }) cs x.0 x.1 in
-    let rest = if waits_at (render x.0 x.1) then [] else come_all come render a cs (suc k) xs in
+    let rest = if ends_list (render x.0 x.1) then [] else come_all come render a cs (suc k) xs in
     let here = once (record a { address = k ∷ a.address }) cs x.0 x.1 in
     let there : Apart rest × Each (IsBelowChild a.address (suc k)) rest =
-    none_if (λ vs. Apart vs × Each (IsBelowChild a.address (suc k)) vs) (tt, tt) (waits_at (render x.0 x.1)) (come_all come render a cs (suc k) xs) (all_once come once render a cs (suc k) xs)
+    none_if (λ vs. Apart vs × Each (IsBelowChild a.address (suc k)) vs) (tt, tt) (ends_list (render x.0 x.1)) (come_all come render a cs (suc k) xs) (all_once come once render a cs (suc k) xs)
     in (
       apart_and first rest here.0 there.0
           (between_lists (λ v. IsBelow (k ∷ a.address) v.address) (IsBelowChild a.address (suc k)) (child_apart a.address k) first rest here.1 there.1),
@@ -125,6 +125,7 @@ shape_once : (come : Comings) → IsOnce come → (below : Contexts → Renders)
     → Apart (come_shape come below s a cs e old shape) × Each (λ v. IsBelow a.address v.address) (come_shape come below s a cs e old shape)
 shape_once come once below s a cs e old absent = (tt, tt)
 shape_once come once below s a cs e old (waiting r v) = with_children a.address (coming_here s a cs e old) [] refl tt tt
+shape_once come once below s a cs e old (throwing x) = with_children a.address (coming_here s a cs e old) [] refl tt tt
 shape_once come once below s a cs e old (one_list m p) =
     let b = above_with a s cs e old (below_node s a.flag cs e old) in
     let part = part_once come once below b p in
@@ -135,17 +136,30 @@ shape_once come once below s a cs e old (two_lists p f) =
     let primary = come_part come below (record b { address = 0 ∷ a.address }) p in
     let second = come_part come below (record c { address = 1 ∷ a.address }) f in
     let tried = if is_untouched s (stood a.flag) e old then [] else primary in
-    let fallen = if part_waits below p then second else [] in
+    let fallen = if is_wait (render_part below p) then second else [] in
     let first = part_once come once below (record b { address = 0 ∷ a.address }) p in
     let next = part_once come once below (record c { address = 1 ∷ a.address }) f in
     let left : Apart tried × Each (λ v. IsBelow (0 ∷ a.address) v.address) tried =
     none_if (λ vs. Apart vs × Each (λ v. IsBelow (0 ∷ a.address) v.address) vs) (tt, tt) (is_untouched s (stood a.flag) e old) primary (first.0, in_list a.address 0 primary first.1)
     in
     let right : Apart fallen × Each (λ v. IsBelow (1 ∷ a.address) v.address) fallen =
-    some_if (λ vs. Apart vs × Each (λ v. IsBelow (1 ∷ a.address) v.address) vs) (tt, tt) (part_waits below p) second (next.0, in_list a.address 1 second next.1)
+    some_if (λ vs. Apart vs × Each (λ v. IsBelow (1 ∷ a.address) v.address) vs) (tt, tt) (is_wait (render_part below p)) second (next.0, in_list a.address 1 second next.1)
     in
     let both = two_apart a.address tried fallen left right in
     with_children a.address (coming_here s a cs e old) (tried ++ fallen) refl both.0 both.1
+shape_once come once below s a cs e old (guarded p f) =
+    let b = above_with a s cs e old (below_node s a.flag cs e old) in
+    let c = above_with a s cs e old (once_caught a.flag) in
+    let primary = come_part come below (record b { address = 0 ∷ a.address }) p in
+    let second = come_part come below (record c { address = 1 ∷ a.address }) f in
+    let fallen = if is_throw (render_part below p) then second else [] in
+    let first = part_once come once below (record b { address = 0 ∷ a.address }) p in
+    let next = part_once come once below (record c { address = 1 ∷ a.address }) f in
+    let right : Apart fallen × Each (λ v. IsBelow (1 ∷ a.address) v.address) fallen =
+    some_if (λ vs. Apart vs × Each (λ v. IsBelow (1 ∷ a.address) v.address) vs) (tt, tt) (is_throw (render_part below p)) second (next.0, in_list a.address 1 second next.1)
+    in
+    let both = two_apart a.address primary fallen (first.0, in_list a.address 0 primary first.1) right in
+    with_children a.address (coming_here s a cs e old) (primary ++ fallen) refl both.0 both.1
 
 comings_once : (n : ℕ) (s : Sight) → IsOnce (comings n s)
 unfolding comings

@@ -1,20 +1,21 @@
 -- What a render has still to evaluate falls with each unit by what the unit evaluates.
-use Rattle.std.specs.Prelude.{◌≡◌, ℕ, zero, suc, ◌+◌, Bool, true, false, cond, List, [], ◌∷◌, ◌++◌, Option, Some, None, refl}
+use Rattle.std.specs.Prelude.{◌≡◌, ℕ, zero, suc, ◌+◌, Bool, true, false, cond, List, [], ◌∷◌, ◌++◌, ℤ, Option, Some, None, refl}
 use Rattle.std.proofs.Common.{arith, ap, sym, ◌∙◌}
 use Rattle.rx_base.specs.Awaits.{Awaits}
 use Rattle.rx_base.specs.Awaits as awaits
+use Rattle.rx_catch.specs.declared.state.CatchState.TheVariants.{Caught}
 use Rattle.rx_elem.specs.Elements.{Element}
 use Rattle.rx_elem.specs.Elements as elements
-use Rattle.rx_elem.specs.Trees.{Node, none, forest}
-use Rattle.rx_meaning.specs.Fresh.{Sight, Contexts, made, waits, Places, all_made, one_waits, over_boundary, render_all, rendered, Part, Shape, absent, waiting, one_list, two_lists, shape_of, render_part, place_of}
+use Rattle.rx_elem.specs.Trees.{Node, none, forest, of_catcher}
+use Rattle.rx_meaning.specs.Fresh.{Sight, Contexts, made, waits, throws, Places, all_made, one_waits, one_throws, over_boundary, render_all, rendered, Part, Shape, absent, waiting, throwing, one_list, two_lists, guarded, shape_of, render_part, place_of}
 use Rattle.rx_meaning.specs.Counts.{try_all, count_part, if_waits}
 use Rattle.rx_meaning.specs.Touched.{children_with_old}
-use Rattle.rx_meaning.specs.Cursor.{given_by, is_null, Open, around, trying, falling, Frame, Cursor, at_place, at_end, ended, come_to, open_part, arrive, past, unwind, begin, finished, unit, start}
+use Rattle.rx_meaning.specs.Cursor.{given_by, is_null, Open, around, trying, falling, guarding, Frame, Cursor, at_place, at_end, ended, come_to, open_part, arrive, past, unwind, past_throw, unwind_throw, begin, finished, unit, start}
 use Rattle.rx_meaning.specs.Rest.{onto, from_open}
-use Rattle.render_laws.proofs.Resuming.{onto_push, onto_waits, onto_made, open_made, null_is_empty}
-use Rattle.cost_laws.specs.Evaluated.{Flag, after_attempt, below_boundary, beside_kept, evaluate_shape, evaluated, in_fallback, stood, whole_evaluated}
+use Rattle.render_laws.proofs.Resuming.{onto_push, onto_waits, onto_throws, onto_made, open_made, null_is_empty}
+use Rattle.cost_laws.specs.Evaluated.{Flag, after_attempt, below_boundary, beside_kept, evaluate_shape, evaluated, in_fallback, once_caught, stood, whole_evaluated}
 use Rattle.cost_laws.specs.Untouched.{is_untouched}
-use Rattle.cost_laws.specs.Left.{Flags, flag, outer, evaluate_open, evaluate_around, left_evaluated, unwound_by, unwound, begun_flags, unit_flags, begins_evaluated, next_evaluated, MayTry, MayGo}
+use Rattle.cost_laws.specs.Left.{Flags, flag, outer, evaluate_open, evaluate_around, left_evaluated, unwound_by, unwound, thrown_by, thrown_past, begun_flags, unit_flags, begins_evaluated, next_evaluated, MayTry, MayGo}
 
 null_evaluates : (n : ℕ) (s : Sight) (u : Flag) (cs : Contexts) (e : Element) (old : Option Node) → is_null e ≡ true → evaluated n s u cs e old ≡ 0
 unfolding evaluated
@@ -25,6 +26,7 @@ null_evaluates (suc n) s u cs (elements.host name k attrs es) old h = absurd (cc
 null_evaluates (suc n) s u cs (elements.comp c k ps es) old h = absurd (cc h)
 null_evaluates (suc n) s u cs (elements.list marked es) old h = absurd (cc h)
 null_evaluates (suc n) s u cs (elements.boundary k f es) old h = absurd (cc h)
+null_evaluates (suc n) s u cs (elements.catcher k f es) old h = absurd (cc h)
 null_evaluates (suc n) s u cs (elements.provider c k x es) old h = absurd (cc h)
 
 -- what an open node and those around it evaluate, from what its list gives
@@ -42,6 +44,7 @@ open_evaluates : (n : ℕ) (s : Sight) (u : Flag) (o : Open) (done : List (Optio
 open_evaluates n s u (around e m) done = refl
 open_evaluates n s u (trying e old f) done = refl
 open_evaluates n s u (falling e old a) done = refl
+open_evaluates n s u (guarding e f) done = refl
 
 end_evaluates : (n : ℕ) (s : Sight) (us : Flags) (fs : List Frame) (o : Open) (done : List (Option Node))
     → evaluate_around (suc n) s fs (outer us) (made (finished o done)) ≡ 0 + evaluates_from n s us fs o (onto done (all_made none))
@@ -86,6 +89,7 @@ past_evaluates : (n : ℕ) (s : Sight) (us : Flags) (fs : List Frame) (o : Open)
 past_evaluates n s us fs (around e m) a out = omega (arith, out a)
 past_evaluates n s us fs (trying e old f) a out = omega (arith, part_evaluates n s (after_attempt (flag (outer us)) e old ∷ outer us) fs (falling e old a) f)
 past_evaluates n s us fs (falling e old b) a out = omega (arith, out (awaits.union b a))
+past_evaluates n s us fs (guarding e f) a out = omega (arith, out a)
 
 unwind_evaluates : (n : ℕ) (s : Sight) (us : Flags) (fs : List Frame) (a : Awaits) → left_evaluated s (unwound fs us) (unwind n fs a) ≡ evaluate_around n s fs us (waits a)
 unfolding left_evaluated
@@ -93,6 +97,23 @@ unwind_evaluates n s us [] a = refl
 unwind_evaluates n s us (f ∷ fs) a =
     past_evaluates n s us fs f.node a (unwind_evaluates (suc n) s (outer us) fs)
     ∙ rw (onto_waits f.done a) (omega arith)
+
+-- a throw goes past each open node but an error boundary that tries its children, whose fallback is evaluated then
+past_throw_evaluates : (n : ℕ) (s : Sight) (us : Flags) (fs : List Frame) (o : Open) (x : ℤ)
+    → left_evaluated s (thrown_past fs (outer us)) (unwind_throw (suc n) fs x) ≡ evaluate_around (suc n) s fs (outer us) (throws x)
+    → left_evaluated s (thrown_by o us (thrown_past fs (outer us))) (past_throw o x (unwind_throw (suc n) fs x) (open_part n fs)) ≡ evaluates_from n s us fs o (one_throws x)
+past_throw_evaluates n s us fs (around e m) x out = omega (arith, out)
+past_throw_evaluates n s us fs (trying e old f) x out = omega (arith, out)
+past_throw_evaluates n s us fs (falling e old a) x out = omega (arith, out)
+past_throw_evaluates n s us fs (guarding e f) x out =
+    omega (arith, part_evaluates n s (once_caught (flag (outer us)) ∷ outer us) fs (around e (of_catcher (Caught x))) f)
+
+unwind_throw_evaluates : (n : ℕ) (s : Sight) (us : Flags) (fs : List Frame) (x : ℤ) → left_evaluated s (thrown_past fs us) (unwind_throw n fs x) ≡ evaluate_around n s fs us (throws x)
+unfolding left_evaluated
+unwind_throw_evaluates n s us [] x = refl
+unwind_throw_evaluates n s us (f ∷ fs) x =
+    past_throw_evaluates n s us fs f.node x (unwind_throw_evaluates (suc n) s (outer us) fs x)
+    ∙ rw (onto_throws f.done x) (omega arith)
 
 -- the fallback of a boundary that is tried has what its children leave it
 tried_fallback : (s : Sight) (u : Flag) (e : Element) (old : Option Node) → is_untouched s (stood u) e old ≡ false → in_fallback s u e old ≡ after_attempt u e old
@@ -103,6 +124,7 @@ begin_evaluates : (n : ℕ) (s : Sight) (us : Flags) (fs : List Frame) (cs : Con
     ≡ begins_evaluated s (flag us) cs e old shape + left_evaluated s (begun_flags s fs us cs e old shape) (begin n fs e old shape)
 begin_evaluates n s us fs cs e old absent h = omega (arith, arrive_evaluates (suc n) s us fs None)
 begin_evaluates n s us fs cs e old (waiting r v) h = omega (arith, unwind_evaluates (suc n) s us fs (awaits.one r))
+begin_evaluates n s us fs cs e old (throwing x) h = omega (arith, unwind_throw_evaluates (suc n) s us fs x)
 begin_evaluates n s us fs cs e old (one_list m p) h = omega (arith, part_evaluates n s (begun_flags s fs us cs e old (one_list m p)) fs (around e m) p)
 begin_evaluates n s us fs cs e old (two_lists p f) h =
     let u = below_boundary (flag us) e old in
@@ -114,6 +136,7 @@ begin_evaluates n s us fs cs e old (two_lists p f) h =
     ap (λ v. if_waits (render_part (rendered n s) p) (count_part (evaluated n s v) (rendered n s) f)) (tried_fallback s (flag us) e old h)
     in
     omega (arith, tried, after, part_evaluates n s (u ∷ us) fs (trying e old f) p)
+begin_evaluates n s us fs cs e old (guarded p f) h = omega (arith, part_evaluates n s (begun_flags s fs us cs e old (guarded p f)) fs (guarding e f) p)
 
 place_evaluates : (n : ℕ) (s : Sight) (us : Flags) (fs : List Frame) (cs : Contexts) (e : Element) (old : Option Node) → MayTry s (flag us) e old (shape_of s cs e old)
     → evaluated (suc n) s (flag us) cs e old + evaluate_around (suc n) s fs us (rendered (suc n) s cs e old)

@@ -4,9 +4,9 @@ use Rattle.std.specs.List.{zip}
 use Rattle.rx_elem.specs.Compare.{old_nodes}
 use Rattle.rx_elem.specs.Elements.{Element}
 use Rattle.rx_elem.specs.Trees.{Forest, Node}
-use Rattle.rx_meaning.specs.Fresh.{Sight, Contexts, Renders, default_contexts, depth_limit, rendered, root_element, Part, Shape, absent, waiting, one_list, two_lists, shape_of}
-use Rattle.rx_meaning.specs.Touched.{children_with_old, part_waits, waits_at}
-use Rattle.cost_laws.specs.Evaluated.{above_root, below_boundary, below_node, in_fallback, stood}
+use Rattle.rx_meaning.specs.Fresh.{Sight, Contexts, Renders, default_contexts, depth_limit, rendered, root_element, Part, Shape, absent, waiting, throwing, one_list, two_lists, guarded, render_part, shape_of}
+use Rattle.rx_meaning.specs.Touched.{children_with_old, ends_list, is_throw, is_wait}
+use Rattle.cost_laws.specs.Evaluated.{above_root, below_boundary, below_node, in_fallback, once_caught, stood}
 use Rattle.cost_laws.specs.Places.{Above, Coming, Comings, above_with, come_all, come_part, come_shape, coming_here, comings, whole_comings}
 use Rattle.cost_laws.specs.Untouched.{is_untouched}
 use Rattle.cost_laws.proofs.Each.{Each, each_and, each_so}
@@ -18,8 +18,8 @@ pub all_come : (P : Coming → Type 0) (come : Comings) (render : Renders) (a : 
     → Each (λ x. (j : ℕ) → Each P (come (record a { address = j ∷ a.address }) cs x.0 x.1)) xs → Each P (come_all come render a cs k xs)
 all_come P come render a cs k [] h = tt
 all_come P come render a cs k (x ∷ xs) h =
-    each_and P (come (record a { address = k ∷ a.address }) cs x.0 x.1) (if waits_at (render x.0 x.1) then [] else come_all come render a cs (suc k) xs)
-    (h.0 k) (go (waits_at (render x.0 x.1)) (all_come P come render a cs (suc k) xs h.1))
+    each_and P (come (record a { address = k ∷ a.address }) cs x.0 x.1) (if ends_list (render x.0 x.1) then [] else come_all come render a cs (suc k) xs)
+    (h.0 k) (go (ends_list (render x.0 x.1)) (all_come P come render a cs (suc k) xs h.1))
   where
     go : (b : Bool) → Each P (come_all come render a cs (suc k) xs) → Each P (if b then [] else come_all come render a cs (suc k) xs)
     go true l = tt
@@ -33,21 +33,30 @@ boundary_comes P true false primary second h k = tt
 boundary_comes P false true primary second h k = each_and P primary second (h refl) k
 boundary_comes P false false primary second h k = each_and P primary [] (h refl) tt
 
+-- the same of an error boundary, whose children are always tried
+pub catcher_comes : (P : Coming → Type 0) (throws : Bool) (primary second : List Coming) → Each P primary → Each P second
+    → Each P (primary ++ (if throws then second else []))
+catcher_comes P throws primary second h k = boundary_comes P false throws primary second (λ _. h) k
+
 -- Places
 
 -- what is said of a place, unless nothing stands there
 abbrev pub IfStands : Type 0 → Shape → Type 0
 IfStands A absent = Unit {0}
 IfStands A (waiting r v) = A
+IfStands A (throwing x) = A
 IfStands A (one_list m p) = A
 IfStands A (two_lists p f) = A
+IfStands A (guarded p f) = A
 
 -- what holds in any case
 pub stands_or_not : (A : Type 0) → A → (shape : Shape) → IfStands A shape
 stands_or_not A h absent = tt
 stands_or_not A h (waiting r v) = h
+stands_or_not A h (throwing x) = h
 stands_or_not A h (one_list m p) = h
 stands_or_not A h (two_lists p f) = h
+stands_or_not A h (guarded p f) = h
 
 -- a fact of each new child beside its old node
 abbrev pub OfPairs : (Element → Option Node → Type 0) → Type 0
@@ -69,14 +78,23 @@ module _ (K : Element → Option Node → Type 0) (pairs : OfPairs K) (P : Comin
       → IfStands (P (coming_here s a cs e old)) shape → Each P (come_shape come below s a cs e old shape)
   shape_each come h below s a cs e old absent here = tt
   shape_each come h below s a cs e old (waiting r v) here = (here, tt)
+  shape_each come h below s a cs e old (throwing x) here = (here, tt)
   shape_each come h below s a cs e old (one_list m p) here = (here, part_each come h below (above_with a s cs e old (below_node s a.flag cs e old)) p)
   shape_each come h below s a cs e old (two_lists p f) here =
       let b = above_with a s cs e old (below_boundary a.flag e old) in
       let c = above_with a s cs e old (in_fallback s a.flag e old) in (
         here,
-        boundary_comes P (is_untouched s (stood a.flag) e old) (part_waits below p)
+        boundary_comes P (is_untouched s (stood a.flag) e old) (is_wait (render_part below p))
             (come_part come below (record b { address = 0 ∷ a.address }) p) (come_part come below (record c { address = 1 ∷ a.address }) f)
             (λ _. part_each come h below (record b { address = 0 ∷ a.address }) p) (part_each come h below (record c { address = 1 ∷ a.address }) f),
+      )
+  shape_each come h below s a cs e old (guarded p f) here =
+      let b = above_with a s cs e old (below_node s a.flag cs e old) in
+      let c = above_with a s cs e old (once_caught a.flag) in (
+        here,
+        catcher_comes P (is_throw (render_part below p))
+            (come_part come below (record b { address = 0 ∷ a.address }) p) (come_part come below (record c { address = 1 ∷ a.address }) f)
+            (part_each come h below (record b { address = 0 ∷ a.address }) p) (part_each come h below (record c { address = 1 ∷ a.address }) f),
       )
 
   comings_each : (s : Sight) → AtEach K P s → (n : ℕ) (a : Above) (cs : Contexts) (e : Element) (old : Option Node) → K e old → Each P (comings n s a cs e old)

@@ -4,12 +4,12 @@ use Rattle.std.proofs.Common.{arith}
 use Rattle.rx_elem.specs.Elements.{Element}
 use Rattle.rx_elem.specs.Elements as elements
 use Rattle.rx_elem.specs.Trees.{Node}
-use Rattle.rx_meaning.specs.Fresh.{Sight, Contexts, Renders, Place, empty, made, waits, Places, all_made, one_waits, rendered, depth_limit, default_contexts, root_element, Part, Shape, absent, waiting, one_list, two_lists, shape_of, render_part}
-use Rattle.rx_meaning.specs.Counts.{Tries, unless_waits, if_waits, if_made, try_all, each_body, one_if_component, count_part, count_shape, counted, whole}
+use Rattle.rx_meaning.specs.Fresh.{Sight, Contexts, Renders, Place, empty, made, waits, throws, Places, all_made, one_waits, one_throws, rendered, depth_limit, default_contexts, root_element, Part, Shape, absent, waiting, throwing, one_list, two_lists, guarded, shape_of, render_part}
+use Rattle.rx_meaning.specs.Counts.{Tries, unless_waits, if_waits, if_throws, if_made, try_all, each_body, one_if_component, count_part, count_shape, counted, whole}
 use Rattle.rx_meaning.specs.Touched.{children_with_old}
 use Rattle.render_laws.proofs.UnitBound.{if_made_nothing}
 use Rattle.cost_laws.specs.Causes.{has_cause}
-use Rattle.cost_laws.specs.Evaluated.{Evaluates, Flag, above_root, below_boundary, below_node, evaluate_shape, evaluated, in_fallback, is_as_before, own_body, stood, whole_evaluated}
+use Rattle.cost_laws.specs.Evaluated.{Evaluates, Flag, above_root, below_boundary, below_node, evaluate_shape, evaluated, in_fallback, is_as_before, once_caught, own_body, stood, whole_evaluated}
 use Rattle.cost_laws.specs.Untouched.{is_untouched}
 
 -- one count is at most another
@@ -25,6 +25,7 @@ all_less f g render h (x ∷ xs) = go (render x.0 x.1) (h x.0 x.1) (all_less f g
     go empty a b = omega arith
     go (made n) a b = omega arith
     go (waits w) a b = omega arith
+    go (throws v) a b = omega arith
 
 -- If each place counts less, the children of a node do.
 pub part_less : (f g : Contexts → Tries) (below : Contexts → Renders) → ((cs : Contexts) → IsLess (f cs) (g cs)) → (p : Part)
@@ -42,6 +43,7 @@ own_less s u cs (elements.host n k attrs es) old = omega arith
 own_less s u cs (elements.comp c k ps es) old = one_less (has_cause s cs (elements.comp c k ps es) old || not (is_as_before s u (elements.comp c k ps es) old))
 own_less s u cs (elements.list marked es) old = omega arith
 own_less s u cs (elements.boundary k f es) old = omega arith
+own_less s u cs (elements.catcher k f es) old = omega arith
 own_less s u cs (elements.provider c k x es) old = omega arith
 
 lists_less : (b : Bool) (ps qs : Places) (x y u v w : ℕ) → x ≤ y → u ≤ v
@@ -50,12 +52,21 @@ lists_less true (all_made ns) qs x y u v w h k = omega arith
 lists_less false (all_made ns) qs x y u v w h k = omega arith
 lists_less true (one_waits a) qs x y u v w h k = omega arith
 lists_less false (one_waits a) qs x y u v w h k = omega arith
+lists_less true (one_throws t) qs x y u v w h k = omega arith
+lists_less false (one_throws t) qs x y u v w h k = omega arith
+
+-- the same of an error boundary
+tries_less : (ps qs : Places) (x y u v w : ℕ) → x ≤ y → u ≤ v → x + if_throws ps u ≤ w + (y + (if_made ps 0 + if_throws ps (v + if_made qs 0)))
+tries_less (all_made ns) qs x y u v w h k = omega arith
+tries_less (one_waits a) qs x y u v w h k = omega arith
+tries_less (one_throws t) qs x y u v w h k = omega arith
 
 shape_less : (f : Evaluates) (g : Contexts → Tries) (below : Contexts → Renders) → ((u : Flag) (cs : Contexts) → IsLess (f u cs) (g cs))
     → (s : Sight) (u : Flag) (cs : Contexts) (e : Element) (old : Option Node) (shape : Shape)
     → evaluate_shape f below s u cs e old shape ≤ count_shape each_body g below cs e old shape
 shape_less f g below h s u cs e old absent = omega arith
 shape_less f g below h s u cs e old (waiting r v) = own_less s u cs e old
+shape_less f g below h s u cs e old (throwing x) = own_less s u cs e old
 shape_less f g below h s u cs e old (one_list m p) =
     omega (arith, own_less s u cs e old, part_less (f (below_node s u cs e old)) g below (h (below_node s u cs e old)) p, if_made_nothing (render_part below p))
 shape_less f g below h s u cs e old (two_lists p q) =
@@ -63,6 +74,11 @@ shape_less f g below h s u cs e old (two_lists p q) =
     (count_part (f (below_boundary u e old)) below p) (count_part g below p) (count_part (f (in_fallback s u e old)) below q) (count_part g below q) (one_if_component e)
     (part_less (f (below_boundary u e old)) g below (h (below_boundary u e old)) p)
     (part_less (f (in_fallback s u e old)) g below (h (in_fallback s u e old)) q)
+shape_less f g below h s u cs e old (guarded p q) =
+    tries_less (render_part below p) (render_part below q)
+    (count_part (f (below_node s u cs e old)) below p) (count_part g below p) (count_part (f (once_caught u)) below q) (count_part g below q) (one_if_component e)
+    (part_less (f (below_node s u cs e old)) g below (h (below_node s u cs e old)) p)
+    (part_less (f (once_caught u)) g below (h (once_caught u)) q)
 
 evaluated_less : (n : ℕ) (s : Sight) (u : Flag) (cs : Contexts) → IsLess (evaluated n s u cs) (counted each_body n s cs)
 unfolding evaluated counted

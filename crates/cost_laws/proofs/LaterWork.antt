@@ -7,20 +7,20 @@ use Rattle.rx_susp.specs.declared.boundary.BoundaryState.{BoundaryState}
 use Rattle.rx_susp.specs.Boundary.{awaits_of, hides}
 use Rattle.rx_elem.specs.Elements.{Element, stands_for_children}
 use Rattle.rx_elem.specs.Elements as elements
-use Rattle.rx_elem.specs.Trees.{Forest, Instance, Mark, Node, boundary_in, child, children_of, instance_in, mark_of, node, none, of_boundary, of_host, of_instance, plain, vacant}
+use Rattle.rx_elem.specs.Trees.{Forest, Instance, Mark, Node, boundary_in, child, children_of, instance_in, mark_of, node, none, of_boundary, of_catcher, of_host, of_instance, plain, vacant}
 use Rattle.rx_queue.specs.Journal.{Journal, Posted, Resolution, Target, hook, is_included, same_target, updates_of}
 use Rattle.rx_queue.specs.History.{stands_done, stands_open}
-use Rattle.rx_meaning.specs.Fresh.{Sight, Contexts, Renders, Place, made, rendered, depth_limit, default_contexts, root_element, old_instance, Shape, absent, waiting, one_list, two_lists, shape_of, render_part}
-use Rattle.rx_meaning.specs.Counts.{count_part, if_waits, unless_waits, try_all}
+use Rattle.rx_meaning.specs.Fresh.{Sight, Contexts, Renders, Place, made, rendered, depth_limit, default_contexts, root_element, old_instance, Shape, absent, waiting, throwing, one_list, two_lists, guarded, shape_of, render_part}
+use Rattle.rx_meaning.specs.Counts.{count_part, if_throws, if_waits, unless_waits, try_all}
 use Rattle.rx_meaning.specs.Cursor.{Frame, Cursor, at_place, at_end, ended, finished}
 use Rattle.rx_meaning.specs.Rest.{from_open, list_from}
 use Rattle.rx_meaning.specs.Generations.{generation_below}
-use Rattle.rx_meaning.specs.Touched.{component_in, is_read_anew}
+use Rattle.rx_meaning.specs.Touched.{component_in, is_read_anew, may_throw_anew}
 use Rattle.render_laws.specs.SameSight.{SeesSame, AllAfter}
 use Rattle.render_laws.proofs.LaterEntries.{renders_same, shape_same, AllFail, late_fail, longer_refresh}
 use Rattle.rx_meaning.specs.Again.{AllOpen}
 use Rattle.cost_laws.specs.Causes.{has_cause, instance_news, is_called, is_due, is_left_waiting, is_news, news_at, news_in, some_update, waits_still}
-use Rattle.cost_laws.specs.Evaluated.{Evaluates, Flag, above_root, after_attempt, below_boundary, below_node, beside_kept, evaluate_shape, evaluated, in_fallback, is_as_before, is_evaluated, own_body, stood, whole_evaluated}
+use Rattle.cost_laws.specs.Evaluated.{Evaluates, Flag, above_root, after_attempt, below_boundary, below_node, beside_kept, evaluate_shape, evaluated, in_fallback, is_as_before, is_evaluated, once_caught, own_body, stood, whole_evaluated}
 use Rattle.cost_laws.specs.Untouched.{is_element_of, is_untouched, moved_below, visible_below}
 use Rattle.cost_laws.specs.Left.{Flags, flag, outer, evaluate_open, evaluate_around, left_evaluated}
 use Rattle.cost_laws.specs.SameWork.{SeesSameWork}
@@ -59,10 +59,11 @@ module _ (s : Sight) (j : Journal) (same : SeesSame s j) (work : SeesSameWork s 
   cause_same cs (elements.comp c k ps es) old = called_same cs (old_instance old)
   cause_same cs (elements.list marked es) old = refl
   cause_same cs (elements.boundary k f es) old = refl
+  cause_same cs (elements.catcher k f es) old = refl
   cause_same cs (elements.provider c k x es) old = refl
 
   waiting_same : (n : Node) (b : Option BoundaryState) → option_map_or (is_left_waiting s (children_of n)) b false ≡ option_map_or (is_left_waiting seen (children_of n)) b false
-  waiting_same n b = λ k. option_map_or (λ state. hides state && not (work.refresh k || (list_any (λ r. is_some (slice_index_or (same.resources k) r None)) (awaits_of state) || news_in_same (children_of n) k))) b false
+  waiting_same n b = λ k. option_map_or (λ state. hides state && not (work.refresh k || (list_any (λ r. is_some (slice_index_or (same.resources k) r None)) (awaits_of state) || (news_in_same (children_of n) k || may_throw_anew s)))) b false
 
   -- The same boundaries wait still.
   pub still_same : (old : Option Node) → waits_still s old ≡ waits_still seen old
@@ -90,10 +91,13 @@ module _ (s : Sight) (j : Journal) (same : SeesSame s j) (work : SeesSameWork s 
       → evaluate_shape evaluate below s u cs e old shape ≡ evaluate_shape evaluate below seen u cs e old shape
   place_same evaluate below u cs e old absent = refl
   place_same evaluate below u cs e old (waiting r v) = own_same u cs e old
+  place_same evaluate below u cs e old (throwing x) = own_same u cs e old
   place_same evaluate below u cs e old (one_list m p) = λ i. own_same u cs e old i + count_part (evaluate (node_same u cs e old i)) below p
   place_same evaluate below u cs e old (two_lists p f) =
       λ i. cond (untouched_same (stood u) e old i) 0 (count_part (evaluate (below_boundary u e old)) below p)
       + if_waits (render_part below p) (count_part (evaluate (fallback_same u e old i)) below f)
+  place_same evaluate below u cs e old (guarded p f) =
+      λ i. count_part (evaluate (node_same u cs e old i)) below p + if_throws (render_part below p) (count_part (evaluate (once_caught u)) below f)
 
   evaluated_same : (n : ℕ) (u : Flag) (cs : Contexts) (e : Element) (old : Option Node) → evaluated n s u cs e old ≡ evaluated n seen u cs e old
   unfolding evaluated
@@ -161,4 +165,5 @@ pub undue_later : (s : Sight) (j : Journal) (m : Mark) → SeesSameWork s j → 
 undue_later s j (of_instance i) work h = (h.0, h.1, sym (λ k. list_any (λ x. work.due (hook h.0 x.0) k) (enumerate_from 0 i.initials)) ∙ h.2)
 undue_later s j (of_host n) work h = tt
 undue_later s j (of_boundary b) work h = tt
+undue_later s j (of_catcher c) work h = tt
 undue_later s j plain work h = tt

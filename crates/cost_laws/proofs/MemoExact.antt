@@ -10,7 +10,7 @@ use Rattle.rx_elem.specs.Elements.{Element, Elements, same_element, same_element
 use Rattle.rx_elem.specs.Elements as elements
 use Rattle.rx_elem.specs.Trees.{Node, element_of}
 use Rattle.rx_elem.proofs.Deciding.{and_passes}
-use Rattle.rx_meaning.specs.Body.{Body, body_of, ready, wait}
+use Rattle.rx_meaning.specs.Body.{Body, body_of, ready, throw, wait}
 use Rattle.rx_meaning.specs.Fresh.{Sight, Contexts, inputs_at, old_instance, root_element, shape_of, shape_of_body, shape_of_component}
 use Rattle.rx_meaning.specs.Touched.{has_same_inputs, is_memo, same_inputs}
 use Rattle.cost_laws.specs.Causes.{has_cause, is_dirty}
@@ -33,6 +33,7 @@ equal_inputs c k ps es (elements.text t) h = absurd (cc h)
 equal_inputs c k ps es (elements.host n l attrs fs) h = absurd (cc h)
 equal_inputs c k ps es (elements.list marked fs) h = absurd (cc h)
 equal_inputs c k ps es (elements.boundary l f fs) h = absurd (cc h)
+equal_inputs c k ps es (elements.catcher l f fs) h = absurd (cc h)
 equal_inputs c k ps es (elements.provider d l x fs) h = absurd (cc h)
 
 -- so the old node of a component's place has equal inputs exactly if its element is equal
@@ -66,6 +67,7 @@ memo_exact s u cs (elements.comp c k ps es) old paired h =
     (λ again. (and_passes (nat_eq u.generation 0) (is_element_of e old) again).1) (equal_or_not c k ps es old paired)
 memo_exact s u cs (elements.list marked es) old paired h = refl
 memo_exact s u cs (elements.boundary k f es) old paired h = refl
+memo_exact s u cs (elements.catcher k f es) old paired h = refl
 memo_exact s u cs (elements.provider c k x es) old paired h = refl
 
 -- Of the places of such components, exactly the dirty ones are evaluated.
@@ -91,6 +93,7 @@ each_memo p c d h found = passed_at (λ x. x.memo) (components p) c d h found
 -- what is said of a component's place, if there is such a component
 body_stands : (A : Type 0) (cs : Contexts) (c : ℕ) (old : Option Node) (b : Body) → A → IfStands A (shape_of_body cs c old b)
 body_stands A cs c old (wait r v) h = h
+body_stands A cs c old (throw x) h = h
 body_stands A cs c old (ready es effects initials reads versions) h = h
 
 component_stands : (A : Type 0) (s : Sight) (cs : Contexts) (c : ℕ) (ps : List ℤ) (es : Elements) (old : Option Node) (found : Option Component) → ((d : Component) → found ≡ Some d → A)
@@ -111,6 +114,8 @@ each_exact s all a cs (elements.comp c k ps es) old paired =
     (λ d found. memo_exact s a.flag cs (elements.comp c k ps es) old paired (rw found (each_memo s.program c d all found)))
 each_exact s all a cs (elements.list marked es) old paired = refl
 each_exact s all a cs (elements.boundary k f es) old paired = refl
+each_exact s all a cs (elements.catcher k f es) old paired =
+    stands_or_not (is_evaluated s a.flag cs (elements.catcher k f es) old ≡ is_dirty s cs (elements.catcher k f es) old) refl (shape_of s cs (elements.catcher k f es) old)
 each_exact s all a cs (elements.provider c k x es) old paired = refl
 
 as_many : (vs : List Coming) → Each IsExact vs → filter (λ v. v.evaluated) vs ≡ filter (λ v. v.dirty) vs

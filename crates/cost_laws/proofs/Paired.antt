@@ -30,12 +30,14 @@ equal_so (elements.comp c k ps es) (elements.text t) keys kinds inputs = absurd 
 equal_so (elements.comp c k ps es) (elements.host n l attrs fs) keys kinds inputs = absurd (cc inputs)
 equal_so (elements.comp c k ps es) (elements.list marked fs) keys kinds inputs = absurd (cc inputs)
 equal_so (elements.comp c k ps es) (elements.boundary l f fs) keys kinds inputs = absurd (cc inputs)
+equal_so (elements.comp c k ps es) (elements.catcher l f fs) keys kinds inputs = absurd (cc inputs)
 equal_so (elements.comp c k ps es) (elements.provider d l x fs) keys kinds inputs = absurd (cc inputs)
 equal_so elements.null x keys kinds inputs = absurd (cc inputs)
 equal_so (elements.text t) x keys kinds inputs = absurd (cc inputs)
 equal_so (elements.host n k attrs es) x keys kinds inputs = absurd (cc inputs)
 equal_so (elements.list marked es) x keys kinds inputs = absurd (cc inputs)
 equal_so (elements.boundary k f es) x keys kinds inputs = absurd (cc inputs)
+equal_so (elements.catcher k f es) x keys kinds inputs = absurd (cc inputs)
 equal_so (elements.provider c k y es) x keys kinds inputs = absurd (cc inputs)
 
 -- children of one identity have one key

@@ -1,15 +1,15 @@
 -- A render evaluates nothing of a tree that rests.
-use Rattle.std.specs.Prelude.{◌≡◌, ℕ, zero, suc, Bool, true, false, not, ◌&&◌, ◌||◌, cond, List, [], ◌∷◌, Option, Some, None, is_some, refl}
+use Rattle.std.specs.Prelude.{◌≡◌, ℕ, zero, suc, Bool, true, false, not, ◌&&◌, ◌||◌, cond, List, [], ◌∷◌, Option, Some, None, is_some, refl, if◌then◌else◌}
 use Rattle.std.specs.List.{zip}
 use Rattle.std.proofs.Common.{ap, arith, subst}
 use Rattle.rx_susp.specs.declared.boundary.BoundaryState.TheVariants.{Hidden, Shown}
 use Rattle.rx_elem.specs.Elements.{Element, stands_for_children}
 use Rattle.rx_elem.specs.Elements as elements
-use Rattle.rx_elem.specs.Trees.{Forest, Instance, Mark, Node, child, element_of, elements_in, is_hidden, node, none, of_boundary, of_host, of_instance, places, plain, vacant}
+use Rattle.rx_elem.specs.Trees.{Forest, Instance, Mark, Node, child, element_of, elements_in, is_caught, is_hidden, node, none, of_boundary, of_catcher, of_host, of_instance, places, plain, vacant}
 use Rattle.rx_elem.proofs.Equality.{same_element-self}
 use Rattle.rx_elem.proofs.SelfMatch.{NoNull, matches_itself}
-use Rattle.rx_meaning.specs.Fresh.{Sight, Contexts, Place, empty, made, waits, Places, all_made, one_waits, before, over, over_boundary, Part, part, Shape, one_list, two_lists, place_of, rendered, render_all, render_part, shape_of, version_seen}
-use Rattle.rx_meaning.specs.Counts.{count_part, if_waits, try_all, unless_waits}
+use Rattle.rx_meaning.specs.Fresh.{Sight, Contexts, Place, empty, made, waits, throws, Places, all_made, one_waits, one_throws, before, over, over_boundary, over_catcher, Part, part, Shape, one_list, two_lists, guarded, place_of, rendered, render_all, render_part, shape_of, version_seen}
+use Rattle.rx_meaning.specs.Counts.{count_part, if_throws, if_waits, try_all, unless_waits}
 use Rattle.rx_meaning.specs.Settled.{AllReadsHold, AllSettled, IfHidden, IsOwn, IsSettled, ReadsHold, kept_shape, known_by, read_anew, reads_another, refreshed}
 use Rattle.rx_meaning.specs.Generations.{generation_below, own_generation}
 use Rattle.rx_meaning.specs.Touched.{component_in, contexts_below, is_memo}
@@ -17,7 +17,7 @@ use Rattle.commit_laws.specs.Each.{ForEach, ForEachIn}
 use Rattle.commit_laws.specs.Idle.{AllIdle, IsIdle, IsIdleMark}
 use Rattle.commit_laws.proofs.TakeOver.{idle_shape, settled_no_null}
 use Rattle.cost_laws.specs.Causes.{has_cause, is_called, is_due, some_update}
-use Rattle.cost_laws.specs.Evaluated.{Flag, below_boundary, below_node, evaluate_shape, evaluated, in_fallback, is_again, is_as_before, is_evaluated, own_body, stood}
+use Rattle.cost_laws.specs.Evaluated.{Flag, below_boundary, below_node, evaluate_shape, evaluated, in_fallback, is_again, is_as_before, is_evaluated, once_caught, own_body, stood}
 use Rattle.cost_laws.specs.Undue.{IsUndue}
 use Rattle.cost_laws.specs.Untouched.{is_element_of, is_untouched}
 
@@ -41,6 +41,7 @@ body_rests s cs (elements.comp c key props given) m ns fs own undue calm =
     rw (own.1, undue_calm s cs own.0 here reads) refl
 body_rests s cs (elements.list marked es) m ns fs own undue calm = refl
 body_rests s cs (elements.boundary key f es) m ns fs own undue calm = refl
+body_rests s cs (elements.catcher key f es) m ns fs own undue calm = refl
 body_rests s cs (elements.provider c key x es) m ns fs own undue calm = refl
 
 -- Flags
@@ -96,7 +97,7 @@ pub boundary_zeroth : (u : Flag) (e : Element) (m : Mark) (ns fs : Forest) → u
 boundary_zeroth u e m ns fs zeroth shown =
     own_kept (is_again u e (Some (node e m ns fs))) (is_hidden m) u.generation (given_again u e m ns fs zeroth) shown
 
--- what is said of a boundary, and of no other element
+-- what is said of a boundary of Suspense, and of no other element
 abbrev IfBoundary : Type 0 → Element → Type 0
 IfBoundary A elements.null = Unit {0}
 IfBoundary A (elements.text t) = Unit {0}
@@ -104,6 +105,7 @@ IfBoundary A (elements.host n k attrs es) = Unit {0}
 IfBoundary A (elements.comp c k ps es) = Unit {0}
 IfBoundary A (elements.list marked es) = Unit {0}
 IfBoundary A (elements.boundary k f es) = A
+IfBoundary A (elements.catcher k f es) = Unit {0}
 IfBoundary A (elements.provider c k x es) = Unit {0}
 
 -- The children of a boundary that is as before and is shown are of generation 0.
@@ -117,53 +119,74 @@ calm_boundary s u (elements.list marked es) m ns fs same shown = tt
 calm_boundary s u (elements.boundary k f es) m ns fs same shown =
     own_kept (is_again u (elements.boundary k f es) (Some (node (elements.boundary k f es) m ns fs))) (is_hidden m) u.generation
     (first_holds (is_again u (elements.boundary k f es) (Some (node (elements.boundary k f es) m ns fs))) same) shown
+calm_boundary s u (elements.catcher k f es) m ns fs same shown = tt
 calm_boundary s u (elements.provider c k x es) m ns fs same shown = tt
 
 idle_shown : (s : Sight) (m : Mark) → IsIdleMark s m → is_hidden m ≡ false
 idle_shown s (of_instance i) idle = refl
 idle_shown s (of_host h) idle = refl
+idle_shown s (of_catcher c) idle = refl
 idle_shown s plain idle = refl
 idle_shown s (of_boundary Shown) idle = refl
 idle_shown s (of_boundary (Hidden a)) idle = absurd idle
 
 -- Places
 
--- a place doesn't wait
+-- a place neither waits nor throws
 abbrev Stands : Place → Type 0
 Stands empty = Unit {0}
 Stands (made n) = Unit {0}
 Stands (waits a) = ⊥
+Stands (throws x) = ⊥
 
--- a list doesn't wait
+-- a list neither waits nor throws
 abbrev AllStand : Places → Type 0
 AllStand (all_made ns) = Unit {0}
 AllStand (one_waits a) = ⊥
+AllStand (one_throws x) = ⊥
 
 before_stands : (p : Place) (ps : Places) → Stands p → AllStand ps → AllStand (before p ps)
 before_stands empty (all_made ns) h k = tt
 before_stands empty (one_waits a) h k = k
+before_stands empty (one_throws x) h k = k
 before_stands (made n) (all_made ns) h k = tt
 before_stands (made n) (one_waits a) h k = k
+before_stands (made n) (one_throws x) h k = k
 before_stands (waits a) ps h k = absurd h
+before_stands (throws x) ps h k = absurd h
 
 over_stands : (e : Element) (m : Mark) (ps : Places) → AllStand ps → Stands (over e m ps)
 over_stands e m (all_made ns) h = tt
 over_stands e m (one_waits a) h = absurd h
+over_stands e m (one_throws x) h = absurd h
 
 boundary_stands : (e : Element) (old : Option Node) (ps qs : Places) → AllStand ps → Stands (over_boundary e old ps qs)
 boundary_stands e old (all_made ns) qs h = tt
 boundary_stands e old (one_waits a) qs h = absurd h
+boundary_stands e old (one_throws x) qs h = absurd h
+
+catcher_stands : (e : Element) (ps qs : Places) → AllStand ps → Stands (over_catcher e ps qs)
+catcher_stands e (all_made ns) qs h = tt
+catcher_stands e (one_waits a) qs h = absurd h
+catcher_stands e (one_throws x) qs h = absurd h
 
 no_fallback : (ps : Places) (k : ℕ) → AllStand ps → if_waits ps k ≡ 0
 no_fallback (all_made ns) k h = refl
 no_fallback (one_waits a) k h = absurd h
+no_fallback (one_throws x) k h = absurd h
+
+none_caught : (ps : Places) (k : ℕ) → AllStand ps → if_throws ps k ≡ 0
+none_caught (all_made ns) k h = refl
+none_caught (one_waits a) k h = absurd h
+none_caught (one_throws x) k h = absurd h
 
 stands_then : (p : Place) (k : ℕ) → k ≡ 0 → unless_waits p k ≡ 0
 stands_then empty k h = h
 stands_then (made n) k h = h
 stands_then (waits a) k h = refl
+stands_then (throws x) k h = refl
 
--- a place rests: nothing is evaluated at it and below it, and it doesn't wait
+-- a place rests: nothing is evaluated at it and below it, and it neither waits nor throws
 abbrev Rests : ℕ → Sight → Flag → Contexts → Element → Option Node → Type 0
 Rests n s u cs e old = (evaluated n s u cs e old ≡ 0) × Stands (rendered n s cs e old)
 
@@ -179,7 +202,7 @@ nothing_if : (b : Bool) (k : ℕ) → k ≡ 0 → cond b 0 k ≡ 0
 nothing_if true k h = refl
 nothing_if false k h = h
 
--- nothing is evaluated at a place and below it, and it doesn't wait, by what stands there
+-- nothing is evaluated at a place and below it, and it neither waits nor throws, by what stands there
 abbrev ShapeRests : ℕ → Sight → Flag → Contexts → Element → Option Node → Shape → Type 0
 ShapeRests n s u cs e old shape = (evaluate_shape (evaluated n s) (rendered n s) s u cs e old shape ≡ 0) × Stands (place_of (rendered n s) e old shape)
 
@@ -198,21 +221,39 @@ two_rest n s u cs e old p f h = (
   boundary_stands e old (render_part (rendered n s) p) (render_part (rendered n s) f) h.1,
 )
 
+tried_rests : (n : ℕ) (s : Sight) (u : Flag) (cs : Contexts) (e : Element) (old : Option Node) (p f : Part) → PartRests n s (below_node s u cs e old) p
+    → ShapeRests n s u cs e old (guarded p f)
+tried_rests n s u cs e old p f h = (
+  omega (arith, h.0, none_caught (render_part (rendered n s) p) (count_part (evaluated n s (once_caught u)) (rendered n s) f) h.1),
+  catcher_stands e (render_part (rendered n s) p) (render_part (rendered n s) f) h.1,
+)
+
+-- an error boundary that has caught a value rests if its fallback does, and another if its children do
+catcher_rests : (n : ℕ) (s : Sight) (u : Flag) (cs : Contexts) (e f : Element) (old : Option Node) (m : Mark) (ns fs : Forest) (caught : Bool) → own_body s u cs e old ≡ 0
+    → PartRests n s (below_node s u cs e old) (part cs (elements_in ns) ns) → PartRests n s (below_node s u cs e old) (part cs (elements_in fs) fs)
+    → ShapeRests n s u cs e old (if caught then one_list m (part cs (elements_in fs) fs) else guarded (part cs (elements_in ns) ns) (part cs (f ∷ []) none))
+catcher_rests n s u cs e f old m ns fs true body h k = one_rests n s u cs e old m (part cs (elements_in fs) fs) body k
+catcher_rests n s u cs e f old m ns fs false body h k = tried_rests n s u cs e old (part cs (elements_in ns) ns) (part cs (f ∷ []) none) h
+
 kept_rests : (n : ℕ) (s : Sight) (u : Flag) (cs : Contexts) (e : Element) (old : Option Node) (m : Mark) (ns fs : Forest)
     → own_body s u cs e old ≡ 0 → (below_node s u cs e old).generation ≡ 0 → IfBoundary ((below_boundary u e old).generation ≡ 0) e
-    → ((v : Flag) → v.generation ≡ 0 → PartRests n s v (part (contexts_below e cs) (elements_in ns) ns)) → ShapeRests n s u cs e old (kept_shape cs e m ns fs)
-kept_rests n s u cs elements.null old m ns fs body one two h = (refl, tt)
-kept_rests n s u cs (elements.text t) old m ns fs body one two h =
+    → ((v : Flag) → v.generation ≡ 0 → PartRests n s v (part (contexts_below e cs) (elements_in ns) ns)) → ((v : Flag) → v.generation ≡ 0 → PartRests n s v (part cs (elements_in fs) fs))
+    → ShapeRests n s u cs e old (kept_shape cs e m ns fs)
+kept_rests n s u cs elements.null old m ns fs body one two h second = (refl, tt)
+kept_rests n s u cs (elements.text t) old m ns fs body one two h second =
     one_rests n s u cs (elements.text t) old m (part cs (elements_in ns) ns) body (h (below_node s u cs (elements.text t) old) one)
-kept_rests n s u cs (elements.host x key attrs es) old m ns fs body one two h =
+kept_rests n s u cs (elements.host x key attrs es) old m ns fs body one two h second =
     one_rests n s u cs (elements.host x key attrs es) old m (part cs (elements_in ns) ns) body (h (below_node s u cs (elements.host x key attrs es) old) one)
-kept_rests n s u cs (elements.comp c key props given) old m ns fs body one two h =
+kept_rests n s u cs (elements.comp c key props given) old m ns fs body one two h second =
     one_rests n s u cs (elements.comp c key props given) old m (part cs (elements_in ns) ns) body (h (below_node s u cs (elements.comp c key props given) old) one)
-kept_rests n s u cs (elements.list marked es) old m ns fs body one two h =
+kept_rests n s u cs (elements.list marked es) old m ns fs body one two h second =
     one_rests n s u cs (elements.list marked es) old m (part cs (elements_in ns) ns) body (h (below_node s u cs (elements.list marked es) old) one)
-kept_rests n s u cs (elements.boundary key f es) old m ns fs body one two h =
+kept_rests n s u cs (elements.boundary key f es) old m ns fs body one two h second =
     two_rest n s u cs (elements.boundary key f es) old (part cs (elements_in ns) ns) (part cs (f ∷ []) fs) (h (below_boundary u (elements.boundary key f es) old) two)
-kept_rests n s u cs (elements.provider c key x es) old m ns fs body one two h =
+kept_rests n s u cs (elements.catcher key f es) old m ns fs body one two h second =
+    let e = elements.catcher key f es in
+    catcher_rests n s u cs e f old m ns fs (is_caught m) body (h (below_node s u cs e old) one) (second (below_node s u cs e old) one)
+kept_rests n s u cs (elements.provider c key x es) old m ns fs body one two h second =
     one_rests n s u cs (elements.provider c key x es) old m (part (contexts_below (elements.provider c key x es) cs) (elements_in ns) ns) body
     (h (below_node s u cs (elements.provider c key x es) old) one)
 
@@ -245,6 +286,7 @@ place_rests n s u cs e m ns fs shape h = rw shape h
 reads_below : (s : Sight) (m : Mark) (A : Type 0) → IsIdleMark s m → IfHidden (is_hidden m) (Unit {0}) A → A
 reads_below s (of_instance i) A idle reads = reads
 reads_below s (of_host h) A idle reads = reads
+reads_below s (of_catcher c) A idle reads = reads
 reads_below s plain A idle reads = reads
 reads_below s (of_boundary Shown) A idle reads = reads
 reads_below s (of_boundary (Hidden a)) A idle reads = absurd idle
@@ -267,7 +309,8 @@ mutual
       (kept_rests n s u cs e (Some (node e m ns fs)) m ns fs (ap (λ b. cond b 1 0) (calm_body s u cs e (Some (node e m ns fs)) same calm))
       (calm_zeroth s u cs e (Some (node e m ns fs)) same calm) (calm_boundary s u e m ns fs same (idle_shown s m idle.0))
       (λ v h. own_part_rests n s v (contexts_below e cs) ns (settled_no_null s.program (known_by s) ns settled.1)
-      (trees_rest n s v (contexts_below e cs) ns h settled.1 idle.1 undue.1 (reads_below s m (AllReadsHold (version_seen s) (contexts_below e cs) ns) idle.0 reads.1))))
+      (trees_rest n s v (contexts_below e cs) ns h settled.1 idle.1 undue.1 (reads_below s m (AllReadsHold (version_seen s) (contexts_below e cs) ns) idle.0 reads.1)))
+      (λ v h. own_part_rests n s v cs fs (settled_no_null s.program (known_by s) fs settled.2) (trees_rest n s v cs fs h settled.2 idle.2 undue.2 reads.2)))
 
   trees_rest : (n : ℕ) (s : Sight) (u : Flag) (cs : Contexts) (ns : Forest) → u.generation ≡ 0 → AllSettled s.program (known_by s) ns → AllIdle s ns → ForEachIn (IsUndue s) ns → AllReadsHold (version_seen s) cs ns
       → AllRest n s u cs (zip (elements_in ns) (places ns))

@@ -11,7 +11,7 @@ use Rattle.rx_elem.specs.Trees.{Forest, Instance, Node, boundary_in, child, chil
 use Rattle.rx_queue.specs.History.{stands_done}
 use Rattle.rx_queue.specs.Journal.{Posted, hook, is_included, is_new, updates_of}
 use Rattle.rx_meaning.specs.Fresh.{Contexts, Sight, old_instance, resources_seen}
-use Rattle.rx_meaning.specs.Touched.{component_in, has_same_inputs, is_read_anew, is_refreshed, sees_refresh}
+use Rattle.rx_meaning.specs.Touched.{component_in, has_same_inputs, is_read_anew, is_refreshed, may_throw_anew, sees_refresh}
 
 -- Updates
 
@@ -43,6 +43,7 @@ has_cause s cs (elements.host n k attrs es) old = false
 has_cause s cs (elements.comp c k ps es) old = is_called s cs (old_instance old)
 has_cause s cs (elements.list marked es) old = false
 has_cause s cs (elements.boundary k f es) old = false
+has_cause s cs (elements.catcher k f es) old = false
 has_cause s cs (elements.provider c k x es) old = false
 
 -- a component's place is dirty: it has a cause of its own, or the component has other props or other children than when it was evaluated last
@@ -70,9 +71,9 @@ abbrev mutual
   news_in s (vacant ns) = news_in s ns
   news_in s (child n ns) = news_at s n || news_in s ns
 
--- nothing new has come for a boundary with this state that keeps these: no resource has another version than before, nothing that it awaits has a value, and no instance that it keeps has news
+-- nothing new has come for a boundary with this state that keeps these: no resource has another version than before, nothing that it awaits has a value, no instance that it keeps has news, and nothing may throw anew
 abbrev pub is_left_waiting : Sight → Forest → BoundaryState → Bool
-is_left_waiting s ns state = hides state && not (sees_refresh s || (has_value s (awaits_of state) || news_in s ns))
+is_left_waiting s ns state = hides state && not (sees_refresh s || (has_value s (awaits_of state) || (news_in s ns || may_throw_anew s)))
 
 -- an old node is a hidden boundary for which nothing new has come
 abbrev pub waits_still : Sight → Option Node → Bool

@@ -1,10 +1,10 @@
 -- Which bodies a render evaluates: those of components that have a cause, and of those whose element was made anew. If a component is declared by `memo`, an equal element is none that was made anew.
-use Rattle.std.specs.Prelude.{ℕ, zero, suc, ◌+◌, Bool, true, not, ◌&&◌, ◌||◌, cond, List, [], nat_eq, is_some, Option}
+use Rattle.std.specs.Prelude.{ℕ, zero, suc, ◌+◌, Bool, true, false, not, ◌&&◌, ◌||◌, cond, List, [], nat_eq, is_some, Option}
 use Rattle.rx_ctx.specs.Contexts.{none_moved}
 use Rattle.rx_elem.specs.Elements.{Element, stands_for_children}
 use Rattle.rx_elem.specs.Trees.{Node, was_hidden}
-use Rattle.rx_meaning.specs.Counts.{Tries, count_part, if_waits}
-use Rattle.rx_meaning.specs.Fresh.{Sight, Contexts, Renders, rendered, depth_limit, default_contexts, root_element, render_part, Shape, absent, waiting, one_list, two_lists, shape_of}
+use Rattle.rx_meaning.specs.Counts.{Tries, count_part, if_throws, if_waits}
+use Rattle.rx_meaning.specs.Fresh.{Sight, Contexts, Renders, rendered, depth_limit, default_contexts, root_element, render_part, Shape, absent, waiting, throwing, one_list, two_lists, guarded, shape_of}
 use Rattle.rx_meaning.specs.Generations.{generation_below, own_generation}
 use Rattle.rx_meaning.specs.Touched.{component_in, is_memo}
 use Rattle.cost_laws.specs.Causes.{has_cause}
@@ -68,6 +68,10 @@ after_attempt u e old = record u { generation = own_generation (is_again u e old
 abbrev pub in_fallback : Sight → Flag → Element → Option Node → Flag
 in_fallback s u e old = cond (is_untouched s (stood u) e old) beside_kept (after_attempt u e old)
 
+-- of the fallback of an error boundary whose children threw: it is made anew, and nothing of it was visible
+abbrev pub once_caught : Flag → Flag
+once_caught u = record u { generation = 1; visible = false }
+
 -- Bodies
 
 -- the body of a place itself
@@ -82,10 +86,13 @@ Evaluates = Flag → Contexts → Tries
 abbrev pub evaluate_shape : Evaluates → (Contexts → Renders) → Sight → Flag → Contexts → Element → Option Node → Shape → ℕ
 evaluate_shape evaluate below s u cs e old absent = 0
 evaluate_shape evaluate below s u cs e old (waiting r v) = own_body s u cs e old
+evaluate_shape evaluate below s u cs e old (throwing x) = own_body s u cs e old
 evaluate_shape evaluate below s u cs e old (one_list m p) = own_body s u cs e old + count_part (evaluate (below_node s u cs e old)) below p
 evaluate_shape evaluate below s u cs e old (two_lists p f) =
     cond (is_untouched s (stood u) e old) 0 (count_part (evaluate (below_boundary u e old)) below p)
     + if_waits (render_part below p) (count_part (evaluate (in_fallback s u e old)) below f)
+evaluate_shape evaluate below s u cs e old (guarded p f) =
+    count_part (evaluate (below_node s u cs e old)) below p + if_throws (render_part below p) (count_part (evaluate (once_caught u)) below f)
 
 -- at a place and below it, with so many levels
 unfoldable pub evaluated : ℕ → Sight → Evaluates

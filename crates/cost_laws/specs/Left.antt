@@ -2,11 +2,11 @@
 use Rattle.std.specs.Prelude.{◌≡◌, ℕ, zero, suc, ◌+◌, false, List, [], ◌∷◌, Option}
 use Rattle.rx_elem.specs.Elements.{Element}
 use Rattle.rx_elem.specs.Trees.{Node}
-use Rattle.rx_meaning.specs.Counts.{count_part, if_waits, try_all, unless_waits}
-use Rattle.rx_meaning.specs.Cursor.{Open, around, trying, falling, Frame, Cursor, at_place, at_end, ended, finished}
-use Rattle.rx_meaning.specs.Fresh.{Sight, Contexts, Renders, Place, made, Places, rendered, Shape, absent, waiting, one_list, two_lists, shape_of}
+use Rattle.rx_meaning.specs.Counts.{count_part, if_throws, if_waits, try_all, unless_waits}
+use Rattle.rx_meaning.specs.Cursor.{Open, around, trying, falling, guarding, Frame, Cursor, at_place, at_end, ended, finished}
+use Rattle.rx_meaning.specs.Fresh.{Sight, Contexts, Renders, Place, made, Places, rendered, Shape, absent, waiting, throwing, one_list, two_lists, guarded, shape_of}
 use Rattle.rx_meaning.specs.Rest.{from_open, list_from}
-use Rattle.cost_laws.specs.Evaluated.{Evaluates, Flag, above_root, after_attempt, below_boundary, below_node, evaluated, own_body, stood, whole_evaluated}
+use Rattle.cost_laws.specs.Evaluated.{Evaluates, Flag, above_root, after_attempt, below_boundary, below_node, evaluated, once_caught, own_body, stood, whole_evaluated}
 use Rattle.cost_laws.specs.Untouched.{is_untouched}
 
 -- for each list that is open, innermost first, what is told of its places
@@ -23,11 +23,12 @@ abbrev pub outer : Flags → Flags
 outer [] = []
 outer (u ∷ us) = us
 
--- what an open node evaluates once its list is done or waits, by what is told of its own place: a boundary's fallback
+-- what an open node evaluates once its list is done, waits or throws, by what is told of its own place: a boundary's fallback
 abbrev pub evaluate_open : Evaluates → (Contexts → Renders) → Flag → Open → Places → ℕ
 evaluate_open evaluate below u (around e m) ps = 0
 evaluate_open evaluate below u (trying e old f) ps = if_waits ps (count_part (evaluate (after_attempt u e old)) below f)
 evaluate_open evaluate below u (falling e old a) ps = 0
+evaluate_open evaluate below u (guarding e f) ps = if_throws ps (count_part (evaluate (once_caught u)) below f)
 
 -- around a place that gave this
 abbrev pub evaluate_around : ℕ → Sight → List Frame → Flags → Place → ℕ
@@ -50,18 +51,33 @@ abbrev pub unwound_by : Open → Flags → Flags → Flags
 unwound_by (around e m) us out = out
 unwound_by (trying e old f) us out = after_attempt (flag (outer us)) e old ∷ outer us
 unwound_by (falling e old a) us out = out
+unwound_by (guarding e f) us out = out
 
 -- the same for these open nodes
 abbrev pub unwound : List Frame → Flags → Flags
 unwound [] us = []
 unwound (f ∷ fs) us = unwound_by f.node us (unwound fs (outer us))
 
+-- what a throw leaves of the flags: those from the fallback of the nearest error boundary on that tries its children
+abbrev pub thrown_by : Open → Flags → Flags → Flags
+thrown_by (around e m) us out = out
+thrown_by (trying e old f) us out = out
+thrown_by (falling e old a) us out = out
+thrown_by (guarding e f) us out = once_caught (flag (outer us)) ∷ outer us
+
+-- the same for these open nodes
+abbrev pub thrown_past : List Frame → Flags → Flags
+thrown_past [] us = []
+thrown_past (f ∷ fs) us = thrown_by f.node us (thrown_past fs (outer us))
+
 -- the flags once a place has begun, by what stands there
 abbrev pub begun_flags : Sight → List Frame → Flags → Contexts → Element → Option Node → Shape → Flags
 begun_flags s fs us cs e old absent = us
 begun_flags s fs us cs e old (waiting r v) = unwound fs us
+begun_flags s fs us cs e old (throwing x) = thrown_past fs us
 begun_flags s fs us cs e old (one_list m p) = below_node s (flag us) cs e old ∷ us
 begun_flags s fs us cs e old (two_lists p f) = below_boundary (flag us) e old ∷ us
+begun_flags s fs us cs e old (guarded p f) = below_node s (flag us) cs e old ∷ us
 
 -- the flags after a unit
 abbrev pub unit_flags : Sight → Flags → Cursor → Flags
@@ -76,8 +92,10 @@ unit_flags s us (ended p) = us
 abbrev pub begins_evaluated : Sight → Flag → Contexts → Element → Option Node → Shape → ℕ
 begins_evaluated s u cs e old absent = 0
 begins_evaluated s u cs e old (waiting r v) = own_body s u cs e old
+begins_evaluated s u cs e old (throwing x) = own_body s u cs e old
 begins_evaluated s u cs e old (one_list m p) = own_body s u cs e old
 begins_evaluated s u cs e old (two_lists p f) = 0
+begins_evaluated s u cs e old (guarded p f) = 0
 
 -- the bodies that the next unit evaluates
 abbrev pub next_evaluated : Sight → Flags → Cursor → ℕ
@@ -90,8 +108,10 @@ next_evaluated s us (ended p) = 0
 abbrev pub MayTry : Sight → Flag → Element → Option Node → Shape → Type 0
 MayTry s u e old absent = Unit {0}
 MayTry s u e old (waiting r v) = Unit {0}
+MayTry s u e old (throwing x) = Unit {0}
 MayTry s u e old (one_list m p) = Unit {0}
 MayTry s u e old (two_lists p f) = is_untouched s (stood u) e old ≡ false
+MayTry s u e old (guarded p f) = Unit {0}
 
 -- the next unit tries no untouched boundary's children
 abbrev pub MayGo : Sight → Flags → Cursor → Type 0

@@ -4,10 +4,10 @@ use Rattle.std.specs.List.{All, list_all}
 use Rattle.rx_ast.specs.Syntax.{Program, components}
 use Rattle.rx_elem.specs.Elements.{Element}
 use Rattle.rx_elem.specs.Trees.{Node}
-use Rattle.rx_meaning.specs.Fresh.{Sight, Contexts, Renders, rendered, depth_limit, default_contexts, root_element, Part, Shape, absent, waiting, one_list, two_lists, shape_of}
-use Rattle.rx_meaning.specs.Touched.{Address, children_with_old, is_memo, part_waits, waits_at}
+use Rattle.rx_meaning.specs.Fresh.{Sight, Contexts, Renders, rendered, depth_limit, default_contexts, root_element, Part, Shape, absent, waiting, throwing, one_list, two_lists, guarded, shape_of, render_part}
+use Rattle.rx_meaning.specs.Touched.{Address, children_with_old, ends_list, is_memo, is_throw, is_wait}
 use Rattle.cost_laws.specs.Causes.{has_cause, is_dirty}
-use Rattle.cost_laws.specs.Evaluated.{Flag, above_root, below_boundary, below_node, in_fallback, is_evaluated, stood}
+use Rattle.cost_laws.specs.Evaluated.{Flag, above_root, below_boundary, below_node, in_fallback, is_evaluated, once_caught, stood}
 use Rattle.cost_laws.specs.Untouched.{is_retried, is_untouched}
 
 -- a place that a render comes to, what untouched boundaries keep apart
@@ -36,12 +36,12 @@ pub record Above : Type 0 where
 abbrev pub Comings : Type 0
 Comings = Above → Contexts → Element → Option Node → List Coming
 
--- to the children from a place on, in order, up to the first that waits
+-- to the children from a place on, in order, up to the first that waits or throws
 abbrev pub come_all : Comings → Renders → Above → Contexts → (place : ℕ) → List (Element × Option Node) → List Coming
 come_all come render a cs k [] = []
 come_all come render a cs k (x ∷ xs) =
     come (record a { address = k ∷ a.address }) cs x.0 x.1
-    ++ (if waits_at (render x.0 x.1) then [] else come_all come render a cs (suc k) xs)
+    ++ (if ends_list (render x.0 x.1) then [] else come_all come render a cs (suc k) xs)
 
 -- to the children of a node
 abbrev pub come_part : Comings → (Contexts → Renders) → Above → Part → List Coming
@@ -64,10 +64,11 @@ coming_here s a cs e old =
 abbrev pub above_with : Above → Sight → Contexts → Element → Option Node → Flag → Above
 above_with a s cs e old u = record { address = a.address; below = a.below || (has_cause s cs e old || is_retried s (stood a.flag) e old); flag = u }
 
--- to a place and to those below it, by what stands there; the primary of a boundary has the address 0 below it, its fallback 1
+-- to a place and to those below it, by what stands there; the primary of a boundary, of Suspense or of errors, has the address 0 below it, its fallback 1
 abbrev pub come_shape : Comings → (Contexts → Renders) → Sight → Above → Contexts → Element → Option Node → Shape → List Coming
 come_shape come below s a cs e old absent = []
 come_shape come below s a cs e old (waiting r v) = coming_here s a cs e old ∷ []
+come_shape come below s a cs e old (throwing x) = coming_here s a cs e old ∷ []
 come_shape come below s a cs e old (one_list m p) =
     coming_here s a cs e old ∷ come_part come below (above_with a s cs e old (below_node s a.flag cs e old)) p
 come_shape come below s a cs e old (two_lists p f) =
@@ -75,7 +76,13 @@ come_shape come below s a cs e old (two_lists p f) =
     let second = above_with a s cs e old (in_fallback s a.flag e old) in
     coming_here s a cs e old
     ∷ ((if is_untouched s (stood a.flag) e old then [] else come_part come below (record primary { address = 0 ∷ a.address }) p)
-    ++ (if part_waits below p then come_part come below (record second { address = 1 ∷ a.address }) f else []))
+    ++ (if is_wait (render_part below p) then come_part come below (record second { address = 1 ∷ a.address }) f else []))
+come_shape come below s a cs e old (guarded p f) =
+    let primary = above_with a s cs e old (below_node s a.flag cs e old) in
+    let second = above_with a s cs e old (once_caught a.flag) in
+    coming_here s a cs e old
+    ∷ (come_part come below (record primary { address = 0 ∷ a.address }) p
+    ++ (if is_throw (render_part below p) then come_part come below (record second { address = 1 ∷ a.address }) f else []))
 
 -- to a place and below it, with so many levels
 unfoldable pub comings : ℕ → Sight → Comings

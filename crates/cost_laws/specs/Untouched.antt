@@ -17,6 +17,7 @@ value_given (elements.host n k attrs es) = None
 value_given (elements.comp c k ps es) = None
 value_given (elements.list marked es) = None
 value_given (elements.boundary k f es) = None
+value_given (elements.catcher k f es) = None
 value_given (elements.provider c k x es) = Some (c, x)
 
 -- what an old node gives, if there is one

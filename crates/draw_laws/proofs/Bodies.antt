@@ -19,7 +19,7 @@ use Rattle.rx_elem.specs.Elements.{Element, gathered}
 use Rattle.rx_elem.specs.declared.effect.ContextRead.{ContextRead}
 use Rattle.rx_elem.specs.declared.effect.EffectRecord.{EffectRecord}
 use Rattle.rx_elem.specs.declared.effect.VersionRead.{VersionRead}
-use Rattle.rx_meaning.specs.Body.{Inputs, Taken, body_of, elements_of, finished, opening_frame, prop_named, props_of, ready, stopped_at, take_all, taken, turns}
+use Rattle.rx_meaning.specs.Body.{Inputs, Taken, body_of, elements_of, finished, opening_frame, prop_named, props_of, ready, stopped_at, take_all, taken, thrown, turns}
 use Rattle.rx_meaning.specs.Body as body
 use Rattle.rx_meaning.specs.Expressions.{Env, value_in}
 use Rattle.draw_laws.specs.Drawn.{AreDrawn, IsDrawn}
@@ -37,6 +37,7 @@ abbrev mutual
   IsKnown p (syntax.host n attrs w ss) = AreKnown p ss
   IsKnown p (syntax.comp n attrs w ss) = (has_name (component_names p) n ≡ true) × AreKnown p ss
   IsKnown p (syntax.boundary k f w ss) = IsKnown p f × AreKnown p ss
+  IsKnown p (syntax.catcher k f w ss) = IsKnown p f × AreKnown p ss
   IsKnown p (syntax.provider n k e w ss) = (has_name (context_names p) n ≡ true) × AreKnown p ss
   IsKnown p (syntax.enclosed b s) = IsKnown p s
 
@@ -79,6 +80,13 @@ module _ (p : Program) (known : unknowns p ≡ []) where
       slots_known s false ss (among-right (attributes_mentions s.values (taken_first second) attrs) (slots_mentions s false ss) (mentions p) (λ m k. h m (inr (inr k)))),
     )
     slot_known s second (syntax.boundary k f w ss) h =
+        let first = first_key_mentions s.values second k in
+        let last = last_key_mentions s.values second k in
+        let own = first ++ (slot_mentions s false f ++ last) in (
+          slot_known s false f (among-left (slot_mentions s false f) last (mentions p) (among-right first (slot_mentions s false f ++ last) (mentions p) (among-left own (slots_mentions s false ss) (mentions p) h))),
+          slots_known s false ss (among-right own (slots_mentions s false ss) (mentions p) h),
+        )
+    slot_known s second (syntax.catcher k f w ss) h =
         let first = first_key_mentions s.values second k in
         let last = last_key_mentions s.values second k in
         let own = first ++ (slot_mentions s false f ++ last) in (
@@ -136,6 +144,7 @@ module _ (p : Program) (kids : List Element) (given : AreDrawn p (gathered kids)
     slot_drawn env (syntax.comp n attrs w ss) h =
         let there = component_there p n h.0 in (props_fit p env attrs (component_number p n) there.0 there.1, slots_drawn env ss h.1)
     slot_drawn env (syntax.boundary k f w ss) h = (slot_drawn env f h.0, slots_drawn env ss h.1)
+    slot_drawn env (syntax.catcher k f w ss) h = (slot_drawn env f h.0, slots_drawn env ss h.1)
     slot_drawn env (syntax.provider n k e w ss) h = (context_there p n h.0, slots_drawn env ss h.1)
     slot_drawn env (syntax.enclosed b s) h = slot_drawn env s h
 
@@ -151,6 +160,7 @@ body_drawn p number c i es effects initials reads versions known at given same =
   where
     go : (t : Taken) → finished p i (body_slots c.body) t ≡ ready es effects initials reads versions → AreDrawn p (gathered es)
     go (stopped_at r v) same = absurd (cc same)
+    go (thrown x) same = absurd (cc same)
     go (taken f) same =
         let equal : elements_of p i.children f.env (body_slots c.body) ≡ es = cc in
         subst (λ (xs : List Element). AreDrawn p (gathered xs)) equal (slots_drawn p i.children given f.env (body_slots c.body) (body_known p known number c at))

@@ -5,11 +5,11 @@ use Rattle.std.proofs.Common.{inl, inr, subst, sym, ap, ◌∙◌, arith}
 use Rattle.rx_elem.specs.Elements.{Element}
 use Rattle.rx_elem.specs.Numbers.{Numbers, numbered, numbered_host, numbered_in, numbered_instance, numbered_mark}
 use Rattle.rx_elem.specs.Spots.{Around, Mounted, Spot, around_children, at_root, mounted_as, mounted_in, spots, spots_in}
-use Rattle.rx_elem.specs.Trees.{Forest, Instance, Mark, Node, child, children_if, instance_in, is_hidden, node, none, of_boundary, of_host, of_instance, plain, vacant}
+use Rattle.rx_elem.specs.Trees.{Forest, Instance, Mark, Node, child, children_if, instance_in, is_hidden, node, none, of_boundary, of_catcher, of_host, of_instance, plain, vacant}
 use Rattle.rx_susp.specs.declared.boundary.BoundaryState.TheVariants.{Hidden, Shown}
-use Rattle.rx_meaning.specs.Fresh.{Place, empty, made, waits}
+use Rattle.rx_meaning.specs.Fresh.{Place, empty, made, throws, waits}
 use Rattle.rx_meaning.specs.Settled.{IfHidden}
-use Rattle.rx_meaning.specs.Cursor.{Cursor, Frame, Open, around, at_end, at_place, ended, falling, trying}
+use Rattle.rx_meaning.specs.Cursor.{Cursor, Frame, Open, around, at_end, at_place, ended, falling, guarding, trying}
 use Rattle.render_laws.specs.OldNodes.{AllHave, CursorHas, FramesHave, OldHas, OpenHas, PairsHave}
 use Rattle.commit_laws.proofs.CommitSettles.{mark_rises, number_rises, numbers_rise}
 use Rattle.commit_laws.proofs.Soundness.{marked_hidden}
@@ -26,6 +26,7 @@ module _ (Q S : ℕ → List ℤ → Type 0) (gives : Gives Q S) where
   mark_more (of_instance i) h = λ n e. gives n i.initials (h n e)
   mark_more (of_host k) h = tt
   mark_more (of_boundary b) h = tt
+  mark_more (of_catcher z) h = tt
   mark_more plain h = tt
 
   mutual
@@ -54,6 +55,7 @@ module _ (Q S : ℕ → List ℤ → Type 0) (gives : Gives Q S) where
   open_more (around e m) h = tt
   open_more (trying e old f) h = (old_more old h.0, olds_more f.old h.1)
   open_more (falling e old a) h = old_more old h
+  open_more (guarding e f) h = olds_more f.old h
 
   frames_more : (fs : List Frame) → FramesHave (TreeMeets Q) fs → FramesHave (TreeMeets S) fs
   frames_more [] h = tt
@@ -91,6 +93,7 @@ module _ (Q R S T : ℕ → List ℤ → Type 0) (shows : Gives Q S) (keeps : Gi
   opened_more (around e m) h = (mark_more Q S shows m h.0, h.1)
   opened_more (trying e old f) h = all_more R T keeps (children_if old) h
   opened_more (falling e old a) h = all_more R T keeps (children_if old) h
+  opened_more (guarding e f) h = tt
 
   frames_made_more : (fs : List Frame) → FramesMade Q R fs → FramesMade S T fs
   frames_made_more [] h = tt
@@ -100,6 +103,7 @@ module _ (Q R S T : ℕ → List ℤ → Type 0) (shows : Gives Q S) (keeps : Gi
   place_more empty h = tt
   place_more (made n) h = made_more n h
   place_more (waits a) h = tt
+  place_more (throws x) h = tt
 
   nodes_more : (c : Cursor) → NodesMade Q R c → NodesMade S T c
   nodes_more (at_place n fs cs e old) h = frames_made_more fs h
@@ -186,6 +190,7 @@ module _ (Q R : ℕ → List ℤ → Type 0) where
   mark_at a (of_instance i) h m e = number_at a i m i.number refl h e
   mark_at a (of_host k) h m e = cc
   mark_at a (of_boundary b) h m e = cc
+  mark_at a (of_catcher z) h m e = cc
   mark_at a plain h m e = cc
 
   shown_mark : (a : Around) (mark : Mark) → a.visible ≡ true → MarkMeets Q mark → (v : Bool) → a.visible ≡ v → MarkAt v mark
@@ -203,6 +208,7 @@ module _ (Q R : ℕ → List ℤ → Type 0) where
   still_hidden a (of_host (Some k)) e = e
   still_hidden a (of_boundary Shown) e = e
   still_hidden a (of_boundary (Hidden w)) e = refl
+  still_hidden a (of_catcher z) e = e
   still_hidden a plain e = e
 
   mutual
@@ -228,6 +234,7 @@ module _ (Q R : ℕ → List ℤ → Type 0) where
   children_at a (of_host (Some k)) ns seen made_spots h = made_spots (around_children a (of_host (Some k))) seen h
   children_at a (of_boundary Shown) ns seen made_spots h = made_spots (around_children a (of_boundary Shown)) seen h
   children_at a (of_boundary (Hidden w)) ns seen made_spots h = all_hidden (around_children a (of_boundary (Hidden w))) ns refl h
+  children_at a (of_catcher z) ns seen made_spots h = made_spots (around_children a (of_catcher z)) seen h
   children_at a plain ns seen made_spots h = made_spots (around_children a plain) seen h
 
   mutual
@@ -260,6 +267,7 @@ module _ (R : ℕ → List ℤ → Type 0) where
       (ap (option_map (λ n. let y : Mounted = record { number = n; component = i.component; initials = i.initials; owner = a.owner; visible = a.visible } in y)) e)
   mark_from a (of_host k) h = tt
   mark_from a (of_boundary b) h = tt
+  mark_from a (of_catcher z) h = tt
   mark_from a plain h = tt
 
   mutual
@@ -299,6 +307,7 @@ module _ (base : ℕ) (Q R : ℕ → List ℤ → Type 0) where
       go None = tt
       go (Some n) = tt
   mark_numbered S c (of_boundary b) le h = tt
+  mark_numbered S c (of_catcher z) le h = tt
   mark_numbered S c plain le h = tt
 
   mutual

@@ -9,11 +9,12 @@ use Rattle.rx_rules.specs.Names.{component_at}
 use Rattle.rx_check.specs.Checks.{is_rooted, unknowns}
 use Rattle.rx_elem.specs.Elements.{Element, Elements, gathered, listed}
 use Rattle.rx_elem.specs.Elements as elements
-use Rattle.rx_elem.specs.Trees.{Node}
-use Rattle.rx_meaning.specs.Body.{Body, body_of, ready, wait}
-use Rattle.rx_meaning.specs.Fresh.{Contexts, Part, Shape, Sight, absent, inputs_at, old_instance, one_list, shape_of, shape_of_body, shape_of_component, two_lists, waiting}
+use Rattle.rx_catch.specs.declared.state.CatchState.TheVariants.{Caught}
+use Rattle.rx_elem.specs.Trees.{Node, of_catcher, old_caught}
+use Rattle.rx_meaning.specs.Body.{Body, body_of, ready, throw, wait}
+use Rattle.rx_meaning.specs.Fresh.{Contexts, Part, Shape, Sight, absent, guarded, inputs_at, old_instance, one_list, shape_of, shape_of_body, shape_of_catcher, shape_of_component, throwing, two_lists, waiting}
 use Rattle.rx_meaning.specs.Touched.{children_with_old}
-use Rattle.rx_meaning.specs.Cursor.{Cursor, Frame, Open, around, arrive, at_end, at_place, begin, come_to, ended, falling, finished, is_null, open_part, past, start, trying, unit, unwind}
+use Rattle.rx_meaning.specs.Cursor.{Cursor, Frame, Open, around, arrive, at_end, at_place, begin, come_to, ended, falling, finished, guarding, is_null, open_part, past, past_throw, start, trying, unit, unwind, unwind_throw}
 use Rattle.rx_meaning.proofs.Depths.{gathered-listed}
 use Rattle.draw_laws.specs.Drawn.{AreDrawn, IsDrawn}
 use Rattle.draw_laws.specs.Cursors.{CursorDrawn, FramesDrawn, OpenDrawn, PairsDrawn, PartDrawn}
@@ -52,29 +53,46 @@ module _ (p : Program) where
   past_drawn n fs (around e m) a h k out = out a
   past_drawn n fs (trying e old f) a h k out = open_drawn n fs (falling e old a) f h.1 h.0 k
   past_drawn n fs (falling e old b) a h k out = out (awaits.union b a)
+  past_drawn n fs (guarding e f) a h k out = out a
 
   unwind_drawn : (n : ℕ) (fs : List Frame) (a : Awaits) → FramesDrawn p fs → CursorDrawn p (unwind n fs a)
   unwind_drawn n [] a h = tt
   unwind_drawn n (f ∷ fs) a h = past_drawn n fs f.node a h.0 h.2 (λ b. unwind_drawn (suc n) fs b h.2)
 
+  past_throw_drawn : (n : ℕ) (fs : List Frame) (o : Open) (x : ℤ) → OpenDrawn p o → FramesDrawn p fs → CursorDrawn p (unwind_throw (suc n) fs x)
+      → CursorDrawn p (past_throw o x (unwind_throw (suc n) fs x) (open_part n fs))
+  past_throw_drawn n fs (around e m) x h k out = out
+  past_throw_drawn n fs (trying e old f) x h k out = out
+  past_throw_drawn n fs (falling e old a) x h k out = out
+  past_throw_drawn n fs (guarding e f) x h k out = open_drawn n fs (around e (of_catcher (Caught x))) f h.1 h.0 k
+
+  unwind_throw_drawn : (n : ℕ) (fs : List Frame) (x : ℤ) → FramesDrawn p fs → CursorDrawn p (unwind_throw n fs x)
+  unwind_throw_drawn n [] x h = tt
+  unwind_throw_drawn n (f ∷ fs) x h = past_throw_drawn n fs f.node x h.0 h.2 (unwind_throw_drawn (suc n) fs x h.2)
+
 -- the children of what stands in a place fit
 abbrev ShapeDrawn : Program → Shape → Type 0
 ShapeDrawn p absent = Unit {0}
 ShapeDrawn p (waiting r v) = Unit {0}
+ShapeDrawn p (throwing x) = Unit {0}
 ShapeDrawn p (one_list m q) = PartDrawn p q
 ShapeDrawn p (two_lists q f) = PartDrawn p q × PartDrawn p f
+ShapeDrawn p (guarded q f) = PartDrawn p q × PartDrawn p f
 
 begin_drawn : (p : Program) (n : ℕ) (fs : List Frame) (e : Element) (old : Option Node) (shape : Shape) → IsDrawn p e → ShapeDrawn p shape → FramesDrawn p fs
     → CursorDrawn p (begin n fs e old shape)
 begin_drawn p n fs e old absent h k l = arrive_drawn p (suc n) fs None l
 begin_drawn p n fs e old (waiting r v) h k l = unwind_drawn p (suc n) fs (awaits.one r) l
+begin_drawn p n fs e old (throwing x) h k l = unwind_throw_drawn p (suc n) fs x l
 begin_drawn p n fs e old (one_list m q) h k l = open_drawn p n fs (around e m) q k h l
 begin_drawn p n fs e old (two_lists q f) h k l = open_drawn p n fs (trying e old f) q k.0 (h, k.1) l
+begin_drawn p n fs e old (guarded q f) h k l = open_drawn p n fs (guarding e f) q k.0 (h, k.1) l
 
 module _ (s : Sight) (known : unknowns s.program ≡ []) where
   ready_drawn : (cs : Contexts) (c : ℕ) (d : Component) (props : List ℤ) (given : Elements) (old : Option Node) → component_at s.program c ≡ Some d → AreDrawn s.program given
       → (b : Body) → body_of s.program d (inputs_at s cs props given (old_instance old)) ≡ b → ShapeDrawn s.program (shape_of_body cs c old b)
   ready_drawn cs c d props given old at h (wait r v) same = tt
+  ready_drawn cs c d props given old at h (throw x) same = tt
   ready_drawn cs c d props given old at h (ready es effects initials reads versions) same =
       body_drawn s.program c d (inputs_at s cs props given (old_instance old)) es effects initials reads versions known at (listed_drawn s.program given h) same
 
@@ -84,6 +102,11 @@ module _ (s : Sight) (known : unknowns s.program ≡ []) where
   component_drawn cs c props given old h (Some d) at =
       ready_drawn cs c d props given old at h (body_of s.program d (inputs_at s cs props given (old_instance old))) refl
 
+  catcher_drawn : (cs : Contexts) (f : Element) (es : Elements) (old : Option Node) → IsDrawn s.program f → AreDrawn s.program es → (caught : Option ℤ)
+      → ShapeDrawn s.program (shape_of_catcher cs f es old caught)
+  catcher_drawn cs f es old h k None = (listed_drawn s.program es k, (h, tt))
+  catcher_drawn cs f es old h k (Some x) = (h, tt)
+
   shape_drawn : (cs : Contexts) (e : Element) (old : Option Node) → IsDrawn s.program e → ShapeDrawn s.program (shape_of s cs e old)
   shape_drawn cs elements.null old h = tt
   shape_drawn cs (elements.text t) old h = tt
@@ -91,6 +114,7 @@ module _ (s : Sight) (known : unknowns s.program ≡ []) where
   shape_drawn cs (elements.comp c key props given) old h = component_drawn cs c props given old h.1 (component_at s.program c) refl
   shape_drawn cs (elements.list marked es) old h = listed_drawn s.program es h
   shape_drawn cs (elements.boundary key f es) old h = (listed_drawn s.program es h.1, (h.0, tt))
+  shape_drawn cs (elements.catcher key f es) old h = catcher_drawn cs f es old h.0 h.1 (old_caught old)
   shape_drawn cs (elements.provider c key x es) old h = listed_drawn s.program es h.1
 
   -- a unit comes to what fits

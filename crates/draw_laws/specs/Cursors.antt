@@ -4,7 +4,7 @@ use Rattle.rx_ast.specs.Syntax.{Program}
 use Rattle.rx_elem.specs.Elements.{Element, gathered}
 use Rattle.rx_elem.specs.Trees.{Node}
 use Rattle.rx_meaning.specs.Fresh.{Part}
-use Rattle.rx_meaning.specs.Cursor.{Open, around, trying, falling, Frame, Cursor, at_place, at_end, ended}
+use Rattle.rx_meaning.specs.Cursor.{Open, around, trying, falling, guarding, Frame, Cursor, at_place, at_end, ended}
 use Rattle.draw_laws.specs.Drawn.{IsDrawn, AreDrawn}
 
 -- the elements of a list of children fit
@@ -21,6 +21,7 @@ abbrev pub OpenDrawn : Program → Open → Type 0
 OpenDrawn p (around e m) = IsDrawn p e
 OpenDrawn p (trying e old f) = IsDrawn p e × PartDrawn p f
 OpenDrawn p (falling e old a) = IsDrawn p e
+OpenDrawn p (guarding e f) = IsDrawn p e × PartDrawn p f
 
 -- so do the nodes that are open and the elements of their lists that are to come
 abbrev pub FramesDrawn : Program → List Frame → Type 0

@@ -14,6 +14,7 @@ abbrev mutual
   IsDrawn p (elements.comp c k ps es) = (option_map (λ d. length (prop_names d)) (component_at p c) ≡ Some (length ps)) × AreDrawn p es
   IsDrawn p (elements.list marked es) = AreDrawn p es
   IsDrawn p (elements.boundary k f es) = IsDrawn p f × AreDrawn p es
+  IsDrawn p (elements.catcher k f es) = IsDrawn p f × AreDrawn p es
   IsDrawn p (elements.provider c k x es) = (c < length (contexts p)) × AreDrawn p es
 
   -- each element of a list fits

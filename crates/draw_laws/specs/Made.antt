@@ -1,11 +1,11 @@
 -- What holds of the instances that a render in progress has made so far, and of those that it may keep hidden.
 use Rattle.std.specs.Prelude.{◌≡◌, ◌≤◌, ◌⊎◌, ℕ, ℤ, Bool, true, false, List, [], ◌∷◌, Option, Some, None, slice_get}
-use Rattle.rx_elem.specs.Trees.{Instance, Mark, of_instance, of_host, of_boundary, plain, Node, node, Forest, none, vacant, child, children_if, is_hidden}
+use Rattle.rx_elem.specs.Trees.{Instance, Mark, of_instance, of_host, of_boundary, of_catcher, plain, Node, node, Forest, none, vacant, child, children_if, is_hidden}
 use Rattle.rx_elem.specs.Spots.{Mounted, mounted}
-use Rattle.rx_meaning.specs.Fresh.{Place, empty, made, waits, old_instance}
+use Rattle.rx_meaning.specs.Fresh.{Place, empty, made, waits, throws, old_instance}
 use Rattle.rx_meaning.specs.Touched.{component_in}
 use Rattle.rx_meaning.specs.Settled.{IfHidden}
-use Rattle.rx_meaning.specs.Cursor.{Open, around, trying, falling, Frame, Cursor, at_place, at_end, ended}
+use Rattle.rx_meaning.specs.Cursor.{Open, around, trying, falling, guarding, Frame, Cursor, at_place, at_end, ended}
 use Rattle.render_laws.specs.OldNodes.{CursorHas}
 
 -- an instance that has a number meets this, by its number and its values at mount
@@ -13,6 +13,7 @@ abbrev pub MarkMeets : (ℕ → List ℤ → Type 0) → Mark → Type 0
 MarkMeets Q (of_instance i) = (n : ℕ) → i.number ≡ Some n → Q n i.initials
 MarkMeets Q (of_host h) = Unit {0}
 MarkMeets Q (of_boundary b) = Unit {0}
+MarkMeets Q (of_catcher c) = Unit {0}
 MarkMeets Q plain = Unit {0}
 
 -- each instance of a tree that has a number meets this
@@ -48,6 +49,7 @@ abbrev pub OpenMade : (shown kept : ℕ → List ℤ → Type 0) → Open → Ty
 OpenMade Q R (around e m) = MarkMeets Q m × (is_hidden m ≡ false)
 OpenMade Q R (trying e old f) = AllMeet R (children_if old)
 OpenMade Q R (falling e old a) = AllMeet R (children_if old)
+OpenMade Q R (guarding e f) = Unit {0}
 
 -- the same of the open nodes and of their children that are done
 abbrev pub FramesMade : (shown kept : ℕ → List ℤ → Type 0) → List Frame → Type 0
@@ -59,6 +61,7 @@ abbrev pub PlaceMade : (shown kept : ℕ → List ℤ → Type 0) → Place → 
 PlaceMade Q R empty = Unit {0}
 PlaceMade Q R (made n) = TreeMade Q R n
 PlaceMade Q R (waits a) = Unit {0}
+PlaceMade Q R (throws x) = Unit {0}
 
 -- the same of all nodes that are done or open
 abbrev pub NodesMade : (shown kept : ℕ → List ℤ → Type 0) → Cursor → Type 0

@@ -7,7 +7,7 @@ use Rattle.std.proofs.lemmas.List.{map-append}
 use Rattle.std.proofs.lemmas.List.Elements.{filter_agree}
 use Rattle.std.proofs.lemmas.Iterator.Adapters.{position_from-zero}
 use Rattle.std.proofs.lemmas.Option.{slice_get_past}
-use Rattle.rx_elem.specs.Elements.{Element, null, key_of, Kind, absent, of_text, of_host, of_comp, of_list, of_boundary, of_provider, kind_of, same_kind, is_present}
+use Rattle.rx_elem.specs.Elements.{Element, null, key_of, Kind, absent, of_text, of_host, of_comp, of_list, of_boundary, of_catcher, of_provider, kind_of, same_kind, is_present}
 use Rattle.rx_elem.specs.Identity.{Identity, Child, same_identity, identity_after, identities_after, identified, is_same_child, old_places, is_reused, removed_places}
 
 -- Children behind others
@@ -62,6 +62,7 @@ absent_new (of_host n) = refl
 absent_new (of_comp c) = refl
 absent_new of_list = refl
 absent_new of_boundary = refl
+absent_new of_catcher = refl
 absent_new (of_provider c) = refl
 
 absent_old : (k : Kind) → same_kind k absent ≡ false
@@ -71,6 +72,7 @@ absent_old (of_host n) = refl
 absent_old (of_comp c) = refl
 absent_old of_list = refl
 absent_old of_boundary = refl
+absent_old of_catcher = refl
 absent_old (of_provider c) = refl
 
 null_new : (i : Identity) (d : Child) → is_same_child (record { identity = i; element = null }) d ≡ false

@@ -1,14 +1,14 @@
--- The operations on hosts and the outcome: those of the trimmed trees.
-use Rattle.std.specs.Prelude.{◌≡◌, Bool, true, false, List, [], ◌∷◌, map, filter, fold, length, Option, Some, None, option_and_then, if◌then◌else◌}
+-- The operations on hosts, what is caught, and the outcome: those of the trimmed trees.
+use Rattle.std.specs.Prelude.{◌≡◌, Bool, true, false, List, [], ◌∷◌, map, filter, filter_map, fold, length, Option, Some, None, option_and_then, if◌then◌else◌}
 use Rattle.std.proofs.Common.{refl, ap, ◌∙◌}
 use Rattle.std.proofs.lemmas.List.{length-map}
 use Rattle.rx_base.specs.Awaits as awaits
 use Rattle.rx_lane.specs.Lanes.{Lanes, only_transitions}
-use Rattle.rx_elem.specs.Trees.{mark_of, Node, node, awaits_in, boundary_in}
+use Rattle.rx_elem.specs.Trees.{mark_of, Node, node, awaits_in, boundary_in, old_caught}
 use Rattle.rx_elem.specs.Compare.{Change, changes, compare_trees}
 use Rattle.rx_forest.specs.Hosts.{hosts}
 use Rattle.rx_forest.specs.HostOps.{ops_between, placed_hosts, placed_in, host_ops}
-use Rattle.rx_meaning.specs.Outcome.{commit, defer, hides_shown, newly_hidden, all_awaits, outcome_by, outcome}
+use Rattle.rx_meaning.specs.Outcome.{commit, defer, hides_shown, newly_hidden, caught_anew, newly_caught, all_awaits, outcome_by, outcome}
 use Rattle.end_laws.specs.Trimmed.{trimmed, trimmed_if}
 use Rattle.end_laws.specs.Outcomes.{trimmed_outcome}
 use Rattle.end_laws.proofs.Lists.{map_same, filter_same, filter_map_same}
@@ -33,6 +33,19 @@ ops_same old new =
     ap (λ hs. ops_between hs (hosts (Some (trimmed new))) (placed_hosts (changes (compare_trees (trimmed_if old) (trimmed new))))) (hosts_same old)
     ∙ (ap (λ hs. ops_between (hosts old) hs (placed_hosts (changes (compare_trees (trimmed_if old) (trimmed new))))) (hosts_same (Some new))
     ∙ ap (ops_between (hosts old) (hosts (Some new))) (placed_same old new))
+
+-- What is caught
+
+was_caught_same : (old : Option Node) → old_caught (trimmed_if old) ≡ old_caught old
+was_caught_same None = refl
+was_caught_same (Some (node e m ns fs)) = refl
+
+catches_same : (c : Change) → caught_anew (trimmed_change c) ≡ caught_anew c
+catches_same c = rw (was_caught_same c.old, mark_same c.new) refl
+
+pub caught_same : (old : Option Node) (new : Node) → newly_caught (trimmed_if old) (trimmed new) ≡ newly_caught old new
+caught_same old new =
+    ap (filter_map caught_anew) (all_changes old new) ∙ filter_map_same trimmed_change caught_anew catches_same (changes (compare_trees old new))
 
 -- What is newly hidden
 

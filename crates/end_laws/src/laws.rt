@@ -12,7 +12,7 @@ ghost use Rattle.rx_effect.specs.EffectLog.{layout_log, passive_of};
 ghost use Rattle.rx_forest.specs.Hosts.{hosts};
 ghost use Rattle.rx_forest.specs.HostOps.{host_ops};
 ghost use Rattle.rx_queue.specs.Journal.{Journal};
-ghost use Rattle.rx_meaning.specs.Outcome.{newly_hidden, all_awaits, outcome, journal_after, visible_awaits, is_awaited, awaits_resolved, still_pending};
+ghost use Rattle.rx_meaning.specs.Outcome.{newly_hidden, newly_caught, all_awaits, outcome, journal_after, visible_awaits, is_awaited, awaits_resolved, still_pending};
 ghost use Rattle.rx_meaning.specs.Again.{AllValuesAgree};
 ghost use Rattle.rx_meaning.specs.Fresh.{Sight, Contexts, rendered, render_part, part, one_waits};
 ghost use Rattle.end_laws.specs.Trimmed.{trimmed, trimmed_in, trimmed_if};
@@ -44,13 +44,15 @@ pub fn ends_are_not_numbered()
 {}
 
 /// What a comparison of the new tree with the old one gives: the effects that are destroyed and created, the operations
-/// on hosts, the boundaries that are newly hidden and what they wait for, and whether the render is committed.
+/// on hosts, the values that error boundaries catch, the boundaries that are newly hidden and what they wait for, and whether
+/// the render is committed.
 pub fn ends_are_not_compared()
     ensures layout { (old : Option Node) (new : Node)
         → layout_log (compare_trees (trimmed_if old) (trimmed new)) ≡ layout_log (compare_trees old new) }
     ensures passive { (old : Option Node) (new : Node)
         → passive_of (compare_trees (trimmed_if old) (trimmed new)) ≡ passive_of (compare_trees old new) }
     ensures ops { (old : Option Node) (new : Node) → host_ops (trimmed_if old) (trimmed new) ≡ host_ops old new }
+    ensures caught { (old : Option Node) (new : Node) → newly_caught (trimmed_if old) (trimmed new) ≡ newly_caught old new }
     ensures hidden { (old : Option Node) (new : Node)
         → length (newly_hidden (trimmed_if old) (trimmed new)) ≡ length (newly_hidden old new) }
     ensures awaits { (old : Option Node) (new : Node)

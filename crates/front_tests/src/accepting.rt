@@ -1,6 +1,6 @@
 // Inputs that are accepted or refused, and each beginning of a program.
 
-use crate::cases::{BYTES, COUNTS, MEMOS, PLACES, REFRESHES, REFUSALS, SECOND, STARTS};
+use crate::cases::{BYTES, CATCHES, COUNTS, MEMOS, PLACES, REFRESHES, REFUSALS, SECOND, STARTS};
 use itoa::Buffer;
 use rx_accept::{Verdict, accept};
 use std::alloc::{AllocError, AllocGlobal, Global};
@@ -135,6 +135,11 @@ fn a_start_names_a_lane_and_a_flag(rt: HostRuntime) -> Result<(), Fail> {
 #[test]
 fn memo_declares_a_component(rt: HostRuntime) -> Result<(), Fail> {
     are_judged(&rt, MEMOS)
+}
+
+#[test]
+fn a_throw_needs_an_error_boundary(rt: HostRuntime) -> Result<(), Fail> {
+    are_judged(&rt, CATCHES)
 }
 
 #[test]

@@ -391,6 +391,77 @@ const App = memo(function App({x}) { return null; });
 = program refused 10
 "#;
 
+/// Components that throw and error boundaries: what is accepted, and why others are refused.
+pub(crate) const CATCHES: &str = r#"
+# A component that throws, its boundary with a key, and steps.
+function T({v}) { throwIf(v - 3 ? 0 : 7); const [n, setN] = useState(0); return <b>{v}</b>; } function App() { const [v, setV] = useState(1); const [k, setK] = useState(0); return <div><Catch key={k} fallback={<i/>}><T v={v}/></Catch>{v}</div>; }
+> flush
+> set sync App v 3
+> set sync App/T n 1
+= accepted nodes 8 depth 6 steps 3
+# What throws outside of every error boundary: the root, and below one of Suspense.
+function App() { throwIf(1); return null; }
+= program refused 20 App
+function T() { throwIf(1); return null; } function App() { return <Suspense fallback={null}><T/></Suspense>; }
+= program refused 20 T
+function T() { throwIf(1); return null; } function App() { return <Suspense fallback={<T/>}/>; }
+= program refused 20 T
+# A fallback that throws, outside of another error boundary and inside.
+function T() { throwIf(1); return null; } function App() { return <Catch fallback={<T/>}><T/></Catch>; }
+= program refused 20 T
+function T() { throwIf(1); return null; } function App() { return <Catch fallback={null}><Catch fallback={<T/>}><T/></Catch></Catch>; }
+= accepted nodes 5 depth 4 steps 0
+# An error boundary does not wait in place of its children, or of its fallback.
+function W() { const u = use("r"); return null; } function App() { return <Catch fallback={null}><W/></Catch>; }
+= program refused 9 W
+function W() { const u = use("r"); return null; } function App() { return <Catch fallback={<W/>}/>; }
+= program refused 9 W
+# Children that are given to a component throw where it places them.
+function T() { throwIf(1); return null; } function C({children}) { return <p>{children}</p>; } function App() { return <C><T/></C>; }
+= program refused 20 T
+function T() { throwIf(1); return null; } function C({children}) { return <Catch fallback={null}>{children}</Catch>; } function App() { return <C><T/></C>; }
+= accepted nodes 5 depth 5 steps 0
+function T() { throwIf(1); return null; } function C({children}) { return null; } function App() { return <C><T/></C>; }
+= accepted nodes 2 depth 3 steps 0
+# The check stands behind that of resources, and before that of the root.
+function App() { const u = use("r"); throwIf(u); return null; }
+= program refused 9 App
+function App({x}) { throwIf(x); return null; }
+= program refused 20 App
+function A() { throwIf(1); return null; }
+= program refused 10
+# What is thrown is an expression over the names before it.
+function App() { throwIf(s); const s = 1; return null; }
+= program refused 5 s
+function App() { throwIf(f(1)); return null; }
+= program refused 5 f
+# A key of an error boundary is one of its place.
+function App() { return <p><Catch key={1} fallback={null}/><Catch fallback={null} key={2}/></p>; }
+= program refused 4 key
+# What its tag lacks, or has too much.
+function App() { return <Catch/>; }
+= program refused 3 at 30
+function App() { return <Catch key={1}/>; }
+= program refused 3 at 38
+function App() { return <Catch key={1} fallback={null} key={2}/>; }
+= program refused 3 at 55
+function App() { return <Catch fallback={null}></Suspense>; }
+= program refused 3 at 49
+function App() { return <Catch fallback={null}>; }
+= program refused 3 at 47
+# A throw without its parentheses, without its end, and its word elsewhere.
+function App() { throwIf 1; return null; }
+= program refused 3 at 25
+function App() { throwIf(1) return null; }
+= program refused 3 at 28
+function App() { throwIf(); return null; }
+= program refused 3 at 25
+function App() { const throwIf = 1; return null; }
+= program refused 3 at 23
+function f() { throwIf(1); return 1; }
+= program refused 3 at 15
+"#;
+
 const ONE_HOOK: &[u8] =
     b"function app(s, a) { return s * 10 + a; } function App() { const [s, setS] = useState(0); return <p>{s}</p>; }";
 

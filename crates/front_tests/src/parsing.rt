@@ -42,6 +42,14 @@ fn texts_have_these_places(rt: HostRuntime) -> Result<(), Fail> {
             "const App = memo(function App() { return null; })",
             Some(49),
         ),
+        (
+            "function App() { throwIf(1); return <Catch fallback={<i/>} key={2}></Catch>; }",
+            None,
+        ),
+        (
+            "function App() { return <Catch fallback={<i/>}></Suspense>; }",
+            Some(49),
+        ),
         ("\"use 2\";", None),
         ("\"use 2\" function App() { return null; }", Some(8)),
         ("\"use 1\"; function App() { return null; }", Some(0)),

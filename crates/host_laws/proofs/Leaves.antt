@@ -6,7 +6,7 @@ use Rattle.std.proofs.lemmas.Option.{same_Some}
 use Rattle.rx_susp.specs.declared.boundary.BoundaryState.TheVariants.{Shown, Hidden}
 use Rattle.rx_elem.specs.Elements.{Element}
 use Rattle.rx_elem.specs.Elements as elements
-use Rattle.rx_elem.specs.Trees.{of_instance, of_host, of_boundary, plain, Node, node, Forest, none, vacant, child}
+use Rattle.rx_elem.specs.Trees.{of_instance, of_host, of_boundary, of_catcher, plain, Node, node, Forest, none, vacant, child}
 use Rattle.rx_elem.specs.Spots.{Around, around_children}
 use Rattle.rx_forest.specs.Hosts.{Host, Content, content_of, tag, host_as, by_name}
 use Rattle.host_laws.specs.Related.{can_hold, is_element}
@@ -37,6 +37,7 @@ module _ (all : List Host) where
   element_holds a (elements.comp i k ps es) n c is own ns leaf below = absurd (cc)
   element_holds a (elements.list marked es) n c is own ns leaf below = absurd (cc)
   element_holds a (elements.boundary k f es) n c is own ns leaf below = absurd (cc)
+  element_holds a (elements.catcher k f es) n c is own ns leaf below = absurd (cc)
   element_holds a (elements.provider i k x es) n c is own ns leaf below = absurd (cc)
 
   mutual
@@ -61,6 +62,10 @@ module _ (all : List Host) where
         let parts = parts_at (IsOwn all) a e (of_boundary (Hidden w)) ns fs num.0 own in
         all_at Holds a e (of_boundary (Hidden w)) ns fs num.0 (λ m c mark is. h)
         (parents_hold_in (around_children a (of_boundary (Hidden w))) ns h num.1 leaves.1 parts.1) (parents_hold_in a fs h num.2 leaves.2 parts.2)
+    parents_hold_at a (node e (of_catcher z) ns fs) h num leaves own =
+        let parts = parts_at (IsOwn all) a e (of_catcher z) ns fs num.0 own in
+        all_at Holds a e (of_catcher z) ns fs num.0 (λ m c mark is. h)
+        (parents_hold_in (around_children a (of_catcher z)) ns h num.1 leaves.1 parts.1) (parents_hold_in a fs h num.2 leaves.2 parts.2)
     parents_hold_at a (node e plain ns fs) h num leaves own =
         let parts = parts_at (IsOwn all) a e plain ns fs num.0 own in
         all_at Holds a e plain ns fs num.0 (λ m c mark is. h)

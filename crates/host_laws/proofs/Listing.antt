@@ -9,7 +9,7 @@ use Rattle.host_laws.specs.Commits.{front, front_in, AreNumbered, AreNumbered_in
 use Rattle.host_laws.specs.Related.{AreDistinct}
 use Rattle.rx_elem.specs.Spots.{Around, around_children, spots, spots_in}
 use Rattle.rx_susp.specs.declared.boundary.BoundaryState.TheVariants.{Shown, Hidden}
-use Rattle.rx_elem.specs.Trees.{Mark, host_number, is_host, of_instance, of_host, of_boundary, plain, Node, node, Forest, none, vacant, child}
+use Rattle.rx_elem.specs.Trees.{Mark, host_number, is_host, of_instance, of_host, of_boundary, of_catcher, plain, Node, node, Forest, none, vacant, child}
 use Rattle.rx_forest.specs.Forests.{children_in}
 use Rattle.rx_forest.specs.Hosts.{Host, Content, has_host, host_at, host_as, content_of}
 use Rattle.rx_elem.specs.Elements.{Element}
@@ -46,12 +46,14 @@ pub other_first : (a : Around) (e : Element) (m : Mark) (ns fs : Forest) → is_
 other_first a e (of_instance i) ns fs h = refl
 other_first a e (of_host n) ns fs h = absurd (cc)
 other_first a e (of_boundary s) ns fs h = refl
+other_first a e (of_catcher z) ns fs h = refl
 other_first a e plain ns fs h = refl
 
 pub no_number : (m : Mark) → is_host m ≡ false → host_number m ≡ None
 no_number (of_instance i) h = refl
 no_number (of_host n) h = absurd (cc)
 no_number (of_boundary s) h = refl
+no_number (of_catcher z) h = refl
 no_number plain h = refl
 
 -- below what is no host, the host above is the same
@@ -60,6 +62,7 @@ same_above a (of_instance i) h = refl
 same_above a (of_host n) h = absurd (cc)
 same_above a (of_boundary Shown) h = refl
 same_above a (of_boundary (Hidden w)) h = refl
+same_above a (of_catcher z) h = refl
 same_above a plain h = refl
 
 below-append : (a : Around) (m : Mark) (ns fs : Forest)
@@ -129,6 +132,9 @@ mutual
   front_children a (node e (of_boundary (Hidden w)) ns fs) q k h =
       let both = split_hosts a (around_children a (of_boundary (Hidden w))) ns fs q h in
       two_lists a (around_children a (of_boundary (Hidden w))) ns fs q (front_children_in (around_children a (of_boundary (Hidden w))) ns q k.1 both.0) (front_children_in a fs q k.2 both.1)
+  front_children a (node e (of_catcher z) ns fs) q k h =
+      let both = split_hosts a (around_children a (of_catcher z)) ns fs q h in
+      two_lists a (around_children a (of_catcher z)) ns fs q (front_children_in (around_children a (of_catcher z)) ns q k.1 both.0) (front_children_in a fs q k.2 both.1)
 
   pub front_children_in : (a : Around) (ns : Forest) (q : ℕ) → AreNumbered_in ns → has_host (hosts_in a ns) q ≡ false
       → children_in (hosts_in a ns) q ≡ (if nat_eq a.host q then front_in ns else [])
@@ -285,6 +291,9 @@ mutual
   fronts_are L a (node e (of_boundary (Hidden w)) ns fs) k d o says =
       let both = rest_parts L a (around_children a (of_boundary (Hidden w))) ns fs k.1 k.2 d o o says in
       (λ n h. absurd (none-some n h), fronts_in L (around_children a (of_boundary (Hidden w))) ns k.1 both.0 both.1 both.2, fronts_in L a fs k.2 both.3 both.4 both.5)
+  fronts_are L a (node e (of_catcher z) ns fs) k d o says =
+      let both = rest_parts L a (around_children a (of_catcher z)) ns fs k.1 k.2 d o o says in
+      (λ n h. absurd (none-some n h), fronts_in L (around_children a (of_catcher z)) ns k.1 both.0 both.1 both.2, fronts_in L a fs k.2 both.3 both.4 both.5)
 
   pub fronts_in : (L : List Host) (a : Around) (ns : Forest) → AreNumbered_in ns → AreDistinct (hosts_in a ns) → has_host (hosts_in a ns) a.host ≡ false
       → ((q : ℕ) → has_host (hosts_in a ns) q ≡ true → children_in L q ≡ children_in (hosts_in a ns) q) → FrontsAre_in L ns

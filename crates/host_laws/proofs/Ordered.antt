@@ -11,7 +11,7 @@ use Rattle.rx_elem.specs.Compare.{Change, Past, Above, change_of, above_children
 use Rattle.rx_elem.specs.Elements.{Element}
 use Rattle.rx_elem.specs.Identity.{old_places, moves}
 use Rattle.rx_elem.specs.Spots.{Around, around_children, spots_in}
-use Rattle.rx_elem.specs.Trees.{Mark, of_instance, of_host, of_boundary, plain, Node, node, Forest, none, vacant, child, places, elements_in, children_if, fallback_if}
+use Rattle.rx_elem.specs.Trees.{Mark, of_instance, of_host, of_boundary, of_catcher, plain, Node, node, Forest, none, vacant, child, places, elements_in, children_if, fallback_if}
 use Rattle.rx_forest.specs.Forests.{children_in}
 use Rattle.rx_forest.specs.Hosts.{Host, Content, content_of, host_at, host_as, has_host}
 use Rattle.host_laws.proofs.Fronts.{Fair, Fair_in}
@@ -121,6 +121,7 @@ mutual
           ]
       go (of_instance i) g f new h rest = rest (subst (λ x. has_host (filter_map host_at (spots_in (around_children b x) ns ++ spots_in b fs)) q ≡ true) (sym g) h)
       go (of_boundary t) g f new h rest = rest (subst (λ x. has_host (filter_map host_at (spots_in (around_children b x) ns ++ spots_in b fs)) q ≡ true) (sym g) h)
+      go (of_catcher z) g f new h rest = rest (subst (λ x. has_host (filter_map host_at (spots_in (around_children b x) ns ++ spots_in b fs)) q ≡ true) (sym g) h)
       go plain g f new h rest = rest (subst (λ x. has_host (filter_map host_at (spots_in (around_children b x) ns ++ spots_in b fs)) q ≡ true) (sym g) h)
 
   pub orders_in : (s k w : ℕ → Bool) (newL oldL : List Host) → ((n : ℕ) → w n ≡ false → children_in oldL n ≡ []) → (a : Above) (ps : List Past) (ns : Forest) → Fair_in s k w a ps ns

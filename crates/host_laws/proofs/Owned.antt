@@ -5,7 +5,7 @@ use Rattle.std.proofs.Common.{arith, sym, subst}
 use Rattle.std.proofs.lemmas.Bool.Decides.{nat_tests, Decides-eqb}
 use Rattle.std.proofs.lemmas.List.Elements.{filter_map-append}
 use Rattle.rx_elem.specs.Elements.{Element}
-use Rattle.rx_elem.specs.Trees.{Mark, of_instance, of_host, of_boundary, plain, Node, node, Forest, child}
+use Rattle.rx_elem.specs.Trees.{Mark, of_instance, of_host, of_boundary, of_catcher, plain, Node, node, Forest, child}
 use Rattle.rx_elem.specs.Spots.{Around, around_children, spots_in}
 use Rattle.rx_forest.specs.Hosts.{Host, Content, content_of, host_at, host_as, host_numbered, has_host}
 use Rattle.host_laws.specs.Related.{AreDistinct}
@@ -74,6 +74,7 @@ all_at P a e (of_host (Some n)) ns fs k own x y =
     subst (AllByRecursion P) (sym (host_first a e n ns fs k.0 k.1)) (own n k.0 refl k.1, all_below P a (of_host (Some n)) ns fs x y)
 all_at P a e (of_instance i) ns fs k own x y = subst (AllByRecursion P) (sym (other_first a e (of_instance i) ns fs refl)) (all_below P a (of_instance i) ns fs x y)
 all_at P a e (of_boundary s) ns fs k own x y = subst (AllByRecursion P) (sym (other_first a e (of_boundary s) ns fs refl)) (all_below P a (of_boundary s) ns fs x y)
+all_at P a e (of_catcher z) ns fs k own x y = subst (AllByRecursion P) (sym (other_first a e (of_catcher z) ns fs refl)) (all_below P a (of_catcher z) ns fs x y)
 all_at P a e plain ns fs k own x y = subst (AllByRecursion P) (sym (other_first a e plain ns fs refl)) (all_below P a plain ns fs x y)
 
 -- and what is said of all hosts of a node is said of it and of all below it
@@ -99,6 +100,7 @@ parts_at P a e m ns fs k all = go m k all
         (λ n c is con. let num : h ≡ n = cc in let same : k.0 ≡ c = cc (con, k.1) in subst (λ c. P (host_as a n c)) same (subst (λ n. P (host_as a n k.0)) num both.0), parts.0, parts.1)
     go (of_instance i) k all = let parts = split (of_instance i) (subst (AllByRecursion P) (other_first a e (of_instance i) ns fs refl) all) in (λ n c is con. absurd (cc), parts.0, parts.1)
     go (of_boundary s) k all = let parts = split (of_boundary s) (subst (AllByRecursion P) (other_first a e (of_boundary s) ns fs refl) all) in (λ n c is con. absurd (cc), parts.0, parts.1)
+    go (of_catcher z) k all = let parts = split (of_catcher z) (subst (AllByRecursion P) (other_first a e (of_catcher z) ns fs refl) all) in (λ n c is con. absurd (cc), parts.0, parts.1)
     go plain k all = let parts = split plain (subst (AllByRecursion P) (other_first a e plain ns fs refl) all) in (λ n c is con. absurd (cc), parts.0, parts.1)
 
 pub all_child : (P : Host → Type 0) (a : Around) (x : Node) (ns : Forest) → AllByRecursion P (hosts_at a x) → AllByRecursion P (hosts_in a ns)

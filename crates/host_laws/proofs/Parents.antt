@@ -8,7 +8,7 @@ use Rattle.host_laws.specs.Commits.{AreNumbered, AreNumbered_in}
 use Rattle.host_laws.specs.Related.{AreDistinct, ParentsFirst}
 use Rattle.rx_elem.specs.Spots.{Around, around_children, spots_in}
 use Rattle.rx_susp.specs.declared.boundary.BoundaryState.TheVariants.{Shown, Hidden}
-use Rattle.rx_elem.specs.Trees.{of_instance, of_host, of_boundary, plain, Node, node, Forest, none, vacant, child}
+use Rattle.rx_elem.specs.Trees.{of_instance, of_host, of_boundary, of_catcher, plain, Node, node, Forest, none, vacant, child}
 use Rattle.rx_forest.specs.Hosts.{Host, host_at, host_as, has_host}
 use Rattle.host_laws.proofs.Placing.{neither}
 use Rattle.host_laws.proofs.Listing.{hosts_at, hosts_in, in-child, host_first, has_host-append, distinct-append, split_hosts}
@@ -132,6 +132,13 @@ mutual
       subst (Good a.host) (sym eq) (good_both a.host (hosts_in a' ns) (hosts_in a fs) d' out.1 (good_in a' ns k.1 parts.0 out.0) (good_in a fs k.2 parts.1 out.1))
   good_at a (node e (of_boundary (Hidden z)) ns fs) k d o =
       let a' : Around = around_children a (of_boundary (Hidden z)) in
+      let eq = below-append a a' ns fs in
+      let d' : AreDistinct (hosts_in a' ns ++ hosts_in a fs) = subst AreDistinct eq d in
+      let parts = distinct-append (hosts_in a' ns) (hosts_in a fs) d' in
+      let out = split_hosts a a' ns fs a.host o in
+      subst (Good a.host) (sym eq) (good_both a.host (hosts_in a' ns) (hosts_in a fs) d' out.1 (good_in a' ns k.1 parts.0 out.0) (good_in a fs k.2 parts.1 out.1))
+  good_at a (node e (of_catcher z) ns fs) k d o =
+      let a' : Around = around_children a (of_catcher z) in
       let eq = below-append a a' ns fs in
       let d' : AreDistinct (hosts_in a' ns ++ hosts_in a fs) = subst AreDistinct eq d in
       let parts = distinct-append (hosts_in a' ns) (hosts_in a fs) d' in

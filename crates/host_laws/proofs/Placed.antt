@@ -10,7 +10,7 @@ use Rattle.host_laws.specs.Related.{AreDistinct, stands}
 use Rattle.rx_elem.specs.Compare.{Past, Change, Above, change_of, above_children, above_fallback, pasts, changes, changes_in, compare, compare_in, comparison}
 use Rattle.rx_elem.specs.Spots.{Around, around_children, spots_in}
 use Rattle.rx_elem.specs.Elements.{Element}
-use Rattle.rx_elem.specs.Trees.{Mark, host_number, is_host, of_instance, of_host, of_boundary, plain, Node, node, Forest, none, vacant, child, elements_in, children_if, fallback_if}
+use Rattle.rx_elem.specs.Trees.{Mark, host_number, is_host, of_instance, of_host, of_boundary, of_catcher, plain, Node, node, Forest, none, vacant, child, elements_in, children_if, fallback_if}
 use Rattle.rx_forest.specs.HostOps.{is_placed, placed_in, placed_hosts}
 use Rattle.rx_forest.specs.Hosts.{Host, Content, content_of, host_at, host_as, has_host}
 use Rattle.host_laws.proofs.Fronts.{Fair, Fair_in}
@@ -123,6 +123,11 @@ mutual
       let c = change_of a p (node e (of_boundary s) ns fs) in
       not_placed_other a p e (of_boundary s) ns fs b q refl h
       (none_placed (above_children c) (pasts (children_if p.old) (elements_in ns)) ns (around_children b (of_boundary s)) k.1)
+      (none_placed (above_fallback c) (pasts (fallback_if p.old) (elements_in fs)) fs b k.2)
+  not_placed a p (node e (of_catcher z) ns fs) b k q h =
+      let c = change_of a p (node e (of_catcher z) ns fs) in
+      not_placed_other a p e (of_catcher z) ns fs b q refl h
+      (none_placed (above_children c) (pasts (children_if p.old) (elements_in ns)) ns (around_children b (of_catcher z)) k.1)
       (none_placed (above_fallback c) (pasts (fallback_if p.old) (elements_in fs)) fs b k.2)
   not_placed a p (node e plain ns fs) b k q h =
       let c = change_of a p (node e plain ns fs) in
@@ -281,6 +286,15 @@ mutual
         r.1,
         r.2,
         fairs_from P k w (above_children c) (pasts (children_if p.old) (elements_in ns)) ns (around_children b (of_boundary s)) r.3 num.1 parts.0 parts.2,
+        fairs_from P k w (above_fallback c) (pasts (fallback_if p.old) (elements_in fs)) fs b r.4 num.2 parts.1 parts.3,
+      )
+  fair_from P k w a p (node e (of_catcher z) ns fs) b r num d says =
+      let c = change_of a p (node e (of_catcher z) ns fs) in
+      let parts = other_parts P a p e (of_catcher z) ns fs b refl num.1 num.2 d says in (
+        r.0,
+        r.1,
+        r.2,
+        fairs_from P k w (above_children c) (pasts (children_if p.old) (elements_in ns)) ns (around_children b (of_catcher z)) r.3 num.1 parts.0 parts.2,
         fairs_from P k w (above_fallback c) (pasts (fallback_if p.old) (elements_in fs)) fs b r.4 num.2 parts.1 parts.3,
       )
   fair_from P k w a p (node e plain ns fs) b r num d says =

@@ -3,7 +3,7 @@ use Rattle.std.specs.Prelude.{◌≡◌, ℕ, Bool, true, false, ◌||◌, List,
 use Rattle.rx_elem.specs.Elements.{Element}
 use Rattle.rx_elem.specs.Elements as elements
 use Rattle.rx_elem.specs.Identity.{old_places, is_reused}
-use Rattle.rx_elem.specs.Trees.{Mark, of_instance, of_host, of_boundary, plain, Node, node, Forest, none, vacant, child, mark_of, elements_in, host_number, is_host, children_if, fallback_if}
+use Rattle.rx_elem.specs.Trees.{Mark, of_instance, of_host, of_boundary, of_catcher, plain, Node, node, Forest, none, vacant, child, mark_of, elements_in, host_number, is_host, children_if, fallback_if}
 use Rattle.rx_elem.specs.Spots.{container}
 use Rattle.rx_elem.specs.Compare.{Past, no_past, pasts, node_at, changes, compare_trees}
 use Rattle.rx_forest.specs.Hosts.{Content, content_of, hosts, has_host}
@@ -77,6 +77,7 @@ HasNumber e (of_host (Some n)) = (c : Content) × (content_of e ≡ Some c)
 HasNumber e (of_host None) = ⊥
 HasNumber e (of_instance i) = Unit {0}
 HasNumber e (of_boundary b) = Unit {0}
+HasNumber e (of_catcher c) = Unit {0}
 HasNumber e plain = Unit {0}
 
 -- each host of a tree has a number
@@ -109,6 +110,7 @@ HasNone (elements.host n k attrs es) ns = Unit {0}
 HasNone (elements.comp c k ps es) ns = Unit {0}
 HasNone (elements.list marked es) ns = Unit {0}
 HasNone (elements.boundary k f es) ns = Unit {0}
+HasNone (elements.catcher k f es) ns = Unit {0}
 HasNone (elements.provider c k x es) ns = Unit {0}
 
 -- no text of a tree has children

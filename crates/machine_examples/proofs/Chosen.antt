@@ -11,7 +11,7 @@ use Rattle.rx_step.specs.declared.step.Step.TheVariants as step
 use Rattle.rx_sched.specs.declared.choice.Choice.{Choice}
 use Rattle.rx_sched.specs.declared.choice.Choice.TheVariants as choice
 use Rattle.rx_sched.specs.Deadlines.{later}
-use Rattle.rx_meaning.specs.Fresh.{Place, empty, made, waits, fresh}
+use Rattle.rx_meaning.specs.Fresh.{Place, empty, made, waits, throws, fresh}
 use Rattle.rx_forest.specs.Hosts.{hosts}
 use Rattle.rx_lines.specs.Lines.{Counts, Options, tree_lines, report_bytes}
 use Rattle.rx_model.specs.State.{State, Progress, opening, state_lines, end_line}
@@ -30,6 +30,7 @@ one_more g = record { units = g.units + 1; bodies = g.bodies }
 abbrev finished_in : State → Progress → Place → Option Stretch
 finished_in s g empty = None
 finished_in s g (waits a) = None
+finished_in s g (throws x) = None
 finished_in s g (made tree) = Some (ended s g (one_more g) tree)
 
 abbrev in_bounds : Program → Progress → Bool
@@ -104,6 +105,7 @@ finished-tells p s g slice r fits h = pick (in_bounds p g) refl h
     place : (x : Place) → fresh (sight_of p s g) s.tree ≡ x → in_bounds p g ≡ true → finished_in s g x ≡ Some r → Finishes p s g slice r
     place empty e b h = absurd (cc h)
     place (waits a) e b h = absurd (cc h)
+    place (throws x) e b h = absurd (cc h)
     place (made tree) e b h =
         record {
           counts = one_more g;

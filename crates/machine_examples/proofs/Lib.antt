@@ -8,3 +8,4 @@ mod SlicesComputed
 mod BoundariesComputed
 mod TransitionsComputed
 mod SyncComputed
+mod ThrowsComputed

@@ -5,7 +5,7 @@ use Rattle.std.specs.Fmt.{digits}
 use Rattle.rx_base.specs.Awaits.{awaits_where}
 use Rattle.rx_lane.specs.Lanes.{lanes_where}
 use Rattle.rx_ast.specs.Syntax.{Component, Program, body_slots}
-use Rattle.rx_rules.specs.Bounds.{body_by, depth_bound, node_bound, root_waits}
+use Rattle.rx_rules.specs.Bounds.{body_by, depth_bound, node_bound, root_throws, root_waits}
 use Rattle.rx_rules.specs.Versions.{node_limit}
 use Rattle.rx_rules.specs.Keys.{KeysApart, SlotsKeysApart, keyed_places}
 use Rattle.rx_rules.specs.Names.{component_at}
@@ -99,8 +99,12 @@ ready : root_waits (λ c. true) appending ≡ false
 unfolding root_waits body_by
 ready = refl
 
+caught : root_throws (λ c. true) appending ≡ false
+unfolding root_throws body_by
+caught = refl
+
 bounded : IsBounded appending
-bounded = record { rooted = refl; ready = ready; shallow = shallow; small = small; apart = keys; declared = declared }
+bounded = record { rooted = refl; ready = ready; caught = caught; shallow = shallow; small = small; apart = keys; declared = declared }
 
 -- Both runs
 
@@ -110,8 +114,8 @@ run_is_well = (
   record {
     begins = refl;
     alike = (
-      record { instances = refl; none_hidden = refl },
-      (record { instances = refl; none_hidden = refl }, (record { instances = refl; none_hidden = refl }, tt)),
+      record { instances = refl; none_hidden = refl; none_caught = refl },
+      (record { instances = refl; none_hidden = refl; none_caught = refl }, (record { instances = refl; none_hidden = refl; none_caught = refl }, tt)),
     );
   },
   refl,
@@ -123,12 +127,12 @@ sync_run_is_well = (
   record {
     begins = refl;
     alike = (
-      record { instances = refl; none_hidden = refl },
+      record { instances = refl; none_hidden = refl; none_caught = refl },
       (
-        record { instances = refl; none_hidden = refl },
+        record { instances = refl; none_hidden = refl; none_caught = refl },
         (
-          record { instances = refl; none_hidden = refl },
-          (record { instances = refl; none_hidden = refl }, (record { instances = refl; none_hidden = refl }, tt)),
+          record { instances = refl; none_hidden = refl; none_caught = refl },
+          (record { instances = refl; none_hidden = refl; none_caught = refl }, (record { instances = refl; none_hidden = refl; none_caught = refl }, tt)),
         ),
       ),
     );
@@ -148,7 +152,7 @@ unfolding digits awaits_where lanes_where body_by node_bound linked_by links_amo
 all_sync_run_is_well = (
   record {
     begins = refl;
-    alike = (record { instances = refl; none_hidden = refl }, (record { instances = refl; none_hidden = refl }, tt));
+    alike = (record { instances = refl; none_hidden = refl; none_caught = refl }, (record { instances = refl; none_hidden = refl; none_caught = refl }, tt));
   },
   refl,
 )
@@ -159,8 +163,8 @@ all_sync_run_in_sync_is_well = (
   record {
     begins = refl;
     alike = (
-      record { instances = refl; none_hidden = refl },
-      (record { instances = refl; none_hidden = refl }, (record { instances = refl; none_hidden = refl }, tt)),
+      record { instances = refl; none_hidden = refl; none_caught = refl },
+      (record { instances = refl; none_hidden = refl; none_caught = refl }, (record { instances = refl; none_hidden = refl; none_caught = refl }, tt)),
     );
   },
   refl,

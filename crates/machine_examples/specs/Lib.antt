@@ -9,3 +9,4 @@ pub mod Slices
 pub mod Boundaries
 pub mod Transitions
 pub mod Sync
+pub mod Throws

@@ -1,7 +1,7 @@
 -- The programs of the examples, each below its text.
 use Rattle.std.specs.Prelude.{[], ◌∷◌, true, false, codes}
 use Rattle.rx_ast.specs.declared.expr.Operator.TheVariants.{Or, Add, Subtract, Multiply, Divide, Remainder}
-use Rattle.rx_ast.specs.Syntax.{number, variable, grouped, chain, no_links, link, key, computed, literal, unkeyed, at_once, by_tag, braces, number_of, repeated, choice, host, comp, boundary, provider, enclosed, no_slots, slot, single, state, reducer, use_resource, effect, integer, given_children, of_context, of_function, of_component, Program}
+use Rattle.rx_ast.specs.Syntax.{number, variable, grouped, chain, chosen, no_links, link, key, computed, literal, unkeyed, key_first, at_once, by_tag, braces, number_of, repeated, choice, host, comp, boundary, catcher, provider, enclosed, no_slots, slot, single, state, reducer, use_resource, effect, throw_if, integer, given_children, of_context, of_function, of_component, Program}
 use Rattle.rx_ast.specs.Syntax as syntax
 
 -- function Counter({start}) { const [n, setN] = useState(start); return <p>{n}</p>; }
@@ -482,6 +482,67 @@ boxes_with_effects =
             parameters = [];
             statements = (state (codes "w") (codes "setW") (number 0) ∷ []);
             body = (single (boundary unkeyed (host (codes "i") [] at_once no_slots) by_tag (slot (comp (codes "Box") (computed (codes "w") (variable (codes "w")) ∷ []) at_once no_slots) no_slots)));
+          })
+          ∷ [];
+    }
+
+-- function T({v}) { throwIf(v - 3 ? 0 : 7); const [n, setN] = useState(0); return <b>{v}</b>; }
+-- function App() { const [v, setV] = useState(1); const [k, setK] = useState(0); return <div><Catch key={k} fallback={<i/>}><T v={v}/></Catch>{v}</div>; }
+abbrev pub throwing : Program
+throwing =
+    record {
+      second = false;
+      declarations =
+          of_component (record {
+            name = codes "T";
+            memo = false;
+            braces = true;
+            parameters = (integer (codes "v") ∷ []);
+            statements = (throw_if (chosen (chain (variable (codes "v")) (link Subtract (number 3) no_links)) (number 0) (number 7)) ∷ state (codes "n") (codes "setN") (number 0) ∷ []);
+            body = (single (host (codes "b") [] by_tag (slot (enclosed braces (number_of (variable (codes "v")))) no_slots)));
+          })
+          ∷ of_component (record {
+            name = codes "App";
+            memo = false;
+            braces = false;
+            parameters = [];
+            statements = (state (codes "v") (codes "setV") (number 1) ∷ state (codes "k") (codes "setK") (number 0) ∷ []);
+            body = (single (host (codes "div") [] by_tag (slot (catcher (key_first (variable (codes "k"))) (host (codes "i") [] at_once no_slots) by_tag (slot (comp (codes "T") (computed (codes "v") (variable (codes "v")) ∷ []) at_once no_slots) no_slots)) (slot (enclosed braces (number_of (variable (codes "v")))) no_slots))));
+          })
+          ∷ [];
+    }
+
+-- function A() { const u = use("a"); throwIf(u); return <b/>; }
+-- function B() { const u = use("b"); return <b/>; }
+-- function App() { const [s, setS] = useState(0); return <div>{s}<Catch fallback={<i/>}><Suspense fallback={<u/>}><Suspense fallback={<q/>}><A/></Suspense><B/></Suspense></Catch></div>; }
+abbrev pub late_throwing : Program
+late_throwing =
+    record {
+      second = false;
+      declarations =
+          of_component (record {
+            name = codes "A";
+            memo = false;
+            braces = false;
+            parameters = [];
+            statements = (use_resource (codes "u") (codes "a") ∷ throw_if (variable (codes "u")) ∷ []);
+            body = (single (host (codes "b") [] at_once no_slots));
+          })
+          ∷ of_component (record {
+            name = codes "B";
+            memo = false;
+            braces = false;
+            parameters = [];
+            statements = (use_resource (codes "u") (codes "b") ∷ []);
+            body = (single (host (codes "b") [] at_once no_slots));
+          })
+          ∷ of_component (record {
+            name = codes "App";
+            memo = false;
+            braces = false;
+            parameters = [];
+            statements = (state (codes "s") (codes "setS") (number 0) ∷ []);
+            body = (single (host (codes "div") [] by_tag (slot (enclosed braces (number_of (variable (codes "s")))) (slot (catcher unkeyed (host (codes "i") [] at_once no_slots) by_tag (slot (boundary unkeyed (host (codes "u") [] at_once no_slots) by_tag (slot (boundary unkeyed (host (codes "q") [] at_once no_slots) by_tag (slot (comp (codes "A") [] at_once no_slots) no_slots)) (slot (comp (codes "B") [] at_once no_slots) no_slots))) no_slots)) no_slots))));
           })
           ∷ [];
     }

@@ -7,6 +7,7 @@ ghost use Rattle.machine_examples.specs.Contexts.{InsideAndOutside, PlacedTwice}
 ghost use Rattle.machine_examples.specs.Slices.{MustFinish, Yields, Interrupted, NotInterrupted, Expired, NotExpired};
 ghost use Rattle.machine_examples.specs.Boundaries.{FirstWait, LaterResolution, ResolvedTwice, WaitingFallback, HiddenHosts, HidingAndShowing};
 ghost use Rattle.machine_examples.specs.Sync.{AllSyncPremises, SyncPremises};
+ghost use Rattle.machine_examples.specs.Throws.{Caught, CaughtAnew, CaughtLate};
 ghost use Rattle.machine_examples.specs.Transitions.{Owed, Deferred, DeferredThenResolved, NewDeadline, Linked};
 
 /// Mounting, unmounting and the values of expressions (react.dev, Preserving and Resetting State).
@@ -65,6 +66,13 @@ pub fn boundaries()
     ensures waiting_fallback { WaitingFallback }
     ensures hidden_hosts { HiddenHosts }
     ensures hiding_and_showing { HidingAndShowing }
+{}
+
+/// What is thrown (react.dev, Catching rendering errors with an error boundary).
+pub fn throws()
+    ensures caught { Caught }
+    ensures caught_anew { CaughtAnew }
+    ensures caught_late { CaughtLate }
 {}
 
 /// Transitions that wait, and updates that hidden content missed (react.dev, useTransition and Suspense).

@@ -4,5 +4,5 @@
 mod examples;
 
 pub use examples::{
-    boundaries, children, contexts, effects, mounting, queues, slices, sync, transitions,
+    boundaries, children, contexts, effects, mounting, queues, slices, sync, throws, transitions,
 };

@@ -32,7 +32,7 @@ first_render lanes = record { lanes = lanes; cut = record { updates = 0; resolut
 
 -- what is accepted is bounded
 runnable_bounded : (p : Program) → IsRunnable p → IsBounded p
-runnable_bounded p h = record { rooted = h.rooted; ready = h.ready; shallow = h.shallow; small = h.small; apart = h.keys_apart; declared = h.reads_declared }
+runnable_bounded p h = record { rooted = h.rooted; ready = h.ready; caught = h.caught; shallow = h.shallow; small = h.small; apart = h.keys_apart; declared = h.reads_declared }
 
 -- the first render gives it
 gives_first : (lanes : Lanes) → fresh (sight_of counter opening (first_render lanes)) None ≡ made rendered_first

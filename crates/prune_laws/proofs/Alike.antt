@@ -1,5 +1,5 @@
--- Comparisons that are alike: they log the same, place the same hosts, and hide anew what waits for the same.
-use Rattle.std.specs.Prelude.{◌≡◌, Bool, true, false, List, ◌++◌, Option, Some, None, filter, map, refl}
+-- Comparisons that are alike: they log the same, place the same hosts, catch the same, and hide anew what waits for the same.
+use Rattle.std.specs.Prelude.{◌≡◌, Bool, true, false, List, ◌++◌, Option, Some, None, filter, filter_map, map, refl}
 use Rattle.std.specs.List.{cons_option}
 use Rattle.std.proofs.Common.{ap, ◌∙◌}
 use Rattle.std.proofs.lemmas.List.{map-append, append-nil}
@@ -9,11 +9,11 @@ use Rattle.rx_susp.specs.declared.boundary.BoundaryState.{BoundaryState}
 use Rattle.rx_susp.specs.declared.boundary.BoundaryState.TheVariants.{Hidden, Shown}
 use Rattle.rx_susp.specs.Boundary.{would_hide}
 use Rattle.rx_elem.specs.Elements.{Element}
-use Rattle.rx_elem.specs.Trees.{Mark, of_instance, of_host, of_boundary, plain, node, Forest, none, elements_in, mark_of, awaits_in, is_hidden}
+use Rattle.rx_elem.specs.Trees.{Mark, of_instance, of_host, of_boundary, of_catcher, plain, node, Forest, none, elements_in, mark_of, awaits_in, is_hidden}
 use Rattle.rx_elem.specs.Compare.{Above, Change, AllCompared, Compared, comparison, compare, compare_in, change_of, above_children, pasts, gone_nodes, changes, changes_in}
 use Rattle.rx_effect.specs.EffectLog.{Phase, destroyed, destroyed_all, created, created_all}
 use Rattle.rx_forest.specs.HostOps.{placed_in, placed_hosts}
-use Rattle.rx_meaning.specs.Outcome.{hides_shown, old_state}
+use Rattle.rx_meaning.specs.Outcome.{caught_anew, hides_shown, old_state}
 use Rattle.rx_pruned.specs.Pruned.{was, GoesOn}
 
 -- what the boundaries wait for that these changes hide anew
@@ -25,6 +25,7 @@ pub record IsAlike (c d : Compared) : Type 0 where
   pub destroys : (phase : Phase) → destroyed phase c ≡ destroyed phase d
   pub creates : (phase : Phase) → created phase c ≡ created phase d
   pub places : placed_hosts (changes c) ≡ placed_hosts (changes d)
+  pub catches : filter_map caught_anew (changes c) ≡ filter_map caught_anew (changes d)
   pub hides : hidden_awaits (changes c) ≡ hidden_awaits (changes d)
 
 -- the comparisons of two lists are alike
@@ -32,13 +33,14 @@ pub record AreAlike (cs ds : AllCompared) : Type 0 where
   pub destroys : (phase : Phase) → destroyed_all phase cs ≡ destroyed_all phase ds
   pub creates : (phase : Phase) → created_all phase cs ≡ created_all phase ds
   pub places : placed_hosts (changes_in cs) ≡ placed_hosts (changes_in ds)
+  pub catches : filter_map caught_anew (changes_in cs) ≡ filter_map caught_anew (changes_in ds)
   pub hides : hidden_awaits (changes_in cs) ≡ hidden_awaits (changes_in ds)
 
 pub alike_itself : (c : Compared) → IsAlike c c
-alike_itself c = record { destroys = λ phase. refl; creates = λ phase. refl; places = refl; hides = refl }
+alike_itself c = record { destroys = λ phase. refl; creates = λ phase. refl; places = refl; catches = refl; hides = refl }
 
 pub all_alike_themselves : (cs : AllCompared) → AreAlike cs cs
-all_alike_themselves cs = record { destroys = λ phase. refl; creates = λ phase. refl; places = refl; hides = refl }
+all_alike_themselves cs = record { destroys = λ phase. refl; creates = λ phase. refl; places = refl; catches = refl; hides = refl }
 
 hidden_awaits-append : (cs ds : List Change) → hidden_awaits (cs ++ ds) ≡ hidden_awaits cs ++ hidden_awaits ds
 hidden_awaits-append cs ds =
@@ -49,6 +51,7 @@ more_alike c d cs ds h k = record {
   destroys = λ phase. rw (h.destroys phase, k.destroys phase) refl;
   creates = λ phase. rw (h.creates phase, k.creates phase) refl;
   places = rw (filter_map-append placed_in (changes c) (changes_in cs), filter_map-append placed_in (changes d) (changes_in ds), h.places, k.places) refl;
+  catches = rw (filter_map-append caught_anew (changes c) (changes_in cs), filter_map-append caught_anew (changes d) (changes_in ds), h.catches, k.catches) refl;
   hides = rw (hidden_awaits-append (changes c) (changes_in cs), hidden_awaits-append (changes d) (changes_in ds), h.hides, k.hides) refl;
 }
 
@@ -64,6 +67,7 @@ shown_by c (of_instance i) e h = rw e refl
 shown_by c (of_host n) e h = rw e refl
 shown_by c (of_boundary Shown) e h = rw e (never_hides (old_state c) c.was_visible)
 shown_by c (of_boundary (Hidden waits)) e h = absurd (cc h)
+shown_by c (of_catcher z) e h = rw e refl
 shown_by c plain e h = rw e refl
 
 -- A node is alike if its children are and the same of them are gone.
@@ -81,6 +85,7 @@ module _ (a : Above) (moved : Bool) (e f : Element) (m w : Mark) (os ns ps qs : 
         destroys = λ phase. rw (gone, kids.destroys phase, on.new_shown) refl;
         creates = λ phase. rw (kids.creates phase, on.new_shown) refl;
         places = ap (cons_option (placed_in whole_change)) (rw (append-nil (changes_in pruned_kids), append-nil (changes_in whole_kids)) kids.places);
+        catches = ap (cons_option (caught_anew whole_change)) (rw (append-nil (changes_in pruned_kids), append-nil (changes_in whole_kids)) kids.catches);
         hides =
             rw (shown_by whole_change w refl on.new_shown)
             (rw (append-nil (changes_in pruned_kids), append-nil (changes_in whole_kids)) kids.hides);

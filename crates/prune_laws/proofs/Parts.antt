@@ -10,7 +10,7 @@ use Rattle.rx_susp.specs.declared.boundary.BoundaryState.TheVariants.{Shown, Hid
 use Rattle.rx_elem.specs.Elements.{Element}
 use Rattle.rx_elem.specs.Elements as elements
 use Rattle.rx_elem.specs.Identity.{old_places, is_reused}
-use Rattle.rx_elem.specs.Trees.{Mark, of_instance, of_host, of_boundary, plain, Node, node, Forest, none, vacant, child, elements_in, host_number, is_hidden}
+use Rattle.rx_elem.specs.Trees.{Mark, of_instance, of_host, of_boundary, of_catcher, plain, Node, node, Forest, none, vacant, child, elements_in, host_number, is_hidden}
 use Rattle.rx_elem.specs.Spots.{Around, around_children, spots_in}
 use Rattle.rx_elem.specs.Compare.{Past, pasts, node_at}
 use Rattle.rx_forest.specs.Hosts.{Host, Content, content_of, host_as, host_at}
@@ -34,6 +34,7 @@ host_below a (of_host None) = refl
 host_below a (of_host (Some n)) = refl
 host_below a (of_boundary Shown) = refl
 host_below a (of_boundary (Hidden w)) = refl
+host_below a (of_catcher z) = refl
 host_below a plain = refl
 
 concealed_below : (a : Around) (m : Mark) → is_hidden m ≡ false → (around_children a m).concealed ≡ option_map_or (λ n. false) (host_number m) a.concealed
@@ -42,6 +43,7 @@ concealed_below a (of_host None) h = refl
 concealed_below a (of_host (Some n)) h = refl
 concealed_below a (of_boundary Shown) h = refl
 concealed_below a (of_boundary (Hidden w)) h = absurd (cc)
+concealed_below a (of_catcher z) h = refl
 concealed_below a plain h = refl
 
 -- the surroundings agree below if the way goes on
@@ -58,6 +60,7 @@ agree_below a b (of_host None) r = r
 agree_below a b (of_host (Some n)) r = record { host = refl; concealed = refl }
 agree_below a b (of_boundary Shown) r = r
 agree_below a b (of_boundary (Hidden w)) r = record { host = r.host; concealed = refl }
+agree_below a b (of_catcher z) r = r
 agree_below a b plain r = r
 
 -- The hosts of a node

@@ -14,6 +14,7 @@ own_present p k (elements.host n key attrs es) m ns fs h = refl
 own_present p k (elements.comp c key props es) m ns fs h = refl
 own_present p k (elements.list marked es) m ns fs h = refl
 own_present p k (elements.boundary key f es) m ns fs h = refl
+own_present p k (elements.catcher key f es) m ns fs h = refl
 own_present p k (elements.provider c key x es) m ns fs h = refl
 
 mutual

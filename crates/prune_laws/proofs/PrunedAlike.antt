@@ -92,6 +92,7 @@ mutual
         destroys = λ phase. sym (silent.destroys phase);
         creates = λ phase. sym (silent.creates phase);
         places = sym calm.places;
+        catches = sym calm.catches;
         hides = rw calm.hides refl;
       } in
       node_alike a moved e f m w ns ns none none on (rw (none_removed (elements_in ns)) refl) (rw (pasts_unmoved ns present.1) kids)

@@ -7,7 +7,7 @@ use Rattle.std.proofs.Common.{sym, subst}
 use Rattle.std.proofs.lemmas.Bool.Decides.{Decides-int_eq}
 use Rattle.rx_susp.specs.declared.boundary.BoundaryState.TheVariants.{Hidden, Shown}
 use Rattle.rx_elem.specs.declared.effect.EffectRecord.{EffectRecord}
-use Rattle.rx_elem.specs.Trees.{Mark, of_instance, of_host, of_boundary, plain, Node, node, Forest, none, vacant, child, elements_in, mark_of, effects_in, instance_in, is_hidden, is_shown}
+use Rattle.rx_elem.specs.Trees.{Mark, of_instance, of_host, of_boundary, of_catcher, plain, Node, node, Forest, none, vacant, child, elements_in, mark_of, effects_in, instance_in, is_hidden, is_shown}
 use Rattle.rx_elem.specs.Compare.{Above, Change, AllCompared, Compared, compare, compare_in, above_children, above_fallback, pasts, gone_below}
 use Rattle.rx_effect.specs.declared.log.LogLine.{LogLine}
 use Rattle.rx_effect.specs.EffectLog.{Phase, layout, passive, is_live, lines_at, destroyed, destroyed_all, destroyed_by_hiding, created, created_all, own_destroyed, own_created, differs}
@@ -62,6 +62,7 @@ hidden_not_shown (of_instance i) h = refl
 hidden_not_shown (of_host n) h = refl
 hidden_not_shown (of_boundary Shown) h = absurd (cc h)
 hidden_not_shown (of_boundary (Hidden waits)) h = refl
+hidden_not_shown (of_catcher z) h = absurd (cc h)
 hidden_not_shown plain h = refl
 
 hides_nothing : (phase : Phase) (visible : Bool) (n : Node) → is_hidden (mark_of n) ≡ true → destroyed_by_hiding phase visible (Some n) ≡ []

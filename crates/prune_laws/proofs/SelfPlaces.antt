@@ -30,6 +30,7 @@ absent_is_null (elements.host n k attrs es) h = absurd (cc h)
 absent_is_null (elements.comp c k ps es) h = absurd (cc h)
 absent_is_null (elements.list marked es) h = absurd (cc h)
 absent_is_null (elements.boundary k f es) h = absurd (cc h)
+absent_is_null (elements.catcher k f es) h = absurd (cc h)
 absent_is_null (elements.provider c k x es) h = absurd (cc h)
 
 finds_itself : (whole before : List Element) (p : ℕ) (es : List Element)

@@ -9,11 +9,11 @@ use Rattle.rx_rules.specs.Versions.{node_limit}
 use Rattle.rx_elem.specs.Elements.{Element, Elements, gathered, listed}
 use Rattle.rx_elem.specs.Elements as elements
 use Rattle.rx_elem.specs.Identity.{Identity, identities, identified, is_same_child}
-use Rattle.rx_elem.specs.Trees.{Node, Forest, children_if, fallback_if, elements_in}
+use Rattle.rx_elem.specs.Trees.{Node, Forest, none, old_caught, children_if, fallback_if, elements_in}
 use Rattle.rx_elem.specs.Spots.{spots_in, at_root}
 use Rattle.rx_elem.specs.Compare.{old_nodes, node_at}
-use Rattle.rx_meaning.specs.Body.{Body, wait, ready, body_of}
-use Rattle.rx_meaning.specs.Fresh.{Sight, Contexts, Renders, Place, empty, made, waits, rendered, shape_of, shape_of_body, shape_of_component, inputs_at, old_instance, default_contexts, root_element, depth_limit, IsTree}
+use Rattle.rx_meaning.specs.Body.{Body, wait, throw, ready, body_of}
+use Rattle.rx_meaning.specs.Fresh.{Sight, Contexts, Renders, Place, empty, made, waits, throws, rendered, shape_of, shape_of_body, shape_of_component, shape_of_catcher, inputs_at, old_instance, default_contexts, root_element, depth_limit, IsTree}
 use Rattle.rx_rules.specs.Keys.{KeysApart}
 use Rattle.render_laws.specs.Attempts.{Attempts, begun, unless_waits, attempts_below, shape_attempts, attempts}
 use Rattle.render_laws.proofs.Plans.{Alts, Plan, fixed, end, next, plan_in, body_size, body_plan, alts_size}
@@ -44,6 +44,7 @@ small_unless : (m : ℕ) (x : Place) (xs : List Forest) → AllSmall m xs → Al
 small_unless m empty xs h = h
 small_unless m (made n) xs h = h
 small_unless m (waits a) xs h = tt
+small_unless m (throws x) xs h = tt
 
 -- attempts at a place stay within the room of its alternatives
 abbrev AreSmall : ℕ → Program → Attempts → Type 0
@@ -145,6 +146,7 @@ module _ (s : Sight) (apart : IsPlain s.program) (d : ℕ) (t : Contexts → Att
   body_small : (cs : Contexts) (c : ℕ) (a : Alts) (q g : Plan) → Has q g a → (old : Option Node) → FitsOld a old → (b : Body) → IfReady d s.program q b
       → AllSmall (alts_size a) (shape_attempts t f (shape_of_body cs c old b))
   body_small cs c a q g has old o (wait r v) k = tt
+  body_small cs c a q g has old o (throw x) k = tt
   body_small cs c a q g has old o (ready es effects initials reads versions) k = primary_small cs a q g has es k.0 k.1 old o
 
   comp_small : (cs : Contexts) (a : Alts) (c m : ℕ) (q g : Plan) → suc d ≤ m → Has (body_plan m s.program c q) g a
@@ -160,6 +162,15 @@ module _ (s : Sight) (apart : IsPlain s.program) (d : ℕ) (t : Contexts → Att
           body_small cs c a (plan_in (body_plan m s.program) q s.program (Some x)) g h old o (body_of s.program x (inputs_at s cs props es (old_instance old)))
           (found_comes m d s.program apart (omega arith) q (inputs_at s cs props es (old_instance old)) few come c x same)
 
+  -- an error boundary that had caught a value or not
+  catcher_small : (cs : Contexts) (a : Alts) (q g : Plan) → Has q g a → (e : Element) (es : Elements) → IsFew q es → AllCome (suc d) s.program q es
+      → IsFew g (gathered (e ∷ [])) → AllCome d s.program g (gathered (e ∷ [])) → (old : Option Node) → FitsOld a old → (caught : Option ℤ)
+      → AllSmall (alts_size a) (shape_attempts t f (shape_of_catcher cs e es old caught))
+  catcher_small cs a q g has e es few come one other old o None =
+      small_append (alts_size a) (list_attempts (t cs) (f cs) (listed es) (children_if old)) (list_attempts (t cs) (f cs) (e ∷ []) none)
+      (node_small cs a q g has es few come old o) (fallback_small cs a q g has (e ∷ []) one other None tt)
+  catcher_small cs a q g has e es few come one other old o (Some x) = fallback_small cs a q g has (e ∷ []) one other old o
+
   place_small : (cs : Contexts) → AreSmall (suc d) s.program (λ e old. shape_attempts t f (shape_of s cs e old))
   place_small cs a elements.null old c o = tt
   place_small cs a (elements.text x) old c o = (omega arith, tt)
@@ -173,6 +184,13 @@ module _ (s : Sight) (apart : IsPlain s.program) (d : ℕ) (t : Contexts → Att
       (node_small cs a c.0 (fixed (next c.1 end) c.2) c.3 es c.4 c.5 old o)
       (fallback_small cs a c.0 (fixed (next c.1 end) c.2) c.3 (e ∷ []) (one_few (is_keyed e))
       (comes_less d s.program (cond (is_keyed e) c.2 c.1) e c.6, tt) old o)
+    where
+      one_few : (b : Bool) → cond b 1 0 + 0 ≤ 1
+      one_few true = omega arith
+      one_few false = omega arith
+  place_small cs a (elements.catcher k e es) old c o =
+      catcher_small cs a c.0 (fixed (next c.1 end) c.2) c.3 e es c.4 c.5 (one_few (is_keyed e))
+      (comes_less d s.program (cond (is_keyed e) c.2 c.1) e c.6, tt) old o (old_caught old)
     where
       one_few : (b : Bool) → cond b 1 0 + 0 ≤ 1
       one_few true = omega arith
@@ -223,7 +241,7 @@ attempts_bounded s p old same apart small t = go (plain_or_empty p apart)
     go : IsPlain p ⊎ ((c : ℕ) → component_at p c ≡ None)
         → AllByRecursion (λ ns. length (spots_in at_root ns) ≤ node_bound p) (attempts depth_limit s (default_contexts s.program) (root_element s.program) old)
     go (inl plain) = plain_bounded s p old same plain small t
-    go (inr none) =
+    go (inr missing_all) =
         let missing : component_at s.program (component_number s.program root_name) ≡ None =
-        subst (λ (q : Program). component_at q (component_number q root_name) ≡ None) (sym same) (none (component_number p root_name)) in
+        subst (λ (q : Program). component_at q (component_number q root_name) ≡ None) (sym same) (missing_all (component_number p root_name)) in
         subst (λ (xs : List Forest). AllByRecursion (λ ns. length (spots_in at_root ns) ≤ node_bound p) xs) (sym (nothing_tried 255 s old missing)) tt

@@ -73,6 +73,8 @@ abbrev mutual
   Comes d p a (elements.list marked es) = (q : Plan) × (f : Plan) × Has q f a × IsFew q es × AllCome d p q es
   Comes d p a (elements.boundary k e es) =
       (q : Plan) × (b : Alts) × (c : Alts) × Has q (fixed (next b end) c) a × IsFew q es × AllCome d p q es × Comes d p (cond (is_keyed e) c b) e
+  Comes d p a (elements.catcher k e es) =
+      (q : Plan) × (b : Alts) × (c : Alts) × Has q (fixed (next b end) c) a × IsFew q es × AllCome d p q es × Comes d p (cond (is_keyed e) c b) e
   Comes d p a (elements.provider c k x es) = (q : Plan) × (f : Plan) × Has q f a × IsFew q es × AllCome d p q es
 
   pub AllCome : ℕ → Program → Plan → Elements → Type 0
@@ -89,6 +91,7 @@ comes_within d p a b w (elements.host n k attrs es) h = (h.0, h.1, w h.0 h.1 h.2
 comes_within d p a b w (elements.comp c k ps es) h = (h.0, h.1, h.2, h.3, w (body_plan h.0 p c h.1) h.2 h.4, h.5, h.6, h.7)
 comes_within d p a b w (elements.list marked es) h = (h.0, h.1, w h.0 h.1 h.2, h.3, h.4)
 comes_within d p a b w (elements.boundary k e es) h = (h.0, h.1, h.2, w h.0 (fixed (next h.1 end) h.2) h.3, h.4, h.5, h.6)
+comes_within d p a b w (elements.catcher k e es) h = (h.0, h.1, h.2, w h.0 (fixed (next h.1 end) h.2) h.3, h.4, h.5, h.6)
 comes_within d p a b w (elements.provider c k x es) h = (h.0, h.1, w h.0 h.1 h.2, h.3, h.4)
 
 -- what comes to some depth comes to one less
@@ -100,6 +103,8 @@ mutual
   comes_less d p a (elements.comp c k ps es) h = (h.0, h.1, h.2, (omega (arith, h.3)), h.4, h.5, all_come_less d p h.1 es h.6, h.7)
   comes_less d p a (elements.list marked es) h = (h.0, h.1, h.2, h.3, all_come_less d p h.0 es h.4)
   comes_less d p a (elements.boundary k e es) h =
+      (h.0, h.1, h.2, h.3, h.4, all_come_less d p h.0 es h.5, comes_less d p (cond (is_keyed e) h.2 h.1) e h.6)
+  comes_less d p a (elements.catcher k e es) h =
       (h.0, h.1, h.2, h.3, h.4, all_come_less d p h.0 es h.5, comes_less d p (cond (is_keyed e) h.2 h.1) e h.6)
   comes_less d p a (elements.provider c k x es) h = (h.0, h.1, h.2, h.3, all_come_less d p h.0 es h.4)
 
@@ -148,6 +153,7 @@ slot_keyed p kids env (syntax.choice c a b) =
 slot_keyed p kids env (syntax.host n attrs w ss) = value_keyed p env (key_of attrs)
 slot_keyed p kids env (syntax.comp n attrs w ss) = value_keyed p env (key_of attrs)
 slot_keyed p kids env (syntax.boundary k f w ss) = value_keyed p env (key_in k)
+slot_keyed p kids env (syntax.catcher k f w ss) = value_keyed p env (key_in k)
 slot_keyed p kids env (syntax.provider n k e w ss) = value_keyed p env (key_in k)
 slot_keyed p kids env (syntax.enclosed b s) = slot_keyed p kids env s
 
@@ -237,6 +243,17 @@ module _ (m d : ℕ) (p : Program) (declared : (n : Name) → IsDeclared p (comp
           declared n,
         )
     slot_comes env (syntax.boundary k f w ss) apart =
+        let q = slots_plan (body_plan m p) given p ss in
+        let e = element_of p kids env f in (
+          q,
+          alts_of false f,
+          alts_of true f,
+          has_only p env (key_in k) q (fixed (next (alts_of false f) end) (alts_of true f)),
+          omega (arith, slots_few p kids env ss, apart.1),
+          slots_come env ss (slots_keyed (body_plan m p) given p ss) (λ q f h. h) apart.2,
+          place_comes (is_keyed e) f (alts_of true f) (λ q f h. h) e (slot_comes env f apart.0),
+        )
+    slot_comes env (syntax.catcher k f w ss) apart =
         let q = slots_plan (body_plan m p) given p ss in
         let e = element_of p kids env f in (
           q,

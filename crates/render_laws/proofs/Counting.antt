@@ -1,17 +1,18 @@
 -- What is left of a render falls with each unit by what the unit counts.
-use Rattle.std.specs.Prelude.{◌≡◌, ℕ, zero, suc, ◌+◌, ◌<◌, ◌≤◌, Bool, true, false, cond, List, [], ◌∷◌, ◌++◌, Option, Some, None, refl}
+use Rattle.std.specs.Prelude.{◌≡◌, ℕ, zero, suc, ◌+◌, ◌<◌, ◌≤◌, Bool, true, false, cond, List, [], ◌∷◌, ◌++◌, ℤ, Option, Some, None, refl}
 use Rattle.std.proofs.Common.{arith, ap, sym, ◌∙◌}
 use Rattle.rx_base.specs.Awaits.{Awaits}
 use Rattle.rx_base.specs.Awaits as awaits
 use Rattle.rx_elem.specs.Elements.{Element}
 use Rattle.rx_elem.specs.Elements as elements
-use Rattle.rx_elem.specs.Trees.{Node, none, forest}
-use Rattle.rx_meaning.specs.Fresh.{Sight, Contexts, Renders, made, waits, Places, all_made, one_waits, over_boundary, render_all, rendered, fresh, Part, Shape, absent, waiting, one_list, two_lists, shape_of, render_part, place_of}
+use Rattle.rx_catch.specs.declared.state.CatchState.TheVariants.{Caught}
+use Rattle.rx_elem.specs.Trees.{Node, none, forest, of_catcher}
+use Rattle.rx_meaning.specs.Fresh.{Sight, Contexts, Renders, made, waits, throws, Places, all_made, one_waits, one_throws, over, over_boundary, render_all, rendered, fresh, Part, Shape, absent, waiting, throwing, one_list, two_lists, guarded, shape_of, render_part, place_of}
 use Rattle.rx_meaning.specs.Counts.{Tries, try_all, Weights, each_unit, begins_as, if_made, count_part, count_open, count_shape, counted, count_around, left, next_counts, whole, spent}
 use Rattle.rx_meaning.specs.Touched.{children_with_old}
-use Rattle.rx_meaning.specs.Cursor.{given_by, is_null, Open, around, trying, falling, Frame, Cursor, at_place, at_end, ended, come_to, open_part, arrive, past, unwind, begin, finished, unit, start, after, StandsAtNode, is_over}
+use Rattle.rx_meaning.specs.Cursor.{given_by, is_null, Open, around, trying, falling, guarding, Frame, Cursor, at_place, at_end, ended, come_to, open_part, arrive, past, unwind, past_throw, unwind_throw, begin, finished, unit, start, after, StandsAtNode, is_over}
 use Rattle.rx_meaning.specs.Rest.{onto, from_open, gives}
-use Rattle.render_laws.proofs.Resuming.{onto_push, onto_waits, onto_made, open_made, null_is_empty, after_gives}
+use Rattle.render_laws.proofs.Resuming.{onto_push, onto_waits, onto_throws, onto_made, open_made, null_is_empty, after_gives}
 
 null_counts : (w : Weights) (levels : ℕ) (s : Sight) (cs : Contexts) (e : Element) (old : Option Node) → is_null e ≡ true → counted w levels s cs e old ≡ 0
 unfolding counted
@@ -22,6 +23,7 @@ null_counts w (suc n) s cs (elements.host name k attrs es) old h = absurd (cc h)
 null_counts w (suc n) s cs (elements.comp c k ps es) old h = absurd (cc h)
 null_counts w (suc n) s cs (elements.list marked es) old h = absurd (cc h)
 null_counts w (suc n) s cs (elements.boundary k f es) old h = absurd (cc h)
+null_counts w (suc n) s cs (elements.catcher k f es) old h = absurd (cc h)
 null_counts w (suc n) s cs (elements.provider c k x es) old h = absurd (cc h)
 
 -- what an open node and those around it count, from what its list gives
@@ -39,6 +41,7 @@ open_counts : (w : Weights) (n : ℕ) (s : Sight) (o : Open) (done : List (Optio
 open_counts w n s (around e m) done = refl
 open_counts w n s (trying e old f) done = omega arith
 open_counts w n s (falling e old a) done = refl
+open_counts w n s (guarding e f) done = omega arith
 
 end_counts : (w : Weights) (n : ℕ) (s : Sight) (fs : List Frame) (o : Open) (done : List (Option Node))
     → w.completes + count_around w (suc n) s fs (made (finished o done)) ≡ 0 + counts_from w n s fs o (onto done (all_made none))
@@ -87,6 +90,7 @@ past_counts w n s fs (around e m) a out = omega (arith, out a)
 past_counts w n s fs (trying e old f) a out =
     part_counts w n s fs (falling e old a) f ∙ falling_counts w n s fs e old a f (render_part (rendered n s) f)
 past_counts w n s fs (falling e old b) a out = omega (arith, out (awaits.union b a))
+past_counts w n s fs (guarding e f) a out = omega (arith, out a)
 
 unwind_counts : (w : Weights) (n : ℕ) (s : Sight) (fs : List Frame) (a : Awaits) → left w s (unwind n fs a) ≡ count_around w n s fs (waits a)
 unfolding left
@@ -95,13 +99,36 @@ unwind_counts w n s (f ∷ fs) a =
     past_counts w n s fs f.node a (unwind_counts w (suc n) s fs)
     ∙ rw (onto_waits f.done a) (omega arith)
 
+caught_counts : (w : Weights) (n : ℕ) (s : Sight) (fs : List Frame) (e : Element) (x : ℤ) (f : Part) (ps : Places)
+    → count_part (counted w n s) (rendered n s) f + (if_made ps w.completes + count_around w (suc n) s fs (over e (of_catcher (Caught x)) ps))
+    ≡ 0 + (count_part (counted w n s) (rendered n s) f + if_made ps w.completes) + count_around w (suc n) s fs (over e (of_catcher (Caught x)) ps)
+caught_counts w n s fs e x f ps = omega arith
+
+past_throw_counts : (w : Weights) (n : ℕ) (s : Sight) (fs : List Frame) (o : Open) (x : ℤ)
+    → left w s (unwind_throw (suc n) fs x) ≡ count_around w (suc n) s fs (throws x)
+    → left w s (past_throw o x (unwind_throw (suc n) fs x) (open_part n fs)) ≡ counts_from w n s fs o (one_throws x)
+past_throw_counts w n s fs (around e m) x out = omega (arith, out)
+past_throw_counts w n s fs (trying e old f) x out = omega (arith, out)
+past_throw_counts w n s fs (falling e old a) x out = omega (arith, out)
+past_throw_counts w n s fs (guarding e f) x out =
+    part_counts w n s fs (around e (of_catcher (Caught x))) f ∙ caught_counts w n s fs e x f (render_part (rendered n s) f)
+
+unwind_throw_counts : (w : Weights) (n : ℕ) (s : Sight) (fs : List Frame) (x : ℤ) → left w s (unwind_throw n fs x) ≡ count_around w n s fs (throws x)
+unfolding left
+unwind_throw_counts w n s [] x = refl
+unwind_throw_counts w n s (f ∷ fs) x =
+    past_throw_counts w n s fs f.node x (unwind_throw_counts w (suc n) s fs x)
+    ∙ rw (onto_throws f.done x) (omega arith)
+
 begin_counts : (w : Weights) (n : ℕ) (s : Sight) (fs : List Frame) (cs : Contexts) (e : Element) (old : Option Node) (shape : Shape) → is_null e ≡ false
     → begins_as w cs e old shape + left w s (begin n fs e old shape)
     ≡ count_shape w (counted w n s) (rendered n s) cs e old shape + count_around w (suc n) s fs (place_of (rendered n s) e old shape)
 begin_counts w n s fs cs e old absent h = rw (h, arrive_counts w (suc n) s fs None) refl
 begin_counts w n s fs cs e old (waiting r v) h = omega (arith, unwind_counts w (suc n) s fs (awaits.one r))
+begin_counts w n s fs cs e old (throwing x) h = omega (arith, unwind_throw_counts w (suc n) s fs x)
 begin_counts w n s fs cs e old (one_list m p) h = omega (arith, part_counts w n s fs (around e m) p)
 begin_counts w n s fs cs e old (two_lists p f) h = omega (arith, part_counts w n s fs (trying e old f) p)
+begin_counts w n s fs cs e old (guarded p f) h = omega (arith, part_counts w n s fs (guarding e f) p)
 
 -- Null takes no unit
 
@@ -124,16 +151,30 @@ past_stands : (n : ℕ) (fs : List Frame) (o : Open) (a : Awaits) → ((b : Awai
 past_stands n fs (around e m) a out = out a
 past_stands n fs (trying e old f) a out = come_stands n fs (falling e old a) f.contexts [] (children_with_old f)
 past_stands n fs (falling e old b) a out = out (awaits.union b a)
+past_stands n fs (guarding e f) a out = out a
 
 unwind_stands : (n : ℕ) (fs : List Frame) (a : Awaits) → StandsAtNode (unwind n fs a)
 unwind_stands n [] a = tt
 unwind_stands n (f ∷ fs) a = past_stands n fs f.node a (unwind_stands (suc n) fs)
 
+past_throw_stands : (n : ℕ) (fs : List Frame) (o : Open) (x : ℤ) → StandsAtNode (unwind_throw (suc n) fs x)
+    → StandsAtNode (past_throw o x (unwind_throw (suc n) fs x) (open_part n fs))
+past_throw_stands n fs (around e m) x out = out
+past_throw_stands n fs (trying e old f) x out = out
+past_throw_stands n fs (falling e old a) x out = out
+past_throw_stands n fs (guarding e f) x out = come_stands n fs (around e (of_catcher (Caught x))) f.contexts [] (children_with_old f)
+
+unwind_throw_stands : (n : ℕ) (fs : List Frame) (x : ℤ) → StandsAtNode (unwind_throw n fs x)
+unwind_throw_stands n [] x = tt
+unwind_throw_stands n (f ∷ fs) x = past_throw_stands n fs f.node x (unwind_throw_stands (suc n) fs x)
+
 begin_stands : (n : ℕ) (fs : List Frame) (e : Element) (old : Option Node) (shape : Shape) → StandsAtNode (begin n fs e old shape)
 begin_stands n fs e old absent = arrive_stands (suc n) fs None
 begin_stands n fs e old (waiting r v) = unwind_stands (suc n) fs (awaits.one r)
+begin_stands n fs e old (throwing x) = unwind_throw_stands (suc n) fs x
 begin_stands n fs e old (one_list m p) = come_stands n fs (around e m) p.contexts [] (children_with_old p)
 begin_stands n fs e old (two_lists p f) = come_stands n fs (trying e old f) p.contexts [] (children_with_old p)
+begin_stands n fs e old (guarded p f) = come_stands n fs (guarding e f) p.contexts [] (children_with_old p)
 
 pub unit_stands : (s : Sight) (c : Cursor) → StandsAtNode (unit s c)
 unfolding unit
@@ -183,8 +224,10 @@ shape_begun : (count : Contexts → Tries) (below : Contexts → Renders) (cs : 
     → 1 ≤ count_shape each_unit count below cs e old shape
 shape_begun count below cs e old absent h = rw h (omega arith)
 shape_begun count below cs e old (waiting r v) h = omega arith
+shape_begun count below cs e old (throwing x) h = omega arith
 shape_begun count below cs e old (one_list m p) h = omega arith
 shape_begun count below cs e old (two_lists p f) h = omega arith
+shape_begun count below cs e old (guarded p f) h = omega arith
 
 pub place_begun : (n : ℕ) (s : Sight) (cs : Contexts) (e : Element) (old : Option Node) → is_null e ≡ false → 1 ≤ counted each_unit n s cs e old
 unfolding counted
@@ -195,8 +238,10 @@ place_begun (suc n) s cs e old h = shape_begun (counted each_unit n s) (rendered
 pub begins_one : (cs : Contexts) (e : Element) (old : Option Node) (shape : Shape) → begins_as each_unit cs e old shape ≡ 1
 begins_one cs e old absent = refl
 begins_one cs e old (waiting r v) = refl
+begins_one cs e old (throwing x) = refl
 begins_one cs e old (one_list m p) = refl
 begins_one cs e old (two_lists p f) = refl
+begins_one cs e old (guarded p f) = refl
 
 -- a unit counts one, until there is none
 unit_is_one : (s : Sight) (c : Cursor) → StandsAtNode c → 1 ≤ left each_unit s c → next_counts each_unit s c ≡ 1

@@ -9,7 +9,7 @@ use Rattle.rx_elem.specs.Elements.{Element, Elements, listed, gathered}
 use Rattle.rx_elem.specs.Elements as elements
 use Rattle.rx_elem.specs.Trees.{Node}
 use Rattle.rx_elem.specs.Compare.{old_nodes}
-use Rattle.rx_meaning.specs.Fresh.{Sight, Contexts, Renders, empty, rendered, render_all, render_part, Part, Shape, absent, waiting, one_list, two_lists, shape_of, place_of, depth_limit, default_contexts, root_element, fresh}
+use Rattle.rx_meaning.specs.Fresh.{Sight, Contexts, Renders, empty, rendered, render_all, render_part, Part, Shape, absent, waiting, throwing, one_list, two_lists, guarded, shape_of, place_of, depth_limit, default_contexts, root_element, fresh}
 use Rattle.rx_meaning.specs.Levels.{body_depth, element_depth, elements_depth, Fits, PartFits}
 use Rattle.rx_meaning.proofs.Depths.{ShapeFits, shape_fits}
 
@@ -34,8 +34,13 @@ shape_agrees : (n : ℕ) (p : Program) (f g : Contexts → Renders) → ((cs : C
     → (e : Element) (old : Option Node) (shape : Shape) → ShapeFits n p shape → place_of f e old shape ≡ place_of g e old shape
 shape_agrees n p f g h e old absent b = refl
 shape_agrees n p f g h e old (waiting r v) b = refl
+shape_agrees n p f g h e old (throwing x) b = refl
 shape_agrees n p f g h e old (one_list m t) b = let same = part_agrees n p f g h t b in rw same refl
 shape_agrees n p f g h e old (two_lists t u) b =
+    let same = part_agrees n p f g h t b.0 in
+    let other = part_agrees n p f g h u b.1 in
+    rw (same, other) refl
+shape_agrees n p f g h e old (guarded t u) b =
     let same = part_agrees n p f g h t b.0 in
     let other = part_agrees n p f g h u b.1 in
     rw (same, other) refl
@@ -53,6 +58,7 @@ nothing_is_deeper s cs m n (elements.host name k attrs es) old b = absurd (omega
 nothing_is_deeper s cs m n (elements.comp c k ps es) old b = absurd (omega arith)
 nothing_is_deeper s cs m n (elements.list marked es) old b = absurd (omega arith)
 nothing_is_deeper s cs m n (elements.boundary k f es) old b = absurd (omega arith)
+nothing_is_deeper s cs m n (elements.catcher k f es) old b = absurd (omega arith)
 nothing_is_deeper s cs m n (elements.provider c k x es) old b = absurd (omega arith)
 
 -- any two limits that are at least an element's depth give the same

@@ -8,13 +8,14 @@ use Rattle.rx_elem.specs.Elements.{Element, listed, Elements}
 use Rattle.rx_elem.specs.Elements as elements
 use Rattle.rx_ast.specs.Syntax.{Component}
 use Rattle.rx_rules.specs.Names.{component_at}
-use Rattle.rx_meaning.specs.Body.{body_of, Body, wait, ready}
-use Rattle.rx_meaning.specs.Fresh.{old_instance, shape_of_component, Sight, Contexts, inputs_at, Part, Shape, absent, waiting, one_list, two_lists, shape_of, shape_of_body}
-use Rattle.rx_elem.specs.Trees.{Node, Forest, none, vacant, child, places, children_if, fallback_if, children_of, fallback_of}
+use Rattle.rx_meaning.specs.Body.{body_of, Body, wait, throw, ready}
+use Rattle.rx_meaning.specs.Fresh.{old_instance, shape_of_component, shape_of_catcher, Sight, Contexts, inputs_at, Part, Shape, absent, waiting, throwing, one_list, two_lists, guarded, shape_of, shape_of_body}
+use Rattle.rx_catch.specs.declared.state.CatchState.TheVariants.{Caught}
+use Rattle.rx_elem.specs.Trees.{Node, Forest, none, vacant, child, places, children_if, fallback_if, children_of, fallback_of, of_catcher, old_caught}
 use Rattle.rx_elem.specs.Compare.{node_at}
 use Rattle.rx_meaning.specs.Touched.{children_with_old}
 use Rattle.render_laws.specs.OldNodes.{AllHave, OldHas, PairsHave, OpenHas, FramesHave, CursorHas}
-use Rattle.rx_meaning.specs.Cursor.{is_null, Open, around, trying, falling, Frame, Cursor, at_place, at_end, ended, come_to, open_part, arrive, past, unwind, begin, finished, unit, start}
+use Rattle.rx_meaning.specs.Cursor.{is_null, Open, around, trying, falling, guarding, Frame, Cursor, at_place, at_end, ended, come_to, open_part, arrive, past, unwind, past_throw, unwind_throw, begin, finished, unit, start}
 
 -- a property that a node hands to its children
 abbrev pub GoesDown : (Node → Type 0) → Type 0
@@ -70,32 +71,53 @@ module _ (P : Node → Type 0) (down : GoesDown P) where
   past_has n fs (around e m) a h k out = out a
   past_has n fs (trying e old f) a h k out = open_has n fs (falling e old a) f h.1 h.0 k
   past_has n fs (falling e old b) a h k out = out (awaits.union b a)
+  past_has n fs (guarding e f) a h k out = out a
 
   unwind_has : (n : ℕ) (fs : List Frame) (a : Awaits) → FramesHave P fs → CursorHas P (unwind n fs a)
   unwind_has n [] a h = tt
   unwind_has n (f ∷ fs) a h = past_has n fs f.node a h.1 h.2 (λ b. unwind_has (suc n) fs b h.2)
 
+  past_throw_has : (n : ℕ) (fs : List Frame) (o : Open) (x : ℤ) → OpenHas P o → FramesHave P fs → CursorHas P (unwind_throw (suc n) fs x)
+      → CursorHas P (past_throw o x (unwind_throw (suc n) fs x) (open_part n fs))
+  past_throw_has n fs (around e m) x h k out = out
+  past_throw_has n fs (trying e old f) x h k out = out
+  past_throw_has n fs (falling e old a) x h k out = out
+  past_throw_has n fs (guarding e f) x h k out = open_has n fs (around e (of_catcher (Caught x))) f h tt k
+
+  unwind_throw_has : (n : ℕ) (fs : List Frame) (x : ℤ) → FramesHave P fs → CursorHas P (unwind_throw n fs x)
+  unwind_throw_has n [] x h = tt
+  unwind_throw_has n (f ∷ fs) x h = past_throw_has n fs f.node x h.1 h.2 (unwind_throw_has (suc n) fs x h.2)
+
   abbrev ShapeHas : Shape → Type 0
   ShapeHas absent = Unit {0}
   ShapeHas (waiting r v) = Unit {0}
+  ShapeHas (throwing x) = Unit {0}
   ShapeHas (one_list m p) = AllHave P p.old
   ShapeHas (two_lists p f) = AllHave P p.old × AllHave P f.old
+  ShapeHas (guarded p f) = AllHave P p.old × AllHave P f.old
 
   begin_has : (n : ℕ) (fs : List Frame) (e : Element) (old : Option Node) (shape : Shape) → OldHas P old → ShapeHas shape → FramesHave P fs
       → CursorHas P (begin n fs e old shape)
   begin_has n fs e old absent o h k = arrive_has (suc n) fs None k
   begin_has n fs e old (waiting r v) o h k = unwind_has (suc n) fs (awaits.one r) k
+  begin_has n fs e old (throwing x) o h k = unwind_throw_has (suc n) fs x k
   begin_has n fs e old (one_list m p) o h k = open_has n fs (around e m) p h tt k
   begin_has n fs e old (two_lists p f) o h k = open_has n fs (trying e old f) p h.0 (o, h.1) k
+  begin_has n fs e old (guarded p f) o h k = open_has n fs (guarding e f) p h.0 h.1 k
 
   body_has : (cs : Contexts) (c : ℕ) (old : Option Node) (b : Body) → OldHas P old → ShapeHas (shape_of_body cs c old b)
   body_has cs c old (wait r v) h = tt
+  body_has cs c old (throw x) h = tt
   body_has cs c old (ready es effects initials reads versions) h = primary_has old h
 
   component_has : (s : Sight) (cs : Contexts) (c : ℕ) (props : List ℤ) (given : Elements) (old : Option Node) (d : Option Component) → OldHas P old
       → ShapeHas (shape_of_component s cs c props given old d)
   component_has s cs c props given old None h = tt
   component_has s cs c props given old (Some d) h = body_has cs c old (body_of s.program d (inputs_at s cs props given (old_instance old))) h
+
+  catcher_has : (cs : Contexts) (f : Element) (es : Elements) (old : Option Node) (caught : Option ℤ) → OldHas P old → ShapeHas (shape_of_catcher cs f es old caught)
+  catcher_has cs f es old None h = (primary_has old h, tt)
+  catcher_has cs f es old (Some x) h = fallback_has old h
 
   shape_has : (s : Sight) (cs : Contexts) (e : Element) (old : Option Node) → OldHas P old → ShapeHas (shape_of s cs e old)
   shape_has s cs elements.null old h = tt
@@ -104,6 +126,7 @@ module _ (P : Node → Type 0) (down : GoesDown P) where
   shape_has s cs (elements.comp c key props given) old h = component_has s cs c props given old (component_at s.program c) h
   shape_has s cs (elements.list marked es) old h = primary_has old h
   shape_has s cs (elements.boundary key f es) old h = (primary_has old h, fallback_has old h)
+  shape_has s cs (elements.catcher key f es) old h = catcher_has cs f es old (old_caught old) h
   shape_has s cs (elements.provider c key x es) old h = primary_has old h
 
   -- A unit comes to old nodes below those that it had.

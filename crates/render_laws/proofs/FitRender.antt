@@ -8,17 +8,19 @@ use Rattle.rx_rules.specs.Names.{component_number, component_at}
 use Rattle.rx_elem.specs.Elements.{Element, Elements, gathered, listed}
 use Rattle.rx_elem.specs.Elements as elements
 use Rattle.rx_elem.specs.Identity.{Identity, identities}
-use Rattle.rx_elem.specs.Trees.{Node, node, Forest, Mark, none, vacant, child, children_if, fallback_if, elements_in, element_of}
+use Rattle.rx_catch.specs.declared.state.CatchState.TheVariants.{Caught}
+use Rattle.rx_elem.specs.Trees.{Node, node, Forest, Mark, of_catcher, none, vacant, child, children_if, fallback_if, elements_in, element_of, is_caught, old_caught}
 use Rattle.rx_elem.specs.Trees as trees
 use Rattle.rx_elem.specs.Compare.{old_nodes}
-use Rattle.rx_meaning.specs.Body.{Inputs, Body, wait, ready, body_of, Taken, finished, take_all, opening_frame}
+use Rattle.rx_elem.proofs.Over.{over_children}
+use Rattle.rx_meaning.specs.Body.{Inputs, Body, wait, throw, ready, body_of, Taken, finished, take_all, opening_frame}
 use Rattle.rx_meaning.specs.Body as body
-use Rattle.rx_meaning.specs.Fresh.{Sight, Contexts, Renders, empty, Places, all_made, one_waits, before, over, over_boundary, place, place_of, rendered, render_all, render_list, shape_of_body, shape_of_component, inputs_at, old_instance, old_host, instance_after}
+use Rattle.rx_meaning.specs.Fresh.{Sight, Contexts, Renders, empty, Places, all_made, one_waits, one_throws, before, over, over_boundary, over_catcher, place, place_of, rendered, render_all, render_list, shape_of_body, shape_of_component, shape_of_catcher, inputs_at, old_instance, old_host, instance_after}
 use Rattle.rx_rules.specs.Keys.{keyed_places, SlotsKeysApart, KeysApart}
 use Rattle.rx_meaning.proofs.Depths.{gathered-listed}
 use Rattle.render_laws.proofs.Plans.{Alts, Plan, fixed, end, next, slots_keyed, slots_plan, plan_in, body_plan}
 use Rattle.render_laws.proofs.Coming.{Has, here, there, is_keyed, IsFew, AllCome, IsDeclared, all_come_less, comes_less, slots_few, slots_come}
-use Rattle.render_laws.proofs.Fitting.{plans_of, IsThere, Used, FitsEach, FitsIn, FitsOld, nothing_used}
+use Rattle.render_laws.proofs.Fitting.{plans_of, IsThere, Used, FitsEach, Fits, FitsIn, FitsOld, nothing_used}
 use Rattle.render_laws.proofs.FitLists.{HasPlan, first, later, Result, Sound, IfAll, if_all, list_fits}
 
 -- what is asked of a program: keys stand apart, and each component that is named is declared
@@ -64,32 +66,50 @@ pub fallback_fits : (a : Alts) (old : Option Node) → FitsOld a old → FitsIn 
 fallback_fits a None h = fits_none (plans_of false a)
 fallback_fits a (Some (node e m ns fs)) h = h.2
 
-over_fits : (a : Alts) (e : Element) (m : Mark) (ps : Places) → IsThere a → IfAll (FitsIn (plans_of true a)) ps → Result a e (over e m ps)
-over_fits a e m (all_made ns) at h = ((at, h, fits_none (plans_of false a)), refl)
-over_fits a e m (one_waits w) at h = tt
+over_fits : (a : Alts) (e : Element) (m : Mark) (ps : Places) → is_caught m ≡ false → IsThere a → IfAll (FitsIn (plans_of true a)) ps → Result a e (over e m ps)
+over_fits a e m (all_made ns) fine at h =
+    subst (λ (n : Node). Fits a n × (element_of n ≡ e)) (sym (over_children e m ns fine)) ((at, h, fits_none (plans_of false a)), refl)
+over_fits a e m (one_waits w) fine at h = tt
+over_fits a e m (one_throws x) fine at h = tt
+
+-- an error boundary that has caught a value, over its fallback
+caught_fits : (a : Alts) (e : Element) (x : ℤ) (fs : Places) → IsThere a → IfAll (FitsIn (plans_of false a)) fs → Result a e (over e (of_catcher (Caught x)) fs)
+caught_fits a e x (all_made fs) at k = ((at, fits_none (plans_of true a), k), refl)
+caught_fits a e x (one_waits w) at k = tt
+caught_fits a e x (one_throws y) at k = tt
+
+tried_fits : (a : Alts) (e : Element) (ps fs : Places) → IsThere a → IfAll (FitsIn (plans_of true a)) ps → IfAll (FitsIn (plans_of false a)) fs → Result a e (over_catcher e ps fs)
+tried_fits a e (all_made ns) fs at h k = ((at, h, fits_none (plans_of false a)), refl)
+tried_fits a e (one_waits w) fs at h k = tt
+tried_fits a e (one_throws x) fs at h k = caught_fits a e x fs at k
 
 parts_fit : (a : Alts) (e : Element) (old : Option Node) (ps fs : Places) → IsThere a → FitsOld a old
     → IfAll (FitsIn (plans_of true a)) ps → IfAll (FitsIn (plans_of false a)) fs → Result a e (over_boundary e old ps fs)
 parts_fit a e old (all_made ns) fs at o h k = ((at, h, fits_none (plans_of false a)), refl)
 parts_fit a e old (one_waits w) (all_made fs) at o h k = ((at, primary_fits a old o, k), refl)
 parts_fit a e old (one_waits w) (one_waits v) at o h k = tt
+parts_fit a e old (one_waits w) (one_throws x) at o h k = tt
+parts_fit a e old (one_throws x) fs at o h k = tt
 
 -- the elements of a body come from its plan
 abbrev pub IfReady : ℕ → Program → Plan → Body → Type 0
 IfReady d p q (wait r v) = Unit {0}
+IfReady d p q (throw x) = Unit {0}
 IfReady d p q (ready es effects initials reads versions) = IsFew q (gathered es) × AllCome d p q (gathered es)
 
 body_fits : (a : Alts) (d : ℕ) (p : Program) (f : Contexts → Renders) → ((cs : Contexts) → ListsFit d p (f cs)) → (q g : Plan) → Has q g a
     → (e : Element) (cs : Contexts) (c : ℕ) (old : Option Node) → FitsOld a old → (b : Body) → IfReady d p q b → Result a e (place_of f e old (shape_of_body cs c old b))
 body_fits a d p f lists q g has e cs c old o (wait r v) h = tt
+body_fits a d p f lists q g has e cs c old o (throw x) h = tt
 body_fits a d p f lists q g has e cs c old o (ready es effects initials reads versions) h =
-    over_fits a e (trees.of_instance (instance_after c (old_instance old) initials reads versions effects)) (render_list (f cs) es (children_if old)) (has_is_there has)
+    over_fits a e (trees.of_instance (instance_after c (old_instance old) initials reads versions effects)) (render_list (f cs) es (children_if old)) refl (has_is_there has)
     (lists cs (plans_of true a) q (has_primary has) es h.0 h.1 (children_if old) (primary_fits a old o))
 
 finished_comes : (m d : ℕ) (p : Program) → IsPlain p → d ≤ m → (q : Plan) (i : Inputs) → IsFew q (gathered i.children) → AllCome d p q (gathered i.children)
     → (c : Component) → (keyed_places (body_slots c.body) ≤ 1) × SlotsKeysApart (body_slots c.body) → (t : Taken)
     → IfReady d p (slots_plan (body_plan m p) q p (body_slots c.body)) (finished p i (body_slots c.body) t)
 finished_comes m d p plain deep q i few come c apart (body.stopped_at r v) = tt
+finished_comes m d p plain deep q i few come c apart (body.thrown x) = tt
 finished_comes m d p plain deep q i few come c apart (body.taken g) = (
   omega (arith, slots_few p i.children g.env (body_slots c.body), apart.0),
   slots_come m d p plain.1 deep q i.children few come g.env (body_slots c.body) (slots_keyed (body_plan m p) q p (body_slots c.body)) (λ x f h. h) apart.1,
@@ -114,10 +134,10 @@ come_listed d p q es few come =
 
 module _ (s : Sight) (apart : IsPlain s.program) (d : ℕ) (f : Contexts → Renders) (lists : (cs : Contexts) → ListsFit d s.program (f cs)) where
   node_fits : (cs : Contexts) (a : Alts) (q g : Plan) → Has q g a → (es : Elements) → IsFew q es → AllCome (suc d) s.program q es
-      → (e : Element) (m : Mark) (old : Option Node) → FitsOld a old → Result a e (over e m (render_list (f cs) (listed es) (children_if old)))
-  node_fits cs a q g has es few come e m old o =
+      → (e : Element) (m : Mark) → is_caught m ≡ false → (old : Option Node) → FitsOld a old → Result a e (over e m (render_list (f cs) (listed es) (children_if old)))
+  node_fits cs a q g has es few come e m fine old o =
       let c = come_listed d s.program q es few come in
-      over_fits a e m (render_list (f cs) (listed es) (children_if old)) (has_is_there has)
+      over_fits a e m (render_list (f cs) (listed es) (children_if old)) fine (has_is_there has)
       (lists cs (plans_of true a) q (has_primary has) (listed es) c.0 c.1 (children_if old) (primary_fits a old o))
 
   comp_fits : (cs : Contexts) (a : Alts) (c m : ℕ) (q g : Plan) → suc d ≤ m → Has (body_plan m s.program c q) g a
@@ -139,15 +159,28 @@ module _ (s : Sight) (apart : IsPlain s.program) (d : ℕ) (f : Contexts → Ren
           (body_of s.program x (inputs_at s cs props es (old_instance old)))
           (found_comes m d s.program apart (omega arith) q (inputs_at s cs props es (old_instance old)) few come c x same)
 
+  -- an error boundary that had caught a value or not
+  catcher_fits : (cs : Contexts) (a : Alts) (e : Element) (q : Plan) (b c : Alts) → Has q (fixed (next b end) c) a → (k : Element) (es : Elements) → IsFew q es → AllCome (suc d) s.program q es
+      → AllCome d s.program (fixed (next b end) c) (gathered (k ∷ [])) → IsFew (fixed (next b end) c) (gathered (k ∷ [])) → (old : Option Node) → FitsOld a old → (caught : Option ℤ)
+      → Result a e (place_of f e old (shape_of_catcher cs k es old caught))
+  catcher_fits cs a e q b c has k es few come other one old o None =
+      let kids = come_listed d s.program q es few come in
+      tried_fits a e (render_list (f cs) (listed es) (children_if old)) (render_list (f cs) (k ∷ []) none) (has_is_there has)
+      (lists cs (plans_of true a) q (has_primary has) (listed es) kids.0 kids.1 (children_if old) (primary_fits a old o))
+      (lists cs (plans_of false a) (fixed (next b end) c) (has_fallback has) (k ∷ []) one other none (fits_none (plans_of false a)))
+  catcher_fits cs a e q b c has k es few come other one old o (Some x) =
+      caught_fits a e x (render_list (f cs) (k ∷ []) (fallback_if old)) (has_is_there has)
+      (lists cs (plans_of false a) (fixed (next b end) c) (has_fallback has) (k ∷ []) one other (fallback_if old) (fallback_fits a old o))
+
   pub place_fits : (cs : Contexts) → Sound (suc d) s.program (place f s cs)
   place_fits cs a elements.null old h o = refl
   place_fits cs a (elements.text t) old h o = ((has_is_there h.2, fits_none (plans_of true a), fits_none (plans_of false a)), refl)
   place_fits cs a (elements.host n k attrs es) old h o =
-      node_fits cs a h.0 h.1 h.2 es h.3 h.4 (elements.host n k attrs es) (trees.of_host (old_host old)) old o
+      node_fits cs a h.0 h.1 h.2 es h.3 h.4 (elements.host n k attrs es) (trees.of_host (old_host old)) refl old o
   place_fits cs a (elements.comp c k props es) old h o =
       let kids = come_listed d s.program h.1 es h.5 h.6 in
       comp_fits cs a c h.0 h.1 h.2 h.3 h.4 props es kids.0 kids.1 h.7 (elements.comp c k props es) old o
-  place_fits cs a (elements.list marked es) old h o = node_fits cs a h.0 h.1 h.2 es h.3 h.4 (elements.list marked es) trees.plain old o
+  place_fits cs a (elements.list marked es) old h o = node_fits cs a h.0 h.1 h.2 es h.3 h.4 (elements.list marked es) trees.plain refl old o
   place_fits cs a (elements.boundary k e es) old h o =
       let c = come_listed d s.program h.0 es h.4 h.5 in
       parts_fit a (elements.boundary k e es) old
@@ -159,8 +192,15 @@ module _ (s : Sight) (apart : IsPlain s.program) (d : ℕ) (f : Contexts → Ren
       one_few : (b : Bool) → cond b 1 0 + 0 ≤ 1
       one_few true = omega arith
       one_few false = omega arith
+  place_fits cs a (elements.catcher k e es) old h o =
+      catcher_fits cs a (elements.catcher k e es) h.0 h.1 h.2 h.3 e es h.4 h.5
+      (comes_less d s.program (cond (is_keyed e) h.2 h.1) e h.6, tt) (one_few (is_keyed e)) old o (old_caught old)
+    where
+      one_few : (b : Bool) → cond b 1 0 + 0 ≤ 1
+      one_few true = omega arith
+      one_few false = omega arith
   place_fits cs a (elements.provider c k x es) old h o =
-      node_fits (slice_set cs c x) a h.0 h.1 h.2 es h.3 h.4 (elements.provider c k x es) trees.plain old o
+      node_fits (slice_set cs c x) a h.0 h.1 h.2 es h.3 h.4 (elements.provider c k x es) trees.plain refl old o
 
 -- All levels
 
@@ -179,6 +219,7 @@ vacant_fits ps us (i ∷ ids) (child n ns) h = absurd h
 empty_before : (xs : Places) → IfAll AllVacant xs → IfAll AllVacant (before empty xs)
 empty_before (all_made ns) h = h
 empty_before (one_waits w) h = tt
+empty_before (one_throws x) h = tt
 
 none_rendered : (s : Sight) (cs : Contexts) (xs : List (Element × Option Node)) → IfAll AllVacant (render_all (rendered zero s cs) xs)
 unfolding rendered

@@ -1,13 +1,14 @@
 -- A render that skips and takes over gives the fresh tree too, in no more units and bodies.
-use Rattle.std.specs.Prelude.{◌≡◌, ℕ, zero, suc, ◌+◌, ◌<◌, ◌≤◌, Bool, true, false, cond, List, [], ◌∷◌, ◌++◌, Option, Some, None, refl}
+use Rattle.std.specs.Prelude.{◌≡◌, ℕ, zero, suc, ◌+◌, ◌<◌, ◌≤◌, Bool, true, false, cond, List, [], ◌∷◌, ◌++◌, ℤ, Option, Some, None, refl}
 use Rattle.std.proofs.Common.{arith, ap, sym, ◌∙◌, subst, add-zero}
 use Rattle.rx_base.specs.Awaits.{Awaits}
 use Rattle.rx_base.specs.Awaits as awaits
 use Rattle.rx_rules.specs.Bounds.{depth_bound}
 use Rattle.rx_elem.specs.Elements.{Element}
-use Rattle.rx_elem.specs.Trees.{Node}
-use Rattle.rx_meaning.specs.Fresh.{Sight, Contexts, empty, made, waits, one_waits, over_boundary, rendered, fresh, depth_limit, Part, Shape, absent, waiting, one_list, two_lists, shape_of, render_part}
-use Rattle.rx_meaning.specs.Cursor.{is_null, Open, around, trying, falling, Frame, Cursor, at_place, at_end, ended, come_to, open_part, arrive, past, unwind, begin, finished, unit, start, StandsAtNode, is_over}
+use Rattle.rx_catch.specs.declared.state.CatchState.TheVariants.{Caught}
+use Rattle.rx_elem.specs.Trees.{Node, of_catcher}
+use Rattle.rx_meaning.specs.Fresh.{Sight, Contexts, empty, made, waits, throws, one_waits, over_boundary, rendered, fresh, depth_limit, Part, Shape, absent, waiting, throwing, one_list, two_lists, guarded, shape_of, render_part}
+use Rattle.rx_meaning.specs.Cursor.{is_null, Open, around, trying, falling, guarding, Frame, Cursor, at_place, at_end, ended, come_to, open_part, arrive, past, unwind, past_throw, unwind_throw, begin, finished, unit, start, StandsAtNode, is_over}
 use Rattle.rx_meaning.specs.Touched.{children_with_old}
 use Rattle.rx_meaning.specs.Rest.{tree_from, gives}
 use Rattle.rx_meaning.specs.Counts.{Weights, each_unit, each_body, begins_as, next_counts, counted, count_around, count_part, if_made, left, whole}
@@ -25,6 +26,7 @@ at_most_one (at_end n fs o done) = omega arith
 at_most_one (ended empty) = omega arith
 at_most_one (ended (made m)) = omega arith
 at_most_one (ended (waits a)) = omega arith
+at_most_one (ended (throws x)) = omega arith
 
 come_goes_on : (n : ℕ) (fs : List Frame) (o : Open) (cs : Contexts) (done : List (Option Node)) (xs : List (Element × Option Node))
     → if_ended (come_to n fs o cs done xs) ≡ 0
@@ -45,22 +47,38 @@ past_goes_on : (n : ℕ) (fs : List Frame) (o : Open) (a : Awaits) → ((b : Awa
 past_goes_on n fs (around e m) a out = out a
 past_goes_on n fs (trying e old f) a out = come_goes_on n fs (falling e old a) f.contexts [] (children_with_old f)
 past_goes_on n fs (falling e old b) a out = out (awaits.union b a)
+past_goes_on n fs (guarding e f) a out = out a
 
 unwind_goes_on : (n : ℕ) (fs : List Frame) (a : Awaits) → if_ended (unwind n fs a) ≡ 0
 unwind_goes_on n [] a = refl
 unwind_goes_on n (f ∷ fs) a = past_goes_on n fs f.node a (unwind_goes_on (suc n) fs)
 
+past_throw_goes_on : (n : ℕ) (fs : List Frame) (o : Open) (x : ℤ) → if_ended (unwind_throw (suc n) fs x) ≡ 0
+    → if_ended (past_throw o x (unwind_throw (suc n) fs x) (open_part n fs)) ≡ 0
+past_throw_goes_on n fs (around e m) x out = out
+past_throw_goes_on n fs (trying e old f) x out = out
+past_throw_goes_on n fs (falling e old a) x out = out
+past_throw_goes_on n fs (guarding e f) x out = come_goes_on n fs (around e (of_catcher (Caught x))) f.contexts [] (children_with_old f)
+
+unwind_throw_goes_on : (n : ℕ) (fs : List Frame) (x : ℤ) → if_ended (unwind_throw n fs x) ≡ 0
+unwind_throw_goes_on n [] x = refl
+unwind_throw_goes_on n (f ∷ fs) x = past_throw_goes_on n fs f.node x (unwind_throw_goes_on (suc n) fs x)
+
 begin_goes_on : (n : ℕ) (fs : List Frame) (e : Element) (old : Option Node) (shape : Shape) → if_ended (begin n fs e old shape) ≡ 0
 begin_goes_on n fs e old absent = nothing_goes_on (suc n) fs
 begin_goes_on n fs e old (waiting r v) = unwind_goes_on (suc n) fs (awaits.one r)
+begin_goes_on n fs e old (throwing x) = unwind_throw_goes_on (suc n) fs x
 begin_goes_on n fs e old (one_list m p) = come_goes_on n fs (around e m) p.contexts [] (children_with_old p)
 begin_goes_on n fs e old (two_lists p f) = come_goes_on n fs (trying e old f) p.contexts [] (children_with_old p)
+begin_goes_on n fs e old (guarded p f) = come_goes_on n fs (guarding e f) p.contexts [] (children_with_old p)
 
 begins_body : (cs : Contexts) (e : Element) (old : Option Node) (shape : Shape) → begins_as each_body cs e old shape ≤ 1
 begins_body cs e old absent = omega arith
 begins_body cs e old (waiting r v) = one_body e
+begins_body cs e old (throwing x) = one_body e
 begins_body cs e old (one_list m p) = one_body e
 begins_body cs e old (two_lists p f) = one_body e
+begins_body cs e old (guarded p f) = one_body e
 
 -- a unit that ends the render in a node evaluates no body, and each other one at most one
 one_or_end : (s : Sight) (c : Cursor) → is_over c ≡ false → next_counts each_body s c + if_ended (unit s c) ≤ 1

@@ -62,6 +62,7 @@ module _ (s : Sight) (j : Journal) (same : SeesSame s j) where
   shape_same cs (elements.comp c key props given) old = component_same cs c props given old (component_at s.program c)
   shape_same cs (elements.list marked es) old = refl
   shape_same cs (elements.boundary key f es) old = refl
+  shape_same cs (elements.catcher key f es) old = refl
   shape_same cs (elements.provider c key x es) old = refl
 
   rendered_same : (n : ℕ) (cs : Contexts) (e : Element) (old : Option Node) → rendered n s cs e old ≡ rendered n later cs e old

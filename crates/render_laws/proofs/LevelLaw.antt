@@ -1,5 +1,5 @@
 -- No render of a program within the depth limit comes to a place that has no level left.
-use Rattle.std.specs.Prelude.{◌≡◌, ℕ, zero, suc, ◌≤◌, Bool, true, false, cond, List, [], ◌∷◌, ◌++◌, Option, Some, None}
+use Rattle.std.specs.Prelude.{◌≡◌, ℕ, zero, suc, ◌≤◌, Bool, true, false, cond, List, [], ◌∷◌, ◌++◌, ℤ, Option, Some, None}
 use Rattle.std.specs.List.{zip}
 use Rattle.std.proofs.Common.{arith}
 use Rattle.rx_meaning.specs.Levels.{body_depth, elements_depth, Fits, PartFits}
@@ -8,12 +8,13 @@ use Rattle.rx_base.specs.Awaits.{Awaits}
 use Rattle.rx_base.specs.Awaits as awaits
 use Rattle.rx_elem.specs.Elements.{Element, Elements, gathered, listed}
 use Rattle.rx_elem.specs.Elements as elements
-use Rattle.rx_elem.specs.Trees.{Node}
+use Rattle.rx_catch.specs.declared.state.CatchState.TheVariants.{Caught}
+use Rattle.rx_elem.specs.Trees.{Node, of_catcher}
 use Rattle.rx_elem.specs.Compare.{old_nodes}
 use Rattle.rx_rules.specs.Bounds.{depth_bound}
-use Rattle.rx_meaning.specs.Fresh.{Sight, Contexts, depth_limit, Part, Shape, absent, waiting, one_list, two_lists, shape_of}
+use Rattle.rx_meaning.specs.Fresh.{Sight, Contexts, depth_limit, Part, Shape, absent, waiting, throwing, one_list, two_lists, guarded, shape_of}
 use Rattle.rx_meaning.specs.Touched.{children_with_old}
-use Rattle.rx_meaning.specs.Cursor.{is_null, Open, around, trying, falling, Frame, Cursor, at_place, at_end, ended, come_to, open_part, arrive, past, unwind, begin, finished, unit, start, after, StandsAtNode, HasLevel}
+use Rattle.rx_meaning.specs.Cursor.{is_null, Open, around, trying, falling, guarding, Frame, Cursor, at_place, at_end, ended, come_to, open_part, arrive, past, unwind, past_throw, unwind_throw, begin, finished, unit, start, after, StandsAtNode, HasLevel}
 use Rattle.render_laws.specs.InProgress.{AllFit, OpenFits, FramesFit, CursorFits}
 use Rattle.rx_meaning.proofs.Depths.{ShapeFits, shape_fits}
 use Rattle.render_laws.proofs.Counting.{after_stands}
@@ -46,17 +47,31 @@ past_fits : (p : Program) (n : ℕ) (fs : List Frame) (o : Open) (a : Awaits) �
 past_fits p n fs (around e m) a h k out = out a
 past_fits p n fs (trying e old f) a h k out = open_fits p n fs (falling e old a) f h tt k
 past_fits p n fs (falling e old b) a h k out = out (awaits.union b a)
+past_fits p n fs (guarding e f) a h k out = out a
 
 unwind_fits : (p : Program) (n : ℕ) (fs : List Frame) (a : Awaits) → FramesFit n p fs → CursorFits p (unwind n fs a)
 unwind_fits p n [] a h = tt
 unwind_fits p n (f ∷ fs) a h = past_fits p n fs f.node a h.1 h.2 (λ b. unwind_fits p (suc n) fs b h.2)
 
+past_throw_fits : (p : Program) (n : ℕ) (fs : List Frame) (o : Open) (x : ℤ) → OpenFits n p o → FramesFit (suc n) p fs
+    → CursorFits p (unwind_throw (suc n) fs x) → CursorFits p (past_throw o x (unwind_throw (suc n) fs x) (open_part n fs))
+past_throw_fits p n fs (around e m) x h k out = out
+past_throw_fits p n fs (trying e old f) x h k out = out
+past_throw_fits p n fs (falling e old a) x h k out = out
+past_throw_fits p n fs (guarding e f) x h k out = open_fits p n fs (around e (of_catcher (Caught x))) f h tt k
+
+unwind_throw_fits : (p : Program) (n : ℕ) (fs : List Frame) (x : ℤ) → FramesFit n p fs → CursorFits p (unwind_throw n fs x)
+unwind_throw_fits p n [] x h = tt
+unwind_throw_fits p n (f ∷ fs) x h = past_throw_fits p n fs f.node x h.1 h.2 (unwind_throw_fits p (suc n) fs x h.2)
+
 begin_fits : (p : Program) (n : ℕ) (fs : List Frame) (e : Element) (old : Option Node) (shape : Shape) → ShapeFits n p shape → FramesFit (suc n) p fs
     → CursorFits p (begin n fs e old shape)
 begin_fits p n fs e old absent h k = arrive_fits p (suc n) fs None k
 begin_fits p n fs e old (waiting r v) h k = unwind_fits p (suc n) fs (awaits.one r) k
+begin_fits p n fs e old (throwing x) h k = unwind_throw_fits p (suc n) fs x k
 begin_fits p n fs e old (one_list m t) h k = open_fits p n fs (around e m) t h tt k
 begin_fits p n fs e old (two_lists t f) h k = open_fits p n fs (trying e old f) t h.0 h.1 k
+begin_fits p n fs e old (guarded t f) h k = open_fits p n fs (guarding e f) t h.0 h.1 k
 
 pub unit_fits : (s : Sight) (c : Cursor) → CursorFits s.program c → CursorFits s.program (unit s c)
 unfolding unit
@@ -80,6 +95,7 @@ not_deepest p (elements.host name key attrs es) h k = absurd (omega arith)
 not_deepest p (elements.comp c key ps es) h k = absurd (omega arith)
 not_deepest p (elements.list marked es) h k = absurd (omega arith)
 not_deepest p (elements.boundary key f es) h k = absurd (omega arith)
+not_deepest p (elements.catcher key f es) h k = absurd (omega arith)
 not_deepest p (elements.provider c key x es) h k = absurd (omega arith)
 
 pub fit_has_level : (p : Program) (c : Cursor) → CursorFits p c → StandsAtNode c → HasLevel c

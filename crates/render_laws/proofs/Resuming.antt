@@ -1,14 +1,15 @@
 -- A unit changes nothing of what the render gives once it is done.
-use Rattle.std.specs.Prelude.{◌≡◌, ℕ, zero, suc, Bool, true, false, cond, List, [], ◌∷◌, ◌++◌, Option, Some, None, refl}
+use Rattle.std.specs.Prelude.{◌≡◌, ℕ, zero, suc, Bool, true, false, cond, List, [], ◌∷◌, ◌++◌, ℤ, Option, Some, None, refl}
 use Rattle.std.proofs.Common.{ap, sym, ◌∙◌}
 use Rattle.rx_base.specs.Awaits.{Awaits}
 use Rattle.rx_base.specs.Awaits as awaits
 use Rattle.rx_elem.specs.Elements.{Element}
 use Rattle.rx_elem.specs.Elements as elements
-use Rattle.rx_elem.specs.Trees.{Node, none, forest}
-use Rattle.rx_meaning.specs.Fresh.{Sight, Contexts, Renders, Place, empty, made, waits, Places, all_made, one_waits, before, render_all, rendered, fresh, Part, Shape, absent, waiting, one_list, two_lists, shape_of, render_part, place_of}
+use Rattle.rx_catch.specs.declared.state.CatchState.TheVariants.{Caught}
+use Rattle.rx_elem.specs.Trees.{Node, none, forest, of_catcher}
+use Rattle.rx_meaning.specs.Fresh.{Sight, Contexts, Renders, Place, empty, made, waits, throws, Places, all_made, one_waits, one_throws, before, render_all, rendered, fresh, Part, Shape, absent, waiting, throwing, one_list, two_lists, guarded, shape_of, render_part, place_of}
 use Rattle.rx_meaning.specs.Touched.{children_with_old}
-use Rattle.rx_meaning.specs.Cursor.{given_by, is_null, Open, around, trying, falling, Frame, Cursor, at_place, at_end, ended, come_to, open_part, arrive, past, unwind, begin, finished, unit, start, after}
+use Rattle.rx_meaning.specs.Cursor.{given_by, is_null, Open, around, trying, falling, guarding, Frame, Cursor, at_place, at_end, ended, come_to, open_part, arrive, past, unwind, past_throw, unwind_throw, begin, finished, unit, start, after}
 use Rattle.rx_meaning.specs.Rest.{onto, from_open, tree_from, gives}
 
 -- Lists
@@ -22,6 +23,11 @@ onto_waits [] a = refl
 onto_waits (None ∷ ns) a = ap (before empty) (onto_waits ns a)
 onto_waits (Some n ∷ ns) a = ap (before (made n)) (onto_waits ns a)
 
+pub onto_throws : (done : List (Option Node)) (x : ℤ) → onto done (one_throws x) ≡ one_throws x
+onto_throws [] x = refl
+onto_throws (None ∷ ns) x = ap (before empty) (onto_throws ns x)
+onto_throws (Some n ∷ ns) x = ap (before (made n)) (onto_throws ns x)
+
 pub onto_made : (done : List (Option Node)) → onto done (all_made none) ≡ all_made (forest done)
 onto_made [] = refl
 onto_made (None ∷ ns) = ap (before empty) (onto_made ns)
@@ -32,6 +38,7 @@ pub open_made : (below : Contexts → Renders) (o : Open) (done : List (Option N
 open_made below (around e m) done = refl
 open_made below (trying e old f) done = refl
 open_made below (falling e old a) done = refl
+open_made below (guarding e f) done = refl
 
 -- null gives nothing, at any level
 pub null_is_empty : (levels : ℕ) (s : Sight) (cs : Contexts) (e : Element) (old : Option Node) → is_null e ≡ true → rendered levels s cs e old ≡ empty
@@ -43,6 +50,7 @@ null_is_empty (suc n) s cs (elements.host name k attrs es) old h = absurd (cc h)
 null_is_empty (suc n) s cs (elements.comp c k ps es) old h = absurd (cc h)
 null_is_empty (suc n) s cs (elements.list marked es) old h = absurd (cc h)
 null_is_empty (suc n) s cs (elements.boundary k f es) old h = absurd (cc h)
+null_is_empty (suc n) s cs (elements.catcher k f es) old h = absurd (cc h)
 null_is_empty (suc n) s cs (elements.provider c k x es) old h = absurd (cc h)
 
 -- The parts of a unit
@@ -87,6 +95,7 @@ past_gives : (levels : ℕ) (s : Sight) (fs : List Frame) (o : Open) (a : Awaits
 past_gives levels s fs (around e m) a out = out a
 past_gives levels s fs (trying e old f) a out = open_gives levels s fs (falling e old a) f
 past_gives levels s fs (falling e old b) a out = out (awaits.union b a)
+past_gives levels s fs (guarding e f) a out = out a
 
 unwind_gives : (levels : ℕ) (s : Sight) (fs : List Frame) (a : Awaits) → gives s (unwind levels fs a) ≡ tree_from levels s fs (waits a)
 unfolding gives
@@ -95,12 +104,29 @@ unwind_gives levels s (f ∷ fs) a =
     past_gives levels s fs f.node a (unwind_gives (suc levels) s fs)
     ∙ sym (ap (λ ps. tree_from (suc levels) s fs (from_open (rendered levels s) f.node ps)) (onto_waits f.done a))
 
+past_throw_gives : (levels : ℕ) (s : Sight) (fs : List Frame) (o : Open) (x : ℤ)
+    → gives s (unwind_throw (suc levels) fs x) ≡ tree_from (suc levels) s fs (throws x)
+    → gives s (past_throw o x (unwind_throw (suc levels) fs x) (open_part levels fs)) ≡ tree_from (suc levels) s fs (from_open (rendered levels s) o (one_throws x))
+past_throw_gives levels s fs (around e m) x out = out
+past_throw_gives levels s fs (trying e old f) x out = out
+past_throw_gives levels s fs (falling e old a) x out = out
+past_throw_gives levels s fs (guarding e f) x out = open_gives levels s fs (around e (of_catcher (Caught x))) f
+
+unwind_throw_gives : (levels : ℕ) (s : Sight) (fs : List Frame) (x : ℤ) → gives s (unwind_throw levels fs x) ≡ tree_from levels s fs (throws x)
+unfolding gives
+unwind_throw_gives levels s [] x = refl
+unwind_throw_gives levels s (f ∷ fs) x =
+    past_throw_gives levels s fs f.node x (unwind_throw_gives (suc levels) s fs x)
+    ∙ sym (ap (λ ps. tree_from (suc levels) s fs (from_open (rendered levels s) f.node ps)) (onto_throws f.done x))
+
 begin_gives : (levels : ℕ) (s : Sight) (fs : List Frame) (e : Element) (old : Option Node) (shape : Shape)
     → gives s (begin levels fs e old shape) ≡ tree_from (suc levels) s fs (place_of (rendered levels s) e old shape)
 begin_gives levels s fs e old absent = arrive_gives (suc levels) s fs None
 begin_gives levels s fs e old (waiting r v) = unwind_gives (suc levels) s fs (awaits.one r)
+begin_gives levels s fs e old (throwing x) = unwind_throw_gives (suc levels) s fs x
 begin_gives levels s fs e old (one_list m p) = open_gives levels s fs (around e m) p
 begin_gives levels s fs e old (two_lists p f) = open_gives levels s fs (trying e old f) p
+begin_gives levels s fs e old (guarded p f) = open_gives levels s fs (guarding e f) p
 
 place_gives : (levels : ℕ) (s : Sight) (fs : List Frame) (cs : Contexts) (e : Element) (old : Option Node)
     → gives s (begin levels fs e old (shape_of s cs e old)) ≡ tree_from (suc levels) s fs (rendered (suc levels) s cs e old)

@@ -27,6 +27,7 @@ touched_here s at (elements.comp c k ps es) old =
     one_visit (record { address = at.address; component = Some c; touched = touched; dirty = dirty; spared = at.spared }) touched refl
 touched_here s at (elements.list marked es) old = refl
 touched_here s at (elements.boundary k f es) old = refl
+touched_here s at (elements.catcher k f es) old = refl
 touched_here s at (elements.provider c k x es) old = refl
 
 -- The touched places of a whole render are those that its units evaluate.

@@ -9,12 +9,12 @@ use Rattle.rx_rules.specs.Bounds.{node_bound, component_levels}
 use Rattle.rx_rules.specs.Versions.{node_limit}
 use Rattle.rx_elem.specs.Elements.{Element, Elements, gathered, listed}
 use Rattle.rx_elem.specs.Elements as elements
-use Rattle.rx_elem.specs.Trees.{Node, Forest, children_if, fallback_if}
+use Rattle.rx_elem.specs.Trees.{Node, Forest, none, children_if, fallback_if, old_caught}
 use Rattle.rx_elem.specs.Compare.{old_nodes}
-use Rattle.rx_meaning.specs.Body.{Body, wait, ready, body_of}
-use Rattle.rx_meaning.specs.Fresh.{Sight, Contexts, Renders, Place, empty, made, waits, Places, all_made, one_waits, render_list, rendered, shape_of, shape_of_body, shape_of_component, inputs_at, old_instance, default_contexts, root_element}
+use Rattle.rx_meaning.specs.Body.{Body, wait, throw, ready, body_of}
+use Rattle.rx_meaning.specs.Fresh.{Sight, Contexts, Renders, Place, empty, made, waits, throws, Places, all_made, one_waits, one_throws, render_list, rendered, shape_of, shape_of_body, shape_of_component, shape_of_catcher, inputs_at, old_instance, default_contexts, root_element}
 use Rattle.rx_meaning.specs.Cursor.{is_null}
-use Rattle.rx_meaning.specs.Counts.{Weights, Tries, unless_waits, if_waits, try_all, if_made, count_shape, counted, whole}
+use Rattle.rx_meaning.specs.Counts.{Weights, Tries, unless_waits, if_waits, if_throws, try_all, if_made, count_shape, counted, whole}
 use Rattle.render_laws.proofs.Plans.{Alts, Plan, fixed, every, Row, end, next, plan_in, body_plan, alts_size, plan_size, row_size}
 use Rattle.render_laws.proofs.Coming.{Has, here, there, is_keyed, count_all, count_keyed, IsFew, Comes, AllCome, row_head, row_tail, comes_less}
 use Rattle.render_laws.proofs.FitRender.{IsPlain, IfReady, found_comes, come_listed}
@@ -34,10 +34,17 @@ no_more : (x : Place) (n : ℕ) → unless_waits x n ≤ n
 no_more empty n = omega arith
 no_more (made m) n = omega arith
 no_more (waits a) n = omega arith
+no_more (throws x) n = omega arith
 
 no_more_if : (x : Places) (n : ℕ) → if_waits x n ≤ n
 no_more_if (all_made ns) n = omega arith
 no_more_if (one_waits a) n = omega arith
+no_more_if (one_throws x) n = omega arith
+
+no_more_if_throws : (x : Places) (n : ℕ) → if_throws x n ≤ n
+no_more_if_throws (all_made ns) n = omega arith
+no_more_if_throws (one_waits a) n = omega arith
+no_more_if_throws (one_throws x) n = omega arith
 
 every_tried : (d : ℕ) (p : Program) (try : Tries) (render : Renders) → HasRoom d p try → (limit : ℕ) (a : Alts) (es : List Element) (olds : List (Option Node))
     → AllCome d p (every limit a) (gathered es) → try_all try render (zip es olds) ≤ count_all (gathered es) * alts_size a
@@ -99,6 +106,7 @@ module _ (s : Sight) (plain : IsPlain s.program) (m : ℕ) (one : m ≤ 1) (d : 
   body_tried : (cs : Contexts) (c : ℕ) (q : Plan) (e : Element) (old : Option Node) (b : Body) → IfReady d s.program q b
       → count_shape (begun_with m) try f cs e old (shape_of_body cs c old b) ≤ 1 + plan_size q
   body_tried cs c q e old (wait r v) k = omega arith
+  body_tried cs c q e old (throw x) k = omega arith
   body_tried cs c q e old (ready es effects initials reads versions) k =
       omega (arith, list_tried d s.program (try cs) (f cs) (h cs) q es k.0 k.1 (children_if old), if_made_nothing (render_list (f cs) es (children_if old)))
 
@@ -114,6 +122,27 @@ module _ (s : Sight) (plain : IsPlain s.program) (m : ℕ) (one : m ≤ 1) (d : 
       go (Some x) same =
           body_tried cs c (plan_in (body_plan n s.program) q s.program (Some x)) e old (body_of s.program x (inputs_at s cs props es (old_instance old)))
           (found_comes n d s.program plain (omega arith) q (inputs_at s cs props es (old_instance old)) few come c x same)
+
+  -- an error boundary that had caught a value or not
+  catcher_tried : (cs : Contexts) (q g : Plan) (e k : Element) (es : Elements) → IsFew q es → AllCome (suc d) s.program q es
+      → IsFew g (gathered (k ∷ [])) → AllCome d s.program g (gathered (k ∷ [])) → (old : Option Node) (caught : Option ℤ)
+      → count_shape (begun_with m) try f cs e old (shape_of_catcher cs k es old caught) ≤ 1 + (plan_size q + plan_size g)
+  catcher_tried cs q g e k es few come one other old None =
+      omega (
+        arith,
+        children_tried cs q es few come (children_if old),
+        if_made_nothing (render_list (f cs) (listed es) (children_if old)),
+        if_made_nothing (render_list (f cs) (k ∷ []) none),
+        no_more_if_throws (render_list (f cs) (listed es) (children_if old))
+            (try_list (try cs) (f cs) (k ∷ []) none + if_made (render_list (f cs) (k ∷ []) none) 0),
+        list_tried d s.program (try cs) (f cs) (h cs) g (k ∷ []) one other none,
+      )
+  catcher_tried cs q g e k es few come one other old (Some x) =
+      omega (
+        arith,
+        if_made_nothing (render_list (f cs) (k ∷ []) (fallback_if old)),
+        list_tried d s.program (try cs) (f cs) (h cs) g (k ∷ []) one other (fallback_if old),
+      )
 
   place_tried : (cs : Contexts) (a : Alts) (e : Element) (old : Option Node) → Comes (suc d) s.program a e
       → count_shape (begun_with m) try f cs e old (shape_of s cs e old) ≤ alts_size a
@@ -142,6 +171,17 @@ module _ (s : Sight) (plain : IsPlain s.program) (m : ℕ) (one : m ≤ 1) (d : 
       one_few : (b : Bool) → cond b 1 0 + 0 ≤ 1
       one_few true = omega arith
       one_few false = omega arith
+  place_tried cs a (elements.catcher k e es) old c =
+      omega (
+        arith,
+        has_size c.3,
+        catcher_tried cs c.0 (fixed (next c.1 end) c.2) (elements.catcher k e es) e es c.4 c.5 (one_few (is_keyed e))
+            (comes_less d s.program (cond (is_keyed e) c.2 c.1) e c.6, tt) old (old_caught old),
+      )
+    where
+      one_few : (b : Bool) → cond b 1 0 + 0 ≤ 1
+      one_few true = omega arith
+      one_few false = omega arith
   place_tried cs a (elements.provider n k x es) old c =
       omega (
         arith,
@@ -158,6 +198,7 @@ all_tried m one zero s plain cs a (elements.host n k attrs es) old c = omega (ar
 all_tried m one zero s plain cs a (elements.comp n k props es) old c = omega (arith, has_size c.4)
 all_tried m one zero s plain cs a (elements.list marked es) old c = omega (arith, has_size c.2)
 all_tried m one zero s plain cs a (elements.boundary k e es) old c = omega (arith, has_size c.3)
+all_tried m one zero s plain cs a (elements.catcher k e es) old c = omega (arith, has_size c.3)
 all_tried m one zero s plain cs a (elements.provider n k x es) old c = omega (arith, has_size c.2)
 all_tried m one (suc n) s plain cs a e old c =
     place_tried s plain m one n (counted (begun_with m) n s) (rendered n s) (all_tried m one n s plain) cs a e old c

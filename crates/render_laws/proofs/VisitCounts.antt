@@ -1,14 +1,13 @@
 -- The places that a whole render comes to are as many as its units begin, and those of components as many as the bodies that they evaluate.
-use Rattle.std.specs.Prelude.{◌≡◌, ℕ, zero, suc, ◌+◌, Bool, true, false, cond, List, [], ◌∷◌, ◌++◌, Option, refl, length, filter, is_some, ◌||◌, if◌then◌else◌}
-use Rattle.std.specs.List.{list_any}
+use Rattle.std.specs.Prelude.{◌≡◌, ℕ, zero, suc, ◌+◌, Bool, true, false, cond, List, [], ◌∷◌, ◌++◌, Option, refl, length, filter, is_some, if◌then◌else◌}
 use Rattle.std.proofs.Common.{arith, sym, ◌∙◌}
 use Rattle.rx_elem.specs.Elements.{Element}
 use Rattle.rx_elem.specs.Elements as elements
 use Rattle.rx_elem.specs.Trees.{Node}
-use Rattle.rx_meaning.specs.Fresh.{Sight, Contexts, Renders, Place, empty, made, waits, Places, all_made, one_waits, render_all, render_part, rendered, before, depth_limit, root_element, Part, Shape, absent, waiting, one_list, two_lists, shape_of}
-use Rattle.rx_meaning.specs.Touched.{Visit, Setting, Visits, waits_at, visit_all, visit_part, part_waits, children_with_old, visit_as, component_in, visit_here, visit_below, setting_below, setting_of_primary, setting_of_fallback, visited, at_top, visits, evaluated}
+use Rattle.rx_meaning.specs.Fresh.{Sight, Contexts, Renders, Place, empty, made, waits, throws, Places, all_made, one_waits, one_throws, render_part, rendered, depth_limit, root_element, Part, Shape, absent, waiting, throwing, one_list, two_lists, guarded, shape_of}
+use Rattle.rx_meaning.specs.Touched.{Visit, Setting, Visits, ends_list, visit_all, visit_part, is_wait, is_throw, children_with_old, visit_as, component_in, visit_here, visit_below, setting_below, setting_of_primary, setting_of_tried, setting_of_fallback, visited, at_top, visits, evaluated}
 use Rattle.rx_meaning.specs.Cursor.{is_null}
-use Rattle.rx_meaning.specs.Counts.{Tries, Weights, each_place, each_body, unless_waits, if_waits, try_all, if_made, count_part, count_shape, counted, whole}
+use Rattle.rx_meaning.specs.Counts.{Tries, Weights, each_place, each_body, unless_waits, if_waits, if_throws, try_all, if_made, count_part, count_shape, counted, whole}
 
 -- how many visits pass a test
 abbrev pub passing : (Visit → Bool) → List Visit → ℕ
@@ -23,36 +22,26 @@ passing_append test (v ∷ vs) ws = go (test v) (passing_append test vs ws)
     go true h = omega (arith, h)
     go false h = h
 
-unless_passing : (test : Visit → Bool) (p : Place) (vs : List Visit) (n : ℕ) → passing test vs ≡ n → passing test (if waits_at p then [] else vs) ≡ unless_waits p n
+unless_passing : (test : Visit → Bool) (p : Place) (vs : List Visit) (n : ℕ) → passing test vs ≡ n → passing test (if ends_list p then [] else vs) ≡ unless_waits p n
 unless_passing test empty vs n h = h
 unless_passing test (made m) vs n h = h
 unless_passing test (waits a) vs n h = refl
+unless_passing test (throws x) vs n h = refl
 
--- a list waits if some place of it does
-abbrev list_waits : Places → Bool
-list_waits (all_made ns) = false
-list_waits (one_waits a) = true
+if_passing : (test : Visit → Bool) (ps : Places) (vs : List Visit) (n : ℕ) → passing test vs ≡ n → passing test (if is_wait ps then vs else []) ≡ if_waits ps n
+if_passing test (all_made ns) vs n h = refl
+if_passing test (one_waits a) vs n h = h
+if_passing test (one_throws x) vs n h = refl
 
-some_wait : (render : Renders) (xs : List (Element × Option Node)) → list_any (λ x. waits_at (render x.0 x.1)) xs ≡ list_waits (render_all render xs)
-some_wait render [] = refl
-some_wait render (x ∷ xs) = go (render x.0 x.1) (render_all render xs) (some_wait render xs)
-  where
-    go : (p : Place) (ps : Places) → list_any (λ x. waits_at (render x.0 x.1)) xs ≡ list_waits ps
-        → waits_at p || list_any (λ x. waits_at (render x.0 x.1)) xs ≡ list_waits (before p ps)
-    go empty (all_made ns) h = h
-    go empty (one_waits a) h = h
-    go (made n) (all_made ns) h = h
-    go (made n) (one_waits a) h = h
-    go (waits a) ps h = refl
-
-if_passing : (test : Visit → Bool) (ps : Places) (b : Bool) → b ≡ list_waits ps → (vs : List Visit) (n : ℕ) → passing test vs ≡ n
-    → passing test (if b then vs else []) ≡ if_waits ps n
-if_passing test (all_made ns) b h vs n k = rw h refl
-if_passing test (one_waits a) b h vs n k = rw h k
+if_thrown_passing : (test : Visit → Bool) (ps : Places) (vs : List Visit) (n : ℕ) → passing test vs ≡ n → passing test (if is_throw ps then vs else []) ≡ if_throws ps n
+if_thrown_passing test (all_made ns) vs n h = refl
+if_thrown_passing test (one_waits a) vs n h = refl
+if_thrown_passing test (one_throws x) vs n h = h
 
 if_made_none : (ps : Places) (n : ℕ) → n ≡ 0 → if_made ps n ≡ 0
 if_made_none (all_made ns) n h = h
 if_made_none (one_waits a) n h = refl
+if_made_none (one_throws x) n h = refl
 
 -- each place's own visit passes the test as often as its beginning counts
 abbrev pub CountsHere : (Visit → Bool) → Weights → Sight → Type 0
@@ -67,7 +56,7 @@ module _ (test : Visit → Bool) (w : Weights) (nothing : w.misses ≡ 0) (free 
       → passing test (visit_all v render at k xs) ≡ try_all (t at.contexts) render xs
   all_counted v t render h at k [] = refl
   all_counted v t render h at k (x ∷ xs) =
-      passing_append test (v (record at { address = k ∷ at.address }) x.0 x.1) (if waits_at (render x.0 x.1) then [] else visit_all v render at (suc k) xs)
+      passing_append test (v (record at { address = k ∷ at.address }) x.0 x.1) (if ends_list (render x.0 x.1) then [] else visit_all v render at (suc k) xs)
       ∙ omega (
         arith,
         h (record at { address = k ∷ at.address }) x.0 x.1,
@@ -87,13 +76,14 @@ module _ (test : Visit → Bool) (w : Weights) (nothing : w.misses ≡ 0) (free 
       neither true = refl
       neither false = refl
   shape_counted v t below h at e old (waiting r version) = own at e old
+  shape_counted v t below h at e old (throwing x) = own at e old
   shape_counted v t below h at e old (one_list m p) =
       passing_append test (visit_as s at e old (component_in e) ∷ []) (visit_part v below (setting_below old at) p)
       ∙ omega (arith, own at e old, part_counted v t below h (setting_below old at) p, if_made_none (render_part below p) w.completes free)
   shape_counted v t below h at e old (two_lists p f) =
       let inner = setting_of_primary s (setting_below old at) e old in
       let outer = setting_of_fallback (setting_below old at) in
-      let rest = if part_waits below p then visit_part v below outer f else [] in
+      let rest = if is_wait (render_part below p) then visit_part v below outer f else [] in
       passing_append test (visit_as s at e old (component_in e) ∷ []) (visit_part v below inner p ++ rest)
       ∙ omega (
         arith,
@@ -101,8 +91,21 @@ module _ (test : Visit → Bool) (w : Weights) (nothing : w.misses ≡ 0) (free 
         passing_append test (visit_part v below inner p) rest,
         part_counted v t below h inner p,
         if_made_none (render_part below p) w.completes free,
-        if_passing test (render_part below p) (part_waits below p) (some_wait (below p.contexts) (children_with_old p)) (visit_part v below outer f)
-            (count_part t below f + if_made (render_part below f) w.completes)
+        if_passing test (render_part below p) (visit_part v below outer f) (count_part t below f + if_made (render_part below f) w.completes)
+            (omega (arith, part_counted v t below h outer f, if_made_none (render_part below f) w.completes free)),
+      )
+  shape_counted v t below h at e old (guarded p f) =
+      let inner = setting_of_tried (setting_below old at) in
+      let outer = setting_of_fallback (setting_below old at) in
+      let rest = if is_throw (render_part below p) then visit_part v below outer f else [] in
+      passing_append test (visit_as s at e old (component_in e) ∷ []) (visit_part v below inner p ++ rest)
+      ∙ omega (
+        arith,
+        own at e old,
+        passing_append test (visit_part v below inner p) rest,
+        part_counted v t below h inner p,
+        if_made_none (render_part below p) w.completes free,
+        if_thrown_passing test (render_part below p) (visit_part v below outer f) (count_part t below f + if_made (render_part below f) w.completes)
             (omega (arith, part_counted v t below h outer f, if_made_none (render_part below f) w.completes free)),
       )
 
@@ -126,6 +129,7 @@ body_here s at (elements.host n k attrs es) old = refl
 body_here s at (elements.comp c k ps es) old = refl
 body_here s at (elements.list marked es) old = refl
 body_here s at (elements.boundary k f es) old = refl
+body_here s at (elements.catcher k f es) old = refl
 body_here s at (elements.provider c k x es) old = refl
 
 -- A whole render evaluates as many bodies as it visits component places, those of dropped attempts included.

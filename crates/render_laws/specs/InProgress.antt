@@ -4,8 +4,8 @@ use Rattle.rx_ast.specs.Syntax.{Program}
 use Rattle.rx_meaning.specs.Levels.{Fits, PartFits}
 use Rattle.rx_elem.specs.Elements.{Element}
 use Rattle.rx_elem.specs.Trees.{Node}
-use Rattle.rx_meaning.specs.Fresh.{Sight, empty, made, waits, fresh}
-use Rattle.rx_meaning.specs.Cursor.{Open, around, trying, falling, Frame, Cursor, at_place, at_end, ended, StandsAtNode}
+use Rattle.rx_meaning.specs.Fresh.{Sight, empty, made, waits, throws, fresh}
+use Rattle.rx_meaning.specs.Cursor.{Open, around, trying, falling, guarding, Frame, Cursor, at_place, at_end, ended, StandsAtNode}
 use Rattle.rx_meaning.specs.Rest.{gives}
 use Rattle.rx_meaning.specs.Counts.{each_unit, each_body, left, whole}
 
@@ -14,11 +14,12 @@ abbrev pub AllFit : ℕ → Program → List (Element × Option Node) → Type 0
 AllFit n p [] = Unit {0}
 AllFit n p (x ∷ xs) = Fits n p x.0 × AllFit n p xs
 
--- nor the fallback that an open boundary may come to
+-- nor the fallback that an open boundary, of Suspense or of errors, may come to
 abbrev pub OpenFits : ℕ → Program → Open → Type 0
 OpenFits n p (around e m) = Unit {0}
 OpenFits n p (trying e old f) = PartFits n p f
 OpenFits n p (falling e old a) = Unit {0}
+OpenFits n p (guarding e f) = PartFits n p f
 
 -- nor those of the frames
 abbrev pub FramesFit : ℕ → Program → List Frame → Type 0
@@ -38,6 +39,7 @@ if_ended (at_end n fs o done) = 0
 if_ended (ended empty) = 0
 if_ended (ended (made m)) = 1
 if_ended (ended (waits a)) = 0
+if_ended (ended (throws x)) = 0
 
 -- what holds of each moment of a render
 pub record InProgress (s : Sight) (old : Option Node) (units bodies : ℕ) (c : Cursor) : Type 0 where

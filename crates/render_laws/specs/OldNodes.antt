@@ -2,7 +2,7 @@
 use Rattle.std.specs.Prelude.{List, [], ◌∷◌, Option, Some, None}
 use Rattle.rx_elem.specs.Elements.{Element}
 use Rattle.rx_elem.specs.Trees.{Node, Forest, none, vacant, child}
-use Rattle.rx_meaning.specs.Cursor.{Open, around, trying, falling, Frame, Cursor, at_place, at_end, ended}
+use Rattle.rx_meaning.specs.Cursor.{Open, around, trying, falling, guarding, Frame, Cursor, at_place, at_end, ended}
 
 -- each node of a list has the property
 abbrev pub AllHave : (Node → Type 0) → Forest → Type 0
@@ -25,6 +25,7 @@ abbrev pub OpenHas : (Node → Type 0) → Open → Type 0
 OpenHas P (around e m) = Unit {0}
 OpenHas P (trying e old f) = OldHas P old × AllHave P f.old
 OpenHas P (falling e old a) = OldHas P old
+OpenHas P (guarding e f) = AllHave P f.old
 
 -- so have those of the frames
 abbrev pub FramesHave : (Node → Type 0) → List Frame → Type 0

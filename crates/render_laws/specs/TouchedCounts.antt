@@ -16,6 +16,7 @@ one_if_touched s cs (elements.host n k attrs es) old = 0
 one_if_touched s cs (elements.comp c k ps es) old = cond (touched_instance s cs (old_instance old)) 1 0
 one_if_touched s cs (elements.list marked es) old = 0
 one_if_touched s cs (elements.boundary k f es) old = 0
+one_if_touched s cs (elements.catcher k f es) old = 0
 one_if_touched s cs (elements.provider c k x es) old = 0
 
 -- the touched places that are evaluated

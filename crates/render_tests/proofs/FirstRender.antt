@@ -13,9 +13,9 @@ use Rattle.rx_render.specs.Rendering.{Rendering}
 use Rattle.rx_resources.specs.Seen.{Resources}
 use Rattle.rx_render.specs.Renders.{CanStart}
 
-pub first_starts : (lanes : Lanes) (cut : Cut) (seen : Resources) (v : Rendering) → v.trees.current ≡ none → KeepsAllHooks v.program opening (kept_hooks v.hooks)
+pub first_starts : (lanes : Lanes) (cut : Cut) (seen : Resources) (v : Rendering) → v.trees.current ≡ none → KeepsAllHooks v.program opening (kept_hooks v.hooks) → v.seen ≡ 0
     → resources v.program ≡ [] → cut ≡ record { updates = 0; resolutions = 0 } → seen ≡ record { versions = []; values = []; refreshes = false } → CanStart lanes cut seen v
-first_starts lanes cut seen v current keeps no_resources at empty =
+first_starts lanes cut seen v current keeps none_seen no_resources at empty =
     record {
       state = opening;
       is = record {
@@ -23,6 +23,7 @@ first_starts lanes cut seen v current keeps no_resources at empty =
         keeps = keeps;
         done = tt;
         cut_is = at;
+        seen = none_seen;
         resources_are = rw (empty, no_resources) refl;
         declared = λ r late. refl;
         settled = tt;

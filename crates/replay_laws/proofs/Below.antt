@@ -7,7 +7,7 @@ use Rattle.std.proofs.lemmas.Bool.Decides.{Decides-eqb}
 use Rattle.rx_susp.specs.declared.boundary.BoundaryState.TheVariants.{Shown, Hidden}
 use Rattle.rx_elem.specs.Elements.{Element}
 use Rattle.rx_elem.specs.Identity.{old_places, is_reused}
-use Rattle.rx_elem.specs.Trees.{Mark, of_instance, of_host, of_boundary, plain, Node, node, Forest, none, vacant, child, places, host_number, is_host, elements_in}
+use Rattle.rx_elem.specs.Trees.{Mark, of_instance, of_host, of_boundary, of_catcher, plain, Node, node, Forest, none, vacant, child, places, host_number, is_host, elements_in}
 use Rattle.rx_elem.specs.Spots.{Around, around_children}
 use Rattle.rx_elem.specs.Compare.{old_nodes, node_at}
 use Rattle.rx_forest.specs.Hosts.{Host}
@@ -59,6 +59,7 @@ module _ (next : ℕ) (k gone : ℕ → Bool) (stays : (n : ℕ) → k n ≡ tru
   inner a h e e' m (of_instance i) os gs g there = h
   inner a h e e' m (of_boundary Shown) os gs g there = h
   inner a h e e' m (of_boundary (Hidden w)) os gs g there = h
+  inner a h e e' m (of_catcher z) os gs g there = h
   inner a h e e' m plain os gs g there = h
   inner a h e e' m (of_host None) os gs g there = h
   inner a h e e' m (of_host (Some n')) os gs g there = go (is_host m) g

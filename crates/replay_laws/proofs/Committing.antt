@@ -9,7 +9,7 @@ use Rattle.rx_rules.specs.Bounds.{depth_bound}
 use Rattle.rx_elem.proofs.Equality.{same_kind-self}
 use Rattle.rx_elem.specs.Elements.{Element, kind_of, same_kind}
 use Rattle.rx_elem.specs.Elements as elements
-use Rattle.rx_elem.specs.Trees.{Mark, of_instance, of_host, of_boundary, plain, Node, node, Forest, none, vacant, child, element_of, host_number, is_host}
+use Rattle.rx_elem.specs.Trees.{Mark, of_instance, of_host, of_boundary, of_catcher, plain, Node, node, Forest, none, vacant, child, element_of, host_number, is_caught, is_host}
 use Rattle.rx_elem.specs.Spots.{Around, at_root}
 use Rattle.rx_elem.specs.Numbers.{Numbers, numbered, numbered_in, numbered_mark, numbered_instance, numbered_host}
 use Rattle.rx_meaning.specs.Fresh.{Sight, fresh, made, root_element, depth_limit}
@@ -30,7 +30,7 @@ use Rattle.replay_laws.proofs.OldLists.{IfOld}
 use Rattle.replay_laws.proofs.Relating.{rendered_from}
 use Rattle.replay_laws.proofs.Below.{below_at}
 use Rattle.replay_laws.proofs.KeptKinds.{kinds_at}
-use Rattle.replay_laws.proofs.Fine.{fine_leaves, is_hostlike, IsFine, AllFine, NumberBelow, IsBelow, AllBelow}
+use Rattle.replay_laws.proofs.Fine.{fine_leaves, is_hostlike, IsFine, AllFine, LacksFallback, NumberBelow, IsBelow, AllBelow}
 use Rattle.replay_laws.proofs.Rendering.{IsOld, IfSameKind, PlaceGrows, fresh_grows}
 
 -- Numbers below the next one
@@ -63,6 +63,7 @@ host_stays c (of_host h) = go h
     go None = refl
     go (Some n) = refl
 host_stays c (of_boundary b) = refl
+host_stays c (of_catcher z) = refl
 host_stays c plain = refl
 
 content_there : (e : Element) → is_hostlike e ≡ true → (c : Content) × (content_of e ≡ Some c)
@@ -72,6 +73,7 @@ content_there (elements.host n k attrs es) h = (_, refl)
 content_there (elements.comp c k ps es) h = absurd (cc)
 content_there (elements.list marked es) h = absurd (cc)
 content_there (elements.boundary k f es) h = absurd (cc)
+content_there (elements.catcher k f es) h = absurd (cc)
 content_there (elements.provider c k x es) h = absurd (cc)
 
 mark_numbered : (c : Numbers) (e : Element) (m : Mark) → is_host m ≡ is_hostlike e → HasNumber e (numbered_mark c m).1
@@ -86,6 +88,7 @@ mark_numbered c e (of_host k) h = go k
     go None = content_there e (sym h)
     go (Some n) = content_there e (sym h)
 mark_numbered c e (of_boundary b) h = tt
+mark_numbered c e (of_catcher z) h = tt
 mark_numbered c e plain h = tt
 
 mark_below : (c : Numbers) (next : ℕ) (m : Mark) → next ≤ c.host → NumberBelow next (host_number m) → NumberBelow (numbered_mark c m).0.host (host_number (numbered_mark c m).1)
@@ -100,6 +103,7 @@ mark_below c next (of_host k) h low = go k low
     go None low = omega arith
     go (Some n) low = omega arith
 mark_below c next (of_boundary b) h low = tt
+mark_below c next (of_catcher z) h low = tt
 mark_below c next plain h low = tt
 
 below_more : (a b : ℕ) (o : Option ℕ) → a ≤ b → NumberBelow a o → NumberBelow b o
@@ -122,7 +126,33 @@ none_stays c (elements.host n k attrs es) ns h = tt
 none_stays c (elements.comp i k ps es) ns h = tt
 none_stays c (elements.list marked es) ns h = tt
 none_stays c (elements.boundary k f es) ns h = tt
+none_stays c (elements.catcher k f es) ns h = tt
 none_stays c (elements.provider i k x es) ns h = tt
+
+caught_stays : (c : Numbers) (m : Mark) → is_caught (numbered_mark c m).1 ≡ is_caught m
+caught_stays c (of_instance i) = go i.number
+  where
+    go : (n : Option ℕ) → is_caught (numbered_instance c i n).1 ≡ false
+    go None = refl
+    go (Some n) = refl
+caught_stays c (of_host h) = go h
+  where
+    go : (n : Option ℕ) → is_caught (numbered_host c n).1 ≡ false
+    go None = refl
+    go (Some n) = refl
+caught_stays c (of_boundary b) = refl
+caught_stays c (of_catcher k) = refl
+caught_stays c plain = refl
+
+lack_stays : (d c : Numbers) (e : Element) (m : Mark) (fs : Forest) → LacksFallback e m fs → LacksFallback e (numbered_mark c m).1 (numbered_in d fs).1
+lack_stays d c elements.null m fs h = tt
+lack_stays d c (elements.text t) m fs h = tt
+lack_stays d c (elements.host n k attrs es) m fs h = tt
+lack_stays d c (elements.comp i k ps es) m fs h = tt
+lack_stays d c (elements.list marked es) m fs h = tt
+lack_stays d c (elements.boundary k f es) m fs h = tt
+lack_stays d c (elements.catcher k f es) m fs h = λ fine. ap (λ (x : Forest). (numbered_in d x).1) (h (sym (caught_stays c m) ∙ fine))
+lack_stays d c (elements.provider i k x es) m fs h = tt
 
 mutual
   numbered_fine : (c : Numbers) (x : Node) → IsFine x → IsFine (numbered c x).1
@@ -133,6 +163,7 @@ mutual
     all_numbered_fine (numbered_mark c m).0 ns h.3,
     all_numbered_fine (numbered_in (numbered_mark c m).0 ns).0 fs h.4,
     none_stays (numbered_mark c m).0 e ns h.5,
+    lack_stays (numbered_in (numbered_mark c m).0 ns).0 c e m fs h.6,
   )
 
   all_numbered_fine : (c : Numbers) (ns : Forest) → AllFine ns → AllFine (numbered_in c ns).1

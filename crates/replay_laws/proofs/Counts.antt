@@ -3,7 +3,7 @@ use Rattle.std.specs.Prelude.{◌≡◌, ℕ, ◌+◌, ◌<◌, ◌≤◌, Bool,
 use Rattle.std.proofs.Common.{arith, ap, le_trans}
 use Rattle.std.proofs.lemmas.Bool.Decides.{nat_tests}
 use Rattle.rx_elem.specs.Elements as elements
-use Rattle.rx_elem.specs.Trees.{Mark, of_instance, of_host, of_boundary, plain, Node, node, Forest, none, vacant, child, host_number, elements_in}
+use Rattle.rx_elem.specs.Trees.{Mark, of_instance, of_host, of_boundary, of_catcher, plain, Node, node, Forest, none, vacant, child, host_number, elements_in}
 use Rattle.rx_elem.specs.Numbers.{Numbers, numbered, numbered_in, numbered_mark, numbered_instance, numbered_host}
 
 -- a number that may be missing is this one
@@ -48,6 +48,7 @@ mark_rises c (of_host h) = go h
     go (Some n) = omega arith
 mark_rises c plain = omega arith
 mark_rises c (of_boundary b) = omega arith
+mark_rises c (of_catcher z) = omega arith
 
 mutual
   pub number_rises : (c : Numbers) (x : Node) → c.host ≤ (numbered c x).0.host
@@ -99,6 +100,7 @@ mark_counts n c (of_host h) = go h
     go (Some k) = omega arith
 mark_counts n c plain = omega arith
 mark_counts n c (of_boundary b) = omega arith
+mark_counts n c (of_catcher z) = omega arith
 
 mutual
   -- a number that numbering gives stands once more at most

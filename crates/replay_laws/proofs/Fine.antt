@@ -5,7 +5,7 @@ use Rattle.std.proofs.lemmas.Option.{same_Some}
 use Rattle.std.proofs.lemmas.Slice.Eq.{bytes_eq-Decides}
 use Rattle.rx_elem.specs.Elements.{Element, kind_of, same_kind, is_present}
 use Rattle.rx_elem.specs.Elements as elements
-use Rattle.rx_elem.specs.Trees.{Node, node, Forest, none, vacant, child, host_number, is_host, element_of}
+use Rattle.rx_elem.specs.Trees.{Mark, Node, node, Forest, none, vacant, child, host_number, is_caught, is_host, element_of}
 use Rattle.rx_forest.specs.Hosts.{Content, tag, letters, content_of, by_name}
 use Rattle.host_laws.specs.Commits.{HasNone, TextsAreLeaves, TextsAreLeaves_in}
 use Rattle.host_laws.specs.Related.{HaveOwnNames, AreAlike}
@@ -19,6 +19,7 @@ is_hostlike (elements.host n k attrs es) = true
 is_hostlike (elements.comp c k ps es) = false
 is_hostlike (elements.list marked es) = false
 is_hostlike (elements.boundary k f es) = false
+is_hostlike (elements.catcher k f es) = false
 is_hostlike (elements.provider c k x es) = false
 
 -- the attributes of a host have names of their own
@@ -29,12 +30,24 @@ AttrsOwn (elements.host n k attrs es) = HaveOwnNames (by_name attrs)
 AttrsOwn (elements.comp c k ps es) = Unit {0}
 AttrsOwn (elements.list marked es) = Unit {0}
 AttrsOwn (elements.boundary k f es) = Unit {0}
+AttrsOwn (elements.catcher k f es) = Unit {0}
 AttrsOwn (elements.provider c k x es) = Unit {0}
 
--- each node is a host exactly if its element is one, no node is one of null, attributes have names of their own, and no text has children
+-- an error boundary that has caught nothing has no fallback
+abbrev pub LacksFallback : Element → Mark → Forest → Type 0
+LacksFallback elements.null m fs = Unit {0}
+LacksFallback (elements.text t) m fs = Unit {0}
+LacksFallback (elements.host n k attrs es) m fs = Unit {0}
+LacksFallback (elements.comp c k ps es) m fs = Unit {0}
+LacksFallback (elements.list marked es) m fs = Unit {0}
+LacksFallback (elements.boundary k f es) m fs = Unit {0}
+LacksFallback (elements.catcher k f es) m fs = is_caught m ≡ false → fs ≡ none
+LacksFallback (elements.provider c k x es) m fs = Unit {0}
+
+-- each node is a host exactly if its element is one, no node is one of null, attributes have names of their own, no text has children, and no error boundary that has caught nothing has a fallback
 abbrev mutual
   pub IsFine : Node → Type 0
-  IsFine (node e m ns fs) = (is_host m ≡ is_hostlike e) × (is_present e ≡ true) × AttrsOwn e × AllFine ns × AllFine fs × HasNone e ns
+  IsFine (node e m ns fs) = (is_host m ≡ is_hostlike e) × (is_present e ≡ true) × AttrsOwn e × AllFine ns × AllFine fs × HasNone e ns × LacksFallback e m fs
 
   pub AllFine : Forest → Type 0
   AllFine none = Unit {0}
@@ -82,6 +95,7 @@ same_hostlike elements.null (elements.host n' k' attrs' es') h = absurd (cc)
 same_hostlike elements.null (elements.comp c' k' ps' es') h = absurd (cc)
 same_hostlike elements.null (elements.list marked es') h = absurd (cc)
 same_hostlike elements.null (elements.boundary k' f' es') h = absurd (cc)
+same_hostlike elements.null (elements.catcher k' f' es') h = absurd (cc)
 same_hostlike elements.null (elements.provider c' k' x' es') h = absurd (cc)
 same_hostlike (elements.text t) elements.null h = absurd (cc)
 same_hostlike (elements.text t) (elements.text t') h = refl
@@ -89,6 +103,7 @@ same_hostlike (elements.text t) (elements.host n' k' attrs' es') h = absurd (cc)
 same_hostlike (elements.text t) (elements.comp c' k' ps' es') h = absurd (cc)
 same_hostlike (elements.text t) (elements.list marked es') h = absurd (cc)
 same_hostlike (elements.text t) (elements.boundary k' f' es') h = absurd (cc)
+same_hostlike (elements.text t) (elements.catcher k' f' es') h = absurd (cc)
 same_hostlike (elements.text t) (elements.provider c' k' x' es') h = absurd (cc)
 same_hostlike (elements.host n k attrs es) elements.null h = absurd (cc)
 same_hostlike (elements.host n k attrs es) (elements.text t') h = absurd (cc)
@@ -96,6 +111,7 @@ same_hostlike (elements.host n k attrs es) (elements.host n' k' attrs' es') h = 
 same_hostlike (elements.host n k attrs es) (elements.comp c' k' ps' es') h = absurd (cc)
 same_hostlike (elements.host n k attrs es) (elements.list marked es') h = absurd (cc)
 same_hostlike (elements.host n k attrs es) (elements.boundary k' f' es') h = absurd (cc)
+same_hostlike (elements.host n k attrs es) (elements.catcher k' f' es') h = absurd (cc)
 same_hostlike (elements.host n k attrs es) (elements.provider c' k' x' es') h = absurd (cc)
 same_hostlike (elements.comp c k ps es) elements.null h = absurd (cc)
 same_hostlike (elements.comp c k ps es) (elements.text t') h = absurd (cc)
@@ -103,6 +119,7 @@ same_hostlike (elements.comp c k ps es) (elements.host n' k' attrs' es') h = abs
 same_hostlike (elements.comp c k ps es) (elements.comp c' k' ps' es') h = refl
 same_hostlike (elements.comp c k ps es) (elements.list marked es') h = absurd (cc)
 same_hostlike (elements.comp c k ps es) (elements.boundary k' f' es') h = absurd (cc)
+same_hostlike (elements.comp c k ps es) (elements.catcher k' f' es') h = absurd (cc)
 same_hostlike (elements.comp c k ps es) (elements.provider c' k' x' es') h = absurd (cc)
 same_hostlike (elements.list marked es) elements.null h = absurd (cc)
 same_hostlike (elements.list marked es) (elements.text t') h = absurd (cc)
@@ -110,6 +127,7 @@ same_hostlike (elements.list marked es) (elements.host n' k' attrs' es') h = abs
 same_hostlike (elements.list marked es) (elements.comp c' k' ps' es') h = absurd (cc)
 same_hostlike (elements.list marked es) (elements.list marked' es') h = refl
 same_hostlike (elements.list marked es) (elements.boundary k' f' es') h = absurd (cc)
+same_hostlike (elements.list marked es) (elements.catcher k' f' es') h = absurd (cc)
 same_hostlike (elements.list marked es) (elements.provider c' k' x' es') h = absurd (cc)
 same_hostlike (elements.boundary k f es) elements.null h = absurd (cc)
 same_hostlike (elements.boundary k f es) (elements.text t') h = absurd (cc)
@@ -117,13 +135,23 @@ same_hostlike (elements.boundary k f es) (elements.host n' k' attrs' es') h = ab
 same_hostlike (elements.boundary k f es) (elements.comp c' k' ps' es') h = absurd (cc)
 same_hostlike (elements.boundary k f es) (elements.list marked es') h = absurd (cc)
 same_hostlike (elements.boundary k f es) (elements.boundary k' f' es') h = refl
+same_hostlike (elements.boundary k f es) (elements.catcher k' f' es') h = absurd (cc)
 same_hostlike (elements.boundary k f es) (elements.provider c' k' x' es') h = absurd (cc)
+same_hostlike (elements.catcher k f es) elements.null h = absurd (cc)
+same_hostlike (elements.catcher k f es) (elements.text t') h = absurd (cc)
+same_hostlike (elements.catcher k f es) (elements.host n' k' attrs' es') h = absurd (cc)
+same_hostlike (elements.catcher k f es) (elements.comp c' k' ps' es') h = absurd (cc)
+same_hostlike (elements.catcher k f es) (elements.list marked es') h = absurd (cc)
+same_hostlike (elements.catcher k f es) (elements.boundary k' f' es') h = absurd (cc)
+same_hostlike (elements.catcher k f es) (elements.catcher k' f' es') h = refl
+same_hostlike (elements.catcher k f es) (elements.provider c' k' x' es') h = absurd (cc)
 same_hostlike (elements.provider c k x es) elements.null h = absurd (cc)
 same_hostlike (elements.provider c k x es) (elements.text t') h = absurd (cc)
 same_hostlike (elements.provider c k x es) (elements.host n' k' attrs' es') h = absurd (cc)
 same_hostlike (elements.provider c k x es) (elements.comp c' k' ps' es') h = absurd (cc)
 same_hostlike (elements.provider c k x es) (elements.list marked es') h = absurd (cc)
 same_hostlike (elements.provider c k x es) (elements.boundary k' f' es') h = absurd (cc)
+same_hostlike (elements.provider c k x es) (elements.catcher k' f' es') h = absurd (cc)
 same_hostlike (elements.provider c k x es) (elements.provider c' k' x' es') h = refl
 
 -- and of alike content
@@ -135,6 +163,7 @@ alike (elements.text t) (elements.host n' k' attrs' es') c d h is was own = absu
 alike (elements.text t) (elements.comp c' k' ps' es') c d h is was own = absurd (cc)
 alike (elements.text t) (elements.list marked es') c d h is was own = absurd (cc)
 alike (elements.text t) (elements.boundary k' f' es') c d h is was own = absurd (cc)
+alike (elements.text t) (elements.catcher k' f' es') c d h is was own = absurd (cc)
 alike (elements.text t) (elements.provider c' k' x' es') c d h is was own = absurd (cc)
 alike (elements.host n k attrs es) elements.null c d h is was own = absurd (cc)
 alike (elements.host n k attrs es) (elements.text t') c d h is was own = absurd (cc)
@@ -146,8 +175,10 @@ alike (elements.host n k attrs es) (elements.host n' k' attrs' es') c d h is was
 alike (elements.host n k attrs es) (elements.comp c' k' ps' es') c d h is was own = absurd (cc)
 alike (elements.host n k attrs es) (elements.list marked es') c d h is was own = absurd (cc)
 alike (elements.host n k attrs es) (elements.boundary k' f' es') c d h is was own = absurd (cc)
+alike (elements.host n k attrs es) (elements.catcher k' f' es') c d h is was own = absurd (cc)
 alike (elements.host n k attrs es) (elements.provider c' k' x' es') c d h is was own = absurd (cc)
 alike (elements.comp i k ps es) e' c d h is was own = absurd (cc)
 alike (elements.list marked es) e' c d h is was own = absurd (cc)
 alike (elements.boundary k f es) e' c d h is was own = absurd (cc)
+alike (elements.catcher k f es) e' c d h is was own = absurd (cc)
 alike (elements.provider i k x es) e' c d h is was own = absurd (cc)

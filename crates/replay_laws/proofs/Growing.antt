@@ -2,7 +2,7 @@
 use Rattle.std.specs.Prelude.{◌≡◌, ℕ, ◌≤◌, Bool, true, false, List, [], ◌∷◌, Option, Some, None}
 use Rattle.std.proofs.Common.{arith, sym, subst}
 use Rattle.rx_elem.specs.Elements.{Element, kind_of, same_kind}
-use Rattle.rx_elem.specs.Trees.{Mark, of_instance, of_host, of_boundary, plain, Node, node, Forest, none, vacant, child, mark_of, element_of, host_number, is_host, elements_in, children_if, fallback_if}
+use Rattle.rx_elem.specs.Trees.{Mark, of_instance, of_host, of_boundary, of_catcher, plain, Node, node, Forest, none, vacant, child, mark_of, element_of, host_number, is_host, elements_in, children_if, fallback_if}
 use Rattle.rx_elem.specs.Compare.{old_nodes}
 use Rattle.rx_elem.specs.Numbers.{Numbers, numbered, numbered_in, numbered_mark, numbered_instance}
 use Rattle.replay_laws.proofs.Counts.{elements_stay, mark_rises, number_rises, numbers_rise}
@@ -55,6 +55,7 @@ mark_grows : (next : ℕ) (e : Element) (c : Numbers) → next ≤ c.host → (m
 mark_grows next e c late (of_host h) o g = host_mark_grows next e c late h o g
 mark_grows next e c late (of_instance i) o g = instance_mark_grows next e c i i.number o g
 mark_grows next e c late (of_boundary b) o g = g
+mark_grows next e c late (of_catcher z) o g = g
 mark_grows next e c late plain o g = g
 
 mutual

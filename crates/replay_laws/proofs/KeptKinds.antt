@@ -6,7 +6,7 @@ use Rattle.std.proofs.lemmas.Option.{same_Some}
 use Rattle.rx_elem.specs.Elements.{Element}
 use Rattle.rx_elem.specs.Elements as elements
 use Rattle.rx_elem.specs.Identity.{old_places}
-use Rattle.rx_elem.specs.Trees.{Mark, of_instance, of_host, of_boundary, plain, Node, node, Forest, none, vacant, child, host_number, is_host, elements_in, children_if, fallback_if}
+use Rattle.rx_elem.specs.Trees.{Mark, of_instance, of_host, of_boundary, of_catcher, plain, Node, node, Forest, none, vacant, child, host_number, is_host, elements_in, children_if, fallback_if}
 use Rattle.rx_elem.specs.Spots.{Around, around_children}
 use Rattle.rx_elem.specs.Compare.{old_nodes}
 use Rattle.rx_forest.specs.Hosts.{Host, Content, content_of, host_as, host_numbered}
@@ -27,12 +27,14 @@ bare_alike (elements.host n k attrs es) c is own = subst (λ c. AreAlike (bare c
 bare_alike (elements.comp n k ps es) c is own = absurd (cc)
 bare_alike (elements.list marked es) c is own = absurd (cc)
 bare_alike (elements.boundary k f es) c is own = absurd (cc)
+bare_alike (elements.catcher k f es) c is own = absurd (cc)
 bare_alike (elements.provider n k x es) c is own = absurd (cc)
 
 -- a host with this number
 the_host : (m : Mark) (n : ℕ) → is_host m ≡ true → host_number m ≡ Some n → m ≡ of_host (Some n)
 the_host (of_instance i) n h k = absurd (cc)
 the_host (of_boundary s) n h k = absurd (cc)
+the_host (of_catcher z) n h k = absurd (cc)
 the_host plain n h k = absurd (cc)
 the_host (of_host o) n h k = ap of_host k
 

@@ -4,7 +4,7 @@ use Rattle.std.specs.List.{AllByRecursion}
 use Rattle.std.proofs.Common.{arith, ap, ◌∙◌}
 use Rattle.std.proofs.lemmas.Bool.Decides.{nat_tests, Decides-eqb}
 use Rattle.rx_elem.specs.Elements.{Element}
-use Rattle.rx_elem.specs.Trees.{Mark, of_instance, of_host, of_boundary, plain, Node, node, Forest, none, vacant, child, host_number, is_host}
+use Rattle.rx_elem.specs.Trees.{Mark, of_instance, of_host, of_boundary, of_catcher, plain, Node, node, Forest, none, vacant, child, host_number, is_host}
 use Rattle.rx_elem.specs.Spots.{Around, around_children, spots_in}
 use Rattle.rx_forest.specs.Hosts.{Host, host_at, has_host}
 use Rattle.host_laws.specs.Related.{AreDistinct}
@@ -51,6 +51,8 @@ mutual
       omega (arith, occurs_other n a e (of_instance i) ns fs refl, occurs_times_in n (around_children a (of_instance i)) ns k.1, occurs_times_in n a fs k.2)
   occurs_times n a (node e (of_boundary s) ns fs) k =
       omega (arith, occurs_other n a e (of_boundary s) ns fs refl, occurs_times_in n (around_children a (of_boundary s)) ns k.1, occurs_times_in n a fs k.2)
+  occurs_times n a (node e (of_catcher z) ns fs) k =
+      omega (arith, occurs_other n a e (of_catcher z) ns fs refl, occurs_times_in n (around_children a (of_catcher z)) ns k.1, occurs_times_in n a fs k.2)
   occurs_times n a (node e plain ns fs) k =
       omega (arith, occurs_other n a e plain ns fs refl, occurs_times_in n (around_children a plain) ns k.1, occurs_times_in n a fs k.2)
 

@@ -5,7 +5,7 @@ use Rattle.std.proofs.Common.{arith, sym, ap, subst, ◌∙◌}
 use Rattle.std.proofs.lemmas.Bool.Decides.{nat_tests, Decides-eqb}
 use Rattle.rx_elem.specs.Elements.{Element}
 use Rattle.rx_elem.specs.Identity.{old_places, is_reused}
-use Rattle.rx_elem.specs.Trees.{Mark, of_instance, of_host, of_boundary, plain, Node, node, Forest, none, vacant, child, places, mark_of, host_number, is_host, elements_in, children_if, fallback_if}
+use Rattle.rx_elem.specs.Trees.{Mark, of_instance, of_host, of_boundary, of_catcher, plain, Node, node, Forest, none, vacant, child, places, mark_of, host_number, is_host, elements_in, children_if, fallback_if}
 use Rattle.rx_elem.specs.Compare.{old_nodes, node_at}
 use Rattle.host_laws.specs.Related.{AreApart}
 use Rattle.host_laws.proofs.IdentityLaws.{places_distinct}
@@ -127,6 +127,7 @@ mark_times : (n next : ℕ) → n < next → (e : Element) (m : Mark) (o : Optio
     → one_if (is_number n (host_number m)) ≤ one_if (is_number n (old_number o))
 mark_times n next lt e (of_instance i) o b k g = omega arith
 mark_times n next lt e (of_boundary s) o b k g = omega arith
+mark_times n next lt e (of_catcher z) o b k g = omega arith
 mark_times n next lt e plain o b k g = omega arith
 mark_times n next lt e (of_host h) o false k g = absurd (cc)
 mark_times n next lt e (of_host None) None true k g = omega arith

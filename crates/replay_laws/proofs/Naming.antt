@@ -19,7 +19,7 @@ use Rattle.rx_elem.specs.declared.effect.EffectRecord.{EffectRecord}
 use Rattle.rx_elem.specs.declared.effect.ContextRead.{ContextRead}
 use Rattle.rx_elem.specs.declared.effect.VersionRead.{VersionRead}
 use Rattle.rx_meaning.specs.Expressions.{Env, value_in}
-use Rattle.rx_meaning.specs.Body.{Inputs, Taken, attr_in, body_of, elements_of, finished, opening_frame, ready, stopped_at, take_all, taken, turns}
+use Rattle.rx_meaning.specs.Body.{Inputs, Taken, attr_in, body_of, elements_of, finished, opening_frame, ready, stopped_at, take_all, taken, thrown, turns}
 use Rattle.rx_meaning.specs.Body as body
 use Rattle.rx_forest.specs.Hosts.{with_attr, by_name}
 use Rattle.rx_forest.specs.HostOps.{attr_named}
@@ -38,6 +38,7 @@ abbrev mutual
   Named p (elements.comp c k ps es) = (is_some (component_at p c) ≡ true) × AllNamed p es
   Named p (elements.list marked es) = AllNamed p es
   Named p (elements.boundary k f es) = Named p f × AllNamed p es
+  Named p (elements.catcher k f es) = Named p f × AllNamed p es
   Named p (elements.provider c k x es) = AllNamed p es
 
   pub AllNamed : Program → Elements → Type 0
@@ -130,6 +131,7 @@ module _ (p : Program) (some : HasComponents p) (kids : List Element) (given : A
         (sorted_own (filter_map (attr_in p env) attrs) (attrs_own p env attrs apart.0), slots_named env ss apart.1)
     slot_named env (syntax.comp n attrs w ss) apart = (number_named p n some, slots_named env ss apart)
     slot_named env (syntax.boundary k f w ss) apart = (slot_named env f apart.0, slots_named env ss apart.1)
+    slot_named env (syntax.catcher k f w ss) apart = (slot_named env f apart.0, slots_named env ss apart.1)
     slot_named env (syntax.provider n k e w ss) apart = slots_named env ss apart
     slot_named env (syntax.enclosed b s) apart = slot_named env s apart
 
@@ -144,6 +146,7 @@ body_named p some c apart i h es effects initials reads versions same = go (take
   where
     go : (t : Taken) → finished p i (body_slots c.body) t ≡ ready es effects initials reads versions → AllNamed p (gathered es)
     go (stopped_at r v) same = absurd (cc same)
+    go (thrown x) same = absurd (cc same)
     go (taken f) same =
         let equal : elements_of p i.children f.env (body_slots c.body) ≡ es = cc in
         subst (λ (xs : List Element). AllNamed p (gathered xs)) equal (slots_named p some i.children h f.env (body_slots c.body) apart)

@@ -6,7 +6,7 @@ use Rattle.std.proofs.lemmas.Bool.Decides.{Decides-eqb}
 use Rattle.std.proofs.lemmas.List.Elements.{filter-append}
 use Rattle.rx_elem.specs.Elements.{Element}
 use Rattle.rx_elem.specs.Identity.{old_places, moves, moves_after}
-use Rattle.rx_elem.specs.Trees.{Mark, of_instance, of_host, of_boundary, plain, Node, node, Forest, none, vacant, child, host_number, is_host, elements_in, children_if, fallback_if}
+use Rattle.rx_elem.specs.Trees.{Mark, of_instance, of_host, of_boundary, of_catcher, plain, Node, node, Forest, none, vacant, child, host_number, is_host, elements_in, children_if, fallback_if}
 use Rattle.rx_elem.specs.Compare.{Past, pasts, old_nodes, node_at}
 use Rattle.host_laws.specs.Commits.{front, front_in, front_if, WasHost, WasNone, FairGone, RenderedHost, first_past, rest_pasts, Rendered, Rendered_in, HasNumber, AreNumbered, AreNumbered_in}
 use Rattle.replay_laws.proofs.Counts.{is_number, one_if, times, times_in, times_if}
@@ -101,6 +101,7 @@ module _ (next : ℕ) (k w : ℕ → Bool) (late : (n : ℕ) → next ≤ n → 
       (n, refl, was_host e n o g (there n (omega arith)))
   host_rendered e (of_instance i) o num g there = was_none e o next None g
   host_rendered e (of_boundary s) o num g there = was_none e o next None g
+  host_rendered e (of_catcher z) o num g there = was_none e o next None g
   host_rendered e plain o num g there = was_none e o next None g
 
   mutual

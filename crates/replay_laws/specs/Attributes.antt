@@ -32,6 +32,7 @@ abbrev mutual
   SlotAttributesApart (syntax.host n attrs w ss) = StandOnce (attribute_names attrs) × SlotsAttributesApart ss
   SlotAttributesApart (syntax.comp n attrs w ss) = SlotsAttributesApart ss
   SlotAttributesApart (syntax.boundary k f w ss) = SlotAttributesApart f × SlotsAttributesApart ss
+  SlotAttributesApart (syntax.catcher k f w ss) = SlotAttributesApart f × SlotsAttributesApart ss
   SlotAttributesApart (syntax.provider n k e w ss) = SlotsAttributesApart ss
   SlotAttributesApart (syntax.enclosed b s) = SlotAttributesApart s
 

@@ -1,5 +1,5 @@
 -- What fits has no more places than the plans have room for.
-use Rattle.std.specs.Prelude.{◌≡◌, ℕ, suc, ◌+◌, ◌≤◌, true, cond, List, [], ◌∷◌, ◌++◌, map, Option, Some, None}
+use Rattle.std.specs.Prelude.{◌≡◌, ℕ, suc, ◌+◌, ◌≤◌, Bool, true, false, not, cond, List, [], ◌∷◌, ◌++◌, map, Option, Some, None}
 use Rattle.std.proofs.Common.{arith, ap}
 use Rattle.std.proofs.lemmas.List.{append-nil, append_assoc}
 use Rattle.rx_ast.specs.Syntax.{Program}
@@ -7,10 +7,10 @@ use Rattle.rx_rules.specs.Bounds.{component_levels}
 use Rattle.rx_elem.specs.Elements.{Element, key_of}
 use Rattle.rx_elem.specs.Elements as elements
 use Rattle.rx_elem.specs.Identity.{Identity, identity_after, identities_after}
-use Rattle.rx_elem.specs.Trees.{Node, Forest, forest, children_if}
+use Rattle.rx_elem.specs.Trees.{Node, Forest, forest, children_if, is_caught}
 use Rattle.rx_elem.specs.Spots.{at_root}
-use Rattle.rx_meaning.specs.Fresh.{empty, made, waits}
-use Rattle.rx_meaning.specs.Cursor.{Open, around, trying, falling, Frame, Cursor, at_place, at_end, ended, is_null}
+use Rattle.rx_meaning.specs.Fresh.{empty, made, waits, throws}
+use Rattle.rx_meaning.specs.Cursor.{Open, around, trying, falling, guarding, Frame, Cursor, at_place, at_end, ended, is_null}
 use Rattle.render_laws.proofs.Plans.{Alts, Plan, alts_size}
 use Rattle.render_laws.proofs.Coming.{Has, here, there, Comes}
 use Rattle.render_laws.proofs.Fitting.{allowed, Used, plans_of, FitsOld}
@@ -31,6 +31,7 @@ comes_room n p a (elements.host name k attrs es) h = has_room h.2
 comes_room n p a (elements.comp c k ps es) h = has_room h.4
 comes_room n p a (elements.list marked es) h = has_room h.2
 comes_room n p a (elements.boundary k e es) h = has_room h.3
+comes_room n p a (elements.catcher k e es) h = has_room h.3
 comes_room n p a (elements.provider c k x es) h = has_room h.2
 
 -- the elements of a list that are to come
@@ -82,8 +83,13 @@ end_room ps us done u d = omega (arith, all_cost ps us u (map element_if done ++
 
 -- an open node has room for itself, what it keeps and its list
 open_room : (o : Open) (b : Alts) → KeptFits b o → open_places o + plans_size (sides o b) ≤ alts_size b
-open_room (around e m) b k = omega (arith, there_size b k)
+open_room (around e m) b k = by_test (is_caught m)
+  where
+    by_test : (q : Bool) → 1 + plans_size (plans_of (not q) b) ≤ alts_size b
+    by_test true = omega (arith, there_size b k)
+    by_test false = omega (arith, there_size b k)
 open_room (trying e old f) b k = omega (arith, there_size b k)
+open_room (guarding e f) b k = omega (arith, there_size b k)
 open_room (falling e old a) b k =
     omega (arith, there_size b k.0, in_count (plans_of true b) (children_if old) k.1, spots_in_count at_root (children_if old))
 
@@ -109,3 +115,4 @@ cursor_room p (at_end n fs o done) h =
 cursor_room p (ended empty) h = omega arith
 cursor_room p (ended (made n)) h = omega (arith, fits_count (root_alts component_levels p) n h, spots_count at_root n)
 cursor_room p (ended (waits a)) h = omega arith
+cursor_room p (ended (throws x)) h = omega arith

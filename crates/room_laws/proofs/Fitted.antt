@@ -1,5 +1,5 @@
 -- What stands in the places of a render in progress fits the plans of the program.
-use Rattle.std.specs.Prelude.{◌≡◌, ℕ, suc, true, false, List, [], ◌∷◌, ◌++◌, map, Option, Some, None, option_and_then, position, refl}
+use Rattle.std.specs.Prelude.{◌≡◌, ℕ, suc, true, false, not, List, [], ◌∷◌, ◌++◌, map, Option, Some, None, option_and_then, position, refl}
 use Rattle.std.specs.List.{zip}
 use Rattle.std.proofs.Common.{ap, sym, subst}
 use Rattle.std.proofs.lemmas.List.{append-nil, append_assoc}
@@ -8,11 +8,11 @@ use Rattle.rx_rules.specs.Bounds.{component_levels}
 use Rattle.rx_elem.specs.Elements.{Element, key_of, gathered}
 use Rattle.rx_elem.specs.Elements as elements
 use Rattle.rx_elem.specs.Identity.{Identity, identity_after, identities_after, identities, identified, is_same_child}
-use Rattle.rx_elem.specs.Trees.{Node, Forest, forest, children_if, elements_in, element_of}
+use Rattle.rx_elem.specs.Trees.{Node, Forest, forest, children_if, elements_in, element_of, is_caught}
 use Rattle.rx_elem.specs.Compare.{node_at}
-use Rattle.rx_meaning.specs.Fresh.{Part, Place, empty, made, waits}
+use Rattle.rx_meaning.specs.Fresh.{Part, Place, empty, made, waits, throws}
 use Rattle.rx_meaning.specs.Touched.{children_with_old}
-use Rattle.rx_meaning.specs.Cursor.{Open, around, trying, falling, Frame, Cursor, at_place, at_end, ended}
+use Rattle.rx_meaning.specs.Cursor.{Open, around, trying, falling, guarding, Frame, Cursor, at_place, at_end, ended}
 use Rattle.render_laws.proofs.Plans.{Alts, Plan}
 use Rattle.render_laws.proofs.Coming.{IsFew, Comes, AllCome, comes_within}
 use Rattle.render_laws.proofs.Fitting.{piece, allowed, Used, plans_of, IsThere, Fits, FitsEach, FitsIn, FitsOld, old_sub, old_fits}
@@ -48,24 +48,28 @@ abbrev pub element_at : Open → Element
 element_at (around e m) = e
 element_at (trying e old f) = e
 element_at (falling e old a) = e
+element_at (guarding e f) = e
 
--- the plans of the list of an open node
+-- the plans of the list of an open node: those of its fallback, if it falls or has caught a value
 abbrev pub sides : Open → Alts → List Plan
-sides (around e m) b = plans_of true b
+sides (around e m) b = plans_of (not (is_caught m)) b
 sides (trying e old f) b = plans_of true b
 sides (falling e old a) b = plans_of false b
+sides (guarding e f) b = plans_of true b
 
 -- what an open node keeps fits
 abbrev pub KeptFits : Alts → Open → Type 0
 KeptFits b (around e m) = IsThere b
 KeptFits b (trying e old f) = IsThere b
 KeptFits b (falling e old a) = IsThere b × FitsIn (plans_of true b) (children_if old)
+KeptFits b (guarding e f) = IsThere b
 
 -- so does what it keeps once it opens its fallback, and the fallback comes from its plans
 abbrev pub FallFits : ℕ → Program → Alts → Open → Type 0
 FallFits n p b (around e m) = Unit {0}
 FallFits n p b (trying e old f) = FitsIn (plans_of true b) (children_if old) × PartComes n p (plans_of false b) f
 FallFits n p b (falling e old a) = Unit {0}
+FallFits n p b (guarding e f) = PartComes n p (plans_of false b) f
 
 -- to a place of this element within these open nodes these alternatives are offered
 abbrev pub FramesFit : ℕ → Program → List Frame → Alts → Element → Type 0
@@ -92,6 +96,7 @@ abbrev pub PlaceFits : Program → Place → Type 0
 PlaceFits p empty = Unit {0}
 PlaceFits p (made n) = Fits (root_alts component_levels p) n
 PlaceFits p (waits a) = Unit {0}
+PlaceFits p (throws x) = Unit {0}
 
 -- what a render in progress has fits
 abbrev pub CursorFits : Program → Cursor → Type 0

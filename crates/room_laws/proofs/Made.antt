@@ -13,7 +13,7 @@ use Rattle.rx_lists.specs.Shapes as shapes
 use Rattle.rx_links.specs.Drafts.{Draft, taken, made, made_size, Trees}
 use Rattle.rx_links.specs.Places.{Around, top, below, after, placed}
 use Rattle.rx_meaning.specs.Fresh.{Contexts, IsTree}
-use Rattle.rx_meaning.specs.Cursor.{Open, around, trying, falling, Frame, Cursor, StandsAtNode}
+use Rattle.rx_meaning.specs.Cursor.{Open, around, trying, falling, guarding, Frame, Cursor, StandsAtNode}
 use Rattle.render_laws.proofs.Bounded.{tree_within}
 use Rattle.rx_fiber.specs.Fibers.{Fiber}
 use Rattle.rx_fiber.specs.Reading.{IsTreeOf}
@@ -56,6 +56,7 @@ open_there : (x : Open) → 1 ≤ open_places x
 open_there (around e m) = omega arith
 open_there (trying e old f) = omega arith
 open_there (falling e old a) = omega arith
+open_there (guarding e f) = omega arith
 
 mutual
   around_made : {c : Shape Fiber} {k : Around Fiber} {n : ℕ} {rs : Draft Fiber} {fs : List Frame} → IsAround c k n rs fs → made_around k + made_size rs ≤ places_around fs

@@ -1,19 +1,20 @@
 -- Each step of a render keeps what it has fitting.
-use Rattle.std.specs.Prelude.{◌≡◌, ℕ, zero, suc, ◌+◌, ◌≤◌, Bool, true, false, cond, List, [], ◌∷◌, ◌++◌, map, ℤ, Option, Some, None, is_some, slice_set, refl}
+use Rattle.std.specs.Prelude.{◌≡◌, ℕ, zero, suc, ◌+◌, ◌≤◌, Bool, true, false, not, cond, if◌then◌else◌, List, [], ◌∷◌, ◌++◌, map, ℤ, Option, Some, None, is_some, slice_set, refl}
 use Rattle.std.proofs.Common.{arith, ap, sym, subst, ◌∙◌}
 use Rattle.rx_base.specs.Awaits.{Awaits}
 use Rattle.rx_base.specs.Awaits as awaits
 use Rattle.rx_ast.specs.Syntax.{Program, Component}
 use Rattle.rx_rules.specs.Names.{component_at}
 use Rattle.rx_rules.specs.Bounds.{component_levels}
-use Rattle.rx_elem.specs.Elements.{Element, Elements, key_of, gathered, listed}
+use Rattle.rx_elem.specs.Elements.{Element, Elements, Key, key_of, gathered, listed}
 use Rattle.rx_elem.specs.Elements as elements
 use Rattle.rx_elem.specs.Identity.{Identity, identity_after}
-use Rattle.rx_elem.specs.Trees.{Node, none, children_if, fallback_if, element_of}
-use Rattle.rx_meaning.specs.Body.{Body, wait, ready, body_of}
-use Rattle.rx_meaning.specs.Fresh.{Sight, Contexts, Part, part, Shape, absent, waiting, one_list, two_lists, shape_of, shape_of_body, shape_of_component, inputs_at, old_instance}
+use Rattle.rx_catch.specs.declared.state.CatchState.TheVariants.{Caught}
+use Rattle.rx_elem.specs.Trees.{Node, node, none, forest, children_if, fallback_if, element_of, is_caught, of_catcher, old_caught}
+use Rattle.rx_meaning.specs.Body.{Body, wait, throw, ready, body_of}
+use Rattle.rx_meaning.specs.Fresh.{Sight, Contexts, Part, part, Shape, absent, waiting, throwing, one_list, two_lists, guarded, shape_of, shape_of_body, shape_of_component, shape_of_catcher, inputs_at, old_instance}
 use Rattle.rx_meaning.specs.Touched.{children_with_old}
-use Rattle.rx_meaning.specs.Cursor.{Open, around, trying, falling, Frame, Cursor, at_place, at_end, ended, is_null, come_to, open_part, arrive, past, unwind, begin, finished, unit, start, HasLevel}
+use Rattle.rx_meaning.specs.Cursor.{Open, around, trying, falling, guarding, Frame, Cursor, at_place, at_end, ended, is_null, come_to, open_part, arrive, past, past_throw, unwind, unwind_throw, begin, finished, unit, start, HasLevel}
 use Rattle.render_laws.proofs.Plans.{Alts, Plan, fixed, every, end, next, plan_in, body_plan}
 use Rattle.render_laws.proofs.Coming.{Has, is_keyed, IsFew, Comes, AllCome, IsDeclared, comes_less}
 use Rattle.render_laws.proofs.Fitting.{allowed, Used, plans_of, IsThere, Fits, FitsIn, FitsOld}
@@ -28,6 +29,7 @@ is_null-null (elements.host n k attrs es) h = absurd (cc h)
 is_null-null (elements.comp c k ps es) h = absurd (cc h)
 is_null-null (elements.list marked es) h = absurd (cc h)
 is_null-null (elements.boundary k f es) h = absurd (cc h)
+is_null-null (elements.catcher k f es) h = absurd (cc h)
 is_null-null (elements.provider c k x es) h = absurd (cc h)
 
 module _ (p : Program) where
@@ -74,37 +76,64 @@ module _ (p : Program) where
   past_fits n fs (around e m) w b k l h out = out w
   past_fits n fs (trying e old f) w b k l h out = open_fits n fs (falling e old w) f b l.1 (k, l.0) tt h
   past_fits n fs (falling e old v) w b k l h out = out (awaits.union v w)
+  past_fits n fs (guarding e f) w b k l h out = out w
 
   unwind_fits : (n : ℕ) (fs : List Frame) (a : Alts) (e : Element) (w : Awaits) → FramesFit n p fs a e → CursorFits p (unwind n fs w)
   unwind_fits n [] a e w h = tt
   unwind_fits n (f ∷ fs) a e w h = past_fits n fs f.node w h.0 h.6 h.7 h.8 (λ v. unwind_fits (suc n) fs h.0 (element_at f.node) v h.8)
 
+  throw_fits : (n : ℕ) (fs : List Frame) (o : Open) (x : ℤ) (b : Alts) → KeptFits b o → FallFits n p b o → FramesFit (suc n) p fs b (element_at o)
+      → CursorFits p (unwind_throw (suc n) fs x) → CursorFits p (past_throw o x (unwind_throw (suc n) fs x) (open_part n fs))
+  throw_fits n fs (around e m) x b k l h out = out
+  throw_fits n fs (trying e old f) x b k l h out = out
+  throw_fits n fs (falling e old v) x b k l h out = out
+  throw_fits n fs (guarding e f) x b k l h out = open_fits n fs (around e (of_catcher (Caught x))) f b l k tt h
+
+  unwind_throw_fits : (n : ℕ) (fs : List Frame) (a : Alts) (e : Element) (x : ℤ) → FramesFit n p fs a e → CursorFits p (unwind_throw n fs x)
+  unwind_throw_fits n [] a e x h = tt
+  unwind_throw_fits n (f ∷ fs) a e x h = throw_fits n fs f.node x h.0 h.6 h.7 h.8 (unwind_throw_fits (suc n) fs h.0 (element_at f.node) x h.8)
+
   -- what stands in a place comes from what is offered to it
   abbrev ShapeFits : ℕ → Alts → Element → Option Node → Shape → Type 0
   ShapeFits n a e old absent = elements.null ≡ e
   ShapeFits n a e old (waiting r v) = Unit {0}
-  ShapeFits n a e old (one_list m q) = IsThere a × PartComes n p (plans_of true a) q
+  ShapeFits n a e old (throwing x) = Unit {0}
+  ShapeFits n a e old (one_list m q) = IsThere a × PartComes n p (plans_of (not (is_caught m)) a) q
   ShapeFits n a e old (two_lists q f) =
       IsThere a × PartComes n p (plans_of true a) q × FitsIn (plans_of true a) (children_if old) × PartComes n p (plans_of false a) f
+  ShapeFits n a e old (guarded q f) = IsThere a × PartComes n p (plans_of true a) q × PartComes n p (plans_of false a) f
 
   begin_fits : (n : ℕ) (fs : List Frame) (a : Alts) (e : Element) (old : Option Node) (shape : Shape) → ShapeFits n a e old shape → FramesFit (suc n) p fs a e
       → CursorFits p (begin n fs e old shape)
   begin_fits n fs a e old absent s h = arrive_fits (suc n) fs a e None s tt h
   begin_fits n fs a e old (waiting r v) s h = unwind_fits (suc n) fs a e (awaits.one r) h
+  begin_fits n fs a e old (throwing x) s h = unwind_throw_fits (suc n) fs a e x h
   begin_fits n fs a e old (one_list m q) s h = open_fits n fs (around e m) q a s.1 s.0 tt h
   begin_fits n fs a e old (two_lists q f) s h = open_fits n fs (trying e old f) q a s.1 s.0 (s.2, s.3) h
+  begin_fits n fs a e old (guarded q f) s h = open_fits n fs (guarding e f) q a s.1 s.0 s.2 h
 
   -- a node over its list that is done fits
   finished_fits : (o : Open) (b : Alts) (us : List (List Identity)) (done : List (Option Node)) → Used (sides o b) us → DoneFits (sides o b) us [] done → KeptFits b o
       → Fits b (finished o done)
-  finished_fits (around e m) b us done u d k = (k, (us, u, done_each (plans_of true b) us [] done d), fits_none (plans_of false b))
+  finished_fits (around e m) b us done u d k = by_test (is_caught m) u d
+    where
+      by_test : (q : Bool) → Used (plans_of (not q) b) us → DoneFits (plans_of (not q) b) us [] done
+          → Fits b (if q then node e m none (forest done) else node e m (forest done) none)
+      by_test true v w = (k, fits_none (plans_of true b), (us, v, done_each (plans_of false b) us [] done w))
+      by_test false v w = (k, (us, v, done_each (plans_of true b) us [] done w), fits_none (plans_of false b))
   finished_fits (trying e old f) b us done u d k = (k, (us, u, done_each (plans_of true b) us [] done d), fits_none (plans_of false b))
   finished_fits (falling e old a) b us done u d k = (k.0, k.1, (us, u, done_each (plans_of false b) us [] done d))
+  finished_fits (guarding e f) b us done u d k = (k, (us, u, done_each (plans_of true b) us [] done d), fits_none (plans_of false b))
 
   finished_element : (o : Open) (done : List (Option Node)) → element_of (finished o done) ≡ element_at o
-  finished_element (around e m) done = refl
+  finished_element (around e m) done = by_test (is_caught m)
+    where
+      by_test : (q : Bool) → element_of (if q then node e m none (forest done) else node e m (forest done) none) ≡ e
+      by_test true = refl
+      by_test false = refl
   finished_element (trying e old f) done = refl
   finished_element (falling e old a) done = refl
+  finished_element (guarding e f) done = refl
 
   pub end_fits : (n : ℕ) (fs : List Frame) (o : Open) (done : List (Option Node)) → EndFits n p fs o done → CursorFits p (arrive n fs (Some (finished o done)))
   end_fits n fs o done h =
@@ -125,6 +154,7 @@ module _ (s : Sight) (plain : IsPlain s.program) (n : ℕ) (a : Alts) (old : Opt
   body_comes : (cs : Contexts) (c : ℕ) (q g : Plan) → Has q g a → (e : Element) (b : Body) → IfReady n s.program q b
       → ShapeFits s.program n a e old (shape_of_body cs c old b)
   body_comes cs c q g has e (wait r v) k = tt
+  body_comes cs c q g has e (throw x) k = tt
   body_comes cs c q g has e (ready es effects initials reads versions) k =
       (has_is_there has, list_comes n s.program (plans_of true a) q (has_primary has) (part cs es (children_if old)) k.0 k.1 (primary_fits a old o))
 
@@ -143,6 +173,21 @@ module _ (s : Sight) (plain : IsPlain s.program) (n : ℕ) (a : Alts) (old : Opt
       go (Some x) same h =
           body_comes cs c (plan_in (body_plan m s.program) q s.program (Some x)) g h e (body_of s.program x (inputs_at s cs props es (old_instance old)))
           (found_comes m n s.program plain (omega arith) q (inputs_at s cs props es (old_instance old)) few come c x same)
+
+  catcher_comes : (cs : Contexts) (k : Key) (e : Element) (es : Elements) → Comes (suc n) s.program a (elements.catcher k e es) → (caught : Option ℤ)
+      → ShapeFits s.program n a (elements.catcher k e es) old (shape_of_catcher cs e es old caught)
+  catcher_comes cs k e es c None =
+      let kids = node_comes s.program cs n a c.0 (fixed (next c.1 end) c.2) c.3 es c.4 c.5 old o in (
+        kids.0,
+        kids.1,
+        list_comes n s.program (plans_of false a) (fixed (next c.1 end) c.2) (has_fallback c.3) (part cs (e ∷ []) none) (one_few (is_keyed e))
+            (comes_less n s.program (cond (is_keyed e) c.2 c.1) e c.6, tt) (fits_none (plans_of false a)),
+      )
+  catcher_comes cs k e es c (Some x) = (
+    has_is_there c.3,
+    list_comes n s.program (plans_of false a) (fixed (next c.1 end) c.2) (has_fallback c.3) (part cs (e ∷ []) (fallback_if old)) (one_few (is_keyed e))
+        (comes_less n s.program (cond (is_keyed e) c.2 c.1) e c.6, tt) (fallback_fits a old o),
+  )
 
   shape_fits : (cs : Contexts) (e : Element) → Comes (suc n) s.program a e → ShapeFits s.program n a e old (shape_of s cs e old)
   shape_fits cs elements.null c = refl
@@ -168,6 +213,7 @@ module _ (s : Sight) (plain : IsPlain s.program) (n : ℕ) (a : Alts) (old : Opt
         list_comes n s.program (plans_of false a) (fixed (next c.1 end) c.2) (has_fallback c.3) (part cs (e ∷ []) (fallback_if old)) (one_few (is_keyed e))
             (comes_less n s.program (cond (is_keyed e) c.2 c.1) e c.6, tt) (fallback_fits a old o),
       )
+  shape_fits cs (elements.catcher k e es) c = catcher_comes cs k e es c (old_caught old)
   shape_fits cs (elements.provider i k x es) c = node_comes s.program (slice_set cs i x) n a c.0 c.1 c.2 es c.3 c.4 old o
 
 module _ (s : Sight) (plain : IsPlain s.program) where

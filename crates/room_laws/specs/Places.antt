@@ -3,8 +3,8 @@ use Rattle.std.specs.Prelude.{ℕ, ◌+◌, cond, List, [], ◌∷◌, Option, S
 use Rattle.rx_elem.specs.Elements.{Element}
 use Rattle.rx_elem.specs.Trees.{Node, Forest, forest, children_if}
 use Rattle.rx_elem.specs.Spots.{at_root, spots_in, node_count}
-use Rattle.rx_meaning.specs.Fresh.{empty, made, waits}
-use Rattle.rx_meaning.specs.Cursor.{Open, around, trying, falling, Frame, Cursor, at_place, at_end, ended, is_null}
+use Rattle.rx_meaning.specs.Fresh.{empty, made, waits, throws}
+use Rattle.rx_meaning.specs.Cursor.{Open, around, trying, falling, guarding, Frame, Cursor, at_place, at_end, ended, is_null}
 
 -- how many nodes the trees of a list have
 abbrev pub nodes_in : Forest → ℕ
@@ -20,6 +20,7 @@ abbrev pub open_places : Open → ℕ
 open_places (around e m) = 1
 open_places (trying e old f) = 1
 open_places (falling e old a) = 1 + nodes_in (children_if old)
+open_places (guarding e f) = 1
 
 -- the nodes that are open around a place, and the other places of their lists
 abbrev pub places_around : List Frame → ℕ
@@ -33,3 +34,4 @@ places_in (at_end levels fs o done) = open_places o + (nodes_in (forest done) + 
 places_in (ended empty) = 0
 places_in (ended (made n)) = node_count (Some n)
 places_in (ended (waits a)) = 0
+places_in (ended (throws x)) = 0

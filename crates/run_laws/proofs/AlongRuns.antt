@@ -53,6 +53,7 @@ opening_carries p = (
     committed = tt;
   },
   tt,
+  refl,
 )
 
 module _ (p : Program) (deep : depth_bound p ≤ depth_limit) (declared : ReadsDeclared p) where
@@ -76,22 +77,23 @@ module _ (p : Program) (deep : depth_bound p ≤ depth_limit) (declared : ReadsD
       go (c ∷ cs) e = waits_or (only_transitions lanes) (all_awaits (c ∷ cs)) e
 
   ended_keeps : (s : State) (g : Progress) (counts : Counts) (tree : Node) → fresh (sight_of p s g) s.tree ≡ made tree
-      → (known : List Resolution) (last : Cut) → Carries p s.journal s.numbers s.tree known last → RendersOn p s.journal known last g.lanes g.cut → IsCarried p (ended s g counts tree).after
-  ended_keeps s g counts tree gives known last c r = go (outcome g.lanes s.tree tree) refl
+      → (known : List Resolution) (last : Cut) → Carries p s.journal s.numbers s.tree known last → RendersOn p s.journal known last g.lanes g.cut → s.seen ≡ last.resolutions
+      → IsCarried p (ended s g counts tree).after
+  ended_keeps s g counts tree gives known last c r saw = go (outcome g.lanes s.tree tree) refl
     where
       go : (o : Outcome) → outcome g.lanes s.tree tree ≡ o → IsCarried p (ended_by s g counts o).after
-      go (defer a) e = (known, last, c, tt)
+      go (defer a) e = (known, last, c, tt, saw)
       go (commit new) e =
           let same : new ≡ tree = commit_is g.lanes s.tree tree new e in
           let gives_new : fresh (sight_of p s g) s.tree ≡ made new = gives ∙ ap made (sym same) in
           passive_keeps (committed_state s g (numbered s.numbers new)) (lanes_of.has g.lanes lane.Sync)
-          (resolutions_by g.cut s.journal, g.cut, commit_carries p s.journal s.numbers s.tree g.lanes g.cut new deep declared known last c r gives_new, tt)
+          (resolutions_by g.cut s.journal, g.cut, commit_carries p s.journal s.numbers s.tree g.lanes g.cut s.seen new deep declared known last c r gives_new, tt, refl)
 
   going_keeps : (s : State) (g : Progress) (budget : Option ℕ) (r : Stretch) → GoesOn AnyRender p s g budget r
-      → (known : List Resolution) (last : Cut) → Carries p s.journal s.numbers s.tree known last → RendersOn p s.journal known last g.lanes g.cut → IsCarried p r.after
-  going_keeps s g budget r (inl f, _) known last c on = same_after (IsCarried p) r (ended s g f.counts f.tree) f.stretch_is (ended_keeps s g f.counts f.tree f.rendered known last c on)
-  going_keeps s g budget r (inr y, _) known last c on =
-      same_after (IsCarried p) r (record { lines = []; bodies = y.bodies; after = record s { progress = Some (gone_on g y.budget y.bodies) } }) y.stretch_is (known, last, c, on)
+      → (known : List Resolution) (last : Cut) → Carries p s.journal s.numbers s.tree known last → RendersOn p s.journal known last g.lanes g.cut → s.seen ≡ last.resolutions → IsCarried p r.after
+  going_keeps s g budget r (inl f, _) known last c on saw = same_after (IsCarried p) r (ended s g f.counts f.tree) f.stretch_is (ended_keeps s g f.counts f.tree f.rendered known last c on saw)
+  going_keeps s g budget r (inr y, _) known last c on saw =
+      same_after (IsCarried p) r (record { lines = []; bodies = y.bodies; after = record s { progress = Some (gone_on g y.budget y.bodies) } }) y.stretch_is (known, last, c, on, saw)
 
   pub turn_keeps : (s : State) (c : Choice) (budget : Option ℕ) (r : Stretch) → TurnBy AnyRender p s c budget r → IsCarried p s → IsCarried p r.after
   turn_keeps s choice.None budget r is c = same_after (IsCarried p) r (silent s) is c
@@ -99,10 +101,10 @@ module _ (p : Program) (deep : depth_bound p ≤ depth_limit) (declared : ReadsD
     where
       go : (x : Option Progress) → IfSome x (λ g. RendersOn p s.journal c.0 c.1 g.lanes g.cut) → Continues AnyRender p s x budget r → IsCarried p r.after
       go None e h = absurd h
-      go (Some g) e h = going_keeps s g budget r h c.0 c.1 c.2 e
+      go (Some g) e h = going_keeps s g budget r h c.0 c.1 c.2 e c.4
   turn_keeps s (choice.Start lanes) budget r starts c =
       same_after (IsCarried p) r (followed_by (passive_run s) starts.rest) starts.stretch_is
-      (going_keeps (passive_run s).after (starting s lanes) budget starts.rest starts.begins c.0 c.1 c.2 (start_renders p s.journal s.numbers s.tree lanes c.0 c.1 c.2))
+      (going_keeps (passive_run s).after (starting s lanes) budget starts.rest starts.begins c.0 c.1 c.2 (start_renders p s.journal s.numbers s.tree lanes c.0 c.1 c.2) c.4)
 
   -- Dispatches and resolutions
 
@@ -113,6 +115,7 @@ module _ (p : Program) (deep : depth_bound p ≤ depth_limit) (declared : ReadsD
     c.1,
     update_carries p s.journal s.numbers s.tree (next_update s.journal t o l) refl refl below c.0 c.1 c.2,
     go s.progress c.3,
+    c.4,
   )
     where
       go : (x : Option Progress) → IfSome x (λ g. RendersOn p s.journal c.0 c.1 g.lanes g.cut)
@@ -143,6 +146,7 @@ module _ (p : Program) (deep : depth_bound p ≤ depth_limit) (declared : ReadsD
     c.1,
     resolution_carries p s.journal s.numbers s.tree (record { resource = resource_number p name; value = v }) c.0 c.1 c.2,
     go s.progress c.3,
+    c.4,
   )
     where
       go : (x : Option Progress) → IfSome x (λ g. RendersOn p s.journal c.0 c.1 g.lanes g.cut)
@@ -163,7 +167,7 @@ module _ (p : Program) (deep : depth_bound p ≤ depth_limit) (declared : ReadsD
         sends = hook_keeps;
         refreshes = refreshed_keeps;
         resolves = λ s name v x e c. resolved_keeps s name v x c;
-        discards = λ s c. (c.0, c.1, c.2, tt);
+        discards = λ s c. (c.0, c.1, c.2, tt, c.4);
       }) s h
 
 -- So a render in progress stands on a settled tree.

@@ -7,7 +7,7 @@ use Rattle.rx_rules.specs.Names.{component_at}
 use Rattle.rx_elem.specs.Elements.{Element, Elements, gathered, listed}
 use Rattle.rx_elem.specs.Elements as elements
 use Rattle.rx_elem.specs.Trees.{Forest, Instance, Mark, elements_in, is_hidden, none, of_boundary}
-use Rattle.rx_meaning.specs.Body.{Inputs, Taken, body_of, finished, opening_frame, stopped_at, take_all, taken}
+use Rattle.rx_meaning.specs.Body.{Inputs, Taken, body_of, finished, opening_frame, stopped_at, take_all, taken, thrown}
 use Rattle.rx_meaning.specs.Fresh.{Contexts, Sight, resource_numbers}
 use Rattle.rx_meaning.specs.Levels.{Fits, body_depth, elements_depth}
 use Rattle.rx_meaning.specs.Settled.{IsBodyOf, IsOwn, Known, done_values, read_anew, reads_another, refreshed}
@@ -23,6 +23,7 @@ ListFits n p es = elements_depth (body_depth n p) (gathered es) ≤ n
 finished_within : (depths : ℕ → ℕ) (p : Program) (i : Inputs) (ss : Slots) (t : Taken)
     → IsWithin depths (slots_by levels depths p ss + elements_depth depths (gathered i.children)) (finished p i ss t)
 finished_within depths p i ss (stopped_at r v) = tt
+finished_within depths p i ss (thrown x) = tt
 finished_within depths p i ss (taken f) = slots_are_deep depths p i.children f.env ss
 
 body_within : (depths : ℕ → ℕ) (p : Program) (d : Component) (i : Inputs)
@@ -51,6 +52,9 @@ instance_fits n p k version cs c key props given i es body calm fits =
 fits_as : (n : ℕ) (p : Program) (xs ys : List Element) → xs ≡ ys → ListFits n p ys → ListFits n p xs
 fits_as n p xs ys same h = rw same h
 
+nothing_fits : (n : ℕ) (p : Program) (fs : Forest) → fs ≡ none → ListFits n p (elements_in fs)
+nothing_fits n p fs same = rw same (omega arith)
+
 -- The children that a settled node shows need no more levels.
 pub children_fit : (n : ℕ) (s : Sight) (k : Known) (version : ℕ → ℕ) (cs : Contexts) (e : Element) (m : Mark) (ns fs : Forest) → is_hidden m ≡ false → IsOwn s.program k e m ns fs
     → reads_another version cs m ≡ false → Fits (suc n) s.program e → ListFits n s.program (elements_in ns)
@@ -69,11 +73,11 @@ children_fit n s k version cs (elements.boundary key f es) m ns fs shown (inr ow
   where
     clash : (a : _) → m ≡ of_boundary (Hidden a) → ⊥
     clash a same = let none_hidden : is_hidden (of_boundary (Hidden a)) ≡ false = rw same at shown in cc none_hidden
+children_fit n s k version cs (elements.catcher key f es) m ns fs shown (inl own) calm fits =
+    let both = shape_fits n s cs (elements.catcher key f es) None fits in fits_as n s.program (elements_in ns) (listed es) own.1 both.0
+children_fit n s k version cs (elements.catcher key f es) m ns fs shown (inr own) calm fits = nothing_fits n s.program ns own.2
 children_fit n s k version cs (elements.provider c key x es) m ns fs shown own calm fits =
     fits_as n s.program (elements_in ns) (listed es) own.1 (shape_fits n s cs (elements.provider c key x es) None fits)
-
-nothing_fits : (n : ℕ) (p : Program) (fs : Forest) → fs ≡ none → ListFits n p (elements_in fs)
-nothing_fits n p fs same = rw same (omega arith)
 
 -- and those of its fallback
 pub fallback_fits : (n : ℕ) (s : Sight) (k : Known) (cs : Contexts) (e : Element) (m : Mark) (ns fs : Forest) → IsOwn s.program k e m ns fs → Fits (suc n) s.program e
@@ -86,4 +90,7 @@ fallback_fits n s k cs (elements.list marked es) m ns fs own fits = nothing_fits
 fallback_fits n s k cs (elements.boundary key f es) m ns fs (inl own) fits = nothing_fits n s.program fs own.2
 fallback_fits n s k cs (elements.boundary key f es) m ns fs (inr own) fits =
     let both = shape_fits n s cs (elements.boundary key f es) None fits in fits_as n s.program (elements_in fs) (f ∷ []) own.2 both.1
+fallback_fits n s k cs (elements.catcher key f es) m ns fs (inl own) fits = nothing_fits n s.program fs own.2
+fallback_fits n s k cs (elements.catcher key f es) m ns fs (inr own) fits =
+    let both = shape_fits n s cs (elements.catcher key f es) None fits in fits_as n s.program (elements_in fs) (f ∷ []) own.3 both.1
 fallback_fits n s k cs (elements.provider c key x es) m ns fs own fits = nothing_fits n s.program fs own.2

@@ -93,7 +93,9 @@ last_update p j cut (Some n) u k h =
     record {
       lanes = h.lanes;
       journal = h.journal;
+      seen = h.seen;
       accounted = h.accounted;
+      within = h.within;
       waits = h.waits;
       new = h.new ++ u ∷ [];
       opened = open_push h.new u h.opened k;
@@ -141,7 +143,9 @@ last_resolution p j cut (Some n) x h =
     record {
       lanes = h.lanes;
       journal = h.journal;
+      seen = h.seen;
       accounted = h.accounted;
+      within = h.within;
       waits = h.waits;
       new = h.new;
       opened = h.opened;
@@ -196,20 +200,20 @@ start_renders p j numbers tree lanes known last c =
 
 -- A commit
 
-pub commit_carries : (p : Program) (j : Journal) (numbers : Numbers) (tree : Option Node) (lanes : Lanes) (cut : Cut) (new : Node)
+pub commit_carries : (p : Program) (j : Journal) (numbers : Numbers) (tree : Option Node) (lanes : Lanes) (cut : Cut) (seen : ℕ) (new : Node)
     → depth_bound p ≤ depth_limit → ReadsDeclared p → (known : List Resolution) (last : Cut) → Carries p j numbers tree known last → RendersOn p j known last lanes cut
-    → fresh (sight_at p j lanes cut) tree ≡ made new
+    → fresh (sight_at p j lanes cut seen) tree ≡ made new
     → Carries p (journal_after lanes cut (numbered numbers new).1 j) (numbered numbers new).0 (Some (numbered numbers new).1)
     (resolutions_by cut j) cut
-commit_carries p j numbers tree lanes cut new deep declared known last c r gives =
+commit_carries p j numbers tree lanes cut seen new deep declared known last c r gives =
     record {
       below = subst (λ (n : ℕ). NumbersBelow n (map (marked_update lanes cut (visible_instances (Some (numbered numbers new).1)) (kept_instances (Some (numbered numbers new).1))) j.updates))
           (sym (marked_length lanes cut (visible_instances (Some (numbered numbers new).1)) (kept_instances (Some (numbered numbers new).1)) j.updates))
           (below_marked (length j.updates) lanes cut (visible_instances (Some (numbered numbers new).1)) (kept_instances (Some (numbered numbers new).1)) j.updates c.below);
-      sound = commit_keeps (sight_at p j lanes cut) tree new numbers known deep declared (done_before cut j.updates r.accounted) r.more c.sound gives;
+      sound = commit_keeps (sight_at p j lanes cut seen) tree new numbers known deep declared (done_before cut j.updates r.accounted) r.more c.sound gives;
       seen = subst (λ (xs : List Resolution). HasValuesOf (resolutions_by cut j) xs) (append-nil j.resolutions) (taken_more cut.resolutions j.resolutions [] r.resolutions_before);
       numbered = hides.1;
-      rooted = root_stays (sight_at p j lanes cut) tree new numbers gives;
+      rooted = root_stays (sight_at p j lanes cut seen) tree new numbers gives;
       updates_before = let same = marked_length lanes cut (visible_instances (Some (numbered numbers new).1)) (kept_instances (Some (numbered numbers new).1)) j.updates in
           let l = r.updates_before in omega arith;
       resolutions_before = r.resolutions_before;
@@ -217,7 +221,9 @@ commit_carries p j numbers tree lanes cut new deep declared known last c r gives
           record {
             lanes = lanes;
             journal = j;
+            seen = seen;
             accounted = r.accounted;
+            within = r.resolutions_before;
             waits = hides.0;
             new = [];
             opened = tt;
@@ -230,8 +236,8 @@ commit_carries p j numbers tree lanes cut new deep declared known last c r gives
     after : List Posted
     after = (journal_after lanes cut (numbered numbers new).1 j).updates
 
-    hides : HiddenWaits depth_limit (sight_at p j lanes cut) (default_contexts p) (numbered numbers new).1 × Numbered (numbered numbers new).1
-    hides = commit_hides (sight_at p j lanes cut) tree new numbers c.numbered gives
+    hides : HiddenWaits depth_limit (sight_at p j lanes cut seen) (default_contexts p) (numbered numbers new).1 × Numbered (numbered numbers new).1
+    hides = commit_hides (sight_at p j lanes cut seen) tree new numbers c.numbered gives
 
 -- Instances that a path leads to
 

@@ -4,7 +4,7 @@ use Rattle.std.specs.Prelude.{Bool, List, None, Option, Some, [], cond, false, f
 use Rattle.std.proofs.Common.{arith, ap, sym, ◌∙◌}
 use Rattle.std.proofs.lemmas.List.{append-nil}
 use Rattle.std.proofs.lemmas.List.Elements.{filter-append}
-use Rattle.rx_elem.specs.Trees.{Forest, Instance, Mark, Node, child, node, none, of_boundary, of_host, of_instance, plain, vacant}
+use Rattle.rx_elem.specs.Trees.{Forest, Instance, Mark, Node, child, node, none, of_boundary, of_catcher, of_host, of_instance, plain, vacant}
 use Rattle.rx_queue.specs.History.{stands_done}
 use Rattle.rx_queue.specs.Journal.{Posted, Resolution, committed_value, hook, same_target, state_of}
 use Rattle.rx_susp.specs.declared.boundary.BoundaryState.TheVariants.{Hidden, Shown}
@@ -69,6 +69,7 @@ module _ (s : Sight) (new : List Posted) (more : List Resolution) (late : AllAft
   mark_later plain h = tt
   mark_later (of_boundary Shown) h = tt
   mark_later (of_boundary (Hidden a)) h = h
+  mark_later (of_catcher c) h = tt
 
   mutual
     -- A tree that is idle stays so.

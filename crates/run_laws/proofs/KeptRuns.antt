@@ -349,5 +349,5 @@ module _ (p : Program) (deep : depth_bound p ≤ depth_limit) (declared : ReadsD
         sends = λ s w path m k o e h. (hook_keeps p deep declared s w path m k o e h.0, sent_kept s w (hook m.number k) o h.1);
         refreshes = λ s w r h. (refreshed_keeps p deep declared s w r h.0, refreshed_kept s w r h.1);
         resolves = λ s name v x e h. (resolved_keeps p deep declared s name v x h.0, resolved_kept p s name v x e h.1);
-        discards = λ s h. ((h.0.0, h.0.1, h.0.2, tt), (h.1.0, h.1.1, h.1.2, h.1.3, h.1.4, tt, h.1.6));
+        discards = λ s h. ((h.0.0, h.0.1, h.0.2, tt, h.0.4), (h.1.0, h.1.1, h.1.2, h.1.3, h.1.4, tt, h.1.6));
       }) s t).1

@@ -14,3 +14,4 @@ pub mod KeptFacts
 pub mod QuietEnds
 pub mod IdleLater
 pub mod UnslicedEnds
+pub mod Caught

@@ -4,7 +4,7 @@ use Rattle.std.proofs.Common.{arith, subst}
 use Rattle.rx_ast.specs.Syntax.{Program, Component, of_component, single, slot, no_slots, body_slots, by_tag, at_once, unkeyed}
 use Rattle.rx_ast.specs.Syntax as syntax
 use Rattle.rx_rules.specs.Names.{component_at}
-use Rattle.rx_rules.specs.Bounds.{node_bound, depth_bound, root_waits, body_by}
+use Rattle.rx_rules.specs.Bounds.{node_bound, depth_bound, root_throws, root_waits, body_by}
 use Rattle.rx_rules.specs.Versions.{node_limit}
 use Rattle.rx_meaning.specs.Fresh.{depth_limit}
 use Rattle.rx_model.specs.Laws.{IsBounded}
@@ -72,6 +72,10 @@ ready : root_waits (λ c. true) boundaries ≡ false
 unfolding root_waits body_by
 ready = refl
 
+caught : root_throws (λ c. true) boundaries ≡ false
+unfolding root_throws body_by
+caught = refl
+
 declared_at : (c : ℕ) → IfDeclared (component_at boundaries c)
 declared_at zero = (tt, tt)
 declared_at (suc zero) = (tt, tt)
@@ -81,7 +85,7 @@ declared : ReadsDeclared boundaries
 declared c d e = subst IfDeclared e (declared_at c)
 
 pub bounded : IsBounded boundaries
-bounded = record { rooted = refl; ready = ready; shallow = shallow; small = small; apart = apart; declared = declared }
+bounded = record { rooted = refl; ready = ready; caught = caught; shallow = shallow; small = small; apart = apart; declared = declared }
 
 -- twelve nodes at most: App, in each branch the boundary with its leaf and the text of that, its text and its fallback, and the host of the second branch
 pub exactly : node_bound boundaries ≡ 12

@@ -10,11 +10,11 @@ use Rattle.rx_elem.specs.Numbers.{Numbers, numbered}
 use Rattle.rx_sched.specs.declared.choice.Choice.{Choice}
 use Rattle.rx_sched.specs.declared.choice.Choice.TheVariants as choice
 use Rattle.rx_meaning.specs.Fresh.{made}
-use Rattle.rx_meaning.specs.Outcome.{Outcome, commit, defer, outcome}
+use Rattle.rx_meaning.specs.Outcome.{Outcome, commit, defer, outcome, newly_caught}
 use Rattle.rx_effect.specs.EffectLog.{layout_log}
 use Rattle.rx_elem.specs.Compare.{compare_trees}
 use Rattle.rx_forest.specs.HostOps.{host_ops}
-use Rattle.rx_lines.specs.Lines.{Counts, Line, Options, committed, operated, logged, deferred, line_bytes, line_text, report_bytes}
+use Rattle.rx_lines.specs.Lines.{Counts, Line, Options, committed, operated, logged, deferred, line_bytes, line_text, report_bytes, caught}
 use Rattle.rx_model.specs.State.{State, Progress}
 use Rattle.rx_model.specs.Stretch.{Stretch, silent, followed_by}
 use Rattle.rx_model.specs.Accepting.{between_events}
@@ -75,7 +75,7 @@ outcome-alike s g c d (commit new) = go (numbered s.numbers new)
         record {
           after = refl;
           bytes = λ o e. bytes-of o (committed (s.commits + 1) g.lanes c fixed.1) (committed (s.commits + 1) g.lanes d fixed.1)
-              (map operated (host_ops s.tree fixed.1) ++ map logged (layout_log (compare_trees s.tree fixed.1)))
+              (map operated (host_ops s.tree fixed.1) ++ (map caught (newly_caught s.tree fixed.1) ++ map logged (layout_log (compare_trees s.tree fixed.1))))
               (plain-commit o e (s.commits + 1) g.lanes c d fixed.1);
         }
 

@@ -6,13 +6,13 @@ use Rattle.rx_ast.specs.Syntax.{Program}
 use Rattle.rx_base.specs.Awaits.{resource_limit}
 use Rattle.rx_base.specs.declared.cut.Cut.{Cut}
 use Rattle.rx_lane.specs.Lanes.{Lanes, no_lanes}
-use Rattle.rx_rules.specs.Bounds.{depth_bound}
+use Rattle.rx_rules.specs.Bounds.{depth_bound, may_throw_in}
 use Rattle.rx_rules.specs.Names.{resources}
 use Rattle.rx_elem.specs.Elements.{Element, listed}
 use Rattle.rx_elem.specs.Elements as elements
 use Rattle.rx_elem.specs.Numbers.{Numbers}
 use Rattle.rx_elem.specs.Spots.{kept_instances, visible_instances}
-use Rattle.rx_elem.specs.Trees.{Forest, Instance, Mark, Node, child, element_of, elements_in, is_hidden, node, none, of_boundary, of_host, of_instance, plain, vacant}
+use Rattle.rx_elem.specs.Trees.{Forest, Instance, Mark, Node, child, element_of, elements_in, is_hidden, node, none, of_boundary, of_catcher, of_host, of_instance, plain, vacant}
 use Rattle.rx_queue.specs.History.{stands_done, stands_open, stands_owed}
 use Rattle.rx_queue.specs.Journal.{Journal, Posted, Resolution, belongs_to, cut_now, is_new, marked_update, resolutions_by}
 use Rattle.rx_queue.specs.declared.entry.Standing.{Standing}
@@ -30,7 +30,7 @@ use Rattle.render_laws.specs.SameSight.{AllAfter, SeesSame}
 use Rattle.commit_laws.proofs.HiddenLaw.{all_values_agree, numbers_in_itself}
 use Rattle.commit_laws.proofs.OwnNumbers.{own_numbers_apart}
 use Rattle.commit_laws.proofs.Rendered.{AreApart}
-use Rattle.commit_laws.proofs.ResourceLaws.{values_stay}
+use Rattle.commit_laws.proofs.ResourceLaws.{resolutions_same, resources_again, values_stay}
 use Rattle.commit_laws.proofs.Settling.{tree_seen}
 use Rattle.commit_laws.proofs.SmallWaits.{waits_are_small}
 use Rattle.commit_laws.proofs.TakeOver.{own_not_null}
@@ -55,6 +55,7 @@ mark_agrees s t h (of_instance i) = h i
 mark_agrees s t h (of_host x) = tt
 mark_agrees s t h plain = tt
 mark_agrees s t h (of_boundary b) = tt
+mark_agrees s t h (of_catcher c) = tt
 
 mutual
   node_agrees : (s t : Sight) → Agree s t → (x : Node) → ValuesAgree s t x
@@ -71,6 +72,7 @@ mark_then s t u (of_instance i) h k = h ∙ k
 mark_then s t u (of_host x) h k = tt
 mark_then s t u plain h k = tt
 mark_then s t u (of_boundary b) h k = tt
+mark_then s t u (of_catcher c) h k = tt
 
 mutual
   node_then : (s t u : Sight) (x : Node) → ValuesAgree s t x → ValuesAgree t u x → ValuesAgree s u x
@@ -96,13 +98,15 @@ module _ (s : Sight) (j : Journal) (same : SeesSame s j) (still : SeesSame (with
   own_later cs (elements.comp c key props given) m ns h = tt
   own_later cs (elements.list marked es) m ns h = tt
   own_later cs (elements.provider c key x es) m ns h = tt
+  own_later cs (elements.catcher key f es) m ns h = tt
   own_later cs (elements.boundary key f es) (of_instance i) ns h = tt
   own_later cs (elements.boundary key f es) (of_host x) ns h = tt
   own_later cs (elements.boundary key f es) plain ns h = tt
+  own_later cs (elements.boundary key f es) (of_catcher c) ns h = tt
   own_later cs (elements.boundary key f es) (of_boundary Shown) ns h = tt
-  own_later cs (elements.boundary key f es) (of_boundary (Hidden a)) ns h = λ calm unresolved agree n fits.
+  own_later cs (elements.boundary key f es) (of_boundary (Hidden a)) ns h = λ calm no_throw unresolved agree n fits.
       ap (λ (r : Contexts → Renders). render_part r (part cs (listed es) ns)) (sym (renders_same s j same n))
-      ∙ h (refresh ∙ calm) (λ r there. ap (λ (xs : List (Option ℤ)). slice_index_or xs r None) same.resources ∙ unresolved r there)
+      ∙ h (refresh ∙ calm) no_throw (λ r there. ap (λ (xs : List (Option ℤ)). slice_index_or xs r None) same.resources ∙ unresolved r there)
       (forest_then (without_lanes s) (without_lanes later) s ns (forest_agrees (without_lanes s) (without_lanes later) (values_same (without_lanes s) j still) ns)
       (forest_then (without_lanes later) later s ns agree (forest_agrees later s (λ i. sym (values_same s j same i)) ns)))
       n fits
@@ -153,11 +157,11 @@ module _ (p : Program) (j : Journal) (lanes : Lanes) (cut last : Cut) (tree : No
     (updates_grow : last.updates ≤ cut.updates) (resolutions_grow : last.resolutions ≤ cut.resolutions) where
   -- what the last commit saw
   abbrev seen : Sight
-  seen = sight_at p c.journal c.lanes last
+  seen = sight_at p c.journal c.lanes last c.seen
 
   -- what a render since sees
   abbrev now : Sight
-  now = sight_at p j lanes cut
+  now = sight_at p j lanes cut last.resolutions
 
   abbrev visible : List ℕ
   visible = visible_instances (Some tree)
@@ -173,14 +177,22 @@ module _ (p : Program) (j : Journal) (lanes : Lanes) (cut last : Cut) (tree : No
   -- a render that sees no refresh sees the versions of the last commit
   versions_again : sees_refresh now ≡ false → versions_seen seen ≡ versions_seen now
   versions_again =
-      subst (λ (us : List Posted). sees_refresh (sight_at p (record { updates = us; resolutions = j.resolutions }) lanes cut) ≡ false
-      → versions_seen seen ≡ versions_seen (sight_at p (record { updates = us; resolutions = j.resolutions }) lanes cut)) (sym c.updates_are)
+      subst (λ (us : List Posted). sees_refresh (sight_at p (record { updates = us; resolutions = j.resolutions }) lanes cut last.resolutions) ≡ false
+      → versions_seen seen ≡ versions_seen (sight_at p (record { updates = us; resolutions = j.resolutions }) lanes cut last.resolutions)) (sym c.updates_are)
       (versions_stay seen visible kept (accounted_done last c.journal.updates c.accounted) c.new c.opened j.resolutions lanes cut)
+
+  -- with as many resolutions it sees the same ones
+  as_many : may_throw_in p ≡ true → (last.resolutions ≤ cut.resolutions) × (cut.resolutions ≡ last.resolutions → resolutions_by last c.journal ≡ resolutions_by cut j)
+  as_many throws = (
+    resolutions_grow,
+    λ equal. subst (λ (xs : List Resolution). resolutions_by last c.journal ≡ resolutions_by cut (record { updates = j.updates; resolutions = xs }))
+        (sym c.resolutions_are) (resolutions_same c.journal j.updates c.more last cut c.within equal),
+  )
 
   -- what is kept has the values of the last attempt by the updates that are done or owed
   values_stand : (ns : Forest) → AllNumbered ns → AllSeen visible kept false ns → AllValuesAgree seen (without_lanes now) ns
   values_stand ns numbers there =
-      subst (λ (us : List Posted). AllValuesAgree seen (sight_at p (record { updates = us; resolutions = j.resolutions }) no_lanes cut) ns) (sym c.updates_are)
+      subst (λ (us : List Posted). AllValuesAgree seen (sight_at p (record { updates = us; resolutions = j.resolutions }) no_lanes cut last.resolutions) ns) (sym c.updates_are)
       (all_values_agree seen no_lanes cut visible kept (instances_in ns) apart updates_grow c.new j.resolutions c.accounted c.opened
       (no_new_update cut (instances_in ns) (map (marked_update c.lanes last visible kept) c.journal.updates)) (no_new_update cut (instances_in ns) c.new) ns numbers there (numbers_in_itself ns))
 
@@ -192,14 +204,16 @@ module _ (p : Program) (j : Journal) (lanes : Lanes) (cut last : Cut) (tree : No
   own_again n cs (elements.comp x key props given) m ns w there fits = tt
   own_again n cs (elements.list marked es) m ns w there fits = tt
   own_again n cs (elements.provider x key v es) m ns w there fits = tt
+  own_again n cs (elements.catcher key f es) m ns w there fits = tt
   own_again n cs (elements.boundary key f es) (of_instance i) ns w there fits = tt
   own_again n cs (elements.boundary key f es) (of_host x) ns w there fits = tt
   own_again n cs (elements.boundary key f es) plain ns w there fits = tt
+  own_again n cs (elements.boundary key f es) (of_catcher x) ns w there fits = tt
   own_again n cs (elements.boundary key f es) (of_boundary Shown) ns w there fits = tt
-  own_again n cs (elements.boundary key f es) (of_boundary (Hidden a)) ns w there fits = λ calm unresolved agree levels enough.
+  own_again n cs (elements.boundary key f es) (of_boundary (Hidden a)) ns w there fits = λ calm no_throw unresolved agree levels enough.
       let both = shape_fits n seen cs (elements.boundary key f es) None fits in
       let waited = part_limits_agree seen (part cs (listed es) ns) levels n enough both.0 ∙ w.0 in
-      attempt_waits_again seen j lanes cut small (versions_again calm) more levels (part cs (listed es) ns) a (forest_then seen (without_lanes now) now ns (values_stand ns w.1 there) agree) waited unresolved
+      attempt_waits_again seen j lanes cut small (versions_again calm) more (resources_again seen j lanes cut (versions_again calm) as_many no_throw) levels (part cs (listed es) ns) a (forest_then seen (without_lanes now) now ns (values_stand ns w.1 there) agree) waited unresolved
 
   -- so each visible hidden boundary waits again
   mutual
@@ -233,7 +247,7 @@ root_fits p deep = omega arith
 -- The hidden boundaries wait again in a render since the last commit.
 pub render_waits_again : (p : Program) → depth_bound p ≤ depth_limit → length (resources p) ≤ resource_limit
     → (j : Journal) (numbers : Numbers) (tree : Option Node) (lanes : Lanes) (cut : Cut) (known : List Resolution) (last : Cut)
-    → Carries p j numbers tree known last → RendersOn p j known last lanes cut → IfWaitsAgain (sight_at p j lanes cut) (default_contexts p) tree
+    → Carries p j numbers tree known last → RendersOn p j known last lanes cut → IfWaitsAgain (sight_at p j lanes cut last.resolutions) (default_contexts p) tree
 render_waits_again p deep few j numbers None lanes cut known last c r = tt
 render_waits_again p deep few j numbers (Some x) lanes cut known last c r =
     node_again p j lanes cut last x (record { updates = j.updates; resolutions = known }) (version_done j.updates) (waits_are_small p few) c.committed (own_numbers_apart numbers.instance x c.sound.own_numbers)
@@ -244,11 +258,13 @@ render_waits_again p deep few j numbers (Some x) lanes cut known last c r =
 pub starting_waits_again : (p : Program) → depth_bound p ≤ depth_limit → length (resources p) ≤ resource_limit → (s : State) → IsCarried p s → (lanes : Lanes)
     → IfWaitsAgain (sight_of p s (starting s lanes)) (default_contexts p) s.tree
 starting_waits_again p deep few s c lanes =
-    render_waits_again p deep few s.journal s.numbers s.tree lanes (cut_now s.journal) c.0 c.1 c.2 (start_renders p s.journal s.numbers s.tree lanes c.0 c.1 c.2)
+    subst (λ (n : ℕ). IfWaitsAgain (sight_at p s.journal lanes (cut_now s.journal) n) (default_contexts p) s.tree) (sym c.4)
+    (render_waits_again p deep few s.journal s.numbers s.tree lanes (cut_now s.journal) c.0 c.1 c.2 (start_renders p s.journal s.numbers s.tree lanes c.0 c.1 c.2))
 
 -- and in the one that is in progress
 pub progress_waits_again : (p : Program) → depth_bound p ≤ depth_limit → length (resources p) ≤ resource_limit → (s : State) → IsCarried p s → (g : Progress) → s.progress ≡ Some g
     → IfWaitsAgain (sight_of p s g) (default_contexts p) s.tree
 progress_waits_again p deep few s c g is =
-    render_waits_again p deep few s.journal s.numbers s.tree g.lanes g.cut c.0 c.1 c.2
-    (subst (λ (x : Option Progress). IfSome x (λ g. RendersOn p s.journal c.0 c.1 g.lanes g.cut)) is c.3)
+    subst (λ (n : ℕ). IfWaitsAgain (sight_at p s.journal g.lanes g.cut n) (default_contexts p) s.tree) (sym c.4)
+    (render_waits_again p deep few s.journal s.numbers s.tree g.lanes g.cut c.0 c.1 c.2
+    (subst (λ (x : Option Progress). IfSome x (λ g. RendersOn p s.journal c.0 c.1 g.lanes g.cut)) is c.3))

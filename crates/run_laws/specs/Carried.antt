@@ -19,16 +19,19 @@ abbrev pub NumbersBelow : ℕ → List Posted → Type 0
 NumbersBelow n [] = Unit {0}
 NumbersBelow n (u ∷ us) = (u.update.number < n) × NumbersBelow n us
 
--- what a render with these lanes at this cut sees
-abbrev pub sight_at : Program → Journal → Lanes → Cut → Sight
-sight_at p j lanes cut = record { program = p; journal = j; lanes = lanes; cut = cut }
+-- what a render with these lanes at this cut sees, if the last commit saw so many resolutions
+abbrev pub sight_at : Program → Journal → Lanes → Cut → (seen : ℕ) → Sight
+sight_at p j lanes cut seen = record { program = p; journal = j; lanes = lanes; cut = cut; seen = seen }
 
 -- The last commit, which gave this tree: at what it saw each visible hidden boundary waited for what it awaits, and the journal is what it left and what came since.
 pub record LastCommit (p : Program) (j : Journal) (cut : Cut) (tree : Node) : Type 0 where
   pub lanes : Lanes
   pub journal : Journal
+  -- how many resolutions the commit before it saw
+  pub seen : ℕ
   pub accounted : AccountedBefore cut journal.updates
-  pub waits : HiddenWaits depth_limit (sight_at p journal lanes cut) (default_contexts p) tree
+  pub within : cut.resolutions ≤ length journal.resolutions
+  pub waits : HiddenWaits depth_limit (sight_at p journal lanes cut seen) (default_contexts p) tree
   pub new : List Posted
   pub opened : AllOpen new
   pub updates_are : j.updates ≡ (journal_after lanes cut tree journal).updates ++ new
@@ -65,10 +68,10 @@ pub record RendersOn (p : Program) (j : Journal) (known : List Resolution) (last
   pub accounted : AccountedBefore cut j.updates
   pub more : HasValuesOf known (resolutions_by cut j)
 
--- what holds of a state, and of the render that is in progress
+-- what holds of a state, which tells how many resolutions the last commit saw, and of the render that is in progress
 abbrev pub IsCarried : Program → State → Type 0
 IsCarried p s =
-    (known : List Resolution) × (last : Cut) × Carries p s.journal s.numbers s.tree known last × IfSome s.progress (λ g. RendersOn p s.journal known last g.lanes g.cut)
+    (known : List Resolution) × (last : Cut) × Carries p s.journal s.numbers s.tree known last × IfSome s.progress (λ g. RendersOn p s.journal known last g.lanes g.cut) × (s.seen ≡ last.resolutions)
 
 -- the old tree of a render in progress is settled for what the render sees, what is done lies before its cut, and its reads hold for the versions that are done
 abbrev pub RestsOnSettled : Program → State → Type 0

@@ -20,7 +20,7 @@ ghost use Rattle.rx_model.specs.State.{State, Progress};
 ghost use Rattle.rx_model.specs.Committing.{sight_of, starting};
 ghost use Rattle.rx_model.specs.Committing as committing;
 ghost use Rattle.rx_model.specs.Turns.{AnyRender, unit_bound, Finishes, Yields, gone_on};
-ghost use Rattle.rx_model.specs.Laws.{IsBounded, NodeBound, Always, KeptFacts, QuietLaw};
+ghost use Rattle.rx_model.specs.Laws.{IsBounded, NodeBound, CatchLaw, Always, KeptFacts, QuietLaw};
 ghost use Rattle.run_laws.specs.Carried.{IsCarried, RestsOnSettled};
 ghost use Rattle.run_laws.specs.Unsliced.{UnslicedLaw};
 
@@ -95,4 +95,10 @@ pub fn quiet_ends()
 /// counts: a turn that isn't sliced can only finish, and the tree that it finishes is one.
 pub fn unsliced_runs_end_alike()
     ensures { (p : Program) → UnslicedLaw AnyRender AnyRender p }
+{}
+
+/// In a tree that a render gives, and in the one that it becomes at its commit, each visible error boundary has caught what
+/// it had caught, or else what its children throw.
+pub fn error_boundaries_catch()
+    ensures { (p : Program) → CatchLaw p }
 {}

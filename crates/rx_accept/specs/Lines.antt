@@ -36,6 +36,7 @@ refusal_text (refusal.Arity name) = codes "6 " ++ name
 refusal_text (refusal.FunctionCycle name) = codes "7 " ++ name
 refusal_text (refusal.ComponentCycle name) = codes "8 " ++ name
 refusal_text (refusal.UseOutside name) = codes "9 " ++ name
+refusal_text (refusal.ThrowOutside name) = codes "20 " ++ name
 refusal_text refusal.NoApp = codes "10"
 refusal_text (refusal.Count what found limit) = codes "11 " ++ count_word what ++ then_number found ++ then_number limit
 refusal_text (refusal.TreeBound found) = codes "12" ++ then_number found

@@ -76,6 +76,7 @@ fn push_refusal(line: &mut Vec<u8>, refusal: &Refusal) -> Result<(), AllocError>
         Refusal::FunctionCycle(name) => push_name(line, "7 ", name),
         Refusal::ComponentCycle(name) => push_name(line, "8 ", name),
         Refusal::UseOutside(name) => push_name(line, "9 ", name),
+        Refusal::ThrowOutside(name) => push_name(line, "20 ", name),
         Refusal::NoApp => Ok(line.extend_from_slice(b"10")?),
         Refusal::Count { what, found, limit } => push_count(line, *what, *found, *limit),
         Refusal::TreeBound(found) => push_coded(line, "12", *found),

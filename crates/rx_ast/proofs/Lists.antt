@@ -15,4 +15,5 @@ pub inner_slots-tagged : (t : Tag) (w : Ending) (ss : Slots) → inner_slots (ta
 inner_slots-tagged (tag.Host x attrs) w ss = refl
 inner_slots-tagged (tag.Component x attrs) w ss = refl
 inner_slots-tagged (tag.Suspense k s) w ss = refl
+inner_slots-tagged (tag.Catch k s) w ss = refl
 inner_slots-tagged (tag.Provider x k e) w ss = refl

@@ -1,7 +1,7 @@
 -- How deep a tree is: the measure of a walk over it.
 use Rattle.std.specs.Prelude.{ℕ, suc, ◌+◌, ◌*◌, max}
 use Rattle.rx_ast.specs.Syntax.{Expr, number, variable, grouped, prefixed, chain, chosen, called, Links, no_links, link, Exprs, no_exprs, expr}
-use Rattle.rx_ast.specs.Syntax.{Slot, null, words, number_of, children, repeated, choice, host, comp, boundary, provider, enclosed, Slots, no_slots, slot}
+use Rattle.rx_ast.specs.Syntax.{Slot, null, words, number_of, children, repeated, choice, host, comp, boundary, catcher, provider, enclosed, Slots, no_slots, slot}
 
 -- how many expressions lie within one another below this one
 abbrev mutual
@@ -36,6 +36,7 @@ abbrev mutual
   slot_depth (host x attrs w ss) = suc (slots_depth ss)
   slot_depth (comp x attrs w ss) = suc (slots_depth ss)
   slot_depth (boundary k s w ss) = suc (max (slot_depth s) (slots_depth ss))
+  slot_depth (catcher k s w ss) = suc (max (slot_depth s) (slots_depth ss))
   slot_depth (provider x k e w ss) = suc (slots_depth ss)
   slot_depth (enclosed b s) = suc (slot_depth s)
 

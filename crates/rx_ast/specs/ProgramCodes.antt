@@ -6,7 +6,7 @@ use mathlib.Core.Path.{ap}
 use Rattle.rx_base.specs.Values.{Name}
 use Rattle.rx_ast.specs.Codes.{head, tail, text, expr_code}
 use Rattle.rx_ast.specs.SlotCodes.{slot_code, slots_code}
-use Rattle.rx_ast.specs.Syntax.{Expr, Body, single, fragment, enclosed_fragment, Statement, state, reducer, transition, context, use_resource, constant, effect}
+use Rattle.rx_ast.specs.Syntax.{Expr, Body, single, fragment, enclosed_fragment, Statement, state, reducer, transition, context, use_resource, constant, effect, throw_if}
 use Rattle.rx_ast.specs.Syntax.{Context, Line, Function, Parameter, integer, given_children, Component, Declaration, of_context, of_function, of_component, Program}
 
 abbrev pub stored_body : Body → Gv
@@ -45,6 +45,7 @@ stored_statement (context x c) = gcons (gnum 2) (gcons (text.code x) (text.code 
 stored_statement (use_resource x r) = gcons (gnum 3) (gcons (text.code x) (text.code r))
 stored_statement (constant x e) = gcons (gnum 4) (gcons (text.code x) (expr_code.code e))
 stored_statement (effect l t es) = gcons (gnum 5) (gcons (coded_bool.code l) (gcons (text.code t) (exprs_code.code es)))
+stored_statement (throw_if e) = gcons (gnum 7) (expr_code.code e)
 
 pub stored_statement_one : (x y : Statement) → stored_statement x ≡ stored_statement y → x ≡ y
 stored_statement_one (state x s d) (state y t e) p =
@@ -63,6 +64,7 @@ stored_statement_one (constant x d) (constant y e) p =
 stored_statement_one (effect l t es) (effect m u fs) p =
     λ i. effect (coded_bool.inj l m (ap first p) i) (text.inj t u (ap second p) i)
     (exprs_code.inj es fs (ap (λ g. tail (tail (tail g))) p) i)
+stored_statement_one (throw_if d) (throw_if e) p = ap throw_if (expr_code.inj d e (ap tail p))
 stored_statement_one _ _ p = cc
 
 abbrev pub statement_code : Coded Statement

@@ -24,6 +24,7 @@ statement_of (statement.Context x c) = syntax.context x c
 statement_of (statement.Resource x r) = syntax.use_resource x r
 statement_of (statement.Constant x e) = syntax.constant x e
 statement_of (statement.Effect l t es) = syntax.effect l t es.items
+statement_of (statement.Throw e) = syntax.throw_if e
 
 -- the parameter of a kind
 abbrev pub parameter_of : ParameterKind → syntax.Parameter

@@ -5,7 +5,7 @@ use base.Stored.{Gv, gnil, gnum, gcons}
 use mathlib.Core.Path.{ap}
 use Rattle.rx_ast.specs.Codes.{head, tail, value, text, expr_code}
 use Rattle.rx_ast.specs.Syntax.{Attribute, key, computed, literal, KeyPlace, unkeyed, key_first, key_last, Ending, at_once, by_tag, Brackets, parentheses, braces}
-use Rattle.rx_ast.specs.Syntax.{Slot, null, words, number_of, children, repeated, choice, host, comp, boundary, provider, enclosed, Slots, no_slots, slot}
+use Rattle.rx_ast.specs.Syntax.{Slot, null, words, number_of, children, repeated, choice, host, comp, boundary, catcher, provider, enclosed, Slots, no_slots, slot}
 
 abbrev pub stored_attribute : Attribute → Gv
 stored_attribute (key e) = gcons (gnum 0) (expr_code.code e)
@@ -72,6 +72,8 @@ abbrev mutual
   stored_slot (provider x k e w ss) =
       gcons (gnum 9) (gcons (text.code x) (gcons (stored_key k) (gcons (expr_code.code e) (gcons (gnum (ending_number w)) (stored_slots ss)))))
   stored_slot (enclosed b s) = gcons (gnum 10) (gcons (gnum (brackets_number b)) (stored_slot s))
+  stored_slot (catcher k s w ss) =
+      gcons (gnum 11) (gcons (stored_key k) (gcons (stored_slot s) (gcons (gnum (ending_number w)) (stored_slots ss))))
 
   pub stored_slots : Slots → Gv
   stored_slots no_slots = gnil
@@ -109,6 +111,10 @@ mutual
       (stored_slots_one ss ts (ap (λ g. tail (tail (tail (tail g)))) p) i)
   stored_slot_one (boundary j s v ss) (boundary k t w ts) p =
       λ i. boundary (stored_key_one j k (ap first p) i) (stored_slot_one s t (ap second p) i)
+      (ending_one v w (ap (λ g. value (third g)) p) i)
+      (stored_slots_one ss ts (ap (λ g. tail (tail (tail (tail g)))) p) i)
+  stored_slot_one (catcher j s v ss) (catcher k t w ts) p =
+      λ i. catcher (stored_key_one j k (ap first p) i) (stored_slot_one s t (ap second p) i)
       (ending_one v w (ap (λ g. value (third g)) p) i)
       (stored_slots_one ss ts (ap (λ g. tail (tail (tail (tail g)))) p) i)
   stored_slot_one (provider x j d v ss) (provider y k e w ts) p =

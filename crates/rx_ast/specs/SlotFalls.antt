@@ -38,11 +38,12 @@ content_le : (c : Content) → deep-Content c ≤ 2 * slots_depth (children_of c
 content_le content.AtOnce = omega arith
 content_le (content.Children ss) = omega (arith, most_le-slots_depth ss.items)
 
--- so is the fallback of a boundary
+-- so is the fallback of a boundary, of Suspense or of errors
 tag_falls : (t : Tag) (w : Ending) (ss : Slots) → max (deep-Tag t) (2 * slots_depth ss + 2) ≤ element_size (tagged t w ss)
 tag_falls (tag.Host x attrs) w ss = omega arith
 tag_falls (tag.Component x attrs) w ss = omega arith
 tag_falls (tag.Suspense k s) w ss = omega arith
+tag_falls (tag.Catch k s) w ss = omega arith
 tag_falls (tag.Provider x k e) w ss = omega arith
 
 pub element_falls : (t : Tag) (c : Content) → max (deep-Tag t) (max (deep-Content c) 0) ≤ element_size (element_of t c)

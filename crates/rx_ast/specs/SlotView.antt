@@ -41,6 +41,7 @@ abbrev pub tagged : Tag → Ending → Slots → Slot
 tagged (tag.Host x attrs) w ss = syntax.host x attrs.items w ss
 tagged (tag.Component x attrs) w ss = syntax.comp x attrs.items w ss
 tagged (tag.Suspense k s) w ss = syntax.boundary (key_place_of k) s.value w ss
+tagged (tag.Catch k s) w ss = syntax.catcher (key_place_of k) s.value w ss
 tagged (tag.Provider x k e) w ss = syntax.provider x (key_place_of k) e.value w ss
 
 -- the element of this tag with this content

@@ -51,7 +51,7 @@ pub data Attribute : Type 0 where
   -- `name="text"`
   literal : Name → Text → Attribute
 
--- the key of a boundary or a provider: none, or before or behind what else is given there
+-- the key of a boundary, of Suspense or of errors, or of a provider: none, or before or behind what else is given there
 pub data KeyPlace : Type 0 where
   unkeyed : KeyPlace
   key_first : Expr → KeyPlace
@@ -101,6 +101,8 @@ mutual
     comp : Name → List Attribute → Ending → Slots → Slot
     -- a Suspense boundary with its fallback
     boundary : KeyPlace → (fallback : Slot) → Ending → Slots → Slot
+    -- an error boundary with its fallback
+    catcher : KeyPlace → (fallback : Slot) → Ending → Slots → Slot
     -- a provider of a context
     provider : (context : Name) → KeyPlace → (value : Expr) → Ending → Slots → Slot
     -- a slot in brackets, which means what it means without them
@@ -126,6 +128,7 @@ abbrev pub inner_slots : Slot → Slots
 inner_slots (host x attrs w ss) = ss
 inner_slots (comp x attrs w ss) = ss
 inner_slots (boundary k s w ss) = ss
+inner_slots (catcher k s w ss) = ss
 inner_slots (provider x k e w ss) = ss
 inner_slots s = no_slots
 
@@ -140,6 +143,7 @@ abbrev pub slot_key : Slot → Option Expr
 slot_key (host x attrs w ss) = key_of attrs
 slot_key (comp x attrs w ss) = key_of attrs
 slot_key (boundary k s w ss) = key_in k
+slot_key (catcher k s w ss) = key_in k
 slot_key (provider x k e w ss) = key_in k
 slot_key s = None
 
@@ -171,6 +175,8 @@ pub data Statement : Type 0 where
   constant : (name : Name) → (value : Expr) → Statement
   -- `useEffect("label", [depends]);`, or with `layout` `useLayoutEffect`
   effect : (layout : Bool) → (label : Text) → (depends : List Expr) → Statement
+  -- `throwIf(value);`
+  throw_if : (value : Expr) → Statement
 
 -- a context with its default: whether `-` stands before the number, and the number
 pub record Context : Type 0 where

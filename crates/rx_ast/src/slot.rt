@@ -79,6 +79,11 @@ pub enum Tag {
         key: KeyPlace,
         fallback: Box<Slot>,
     },
+    /// An error boundary with its fallback (react.dev, Catching rendering errors with an error boundary).
+    Catch {
+        key: KeyPlace,
+        fallback: Box<Slot>,
+    },
     /// A provider of a context, with the value that it provides (react.dev, createContext).
     Provider {
         context: Name,
@@ -309,13 +314,13 @@ impl Element {
         }
     }
 
-    /// Its attributes in order, with `key`; none for a boundary or a provider.
+    /// Its attributes in order, with `key`; none for a boundary, of Suspense or of errors, or a provider.
     pub fn attributes(&self) -> &[Attribute]
         ensures { result.now ≡ attributes self.now }
     {
         match &self.tag {
             Tag::Host { attributes, .. } | Tag::Component { attributes, .. } => attributes,
-            Tag::Suspense { .. } | Tag::Provider { .. } => &[],
+            Tag::Suspense { .. } | Tag::Catch { .. } | Tag::Provider { .. } => &[],
         }
     }
 
@@ -327,7 +332,9 @@ impl Element {
             Tag::Host { attributes, .. } | Tag::Component { attributes, .. } => key_among(
                 attributes,
             ),
-            Tag::Suspense { key, .. } | Tag::Provider { key, .. } => key.value(),
+            Tag::Suspense { key, .. } | Tag::Catch { key, .. } | Tag::Provider { key, .. } => {
+                key.value()
+            }
         }
     }
 }

@@ -1,6 +1,6 @@
 // Statements of a component's body.
 ghost use Rattle.std.specs.Prelude.{◌≡◌};
-ghost use Rattle.rx_ast.specs.Syntax.{state, reducer, transition, context, use_resource, constant, effect};
+ghost use Rattle.rx_ast.specs.Syntax.{state, reducer, transition, context, use_resource, constant, effect, throw_if};
 
 use crate::expr::Expr;
 use rx_base::Name;
@@ -60,6 +60,10 @@ pub enum StatementKind {
         layout: bool,
         label: Name,
         dependencies: Vec<Expr>,
+    },
+    /// `throwIf(value);`, which throws a value that is not 0 to the nearest error boundary.
+    Throw {
+        value: Expr,
     },
 }
 
@@ -150,6 +154,15 @@ impl Statement {
                 label,
                 dependencies,
             },
+        }
+    }
+
+    /// `throwIf(value);`
+    pub fn throw_if(value: Expr) -> Statement
+        ensures { result ≡ throw_if value }
+    {
+        Statement {
+            kind: StatementKind::Throw { value },
         }
     }
 }

@@ -4,25 +4,25 @@ use Rattle.std.proofs.Common.{refl, sym, ap, ◌∙◌, subst, arith}
 use Rattle.rx_ast.specs.Syntax.{Program, Component}
 use Rattle.rx_ast.specs.Syntax as syntax
 use Rattle.rx_rules.specs.Names.{component_at, prop_names}
-use Rattle.rx_ctx.specs.Contexts.{Stack, moved_at, none_moved, values_at}
+use Rattle.rx_ctx.specs.Contexts.{Stack, moved_at, none_moved, values_at, moved_in, moves_by}
 use Rattle.rx_elem.specs.Elements.{Element, Elements, Key, listed}
 use Rattle.rx_elem.specs.Elements as elements
-use Rattle.rx_elem.specs.Trees.{Node, host_number, instance_in}
+use Rattle.rx_elem.specs.Trees.{Node, host_number, instance_in, caught_in, old_caught}
 use Rattle.rx_hooks.specs.declared.hook.Hook.{Hook}
 use Rattle.rx_lists.specs.Shapes.{Holds}
 use Rattle.rx_lists.specs.Shapes as shapes
 use Rattle.rx_links.specs.Drafts.{Trees, Makes, old_of, taken}
-use Rattle.rx_links.specs.Readers.{made_value_of, IsLinked}
-use Rattle.rx_meaning.specs.Body.{Body, wait, ready, body_of}
+use Rattle.rx_links.specs.Readers.{list_from, made_value_of, IsLinked}
+use Rattle.rx_meaning.specs.Body.{Body, wait, throw, ready, body_of}
 use Rattle.rx_meaning.specs.Counts.{each_body, begins_as, one_if_component, next_counts}
 use Rattle.rx_meaning.specs.Cursor.{Frame, at_place, is_null}
-use Rattle.rx_meaning.specs.Fresh.{Sight, Contexts, Shape, absent, waiting, one_list, two_lists, shape_of, shape_of_body, shape_of_component, inputs_at, old_instance}
+use Rattle.rx_meaning.specs.Fresh.{Sight, Contexts, Shape, absent, waiting, throwing, one_list, two_lists, guarded, shape_of, shape_of_body, shape_of_component, inputs_at, old_instance}
 use Rattle.rx_fiber.specs.Fibers.{Fiber, is_visible, origin_of}
 use Rattle.rx_fiber.specs.Fibers as stage
 use Rattle.rx_fiber.specs.declared.stage.Origin.{Origin}
 use Rattle.rx_meaning.specs.Settled.{IfSettled, known_by}
 use Rattle.rx_fiber.specs.Reading.{IsOld}
-use Rattle.rx_fiber.specs.Stood.{gives_another}
+use Rattle.rx_fiber.specs.Stood.{gives_another, StandsBut, gave, given_more, one_more}
 use Rattle.rx_fiber.specs.Standing.{StandsAt, is_stood}
 use Rattle.draw_laws.specs.Drawn.{IsDrawn}
 use Rattle.rx_causes.specs.declared.scene.Scene.{Scene}
@@ -30,22 +30,26 @@ use Rattle.rx_causes.specs.Marks.{mark_at}
 use Rattle.rx_causes.specs.Scenes.{GivesHooks, IsSceneOf, number_in}
 use Rattle.rx_causes.specs.Hidden.{KeepsOld}
 use Rattle.rx_causes.specs.Idle.{KeepsTree}
-use Rattle.rx_causes.proofs.Marks.{old_instance_is}
+use Rattle.rx_causes.proofs.Marks.{old_instance_is, old_caught_is}
 use Rattle.rx_children.specs.Nodes.{IsBareAt, parts_in, begun_stage, begun_children, begun_stack, given_context}
-use Rattle.rx_begin.specs.Others.{HasBegunOther}
+use Rattle.rx_begin.specs.Others.{HasBegunOther, caught_before}
 use Rattle.rx_begin.specs.Others as others
 use Rattle.rx_begin.proofs.Hiding.{own_keeps, own_gives, kids_keep, hidden_again}
 use Rattle.rx_children.specs.Origins.{StoodIn, IsSteady, KnowsClone}
 use Rattle.rx_begin.specs.Bodies.{HasShape}
 use Rattle.rx_begin.specs.Beginning.{IsAtPlace, stands, HasBegun, BeginsPlace}
 use Rattle.rx_children.specs.declared.node.Begun.{Begun}
-use Rattle.rx_begin.proofs.ByElement.{same_parts, element_at, old_at, bare_at, Opens, from_matched, from_clones, other_begun, body_begun}
+use Rattle.rx_begin.proofs.ByElement.{same_parts, element_at, old_at, bare_at, Opens, from_matched, from_clones, other_begun, body_begun, caught_cloned, caught_matched}
 use Rattle.rx_children.proofs.Making.{KnowsPlaces}
 use Rattle.rx_children.proofs.Nodes.{bare_made}
 use Rattle.rx_begin.proofs.Bodies.{kept_if}
 use Rattle.rx_children.proofs.OldNodes.{stood_in}
-use Rattle.rx_begin.proofs.Keeping.{old_no_null, kept_children}
-use Rattle.rx_begin.proofs.Standing.{KidsStand, KnowsElement, clone_again, kids_stand, same_here, shown_here, waits_here}
+use Rattle.rx_begin.proofs.Keeping.{old_no_null, kept_children, caught_fallback, fallback_no_null}
+use Rattle.rx_begin.proofs.Standing.{KidsStand, KnowsElement, clone_again, kids_stand, same_here, shown_here, waits_here, moved_below}
+use Rattle.rx_fiber.specs.Surround.{is_catcher, given_along}
+use Rattle.rx_fiber.specs.OldLists.{fallback_list, fiber_at}
+use Rattle.rx_fiber.proofs.Stood.{fallback_stands}
+use Rattle.rx_fiber.proofs.Unwinding.{catcher_gives}
 
 pub on_ok : {A E : Type 0} (r : Result A E) (P Q : Type 0) → (P → Q) → OnOk r P → OnOk r Q
 on_ok (Ok a) P Q f h = f h
@@ -74,6 +78,7 @@ context_given p (elements.host n k attrs es) m d f = tt
 context_given p (elements.comp c k ps es) m d f = tt
 context_given p (elements.list marked es) m d f = tt
 context_given p (elements.boundary k g es) m d f = tt
+context_given p (elements.catcher k g es) m d f = tt
 context_given p (elements.provider c k x es) m d f = subst (λ l. c < l) (sym f) d.0
 
 props_given : (p : Program) (e : Element) (c : ℕ) (props : List ℤ) (es : List Element) → IsDrawn p e → parts_in e ≡ Some (c, (props, es))
@@ -83,6 +88,7 @@ props_given p (elements.text t) c props es d f = cc
 props_given p (elements.host n k attrs xs) c props es d f = cc
 props_given p (elements.list marked xs) c props es d f = cc
 props_given p (elements.boundary k g xs) c props es d f = cc
+props_given p (elements.catcher k g xs) c props es d f = cc
 props_given p (elements.provider b k x xs) c props es d f = cc
 props_given p (elements.comp b k ps kids) c props es d f =
     let (q, r, l) = same_parts b c ps props (listed kids) es f in
@@ -189,18 +195,47 @@ module _ (s : Sight) (kept : ℕ → Option (List Hook)) (t : Trees Fiber) (st :
       stand : KidsStand t st p fs e steady
       stand = kids_stand t st p n fs cs e old knows at v value (element_at t st p n fs cs e old knows at v value) steady steadies
 
-      opened : (b : Begun) → Opens s t st new st' p n fs cs e old linked knows at b (begun_stage e origin number) (begun_children e) → st' ≡ begun_stack e (gives_another t.current (old_of t.draft p) e) st → HasBegun s t st new st' p n fs cs e old b
-      opened b done stacks =
-          other_begun s t st new st' p n fs cs e old linked knows at b origin number (old_of t.draft p) (λ so. shown_here t st p n fs cs e old knows at v value (sym shown_is ∙ so)) (ap is_null (sym x) ∙ there) (ap parts_in (sym x) ∙ none) refl refl done stacks
+      opened : (b : Begun) → (is_catcher e ≡ true → old_caught old ≡ None) → Opens s t st new st' p n fs cs e old linked knows at b (begun_stage e origin number) (begun_children e) → st' ≡ begun_stack e (gives_another t.current (old_of t.draft p) e) st → HasBegun s t st new st' p n fs cs e old b
+      opened b fine done stacks =
+          other_begun s t st new st' p n fs cs e old linked knows at b origin number (old_of t.draft p) (λ so. shown_here t st p n fs cs e old knows at v value (sym shown_is ∙ so)) (ap is_null (sym x) ∙ there) (ap parts_in (sym x) ∙ none) fine refl refl done stacks
+
+      fine_so : caught_before t p e ≡ None → is_catcher e ≡ true → old_caught old ≡ None
+      fine_so none so =
+          sym (old_caught_is t.current (old_of t.draft p) old (old_at t st p n fs cs e old knows at))
+          ∙ subst (λ b. (if b then option_and_then caught_in (mark_at t.current (old_of t.draft p)) else None) ≡ None) so none
+
+      catcher_so : (x : ℤ) → caught_before t p e ≡ Some x → is_catcher e ≡ true
+      catcher_so x = by_catcher (is_catcher e)
+        where
+          by_catcher : (b : Bool) → (if b then option_and_then caught_in (mark_at t.current (old_of t.draft p)) else None) ≡ Some x → b ≡ true
+          by_catcher true f = refl
+          by_catcher false f = cc
+
+      caught_so : (x : ℤ) → caught_before t p e ≡ Some x → old_caught old ≡ Some x
+      caught_so x is =
+          sym (old_caught_is t.current (old_of t.draft p) old (old_at t st p n fs cs e old knows at))
+          ∙ subst (λ b. (if b then option_and_then caught_in (mark_at t.current (old_of t.draft p)) else None) ≡ Some x) (catcher_so x is) is
+
+      -- the old fallback stands where the new one will, if the place is steady
+      fallback_stand : is_catcher e ≡ true → steady ≡ true → (place j : ℕ) → fiber_at (fallback_list (list_from t.current (old_of t.draft p))) place ≡ Some j → StandsBut t.current (moved_below t st p e) (given_more e (given_along fs)) (Some j)
+      fallback_stand so is place j here =
+          subst (λ (g : Option (ℕ × ℤ)). StandsBut t.current (moved_in (moves_by g (gave t.current (old_of t.draft p)) st.moves)) (one_more g (given_along fs)) (Some j)) (sym (catcher_gives e so))
+          (fallback_stands t.current (moved_at st) (given_along fs) e (old_of t.draft p) place j (shown_here t st p n fs cs e old knows at v value (let y = steadies is in y.visible)) here)
 
       by_case : (b : Begun) → HasBegunOther scene kept t st new st' p e origin stood again steady generation b → HasBegun s t st new st' p n fs cs e old b
-      by_case b (others.keeps h kept_so stacks) =
-          opened b
+      by_case b (others.begins (others.keeps no_catch h kept_so stacks)) =
+          opened b (fine_so no_catch)
           (from_clones s t st new st' p n fs cs e old linked knows at b (begun_stage e origin number) (begun_children e) steady stand (old_no_null s.program (known_by s) old settled)
           (kept_children s.program (known_by s) t.current (old_of t.draft p) old e again (old_at t st p n fs cs e old knows at) settled
-          (λ so. stood_so n fs cs e old at again its so) (ap parts_in (sym x) ∙ none) h) kept_so)
+          (λ so. stood_so n fs cs e old at again its so) (ap parts_in (sym x) ∙ none) (fine_so no_catch) h) kept_so)
           stacks
-      by_case b (others.opens not done stacks) = opened b (from_matched s t st new st' p n fs cs e old linked knows at b (begun_stage e origin number) (begun_children e) steady generation stand done) stacks
+      by_case b (others.begins (others.opens no_catch not done stacks)) =
+          opened b (fine_so no_catch) (from_matched s t st new st' p n fs cs e old linked knows at b (begun_stage e origin number) (begun_children e) steady generation stand done) stacks
+      by_case b (others.begins (others.keeps_caught {x = y} caught so done stacks)) =
+          caught_cloned s t st new st' p n fs cs e old linked knows at b y steady (caught_so y caught) (catcher_so y caught) (fallback_stand (catcher_so y caught)) (fallback_no_null s.program (known_by s) old settled)
+          (caught_fallback s.program (known_by s) e old y settled (stood_so n fs cs e old at again its so) (catcher_so y caught) (caught_so y caught)) done stacks
+      by_case b (others.begins (others.opens_caught {x = y} caught not done stacks)) =
+          caught_matched s t st new st' p n fs cs e old linked knows at b y steady generation (caught_so y caught) (catcher_so y caught) (fallback_stand (catcher_so y caught)) done stacks
       by_case _ (others.hides {a = a} same too mark waits tried stacks) =
           hidden_again s kept t st new st' p n fs cs e old a knows at v value origin stood same shown_is stood_is too mark (λ y. waits s y sees) gives settled current tried stacks
 
@@ -209,8 +244,10 @@ module _ (s : Sight) (kept : ℕ → Option (List Hook)) (t : Trees Fiber) (st :
 none_counted : (e : Element) (cs : Contexts) (old : Option Node) (sh : Shape) → one_if_component e ≡ 0 → begins_as each_body cs e old sh ≡ 0
 none_counted e cs old absent h = refl
 none_counted e cs old (waiting r v) h = h
+none_counted e cs old (throwing x) h = h
 none_counted e cs old (one_list m l) h = h
 none_counted e cs old (two_lists l f) h = h
+none_counted e cs old (guarded l f) h = h
 
 no_body : (e : Element) → parts_in e ≡ None → one_if_component e ≡ 0
 no_body elements.null h = refl
@@ -219,10 +256,12 @@ no_body (elements.host n k attrs es) h = refl
 no_body (elements.comp c k ps es) h = cc
 no_body (elements.list marked es) h = refl
 no_body (elements.boundary k f es) h = refl
+no_body (elements.catcher k f es) h = refl
 no_body (elements.provider c k x es) h = refl
 
 body_counted : (e : Element) (cs : Contexts) (c : ℕ) (old : Option Node) (b : Body) → begins_as each_body cs e old (shape_of_body cs c old b) ≡ one_if_component e
 body_counted e cs c old (wait r v) = refl
+body_counted e cs c old (throw x) = refl
 body_counted e cs c old (ready es effects initials reads versions) = refl
 
 component_counted : (s : Sight) (e : Element) (cs : Contexts) (c : ℕ) (props : List ℤ) (kids : Elements) (old : Option Node) (o : Option Component) (m : ℕ)
@@ -237,6 +276,7 @@ one_counted s (elements.text t) cs old c props es m h f = cc
 one_counted s (elements.host n k attrs xs) cs old c props es m h f = cc
 one_counted s (elements.list marked xs) cs old c props es m h f = cc
 one_counted s (elements.boundary k g xs) cs old c props es m h f = cc
+one_counted s (elements.catcher k g xs) cs old c props es m h f = cc
 one_counted s (elements.provider b k x xs) cs old c props es m h f = cc
 one_counted s (elements.comp b k ps kids) cs old c props es m h f =
     let (q, r, l) = same_parts b c ps props (listed kids) es h in

@@ -1,13 +1,14 @@
 -- A hidden boundary that has its element still, and waits still, is not tried.
-use Rattle.std.specs.Prelude.{◌≡◌, ℕ, suc, Bool, true, false, List, [], ◌∷◌, Option, Some, None, Result, Ok, Err, IfOk, OnOk, option_and_then, option_map}
+use Rattle.std.specs.Prelude.{◌≡◌, ℕ, ℤ, suc, Bool, true, false, List, [], ◌∷◌, Option, Some, None, Result, Ok, Err, IfOk, OnOk, option_and_then, option_map}
 use Rattle.std.proofs.Common.{refl, sym, ap, ◌∙◌, subst, inl, inr}
 use Rattle.rx_base.specs.Awaits.{Awaits}
 use Rattle.rx_ast.specs.Syntax.{Program}
 use Rattle.rx_ctx.specs.Contexts.{Stack, moved_at, moved_in}
 use Rattle.rx_susp.specs.declared.boundary.BoundaryState.TheVariants.{Hidden}
+use Rattle.rx_catch.specs.declared.state.CatchState.TheVariants.{Caught}
 use Rattle.rx_elem.specs.Elements.{Element, Elements, Key}
 use Rattle.rx_elem.specs.Elements as elements
-use Rattle.rx_elem.specs.Trees.{Forest, Mark, of_boundary, Node, node, host_number, children_if, children_of, mark_of, fallback_if, was_hidden}
+use Rattle.rx_elem.specs.Trees.{Forest, Mark, of_boundary, of_catcher, Node, node, host_number, children_if, children_of, mark_of, fallback_if, was_hidden}
 use Rattle.rx_hooks.specs.declared.hook.Hook.{Hook}
 use Rattle.rx_lists.specs.Shapes.{Shape}
 use Rattle.rx_lists.specs.Shapes as shapes
@@ -16,7 +17,7 @@ use Rattle.rx_links.specs.Readers.{list_from, made_value_of}
 use Rattle.rx_meaning.specs.Cursor.{Frame, falling, at_place, open_part}
 use Rattle.rx_meaning.specs.Fresh.{Sight, Contexts, part, old_instance}
 use Rattle.rx_meaning.specs.Settled.{Known, IsOwn, IfSettled, known_by}
-use Rattle.rx_fiber.specs.Fibers.{Fiber, as_cloned, as_matched, is_visible}
+use Rattle.rx_fiber.specs.Fibers.{Fiber, as_cloned, as_matched, begun, is_visible}
 use Rattle.rx_fiber.specs.declared.stage.Origin.{Origin}
 use Rattle.rx_fiber.specs.FiberView.{changed}
 use Rattle.rx_fiber.specs.declared.stage.StageChange.TheVariants as change
@@ -25,15 +26,14 @@ use Rattle.rx_fiber.specs.Stood.{gives_another, StandsSame}
 use Rattle.rx_fiber.specs.Surround.{IsElementOf, IsAround, StandsIf, given_along, moved_along, moves_along, fallback_in, is_boundary}
 use Rattle.rx_fiber.specs.Standing.{StandsAt, begins, is_stood}
 use Rattle.rx_fiber.specs.Unwound.{IsLeftAt}
-use Rattle.rx_fiber.specs.OldLists.{primary_list, matched, old_elements, old_fibers}
-use Rattle.rx_causes.specs.declared.scene.Scene.{Scene}
+use Rattle.rx_fiber.specs.OldLists.{fallback_list, primary_list, matched, old_elements, old_fibers}
 use Rattle.rx_causes.specs.Marks.{mark_at, keeps_children}
 use Rattle.rx_causes.specs.Scenes.{KeepsHooks, GivesHooks}
 use Rattle.rx_causes.specs.Hidden.{KeepsHooksIn, GivesHooksIn, WaitsStill, KeepsHooksIf, GivesHooksIf}
 use Rattle.rx_causes.proofs.Marks.{mark_is}
 use Rattle.rx_children.specs.Nodes.{HasOpened, begun_stage, begun_children, begun_stack}
 use Rattle.rx_children.specs.declared.node.Begun.{Begun}
-use Rattle.rx_begin.specs.Others.{HasBegunOther}
+use Rattle.rx_begin.specs.Others.{HasBegunNode, caught_before}
 use Rattle.rx_begin.specs.Others as others
 use Rattle.rx_children.specs.Origins.{StoodIn}
 use Rattle.rx_begin.specs.Beginning.{IsHiddenAgain}
@@ -48,23 +48,34 @@ hides_there c o x a was is = ap (keeps_children true) (mark_is c o (Some x) was 
 
 -- What begins as no hidden boundary
 
-module _ (scene : Scene) (kept : ℕ → Option (List Hook)) (t : Trees Fiber) (st : Stack) (new : Trees Fiber) (st' : Stack) (p : ℕ) (e : Element) (origin : Origin) (stood again steady : Bool) (generation : ℕ) where
+module _ (t : Trees Fiber) (st : Stack) (new : Trees Fiber) (st' : Stack) (p : ℕ) (e : Element) (origin : Origin) (again steady : Bool) (generation : ℕ) where
   abbrev mark : Option Mark
   mark = mark_at t.current (old_of t.draft p)
 
   abbrev olds : Shape Fiber
   olds = primary_list (list_from t.current (old_of t.draft p))
 
-  pub other_begins : {E : Type 0} (r : Result Begun E)
+  pub node_begins : {E : Type 0} (r : Result Begun E) → caught_before t p e ≡ None
       → IfOk r (λ b. keeps_children again mark ≡ true → HasOpened (as_cloned steady) t new p (begun_stage e origin (option_and_then host_number mark)) (old_elements olds) (old_fibers olds) b)
       → IfOk r (λ b. keeps_children again mark ≡ false → HasOpened (as_matched steady generation) t new p (begun_stage e origin (option_and_then host_number mark)) (begun_children e) (matched olds (begun_children e)) b)
-      → OnOk r (st' ≡ begun_stack e (gives_another t.current (old_of t.draft p) e) st) → IfOk r (λ b. HasBegunOther scene kept t st new st' p e origin stood again steady generation b)
-  other_begins (Err f) k o stacks = tt
-  other_begins (Ok b) k o stacks = by_kept (keeps_children again mark) refl
+      → OnOk r (st' ≡ begun_stack e (gives_another t.current (old_of t.draft p) e) st) → IfOk r (λ b. HasBegunNode t st new st' p e origin again steady generation b)
+  node_begins (Err f) none k o stacks = tt
+  node_begins (Ok b) none k o stacks = by_kept (keeps_children again mark) refl
     where
-      by_kept : (q : Bool) → keeps_children again mark ≡ q → HasBegunOther scene kept t st new st' p e origin stood again steady generation b
-      by_kept true h = others.keeps h (k h) stacks
-      by_kept false h = others.opens h (o h) stacks
+      by_kept : (q : Bool) → keeps_children again mark ≡ q → HasBegunNode t st new st' p e origin again steady generation b
+      by_kept true h = others.keeps none h (k h) stacks
+      by_kept false h = others.opens none h (o h) stacks
+
+  pub caught_begins : {E : Type 0} (r : Result Begun E) (x : ℤ) → caught_before t p e ≡ Some x
+      → IfOk r (λ b. again ≡ true → HasOpened (as_cloned steady) t new p (begun (of_catcher (Caught x))) (old_elements (fallback_list (list_from t.current (old_of t.draft p)))) (old_fibers (fallback_list (list_from t.current (old_of t.draft p)))) b)
+      → IfOk r (λ b. again ≡ false → HasOpened (as_matched steady generation) t new p (begun (of_catcher (Caught x))) (fallback_in e ∷ []) (matched (fallback_list (list_from t.current (old_of t.draft p))) (fallback_in e ∷ [])) b)
+      → st' ≡ st → IfOk r (λ b. HasBegunNode t st new st' p e origin again steady generation b)
+  caught_begins (Err f) x caught k o stacks = tt
+  caught_begins (Ok b) x caught k o stacks = by_kept again refl
+    where
+      by_kept : (q : Bool) → again ≡ q → HasBegunNode t st new st' p e origin again steady generation b
+      by_kept true h = others.keeps_caught caught h (k h) stacks
+      by_kept false h = others.opens_caught caught h (o h) stacks
 
 -- The hooks of an old tree are those of its own instance, and those of what it keeps.
 
@@ -88,6 +99,8 @@ own_boundary p k (elements.text t) a ns fs own = absurd (let f = own.1 in let q 
 own_boundary p k (elements.host n key attrs es) a ns fs own = absurd (let f = own.1 in let q : ⊥ = cc in q)
 own_boundary p k (elements.comp c key props given) a ns fs own = absurd (let f = own.1 in let q : ⊥ = cc in q)
 own_boundary p k (elements.list marked es) a ns fs own = absurd (let f = own.0 in let q : ⊥ = cc in q)
+own_boundary p k (elements.catcher key f es) a ns fs (inl own) = absurd (let g = own.0 in let q : ⊥ = cc in q)
+own_boundary p k (elements.catcher key f es) a ns fs (inr own) = absurd (let g = own.1 in let q : ⊥ = cc in q)
 own_boundary p k (elements.provider c key x es) a ns fs own = absurd (let f = own.0 in let q : ⊥ = cc in q)
 own_boundary p k (elements.boundary key f es) a ns fs (inl own) = absurd (let g = own.0 in let q : ⊥ = cc in q)
 own_boundary p k (elements.boundary key f es) a ns fs (inr own) = (key, f, es, refl)
@@ -139,6 +152,7 @@ module _ (s : Sight) (kept : ℕ → Option (List Hook)) (t : Trees Fiber) (st :
               was = was ∙ ap Some x_is;
               unresolved = waits.unresolved;
               versions = waits.versions;
+              calm = waits.calm;
               agree = waits.same;
               old_is = subst (λ q. IsOld t.current q old) (sym at_it.old) is_old;
               stood = stands;

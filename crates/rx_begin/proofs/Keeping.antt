@@ -1,12 +1,13 @@
 -- What keeps its old children: a clone, and a component without a cause.
-use Rattle.std.specs.Prelude.{◌≡◌, ℕ, ℤ, Bool, true, false, not, ◌&&◌, List, Option, Some, None, Result, Ok, Err, IfOk, IsSome, is_some, option_map}
+use Rattle.std.specs.Prelude.{◌≡◌, ℕ, ℤ, Bool, true, false, not, ◌&&◌, List, Option, Some, None, Result, Ok, Err, IfOk, IsSome, is_some, option_map, [], ◌∷◌}
 use Rattle.std.specs.Option.{option_map_or}
 use Rattle.std.proofs.Common.{refl, sym, ap, ◌∙◌, subst, inl, inr}
 use Rattle.rx_ast.specs.Syntax.{Program, Component}
 use Rattle.rx_rules.specs.Names.{component_at}
 use Rattle.rx_elem.specs.Elements.{Element, Elements, Key, listed}
 use Rattle.rx_elem.specs.Elements as elements
-use Rattle.rx_elem.specs.Trees.{Instance, Mark, of_instance, Node, node, Forest, elements_in, mark_of, children_if, is_hidden, instance_in}
+use Rattle.rx_elem.specs.Trees.{Instance, Mark, of_instance, Node, node, Forest, elements_in, mark_of, children_if, is_hidden, instance_in, caught_in, old_caught, fallback_if}
+use Rattle.rx_fiber.specs.Surround.{fallback_in, is_catcher}
 use Rattle.rx_elem.proofs.Deciding.{or_fails}
 use Rattle.rx_elem.proofs.SelfMatch.{NoNull}
 use Rattle.rx_lists.specs.Shapes.{Shape}
@@ -40,28 +41,30 @@ old_no_null p k None h = tt
 old_no_null p k (Some (node e m ns fs)) h = settled_no_null p k ns h.1
 
 -- the children of a node of no component are those of its element
-own_children : (p : Program) (k : Known) (e : Element) (m : Mark) (ns fs : Forest) → IsOwn p k e m ns fs → parts_in e ≡ None → is_hidden m ≡ false → begun_children e ≡ elements_in ns
-own_children p k elements.null m ns fs own none_in shown = absurd own
-own_children p k (elements.text t) m ns fs own none_in shown = sym (ap elements_in own.2)
-own_children p k (elements.host n key attrs es) m ns fs own none_in shown = sym own.2
-own_children p k (elements.comp c key props given) m ns fs own none_in shown = absurd (let q : ⊥ = cc in q)
-own_children p k (elements.list marked es) m ns fs own none_in shown = sym own.1
-own_children p k (elements.boundary key f es) m ns fs (inl own) none_in shown = sym own.1
-own_children p k (elements.boundary key f es) m ns fs (inr own) none_in shown = absurd (let q : true ≡ false = sym (ap is_hidden own.1) ∙ shown in let r : ⊥ = cc in r)
-own_children p k (elements.provider c key x es) m ns fs own none_in shown = sym own.1
+own_children : (p : Program) (k : Known) (e : Element) (m : Mark) (ns fs : Forest) → IsOwn p k e m ns fs → parts_in e ≡ None → is_hidden m ≡ false → (is_catcher e ≡ true → caught_in m ≡ None) → begun_children e ≡ elements_in ns
+own_children p k elements.null m ns fs own none_in shown fine = absurd own
+own_children p k (elements.text t) m ns fs own none_in shown fine = sym (ap elements_in own.2)
+own_children p k (elements.host n key attrs es) m ns fs own none_in shown fine = sym own.2
+own_children p k (elements.comp c key props given) m ns fs own none_in shown fine = absurd (let q : ⊥ = cc in q)
+own_children p k (elements.list marked es) m ns fs own none_in shown fine = sym own.1
+own_children p k (elements.boundary key f es) m ns fs (inl own) none_in shown fine = sym own.1
+own_children p k (elements.catcher key f es) m ns fs (inl own) none_in shown fine = sym own.1
+own_children p k (elements.catcher key f es) m ns fs (inr own) none_in shown fine = absurd (let g = sym (ap caught_in own.1) ∙ fine refl in let q : ⊥ = cc in q)
+own_children p k (elements.boundary key f es) m ns fs (inr own) none_in shown fine = absurd (let q : true ≡ false = sym (ap is_hidden own.1) ∙ shown in let r : ⊥ = cc in r)
+own_children p k (elements.provider c key x es) m ns fs own none_in shown fine = sym own.1
 
 -- so a place that keeps its children has those of its element
 pub kept_children : (p : Program) (k : Known) (c : Shape Fiber) (o : Option ℕ) (old : Option Node) (e : Element) (cloned : Bool) → IsOld c o old → IfSettled p k old → (cloned ≡ true → StoodIn old e)
-    → parts_in e ≡ None → keeps_children cloned (mark_at c o) ≡ true → begun_children e ≡ elements_in (children_if old)
-kept_children p k c o old e cloned is settled stood none_in kept =
-    let (so, shown) = both_true cloned (not (option_map_or is_hidden (mark_at c o) false)) kept in by_old old (mark_is c o old is) settled (stood so) (shown_again (option_map_or is_hidden (mark_at c o) false) shown)
+    → parts_in e ≡ None → (is_catcher e ≡ true → old_caught old ≡ None) → keeps_children cloned (mark_at c o) ≡ true → begun_children e ≡ elements_in (children_if old)
+kept_children p k c o old e cloned is settled stood none_in fine kept =
+    let (so, shown) = both_true cloned (not (option_map_or is_hidden (mark_at c o) false)) kept in by_old old fine (mark_is c o old is) settled (stood so) (shown_again (option_map_or is_hidden (mark_at c o) false) shown)
   where
-    by_old : (x : Option Node) → mark_at c o ≡ option_map mark_of x → IfSettled p k x → StoodIn x e → option_map_or is_hidden (mark_at c o) false ≡ false → begun_children e ≡ elements_in (children_if x)
-    by_old None mark h same shown = cc
-    by_old (Some (node f m ns fs)) mark h same shown =
+    by_old : (x : Option Node) → (is_catcher e ≡ true → old_caught x ≡ None) → mark_at c o ≡ option_map mark_of x → IfSettled p k x → StoodIn x e → option_map_or is_hidden (mark_at c o) false ≡ false → begun_children e ≡ elements_in (children_if x)
+    by_old None fine mark h same shown = cc
+    by_old (Some (node f m ns fs)) fine mark h same shown =
         let g : f ≡ e = cc in
         let l : is_hidden m ≡ false = sym (ap (λ q. option_map_or is_hidden q false) mark) ∙ shown in
-        subst (λ y. begun_children y ≡ elements_in ns) g (own_children p k f m ns fs h.0 (ap parts_in g ∙ none_in) l)
+        subst (λ y. begun_children y ≡ elements_in ns) g (own_children p k f m ns fs h.0 (ap parts_in g ∙ none_in) l (λ so. fine (ap is_catcher (sym g) ∙ so)))
 
 -- Components
 
@@ -150,3 +153,27 @@ if_both (Err e) P Q f h g = tt
 pub no_parts : (x : Option (ℕ × (List ℤ × List Element))) → x ≡ None → IsSome x → ⊥
 no_parts None e h = let q : ⊥ = cc in q
 no_parts (Some y) e h = let q : ⊥ = cc in q
+
+-- The fallback of an old node
+
+pub fallback_no_null : (p : Program) (k : Known) (old : Option Node) → IfSettled p k old → NoNull (fallback_if old)
+fallback_no_null p k None h = tt
+fallback_no_null p k (Some (node e m ns fs)) h = settled_no_null p k fs h.2
+
+own_caught : (p : Program) (k : Known) (e : Element) (m : Mark) (ns fs : Forest) (x : ℤ) → IsOwn p k e m ns fs → is_catcher e ≡ true → caught_in m ≡ Some x → fallback_in e ∷ [] ≡ elements_in fs
+own_caught p k elements.null m ns fs x own so caught = cc
+own_caught p k (elements.text t) m ns fs x own so caught = cc
+own_caught p k (elements.host n key attrs es) m ns fs x own so caught = cc
+own_caught p k (elements.comp c key props given) m ns fs x own so caught = cc
+own_caught p k (elements.list marked es) m ns fs x own so caught = cc
+own_caught p k (elements.boundary key f es) m ns fs x own so caught = cc
+own_caught p k (elements.catcher key f es) m ns fs x (inl own) so caught = absurd (let g = sym (ap caught_in own.0) ∙ caught in let q : ⊥ = cc in q)
+own_caught p k (elements.catcher key f es) m ns fs x (inr own) so caught = sym own.3
+own_caught p k (elements.provider c key y es) m ns fs x own so caught = cc
+
+-- that of an error boundary that had caught a value, given again, is that of its element
+pub caught_fallback : (p : Program) (k : Known) (e : Element) (old : Option Node) (x : ℤ) → IfSettled p k old → StoodIn old e → is_catcher e ≡ true → old_caught old ≡ Some x → fallback_in e ∷ [] ≡ elements_in (fallback_if old)
+caught_fallback p k e None x settled same so caught = cc
+caught_fallback p k e (Some (node f m ns fs)) x settled same so caught =
+    let g : f ≡ e = cc in
+    own_caught p k e m ns fs x (subst (λ y. IsOwn p k y m ns fs) g settled.0) so caught

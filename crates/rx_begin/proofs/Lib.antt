@@ -4,6 +4,7 @@ pub mod Starts
 pub mod ByElement
 pub mod Bodies
 pub mod Keeping
+pub mod CaughtBefore
 pub mod Hiding
 pub mod Kids
 pub mod Taking

@@ -3,7 +3,7 @@ use Rattle.std.specs.Prelude.{◌≡◌, ℕ, ℤ, suc, Bool, true, false, ◌&&
 use Rattle.std.proofs.Common.{refl, sym, ap, ◌∙◌, subst}
 use Rattle.rx_ctx.specs.Contexts.{Stack, moved_at, moved_in, moves_by, none_moved}
 use Rattle.rx_elem.specs.Elements.{Element, kind_of, same_kind}
-use Rattle.rx_elem.specs.Trees.{Instance, Mark, of_instance, of_host, of_boundary, plain, Node, instance_in}
+use Rattle.rx_elem.specs.Trees.{Instance, Mark, of_instance, of_host, of_boundary, of_catcher, plain, Node, instance_in}
 use Rattle.rx_node.specs.MarkView.{instance_seen}
 use Rattle.rx_node.specs.declared.mark.Instance as code
 use Rattle.rx_lists.specs.Shapes.{Shape}
@@ -120,6 +120,7 @@ instance_keeps c o again i so is = subst (λ b. keeps_children b (mark_at c o) �
     by_mark (Some (of_instance m)) f = refl
     by_mark (Some (of_host h)) f = cc
     by_mark (Some (of_boundary b)) f = cc
+    by_mark (Some (of_catcher b)) f = cc
     by_mark (Some plain) f = cc
 
 -- so does a place that has one

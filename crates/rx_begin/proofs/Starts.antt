@@ -1,16 +1,16 @@
 -- What a node leaves that is begun over its children.
-use Rattle.std.specs.Prelude.{◌≡◌, ℕ, suc, Bool, true, false, List, [], ◌∷◌, Option, Some}
+use Rattle.std.specs.Prelude.{◌≡◌, ℕ, ℤ, suc, Bool, true, false, List, [], ◌∷◌, Option, Some}
 use Rattle.std.proofs.Common.{refl, sym, ap, ◌∙◌, subst}
 use Rattle.rx_ctx.specs.Contexts.{Stack, moved_at, moved_in, moves_by, values_at}
 use Rattle.rx_elem.specs.Elements.{Element}
-use Rattle.rx_elem.specs.Trees.{Node, Mark, is_hidden, children_if, fallback_if}
+use Rattle.rx_elem.specs.Trees.{Node, Mark, none, is_hidden, children_if, fallback_if}
 use Rattle.rx_elem.specs.Compare.{old_nodes}
 use Rattle.rx_lists.specs.Shapes as shapes
 use Rattle.rx_links.specs.Places.{Around, below, placed}
 use Rattle.rx_links.specs.Drafts.{Draft, taken, made, Trees, old_of}
 use Rattle.rx_links.specs.Readers.{list_from, IsLinked}
-use Rattle.rx_meaning.specs.Fresh.{Sight, Contexts, Part, part, one_list, two_lists, waiting, shape_of}
-use Rattle.rx_meaning.specs.Cursor.{Open, around, trying, Frame, at_place, open_part, unit}
+use Rattle.rx_meaning.specs.Fresh.{Sight, Contexts, Part, part, one_list, two_lists, guarded, waiting, throwing, shape_of}
+use Rattle.rx_meaning.specs.Cursor.{Open, around, trying, guarding, Frame, at_place, open_part, unit}
 use Rattle.rx_meaning.specs.Cursor as cursor
 use Rattle.rx_meaning.specs.Touched.{children_with_old}
 use Rattle.rx_fiber.specs.Fibers.{Fiber, begun}
@@ -18,19 +18,19 @@ use Rattle.rx_fiber.specs.Fibers as stage
 use Rattle.rx_fiber.specs.OldLists.{primary_list, matched}
 use Rattle.rx_fiber.specs.Reading.{IsOld}
 use Rattle.rx_fiber.specs.Stood.{gave, given_in, given_more}
-use Rattle.rx_fiber.specs.Surround.{open_element, given_along, moved_along, moves_along, AreNext, IsAround, IsOfNode, StandsIf, fallback_in, is_boundary}
+use Rattle.rx_fiber.specs.Surround.{open_element, given_along, moved_along, moves_along, AreNext, IsAround, IsOfNode, StandsIf, fallback_in, is_boundary, is_catcher}
 use Rattle.rx_fiber.specs.Standing.{IsStack, opened, StandsAt, begins}
 use Rattle.rx_fiber.specs.Unwound.{IsWithin}
 use Rattle.rx_fiber.proofs.Coming.{come_at}
 use Rattle.rx_fiber.proofs.OldLists.{primary_is, old_of_node}
 use Rattle.rx_fiber.proofs.Matching.{AreOld, matched_old}
-use Rattle.rx_fiber.proofs.Opening.{opens_one, tries_children}
+use Rattle.rx_fiber.proofs.Opening.{guards_children, opens_one, tries_children}
 use Rattle.rx_fiber.proofs.Unwinding.{place_within}
 use Rattle.rx_fiber.specs.declared.stage.Origin.{Origin}
 use Rattle.rx_children.specs.Nodes.{begun_over, HasOpened}
 use Rattle.rx_begin.specs.Beginning.{HasBegun, HasLists}
 use Rattle.rx_children.specs.declared.node.Begun.{Begun}
-use Rattle.rx_children.specs.declared.node.Begun.TheVariants.{Suspended}
+use Rattle.rx_children.specs.declared.node.Begun.TheVariants.{Suspended, Thrown}
 use Rattle.rx_children.proofs.Making.{KnowsPlaces}
 use Rattle.rx_children.proofs.Nexts.{Leads, leads}
 
@@ -88,6 +88,25 @@ module _ (s : Sight) (t : Trees Fiber) (st : Stack) (new : Trees Fiber) (st' : S
         (subst (λ c. IsOfNode c o) (sym done.current) (old_of_node t.current o old was)) kids surrounds' (stacks values stack) (moved ∙ along))
         kids (subst (λ x. HasLists x) (sym shape) tt)
 
+    -- an error boundary that tries its children
+    pub begun_guarding : (origin : Origin) (answer : Begun) (es given : List Element) (os : List (Option ℕ)) → (done : HasOpened origin t new p stage.guarding given os answer)
+        → AreNext t.current (moved_in moves_below) (given_more e (given_along fs)) 0 (children_with_old (part cs es (children_if old))) done.kids → StandsAt t st (Some p) (at_place (suc n) fs cs e old) → is_catcher e ≡ true
+        → shape_of s cs e old ≡ guarded (part cs es (children_if old)) (part cs (fallback_in e ∷ []) none)
+        → (values_at st ≡ cs → IsStack st (opened fs) → IsStack st' ((guarding e (part cs (fallback_in e ∷ []) none), cs) ∷ opened fs)) → st'.moves ≡ moves_below
+        → HasBegun s t st new st' p n fs cs e old answer
+    begun_guarding origin answer es given os done beside (begins {v = v} {o = o} {rs = rs} {k = k} here is was surrounds values stack moves) catcher shape stacks moved =
+        let list : Part = part cs es (children_if old) in
+        let w : Fiber = record v { stage = stage.guarding } in
+        let along = moves_here k v w o rs here done.current is.element moves in
+        let kids = subst (λ (ms : List (ℕ × Bool)). AreNext new.current (moved_in ms) (given_more e (given_along fs)) 0 (children_with_old list) done.kids) along
+        (subst (λ c. AreNext c (moved_in moves_below) (given_more e (given_along fs)) 0 (children_with_old list) done.kids) (sym done.current) beside) in
+        let surrounds' : IsAround new.current k v.place rs fs =
+        subst (λ c. IsAround c k v.place rs fs) (sym done.current) (subst (λ place. IsAround t.current k place rs fs) (sym is.at) surrounds) in
+        comes_to (moved_along new.current (below p w o rs k)) answer (guarding e (part cs (fallback_in e ∷ []) none)) list done.kids done.answer_is (ap (cursor.begin n fs e old) shape)
+        (guards_children new st' k p n w o done.kids rs fs e old cs es (done.stands k v o rs here) is.element refl catcher
+        (subst (λ c. IsOfNode c o) (sym done.current) (old_of_node t.current o old was)) kids surrounds' (stacks values stack) (moved ∙ along))
+        kids (subst (λ x. HasLists x) (sym shape) tt)
+
     -- a boundary
     pub begun_trying : (origin own : Origin) (answer : Begun) (es given : List Element) (os : List (Option ℕ)) → (done : HasOpened origin t new p (stage.trying own) given os answer)
         → AreNext t.current (moved_in moves_below) (given_more e (given_along fs)) 0 (children_with_old (part cs es (children_if old))) done.kids → StandsAt t st (Some p) (at_place (suc n) fs cs e old) → is_boundary e ≡ true → (own.visible ≡ true → StandsIf t.current (moved_at st) (given_along fs) (old_of t.draft p))
@@ -121,4 +140,15 @@ module _ (s : Sight) (t : Trees Fiber) (st : Stack) (new : Trees Fiber) (st' : S
     same_trees,
     same_stack,
     subst (λ x. IsWithin x st' p fs) (sym same_trees) (subst (λ x. IsWithin t x p fs) (sym same_stack) (place_within t st p (suc n) fs cs e old at)),
+  )
+
+  -- a body that throws
+  pub begun_throwing : (x : ℤ) → StandsAt t st (Some p) (at_place (suc n) fs cs e old) → shape_of s cs e old ≡ throwing x → new ≡ t → st' ≡ st
+      → HasBegun s t st new st' p n fs cs e old (Thrown x)
+  begun_throwing x at shape same_trees same_stack = (
+    shape,
+    unit_begins ∙ ap (cursor.begin n fs e old) shape,
+    same_trees,
+    same_stack,
+    subst (λ y. IsWithin y st' p fs) (sym same_trees) (subst (λ y. IsWithin t y p fs) (sym same_stack) (place_within t st p (suc n) fs cs e old at)),
   )

@@ -4,7 +4,7 @@ use Rattle.std.proofs.Common.{refl, sym, ap, ◌∙◌, subst, inl, inr}
 use Rattle.rx_ctx.specs.Contexts.{Stack, values_at}
 use Rattle.rx_susp.specs.declared.boundary.BoundaryState.TheVariants.{Hidden, Shown}
 use Rattle.rx_elem.specs.Elements.{Element}
-use Rattle.rx_elem.specs.Trees.{Mark, Node, element_of, is_hidden, mark_of, node, of_boundary, of_host, of_instance, plain}
+use Rattle.rx_elem.specs.Trees.{Mark, Node, element_of, is_hidden, mark_of, node, of_boundary, of_catcher, of_host, of_instance, plain}
 use Rattle.rx_elem.specs.Trees as trees
 use Rattle.rx_hooks.specs.declared.hook.Hook.{Hook}
 use Rattle.rx_lists.specs.Shapes.{Shape, fiber}
@@ -43,6 +43,7 @@ idle_mark s (of_instance i) h = refl
 idle_mark s (of_host n) h = refl
 idle_mark s (of_boundary Shown) h = refl
 idle_mark s (of_boundary (Hidden a)) h = absurd h
+idle_mark s (of_catcher c) h = refl
 idle_mark s plain h = refl
 
 idle_shown : (s : Sight) (x : Node) → IsIdle s x → is_hidden (mark_of x) ≡ false
@@ -61,7 +62,12 @@ stands_again under c _ _ linked (of {j = j} {n = n} {x = x} {s = s} here leads (
         ap (kids_of c) (sym i) ∙ kids_are c id w ks rest linked (ap (λ k. shape_or_none (list_at c k)) i ∙ ap shape_or_none here) in
         subst (λ l. IsFor v.place (node e m ns trees.none) (fiber q (taken_as m under v) l tail) tail) (sym kids)
         (whole (record { at = refl; element = same; stage = refl }) shown a)
-    by_fibers n _ _ rest (alone {m = m} is hidden gone a) here leads shows same = absurd (let q : ⊥ = cc in q)
+    by_fibers n _ _ rest (alone {id = id} {v = w} {e = e} {m = m} {ns = ns} {fs = fs} {ks = ks} is falling gone a) here leads shows same =
+        let i : id ≡ j = cc in
+        let kids : kids_of c j ≡ ks =
+        ap (kids_of c) (sym i) ∙ kids_are c id w ks rest linked (ap (λ k. shape_or_none (list_at c k)) i ∙ ap shape_or_none here) in
+        subst (λ l. IsFor v.place (node e m ns fs) (fiber q (taken_as m under v) l tail) tail) (sym kids)
+        (alone (record { at = refl; element = same; stage = refl }) falling gone a)
     by_fibers n _ _ rest (beside {m = m} is hidden some a s f) here leads shows same = absurd (let q : ⊥ = cc in q)
 
 module _ (s : Sight) (kept : ℕ → Option (List Hook)) (t : Trees Fiber) (st : Stack) (new : Trees Fiber) (st' : Stack) (p n : ℕ) (fs : List Frame) (cs : Contexts) (e : Element) (old : Option Node)

@@ -12,10 +12,10 @@ use Rattle.rx_lists.specs.Shapes as shapes
 use Rattle.rx_links.specs.Drafts.{taken, Trees, old_of}
 use Rattle.rx_links.specs.Readers.{made_value_of}
 use Rattle.rx_meaning.specs.Again.{AllValuesAgree, AreUnresolved}
-use Rattle.rx_meaning.specs.Fresh.{Sight, Contexts, Shape, absent, one_list, part, shape_of, two_lists, version_seen, waiting}
+use Rattle.rx_meaning.specs.Fresh.{Sight, Contexts, Shape, absent, guarded, one_list, part, shape_of, throwing, two_lists, version_seen, waiting}
 use Rattle.rx_meaning.specs.Settled.{IfSettled, known_by}
-use Rattle.rx_meaning.specs.Touched.{sees_refresh}
-use Rattle.rx_meaning.specs.Cursor.{Frame, falling, at_place, is_null, open_part, unit, unwind}
+use Rattle.rx_meaning.specs.Touched.{may_throw_anew, sees_refresh}
+use Rattle.rx_meaning.specs.Cursor.{Frame, falling, at_place, is_null, open_part, unit, unwind, unwind_throw}
 use Rattle.commit_laws.specs.Idle.{IsIdle, IsIdleMark}
 use Rattle.commit_laws.specs.WaitsAgain.{without_lanes}
 use Rattle.rx_ways.specs.Ways.{CoversIf}
@@ -31,7 +31,7 @@ use Rattle.rx_causes.specs.Hidden.{KeepsHooksIf, GivesHooksIf}
 use Rattle.rx_causes.specs.Reads.{ContextsHold, VersionsHold}
 use Rattle.rx_children.specs.Again.{HasOldFallback}
 use Rattle.rx_children.specs.declared.node.Begun.{Begun}
-use Rattle.rx_children.specs.declared.node.Begun.TheVariants.{Child, Leaf, Suspended, Taken}
+use Rattle.rx_children.specs.declared.node.Begun.TheVariants.{Child, Leaf, Suspended, Taken, Thrown}
 use Rattle.rx_children.specs.declared.node.Begun.TheVariants as answers
 use Rattle.rx_children.specs.Units.{IsPlace, IsEnd}
 
@@ -51,6 +51,7 @@ pub record IsHiddenAgain (s : Sight) (t : Trees Fiber) (st : Stack) (new : Trees
   pub was : old ≡ Some (node e (of_boundary (Hidden a)) kept shown)
   pub unresolved : AreUnresolved s a
   pub versions : sees_refresh s ≡ false
+  pub calm : may_throw_anew s ≡ false
   pub agree : AllValuesAgree (without_lanes s) s kept
   pub old_is : IsOld t.current (old_of t.draft p) old
   pub stood : StandsSame t.current (given_along fs) (old_of t.draft p)
@@ -77,10 +78,12 @@ pub record IsTakenOver (s : Sight) (t new : Trees Fiber) (st' : Stack) (p : ℕ)
 abbrev pub HasLists : Shape → Type 0
 HasLists absent = ⊥
 HasLists (waiting r v) = ⊥
+HasLists (throwing x) = ⊥
 HasLists (one_list m p) = Unit {0}
 HasLists (two_lists p f) = Unit {0}
+HasLists (guarded p f) = Unit {0}
 
--- What a unit leaves that begins the place of a fiber: the render stands at the first child, or at the fiber's end; or a body waits, and all is as it was; or a hidden boundary waits still; or old children are taken over.
+-- What a unit leaves that begins the place of a fiber: the render stands at the first child, or at the fiber's end; or a body waits or throws, and all is as it was; or a hidden boundary waits still; or old children are taken over.
 abbrev pub HasBegun : Sight → (before : Trees Fiber) → Stack → (after : Trees Fiber) → Stack → (at : ℕ) → (levels : ℕ) → List Frame → Contexts → Element → Option Node → Begun → Type 0
 HasBegun s t st new st' p n fs cs e old (Child id) =
     StandsAt new st' (Some id) (unit s (at_place (suc n) fs cs e old)) × IsPlace (unit s (at_place (suc n) fs cs e old)) × HasLists (shape_of s cs e old)
@@ -92,6 +95,12 @@ HasBegun s t st new st' p n fs cs e old (Suspended r) =
     × (new ≡ t)
     × (st' ≡ st)
     × IsWithin new st' p fs
+HasBegun s t st new st' p n fs cs e old (Thrown x) =
+    (shape_of s cs e old ≡ throwing x)
+    × (unit s (at_place (suc n) fs cs e old) ≡ unwind_throw (suc n) fs x)
+    × (new ≡ t)
+    × (st' ≡ st)
+    × IsWithin new st' p fs
 HasBegun s t st new st' p n fs cs e old (answers.Hidden a) = IsHiddenAgain s t st new st' p n fs cs e old a
 HasBegun s t st new st' p n fs cs e old Taken = IsTakenOver s t new st' p fs cs e old
 
@@ -100,6 +109,7 @@ abbrev pub is_taken : Begun → Bool
 is_taken (Child id) = false
 is_taken Leaf = false
 is_taken (Suspended r) = false
+is_taken (Thrown x) = false
 is_taken (answers.Hidden a) = false
 is_taken Taken = true
 
@@ -108,6 +118,7 @@ abbrev pub is_opened : Begun → Bool
 is_opened (Child id) = true
 is_opened Leaf = true
 is_opened (Suspended r) = false
+is_opened (Thrown x) = false
 is_opened (answers.Hidden a) = false
 is_opened Taken = false
 
@@ -116,6 +127,7 @@ abbrev pub awaited_again : Begun → Option Awaits
 awaited_again (Child id) = None
 awaited_again Leaf = None
 awaited_again (Suspended r) = None
+awaited_again (Thrown x) = None
 awaited_again (answers.Hidden a) = Some a
 awaited_again Taken = None
 

@@ -1,23 +1,24 @@
 // A place begins.
-ghost use Rattle.std.specs.Prelude.{◌≡◌, ◌+◌, ◌<◌, ◌≤◌, suc, ℕ, ℤ, Bool, true, false, not, ◌&&◌, List, Option, Some, None, length, IfOk, IsSome, IfSome, OnOk, is_some, if◌then◌else◌, option_and_then};
+ghost use Rattle.std.specs.Prelude.{◌≡◌, ◌+◌, ◌<◌, ◌≤◌, ◌∷◌, [], suc, ℕ, ℤ, Bool, true, false, not, ◌&&◌, List, Option, Some, None, length, IfOk, IsSome, IfSome, OnOk, is_some, if◌then◌else◌, option_and_then};
 ghost use Rattle.rx_ast.specs.Syntax as syntax;
 ghost use Rattle.rx_ctx.specs.Contexts.{moved_at, none_moved, values_at};
 ghost use Rattle.rx_elem.specs.Elements as elements;
 ghost use Rattle.rx_elem.specs.Elements.{stands_for_children};
-ghost use Rattle.rx_elem.specs.Trees.{Node, host_number, instance_in, children_of, of_boundary};
+ghost use Rattle.rx_elem.specs.Trees.{Node, caught_in, host_number, instance_in, children_of, of_boundary, of_catcher};
+ghost use Rattle.rx_catch.specs.declared.state.CatchState.TheVariants.{Caught};
 ghost use Rattle.rx_susp.specs.declared.boundary.BoundaryState.TheVariants.{Hidden};
 ghost use Rattle.rx_fiber.specs.Reading.{IsOld};
 ghost use Rattle.rx_links.specs.Drafts.{old_of, valued};
 ghost use Rattle.rx_links.specs.Readers.{list_from, made_value_of};
 ghost use Rattle.rx_fiber.specs.Fibers as fibers;
-ghost use Rattle.rx_fiber.specs.Fibers.{as_cloned, as_matched, generation_of, waiting};
+ghost use Rattle.rx_fiber.specs.Fibers.{as_cloned, as_matched, begun, generation_of, waiting};
 ghost use Rattle.rx_fiber.specs.declared.stage.Origin.{Origin};
 ghost use Rattle.rx_fiber.specs.FiberView.{changed};
 ghost use Rattle.rx_fiber.specs.declared.stage.StageChange.TheVariants as change;
 ghost use Rattle.rx_fiber.specs.Subtrees.{IsGathered};
 ghost use Rattle.rx_fiber.specs.Stood.{gives_another};
-ghost use Rattle.rx_fiber.specs.Surround.{IsElementOf};
-ghost use Rattle.rx_fiber.specs.OldLists.{matched, old_elements, old_fibers, primary_list};
+ghost use Rattle.rx_fiber.specs.Surround.{IsElementOf, fallback_in};
+ghost use Rattle.rx_fiber.specs.OldLists.{fallback_list, matched, old_elements, old_fibers, primary_list};
 ghost use Rattle.rx_causes.specs.Marks.{EachBut, mark_at, keeps_children};
 ghost use Rattle.rx_causes.specs.Scenes.{IsSceneOf, TellsCalm, TellsNews};
 ghost use Rattle.rx_causes.specs.Hidden.{ForEachIn, GivesHooksIn, KeepsOld, WaitsStill};
@@ -35,32 +36,130 @@ ghost use Rattle.rx_fiber.specs.Standing.{StandsAt, is_stood};
 ghost use Rattle.rx_ways.specs.Ways.{is_way};
 ghost use Rattle.rx_hook_store.specs.Store.{kept_hooks};
 ghost use Rattle.rx_hook_store.specs.Gives.{GivesValues};
-ghost use Rattle.rx_begin.specs.Others.{HasBegunOther, IsCauseToTry};
+ghost use Rattle.rx_begin.specs.Others.{HasBegunNode, HasBegunOther, IsCauseToTry, caught_before};
 ghost use Rattle.rx_children.specs.Origins.{HasCauseToBegin, IsAgain, TellsAgain, TellsSteady};
 ghost use Rattle.rx_begin.specs.Kids.{HasKids};
-ghost use Rattle.rx_children.specs.declared.node.Begun.TheVariants.{Suspended};
+ghost use Rattle.rx_children.specs.declared.node.Begun.TheVariants.{Suspended, Thrown};
 ghost use Rattle.rx_begin.specs.Beginning.{IsAtPlace, BeginsPlace, awaited_again, is_opened, is_taken};
 
 use crate::body::begin_component;
 use crate::memo::is_as_before;
 use crate::place::Place;
-use rx_base::{Awaits, Steps};
+use rx_base::{Awaits, Int, Steps};
+use rx_catch::CatchState;
 use rx_causes::{Scene, waits_still};
 use rx_children::{
-    Begun, begun_children, begun_stage, enter, generation_below, gives_another, is_component,
-    is_hidden_again, is_steady, keep_node, keeps_children, old_host, open_node, parts_of,
-    take_node, takes_over,
+    Begun, begun_children, begun_from, begun_stage, enter, fallback_list, generation_below,
+    gives_another, is_component, is_hidden_again, is_steady, keep_node, keeps_children, old_caught,
+    old_host, open_clones, open_list, open_node, parts_of, take_node, takes_over,
 };
 use rx_ctx::ContextStack;
-use rx_elem::Element;
-use rx_fiber::{Fiber, Origin, StageChange};
+use rx_elem::{Element, ElementKind};
+use rx_fiber::{Fiber, Origin, Stage, StageChange, old_fallback};
 use rx_hook_store::HookStore;
 use rx_links::{FiberId, FiberTree};
+use rx_node::Mark;
 use std::alloc::{AllocError, Global};
 use std::sync::ledger::Ledger;
 
-// The place of an element of no component begins.
-fn begin_other(
+// What an error boundary had caught, if the element is one's and the old node had.
+fn caught_before(tree: &FiberTree<Fiber>, at: FiberId, element: &Element) -> Option<Int>
+    requires { IsBareAt tree.now at }
+    ensures { result ≡ caught_before tree.now at element.now }
+{
+    tree.place_facts();
+    match element.kind() {
+        ElementKind::Catch(_, _, _) => old_caught(tree, tree.alternate(at)),
+        _ => None,
+    }
+}
+
+// The place of an error boundary that had caught this value begins over clones of its old fallback.
+fn keep_caught(
+    alloc: Global,
+    tree: &mut FiberTree<Fiber>,
+    at: FiberId,
+    value: Int,
+    steady: bool,
+) -> Result<Begun, AllocError>
+    requires bare { IsBareAt tree.old at }
+    requires was { (x : Option Node) × IsOld tree.old.current (old_of tree.old.draft at) x }
+    requires caught { option_and_then caught_in (mark_at tree.old.current (old_of tree.old.draft at)) ≡ Some value }
+    ensures opened { IfOk result (λ b. HasOpened (as_cloned steady) tree.old tree.new at (begun (of_catcher (Caught value)))
+        (old_elements (fallback_list (list_from tree.old.current (old_of tree.old.draft at)))) (old_fibers (fallback_list (list_from tree.old.current (old_of tree.old.draft at)))) b) }
+    ensures current { tree.new.current ≡ tree.old.current }
+{
+    tree.place_facts();
+    tree.facts();
+    let stage = Stage::Begun(Mark::Catch(CatchState::Caught { value }));
+    let first_old = old_fallback(tree, tree.alternate(at));
+    let first = open_clones(alloc, tree, at, stage, first_old, steady)?;
+    Ok(begun_from(first))
+}
+
+// It begins over the fallback of its element, matched with its old one.
+fn match_caught(
+    alloc: Global,
+    tree: &mut FiberTree<Fiber>,
+    at: FiberId,
+    element: &Element,
+    value: Int,
+    steady: bool,
+    generation: u32,
+) -> Result<Begun, AllocError>
+    requires bare { IsBareAt tree.old at }
+    requires was { (x : Option Node) × IsOld tree.old.current (old_of tree.old.draft at) x }
+    requires caught { option_and_then caught_in (mark_at tree.old.current (old_of tree.old.draft at)) ≡ Some value }
+    ensures opened { IfOk result (λ b. HasOpened (as_matched steady generation) tree.old tree.new at (begun (of_catcher (Caught value))) (fallback_in element.now ∷ [])
+        (matched (fallback_list (list_from tree.old.current (old_of tree.old.draft at))) (fallback_in element.now ∷ [])) b) }
+    ensures current { tree.new.current ≡ tree.old.current }
+{
+    tree.place_facts();
+    tree.facts();
+    let fallback = fallback_list(alloc, element)?;
+    let stage = Stage::Begun(Mark::Catch(CatchState::Caught { value }));
+    let first_old = old_fallback(tree, tree.alternate(at));
+    let first = open_list(
+        alloc, tree, at, stage, &fallback, first_old, steady, generation,
+    )?;
+    Ok(begun_from(first))
+}
+
+// The place of an error boundary begins that had caught this value: it goes on with its fallback.
+fn begin_caught(
+    alloc: Global,
+    tree: &mut FiberTree<Fiber>,
+    at: FiberId,
+    element: &Element,
+    place: Place,
+    value: Int,
+) -> Result<Begun, AllocError>
+    requires bare { IsBareAt tree.old at }
+    requires was { (x : Option Node) × IsOld tree.old.current (old_of tree.old.draft at) x }
+    requires caught { option_and_then caught_in (mark_at tree.old.current (old_of tree.old.draft at)) ≡ Some value }
+    ensures kept { IfOk result (λ b. place.again ≡ true → HasOpened (as_cloned place.steady) tree.old tree.new at (begun (of_catcher (Caught value)))
+        (old_elements (fallback_list (list_from tree.old.current (old_of tree.old.draft at)))) (old_fibers (fallback_list (list_from tree.old.current (old_of tree.old.draft at)))) b) }
+    ensures opened { IfOk result (λ b. place.again ≡ false → HasOpened (as_matched place.steady place.generation) tree.old tree.new at (begun (of_catcher (Caught value))) (fallback_in element.now ∷ [])
+        (matched (fallback_list (list_from tree.old.current (old_of tree.old.draft at))) (fallback_in element.now ∷ [])) b) }
+    ensures current { tree.new.current ≡ tree.old.current }
+{
+    if place.again {
+        keep_caught(alloc, tree, at, value, place.steady)
+    } else {
+        match_caught(
+            alloc,
+            tree,
+            at,
+            element,
+            value,
+            place.steady,
+            place.generation,
+        )
+    }
+}
+
+// The place of an element of no component begins, and of no error boundary that had caught a value.
+fn begin_node(
     alloc: Global,
     tree: &mut FiberTree<Fiber>,
     at: FiberId,
@@ -95,6 +194,27 @@ fn begin_other(
             place.steady,
             place.generation,
         )
+    }
+}
+
+// The place of an element of no component begins.
+fn begin_other(
+    alloc: Global,
+    tree: &mut FiberTree<Fiber>,
+    at: FiberId,
+    element: &Element,
+    place: Place,
+    contexts: &mut ContextStack,
+) -> Result<Begun, AllocError>
+    requires bare { IsBareAt tree.old at }
+    requires was { (x : Option Node) × IsOld tree.old.current (old_of tree.old.draft at) x }
+    requires context { IfSome (given_context element.now) (λ c. c < length (values_at contexts.old)) }
+    ensures begun { IfOk result (λ b. HasBegunNode tree.old contexts.old tree.new contexts.new at element.now place.origin place.again place.steady place.generation b) }
+    ensures current { tree.new.current ≡ tree.old.current }
+{
+    match caught_before(tree, at, element) {
+        Some(value) => begin_caught(alloc, tree, at, element, place, value),
+        None => begin_node(alloc, tree, at, element, place, contexts),
     }
 }
 
@@ -168,7 +288,8 @@ fn has_stood(origin: Origin, contexts: &ContextStack) -> bool
 }
 
 /// Begins the place of a fiber, as one unit of a render (react.dev, Render and Commit): a component's body is evaluated, once;
-/// a provider gives its value; the fibers of all children are made, each for the old child of its identity and type. If the
+/// a provider gives its value; an error boundary that has caught a value goes on with its fallback; the fibers of all children are
+/// made, each for the old child of its identity and type. If the
 /// element is the current one, given again, and its component has no cause to be rendered anew, the body is skipped, and the
 /// children are clones of the old ones (react.dev, useState: React skips the component). If the place is a hidden boundary's,
 /// has an element equal to the current one, which is shown, no context has another value there than in the committed tree, and
@@ -223,6 +344,7 @@ pub fn begin<L: Ledger>(
         → tree.new ≡ record tree.old { draft = valued at (changed (change.Try c)) tree.old.draft }) }
     ensures taken_over { IfOk result (λ b. is_taken b.0 ≡ true → HasTaken tree.old tree.new at) }
     ensures waits { IfOk result (λ b. (r : ℕ) → b.0 ≡ Suspended r → tree.new ≡ tree.old) }
+    ensures throws { IfOk result (λ b. (x : ℤ) → b.0 ≡ Thrown x → tree.new ≡ tree.old) }
     // Old children are taken over only if the element is given again, with no body evaluated; and the tree of the old node
     // rests, but for what is passed.
     ensures again { IfOk result (λ b. is_taken b.0 ≡ true → (v : fibers.Fiber) → Some v ≡ made_value_of tree.old.draft at → IsAgain (is_memo scene.now.checked.now v.element) tree.old.current (old_of tree.old.draft at) v) }

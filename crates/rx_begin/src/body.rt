@@ -27,7 +27,7 @@ ghost use Rattle.rx_children.specs.Origins.{StoodIn};
 ghost use Rattle.rx_begin.specs.Bodies.{HasShape};
 ghost use Rattle.rx_begin.specs.Beginning.{awaited_again, is_opened, is_taken};
 ghost use Rattle.rx_begin.specs.Kids.{HasKids, kids_as};
-ghost use Rattle.rx_children.specs.declared.node.Begun.TheVariants.{Suspended};
+ghost use Rattle.rx_children.specs.declared.node.Begun.TheVariants.{Suspended, Thrown};
 
 use crate::place::Place;
 use rx_base::{Int, Ints, Steps};
@@ -199,10 +199,12 @@ fn open_body(
     ensures own { IfOk result (λ b. awaited_again b ≡ None) }
     ensures kids { IfOk result (λ b. is_opened b ≡ true → (h : HasKids (as_matched steady generation) tree.old tree.new at) × (b ≡ begun_over h.kids)) }
     ensures waits { IfOk result (λ b. (r : ℕ) → b ≡ Suspended r → tree.new ≡ tree.old) }
+    ensures throws { IfOk result (λ b. (x : ℤ) → b ≡ Thrown x → tree.new ≡ tree.old) }
     ensures current { tree.new.current ≡ tree.old.current }
 {
     match body {
         Body::Wait(resource, _) => Ok(Begun::Suspended(resource)),
+        Body::Throw(value) => Ok(Begun::Thrown(value)),
         Body::Ready {
             elements,
             effects,
@@ -314,6 +316,7 @@ pub(crate) fn begin_component<L: Ledger>(
     ensures own { IfOk result (λ b. (is_taken b.0 ≡ false) × (awaited_again b.0 ≡ None)) }
     ensures kids { IfOk result (λ b. is_opened b.0 ≡ true → (h : HasKids (kids_as b.1 place.steady place.generation) tree.old tree.new at) × (b.0 ≡ begun_over h.kids)) }
     ensures waits { IfOk result (λ b. (r : ℕ) → b.0 ≡ Suspended r → tree.new ≡ tree.old) }
+    ensures throws { IfOk result (λ b. (x : ℤ) → b.0 ≡ Thrown x → tree.new ≡ tree.old) }
     ensures once { IfOk result (λ b. steps.new ≡ steps.old + (if b.1 then 1 else 0)) }
     ensures anew { IfOk result (λ b. place.again ≡ false → b.1 ≡ true) }
     ensures kept { IfOk result (λ b. b.1 ≡ false → keeps_children place.again (mark_at tree.old.current (old_of tree.old.draft at)) ≡ true) }

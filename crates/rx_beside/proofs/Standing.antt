@@ -2,7 +2,7 @@
 use Rattle.std.proofs.Common.{◌≡◌, ◌⊎◌, inl, inr, ℕ, ◌-◌, Bool, true, false, eqb, List, refl, sym, ap, ◌∙◌, subst, arith, is_some, Option, Some, None, IfSome}
 use Rattle.std.specs.Prelude.{slice_get, if◌then◌else◌}
 use Rattle.std.specs.Option.{option_flatten}
-use Rattle.rx_elem.specs.Trees.{Mark, Node, node, Forest, forest, places, is_hidden, mark_of, children_of, fallback_of, element_of}
+use Rattle.rx_elem.specs.Trees.{Mark, Node, node, Forest, forest, places, shows_fallback, mark_of, children_of, fallback_of, element_of}
 use Rattle.rx_elem.specs.Trees as trees
 use Rattle.rx_elem.specs.Compare.{node_at}
 use Rattle.rx_node.proofs.Listing.{places-forest}
@@ -110,22 +110,22 @@ beside_at t fits linked p m =
 -- The node of a current fiber
 
 -- what a node that is not hidden has
-shown_node : (o : Option Mark) (v : Fiber) (kids : Forest) (behind : Option Forest) (x : Node) → node_if o v kids behind ≡ Some x → is_hidden (mark_of x) ≡ false
+shown_node : (o : Option Mark) (v : Fiber) (kids : Forest) (behind : Option Forest) (x : Node) → node_if o v kids behind ≡ Some x → shows_fallback (mark_of x) ≡ false
     → (children_of x ≡ kids) × (fallback_of x ≡ trees.none)
 shown_node None v kids behind x e h = cc
 shown_node (Some m) v kids behind x e h =
-    let q : node v.element m (primary_from (is_hidden m) kids behind) (fallback_from (is_hidden m) kids behind) ≡ x = cc in
-    let k : is_hidden m ≡ false = ap (λ x. is_hidden (mark_of x)) q ∙ h in
+    let q : node v.element m (primary_from (shows_fallback m) kids behind) (fallback_from (shows_fallback m) kids behind) ≡ x = cc in
+    let k : shows_fallback m ≡ false = ap (λ x. shows_fallback (mark_of x)) q ∙ h in
     (ap children_of (sym q) ∙ rw k refl, ap fallback_of (sym q) ∙ rw k refl)
 
-shown_list : (s : Shape Fiber) (j : ℕ) (u : Fiber) (ks ts : Shape Fiber) (x : Node) → s ≡ fiber j u ks ts → first_node s ≡ Some x → is_hidden (mark_of x) ≡ false
+shown_list : (s : Shape Fiber) (j : ℕ) (u : Fiber) (ks ts : Shape Fiber) (x : Node) → s ≡ fiber j u ks ts → first_node s ≡ Some x → shows_fallback (mark_of x) ≡ false
     → (children_of x ≡ forest (places_in 0 ks)) × (fallback_of x ≡ trees.none)
 shown_list s j u ks ts x e f h =
     shown_node (mark_in u.stage) u (forest (places_in 0 ks)) (fallback_behind ts) x (ap first_node (sym e) ∙ f) h
 
 -- The children of the node that a made fiber was made for are those of its current fiber.
 pub old_children : (t : Trees Fiber) → Fits t → IsLinked t.current → (p : ℕ) → Makes t.draft p → (x : Node) → Some x ≡ first_node (list_of t (old_of t.draft p))
-    → is_hidden (mark_of x) ≡ false → (children_of x ≡ forest (places_in 0 (old_kids t p))) × (fallback_of x ≡ trees.none)
+    → shows_fallback (mark_of x) ≡ false → (children_of x ≡ forest (places_in 0 (old_kids t p))) × (fallback_of x ≡ trees.none)
 old_children t fits linked p m x e h =
     let s = stands t.draft p m in
     let at = is-at t fits s.around p s.value s.old s.kids s.rest s.here in
@@ -139,12 +139,12 @@ old_children t fits linked p m x e h =
         let (u, is, l) = linked.list j held in
         shown_list (list_of t (Some j)) j u (kids_of t.current j) (rest_of t.current j) x (list_of_current t j held ∙ l) f h
 
-begun_node : (v : Fiber) (m : Mark) (id : ℕ) (ks rs : Shape Fiber) → v.stage ≡ begun m → is_hidden m ≡ false
+begun_node : (v : Fiber) (m : Mark) (id : ℕ) (ks rs : Shape Fiber) → v.stage ≡ begun m → shows_fallback m ≡ false
     → first_node (fiber id v ks rs) ≡ Some (node v.element m (forest (places_in 0 ks)) trees.none)
 begun_node v m id ks rs e h = let k : mark_in v.stage ≡ Some m = ap mark_in e in rw (k, h) refl
 
 -- The node of a made fiber that is not hidden has the children that it was made or took over.
-pub new_node : (t : Trees Fiber) (p : ℕ) → (b : Beside t p) → (v : Fiber) → Some v ≡ made_value_of t.draft p → (m : Mark) → v.stage ≡ begun m → is_hidden m ≡ false
+pub new_node : (t : Trees Fiber) (p : ℕ) → (b : Beside t p) → (v : Fiber) → Some v ≡ made_value_of t.draft p → (m : Mark) → v.stage ≡ begun m → shows_fallback m ≡ false
     → first_node (list_of t (Some p)) ≡ Some (node v.element m (forest (places_in 0 (grafted (made_kids_of t.draft p)))) trees.none)
 new_node t p b v value m e h =
     let same : v ≡ b.at.value = (let q : Some v ≡ Some b.at.value = value ∙ b.value in cc) in

@@ -1,7 +1,7 @@
 // A node of the finished tree beside the old one that it was made for.
 ghost use Rattle.std.specs.Prelude.{◌≡◌, ◌<◌, ◌^◌, ℕ, Bool, true, false, ◌||◌, All, IfSome, IfOk, Some, Option, length, map, option_and_then};
 ghost use Rattle.rx_elem.specs.Trees as trees;
-ghost use Rattle.rx_elem.specs.Trees.{node, none, forest, element_of, mark_of, host_number};
+ghost use Rattle.rx_elem.specs.Trees.{node, none, forest, element_of, mark_of, host_number, shows_fallback};
 ghost use Rattle.rx_elem.specs.Compare.{node_at};
 ghost use Rattle.rx_node.specs.MarkView.{mark_seen};
 ghost use Rattle.rx_links.specs.Drafts.{Makes, taken, grafted, old_of, old_kids};
@@ -48,10 +48,13 @@ fn host_number(mark: &Mark) -> Option<u64>
 
 // Whether what is below an old node and the new one can be gone through.
 fn goes_on(old: &Mark, new: &Mark) -> bool
-    ensures { result ≡ true → GoesOn (mark_seen old.now) (mark_seen new.now) }
+    ensures goes { result ≡ true → GoesOn (mark_seen old.now) (mark_seen new.now) }
+    ensures shown { result ≡ true → (shows_fallback (mark_seen old.now) ≡ false) × (shows_fallback (mark_seen new.now) ≡ false) }
 {
     !old.is_hidden()
         && !new.is_hidden()
+        && !old.is_caught()
+        && !new.is_caught()
         && old.is_host() == new.is_host()
         && host_number(old) == host_number(new)
 }

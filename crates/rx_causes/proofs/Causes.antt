@@ -4,7 +4,7 @@ use Rattle.std.proofs.Common.{refl, sym, ap, ◌∙◌, subst, inl, inr}
 use Rattle.rx_base.specs.Awaits.{Awaits}
 use Rattle.rx_base.specs.declared.cut.Cut.{Cut}
 use Rattle.rx_lane.specs.Lanes.{Lanes}
-use Rattle.rx_elem.specs.Trees.{Instance, Mark, Node, instance_in, is_hidden, mark_of, of_boundary, of_host, of_instance, plain}
+use Rattle.rx_elem.specs.Trees.{Instance, Mark, Node, instance_in, is_hidden, mark_of, of_boundary, of_catcher, of_host, of_instance, plain}
 use Rattle.rx_susp.specs.declared.boundary.BoundaryState.TheVariants.{Hidden, Shown}
 use Rattle.rx_queue.specs.History.{Answers}
 use Rattle.rx_hooks.specs.declared.hook.Hook.{Hook}
@@ -27,7 +27,7 @@ use Rattle.rx_causes.specs.Scenes.{GivesHooks, KeepsHooks, TellsCalm, read_anoth
 use Rattle.rx_causes.specs.Hidden.{ForEach, KeepsHooksIf}
 use Rattle.rx_causes.specs.Idle.{HasNoCause, HasNoCauseAt, HasNoWork, KeepsTree, LeadsAt, Rests, is_anew}
 use Rattle.rx_causes.proofs.Marks.{mark_is}
-use Rattle.rx_causes.proofs.Walks.{at_node, of_fiber, each_but, each_covered, each_fiber, some_node}
+use Rattle.rx_causes.proofs.Walks.{at_node, of_fiber, each_but, each_covered, each_fiber, some_node, no_but, no_marks}
 use Rattle.rx_causes.proofs.Still.{keeps_none}
 
 -- The fiber of an old node
@@ -94,6 +94,7 @@ module _ (kept : ℕ → Option (List Hook)) (lanes : Lanes) (cut : Cut) where
   no_cause_shown (of_instance i) h = refl
   no_cause_shown (of_host n) h = refl
   no_cause_shown (of_boundary b) h = h
+  no_cause_shown (of_catcher c) h = refl
   no_cause_shown plain h = refl
 
   module _ (s : Sight) (lanes_are : s.lanes ≡ lanes) (cut_is : s.cut ≡ cut) where
@@ -102,6 +103,7 @@ module _ (kept : ℕ → Option (List Hook)) (lanes : Lanes) (cut : Cut) where
     mark_idle (of_host n) h gives = tt
     mark_idle (of_boundary Shown) h gives = tt
     mark_idle (of_boundary (Hidden a)) h gives = let q : ⊥ = cc in q
+    mark_idle (of_catcher c) h gives = tt
     mark_idle plain h gives = tt
 
     -- an old node is idle whose fiber has none, if those below have none but for those that are passed
@@ -111,8 +113,11 @@ module _ (kept : ℕ → Option (List Hook)) (lanes : Lanes) (cut : Cut) where
       each_covered way (HasNoCauseAt kept lanes cut) (λ m. GivesHooks s kept (instance_in m)) (IsIdleMark s) mark_idle 0 ns ks a h.1 gives.1 covers.1,
       tt,
     )
-    node_idle way n _ _ rest (alone {v = v} {m = m} is hidden gone a) h gives covers =
-        absurd (let f = no_cause_shown m (of_fiber (HasNoCauseAt kept lanes cut) v m is.stage h.0) in let q : ⊥ = cc in q)
+    node_idle way n _ _ rest (alone {v = v} {m = m} {ns = ns} {fs = fs} {ks = ks} is falling gone a) h gives covers = (
+      mark_idle m (of_fiber (HasNoCauseAt kept lanes cut) v m is.stage h.0) gives.0,
+      no_marks (IsIdleMark s) ns gone,
+      each_covered way (HasNoCauseAt kept lanes cut) (λ m. GivesHooks s kept (instance_in m)) (IsIdleMark s) mark_idle 0 fs ks a h.1 gives.2 covers.2,
+    )
     node_idle way n _ _ rest (beside {v = v} {m = m} is hidden some a s f) h gives covers =
         absurd (let f = no_cause_shown m (of_fiber (HasNoCauseAt kept lanes cut) v m is.stage h.0) in let q : ⊥ = cc in q)
 
@@ -120,14 +125,15 @@ module _ (kept : ℕ → Option (List Hook)) (lanes : Lanes) (cut : Cut) where
   mark_rests (of_instance i) h = (subst IsSome (sym h.is_numbered) refl, h.tells)
   mark_rests (of_host n) h = tt
   mark_rests (of_boundary b) h = tt
+  mark_rests (of_catcher c) h = tt
   mark_rests plain h = tt
 
   -- each of its nodes rests, but for those that are passed
   node_rests : (way : ℕ → Bool) (n : ℕ) (x : Node) (l rest : Shape Fiber) → IsFor n x l rest → EachOfFirstBut way (HasNoCauseAt kept lanes cut) l → EachBut way (Rests kept lanes cut) x
   node_rests way n _ _ rest (whole {v = v} {m = m} {ns = ns} {ks = ks} is shown a) h =
       inr (mark_rests m (of_fiber (HasNoCauseAt kept lanes cut) v m is.stage h.0), each_but way (HasNoCauseAt kept lanes cut) (Rests kept lanes cut) mark_rests 0 ns ks a h.1, tt)
-  node_rests way n _ _ rest (alone {v = v} {m = m} is hidden gone a) h =
-      absurd (let f = no_cause_shown m (of_fiber (HasNoCauseAt kept lanes cut) v m is.stage h.0) in let q : ⊥ = cc in q)
+  node_rests way n _ _ rest (alone {v = v} {m = m} {ns = ns} {fs = fs} {ks = ks} is falling gone a) h =
+      inr (mark_rests m (of_fiber (HasNoCauseAt kept lanes cut) v m is.stage h.0), no_but way (Rests kept lanes cut) ns gone, each_but way (HasNoCauseAt kept lanes cut) (Rests kept lanes cut) mark_rests 0 fs ks a h.1)
   node_rests way n _ _ rest (beside {v = v} {m = m} is hidden some a s f) h =
       absurd (let f = no_cause_shown m (of_fiber (HasNoCauseAt kept lanes cut) v m is.stage h.0) in let q : ⊥ = cc in q)
 
@@ -140,6 +146,7 @@ calm_without kept scene cs (Some (of_instance i)) component so same h =
     record { work = false; tells = h.tells; is = rw (h.is_numbered, reads) refl }
 calm_without kept scene cs (Some (of_host n)) component so same h = let q : ⊥ = cc in absurd q
 calm_without kept scene cs (Some (of_boundary b)) component so same h = let q : ⊥ = cc in absurd q
+calm_without kept scene cs (Some (of_catcher b)) component so same h = let q : ⊥ = cc in absurd q
 calm_without kept scene cs (Some plain) component so same h = let q : ⊥ = cc in absurd q
 
 -- a mark without a cause hides no children

@@ -5,7 +5,7 @@ use Rattle.std.proofs.Common.{refl, sym, ap, ◌∙◌, subst, inl, inr, arith}
 use Rattle.std.proofs.lemmas.Bool.Decides.{nat_tests}
 use Rattle.rx_base.specs.declared.cut.Cut.{Cut}
 use Rattle.rx_lane.specs.Lanes.{Lanes}
-use Rattle.rx_elem.specs.Trees.{Forest, Mark, Node, is_hidden, mark_of, of_boundary, of_host, of_instance, plain}
+use Rattle.rx_elem.specs.Trees.{Forest, Mark, Node, is_hidden, mark_of, of_boundary, of_catcher, of_host, of_instance, plain}
 use Rattle.rx_elem.specs.Trees as trees
 use Rattle.rx_elem.proofs.Deciding.{or_fails}
 use Rattle.rx_elem.specs.declared.effect.ContextRead.{ContextRead}
@@ -20,7 +20,7 @@ use Rattle.rx_meaning.specs.Settled.{IfHidden, read_anew, refreshed}
 use Rattle.rx_meaning.specs.Touched.{contexts_below}
 use Rattle.commit_laws.specs.Each.{ForEach, ForEachIn}
 use Rattle.rx_fiber.specs.declared.subtree.Subtree.{Subtree}
-use Rattle.rx_fiber.specs.Fibers.{Fiber, Stage, waiting, begun, trying, fallback, joined, marked_subtree, nothing, own_subtree}
+use Rattle.rx_fiber.specs.Fibers.{Fiber, Stage, waiting, begun, trying, guarding, fallback, joined, marked_subtree, nothing, own_subtree}
 use Rattle.rx_fiber.specs.Reading.{IsFor, whole, alone, beside, IsOld}
 use Rattle.rx_fiber.specs.Subtrees.{IsGathered, subtrees_of}
 use Rattle.rx_fiber.proofs.Gathered.{gathered_at}
@@ -28,7 +28,7 @@ use Rattle.rx_causes.specs.Marks.{begun_mark, mark_at, EachFiber, EachFiberBut, 
 use Rattle.rx_causes.specs.Idle.{HasNoCauseAt}
 use Rattle.rx_causes.specs.Reads.{AllContextsHold, AllVersionsHold, ContextsHold, VersionsHold, reads_another_value, reads_another_version}
 use Rattle.rx_causes.proofs.Marks.{mark_is}
-use Rattle.rx_causes.proofs.Walks.{each_node, list_at_links}
+use Rattle.rx_causes.proofs.Walks.{each_node, list_at_links, no_marks}
 use Rattle.rx_causes.proofs.Causes.{old_list, shown_again}
 
 -- what a mark tells, if there is one
@@ -40,6 +40,7 @@ own_is : (s : Stage) → own_subtree s ≡ told_by (begun_mark s)
 own_is (waiting c) = refl
 own_is (begun m) = refl
 own_is (trying c) = refl
+own_is guarding = refl
 own_is (fallback a) = refl
 
 -- Free fibers
@@ -68,6 +69,7 @@ free_no_cause kept lanes cut None h = tt
 free_no_cause kept lanes cut (Some (of_instance i)) h = absurd (cc h)
 free_no_cause kept lanes cut (Some (of_host n)) h = tt
 free_no_cause kept lanes cut (Some (of_boundary b)) h = shown_again (is_hidden (of_boundary b)) h
+free_no_cause kept lanes cut (Some (of_catcher c)) h = tt
 free_no_cause kept lanes cut (Some plain) h = tt
 
 -- What is read
@@ -120,12 +122,14 @@ unread : (cs : Contexts) (m : Mark) → Unread (Some m) → reads_another_value 
 unread cs (of_instance i) h = no_reads cs i.reads h
 unread cs (of_host h) k = refl
 unread cs (of_boundary b) k = refl
+unread cs (of_catcher c) k = refl
 unread cs plain k = refl
 
 unused : (version : ℕ → ℕ) (m : Mark) → Unused (Some m) → reads_another_version version m ≡ false
 unused version (of_instance i) h = no_uses version i.versions h
 unused version (of_host h) k = refl
 unused version (of_boundary b) k = refl
+unused version (of_catcher c) k = refl
 unused version plain k = refl
 
 if_any : (b : Bool) (A : Type 0) → A → IfHidden b (Unit {0}) A
@@ -159,7 +163,8 @@ first_each_mark : (P : Option Mark → Type 0) (n : ℕ) (x : Node) (id : ℕ) (
     → ForEach (λ m. P (Some m)) x
 first_each_mark P n _ _ _ _ _ rest (whole {e = e} {m = m} {ns = ns} {ks = ks} is shown a) shows own kids =
     (subst P (ap begun_mark is.stage) own, each_node P 0 ns ks a kids, tt)
-first_each_mark P n _ _ _ _ _ rest (alone {m = m} is hidden gone a) shows own kids = absurd (let q : true ≡ false = sym hidden ∙ shows in let r : ⊥ = cc in r)
+first_each_mark P n _ _ _ _ _ rest (alone {m = m} {ns = ns} {fs = fs} {ks = ks} is falling gone a) shows own kids =
+    (subst P (ap begun_mark is.stage) own, no_marks (λ m. P (Some m)) ns gone, each_node P 0 fs ks a kids)
 first_each_mark P n _ _ _ _ _ rest (beside {m = m} is hidden some a s f) shows own kids = absurd (let q : true ≡ false = sym hidden ∙ shows in let r : ⊥ = cc in r)
 
 -- What a fiber keeps

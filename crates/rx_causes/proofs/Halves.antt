@@ -1,7 +1,7 @@
 -- What is rendered of a tree, by both halves of what it read: contexts, and resources.
 use Rattle.std.specs.Prelude.{◌≡◌, ℕ, Bool, true, false, ◌||◌, ◌⊎◌, refl}
 use Rattle.std.proofs.Common.{ap, subst, inl, inr, ◌∙◌}
-use Rattle.rx_elem.specs.Trees.{Forest, Mark, Node, child, is_hidden, node, none, of_boundary, of_host, of_instance, plain, vacant}
+use Rattle.rx_elem.specs.Trees.{Forest, Mark, Node, child, is_hidden, node, none, of_boundary, of_catcher, of_host, of_instance, plain, vacant}
 use Rattle.rx_elem.proofs.Deciding.{or_fails}
 use Rattle.rx_meaning.specs.Fresh.{Contexts}
 use Rattle.rx_meaning.specs.Settled.{AllReadsHold, IfHidden, ReadsHold, read_anew, reads_another, refreshed}
@@ -15,12 +15,14 @@ mark_joins : (version : ℕ → ℕ) (cs : Contexts) (m : Mark) → reads_anothe
 mark_joins version cs (of_instance i) h k = none_of (read_anew cs i.reads) (refreshed version i.versions) h k
 mark_joins version cs (of_host n) h k = refl
 mark_joins version cs (of_boundary b) h k = refl
+mark_joins version cs (of_catcher c) h k = refl
 mark_joins version cs plain h k = refl
 
 mark_halves : (version : ℕ → ℕ) (cs : Contexts) (m : Mark) → reads_another version cs m ≡ false → (reads_another_value cs m ≡ false) × (reads_another_version version m ≡ false)
 mark_halves version cs (of_instance i) h = or_fails (read_anew cs i.reads) (refreshed version i.versions) h
 mark_halves version cs (of_host n) h = (refl, refl)
 mark_halves version cs (of_boundary b) h = (refl, refl)
+mark_halves version cs (of_catcher c) h = (refl, refl)
 mark_halves version cs plain h = (refl, refl)
 
 if_joins : (b : Bool) (A B C : Type 0) → (A → B → C) → IfHidden b (Unit {0}) A → IfHidden b (Unit {0}) B → IfHidden b (Unit {0}) C

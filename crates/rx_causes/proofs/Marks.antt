@@ -1,7 +1,7 @@
 -- What the current fiber of a node tells of it.
 use Rattle.std.specs.Prelude.{◌≡◌, ℕ, Option, Some, None, option_and_then, option_map}
 use Rattle.std.proofs.Common.{refl, ap, ◌∙◌}
-use Rattle.rx_elem.specs.Trees.{Node, mark_of, host_number, instance_in}
+use Rattle.rx_elem.specs.Trees.{Node, mark_of, caught_in, host_number, instance_in, old_caught}
 use Rattle.rx_lists.specs.Shapes.{Shape}
 use Rattle.rx_links.specs.Drafts.{list_at}
 use Rattle.rx_links.specs.Readers.{value_in}
@@ -27,6 +27,14 @@ host_is (Some x) = refl
 instance_is : (old : Option Node) → option_and_then instance_in (option_map mark_of old) ≡ old_instance old
 instance_is None = refl
 instance_is (Some x) = refl
+
+caught_is : (old : Option Node) → option_and_then caught_in (option_map mark_of old) ≡ old_caught old
+caught_is None = refl
+caught_is (Some x) = refl
+
+-- so is what it had caught
+pub old_caught_is : (c : Shape Fiber) (o : Option ℕ) (old : Option Node) → IsOld c o old → option_and_then caught_in (mark_at c o) ≡ old_caught old
+old_caught_is c o old is = ap (option_and_then caught_in) (mark_is c o old is) ∙ caught_is old
 
 -- so are its numbers
 pub old_host_is : (c : Shape Fiber) (o : Option ℕ) (old : Option Node) → IsOld c o old → option_and_then host_number (mark_at c o) ≡ old_host old

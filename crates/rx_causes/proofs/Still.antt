@@ -6,7 +6,7 @@ use Rattle.rx_base.specs.Awaits.{Awaits, has, resource_limit}
 use Rattle.rx_base.specs.declared.cut.Cut.{Cut}
 use Rattle.rx_lane.specs.Lanes.{Lanes}
 use Rattle.rx_rules.specs.Names.{resources as names}
-use Rattle.rx_elem.specs.Trees.{Forest, Instance, Mark, Node, children_if, children_of, instance_in, mark_of, node, of_boundary, of_host, of_instance, plain}
+use Rattle.rx_elem.specs.Trees.{Forest, Instance, Mark, Node, children_if, children_of, instance_in, mark_of, node, of_boundary, of_catcher, of_host, of_instance, plain}
 use Rattle.rx_elem.specs.Trees as trees
 use Rattle.rx_queue.specs.History.{Answers}
 use Rattle.rx_queue.specs.Journal.{resolutions_by}
@@ -35,6 +35,7 @@ mark_agrees : (s : Sight) (m : Mark) → HasSameValues s (instance_in m) → Mar
 mark_agrees s (of_instance i) same = same i refl
 mark_agrees s (of_host h) same = tt
 mark_agrees s (of_boundary b) same = tt
+mark_agrees s (of_catcher c) same = tt
 mark_agrees s plain same = tt
 
 module _ (kept : ℕ → Option (List Hook)) (lanes : Lanes) (cut : Cut) (s : Sight) (lanes_are : s.lanes ≡ lanes) (cut_is : s.cut ≡ cut) where

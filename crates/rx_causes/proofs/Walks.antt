@@ -16,7 +16,7 @@ use Rattle.rx_fiber.specs.Reading.{AreFor, no_more, gap, next, IsFor, whole, alo
 use Rattle.rx_fiber.proofs.OldPlaces.{list_here}
 use Rattle.rx_causes.specs.Marks.{begun_mark, EachBut, EachButIn, EachFiber, EachFiberBut, is_spared, SomeFiber, SomeNode, SomeNodeIn}
 
-no_marks : (Q : Mark → Type 0) (ns : Forest) → has_node ns ≡ false → ForEachIn Q ns
+pub no_marks : (Q : Mark → Type 0) (ns : Forest) → has_node ns ≡ false → ForEachIn Q ns
 no_marks Q trees.none e = tt
 no_marks Q (trees.vacant ns) e = no_marks Q ns e
 no_marks Q (trees.child x ns) e = cc
@@ -129,7 +129,7 @@ module _ (way : ℕ → Bool) where
         ]
       ]
 
-  no_but : (Q : Mark → Type 0) (ns : Forest) → has_node ns ≡ false → EachButIn way Q ns
+  pub no_but : (Q : Mark → Type 0) (ns : Forest) → has_node ns ≡ false → EachButIn way Q ns
   no_but Q trees.none e = tt
   no_but Q (trees.vacant ns) e = no_but Q ns e
   no_but Q (trees.child x ns) e = cc

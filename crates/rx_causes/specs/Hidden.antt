@@ -11,7 +11,7 @@ use Rattle.rx_hooks.specs.Hooks.{HookHistory, HooksStandFor}
 use Rattle.rx_lists.specs.Shapes.{Shape}
 use Rattle.rx_meaning.specs.Again.{AllValuesAgree, AreUnresolved}
 use Rattle.rx_meaning.specs.Fresh.{Sight, values_of}
-use Rattle.rx_meaning.specs.Touched.{sees_refresh}
+use Rattle.rx_meaning.specs.Touched.{may_throw_anew, sees_refresh}
 use Rattle.commit_laws.specs.Each as each
 use Rattle.commit_laws.specs.WaitsAgain.{without_lanes}
 use Rattle.rx_fiber.specs.Fibers.{Fiber, Stage}
@@ -98,14 +98,15 @@ pub record KeepsOld (kept : ℕ → Option (List Hook)) (current : Shape Fiber) 
   pub was : IsOld current o node
   pub keeps : KeepsHooksIn kept (children_if node)
 
--- The old node is a boundary that is hidden and waits for these, of which none has a value; no resource has another version than the last commit showed; and each instance of what it keeps has the values that a render without lanes sees.
+-- The old node is a boundary that is hidden and waits for these, of which none has a value; no resource has another version than the last commit showed; nothing may throw anew; and each instance of what it keeps has the values that a render without lanes sees.
 pub record WaitsStill (s : Sight) (a : Awaits) (old : Node) : Type 0 where
   pub hidden : mark_of old ≡ of_boundary (Hidden a)
   pub unresolved : AreUnresolved s a
   pub versions : sees_refresh s ≡ false
+  pub calm : may_throw_anew s ≡ false
   pub same : AllValuesAgree (without_lanes s) s (children_of old)
 
--- there is a cause to try its children again: a resource of the program has another version, one of those that it waits for has a value, or an instance of what it keeps has news
+-- there is a cause to try its children again: a resource of the program has another version, something may throw anew, one of those that it waits for has a value, or an instance of what it keeps has news
 abbrev pub HasCauseToTry : Scene → (kept : ℕ → Option (List Hook)) → Awaits → Node → Type 0
 HasCauseToTry scene kept a old =
-    (scene.refreshes ≡ true) ⊎ (HasValueOf scene.resources.now a ⊎ ForSomeIn (HasNews kept scene.lanes scene.cut) (children_of old))
+    (scene.refreshes ≡ true) ⊎ ((scene.throws ≡ true) ⊎ (HasValueOf scene.resources.now a ⊎ ForSomeIn (HasNews kept scene.lanes scene.cut) (children_of old)))

@@ -3,7 +3,7 @@ use Rattle.std.specs.Prelude.{◌≡◌, ℕ, Bool, true, false, List, Option, S
 use Rattle.std.specs.Option.{option_map_or}
 use Rattle.rx_base.specs.declared.cut.Cut.{Cut}
 use Rattle.rx_lane.specs.Lanes.{Lanes}
-use Rattle.rx_elem.specs.Trees.{Instance, Mark, Node, instance_in, mark_of, of_boundary, of_host, of_instance, plain}
+use Rattle.rx_elem.specs.Trees.{Instance, Mark, Node, instance_in, mark_of, of_boundary, of_catcher, of_host, of_instance, plain}
 use Rattle.rx_susp.specs.Boundary.{hides}
 use Rattle.rx_queue.specs.History.{Answers}
 use Rattle.rx_hooks.specs.declared.hook.Hook.{Hook}
@@ -34,6 +34,7 @@ abbrev pub HasCause : (kept : ℕ → Option (List Hook)) → Lanes → Cut → 
 HasCause kept lanes cut (of_instance i) = HasWork kept lanes cut i
 HasCause kept lanes cut (of_host h) = ⊥
 HasCause kept lanes cut (of_boundary b) = hides b ≡ true
+HasCause kept lanes cut (of_catcher c) = ⊥
 HasCause kept lanes cut plain = ⊥
 
 -- the same of a fiber; that of a fallback has no mark, and stands behind a hidden boundary
@@ -57,6 +58,7 @@ abbrev pub HasNoCause : (kept : ℕ → Option (List Hook)) → Lanes → Cut �
 HasNoCause kept lanes cut (of_instance i) = HasNoWork kept lanes cut i
 HasNoCause kept lanes cut (of_host h) = Unit {0}
 HasNoCause kept lanes cut (of_boundary b) = hides b ≡ false
+HasNoCause kept lanes cut (of_catcher c) = Unit {0}
 HasNoCause kept lanes cut plain = Unit {0}
 
 -- neither has a fiber
@@ -69,6 +71,7 @@ abbrev pub Rests : (kept : ℕ → Option (List Hook)) → Lanes → Cut → Mar
 Rests kept lanes cut (of_instance i) = IsSome i.number × TellsWork kept lanes cut (Some i) false
 Rests kept lanes cut (of_host h) = Unit {0}
 Rests kept lanes cut (of_boundary b) = Unit {0}
+Rests kept lanes cut (of_catcher c) = Unit {0}
 Rests kept lanes cut plain = Unit {0}
 
 -- The old node of a clone

@@ -7,7 +7,7 @@ use Rattle.rx_lists.specs.Shapes as shapes
 use Rattle.rx_links.specs.Readers.{value_of}
 use Rattle.rx_meaning.specs.Settled.{number_of}
 use Rattle.rx_fiber.specs.declared.subtree.Subtree.{Subtree}
-use Rattle.rx_fiber.specs.Fibers.{Fiber, Stage, waiting, begun, trying, fallback}
+use Rattle.rx_fiber.specs.Fibers.{Fiber, Stage, waiting, begun, trying, guarding, fallback}
 
 -- The mark of an old node
 
@@ -16,6 +16,7 @@ abbrev pub begun_mark : Stage → Option Mark
 begun_mark (waiting c) = None
 begun_mark (begun m) = Some m
 begun_mark (trying c) = None
+begun_mark guarding = None
 begun_mark (fallback a) = None
 
 -- the mark of an old node, by its current fiber

@@ -1,6 +1,6 @@
 -- What is rendered of a tree, by what it read: the contexts of its place, and the resources in some versions.
 use Rattle.std.specs.Prelude.{◌≡◌, ℕ, Bool, false}
-use Rattle.rx_elem.specs.Trees.{Forest, Mark, Node, child, is_hidden, node, none, of_boundary, of_host, of_instance, plain, vacant}
+use Rattle.rx_elem.specs.Trees.{Forest, Mark, Node, child, is_hidden, node, none, of_boundary, of_catcher, of_host, of_instance, plain, vacant}
 use Rattle.rx_meaning.specs.Fresh.{Contexts}
 use Rattle.rx_meaning.specs.Settled.{IfHidden, read_anew, refreshed}
 use Rattle.rx_meaning.specs.Touched.{contexts_below}
@@ -10,6 +10,7 @@ abbrev pub reads_another_value : Contexts → Mark → Bool
 reads_another_value cs (of_instance i) = read_anew cs i.reads
 reads_another_value cs (of_host h) = false
 reads_another_value cs (of_boundary b) = false
+reads_another_value cs (of_catcher c) = false
 reads_another_value cs plain = false
 
 -- an instance read a resource in another version than this
@@ -17,6 +18,7 @@ abbrev pub reads_another_version : (version : ℕ → ℕ) → Mark → Bool
 reads_another_version version (of_instance i) = refreshed version i.versions
 reads_another_version version (of_host h) = false
 reads_another_version version (of_boundary b) = false
+reads_another_version version (of_catcher c) = false
 reads_another_version version plain = false
 
 -- what is rendered of a tree read the contexts of its place

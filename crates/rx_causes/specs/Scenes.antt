@@ -9,7 +9,7 @@ use Rattle.rx_elem.specs.Trees.{Instance}
 use Rattle.rx_hooks.specs.declared.hook.Hook.{Hook}
 use Rattle.rx_meaning.specs.Fresh.{Sight, Contexts, resources_seen, version_seen, versions_seen, hook_values}
 use Rattle.rx_meaning.specs.Settled.{done_values, known_by, read_anew, refreshed}
-use Rattle.rx_meaning.specs.Touched.{sees_refresh}
+use Rattle.rx_meaning.specs.Touched.{may_throw_anew, sees_refresh}
 use Rattle.rx_hook_store.specs.Gives.{GivesValues, has_news_in, has_work_in}
 use Rattle.rx_causes.specs.declared.scene.Scene.{Scene}
 
@@ -24,6 +24,7 @@ pub record IsSceneOf (scene : Scene) (s : Sight) : Type 0 where
   pub list : scene.versions.now ≡ versions_seen s
   pub versions : (r : ℕ) → version_in scene r ≡ version_seen s r
   pub refreshes : scene.refreshes ≡ sees_refresh s
+  pub throws : scene.throws ≡ may_throw_anew s
   pub lanes : s.lanes ≡ scene.lanes
   pub cut : s.cut ≡ scene.cut
 

@@ -93,8 +93,8 @@ fn awaits_of(stage: &Stage) -> Option<Awaits>
 }
 
 /// What an old boundary waits for, by its current fiber, if it is hidden and waits still: none of it has a value, no resource has
-/// another version than the last commit showed, and nothing new has come for what the boundary keeps. Then its children would wait
-/// for the same again (react.dev, Suspense).
+/// another version than the last commit showed, nothing may throw anew, and nothing new has come for what the boundary keeps. Then
+/// its children would wait for the same again (react.dev, Suspense).
 pub fn waits_still(
     tree: &FiberTree<Fiber>,
     old: Option<FiberId>,
@@ -110,6 +110,9 @@ pub fn waits_still(
     ensures tries { result ≡ None → (x : Node) (a : AwaitsSeen) → IsOld tree.now.current old (Some x) → mark_of x ≡ of_boundary (Hidden a) → HasCauseToTry scene.now (kept_hooks hooks.now) a x }
 {
     if scene.refreshes {
+        return None;
+    }
+    if scene.throws {
         return None;
     }
     tree.facts();

@@ -36,7 +36,7 @@ fn mark_has_cause(mark: &Mark, scene: &Scene, hooks: &HookStore) -> bool
             None => true,
         },
         Mark::Boundary(state) => state.hides(),
-        Mark::Host(_) | Mark::Plain => false,
+        Mark::Host(_) | Mark::Catch(_) | Mark::Plain => false,
     }
 }
 

@@ -41,7 +41,7 @@ attributes-again scope taken (computed x e ∷ attrs) h k =
     inr (IsIn-right _ (expr_mentions scope e) _ (attributes-again scope (taken ++ x ∷ []) attrs (stays taken x key_name h) k))
 attributes-again scope taken (literal x t ∷ attrs) h k = inr (inr (attributes-again scope (taken ++ x ∷ []) attrs (stays taken x key_name h) k))
 
--- the same of the key of a boundary or a provider
+-- the same of the key of a boundary, of Suspense or of errors, or of a provider
 place-again : (scope : List Name) (k : KeyPlace) (others : List Mention) → is_some (key_in k) ≡ true
     → IsIn (mention.Introduced key_name true) (first_key_mentions scope true k ++ (others ++ last_key_mentions scope true k))
 place-again scope unkeyed others h = cc
@@ -63,6 +63,7 @@ key-again s (syntax.choice c a b) h =
 key-again s (syntax.host n attrs w ss) h = inr (inr (IsIn-left _ (attributes_mentions s.values (taken_first true) attrs) _ (attributes-again s.values (key_name ∷ []) attrs refl h)))
 key-again s (syntax.comp n attrs w ss) h = inr (inr (IsIn-left _ (attributes_mentions s.values (taken_first true) attrs) _ (attributes-again s.values (key_name ∷ []) attrs refl h)))
 key-again s (syntax.boundary k f w ss) h = IsIn-left _ (first_key_mentions s.values true k ++ (slot_mentions s false f ++ last_key_mentions s.values true k)) _ (place-again s.values k (slot_mentions s false f) h)
+key-again s (syntax.catcher k f w ss) h = IsIn-left _ (first_key_mentions s.values true k ++ (slot_mentions s false f ++ last_key_mentions s.values true k)) _ (place-again s.values k (slot_mentions s false f) h)
 key-again s (syntax.provider n k e w ss) h = inr (IsIn-left _ (first_key_mentions s.values true k ++ (expr_mentions s.values e ++ last_key_mentions s.values true k)) _ (place-again s.values k (expr_mentions s.values e) h))
 key-again s (syntax.enclosed b t) h = key-again s t h
 
@@ -96,6 +97,10 @@ mutual
   slot-apart s second (syntax.comp n attrs w ss) h =
       unzero (keyed_places ss) (slots-apart s false ss (λ x i. h x (inr (inr (IsIn-right _ (attributes_mentions s.values (taken_first second) attrs) _ i)))))
   slot-apart s second (syntax.boundary k f w ss) h =
+      let first = left (first_key_mentions s.values second k ++ (slot_mentions s false f ++ last_key_mentions s.values second k)) (slots_mentions s false ss) h in
+      let r = unzero (keyed_places ss) (slots-apart s false ss (right (first_key_mentions s.values second k ++ (slot_mentions s false f ++ last_key_mentions s.values second k)) (slots_mentions s false ss) h)) in
+      (slot-apart s false f (left _ (last_key_mentions s.values second k) (right (first_key_mentions s.values second k) _ first)), r.0, r.1)
+  slot-apart s second (syntax.catcher k f w ss) h =
       let first = left (first_key_mentions s.values second k ++ (slot_mentions s false f ++ last_key_mentions s.values second k)) (slots_mentions s false ss) h in
       let r = unzero (keyed_places ss) (slots-apart s false ss (right (first_key_mentions s.values second k ++ (slot_mentions s false f ++ last_key_mentions s.values second k)) (slots_mentions s false ss) h)) in
       (slot-apart s false f (left _ (last_key_mentions s.values second k) (right (first_key_mentions s.values second k) _ first)), r.0, r.1)

@@ -4,7 +4,7 @@ use Rattle.std.proofs.lemmas.List.{length-map}
 use Rattle.std.specs.Prelude.{ℕ, nat_lt, cond, unwrap_or, bytes_eq}
 use Rattle.std.specs.List.{position_or_len}
 use Rattle.rx_base.specs.Values.{Name}
-use Rattle.rx_ast.specs.Syntax.{Program, Statement, state, reducer, transition, context, use_resource, constant, effect, contexts}
+use Rattle.rx_ast.specs.Syntax.{Program, Statement, state, reducer, transition, context, use_resource, constant, effect, throw_if, contexts}
 use Rattle.rx_rules.specs.Names.{has_name, place_among, context_number}
 use Rattle.rx_rules.specs.Reads.{IsDeclared, AllDeclared, ReadsDeclared}
 use Rattle.rx_mentions.specs.Mentions.{Scope, no_scope, statement_mentions, statements_mentions, after_statement, parameters_mentions, component_scope, mentions}
@@ -56,6 +56,7 @@ statement-declared p a s (context x c) h = context-declared p a c (h (mention.Co
 statement-declared p a s (use_resource x r) h = tt
 statement-declared p a s (constant x e) h = tt
 statement-declared p a s (effect layout label es) h = tt
+statement-declared p a s (throw_if e) h = tt
 
 all-declared : (p : Program) → IsAccepted p → (s : Scope) (ts : List Statement) → ((m : Mention) → IsIn m (statements_mentions s ts) → IsIn m (mentions p)) → AllDeclared p ts
 all-declared p a s [] h = tt

@@ -1,4 +1,4 @@
--- The first component for whose resources the root waits.
+-- The first component for which the root waits or throws.
 use Rattle.std.proofs.Common.{◌≡◌, ◌≤◌, ◌<◌, ◌+◌, ◌⊎◌, inl, inr, Bool, true, false, ◌&&◌, ◌||◌, List, [], ◌∷◌, Option, Some, None, refl, sym, ap, subst, ◌∙◌, arith, length}
 use Rattle.std.specs.Prelude.{ℕ, zero, suc, min, bytes_eq, filter, cond, is_some, position, slice_get}
 use Rattle.std.specs.List.{position_from}
@@ -9,13 +9,13 @@ use Rattle.std.proofs.lemmas.Slice.Eq.{bytes_eq-Decides}
 use Rattle.rx_base.specs.Values.{Name}
 use Rattle.rx_ast.specs.Syntax.{Program, Component}
 use Rattle.rx_rules.specs.Names.{component_number, component_named, component_names, root_name}
-use Rattle.rx_rules.specs.Bounds.{body_by, Waits, may_wait, reads_resource}
+use Rattle.rx_rules.specs.Bounds.{body_by, Waits, may_wait, reads_resource, may_throw, has_throw}
 use Rattle.rx_order.specs.Graphs.{first}
 use Rattle.rx_order.proofs.Finishing.{or-cases, and-cases, both, or-left, or-right}
-use Rattle.rx_figures.specs.Figures.{figures, nesting_levels, earlier, reader_of}
+use Rattle.rx_figures.specs.Figures.{figures, nesting_levels, earlier, reader_of, thrower_of}
 use Rattle.rx_figures.specs.declared.figures.Figures.{Figures}
 use Rattle.rx_figures.proofs.Along.{Along, body-along}
-use Rattle.rx_check.specs.Checks.{root_waits_for, outside_uses}
+use Rattle.rx_check.specs.Checks.{root_waits_for, outside_uses, root_throws_for, outside_throws}
 
 -- there is a number, and it is not behind this one
 abbrev Reaches : ℕ → Option ℕ → Type 0
@@ -39,6 +39,10 @@ itself n = (bytes_eq-Decides n n).1 refl
 abbrev IsReached : ℕ → Figures → Waits → Type 0
 IsReached i f w = (w.own ≡ true → Reaches i f.waits) × (f.unguarded ≡ w.given)
 
+-- And what throws for it throws for none behind it.
+abbrev IsThrown : ℕ → Figures → Waits → Type 0
+IsThrown i f w = (w.own ≡ true → Reaches i f.throws) × (f.uncaught ≡ w.given)
+
 either-reached : (i : ℕ) (a b : Option ℕ) (v w : Bool) → (v ≡ true → Reaches i a) → (w ≡ true → Reaches i b) → (v || w) ≡ true → Reaches i (earlier a b)
 either-reached i a b v w f g h = elim (or-cases v w h) [ inl e ↦ reaches-left i a b (f e) | inr e ↦ reaches-right i a b (g e) ]
 
@@ -51,12 +55,12 @@ passed-reached i a b u v g w e f k h =
           reaches-right i a (cond u b None) (subst (λ t. Reaches i (cond t b None)) (sym (e ∙ two.0)) (k two.1))
     ]
 
-read-reached : (p : Program) (x : Name) (i : ℕ) (c : Component) → position_from (bytes_eq x) 0 (component_names p) ≡ Some i → (bytes_eq c.name x && reads_resource c) ≡ true → Reaches i (reader_of p c)
-read-reached p x i c at h =
-    let two = and-cases (bytes_eq c.name x) (reads_resource c) h in
+own-reached : (p : Program) (x : Name) (i : ℕ) (c : Component) (own : Bool) → position_from (bytes_eq x) 0 (component_names p) ≡ Some i → (bytes_eq c.name x && own) ≡ true → Reaches i (cond own (position (bytes_eq c.name) (component_names p)) None)
+own-reached p x i c own at h =
+    let two = and-cases (bytes_eq c.name x) own h in
     let same : c.name ≡ x = (bytes_eq-Decides c.name x).0 two.0 in
     let place : position (bytes_eq c.name) (component_names p) ≡ Some i = ap (λ y. position (bytes_eq y) (component_names p)) same ∙ (position_from-zero {B = Name} (bytes_eq x) (component_names p) ∙ at) in
-    let number : reader_of p c ≡ Some i = ap (λ r. cond r (position (bytes_eq c.name) (component_names p)) None) two.1 ∙ place in
+    let number : cond own (position (bytes_eq c.name) (component_names p)) None ≡ Some i = ap (λ r. cond r (position (bytes_eq c.name) (component_names p)) None) two.1 ∙ place in
     let least : i ≤ i = omega arith in
     subst (Reaches i) (sym number) least
 
@@ -69,14 +73,34 @@ are-reached p x i at = record {
   at_choice = λ a a' b b' h l. (either-reached i a.waits a'.waits b.own b'.own h.0 l.0, rw (h.1, l.1) refl);
   at_around = λ a b h. h;
   at_boundary = λ a a' b b' h l. l;
+  at_catcher = λ a a' b b' h l. (either-reached i a.waits a'.waits b.own b'.own h.0 l.0, rw (h.1, l.1) refl);
   at_component = λ a a' b b' h l. (passed-reached i a.waits a'.waits a.unguarded b.own b.given b'.own h.1 h.0 l.0, rw (h.1, l.1) refl);
-  at_body = λ c a b h. (either-reached i (reader_of p c) a.waits (bytes_eq c.name x && reads_resource c) b.own (read-reached p x i c at) h.0, h.1);
+  at_body = λ c a b h. (either-reached i (reader_of p c) a.waits (bytes_eq c.name x && reads_resource c) b.own (own-reached p x i c (reads_resource c) at) h.0, h.1);
   at_beside = λ a a' b b' h l. (either-reached i a.waits a'.waits b.own b'.own h.0 l.0, rw (h.1, l.1) refl);
+}
+
+are-thrown : (p : Program) (x : Name) (i : ℕ) → position_from (bytes_eq x) 0 (component_names p) ≡ Some i → Along (figures p) (may_throw (λ d. bytes_eq d.name x)) (IsThrown i)
+are-thrown p x i at = record {
+  at_nothing = (λ h. cc, refl);
+  at_text = (λ h. cc, refl);
+  at_children = (λ h. cc, refl);
+  at_repeated = λ n a b h. h;
+  at_choice = λ a a' b b' h l. (either-reached i a.throws a'.throws b.own b'.own h.0 l.0, rw (h.1, l.1) refl);
+  at_around = λ a b h. h;
+  at_boundary = λ a a' b b' h l. (either-reached i a.throws a'.throws b.own b'.own h.0 l.0, rw (h.1, l.1) refl);
+  at_catcher = λ a a' b b' h l. l;
+  at_component = λ a a' b b' h l. (passed-reached i a.throws a'.throws a.uncaught b.own b.given b'.own h.1 h.0 l.0, rw (h.1, l.1) refl);
+  at_body = λ c a b h. (either-reached i (thrower_of p c) a.throws (bytes_eq c.name x && has_throw c) b.own (own-reached p x i c (has_throw c) at) h.0, h.1);
+  at_beside = λ a a' b b' h l. (either-reached i a.throws a'.throws b.own b'.own h.0 l.0, rw (h.1, l.1) refl);
 }
 
 -- What waits for none before the component of this number, but for that one, waits for its name.
 abbrev IsNamed : ℕ → Figures → Waits → Type 0
 IsNamed m f w = (f.waits ≡ Some m → w.own ≡ true) × (f.unguarded ≡ w.given)
+
+-- And so what throws.
+abbrev IsThrownBy : ℕ → Figures → Waits → Type 0
+IsThrownBy m f w = (f.throws ≡ Some m → w.own ≡ true) × (f.uncaught ≡ w.given)
 
 least-of : (p q : ℕ) → (min p q ≡ p) ⊎ (min p q ≡ q)
 least-of zero q = inl (omega arith)
@@ -114,14 +138,14 @@ positioned y b (n ∷ ns) i h = go (λ e. positioned y (b + 1) ns i e) (bytes_eq
     go later true e h = let here : b ≡ i = cc in (0, omega (arith, here), ap Some (sym ((bytes_eq-Decides y n).0 e)))
     go later false e h = let r = later h in (suc r.0, omega (arith, r.1), r.2)
 
-read-named : (p : Program) (x : Name) (m : ℕ) (c : Component) → slice_get (component_names p) m ≡ Some x → reader_of p c ≡ Some m → (bytes_eq c.name x && reads_resource c) ≡ true
-read-named p x m c at h =
-    let two = cond-some (reads_resource c) (position (bytes_eq c.name) (component_names p)) m h in
+own-named : (p : Program) (x : Name) (m : ℕ) (c : Component) (own : Bool) → slice_get (component_names p) m ≡ Some x → cond own (position (bytes_eq c.name) (component_names p)) None ≡ Some m → (bytes_eq c.name x && own) ≡ true
+own-named p x m c own at h =
+    let two = cond-some own (position (bytes_eq c.name) (component_names p)) m h in
     let r = positioned c.name 0 (component_names p) m (sym (position_from-zero {B = Name} (bytes_eq c.name) (component_names p)) ∙ two.1) in
     let place : r.0 ≡ m = omega (arith, r.1) in
     let both-names : Some c.name ≡ Some x = sym r.2 ∙ (ap (slice_get (component_names p)) place ∙ at) in
     let same : c.name ≡ x = cc in
-    both (bytes_eq c.name x) (reads_resource c) ((bytes_eq-Decides c.name x).1 same) two.0
+    both (bytes_eq c.name x) own ((bytes_eq-Decides c.name x).1 same) two.0
 
 are-named : (p : Program) (x : Name) (m : ℕ) → slice_get (component_names p) m ≡ Some x → Along (figures p) (may_wait (λ d. bytes_eq d.name x)) (IsNamed m)
 are-named p x m at = record {
@@ -132,9 +156,25 @@ are-named p x m at = record {
   at_choice = λ a a' b b' h l. (either-named m a.waits a'.waits b.own b'.own h.0 l.0, rw (h.1, l.1) refl);
   at_around = λ a b h. h;
   at_boundary = λ a a' b b' h l. l;
+  at_catcher = λ a a' b b' h l. (either-named m a.waits a'.waits b.own b'.own h.0 l.0, rw (h.1, l.1) refl);
   at_component = λ a a' b b' h l. (passed-named m a.waits a'.waits a.unguarded b.own b.given b'.own h.1 h.0 l.0, rw (h.1, l.1) refl);
-  at_body = λ c a b h. (either-named m (reader_of p c) a.waits (bytes_eq c.name x && reads_resource c) b.own (read-named p x m c at) h.0, h.1);
+  at_body = λ c a b h. (either-named m (reader_of p c) a.waits (bytes_eq c.name x && reads_resource c) b.own (own-named p x m c (reads_resource c) at) h.0, h.1);
   at_beside = λ a a' b b' h l. (either-named m a.waits a'.waits b.own b'.own h.0 l.0, rw (h.1, l.1) refl);
+}
+
+are-thrown_by : (p : Program) (x : Name) (m : ℕ) → slice_get (component_names p) m ≡ Some x → Along (figures p) (may_throw (λ d. bytes_eq d.name x)) (IsThrownBy m)
+are-thrown_by p x m at = record {
+  at_nothing = (λ h. cc, refl);
+  at_text = (λ h. cc, refl);
+  at_children = (λ h. cc, refl);
+  at_repeated = λ n a b h. h;
+  at_choice = λ a a' b b' h l. (either-named m a.throws a'.throws b.own b'.own h.0 l.0, rw (h.1, l.1) refl);
+  at_around = λ a b h. h;
+  at_boundary = λ a a' b b' h l. (either-named m a.throws a'.throws b.own b'.own h.0 l.0, rw (h.1, l.1) refl);
+  at_catcher = λ a a' b b' h l. l;
+  at_component = λ a a' b b' h l. (passed-named m a.throws a'.throws a.uncaught b.own b.given b'.own h.1 h.0 l.0, rw (h.1, l.1) refl);
+  at_body = λ c a b h. (either-named m (thrower_of p c) a.throws (bytes_eq c.name x && has_throw c) b.own (own-named p x m c (has_throw c) at) h.0, h.1);
+  at_beside = λ a a' b b' h l. (either-named m a.throws a'.throws b.own b'.own h.0 l.0, rw (h.1, l.1) refl);
 }
 
 -- Lists of names
@@ -186,35 +226,50 @@ past-end [] m e = omega arith
 past-end (n ∷ ns) zero e = cc
 past-end (n ∷ ns) (suc m) e = omega (arith, past-end ns m e)
 
-module _ (p : Program) where
-  abbrev root_waits : Option ℕ
-  root_waits = (body_by (figures p) (nesting_levels p) p (component_number p root_name)).waits
+-- the first of the names that pass a test, from a number that no passing name stands before, and at which one stands that passes
+filtered : (q : Name → Bool) (ns : List Name) (o : Option ℕ)
+    → ((y : Name) (i : ℕ) → position_from (bytes_eq y) 0 ns ≡ Some i → q y ≡ true → Reaches i o) → ((x : Name) (m : ℕ) → slice_get ns m ≡ Some x → o ≡ Some m → q x ≡ true)
+    → first (filter q ns) ≡ option_and_then (slice_get ns) o
+filtered q ns None reached named = ap first (none-found q 0 ns reached)
+filtered q ns (Some m) reached named = go (slice_get ns m) refl
+  where
+    go : (f : Option Name) → slice_get ns m ≡ f → first (filter q ns) ≡ f
+    go (Some x) at = first-found q 0 ns m x at (named x m at refl)
+        (λ y i place w. let behind : m ≤ i = reached y i place w in omega (arith, behind))
+    go None at =
+        ap first (none-found q 0 ns (λ y i place w.
+        let r = positioned y 0 ns i place in
+        let inside : r.0 < length ns = slice_get_within ns r.0 y r.2 in
+        let behind : m ≤ i = reached y i place w in
+        absurd (omega (arith, r.1, inside, behind, past-end ns m at))))
 
-  reached : (y : Name) (i : ℕ) → position_from (bytes_eq y) 0 (component_names p) ≡ Some i → root_waits_for p y ≡ true → Reaches i root_waits
-  reached y i at w = (body-along (figures p) (may_wait (λ d. bytes_eq d.name y)) (IsReached i) (are-reached p y i at) (nesting_levels p) p (component_number p root_name)).0 w
+-- the figures of the root
+abbrev root_of : Program → Figures
+root_of p = body_by (figures p) (nesting_levels p) p (component_number p root_name)
 
-  named : (x : Name) (m : ℕ) → slice_get (component_names p) m ≡ Some x → root_waits ≡ Some m → root_waits_for p x ≡ true
-  named x m at w = (body-along (figures p) (may_wait (λ d. bytes_eq d.name x)) (IsNamed m) (are-named p x m at) (nesting_levels p) p (component_number p root_name)).0 w
+waits-first : (p : Program) → first (filter (root_waits_for p) (component_names p)) ≡ option_and_then (slice_get (component_names p)) (root_of p).waits
+waits-first p = filtered (root_waits_for p) (component_names p) (root_of p).waits
+    (λ y i at w. (body-along (figures p) (may_wait (λ d. bytes_eq d.name y)) (IsReached i) (are-reached p y i at) (nesting_levels p) p (component_number p root_name)).0 w)
+    (λ x m at w. (body-along (figures p) (may_wait (λ d. bytes_eq d.name x)) (IsNamed m) (are-named p x m at) (nesting_levels p) p (component_number p root_name)).0 w)
 
-  filtered : (o : Option ℕ) → root_waits ≡ o → first (filter (root_waits_for p) (component_names p)) ≡ option_and_then (slice_get (component_names p)) o
-  filtered None e = ap first (none-found (root_waits_for p) 0 (component_names p) (λ y i at w. subst (Reaches i) e (reached y i at w)))
-  filtered (Some m) e = go (slice_get (component_names p) m) refl
-    where
-      go : (f : Option Name) → slice_get (component_names p) m ≡ f → first (filter (root_waits_for p) (component_names p)) ≡ f
-      go (Some x) at = first-found (root_waits_for p) 0 (component_names p) m x at (named x m at e)
-          (λ y i place w. let behind : m ≤ i = subst (Reaches i) e (reached y i place w) in omega (arith, behind))
-      go None at =
-          ap first (none-found (root_waits_for p) 0 (component_names p) (λ y i place w.
-          let r = positioned y 0 (component_names p) i place in
-          let inside : r.0 < length (component_names p) = slice_get_within (component_names p) r.0 y r.2 in
-          let behind : m ≤ i = subst (Reaches i) e (reached y i place w) in
-          absurd (omega (arith, r.1, inside, behind, past-end (component_names p) m at))))
+throws-first : (p : Program) → first (filter (root_throws_for p) (component_names p)) ≡ option_and_then (slice_get (component_names p)) (root_of p).throws
+throws-first p = filtered (root_throws_for p) (component_names p) (root_of p).throws
+    (λ y i at w. (body-along (figures p) (may_throw (λ d. bytes_eq d.name y)) (IsThrown i) (are-thrown p y i at) (nesting_levels p) p (component_number p root_name)).0 w)
+    (λ x m at w. (body-along (figures p) (may_throw (λ d. bytes_eq d.name x)) (IsThrownBy m) (are-thrown_by p x m at) (nesting_levels p) p (component_number p root_name)).0 w)
 
 -- the first component for whose resources the root waits, from the number that its figures have
 pub first-outside : (p : Program) (o : Option ℕ) → o ≡ (body_by (figures p) (nesting_levels p) p (component_number p root_name)).waits
     → is_some (component_named p root_name) ≡ true → first (outside_uses p) ≡ option_and_then (slice_get (component_names p)) o
-first-outside p o e r = ap (λ t. first (cond t (filter (root_waits_for p) (component_names p)) [])) r ∙ filtered p o (sym e)
+first-outside p o e r = ap (λ t. first (cond t (filter (root_waits_for p) (component_names p)) [])) r ∙ (waits-first p ∙ ap (option_and_then (slice_get (component_names p))) (sym e))
 
 -- and none if there is no root
 pub none-outside : (p : Program) → is_some (component_named p root_name) ≡ false → first (outside_uses p) ≡ None
 none-outside p r = ap (λ t. first (cond t (filter (root_waits_for p) (component_names p)) [])) r
+
+-- the first component for which the root throws
+pub first-thrown : (p : Program) (o : Option ℕ) → o ≡ (body_by (figures p) (nesting_levels p) p (component_number p root_name)).throws
+    → is_some (component_named p root_name) ≡ true → first (outside_throws p) ≡ option_and_then (slice_get (component_names p)) o
+first-thrown p o e r = ap (λ t. first (cond t (filter (root_throws_for p) (component_names p)) [])) r ∙ (throws-first p ∙ ap (option_and_then (slice_get (component_names p))) (sym e))
+
+pub none-thrown : (p : Program) → is_some (component_named p root_name) ≡ false → first (outside_throws p) ≡ None
+none-thrown p r = ap (λ t. first (cond t (filter (root_throws_for p) (component_names p)) [])) r

@@ -5,7 +5,7 @@ use Rattle.std.specs.Option.{option_map_or}
 use Rattle.rx_base.specs.Values.{Name}
 use Rattle.rx_ast.specs.Syntax.{Program, Parameter, integer, given_children, Component}
 use Rattle.rx_rules.specs.Names.{has_name, root_name, component_names, component_named, component_number, function_named, prop_names, resources}
-use Rattle.rx_rules.specs.Bounds.{body_by, may_wait, node_bound, depth_bound}
+use Rattle.rx_rules.specs.Bounds.{body_by, may_wait, may_throw, node_bound, depth_bound}
 use Rattle.rx_rules.specs.Versions.{node_limit}
 use Rattle.rx_names.specs.Listed.{function_names, context_names}
 use Rattle.rx_order.specs.Graphs.{cycle_names}
@@ -124,6 +124,16 @@ root_waits_for p name = (body_by (may_wait (λ c. bytes_eq c.name name)) (nestin
 -- the components for whose resources the root waits, if there is one
 abbrev pub outside_uses : Program → List Name
 outside_uses p = cond (is_some (component_named p root_name)) (filter (root_waits_for p) (component_names p)) []
+
+-- Throws outside of an error boundary
+
+-- the root may throw, if the throws of the components of this name alone count
+abbrev pub root_throws_for : Program → Name → Bool
+root_throws_for p name = (body_by (may_throw (λ c. bytes_eq c.name name)) (nesting_levels p) p (component_number p root_name)).own
+
+-- the components for which the root throws, if there is one
+abbrev pub outside_throws : Program → List Name
+outside_throws p = cond (is_some (component_named p root_name)) (filter (root_throws_for p) (component_names p)) []
 
 -- The root
 

@@ -4,7 +4,7 @@ use Rattle.rx_base.specs.Values.{Name}
 use Rattle.rx_ast.specs.Syntax.{Program}
 use Rattle.rx_order.specs.Graphs.{first}
 use Rattle.rx_check.specs.Limits.{limit_of}
-use Rattle.rx_check.specs.Checks.{repeats, unknowns, misfits, function_cycles, component_cycles, outside_uses, is_rooted, count_over, nodes_over}
+use Rattle.rx_check.specs.Checks.{repeats, unknowns, misfits, function_cycles, component_cycles, outside_uses, outside_throws, is_rooted, count_over, nodes_over}
 use Rattle.rx_figures.specs.Costs.{cost_over}
 use Rattle.rx_mentions.specs.declared.count.Count.{Count}
 use Rattle.rx_mentions.specs.declared.count.Count.TheVariants as count
@@ -37,12 +37,13 @@ name_refusals p =
     ∷ refused_name refusal.Arity (misfits p)
     ∷ []
 
--- the checks of cycles, of resources outside of a boundary, and of the root
+-- the checks of cycles, of resources and throws outside of a boundary, and of the root
 abbrev pub way_refusals : Program → List (Option Refusal)
 way_refusals p =
     refused_name refusal.FunctionCycle (function_cycles p)
     ∷ refused_name refusal.ComponentCycle (component_cycles p)
     ∷ refused_name refusal.UseOutside (outside_uses p)
+    ∷ refused_name refusal.ThrowOutside (outside_throws p)
     ∷ refused_root p
     ∷ []
 

@@ -1,7 +1,7 @@
 // A program that meets every check.
 ghost use Rattle.std.specs.Prelude.{◌≡◌, ◌<◌, ◌^◌, bytes_eq, position, length, filter_map};
 ghost use Rattle.rx_rules.specs.Names.{component_names, resources, hook_in};
-ghost use Rattle.rx_rules.specs.Bounds.{node_bound, depth_bound};
+ghost use Rattle.rx_rules.specs.Bounds.{node_bound, depth_bound, may_throw_in};
 ghost use Rattle.rx_rules.specs.Versions.{width};
 ghost use Rattle.rx_base.specs.Widths.{width_of};
 ghost use Rattle.rx_names.specs.Listed.{function_names, context_names};
@@ -11,8 +11,9 @@ ghost use Rattle.rx_names.specs.Listed.{IsListed};
 ghost use Rattle.rx_check.specs.Tables.{hook_among, hook_named, parameter_count};
 
 use crate::hook::HookKind;
-use rx_ast::{Program, Statement, StatementKind};
+use rx_ast::{DeclarationKind, Program, Statement, StatementKind};
 use rx_base::{Name, Width};
+use rx_figures::has_throw;
 use rx_names::{Listing, Table};
 use std::marker::Model;
 
@@ -93,6 +94,20 @@ fn hook_among(statements: &[Statement], functions: &Table, name: &str) -> Option
     None
 }
 
+// Whether a component of a program may throw by itself.
+fn may_throw(program: &Program) -> bool
+    ensures { result ≡ may_throw_in program.now }
+{
+    for declaration in program.declarations() {
+        if let DeclarationKind::Component(component) = &declaration.kind
+            && has_throw(component)
+        {
+            return true;
+        }
+    }
+    false
+}
+
 /// A program that meets every check, with its names and its bounds.
 pub(crate) fn accept(program: Program, listing: Listing, bound: u64, depth: u64) -> Checked
     requires accepted { IsAccepted program }
@@ -151,6 +166,13 @@ impl Checked {
         ensures { result ≡ depth_bound self.now }
     {
         self.depth
+    }
+
+    /// Whether a component of it may throw by itself. Takes time in proportion to its statements.
+    pub fn may_throw(&self) -> bool
+        ensures { result ≡ may_throw_in self.now }
+    {
+        may_throw(&self.program)
     }
 
     /// The names of its components, by their numbers.

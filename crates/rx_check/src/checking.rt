@@ -10,7 +10,7 @@ ghost use Rattle.rx_mentions.specs.Ways.{calls, places};
 ghost use Rattle.rx_figures.specs.Figures.{figures, nesting_levels};
 ghost use Rattle.rx_figures.specs.Costs.{cost_over, first_over as over};
 ghost use Rattle.rx_check.specs.Limits.{limit_of};
-ghost use Rattle.rx_check.specs.Checks.{repeat_in, unknown_among, misfit_in, function_cycles, component_cycles, outside_uses};
+ghost use Rattle.rx_check.specs.Checks.{repeat_in, unknown_among, misfit_in, function_cycles, component_cycles, outside_uses, outside_throws};
 ghost use Rattle.rx_check.specs.Refusals.{first_some, refused_name, refused_count, refused_root, name_refusals, way_refusals, count_refusals, size_refusals, refusal_of};
 ghost use Rattle.rx_check.specs.Answers.{Answers};
 
@@ -223,6 +223,34 @@ fn refuse_outside_use(alloc: Global, program: &Index, waits: Option<usize>) -> R
     }
 }
 
+/// The first component for which the root throws, if there is a root.
+fn outside_throw<'a>(program: &Index, names: &'a [Name], throws: Option<usize>) -> Option<&'a str>
+    requires names { names.now ≡ component_names program.now }
+    requires throws { throws ≡ (body_by (figures program.now) (nesting_levels program.now) program.now (component_number program.now root_name)).throws }
+    ensures { MatchOption result (first (outside_throws program.now) ≡ None) (λ x. first (outside_throws program.now) ≡ Some x.now) }
+{
+    match program.component_named("App") {
+        None => None,
+        Some(_) => name_at(names, throws),
+    }
+}
+
+/// The root throws for no component.
+fn refuse_outside_throw(
+    alloc: Global,
+    program: &Index,
+    throws: Option<usize>,
+) -> Result<(), Refusal>
+    requires { throws ≡ (body_by (figures program.now) (nesting_levels program.now) program.now (component_number program.now root_name)).throws }
+    ensures { Answers (refused_name (λ x. Refusal.ThrowOutside x) (outside_throws program.now)) result }
+{
+    let names = program.listing().components.items();
+    match outside_throw(program, names, throws) {
+        None => Ok(()),
+        Some(name) => Err(Refusal::ThrowOutside(told(alloc, name)?)),
+    }
+}
+
 /// The checks of names.
 fn refuse_names(alloc: Global, program: &Index, mentions: &[Mention]) -> Result<(), Refusal>
     requires { mentions.now ≡ all_mentions program.now }
@@ -240,7 +268,7 @@ struct Ways {
     root: Figures,
 }
 
-/// The checks of ways: cycles, waits and the root.
+/// The checks of ways: cycles, waits, throws and the root.
 fn refuse_ways(alloc: Global, program: &Index) -> Result<Ways, Refusal>
     ensures answers { Answers (first_some (way_refusals program.now)) result }
     ensures calls { IfOk result (λ w. IsFinished (calls program.now) w.calls) }
@@ -250,6 +278,7 @@ fn refuse_ways(alloc: Global, program: &Index) -> Result<Ways, Refusal>
     let places = refuse_component_cycle(alloc, program)?;
     let root = root_figures(alloc, program, &places)?;
     refuse_outside_use(alloc, program, root.waits)?;
+    refuse_outside_throw(alloc, program, root.throws)?;
     refuse_root(program)?;
     Ok(Ways { calls, root })
 }

@@ -19,6 +19,8 @@ pub enum Refusal {
     ComponentCycle(Name),
     /// A component whose resources make the root wait, which no boundary catches (react.dev, Suspense).
     UseOutside(Name),
+    /// A component whose throws reach the root, which no error boundary catches.
+    ThrowOutside(Name),
     /// There is no component `App`, or it has parameters.
     NoApp,
     /// More of a thing than the limit.

@@ -28,6 +28,7 @@ null_absent (elements.host n k attrs es) = refl
 null_absent (elements.comp c k ps es) = refl
 null_absent (elements.list marked es) = refl
 null_absent (elements.boundary k f es) = refl
+null_absent (elements.catcher k f es) = refl
 null_absent (elements.provider c k x es) = refl
 
 pub made_list : {c : Shape Fiber} {b : Origin} (n : ℕ) (es : List Element) (os : List (Option ℕ)) (d : Draft Fiber) → AreMade c b n es os d → IsMadeList d

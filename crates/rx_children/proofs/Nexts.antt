@@ -15,7 +15,7 @@ use Rattle.rx_fiber.proofs.Matching.{AreOld}
 use Rattle.rx_children.specs.Nodes.{begun_over}
 use Rattle.rx_children.specs.Units.{IsPlace, IsEnd}
 use Rattle.rx_children.specs.declared.node.Begun.{Begun}
-use Rattle.rx_children.specs.declared.node.Begun.TheVariants.{Child, Leaf, Suspended}
+use Rattle.rx_children.specs.declared.node.Begun.TheVariants.{Child, Leaf, Suspended, Thrown}
 use Rattle.rx_children.specs.declared.node.Begun.TheVariants as answers
 use Rattle.rx_children.proofs.Waiting.{AreWaiting, no_more, gap, next}
 
@@ -34,6 +34,7 @@ abbrev pub Leads : Begun → Cursor → Type 0
 Leads (Child id) c = IsPlace c
 Leads Leaf c = IsEnd c
 Leads (Suspended r) c = ⊥
+Leads (Thrown x) c = ⊥
 Leads (answers.Hidden a) c = ⊥
 Leads answers.Taken c = ⊥
 

@@ -7,7 +7,7 @@ use Rattle.rx_elem.specs.Trees.{Node, element_of, is_hidden}
 use Rattle.rx_lists.specs.Shapes.{Shape}
 use Rattle.rx_links.specs.Drafts.{list_at}
 use Rattle.rx_links.specs.Readers.{value_in, value_of}
-use Rattle.rx_fiber.specs.Fibers.{Fiber, Stage, waiting, begun, trying, fallback}
+use Rattle.rx_fiber.specs.Fibers.{Fiber, Stage, waiting, begun, trying, guarding, fallback}
 use Rattle.rx_fiber.specs.Reading.{IsFor, whole, alone, beside, IsOld, new, of, next}
 use Rattle.rx_fiber.specs.Surround.{IsElementOf}
 use Rattle.rx_causes.specs.Marks.{mark_at, begun_mark}
@@ -30,6 +30,7 @@ hides_as : (s : Stage) → option_map_or is_hidden (begun_mark s) false ≡ hide
 hides_as (waiting c) = refl
 hides_as (begun m) = refl
 hides_as (trying c) = refl
+hides_as guarding = refl
 hides_as (fallback a) = refl
 
 pub mark_hides : (c : Shape Fiber) (o : Option ℕ) (v : Fiber) → option_and_then (value_of c) o ≡ Some v → option_map_or is_hidden (mark_at c o) false ≡ hides_in v.stage

@@ -11,7 +11,7 @@ use Rattle.rx_links.specs.Drafts.{Draft, taken, made, Trees, entry, kids_under, 
 use Rattle.rx_links.specs.Places.{Around, placed}
 use Rattle.rx_links.specs.Readers.{list_from, made_value_of}
 use Rattle.rx_fiber.specs.declared.subtree.Subtree.{Subtree}
-use Rattle.rx_fiber.specs.Fibers.{Stage, Fiber, waiting, begun, trying, joined, marked_subtree}
+use Rattle.rx_fiber.specs.Fibers.{Stage, Fiber, waiting, begun, trying, guarding, joined, marked_subtree}
 use Rattle.rx_fiber.specs.Subtrees.{subtree_at}
 use Rattle.rx_causes.specs.Marks.{mark_at}
 use Rattle.rx_fiber.specs.declared.stage.Origin.{Origin}
@@ -86,6 +86,7 @@ parts_in (elements.host name k attrs es) = None
 parts_in (elements.comp c k ps es) = Some (c, (ps, listed es))
 parts_in (elements.list marked es) = None
 parts_in (elements.boundary k f es) = None
+parts_in (elements.catcher k f es) = None
 parts_in (elements.provider c k x es) = None
 
 -- how far the fiber of another element has come once it is begun, if so much is known of its place and a host of before has this number
@@ -96,6 +97,7 @@ begun_stage (elements.host name k attrs es) origin n = begun (of_host n)
 begun_stage (elements.comp c k ps es) origin n = waiting origin
 begun_stage (elements.list marked es) origin n = begun plain
 begun_stage (elements.boundary k f es) origin n = trying origin
+begun_stage (elements.catcher k f es) origin n = guarding
 begun_stage (elements.provider c k x es) origin n = begun plain
 
 -- the children that it is begun over
@@ -106,6 +108,7 @@ begun_children (elements.host name k attrs es) = listed es
 begun_children (elements.comp c k ps es) = []
 begun_children (elements.list marked es) = listed es
 begun_children (elements.boundary k f es) = listed es
+begun_children (elements.catcher k f es) = listed es
 begun_children (elements.provider c k x es) = listed es
 
 -- what it makes of the stack of contexts, if it may give another value than its old node gave
@@ -116,6 +119,7 @@ begun_stack (elements.host name k attrs es) b st = st
 begun_stack (elements.comp c k ps es) b st = st
 begun_stack (elements.list marked es) b st = st
 begun_stack (elements.boundary k f es) b st = st
+begun_stack (elements.catcher k f es) b st = st
 begun_stack (elements.provider c k x es) b st = contexts.below c x b st
 
 -- the context that it gives a value, if it is one of a provider
@@ -126,4 +130,5 @@ given_context (elements.host name k attrs es) = None
 given_context (elements.comp c k ps es) = None
 given_context (elements.list marked es) = None
 given_context (elements.boundary k f es) = None
+given_context (elements.catcher k f es) = None
 given_context (elements.provider c k x es) = Some c

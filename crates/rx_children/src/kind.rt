@@ -1,8 +1,9 @@
 // What an element's fiber begins with.
-ghost use Rattle.std.specs.Prelude.{◌≡◌, ◌<◌, true, length, IfSome, OnOk, is_some, option_map};
+ghost use Rattle.std.specs.Prelude.{◌≡◌, ◌∷◌, ◌<◌, [], true, length, IfOk, IfSome, OnOk, is_some, option_map};
 ghost use Rattle.rx_ctx.specs.Contexts.{same_given, values_at};
 ghost use Rattle.rx_fiber.specs.FiberView.{stage_seen};
 ghost use Rattle.rx_fiber.specs.Stood.{given_in};
+ghost use Rattle.rx_fiber.specs.Surround.{fallback_in};
 ghost use Rattle.rx_children.specs.Nodes.{parts_in, begun_stage, begun_children, begun_stack, given_context};
 ghost use Rattle.rx_children.specs.PartsView.{parts_seen};
 
@@ -11,7 +12,7 @@ use rx_ctx::ContextStack;
 use rx_elem::{Element, ElementKind};
 use rx_fiber::{Origin, Stage};
 use rx_node::Mark;
-use std::alloc::AllocError;
+use std::alloc::{AllocError, Global};
 
 /// The number, the props and the children of a component's element.
 #[derive(Clone, Copy)]
@@ -55,6 +56,7 @@ pub fn begun_stage(element: &Element, origin: Origin, number: Option<u64>) -> St
         ElementKind::Text(_) | ElementKind::Host(_, _, _, _) => Stage::Begun(Mark::Host(number)),
         ElementKind::List(_, _) | ElementKind::Provider(_, _, _, _) => Stage::Begun(Mark::Plain),
         ElementKind::Boundary(_, _, _) => Stage::Trying(origin),
+        ElementKind::Catch(_, _, _) => Stage::Guarding,
     }
 }
 
@@ -67,9 +69,29 @@ pub fn begun_children(element: &Element) -> &[Element]
         ElementKind::Host(_, _, _, children) => children,
         ElementKind::List(_, children) => children,
         ElementKind::Boundary(_, _, children) => children,
+        ElementKind::Catch(_, _, children) => children,
         ElementKind::Provider(_, _, _, children) => children,
         _ => &[],
     }
+}
+
+/// The fallback of a boundary, of Suspense or of errors, as a list.
+///
+/// # Errors
+///
+/// Only if out of memory.
+pub fn fallback_list(alloc: Global, element: &Element) -> Result<Vec<Element>, AllocError>
+    ensures { IfOk result (λ es. es.items ≡ fallback_in element.now ∷ []) }
+{
+    let fallback = match element.kind() {
+        ElementKind::Boundary(_, fallback, _) | ElementKind::Catch(_, fallback, _) => {
+            fallback.copy()?
+        }
+        _ => Element::new(alloc, ElementKind::Null)?,
+    };
+    let mut list = Vec::new(alloc);
+    list.push(fallback)?;
+    Ok(list)
 }
 
 /// What a provider's element gives: to which context, and which value.

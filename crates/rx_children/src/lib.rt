@@ -9,9 +9,9 @@ mod origin;
 
 pub use children::{clone_children, make_children};
 pub use generation::{generation_below, own_generation};
-pub use kind::{Parts, begun_children, begun_stage, enter, is_component, parts_of};
+pub use kind::{Parts, begun_children, begun_stage, enter, fallback_list, is_component, parts_of};
 pub use node::{
-    Begun, keep_node, keeps_children, old_host, old_instance, open_clones, open_list, open_node,
-    take_node,
+    Begun, begun_from, keep_node, keeps_children, old_caught, old_host, old_instance, open_clones,
+    open_list, open_node, take_node,
 };
 pub use origin::{gives_another, is_again, is_hidden_again, is_steady, takes_over};

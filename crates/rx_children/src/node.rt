@@ -1,7 +1,7 @@
 // A node begins over its children.
 ghost use Rattle.std.specs.Prelude.{◌≡◌, IfOk, OnOk, IfSome, IsSome, option_and_then, option_map};
 ghost use Rattle.rx_lists.specs.Shapes.{Holds};
-ghost use Rattle.rx_elem.specs.Trees.{host_number, instance_in};
+ghost use Rattle.rx_elem.specs.Trees.{caught_in, host_number, instance_in};
 ghost use Rattle.rx_links.specs.Drafts.{Makes, old_of};
 ghost use Rattle.rx_links.specs.Readers.{list_from};
 ghost use Rattle.rx_fiber.specs.Fibers.{as_cloned, as_matched};
@@ -13,7 +13,7 @@ ghost use Rattle.rx_causes.specs.Marks.{keeps_children, mark_at};
 ghost use Rattle.rx_children.specs.Nodes.{IsBareAt, IsBareBeside, HasStage, HasList, HasOpened, HasTaken, begun_from};
 
 use crate::children::{clone_children, make_children};
-use rx_base::Awaits;
+use rx_base::{Awaits, Int};
 use rx_elem::Element;
 use rx_fiber::{Fiber, Stage, StageChange, Subtree, old_primary};
 use rx_links::{FiberId, FiberTree};
@@ -29,6 +29,8 @@ pub enum Begun {
     Leaf,
     /// The body waits for a resource, by its number.
     Suspended(u32),
+    /// The body throws this value.
+    Thrown(Int),
     /// A boundary is hidden and waits still for these resources: its children are not tried, and its fallback opens next.
     Hidden(Awaits),
     /// The fiber took its old children over, since nothing there has a cause to be rendered: its node is done, and is passed.
@@ -66,6 +68,14 @@ pub fn old_host(tree: &FiberTree<Fiber>, old: Option<FiberId>) -> Option<u64>
         Mark::Host(number) => *number,
         _ => None,
     }
+}
+
+/// The value that an old error boundary has caught, if it is one that has.
+pub fn old_caught(tree: &FiberTree<Fiber>, old: Option<FiberId>) -> Option<Int>
+    requires { IfSome old (Holds tree.now.current) }
+    ensures { result ≡ option_and_then caught_in (mark_at tree.now.current old) }
+{
+    old_mark(tree, old)?.caught()
 }
 
 /// The instance of an old component, if it is one.
@@ -164,7 +174,8 @@ pub fn open_clones(
     Ok(tree.first_child(at))
 }
 
-fn begun_from(first: Option<FiberId>) -> Begun
+/// Where a render comes from a fiber whose first child is this.
+pub fn begun_from(first: Option<FiberId>) -> Begun
     ensures { result ≡ begun_from first }
 {
     match first {

@@ -20,9 +20,10 @@ use Rattle.end_laws.specs.Trimmed.{trimmed, trimmed_in, trimmed_if, vacant_befor
 use Rattle.end_laws.proofs.Read.{hosts_same}
 use Rattle.rx_base.specs.Awaits.{Awaits}
 use Rattle.rx_lane.specs.Lanes.{Lanes}
-use Rattle.rx_meaning.specs.Outcome.{outcome}
+use Rattle.std.specs.Prelude.{filter_map}
+use Rattle.rx_meaning.specs.Outcome.{caught_anew, newly_caught, outcome}
 use Rattle.rx_commit.specs.Shown.{outcome_as}
-use Rattle.rx_commit.proofs.Committed.{layout-trimmed, passive-trimmed, outcome-trimmed}
+use Rattle.rx_commit.proofs.Committed.{caught-trimmed, layout-trimmed, passive-trimmed, outcome-trimmed}
 
 vacant-present : (ns : Forest) → AllHaveNoNull ns → AllHaveNoNull (vacant_before ns)
 vacant-present none h = tt
@@ -65,6 +66,14 @@ unfolding host_ops
 ops-of-all o b c placed ops beside e f g present =
     g
     ∙ ap (ops_between (hosts o) (hosts (Some b.tree))) (f ∙ ap (λ (d : Compared). placed_hosts (changes d)) e ∙ (trees_alike beside present).places)
+
+-- what error boundaries catch, by the trees without those lists
+pub caught-of : (tree : Option Node) (next : Node) (o : Option Node) (b : Beside) (c : Compared) → IsBeside o b → c ≡ compare_trees b.pruned_old b.pruned_new
+    → o ≡ trimmed_if tree → b.tree ≡ trimmed next → IfHasNoNull tree → filter_map caught_anew (changes c) ≡ newly_caught tree next
+caught-of tree next o b c beside e f g present =
+    ap (λ (d : Compared). filter_map caught_anew (changes d)) e
+    ∙ (trees_alike beside (if-present tree o f present)).catches
+    ∙ caught-trimmed tree next o b.tree f g
 
 -- a list that is empty has nothing in it
 pub none-left : (xs : List ℕ) → length xs ≡ 0 → xs ≡ []

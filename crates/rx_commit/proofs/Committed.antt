@@ -17,14 +17,18 @@ use Rattle.host_laws.proofs.Replayable.{commit_made}
 use Rattle.end_laws.specs.Trimmed.{trimmed, trimmed_if}
 use Rattle.end_laws.proofs.Compared.{trees_same}
 use Rattle.end_laws.proofs.Logs.{layout_same, passive_same}
-use Rattle.end_laws.proofs.Outcomes.{ops_same, outcome_same}
+use Rattle.end_laws.proofs.Outcomes.{ops_same, caught_same, outcome_same}
 use Rattle.end_laws.specs.Outcomes.{trimmed_outcome}
-use Rattle.rx_meaning.specs.Outcome.{commit, defer, all_awaits, newly_hidden, outcome, outcome_by}
+use Rattle.rx_meaning.specs.Outcome.{commit, defer, all_awaits, newly_caught, newly_hidden, outcome, outcome_by}
 use Rattle.rx_commit.specs.Shown.{outcome_as}
 
 -- the operations of trimmed trees
 pub ops-trimmed : (old : Option Node) (new : Node) (o : Option Node) (n : Node) → o ≡ trimmed_if old → n ≡ trimmed new → host_ops o n ≡ host_ops old new
 ops-trimmed old new o n e f = ap (λ (t : Option Node). host_ops t n) e ∙ ap (host_ops (trimmed_if old)) f ∙ ops_same old new
+
+-- what error boundaries catch of trimmed trees
+pub caught-trimmed : (old : Option Node) (new : Node) (o : Option Node) (n : Node) → o ≡ trimmed_if old → n ≡ trimmed new → newly_caught o n ≡ newly_caught old new
+caught-trimmed old new o n e f = ap (λ (t : Option Node). newly_caught t n) e ∙ ap (newly_caught (trimmed_if old)) f ∙ caught_same old new
 
 -- the layout effects of trimmed trees
 pub layout-trimmed : (old : Option Node) (new : Node) (o : Option Node) (n : Node) → o ≡ trimmed_if old → n ≡ trimmed new

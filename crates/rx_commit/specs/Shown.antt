@@ -1,5 +1,5 @@
 -- What is shown of a committed tree, and what a commit is prepared to do to it.
-use Rattle.std.specs.Prelude.{◌≡◌, ◌≤◌, List, length, Option, Some, None}
+use Rattle.std.specs.Prelude.{◌≡◌, ◌≤◌, ℤ, List, length, Option, Some, None}
 use Rattle.rx_elem.specs.Trees.{Node}
 use Rattle.rx_elem.specs.Compare.{compare_trees}
 use Rattle.rx_effect.specs.declared.log.LogLine.{LogLine}
@@ -10,7 +10,7 @@ use Rattle.rx_forest.specs.Hosts.{hosts}
 use Rattle.rx_forest.specs.HostOps.{host_ops}
 use Rattle.rx_base.specs.Awaits.{Awaits}
 use Rattle.rx_host.specs.Kept.{Kept, forest_kept}
-use Rattle.rx_meaning.specs.Outcome.{Outcome, commit, defer}
+use Rattle.rx_meaning.specs.Outcome.{Outcome, commit, defer, newly_caught}
 use Rattle.end_laws.specs.Trimmed.{trimmed, trimmed_if}
 
 -- what is shown: the committed tree, its hosts with room for more, and the pending passive effects
@@ -25,10 +25,11 @@ pub record Shows (tree : Option Node) (passive : Passive) (v : Shown) : Type 0 w
   pub hosts_are : forest_kept v.hosts ≡ forest_of (hosts tree)
   pub passive_is : v.passive ≡ passive
 
--- what a commit is prepared to do: to show this tree, by these operations on its hosts, with these layout effects, and to leave these passive effects pending
+-- what a commit is prepared to do: to show this tree, by these operations on its hosts, with these values that error boundaries catch and these layout effects, and to leave these passive effects pending
 pub record Prepared : Type 0 where
   pub tree : Node
   pub ops : List HostOp
+  pub caught : List ℤ
   pub layout : List LogLine
   pub passive : Passive
 
@@ -36,6 +37,7 @@ pub record Prepared : Type 0 where
 pub record Prepares (old : Option Node) (new : Node) (x : Prepared) : Type 0 where
   pub tree_is : x.tree ≡ trimmed new
   pub ops_are : x.ops ≡ host_ops old new
+  pub caught_is : x.caught ≡ newly_caught old new
   pub layout_is : x.layout ≡ layout_log (compare_trees old new)
   pub passive_is : x.passive ≡ passive_of (compare_trees old new)
 

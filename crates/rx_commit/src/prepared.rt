@@ -6,7 +6,7 @@ ghost use Rattle.rx_elem.specs.Trees.{Node};
 ghost use Rattle.rx_forest.specs.Hosts.{hosts};
 ghost use Rattle.rx_forest.specs.HostOps.{host_ops, ops_between};
 ghost use Rattle.rx_lane.specs.Lanes.{has, lanes_where};
-ghost use Rattle.rx_lines.specs.Lines.{committed, logged, operated};
+ghost use Rattle.rx_lines.specs.Lines.{caught, committed, logged, operated};
 ghost use Rattle.rx_pruned.specs.Besides.{IsBeside};
 ghost use Rattle.end_laws.specs.Trimmed.{trimmed, trimmed_if};
 ghost use Rattle.host_laws.specs.Commits.{IsCommit};
@@ -16,9 +16,10 @@ ghost use Rattle.prune_laws.specs.Staying.{AreOfCommit};
 ghost use Rattle.rx_commit.specs.Shown.{Prepares};
 ghost use Rattle.rx_commit.specs.Written.{GoesOn, lines_of, sync_lines, with_lines};
 
-use crate::writing::{add_effects, add_ops, add_passive, cut_back};
+use crate::writing::{add_caught, add_effects, add_ops, add_passive, cut_back};
 use prune_laws::{hosts_that_stay_need_nothing, pruned_trees_compare_alike};
-use rx_compare::{Compared, compare_trees as compare};
+use rx_base::Int;
+use rx_compare::{Compared, caught_in, compare_trees as compare};
 use rx_effect::LogLine;
 use rx_forest::HostOp;
 use rx_host_ops::{
@@ -33,11 +34,12 @@ use std::alloc::{AllocError, Global};
 use std::marker::Model;
 
 /// What a commit does, all of it prepared (react.dev, Render and Commit): the tree that it shows, the operations on its hosts,
-/// the layout effects, and the passive effects that it leaves pending.
+/// what error boundaries catch, the layout effects, and the passive effects that it leaves pending.
 #[derive(Drop)]
 pub struct Prepared {
     pub(crate) tree: node::Node,
     pub(crate) ops: Vec<HostOp>,
+    caught: Vec<Int>,
     layout: Vec<LogLine>,
     pub(crate) passive: Passive,
 }
@@ -53,7 +55,7 @@ impl Model for Prepared {
 
     ghost coded = { Prim.hlevel (codes, node_code) };
 
-    ghost view = { λ p. record { tree = p.tree; ops = p.ops.items; layout = p.layout.items; passive = passive_seen p.passive } };
+    ghost view = { λ p. record { tree = p.tree; ops = p.ops.items; caught = p.caught.items; layout = p.layout.items; passive = passive_seen p.passive } };
 }
 
 // The operations from the hosts of one tree to those of another.
@@ -124,6 +126,7 @@ impl Prepared {
         let compared = compare(alloc, pruned, &beside.pruned_new)?;
         Ok(Prepared {
             ops: ops_beside(alloc, old, beside, &compared)?,
+            caught: caught_in(alloc, &compared)?,
             layout: layout_log(alloc, &compared)?,
             passive: passive_effects(alloc, &compared)?,
             tree: beside.tree.copy()?,
@@ -137,8 +140,8 @@ impl Prepared {
         &self.tree
     }
 
-    /// Writes what the commit does: its own line with its number, from 1, its lanes and its counts, then the operations and
-    /// the layout effects. A commit with the lane Sync runs its passive effects itself, and they come behind.
+    /// Writes what the commit does: its own line with its number, from 1, its lanes and its counts, then the operations, what error
+    /// boundaries catch, and the layout effects. A commit with the lane Sync runs its passive effects itself, and they come behind.
     ///
     /// # Errors
     ///
@@ -175,7 +178,7 @@ impl Prepared {
         self.write_sync(log, lanes)
     }
 
-    // Its line, the operations, and the layout effects.
+    // Its line, the operations, what error boundaries catch, and the layout effects.
     fn write_own(
         &self,
         log: &mut Report,
@@ -184,11 +187,12 @@ impl Prepared {
         units: u64,
         bodies: u64,
     ) -> Result<(), AllocError>
-        ensures written { (new : Node) → OnOk result (log.new ≡ with_lines log.old (committed number (lanes_where (has lanes)) (record { units = units; bodies = bodies }) new ∷ (map operated self.now.ops ++ map logged self.now.layout))) }
+        ensures written { (new : Node) → OnOk result (log.new ≡ with_lines log.old (committed number (lanes_where (has lanes)) (record { units = units; bodies = bodies }) new ∷ (map operated self.now.ops ++ (map caught self.now.caught ++ map logged self.now.layout)))) }
         ensures goes_on { GoesOn log.old log.new }
     {
         log.commit_line(number, lanes, units, bodies)?;
         add_ops(log, &self.ops)?;
+        add_caught(log, &self.caught)?;
         add_effects(log, &self.layout)
     }
 

@@ -1,9 +1,10 @@
 // Lines behind those that a report has.
 ghost use Rattle.std.specs.Prelude.{◌≡◌, take, OnErr, OnOk, map};
-ghost use Rattle.rx_lines.specs.Lines.{logged, operated};
+ghost use Rattle.rx_lines.specs.Lines.{caught, logged, operated};
 ghost use Rattle.rx_log.specs.PassiveView.{passive_seen};
 ghost use Rattle.rx_commit.specs.Written.{GoesOn, passive_lines, with_lines};
 
+use rx_base::Int;
 use rx_effect::LogLine;
 use rx_forest::HostOp;
 use rx_log::Passive;
@@ -17,6 +18,17 @@ pub(crate) fn add_ops(log: &mut Report, ops: &[HostOp]) -> Result<(), AllocError
 {
     'ops: for op in ops {
         log.op_line(op)?;
+    }
+    Ok(())
+}
+
+// What error boundaries catch, one after another.
+pub(crate) fn add_caught(log: &mut Report, values: &[Int]) -> Result<(), AllocError>
+    ensures written { OnOk result (log.new ≡ with_lines log.old (map caught values.now)) }
+    ensures goes_on { GoesOn log.old log.new }
+{
+    'caught: for value in values {
+        log.caught_line(*value)?;
     }
     Ok(())
 }

@@ -7,7 +7,7 @@ use Rattle.std.proofs.Common.{arith, ap, subst, sym, ◌∙◌, get_or, length-a
 use Rattle.std.proofs.lemmas.Bool.Decides.{Decides-eqb, nat_tests}
 use Rattle.std.proofs.lemmas.List.Quantifiers.{position-Some}
 use Rattle.std.proofs.lemmas.List.Sums.{sum_by_push}
-use Rattle.rx_elem.specs.Elements.{Element, Key, Kind, absent, of_text, of_host, of_comp, of_list, of_boundary, of_provider, key_of, kind_of, is_present, same_kind}
+use Rattle.rx_elem.specs.Elements.{Element, Key, Kind, absent, of_text, of_host, of_comp, of_list, of_boundary, of_catcher, of_provider, key_of, kind_of, is_present, same_kind}
 use Rattle.rx_elem.specs.Elements as elements
 use Rattle.rx_elem.specs.Identity.{Child, Identity, at_index, at_key, has_key, identified, identities_after, identity_after, is_reused, is_same_child, same_identity, moves_after, old_places, removed_places}
 use Rattle.rx_elem.specs.Trees.{Node, Forest, none, vacant, child, element_of, elements_in, places}
@@ -37,6 +37,7 @@ none_absent (of_host n) = refl
 none_absent (of_comp c) = refl
 none_absent of_list = refl
 none_absent of_boundary = refl
+none_absent of_catcher = refl
 none_absent (of_provider c) = refl
 
 pub new_present : (e o : Element) → same_kind (kind_of e) (kind_of o) ≡ true → is_present e ≡ true
@@ -46,6 +47,7 @@ new_present (elements.host n k attrs es) o h = refl
 new_present (elements.comp c k ps es) o h = refl
 new_present (elements.list marked es) o h = refl
 new_present (elements.boundary k f es) o h = refl
+new_present (elements.catcher k f es) o h = refl
 new_present (elements.provider c k x es) o h = refl
 
 old_present : (e o : Element) → same_kind (kind_of e) (kind_of o) ≡ true → is_present o ≡ true
@@ -55,6 +57,7 @@ old_present e (elements.host n k attrs es) h = refl
 old_present e (elements.comp c k ps es) h = refl
 old_present e (elements.list marked es) h = refl
 old_present e (elements.boundary k f es) h = refl
+old_present e (elements.catcher k f es) h = refl
 old_present e (elements.provider c k x es) h = refl
 
 beside_of : (os ns : Forest) → AreInPlace os ns → AreBeside (elements_in os) (elements_in ns)
@@ -108,6 +111,7 @@ absent_is_null (elements.host n k attrs es) h = absurd (cc h)
 absent_is_null (elements.comp c k ps es) h = absurd (cc h)
 absent_is_null (elements.list marked es) h = absurd (cc h)
 absent_is_null (elements.boundary k f es) h = absurd (cc h)
+absent_is_null (elements.catcher k f es) h = absurd (cc h)
 absent_is_null (elements.provider c k x es) h = absurd (cc h)
 
 null_was_nothing : (old : List Child) (i : Identity) → position (is_same_child (child_of (i, elements.null))) old ≡ None

@@ -49,7 +49,10 @@ impl Around {
                 concealed: true,
                 ..self
             },
-            Mark::Host(None) | Mark::Boundary(BoundaryState::Shown) | Mark::Plain => self,
+            Mark::Host(None)
+            | Mark::Boundary(BoundaryState::Shown)
+            | Mark::Catch(_)
+            | Mark::Plain => self,
         }
     }
 }

@@ -5,3 +5,4 @@ pub mod Passing
 pub mod Depths
 pub mod Waiting
 pub mod Nearest
+pub mod Throwing

@@ -63,7 +63,7 @@ module _ (t : Trees Fiber) (knows : KnowsPlaces t) (st : Stack) (p : ℕ) where
     outer_makes : Makes t.draft q
     outer_makes = let o = n.is in subst (λ i. Makes t.draft i) n.same (knows o.around o.id o.value o.old o.kids o.rest o.here).makes
 
-    outer_value : (v : Fiber) → Some v ≡ made_value_of t.draft q → v ≡ n.is.value
+    pub outer_value : (v : Fiber) → Some v ≡ made_value_of t.draft q → v ≡ n.is.value
     outer_value v e =
         let o = n.is in
         let l = (knows o.around o.id o.value o.old o.kids o.rest o.here).list in

@@ -1,5 +1,5 @@
 -- What is completed next, and where the render comes from there.
-use Rattle.std.specs.Prelude.{◌≡◌, ℕ, List, Option, Some, None, if◌then◌else◌}
+use Rattle.std.specs.Prelude.{◌≡◌, ℕ, Bool, List, Option, Some, None, IsSome, if◌then◌else◌}
 use Rattle.rx_ctx.specs.Contexts.{Stack}
 use Rattle.rx_elem.specs.Elements.{Element}
 use Rattle.rx_elem.specs.Trees.{Node}
@@ -8,9 +8,9 @@ use Rattle.rx_links.specs.Places.{Around, top, below, after, placed}
 use Rattle.rx_links.specs.Readers.{made_rest_of, made_parent_of}
 use Rattle.rx_meaning.specs.Fresh.{Contexts, Place}
 use Rattle.rx_meaning.specs.Cursor.{Open, Frame, Cursor, at_place, at_end, ended}
-use Rattle.rx_fiber.specs.Fibers.{Fiber}
+use Rattle.rx_fiber.specs.Fibers.{Fiber, Stage}
 use Rattle.rx_fiber.specs.Standing.{StandsAt}
-use Rattle.rx_fiber.specs.Unwound.{IsWithin, is_trying}
+use Rattle.rx_fiber.specs.Unwound.{IsWithin, is_guarding, is_trying}
 use Rattle.rx_complete.specs.declared.completing.Next.{Next}
 use Rattle.rx_complete.specs.declared.completing.Next.TheVariants.{Sibling, Parent, Done}
 
@@ -62,8 +62,20 @@ pub record Outer : Type 0 where
   pub old : Option ℕ
   pub rest : Draft Fiber
 
--- the nearest fiber outside of a place that tries its children
+-- the nearest fiber outside of a place whose stage passes a test
+abbrev pub nearest_where : (Stage → Bool) → Around Fiber → Option Outer
+nearest_where stops top = None
+nearest_where stops (below id v o rs k) = if stops v.stage then Some (record { around = k; id = id; value = v; old = o; rest = rs }) else nearest_where stops k
+nearest_where stops (after id v o ks k) = nearest_where stops k
+
+-- the nearest one that tries its children
 abbrev pub nearest : Around Fiber → Option Outer
-nearest top = None
-nearest (below id v o rs k) = if is_trying v.stage then Some (record { around = k; id = id; value = v; old = o; rest = rs }) else nearest k
-nearest (after id v o ks k) = nearest k
+nearest k = nearest_where is_trying k
+
+-- the nearest one of an error boundary whose children are tried
+abbrev pub nearest_catch : Around Fiber → Option Outer
+nearest_catch k = nearest_where is_guarding k
+
+-- there is one outside of a made fiber
+abbrev pub IsGuardedAt : Trees Fiber → (p : ℕ) → Type 0
+IsGuardedAt t p = (k : Around Fiber) (v : Fiber) (o : Option ℕ) (ks rs : Draft Fiber) → t.draft ≡ placed k (made p v o ks rs) → IsSome (nearest_catch k)

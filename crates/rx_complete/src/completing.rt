@@ -70,7 +70,7 @@ fn gather(tree: &FiberTree<Fiber>, at: FiberId) -> Subtree
 }
 
 /// Completes the node of a fiber whose children are done, as one unit of a render: a boundary whose children were tried is
-/// shown, a provider is left, and the render comes to the next sibling, or else to the parent. What is at or below the children
+/// shown, an error boundary has caught nothing, a provider is left, and the render comes to the next sibling, or else to the parent. What is at or below the children
 /// is gathered on the fiber (React: `bubbleProperties`). Takes no memory, and leaves the current tree as it is.
 pub fn complete(tree: &mut FiberTree<Fiber>, at: FiberId, contexts: &mut ContextStack) -> Next
     requires { IsAtEnd tree.old contexts.old at }

@@ -4,7 +4,7 @@ use Rattle.std.proofs.Math.ListN.{set, get_or, length-set}
 use Rattle.std.proofs.lemmas.List.{get_or-set_other, get_or_default, length-replicate}
 use Rattle.std.proofs.lemmas.Bool.Decides.{nat_tests}
 use Rattle.rx_ctx.specs.declared.stack.HiddenValue.{HiddenValue}
-use Rattle.rx_ctx.specs.Contexts.{is_among, moved_by, moved_in, none_moved, without}
+use Rattle.rx_ctx.specs.Contexts.{is_among, moved_by, moved_in, none_moved, all_but}
 use Rattle.rx_ctx.specs.Hidden.{AreContexts, IsKept, NoneOther, count_true, moves_in}
 use Rattle.rx_ctx.proofs.Stacks.{back, reverse-pushed}
 
@@ -54,7 +54,7 @@ some_true (false ∷ bs) h = let (i, f) = some_true bs h in (suc i, f)
 same_nat : (c : ℕ) → nat_eq c c ≡ true
 same_nat c = grind (arith, nat_tests)
 
-among_without : (c d : ℕ) (ms : List ℕ) → is_among c (without d ms) ≡ (not (nat_eq d c) && is_among c ms)
+among_without : (c d : ℕ) (ms : List ℕ) → is_among c (all_but d ms) ≡ (not (nat_eq d c) && is_among c ms)
 among_without c d [] = by_same (nat_eq d c)
   where
     by_same : (b : Bool) → false ≡ (not b && false)
@@ -62,8 +62,8 @@ among_without c d [] = by_same (nat_eq d c)
     by_same false = refl
 among_without c d (e ∷ ms) = go (nat_eq e d) refl (nat_eq e c) refl (among_without c d ms)
   where
-    go : (a : Bool) → nat_eq e d ≡ a → (b : Bool) → nat_eq e c ≡ b → is_among c (without d ms) ≡ (not (nat_eq d c) && is_among c ms)
-        → is_among c (cond a (without d ms) (e ∷ without d ms)) ≡ (not (nat_eq d c) && (b || is_among c ms))
+    go : (a : Bool) → nat_eq e d ≡ a → (b : Bool) → nat_eq e c ≡ b → is_among c (all_but d ms) ≡ (not (nat_eq d c) && is_among c ms)
+        → is_among c (cond a (all_but d ms) (e ∷ all_but d ms)) ≡ (not (nat_eq d c) && (b || is_among c ms))
     go true f true g rest = let same : nat_eq d c ≡ true = grind (arith, nat_tests) in rest ∙ rw same refl
     go true f false g rest = rest
     go false f true g rest = let other : nat_eq d c ≡ false = grind (arith, nat_tests) in rw (g, other) refl
@@ -73,7 +73,7 @@ among_without c d (e ∷ ms) = go (nat_eq e d) refl (nat_eq e c) refl (among_wit
 pub among_by : (c d : ℕ) (b : Bool) (ms : List ℕ) → is_among c (moved_by d b ms) ≡ (if nat_eq d c then b else is_among c ms)
 among_by c d b ms = go b (nat_eq d c) refl (among_without c d ms)
   where
-    go : (b same : Bool) → nat_eq d c ≡ same → is_among c (without d ms) ≡ (not (nat_eq d c) && is_among c ms) → is_among c (moved_by d b ms) ≡ (if same then b else is_among c ms)
+    go : (b same : Bool) → nat_eq d c ≡ same → is_among c (all_but d ms) ≡ (not (nat_eq d c) && is_among c ms) → is_among c (moved_by d b ms) ≡ (if same then b else is_among c ms)
     go true true f rest = rw f refl
     go true false f rest = rw f (rest ∙ rw f refl)
     go false true f rest = rest ∙ rw f refl

@@ -37,14 +37,14 @@ abbrev pub is_among : ℕ → List ℕ → Bool
 is_among c [] = false
 is_among c (d ∷ ds) = nat_eq d c || is_among c ds
 
--- the contexts without one
-abbrev pub without : ℕ → List ℕ → List ℕ
-without c [] = []
-without c (d ∷ ds) = if nat_eq d c then without c ds else d ∷ without c ds
+-- the contexts but one
+abbrev pub all_but : ℕ → List ℕ → List ℕ
+all_but c [] = []
+all_but c (d ∷ ds) = if nat_eq d c then all_but c ds else d ∷ all_but c ds
 
 -- the contexts that have another value below a provider than below its old node, by those at the provider: it adds its context if it gives that another value, and else takes it away
 abbrev pub moved_by : (context : ℕ) → (moves : Bool) → (moved : List ℕ) → List ℕ
-moved_by c b moved = if b then c ∷ without c moved else without c moved
+moved_by c b moved = if b then c ∷ all_but c moved else all_but c moved
 
 -- the same below several providers, the nearest first
 abbrev pub moved_in : List (ℕ × Bool) → List ℕ

@@ -4,7 +4,7 @@ use Rattle.std.specs.Ordering.{int_eq}
 use Rattle.std.specs.Cmp.Lexicographic.{pointwise}
 use Rattle.std.proofs.lemmas.Slice.Eq.{bytes_eq-Decides}
 use Rattle.std.proofs.lemmas.Bool.Decides.{Decides-int_eq, Decides-eqb}
-use Rattle.rx_elem.specs.Elements.{Key, Element, null, text, host, comp, list, boundary, provider, Elements, none, more, kind_of, same_kind, is_present, same_value, same_attr, same_key, same_element, same_elements}
+use Rattle.rx_elem.specs.Elements.{Key, Element, null, text, host, comp, list, boundary, catcher, provider, Elements, none, more, kind_of, same_kind, is_present, same_value, same_attr, same_key, same_element, same_elements}
 use Rattle.rx_elem.specs.declared.attr.AttrValue.{AttrValue}
 use Rattle.rx_elem.specs.declared.attr.AttrValue.TheVariants.{Number, Text}
 use Rattle.rx_elem.specs.declared.attr.Attr.{Attr}
@@ -26,6 +26,7 @@ same_kind-self (host n k attrs es) h = bytes-self n
 same_kind-self (comp c k ps es) h = nat-self c
 same_kind-self (list mark es) h = refl
 same_kind-self (boundary k f es) h = refl
+same_kind-self (catcher k f es) h = refl
 same_kind-self (provider c k x es) h = nat-self c
 
 key-self : (k : Key) → same_key k k ≡ true
@@ -54,6 +55,7 @@ mutual
   same_element-self (list true es) = same_elements-self es
   same_element-self (list false es) = same_elements-self es
   same_element-self (boundary k f es) = rw (key-self k, same_element-self f, same_elements-self es) refl
+  same_element-self (catcher k f es) = rw (key-self k, same_element-self f, same_elements-self es) refl
   same_element-self (provider c k x es) = rw (nat-self c, key-self k, int-self x, same_elements-self es) refl
 
   pub same_elements-self : (es : Elements) → same_elements es es ≡ true

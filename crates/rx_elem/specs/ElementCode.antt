@@ -4,7 +4,7 @@ use Rattle.std.specs.Coded.{Coded, code_by, coded×, coded⊎, coded_bool, coded
 use Rattle.std.proofs.Common.{inl, inr}
 use base.Stored.{Gv, gnil, gnum, gcons}
 use mathlib.Core.Path.{ap}
-use Rattle.rx_elem.specs.Elements.{Element, null, text, host, comp, list, boundary, provider, Elements, none, more}
+use Rattle.rx_elem.specs.Elements.{Element, null, text, host, comp, list, boundary, catcher, provider, Elements, none, more}
 use Rattle.rx_elem.specs.declared.attr.Attr.{Attr}
 use Rattle.rx_elem.specs.declared.attr.AttrValue.{AttrValue}
 use Rattle.rx_elem.specs.declared.attr.AttrValue.TheVariants.{Number, Text}
@@ -74,6 +74,7 @@ abbrev mutual
   stored (comp c k ps es) = gcons (gnum 3) (gcons (gnum c) (gcons (keys.code k) (gcons (integers.code ps) (stored_in es))))
   stored (list b es) = gcons (gnum 4) (gcons (coded_bool.code b) (stored_in es))
   stored (boundary k f es) = gcons (gnum 5) (gcons (keys.code k) (gcons (stored f) (stored_in es)))
+  stored (catcher k f es) = gcons (gnum 7) (gcons (keys.code k) (gcons (stored f) (stored_in es)))
   stored (provider c k x es) = gcons (gnum 6) (gcons (gnum c) (gcons (keys.code k) (gcons (coded_ℤ.code x) (stored_in es))))
 
   pub stored_in : Elements → Gv
@@ -91,6 +92,8 @@ mutual
   stored_one (list b es) (list c fs) p = λ i. list (coded_bool.inj b c (ap (λ g. head (tail g)) p) i) (stored_in_one es fs (ap third p) i)
   stored_one (boundary k e es) (boundary l f fs) p =
       λ i. boundary (keys.inj k l (ap (λ g. head (tail g)) p) i) (stored_one e f (ap (λ g. head (third g)) p) i) (stored_in_one es fs (ap fourth p) i)
+  stored_one (catcher k e es) (catcher l f fs) p =
+      λ i. catcher (keys.inj k l (ap (λ g. head (tail g)) p) i) (stored_one e f (ap (λ g. head (third g)) p) i) (stored_in_one es fs (ap fourth p) i)
   stored_one (provider c k x es) (provider d l y fs) p =
       λ i. provider (number (head (tail (p i)))) (keys.inj k l (ap (λ g. head (third g)) p) i) (coded_ℤ.inj x y (ap (λ g. head (fourth g)) p) i) (stored_in_one es fs (ap fifth p) i)
   stored_one _ _ p = cc

@@ -19,4 +19,5 @@ depth_falls (kind.Host name key attrs es) = omega (arith, most_le-depth_in es.it
 depth_falls (kind.Comp c key props es) = omega (arith, most_le-depth_in es.items)
 depth_falls (kind.List mark es) = omega (arith, most_le-depth_in es.items)
 depth_falls (kind.Boundary key fallback es) = omega (arith, most_le-depth_in es.items)
+depth_falls (kind.Catch key fallback es) = omega (arith, most_le-depth_in es.items)
 depth_falls (kind.Provider c key given es) = omega (arith, most_le-depth_in es.items)

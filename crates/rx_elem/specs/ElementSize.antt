@@ -1,6 +1,6 @@
 -- How many elements there are in an element.
 use Rattle.std.specs.Prelude.{ℕ, suc, ◌+◌, ◌^◌, ◌-◌, min}
-use Rattle.rx_elem.specs.Elements.{Element, null, text, host, comp, list, boundary, provider, Elements, none, more}
+use Rattle.rx_elem.specs.Elements.{Element, null, text, host, comp, list, boundary, catcher, provider, Elements, none, more}
 
 -- an element and those below it
 abbrev mutual
@@ -11,6 +11,7 @@ abbrev mutual
   size (comp c k ps es) = suc (size_in es)
   size (list mark es) = suc (size_in es)
   size (boundary k f es) = suc (size f + size_in es)
+  size (catcher k f es) = suc (size f + size_in es)
   size (provider c k x es) = suc (size_in es)
 
   -- those of a list and below

@@ -2,7 +2,7 @@
 use Rattle.rx_elem.specs.Elements.{Element, gathered}
 use Rattle.rx_elem.specs.Elements as elements
 use Rattle.rx_elem.specs.declared.element.ElementKind.{ElementKind}
-use Rattle.rx_elem.specs.declared.element.ElementKind.TheVariants.{Null, Text, Host, Comp, List, Boundary, Provider}
+use Rattle.rx_elem.specs.declared.element.ElementKind.TheVariants.{Null, Text, Host, Comp, List, Boundary, Catch, Provider}
 
 -- what is in an element
 abbrev pub element_seen : ElementKind → Element
@@ -12,4 +12,5 @@ element_seen (Host name key attrs es) = elements.host name key attrs.items (gath
 element_seen (Comp c key props es) = elements.comp c key props (gathered es.items)
 element_seen (List marked es) = elements.list marked (gathered es.items)
 element_seen (Boundary key fallback es) = elements.boundary key fallback (gathered es.items)
+element_seen (Catch key fallback es) = elements.catcher key fallback (gathered es.items)
 element_seen (Provider c key given es) = elements.provider c key given (gathered es.items)

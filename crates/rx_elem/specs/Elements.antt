@@ -27,6 +27,8 @@ mutual
     list : (mark : Bool) → Elements → Element
     -- a Suspense boundary
     boundary : Key → (fallback : Element) → (primary : Elements) → Element
+    -- an error boundary
+    catcher : Key → (fallback : Element) → (primary : Elements) → Element
     -- a provider of a context
     provider : (context : ℕ) → Key → (given : ℤ) → Elements → Element
 
@@ -54,6 +56,7 @@ abbrev mutual
   depth (comp c k ps es) = suc (depth_in es)
   depth (list mark es) = suc (depth_in es)
   depth (boundary k f es) = suc (max (depth f) (depth_in es))
+  depth (catcher k f es) = suc (max (depth f) (depth_in es))
   depth (provider c k x es) = suc (depth_in es)
 
   -- the greatest of the elements
@@ -69,6 +72,7 @@ key_of (host n k attrs es) = k
 key_of (comp c k ps es) = k
 key_of (list mark es) = None
 key_of (boundary k f es) = k
+key_of (catcher k f es) = k
 key_of (provider c k x es) = k
 
 -- what has to agree, beside the identity, for an old and a new element to be one node (react.dev, Preserving and Resetting State)
@@ -80,6 +84,7 @@ pub data Kind : Type 0 where
   of_comp : ℕ → Kind
   of_list : Kind
   of_boundary : Kind
+  of_catcher : Kind
   of_provider : ℕ → Kind
 
 -- the kind of node that an element stands for
@@ -90,6 +95,7 @@ kind_of (host n k attrs es) = of_host n
 kind_of (comp c k ps es) = of_comp c
 kind_of (list mark es) = of_list
 kind_of (boundary k f es) = of_boundary
+kind_of (catcher k f es) = of_catcher
 kind_of (provider c k x es) = of_provider c
 
 -- an element stands for a node
@@ -100,6 +106,7 @@ is_present (host n k attrs es) = true
 is_present (comp c k ps es) = true
 is_present (list mark es) = true
 is_present (boundary k f es) = true
+is_present (catcher k f es) = true
 is_present (provider c k x es) = true
 
 -- an element is a list that stands for `children`
@@ -110,6 +117,7 @@ stands_for_children (host n k attrs es) = false
 stands_for_children (comp c k ps es) = false
 stands_for_children (list mark es) = mark
 stands_for_children (boundary k f es) = false
+stands_for_children (catcher k f es) = false
 stands_for_children (provider c k x es) = false
 
 -- two kinds of node agree; what is absent agrees with nothing
@@ -119,6 +127,7 @@ same_kind (of_host m) (of_host n) = bytes_eq m n
 same_kind (of_comp c) (of_comp d) = nat_eq c d
 same_kind of_list of_list = true
 same_kind of_boundary of_boundary = true
+same_kind of_catcher of_catcher = true
 same_kind (of_provider c) (of_provider d) = nat_eq c d
 same_kind _ _ = false
 
@@ -147,6 +156,7 @@ abbrev mutual
   same_element (comp c k ps es) (comp d l qs fs) = nat_eq c d && (same_key k l && (pointwise int_eq ps qs && same_elements es fs))
   same_element (list mark es) (list other fs) = beq mark other && same_elements es fs
   same_element (boundary k e es) (boundary l f fs) = same_key k l && (same_element e f && same_elements es fs)
+  same_element (catcher k e es) (catcher l f fs) = same_key k l && (same_element e f && same_elements es fs)
   same_element (provider c k x es) (provider d l y fs) = nat_eq c d && (same_key k l && (int_eq x y && same_elements es fs))
   same_element _ _ = false
 

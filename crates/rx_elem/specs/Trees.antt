@@ -1,9 +1,11 @@
 -- The trees that are rendered and committed.
-use Rattle.std.specs.Prelude.{ℕ, suc, max, Bool, true, false, not, List, [], ◌∷◌, ℤ, Option, Some, None}
+use Rattle.std.specs.Prelude.{ℕ, suc, max, Bool, true, false, not, ◌||◌, List, [], ◌∷◌, ℤ, Option, Some, None, option_and_then, if◌then◌else◌}
 use Rattle.std.specs.Option.{option_map_or}
 use Rattle.rx_base.specs.Awaits.{Awaits, nothing}
 use Rattle.rx_susp.specs.declared.boundary.BoundaryState.{BoundaryState}
 use Rattle.rx_susp.specs.Boundary.{awaits_of, hides}
+use Rattle.rx_catch.specs.declared.state.CatchState.{CatchState}
+use Rattle.rx_catch.specs.Catching.{caught_of, has_caught}
 use Rattle.rx_elem.specs.declared.effect.EffectRecord.{EffectRecord}
 use Rattle.rx_elem.specs.declared.effect.ContextRead.{ContextRead}
 use Rattle.rx_elem.specs.declared.effect.VersionRead.{VersionRead}
@@ -25,9 +27,10 @@ pub data Mark : Type 0 where
   -- of a host or a text, with its number from its first commit on
   of_host : (number : Option ℕ) → Mark
   of_boundary : BoundaryState → Mark
+  of_catcher : CatchState → Mark
   plain : Mark
 
--- A node has its element, its mark and a list of children, and a boundary a second one, its fallback. The children of a hidden boundary are what it keeps.
+-- A node has its element, its mark and a list of children, and a boundary, of Suspense or of errors, a second one, its fallback. The children of a hidden boundary are what it keeps; an error boundary that has caught a value has a fallback alone.
 -- In a list, each place has a child or none.
 mutual
   pub data Node : Type 0 where
@@ -47,7 +50,7 @@ element_of (node e m ns fs) = e
 abbrev pub mark_of : Node → Mark
 mark_of (node e m ns fs) = m
 
--- the children of a node; of a boundary, its primary
+-- the children of a node; of a boundary, of Suspense or of errors, its primary
 abbrev pub children_of : Node → Forest
 children_of (node e m ns fs) = ns
 
@@ -99,6 +102,7 @@ abbrev pub instance_in : Mark → Option Instance
 instance_in (of_instance i) = Some i
 instance_in (of_host n) = None
 instance_in (of_boundary b) = None
+instance_in (of_catcher c) = None
 instance_in plain = None
 
 -- the number of a host or a text
@@ -106,6 +110,7 @@ abbrev pub host_number : Mark → Option ℕ
 host_number (of_instance i) = None
 host_number (of_host n) = n
 host_number (of_boundary b) = None
+host_number (of_catcher c) = None
 host_number plain = None
 
 -- the state of a boundary
@@ -113,13 +118,23 @@ abbrev pub boundary_in : Mark → Option BoundaryState
 boundary_in (of_instance i) = None
 boundary_in (of_host n) = None
 boundary_in (of_boundary b) = Some b
+boundary_in (of_catcher c) = None
 boundary_in plain = None
+
+-- the state of an error boundary
+abbrev pub catch_in : Mark → Option CatchState
+catch_in (of_instance i) = None
+catch_in (of_host n) = None
+catch_in (of_boundary b) = None
+catch_in (of_catcher c) = Some c
+catch_in plain = None
 
 -- a node is one of a host or a text
 abbrev pub is_host : Mark → Bool
 is_host (of_instance i) = false
 is_host (of_host n) = true
 is_host (of_boundary b) = false
+is_host (of_catcher c) = false
 is_host plain = false
 
 -- a node is a boundary that is hidden
@@ -134,6 +149,26 @@ is_shown m = option_map_or (λ b. not (hides b)) (boundary_in m) false
 abbrev pub was_hidden : Option Node → Bool
 was_hidden None = false
 was_hidden (Some n) = is_hidden (mark_of n)
+
+-- a node is an error boundary that has caught a value
+abbrev pub is_caught : Mark → Bool
+is_caught m = option_map_or has_caught (catch_in m) false
+
+-- a node shows its fallback: a boundary that is hidden, or an error boundary that has caught a value
+abbrev pub shows_fallback : Mark → Bool
+shows_fallback m = is_hidden m || is_caught m
+
+-- the value that an error boundary has caught, if it has
+abbrev pub caught_in : Mark → Option ℤ
+caught_in m = option_and_then caught_of (catch_in m)
+
+-- what a node that may be missing had caught, if it was an error boundary that had
+abbrev pub old_caught : Option Node → Option ℤ
+old_caught old = option_and_then (λ n. caught_in (mark_of n)) old
+
+-- a node over its one list: of an error boundary that has caught a value, its fallback, and of any other, its children
+abbrev pub node_over : Element → Mark → Forest → Node
+node_over e m ns = if is_caught m then node e m none ns else node e m ns none
 
 -- what a hidden boundary waits for
 abbrev pub awaits_in : Mark → Awaits

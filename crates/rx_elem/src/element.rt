@@ -31,6 +31,8 @@ pub enum ElementKind {
     List(bool, Vec<Element>),
     /// A Suspense boundary: its key, its fallback and its children.
     Boundary(Option<Int>, Element, Vec<Element>),
+    /// An error boundary: its key, its fallback and its children.
+    Catch(Option<Int>, Element, Vec<Element>),
     /// A provider of a context, with the value that it gives.
     Provider(u32, Option<Int>, Int, Vec<Element>),
 }

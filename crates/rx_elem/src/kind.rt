@@ -14,7 +14,7 @@ impl Element {
             ElementKind::Null | ElementKind::Text(_) | ElementKind::List(_, _) => None,
             ElementKind::Host(_, key, _, _) => *key,
             ElementKind::Comp(_, key, _, _) => *key,
-            ElementKind::Boundary(key, _, _) => *key,
+            ElementKind::Boundary(key, _, _) | ElementKind::Catch(key, _, _) => *key,
             ElementKind::Provider(_, key, _, _) => *key,
         }
     }
@@ -50,6 +50,7 @@ impl Element {
             (ElementKind::Comp(c, _, _, _), ElementKind::Comp(d, _, _, _)) => *c == *d,
             (ElementKind::List(_, _), ElementKind::List(_, _)) => true,
             (ElementKind::Boundary(_, _, _), ElementKind::Boundary(_, _, _)) => true,
+            (ElementKind::Catch(_, _, _), ElementKind::Catch(_, _, _)) => true,
             (ElementKind::Provider(c, _, _, _), ElementKind::Provider(d, _, _, _)) => *c == *d,
             _ => false,
         }

@@ -59,6 +59,9 @@ impl Element {
             (ElementKind::Boundary(k, e, es), ElementKind::Boundary(l, f, fs)) => {
                 *k == *l && e.same(f) && same_children(es, fs)
             }
+            (ElementKind::Catch(k, e, es), ElementKind::Catch(l, f, fs)) => {
+                *k == *l && e.same(f) && same_children(es, fs)
+            }
             (ElementKind::Provider(c, k, x, es), ElementKind::Provider(d, l, y, fs)) => {
                 *c == *d && *k == *l && x.same(*y) && same_children(es, fs)
             }
@@ -76,7 +79,7 @@ impl Element {
             ElementKind::Host(_, _, _, es) => size_of_all(es).saturating_add(1),
             ElementKind::Comp(_, _, _, es) => size_of_all(es).saturating_add(1),
             ElementKind::List(_, es) => size_of_all(es).saturating_add(1),
-            ElementKind::Boundary(_, fallback, es) => fallback
+            ElementKind::Boundary(_, fallback, es) | ElementKind::Catch(_, fallback, es) => fallback
                 .size()
                 .saturating_add(size_of_all(es))
                 .saturating_add(1),

@@ -95,6 +95,13 @@ mutual
         slot-short all short s false f (among-left (slot_mentions s false f) last all (among-right first (slot_mentions s false f ++ last) all (among-left own (slots_mentions s false ss) all h))),
         slots-short all short s false ss (among-right own (slots_mentions s false ss) all h),
       )
+  slot-short all short s second (syntax.catcher k f w ss) h =
+      let first = first_key_mentions s.values second k in
+      let last = last_key_mentions s.values second k in
+      let own = first ++ (slot_mentions s false f ++ last) in (
+        slot-short all short s false f (among-left (slot_mentions s false f) last all (among-right first (slot_mentions s false f ++ last) all (among-left own (slots_mentions s false ss) all h))),
+        slots-short all short s false ss (among-right own (slots_mentions s false ss) all h),
+      )
   slot-short all short s second (syntax.provider n k e w ss) h =
       slots-short all short s false ss
       (among-right (first_key_mentions s.values second k ++ (expr_mentions s.values e ++ last_key_mentions s.values second k)) (slots_mentions s false ss) all (λ m i. h m (inr i)))

@@ -9,7 +9,7 @@ use Rattle.rx_ast.specs.Syntax.{Parameter, integer, given_children, Component, P
 use Rattle.rx_ast.specs.Syntax as syntax
 use Rattle.rx_rules.specs.Names.{integer_in, component_at}
 use Rattle.rx_meaning.specs.Expressions.{Env}
-use Rattle.rx_meaning.specs.Body.{Inputs, Taken, stopped_at, taken, finished, take_all, opening_frame, body_of}
+use Rattle.rx_meaning.specs.Body.{Inputs, Taken, stopped_at, thrown, taken, finished, take_all, opening_frame, body_of}
 use Rattle.rx_eval.specs.declared.body.Body.{Body}
 use Rattle.rx_eval.specs.Given.{body_seen, initials_of}
 use Rattle.rx_eval.proofs.Calls.{zip-push}
@@ -64,6 +64,7 @@ body_gives p q n c s i (Err e) same returned at h = tt
 -- the initial values of hooks do not depend on what is returned
 initials_same : (p : Program) (i : Inputs) (ss : Slots) (t : Taken) → initials_of (finished p i no_slots t) ≡ initials_of (finished p i ss t)
 initials_same p i ss (stopped_at r v) = refl
+initials_same p i ss (thrown x) = refl
 initials_same p i ss (taken f) = refl
 
 -- the statements of a component give the initial values of its hooks

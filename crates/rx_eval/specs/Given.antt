@@ -10,12 +10,14 @@ use Rattle.rx_eval.specs.declared.body.Body.TheVariants as given
 -- what a body gives
 abbrev pub body_seen : Body → body.Body
 body_seen (given.Wait r v) = body.wait r v
+body_seen (given.Throw x) = body.throw x
 body_seen (given.Ready elements effects initials reads versions) =
     body.ready elements.items effects.items initials reads.items versions.items
 
 -- the initial values of hooks that a body gives, if it is ready
 abbrev pub initials_of : body.Body → Option (List ℤ)
 initials_of (body.wait r v) = None
+initials_of (body.throw x) = None
 initials_of (body.ready es effects initials reads versions) = Some initials
 
 -- the slots that are returned; none if they are not wanted

@@ -15,6 +15,7 @@ abbrev mutual
   HasShortLoops (syntax.host n attrs w ss) = HaveShortLoops ss
   HasShortLoops (syntax.comp n attrs w ss) = HaveShortLoops ss
   HasShortLoops (syntax.boundary k f w ss) = HasShortLoops f × HaveShortLoops ss
+  HasShortLoops (syntax.catcher k f w ss) = HasShortLoops f × HaveShortLoops ss
   HasShortLoops (syntax.provider n k e w ss) = HaveShortLoops ss
   HasShortLoops (syntax.enclosed b s) = HasShortLoops s
 

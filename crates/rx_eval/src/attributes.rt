@@ -1,12 +1,13 @@
 // What elements are given.
 ghost use Rattle.std.specs.Prelude.{◌≡◌, IfOk, Option, Some, None, MatchOption, map, filter_map};
+ghost use Rattle.rx_ast.specs.Syntax.{slot_key};
 ghost use Rattle.rx_rules.specs.Names.{integer_in};
 ghost use Rattle.rx_meaning.specs.Expressions.{value_in};
 ghost use Rattle.rx_meaning.specs.Body.{attr_in, prop_named, props_of, key_value};
 
 use crate::env::Env;
 use crate::evaluator::Evaluator;
-use rx_ast::{Attribute, AttributeKind, Expr, Parameter, ParameterKind};
+use rx_ast::{Attribute, AttributeKind, Element, Expr, Parameter, ParameterKind};
 use rx_base::{Int, Ints, Name, Str};
 use rx_elem::{Attr, AttrValue};
 use std::alloc::{AllocError, Global};
@@ -103,11 +104,18 @@ pub(crate) fn props_of(
 }
 
 /// The value of a key (react.dev, Rendering Lists).
-pub(crate) fn key_value(evaluator: &Evaluator, env: &Env, key: Option<&Expr>) -> Option<Int>
+fn key_value(evaluator: &Evaluator, env: &Env, key: Option<&Expr>) -> Option<Int>
     ensures { MatchOption key.entry (result ≡ None) (λ e. result ≡ Some (value_in evaluator.now env.now e.now)) }
 {
     match key {
         None => None,
         Some(key) => Some(evaluator.value(env, key)),
     }
+}
+
+/// The value of an element's key.
+pub(crate) fn element_key(evaluator: &Evaluator, env: &Env, element: &Element) -> Option<Int>
+    ensures { result ≡ key_value evaluator.now env.now (slot_key element.now) }
+{
+    key_value(evaluator, env, element.key())
 }

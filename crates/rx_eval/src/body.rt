@@ -27,6 +27,8 @@ use std::sync::ledger::Ledger;
 pub enum Body {
     /// It waits for a version of a resource, both by their numbers (react.dev, use).
     Wait(u32, u64),
+    /// It throws this value.
+    Throw(Int),
     /// It is ready.
     Ready {
         elements: Vec<Element>,
@@ -132,6 +134,7 @@ fn follow(
             )?;
             match step {
                 Step::Wait(resource, version) => Ok(Body::Wait(resource, version)),
+                Step::Throw(value) => Ok(Body::Throw(value)),
                 Step::Value(value) => match name_of(statement) {
                     None => follow(scene, env, rest, returned, gathered),
                     Some(name) => {
@@ -210,7 +213,7 @@ fn body_at(
     )
 }
 
-/// The initial values of a component's hooks, if its statements do not wait.
+/// The initial values of a component's hooks, if its statements neither wait nor throw.
 fn initial_values(
     alloc: Global,
     evaluator: &Evaluator,
@@ -222,13 +225,14 @@ fn initial_values(
     ensures { IfOk result (λ xs. initials_of (finished evaluator.now (inputs_of inputs.now) no_slots (take_all evaluator.now (inputs_of inputs.now) component.now.statements (opening_frame component.now inputs.now.props.now))) ≡ Some xs) }
 {
     match body_at(alloc, evaluator, component, None, inputs)? {
-        Body::Wait(_, _) => unreachable!(),
+        Body::Wait(_, _) | Body::Throw(_) => unreachable!(),
         Body::Ready { initials, .. } => Ok(initials),
     }
 }
 
-/// Evaluates a component's body once (react.dev, Render and Commit): it waits for the first resource in the order of its
-/// statements that has no value in its version, or is ready. The component is given by its number in the order of the text.
+/// Evaluates a component's body once (react.dev, Render and Commit): by the first of its statements that does either, it
+/// waits for a resource that has no value in its version, or throws a value; else it is ready. The component is given by its
+/// number in the order of the text.
 ///
 /// # Errors
 ///

@@ -7,7 +7,7 @@ ghost use Rattle.rx_meaning.specs.Body.{element_of, elements_of, turns};
 ghost use Rattle.rx_eval.specs.Loops.{HasShortLoops, HaveShortLoops};
 
 use crate::arithmetic::is_zero;
-use crate::attributes::{attrs_of, key_value, props_of};
+use crate::attributes::{attrs_of, element_key, props_of};
 use crate::env::Env;
 use crate::evaluator::Evaluator;
 use rx_ast::{Child, ChildKind, Content, Element as Written, For, Slot, SlotKind, Tag};
@@ -130,29 +130,27 @@ fn written_element(
         Content::AtOnce => Vec::new(alloc),
         Content::Children(inner) => elements(alloc, evaluator, children, env, inner)?,
     };
+    let key = element_key(evaluator, env, written);
     let kind = match &written.tag {
         Tag::Host { name, attributes } => {
-            let key = key_value(evaluator, env, written.key());
             let attrs = attrs_of(alloc, evaluator, env, attributes)?;
             ElementKind::Host(Name::new(alloc, name.text())?, key, attrs, inner)
         }
         Tag::Component { name, attributes } => {
-            let key = key_value(evaluator, env, written.key());
             let component = evaluator.component(name);
             let props = props_of(alloc, evaluator, env, attributes, component)?;
             ElementKind::Comp(component, key, props, inner)
         }
-        Tag::Suspense { key, fallback } => {
+        Tag::Suspense { fallback, .. } => {
             let fallback = element(alloc, evaluator, children, env, fallback)?;
-            ElementKind::Boundary(key_value(evaluator, env, key.value()), fallback, inner)
+            ElementKind::Boundary(key, fallback, inner)
         }
-        Tag::Provider {
-            context,
-            key,
-            value,
-        } => {
+        Tag::Catch { fallback, .. } => {
+            let fallback = element(alloc, evaluator, children, env, fallback)?;
+            ElementKind::Catch(key, fallback, inner)
+        }
+        Tag::Provider { context, value, .. } => {
             let context = evaluator.context(context);
-            let key = key_value(evaluator, env, key.value());
             ElementKind::Provider(context, key, evaluator.value(env, value), inner)
         }
     };

@@ -2,10 +2,12 @@
 ghost use Rattle.std.specs.Prelude.{◌≡◌, ◌+◌, ◌<◌, ◌^◌, [], ◌∷◌, Some, None, IfOk, MatchOption, map, option_copied, slice_index_or, pos};
 ghost use Rattle.rx_base.specs.Values.{Name as Bytes};
 ghost use Rattle.rx_meaning.specs.Expressions.{Env as Values, value_in};
-ghost use Rattle.rx_meaning.specs.Body.{take_one, taken, with_hook, with_read, with_resource, with_effect};
+ghost use Rattle.rx_meaning.specs.Body.{take_one, taken, with_hook, with_read, with_resource, with_throw, with_effect};
+ghost use Rattle.rx_eval.specs.declared.statements.Gathered.{Gathered as Parts};
 ghost use Rattle.rx_eval.specs.Seen.{inputs_of};
 ghost use Rattle.rx_eval.specs.Steps.{frame_of, name_in, step_taken};
 
+use crate::arithmetic::is_zero;
 use crate::env::Env;
 use crate::evaluator::Evaluator;
 use crate::inputs::Inputs;
@@ -33,6 +35,8 @@ pub(crate) enum Step {
     Value(Int),
     /// The body waits for a version of a resource.
     Wait(u32, u64),
+    /// The body throws this value.
+    Throw(Int),
 }
 
 impl Gathered {
@@ -134,6 +138,17 @@ fn version_at(versions: &[u64], place: usize) -> u64
     versions.get(place).copied().unwrap_or(0)
 }
 
+/// What `throwIf` does with a value: 0 is not thrown.
+fn thrown(value: Int) -> Step
+    ensures { (env : Values) → (g : Parts) → step_taken None env g result ≡ with_throw value (frame_of env g) }
+{
+    if is_zero(value) {
+        Step::Value(Int::of(0))
+    } else {
+        Step::Throw(value)
+    }
+}
+
 /// The name that a statement binds, if it binds one.
 pub(crate) fn name_of(statement: &Statement) -> Option<&Name>
     ensures { MatchOption result (name_in statement.now ≡ None) (λ x. name_in statement.now ≡ Some x.now) }
@@ -145,7 +160,7 @@ pub(crate) fn name_of(statement: &Statement) -> Option<&Name>
         StatementKind::Context { name, .. } => Some(name),
         StatementKind::Resource { name, .. } => Some(name),
         StatementKind::Constant { name, .. } => Some(name),
-        StatementKind::Effect { .. } => None,
+        StatementKind::Effect { .. } | StatementKind::Throw { .. } => None,
     }
 }
 
@@ -207,5 +222,6 @@ pub(crate) fn take(
             gathered.effect(alloc, *layout, label, values)?;
             Ok(Step::Value(Int::of(0)))
         }
+        StatementKind::Throw { value } => Ok(thrown(evaluator.value(env, value))),
     }
 }

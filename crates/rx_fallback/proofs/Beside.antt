@@ -9,9 +9,9 @@ use Rattle.rx_links.proofs.Parts.{HasKids}
 use Rattle.rx_links.proofs.Edits.{IsOldAny, kids_under-is, top-any, has-here}
 use Rattle.rx_fiber.specs.Fibers.{Fiber}
 use Rattle.rx_elem.specs.Trees.{Node, Forest, children_if, children_of}
-use Rattle.rx_fiber.specs.OldLists.{is_fallback, hides_in, begins_fallback, fallback_list}
+use Rattle.rx_fiber.specs.OldLists.{is_fallback, falls_in, begins_fallback, fallback_list}
 use Rattle.rx_fiber.specs.Reading.{has_node, AreFor, next, IsFor, whole, alone, beside, IsOld, new, of}
-use Rattle.rx_fiber.proofs.OldLists.{IsListIn, list_is, list_held, list_begins, no_fallback, rest_listed, kids_are, old_listed}
+use Rattle.rx_fiber.proofs.OldLists.{IsListIn, list_is, list_held, list_begins, no_fallback, rest_listed, kids_are, old_listed, hidden_falls}
 use Rattle.rx_fiber.proofs.OldTops.{fallback_top}
 use Rattle.rx_fallback.specs.Opening.{fallback_behind}
 use Rattle.rx_children.proofs.Making.{KnowsPlaces}
@@ -128,12 +128,12 @@ module _ (c : Shape Fiber) (linked : IsLinked c) where
   beside_node : (j n i : ℕ) (x : Node) (s rest : Shape Fiber) (r : Option ℕ) → IsFor n x s rest → has_node (children_of x) ≡ true → list_at c j ≡ Some s → first s ≡ Some j
       → r ≡ fallback_behind (list_from c (Some j)) → IsTop (fallback_list (list_from c (Some j))) i → IsTop (kids_under c r) i
   beside_node j n i _ _ rest r (whole {id = id} {v = v} {ks = ks} is shown a) some here leads e t =
-      let g : hides_in v.stage ≡ false = ap hides_in is.stage ∙ shown in
+      let g : falls_in v.stage ≡ false = ap falls_in is.stage ∙ shown in
       let l : fallback_list (list_from c (Some j)) ≡ none = ap fallback_list (from_old j (fiber id v ks rest) here) ∙ rw g refl in
       absurd (subst (λ s. IsTop s i) l t)
   beside_node j n i _ _ rest r (alone is hidden gone a) some here leads e t = cc
   beside_node j n i _ _ rest r (beside {id = id} {jd = jd} {v = v} {w = w} {ks = ks} {ws = ws} is hidden kept a s f) some here leads e t =
-      let g : hides_in v.stage ≡ true = ap hides_in is.stage ∙ hidden in
+      let g : falls_in v.stage ≡ true = ap falls_in is.stage ∙ hidden_falls _ hidden in
       let h : is_fallback w.stage ≡ true = ap is_fallback s in
       let from : list_from c (Some j) ≡ fiber id v ks (fiber jd w ws rest) = from_old j (fiber id v ks (fiber jd w ws rest)) here in
       let l : fallback_list (list_from c (Some j)) ≡ ws = ap fallback_list from ∙ rw (g, h) refl in

@@ -13,7 +13,7 @@ use Rattle.rx_links.specs.Drafts.{Draft, taken, made, Trees, Makes, entry, old_o
 use Rattle.rx_links.specs.Places.{after, placed, IsAt}
 use Rattle.rx_links.specs.Readers.{list_from, old_list, IsLinked, made_value_of, made_value_in, made_kids_of, made_kids_in}
 use Rattle.rx_meaning.specs.Fresh.{Part, part}
-use Rattle.rx_meaning.specs.Cursor.{Cursor, Frame, falling, open_part}
+use Rattle.rx_meaning.specs.Cursor.{Cursor, Frame, Open, falling, open_part}
 use Rattle.rx_meaning.specs.Touched.{children_with_old}
 use Rattle.rx_fiber.specs.Fibers.{Fiber, as_matched, begun, fallback, is_cloned, origin_of}
 use Rattle.rx_fiber.specs.FiberView.{changed}
@@ -21,7 +21,7 @@ use Rattle.rx_fiber.specs.declared.stage.StageChange.TheVariants as change
 use Rattle.rx_fiber.specs.OldLists.{primary_list, fallback_list, matched}
 use Rattle.rx_fiber.specs.Reading.{has_node}
 use Rattle.rx_fiber.specs.Stood.{gave, given_in, given_more, one_more, StandsBut}
-use Rattle.rx_fiber.specs.Surround.{given_along, moved_along, moves_along, AreNext, IsAround, IsOfNode, IsOldBehind, StandsIf, fallback_in, is_boundary}
+use Rattle.rx_fiber.specs.Surround.{given_along, moved_along, moves_along, AreNext, IsAround, IsOfNode, IsOldBehind, StandsIf, fallback_in, is_boundary, open_element}
 use Rattle.rx_fiber.specs.Standing.{IsStack, opened, StandsAt}
 use Rattle.rx_fiber.specs.Unwound.{IsLeftAt}
 use Rattle.rx_fiber.proofs.Coming.{come_at}
@@ -52,16 +52,18 @@ boundary_gives (elements.host n k attrs es) h = refl
 boundary_gives (elements.comp c k ps es) h = refl
 boundary_gives (elements.list marked es) h = refl
 boundary_gives (elements.boundary k f es) h = refl
+boundary_gives (elements.catcher k f es) h = cc
 boundary_gives (elements.provider c k x es) h = cc
 
-has_fallen : (t : Trees Fiber) (st : Stack) (ms : List ℕ) (q levels : ℕ) (fs : List Frame) (e : Element) (old : Option Node) (a : Awaits) (list : Part) (d : Draft Fiber) → IsMadeList d
-    → StandsAt t st (Some (come_at d q)) (open_part levels fs (falling e old a) list) → AreNext t.current ms (given_more e (given_along fs)) 0 (children_with_old list) d
-    → HasOpenedAs t st (open_part levels fs (falling e old a) list) (opened_at (entry d) q)
-has_fallen t st ms q levels fs e old a list (taken s) is at more =
-    subst (λ f. HasOpenedAs t st (open_part levels fs (falling e old a) list) (opened_at f q)) (sym (ap first is))
-    (at, leads t.current ms (given_more e (given_along fs)) 0 levels fs (falling e old a) list.contexts [] (children_with_old list) (taken s) more)
-has_fallen t st ms q levels fs e old a list (made id v o ks rs) is at more =
-    (at, leads t.current ms (given_more e (given_along fs)) 0 levels fs (falling e old a) list.contexts [] (children_with_old list) (made id v o ks rs) more)
+-- a node that opens its list comes to the first fiber of it, or to its end
+pub has_opened : (t : Trees Fiber) (st : Stack) (ms : List ℕ) (q levels : ℕ) (fs : List Frame) (x : Open) (list : Part) (d : Draft Fiber) → IsMadeList d
+    → StandsAt t st (Some (come_at d q)) (open_part levels fs x list) → AreNext t.current ms (given_more (open_element x) (given_along fs)) 0 (children_with_old list) d
+    → HasOpenedAs t st (open_part levels fs x list) (opened_at (entry d) q)
+has_opened t st ms q levels fs x list (taken s) is at more =
+    subst (λ f. HasOpenedAs t st (open_part levels fs x list) (opened_at f q)) (sym (ap first is))
+    (at, leads t.current ms (given_more (open_element x) (given_along fs)) 0 levels fs x list.contexts [] (children_with_old list) (taken s) more)
+has_opened t st ms q levels fs x list (made id v o ks rs) is at more =
+    (at, leads t.current ms (given_more (open_element x) (given_along fs)) 0 levels fs x list.contexts [] (children_with_old list) (made id v o ks rs) more)
 
 module _ (t : Trees Fiber) (st : Stack) (p : ℕ) (a : Awaits) (c : Cursor) (l : IsLeftAt t st p (taken none) a c) (linked : IsLinked t.current) where
   abbrev its_list : Part
@@ -133,7 +135,7 @@ module _ (t : Trees Fiber) (st : Stack) (p : ℕ) (a : Awaits) (c : Cursor) (l :
       let next = kids_next new w l.old done.kids done.current refl (begins done.kids done.are) in
       subst (λ x. HasOpenedAs new st c (opened_at x p)) (sym done.first_is)
       (opens_so new (opened_at (entry done.kids) p)
-      (has_fallen new st (moved_under new w l.old) p l.levels l.frames l.value.element l.node a its_list done.kids (made_list 0 es os done.kids done.are)
+      (has_opened new st (moved_under new w l.old) p l.levels l.frames (falling l.value.element l.node a) its_list done.kids (made_list 0 es os done.kids done.are)
       (falls_alone new st l.around p l.levels w l.old done.kids l.rest l.frames l.value.element l.node a its_list
       (done.stands l.around l.value l.old l.rest l.here) refl refl gone (own_new new done.current) next (surrounds_new new done.current) stack_new (l.moves ∙ quiet new w l.old done.current refl))
       next))
@@ -151,7 +153,7 @@ module _ (t : Trees Fiber) (st : Stack) (p : ℕ) (a : Awaits) (c : Cursor) (l :
       let next = kids_next new put.value r done.kids current element (begins done.kids are) in
       subst (λ x. HasOpenedAs new st c (opened_at x q)) (sym link_is)
       (opens_so new (opened_at (entry done.kids) q)
-      (has_fallen new st (moved_under new put.value r) q l.levels l.frames l.value.element l.node a its_list done.kids (made_list 0 es os done.kids are)
+      (has_opened new st (moved_under new put.value r) q l.levels l.frames (falling l.value.element l.node a) its_list done.kids (made_list 0 es os done.kids are)
       (falls_beside new st l.around p q l.levels v put.value l.old r keeps done.kids l.rest l.frames l.value.element l.node a its_list
       (done.stands (after p v l.old (taken keeps) l.around) put.value r l.rest there)
       (record {

@@ -3,3 +3,4 @@ pub mod FreeFallback
 pub mod Falling
 pub mod OldFallback
 pub mod FallbackKids
+pub mod Catching

@@ -23,7 +23,7 @@ use Rattle.rx_fiber.specs.Reading.{IsOld}
 use Rattle.rx_fiber.specs.Stood.{StandsBut, given_in, one_more}
 use Rattle.rx_fiber.specs.Surround.{AreNext, fallback_in, given_along, moved_along, is_boundary}
 use Rattle.rx_fiber.specs.Unwound.{IsLeftAt}
-use Rattle.rx_fiber.proofs.OldLists.{fallback_is}
+use Rattle.rx_fiber.proofs.OldLists.{fallback_is, hides_falls}
 use Rattle.rx_fiber.proofs.Stood.{stood_in_fallback}
 use Rattle.rx_causes.proofs.Marks.{mark_is}
 use Rattle.rx_children.specs.Origins.{StoodIn}
@@ -46,6 +46,7 @@ own_fallback p k (elements.comp c key props given) m ns fs own boundary hidden =
 own_fallback p k (elements.list marked es) m ns fs own boundary hidden = cc
 own_fallback p k (elements.boundary key f es) m ns fs (inl own) boundary hidden = absurd (let q : true ≡ false = sym hidden ∙ ap is_hidden own.0 in let r : ⊥ = cc in r)
 own_fallback p k (elements.boundary key f es) m ns fs (inr own) boundary hidden = own.2
+own_fallback p k (elements.catcher key f es) m ns fs own boundary hidden = cc
 own_fallback p k (elements.provider c key x es) m ns fs own boundary hidden = cc
 
 -- and none of its nodes is one of null
@@ -72,7 +73,7 @@ module _ (t : Trees Fiber) (st : Stack) (p : ℕ) (a : Awaits) (c : Cursor) (l :
       → StandsBut t.current (moved_along t.current l.around) (given_along l.frames) (Some j)
   clones_stand h i j is =
       let stands : StandsBut t.current (moved_along t.current l.around) (given_along l.frames) l.old = record { given = h.stands.given; stood = h.stands.stood; same = λ d f. h.stands.same d refl } in
-      stood_in_fallback t.current (moved_along t.current l.around) (given_along l.frames) l.value.element l.old i j stands h.same (λ v value. hides_if t.current l.old l.node v l.was h.hidden value) (ap option_flatten is)
+      stood_in_fallback t.current (moved_along t.current l.around) (given_along l.frames) l.value.element l.old i j stands h.same (λ v value. hides_falls v.stage (hides_if t.current l.old l.node v l.was h.hidden value)) (ap option_flatten is)
 
   -- clones begin next
   cloned_next : HasOldFallback t.current (given_along l.frames) l.old l.node l.value.element → (visible : Bool) (d : Draft Fiber) → AreMade t.current (as_cloned visible) 0 (old_elements its_old) (old_fibers its_old) d

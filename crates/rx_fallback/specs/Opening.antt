@@ -19,7 +19,7 @@ use Rattle.rx_fiber.specs.Reading.{has_node}
 use Rattle.rx_fiber.specs.Surround.{fallback_in, StandsIf}
 use Rattle.rx_fiber.specs.Standing.{StandsAt}
 use Rattle.rx_fiber.specs.Subtrees.{IsGathered, IsGatheredOver, subtrees_of}
-use Rattle.rx_fiber.specs.Unwound.{IsLeftAt, is_trying}
+use Rattle.rx_fiber.specs.Unwound.{IsCaughtAt, IsLeftAt, is_trying}
 use Rattle.rx_children.specs.Again.{HasOldFallback}
 use Rattle.rx_children.specs.Units.{IsPlace, IsEnd}
 use Rattle.rx_children.specs.Children.{AllWait, AllNew}
@@ -29,6 +29,10 @@ use Rattle.rx_fallback.specs.declared.opening.Opened.TheVariants.{First, Empty}
 -- a wait has stopped at the boundary of this fiber, whose children it dropped
 pub data IsLeft (t : Trees Fiber) (p : ℕ) (a : Awaits) : Type 0 where
   left : {st : Stack} {c : Cursor} → IsLeftAt t st p (taken shapes.none) a c → IsLeft t p a
+
+-- a thrown value has stopped at the error boundary of this fiber, whose children it dropped
+pub data IsCatchLeft (t : Trees Fiber) (p : ℕ) : Type 0 where
+  stopped : {st : Stack} {x : ℤ} {c : Cursor} → IsCaughtAt t st p (taken shapes.none) x c → IsCatchLeft t p
 
 -- what the boundary keeps has a node, or none
 abbrev pub KeepsNode : Trees Fiber → ℕ → Awaits → Bool → Type 0
@@ -104,3 +108,14 @@ pub data HasFallbackKids (origin : Origin) (before after : Trees Fiber) (q : ℕ
       → (w.element ≡ v.element) × (after.draft ≡ placed k (made q (value v) o (taken (kept o)) (made id w old kids rs))))
       → ((k : Around Fiber) (v : Fiber) (o : Option ℕ) (rs : Draft Fiber) → before.draft ≡ placed k (made q v o (taken shapes.none) rs) → IsGathered before.current → IsGatheredOver (value v) (kept o))
       → f ≡ opened_at (entry kids) id → HasFallbackKids origin before after q f
+
+-- An error boundary's fallback has fibers that wait below the boundary's own, each made for no current fiber: they are elements made anew, where nothing was shown. The boundary's fiber tries no children more, and has its element still.
+pub record HasCaughtKids (before after : Trees Fiber) (q : ℕ) (answer : Opened) : Type 0 where
+  pub kids : Draft Fiber
+  pub value : Fiber → Fiber
+  pub stage : (v : Fiber) → is_trying (value v).stage ≡ false
+  pub element : (v : Fiber) → (value v).element ≡ v.element
+  pub all : AllWait (as_matched false 1) kids
+  pub new : AllNew kids
+  pub stands : (k : Around Fiber) (v : Fiber) (o : Option ℕ) (rs : Draft Fiber) → before.draft ≡ placed k (made q v o (taken shapes.none) rs) → after.draft ≡ placed k (made q (value v) o kids rs)
+  pub answer_is : answer ≡ opened_at (entry kids) q

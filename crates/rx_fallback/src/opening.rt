@@ -1,4 +1,4 @@
-// The fallback of a boundary opens.
+// The fallback of a boundary opens, of Suspense or of errors.
 ghost use Rattle.std.specs.Prelude.{◌≡◌, ◌∷◌, [], Bool, Some, true, false, IfOk, IfSome, OnOk};
 ghost use Rattle.std.specs.Option.{option_copied};
 ghost use Rattle.rx_ctx.specs.Contexts.{Stack};
@@ -11,18 +11,19 @@ ghost use Rattle.rx_fiber.specs.Fibers as fibers;
 ghost use Rattle.rx_fiber.specs.Fibers.{as_cloned, as_matched, generation_of, origin_of};
 ghost use Rattle.rx_fiber.specs.FiberView.{stage_seen};
 ghost use Rattle.rx_fiber.specs.Surround.{fallback_in, given_along, moved_along};
-ghost use Rattle.rx_fiber.specs.Unwound.{IsLeftAt};
+ghost use Rattle.rx_fiber.specs.Unwound.{IsCaughtAt, IsLeftAt};
 ghost use Rattle.rx_children.specs.Children.{HasMadeFrom};
 ghost use Rattle.rx_children.specs.Nodes.{IsBareAt, IsBareBeside, HasList};
 ghost use Rattle.rx_children.specs.Again.{HasOldFallback};
 ghost use Rattle.rx_children.specs.Origins.{TellsAgain};
-ghost use Rattle.rx_fallback.specs.Opening.{IsLeft, KeepsNode, HasOpenedAs, fallback_behind, opened_at, HasKept, HasFallback, HasFallbackKids, IsFallbackOf, given_as, given_elements, given_fibers};
+ghost use Rattle.rx_fallback.specs.Opening.{IsCatchLeft, IsLeft, KeepsNode, HasOpenedAs, fallback_behind, opened_at, HasKept, HasFallback, HasFallbackKids, HasCaughtKids, IsFallbackOf, given_as, given_elements, given_fibers};
 
-use rx_base::Awaits;
+use rx_base::{Awaits, Int};
+use rx_catch::CatchState;
 use rx_children::{
-    clone_children, is_again, make_children, open_clones, open_list, own_generation,
+    clone_children, fallback_list, is_again, make_children, open_clones, open_list, own_generation,
 };
-use rx_elem::{Element, ElementKind};
+use rx_elem::Element;
 use rx_fiber::{Fiber, Stage, StageChange, kids_subtree, old_fallback, old_primary};
 use rx_links::{FiberId, FiberTree};
 use rx_node::Mark;
@@ -36,19 +37,6 @@ pub enum Opened {
     First(FiberId),
     /// The fallback is `null`: the node of this fiber is completed next.
     Empty(FiberId),
-}
-
-// The fallback of a boundary, as a list.
-fn fallback_list(alloc: Global, element: &Element) -> Result<Vec<Element>, AllocError>
-    ensures { IfOk result (λ es. es.items ≡ fallback_in element.now ∷ []) }
-{
-    let fallback = match element.kind() {
-        ElementKind::Boundary(_, fallback, _) => fallback.copy()?,
-        _ => Element::new(alloc, ElementKind::Null)?,
-    };
-    let mut list = Vec::new(alloc);
-    list.push(fallback)?;
-    Ok(list)
 }
 
 // The fiber of an old boundary's fallback that stands right behind the boundary's own.
@@ -292,4 +280,31 @@ pub fn open_old_fallback(
     ensures current { tree.new.current ≡ tree.old.current }
 {
     fall(alloc, tree, at, awaits, None, true, 0)
+}
+
+/// Opens the fallback of an error boundary, when a thrown value has stopped at it, which it has caught now (react.dev, Catching
+/// rendering errors with an error boundary). It opens in the boundary's own fiber, over fibers that are made for no current ones:
+/// what the boundary showed before is gone. The current tree stays as it is.
+///
+/// # Errors
+///
+/// Only if out of memory. Then the render is to be given up.
+pub fn open_caught(
+    alloc: Global,
+    tree: &mut FiberTree<Fiber>,
+    at: FiberId,
+    value: Int,
+) -> Result<Opened, AllocError>
+    requires { IsCatchLeft tree.old at }
+    ensures opened { IfOk result (λ f. (st : Stack) (c : Cursor) → IsCaughtAt tree.old st at (taken none) value c → HasOpenedAs tree.new st c f) }
+    // Each of its fibers waits as one that was made anew, where nothing stood before.
+    ensures kids { IfOk result (λ f. HasCaughtKids tree.old tree.new at f) }
+    ensures current { tree.new.current ≡ tree.old.current }
+{
+    tree.place_facts();
+    tree.facts();
+    let fallback = fallback_list(alloc, tree.value(at).element())?;
+    let stage = Stage::Begun(Mark::Catch(CatchState::Caught { value }));
+    let first = open_list(alloc, tree, at, stage, &fallback, None, false, 1)?;
+    Ok(opened_at(first, at))
 }

@@ -1,25 +1,26 @@
 -- A node is completed: its list is done, and the render arrives with it.
-use Rattle.std.specs.Prelude.{◌≡◌, ℕ, ℤ, suc, ◌+◌, ◌≤◌, true, List, [], Option, Some, length}
+use Rattle.std.specs.Prelude.{◌≡◌, ℕ, ℤ, suc, ◌+◌, ◌≤◌, Bool, true, false, List, [], Option, Some, length}
 use Rattle.std.proofs.Common.{arith, refl, sym, ap, ◌∙◌, subst}
 use Rattle.std.proofs.lemmas.List.{append-nil}
 use Rattle.rx_ctx.specs.Contexts.{Stack, moves_by}
 use Rattle.rx_base.specs.Awaits.{Awaits}
+use Rattle.rx_catch.specs.declared.state.CatchState.TheVariants.{Fine}
 use Rattle.rx_susp.specs.declared.boundary.BoundaryState.TheVariants.{Shown, Hidden}
 use Rattle.rx_elem.specs.Elements.{Element}
 use Rattle.rx_elem.specs.Spots.{at_root, spots_in, node_count}
-use Rattle.rx_elem.specs.Trees.{Node, none, forest, of_boundary, children_if}
+use Rattle.rx_elem.specs.Trees.{Node, Mark, Forest, none, forest, node_over, of_boundary, of_catcher, is_caught, is_hidden, children_if}
 use Rattle.rx_lists.specs.Shapes.{Shape, fiber}
 use Rattle.rx_lists.specs.Shapes as shapes
 use Rattle.rx_links.specs.Drafts.{Draft, taken, made, made_size, Trees, grafted, IsMadeList}
 use Rattle.rx_links.specs.Places.{Around, top, below, after, placed, up_of}
 use Rattle.rx_meaning.specs.Fresh.{Contexts}
-use Rattle.rx_meaning.specs.Cursor.{Open, trying, falling, Frame, at_end, arrive, finished}
+use Rattle.rx_meaning.specs.Cursor.{Open, trying, falling, guarding, Frame, at_end, arrive, finished}
 use Rattle.rx_meaning.specs.Cursor as cursor
 use Rattle.rx_fiber.specs.Fibers.{Fiber, completed, completed_stage}
 use Rattle.rx_fiber.specs.declared.subtree.Subtree.{Subtree}
-use Rattle.rx_fiber.specs.Reading.{has_node, AreFor, IsFor, whole, alone, beside}
+use Rattle.rx_fiber.specs.Reading.{has_node, IsOf, AreFor, IsFor, whole, alone, beside}
 use Rattle.rx_fiber.specs.Reading as reading
-use Rattle.rx_fiber.specs.Surround.{IsOfNode, IsOldBehind, AreDone, IsOpenAs, opens, tries, falls, IsAround, of_node, of_fallback, behind_earlier, made_earlier, above_list, open_element, given_along, moved_along, moves_along}
+use Rattle.rx_fiber.specs.Surround.{IsOfNode, IsOldBehind, AreDone, IsOpenAs, opens, tries, falls, guards, IsAround, of_node, of_fallback, behind_earlier, made_earlier, above_list, open_element, given_along, moved_along, moves_along}
 use Rattle.rx_fiber.specs.Stood.{gave, given_in}
 use Rattle.rx_fiber.specs.Standing.{IsStack, opened, StandsAt, completes}
 use Rattle.rx_fiber.proofs.Few.{node_parts, some_there}
@@ -58,9 +59,14 @@ list_few c k n done before = omega (arith, made_list k (taken shapes.none), befo
 
 -- an open node has its list when it is completed, and itself
 finished_few : (x : Open) (done : List (Option Node)) → suc (length (spots_in at_root (forest done))) ≤ node_count (Some (finished x done))
-finished_few (cursor.around e m) done = omega (arith, node_parts e m (forest done) none)
+finished_few (cursor.around e m) done = over_few (is_caught m) refl
+  where
+    over_few : (b : Bool) → is_caught m ≡ b → suc (length (spots_in at_root (forest done))) ≤ node_count (Some (node_over e m (forest done)))
+    over_few true c = rw c (omega (arith, node_parts e m none (forest done)))
+    over_few false c = rw c (omega (arith, node_parts e m (forest done) none))
 finished_few (trying e old f) done = omega (arith, node_parts e (of_boundary Shown) (forest done) none)
 finished_few (falling e old a) done = omega (arith, node_parts e (of_boundary (Hidden a)) (children_if old) (forest done))
+finished_few (guarding e f) done = omega (arith, node_parts e (of_catcher Fine) (forest done) none)
 
 -- and what it keeps
 kept_few : (e : Element) (old : Option Node) (a : Awaits) (done : List (Option Node)) → has_node (children_if old) ≡ true
@@ -73,17 +79,26 @@ whole_made top d m = m
 whole_made (below id v o rs k) d m = m
 whole_made (after id v o ks k) d m = whole_made k (made id v o ks d) m
 
+-- a list that is done stands for a node over it, of an error boundary that has caught a value as its fallback
+over_list : (n : ℕ) (e : Element) (m : Mark) (v : Fiber) (q : ℕ) (ns : Forest) (ks rest : Shape Fiber) → IsOf v n e m → is_hidden m ≡ false → AreFor 0 ns ks → (b : Bool) → is_caught m ≡ b
+    → IsFor n (node_over e m ns) (fiber q v ks rest) rest
+over_list n e m v q ns ks rest is shown a true c = rw c (alone is (rw (shown, c) refl) refl a)
+over_list n e m v q ns ks rest is shown a false c = rw c (whole is (rw (shown, c) refl) a)
+
 -- a list that is done stands for the node of its fiber, once that one is completed
 pub node_finished : (under : Subtree) (c : Shape Fiber) (ms : List ℕ) (ws : List (ℕ × ℤ)) (v : Fiber) (o : Option ℕ) (cs : Contexts) (x : Open) (q : ℕ) (done : List (Option Node)) (ks rest : Shape Fiber)
     → IsOpenAs c ms ws v o cs x → AreFor 0 (forest done) ks → IsFor v.place (finished x done) (fiber q (completed under v) ks rest) rest
-node_finished under c ms ws v o cs x q done ks rest (opens e m shown) a = whole (record { at = refl; element = e; stage = ap completed_stage m }) shown a
+node_finished under c ms ws v o cs _ q done ks rest (opens {e = g} {m = mark} e m shown) a =
+    over_list v.place g mark (completed under v) q (forest done) ks rest (record { at = refl; element = e; stage = ap completed_stage m }) shown a (is_caught mark) refl
 node_finished under c ms ws v o cs x q done ks rest (tries e s b old stands) a = whole (record { at = refl; element = e; stage = ap completed_stage s }) refl a
 node_finished under c ms ws v o cs x q done ks rest (falls e m empty) a = alone (record { at = refl; element = e; stage = ap completed_stage m }) refl empty a
+node_finished under c ms ws v o cs x q done ks rest (guards e s is) a = whole (record { at = refl; element = e; stage = ap completed_stage s }) refl a
 
 pub opens_element : (c : Shape Fiber) (ms : List ℕ) (ws : List (ℕ × ℤ)) (v : Fiber) (o : Option ℕ) (cs : Contexts) (x : Open) → IsOpenAs c ms ws v o cs x → v.element ≡ open_element x
 opens_element c ms ws v o cs x (opens e m shown) = e
 opens_element c ms ws v o cs x (tries e s is old stands) = e
 opens_element c ms ws v o cs x (falls e m empty) = e
+opens_element c ms ws v o cs x (guards e s is) = e
 
 -- What the fiber that is completed next is to the two trees: once its value is that of a node that is done, and what its element gave is taken from the stack, the render arrives with its node.
 pub record Completes (t : Trees Fiber) (st : Stack) (q : ℕ) (fs : List Frame) (x : Open) (done : List (Option Node)) : Type 0 where

@@ -1,16 +1,16 @@
 -- The current fibers of a node tell its old lists.
-use Rattle.std.specs.Prelude.{◌≡◌, ℕ, suc, ◌+◌, ◌-◌, ◌≤◌, Bool, true, false, ◌&&◌, ◌∷◌, Option, Some, None, if◌then◌else◌, ◌⊎◌, is_some}
+use Rattle.std.specs.Prelude.{◌≡◌, ℕ, suc, ◌+◌, ◌-◌, ◌≤◌, Bool, true, false, ◌&&◌, ◌||◌, ◌∷◌, Option, Some, None, if◌then◌else◌, ◌⊎◌, is_some}
 use Rattle.std.proofs.Common.{refl, sym, ap, ◌∙◌, subst, inl, inr, arith}
 use Rattle.rx_elem.specs.Elements.{Element}
-use Rattle.rx_elem.specs.Trees.{Node, Forest, element_of, elements_in, places, children_if, children_of, fallback_if, fallback_of, is_hidden}
+use Rattle.rx_elem.specs.Trees.{Node, Forest, element_of, elements_in, places, children_if, children_of, fallback_if, fallback_of, is_caught, is_hidden, shows_fallback}
 use Rattle.rx_elem.specs.Trees as trees
 use Rattle.rx_lists.specs.Shapes.{Shape, none, fiber, first, Holds}
 use Rattle.rx_links.specs.Drafts.{list_at, shape_or_none, kids_of, kids_under}
 use Rattle.rx_links.specs.Readers.{list_from, rest_of, rest_in, IsLinked}
 use Rattle.rx_links.proofs.Reading.{holds_or_not, list_at-absent}
-use Rattle.rx_fiber.specs.Fibers.{Fiber, begun}
+use Rattle.rx_fiber.specs.Fibers.{Fiber, Stage, waiting, begun, trying, guarding, fallback}
 use Rattle.rx_fiber.specs.Reading.{has_node, IsOf, AreFor, no_more, gap, next, IsFor, whole, alone, beside, IsOld, new, of}
-use Rattle.rx_fiber.specs.OldLists.{is_fallback, hides_in, begins_fallback, first_kids, primary_list, fallback_list, spread}
+use Rattle.rx_fiber.specs.OldLists.{is_fallback, falls_in, hides_in, begins_fallback, first_kids, primary_list, fallback_list, spread}
 
 -- The places of fibers
 
@@ -94,27 +94,47 @@ pub record IsListFor (c : Shape Fiber) (ns : Forest) (s : Shape Fiber) : Type 0 
   pub are : AreFor 0 ns s
   pub listed : IsListIn c s
 
-primary_shown : (v : Fiber) (m : trees.Mark) (id : ℕ) (ks rs : Shape Fiber) → v.stage ≡ begun m → is_hidden m ≡ false → primary_list (fiber id v ks rs) ≡ ks
-primary_shown v m id ks rs e f = let g : hides_in v.stage ≡ false = ap hides_in e ∙ f in rw g refl
+-- a node that shows its children is not hidden
+pub not_hidden : (m : trees.Mark) → shows_fallback m ≡ false → is_hidden m ≡ false
+not_hidden m e = first_false (is_hidden m) (is_caught m) e
+  where
+    first_false : (a b : Bool) → a || b ≡ false → a ≡ false
+    first_false true b f = cc
+    first_false false b f = refl
 
-primary_gone : (v : Fiber) (m : trees.Mark) (id : ℕ) (ks rs : Shape Fiber) → v.stage ≡ begun m → is_hidden m ≡ true → begins_fallback rs ≡ false → primary_list (fiber id v ks rs) ≡ none
-primary_gone v m id ks rs e f h = let g : hides_in v.stage ≡ true = ap hides_in e ∙ f in rw (g, h) refl
+-- one that is hidden shows its fallback
+pub hidden_falls : (m : trees.Mark) → is_hidden m ≡ true → shows_fallback m ≡ true
+hidden_falls m e = rw e refl
+
+-- so does a fiber
+pub hides_falls : (s : Stage) → hides_in s ≡ true → falls_in s ≡ true
+hides_falls (waiting c) e = cc
+hides_falls (begun m) e = hidden_falls m e
+hides_falls (trying c) e = cc
+hides_falls guarding e = cc
+hides_falls (fallback a) e = cc
+
+primary_shown : (v : Fiber) (m : trees.Mark) (id : ℕ) (ks rs : Shape Fiber) → v.stage ≡ begun m → shows_fallback m ≡ false → primary_list (fiber id v ks rs) ≡ ks
+primary_shown v m id ks rs e f = let g : falls_in v.stage ≡ false = ap falls_in e ∙ f in rw g refl
+
+primary_gone : (v : Fiber) (m : trees.Mark) (id : ℕ) (ks rs : Shape Fiber) → v.stage ≡ begun m → shows_fallback m ≡ true → begins_fallback rs ≡ false → primary_list (fiber id v ks rs) ≡ none
+primary_gone v m id ks rs e f h = let g : falls_in v.stage ≡ true = ap falls_in e ∙ f in rw (g, h) refl
 
 primary_kept : (v : Fiber) (id : ℕ) (ks rs : Shape Fiber) → begins_fallback rs ≡ true → primary_list (fiber id v ks rs) ≡ ks
-primary_kept v id ks rs h = rw h (kept (hides_in v.stage))
+primary_kept v id ks rs h = rw h (kept (falls_in v.stage))
   where
     kept : (b : Bool) → (if b && false then none else ks) ≡ ks
     kept true = refl
     kept false = refl
 
-fallback_shown : (v : Fiber) (m : trees.Mark) (id : ℕ) (ks rs : Shape Fiber) → v.stage ≡ begun m → is_hidden m ≡ false → fallback_list (fiber id v ks rs) ≡ none
-fallback_shown v m id ks rs e f = let g : hides_in v.stage ≡ false = ap hides_in e ∙ f in rw g refl
+fallback_shown : (v : Fiber) (m : trees.Mark) (id : ℕ) (ks rs : Shape Fiber) → v.stage ≡ begun m → shows_fallback m ≡ false → fallback_list (fiber id v ks rs) ≡ none
+fallback_shown v m id ks rs e f = let g : falls_in v.stage ≡ false = ap falls_in e ∙ f in rw g refl
 
-fallback_alone : (v : Fiber) (m : trees.Mark) (id : ℕ) (ks rs : Shape Fiber) → v.stage ≡ begun m → is_hidden m ≡ true → begins_fallback rs ≡ false → fallback_list (fiber id v ks rs) ≡ ks
-fallback_alone v m id ks rs e f h = let g : hides_in v.stage ≡ true = ap hides_in e ∙ f in rw (g, h) refl
+fallback_alone : (v : Fiber) (m : trees.Mark) (id : ℕ) (ks rs : Shape Fiber) → v.stage ≡ begun m → shows_fallback m ≡ true → begins_fallback rs ≡ false → fallback_list (fiber id v ks rs) ≡ ks
+fallback_alone v m id ks rs e f h = let g : falls_in v.stage ≡ true = ap falls_in e ∙ f in rw (g, h) refl
 
 fallback_beside : (v : Fiber) (m : trees.Mark) (id : ℕ) (ks rs : Shape Fiber) → v.stage ≡ begun m → is_hidden m ≡ true → begins_fallback rs ≡ true → fallback_list (fiber id v ks rs) ≡ first_kids rs
-fallback_beside v m id ks rs e f h = let g : hides_in v.stage ≡ true = ap hides_in e ∙ f in rw (g, h) refl
+fallback_beside v m id ks rs e f h = let g : falls_in v.stage ≡ true = ap falls_in e ∙ hidden_falls m f in rw (g, h) refl
 
 module _ (c : Shape Fiber) (linked : IsLinked c) where
   primary_node : (n : ℕ) (x : Node) (s rest : Shape Fiber) → IsFor n x s rest → BeginsFrom (suc n) rest → IsListIn c s → IsListFor c (children_of x) (primary_list s)

@@ -6,7 +6,7 @@ use Rattle.rx_lists.specs.Shapes.{Shape, none, fiber, Holds, IsTop, IsTree}
 use Rattle.rx_links.specs.Drafts.{kids_of, kids_under}
 use Rattle.rx_links.specs.Readers.{rest_of, list_from, IsLinked}
 use Rattle.rx_fiber.specs.Fibers.{Fiber}
-use Rattle.rx_fiber.specs.OldLists.{is_fallback, hides_in, begins_fallback, primary_list, fallback_list, filled, spread, fiber_at}
+use Rattle.rx_fiber.specs.OldLists.{is_fallback, falls_in, begins_fallback, primary_list, fallback_list, filled, spread, fiber_at}
 
 abbrev slot_at : List (Option ℕ) → ℕ → Option ℕ
 slot_at os p = option_flatten (slice_get os p)
@@ -43,7 +43,7 @@ module _ (c : Shape Fiber) (linked : IsLinked c) where
   primary_top None i h t = t
   primary_top (Some j) i h t =
       let (v, _, l) = linked.list j h in
-      by_choice (hides_in v.stage && not (begins_fallback (rest_of c j))) (subst (λ s. IsTop (primary_list s) i) l t)
+      by_choice (falls_in v.stage && not (begins_fallback (rest_of c j))) (subst (λ s. IsTop (primary_list s) i) l t)
     where
       by_choice : (b : Bool) → IsTop (if b then none else kids_of c j) i → IsTop (kids_of c j) i
       by_choice true x = absurd x
@@ -53,8 +53,8 @@ module _ (c : Shape Fiber) (linked : IsLinked c) where
   pub fallback_top : (j i : ℕ) → Holds c j → begins_fallback (rest_of c j) ≡ false → IsTop (fallback_list (list_from c (Some j))) i → IsTop (kids_of c j) i
   fallback_top j i h alone t =
       let (v, _, l) = linked.list j h in
-      let u : IsTop (if hides_in v.stage then (if begins_fallback (rest_of c j) then _ else kids_of c j) else none) i = subst (λ s. IsTop (fallback_list s) i) l t in
-      by_choice (hides_in v.stage) (rw alone at u)
+      let u : IsTop (if falls_in v.stage then (if begins_fallback (rest_of c j) then _ else kids_of c j) else none) i = subst (λ s. IsTop (fallback_list s) i) l t in
+      by_choice (falls_in v.stage) (rw alone at u)
     where
       by_choice : (b : Bool) → IsTop (if b then kids_of c j else none) i → IsTop (kids_of c j) i
       by_choice true x = x

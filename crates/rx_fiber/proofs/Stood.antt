@@ -12,7 +12,7 @@ use Rattle.rx_lists.specs.Shapes.{Shape, none, fiber}
 use Rattle.rx_links.specs.Drafts.{list_at, shape_or_none}
 use Rattle.rx_links.specs.Readers.{value_in, value_of, list_from}
 use Rattle.rx_fiber.specs.Fibers.{Fiber}
-use Rattle.rx_fiber.specs.OldLists.{begins_fallback, first_kids, hides_in, primary_list, fallback_list, fiber_at}
+use Rattle.rx_fiber.specs.OldLists.{begins_fallback, first_kids, falls_in, hides_in, primary_list, fallback_list, fiber_at}
 use Rattle.rx_fiber.specs.Stood.{gave, given_in, given_more, nearest_given, one_more, below, in_fallback, StandsBut}
 use Rattle.rx_fiber.specs.Surround.{IsElementOf, StandsIf}
 use Rattle.rx_fiber.proofs.OldTops.{fiber_top}
@@ -78,7 +78,7 @@ module _ (c : Shape Fiber) (moved : List ℕ) (ws : List (ℕ × ℤ)) (e : Elem
       by_value (Some v) f = (v, f, (let g : Some v.element ≡ Some e = sym (ap (option_map (λ v. v.element)) f) ∙ same in cc))
 
   -- One of the fallback of a boundary that is hidden.
-  pub stood_in_fallback : (o : Option ℕ) (place i : ℕ) → StandsBut c moved ws o → IsElementOf c o e → ((v : Fiber) → option_and_then (value_of c) o ≡ Some v → hides_in v.stage ≡ true)
+  pub stood_in_fallback : (o : Option ℕ) (place i : ℕ) → StandsBut c moved ws o → IsElementOf c o e → ((v : Fiber) → option_and_then (value_of c) o ≡ Some v → falls_in v.stage ≡ true)
       → fiber_at (fallback_list (list_from c o)) place ≡ Some i → StandsBut c moved ws (Some i)
   stood_in_fallback None place i at same hidden is = cc
   stood_in_fallback (Some q) place i at same hidden is =
@@ -89,7 +89,7 @@ module _ (c : Shape Fiber) (moved : List ℕ) (ws : List (ℕ × ℤ)) (e : Elem
   fallback_stands None place i at is = absurd (fiber_top none place i is)
   fallback_stands (Some q) place i at is = by_list (list_at c q) refl
     where
-      by_hiding : (v : Fiber) (ks rs : Shape Fiber) → value_of c q ≡ Some v → fiber_at (fallback_list (fiber q v ks rs)) place ≡ Some i → (b : Bool) → hides_in v.stage ≡ b → StandsBut c moved ws (Some i)
+      by_hiding : (v : Fiber) (ks rs : Shape Fiber) → value_of c q ≡ Some v → fiber_at (fallback_list (fiber q v ks rs)) place ≡ Some i → (b : Bool) → falls_in v.stage ≡ b → StandsBut c moved ws (Some i)
       by_hiding v ks rs value there true h = record { given = at.given; stood = in_fallback place at.stood value h is; same = at.same }
       by_hiding v ks rs value there false h =
           absurd (fiber_top none place i (subst (λ b. fiber_at (if b then (if begins_fallback rs then first_kids rs else ks) else none) place ≡ Some i) h there))
@@ -98,4 +98,4 @@ module _ (c : Shape Fiber) (moved : List ℕ) (ws : List (ℕ × ℤ)) (e : Elem
       by_list None f = absurd (fiber_top none place i (subst (λ x. fiber_at (fallback_list (shape_or_none x)) place ≡ Some i) f is))
       by_list (Some none) f = absurd (fiber_top none place i (subst (λ x. fiber_at (fallback_list (shape_or_none x)) place ≡ Some i) f is))
       by_list (Some (fiber id v ks rs)) f =
-          by_hiding v ks rs (ap value_in f) (subst (λ x. fiber_at (fallback_list (shape_or_none x)) place ≡ Some i) f is) (hides_in v.stage) refl
+          by_hiding v ks rs (ap value_in f) (subst (λ x. fiber_at (fallback_list (shape_or_none x)) place ≡ Some i) f is) (falls_in v.stage) refl

@@ -1,4 +1,4 @@
--- A wait goes outwards from fiber to fiber, up to the nearest boundary that tries its children.
+-- A wait goes outwards from fiber to fiber, up to the nearest boundary that tries its children; a throw up to the nearest error boundary.
 use Rattle.std.specs.Prelude.{◌≡◌, ℕ, ℤ, suc, true, false, List, [], ◌∷◌, Option, Some, None}
 use Rattle.std.proofs.Common.{refl, ap, ◌∙◌}
 use Rattle.rx_base.specs.Awaits.{Awaits}
@@ -11,12 +11,12 @@ use Rattle.rx_lists.specs.Shapes as shapes
 use Rattle.rx_links.specs.Drafts.{Draft, taken, made, Trees}
 use Rattle.rx_links.specs.Places.{Around, top, below, after, placed, up_of}
 use Rattle.rx_meaning.specs.Fresh.{Contexts}
-use Rattle.rx_meaning.specs.Cursor.{Open, falling, Frame, at_place, past, open_part, unwind}
+use Rattle.rx_meaning.specs.Cursor.{Open, falling, Frame, at_place, past, past_throw, open_part, unwind, unwind_throw}
 use Rattle.rx_fiber.specs.Fibers.{Fiber}
-use Rattle.rx_fiber.specs.Surround.{above_list, is_boundary, open_element, given_along, moved_along, moves_along, IsOpenAs, opens, tries, falls, IsAround, at_root, inside, IsKeptAs, IsListOf, of_node, of_fallback}
+use Rattle.rx_fiber.specs.Surround.{above_list, is_boundary, is_catcher, open_element, given_along, moved_along, moves_along, IsOpenAs, opens, tries, falls, guards, IsOfNode, IsAround, at_root, inside, IsKeptAs, IsListOf, of_node, of_fallback}
 use Rattle.rx_fiber.specs.Stood.{gave, given_in}
 use Rattle.rx_fiber.specs.Standing.{IsStack, opened, StandsAt, begins}
-use Rattle.rx_fiber.specs.Unwound.{IsWithin, is_trying, passed_on, IsLeftAt}
+use Rattle.rx_fiber.specs.Unwound.{IsWithin, is_guarding, is_trying, passed_on, IsCaughtAt, IsLeftAt}
 use Rattle.rx_fiber.proofs.Arriving.{moves_above, up_above}
 use Rattle.rx_fiber.proofs.Completing.{whole_list, placed_list, opens_element}
 use Rattle.rx_fiber.proofs.Coming.{top_values}
@@ -40,9 +40,21 @@ boundary_gives (elements.host n k attrs es) h = refl
 boundary_gives (elements.comp c k ps es) h = refl
 boundary_gives (elements.list marked es) h = refl
 boundary_gives (elements.boundary k f es) h = refl
+boundary_gives (elements.catcher k f es) h = cc
 boundary_gives (elements.provider c k x es) h = cc
 
--- What stands right outside of a fiber: the fiber that is open there, and what a wait does at it.
+-- an error boundary gives no context a value
+pub catcher_gives : (e : Element) → is_catcher e ≡ true → given_in e ≡ None
+catcher_gives elements.null h = refl
+catcher_gives (elements.text t) h = refl
+catcher_gives (elements.host n k attrs es) h = refl
+catcher_gives (elements.comp c k ps es) h = refl
+catcher_gives (elements.list marked es) h = refl
+catcher_gives (elements.boundary k f es) h = refl
+catcher_gives (elements.catcher k f es) h = refl
+catcher_gives (elements.provider c k x es) h = cc
+
+-- What stands right outside of a fiber: the fiber that is open there, and what a wait and a throw do at it.
 pub record Outside (t : Trees Fiber) (st : Stack) (p : ℕ) (f : Frame) (fs : List Frame) : Type 0 where
   pub inner : Around Fiber
   pub first : Fiber
@@ -67,12 +79,18 @@ pub record Outside (t : Trees Fiber) (st : Stack) (p : ℕ) (f : Frame) (fs : Li
   -- it is one: the wait stops there, whatever its children are then
   pub left : is_trying value.stage ≡ true → (new : Trees Fiber) (ks : Draft Fiber) (levels : ℕ) (a : Awaits) → new.current ≡ t.current
       → new.draft ≡ placed around (made id value old ks rest) → IsLeftAt new st id ks a (unwind levels (f ∷ fs) a)
+  -- it is no error boundary that tries its children: the throw goes on outwards
+  pub throws_on : is_guarding value.stage ≡ false → (levels : ℕ) (x : ℤ) → unwind_throw levels (f ∷ fs) x ≡ unwind_throw (suc levels) fs x
+  -- it is one: the throw stops there, whatever its children are then
+  pub caught : is_guarding value.stage ≡ true → (new : Trees Fiber) (ks : Draft Fiber) (levels : ℕ) (x : ℤ) → new.current ≡ t.current
+      → new.draft ≡ placed around (made id value old ks rest) → IsCaughtAt new st id ks x (unwind_throw levels (f ∷ fs) x)
 
 outwards_open : (c : Shape Fiber) (ms : List ℕ) (ws : List (ℕ × ℤ)) (v : Fiber) (o : Option ℕ) (cs : Contexts) (x : Open) (fs : List Frame) → IsOpenAs c ms ws v o cs x → is_trying v.stage ≡ false → (levels : ℕ) (a : Awaits)
     → past x a (unwind (suc levels) fs) (open_part levels fs) ≡ unwind (suc levels) fs (passed_on v.stage a)
 outwards_open c ms ws v o cs _ fs (opens {e = e} {m = m} element mark shown) out levels a = ap (unwind (suc levels) fs) (rw (mark, shown) refl)
 outwards_open c ms ws v o cs _ fs (tries element s is old stands) out levels a = cc (ap is_trying s)
 outwards_open c ms ws v o cs _ fs (falls element mark gone) out levels a = ap (unwind (suc levels) fs) (rw mark refl)
+outwards_open c ms ws v o cs _ fs (guards element s is) out levels a = ap (unwind (suc levels) fs) (rw s refl)
 
 left_open : (t : Trees Fiber) (st : Stack) (k : Around Fiber) (q : ℕ) (v : Fiber) (o : Option ℕ) (rest : Draft Fiber) (cs : Contexts) (x : Open) (fs : List Frame)
     → IsOpenAs t.current (moved_along t.current k) (given_along fs) v o cs x → IsAround t.current k v.place rest fs → IsStack st ((x, cs) ∷ opened fs) → st.moves ≡ moves_along t.current (below q v o rest k) → is_trying v.stage ≡ true
@@ -80,6 +98,7 @@ left_open : (t : Trees Fiber) (st : Stack) (k : Around Fiber) (q : ℕ) (v : Fib
     → IsLeftAt new st q ks a (past x a (unwind (suc levels) fs) (open_part levels fs))
 left_open t st k q v o rest cs _ fs (opens element mark shown) surrounds stack moves in_it new ls levels a same there = cc (ap is_trying mark)
 left_open t st k q v o rest cs _ fs (falls element mark gone) surrounds stack moves in_it new ls levels a same there = cc (ap is_trying mark)
+left_open t st k q v o rest cs _ fs (guards element s is) surrounds stack moves in_it new ls levels a same there = cc (ap is_trying s)
 left_open t st k q v o rest cs _ fs (tries {e = e} {old = old} {c = c} element s is was stands) surrounds stack moves in_it new ls levels a same there =
     let values : values_at st ≡ cs = top_values stack in
     record {
@@ -101,6 +120,41 @@ left_open t st k q v o rest cs _ fs (tries {e = e} {old = old} {c = c} element s
       moves =
           rw same
           (moves ∙ ap (λ g. moves_by g (gave t.current o) (moves_along t.current k)) (ap given_in element ∙ boundary_gives e is));
+      opens = rw (element, values) refl;
+    }
+
+throws_open : (c : Shape Fiber) (ms : List ℕ) (ws : List (ℕ × ℤ)) (v : Fiber) (o : Option ℕ) (cs : Contexts) (x : Open) (fs : List Frame) → IsOpenAs c ms ws v o cs x → is_guarding v.stage ≡ false → (levels : ℕ) (y : ℤ)
+    → past_throw x y (unwind_throw (suc levels) fs y) (open_part levels fs) ≡ unwind_throw (suc levels) fs y
+throws_open c ms ws v o cs _ fs (opens element mark shown) out levels y = refl
+throws_open c ms ws v o cs _ fs (tries element s is old stands) out levels y = refl
+throws_open c ms ws v o cs _ fs (falls element mark gone) out levels y = refl
+throws_open c ms ws v o cs _ fs (guards element s is) out levels y = cc (ap is_guarding s)
+
+caught_open : (t : Trees Fiber) (st : Stack) (k : Around Fiber) (q : ℕ) (v : Fiber) (o : Option ℕ) (rest : Draft Fiber) (cs : Contexts) (x : Open) (fs : List Frame)
+    → IsOpenAs t.current (moved_along t.current k) (given_along fs) v o cs x → IsOfNode t.current o → IsAround t.current k v.place rest fs → IsStack st ((x, cs) ∷ opened fs) → st.moves ≡ moves_along t.current (below q v o rest k) → is_guarding v.stage ≡ true
+    → (new : Trees Fiber) (ks : Draft Fiber) (levels : ℕ) (y : ℤ) → new.current ≡ t.current → new.draft ≡ placed k (made q v o ks rest)
+    → IsCaughtAt new st q ks y (past_throw x y (unwind_throw (suc levels) fs y) (open_part levels fs))
+caught_open t st k q v o rest cs _ fs (opens element mark shown) own surrounds stack moves in_it new ls levels y same there = cc (ap is_guarding mark)
+caught_open t st k q v o rest cs _ fs (tries element s is was stands) own surrounds stack moves in_it new ls levels y same there = cc (ap is_guarding s)
+caught_open t st k q v o rest cs _ fs (falls element mark gone) own surrounds stack moves in_it new ls levels y same there = cc (ap is_guarding mark)
+caught_open t st k q v o rest cs _ fs (guards {e = e} element s is) own surrounds stack moves in_it new ls levels y same there =
+    let values : values_at st ≡ cs = top_values stack in
+    record {
+      around = k;
+      value = v;
+      old = o;
+      rest = rest;
+      levels = levels;
+      frames = fs;
+      here = there;
+      stage = s;
+      catcher = ap is_catcher element ∙ is;
+      of_node = rw same own;
+      surrounds = rw same surrounds;
+      stack = kept st _ cs (opened fs) (catcher_gives e is) stack;
+      moves =
+          rw same
+          (moves ∙ ap (λ g. moves_by g (gave t.current o) (moves_along t.current k)) (ap given_in element ∙ catcher_gives e is));
       opens = rw (element, values) refl;
     }
 
@@ -147,6 +201,8 @@ falling_outside t st p done left cs e old a fs i u r us ls k₁ q b v w o s kept
         moves = still;
       };
       left = λ in_it new ls levels c same there. cc (ap is_trying is.stage);
+      throws_on = λ out levels x. refl;
+      caught = λ in_it new ls levels x same there. cc (ap is_guarding is.stage);
     }
 
 list_outside : (t : Trees Fiber) (st : Stack) (p : ℕ) (done : List (Option Node)) (left : List (Element × Option Node)) (x : Open) (cs : Contexts)
@@ -192,12 +248,14 @@ list_outside t st p done left x cs fs i u r us ls j q starts same (of_node {k₁
         moves = still;
       };
       left = λ in_it new ls levels a same there. left_open t st k₁ q v o rest cs x fs is surrounds stack (moves ∙ (moves_above t.current i ∙ ap (moves_along t.current) up)) in_it new ls levels a same there;
+      throws_on = λ out levels y. throws_open t.current (moved_along t.current k₁) (given_along fs) v o cs x fs is out levels y;
+      caught = λ in_it new ls levels y same there. caught_open t st k₁ q v o rest cs x fs is own surrounds stack (moves ∙ (moves_above t.current i ∙ ap (moves_along t.current) up)) in_it new ls levels y same there;
     }
 list_outside t st p done left _ cs fs i u r us ls j q starts same
     (of_fallback {k₁ = k₁} {b = b} {v = v} {w = w} {o = o} {p = s} {kept = keeps} {rest = rest} {e = e} {old = old} {a = a} above is own behind surrounds) stack moves =
     falling_outside t st p done left cs e old a fs i u r us ls k₁ q b v w o s keeps rest starts (same ∙ above) is surrounds moves
 
--- The fiber outside of one is open, and the wait goes past it or stops there.
+-- The fiber outside of one is open, and the wait or the throw goes past it or stops there.
 pub outside : (t : Trees Fiber) (st : Stack) (p : ℕ) (f : Frame) (fs : List Frame) → IsWithin t st p (f ∷ fs) → Outside t st p f fs
 outside t st p f fs w = by_list w.beside w.place w.later w.same_list w.surrounds
   where

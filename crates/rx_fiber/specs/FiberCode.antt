@@ -1,13 +1,13 @@
 -- How the logic stores fibers.
-use Rattle.std.specs.Prelude.{◌≡◌, ℕ, Bool, List, ◌⊎◌, refl}
-use Rattle.std.specs.Coded.{Coded, code_by, coded×, coded⊎, coded_ℕ, coded_bool, coded_list}
+use Rattle.std.specs.Prelude.{◌≡◌, ℕ, Bool, List, Option, Some, None, ◌⊎◌, refl}
+use Rattle.std.specs.Coded.{Coded, code_by, coded×, coded⊎, coded_ℕ, coded_bool, coded_list, coded_option}
 use Rattle.std.proofs.Common.{inl, inr}
 use Rattle.rx_base.specs.Awaits.{Awaits}
 use Rattle.rx_elem.specs.Elements.{Element}
 use Rattle.rx_elem.specs.ElementCode.{element_code}
 use Rattle.rx_elem.specs.Trees.{Mark}
 use Rattle.rx_node.specs.NodeCode.{mark_code}
-use Rattle.rx_fiber.specs.Fibers.{Stage, waiting, begun, trying, fallback, Fiber}
+use Rattle.rx_fiber.specs.Fibers.{Stage, waiting, begun, trying, guarding, fallback, Fiber}
 use Rattle.rx_fiber.specs.declared.stage.Origin.{Origin}
 use Rattle.rx_fiber.specs.declared.subtree.Subtree.{Subtree}
 
@@ -20,28 +20,31 @@ origin_code =
     (λ c. (c.cloned, (c.visible, c.generation))) (λ p. record { cloned = p.0; visible = p.1.0; generation = p.1.1 }) (λ _. refl)
 
 abbrev StageParts : Type 0
-StageParts = (Origin ⊎ Mark) ⊎ (Origin ⊎ Awaits)
+StageParts = (Origin ⊎ Mark) ⊎ (Option Origin ⊎ Awaits)
 
 abbrev of_stage : Stage → StageParts
 of_stage (waiting c) = inl (inl c)
 of_stage (begun m) = inl (inr m)
-of_stage (trying c) = inr (inl c)
+of_stage (trying c) = inr (inl (Some c))
+of_stage guarding = inr (inl None)
 of_stage (fallback a) = inr (inr a)
 
 abbrev to_stage : StageParts → Stage
 to_stage (inl (inl c)) = waiting c
 to_stage (inl (inr m)) = begun m
-to_stage (inr (inl c)) = trying c
+to_stage (inr (inl (Some c))) = trying c
+to_stage (inr (inl None)) = guarding
 to_stage (inr (inr a)) = fallback a
 
 abbrev stage_back : (s : Stage) → to_stage (of_stage s) ≡ s
 stage_back (waiting c) = refl
 stage_back (begun m) = refl
 stage_back (trying c) = refl
+stage_back guarding = refl
 stage_back (fallback a) = refl
 
 abbrev stage_code : Coded Stage
-stage_code = code_by StageParts (coded⊎ (coded⊎ origin_code mark_code) (coded⊎ origin_code numbers)) of_stage to_stage stage_back
+stage_code = code_by StageParts (coded⊎ (coded⊎ origin_code mark_code) (coded⊎ (coded_option origin_code) numbers)) of_stage to_stage stage_back
 
 abbrev subtree_code : Coded Subtree
 subtree_code =

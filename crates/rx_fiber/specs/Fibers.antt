@@ -3,8 +3,9 @@ use Rattle.std.specs.Prelude.{◌==◌, ◌||◌, ℕ, Bool, true, false, not, S
 use Rattle.std.specs.Option.{option_map_or}
 use Rattle.rx_susp.specs.declared.boundary.BoundaryState.TheVariants.{Shown}
 use Rattle.rx_base.specs.Awaits.{Awaits}
+use Rattle.rx_catch.specs.declared.state.CatchState.TheVariants.{Fine}
 use Rattle.rx_elem.specs.Elements.{Element}
-use Rattle.rx_elem.specs.Trees.{Mark, of_instance, of_host, of_boundary, plain, instance_in, is_hidden}
+use Rattle.rx_elem.specs.Trees.{Mark, of_instance, of_host, of_boundary, of_catcher, plain, instance_in, is_hidden}
 use Rattle.rx_fiber.specs.declared.stage.Origin.{Origin}
 use Rattle.rx_fiber.specs.declared.subtree.Subtree.{Subtree}
 
@@ -16,6 +17,8 @@ pub data Stage : Type 0 where
   begun : Mark → Stage
   -- a boundary whose children are tried, with what is known of its place
   trying : Origin → Stage
+  -- an error boundary whose children are tried
+  guarding : Stage
   -- the fallback of the boundary right before it, which keeps its primary content and waits for these
   fallback : Awaits → Stage
 
@@ -32,6 +35,7 @@ abbrev pub is_cloned : Stage → Bool
 is_cloned (waiting c) = c.cloned
 is_cloned (begun m) = false
 is_cloned (trying c) = false
+is_cloned guarding = false
 is_cloned (fallback a) = false
 
 -- it is made for a place that the render has not come to, and the current fiber for which it was made, if for one, is shown
@@ -39,6 +43,7 @@ abbrev pub is_visible : Stage → Bool
 is_visible (waiting c) = c.visible
 is_visible (begun m) = false
 is_visible (trying c) = false
+is_visible guarding = false
 is_visible (fallback a) = false
 
 -- what is known of the place of a fiber that waits or tries its children
@@ -46,6 +51,7 @@ abbrev pub origin_of : Stage → Origin
 origin_of (waiting c) = c
 origin_of (begun m) = as_matched false 0
 origin_of (trying c) = c
+origin_of guarding = as_matched false 0
 origin_of (fallback a) = as_matched false 0
 
 -- the generation of its element
@@ -82,13 +88,15 @@ abbrev pub own_subtree : Stage → Subtree
 own_subtree (waiting c) = nothing
 own_subtree (begun m) = marked_subtree m
 own_subtree (trying c) = nothing
+own_subtree guarding = nothing
 own_subtree (fallback a) = nothing
 
--- a node is completed: a boundary whose children were tried is shown, and nothing else changes
+-- a node is completed: a boundary whose children were tried is shown, an error boundary has caught nothing, and nothing else changes
 abbrev pub completed_stage : Stage → Stage
 completed_stage (waiting c) = waiting c
 completed_stage (begun m) = begun m
 completed_stage (trying c) = begun (of_boundary Shown)
+completed_stage guarding = begun (of_catcher Fine)
 completed_stage (fallback a) = fallback a
 
 -- the fiber of a node that is completed, with this at or below its children
@@ -100,6 +108,7 @@ abbrev pub with_number : ℕ → Mark → Mark
 with_number n (of_instance i) = of_instance (record i { number = Some n })
 with_number n (of_host h) = of_host (Some n)
 with_number n (of_boundary b) = of_boundary b
+with_number n (of_catcher c) = of_catcher c
 with_number n plain = plain
 
 -- an instance or a host gets this number, and nothing else changes
@@ -107,4 +116,5 @@ abbrev pub numbered_stage : ℕ → Stage → Stage
 numbered_stage n (waiting c) = waiting c
 numbered_stage n (begun m) = begun (with_number n m)
 numbered_stage n (trying c) = trying c
+numbered_stage n guarding = guarding
 numbered_stage n (fallback a) = fallback a

@@ -4,15 +4,16 @@ use Rattle.std.specs.Option.{option_flatten}
 use Rattle.rx_elem.specs.Elements.{Element}
 use Rattle.rx_elem.specs.Elements as elements
 use Rattle.rx_elem.specs.Identity.{old_places}
-use Rattle.rx_elem.specs.Trees.{is_hidden}
+use Rattle.rx_elem.specs.Trees.{is_hidden, shows_fallback}
 use Rattle.rx_lists.specs.Shapes.{Shape, none, fiber}
-use Rattle.rx_fiber.specs.Fibers.{Stage, Fiber, waiting, begun, trying, fallback}
+use Rattle.rx_fiber.specs.Fibers.{Stage, Fiber, waiting, begun, trying, guarding, fallback}
 
 -- the stage is that of a fallback beside the boundary right before it
 abbrev pub is_fallback : Stage → Bool
 is_fallback (waiting c) = false
 is_fallback (begun m) = false
 is_fallback (trying c) = false
+is_fallback guarding = false
 is_fallback (fallback a) = true
 
 -- the stage is that of a boundary that is hidden
@@ -20,7 +21,16 @@ abbrev pub hides_in : Stage → Bool
 hides_in (waiting c) = false
 hides_in (begun m) = is_hidden m
 hides_in (trying c) = false
+hides_in guarding = false
 hides_in (fallback a) = false
+
+-- the stage is that of a boundary that shows its fallback: it is hidden, or has caught a value
+abbrev pub falls_in : Stage → Bool
+falls_in (waiting c) = false
+falls_in (begun m) = shows_fallback m
+falls_in (trying c) = false
+falls_in guarding = false
+falls_in (fallback a) = false
 
 -- a list begins with the fiber of a fallback
 abbrev pub begins_fallback : Shape Fiber → Bool
@@ -32,15 +42,15 @@ abbrev pub first_kids : Shape Fiber → Shape Fiber
 first_kids none = none
 first_kids (fiber id v ks rs) = ks
 
--- the children of the node with whose fibers a list begins; of a boundary, its primary: none if it is hidden and keeps none
+-- the children of the node with whose fibers a list begins; of a boundary, its primary: none if it shows its fallback and keeps none
 abbrev pub primary_list : Shape Fiber → Shape Fiber
 primary_list none = none
-primary_list (fiber id v ks rs) = if hides_in v.stage && not (begins_fallback rs) then none else ks
+primary_list (fiber id v ks rs) = if falls_in v.stage && not (begins_fallback rs) then none else ks
 
--- its fallback: that of a hidden boundary, among its own children or among those of the fiber behind it
+-- its fallback: that of a boundary that shows it, among its own children or among those of the fiber behind it
 abbrev pub fallback_list : Shape Fiber → Shape Fiber
 fallback_list none = none
-fallback_list (fiber id v ks rs) = if hides_in v.stage then (if begins_fallback rs then first_kids rs else ks) else none
+fallback_list (fiber id v ks rs) = if falls_in v.stage then (if begins_fallback rs then first_kids rs else ks) else none
 
 module _ {A : Type 0} where
   -- a value so many times

@@ -1,7 +1,7 @@
 -- Which nodes the fibers of a list stand for.
 use Rattle.std.specs.Prelude.{◌≡◌, ℕ, suc, Bool, true, false, ◌∷◌, [], Option, Some, None}
 use Rattle.rx_elem.specs.Elements.{Element}
-use Rattle.rx_elem.specs.Trees.{Mark, Node, node, Forest, none, vacant, child, forest, is_hidden, awaits_in}
+use Rattle.rx_elem.specs.Trees.{Mark, Node, node, Forest, none, vacant, child, forest, is_hidden, shows_fallback, awaits_in}
 use Rattle.rx_lists.specs.Shapes.{Shape, fiber}
 use Rattle.rx_lists.specs.Shapes as shapes
 use Rattle.rx_links.specs.Drafts.{list_at}
@@ -20,7 +20,7 @@ pub record IsOf (v : Fiber) (place : ℕ) (e : Element) (m : Mark) : Type 0 wher
   pub stage : v.stage ≡ begun m
 
 -- A list of fibers, from a place on, stands for these places: a node has one fiber with its children below it, and a place without a node has none.
--- A hidden boundary that keeps no node has its fallback as its children; one that keeps some has these as its children, and a fiber of its fallback right behind it.
+-- A boundary that shows its fallback and keeps no node has that as its children; a hidden one that keeps some has these as its children, and a fiber of its fallback right behind it.
 mutual
   pub data AreFor : (place : ℕ) → Forest → Shape Fiber → Type 0 where
     no_more : {n : ℕ} → AreFor n none shapes.none
@@ -30,9 +30,9 @@ mutual
   -- the list begins with the fibers of this node, at this place, and goes on with the rest
   pub data IsFor : (place : ℕ) → Node → (list rest : Shape Fiber) → Type 0 where
     whole : {n id : ℕ} {v : Fiber} {e : Element} {m : Mark} {ns : Forest} {ks rest : Shape Fiber}
-        → IsOf v n e m → is_hidden m ≡ false → AreFor 0 ns ks → IsFor n (node e m ns none) (fiber id v ks rest) rest
+        → IsOf v n e m → shows_fallback m ≡ false → AreFor 0 ns ks → IsFor n (node e m ns none) (fiber id v ks rest) rest
     alone : {n id : ℕ} {v : Fiber} {e : Element} {m : Mark} {ns fs : Forest} {ks rest : Shape Fiber}
-        → IsOf v n e m → is_hidden m ≡ true → has_node ns ≡ false → AreFor 0 fs ks → IsFor n (node e m ns fs) (fiber id v ks rest) rest
+        → IsOf v n e m → shows_fallback m ≡ true → has_node ns ≡ false → AreFor 0 fs ks → IsFor n (node e m ns fs) (fiber id v ks rest) rest
     beside : {n id jd : ℕ} {v w : Fiber} {e : Element} {m : Mark} {ns fs : Forest} {ks ws rest : Shape Fiber}
         → IsOf v n e m → is_hidden m ≡ true → has_node ns ≡ true → AreFor 0 ns ks → w.stage ≡ fallback (awaits_in m) → AreFor 0 fs ws
         → IsFor n (node e m ns fs) (fiber id v ks (fiber jd w ws rest)) rest

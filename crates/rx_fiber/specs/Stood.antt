@@ -6,7 +6,7 @@ use Rattle.rx_elem.specs.Elements as elements
 use Rattle.rx_lists.specs.Shapes.{Shape, first}
 use Rattle.rx_links.specs.Readers.{value_of, list_from}
 use Rattle.rx_fiber.specs.Fibers.{Fiber}
-use Rattle.rx_fiber.specs.OldLists.{hides_in, primary_list, fallback_list, fiber_at}
+use Rattle.rx_fiber.specs.OldLists.{falls_in, hides_in, primary_list, fallback_list, fiber_at}
 
 -- what a provider's element gives
 abbrev pub given_in : Element → Option (ℕ × ℤ)
@@ -16,6 +16,7 @@ given_in (elements.host n k attrs es) = None
 given_in (elements.comp c k ps es) = None
 given_in (elements.list marked es) = None
 given_in (elements.boundary k f es) = None
+given_in (elements.catcher k f es) = None
 given_in (elements.provider c k x es) = Some (c, x)
 
 -- one value more that is given, if there is one
@@ -45,8 +46,8 @@ pub data StoodAt (current : Shape Fiber) : List (ℕ × ℤ) → Option ℕ → 
   -- it is a child of a node that hides nothing
   below : {ws : List (ℕ × ℤ)} {q i : ℕ} {v : Fiber} (place : ℕ) → StoodAt current ws (Some q) → value_of current q ≡ Some v → hides_in v.stage ≡ false
       → fiber_at (primary_list (list_from current (Some q))) place ≡ Some i → StoodAt current (given_more v.element ws) (Some i)
-  -- it is in the fallback of a hidden boundary
-  in_fallback : {ws : List (ℕ × ℤ)} {q i : ℕ} {v : Fiber} (place : ℕ) → StoodAt current ws (Some q) → value_of current q ≡ Some v → hides_in v.stage ≡ true
+  -- it is in the fallback of a boundary that shows it
+  in_fallback : {ws : List (ℕ × ℤ)} {q i : ℕ} {v : Fiber} (place : ℕ) → StoodAt current ws (Some q) → value_of current q ≡ Some v → falls_in v.stage ≡ true
       → fiber_at (fallback_list (list_from current (Some q))) place ≡ Some i → StoodAt current ws (Some i)
 
 -- A current fiber is shown, and the providers on the way to it give each context what these give, but for some contexts.

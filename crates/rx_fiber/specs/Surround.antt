@@ -4,7 +4,7 @@ use Rattle.rx_base.specs.Awaits.{Awaits}
 use Rattle.rx_ctx.specs.Contexts.{moved_in, moves_by}
 use Rattle.rx_elem.specs.Elements.{Element}
 use Rattle.rx_elem.specs.Elements as elements
-use Rattle.rx_elem.specs.Trees.{Mark, of_boundary, Node, forest, children_if, fallback_if, is_hidden}
+use Rattle.rx_elem.specs.Trees.{Mark, of_boundary, Node, forest, none, children_if, fallback_if, is_hidden}
 use Rattle.rx_elem.specs.Spots as spots
 use Rattle.rx_susp.specs.declared.boundary.BoundaryState.TheVariants.{Hidden}
 use Rattle.rx_lists.specs.Shapes.{Shape, fiber}
@@ -13,7 +13,7 @@ use Rattle.rx_links.specs.Drafts.{Draft, taken, made, made_size, grafted}
 use Rattle.rx_links.specs.Places.{Around, top, below, after}
 use Rattle.rx_links.specs.Readers.{value_of, list_from}
 use Rattle.rx_meaning.specs.Fresh.{Contexts, part}
-use Rattle.rx_meaning.specs.Cursor.{Open, around, trying, falling, Frame, is_null}
+use Rattle.rx_meaning.specs.Cursor.{Open, around, trying, falling, guarding, Frame, is_null}
 use Rattle.rx_fiber.specs.Fibers.{Fiber, waiting, begun}
 use Rattle.rx_fiber.specs.Fibers as stage
 use Rattle.rx_fiber.specs.declared.stage.Origin.{Origin}
@@ -113,6 +113,7 @@ abbrev pub open_element : Open → Element
 open_element (around e m) = e
 open_element (trying e old f) = e
 open_element (falling e old a) = e
+open_element (guarding e f) = e
 
 -- what an open node gives to the contexts below it
 abbrev pub given_by : Open → Option (ℕ × ℤ)
@@ -131,6 +132,7 @@ fallback_in (elements.host n k attrs es) = elements.null
 fallback_in (elements.comp c k ps es) = elements.null
 fallback_in (elements.list marked es) = elements.null
 fallback_in (elements.boundary k f es) = f
+fallback_in (elements.catcher k f es) = f
 fallback_in (elements.provider c k x es) = elements.null
 
 -- the element is that of a boundary
@@ -141,7 +143,19 @@ is_boundary (elements.host n k attrs es) = false
 is_boundary (elements.comp c k ps es) = false
 is_boundary (elements.list marked es) = false
 is_boundary (elements.boundary k f es) = true
+is_boundary (elements.catcher k f es) = false
 is_boundary (elements.provider c k x es) = false
+
+-- the element is that of an error boundary
+abbrev pub is_catcher : Element → Bool
+is_catcher elements.null = false
+is_catcher (elements.text t) = false
+is_catcher (elements.host n k attrs es) = false
+is_catcher (elements.comp c k ps es) = false
+is_catcher (elements.list marked es) = false
+is_catcher (elements.boundary k f es) = false
+is_catcher (elements.catcher k f es) = true
+is_catcher (elements.provider c k x es) = false
 
 -- the fiber is that of an open node, whose list, in these contexts, is among its children; o is the current fiber that it was made for; of a boundary that tries its children, if that one is visible, it stands where the same values are given, but for contexts that have moved
 pub data IsOpenAs (current : Shape Fiber) (moved : List ℕ) (ws : List (ℕ × ℤ)) (v : Fiber) (o : Option ℕ) (cs : Contexts) : Open → Type 0 where
@@ -150,6 +164,8 @@ pub data IsOpenAs (current : Shape Fiber) (moved : List ℕ) (ws : List (ℕ × 
       → (c.visible ≡ true → StandsIf current moved ws o) → IsOpenAs current moved ws v o cs (trying e old (part cs (fallback_in e ∷ []) (fallback_if old)))
   falls : {e : Element} {old : Option Node} {a : Awaits} → v.element ≡ e → v.stage ≡ begun (of_boundary (Hidden a)) → has_node (children_if old) ≡ false
       → IsOpenAs current moved ws v o cs (falling e old a)
+  guards : {e : Element} → v.element ≡ e → v.stage ≡ stage.guarding → is_catcher e ≡ true
+      → IsOpenAs current moved ws v o cs (guarding e (part cs (fallback_in e ∷ []) none))
 
 -- the fibers are those of a boundary that keeps its primary content, and of its fallback, with the element of the boundary, whose list is among the children of the latter
 pub record IsKeptAs (v w : Fiber) (kept : Shape Fiber) (e : Element) (old : Option Node) (a : Awaits) : Type 0 where

@@ -6,6 +6,7 @@ ghost use Rattle.rx_fiber.specs.FiberView.{stage_seen, changed};
 
 use crate::stage::{Origin, Stage, StageChange};
 use crate::subtree::{Subtree, own_subtree};
+use rx_catch::CatchState;
 use rx_elem::Element;
 use rx_node::Mark;
 use rx_susp::BoundaryState;
@@ -151,15 +152,16 @@ impl Fiber {
     {
         match by {
             StageChange::Complete(below) => {
-                if let Stage::Trying(_) = self.stage {
-                    self.stage = Stage::Begun(Mark::Boundary(BoundaryState::Shown));
-                }
+                self.stage.complete();
                 self.subtree = own_subtree(&self.stage).join(below);
             }
             StageChange::Try(origin) => self.stage = Stage::Trying(origin),
             StageChange::Hide(awaits, below) => {
                 self.stage = Stage::Begun(Mark::Boundary(BoundaryState::Hidden(awaits)));
                 self.subtree = own_subtree(&self.stage).join(below);
+            }
+            StageChange::Catch(value) => {
+                self.stage = Stage::Begun(Mark::Catch(CatchState::Caught { value }));
             }
             StageChange::Number(number) => self.stage.give_number(number),
         }

@@ -10,7 +10,7 @@ mod tests;
 
 pub use fiber::Fiber;
 pub use old::{
-    OldChildren, hides, is_fallback, kids_subtree, old_children, old_fallback, old_primary,
+    OldChildren, falls, hides, is_fallback, kids_subtree, old_children, old_fallback, old_primary,
 };
 pub use stage::{Origin, Stage, StageChange};
 pub use subtree::Subtree;

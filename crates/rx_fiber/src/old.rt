@@ -5,7 +5,7 @@ ghost use Rattle.rx_lists.specs.Shapes.{Holds};
 ghost use Rattle.rx_links.specs.Drafts.{kids_under};
 ghost use Rattle.rx_links.specs.Readers.{list_from};
 ghost use Rattle.rx_fiber.specs.FiberView.{stage_seen};
-ghost use Rattle.rx_fiber.specs.OldLists.{is_fallback, hides_in, begins_fallback, primary_list, fallback_list, filled, told, old_elements, old_fibers};
+ghost use Rattle.rx_fiber.specs.OldLists.{is_fallback, hides_in, falls_in, begins_fallback, primary_list, fallback_list, filled, told, old_elements, old_fibers};
 ghost use Rattle.rx_fiber.specs.Subtrees.{subtrees_of};
 
 use crate::fiber::Fiber;
@@ -33,6 +33,16 @@ pub fn hides(stage: &Stage) -> bool
     }
 }
 
+/// Whether a fiber of this stage is that of a boundary that shows its fallback: it is hidden, or has caught a value.
+pub fn falls(stage: &Stage) -> bool
+    ensures { result ≡ falls_in (stage_seen stage.now) }
+{
+    match stage {
+        Stage::Begun(mark) => mark.is_hidden() || mark.is_caught(),
+        _ => false,
+    }
+}
+
 // Whether a list begins with the fiber of a fallback.
 fn begins_fallback(tree: &FiberTree<Fiber>, link: Option<FiberId>) -> bool
     requires { IfSome link (Holds tree.now.current) }
@@ -45,8 +55,8 @@ fn begins_fallback(tree: &FiberTree<Fiber>, link: Option<FiberId>) -> bool
     }
 }
 
-/// The first child of an old node, by its current fiber; of a boundary, the first of its primary, and none if it is hidden
-/// and keeps none.
+/// The first child of an old node, by its current fiber; of a boundary, the first of its primary, and none if it shows its
+/// fallback and keeps none.
 pub fn old_primary(tree: &FiberTree<Fiber>, old: Option<FiberId>) -> Option<FiberId>
     requires { IfSome old (Holds tree.now.current) }
     ensures held { IfSome result (Holds tree.now.current) }
@@ -54,14 +64,14 @@ pub fn old_primary(tree: &FiberTree<Fiber>, old: Option<FiberId>) -> Option<Fibe
 {
     tree.facts();
     let id = old?;
-    let hidden = hides(tree.value(id).stage());
-    if hidden && !begins_fallback(tree, tree.next_sibling(id)) {
+    let fallen = falls(tree.value(id).stage());
+    if fallen && !begins_fallback(tree, tree.next_sibling(id)) {
         return None;
     }
     tree.first_child(id)
 }
 
-/// The first child of the fallback of an old boundary, by its current fiber: none if it is shown.
+/// The first child of the fallback of an old boundary, by its current fiber: none if it shows its children.
 pub fn old_fallback(tree: &FiberTree<Fiber>, old: Option<FiberId>) -> Option<FiberId>
     requires { IfSome old (Holds tree.now.current) }
     ensures held { IfSome result (Holds tree.now.current) }
@@ -69,7 +79,7 @@ pub fn old_fallback(tree: &FiberTree<Fiber>, old: Option<FiberId>) -> Option<Fib
 {
     tree.facts();
     let id = old?;
-    if !hides(tree.value(id).stage()) {
+    if !falls(tree.value(id).stage()) {
         return None;
     }
     let behind = tree.next_sibling(id);

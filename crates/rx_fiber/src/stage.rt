@@ -1,11 +1,13 @@
 // How far a fiber has come.
 ghost use Rattle.std.specs.Prelude.{◌≡◌};
-ghost use Rattle.rx_fiber.specs.Fibers.{numbered_stage};
+ghost use Rattle.rx_fiber.specs.Fibers.{completed_stage, numbered_stage};
 ghost use Rattle.rx_fiber.specs.FiberView.{stage_seen};
 
 use crate::subtree::Subtree;
-use rx_base::Awaits;
+use rx_base::{Awaits, Int};
+use rx_catch::CatchState;
 use rx_node::Mark;
+use rx_susp::BoundaryState;
 
 /// What is known of a fiber beside the current one for which it was made, when it is made.
 #[derive(Clone, Copy)]
@@ -28,6 +30,8 @@ pub enum Stage {
     Begun(Mark),
     /// A boundary whose children are tried, with what is known of its place.
     Trying(Origin),
+    /// An error boundary whose children are tried.
+    Guarding,
     /// The fallback of the boundary right before it, which keeps its primary content and waits for these resources.
     Fallback(Awaits),
 }
@@ -35,17 +39,31 @@ pub enum Stage {
 /// A change of the stage in place, which takes no memory.
 #[derive(Clone, Copy)]
 pub enum StageChange {
-    /// Its list is done: a boundary whose children were tried is shown. This is at or below its children.
+    /// Its list is done: a boundary whose children were tried is shown, and an error boundary has caught nothing. This is at or
+    /// below its children.
     Complete(Subtree),
     /// A boundary begins to try its children; this is known of its place.
     Try(Origin),
     /// A boundary hides its children, which wait for these resources. This is at or below what it keeps.
     Hide(Awaits, Subtree),
+    /// An error boundary catches this value. Its children are gone.
+    Catch(Int),
     /// An instance or a host gets this number, by which later commits know it.
     Number(u64),
 }
 
 impl Stage {
+    /// The node is done: a boundary whose children were tried is shown, and an error boundary has caught nothing.
+    pub(crate) fn complete(&mut self)
+        ensures { stage_seen self.new ≡ completed_stage (stage_seen self.old) }
+    {
+        match self {
+            Stage::Trying(_) => *self = Stage::Begun(Mark::Boundary(BoundaryState::Shown)),
+            Stage::Guarding => *self = Stage::Begun(Mark::Catch(CatchState::Fine)),
+            _ => {}
+        }
+    }
+
     /// The mark of an instance or a host gets this number; nothing else changes.
     pub(crate) fn give_number(&mut self, number: u64)
         ensures { stage_seen self.new ≡ numbered_stage number (stage_seen self.old) }

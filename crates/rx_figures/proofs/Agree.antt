@@ -49,6 +49,11 @@ mutual
       let one = slots-agree k p f g s false ss (placed-right p f g (first_key_mentions s.values second q ++ (slot_mentions s false t ++ last_key_mentions s.values second q)) (slots_mentions s false ss) h) in
       let two = slot-agree k p f g s false t (placed-left p f g _ (last_key_mentions s.values second q) (placed-right p f g (first_key_mentions s.values second q) _ first)) in
       ap (λ v. k.boundary v (slot_by k f p t)) one ∙ ap (λ v. k.boundary (slots_by k g p ss) v) two
+  slot-agree k p f g s second (syntax.catcher q t w ss) h =
+      let first = placed-left p f g (first_key_mentions s.values second q ++ (slot_mentions s false t ++ last_key_mentions s.values second q)) (slots_mentions s false ss) h in
+      let one = slots-agree k p f g s false ss (placed-right p f g (first_key_mentions s.values second q ++ (slot_mentions s false t ++ last_key_mentions s.values second q)) (slots_mentions s false ss) h) in
+      let two = slot-agree k p f g s false t (placed-left p f g _ (last_key_mentions s.values second q) (placed-right p f g (first_key_mentions s.values second q) _ first)) in
+      ap (λ v. k.catcher v (slot_by k f p t)) one ∙ ap (λ v. k.catcher (slots_by k g p ss) v) two
   slot-agree k p f g s second (syntax.provider n q e w ss) h =
       ap k.around (slots-agree k p f g s false ss (λ x more filled i. h x more filled (inr (IsIn-right _ (first_key_mentions s.values second q ++ (expr_mentions s.values e ++ last_key_mentions s.values second q)) _ i))))
   slot-agree k p f g s second (syntax.enclosed b t) h = slot-agree k p f g s second t h

@@ -15,6 +15,7 @@ pub record Along {A B : Type 0} (k : Column A) (l : Column B) (R : A → B → T
   pub at_choice : (a a' : A) (b b' : B) → R a b → R a' b' → R (k.choice a a') (l.choice b b')
   pub at_around : (a : A) (b : B) → R a b → R (k.around a) (l.around b)
   pub at_boundary : (a a' : A) (b b' : B) → R a b → R a' b' → R (k.boundary a a') (l.boundary b b')
+  pub at_catcher : (a a' : A) (b b' : B) → R a b → R a' b' → R (k.catcher a a') (l.catcher b b')
   pub at_component : (a a' : A) (b b' : B) → R a b → R a' b' → R (k.component a a') (l.component b b')
   pub at_body : (c : Component) (a : A) (b : B) → R a b → R (k.body c a) (l.body c b)
   pub at_beside : (a a' : A) (b b' : B) → R a b → R a' b' → R (k.beside a a') (l.beside b b')
@@ -32,6 +33,7 @@ mutual
   slot-along k l R h f g e p (syntax.host x attrs w ss) = h.at_around _ _ (slots-along k l R h f g e p ss)
   slot-along k l R h f g e p (syntax.comp x attrs w ss) = h.at_component _ _ _ _ (e (component_number p x)) (slots-along k l R h f g e p ss)
   slot-along k l R h f g e p (syntax.boundary q s w ss) = h.at_boundary _ _ _ _ (slots-along k l R h f g e p ss) (slot-along k l R h f g e p s)
+  slot-along k l R h f g e p (syntax.catcher q s w ss) = h.at_catcher _ _ _ _ (slots-along k l R h f g e p ss) (slot-along k l R h f g e p s)
   slot-along k l R h f g e p (syntax.provider x q v w ss) = h.at_around _ _ (slots-along k l R h f g e p ss)
   slot-along k l R h f g e p (syntax.enclosed b s) = slot-along k l R h f g e p s
 

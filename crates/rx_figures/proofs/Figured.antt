@@ -34,6 +34,8 @@ are-nodes q = record {
   at_around = λ a b h. (rw h.0 (held-sum_right 1 b.own), rw zero-add h.1);
   at_boundary = λ a a' b b' h l.
       (rw (h.0, l.0, held-sum) (held-sum_right 1 (b.own + b'.own)), rw (h.1, l.1, zero-add) (held-sum b.given b'.given));
+  at_catcher = λ a a' b b' h l.
+      (rw (h.0, l.0, held-sum) (held-sum_right 1 (b.own + b'.own)), rw (h.1, l.1, zero-add) (held-sum b.given b'.given));
   at_component = λ a a' b b' h l.
       (rw (h.0, h.1, l.0) (component-own b.own b.given b'.own), rw (h.1, l.1) (held-product b.given b'.given));
   at_body = λ c a b h. h;
@@ -62,6 +64,7 @@ are-levels q = record {
   at_choice = λ a a' b b' h l. rw (h, l) (held-max b b');
   at_around = λ a b h. rw h (held-sum_right 1 b);
   at_boundary = λ a a' b b' h l. rw (h, l, held-max) (held-sum_right 1 _);
+  at_catcher = λ a a' b b' h l. rw (h, l, held-max) (held-sum_right 1 _);
   at_component = λ a a' b b' h l. rw (h, l, held-sum) (held-sum_right 1 (b + b'));
   at_body = λ c a b h. h;
   at_beside = λ a a' b b' h l. rw (h, l) (held-max b b');

@@ -1,6 +1,6 @@
 -- What the expressions of a declaration cost at most.
 use Rattle.std.specs.Prelude.{◌≡◌, ◌≤◌, true, ℕ, zero, suc, ◌+◌, ◌*◌, List, [], ◌∷◌, Option, Some, None, nat_lt, find, length, map, slice_get, slice_index}
-use Rattle.rx_ast.specs.Syntax.{Program, Function, Line, Component, functions, Expr, Links, Exprs, exprs_of, Attribute, key, computed, literal, KeyPlace, unkeyed, key_first, key_last, Slot, Slots, body_slots, Statement, state, reducer, transition, context, use_resource, constant, effect, Declaration, of_context, of_function, of_component}
+use Rattle.rx_ast.specs.Syntax.{Program, Function, Line, Component, functions, Expr, Links, Exprs, exprs_of, Attribute, key, computed, literal, KeyPlace, unkeyed, key_first, key_last, Slot, Slots, body_slots, Statement, state, reducer, transition, context, use_resource, constant, effect, throw_if, Declaration, of_context, of_function, of_component}
 use Rattle.rx_ast.specs.Syntax as syntax
 use Rattle.rx_ast.specs.SlotView.{key_place_of}
 use Rattle.rx_ast.specs.declared.slot.Tag.{Tag}
@@ -87,6 +87,7 @@ abbrev mutual
   slot_cost costs p (syntax.host n attrs w ss) = held_sum (attributes_cost costs p attrs) (slots_cost costs p ss)
   slot_cost costs p (syntax.comp n attrs w ss) = held_sum (attributes_cost costs p attrs) (slots_cost costs p ss)
   slot_cost costs p (syntax.boundary k f w ss) = held_sum (held_sum (key_cost costs p k) (slot_cost costs p f)) (slots_cost costs p ss)
+  slot_cost costs p (syntax.catcher k f w ss) = held_sum (held_sum (key_cost costs p k) (slot_cost costs p f)) (slots_cost costs p ss)
   slot_cost costs p (syntax.provider n k e w ss) =
       held_sum (held_sum (key_cost costs p k) (expr_cost costs p e)) (slots_cost costs p ss)
   slot_cost costs p (syntax.enclosed b s) = slot_cost costs p s
@@ -101,6 +102,7 @@ abbrev pub tag_cost : (ℕ → ℕ) → Program → Tag → ℕ
 tag_cost costs p (tag.Host x attrs) = attributes_cost costs p attrs.items
 tag_cost costs p (tag.Component x attrs) = attributes_cost costs p attrs.items
 tag_cost costs p (tag.Suspense k f) = held_sum (key_cost costs p (key_place_of k)) (slot_cost costs p f.value)
+tag_cost costs p (tag.Catch k f) = held_sum (key_cost costs p (key_place_of k)) (slot_cost costs p f.value)
 tag_cost costs p (tag.Provider x k e) = held_sum (key_cost costs p (key_place_of k)) (expr_cost costs p e.value)
 
 -- the cost of a statement
@@ -112,6 +114,7 @@ statement_cost costs p (context x c) = 0
 statement_cost costs p (use_resource x r) = 0
 statement_cost costs p (constant x e) = expr_cost costs p e
 statement_cost costs p (effect layout label es) = exprs_cost costs p (exprs_of es)
+statement_cost costs p (throw_if e) = expr_cost costs p e
 
 -- the cost of statements
 abbrev pub statements_cost : (ℕ → ℕ) → Program → List Statement → ℕ

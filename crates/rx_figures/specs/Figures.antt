@@ -1,7 +1,7 @@
--- What is computed of a slot: its nodes, levels and waits side by side, each sum and product held.
+-- What is computed of a slot: its nodes, levels, waits and throws side by side, each sum and product held.
 use Rattle.std.specs.Prelude.{◌≡◌, ◌≤◌, ℕ, zero, suc, min, max, true, false, ◌&&◌, ◌||◌, bytes_eq, cond, position, List, map, length, slice_index_or, Option, Some, None}
 use Rattle.rx_ast.specs.Syntax.{Component, Program, components}
-use Rattle.rx_rules.specs.Bounds.{component_levels, Column, slot_by, body_if, body_by, reads_resource}
+use Rattle.rx_rules.specs.Bounds.{component_levels, Column, slot_by, body_if, body_by, reads_resource, has_throw}
 use Rattle.rx_ast.specs.declared.slot.Tag.{Tag}
 use Rattle.rx_ast.specs.declared.slot.Tag.TheVariants as tag
 use Rattle.rx_rules.specs.Names.{component_names, component_number}
@@ -19,17 +19,21 @@ earlier (Some m) (Some n) = Some (min m n)
 abbrev pub reader_of : Program → Component → Option ℕ
 reader_of p c = cond (reads_resource c) (position (bytes_eq c.name) (component_names p)) None
 
+-- the number of a component, if it may throw by itself
+abbrev pub thrower_of : Program → Component → Option ℕ
+thrower_of p c = cond (has_throw c) (position (bytes_eq c.name) (component_names p)) None
+
 -- nothing
 abbrev pub no_figures : Figures
-no_figures = record { own = 0; given = 0; levels = 0; waits = None; unguarded = false }
+no_figures = record { own = 0; given = 0; levels = 0; waits = None; unguarded = false; throws = None; uncaught = false }
 
 -- a text
 abbrev pub text_figures : Figures
-text_figures = record { own = 1; given = 0; levels = 1; waits = None; unguarded = false }
+text_figures = record { own = 1; given = 0; levels = 1; waits = None; unguarded = false; throws = None; uncaught = false }
 
 -- the children that are given
 abbrev pub children_figures : Figures
-children_figures = record { own = 1; given = 1; levels = 1; waits = None; unguarded = true }
+children_figures = record { own = 1; given = 1; levels = 1; waits = None; unguarded = true; throws = None; uncaught = true }
 
 -- two places beside each other
 abbrev pub beside_figures : Figures → Figures → Figures
@@ -40,11 +44,13 @@ beside_figures a b =
       levels = max a.levels b.levels;
       waits = earlier a.waits b.waits;
       unguarded = a.unguarded || b.unguarded;
+      throws = earlier a.throws b.throws;
+      uncaught = a.uncaught || b.uncaught;
     }
 
 -- a node around what is in it
 abbrev pub around_figures : Figures → Figures
-around_figures a = record { own = held_sum 1 a.own; given = a.given; levels = held_sum 1 a.levels; waits = a.waits; unguarded = a.unguarded }
+around_figures a = record a { own = held_sum 1 a.own; levels = held_sum 1 a.levels }
 
 -- so many items
 abbrev pub repeated_figures : ℕ → Figures → Figures
@@ -55,9 +61,11 @@ repeated_figures n a =
       levels = held_sum 1 a.levels;
       waits = a.waits;
       unguarded = a.unguarded;
+      throws = a.throws;
+      uncaught = a.uncaught;
     }
 
--- a boundary with its fallback
+-- a boundary with its fallback: it waits if its fallback does
 abbrev pub boundary_figures : (primary fallback : Figures) → Figures
 boundary_figures a b =
     record {
@@ -66,6 +74,21 @@ boundary_figures a b =
       levels = held_sum 1 (max a.levels b.levels);
       waits = b.waits;
       unguarded = b.unguarded;
+      throws = earlier a.throws b.throws;
+      uncaught = a.uncaught || b.uncaught;
+    }
+
+-- an error boundary with its fallback: it throws if its fallback does
+abbrev pub catcher_figures : (primary fallback : Figures) → Figures
+catcher_figures a b =
+    record {
+      own = held_sum 1 (held_sum a.own b.own);
+      given = held_sum a.given b.given;
+      levels = held_sum 1 (max a.levels b.levels);
+      waits = earlier a.waits b.waits;
+      unguarded = a.unguarded || b.unguarded;
+      throws = b.throws;
+      uncaught = b.uncaught;
     }
 
 -- a component with its body, given these children
@@ -77,11 +100,13 @@ component_figures c k =
       levels = held_sum 1 (held_sum c.levels k.levels);
       waits = earlier c.waits (cond c.unguarded k.waits None);
       unguarded = c.unguarded && k.unguarded;
+      throws = earlier c.throws (cond c.uncaught k.throws None);
+      uncaught = c.uncaught && k.uncaught;
     }
 
--- a body, if the component of this number reads a resource
-abbrev pub body_figures : Option ℕ → Figures → Figures
-body_figures reader a = record { own = a.own; given = a.given; levels = a.levels; waits = earlier reader a.waits; unguarded = a.unguarded }
+-- a body, if the component of this number reads a resource, and that one may throw
+abbrev pub body_figures : (reader thrower : Option ℕ) → Figures → Figures
+body_figures reader thrower a = record a { waits = earlier reader a.waits; throws = earlier thrower a.throws }
 
 -- the column of all, if the components of this program have the numbers
 abbrev pub figures : Program → Column Figures
@@ -94,8 +119,9 @@ figures p =
       choice = beside_figures;
       around = around_figures;
       boundary = boundary_figures;
+      catcher = catcher_figures;
       component = component_figures;
-      body = λ c a. body_figures (reader_of p c) a;
+      body = λ c a. body_figures (reader_of p c) (thrower_of p c) a;
       beside = beside_figures;
     }
 
@@ -112,6 +138,7 @@ abbrev pub tag_figures : List Figures → Program → Tag → (inner : Figures) 
 tag_figures table p (tag.Host x attrs) inner = around_figures inner
 tag_figures table p (tag.Component x attrs) inner = component_figures (known_in table (component_number p x)) inner
 tag_figures table p (tag.Suspense k f) inner = boundary_figures inner (slot_by (figures p) (known_in table) p f.value)
+tag_figures table p (tag.Catch k f) inner = catcher_figures inner (slot_by (figures p) (known_in table) p f.value)
 tag_figures table p (tag.Provider x k e) inner = around_figures inner
 
 -- one round over all components, from what was known before

@@ -166,6 +166,10 @@ fn tag(program: &Index, costs: &[u64], tag: &Tag) -> u64
         Tag::Suspense {
             key: place,
             fallback,
+        }
+        | Tag::Catch {
+            key: place,
+            fallback,
         } => {
             let place = key(program, costs, place);
             held_sum(place, slot(program, costs, fallback))
@@ -270,7 +274,9 @@ fn statement(program: &Index, costs: &[u64], statement: &Statement) -> u64
         StatementKind::State { initial, .. } | StatementKind::Reducer { initial, .. } => {
             expr(program, costs, initial)
         }
-        StatementKind::Constant { value, .. } => expr(program, costs, value),
+        StatementKind::Constant { value, .. } | StatementKind::Throw { value } => {
+            expr(program, costs, value)
+        }
         StatementKind::Effect { dependencies, .. } => exprs(program, costs, dependencies),
         StatementKind::Transition { .. }
         | StatementKind::Context { .. }

@@ -1,12 +1,12 @@
-// Nodes, levels and waits of slots.
+// Nodes, levels, waits and throws of slots.
 ghost use Rattle.std.specs.Prelude.{◌≡◌, ℕ, List, [], ◌∷◌, ◌++◌, true, IfOk, Some, None, IsTrue, cond, length};
 ghost use Rattle.rx_ast.specs.Syntax.{slots_of, body_slots, components};
 ghost use Rattle.rx_rules.specs.Names.{component_number, root_name};
-ghost use Rattle.rx_rules.specs.Bounds.{body_by, slot_by, slots_by, body_if, reads_resource};
+ghost use Rattle.rx_rules.specs.Bounds.{body_by, slot_by, slots_by, body_if, reads_resource, has_throw};
 ghost use Rattle.std.specs.List.{list_all};
 ghost use Rattle.rx_order.specs.Graphs.{next_of, is_among, IsFinished};
 ghost use Rattle.rx_mentions.specs.Ways.{places};
-ghost use Rattle.rx_figures.specs.Figures.{nesting_levels, earlier, reader_of, no_figures, text_figures, children_figures, beside_figures, around_figures, repeated_figures, boundary_figures, component_figures, figures, known_in, tag_figures, round_of, rounds, AreFigures};
+ghost use Rattle.rx_figures.specs.Figures.{nesting_levels, earlier, reader_of, thrower_of, no_figures, text_figures, children_figures, beside_figures, around_figures, repeated_figures, boundary_figures, catcher_figures, component_figures, figures, known_in, tag_figures, round_of, rounds, AreFigures};
 
 use crate::held::{held_product, held_sum};
 use rx_ast::{
@@ -17,7 +17,7 @@ use rx_names::Index;
 use rx_order::Order;
 use std::alloc::{AllocError, Global};
 
-/// Nodes, levels and waits of a place.
+/// Nodes, levels, waits and throws of a place.
 #[derive(Clone, Copy, Debug, PartialEq, Eq)]
 pub struct Figures {
     /// Nodes of its own.
@@ -30,6 +30,10 @@ pub struct Figures {
     pub waits: Option<usize>,
     /// It places the given children where their wait would be its own.
     pub unguarded: bool,
+    /// The number of the first component for which it may throw.
+    pub throws: Option<usize>,
+    /// It places the given children where their throw would be its own.
+    pub uncaught: bool,
 }
 
 /// Nothing.
@@ -42,6 +46,8 @@ fn nothing() -> Figures
         levels: 0,
         waits: None,
         unguarded: false,
+        throws: None,
+        uncaught: false,
     }
 }
 
@@ -55,6 +61,8 @@ fn text() -> Figures
         levels: 1,
         waits: None,
         unguarded: false,
+        throws: None,
+        uncaught: false,
     }
 }
 
@@ -68,6 +76,8 @@ fn given_children() -> Figures
         levels: 1,
         waits: None,
         unguarded: true,
+        throws: None,
+        uncaught: true,
     }
 }
 
@@ -84,11 +94,12 @@ fn earlier(a: Option<usize>, b: Option<usize>) -> Option<usize>
     }
 }
 
-/// What the children that are given wait for, if they stand so that their wait is the component's own.
-fn where_unguarded(unguarded: bool, waits: Option<usize>) -> Option<usize>
-    ensures { result ≡ cond unguarded waits None }
+/// For which component the children that are given wait (or throw), if they stand so that their wait (or throw) is the
+/// component's own.
+fn if_unguarded(unguarded: bool, children: Option<usize>) -> Option<usize>
+    ensures { result ≡ cond unguarded children None }
 {
-    if unguarded { waits } else { None }
+    if unguarded { children } else { None }
 }
 
 /// Two places beside each other.
@@ -101,6 +112,8 @@ fn beside(a: Figures, b: Figures) -> Figures
         levels: a.levels.max(b.levels),
         waits: earlier(a.waits, b.waits),
         unguarded: a.unguarded || b.unguarded,
+        throws: earlier(a.throws, b.throws),
+        uncaught: a.uncaught || b.uncaught,
     }
 }
 
@@ -114,6 +127,8 @@ fn around(a: Figures) -> Figures
         levels: held_sum(1, a.levels),
         waits: a.waits,
         unguarded: a.unguarded,
+        throws: a.throws,
+        uncaught: a.uncaught,
     }
 }
 
@@ -127,10 +142,12 @@ fn repeated(limit: u64, a: Figures) -> Figures
         levels: held_sum(1, a.levels),
         waits: a.waits,
         unguarded: a.unguarded,
+        throws: a.throws,
+        uncaught: a.uncaught,
     }
 }
 
-/// A boundary with its fallback.
+/// A boundary with its fallback: it waits if its fallback does.
 fn boundary(a: Figures, b: Figures) -> Figures
     ensures { result ≡ boundary_figures a b }
 {
@@ -140,6 +157,23 @@ fn boundary(a: Figures, b: Figures) -> Figures
         levels: held_sum(1, a.levels.max(b.levels)),
         waits: b.waits,
         unguarded: b.unguarded,
+        throws: earlier(a.throws, b.throws),
+        uncaught: a.uncaught || b.uncaught,
+    }
+}
+
+/// An error boundary with its fallback: it throws if its fallback does.
+fn catcher(a: Figures, b: Figures) -> Figures
+    ensures { result ≡ catcher_figures a b }
+{
+    Figures {
+        own: held_sum(1, held_sum(a.own, b.own)),
+        given: held_sum(a.given, b.given),
+        levels: held_sum(1, a.levels.max(b.levels)),
+        waits: earlier(a.waits, b.waits),
+        unguarded: a.unguarded || b.unguarded,
+        throws: b.throws,
+        uncaught: b.uncaught,
     }
 }
 
@@ -151,8 +185,10 @@ fn filled(c: Figures, k: Figures) -> Figures
         own: held_sum(1, held_sum(c.own, held_product(c.given, k.own))),
         given: held_product(c.given, k.given),
         levels: held_sum(1, held_sum(c.levels, k.levels)),
-        waits: earlier(c.waits, where_unguarded(c.unguarded, k.waits)),
+        waits: earlier(c.waits, if_unguarded(c.unguarded, k.waits)),
         unguarded: c.unguarded && k.unguarded,
+        throws: earlier(c.throws, if_unguarded(c.uncaught, k.throws)),
+        uncaught: c.uncaught && k.uncaught,
     }
 }
 
@@ -177,6 +213,7 @@ fn tag(program: &Index, table: &[Figures], tag: &Tag, inner: Figures) -> Figures
             filled(known(table, program.component_number(name.text())), inner)
         }
         Tag::Suspense { fallback, .. } => boundary(inner, slot(program, table, fallback)),
+        Tag::Catch { fallback, .. } => catcher(inner, slot(program, table, fallback)),
     }
 }
 
@@ -287,18 +324,47 @@ fn reader_of(program: &Index, component: &Component) -> Option<usize>
     }
 }
 
+/// Whether a component may throw by itself.
+pub fn has_throw(component: &Component) -> bool
+    ensures { result ≡ has_throw component.now }
+{
+    for statement in component.statements() {
+        if let StatementKind::Throw { .. } = &statement.kind {
+            return true;
+        }
+    }
+    false
+}
+
+/// The number of a component, if it may throw by itself.
+fn thrower_of(program: &Index, component: &Component) -> Option<usize>
+    ensures { result ≡ thrower_of program.now component.now }
+{
+    if has_throw(component) {
+        program
+            .listing()
+            .components
+            .position(component.name().text())
+    } else {
+        None
+    }
+}
+
 /// The figures of a component's body.
 fn component(program: &Index, table: &[Figures], component: &Component) -> Figures
     ensures { result ≡ body_if (figures program.now) (known_in table.now) program.now (Some component.now) }
 {
     let inner = body(program, table, component.body());
     let reader = reader_of(program, component);
+    let thrower = thrower_of(program, component);
     Figures {
         own: inner.own,
         given: inner.given,
         levels: inner.levels,
         waits: earlier(reader, inner.waits),
         unguarded: inner.unguarded,
+        throws: earlier(thrower, inner.throws),
+        uncaught: inner.uncaught,
     }
 }
 
@@ -328,19 +394,27 @@ fn is_same_number(a: Option<usize>, b: Option<usize>) -> bool
     }
 }
 
+/// Whether there are as many nodes and levels.
+fn are_same_sizes(a: &Figures, b: &Figures) -> bool
+    ensures { IsTrue result → (a.now.own ≡ b.now.own) × (a.now.given ≡ b.now.given) × (a.now.levels ≡ b.now.levels) }
+{
+    a.own == b.own && a.given == b.given && a.levels == b.levels
+}
+
+/// Whether the given children stand in the same way: their waits, and their throws.
+fn are_same_ways(a: &Figures, b: &Figures) -> bool
+    ensures { IsTrue result → (a.now.unguarded ≡ b.now.unguarded) × (a.now.uncaught ≡ b.now.uncaught) }
+{
+    a.unguarded == b.unguarded && a.uncaught == b.uncaught
+}
+
 /// Whether the figures are the same.
 #[tactic(auto, using(crate::proofs::Same::same_figures))]
 fn is_same(a: &Figures, b: &Figures) -> bool
     ensures { IsTrue result → a.now ≡ b.now }
 {
-    if a.own == b.own {
-        if a.given == b.given {
-            if a.levels == b.levels {
-                if is_same_number(a.waits, b.waits) {
-                    return a.unguarded == b.unguarded;
-                }
-            }
-        }
+    if are_same_sizes(a, b) && are_same_ways(a, b) {
+        return is_same_number(a.waits, b.waits) && is_same_number(a.throws, b.throws);
     }
     false
 }

@@ -6,5 +6,5 @@ mod figures;
 mod held;
 
 pub use costs::cost_over;
-pub use figures::{Figures, root_figures};
+pub use figures::{Figures, has_throw, root_figures};
 pub use held::held_sum;

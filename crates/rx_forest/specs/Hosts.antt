@@ -40,6 +40,7 @@ content_of (elements.host n k attrs es) = Some (tag n (by_name attrs))
 content_of (elements.comp c k ps es) = None
 content_of (elements.list marked es) = None
 content_of (elements.boundary k f es) = None
+content_of (elements.catcher k f es) = None
 content_of (elements.provider c k x es) = None
 
 -- a host of this number and content, by what surrounds it

@@ -2,6 +2,7 @@
 use Rattle.std.proofs.Common.{◌≡◌, ℕ, ◌-◌, ◌<◌, Bool, true, false, inl, inr, Option, Some, None, Ok, List, [], ◌∷◌, ◌++◌, length, codes, flat_map, refl, sym, ap, ◌∙◌, subst, append_assoc, append-nil, arith}
 use Rattle.std.proofs.lemmas.Bool.{false≢true}
 use Rattle.rx_base.specs.Values.{Name}
+use Rattle.rx_lex.specs.declared.token.Keyword.{Keyword}
 use Rattle.rx_lex.specs.declared.token.Keyword.TheVariants as word
 use Rattle.rx_lex.specs.declared.token.Sign.{Sign}
 use Rattle.rx_lex.specs.declared.token.Sign.TheVariants as sign
@@ -12,10 +13,10 @@ use Rattle.rx_ast.specs.Syntax.{Expr, Attribute, KeyPlace, Slot, Slots, no_slots
 use Rattle.rx_print.specs.Printing.{in_braces, given, attribute_tokens, keyed, expr_tokens, slot_tokens, slots_tokens, provider_name, content_tokens}
 use Rattle.rx_print.specs.Levels.{whole_line, ExprFits, HostAttributesFit, ComponentAttributesFit, KeyFits, EndsWith, SlotFits, SlotsFit, Place, of_slot, of_child}
 use Rattle.rx_grammar.specs.Steps.{Read, ◌>>=◌, next, is_mark, is_word, is_lower, taken, as_word, as_lower}
-use Rattle.rx_grammar.specs.Openings.{Opening, host_tag, component_tag, boundary_tag, provider_tag, element}
+use Rattle.rx_grammar.specs.Openings.{Opening, host_tag, component_tag, boundary_tag, catcher_tag, provider_tag, element}
 use Rattle.rx_grammar.specs.Reading.{sign_at, attributes_at, keyed_at, value_at, braced_slot, fallback_at, provider_at, upper_tag_at, tag_at, closing_name_at, SlotInner, close_at, end_or_element, child_at, children_with, content_at, element_with, element_at}
 use Rattle.rx_grammar.proofs.Readings.{rank, Reads, said}
-use Rattle.rx_grammar.proofs.Combine.{pure, seq, after, token, alt, inside, After, Or, Misses, avoids, passed, Always}
+use Rattle.rx_grammar.proofs.Combine.{pure, seq, after, token, alt, inside, After, Or, Misses, avoids, misses_or, passed, Always, IsToken}
 use Rattle.rx_grammar.proofs.Many.{Row, Step, RowTo, row_to}
 use Rattle.rx_grammar.proofs.Tokens.{mark, reserved, lower, upper, lower_name, upper_name, mark_ranked}
 use Rattle.rx_grammar.proofs.Exprs.{ExprL}
@@ -30,18 +31,21 @@ abbrev pub opening_name : Opening → List Kind
 opening_name (host_tag x attrs) = Lower x ∷ []
 opening_name (component_tag x attrs) = Upper x ∷ []
 opening_name (boundary_tag k s) = Word word.Suspense ∷ []
+opening_name (catcher_tag k s) = Word word.Catch ∷ []
 opening_name (provider_tag x k e) = provider_name x
 
 abbrev pub opening_given : Opening → List Kind
 opening_given (host_tag x attrs) = flat_map attribute_tokens attrs
 opening_given (component_tag x attrs) = flat_map attribute_tokens attrs
 opening_given (boundary_tag k s) = keyed k (given (Lower (codes "fallback")) (slot_tokens s))
+opening_given (catcher_tag k s) = keyed k (given (Lower (codes "fallback")) (slot_tokens s))
 opening_given (provider_tag x k e) = keyed k (given (Lower (codes "value")) (expr_tokens e))
 
 abbrev pub OpeningFits : Opening → ℕ → Type 0
 OpeningFits (host_tag x attrs) n = HostAttributesFit attrs n
 OpeningFits (component_tag x attrs) n = ComponentAttributesFit attrs n
 OpeningFits (boundary_tag k s) n = KeyFits k n × SlotFits s of_slot n
+OpeningFits (catcher_tag k s) n = KeyFits k n × SlotFits s of_slot n
 OpeningFits (provider_tag x k e) n = KeyFits k n × ExprFits e whole_line n
 
 -- an opening tag behind its `<`
@@ -53,6 +57,7 @@ pub closing_reads : (o : Opening) → Reads (closing_name_at o) (λ u p. p ≡ o
 closing_reads (host_tag x attrs) = said (λ u p. p ≡ Lower x ∷ []) 1 0 (token (lower_name x)) (omega arith) (omega arith) (λ u p h. h.0) (λ u p h. (h, tt))
 closing_reads (component_tag x attrs) = said (λ u p. p ≡ Upper x ∷ []) 1 0 (token (upper_name x)) (omega arith) (omega arith) (λ u p h. h.0) (λ u p h. (h, tt))
 closing_reads (boundary_tag k s) = said (λ u p. p ≡ Word word.Suspense ∷ []) 1 0 (token (reserved word.Suspense)) (omega arith) (omega arith) (λ u p h. h.0) (λ u p h. (h, tt))
+closing_reads (catcher_tag k s) = said (λ u p. p ≡ Word word.Catch ∷ []) 1 0 (token (reserved word.Catch)) (omega arith) (omega arith) (λ u p h. h.0) (λ u p h. (h, tt))
 closing_reads (provider_tag x k e) = said (λ u p. p ≡ provider_name x) 1 0
     (after (upper_name x) (λ n. after (mark sign.Dot) (λ d. token (reserved word.Provider)) (omega arith)) (omega arith)) (omega arith) (omega arith)
     (λ u p h. let a = h.4.4.0 in cc)
@@ -128,19 +133,21 @@ module _ (read : List Kind → Read Slot) (n : ℕ) (S : Reads read (SlotL of_sl
       (λ o p l. (Mark sign.Dot, _, l.5, refl))
       (component_avoids x)) (omega arith)) (omega arith) (omega arith) (λ a p h. h) (λ a p h. h)
 
-  abbrev BoundaryTag : Opening → List Kind → Type 0
-  BoundaryTag o p = (k : KeyPlace) × (s : Slot) × (o ≡ boundary_tag k s) × OpeningL n (boundary_tag k s) p
+  -- the tag of a boundary, of Suspense or of errors, by its word
+  abbrev FallbackTag : Keyword → (KeyPlace → Slot → Opening) → Opening → List Kind → Type 0
+  FallbackTag w of o p =
+      (k : KeyPlace) × (s : Slot) × (o ≡ of k s) × ((KeyFits k n × SlotFits s of_slot n) × (p ≡ Word w ∷ keyed k (given (Lower (codes "fallback")) (slot_tokens s))))
 
-  boundary_reads : Reads (λ ts. taken (as_word word.Suspense) ts >>= λ w. keyed_at n (fallback_at read) w.1 >>= λ k. Ok (boundary_tag k.0.0 k.0.1, k.1)) BoundaryTag 1 1 true
-  boundary_reads = said BoundaryTag 1 1
-      (after (reserved word.Suspense) (λ w. seq (keyed_laws n (fallback_at read) Fallback fallback_reads (λ e p l. (Lower (codes "fallback"), _, l.1, refl))) (λ k. pure (boundary_tag k.0 k.1) 1) (omega arith)) (omega arith)) (omega arith) (omega arith)
+  fallback_tag_reads : (w : Keyword) (of : KeyPlace → Slot → Opening) → IsToken (as_word w) (λ u. Word w) Always 11 → Reads (λ ts. taken (as_word w) ts >>= λ u. keyed_at n (fallback_at read) u.1 >>= λ k. Ok (of k.0.0 k.0.1, k.1)) (FallbackTag w of) 1 1 true
+  fallback_tag_reads w of T = said (FallbackTag w of) 1 1
+      (after T (λ u. seq (keyed_laws n (fallback_at read) Fallback fallback_reads (λ e p l. (Lower (codes "fallback"), _, l.1, refl))) (λ k. pure (of k.0 k.1) 1) (omega arith)) (omega arith)) (omega arith) (omega arith)
       (λ o p h.
       let k = h.4.0 in
       let l = h.4.4 in
       let ks = given (Lower (codes "fallback")) (slot_tokens k.1) in
       let v : h.4.1 ≡ keyed k.0 ks = l.1.2 ∙ ap (keyed k.0) l.1.1.1 in
       let tail : h.1 ≡ keyed k.0 ks = h.4.3 ∙ (ap (λ z. h.4.1 ++ z) h.4.5.1 ∙ (append-nil h.4.1 ∙ v)) in
-      (k.0, k.1, h.4.5.0, ((l.0, l.1.1.0), h.2 ∙ ap (λ z. Word word.Suspense ∷ z) tail)))
+      (k.0, k.1, h.4.5.0, ((l.0, l.1.1.0), h.2 ∙ ap (λ z. Word w ∷ z) tail)))
       (λ o p l.
       let ks = given (Lower (codes "fallback")) (slot_tokens l.1) in
       (tt, _, l.3.1, tt, ((l.0, l.1), keyed l.0 ks, [], sym (append-nil (keyed l.0 ks)), (l.3.0.0, (ks, (l.3.0.1, refl), refl)), (l.2, refl))))
@@ -158,31 +165,40 @@ module _ (read : List Kind → Read Slot) (n : ℕ) (S : Reads read (SlotL of_sl
       let ks = flat_map attribute_tokens l.1 in
       (l.0, ks, l.3.1, tt, (l.1, ks, [], sym (append-nil ks), host_back n l.1 l.3.0, (l.2, refl))))
 
-  tag_to : (o : Opening) (p : List Kind) → Or BoundaryTag (Or HostTag UpperTag) o p → OpeningL n o p
+  abbrev AnyTag : Opening → List Kind → Type 0
+  AnyTag = Or (FallbackTag word.Suspense boundary_tag) (Or (FallbackTag word.Catch catcher_tag) (Or HostTag UpperTag))
+
+  tag_to : (o : Opening) (p : List Kind) → AnyTag o p → OpeningL n o p
   tag_to o p (inl (k, s, made, l)) = subst (λ z. OpeningL n z p) (sym made) l
-  tag_to o p (inr (inl (x, attrs, made, l))) = subst (λ z. OpeningL n z p) (sym made) l
-  tag_to o p (inr (inr (x, v, e, t, inl (k, a, made, fk, fe, w)))) = subst (λ z. OpeningL n z p) (sym made) ((fk, fe), e ∙ ap (λ z. Upper x ∷ z) w)
-  tag_to o p (inr (inr (x, v, e, t, inr (attrs, made, f, w)))) = subst (λ z. OpeningL n z p) (sym made) (f, e ∙ ap (λ z. Upper x ∷ z) w)
+  tag_to o p (inr (inl (k, s, made, l))) = subst (λ z. OpeningL n z p) (sym made) l
+  tag_to o p (inr (inr (inl (x, attrs, made, l)))) = subst (λ z. OpeningL n z p) (sym made) l
+  tag_to o p (inr (inr (inr (x, v, e, t, inl (k, a, made, fk, fe, w))))) = subst (λ z. OpeningL n z p) (sym made) ((fk, fe), e ∙ ap (λ z. Upper x ∷ z) w)
+  tag_to o p (inr (inr (inr (x, v, e, t, inr (attrs, made, f, w))))) = subst (λ z. OpeningL n z p) (sym made) (f, e ∙ ap (λ z. Upper x ∷ z) w)
 
-  tag_back : (o : Opening) (p : List Kind) → OpeningL n o p → Or BoundaryTag (Or HostTag UpperTag) o p
-  tag_back (host_tag x attrs) p l = inr (inl (x, attrs, refl, l))
-  tag_back (component_tag x attrs) p l = inr (inr (x, flat_map attribute_tokens attrs, l.1, tt, inr (attrs, refl, l.0, refl)))
+  tag_back : (o : Opening) (p : List Kind) → OpeningL n o p → AnyTag o p
+  tag_back (host_tag x attrs) p l = inr (inr (inl (x, attrs, refl, l)))
+  tag_back (component_tag x attrs) p l = inr (inr (inr (x, flat_map attribute_tokens attrs, l.1, tt, inr (attrs, refl, l.0, refl))))
   tag_back (boundary_tag k s) p l = inl (k, s, refl, l)
-  tag_back (provider_tag x k e) p l = inr (inr (x, Mark sign.Dot ∷ Word word.Provider ∷ keyed k (given (Lower (codes "value")) (expr_tokens e)), l.1, tt, inl (k, e, refl, l.0.0, l.0.1, refl)))
+  tag_back (catcher_tag k s) p l = inr (inl (k, s, refl, l))
+  tag_back (provider_tag x k e) p l = inr (inr (inr (x, Mark sign.Dot ∷ Word word.Provider ∷ keyed k (given (Lower (codes "value")) (expr_tokens e)), l.1, tt, inl (k, e, refl, l.0.0, l.0.1, refl))))
 
-  suspense_misses : Misses (is_word word.Suspense) (Or HostTag UpperTag)
-  suspense_misses o p (inl (x, attrs, made, l)) = (Lower x, _, l.1, refl)
-  suspense_misses o p (inr (x, v, e, t, l)) = (Upper x, v, e, refl)
+  word_misses : (w : Keyword) → Misses (is_word w) (Or HostTag UpperTag)
+  word_misses w o p (inl (x, attrs, made, l)) = (Lower x, _, l.1, refl)
+  word_misses w o p (inr (x, v, e, t, l)) = (Upper x, v, e, refl)
 
   pub tag_reads : Reads (tag_at read n) (OpeningL n) 1 1 true
   unfolding tag_at
   tag_reads = said (OpeningL n) 1 1
-      (alt (is_word word.Suspense) boundary_reads
+      (alt (is_word word.Suspense) (fallback_tag_reads word.Suspense boundary_tag (reserved word.Suspense))
+      (alt (is_word word.Catch) (fallback_tag_reads word.Catch catcher_tag (reserved word.Catch))
       (alt is_lower host_reads upper_reads
       (λ o p l. (Lower l.0, _, l.3.1, refl))
       (avoids is_lower UpperTag 1 (λ o p l. (Upper l.0, l.1, l.2, refl))))
+      (λ o p l. (Word word.Catch, _, l.3.1, refl))
+      (avoids (is_word word.Catch) (Or HostTag UpperTag) 1 (word_misses word.Catch)))
       (λ o p l. (Word word.Suspense, _, l.3.1, refl))
-      (avoids (is_word word.Suspense) (Or HostTag UpperTag) 1 suspense_misses))
+      (avoids (is_word word.Suspense) (Or (FallbackTag word.Catch catcher_tag) (Or HostTag UpperTag)) 1
+      (misses_or (is_word word.Suspense) (FallbackTag word.Catch catcher_tag) (Or HostTag UpperTag) (λ o p l. (Word word.Catch, _, l.3.1, refl)) (word_misses word.Suspense))))
       (omega arith) (omega arith) tag_to tag_back
 
 -- `</`
@@ -314,6 +330,7 @@ opening_slot : (at : Place) (n : ℕ) (o : Opening) (w : Ending) (ss : Slots) �
 opening_slot at n (host_tag x attrs) w ss left f e s = ((left, f, e, s), refl)
 opening_slot at n (component_tag x attrs) w ss left f e s = ((left, f, e, s), refl)
 opening_slot at n (boundary_tag k t) w ss left f e s = ((left, f.0, f.1, e, s), refl)
+opening_slot at n (catcher_tag k t) w ss left f e s = ((left, f.0, f.1, e, s), refl)
 opening_slot at n (provider_tag x k t) w ss left f e s = ((left, f.0, f.1, e, s), refl)
 
 -- an element stands in each place
@@ -327,6 +344,7 @@ abbrev pub is_element : Slot → Bool
 is_element (syntax.host x attrs w ss) = true
 is_element (syntax.comp x attrs w ss) = true
 is_element (syntax.boundary k s w ss) = true
+is_element (syntax.catcher k s w ss) = true
 is_element (syntax.provider x k e w ss) = true
 is_element s = false
 
@@ -334,6 +352,7 @@ pub slot_tag : (at : Place) (n : ℕ) (s : Slot) (p : List Kind) → is_element 
 slot_tag at n (syntax.host x attrs w ss) p is l = (l.0.0, (_, l.1, (host_tag x attrs, w, ss, refl, l.0.1, l.0.2, l.0.3, refl)))
 slot_tag at n (syntax.comp x attrs w ss) p is l = (l.0.0, (_, l.1, (component_tag x attrs, w, ss, refl, l.0.1, l.0.2, l.0.3, refl)))
 slot_tag at n (syntax.boundary k s w ss) p is l = (l.0.0, (_, l.1, (boundary_tag k s, w, ss, refl, (l.0.1, l.0.2), l.0.3, l.0.4, refl)))
+slot_tag at n (syntax.catcher k s w ss) p is l = (l.0.0, (_, l.1, (catcher_tag k s, w, ss, refl, (l.0.1, l.0.2), l.0.3, l.0.4, refl)))
 slot_tag at n (syntax.provider x k e w ss) p is l = (l.0.0, (_, l.1, (provider_tag x k e, w, ss, refl, (l.0.1, l.0.2), l.0.3, l.0.4, refl)))
 slot_tag at n s p is l = absurd (false≢true is)
 
@@ -344,6 +363,7 @@ element_misses s n t p (o, w, ss, made, fo, fe, fs, e) = by_opening o e
     by_opening (host_tag x attrs) e = (Lower x, _, e, refl)
     by_opening (component_tag x attrs) e = (Upper x, _, e, refl)
     by_opening (boundary_tag k t) e = (Word word.Suspense, _, e, refl)
+    by_opening (catcher_tag k t) e = (Word word.Catch, _, e, refl)
     by_opening (provider_tag x k t) e = (Upper x, _, e, refl)
 
 module _ (o : Option SlotInner) (n : ℕ) (lev : SlotLevel o n) (read : List Kind → Read Slot) (S : Reads read (SlotL of_slot n) 1 9 true) where
@@ -394,6 +414,7 @@ module _ (o : Option SlotInner) (n : ℕ) (lev : SlotLevel o n) (read : List Kin
   child_back (Some (syntax.host x attrs w ss)) p l = tag_child _ p (slot_tag of_child n (syntax.host x attrs w ss) p refl l)
   child_back (Some (syntax.comp x attrs w ss)) p l = tag_child _ p (slot_tag of_child n (syntax.comp x attrs w ss) p refl l)
   child_back (Some (syntax.boundary k s w ss)) p l = tag_child _ p (slot_tag of_child n (syntax.boundary k s w ss) p refl l)
+  child_back (Some (syntax.catcher k s w ss)) p l = tag_child _ p (slot_tag of_child n (syntax.catcher k s w ss) p refl l)
   child_back (Some (syntax.provider x k e w ss)) p l = tag_child _ p (slot_tag of_child n (syntax.provider x k e w ss) p refl l)
 
   pub child_reads : Reads (child_at o read) (Step (SlotL of_child n) Close) 1 0 true

@@ -35,6 +35,7 @@ word_rank word.Function = 1
 word_rank word.Key = 1
 word_rank word.UseEffect = 1
 word_rank word.UseLayoutEffect = 1
+word_rank word.ThrowIf = 1
 word_rank w = 11
 
 abbrev pub kind_rank : Kind → ℕ

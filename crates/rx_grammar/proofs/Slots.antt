@@ -266,6 +266,7 @@ slot_back n (enclosed braces t) p l = absurd (let e = l.0.0 in let b : ⊥ = cc 
 slot_back n (syntax.host x attrs w ss) p l = inl (slot_tag of_slot n (syntax.host x attrs w ss) p refl l)
 slot_back n (syntax.comp x attrs w ss) p l = inl (slot_tag of_slot n (syntax.comp x attrs w ss) p refl l)
 slot_back n (syntax.boundary k s w ss) p l = inl (slot_tag of_slot n (syntax.boundary k s w ss) p refl l)
+slot_back n (syntax.catcher k s w ss) p l = inl (slot_tag of_slot n (syntax.catcher k s w ss) p refl l)
 slot_back n (syntax.provider x k e w ss) p l = inl (slot_tag of_slot n (syntax.provider x k e w ss) p refl l)
 
 -- a phrase of an integer in parentheses

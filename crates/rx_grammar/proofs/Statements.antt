@@ -9,11 +9,11 @@ use Rattle.rx_lex.specs.declared.token.Kind.{Kind}
 use Rattle.rx_lex.specs.declared.token.Kind.TheVariants.{Upper, Lower, Text, Word, Mark}
 use Rattle.std.specs.List.{list_all}
 use Rattle.rx_lex.specs.Tokens.{IsRun, is_word_byte}
-use Rattle.rx_ast.specs.Syntax.{Expr, exprs_of, Statement, state, reducer, transition, context, use_resource, constant, effect}
+use Rattle.rx_ast.specs.Syntax.{Expr, exprs_of, Statement, state, reducer, transition, context, use_resource, constant, effect, throw_if}
 use Rattle.rx_print.specs.Printing.{expr_tokens, exprs_tokens, statement_tokens}
 use Rattle.rx_print.specs.Levels.{whole_line, ExprFits, ExprsFit, StatementFits, StatementsFit}
 use Rattle.rx_grammar.specs.Steps.{is_mark, is_word}
-use Rattle.rx_grammar.specs.Reading.{is_resource, where_resource, as_resource, argument_at, hook_at, pair_at, value_statement, const_at, effect_at, statement_at, is_statement, statements_at}
+use Rattle.rx_grammar.specs.Reading.{is_resource, where_resource, as_resource, argument_at, hook_at, pair_at, value_statement, const_at, effect_at, throw_at, statement_at, is_statement, statements_at}
 use Rattle.rx_grammar.proofs.Readings.{kind_rank, Reads, said}
 use Rattle.rx_grammar.proofs.Combine.{pure, seq, after, alt, After, Or, Starts, Misses, avoids, misses_or, Always, IsToken}
 use Rattle.rx_grammar.proofs.Many.{Row, row, Loop, loop}
@@ -196,8 +196,19 @@ Passive n = After (λ (u : Unit {0}). Word word.UseEffect) Always (λ u. Effect 
 abbrev Layout : ℕ → Statement → List Kind → Type 0
 Layout n = After (λ (u : Unit {0}). Word word.UseLayoutEffect) Always (λ u. Effect n true)
 
+-- `throwIf`, `(`, an expression and `);`
+abbrev Throw : ℕ → Statement → List Kind → Type 0
+Throw n s p = (e : Expr) × (s ≡ throw_if e) × ExprFits e whole_line n × (p ≡ Word word.ThrowIf ∷ Mark sign.OpenParen ∷ (expr_tokens e ++ Mark sign.CloseParen ∷ Mark sign.Semicolon ∷ []))
+
+throw_reads : (n : ℕ) → Reads (throw_at n) (Throw n) 1 0 true
+unfolding throw_at
+throw_reads n = said (Throw n) 1 0
+    (after (reserved word.ThrowIf) (λ w. after (mark sign.OpenParen) (λ p. seq (argument_reads n) (λ e. pure (throw_if e) 0) (omega arith)) (omega arith)) (omega arith)) (omega arith) (omega arith)
+    (λ s p h. let a = h.4.4 in (a.0, a.5.0, a.4.0, let b = a.4.1 in let nil = append-nil a.1 in cc))
+    (λ s p l. (tt, _, l.3, tt, (tt, _, refl, tt, (l.0, _, [], sym (append-nil _), (l.2, refl), (l.1, refl)))))
+
 abbrev Any : ℕ → Statement → List Kind → Type 0
-Any n = Or (Const n) (Or (Passive n) (Layout n))
+Any n = Or (Const n) (Or (Throw n) (Or (Passive n) (Layout n)))
 
 -- the two ways to write the end of a statement
 ends : (ks : List Kind) → (ks ++ Mark sign.CloseParen ∷ []) ++ Mark sign.Semicolon ∷ [] ≡ ks ++ Mark sign.CloseParen ∷ Mark sign.Semicolon ∷ []
@@ -213,8 +224,9 @@ statement_to n s p (inl (u, v, e, t, inl (x, y, w, f, inr (inr (c, a, made, fit,
 statement_to n s p (inl (u, v, e, t, inr (x, w, f, inl (c, made, g)))) = subst (λ z. StatementL n z p) (sym made) (tt, cc)
 statement_to n s p (inl (u, v, e, t, inr (x, w, f, inr (inl (r, made, named, g))))) = subst (λ z. StatementL n z p) (sym made) (resource_named r named, cc)
 statement_to n s p (inl (u, v, e, t, inr (x, w, f, inr (inr (a, made, fit, g))))) = subst (λ z. StatementL n z p) (sym made) (fit, cc)
-statement_to n s p (inr (inl (u, v, e, t, (l, es, made, fit, g)))) = subst (λ z. StatementL n z p) (sym made) (fit, let h = effect_ends (exprs_tokens (exprs_of es)) in cc)
-statement_to n s p (inr (inr (u, v, e, t, (l, es, made, fit, g)))) = subst (λ z. StatementL n z p) (sym made) (fit, let h = effect_ends (exprs_tokens (exprs_of es)) in cc)
+statement_to n s p (inr (inl (a, made, fit, g))) = subst (λ z. StatementL n z p) (sym made) (fit, let h = ends (expr_tokens a) in cc)
+statement_to n s p (inr (inr (inl (u, v, e, t, (l, es, made, fit, g))))) = subst (λ z. StatementL n z p) (sym made) (fit, let h = effect_ends (exprs_tokens (exprs_of es)) in cc)
+statement_to n s p (inr (inr (inr (u, v, e, t, (l, es, made, fit, g))))) = subst (λ z. StatementL n z p) (sym made) (fit, let h = effect_ends (exprs_tokens (exprs_of es)) in cc)
 
 statement_back : (n : ℕ) (s : Statement) (p : List Kind) → StatementL n s p → Any n s p
 statement_back n (state x y e) p l =
@@ -226,31 +238,40 @@ statement_back n (context x c) p l = inl (tt, _, l.1, tt, inr (x, _, refl, inl (
 statement_back n (use_resource x r) p l = inl (tt, _, l.1, tt, inr (x, _, refl, inr (inl (r, refl, named_resource r l.0.0 l.0.1, refl))))
 statement_back n (constant x e) p l = inl (tt, _, l.1, tt, inr (x, _, refl, inr (inr (e, refl, l.0, refl))))
 statement_back n (effect false t es) p l =
-    inr (inl (tt, _, l.1, tt, (t, es, refl, l.0, ap (λ z. Mark sign.OpenParen ∷ Text t ∷ Mark sign.Comma ∷ Mark sign.OpenBracket ∷ z) (effect_ends (exprs_tokens (exprs_of es))))))
+    inr (inr (inl (tt, _, l.1, tt, (t, es, refl, l.0, ap (λ z. Mark sign.OpenParen ∷ Text t ∷ Mark sign.Comma ∷ Mark sign.OpenBracket ∷ z) (effect_ends (exprs_tokens (exprs_of es)))))))
 statement_back n (effect true t es) p l =
-    inr (inr (tt, _, l.1, tt, (t, es, refl, l.0, ap (λ z. Mark sign.OpenParen ∷ Text t ∷ Mark sign.Comma ∷ Mark sign.OpenBracket ∷ z) (effect_ends (exprs_tokens (exprs_of es))))))
+    inr (inr (inr (tt, _, l.1, tt, (t, es, refl, l.0, ap (λ z. Mark sign.OpenParen ∷ Text t ∷ Mark sign.Comma ∷ Mark sign.OpenBracket ∷ z) (effect_ends (exprs_tokens (exprs_of es)))))))
+statement_back n (throw_if e) p l =
+    inr (inl (e, refl, l.0, l.1 ∙ ap (λ z. Word word.ThrowIf ∷ Mark sign.OpenParen ∷ z) (ends (expr_tokens e))))
 
 pub statement_reads : (n : ℕ) → Reads (statement_at n) (StatementL n) 1 0 true
 unfolding statement_at
 statement_reads n = said (StatementL n) 1 0
     (alt (is_word word.Const) (const_reads n)
+    (alt (is_word word.ThrowIf) (throw_reads n)
     (alt (is_word word.UseEffect)
     (after (reserved word.UseEffect) (λ w. effect_reads n false) (omega arith))
     (after (reserved word.UseLayoutEffect) (λ w. effect_reads n true) (omega arith))
     (λ s p l. (Word word.UseEffect, _, l.2, refl))
     (avoids (is_word word.UseEffect) (Layout n) 0 (λ s p l. (Word word.UseLayoutEffect, _, l.2, refl))))
+    (λ s p l. (Word word.ThrowIf, _, l.3, refl))
+    (avoids (is_word word.ThrowIf) (Or (Passive n) (Layout n)) 0 (effects_miss word.ThrowIf refl refl)))
     (λ s p l. (Word word.Const, _, l.2, refl))
-    (avoids (is_word word.Const) (Or (Passive n) (Layout n)) 0
-    (misses_or (is_word word.Const) (Passive n) (Layout n) (λ s p l. (Word word.UseEffect, _, l.2, refl)) (λ s p l. (Word word.UseLayoutEffect, _, l.2, refl)))))
+    (avoids (is_word word.Const) (Or (Throw n) (Or (Passive n) (Layout n))) 0
+    (misses_or (is_word word.Const) (Throw n) (Or (Passive n) (Layout n)) (λ s p l. (Word word.ThrowIf, _, l.3, refl)) (effects_miss word.Const refl refl))))
     (omega arith) (omega arith) (statement_to n) (statement_back n)
+  where
+    effects_miss : (w : Keyword) → is_word w (Word word.UseEffect) ≡ false → is_word w (Word word.UseLayoutEffect) ≡ false → Misses (is_word w) (Or (Passive n) (Layout n))
+    effects_miss w first second = misses_or (is_word w) (Passive n) (Layout n) (λ s p l. (Word word.UseEffect, _, l.2, first)) (λ s p l. (Word word.UseLayoutEffect, _, l.2, second))
 
 statement_starts : (n : ℕ) → Starts is_statement (StatementL n)
 statement_starts n s p l = by_back (statement_back n s p l)
   where
     by_back : Any n s p → (k : Kind) × (v : List Kind) × (p ≡ k ∷ v) × (is_statement k ≡ true)
     by_back (inl m) = (Word word.Const, m.1, m.2, refl)
-    by_back (inr (inl m)) = (Word word.UseEffect, m.1, m.2, refl)
-    by_back (inr (inr m)) = (Word word.UseLayoutEffect, m.1, m.2, refl)
+    by_back (inr (inl m)) = (Word word.ThrowIf, _, m.3, refl)
+    by_back (inr (inr (inl m))) = (Word word.UseEffect, m.1, m.2, refl)
+    by_back (inr (inr (inr m))) = (Word word.UseLayoutEffect, m.1, m.2, refl)
 
 pub or_true : (b c : Bool) → b || c ≡ true → (b ≡ true) ⊎ (c ≡ true)
 or_true true c e = inl refl
@@ -259,8 +280,11 @@ or_true false c e = inr e
 statement_ranked : (k : Kind) → is_statement k ≡ true → kind_rank k ≤ 1
 statement_ranked k h = ⊎_elim
     (λ w. word_ranked word.Const 1 (omega arith) k w)
-    (λ w. ⊎_elim (λ v. word_ranked word.UseEffect 1 (omega arith) k v) (λ v. word_ranked word.UseLayoutEffect 1 (omega arith) k v) (or_true (is_word word.UseEffect k) (is_word word.UseLayoutEffect k) w))
-    (or_true (is_word word.Const k) (is_word word.UseEffect k || is_word word.UseLayoutEffect k) h)
+    (λ w. ⊎_elim (λ v. word_ranked word.ThrowIf 1 (omega arith) k v) effects_ranked (or_true (is_word word.ThrowIf k) (is_word word.UseEffect k || is_word word.UseLayoutEffect k) w))
+    (or_true (is_word word.Const k) (is_word word.ThrowIf k || (is_word word.UseEffect k || is_word word.UseLayoutEffect k)) h)
+  where
+    effects_ranked : is_word word.UseEffect k || is_word word.UseLayoutEffect k ≡ true → kind_rank k ≤ 1
+    effects_ranked w = ⊎_elim (λ v. word_ranked word.UseEffect 1 (omega arith) k v) (λ v. word_ranked word.UseLayoutEffect 1 (omega arith) k v) (or_true (is_word word.UseEffect k) (is_word word.UseLayoutEffect k) w)
 
 pub statements_read : (n : ℕ) → Reads (statements_at n) (Row (StatementL n)) 1 1 true
 statements_read n = row is_statement 1 1 (statement_reads n) (statement_starts n) (omega arith) (omega arith) (omega arith) (omega arith) statement_ranked

@@ -17,12 +17,12 @@ use Rattle.rx_ast.specs.ExprView.{links_of}
 use Rattle.rx_ast.specs.Syntax.{Expr, number, variable, grouped, prefixed, chain, chosen, called, exprs_of}
 use Rattle.rx_ast.specs.Syntax.{Attribute, key, computed, literal, KeyPlace, unkeyed, key_first, key_last, at_once, by_tag, parentheses, braces}
 use Rattle.rx_ast.specs.Syntax.{Slot, null, words, number_of, children, repeated, choice, enclosed, no_slots, slots_of}
-use Rattle.rx_ast.specs.Syntax.{Body, single, fragment, enclosed_fragment, Statement, state, reducer, transition, context, use_resource, constant, effect}
+use Rattle.rx_ast.specs.Syntax.{Body, single, fragment, enclosed_fragment, Statement, state, reducer, transition, context, use_resource, constant, effect, throw_if}
 use Rattle.rx_ast.specs.Syntax.{Line, Parameter, integer, given_children, Declaration, of_context, of_function, of_component, Program}
 use Rattle.rx_print.specs.Printing.{prefix_sign}
 use Rattle.rx_print.specs.Levels.{operator_line, or_line}
 use Rattle.rx_grammar.specs.Steps.{Read, ◌>>=◌, next, taken, is_mark, is_word, is_lower, is_text, as_mark, as_word, as_end, as_lower, as_upper, as_number, as_text, as_lower_name, as_upper_name, all_of, where_true, within, until_end}
-use Rattle.rx_grammar.specs.Openings.{Opening, host_tag, component_tag, boundary_tag, provider_tag, element}
+use Rattle.rx_grammar.specs.Openings.{Opening, host_tag, component_tag, boundary_tag, catcher_tag, provider_tag, element}
 
 -- this sign
 abbrev pub sign_at : Sign → List Kind → Read (Unit {0})
@@ -174,7 +174,7 @@ attributes_at host n = all_of is_attribute (attribute_at host n)
 abbrev pub last_key_at : ℕ → List Kind → Read KeyPlace
 last_key_at n ts = if next (is_word word.Key) ts then (key_at n ts >>= λ e. Ok (key_last e.0, e.1)) else Ok (unkeyed, ts)
 
--- what a boundary or a provider is given, and its key in its place
+-- what a boundary, of Suspense or of errors, or a provider is given, and its key in its place
 abbrev pub keyed_at : {A : Type 0} → ℕ → (List Kind → Read A) → List Kind → Read (KeyPlace × A)
 keyed_at n item ts =
     if next (is_word word.Key) ts then (key_at n ts >>= λ e. item e.1 >>= λ x. Ok ((key_first e.0, x.0), x.1))
@@ -188,7 +188,7 @@ value_at n ts = taken (as_lower_name (codes "value")) ts >>= λ v. sign_at sign.
 abbrev pub braced_slot : (List Kind → Read Slot) → List Kind → Read Slot
 braced_slot slot ts = sign_at sign.OpenBrace ts >>= λ s. slot s.1 >>= λ x. sign_at sign.CloseBrace x.1 >>= λ c. Ok (x.0, c.1)
 
--- the fallback of a boundary
+-- the fallback of a boundary, of Suspense or of errors
 abbrev pub fallback_at : (List Kind → Read Slot) → List Kind → Read Slot
 fallback_at slot ts = taken (as_lower_name (codes "fallback")) ts >>= λ f. sign_at sign.Equals f.1 >>= λ q. braced_slot slot q.1
 
@@ -204,14 +204,16 @@ upper_tag_at n ts = taken as_upper ts >>= λ x. if next (is_mark sign.Dot) x.1 t
 unfoldable pub tag_at : (List Kind → Read Slot) → ℕ → List Kind → Read Opening
 tag_at slot n ts =
     if next (is_word word.Suspense) ts then (taken (as_word word.Suspense) ts >>= λ w. keyed_at n (fallback_at slot) w.1 >>= λ k. Ok (boundary_tag k.0.0 k.0.1, k.1))
+    else (if next (is_word word.Catch) ts then (taken (as_word word.Catch) ts >>= λ w. keyed_at n (fallback_at slot) w.1 >>= λ k. Ok (catcher_tag k.0.0 k.0.1, k.1))
     else (if next is_lower ts then (taken as_lower ts >>= λ x. attributes_at true n x.1 >>= λ a. Ok (host_tag x.0 a.0, a.1))
-    else upper_tag_at n ts)
+    else upper_tag_at n ts))
 
 -- the name of a closing tag
 abbrev pub closing_name_at : Opening → List Kind → Read (Unit {0})
 closing_name_at (host_tag x attrs) ts = taken (as_lower_name x) ts
 closing_name_at (component_tag x attrs) ts = taken (as_upper_name x) ts
 closing_name_at (boundary_tag k s) ts = taken (as_word word.Suspense) ts
+closing_name_at (catcher_tag k s) ts = taken (as_word word.Catch) ts
 closing_name_at (provider_tag x k e) ts = taken (as_upper_name x) ts >>= λ n. sign_at sign.Dot n.1 >>= λ d. taken (as_word word.Provider) d.1
 
 -- what may be read one level further in, slots too
@@ -389,16 +391,21 @@ const_at n ts = taken (as_word word.Const) ts >>= λ w.
 unfoldable pub effect_at : ℕ → Bool → List Kind → Read Statement
 effect_at n layout ts = sign_at sign.OpenParen ts >>= λ p. taken as_text p.1 >>= λ t. sign_at sign.Comma t.1 >>= λ c. sign_at sign.OpenBracket c.1 >>= λ b. list_to sign.CloseBracket (expr_at n) b.1 >>= λ es. sign_at sign.CloseParen es.1 >>= λ r. sign_at sign.Semicolon r.1 >>= λ s. Ok (effect layout t.0 es.0, s.1)
 
+-- `throwIf`, `(`, an expression and `);`
+unfoldable pub throw_at : ℕ → List Kind → Read Statement
+throw_at n ts = taken (as_word word.ThrowIf) ts >>= λ w. sign_at sign.OpenParen w.1 >>= λ p. argument_at n p.1 >>= λ e. Ok (throw_if e.0, e.1)
+
 -- a statement
 unfoldable pub statement_at : ℕ → List Kind → Read Statement
 statement_at n ts =
     if next (is_word word.Const) ts then const_at n ts
+    else (if next (is_word word.ThrowIf) ts then throw_at n ts
     else (if next (is_word word.UseEffect) ts then (taken (as_word word.UseEffect) ts >>= λ w. effect_at n false w.1)
-    else (taken (as_word word.UseLayoutEffect) ts >>= λ w. effect_at n true w.1))
+    else (taken (as_word word.UseLayoutEffect) ts >>= λ w. effect_at n true w.1)))
 
 -- whether a token begins a statement
 abbrev pub is_statement : Kind → Bool
-is_statement k = is_word word.Const k || (is_word word.UseEffect k || is_word word.UseLayoutEffect k)
+is_statement k = is_word word.Const k || (is_word word.ThrowIf k || (is_word word.UseEffect k || is_word word.UseLayoutEffect k))
 
 -- statements
 abbrev pub statements_at : ℕ → List Kind → Read (List Statement)

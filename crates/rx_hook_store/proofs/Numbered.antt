@@ -5,7 +5,7 @@ use Rattle.std.specs.Option.{option_and_then, option_map}
 use Rattle.std.proofs.lemmas.Bool.Decides.{nat_tests}
 use Rattle.rx_step.specs.declared.step.LaneWord.{LaneWord}
 use Rattle.rx_step.specs.declared.step.LaneWord.TheVariants as word
-use Rattle.rx_elem.specs.Trees.{Mark, Node, instance_in, of_boundary, of_host, of_instance, plain}
+use Rattle.rx_elem.specs.Trees.{Mark, Node, instance_in, of_boundary, of_catcher, of_host, of_instance, plain}
 use Rattle.rx_elem.specs.Numbers.{numbered}
 use Rattle.rx_elem.specs.Spots.{Around, Mounted, Spot, at_root, mounted, mounted_as, mounted_in, spot_mark, spots}
 use Rattle.rx_queue.specs.declared.update.Op.{Op}
@@ -36,6 +36,7 @@ numbered_so a (of_instance i) x e = go i.number e
         grind (arith, nat_tests)
 numbered_so a (of_host h) x e = cc
 numbered_so a (of_boundary b) x e = cc
+numbered_so a (of_catcher c) x e = cc
 numbered_so a plain x e = cc
 
 one_more : (b : Bool) (n : ℕ) → b ≡ true → 1 ≤ cond b 1 0 + n

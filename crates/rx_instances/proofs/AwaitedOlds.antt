@@ -6,8 +6,8 @@ use Rattle.rx_elem.specs.Trees.{Forest, Node, awaits_in, child, is_hidden, none,
 use Rattle.rx_lists.specs.Shapes.{Shape, fiber}
 use Rattle.rx_fiber.specs.Fibers.{Fiber}
 use Rattle.rx_fiber.specs.OldLists.{begins_fallback, is_fallback}
-use Rattle.rx_fiber.specs.Reading.{AreFor, IsFor, IsTreeOf, alone, beside, gap, next, no_more, whole}
-use Rattle.rx_fiber.proofs.OldLists.{list_begins, no_fallback}
+use Rattle.rx_fiber.specs.Reading.{has_node, AreFor, IsFor, IsTreeOf, alone, beside, gap, next, no_more, whole}
+use Rattle.rx_fiber.proofs.OldLists.{list_begins, no_fallback, not_hidden}
 use Rattle.rx_spots.specs.Waits.{all_awaited, waits_from, waits_in}
 use Rattle.rx_spots.proofs.Waiting.{all_awaited-none, all_awaited-some, none-where}
 use Rattle.rx_instances.specs.AwaitedFibers.{stage_awaits, waits_list}
@@ -19,11 +19,12 @@ shown_parts false true inside later e = absurd (cc e)
 shown_parts false false true later e = refl
 shown_parts false false false later e = refl
 
--- a hidden one without children has its fallback in their place,
-alone_parts : (own hidden inside fallback later : Bool) → hidden ≡ true → ((own || fallback) || later) ≡ (((own || (not hidden && inside)) || fallback) || later)
+-- one without children has its fallback in their place,
+alone_parts : (own hidden inside fallback later : Bool) → inside ≡ false → ((own || fallback) || later) ≡ (((own || (not hidden && inside)) || fallback) || later)
 alone_parts true hidden inside fallback later e = refl
 alone_parts false true inside fallback later e = refl
-alone_parts false false inside fallback later e = absurd (cc e)
+alone_parts false false true fallback later e = absurd (cc e)
+alone_parts false false false fallback later e = refl
 
 -- and one that keeps some has its fallback beside it
 beside_parts : (own hidden inside fallback later : Bool) → hidden ≡ true → ((own || false) || (fallback || later)) ≡ (((own || (not hidden && inside)) || fallback) || later)
@@ -31,6 +32,12 @@ beside_parts true hidden inside fallback later e = refl
 beside_parts false true inside true later e = refl
 beside_parts false true inside false later e = refl
 beside_parts false false inside fallback later e = absurd (cc e)
+
+-- if a list has no node, nothing of it waits
+gone_waits : (r : ℕ) (ns : Forest) → has_node ns ≡ false → waits_in ns r ≡ false
+gone_waits r none e = refl
+gone_waits r (vacant ns) e = gone_waits r ns e
+gone_waits r (child x ns) e = cc
 
 -- The fibers of a list wait exactly if its nodes do.
 mutual
@@ -44,10 +51,10 @@ mutual
       → waits_list s r ≡ (waits_from x r || waits_in ns r)
   node_waits r n _ _ rest more (whole {v = v} {m = m} {ns = ns} {ks = ks} is shown are) last later =
       (λ i. (has (stage_awaits (is.stage i)) r || (not (last i) && list_waits r 0 ns ks are i)) || later i)
-      ∙ shown_parts (has (awaits_in m) r) (is_hidden m) (waits_in ns r) (waits_in more r) shown
+      ∙ shown_parts (has (awaits_in m) r) (is_hidden m) (waits_in ns r) (waits_in more r) (not_hidden m shown)
   node_waits r n _ _ rest more (alone {v = v} {m = m} {ns = ns} {fs = fs} {ks = ks} is hidden gone are) last later =
       (λ i. (has (stage_awaits (is.stage i)) r || (not (last i) && list_waits r 0 fs ks are i)) || later i)
-      ∙ alone_parts (has (awaits_in m) r) (is_hidden m) (waits_in ns r) (waits_in fs r) (waits_in more r) hidden
+      ∙ alone_parts (has (awaits_in m) r) (is_hidden m) (waits_in ns r) (waits_in fs r) (waits_in more r) (gone_waits r ns gone)
   node_waits r n _ _ rest more (beside {v = v} {w = w} {m = m} {ns = ns} {fs = fs} {ks = ks} {ws = ws} is hidden some are f d) last later =
       (λ i. (has (stage_awaits (is.stage i)) r || (not (is_fallback (f i)) && waits_list ks r))
       || ((has (stage_awaits (f i)) r || (not (last i) && list_waits r 0 fs ws d i)) || later i))

@@ -6,7 +6,7 @@ use Rattle.rx_base.specs.Values.{Name}
 use Rattle.rx_ast.specs.Syntax.{Program}
 use Rattle.rx_step.specs.Steps.{Path}
 use Rattle.rx_elem.specs.Spots.{Mounted, at_root, mounted}
-use Rattle.rx_elem.specs.Trees.{Node, children_of, mark_of, node, of_boundary, of_host, of_instance, plain}
+use Rattle.rx_elem.specs.Trees.{Node, children_of, mark_of, node, of_boundary, of_catcher, of_host, of_instance, plain}
 use Rattle.commit_laws.specs.HiddenWaits.{IfNumbered, Numbered}
 use Rattle.rx_meaning.specs.Settled.{HasOwnNumbers, number_of, times_numbered}
 use Rattle.rx_model.specs.State.{find_from, instance_found, is_step, step_to}
@@ -64,6 +64,7 @@ told_number (node e (of_instance i) ns fs) f is = go i.number is
     go (Some n) is = ap (λ (g : Told). Some g.number) (same_Some (record { number = n; component = i.component }) f is)
 told_number (node e (of_host h) ns fs) f is = absurd (none-some f is)
 told_number (node e (of_boundary b) ns fs) f is = absurd (none-some f is)
+told_number (node e (of_catcher c) ns fs) f is = absurd (none-some f is)
 told_number (node e plain ns fs) f is = absurd (none-some f is)
 
 -- one step, if what is right below the owner is known

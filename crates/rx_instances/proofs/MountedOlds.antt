@@ -5,12 +5,13 @@ use Rattle.std.specs.List.{cons_option}
 use Rattle.std.proofs.lemmas.List.Elements.{filter_map-append}
 use Rattle.rx_elem.specs.Elements.{Element}
 use Rattle.rx_elem.specs.Spots.{Around, Mounted, Spot, around_children, at_root, mounted, mounted_as, mounted_at, mounted_in, spots, spots_in}
-use Rattle.rx_elem.specs.Trees.{Forest, Instance, Mark, Node, child, instance_in, is_hidden, node, none, vacant}
+use Rattle.rx_elem.specs.Trees.{Forest, Instance, Mark, Node, child, instance_in, is_hidden, node, none, vacant, of_boundary, of_catcher, of_host, of_instance, plain, shows_fallback}
+use Rattle.rx_susp.specs.declared.boundary.BoundaryState.TheVariants.{Shown, Hidden}
 use Rattle.rx_lists.specs.Shapes.{Shape, fiber}
 use Rattle.rx_fiber.specs.Fibers.{Fiber, Stage, begun}
 use Rattle.rx_fiber.specs.OldLists.{begins_fallback, is_fallback}
 use Rattle.rx_fiber.specs.Reading.{AreFor, IsFor, IsTreeOf, alone, beside, gap, has_node, next, no_more, whole}
-use Rattle.rx_fiber.proofs.OldLists.{list_begins, no_fallback}
+use Rattle.rx_fiber.proofs.OldLists.{list_begins, no_fallback, not_hidden}
 use Rattle.rx_instances.specs.NearFibers.{instance_at}
 use Rattle.rx_instances.specs.MountedFibers.{around_kids, mounted_from, own_mounted}
 
@@ -39,8 +40,13 @@ gone_spots a (child x ns) e = cc
 shown_around : (a : Around) (m : Mark) (keeps : Bool) → is_hidden m ≡ false → around_kids a (begun m) keeps ≡ around_children a m
 shown_around a m keeps e = rw e refl
 
-alone_around : (a : Around) (m : Mark) (keeps : Bool) → is_hidden m ≡ true → keeps ≡ false → around_kids a (begun m) keeps ≡ a
-alone_around a m keeps e f = rw (e, f) refl
+alone_around : (a : Around) (m : Mark) (keeps : Bool) → shows_fallback m ≡ true → keeps ≡ false → around_kids a (begun m) keeps ≡ a
+alone_around a (of_instance i) keeps e f = absurd (cc e)
+alone_around a (of_host h) keeps e f = absurd (cc e)
+alone_around a (of_boundary Shown) keeps e f = absurd (cc e)
+alone_around a (of_boundary (Hidden w)) keeps e f = rw f refl
+alone_around a (of_catcher c) keeps e f = refl
+alone_around a plain keeps e f = absurd (cc e)
 
 beside_around : (a : Around) (m : Mark) (keeps : Bool) → keeps ≡ true → around_kids a (begun m) keeps ≡ around_children a m
 beside_around a m keeps f = rw f (go (is_hidden m))
@@ -69,7 +75,7 @@ mutual
       → mounted_from a rest ≡ mounted_at (spots_in a ns) → mounted_from a s ≡ mounted_at (spots a x ++ spots_in a ns)
   node_list a n _ _ rest more (whole {id = id} {v = v} {e = e} {m = m} {ns = ns} {ks = ks} is shown are) last later =
       first_by a (around_children a m) id v (instance_in m) ks rest (mounted_at (spots_in (around_children a m) ns)) (mounted_at (spots_in a more)) (ap instance_at is.stage)
-      (ap (λ (t : Stage). around_kids a t (begins_fallback rest)) is.stage ∙ shown_around a m (begins_fallback rest) shown)
+      (ap (λ (t : Stage). around_kids a t (begins_fallback rest)) is.stage ∙ shown_around a m (begins_fallback rest) (not_hidden m shown))
       (list_mounted (around_children a m) 0 ns ks are) later
       ∙ sym (node_mounted a e m ns none (spots_in a more))
   node_list a n _ _ rest more (alone {id = id} {v = v} {e = e} {m = m} {ns = ns} {fs = fs} {ks = ks} is hidden gone are) last later =

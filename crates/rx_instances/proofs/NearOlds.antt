@@ -5,13 +5,13 @@ use Rattle.std.proofs.lemmas.List.Elements.{filter-append}
 use Rattle.rx_base.specs.Values.{Name}
 use Rattle.rx_ast.specs.Syntax.{Program}
 use Rattle.rx_elem.specs.Elements.{Element}
-use Rattle.rx_elem.specs.Trees.{Forest, Instance, Mark, Node, child, children_of, instance_in, is_hidden, mark_of, node, none, of_boundary, of_host, of_instance, plain, vacant}
+use Rattle.rx_elem.specs.Trees.{Forest, Instance, Mark, Node, child, children_of, instance_in, shows_fallback, mark_of, node, none, of_boundary, of_catcher, of_host, of_instance, plain, vacant}
 use Rattle.rx_lists.specs.Shapes.{Shape, fiber}
 use Rattle.rx_links.specs.Readers.{IsLinked, list_from, value_in, value_of}
 use Rattle.rx_fiber.specs.Fibers.{Fiber, begun}
 use Rattle.rx_fiber.specs.OldLists.{primary_list}
 use Rattle.rx_fiber.specs.Reading.{AreFor, IsFor, IsOld, IsTreeOf, alone, beside, gap, has_node, new, next, no_more, of, whole}
-use Rattle.rx_fiber.proofs.OldLists.{IsListIn, kids_listed, list_is, primary_is, rest_listed}
+use Rattle.rx_fiber.proofs.OldLists.{IsListIn, kids_listed, list_is, primary_is, rest_listed, hidden_falls}
 use Rattle.rx_model.specs.State.{name_of}
 use Rattle.rx_instances.specs.Nearest.{is_named, itself_or, named, nearest, nearest_if, nearest_in}
 use Rattle.rx_instances.specs.NearFibers.{instance_at, itself_named, near_fibers}
@@ -88,18 +88,20 @@ gone_near none e = refl
 gone_near (vacant ns) e = gone_near ns e
 gone_near (child x ns) e = cc
 
--- a hidden boundary is no instance
-hidden_instance : (m : Mark) → is_hidden m ≡ true → instance_in m ≡ None
-hidden_instance (of_instance i) e = cc
-hidden_instance (of_host h) e = cc
-hidden_instance (of_boundary b) e = refl
-hidden_instance plain e = cc
+-- a boundary that shows its fallback is no instance
+falling_instance : (m : Mark) → shows_fallback m ≡ true → instance_in m ≡ None
+falling_instance (of_instance i) e = cc
+falling_instance (of_host h) e = cc
+falling_instance (of_boundary b) e = refl
+falling_instance (of_catcher c) e = refl
+falling_instance plain e = cc
 
-hidden_itself : (m : Mark) (x : Node) (below : List Node) → is_hidden m ≡ true → itself_or m x below ≡ below
-hidden_itself (of_instance i) x below e = cc
-hidden_itself (of_host h) x below e = cc
-hidden_itself (of_boundary b) x below e = refl
-hidden_itself plain x below e = cc
+falling_itself : (m : Mark) (x : Node) (below : List Node) → shows_fallback m ≡ true → itself_or m x below ≡ below
+falling_itself (of_instance i) x below e = cc
+falling_itself (of_host h) x below e = cc
+falling_itself (of_boundary b) x below e = refl
+falling_itself (of_catcher c) x below e = refl
+falling_itself plain x below e = cc
 
 module _ (p : Program) (name : Name) (c : Shape Fiber) (linked : IsLinked c) where
   -- a node, its fallback, and what comes behind it
@@ -115,6 +117,7 @@ module _ (p : Program) (name : Name) (c : Shape Fiber) (linked : IsLinked c) whe
       go false = tt
   own_olds e (of_host k) ns fs id below nodes old h = h
   own_olds e (of_boundary b) ns fs id below nodes old h = h
+  own_olds e (of_catcher b) ns fs id below nodes old h = h
   own_olds e plain ns fs id below nodes old h = h
 
   -- The nearest instances of a name in a list of current fibers are those of its nodes.
@@ -142,10 +145,10 @@ module _ (p : Program) (name : Name) (c : Shape Fiber) (linked : IsLinked c) whe
         let x = node e m ns fs in
         let inside = list_olds 0 fs ks a (kids_listed c id v ks rest linked l) in
         let behind = later (rest_listed c id v ks rest linked l) in
-        let nothing : itself_or m x (nearest_in ns) ≡ [] = hidden_itself m x (nearest_in ns) hidden ∙ gone_near ns gone in
+        let nothing : itself_or m x (nearest_in ns) ≡ [] = falling_itself m x (nearest_in ns) hidden ∙ gone_near ns gone in
         let nodes : named p name ((itself_or m x (nearest_in ns) ++ nearest_in fs) ++ nearest_in more) ≡ named p name (nearest_in fs) ++ named p name (nearest_in more) =
         ap (λ (us : List Node). named p name ((us ++ nearest_in fs) ++ nearest_in more)) nothing ∙ filter-append (is_named p name) (nearest_in fs) (nearest_in more) in
-        let stage : instance_at v.stage ≡ None = ap instance_at is.stage ∙ hidden_instance m hidden in
+        let stage : instance_at v.stage ≡ None = ap instance_at is.stage ∙ falling_instance m hidden in
         subst (λ (o : Option Instance). AreOlds c (itself_named p name id o (near_fibers p name ks) ++ near_fibers p name rest) (named p name ((itself_or m x (nearest_in ns) ++ nearest_in fs) ++ nearest_in more))) (sym stage)
         (subst (AreOlds c (near_fibers p name ks ++ near_fibers p name rest)) (sym nodes)
         (olds_append c (near_fibers p name ks) (near_fibers p name rest) (named p name (nearest_in fs)) (named p name (nearest_in more)) inside behind))
@@ -156,11 +159,11 @@ module _ (p : Program) (name : Name) (c : Shape Fiber) (linked : IsLinked c) whe
         let fallback = list_olds 0 fs ws d (kids_listed c jd w ws rest linked after) in
         let behind = later (rest_listed c jd w ws rest linked after) in
         let nodes : named p name ((itself_or m x (nearest_in ns) ++ nearest_in fs) ++ nearest_in more) ≡ named p name (nearest_in ns) ++ (named p name (nearest_in fs) ++ named p name (nearest_in more)) =
-        ap (λ (us : List Node). named p name ((us ++ nearest_in fs) ++ nearest_in more)) (hidden_itself m x (nearest_in ns) hidden)
+        ap (λ (us : List Node). named p name ((us ++ nearest_in fs) ++ nearest_in more)) (falling_itself m x (nearest_in ns) (hidden_falls m hidden))
         ∙ ap (named p name) (append_assoc (nearest_in ns) (nearest_in fs) (nearest_in more))
         ∙ filter-append (is_named p name) (nearest_in ns) (nearest_in fs ++ nearest_in more)
         ∙ ap (λ (us : List Node). named p name (nearest_in ns) ++ us) (filter-append (is_named p name) (nearest_in fs) (nearest_in more)) in
-        let stage : instance_at v.stage ≡ None = ap instance_at is.stage ∙ hidden_instance m hidden in
+        let stage : instance_at v.stage ≡ None = ap instance_at is.stage ∙ falling_instance m (hidden_falls m hidden) in
         let also : instance_at w.stage ≡ None = ap instance_at f in
         subst (λ (o : Option Instance). AreOlds c (itself_named p name id o (near_fibers p name ks) ++ (itself_named p name jd (instance_at w.stage) (near_fibers p name ws) ++ near_fibers p name rest)) (named p name ((itself_or m x (nearest_in ns) ++ nearest_in fs) ++ nearest_in more))) (sym stage)
         (subst (λ (o : Option Instance). AreOlds c (near_fibers p name ks ++ (itself_named p name jd o (near_fibers p name ws) ++ near_fibers p name rest)) (named p name ((itself_or m x (nearest_in ns) ++ nearest_in fs) ++ nearest_in more))) (sym also)

@@ -12,7 +12,7 @@ use Rattle.rx_ast.specs.Syntax.{Program}
 use Rattle.rx_susp.specs.declared.boundary.BoundaryState.TheVariants.{Shown, Hidden}
 use Rattle.rx_elem.specs.Elements.{Element}
 use Rattle.rx_elem.specs.Spots.{Around, Mounted, Spot, around_children, mounted_at, mounted_in, spots, spots_in}
-use Rattle.rx_elem.specs.Trees.{Forest, Instance, Mark, Node, child, children_of, mark_of, node, none, of_boundary, of_host, of_instance, plain, vacant}
+use Rattle.rx_elem.specs.Trees.{Forest, Instance, Mark, Node, child, children_of, mark_of, node, none, of_boundary, of_catcher, of_host, of_instance, plain, vacant}
 use Rattle.commit_laws.specs.HiddenWaits.{AllNumbered, IsNumbered, Numbered}
 use Rattle.rx_meaning.specs.Settled.{is_numbered_so, number_of, times_numbered, times_numbered_in}
 use Rattle.rx_model.specs.State.{is_step, name_of}
@@ -47,6 +47,7 @@ abbrev pub IsOther : Option ℕ → Mark → Type 0
 IsOther o (of_instance i) = (n : ℕ) × (i.number ≡ Some n) × (Some n ≡ o → ⊥)
 IsOther o (of_host h) = Unit {0}
 IsOther o (of_boundary b) = Unit {0}
+IsOther o (of_catcher c) = Unit {0}
 IsOther o plain = Unit {0}
 
 -- each instance of a tree has a number, and another one than this
@@ -64,6 +65,7 @@ numbered_mark : (m : Mark) → IsNumbered m → IsOther None m
 numbered_mark (of_instance i) h = (h.0, h.1, λ e. none-some h.0 (sym e))
 numbered_mark (of_host k) h = tt
 numbered_mark (of_boundary b) h = tt
+numbered_mark (of_catcher c) h = tt
 numbered_mark plain h = tt
 
 -- if each instance has a number, it is another one than none
@@ -87,6 +89,7 @@ other_mark : (n : ℕ) (m : Mark) → IsNumbered m → own_times n m ≡ 0 → I
 other_mark n (of_instance i) h z = (h.0, h.1, λ e. let own : own_times n (of_instance i) ≡ 1 = times_own n (of_instance i) (h.1 ∙ e) in omega (arith, own, z))
 other_mark n (of_host k) h z = tt
 other_mark n (of_boundary b) h z = tt
+other_mark n (of_catcher c) h z = tt
 other_mark n plain h z = tt
 
 -- if a number does not occur, each instance has another one
@@ -162,6 +165,7 @@ each_own : (Q : Node → Type 0) (m : Mark) (n : Node) (below : List Node) → Q
 each_own Q (of_instance i) n below here more = each_more Q n [] here (λ k y is. absurd (none-some y is))
 each_own Q (of_host k) n below here more = more
 each_own Q (of_boundary b) n below here more = more
+each_own Q (of_catcher c) n below here more = more
 each_own Q plain n below here more = more
 
 -- the nearest instances of a tree stand in it
@@ -185,6 +189,7 @@ owner_below a (of_host None) o h other = other
 owner_below a (of_host (Some k)) o h other = other
 owner_below a (of_boundary Shown) o h other = other
 owner_below a (of_boundary (Hidden w)) o h other = other
+owner_below a (of_catcher c) o h other = other
 owner_below a plain o h other = other
 
 module _ (p : Program) (name : Name) where
@@ -217,6 +222,7 @@ module _ (p : Program) (name : Name) where
       go (Some n) = rw (other_owner a.owner o other) refl
   own_none o a e (of_host h) ns fs other = refl
   own_none o a e (of_boundary b) ns fs other = refl
+  own_none o a e (of_catcher c) ns fs other = refl
   own_none o a e plain ns fs other = refl
 
   -- an instance whose owner this is
@@ -259,6 +265,8 @@ module _ (p : Program) (name : Name) where
         parts o a e (of_boundary (Hidden w)) ns fs
         ∙ (λ j. near_below_in o (around_children a (of_boundary (Hidden w))) ns h.1 owner j ++ near_below_in o a fs h.2 owner j)
         ∙ sym (told-append (nearest_in ns) (nearest_in fs))
+    near_below o a (node e (of_catcher c) ns fs) h owner =
+        parts o a e (of_catcher c) ns fs ∙ (λ j. near_below_in o a ns h.1 owner j ++ near_below_in o a fs h.2 owner j) ∙ sym (told-append (nearest_in ns) (nearest_in fs))
     near_below o a (node e plain ns fs) h owner =
         parts o a e plain ns fs ∙ (λ j. near_below_in o a ns h.1 owner j ++ near_below_in o a fs h.2 owner j) ∙ sym (told-append (nearest_in ns) (nearest_in fs))
 
@@ -287,6 +295,7 @@ module _ (p : Program) (name : Name) where
         owned (of_instance i) is = is
         owned (of_host k) is = absurd (none-some n is)
         owned (of_boundary b) is = absurd (none-some n is)
+        owned (of_catcher c) is = absurd (none-some n is)
         owned plain is = absurd (none-some n is)
     found_below n y is a (node e m ns fs) (inr (inl k)) h once other =
         let some = has_times_in n y is ns k in

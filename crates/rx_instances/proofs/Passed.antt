@@ -5,12 +5,12 @@ use Rattle.rx_base.specs.Awaits.{has}
 use Rattle.rx_ast.specs.Syntax.{Program}
 use Rattle.rx_susp.specs.declared.boundary.BoundaryState.TheVariants.{Shown, Hidden}
 use Rattle.rx_elem.specs.Spots.{Around, Mounted}
-use Rattle.rx_elem.specs.Trees.{Instance, Mark, awaits_in, instance_in, is_hidden, of_boundary, of_host, of_instance, plain}
+use Rattle.rx_elem.specs.Trees.{Instance, Mark, awaits_in, instance_in, is_hidden, of_boundary, of_catcher, of_host, of_instance, plain}
 use Rattle.rx_lists.specs.Shapes.{Shape, Holds, none, fiber}
 use Rattle.rx_links.specs.Drafts.{kids_of}
 use Rattle.rx_links.specs.Readers.{IsLinked, list_from, rest_of, value_of}
 use Rattle.rx_fiber.specs.declared.subtree.Subtree.{Subtree}
-use Rattle.rx_fiber.specs.Fibers.{Fiber, Stage, waiting, begun, trying, fallback, own_subtree}
+use Rattle.rx_fiber.specs.Fibers.{Fiber, Stage, waiting, begun, trying, guarding, fallback, own_subtree}
 use Rattle.rx_fiber.specs.OldLists.{begins_fallback}
 use Rattle.rx_fiber.specs.Subtrees.{IsGathered, IsGatheredOver, subtrees_of}
 use Rattle.rx_fiber.proofs.Gathered.{gathered_over}
@@ -34,6 +34,7 @@ no_instance : (s : Stage) → (own_subtree s).instances ≡ false → instance_a
 no_instance (waiting c) h = refl
 no_instance (begun m) h = none_there (instance_in m) h
 no_instance (trying c) h = refl
+no_instance guarding h = refl
 no_instance (fallback a) h = refl
 
 -- one that tells of no hidden boundary is not counted when these are,
@@ -41,6 +42,7 @@ no_hidden : (s : Stage) → (own_subtree s).hides ≡ false → stage_count true
 no_hidden (waiting c) h = refl
 no_hidden (begun m) h = rw h refl
 no_hidden (trying c) h = refl
+no_hidden guarding h = refl
 no_hidden (fallback a) h = refl
 
 shown_awaits : (m : Mark) (r : ℕ) → is_hidden m ≡ false → has (awaits_in m) r ≡ false
@@ -48,6 +50,7 @@ shown_awaits (of_instance i) r h = refl
 shown_awaits (of_host n) r h = refl
 shown_awaits (of_boundary Shown) r h = refl
 shown_awaits (of_boundary (Hidden waits)) r h = absurd (cc h)
+shown_awaits (of_catcher c) r h = refl
 shown_awaits plain r h = refl
 
 -- and waits for nothing
@@ -55,6 +58,7 @@ no_awaits : (s : Stage) (r : ℕ) → (own_subtree s).hides ≡ false → has (s
 no_awaits (waiting c) r h = refl
 no_awaits (begun m) r h = shown_awaits m r h
 no_awaits (trying c) r h = refl
+no_awaits guarding r h = refl
 no_awaits (fallback a) r h = refl
 
 -- ---- what it keeps tells of itself and of its children

@@ -5,7 +5,7 @@ use Rattle.std.proofs.lemmas.Option.{none-some, same_Some}
 use Rattle.rx_base.specs.Values.{Name}
 use Rattle.rx_ast.specs.Syntax.{Program}
 use Rattle.rx_step.specs.Steps.{Path}
-use Rattle.rx_elem.specs.Trees.{Instance, Mark, Node, children_of, instance_in, mark_of, of_boundary, of_host, of_instance, plain}
+use Rattle.rx_elem.specs.Trees.{Instance, Mark, Node, children_of, instance_in, mark_of, of_boundary, of_catcher, of_host, of_instance, plain}
 use Rattle.rx_lists.specs.Shapes.{Shape}
 use Rattle.rx_links.specs.Readers.{IsLinked, list_from, value_of}
 use Rattle.rx_fiber.specs.Fibers.{Fiber}
@@ -79,6 +79,7 @@ told_number c i n x v old is e = subst (λ (o : Option Instance). (f : Found) ×
     by_mark (of_instance k) e = (record { number = n; component = k.component; fiber = i }, ap (option_map (λ j. let g : Found = record { number = j; component = k.component; fiber = i } in g)) e, refl)
     by_mark (of_host h) e = absurd (none-some n e)
     by_mark (of_boundary b) e = absurd (none-some n e)
+    by_mark (of_catcher c) e = absurd (none-some n e)
     by_mark plain e = absurd (none-some n e)
 
 -- ---- from part to part

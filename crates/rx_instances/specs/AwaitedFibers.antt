@@ -3,7 +3,7 @@ use Rattle.std.specs.Prelude.{ℕ, Bool, false, not, ◌&&◌, ◌||◌, if◌th
 use Rattle.rx_base.specs.Awaits.{Awaits, has, nothing}
 use Rattle.rx_elem.specs.Trees.{awaits_in}
 use Rattle.rx_lists.specs.Shapes.{Shape, none, fiber}
-use Rattle.rx_fiber.specs.Fibers.{Stage, Fiber, waiting, begun, trying, fallback}
+use Rattle.rx_fiber.specs.Fibers.{Stage, Fiber, waiting, begun, trying, guarding, fallback}
 use Rattle.rx_fiber.specs.OldLists.{begins_fallback}
 
 -- what a fiber of this stage waits for: that of a hidden boundary for what this waits for, and each other one for nothing
@@ -11,6 +11,7 @@ abbrev pub stage_awaits : Stage → Awaits
 stage_awaits (waiting c) = nothing
 stage_awaits (begun m) = awaits_in m
 stage_awaits (trying c) = nothing
+stage_awaits guarding = nothing
 stage_awaits (fallback a) = nothing
 
 -- the visible children of the first fiber of a list: none if it keeps its children behind its fallback, whose fiber comes next

@@ -1,7 +1,7 @@
 -- How much there is of a list of fibers.
 use Rattle.std.specs.Prelude.{ℕ, ◌+◌, Bool}
 use Rattle.rx_lists.specs.Shapes.{Shape, none, fiber}
-use Rattle.rx_fiber.specs.Fibers.{Stage, Fiber, waiting, begun, trying, fallback}
+use Rattle.rx_fiber.specs.Fibers.{Stage, Fiber, waiting, begun, trying, guarding, fallback}
 use Rattle.rx_spots.specs.Counts.{own_count}
 
 -- what a fiber of this stage counts: each one of a node, or only one of a boundary that is hidden
@@ -9,6 +9,7 @@ abbrev pub stage_count : (only_hidden : Bool) → Stage → ℕ
 stage_count only_hidden (waiting c) = 0
 stage_count only_hidden (begun m) = own_count only_hidden m
 stage_count only_hidden (trying c) = 0
+stage_count only_hidden guarding = 0
 stage_count only_hidden (fallback a) = 0
 
 -- how many are counted of a list of fibers and below

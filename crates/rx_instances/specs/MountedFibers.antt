@@ -4,7 +4,7 @@ use Rattle.std.specs.List.{cons_option}
 use Rattle.rx_elem.specs.Spots.{Around, Mounted, around_children, mounted_as}
 use Rattle.rx_elem.specs.Trees.{Instance, is_hidden}
 use Rattle.rx_lists.specs.Shapes.{Shape, none, fiber}
-use Rattle.rx_fiber.specs.Fibers.{Stage, Fiber, waiting, begun, trying, fallback}
+use Rattle.rx_fiber.specs.Fibers.{Stage, Fiber, waiting, begun, trying, guarding, fallback}
 use Rattle.rx_fiber.specs.OldLists.{begins_fallback}
 use Rattle.rx_instances.specs.NearFibers.{instance_at}
 
@@ -13,6 +13,7 @@ abbrev pub around_kids : Around → Stage → (keeps : Bool) → Around
 around_kids a (waiting c) keeps = a
 around_kids a (begun m) keeps = if is_hidden m && not keeps then a else around_children a m
 around_kids a (trying c) keeps = a
+around_kids a guarding keeps = a
 around_kids a (fallback w) keeps = a
 
 -- the instance of a fiber, if it is of one that has a number

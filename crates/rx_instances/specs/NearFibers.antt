@@ -5,7 +5,7 @@ use Rattle.rx_ast.specs.Syntax.{Program}
 use Rattle.rx_step.specs.Steps.{Path}
 use Rattle.rx_elem.specs.Trees.{Instance, Node, instance_in}
 use Rattle.rx_lists.specs.Shapes.{Shape, none, fiber}
-use Rattle.rx_fiber.specs.Fibers.{Stage, Fiber, waiting, begun, trying, fallback}
+use Rattle.rx_fiber.specs.Fibers.{Stage, Fiber, waiting, begun, trying, guarding, fallback}
 use Rattle.rx_fiber.specs.Reading.{IsOld}
 use Rattle.rx_model.specs.State.{name_of}
 use Rattle.rx_instances.specs.Nearest.{Told, node_at, told}
@@ -16,6 +16,7 @@ abbrev pub instance_at : Stage → Option Instance
 instance_at (waiting c) = None
 instance_at (begun m) = instance_in m
 instance_at (trying c) = None
+instance_at guarding = None
 instance_at (fallback a) = None
 
 -- a fiber itself if it is of an instance of a component of this name, none if it is of another instance, and else those below it

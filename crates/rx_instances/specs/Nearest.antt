@@ -4,7 +4,7 @@ use Rattle.std.specs.Option.{option_map_or}
 use Rattle.rx_base.specs.Values.{Name}
 use Rattle.rx_ast.specs.Syntax.{Program}
 use Rattle.rx_elem.specs.Spots.{Mounted}
-use Rattle.rx_elem.specs.Trees.{Instance, Mark, of_instance, of_host, of_boundary, plain, Node, node, Forest, none, vacant, child, children_of, instance_in, mark_of}
+use Rattle.rx_elem.specs.Trees.{Instance, Mark, of_instance, of_host, of_boundary, of_catcher, plain, Node, node, Forest, none, vacant, child, children_of, instance_in, mark_of}
 use Rattle.rx_step.specs.Steps.{Path}
 use Rattle.rx_model.specs.State.{name_of}
 
@@ -30,6 +30,7 @@ abbrev pub itself_or : Mark → Node → (below : List Node) → List Node
 itself_or (of_instance i) n below = n ∷ []
 itself_or (of_host h) n below = below
 itself_or (of_boundary b) n below = below
+itself_or (of_catcher c) n below = below
 itself_or plain n below = below
 
 -- the nearest instances from a node on, in tree order: itself if it is one, and else those of its children; and then those of its fallback

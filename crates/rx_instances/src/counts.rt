@@ -19,7 +19,7 @@ fn stage_count(stage: &Stage, only_hidden: bool) -> u64
 {
     match stage {
         Stage::Begun(mark) => u64::from(mark.is_hidden() || !only_hidden),
-        Stage::Waiting(_) | Stage::Trying(_) | Stage::Fallback(_) => 0,
+        Stage::Waiting(_) | Stage::Trying(_) | Stage::Guarding | Stage::Fallback(_) => 0,
     }
 }
 

@@ -109,7 +109,7 @@ fn around_kids(fiber: &Fiber, around: Around, keeps: bool) -> Around
                 around.below(mark)
             }
         }
-        Stage::Waiting(_) | Stage::Trying(_) | Stage::Fallback(_) => around,
+        Stage::Waiting(_) | Stage::Trying(_) | Stage::Guarding | Stage::Fallback(_) => around,
     }
 }
 

@@ -29,6 +29,8 @@ pub data Line : Type 0 where
   committed : (number : ℕ) → Lanes → Counts → (tree : Node) → Line
   -- an operation on the tree of hosts
   operated : HostOp → Line
+  -- a value that an error boundary caught
+  caught : (value : ℤ) → Line
   -- an effect that was created or destroyed
   logged : LogLine → Line
   -- a deferred render, with its lanes and its counts
@@ -162,6 +164,7 @@ log_text l =
 abbrev pub line_text : (counts : Bool) → Line → Text
 line_text counts (committed k lanes c tree) = codes "commit " ++ decimal k ++ codes " " ++ lanes_text lanes ++ counts_text counts c
 line_text counts (operated o) = codes "op " ++ op_text o
+line_text counts (caught x) = codes "caught " ++ signed_decimal x
 line_text counts (logged l) = log_text l
 line_text counts (deferred lanes c) = codes "defer " ++ lanes_text lanes ++ counts_text counts c
 line_text counts (no_instance path) = codes "no-instance " ++ joined (codes "/") (map part_text path)
@@ -182,6 +185,7 @@ last_line lanes n = if is_empty lanes && nat_eq n 0 then end_quiet else end_pend
 abbrev pub is_printed : (ops : Bool) → Line → Bool
 is_printed ops (committed k lanes c tree) = true
 is_printed ops (operated o) = ops
+is_printed ops (caught x) = true
 is_printed ops (logged l) = true
 is_printed ops (deferred lanes c) = true
 is_printed ops (no_instance path) = true

@@ -9,11 +9,11 @@ use Rattle.rx_rules.specs.Names.{component_number, component_at}
 use Rattle.rx_rules.specs.Bounds.{slot_by, slots_by, body_if, body_by, levels}
 use Rattle.rx_elem.specs.Elements.{Element, Elements, listed, gathered, is_present}
 use Rattle.rx_elem.specs.Elements as elements
-use Rattle.rx_elem.specs.Trees.{Node}
+use Rattle.rx_elem.specs.Trees.{Node, old_caught}
 use Rattle.rx_meaning.specs.Expressions.{Env, value_in}
-use Rattle.rx_meaning.specs.Body.{element_of, elements_of, turns, Inputs, Body, wait, ready, body_of, Taken, finished, take_all, opening_frame}
+use Rattle.rx_meaning.specs.Body.{element_of, elements_of, turns, Inputs, Body, wait, throw, ready, body_of, Taken, finished, take_all, opening_frame}
 use Rattle.rx_meaning.specs.Body as body
-use Rattle.rx_meaning.specs.Fresh.{Sight, Contexts, Shape, absent, waiting, one_list, two_lists, shape_of_body, shape_of_component, shape_of, inputs_at, old_instance}
+use Rattle.rx_meaning.specs.Fresh.{Sight, Contexts, Shape, absent, waiting, throwing, one_list, two_lists, guarded, shape_of_body, shape_of_component, shape_of_catcher, shape_of, inputs_at, old_instance}
 use Rattle.rx_meaning.specs.Levels.{body_depth, element_depth, elements_depth, Fits, PartFits}
 
 pub gathered-listed : (es : Elements) → gathered (listed es) ≡ es
@@ -66,6 +66,10 @@ mutual
       let h = slots_are_deep depths p kids env ss in
       let i = slot_is_deep depths p kids env f in
       omega arith
+  slot_is_deep depths p kids env (syntax.catcher k f w ss) =
+      let h = slots_are_deep depths p kids env ss in
+      let i = slot_is_deep depths p kids env f in
+      omega arith
   slot_is_deep depths p kids env (syntax.provider n k e w ss) = let h = slots_are_deep depths p kids env ss in omega arith
   slot_is_deep depths p kids env (syntax.enclosed b s) = slot_is_deep depths p kids env s
 
@@ -94,6 +98,7 @@ mutual
   slot_no_less f g h p (syntax.host n attrs w ss) = omega (arith, slots_no_less f g h p ss)
   slot_no_less f g h p (syntax.comp n attrs w ss) = omega (arith, slots_no_less f g h p ss, h (component_number p n))
   slot_no_less f g h p (syntax.boundary k e w ss) = omega (arith, slots_no_less f g h p ss, slot_no_less f g h p e)
+  slot_no_less f g h p (syntax.catcher k e w ss) = omega (arith, slots_no_less f g h p ss, slot_no_less f g h p e)
   slot_no_less f g h p (syntax.provider n k e w ss) = omega (arith, slots_no_less f g h p ss)
   slot_no_less f g h p (syntax.enclosed b s) = slot_no_less f g h p s
 
@@ -118,6 +123,7 @@ mutual
   element_no_less f g h (elements.comp c k ps es) = omega (arith, elements_no_less f g h es, h c)
   element_no_less f g h (elements.list marked es) = omega (arith, elements_no_less f g h es)
   element_no_less f g h (elements.boundary k e es) = omega (arith, elements_no_less f g h es, element_no_less f g h e)
+  element_no_less f g h (elements.catcher k e es) = omega (arith, elements_no_less f g h es, element_no_less f g h e)
   element_no_less f g h (elements.provider c k x es) = omega (arith, elements_no_less f g h es)
 
   pub elements_no_less : (f g : ℕ → ℕ) → NoLess f g → (es : Elements) → elements_depth f es ≤ elements_depth g es
@@ -129,11 +135,13 @@ mutual
 -- what a body gives is no deeper
 abbrev pub IsWithin : (ℕ → ℕ) → ℕ → Body → Type 0
 IsWithin depths most (wait r v) = Unit {0}
+IsWithin depths most (throw x) = Unit {0}
 IsWithin depths most (ready es effects initials reads versions) = elements_depth depths (gathered es) ≤ most
 
 finished_within : (depths : ℕ → ℕ) (p : Program) (i : Inputs) (ss : Slots) (t : Taken)
     → IsWithin depths (slots_depth depths p ss + elements_depth depths (gathered i.children)) (finished p i ss t)
 finished_within depths p i ss (body.stopped_at r v) = tt
+finished_within depths p i ss (body.thrown x) = tt
 finished_within depths p i ss (body.taken f) = slots_are_deep depths p i.children f.env ss
 
 body_within : (depths : ℕ → ℕ) (p : Program) (c : Component) (i : Inputs)
@@ -143,6 +151,7 @@ body_within depths p c i = finished_within depths p i (body_slots c.body) (take_
 
 is_within : (depths : ℕ → ℕ) (b : Body) (m n : ℕ) → m ≤ n → IsWithin depths m b → IsWithin depths n b
 is_within depths (wait r v) m n h w = tt
+is_within depths (throw x) m n h w = tt
 is_within depths (ready es effects initials reads versions) m n h w = omega arith
 
 -- Shapes
@@ -151,8 +160,10 @@ is_within depths (ready es effects initials reads versions) m n h w = omega arit
 abbrev pub ShapeFits : ℕ → Program → Shape → Type 0
 ShapeFits n p absent = Unit {0}
 ShapeFits n p (waiting r v) = Unit {0}
+ShapeFits n p (throwing x) = Unit {0}
 ShapeFits n p (one_list m t) = PartFits n p t
 ShapeFits n p (two_lists t f) = PartFits n p t × PartFits n p f
+ShapeFits n p (guarded t f) = PartFits n p t × PartFits n p f
 
 -- the children of an element are less deep
 children_fit : (n : ℕ) (p : Program) (es : Elements) → elements_depth (body_depth (suc n) p) es ≤ n → elements_depth (body_depth n p) (gathered (listed es)) ≤ n
@@ -160,6 +171,7 @@ children_fit n p es h = rw (gathered-listed es) (omega (arith, elements_no_less 
 
 body_fits : (n : ℕ) (p : Program) (cs : Contexts) (c : ℕ) (old : Option Node) (b : Body) → IsWithin (body_depth n p) n b → ShapeFits n p (shape_of_body cs c old b)
 body_fits n p cs c old (wait r v) h = tt
+body_fits n p cs c old (throw x) h = tt
 body_fits n p cs c old (ready es effects initials reads versions) h = h
 
 component_fits : (n : ℕ) (s : Sight) (cs : Contexts) (c : ℕ) (ps : List ℤ) (es : Elements) (old : Option Node) (d : Option Component)
@@ -172,6 +184,13 @@ component_fits n s cs c ps es old (Some d) h =
     (is_within (body_depth n s.program) (body_of s.program d i)
     (slots_depth (body_depth n s.program) s.program (body_slots d.body) + elements_depth (body_depth n s.program) (gathered i.children)) n h
     (body_within (body_depth n s.program) s.program d i))
+
+-- an error boundary has its children and its fallback, or its fallback alone
+catcher_fits : (n : ℕ) (p : Program) (cs : Contexts) (f : Element) (es : Elements) (old : Option Node) (caught : Option ℤ)
+    → elements_depth (body_depth n p) (gathered (listed es)) ≤ n → element_depth (body_depth n p) f ≤ n
+    → ShapeFits n p (shape_of_catcher cs f es old caught)
+catcher_fits n p cs f es old None h k = (h, omega (arith, k))
+catcher_fits n p cs f es old (Some x) h k = omega (arith, k)
 
 deep_body : (n : ℕ) (p : Program) (c : ℕ) → body_depth (suc n) p c ≡ depth_in (body_depth n p) p (component_at p c)
 unfolding body_by
@@ -189,6 +208,9 @@ shape_fits n s cs (elements.boundary k f es) old b = (
   children_fit n s.program es (omega arith),
   omega (arith, element_no_less (body_depth n s.program) (body_depth (suc n) s.program) (more_levels n s.program) f),
 )
+shape_fits n s cs (elements.catcher k f es) old b =
+    catcher_fits n s.program cs f es old (old_caught old) (children_fit n s.program es (omega arith))
+    (omega (arith, element_no_less (body_depth n s.program) (body_depth (suc n) s.program) (more_levels n s.program) f))
 shape_fits n s cs (elements.provider c k x es) old b = children_fit n s.program es (omega arith)
 
 pub not_deepest : (p : Program) (e : Element) → Fits zero p e → is_present e ≡ true → 1 ≤ zero
@@ -198,4 +220,5 @@ not_deepest p (elements.host name key attrs es) h k = absurd (omega arith)
 not_deepest p (elements.comp c key ps es) h k = absurd (omega arith)
 not_deepest p (elements.list marked es) h k = absurd (omega arith)
 not_deepest p (elements.boundary key f es) h k = absurd (omega arith)
+not_deepest p (elements.catcher key f es) h k = absurd (omega arith)
 not_deepest p (elements.provider c key x es) h k = absurd (omega arith)

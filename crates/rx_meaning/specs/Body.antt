@@ -1,11 +1,11 @@
--- What a component's body gives: it waits for a resource, or it is ready with its elements.
+-- What a component's body gives: it waits for a resource, it throws a value, or it is ready with its elements.
 use Rattle.std.specs.Prelude.{ℕ, ◌+◌, true, false, List, [], ◌∷◌, ◌++◌, ℤ, pos, negsuc, Option, Some, None, min, map, filter_map, unwrap_or, option_map, if◌then◌else◌, bytes_eq, slice_get, slice_index_or}
 use Rattle.std.specs.List.{zip, range_with_len}
 use Rattle.std.specs.Option.{option_map_or}
 use Rattle.std.specs.Fmt.{signed_decimal}
 use Rattle.rx_base.specs.Values.{Name}
 use Rattle.rx_base.specs.Arithmetic.{is_zero}
-use Rattle.rx_ast.specs.Syntax.{Expr, Statement, state, reducer, transition, context, use_resource, constant, effect, Slot, Slots, Attribute, key, computed, literal, Component, Program, body_slots, slot_key}
+use Rattle.rx_ast.specs.Syntax.{Expr, Statement, state, reducer, transition, context, use_resource, constant, effect, throw_if, Slot, Slots, Attribute, key, computed, literal, Component, Program, body_slots, slot_key}
 use Rattle.rx_ast.specs.Syntax as syntax
 use Rattle.rx_rules.specs.Names.{component_number, component_at, context_number, resource_number, prop_names}
 use Rattle.rx_elem.specs.Elements.{Element, Elements, Key, gathered}
@@ -30,6 +30,8 @@ pub record Inputs : Type 0 where
 pub data Body : Type 0 where
   -- it waits for a version of a resource
   wait : (resource version : ℕ) → Body
+  -- it throws a value
+  throw : (value : ℤ) → Body
   -- it is ready: its elements, its effects, at mount the initial values of its hooks, and the contexts and versions that it read
   ready : List Element → List EffectRecord → (initials : List ℤ) → List ContextRead → List VersionRead → Body
 
@@ -42,9 +44,10 @@ pub record Frame : Type 0 where
   pub reads : List ContextRead
   pub versions : List VersionRead
 
--- what statements give: a version of a resource at which they stop, or the frame after them
+-- what statements give: a version of a resource or a thrown value at which they stop, or the frame after them
 pub data Taken : Type 0 where
   stopped_at : (resource version : ℕ) → Taken
+  thrown : (value : ℤ) → Taken
   taken : Frame → Taken
 
 -- a name has a value from here on
@@ -65,6 +68,10 @@ abbrev pub with_resource : Name → (resource version : ℕ) → Option ℤ → 
 with_resource name r v None f = stopped_at r v
 with_resource name r v (Some x) f = taken (bound name x (record f { versions = f.versions ++ (record { resource = r; version = v }) ∷ [] }))
 
+-- a value is thrown, unless it is 0
+abbrev pub with_throw : ℤ → Frame → Taken
+with_throw x f = if is_zero x then taken f else thrown x
+
 -- an effect with the values of its dependencies
 abbrev pub with_effect : EffectRecord → Frame → Frame
 with_effect e f = record f { effects = f.effects ++ e ∷ [] }
@@ -81,13 +88,15 @@ take_one p i (use_resource name resource) f =
 take_one p i (constant name e) f = taken (bound name (value_in p f.env e) f)
 take_one p i (effect layout label depends) f =
     taken (with_effect (record { layout = layout; label = label; values = map (value_in p f.env) depends }) f)
+take_one p i (throw_if e) f = with_throw (value_in p f.env e) f
 
--- what follows a statement, unless that waits
+-- what follows a statement, unless that waits or throws
 abbrev pub and_then : Taken → (Frame → Taken) → Taken
 and_then (stopped_at r v) next = stopped_at r v
+and_then (thrown x) next = thrown x
 and_then (taken f) next = next f
 
--- the statements in order, up to the first that waits
+-- the statements in order, up to the first that waits or throws
 abbrev pub take_all : Program → Inputs → List Statement → Frame → Taken
 take_all p i [] f = taken f
 take_all p i (s ∷ ss) f = and_then (take_one p i s f) (take_all p i ss)
@@ -141,6 +150,8 @@ abbrev mutual
       elements.comp c (key_value p env (syntax.key_of attrs)) (props_of p env attrs c) (gathered (elements_of p kids env ss))
   element_of p kids env (syntax.boundary place fallback w ss) =
       elements.boundary (key_value p env (syntax.key_in place)) (element_of p kids env fallback) (gathered (elements_of p kids env ss))
+  element_of p kids env (syntax.catcher place fallback w ss) =
+      elements.catcher (key_value p env (syntax.key_in place)) (element_of p kids env fallback) (gathered (elements_of p kids env ss))
   element_of p kids env (syntax.provider name place e w ss) =
       elements.provider (context_number p name) (key_value p env (syntax.key_in place)) (value_in p env e) (gathered (elements_of p kids env ss))
   element_of p kids env (syntax.enclosed b s) = element_of p kids env s
@@ -153,6 +164,7 @@ abbrev mutual
 -- a body whose statements are taken
 abbrev pub finished : Program → Inputs → Slots → Taken → Body
 finished p i ss (stopped_at r v) = wait r v
+finished p i ss (thrown x) = throw x
 finished p i ss (taken f) = ready (elements_of p i.children f.env ss) f.effects f.initials f.reads f.versions
 
 -- what is known before the first statement: the values of the parameters

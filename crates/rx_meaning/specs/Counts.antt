@@ -3,9 +3,9 @@ use Rattle.std.specs.Prelude.{ℕ, zero, suc, ◌+◌, List, [], ◌∷◌, Opti
 use Rattle.rx_elem.specs.Elements.{Element}
 use Rattle.rx_elem.specs.Elements as elements
 use Rattle.rx_elem.specs.Trees.{Node}
-use Rattle.rx_meaning.specs.Fresh.{Sight, Contexts, Renders, Place, empty, made, waits, Places, all_made, one_waits, rendered, depth_limit, default_contexts, root_element, Part, Shape, absent, waiting, one_list, two_lists, shape_of, render_part}
+use Rattle.rx_meaning.specs.Fresh.{Sight, Contexts, Renders, Place, empty, made, waits, throws, Places, all_made, one_waits, one_throws, rendered, depth_limit, default_contexts, root_element, Part, Shape, absent, waiting, throwing, one_list, two_lists, guarded, shape_of, render_part}
 use Rattle.rx_meaning.specs.Touched.{children_with_old}
-use Rattle.rx_meaning.specs.Cursor.{is_null, Open, around, trying, falling, Frame, Cursor, at_place, at_end, ended, finished, after}
+use Rattle.rx_meaning.specs.Cursor.{is_null, Open, around, trying, falling, guarding, Frame, Cursor, at_place, at_end, ended, finished, after}
 use Rattle.rx_meaning.specs.Rest.{from_open, list_from}
 
 -- what is counted: for each place that is begun, for one where nothing can stand since no level is left or its component is missing, and for each node that is completed
@@ -34,6 +34,7 @@ one_if_component (elements.host n k attrs es) = 0
 one_if_component (elements.comp c k ps es) = 1
 one_if_component (elements.list marked es) = 0
 one_if_component (elements.boundary k f es) = 0
+one_if_component (elements.catcher k f es) = 0
 one_if_component (elements.provider c k x es) = 0
 
 -- the bodies that are evaluated
@@ -44,23 +45,32 @@ each_body = record { begins = λ cs e old. one_if_component e; misses = 0; compl
 abbrev pub Tries : Type 0
 Tries = Element → Option Node → ℕ
 
--- nothing is begun after the first place that waits
+-- nothing is begun after the first place that waits or throws
 abbrev pub unless_waits : Place → ℕ → ℕ
 unless_waits empty n = n
 unless_waits (made m) n = n
 unless_waits (waits a) n = 0
+unless_waits (throws x) n = 0
 
--- a fallback is begun only if the children wait
+-- a boundary's fallback is begun only if the children wait
 abbrev pub if_waits : Places → ℕ → ℕ
 if_waits (all_made ns) n = 0
 if_waits (one_waits a) n = n
+if_waits (one_throws x) n = 0
 
--- a list that doesn't wait is completed
+-- that of an error boundary only if the children throw
+abbrev pub if_throws : Places → ℕ → ℕ
+if_throws (all_made ns) n = 0
+if_throws (one_waits a) n = 0
+if_throws (one_throws x) n = n
+
+-- a list that neither waits nor throws is completed
 abbrev pub if_made : Places → ℕ → ℕ
 if_made (all_made ns) n = n
 if_made (one_waits a) n = 0
+if_made (one_throws x) n = 0
 
--- the places of a list in order, up to the first that waits
+-- the places of a list in order, up to the first that waits or throws
 abbrev pub try_all : Tries → Renders → List (Element × Option Node) → ℕ
 try_all try render [] = 0
 try_all try render (x ∷ xs) = try x.0 x.1 + unless_waits (render x.0 x.1) (try_all try render xs)
@@ -69,28 +79,35 @@ try_all try render (x ∷ xs) = try x.0 x.1 + unless_waits (render x.0 x.1) (try
 abbrev pub count_part : (Contexts → Tries) → (Contexts → Renders) → Part → ℕ
 count_part count below p = try_all (count p.contexts) (below p.contexts) (children_with_old p)
 
--- what an open node counts once its list is done or waits
+-- what an open node counts once its list is done, waits or throws
 abbrev pub count_open : Weights → (Contexts → Tries) → (Contexts → Renders) → Open → Places → ℕ
 count_open w count below (around e m) ps = if_made ps w.completes
 count_open w count below (trying e old f) ps =
     if_made ps w.completes + if_waits ps (count_part count below f + if_made (render_part below f) w.completes)
 count_open w count below (falling e old a) ps = if_made ps w.completes
+count_open w count below (guarding e f) ps =
+    if_made ps w.completes + if_throws ps (count_part count below f + if_made (render_part below f) w.completes)
 
 -- what the unit counts that begins a place, by what stands there
 abbrev pub begins_as : Weights → Contexts → Element → Option Node → Shape → ℕ
 begins_as w cs e old absent = w.misses
 begins_as w cs e old (waiting r v) = w.begins cs e old
+begins_as w cs e old (throwing x) = w.begins cs e old
 begins_as w cs e old (one_list m p) = w.begins cs e old
 begins_as w cs e old (two_lists p f) = w.begins cs e old
+begins_as w cs e old (guarded p f) = w.begins cs e old
 
 -- a place with those below it, by what stands there; null takes no unit
 abbrev pub count_shape : Weights → (Contexts → Tries) → (Contexts → Renders) → Contexts → Element → Option Node → Shape → ℕ
 count_shape w count below cs e old absent = cond (is_null e) 0 w.misses
 count_shape w count below cs e old (waiting r v) = w.begins cs e old
+count_shape w count below cs e old (throwing x) = w.begins cs e old
 count_shape w count below cs e old (one_list m p) =
     w.begins cs e old + (count_part count below p + count_open w count below (around e m) (render_part below p))
 count_shape w count below cs e old (two_lists p f) =
     w.begins cs e old + (count_part count below p + count_open w count below (trying e old f) (render_part below p))
+count_shape w count below cs e old (guarded p f) =
+    w.begins cs e old + (count_part count below p + count_open w count below (guarding e f) (render_part below p))
 
 -- at a place and below it, with so many levels
 unfoldable pub counted : Weights → ℕ → Sight → Contexts → Tries

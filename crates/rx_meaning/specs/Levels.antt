@@ -15,6 +15,7 @@ abbrev mutual
   element_depth depths (elements.comp c k ps es) = 1 + (depths c + elements_depth depths es)
   element_depth depths (elements.list marked es) = 1 + elements_depth depths es
   element_depth depths (elements.boundary k f es) = 1 + max (elements_depth depths es) (element_depth depths f)
+  element_depth depths (elements.catcher k f es) = 1 + max (elements_depth depths es) (element_depth depths f)
   element_depth depths (elements.provider c k x es) = 1 + elements_depth depths es
 
   -- the greatest of the elements

@@ -1,8 +1,8 @@
 -- The rest of a render: what the place that it has come to, the siblings after it and the nodes around it give.
 use Rattle.std.specs.Prelude.{ℕ, suc, List, [], ◌∷◌, Option}
 use Rattle.rx_elem.specs.Trees.{Node}
-use Rattle.rx_meaning.specs.Fresh.{Sight, Contexts, Renders, Place, made, Places, one_waits, before, over, over_boundary, render_all, rendered, render_part}
-use Rattle.rx_meaning.specs.Cursor.{Open, around, trying, falling, Frame, Cursor, at_place, at_end, ended, given_by, finished}
+use Rattle.rx_meaning.specs.Fresh.{Sight, Contexts, Renders, Place, made, Places, one_waits, before, over, over_boundary, over_catcher, render_all, rendered, render_part}
+use Rattle.rx_meaning.specs.Cursor.{Open, around, trying, falling, guarding, Frame, Cursor, at_place, at_end, ended, given_by, finished}
 
 -- the results of places that are done, before those of the places that follow
 abbrev pub onto : List (Option Node) → Places → Places
@@ -14,6 +14,7 @@ abbrev pub from_open : (Contexts → Renders) → Open → Places → Place
 from_open below (around e m) ps = over e m ps
 from_open below (trying e old f) ps = over_boundary e old ps (render_part below f)
 from_open below (falling e old a) ps = over_boundary e old (one_waits a) ps
+from_open below (guarding e f) ps = over_catcher e ps (render_part below f)
 
 -- a frame's list, from what the place gives that it has come to
 abbrev pub list_from : (Contexts → Renders) → Frame → Place → Places

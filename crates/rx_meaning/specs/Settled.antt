@@ -1,21 +1,22 @@
 -- What a committed tree keeps is what its bodies give: for the updates that are done and the versions of resources that have a value.
 use Rattle.std.specs.List.{enumerate_from, list_any}
-use Rattle.std.specs.Prelude.{Bool, List, None, Option, Some, [], cond, false, filter, length, map, nat_eq, nat_lt, not, option_to_list, slice_set, true, ℕ, ℤ, ◌||◌, ◌+◌, ◌∷◌, ◌≡◌, ◌≤◌, ◌⊎◌}
+use Rattle.std.specs.Prelude.{Bool, List, None, Option, Some, [], cond, false, filter, length, map, nat_eq, nat_lt, not, option_to_list, slice_set, true, if◌then◌else◌, ℕ, ℤ, ◌||◌, ◌+◌, ◌∷◌, ◌≡◌, ◌≤◌, ◌⊎◌}
 use Rattle.rx_ast.specs.Syntax.{Component, Program}
 use Rattle.rx_base.specs.Awaits.{Awaits}
 use Rattle.rx_base.specs.declared.cut.Cut.{Cut}
 use Rattle.rx_rules.specs.Names.{component_at}
 use Rattle.rx_elem.specs.Elements.{Element, Elements, listed}
-use Rattle.rx_elem.specs.Trees.{Forest, Instance, Mark, Node, child, elements_in, is_hidden, node, none, of_boundary, of_host, of_instance, plain, vacant}
+use Rattle.rx_elem.specs.Trees.{Forest, Instance, Mark, Node, child, elements_in, is_caught, is_hidden, node, none, of_boundary, of_catcher, of_host, of_instance, plain, vacant}
 use Rattle.rx_elem.specs.declared.effect.ContextRead.{ContextRead}
 use Rattle.rx_elem.specs.declared.effect.VersionRead.{VersionRead}
 use Rattle.rx_meaning.specs.Body.{body_of, ready}
 use Rattle.rx_meaning.specs.Expressions.{answers_of}
-use Rattle.rx_meaning.specs.Fresh.{Contexts, Shape, Sight, absent, default_contexts, one_list, part, resource_numbers, two_lists}
+use Rattle.rx_meaning.specs.Fresh.{Contexts, Shape, Sight, absent, default_contexts, guarded, one_list, part, resource_numbers, two_lists}
 use Rattle.rx_meaning.specs.Touched.{contexts_below, has_update, is_read_anew, touched_instance}
 use Rattle.rx_queue.specs.History.{stands_done}
 use Rattle.rx_queue.specs.Journal.{Posted, Resolution, committed_value, hook, resolutions_by, resource, same_target, value_in, values_at}
 use Rattle.rx_susp.specs.declared.boundary.BoundaryState.TheVariants.{Hidden, Shown}
+use Rattle.rx_catch.specs.declared.state.CatchState.TheVariants.{Fine, Caught}
 use Rattle.rx_elem.specs.Elements as elements
 
 -- what is known for good: the updates, of which some are done, and how versions of resources were resolved
@@ -58,6 +59,8 @@ IsOwnBy asks (elements.comp c key props given) m ns fs =
 IsOwnBy asks (elements.list marked es) m ns fs = (m ≡ plain) × (elements_in ns ≡ listed es) × (fs ≡ none)
 IsOwnBy asks (elements.boundary key f es) m ns fs =
     ((m ≡ of_boundary Shown) × (elements_in ns ≡ listed es) × (fs ≡ none)) ⊎ ((a : Awaits) × (m ≡ of_boundary (Hidden a)) × (elements_in fs ≡ f ∷ []))
+IsOwnBy asks (elements.catcher key f es) m ns fs =
+    ((m ≡ of_catcher Fine) × (elements_in ns ≡ listed es) × (fs ≡ none)) ⊎ ((x : ℤ) × (m ≡ of_catcher (Caught x)) × (ns ≡ none) × (elements_in fs ≡ f ∷ []))
 IsOwnBy asks (elements.provider c key x es) m ns fs = (m ≡ plain) × (elements_in ns ≡ listed es) × (fs ≡ none)
 
 -- a node is its own: what its element and, for a component, its body give
@@ -89,6 +92,7 @@ abbrev pub has_cause : Sight → Contexts → Mark → Bool
 has_cause s cs (of_instance i) = touched_instance s cs (Some i)
 has_cause s cs (of_host h) = false
 has_cause s cs plain = false
+has_cause s cs (of_catcher c) = false
 has_cause s cs (of_boundary Shown) = false
 has_cause s cs (of_boundary (Hidden a)) = true
 
@@ -111,6 +115,8 @@ kept_shape cs (elements.host n key attrs es) m ns fs = one_list m (part cs (elem
 kept_shape cs (elements.comp c key props given) m ns fs = one_list m (part cs (elements_in ns) ns)
 kept_shape cs (elements.list marked es) m ns fs = one_list m (part cs (elements_in ns) ns)
 kept_shape cs (elements.boundary key f es) m ns fs = two_lists (part cs (elements_in ns) ns) (part cs (f ∷ []) fs)
+kept_shape cs (elements.catcher key f es) m ns fs =
+    if is_caught m then one_list m (part cs (elements_in fs) fs) else guarded (part cs (elements_in ns) ns) (part cs (f ∷ []) none)
 kept_shape cs (elements.provider c key x es) m ns fs = one_list m (part (slice_set cs c x) (elements_in ns) ns)
 
 -- the first if a node is a hidden boundary, else the second
@@ -146,6 +152,7 @@ abbrev pub number_of : Mark → Option ℕ
 number_of (of_instance i) = i.number
 number_of (of_host h) = None
 number_of (of_boundary b) = None
+number_of (of_catcher c) = None
 number_of plain = None
 
 -- how many instances of a tree have this number
@@ -173,6 +180,7 @@ abbrev pub reads_another : (version : ℕ → ℕ) → Contexts → Mark → Boo
 reads_another version cs (of_instance i) = read_anew cs i.reads || refreshed version i.versions
 reads_another version cs (of_host h) = false
 reads_another version cs (of_boundary b) = false
+reads_another version cs (of_catcher c) = false
 reads_another version cs plain = false
 
 -- what is rendered of a tree read the contexts of its place, and the resources in these versions
@@ -208,6 +216,7 @@ abbrev pub is_stirred : Sight → Mark → Bool
 is_stirred s (of_instance i) = has_update s (option_to_list i.number)
 is_stirred s (of_host h) = false
 is_stirred s plain = false
+is_stirred s (of_catcher c) = false
 is_stirred s (of_boundary Shown) = false
 is_stirred s (of_boundary (Hidden a)) = true
 

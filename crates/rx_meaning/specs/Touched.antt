@@ -7,8 +7,10 @@ use Rattle.std.specs.Cmp.Lexicographic.{pointwise}
 use Rattle.rx_base.specs.Awaits.{Awaits, awaits_where}
 use Rattle.rx_ast.specs.Syntax.{Program}
 use Rattle.rx_rules.specs.Names.{component_at}
+use Rattle.rx_rules.specs.Bounds.{may_throw_in}
 use Rattle.rx_susp.specs.declared.boundary.BoundaryState.{BoundaryState}
 use Rattle.rx_susp.specs.Boundary.{hides, may_skip}
+use Rattle.rx_susp.specs.Boundary as boundary
 use Rattle.rx_elem.specs.Elements.{Element, same_element, same_elements}
 use Rattle.rx_elem.specs.Elements as elements
 use Rattle.rx_elem.specs.Trees.{Node, Forest, Instance, element_of, mark_of, children_of, boundary_in, was_hidden}
@@ -18,7 +20,7 @@ use Rattle.rx_elem.specs.Spots.{spots_in, at_root, mounted_at, numbers_of}
 use Rattle.rx_elem.specs.Compare.{old_nodes}
 use Rattle.rx_queue.specs.History.{stands_done}
 use Rattle.rx_queue.specs.Journal.{is_included, is_new, belongs_to, done_version, resolved_by}
-use Rattle.rx_meaning.specs.Fresh.{Sight, Contexts, Place, empty, made, waits, Renders, rendered, default_contexts, root_element, depth_limit, old_instance, version_seen, resource_numbers, Part, Shape, absent, waiting, one_list, two_lists, shape_of}
+use Rattle.rx_meaning.specs.Fresh.{Sight, Contexts, Place, empty, made, waits, throws, Places, all_made, one_waits, one_throws, Renders, rendered, default_contexts, root_element, depth_limit, old_instance, version_seen, resource_numbers, Part, Shape, absent, waiting, throwing, one_list, two_lists, guarded, shape_of, render_part}
 
 -- a place of a tree: which child it is in each list from it up to the root
 abbrev pub Address : Type 0
@@ -95,9 +97,14 @@ resolved_seen s = awaits_where (λ r. is_some (resolved_by s.cut s.journal r (do
 abbrev pub sees_refresh : Sight → Bool
 sees_refresh s = list_any (λ r. not (nat_eq (version_seen s r) (done_version s.journal r))) (resource_numbers s.program)
 
--- a boundary waits for what has no value yet, and there is no new work in what it keeps
+-- the program has a component that may throw, and a resource got its value between the cut of the last commit and this one, so that a boundary nested in what a hidden one tries may throw now
+abbrev pub may_throw_anew : Sight → Bool
+may_throw_anew s = boundary.may_throw_anew s.seen s.cut.resolutions (may_throw_in s.program)
+
+-- a boundary waits for what has no value yet, there is no new work in what it keeps, and nothing may throw anew
 abbrev pub is_waiting_still : Sight → Node → BoundaryState → Bool
-is_waiting_still s old state = may_skip state (resolved_seen s) (has_new_work s (instances_in (children_of old)))
+is_waiting_still s old state =
+    may_skip state (resolved_seen s) (has_new_work s (instances_in (children_of old))) s.seen s.cut.resolutions (may_throw_in s.program)
 
 -- a hidden boundary is untouched if it is visible, its element, the contexts and the versions of all resources are those of the committed tree, and it waits still
 abbrev pub is_untouched : Sight → Setting → Element → Node → BoundaryState → Bool
@@ -117,18 +124,19 @@ keeps_untouched s at e (Some old) = option_map_or (λ state. hides state && is_u
 abbrev pub Visits : Type 0
 Visits = Setting → Element → Option Node → List Visit
 
--- a place waits
-abbrev pub waits_at : Place → Bool
-waits_at empty = false
-waits_at (made n) = false
-waits_at (waits a) = true
+-- a place waits or throws, and so ends its list
+abbrev pub ends_list : Place → Bool
+ends_list empty = false
+ends_list (made n) = false
+ends_list (waits a) = true
+ends_list (throws x) = true
 
--- the children from a place on, in order, up to the first that waits
+-- the children from a place on, in order, up to the first that waits or throws
 abbrev pub visit_all : Visits → Renders → Setting → (place : ℕ) → List (Element × Option Node) → List Visit
 visit_all visit render at k [] = []
 visit_all visit render at k (x ∷ xs) =
     visit (record at { address = k ∷ at.address }) x.0 x.1
-    ++ (if waits_at (render x.0 x.1) then [] else visit_all visit render at (suc k) xs)
+    ++ (if ends_list (render x.0 x.1) then [] else visit_all visit render at (suc k) xs)
 
 -- the children of a node, each with its old node
 abbrev pub children_with_old : Part → List (Element × Option Node)
@@ -138,9 +146,17 @@ children_with_old p = zip p.elements (old_nodes p.old p.elements)
 abbrev pub visit_part : Visits → (Contexts → Renders) → Setting → Part → List Visit
 visit_part visit below at p = visit_all visit (below p.contexts) (record at { contexts = p.contexts }) 0 (children_with_old p)
 
--- one of the children of a node waits
-abbrev pub part_waits : (Contexts → Renders) → Part → Bool
-part_waits below p = list_any (λ x. waits_at (below p.contexts x.0 x.1)) (children_with_old p)
+-- a list of places waits
+abbrev pub is_wait : Places → Bool
+is_wait (all_made ns) = false
+is_wait (one_waits a) = true
+is_wait (one_throws x) = false
+
+-- a list of places throws
+abbrev pub is_throw : Places → Bool
+is_throw (all_made ns) = false
+is_throw (one_waits a) = false
+is_throw (one_throws x) = true
 
 -- the values of the contexts below an element
 abbrev pub contexts_below : Element → Contexts → Contexts
@@ -150,6 +166,7 @@ contexts_below (elements.host n k attrs es) cs = cs
 contexts_below (elements.comp c k ps es) cs = cs
 contexts_below (elements.list marked es) cs = cs
 contexts_below (elements.boundary k f es) cs = cs
+contexts_below (elements.catcher k f es) cs = cs
 contexts_below (elements.provider c k x es) cs = slice_set cs c x
 
 -- the setting below a node, if the committed tree has the contexts that its old node's element gives
@@ -166,7 +183,11 @@ setting_of_primary s at e old =
       spared = at.spared || keeps_untouched s at e old;
     }
 
--- the setting of a boundary's fallback
+-- the setting of an error boundary's primary
+abbrev pub setting_of_tried : Setting → Setting
+setting_of_tried at = record at { address = 0 ∷ at.address }
+
+-- the setting of a fallback
 abbrev pub setting_of_fallback : Setting → Setting
 setting_of_fallback at = record at { address = 1 ∷ at.address }
 
@@ -174,10 +195,14 @@ setting_of_fallback at = record at { address = 1 ∷ at.address }
 abbrev pub visit_below : Visits → (Contexts → Renders) → Sight → Setting → Element → Option Node → Shape → List Visit
 visit_below visit below s at e old absent = []
 visit_below visit below s at e old (waiting r v) = []
+visit_below visit below s at e old (throwing x) = []
 visit_below visit below s at e old (one_list m p) = visit_part visit below at p
 visit_below visit below s at e old (two_lists p f) =
     visit_part visit below (setting_of_primary s at e old) p
-    ++ (if part_waits below p then visit_part visit below (setting_of_fallback at) f else [])
+    ++ (if is_wait (render_part below p) then visit_part visit below (setting_of_fallback at) f else [])
+visit_below visit below s at e old (guarded p f) =
+    visit_part visit below (setting_of_tried at) p
+    ++ (if is_throw (render_part below p) then visit_part visit below (setting_of_fallback at) f else [])
 
 -- the visit of a component's place, or of another
 abbrev pub visit_as : Sight → Setting → Element → Option Node → (component : Option ℕ) → Visit
@@ -194,6 +219,7 @@ component_in (elements.host n k attrs es) = None
 component_in (elements.comp c k ps es) = Some c
 component_in (elements.list marked es) = None
 component_in (elements.boundary k f es) = None
+component_in (elements.catcher k f es) = None
 component_in (elements.provider c k x es) = None
 
 -- the component of an element is declared by `memo`
@@ -204,8 +230,10 @@ is_memo p e = option_map_or (λ c. option_map_or (λ d. d.memo) (component_at p 
 abbrev pub visit_here : Sight → Setting → Element → Option Node → Shape → List Visit
 visit_here s at e old absent = []
 visit_here s at e old (waiting r v) = visit_as s at e old (component_in e) ∷ []
+visit_here s at e old (throwing x) = visit_as s at e old (component_in e) ∷ []
 visit_here s at e old (one_list m p) = visit_as s at e old (component_in e) ∷ []
 visit_here s at e old (two_lists p f) = visit_as s at e old (component_in e) ∷ []
+visit_here s at e old (guarded p f) = visit_as s at e old (component_in e) ∷ []
 
 -- the visits of one place and of those below it, given the visits and the results of the places below
 abbrev pub visit_place : Visits → (Contexts → Renders) → Sight → Visits

@@ -1,7 +1,7 @@
 -- What a program mentions, in the order of its text. Each check of names and counts is a filter of this list, so "the first place in the text" is the first of what the filter leaves.
 use Rattle.std.specs.Prelude.{Bool, true, false, ◌||◌, List, [], ◌∷◌, ◌++◌, length, fold, cond, filter_map, flat_map, Option, Some, None, codes}
 use Rattle.rx_base.specs.Values.{Name}
-use Rattle.rx_ast.specs.Syntax.{Expr, Links, Exprs, exprs, Attribute, key, computed, literal, KeyPlace, unkeyed, key_first, key_last, Slot, Slots, body_slots, Statement, state, reducer, transition, context, use_resource, constant, effect, Parameter, integer, given_children, Line, Function, Component, Declaration, of_context, of_function, of_component, declared_name, Program}
+use Rattle.rx_ast.specs.Syntax.{Expr, Links, Exprs, exprs, Attribute, key, computed, literal, KeyPlace, unkeyed, key_first, key_last, Slot, Slots, body_slots, Statement, state, reducer, transition, context, use_resource, constant, effect, throw_if, Parameter, integer, given_children, Line, Function, Component, Declaration, of_context, of_function, of_component, declared_name, Program}
 use Rattle.rx_ast.specs.Syntax as syntax
 use Rattle.rx_rules.specs.Names.{has_name}
 use Rattle.rx_rules.specs.Keys.{carries_key}
@@ -126,6 +126,7 @@ statement_mentions s (use_resource x r) = opened s x ∷ mention.Resource r ∷ 
 statement_mentions s (constant x e) = opened s x ∷ expr_mentions s.values e
 statement_mentions s (effect layout label es) =
     mention.Quoted (length label) ∷ mention.Counted count.Dependencies (length es) ∷ flat_map (expr_mentions s.values) es
+statement_mentions s (throw_if e) = expr_mentions s.values e
 
 -- what is bound behind a statement; the second name of a hook has no value
 abbrev pub after_statement : Scope → Statement → Scope
@@ -136,6 +137,7 @@ after_statement s (context x c) = bound s x
 after_statement s (use_resource x r) = bound s x
 after_statement s (constant x e) = bound s x
 after_statement s (effect layout label es) = s
+after_statement s (throw_if e) = s
 
 -- the mentions of statements
 abbrev pub statements_mentions : Scope → List Statement → List Mention
@@ -208,6 +210,9 @@ abbrev mutual
       ∷ mention.Counted count.Attributes (length attrs)
       ∷ (attributes_mentions s.values (taken_first second) attrs ++ slots_mentions s false ss)
   slot_mentions s second (syntax.boundary k f w ss) =
+      (first_key_mentions s.values second k ++ (slot_mentions s false f ++ last_key_mentions s.values second k))
+      ++ slots_mentions s false ss
+  slot_mentions s second (syntax.catcher k f w ss) =
       (first_key_mentions s.values second k ++ (slot_mentions s false f ++ last_key_mentions s.values second k))
       ++ slots_mentions s false ss
   slot_mentions s second (syntax.provider n k e w ss) =

@@ -18,6 +18,8 @@ tag_mentions s second filled (tag.Component n attrs) =
     ∷ attributes_mentions s.values (taken_first second) attrs.items
 tag_mentions s second filled (tag.Suspense k f) =
     first_key_mentions s.values second (key_place_of k) ++ (slot_mentions s false f.value ++ last_key_mentions s.values second (key_place_of k))
+tag_mentions s second filled (tag.Catch k f) =
+    first_key_mentions s.values second (key_place_of k) ++ (slot_mentions s false f.value ++ last_key_mentions s.values second (key_place_of k))
 tag_mentions s second filled (tag.Provider n k e) =
     mention.Context n
     ∷ (first_key_mentions s.values second (key_place_of k) ++ (expr_mentions s.values e.value ++ last_key_mentions s.values second (key_place_of k)))

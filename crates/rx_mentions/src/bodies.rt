@@ -165,6 +165,7 @@ impl<'a> Walk<'a> {
                 self.counted(Count::Dependencies, dependencies.len())?;
                 self.dependencies(scope.values(), dependencies)
             }
+            StatementKind::Throw { value } => self.expr(scope.values(), value),
         }
     }
 

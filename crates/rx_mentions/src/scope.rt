@@ -104,7 +104,7 @@ impl<'a> Scope<'a> {
             StatementKind::Context { name, .. }
             | StatementKind::Resource { name, .. }
             | StatementKind::Constant { name, .. } => self.bind(name),
-            StatementKind::Effect { .. } => Ok(()),
+            StatementKind::Effect { .. } | StatementKind::Throw { .. } => Ok(()),
         }
     }
 }

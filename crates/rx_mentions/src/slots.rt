@@ -37,7 +37,9 @@ fn element_carries_key(element: &Element) -> bool
         Tag::Host { attributes, .. } | Tag::Component { attributes, .. } => key_among(
             attributes,
         ).is_some(),
-        Tag::Suspense { key, .. } | Tag::Provider { key, .. } => key.value().is_some(),
+        Tag::Suspense { key, .. } | Tag::Catch { key, .. } | Tag::Provider { key, .. } => {
+            key.value().is_some()
+        }
     }
 }
 
@@ -231,7 +233,7 @@ impl<'a> Walk<'a> {
                 self.placed(name, attributes, filled)?;
                 self.element_attributes(scope.values(), second, attributes)
             }
-            Tag::Suspense { key, fallback } => {
+            Tag::Suspense { key, fallback } | Tag::Catch { key, fallback } => {
                 self.key_first(scope.values(), second, key)?;
                 self.slot(scope, false, fallback)?;
                 self.key_last(scope.values(), second, key)

@@ -7,8 +7,10 @@ use mathlib.Core.Path.{ap}
 use Rattle.rx_base.specs.Awaits.{Awaits}
 use Rattle.rx_susp.specs.declared.boundary.BoundaryState.{BoundaryState}
 use Rattle.rx_susp.specs.declared.boundary.BoundaryState.TheVariants.{Shown, Hidden}
+use Rattle.rx_catch.specs.declared.state.CatchState.{CatchState}
+use Rattle.rx_catch.specs.declared.state.CatchState.TheVariants.{Fine, Caught}
 use Rattle.rx_elem.specs.ElementCode.{element_code, head, tail, third}
-use Rattle.rx_elem.specs.Trees.{Instance, Mark, of_instance, of_host, of_boundary, plain, Node, node, Forest, none, vacant, child}
+use Rattle.rx_elem.specs.Trees.{Instance, Mark, of_instance, of_host, of_boundary, of_catcher, plain, Node, node, Forest, none, vacant, child}
 use Rattle.rx_elem.specs.declared.effect.EffectRecord.{EffectRecord}
 use Rattle.rx_elem.specs.declared.effect.ContextRead.{ContextRead}
 use Rattle.rx_elem.specs.declared.effect.VersionRead.{VersionRead}
@@ -54,30 +56,48 @@ state_back (Hidden a) = refl
 abbrev state_code : Coded BoundaryState
 state_code = code_by (Option Awaits) (coded_option numbers) of_state to_state state_back
 
+abbrev of_catch : CatchState → Option ℤ
+of_catch Fine = None
+of_catch (Caught x) = Some x
+
+abbrev to_catch : Option ℤ → CatchState
+to_catch None = Fine
+to_catch (Some x) = Caught x
+
+abbrev catch_back : (c : CatchState) → to_catch (of_catch c) ≡ c
+catch_back Fine = refl
+catch_back (Caught x) = refl
+
+abbrev catch_code : Coded CatchState
+catch_code = code_by (Option ℤ) (coded_option coded_ℤ) of_catch to_catch catch_back
+
 abbrev MarkParts : Type 0
-MarkParts = (Instance ⊎ Option ℕ) ⊎ Option BoundaryState
+MarkParts = (Instance ⊎ Option ℕ) ⊎ (CatchState ⊎ Option BoundaryState)
 
 abbrev of_mark : Mark → MarkParts
 of_mark (of_instance i) = inl (inl i)
 of_mark (of_host n) = inl (inr n)
-of_mark (of_boundary b) = inr (Some b)
-of_mark plain = inr None
+of_mark (of_boundary b) = inr (inr (Some b))
+of_mark (of_catcher c) = inr (inl c)
+of_mark plain = inr (inr None)
 
 abbrev to_mark : MarkParts → Mark
 to_mark (inl (inl i)) = of_instance i
 to_mark (inl (inr n)) = of_host n
-to_mark (inr (Some b)) = of_boundary b
-to_mark (inr None) = plain
+to_mark (inr (inl c)) = of_catcher c
+to_mark (inr (inr (Some b))) = of_boundary b
+to_mark (inr (inr None)) = plain
 
 abbrev mark_back : (m : Mark) → to_mark (of_mark m) ≡ m
 mark_back (of_instance i) = refl
 mark_back (of_host n) = refl
 mark_back (of_boundary b) = refl
+mark_back (of_catcher c) = refl
 mark_back plain = refl
 
 -- what a node has beside its element and its children, as it is stored
 abbrev pub mark_code : Coded Mark
-mark_code = code_by MarkParts (coded⊎ (coded⊎ instance_code (coded_option coded_ℕ)) (coded_option state_code)) of_mark to_mark mark_back
+mark_code = code_by MarkParts (coded⊎ (coded⊎ instance_code (coded_option coded_ℕ)) (coded⊎ catch_code (coded_option state_code))) of_mark to_mark mark_back
 
 abbrev mutual
   pub stored : Node → Gv

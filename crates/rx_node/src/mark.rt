@@ -1,9 +1,10 @@
 // What a node has beside its element and its children.
 ghost use Rattle.std.specs.Prelude.{◌≡◌, IfOk, option_and_then};
-ghost use Rattle.rx_elem.specs.Trees.{instance_in, effects_in, is_host, is_hidden, is_shown, boundary_in, awaits_in};
+ghost use Rattle.rx_elem.specs.Trees.{instance_in, effects_in, is_host, is_hidden, is_shown, is_caught, boundary_in, awaits_in, caught_in};
 ghost use Rattle.rx_node.specs.MarkView.{instance_seen, mark_seen};
 
-use rx_base::{Awaits, Ints};
+use rx_base::{Awaits, Int, Ints};
+use rx_catch::CatchState;
 use rx_elem::{ContextRead, EffectRecord, VersionRead};
 use rx_susp::BoundaryState;
 use std::alloc::AllocError;
@@ -30,6 +31,8 @@ pub enum Mark {
     /// Of a host or a text, with its number from its first commit on.
     Host(Option<u64>),
     Boundary(BoundaryState),
+    /// Of an error boundary.
+    Catch(CatchState),
     /// Of a list or a provider.
     Plain,
 }
@@ -67,6 +70,7 @@ impl Mark {
             Mark::Instance(instance) => Ok(Mark::Instance(instance.copy()?)),
             Mark::Host(number) => Ok(Mark::Host(*number)),
             Mark::Boundary(state) => Ok(Mark::Boundary(*state)),
+            Mark::Catch(state) => Ok(Mark::Catch(*state)),
             Mark::Plain => Ok(Mark::Plain),
         }
     }
@@ -84,7 +88,7 @@ impl Mark {
     {
         match self {
             Mark::Boundary(state) => state.hides(),
-            Mark::Instance(_) | Mark::Host(_) | Mark::Plain => false,
+            Mark::Instance(_) | Mark::Host(_) | Mark::Catch(_) | Mark::Plain => false,
         }
     }
 
@@ -94,7 +98,7 @@ impl Mark {
     {
         match self {
             Mark::Boundary(state) => !state.hides(),
-            Mark::Instance(_) | Mark::Host(_) | Mark::Plain => false,
+            Mark::Instance(_) | Mark::Host(_) | Mark::Catch(_) | Mark::Plain => false,
         }
     }
 
@@ -104,7 +108,7 @@ impl Mark {
     {
         match self {
             Mark::Instance(instance) => instance.number,
-            Mark::Host(_) | Mark::Boundary(_) | Mark::Plain => None,
+            Mark::Host(_) | Mark::Boundary(_) | Mark::Catch(_) | Mark::Plain => None,
         }
     }
 
@@ -114,7 +118,7 @@ impl Mark {
     {
         match self {
             Mark::Instance(instance) => &instance.effects,
-            Mark::Host(_) | Mark::Boundary(_) | Mark::Plain => &[],
+            Mark::Host(_) | Mark::Boundary(_) | Mark::Catch(_) | Mark::Plain => &[],
         }
     }
 
@@ -124,7 +128,7 @@ impl Mark {
     {
         match self {
             Mark::Boundary(state) => Some(*state),
-            Mark::Instance(_) | Mark::Host(_) | Mark::Plain => None,
+            Mark::Instance(_) | Mark::Host(_) | Mark::Catch(_) | Mark::Plain => None,
         }
     }
 
@@ -134,7 +138,27 @@ impl Mark {
     {
         match self {
             Mark::Boundary(state) => state.awaits(),
-            Mark::Instance(_) | Mark::Host(_) | Mark::Plain => Awaits::none(),
+            Mark::Instance(_) | Mark::Host(_) | Mark::Catch(_) | Mark::Plain => Awaits::none(),
+        }
+    }
+
+    /// True of an error boundary that has caught a value.
+    pub fn is_caught(&self) -> bool
+        ensures { result ≡ is_caught (mark_seen self.now) }
+    {
+        match self {
+            Mark::Catch(state) => state.has_caught(),
+            Mark::Instance(_) | Mark::Host(_) | Mark::Boundary(_) | Mark::Plain => false,
+        }
+    }
+
+    /// The value that an error boundary has caught, if it has; of anything else, nothing.
+    pub fn caught(&self) -> Option<Int>
+        ensures { result ≡ caught_in (mark_seen self.now) }
+    {
+        match self {
+            Mark::Catch(state) => state.caught(),
+            Mark::Instance(_) | Mark::Host(_) | Mark::Boundary(_) | Mark::Plain => None,
         }
     }
 }

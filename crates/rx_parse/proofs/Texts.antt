@@ -5,7 +5,7 @@ use Rattle.rx_lex.specs.declared.token.Kind.{Kind}
 use Rattle.rx_grammar.specs.Steps.{next, is_word}
 use Rattle.rx_grammar.specs.Reading.{is_statement, is_declaration}
 
-pub statement_next : (ts : List Kind) → next is_statement ts ≡ (next (is_word word.Const) ts || (next (is_word word.UseEffect) ts || next (is_word word.UseLayoutEffect) ts))
+pub statement_next : (ts : List Kind) → next is_statement ts ≡ (next (is_word word.Const) ts || (next (is_word word.ThrowIf) ts || (next (is_word word.UseEffect) ts || next (is_word word.UseLayoutEffect) ts)))
 statement_next [] = refl
 statement_next (k ∷ ts) = refl
 

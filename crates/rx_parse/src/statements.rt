@@ -2,7 +2,7 @@
 ghost use Rattle.std.specs.Prelude.{◌≡◌};
 ghost use Rattle.rx_lex.specs.Spans.{kinds_of};
 ghost use Rattle.rx_grammar.specs.Steps.{next};
-ghost use Rattle.rx_grammar.specs.Reading.{argument_at, hook_at, pair_at, value_statement, const_at, effect_at, statement_at, is_statement, statements_at, function_line, lines_at};
+ghost use Rattle.rx_grammar.specs.Reading.{argument_at, hook_at, pair_at, value_statement, const_at, effect_at, throw_at, statement_at, is_statement, statements_at, function_line, lines_at};
 ghost use Rattle.rx_expression.specs.Results.{Gives};
 
 use rx_ast::{Expr, Line, Statement};
@@ -136,6 +136,17 @@ fn effect<'a>(
     Ok((Statement::effect(layout, label, dependencies), rest))
 }
 
+/// A statement that throws.
+#[tactic(auto, unfolding(rx_grammar::specs::Reading::throw_at))]
+fn thrown<'a>(alloc: Global, rest: Rest<'a>, level: usize) -> Result<(Statement, Rest<'a>), Fault>
+    ensures { Gives (λ x. (x.0, kinds_of x.1)) result (throw_at level (kinds_of rest.entry)) }
+{
+    let rest = expect_word(rest, Keyword::ThrowIf)?;
+    let rest = expect(rest, Sign::OpenParen)?;
+    let (value, rest) = argument(alloc, rest, level)?;
+    Ok((Statement::throw_if(value), rest))
+}
+
 /// A statement.
 #[tactic(auto, unfolding(rx_grammar::specs::Reading::statement_at))]
 fn statement<'a>(
@@ -147,6 +158,9 @@ fn statement<'a>(
 {
     if next_is_word(rest, Keyword::Const) {
         return constant(alloc, rest, level);
+    }
+    if next_is_word(rest, Keyword::ThrowIf) {
+        return thrown(alloc, rest, level);
     }
     if next_is_word(rest, Keyword::UseEffect) {
         let rest = expect_word(rest, Keyword::UseEffect)?;
@@ -162,7 +176,9 @@ fn next_is_statement(rest: Rest<'_>) -> bool
     ensures { result ≡ next is_statement (kinds_of rest.entry) }
 {
     next_is_word(rest, Keyword::Const)
-        || (next_is_word(rest, Keyword::UseEffect) || next_is_word(rest, Keyword::UseLayoutEffect))
+        || (next_is_word(rest, Keyword::ThrowIf)
+            || (next_is_word(rest, Keyword::UseEffect)
+                || next_is_word(rest, Keyword::UseLayoutEffect)))
 }
 
 /// The statements before `return`.

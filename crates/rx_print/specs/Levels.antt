@@ -7,8 +7,8 @@ use Rattle.rx_ast.specs.declared.expr.Operator.{Operator}
 use Rattle.rx_ast.specs.declared.expr.Operator.TheVariants as operator
 use Rattle.rx_ast.specs.Syntax.{Expr, number, variable, grouped, prefixed, chain, chosen, called, Links, no_links, link, Exprs, no_exprs, expr, exprs_of}
 use Rattle.rx_ast.specs.Syntax.{Attribute, key, computed, literal, KeyPlace, unkeyed, key_first, key_last, Ending, at_once, by_tag, parentheses, braces}
-use Rattle.rx_ast.specs.Syntax.{Slot, null, words, number_of, children, repeated, choice, host, comp, boundary, provider, enclosed, Slots, no_slots, slot}
-use Rattle.rx_ast.specs.Syntax.{Body, single, fragment, enclosed_fragment, Statement, state, reducer, transition, context, use_resource, constant, effect}
+use Rattle.rx_ast.specs.Syntax.{Slot, null, words, number_of, children, repeated, choice, host, comp, boundary, catcher, provider, enclosed, Slots, no_slots, slot}
+use Rattle.rx_ast.specs.Syntax.{Body, single, fragment, enclosed_fragment, Statement, state, reducer, transition, context, use_resource, constant, effect, throw_if}
 use Rattle.rx_ast.specs.Syntax.{Line, Parameter, Declaration, of_context, of_function, of_component, Program}
 use Rattle.rx_print.specs.Printing.{program_tokens}
 
@@ -100,7 +100,7 @@ ComponentAttributesFit (key e ∷ attrs) n = ExprFits e whole_line n × Componen
 ComponentAttributesFit (computed x e ∷ attrs) n = ExprFits e whole_line n × ComponentAttributesFit attrs n
 ComponentAttributesFit (literal x t ∷ attrs) n = ⊥
 
--- the key of a boundary or a provider
+-- the key of a boundary, of Suspense or of errors, or of a provider
 abbrev pub KeyFits : KeyPlace → (levels : ℕ) → Type 0
 KeyFits unkeyed n = Unit {0}
 KeyFits (key_first e) n = ExprFits e whole_line n
@@ -131,6 +131,8 @@ abbrev mutual
   SlotFits (comp x attrs w ss) at n = (0 < n) × ComponentAttributesFit attrs (n - 1) × EndsWith w ss × SlotsFit ss (n - 1)
   SlotFits (boundary k s w ss) at n =
       (0 < n) × KeyFits k (n - 1) × SlotFits s of_slot (n - 1) × EndsWith w ss × SlotsFit ss (n - 1)
+  SlotFits (catcher k s w ss) at n =
+      (0 < n) × KeyFits k (n - 1) × SlotFits s of_slot (n - 1) × EndsWith w ss × SlotsFit ss (n - 1)
   SlotFits (provider x k e w ss) at n =
       (0 < n) × KeyFits k (n - 1) × ExprFits e whole_line (n - 1) × EndsWith w ss × SlotsFit ss (n - 1)
   SlotFits (enclosed parentheses s) at n = (at ≡ of_slot) × (0 < n) × SlotFits s of_element (n - 1)
@@ -156,6 +158,7 @@ StatementFits (context x c) n = Unit {0}
 StatementFits (use_resource x r) n = (r ≢ []) × IsRun is_word_byte r
 StatementFits (constant x e) n = ExprFits e whole_line n
 StatementFits (effect l t es) n = ExprsFit (exprs_of es) n
+StatementFits (throw_if e) n = ExprFits e whole_line n
 
 -- each statement
 abbrev pub StatementsFit : List Statement → (levels : ℕ) → Type 0

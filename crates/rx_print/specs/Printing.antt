@@ -15,8 +15,8 @@ use Rattle.rx_ast.specs.declared.expr.Operator.{Operator}
 use Rattle.rx_ast.specs.declared.expr.Operator.TheVariants as operator
 use Rattle.rx_ast.specs.Syntax.{Expr, number, variable, grouped, prefixed, chain, chosen, called, Links, no_links, link, Exprs, no_exprs, expr, exprs_of}
 use Rattle.rx_ast.specs.Syntax.{Attribute, key, computed, literal, KeyPlace, unkeyed, key_first, key_last, Ending, at_once, by_tag, parentheses, braces}
-use Rattle.rx_ast.specs.Syntax.{Slot, null, words, number_of, children, repeated, choice, host, comp, boundary, provider, enclosed, Slots, no_slots, slot}
-use Rattle.rx_ast.specs.Syntax.{Body, single, fragment, enclosed_fragment, Statement, state, reducer, transition, context, use_resource, constant, effect}
+use Rattle.rx_ast.specs.Syntax.{Slot, null, words, number_of, children, repeated, choice, host, comp, boundary, catcher, provider, enclosed, Slots, no_slots, slot}
+use Rattle.rx_ast.specs.Syntax.{Body, single, fragment, enclosed_fragment, Statement, state, reducer, transition, context, use_resource, constant, effect, throw_if}
 use Rattle.rx_ast.specs.Syntax.{Line, Parameter, integer, given_children, Component, Declaration, of_context, of_function, of_component, Program}
 
 -- the sign of an operator before an operand
@@ -100,7 +100,7 @@ key_behind unkeyed = []
 key_behind (key_first e) = []
 key_behind (key_last e) = key_tokens e
 
--- what a boundary or a provider is given, with its key in its place
+-- what a boundary, of Suspense or of errors, or a provider is given, with its key in its place
 abbrev pub keyed : KeyPlace → List Kind → List Kind
 keyed k ks = key_before k ++ (ks ++ key_behind k)
 
@@ -132,6 +132,8 @@ abbrev mutual
   slot_tokens (comp x attrs w ss) = element_tokens (Upper x ∷ []) (flat_map attribute_tokens attrs) w (slots_tokens ss)
   slot_tokens (boundary k s w ss) =
       element_tokens (Word word.Suspense ∷ []) (keyed k (given (Lower (codes "fallback")) (slot_tokens s))) w (slots_tokens ss)
+  slot_tokens (catcher k s w ss) =
+      element_tokens (Word word.Catch ∷ []) (keyed k (given (Lower (codes "fallback")) (slot_tokens s))) w (slots_tokens ss)
   slot_tokens (provider x k e w ss) =
       element_tokens (provider_name x) (keyed k (given (Lower (codes "value")) (expr_tokens e))) w (slots_tokens ss)
   slot_tokens (enclosed parentheses s) = in_parentheses (slot_tokens s)
@@ -181,6 +183,7 @@ statement_tokens (effect l t es) =
     Word (effect_word l)
     ∷ (in_parentheses (Text t ∷ Mark sign.Comma ∷ Mark sign.OpenBracket ∷ (exprs_tokens (exprs_of es) ++ Mark sign.CloseBracket ∷ []))
     ++ Mark sign.Semicolon ∷ [])
+statement_tokens (throw_if e) = Word word.ThrowIf ∷ (in_parentheses (expr_tokens e) ++ Mark sign.Semicolon ∷ [])
 
 -- the tokens of a line of a function
 abbrev pub line_tokens : Line → List Kind

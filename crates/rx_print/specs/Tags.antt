@@ -14,6 +14,7 @@ abbrev pub name_tokens : Tag → List Kind
 name_tokens (tag.Host x attrs) = Lower x ∷ []
 name_tokens (tag.Component x attrs) = Upper x ∷ []
 name_tokens (tag.Suspense k s) = Word word.Suspense ∷ []
+name_tokens (tag.Catch k s) = Word word.Catch ∷ []
 name_tokens (tag.Provider x k e) = provider_name x
 
 -- what stands behind the name in the opening tag
@@ -21,4 +22,5 @@ abbrev pub given_tokens : Tag → List Kind
 given_tokens (tag.Host x attrs) = flat_map attribute_tokens attrs.items
 given_tokens (tag.Component x attrs) = flat_map attribute_tokens attrs.items
 given_tokens (tag.Suspense k s) = keyed (key_place_of k) (given (Lower (codes "fallback")) (slot_tokens s.value))
+given_tokens (tag.Catch k s) = keyed (key_place_of k) (given (Lower (codes "fallback")) (slot_tokens s.value))
 given_tokens (tag.Provider x k e) = keyed (key_place_of k) (given (Lower (codes "value")) (expr_tokens e.value))

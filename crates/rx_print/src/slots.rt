@@ -93,6 +93,7 @@ impl Printer {
             Tag::Host { name, .. } => self.lower(name),
             Tag::Component { name, .. } => self.upper(name),
             Tag::Suspense { .. } => self.word(Keyword::Suspense),
+            Tag::Catch { .. } => self.word(Keyword::Catch),
             Tag::Provider { context, .. } => {
                 self.upper(context)?;
                 self.sign(Sign::Dot)?;
@@ -120,7 +121,7 @@ impl Printer {
             Tag::Host { attributes, .. } | Tag::Component { attributes, .. } => self.attributes(
                 attributes,
             ),
-            Tag::Suspense { key, fallback } => {
+            Tag::Suspense { key, fallback } | Tag::Catch { key, fallback } => {
                 self.key_before(key)?;
                 self.name("fallback")?;
                 self.sign(Sign::Equals)?;

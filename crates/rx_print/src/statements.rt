@@ -117,6 +117,11 @@ impl Printer {
                 label,
                 dependencies,
             } => self.effect(*layout, label, dependencies),
+            StatementKind::Throw { value } => {
+                self.opened(Keyword::ThrowIf)?;
+                self.expr(value)?;
+                self.closed_line()
+            }
         }
     }
 

@@ -1,8 +1,8 @@
 -- One fiber gets its number.
 use Rattle.std.proofs.Common.{◌≡◌, ℕ, ◌+◌, ◌∙◌, refl, ap, Option, None, Some}
-use Rattle.rx_elem.specs.Trees.{Mark, Instance, of_instance, of_host, of_boundary, plain}
+use Rattle.rx_elem.specs.Trees.{Mark, Instance, of_instance, of_host, of_boundary, of_catcher, plain}
 use Rattle.rx_elem.specs.Numbers.{Numbers, numbered_instance, numbered_host, numbered_mark}
-use Rattle.rx_fiber.specs.Fibers.{Stage, Fiber, waiting, begun, trying, fallback, with_number, numbered_stage}
+use Rattle.rx_fiber.specs.Fibers.{Stage, Fiber, waiting, begun, trying, guarding, fallback, with_number, numbered_stage}
 use Rattle.rx_read.specs.Lacking.{without, mark_lacks, stage_lacks}
 use Rattle.rx_read.specs.declared.numbering.Lack.TheVariants as lack
 use Rattle.rx_read.specs.Numbering.{numbered_at, numbered_fiber}
@@ -19,12 +19,14 @@ mark_kept : (next : Numbers) (m : Mark) → mark_lacks m ≡ lack.Nothing → nu
 mark_kept next (of_instance i) e = instance_kept next i i.number e
 mark_kept next (of_host n) e = host_kept next n e
 mark_kept next (of_boundary b) e = refl
+mark_kept next (of_catcher c) e = refl
 mark_kept next plain e = refl
 
 stage_kept : (next : Numbers) (v : Fiber) (s : Stage) → s ≡ v.stage → stage_lacks s ≡ lack.Nothing → numbered_at next v s ≡ (next, v)
 stage_kept next v (waiting c) q e = refl
 stage_kept next v (begun m) q e = ap (λ own. (own.0, record v { stage = begun own.1 })) (mark_kept next m e) ∙ ap (λ s. (next, record v { stage = s })) q
 stage_kept next v (trying c) q e = refl
+stage_kept next v guarding q e = refl
 stage_kept next v (fallback a) q e = refl
 
 -- a fiber that lacks nothing stays as it is
@@ -48,6 +50,7 @@ mark_instance next (of_instance i) e = instance_new next i i.number e
 mark_instance next (of_host None) e = cc
 mark_instance next (of_host (Some n)) e = cc
 mark_instance next (of_boundary b) e = cc
+mark_instance next (of_catcher c) e = cc
 mark_instance next plain e = cc
 
 stage_instance : (next : Numbers) (v : Fiber) (s : Stage) → stage_lacks s ≡ lack.Instance
@@ -55,6 +58,7 @@ stage_instance : (next : Numbers) (v : Fiber) (s : Stage) → stage_lacks s ≡ 
 stage_instance next v (waiting c) e = cc
 stage_instance next v (begun m) e = ap (λ own. (own.0, record v { stage = begun own.1 })) (mark_instance next m e)
 stage_instance next v (trying c) e = cc
+stage_instance next v guarding e = cc
 stage_instance next v (fallback a) e = cc
 
 -- a new instance gets the next number of an instance
@@ -72,6 +76,7 @@ mark_host next (of_instance i) e = not_host next i i.number e
 mark_host next (of_host None) e = refl
 mark_host next (of_host (Some n)) e = cc
 mark_host next (of_boundary b) e = cc
+mark_host next (of_catcher c) e = cc
 mark_host next plain e = cc
 
 stage_host : (next : Numbers) (v : Fiber) (s : Stage) → stage_lacks s ≡ lack.Host
@@ -79,6 +84,7 @@ stage_host : (next : Numbers) (v : Fiber) (s : Stage) → stage_lacks s ≡ lack
 stage_host next v (waiting c) e = cc
 stage_host next v (begun m) e = ap (λ own. (own.0, record v { stage = begun own.1 })) (mark_host next m e)
 stage_host next v (trying c) e = cc
+stage_host next v guarding e = cc
 stage_host next v (fallback a) e = cc
 
 -- a new host gets the next number of a host

@@ -1,9 +1,9 @@
 -- How far numbers grow when fibers get theirs.
 use Rattle.std.proofs.Common.{ℕ, suc, ◌+◌, ◌^◌, ◌<◌, ◌≤◌, arith, Option, None, Some}
-use Rattle.rx_elem.specs.Trees.{Mark, Instance, of_instance, of_host, of_boundary, plain}
+use Rattle.rx_elem.specs.Trees.{Mark, Instance, of_instance, of_host, of_boundary, of_catcher, plain}
 use Rattle.rx_elem.specs.Numbers.{Numbers, numbered_instance, numbered_host, numbered_mark}
 use Rattle.rx_links.specs.Drafts.{Draft, taken, made, made_size}
-use Rattle.rx_fiber.specs.Fibers.{Stage, Fiber, waiting, begun, trying, fallback}
+use Rattle.rx_fiber.specs.Fibers.{Stage, Fiber, waiting, begun, trying, guarding, fallback}
 use Rattle.rx_read.specs.Numbering.{numbered_at, numbered_fiber, numbered_draft, numbered_first, AreHeld}
 
 -- from these numbers to those there are at most so many
@@ -31,12 +31,14 @@ mark_grows : (next : Numbers) (m : Mark) → Grows 1 next (numbered_mark next m)
 mark_grows next (of_instance i) = instance_grows next i i.number
 mark_grows next (of_host n) = host_grows next n
 mark_grows next (of_boundary b) = same 1 next
+mark_grows next (of_catcher c) = same 1 next
 mark_grows next plain = same 1 next
 
 stage_grows : (next : Numbers) (v : Fiber) (s : Stage) → Grows 1 next (numbered_at next v s).0
 stage_grows next v (waiting c) = same 1 next
 stage_grows next v (begun m) = mark_grows next m
 stage_grows next v (trying c) = same 1 next
+stage_grows next v guarding = same 1 next
 stage_grows next v (fallback a) = same 1 next
 
 pub fiber_grows : (next : Numbers) (v : Fiber) → Grows 1 next (numbered_fiber next v).0

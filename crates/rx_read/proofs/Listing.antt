@@ -2,7 +2,7 @@
 use Rattle.std.proofs.Common.{◌≡◌, ℕ, suc, ◌+◌, ◌-◌, ◌<◌, ◌≤◌, Bool, true, false, not, ◌&&◌, cond, List, [], ◌∷◌, ◌++◌, length, refl, sym, ap, ◌∙◌, subst, arith, Option, Some, None}
 use Rattle.std.proofs.lemmas.List.{append_assoc, append-nil, length-append}
 use Rattle.rx_elem.specs.Elements.{Element}
-use Rattle.rx_elem.specs.Trees.{Mark, Node, node, Forest, forest, is_hidden}
+use Rattle.rx_elem.specs.Trees.{Mark, Node, node, Forest, forest, shows_fallback}
 use Rattle.rx_lists.specs.Shapes.{Shape, none, fiber, size}
 use Rattle.rx_links.specs.Drafts.{Trees}
 use Rattle.rx_fiber.specs.Fibers.{Fiber, begun}
@@ -10,7 +10,7 @@ use Rattle.rx_fiber.specs.FiberView.{stage_seen}
 use Rattle.rx_fiber.specs.declared.stage.Stage as declared
 use Rattle.rx_fiber.specs.declared.stage.Stage.TheVariants as variants
 use Rattle.rx_node.specs.declared.mark.Mark as code
-use Rattle.rx_fiber.specs.OldLists.{is_fallback, filled, hides_in, begins_fallback, first_kids, primary_list, fallback_list}
+use Rattle.rx_fiber.specs.OldLists.{is_fallback, filled, falls_in, begins_fallback, first_kids, primary_list, fallback_list}
 use Rattle.rx_read.specs.Lists.{list_of}
 use Rattle.rx_read.specs.Places.{mark_in, primary_from, fallback_from, node_if, own_places, places_in, fallback_behind, first_places, first_node}
 use Rattle.rx_read.proofs.Links.{Linked}
@@ -18,22 +18,22 @@ use Rattle.rx_read.proofs.Links.{Linked}
 -- The lists of a node
 
 module _ (t : Trees Fiber) (i : ℕ) (v : Fiber) (c s : Option ℕ) (l : Linked t i v c s) where
-  pub shown_children : hides_in v.stage ≡ false → list_of t c ≡ primary_list (list_of t (Some i))
+  pub shown_children : falls_in v.stage ≡ false → list_of t c ≡ primary_list (list_of t (Some i))
   shown_children h = let e = l.list in rw (e, h) refl
 
-  pub shown_fallback : hides_in v.stage ≡ false → none ≡ fallback_list (list_of t (Some i))
+  pub shown_fallback : falls_in v.stage ≡ false → none ≡ fallback_list (list_of t (Some i))
   shown_fallback h = let e = l.list in rw (e, h) refl
 
-  pub alone_children : hides_in v.stage ≡ true → begins_fallback (list_of t s) ≡ false → none ≡ primary_list (list_of t (Some i))
+  pub alone_children : falls_in v.stage ≡ true → begins_fallback (list_of t s) ≡ false → none ≡ primary_list (list_of t (Some i))
   alone_children h b = let e = l.list in rw (e, h, b) refl
 
-  pub alone_fallback : hides_in v.stage ≡ true → begins_fallback (list_of t s) ≡ false → list_of t c ≡ fallback_list (list_of t (Some i))
+  pub alone_fallback : falls_in v.stage ≡ true → begins_fallback (list_of t s) ≡ false → list_of t c ≡ fallback_list (list_of t (Some i))
   alone_fallback h b = let e = l.list in rw (e, h, b) refl
 
-  pub kept_children : hides_in v.stage ≡ true → begins_fallback (list_of t s) ≡ true → list_of t c ≡ primary_list (list_of t (Some i))
+  pub kept_children : falls_in v.stage ≡ true → begins_fallback (list_of t s) ≡ true → list_of t c ≡ primary_list (list_of t (Some i))
   kept_children h b = let e = l.list in rw (e, h, b) refl
 
-  pub kept_fallback : hides_in v.stage ≡ true → begins_fallback (list_of t s) ≡ true → first_kids (list_of t s) ≡ fallback_list (list_of t (Some i))
+  pub kept_fallback : falls_in v.stage ≡ true → begins_fallback (list_of t s) ≡ true → first_kids (list_of t s) ≡ fallback_list (list_of t (Some i))
   kept_fallback h b = let e = l.list in rw (e, h, b) refl
 
   pub begins_is : begins_fallback (list_of t (Some i)) ≡ is_fallback v.stage
@@ -52,7 +52,7 @@ kids_smaller none = omega arith
 kids_smaller (fiber id v ks rs) = omega arith
 
 pub primary_smaller : (t : Trees Fiber) (i : ℕ) (v : Fiber) (c s : Option ℕ) → Linked t i v c s → size (primary_list (list_of t (Some i))) < size (list_of t (Some i))
-primary_smaller t i v c s l = let e = l.list in rw e (if_smaller (hides_in v.stage && not (begins_fallback (list_of t s))) (list_of t c) _ (omega arith) (omega arith))
+primary_smaller t i v c s l = let e = l.list in rw e (if_smaller (falls_in v.stage && not (begins_fallback (list_of t s))) (list_of t c) _ (omega arith) (omega arith))
 
 fallback_less : (b d : Bool) (ks rs : Shape Fiber) → size (cond b (cond d (first_kids rs) ks) none) < suc (size ks + size rs)
 fallback_less true true ks rs = omega (arith, kids_smaller rs)
@@ -60,7 +60,7 @@ fallback_less true false ks rs = omega arith
 fallback_less false d ks rs = omega arith
 
 pub fallback_smaller : (t : Trees Fiber) (i : ℕ) (v : Fiber) (c s : Option ℕ) → Linked t i v c s → size (fallback_list (list_of t (Some i))) < size (list_of t (Some i))
-fallback_smaller t i v c s l = let e = l.list in rw e (fallback_less (hides_in v.stage) (begins_fallback (list_of t s)) (list_of t c) (list_of t s))
+fallback_smaller t i v c s l = let e = l.list in rw e (fallback_less (falls_in v.stage) (begins_fallback (list_of t s)) (list_of t c) (list_of t s))
 
 pub rest_smaller : (t : Trees Fiber) (i : ℕ) (v : Fiber) (c s : Option ℕ) → Linked t i v c s → size (list_of t s) < size (list_of t (Some i))
 rest_smaller t i v c s l = let e = l.list in rw e (omega arith)
@@ -71,6 +71,7 @@ pub not_begun : (s : declared.Stage) → ((m : code.Mark) → s ≡ variants.Beg
 not_begun (variants.Waiting c) h = refl
 not_begun (variants.Begun m) h = absurd (h m refl)
 not_begun (variants.Trying c) h = refl
+not_begun variants.Guarding h = refl
 not_begun (variants.Fallback a) h = refl
 
 -- a fiber that stands for no node has none
@@ -95,8 +96,8 @@ node_is : (v : Fiber) (m : Mark) (id : ℕ) (ks rs : Shape Fiber) → v.stage �
     → first_node (fiber id v ks rs)
     ≡ Some (node v.element m (forest (places_in 0 (primary_list (fiber id v ks rs)))) (forest (places_in 0 (fallback_list (fiber id v ks rs)))))
 node_is v m id ks rs e =
-    let b = behind_is rs (is_hidden m) ks in
-    let h : hides_in v.stage ≡ is_hidden m = ap hides_in e in
+    let b = behind_is rs (shows_fallback m) ks in
+    let h : falls_in v.stage ≡ shows_fallback m = ap falls_in e in
     let k : mark_in v.stage ≡ Some m = ap mark_in e in
     rw (k, h, b.0, b.1) refl
 

@@ -1,15 +1,16 @@
 -- The fibers of a tree with its new numbers stand for the tree with these.
+use Rattle.std.specs.Prelude.{◌||◌}
 use Rattle.std.proofs.Common.{◌≡◌, ℕ, suc, eqb, Bool, true, false, refl, sym, ap, ◌∙◌, subst, Option, Some, None}
 use Rattle.rx_base.specs.Awaits.{Awaits}
 use Rattle.rx_elem.specs.Elements.{Element}
-use Rattle.rx_elem.specs.Trees.{Mark, of_instance, of_host, of_boundary, plain, Instance, Node, node, Forest, vacant, child, is_hidden, awaits_in}
+use Rattle.rx_elem.specs.Trees.{Mark, of_instance, of_host, of_boundary, of_catcher, plain, Instance, Node, node, Forest, vacant, child, is_caught, is_hidden, shows_fallback, awaits_in}
 use Rattle.rx_elem.specs.Trees as trees
 use Rattle.rx_elem.specs.Numbers.{Numbers, numbered_instance, numbered_mark, numbered, numbered_in}
 use Rattle.commit_laws.specs.HiddenWaits.{IsNumbered, Numbered, AllNumbered, IfNumbered}
 use Rattle.rx_lists.specs.Shapes.{Shape, none, fiber}
 use Rattle.rx_links.specs.Drafts.{Draft, taken, made, Trees, Fits, grafted, list_at}
 use Rattle.rx_links.specs.Readers.{IsLinked}
-use Rattle.rx_fiber.specs.Fibers.{Stage, Fiber, waiting, begun, trying, fallback}
+use Rattle.rx_fiber.specs.Fibers.{Stage, Fiber, waiting, begun, trying, guarding, fallback}
 use Rattle.rx_fiber.specs.Reading.{has_node, IsOf, AreFor, no_more, gap, next, IsFor, whole, alone, beside, IsTreeOf}
 use Rattle.rx_fiber.proofs.OldLists.{IsListIn, list_is}
 use Rattle.rx_read.specs.Numbering.{numbered_at, numbered_fiber, numbered_draft, IsAllNumbered}
@@ -22,6 +23,7 @@ abbrev HasNumber : Stage → Type 0
 HasNumber (waiting c) = Unit {0}
 HasNumber (begun m) = IsNumbered m
 HasNumber (trying c) = Unit {0}
+HasNumber guarding = Unit {0}
 HasNumber (fallback a) = Unit {0}
 
 -- so has each fiber of a list
@@ -47,6 +49,7 @@ mark_same n (of_instance i) h = instance_same n i i.number h
 mark_same n (of_host None) h = let e = h.1 in cc
 mark_same n (of_host (Some k)) h = refl
 mark_same n (of_boundary b) h = refl
+mark_same n (of_catcher c) h = refl
 mark_same n plain h = refl
 
 fiber_same : (n : Numbers) (v : Fiber) → HasNumber v.stage → numbered_fiber n v ≡ (n, v)
@@ -56,6 +59,7 @@ fiber_same n v h = by_stage v.stage refl h
     by_stage (waiting c) e h = refl
     by_stage (begun m) e h = ap (λ own. (own.0, record v { stage = begun own.1 })) (mark_same n m h) ∙ ap (λ s. (n, record v { stage = s })) e
     by_stage (trying c) e h = refl
+    by_stage guarding e h = refl
     by_stage (fallback a) e h = refl
 
 -- a list with its numbers stays as it is
@@ -93,7 +97,23 @@ hidden_same n (of_instance i) = by_number i.number
 hidden_same n (of_host None) = refl
 hidden_same n (of_host (Some k)) = refl
 hidden_same n (of_boundary b) = refl
+hidden_same n (of_catcher c) = refl
 hidden_same n plain = refl
+
+caught_same : (n : Numbers) (m : Mark) → is_caught (numbered_mark n m).1 ≡ is_caught m
+caught_same n (of_instance i) = by_number i.number
+  where
+    by_number : (o : Option ℕ) → is_caught (numbered_instance n i o).1 ≡ false
+    by_number None = refl
+    by_number (Some k) = refl
+caught_same n (of_host None) = refl
+caught_same n (of_host (Some k)) = refl
+caught_same n (of_boundary b) = refl
+caught_same n (of_catcher c) = refl
+caught_same n plain = refl
+
+falls_same : (n : Numbers) (m : Mark) → shows_fallback (numbered_mark n m).1 ≡ shows_fallback m
+falls_same n m = ap (λ b. b || is_caught (numbered_mark n m).1) (hidden_same n m) ∙ ap (λ b. is_hidden m || b) (caught_same n m)
 
 awaits_same : (n : Numbers) (m : Mark) → awaits_in (numbered_mark n m).1 ≡ awaits_in m
 awaits_same n (of_instance i) = by_number i.number
@@ -104,6 +124,7 @@ awaits_same n (of_instance i) = by_number i.number
 awaits_same n (of_host None) = refl
 awaits_same n (of_host (Some k)) = refl
 awaits_same n (of_boundary b) = refl
+awaits_same n (of_catcher c) = refl
 awaits_same n plain = refl
 
 nodes_same : (n : Numbers) (ns : Forest) → has_node (numbered_in n ns).1 ≡ has_node ns
@@ -139,13 +160,13 @@ fallback_same n w a e = subst (λ s. numbered_at n w s ≡ (n, w)) (sym e) refl
 
 whole_stays : (n : Numbers) (p id : ℕ) (v : Fiber) (e : Element) (m : Mark) (ns : Forest) (ks rest : Shape Fiber)
     → (numbered_fiber n v).0 ≡ (numbered_mark n m).0 → IsOf (numbered_fiber n v).1 p e (numbered_mark n m).1
-    → StaysFor (numbered_mark n m).0 0 ns ks → is_hidden (numbered_mark n m).1 ≡ false
+    → StaysFor (numbered_mark n m).0 0 ns ks → shows_fallback (numbered_mark n m).1 ≡ false
     → StaysNode n p (node e m ns trees.none) (fiber id v ks rest) rest
 whole_stays n p id v e m ns ks rest o is r shown = let q = r.numbers in record { numbers = rw (o, q) refl; is = rw (o, q) (whole is shown r.are) }
 
 alone_stays : (n : Numbers) (p id : ℕ) (v : Fiber) (e : Element) (m : Mark) (ns fs : Forest) (ks rest : Shape Fiber)
     → (numbered_fiber n v).0 ≡ (numbered_mark n m).0 → IsOf (numbered_fiber n v).1 p e (numbered_mark n m).1
-    → StaysFor (numbered_mark n m).0 0 fs ks → is_hidden (numbered_mark n m).1 ≡ true → has_node ns ≡ false
+    → StaysFor (numbered_mark n m).0 0 fs ks → shows_fallback (numbered_mark n m).1 ≡ true → has_node ns ≡ false
     → StaysNode n p (node e m ns fs) (fiber id v ks rest) rest
 alone_stays n p id v e m ns fs ks rest o is r hidden gone =
     let q = r.numbers in
@@ -179,11 +200,11 @@ mutual
   node_stays n p _ _ rest (whole {id = id} {v = v} {e = e} {m = m} {ns = ns} {ks = ks} is shown a) =
       let o = of_numbered n v p e m is in
       let r = list_stays (numbered_mark n m).0 0 ns ks a in
-      whole_stays n p id v e m ns ks rest o.0 o.1 r (hidden_same n m ∙ shown)
+      whole_stays n p id v e m ns ks rest o.0 o.1 r (falls_same n m ∙ shown)
   node_stays n p _ _ rest (alone {id = id} {v = v} {e = e} {m = m} {ns = ns} {fs = fs} {ks = ks} is hidden gone a) =
       let o = of_numbered n v p e m is in
       let r = list_stays (numbered_mark n m).0 0 fs ks a in
-      alone_stays n p id v e m ns fs ks rest o.0 o.1 r (hidden_same n m ∙ hidden) gone
+      alone_stays n p id v e m ns fs ks rest o.0 o.1 r (falls_same n m ∙ hidden) gone
   node_stays n p _ _ rest (beside {id = id} {jd = jd} {v = v} {w = w} {e = e} {m = m} {ns = ns} {fs = fs} {ks = ks} {ws = ws} is hidden some a s b) =
       let o = of_numbered n v p e m is in
       let r = list_stays (numbered_mark n m).0 0 ns ks a in

@@ -6,7 +6,7 @@ use Rattle.commit_laws.specs.HiddenWaits.{IfNumbered}
 use Rattle.rx_lists.specs.Shapes.{none}
 use Rattle.rx_links.specs.Drafts.{Draft, taken, made, Trees}
 use Rattle.rx_links.specs.Readers.{made_list_at}
-use Rattle.rx_fiber.specs.Fibers.{Stage, Fiber, waiting, begun, trying, fallback}
+use Rattle.rx_fiber.specs.Fibers.{Stage, Fiber, waiting, begun, trying, guarding, fallback}
 use Rattle.rx_fiber.specs.Reading.{IsTreeOf}
 
 -- a fiber of this stage with its number: its own, or else the next one
@@ -14,6 +14,7 @@ abbrev pub numbered_at : Numbers → Fiber → Stage → Numbers × Fiber
 numbered_at next v (waiting c) = (next, v)
 numbered_at next v (begun m) = let own = numbered_mark next m in (own.0, record v { stage = begun own.1 })
 numbered_at next v (trying c) = (next, v)
+numbered_at next v guarding = (next, v)
 numbered_at next v (fallback a) = (next, v)
 
 -- a fiber with its number

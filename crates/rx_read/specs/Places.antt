@@ -1,9 +1,9 @@
 -- Which places the fibers of a list stand for, whatever they hold.
 use Rattle.std.specs.Prelude.{ℕ, ◌+◌, ◌-◌, Bool, true, false, List, [], ◌∷◌, ◌++◌, length, Option, None, Some, if◌then◌else◌}
-use Rattle.rx_elem.specs.Trees.{Mark, Node, node, Forest, forest, is_hidden}
+use Rattle.rx_elem.specs.Trees.{Mark, Node, node, Forest, forest, shows_fallback}
 use Rattle.rx_elem.specs.Trees as trees
 use Rattle.rx_lists.specs.Shapes.{Shape, none, fiber}
-use Rattle.rx_fiber.specs.Fibers.{Stage, Fiber, waiting, begun, trying, fallback}
+use Rattle.rx_fiber.specs.Fibers.{Stage, Fiber, waiting, begun, trying, guarding, fallback}
 use Rattle.rx_fiber.specs.OldLists.{is_fallback, filled}
 
 -- the mark of the node that a fiber of this stage stands for, if it stands for one
@@ -11,23 +11,24 @@ abbrev pub mark_in : Stage → Option Mark
 mark_in (waiting c) = None
 mark_in (begun m) = Some m
 mark_in (trying c) = None
+mark_in guarding = None
 mark_in (fallback a) = None
 
--- the children of a node whose fiber has these; a hidden boundary with no fiber of its fallback behind it keeps none
-abbrev pub primary_from : (hidden : Bool) → (kids : Forest) → (behind : Option Forest) → Forest
+-- the children of a node whose fiber has these; a boundary that shows its fallback, with no fiber of that behind it, keeps none
+abbrev pub primary_from : (falls : Bool) → (kids : Forest) → (behind : Option Forest) → Forest
 primary_from false kids behind = kids
 primary_from true kids None = trees.none
 primary_from true kids (Some fs) = kids
 
 -- the fallback of such a node
-abbrev pub fallback_from : (hidden : Bool) → (kids : Forest) → (behind : Option Forest) → Forest
+abbrev pub fallback_from : (falls : Bool) → (kids : Forest) → (behind : Option Forest) → Forest
 fallback_from false kids behind = trees.none
 fallback_from true kids None = kids
 fallback_from true kids (Some fs) = fs
 
 -- the node of a fiber with this mark
 abbrev pub node_from : Fiber → Mark → (kids : Forest) → (behind : Option Forest) → Node
-node_from v m kids behind = node v.element m (primary_from (is_hidden m) kids behind) (fallback_from (is_hidden m) kids behind)
+node_from v m kids behind = node v.element m (primary_from (shows_fallback m) kids behind) (fallback_from (shows_fallback m) kids behind)
 
 -- the places up to that of a fiber, behind so many: vacant ones, and then its node's; nothing if it stands for none
 abbrev pub own_places : Option Mark → (place : ℕ) → Fiber → (kids : Forest) → (behind : Option Forest) → List (Option Node)

@@ -9,7 +9,7 @@ ghost use Rattle.end_laws.specs.Trimmed.{trimmed, trimmed_if};
 ghost use Rattle.rx_read.specs.Lists.{list_of};
 ghost use Rattle.rx_read.specs.Places.{places_in, first_places, first_node};
 
-use rx_fiber::{Fiber, Stage, hides, is_fallback};
+use rx_fiber::{Fiber, Stage, falls, is_fallback};
 use rx_links::{FiberId, FiberTree};
 use rx_node::{Mark, Node};
 use std::alloc::{AllocError, Global};
@@ -44,7 +44,7 @@ fn child_of_link(tree: &FiberTree<Fiber>, link: Option<FiberId>) -> Option<Fiber
 }
 
 // Where the lists of a fiber's node begin. A hidden boundary that keeps something has the fiber of its fallback right behind
-// its own; one that keeps nothing has its fallback as its children.
+// its own; one that keeps nothing has its fallback as its children, and so has an error boundary that has caught a value.
 fn lists_of(tree: &FiberTree<Fiber>, id: FiberId) -> Lists
     requires { IsIn tree.now id }
     ensures children_in { IfSome result.children (IsIn tree.now) }
@@ -54,7 +54,7 @@ fn lists_of(tree: &FiberTree<Fiber>, id: FiberId) -> Lists
 {
     tree.facts();
     let first = tree.first_child(id);
-    if !hides(tree.value(id).stage()) {
+    if !falls(tree.value(id).stage()) {
         return Lists {
             children: first,
             fallback: None,

@@ -1,5 +1,5 @@
 -- Where a unit of each kind comes to.
-use Rattle.std.specs.Prelude.{◌≡◌, ℕ, zero, suc, ◌+◌, ◌≤◌, Bool, true, false, ◌&&◌, List, [], ◌∷◌, filter, nat_eq, Option, Some, None, Result, Ok, Err, IfOk, OnOk, OnErr, refl}
+use Rattle.std.specs.Prelude.{◌≡◌, ℕ, ℤ, zero, suc, ◌+◌, ◌≤◌, Bool, true, false, ◌&&◌, List, [], ◌∷◌, filter, nat_eq, Option, Some, None, Result, Ok, Err, IfOk, OnOk, OnErr, refl}
 use Rattle.std.specs.List.{range_with_len}
 use Rattle.std.proofs.Common.{sym, ap, ◌∙◌, subst, arith, add-one}
 use Rattle.rx_base.specs.Awaits.{Awaits, one, nothing, awaits_where}
@@ -15,8 +15,8 @@ use Rattle.rx_elem.proofs.Equality.{same_element-self}
 use Rattle.rx_links.specs.Drafts.{Fits, Trees, Makes, made, taken, old_of, valued}
 use Rattle.rx_links.specs.Readers.{IsLinked, made_value_in, made_value_of}
 use Rattle.rx_links.proofs.Placed.{is-at}
-use Rattle.rx_meaning.specs.Fresh.{Sight, Contexts, part, shape_of, waiting}
-use Rattle.rx_meaning.specs.Cursor.{Open, falling, Frame, Cursor, at_place, at_end, ended, open_part, arrive, unit, unwind}
+use Rattle.rx_meaning.specs.Fresh.{Sight, Contexts, part, shape_of, throwing, waiting}
+use Rattle.rx_meaning.specs.Cursor.{Open, falling, Frame, Cursor, at_place, at_end, ended, open_part, arrive, unit, unwind, unwind_throw}
 use Rattle.rx_meaning.specs.Counts.{each_body, next_counts}
 use Rattle.rx_fiber.specs.Fibers.{Fiber, generation_of, waiting as waits_with}
 use Rattle.rx_fiber.specs.Passed.{IsPassed}
@@ -26,7 +26,7 @@ use Rattle.rx_fiber.specs.declared.stage.Origin.{Origin}
 use Rattle.rx_fiber.specs.declared.stage.StageChange.TheVariants as change
 use Rattle.rx_fiber.specs.Standing.{StandsAt, begins as begins_place, is_stood}
 use Rattle.rx_fiber.specs.Surround.{fallback_in, given_along}
-use Rattle.rx_fiber.specs.Unwound.{IsWithin, IsLeftAt}
+use Rattle.rx_fiber.specs.Unwound.{IsCaughtAt, IsWithin, IsLeftAt}
 use Rattle.rx_complete.specs.Ends.{IsOpenBelow, lies, fiber_in, LeadsTo, to_sibling, to_parent, to_none}
 use Rattle.rx_complete.specs.declared.completing.Next.{Next}
 use Rattle.rx_complete.proofs.Completed.{KnowsPlaces}
@@ -34,11 +34,12 @@ use Rattle.rx_causes.specs.declared.scene.Scene.{Scene}
 use Rattle.rx_causes.specs.Scenes.{IsSceneOf, KeepsHooks, GivesHooks, TellsNews}
 use Rattle.rx_causes.specs.Hidden.{KeepsHooksIf, GivesHooksIf, ForEach, ForEachIn}
 use Rattle.rx_children.specs.Again.{HasOldFallback}
-use Rattle.rx_meaning.specs.Touched.{sees_refresh, is_memo}
+use Rattle.rx_meaning.specs.Touched.{is_memo, may_throw_anew, sees_refresh}
 use Rattle.rx_begin.specs.Beginning.{IsAtPlace, stands, HasLists, IsHiddenAgain, IsTakenOver, BeginsPlace}
 use Rattle.rx_children.specs.Units.{IsPlace, IsEnd}
 use Rattle.rx_ways.specs.Ways.{is_way, CoversIf}
-use Rattle.rx_fallback.specs.Opening.{HasOpenedAs, IsLeft, left}
+use Rattle.rx_fallback.specs.Opening.{HasOpenedAs, IsCatchLeft, IsLeft, left}
+use Rattle.rx_fallback.specs.Opening as fallbacks
 use Rattle.rx_children.specs.declared.node.Begun.TheVariants.{Child, Leaf, Suspended}
 use Rattle.rx_children.specs.declared.node.Begun.TheVariants as answers
 use Rattle.rx_fallback.specs.declared.opening.Opened.{Opened}
@@ -108,6 +109,11 @@ pub stopped : (t new : Trees Fiber) (st st' : Stack) (p q : ℕ) (a b : Awaits) 
     → ((levels : ℕ) (fs : List Frame) → IsWithin t st p fs → IsLeftAt new st' q (taken shapes.none) b (unwind levels fs a)) → IsLeft new q b
 stopped t new st st' p q a b (lies {fs = fs} w) f = left (f 0 fs w)
 
+-- a thrown value has stopped at the error boundary
+pub caught : (t new : Trees Fiber) (st st' : Stack) (p q : ℕ) (x : ℤ) → IsOpenBelow t st p
+    → ((levels : ℕ) (fs : List Frame) → IsWithin t st p fs → IsCaughtAt new st' q (taken shapes.none) x (unwind_throw levels fs x)) → IsCatchLeft new q
+caught t new st st' p q x (lies {fs = fs} w) f = fallbacks.stopped (f 0 fs w)
+
 -- After a place that begins
 
 -- what a unit pays that begins the place of a fiber, and opens it over a list
@@ -122,6 +128,12 @@ PaysWaiting s kept t st new st' id bodies r last at =
     (n : ℕ) (fs : List Frame) (cs : Contexts) (e : Element) (old : Option Node) (us : Flags) → StandsAt t st (Some id) (at_place (suc n) fs cs e old) → TellsIf s kept old → ((v : ℕ) × (shape_of s cs e old ≡ waiting r v))
     → IsWithin new st' id fs → FlagsAtPlace t id us → Paid s t.current bodies us (at_place (suc n) fs cs e old) (unit s (at_place (suc n) fs cs e old)) last at
 
+-- what it pays if a body throws, and the fallback of an error boundary opens
+abbrev pub PaysThrowing : Sight → (kept : ℕ → Option (List Hook)) → Trees Fiber → Stack → Trees Fiber → Stack → (id bodies : ℕ) → ℤ → Trees Fiber → At → Type 0
+PaysThrowing s kept t st new st' id bodies x last at =
+    (n : ℕ) (fs : List Frame) (cs : Contexts) (e : Element) (old : Option Node) (us : Flags) → StandsAt t st (Some id) (at_place (suc n) fs cs e old) → TellsIf s kept old → shape_of s cs e old ≡ throwing x
+    → IsWithin new st' id fs → FlagsAtPlace t id us → Paid s t.current bodies us (at_place (suc n) fs cs e old) (unit s (at_place (suc n) fs cs e old)) last at
+
 -- there is no news in what the old node of a fiber keeps
 abbrev pub HasNoNewsThere : Sight → (kept : ℕ → Option (List Hook)) → Trees Fiber → ℕ → Type 0
 HasNoNewsThere s kept t id = (x : Node) → IsOld t.current (old_of t.draft id) (Some x) → ForEachIn (λ i. TellsNews kept s.lanes s.cut i false) (children_of x)
@@ -130,12 +142,12 @@ HasNoNewsThere s kept t id = (x : Node) → IsOld t.current (old_of t.draft id) 
 abbrev pub RestsThere : Sight → (way : ℕ → Bool) → (kept : ℕ → Option (List Hook)) → Trees Fiber → ℕ → Type 0
 RestsThere s way kept t id = (x : Node) → IsOld t.current (old_of t.draft id) (Some x) → EachBut way (Rests kept s.lanes s.cut) x
 
--- a hidden boundary waits still if no resource has another version, it awaits nothing with a value, and it keeps nothing with news
+-- a hidden boundary waits still if no resource has another version, nothing may throw anew, it awaits nothing with a value, and it keeps nothing with news
 waits_there : (s : Sight) (kept : ℕ → Option (List Hook)) (t : Trees Fiber) (id : ℕ) (old : Option Node) (e : Element) (a : Awaits) (ns fs : Forest) → old ≡ Some (node e (of_boundary (Hidden a)) ns fs)
-    → IsOld t.current (old_of t.draft id) old → TellsIf s kept old → sees_refresh s ≡ false → AreUnresolved s a → HasNoNewsThere s kept t id → waits_still s old ≡ true
-waits_there s kept t id old e a ns fs was old_is tells calm unresolved none =
+    → IsOld t.current (old_of t.draft id) old → TellsIf s kept old → sees_refresh s ≡ false → may_throw_anew s ≡ false → AreUnresolved s a → HasNoNewsThere s kept t id → waits_still s old ≡ true
+waits_there s kept t id old e a ns fs was old_is tells refresh calm unresolved none =
     let there : TellsIf s kept (Some (node e (of_boundary (Hidden a)) ns fs)) = subst (TellsIf s kept) was tells in
-    ap (waits_still s) was ∙ there.waits a refl calm unresolved (none (node e (of_boundary (Hidden a)) ns fs) (subst (IsOld t.current (old_of t.draft id)) was old_is))
+    ap (waits_still s) was ∙ there.waits a refl refresh calm unresolved (none (node e (of_boundary (Hidden a)) ns fs) (subst (IsOld t.current (old_of t.draft id)) was old_is))
 
 -- if its fiber tells that it stands as it did, and it has its element, it is untouched
 all_three : (a b c : Bool) → a ≡ true → b ≡ true → c ≡ true → (a && (b && c)) ≡ true
@@ -208,6 +220,19 @@ module _ (s : Sight) (way : ℕ → Bool) (kept : ℕ → Option (List Hook)) (t
         paid = λ us causes are. pays n fs cs e old us h causes.0 b.0 b.4 are;
       }
 
+  pub throws_advances : (x : ℤ) (last : Trees Fiber) (st'' : Stack) (a : At) → BeginsPlace s way kept t st new st' id (answers.Thrown x)
+      → ((levels : ℕ) (fs : List Frame) → IsWithin new st' id fs → ComesTo last st'' a (unwind_throw levels fs x)) → PaysThrowing s kept t st new st' id bodies x last a
+      → Advances s way kept t st (Begins id) bodies last st'' a
+  throws_advances x last st'' a begins comes pays _ (to_place {levels = zero} h) level gives = absurd (omega (arith, level))
+  throws_advances x last st'' a begins comes pays _ (to_place {levels = suc n} {fs = fs} {cs = cs} {e = e} {old = old} h) level gives =
+      let b = begins n fs cs e old h gives.0 gives.1 gives.2 in
+      record {
+        next = unit s (at_place (suc n) fs cs e old);
+        goes = by_unit (few n fs cs e old h);
+        comes = subst (ComesTo last st'' a) (sym b.1) (comes (suc n) fs b.4);
+        paid = λ us causes are. pays n fs cs e old us h causes.0 b.0 b.4 are;
+      }
+
 -- a boundary evaluates none
 boundary_none : (s : Sight) (bodies n : ℕ) (fs : List Frame) (cs : Contexts) (e : Element) (old : Option Node) (key : elements.Key) (f : Element) (es : elements.Elements) → e ≡ elements.boundary key f es
     → bodies ≤ next_counts each_body s (at_place (suc n) fs cs e old) → bodies ≡ 0
@@ -221,7 +246,7 @@ module _ (s : Sight) (t : Trees Fiber) (st : Stack) (new : Trees Fiber) (st' : S
   hidden_old = subst (IsOld t.current (old_of t.draft p)) (h.was ∙ ap (λ x. Some (node x (of_boundary (Hidden a)) h.kept h.shown)) h.boundary) h.old_is
 
   hidden_goes : (bodies : ℕ) → bodies ≡ 0 → Goes s t.current bodies (at_place (suc n) fs cs e old) (open_part n fs (falling e old a) (part cs (fallback_in e ∷ []) (fallback_if old)))
-  hidden_goes bodies none = rw (h.was, h.boundary) (past_attempt none linked h.stood hidden_old h.versions h.unresolved h.agree)
+  hidden_goes bodies none = rw (h.was, h.boundary) (past_attempt none linked h.stood hidden_old h.versions h.calm h.unresolved h.agree)
 
 -- what it pays there, by the flags that its fallback opens with
 module _ (s : Sight) (t : Trees Fiber) (st : Stack) (new last : Trees Fiber) (st' : Stack) (p n : ℕ) (fs : List Frame) (cs : Contexts) (e : Element) (old : Option Node) (a : Awaits) (us : Flags) (next : At) (linked : IsLinked t.current)
@@ -232,7 +257,7 @@ module _ (s : Sight) (t : Trees Fiber) (st : Stack) (new last : Trees Fiber) (st
       let so : is_untouched s (stood (flag us)) (elements.boundary h.key h.fallback h.given) (Some (node (elements.boundary h.key h.fallback h.given) (of_boundary (Hidden a)) h.kept h.shown)) ≡ true =
       subst (λ x. is_untouched s (stood (flag us)) x (Some (node x (of_boundary (Hidden a)) h.kept h.shown)) ≡ true) h.boundary (subst (λ o. is_untouched s (stood (flag us)) e o ≡ true) h.was out)
       in
-      rw (h.was, h.boundary) (paying.past_attempt none linked h.stood (hidden_old s t st new st' p n fs cs e old a linked h) h.versions h.unresolved h.agree so)
+      rw (h.was, h.boundary) (paying.past_attempt none linked h.stood (hidden_old s t st new st' p n fs cs e old a linked h) h.versions h.calm h.unresolved h.agree so)
 
   hidden_paid : (bodies : ℕ) → bodies ≡ 0 → is_untouched s (stood (flag us)) e old ≡ true → HasFlags last next (beside_kept ∷ us)
       → Paid s t.current bodies us (at_place (suc n) fs cs e old) (open_part n fs (falling e old a) (part cs (fallback_in e ∷ []) (fallback_if old))) last next
@@ -251,7 +276,7 @@ module _ (s : Sight) (way : ℕ → Bool) (kept : ℕ → Option (List Hook)) (t
         goes = hidden_goes s t st new st' id n fs cs e old a linked b bodies none;
         comes = comes _ b.left b.again;
         paid = λ us causes are.
-            let still = waits_there s kept t id old e a b.kept b.shown b.was b.old_is causes.0 b.versions b.unresolved none_new in
+            let still = waits_there s kept t id old e a b.kept b.shown b.was b.old_is causes.0 b.versions b.calm b.unresolved none_new in
             let so = told_there t st id n us fs cs e old fits are h b.told in
             let out = untouched_there s (stood (flag us)) e old a b.kept b.shown b.was so still in
             hidden_paid s t st new last st' id n fs cs e old a us next linked b bodies none out (opened us are so);
@@ -325,6 +350,12 @@ can_begin scene kept t st id can = stands can.stands can.there can.drawn (keeps_
 pub waits_below : (scene : Scene) (kept : ℕ → Option (List Hook)) (t : Trees Fiber) (st : Stack) (new : Trees Fiber) (st' : Stack) (id r : ℕ) → CanBegin scene kept t st id
     → ((s : Sight) → IsSceneOf scene s → BeginsPlace s (is_way scene.ways.now) kept t st new st' id (Suspended r)) → IsOpenBelow new st' id
 waits_below scene kept t st new st' id r can begins =
+    let b = begins can.sight can.sees can.levels can.frames can.contexts_are can.element can.old can.stands can.gives can.settled can.covers in lies b.4
+
+-- and so does it if one throws
+pub throws_below : (scene : Scene) (kept : ℕ → Option (List Hook)) (t : Trees Fiber) (st : Stack) (new : Trees Fiber) (st' : Stack) (id : ℕ) (x : ℤ) → CanBegin scene kept t st id
+    → ((s : Sight) → IsSceneOf scene s → BeginsPlace s (is_way scene.ways.now) kept t st new st' id (answers.Thrown x)) → IsOpenBelow new st' id
+throws_below scene kept t st new st' id x can begins =
     let b = begins can.sight can.sees can.levels can.frames can.contexts_are can.element can.old can.stands can.gives can.settled can.covers in lies b.4
 
 -- if a hidden boundary waits still, its fallback can be opened

@@ -8,11 +8,12 @@ use Rattle.rx_ast.specs.Syntax.{Component, Program, contexts}
 use Rattle.rx_rules.specs.Names.{component_at}
 use Rattle.rx_elem.specs.Elements.{Element, Elements}
 use Rattle.rx_elem.specs.Elements as elements
-use Rattle.rx_elem.specs.Trees.{Node}
-use Rattle.rx_meaning.specs.Body.{body_of, Body, wait, ready}
-use Rattle.rx_meaning.specs.Fresh.{Sight, Contexts, default_contexts, default_of, Part, Shape, absent, waiting, one_list, two_lists, shape_of, shape_of_component, shape_of_body, inputs_at, old_instance}
+use Rattle.rx_elem.specs.Trees.{Node, of_catcher, old_caught}
+use Rattle.rx_catch.specs.declared.state.CatchState.TheVariants.{Caught}
+use Rattle.rx_meaning.specs.Body.{body_of, Body, wait, throw, ready}
+use Rattle.rx_meaning.specs.Fresh.{Sight, Contexts, default_contexts, default_of, Part, Shape, absent, waiting, throwing, one_list, two_lists, guarded, shape_of, shape_of_component, shape_of_body, shape_of_catcher, inputs_at, old_instance}
 use Rattle.rx_meaning.specs.Touched.{children_with_old}
-use Rattle.rx_meaning.specs.Cursor.{is_null, Open, around, trying, falling, Frame, Cursor, at_place, at_end, ended, come_to, open_part, arrive, past, unwind, begin, finished, unit, start}
+use Rattle.rx_meaning.specs.Cursor.{is_null, Open, around, trying, falling, guarding, Frame, Cursor, at_place, at_end, ended, come_to, open_part, arrive, past, past_throw, unwind, unwind_throw, begin, finished, unit, start}
 use Rattle.rx_fiber.specs.Stood.{given_in, one_more, given_more}
 use Rattle.rx_fiber.specs.Surround.{open_element, given_along}
 use Rattle.rx_render.specs.GivenContexts.{given_contexts, OpenGiven, FramesGiven, CursorGiven}
@@ -51,33 +52,56 @@ module _ (base : Contexts) where
   past_given levels fs (around e m) a h k out = out a
   past_given levels fs (trying e old f) a h k out = falling_given levels fs e old a f h.0 h.1 k
   past_given levels fs (falling e old b) a h k out = out (awaits.union b a)
+  past_given levels fs (guarding e f) a h k out = out a
 
   unwind_given : (levels : ℕ) (fs : List Frame) (a : Awaits) → FramesGiven base fs → CursorGiven base (unwind levels fs a)
   unwind_given levels [] a h = tt
   unwind_given levels (f ∷ fs) a h = past_given levels fs f.node a h.1 h.2 (λ b. unwind_given (suc levels) fs b h.2)
 
+  -- past a node that is open, for a thrown value
+  throw_given : (levels : ℕ) (fs : List Frame) (o : Open) (x : ℤ) → OpenGiven base o (given_along fs) → FramesGiven base fs → CursorGiven base (unwind_throw (suc levels) fs x)
+      → CursorGiven base (past_throw o x (unwind_throw (suc levels) fs x) (open_part levels fs))
+  throw_given levels fs (around e m) x h k out = out
+  throw_given levels fs (trying e old f) x h k out = out
+  throw_given levels fs (falling e old b) x h k out = out
+  throw_given levels fs (guarding e f) x h k out = open_given levels fs (around e (of_catcher (Caught x))) f (unchanged e (given_along fs) f.contexts h.0 h.1) tt k
+
+  unwind_throw_given : (levels : ℕ) (fs : List Frame) (x : ℤ) → FramesGiven base fs → CursorGiven base (unwind_throw levels fs x)
+  unwind_throw_given levels [] x h = tt
+  unwind_throw_given levels (f ∷ fs) x h = throw_given levels fs f.node x h.1 h.2 (unwind_throw_given (suc levels) fs x h.2)
+
   -- the lists of what stands in a place, if these values are given around it
   abbrev ShapeGiven : Element → List (ℕ × ℤ) → Shape → Type 0
   ShapeGiven e ws absent = Unit {0}
   ShapeGiven e ws (waiting r v) = Unit {0}
+  ShapeGiven e ws (throwing x) = Unit {0}
   ShapeGiven e ws (one_list m p) = p.contexts ≡ given_contexts base (given_more e ws)
   ShapeGiven e ws (two_lists p f) = (given_in e ≡ None) × (p.contexts ≡ given_contexts base ws) × (f.contexts ≡ given_contexts base ws)
+  ShapeGiven e ws (guarded p f) = (given_in e ≡ None) × (p.contexts ≡ given_contexts base ws) × (f.contexts ≡ given_contexts base ws)
 
   begin_given : (levels : ℕ) (fs : List Frame) (e : Element) (old : Option Node) (shape : Shape) → ShapeGiven e (given_along fs) shape → FramesGiven base fs → CursorGiven base (begin levels fs e old shape)
   begin_given levels fs e old absent h k = arrive_given (suc levels) fs None k
   begin_given levels fs e old (waiting r v) h k = unwind_given (suc levels) fs (awaits.one r) k
+  begin_given levels fs e old (throwing x) h k = unwind_throw_given (suc levels) fs x k
   begin_given levels fs e old (one_list m p) h k = open_given levels fs (around e m) p h tt k
   begin_given levels fs e old (two_lists p f) h k = open_given levels fs (trying e old f) p (unchanged e (given_along fs) p.contexts h.0 h.1) (h.0, h.2) k
+  begin_given levels fs e old (guarded p f) h k = open_given levels fs (guarding e f) p (unchanged e (given_along fs) p.contexts h.0 h.1) (h.0, h.2) k
 
   body_given : (cs : Contexts) (c : ℕ) (key : elements.Key) (props : List ℤ) (given : Elements) (ws : List (ℕ × ℤ)) (old : Option Node) (b : Body) → cs ≡ given_contexts base ws
       → ShapeGiven (elements.comp c key props given) ws (shape_of_body cs c old b)
   body_given cs c key props given ws old (wait r v) h = tt
+  body_given cs c key props given ws old (throw x) h = tt
   body_given cs c key props given ws old (ready es effects initials reads versions) h = h
 
   component_given : (s : Sight) (cs : Contexts) (c : ℕ) (key : elements.Key) (props : List ℤ) (given : Elements) (ws : List (ℕ × ℤ)) (old : Option Node) (d : Option Component)
       → cs ≡ given_contexts base ws → ShapeGiven (elements.comp c key props given) ws (shape_of_component s cs c props given old d)
   component_given s cs c key props given ws old None h = tt
   component_given s cs c key props given ws old (Some d) h = body_given cs c key props given ws old (body_of s.program d (inputs_at s cs props given (old_instance old))) h
+
+  catcher_given : (cs : Contexts) (key : elements.Key) (f : Element) (es : Elements) (ws : List (ℕ × ℤ)) (old : Option Node) (caught : Option ℤ) → cs ≡ given_contexts base ws
+      → ShapeGiven (elements.catcher key f es) ws (shape_of_catcher cs f es old caught)
+  catcher_given cs key f es ws old None h = (refl, h, h)
+  catcher_given cs key f es ws old (Some x) h = h
 
   shape_given : (s : Sight) (cs : Contexts) (e : Element) (ws : List (ℕ × ℤ)) (old : Option Node) → cs ≡ given_contexts base ws → ShapeGiven e ws (shape_of s cs e old)
   shape_given s cs elements.null ws old h = tt
@@ -86,6 +110,7 @@ module _ (base : Contexts) where
   shape_given s cs (elements.comp c key props given) ws old h = component_given s cs c key props given ws old (component_at s.program c) h
   shape_given s cs (elements.list marked es) ws old h = h
   shape_given s cs (elements.boundary key f es) ws old h = (refl, h, h)
+  shape_given s cs (elements.catcher key f es) ws old h = catcher_given cs key f es ws old (old_caught old) h
   shape_given s cs (elements.provider c key x es) ws old h = ap (λ l. slice_set l c x) h
 
   -- A unit comes to places with the values that are given around them.

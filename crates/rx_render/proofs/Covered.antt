@@ -4,7 +4,7 @@ use Rattle.std.proofs.Common.{sym, ap, ◌∙◌, subst}
 use Rattle.rx_base.specs.declared.cut.Cut.{Cut}
 use Rattle.rx_lane.specs.Lanes.{Lanes}
 use Rattle.rx_ast.specs.Syntax.{Program}
-use Rattle.rx_elem.specs.Trees.{Forest, Instance, Mark, Node, child, node, none, of_boundary, of_host, of_instance, plain, vacant, instance_in}
+use Rattle.rx_elem.specs.Trees.{Forest, Instance, Mark, Node, child, node, none, of_boundary, of_catcher, of_host, of_instance, plain, vacant, instance_in}
 use Rattle.rx_susp.specs.declared.boundary.BoundaryState.TheVariants.{Hidden, Shown}
 use Rattle.rx_hooks.specs.declared.hook.Hook.{Hook}
 use Rattle.rx_hooks.specs.Hooks.{HookHistory, HooksStandFor}
@@ -83,6 +83,7 @@ module _ (way stirred : ℕ → Bool) (kept : ℕ → Option (List Hook)) (s : S
   mark_idle (of_instance i) has h = instance_idle i has h.0 h.1 h.2
   mark_idle (of_host x) has h = tt
   mark_idle plain has h = tt
+  mark_idle (of_catcher c) has h = tt
   mark_idle (of_boundary Shown) has h = tt
   mark_idle (of_boundary (Hidden a)) has h = cc
 
@@ -164,6 +165,7 @@ module _ (way stirred : ℕ → Bool) (p : Program) (st : State) (g : Progress) 
           sym (calm n answers hooks histories (subst (λ (k : ℕ). stirred k ≡ false) same h.2) have stand)
   quiet_rests (of_host x) h = tt
   quiet_rests (of_boundary b) h = tt
+  quiet_rests (of_catcher c) h = tt
   quiet_rests plain h = tt
 
   mutual

@@ -5,7 +5,7 @@ use Rattle.rx_ast.specs.Syntax.{Program}
 use Rattle.rx_ctx.specs.Contexts.{Stack}
 use Rattle.rx_elem.specs.Trees.{Node}
 use Rattle.rx_links.specs.Drafts.{Trees, grafted}
-use Rattle.rx_meaning.specs.Fresh.{Sight, fresh, made, waits}
+use Rattle.rx_meaning.specs.Fresh.{Sight, fresh, made, throws, waits}
 use Rattle.rx_meaning.specs.Cursor.{Cursor, ended}
 use Rattle.rx_meaning.specs.Rest.{gives}
 use Rattle.rx_model.specs.State.{State, Progress}
@@ -35,6 +35,14 @@ unfolding gives
 no_wait p bounded s old same units bodies a h =
     let (n, e) = app_never_waits p bounded s old same in
     let f : waits a ≡ made n = h.gives_fresh ∙ e in
+    cc
+
+-- nor a throw
+pub no_throw : (p : Program) → IsBounded p → (s : Sight) (old : Option Node) → s.program ≡ p → (units bodies : ℕ) (x : _) → InProgress s old units bodies (ended (throws x)) → ⊥
+unfolding gives
+no_throw p bounded s old same units bodies x h =
+    let (n, e) = app_never_waits p bounded s old same in
+    let f : throws x ≡ made n = h.gives_fresh ∙ e in
     cc
 
 -- what a render has made when no unit is left

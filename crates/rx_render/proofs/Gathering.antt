@@ -4,7 +4,7 @@ use Rattle.std.specs.Option.{option_map_or}
 use Rattle.std.proofs.Common.{refl, sym, ap, ◌∙◌, subst}
 use Rattle.rx_ctx.specs.Contexts.{Stack}
 use Rattle.rx_elem.specs.Numbers.{Numbers, numbered_instance, numbered_mark}
-use Rattle.rx_elem.specs.Trees.{Mark, Node, mark_of, of_instance, of_host, of_boundary, plain}
+use Rattle.rx_elem.specs.Trees.{Mark, Node, mark_of, of_instance, of_host, of_boundary, of_catcher, plain}
 use Rattle.rx_hooks.specs.declared.hook.Hook.{Hook}
 use Rattle.rx_lists.specs.Shapes.{Shape, fiber, Holds}
 use Rattle.rx_lists.specs.Shapes as shapes
@@ -15,15 +15,15 @@ use Rattle.rx_links.proofs.Placed.{is-at}
 use Rattle.rx_meaning.specs.Fresh.{Sight}
 use Rattle.rx_fiber.specs.declared.stage.Origin.{Origin}
 use Rattle.rx_fiber.specs.declared.stage.StageChange.TheVariants as change
-use Rattle.rx_fiber.specs.Fibers.{Fiber, Stage, waiting, begun, trying, fallback, generation_of, joined, nothing, marked_subtree, own_subtree, completed_stage}
+use Rattle.rx_fiber.specs.Fibers.{Fiber, Stage, as_matched, waiting, begun, trying, guarding, fallback, generation_of, joined, nothing, marked_subtree, own_subtree, completed_stage}
 use Rattle.rx_fiber.specs.FiberView.{changed}
 use Rattle.rx_fiber.specs.Reading.{IsOld}
 use Rattle.rx_fiber.specs.Subtrees.{IsGathered, IsGatheredOver, subtree_at, subtrees_of}
 use Rattle.rx_fiber.specs.Surround.{above_list, behind_earlier}
-use Rattle.rx_fiber.specs.Unwound.{is_trying}
+use Rattle.rx_fiber.specs.Unwound.{is_guarding, is_trying}
 use Rattle.rx_fiber.proofs.Completing.{whole_list, placed_list, grafted_list}
 use Rattle.rx_fiber.proofs.Gathered.{gathered_over, joined_same}
-use Rattle.rx_complete.specs.Ends.{Outer, nearest, next_by, next_after}
+use Rattle.rx_complete.specs.Ends.{Outer, nearest, nearest_catch, nearest_where, next_by, next_after}
 use Rattle.rx_complete.specs.declared.completing.Next.{Next}
 use Rattle.rx_complete.proofs.Leading.{next_is}
 use Rattle.rx_causes.specs.declared.scene.Scene.{Scene}
@@ -33,7 +33,7 @@ use Rattle.rx_causes.proofs.Marks.{mark_is}
 use Rattle.rx_ways.specs.Ways.{is_way}
 use Rattle.rx_begin.specs.Beginning.{BeginsPlace, is_opened}
 use Rattle.rx_children.specs.Nodes.{HasTaken, begun_over, taken_as}
-use Rattle.rx_fallback.specs.Opening.{HasFallbackKids, alone, beside, opened_at}
+use Rattle.rx_fallback.specs.Opening.{HasCaughtKids, HasFallbackKids, alone, beside, opened_at}
 use Rattle.rx_children.specs.Children.{AllWait}
 use Rattle.rx_begin.specs.Kids.{HasKids}
 use Rattle.rx_children.specs.Origins.{TellsAgain, TellsSteady}
@@ -73,15 +73,15 @@ out_gathered (after id v o ks k) a = out_gathered k a.1
 abbrev outer_at : ℕ → Fiber → Option ℕ → Draft Fiber → Around Fiber → Outer
 outer_at id v o rs k = record { around = k; id = id; value = v; old = o; rest = rs }
 
-nearest_gathered : (k : Around Fiber) (u : Outer) → AroundGathered k → nearest k ≡ Some u → AllBare u.rest × AroundGathered u.around
-nearest_gathered top u a e = absurd (let q : ⊥ = cc in q)
-nearest_gathered (below id v o rs k) u a e = by_test (is_trying v.stage) e (nearest_gathered k u a.1)
+nearest_gathered : (stops : Stage → Bool) (k : Around Fiber) (u : Outer) → AroundGathered k → nearest_where stops k ≡ Some u → AllBare u.rest × AroundGathered u.around
+nearest_gathered stops top u a e = absurd (let q : ⊥ = cc in q)
+nearest_gathered stops (below id v o rs k) u a e = by_test (stops v.stage) e (nearest_gathered stops k u a.1)
   where
-    by_test : (b : Bool) → (if b then Some (outer_at id v o rs k) else nearest k) ≡ Some u → (nearest k ≡ Some u → AllBare u.rest × AroundGathered u.around)
+    by_test : (b : Bool) → (if b then Some (outer_at id v o rs k) else nearest_where stops k) ≡ Some u → (nearest_where stops k ≡ Some u → AllBare u.rest × AroundGathered u.around)
         → AllBare u.rest × AroundGathered u.around
     by_test true e above = let q : outer_at id v o rs k ≡ u = cc in subst (λ (x : Outer). AllBare x.rest × AroundGathered x.around) q a
     by_test false e above = above e
-nearest_gathered (after id v o ks k) u a e = nearest_gathered k u a.1 e
+nearest_gathered stops (after id v o ks k) u a e = nearest_gathered stops k u a.1 e
 
 -- the fiber above a list
 record Above (k : Around Fiber) (i : ℕ) : Type 0 where
@@ -159,6 +159,7 @@ begun_of : (s : Stage) (m : Mark) → begun_mark s ≡ Some m → s ≡ begun m
 begun_of (waiting c) m e = absurd (let q : ⊥ = cc in q)
 begun_of (begun n) m e = ap begun (let q : n ≡ m = cc in q)
 begun_of (trying c) m e = absurd (let q : ⊥ = cc in q)
+begun_of guarding m e = absurd (let q : ⊥ = cc in q)
 begun_of (fallback a) m e = absurd (let q : ⊥ = cc in q)
 
 taken_over : (c : Shape Fiber) → IsLinked c → (o : Option ℕ) → IfSome o (Holds c) → IsGathered c → (m : Mark) → mark_at c o ≡ Some m → (v : Fiber)
@@ -280,10 +281,21 @@ pub unwound_gathered : (t dropped new : Trees Fiber) (q p : ℕ) (f : Opened) (h
     → ((v : Fiber) → Some v ≡ made_value_of dropped.draft q → (origin : Origin) × HasFallbackKids origin dropped new q f) → IsGathered t.current → IsGathering new (at_opened f)
 unwound_gathered t dropped new q p f h fits same found says current =
     let (u, near, id, here) = found in
-    let outside = nearest_gathered h.around u h.gathered near in
+    let outside = nearest_gathered is_trying h.around u h.gathered near in
     let (origin, kids) = says u.value (sym (ap made_value_in (is-at dropped fits u.around q u.value u.old (taken shapes.none) u.rest here).list)) in
     fallback_gathered origin dropped new q
     (record { around = u.around; value = u.value; old = u.old; rest = u.rest; here = here; gathered = outside.1; follow = outside.0 }) (subst IsGathered (sym same) current) f kids
+
+-- that of the nearest error boundary outside of a place that throws
+pub thrown_gathered : (t dropped new : Trees Fiber) (q p : ℕ) (f : Opened) (h : GatheredHere t p) → dropped.current ≡ t.current
+    → ((u : Outer) × (nearest_catch h.around ≡ Some u) × (u.id ≡ q) × (dropped.draft ≡ placed u.around (made q u.value u.old (taken shapes.none) u.rest)))
+    → HasCaughtKids dropped new q f → IsGathered t.current → IsGathering new (at_opened f)
+thrown_gathered t dropped new q p f h same found kids current =
+    let (u, near, id, here) = found in
+    let outside = nearest_gathered is_guarding h.around u h.gathered near in
+    fallback_gathered (as_matched false 1) dropped new q
+    (record { around = u.around; value = u.value; old = u.old; rest = u.rest; here = here; gathered = outside.1; follow = outside.0 }) (subst IsGathered (sym same) current) f
+    (alone kids.kids kids.value kids.stage kids.element kids.all (λ e. kids.new) kids.stands kids.answer_is)
 
 -- Where numbers are given
 
@@ -296,12 +308,14 @@ mark_same next (of_instance i) = by_number i.number
 mark_same next (of_host None) = refl
 mark_same next (of_host (Some n)) = refl
 mark_same next (of_boundary b) = refl
+mark_same next (of_catcher c) = refl
 mark_same next plain = refl
 
 stage_same : (next : Numbers) (v : Fiber) (s : Stage) → v.stage ≡ s → ((numbered_at next v s).1.subtree ≡ v.subtree) × (own_subtree (numbered_at next v s).1.stage ≡ own_subtree v.stage)
 stage_same next v (waiting c) e = (refl, refl)
 stage_same next v (begun m) e = (refl, mark_same next m ∙ sym (ap own_subtree e))
 stage_same next v (trying c) e = (refl, refl)
+stage_same next v guarding e = (refl, refl)
 stage_same next v (fallback a) e = (refl, refl)
 
 kept_same : (next : Numbers) (d : Draft Fiber) → subtrees_of (grafted (numbered_draft next d).1) ≡ subtrees_of (grafted d)

@@ -12,7 +12,7 @@ use Rattle.rx_elem.specs.Trees.{Instance, Node, node, Forest, none, vacant, chil
 use Rattle.rx_hooks.specs.declared.hook.Hook.{Hook}
 use Rattle.rx_lists.specs.Shapes as shapes
 use Rattle.rx_links.specs.Drafts.{grafted, taken, Trees}
-use Rattle.rx_meaning.specs.Fresh.{Sight, Contexts, default_contexts}
+use Rattle.rx_meaning.specs.Fresh.{Sight, Contexts, default_contexts, shape_of, throwing}
 use Rattle.rx_meaning.specs.Cursor.{Open, Frame, Cursor, at_place, at_end, ended, is_null, unit, HasLevel}
 use Rattle.rx_meaning.specs.Cursor as cursors
 use Rattle.rx_meaning.specs.Settled.{DoneBefore, IfReadsHold, IfSettled, known_by, version_done}
@@ -26,6 +26,7 @@ use Rattle.rx_fiber.specs.Reading.{IsTreeOf}
 use Rattle.rx_fiber.specs.Standing.{StandsAt, begins}
 use Rattle.rx_fiber.specs.Subtrees.{IsGathered}
 use Rattle.rx_fiber.specs.Surround.{given_along}
+use Rattle.rx_fiber.specs.Unwound.{is_guarded}
 use Rattle.rx_complete.specs.Ends.{ends}
 use Rattle.rx_hook_store.specs.Store.{Kept, kept_hooks}
 use Rattle.rx_hook_store.specs.Gives.{GivesValues}
@@ -35,6 +36,7 @@ use Rattle.commit_laws.specs.WaitsAgain.{IfWaitsAgain}
 use Rattle.rx_ways.specs.Ways.{CoversIf, is_way}
 use Rattle.render_laws.specs.InProgress.{InProgress}
 use Rattle.render_laws.specs.OldNodes.{CursorHas}
+use Rattle.render_laws.proofs.GoingLaws.{unit_holds}
 use Rattle.render_laws.proofs.LevelLaw.{fit_has_level}
 use Rattle.draw_laws.specs.Drawn.{IsDrawn}
 use Rattle.draw_laws.specs.Cursors.{CursorDrawn}
@@ -59,7 +61,8 @@ use Rattle.rx_render.specs.Advancing.{IsReadyAt, GivesAt, Advances}
 use Rattle.rx_render.proofs.SameVersions.{versions_same}
 use Rattle.rx_render.proofs.Contexts.{as_many, one_each}
 use Rattle.rx_render.proofs.Reaching.{DrawsOn, Reaches, pays, reaches}
-use Rattle.rx_render.proofs.Ending.{come_bounded}
+use Rattle.rx_render.proofs.Ending.{come_bounded, no_throw}
+use Rattle.rx_render.proofs.Guarded.{ends_thrown, thrown_on}
 
 -- the element of a place is drawn
 abbrev pub DrawsPlace : Type 0
@@ -104,7 +107,7 @@ gives_at s way tree kept gives settled covers (ended x) h r = tt
 -- A unit
 
 renders_sees : (p : Program) (st : State) (g : Progress) (v : Rendering) → Renders p st g v → Sees v (sight_of p st g)
-renders_sees p st g v r = record { program = sym r.program; resources = r.resources; declared = r.declared; lanes = sym r.lanes; cut = sym r.cut }
+renders_sees p st g v r = record { program = sym r.program; resources = r.resources; declared = r.declared; lanes = sym r.lanes; cut = sym r.cut; throws = r.throws }
 
 renders_give : (p : Program) (st : State) (g : Progress) (v : Rendering) → Renders p st g v → GivesAll (sight_of p st g) st.tree (kept_hooks v.hooks)
 renders_give p st g v r k m at = keeps-give p st g (kept_hooks v.hooks) m.number m.initials r.done (each-keeps p st (kept_hooks v.hooks) r.keeps k m at)
@@ -120,6 +123,8 @@ pub record Stepped (old new : Rendering) (evaluated : ℕ) : Type 0 where
   pub current : new.trees.current ≡ old.trees.current
   pub lanes : new.lanes ≡ old.lanes
   pub cut : new.cut ≡ old.cut
+  pub seen : new.seen ≡ old.seen
+  pub throws : new.throws ≡ old.throws
   pub resources : new.resources ≡ old.resources
   pub ways : new.ways ≡ old.ways
   pub units : new.units ≡ suc old.units
@@ -187,6 +192,7 @@ module _ (old new : Rendering) (evaluated : ℕ) (step : Stepped old new evaluat
         declared = sees.declared;
         lanes = sees.lanes ∙ sym step.lanes;
         cut = sees.cut ∙ sym step.cut;
+        throws = step.throws ∙ sees.throws;
       }
 
   step_keeps : (p : Program) → old.program ≡ p → (st : State) (g : Progress) → Renders p st g old → KeepsAllHooks p st (kept_hooks new.hooks)
@@ -202,6 +208,8 @@ module _ (old new : Rendering) (evaluated : ℕ) (step : Stepped old new evaluat
         declared = r.declared;
         lanes = step.lanes ∙ r.lanes;
         cut = step.cut ∙ r.cut;
+        seen = step.seen ∙ r.seen;
+        throws = step.throws ∙ r.throws;
         current = subst (IsTreeOf st.tree) (sym step.current) r.current;
         keeps = step_keeps p same st g r;
         done = r.done;
@@ -220,6 +228,7 @@ module _ (old new : Rendering) (evaluated : ℕ) (step : Stepped old new evaluat
       record {
         program = step.program;
         current = step.current;
+        seen = step.seen;
         lanes = step.lanes;
         cut = step.cut;
         resources = step.resources;
@@ -265,13 +274,26 @@ step_rendering old new evaluated step draws gathers is left =
 
 -- What a unit needs
 
-ready_as : (s : Sight) (tree : Option Node) (v : Rendering) → Sees v s → GivesAll s tree (kept_hooks v.hooks) → IfSettled s.program (known_by s) tree → CoversIf (is_way v.ways) (IsIdleMark s) tree → DrawsPlace → (scene : Scene)
+-- what throws lies below an error boundary that tries its children, since no render ends in a throw
+throws_below : (s : Sight) (tree : Option Node) → IsBounded s.program → (units bodies n : ℕ) (fs : List Frame) (cs : Contexts) (e : Element) (old : Option Node) → InProgress s tree units bodies (at_place (suc n) fs cs e old)
+    → (x : ℤ) → shape_of s cs e old ≡ throwing x → is_guarded fs ≡ true
+throws_below s tree bounded units bodies n fs cs e old goes x shape = go (is_guarded fs) refl
+  where
+    go : (b : Bool) → is_guarded fs ≡ b → b ≡ true
+    go true h = refl
+    go false h =
+        absurd
+        (no_throw s.program bounded s tree refl (suc units) (bodies + 0) x
+        (subst (InProgress s tree (suc units) (bodies + 0)) (thrown_on s n fs cs e old x shape ∙ ends_thrown (suc n) fs x h)
+        (unit_holds s tree units bodies (at_place (suc n) fs cs e old) goes refl 0 (omega arith))))
+
+ready_as : (s : Sight) (tree : Option Node) (v : Rendering) → IsBounded s.program → Sees v s → GivesAll s tree (kept_hooks v.hooks) → IfSettled s.program (known_by s) tree → CoversIf (is_way v.ways) (IsIdleMark s) tree → DrawsPlace → (scene : Scene)
     → IsSceneOf scene s → scene.checked.now ≡ s.program → scene.ways.now ≡ v.ways → IsGathered v.trees.current
     → (at : At) (c : Cursor) → ComesTo v.trees v.contexts at c → InProgress s tree v.units v.bodies c → CursorDrawn s.program c → CursorGiven (default_contexts s.program) c
     → CursorHas (HasInstances tree) c → CursorHas (GoesWith tree) c → cursors.is_over c ≡ false → IsReadyAt scene (kept_hooks v.hooks) v.trees v.contexts at
-ready_as s tree v see gives settled covers draws scene sees same ways gathered _ _ (to_place {levels = zero} {fs = fs} {cs = cs} {e = e} {old = old} h) goes drawn given olds rests busy =
+ready_as s tree v bounded see gives settled covers draws scene sees same ways gathered _ _ (to_place {levels = zero} {fs = fs} {cs = cs} {e = e} {old = old} h) goes drawn given olds rests busy =
     absurd (let l : HasLevel (at_place zero fs cs e old) = fit_has_level s.program (at_place zero fs cs e old) goes.fits goes.stands in omega (arith, l))
-ready_as s tree v see gives settled covers draws scene sees same ways gathered _ _ (to_place {id = id} {levels = suc n} {fs = fs} {cs = cs} {e = e} {old = old} h) goes drawn given olds rests busy =
+ready_as s tree v bounded see gives settled covers draws scene sees same ways gathered _ _ (to_place {id = id} {levels = suc n} {fs = fs} {cs = cs} {e = e} {old = old} h) goes drawn given olds rests busy =
     record {
       sight = s;
       sees = sees;
@@ -286,15 +308,16 @@ ready_as s tree v see gives settled covers draws scene sees same ways gathered _
       gives = (gives_at s (is_way v.ways) tree (kept_hooks v.hooks) gives settled covers (at_place (suc n) fs cs e old) olds rests).0;
       settled = (gives_at s (is_way v.ways) tree (kept_hooks v.hooks) gives settled covers (at_place (suc n) fs cs e old) olds rests).1;
       covers = subst (λ w. CoversIf (is_way w) (IsIdleMark s) old) (sym ways) (gives_at s (is_way v.ways) tree (kept_hooks v.hooks) gives settled covers (at_place (suc n) fs cs e old) olds rests).2;
+      caught = throws_below s tree bounded v.units v.bodies n fs cs e old goes;
       each = values_are h ∙ (ap length given.0 ∙ (as_many (default_contexts s.program) (given_along fs) ∙ (one_each s.program ∙ ap (λ q. length (contexts q)) (sym same))));
       gathered = gathered;
     }
   where
     values_are : StandsAt v.trees v.contexts (Some id) (at_place (suc n) fs cs e old) → length (values_at v.contexts) ≡ length cs
     values_are (begins here waits was around values stack moves) = ap length values
-ready_as s tree v see gives settled covers draws scene sees same ways gathered _ _ (to_end h) goes drawn given olds rests busy = ends h
-ready_as s tree v see gives settled covers draws scene sees same ways gathered _ _ (to_tree h) goes drawn given olds rests busy = absurd (let f : ⊥ = cc in f)
-ready_as s tree v see gives settled covers draws scene sees same ways gathered _ _ to_wait goes drawn given olds rests busy = absurd (let f : ⊥ = cc in f)
+ready_as s tree v bounded see gives settled covers draws scene sees same ways gathered _ _ (to_end h) goes drawn given olds rests busy = ends h
+ready_as s tree v bounded see gives settled covers draws scene sees same ways gathered _ _ (to_tree h) goes drawn given olds rests busy = absurd (let f : ⊥ = cc in f)
+ready_as s tree v bounded see gives settled covers draws scene sees same ways gathered _ _ to_wait goes drawn given olds rests busy = absurd (let f : ⊥ = cc in f)
 
 module _ (v : Rendering) (is : IsRendering v) (left : 0 < left_of v) where
   abbrev pub way : IsUnderWay v
@@ -303,7 +326,7 @@ module _ (v : Rendering) (is : IsRendering v) (left : 0 < left_of v) where
   pub unit_ready : DrawsPlace → (scene : Scene) → ((s : Sight) → Sees v s → IsSceneOf scene s) → scene.checked.now ≡ v.program → scene.ways.now ≡ v.ways → IsReadyAt scene (kept_hooks v.hooks) v.trees v.contexts v.at
   unit_ready draws scene sees same ways =
       let come = way.come in
-      ready_as way.sight way.tree v way.sees way.gives way.settled way.covers draws scene (sees way.sight way.sees) (same ∙ sym way.sees.program) ways is.gathered v.at come.cursor come.comes come.goes come.drawn come.given come.olds come.rests
+      ready_as way.sight way.tree v (subst IsBounded (sym way.sees.program) is.bounded) way.sees way.gives way.settled way.covers draws scene (sees way.sight way.sees) (same ∙ sym way.sees.program) ways is.gathered v.at come.cursor come.comes come.goes come.drawn come.given come.olds come.rests
       (left_busy v.trees v.contexts v.at come.cursor (unit_bound v.program) v.units come.comes left)
 
   pub unit_below : v.units < unit_bound v.program
@@ -343,6 +366,8 @@ stepped inside t hooks st next evaluated same current keeps still advances =
       current = current;
       lanes = refl;
       cut = refl;
+      seen = refl;
+      throws = refl;
       resources = refl;
       ways = refl;
       units = add-one inside.units;
@@ -434,12 +459,12 @@ module _ (value inside : Rendering) (same : inside ≡ value) (is : IsRendering 
       let a = unit_below inside is inside_left in let b = is.bounded.small in let c = bodies_below inside is inside_left in omega (arith, a, b, c, e, limits_nodes inside.program)
 
   -- what broke off
-  pub breaks : (new : Rendering) → new.program ≡ inside.program → new.trees.current ≡ inside.trees.current → new.at ≡ Over
+  pub breaks : (new : Rendering) → new.program ≡ inside.program → new.trees.current ≡ inside.trees.current → new.seen ≡ inside.seen → new.at ≡ Over
       → ((st : State) → DoneBefore inside.cut st.journal.updates → KeepsAllHooks inside.program st (kept_hooks inside.hooks) → KeepsAllHooks inside.program st (kept_hooks new.hooks))
       → UnitBreaksOff value new
-  breaks new program current over keeps =
+  breaks new program current seen over keeps =
       subst (λ v. UnitBreaksOff v new) same
-      (record { program = program; current = current; keeps = λ st done h. subst (λ p. KeepsAllHooks p st (kept_hooks new.hooks)) (sym program) (keeps st done h); over = over })
+      (record { program = program; current = current; seen = seen; keeps = λ st done h. subst (λ p. KeepsAllHooks p st (kept_hooks new.hooks)) (sym program) (keeps st done h); over = over })
 
   module _ (new : Rendering) (evaluated : ℕ) (step : Stepped inside new evaluated) (draws : DrawsOn) (gathers : GathersOn inside new) where
     pub steps_on : Proceeds value new
@@ -468,4 +493,4 @@ module _ (value inside : Rendering) (same : inside ≡ value) (is : IsRendering 
 
 -- what broke off and is discarded is given up
 pub given_up : (x m n : Rendering) → UnitBreaksOff x m → n ≡ record m { trees = record m.trees { draft = taken shapes.none }; at = Over } → GivesUp x n
-given_up x m n b e = subst (GivesUp x) (sym e) (record { program = b.program; current = b.current; keeps = b.keeps; idle = record { over = refl; empty = refl } })
+given_up x m n b e = subst (GivesUp x) (sym e) (record { program = b.program; current = b.current; seen = b.seen; keeps = b.keeps; idle = record { over = refl; empty = refl } })

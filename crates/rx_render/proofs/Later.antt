@@ -1,4 +1,4 @@
--- What changes nothing of a render in progress: a longer journal, and whatever leaves the journal, the tree and the links.
+-- What changes nothing of a render in progress: a longer journal, and whatever leaves the journal, the tree, the links and what the last commit saw.
 use Rattle.std.specs.Prelude.{◌≡◌, ℤ, ℕ, ◌≤◌, Bool, true, false, List, [], ◌∷◌, ◌++◌, Option, IfSome, length, map, refl}
 use Rattle.std.proofs.Common.{sym, ap, ◌∙◌, subst, arith}
 use Rattle.std.proofs.lemmas.List.{append-nil, length-append, take-append-le}
@@ -9,6 +9,7 @@ use Rattle.rx_queue.specs.Journal.{Journal, Posted, resolutions_by}
 use Rattle.rx_meaning.specs.Cursor.{Cursor}
 use Rattle.rx_meaning.specs.Fresh.{Sight, default_contexts, resource_numbers, root_element, version_seen}
 use Rattle.rx_meaning.specs.Again.{AllOpen}
+use Rattle.rx_meaning.specs.Touched.{may_throw_anew}
 use Rattle.rx_meaning.specs.Settled.{DoneBefore, IfReadsHold, IfSettled, known_by, version_done}
 use Rattle.rx_model.specs.State.{State, Progress}
 use Rattle.rx_model.specs.Accepting.{with_value}
@@ -54,6 +55,10 @@ past_longer cut g st later l h =
       resolutions = subst (λ xs. cut.resolutions ≤ length xs) (sym l.resolutions) (more_are cut.resolutions st.journal.resolutions l.more h.resolutions);
     }
 
+-- the sight of the later state is that with the later journal
+later_sight : (p : Program) (g : Progress) (st later : State) → IsLater g st later → record (sight_of p st g) { journal = later.journal } ≡ sight_of p later g
+later_sight p g st later l = λ i. record { program = p; journal = later.journal; lanes = g.lanes; cut = g.cut; seen = sym l.seen i }
+
 -- the sight of the later state sees the same
 later_sees : (p : Program) (g : Progress) (st later : State) → IsPast g.cut st.journal → IsLater g st later → SeesSame (sight_of p st g) later.journal
 later_sees p g st later past l =
@@ -92,16 +97,16 @@ costs_later s j same work tree v hooks c h =
     }
 
 -- ways that cover the tree still do
-covers_longer : (p : Program) (g : Progress) (st later : State) (way : ℕ → Bool) → IsLater g st later → CoversIf way (IsIdleMark (sight_of p st g)) st.tree → CoversIf way (IsIdleMark (sight_of p later g)) st.tree
+covers_longer : (p : Program) (g : Progress) (st later : State) (way : ℕ → Bool) → IsLater g st later → CoversIf way (IsIdleMark (sight_of p st g)) st.tree → CoversIf way (IsIdleMark (record (sight_of p st g) { journal = later.journal })) st.tree
 covers_longer p g st later way l h =
     let journal : record { updates = st.journal.updates ++ l.new; resolutions = st.journal.resolutions ++ l.more } ≡ later.journal = rw (← l.updates, ← l.resolutions) refl in
-    subst (λ (j : Journal). CoversIf way (IsIdleMark (record { program = p; journal = j; lanes = g.lanes; cut = g.cut })) st.tree) journal (covered_later way (sight_of p st g) l.new l.more l.after l.opened st.tree h)
+    subst (λ (j : Journal). CoversIf way (IsIdleMark (record (sight_of p st g) { journal = j })) st.tree) journal (covered_later way (sight_of p st g) l.new l.more l.after l.opened st.tree h)
 
 -- it sees each resource in the same version
 versions_later : (p : Program) (g : Progress) (st later : State) → IsLater g st later → (r : ℕ) → version_seen (sight_of p st g) r ≡ version_seen (sight_of p later g) r
 versions_later p g st later l r =
     let journal : record { updates = st.journal.updates ++ l.new; resolutions = st.journal.resolutions ++ l.more } ≡ later.journal = rw (← l.updates, ← l.resolutions) refl in
-    subst (λ (j : Journal). version_seen (sight_of p st g) r ≡ version_seen (record { program = p; journal = j; lanes = g.lanes; cut = g.cut }) r) journal (longer_versions (sight_of p st g) l.new l.more l.after r)
+    subst (λ (j : Journal). version_seen (sight_of p st g) r ≡ version_seen (record (sight_of p st g) { journal = j }) r) journal (longer_versions (sight_of p st g) l.new l.more l.after r)
 
 -- the same resolutions lie before the cut
 resolutions_later : (g : Progress) (st later : State) → IsPast g.cut st.journal → IsLater g st later → resolutions_by g.cut st.journal ≡ resolutions_by g.cut later.journal
@@ -116,17 +121,23 @@ pub renders_later : (p : Program) (st later : State) (g : Progress) (v : Renderi
 unfolding come_later
 renders_later p st later g v hooks r l keeps =
     let same = later_sees p g st later r.past l in
-    let come = subst (λ t. HasComeSo (sight_of p later g) t (with_hooks v hooks)) (sym l.tree)
-    (come_later (sight_of p st g) later.journal same st.tree v hooks r.come, costs_later (sight_of p st g) later.journal same (later_work p g st later l) st.tree v hooks r.come.cursor r.costs)
+    let sight : Sight = record (sight_of p st g) { journal = later.journal } in
+    let at : sight ≡ sight_of p later g = later_sight p g st later l in
+    let come =
+    subst (λ s. HasComeSo s later.tree (with_hooks v hooks)) at
+    (subst (λ t. HasComeSo sight t (with_hooks v hooks)) (sym l.tree)
+    (come_later (sight_of p st g) later.journal same st.tree v hooks r.come, costs_later (sight_of p st g) later.journal same (later_work p g st later l) st.tree v hooks r.come.cursor r.costs))
     in
     let work = later_work p g st later l in
-    let seen : resources_by (sight_of p st g) ≡ resources_by (sight_of p later g) = (λ i. record { versions = map (λ n. same.versions n i) (resource_numbers p); values = same.resources i; refreshes = work.refresh i }) in
+    let seen : resources_by (sight_of p st g) ≡ resources_by sight = (λ i. record { versions = map (λ n. same.versions n i) (resource_numbers p); values = same.resources i; refreshes = work.refresh i }) in
     record {
       program = r.program;
-      resources = r.resources ∙ seen;
+      resources = r.resources ∙ seen ∙ ap resources_by at;
       declared = λ n past. sym (versions_later p g st later l n) ∙ r.declared n past;
       lanes = r.lanes;
       cut = r.cut;
+      seen = r.seen ∙ sym l.seen;
+      throws = r.throws ∙ ap may_throw_anew at;
       current = subst (λ t. IsTreeOf t v.trees.current) (sym l.tree) r.current;
       keeps = keeps;
       done = subst (DoneBefore g.cut) (sym l.updates) (done_longer g.cut st.journal.updates l.new l.opened r.done);
@@ -134,9 +145,9 @@ renders_later p st later g v hooks r l keeps =
       settled = subst (IfSettled p (known_by (sight_of p later g))) (sym l.tree) (settled_later p (sight_of p st g) (sight_of p later g) l.new st.tree l.opened l.updates (resolutions_later g st later r.past l) r.settled);
       rooted = subst (λ t. IfSome t (λ x. element_of x ≡ root_element p)) (sym l.tree) r.rooted;
       waits = subst (IfWaitsAgain (sight_of p later g) (default_contexts p)) (sym l.tree)
-          (later_waits_again (sight_of p st g) later.journal same (later_sees_without p g st later r.past l) work.refresh (default_contexts p) st.tree r.waits);
+          (subst (λ s. IfWaitsAgain s (default_contexts p) st.tree) at (later_waits_again (sight_of p st g) later.journal same (later_sees_without p g st later r.past l) work.refresh (default_contexts p) st.tree r.waits));
       reads = subst (IfReadsHold (version_done later.journal.updates) (default_contexts p)) (sym l.tree) (subst (λ v. IfReadsHold v (default_contexts p) st.tree) (done_later g st later l) r.reads);
-      covers = subst (CoversIf (is_way v.ways) (IsIdleMark (sight_of p later g))) (sym l.tree) (covers_longer p g st later (is_way v.ways) l r.covers);
+      covers = subst (CoversIf (is_way v.ways) (IsIdleMark (sight_of p later g))) (sym l.tree) (subst (λ s. CoversIf (is_way v.ways) (IsIdleMark s) st.tree) at (covers_longer p g st later (is_way v.ways) l r.covers));
       come = come.0;
       costs = come.1;
     }
@@ -147,6 +158,7 @@ renders_resolved p st g v resource x r =
     renders_later p st (with_value st resource x) g v v.hooks r
     (record {
       tree = refl;
+      seen = refl;
       new = [];
       more = record { resource = resource; value = x } ∷ [];
       updates = sym (append-nil st.journal.updates);
@@ -158,9 +170,9 @@ renders_resolved p st g v resource x r =
 
 -- The same journal
 
-module _ (p : Program) (st later : State) (g : Progress) (v : Rendering) (journal : later.journal ≡ st.journal) (tree : later.tree ≡ st.tree) (linked : later.linked ≡ st.linked) where
+module _ (p : Program) (st later : State) (g : Progress) (v : Rendering) (journal : later.journal ≡ st.journal) (tree : later.tree ≡ st.tree) (linked : later.linked ≡ st.linked) (seen : later.seen ≡ st.seen) where
   sight : sight_of p st g ≡ sight_of p later g
-  sight = λ i. record { program = p; journal = sym journal i; lanes = g.lanes; cut = g.cut }
+  sight = λ i. record { program = p; journal = sym journal i; lanes = g.lanes; cut = g.cut; seen = sym seen i }
 
   come_same : Renders p st g v → HasComeSo (sight_of p later g) later.tree v
   come_same r = subst (λ t. HasComeSo (sight_of p later g) t v) (sym tree) (subst (λ s. HasComeSo s st.tree v) sight (r.come, r.costs))
@@ -173,6 +185,8 @@ module _ (p : Program) (st later : State) (g : Progress) (v : Rendering) (journa
         declared = subst AsksForDeclared sight r.declared;
         lanes = r.lanes;
         cut = r.cut;
+        seen = r.seen ∙ sym seen;
+        throws = r.throws ∙ ap may_throw_anew sight;
         current = subst (λ t. IsTreeOf t v.trees.current) (sym tree) r.current;
         keeps = all_stay st later (ap (λ j. j.updates) journal) linked p (kept_hooks v.hooks) (kept_hooks v.hooks) tree (λ n. refl) r.keeps;
         done = subst (λ j. DoneBefore g.cut j.updates) (sym journal) r.done;
@@ -189,7 +203,7 @@ module _ (p : Program) (st later : State) (g : Progress) (v : Rendering) (journa
 -- a render in progress is told by its lanes and its cut
 pub renders_as : (p : Program) (st : State) (g h : Progress) (v : Rendering) → h.lanes ≡ g.lanes → h.cut ≡ g.cut → Renders p st g v → Renders p st h v
 renders_as p st g h v lanes cut r =
-    let sight : sight_of p st g ≡ sight_of p st h = (λ i. record { program = p; journal = st.journal; lanes = sym lanes i; cut = sym cut i }) in
+    let sight : sight_of p st g ≡ sight_of p st h = (λ i. record { program = p; journal = st.journal; lanes = sym lanes i; cut = sym cut i; seen = st.seen }) in
     let come = subst (λ s. HasComeSo s st.tree v) sight (r.come, r.costs) in
     record {
       program = r.program;
@@ -197,6 +211,8 @@ renders_as p st g h v lanes cut r =
       declared = subst AsksForDeclared sight r.declared;
       lanes = r.lanes ∙ sym lanes;
       cut = r.cut ∙ sym cut;
+      seen = r.seen;
+      throws = r.throws ∙ ap may_throw_anew sight;
       current = r.current;
       keeps = r.keeps;
       done = subst (λ c. DoneBefore c st.journal.updates) (sym cut) r.done;

@@ -13,6 +13,7 @@ pub mod SameVersions
 pub mod Advancing
 pub mod Paying
 pub mod Gathering
+pub mod Guarded
 pub mod Reaching
 pub mod Going
 pub mod Covered

@@ -1,5 +1,5 @@
 -- What the beginning of a place pays, by the parts of a unit.
-use Rattle.std.specs.Prelude.{◌≡◌, ℕ, suc, Bool, true, false, ◌&&◌, List, [], ◌∷◌, Option, Some, None, if◌then◌else◌}
+use Rattle.std.specs.Prelude.{◌≡◌, ℕ, ℤ, suc, Bool, true, false, ◌&&◌, List, [], ◌∷◌, Option, Some, None, if◌then◌else◌}
 use Rattle.std.proofs.Common.{refl, sym, ap, ◌∙◌, subst}
 use Rattle.rx_base.specs.Awaits.{Awaits}
 use Rattle.rx_ctx.specs.Contexts.{Stack, moved_in, moves_by, none_moved, values_at}
@@ -24,7 +24,7 @@ use Rattle.rx_fiber.specs.Standing.{StandsAt, begins}
 use Rattle.rx_fiber.specs.Stood.{gave, given_in}
 use Rattle.rx_fiber.specs.Surround.{moved_along, moves_along}
 use Rattle.rx_fiber.specs.Unwound.{IsWithin, is_trying}
-use Rattle.rx_complete.specs.Ends.{Outer, nearest, next_after}
+use Rattle.rx_complete.specs.Ends.{Outer, nearest, nearest_catch, next_after}
 use Rattle.rx_complete.specs.declared.completing.Next.{Next}
 use Rattle.rx_complete.specs.declared.completing.Next.TheVariants.{Sibling, Parent, Done}
 use Rattle.rx_causes.specs.declared.scene.Scene.{Scene}
@@ -33,20 +33,22 @@ use Rattle.rx_causes.specs.Scenes.{IsSceneOf}
 use Rattle.rx_causes.proofs.Marks.{mark_is}
 use Rattle.rx_begin.specs.Beginning.{is_opened}
 use Rattle.rx_children.specs.Nodes.{HasTaken, begun_over}
-use Rattle.rx_fallback.specs.Opening.{HasFallbackKids, IsLeft, alone, beside, left, opened_at}
+use Rattle.rx_fallback.specs.Opening.{HasCaughtKids, HasFallbackKids, IsCatchLeft, IsLeft, alone, beside, left, opened_at}
+use Rattle.rx_fallback.specs.Opening as fallbacks
 use Rattle.rx_fallback.proofs.Falling.{boundary_gives}
+use Rattle.rx_fiber.proofs.Unwinding.{catcher_gives}
 use Rattle.rx_children.specs.Children.{AllWait}
 use Rattle.rx_begin.specs.Kids.{HasKids}
 use Rattle.rx_children.specs.Origins.{TellsAgain, TellsSteady}
 use Rattle.rx_children.specs.declared.node.Begun.{Begun}
 use Rattle.rx_children.specs.declared.node.Begun.TheVariants.{Child, Leaf}
 use Rattle.rx_fallback.specs.declared.opening.Opened.{Opened}
-use Rattle.cost_laws.specs.Evaluated.{Flag, after_attempt, beside_kept, is_again, stood}
-use Rattle.cost_laws.specs.Left.{Flags, begun_flags, flag, outer, unit_flags, unwound}
-use Rattle.begin_laws.specs.Flagged.{KeepsTold, FlagsAfter, FlagsAtEnd, FlagsAtPlace, FlagsHere, FlagsOpened, HasUnwound, IsFlagged}
+use Rattle.cost_laws.specs.Evaluated.{Flag, after_attempt, beside_kept, is_again, once_caught, stood}
+use Rattle.cost_laws.specs.Left.{Flags, begun_flags, flag, outer, thrown_past, unit_flags, unwound}
+use Rattle.begin_laws.specs.Flagged.{KeepsTold, FlagsAfter, FlagsAtEnd, FlagsAtPlace, FlagsHere, FlagsOpened, HasThrown, HasUnwound, IsFlagged}
 use Rattle.begin_laws.proofs.Going.{completes, flagged_moved, opens, opens_beside, passes}
 use Rattle.begin_laws.proofs.Once.{same_around}
-use Rattle.begin_laws.proofs.Unwinding.{unwinds}
+use Rattle.begin_laws.proofs.Unwinding.{throws_out, unwinds}
 use Rattle.begin_laws.specs.Telling.{OpensKids, TellsBody, TellsTries}
 use Rattle.begin_laws.proofs.Costing.{again_is, counts, may, opens_so, wait_bare, wait_told}
 use Rattle.rx_render.specs.declared.at.At.{At}
@@ -55,7 +57,7 @@ use Rattle.rx_render.specs.Advancing.{at_after, at_opened}
 use Rattle.rx_render.specs.Costing.{HasFlags, Paid, UnitPays}
 use Rattle.rx_render.specs.Costing as paying
 use Rattle.rx_meaning.specs.Touched.{is_memo}
-use Rattle.rx_render.proofs.Advancing.{AreFew, PaysOpened, PaysWaiting}
+use Rattle.rx_render.proofs.Advancing.{AreFew, PaysOpened, PaysThrowing, PaysWaiting}
 
 -- Where flags go
 
@@ -70,26 +72,36 @@ opened_flags : (t : Trees Fiber) (q : ℕ) (us : Flags) (first : Option ℕ) →
 opened_flags t q us None h = h
 opened_flags t q us (Some id) h = h
 
+-- the element of a fiber gives no context a value
+abbrev pub GivesNone : Trees Fiber → ℕ → Type 0
+GivesNone t q = (k : Around Fiber) (v : Fiber) (o : Option ℕ) (rs : Draft Fiber) → t.draft ≡ placed k (made q v o (taken shapes.none) rs) → given_in v.element ≡ None
+
+-- that of a boundary at which a wait has stopped does not
+left_quiet : (t : Trees Fiber) (q : ℕ) (awaits : Awaits) → Fits t → IsLeft t q awaits → GivesNone t q
+left_quiet t q awaits fits (left l) k v o rs there =
+    let a = (is-at t fits k q v o (taken shapes.none) rs there).list in
+    let b = (is-at t fits l.around q l.value l.old (taken shapes.none) l.rest l.here).list in
+    let both : Some (made q v o (taken shapes.none) rs) ≡ Some (made q l.value l.old (taken shapes.none) l.rest) = sym a ∙ b in
+    let same : v ≡ l.value = cc in
+    ap (λ u. given_in u.element) same ∙ boundary_gives l.value.element l.boundary
+
+-- nor that of an error boundary at which a throw has stopped
+caught_quiet : (t : Trees Fiber) (q : ℕ) → Fits t → IsCatchLeft t q → GivesNone t q
+caught_quiet t q fits (fallbacks.stopped l) k v o rs there =
+    let a = (is-at t fits k q v o (taken shapes.none) rs there).list in
+    let b = (is-at t fits l.around q l.value l.old (taken shapes.none) l.rest l.here).list in
+    let both : Some (made q v o (taken shapes.none) rs) ≡ Some (made q l.value l.old (taken shapes.none) l.rest) = sym a ∙ b in
+    let same : v ≡ l.value = cc in
+    ap (λ u. given_in u.element) same ∙ catcher_gives l.value.element l.catcher
+
 -- a fallback opens below a boundary
 module _ (origin : Origin) (t new : Trees Fiber) (q : ℕ) (us : Flags) (u : Flag) (here : FlagsHere t q (taken shapes.none) us) (generation : origin.generation ≡ u.generation) (visible : origin.visible ≡ u.visible)
-    (fits : Fits t) (awaits : Awaits) (stopped : IsLeft t q awaits) (moved : u.moved ≡ (flag us).moved) where
+    (fits : Fits t) (quiet : GivesNone t q) (moved : u.moved ≡ (flag us).moved) where
   -- what tries no children keeps nothing
   keeps_none : (v : Fiber) → is_trying v.stage ≡ false → KeepsTold (flag us) v
   keeps_none v none tries = absurd (let q : false ≡ true = sym none ∙ tries in let r : ⊥ = cc in r)
 
-  -- the element of the boundary gives nothing
-  quiet : (k : Around Fiber) (v : Fiber) (o : Option ℕ) (rs : Draft Fiber) → t.draft ≡ placed k (made q v o (taken shapes.none) rs) → given_in v.element ≡ None
-  quiet k v o rs there = go stopped
-    where
-      go : IsLeft t q awaits → given_in v.element ≡ None
-      go (left l) =
-          let a = (is-at t fits k q v o (taken shapes.none) rs there).list in
-          let b = (is-at t fits l.around q l.value l.old (taken shapes.none) l.rest l.here).list in
-          let both : Some (made q v o (taken shapes.none) rs) ≡ Some (made q l.value l.old (taken shapes.none) l.rest) = sym a ∙ b in
-          let same : v ≡ l.value = cc in
-          ap (λ u. given_in u.element) same ∙ boundary_gives l.value.element l.boundary
-
-  -- so no more contexts have moved in its fallback
+  -- its element gives nothing, so no more contexts have moved in its fallback
   moved_there : (k : Around Fiber) (v : Fiber) (o : Option ℕ) (rs : Draft Fiber) → t.draft ≡ placed k (made q v o (taken shapes.none) rs) → (i : ℕ) (w : Fiber) (r : Option ℕ) → w.element ≡ v.element
       → u.moved ≡ moved_along t.current (below i w r rs k)
   moved_there k v o rs there i w r element =
@@ -125,7 +137,7 @@ again_flags t tried new id c f fits is kids fits_tried awaits stopped current us
       flagged = subst (λ k. IsFlagged k h.flags.around h.flags.rest us) (sym (ap (λ x. x.current) is)) h.flags.flagged;
     } in
     let (shown, none) = and_passes (flag us).visible (none_moved (flag us).moved) so in
-    fallback_flags (as_cloned true) tried new id us beside_kept here refl refl fits_tried awaits stopped (sym (none_here (flag us).moved none)) f current kids
+    fallback_flags (as_cloned true) tried new id us beside_kept here refl refl fits_tried (left_quiet tried id awaits fits_tried stopped) (sym (none_here (flag us).moved none)) f current kids
 
 -- a node that is completed
 pub end_flags : (t new : Trees Fiber) (id : ℕ) (r : Next) (m : Fiber → Fiber) → Fits t → new ≡ record t { draft = valued id m t.draft } → r ≡ next_after t.draft id → (us : Flags) → FlagsAtEnd t id us
@@ -178,7 +190,20 @@ module _ (t : Trees Fiber) (fits : Fits t) (st : Stack) (p : ℕ) (fs : List Fra
       ap (λ b. own_generation b (generation_of u.value.stage)) same ∙ ap (own_generation (is_again own u.value.element w.node)) w.kept.0
       in
       subst (HasFlags new (at_opened f)) (sym w.some)
-      (fallback_flags (as_matched (origin_of u.value.stage).visible (own_generation again (generation_of u.value.stage))) dropped new q (outer (unwound fs us)) (after_attempt own u.value.element w.node) flags generation w.kept.1 fits_dropped awaits stopped refl f same_current kids)
+      (fallback_flags (as_matched (origin_of u.value.stage).visible (own_generation again (generation_of u.value.stage))) dropped new q (outer (unwound fs us)) (after_attempt own u.value.element w.node) flags generation w.kept.1 fits_dropped (left_quiet dropped q awaits fits_dropped stopped) refl f same_current kids)
+
+  -- out of one that throws, to the fallback of the nearest error boundary
+  pub thrown_flags : (dropped new : Trees Fiber) (q : ℕ) (f : Opened) → Fits dropped → dropped.current ≡ t.current
+      → ((u : Outer) × (nearest_catch h.around ≡ Some u) × (u.id ≡ q) × (dropped.draft ≡ placed u.around (made q u.value u.old (taken shapes.none) u.rest)))
+      → IsCatchLeft dropped q → new.current ≡ dropped.current → HasCaughtKids dropped new q f → HasFlags new (at_opened f) (thrown_past fs us)
+  thrown_flags dropped new q f fits_dropped current found caught same_current kids =
+      let (u, near, id, here) = found in
+      let here_too : dropped.draft ≡ placed u.around (made u.id u.value u.old (taken shapes.none) u.rest) = here ∙ ap (λ i. placed u.around (made i u.value u.old (taken shapes.none) u.rest)) (sym id) in
+      let w : HasThrown dropped u.id fs us = throws_out t dropped st p (taken shapes.none) fs us fits h within u near here_too current in
+      let flags : FlagsHere dropped q (taken shapes.none) (outer (thrown_past fs us)) = subst (λ i. FlagsHere dropped i (taken shapes.none) (outer (thrown_past fs us))) id w.flags in
+      subst (HasFlags new (at_opened f)) (sym w.some)
+      (fallback_flags (as_matched false 1) dropped new q (outer (thrown_past fs us)) (once_caught (flag (outer (thrown_past fs us)))) flags refl refl fits_dropped (caught_quiet dropped q fits_dropped caught) refl f same_current
+      (alone kids.kids kids.value kids.stage kids.element kids.all (λ e. kids.new) kids.stands kids.answer_is))
 
 -- What is paid
 
@@ -242,5 +267,16 @@ module _ (s : Sight) (scene : Scene) (sees : IsSceneOf scene s) (kept : ℕ → 
         record {
           flags = unit_flags s us (at_place (suc n) fs cs e old);
           are = subst (HasFlags last at) (sym (ap (begun_flags s fs us cs e old) shape.1)) (out fs us (subst (λ x. FlagsHere x id (taken shapes.none) us) (sym same) flags.flags) within);
+          pays = paying.by_unit goes (counts s scene kept t st id n fs cs e old us evaluated sees fits h tells flags (body_at n fs cs e old h) (few n fs cs e old h));
+        }
+
+    pub throws_paid : (new : Trees Fiber) (st' : Stack) (x : ℤ) (last : Trees Fiber) (at : At) → new ≡ t
+        → ((fs : List Frame) (us : Flags) → FlagsHere new id (taken shapes.none) us → IsWithin new st' id fs → HasFlags last at (thrown_past fs us))
+        → PaysThrowing s kept t st new st' id (if evaluated then 1 else 0) x last at
+    throws_paid new st' x last at same out n fs cs e old us h tells shape within flags =
+        let goes = may s scene kept t st id n fs cs e old us sees fits h tells flags tries in
+        record {
+          flags = unit_flags s us (at_place (suc n) fs cs e old);
+          are = subst (HasFlags last at) (sym (ap (begun_flags s fs us cs e old) shape)) (out fs us (subst (λ x. FlagsHere x id (taken shapes.none) us) (sym same) flags.flags) within);
           pays = paying.by_unit goes (counts s scene kept t st id n fs cs e old us evaluated sees fits h tells flags (body_at n fs cs e old h) (few n fs cs e old h));
         }

@@ -13,7 +13,7 @@ use Rattle.rx_meaning.specs.Levels.{PartFits}
 use Rattle.rx_meaning.specs.Cursor.{Frame, falling, Cursor, at_place, open_part, arrive, unit, is_over}
 use Rattle.rx_meaning.specs.Counts.{each_body, next_counts}
 use Rattle.rx_meaning.specs.Settled.{IfReadsHold, IfSettled, ReadsHold, known_by, version_done}
-use Rattle.rx_meaning.specs.Touched.{sees_refresh}
+use Rattle.rx_meaning.specs.Touched.{may_throw_anew, sees_refresh}
 use Rattle.rx_meaning.proofs.Depths.{shape_fits}
 use Rattle.commit_laws.specs.Idle.{IsIdle}
 use Rattle.commit_laws.proofs.TakeOver.{idle_again as again}
@@ -147,26 +147,26 @@ module _ (s : Sight) (tree : Option Node) (current : Shape Fiber) (is : IsTreeOf
   -- so it is where the render comes in one unit
   pub reaches : (c d : Cursor) → Goes s current evaluated c d → Reaches s tree units bodies c → is_over c ≡ false → Reaches s tree (suc units) (bodies + evaluated) d
   reaches c _ (by_unit few) h busy = unit_reaches c h busy few
-  reaches _ _ (past_attempt {n = n} {fs = fs} {cs = cs} {key = key} {f = f} {es = es} {a = a} {ns = ns} {kept = kept} {o = o} none linked stood was calm unresolved agree) h busy =
+  reaches _ _ (past_attempt {n = n} {fs = fs} {cs = cs} {key = key} {f = f} {es = es} {a = a} {ns = ns} {kept = kept} {o = o} none linked stood was refresh calm unresolved agree) h busy =
       let base = default_contexts s.program in
       let here : cs ≡ given_contexts base (given_along fs) = h.given.0 in
       let fits = fits_below n fs cs key f es a ns kept h.goes in
       let waited : render_part (rendered n s) (part cs (listed es) ns) ≡ one_waits a =
       subst (λ l. render_part (rendered n s) (part l (listed es) ns) ≡ one_waits a) (sym here)
-      (waits_here current linked s base tree is waits (given_along fs) o key f es a ns kept stood was calm unresolved agree n fits) in
+      (waits_here current linked s base tree is waits (given_along fs) o key f es a ns kept stood was refresh calm unresolved agree n fits) in
       attempt_reaches n fs cs key f es a ns kept h none waited
   reaches _ _ (past_subtree {n = n} {fs = fs} {cs = cs} {e = e} {x = x} {o = o} none linked stood was same idle) h busy = idle_reaches n fs cs x e o same linked stood was idle h none
 
   -- What it pays
 
   waits_at : (n : ℕ) (fs : List Frame) (cs : Contexts) (key : Key) (f : Element) (es : Elements) (a : Awaits) (ns kept : Forest) (o : Option ℕ) → IsLinked current → StandsSame current (given_along fs) o
-      → IsOld current o (Some (node (boundary key f es) (of_boundary (Hidden a)) ns kept)) → sees_refresh s ≡ false → AreUnresolved s a → AllValuesAgree (without_lanes s) s ns
+      → IsOld current o (Some (node (boundary key f es) (of_boundary (Hidden a)) ns kept)) → sees_refresh s ≡ false → may_throw_anew s ≡ false → AreUnresolved s a → AllValuesAgree (without_lanes s) s ns
       → Reaches s tree units bodies (at_place (suc n) fs cs (boundary key f es) (Some (node (boundary key f es) (of_boundary (Hidden a)) ns kept))) → render_part (rendered n s) (part cs (listed es) ns) ≡ one_waits a
-  waits_at n fs cs key f es a ns kept o linked stood was calm unresolved agree h =
+  waits_at n fs cs key f es a ns kept o linked stood was refresh calm unresolved agree h =
       let base = default_contexts s.program in
       let here : cs ≡ given_contexts base (given_along fs) = h.given.0 in
       subst (λ l. render_part (rendered n s) (part l (listed es) ns) ≡ one_waits a) (sym here)
-      (waits_here current linked s base tree is waits (given_along fs) o key f es a ns kept stood was calm unresolved agree n (fits_below n fs cs key f es a ns kept h.goes))
+      (waits_here current linked s base tree is waits (given_along fs) o key f es a ns kept stood was refresh calm unresolved agree n (fits_below n fs cs key f es a ns kept h.goes))
 
   renders_at : (n : ℕ) (fs : List Frame) (cs : Contexts) (x : Node) (e : Element) (o : Option ℕ) → element_of x ≡ e → IsLinked current → ReadsTheSame s current (given_along fs) cs o x → IsOld current o (Some x) → IsIdle s x
       → Reaches s tree units bodies (at_place (suc n) fs cs e (Some x)) → rendered (suc n) s cs e (Some x) ≡ made x
@@ -186,11 +186,11 @@ module _ (s : Sight) (tree : Option Node) (current : Shape Fiber) (is : IsTreeOf
   -- with what is left it is what the whole render evaluates
   pub pays : (c d : Cursor) (us vs : Flags) → UnitPays s current evaluated us c vs d → Reaches s tree units bodies c → Costs s tree bodies us c → Costs s tree (bodies + evaluated) vs d
   pays c _ us _ (paying.by_unit may same) h costs = unit_costs s tree bodies evaluated us c may costs same
-  pays _ _ us _ (paying.past_attempt {n = n} {fs = fs} {cs = cs} {key = key} {f = f} {es = es} {a = a} {ns = ns} {kept = kept} {o = o} none linked stood was calm unresolved agree out) h costs =
+  pays _ _ us _ (paying.past_attempt {n = n} {fs = fs} {cs = cs} {key = key} {f = f} {es = es} {a = a} {ns = ns} {kept = kept} {o = o} none linked stood was refresh calm unresolved agree out) h costs =
       subst (λ b. Costs s tree b (beside_kept ∷ us)
       (open_part n fs (falling (boundary key f es) (Some (node (boundary key f es) (of_boundary (Hidden a)) ns kept)) a) (part cs (f ∷ []) kept))) (as_many none)
       (attempt_costs s tree bodies n us fs cs (boundary key f es) (Some (node (boundary key f es) (of_boundary (Hidden a)) ns kept)) (part cs (listed es) ns) (part cs (f ∷ []) kept) a refl
-      (waits_at n fs cs key f es a ns kept o linked stood was calm unresolved agree h) out costs)
+      (waits_at n fs cs key f es a ns kept o linked stood was refresh calm unresolved agree h) out costs)
   pays _ _ us _ (paying.past_subtree {n = n} {fs = fs} {cs = cs} {e = e} {x = x} {o = o} none linked stood was same idle undue again) h costs =
       subst (λ b. Costs s tree b us (arrive (suc n) fs (Some x))) (as_many none)
       (take_costs s tree bodies (suc n) us fs cs e x (renders_at n fs cs x e o same linked stood was idle h) (nothing_at (flag us) n fs cs x e o again same linked stood was idle undue h) costs)

@@ -77,8 +77,8 @@ versions_in scene s list declared r = ap (λ (l : List ℕ). slice_index_or l r 
 
 -- A scene of what a rendering sees is what its render sees.
 pub scene_seen : (scene : Scene) (v : Rendering) (s : Sight) (seen : Resources) → seen ≡ v.resources → scene.checked.now ≡ v.program → scene.versions.now ≡ seen.versions → scene.resources.now ≡ seen.values → scene.refreshes ≡ seen.refreshes
-    → scene.lanes ≡ v.lanes → scene.cut ≡ v.cut → Sees v s → IsSceneOf scene s
-scene_seen scene v s seen same program versions values refreshes lanes cut sees =
+    → scene.lanes ≡ v.lanes → scene.cut ≡ v.cut → scene.throws ≡ v.throws → Sees v s → IsSceneOf scene s
+scene_seen scene v s seen same program versions values refreshes lanes cut throws sees =
     let are : seen ≡ resources_by s = same ∙ sees.resources in
     let list : scene.versions.now ≡ versions_seen s = versions ∙ ap (λ (x : Resources). x.versions) are in
     record {
@@ -87,6 +87,7 @@ scene_seen scene v s seen same program versions values refreshes lanes cut sees 
       list = list;
       versions = versions_in scene s list sees.declared;
       refreshes = refreshes ∙ ap (λ (x : Resources). x.refreshes) are;
+      throws = throws ∙ sees.throws;
       lanes = sees.lanes ∙ sym lanes;
       cut = sees.cut ∙ sym cut;
     }

@@ -127,7 +127,7 @@ goes_with old hooks way gives =
     record {
       sight = way.sight;
       tree = way.tree;
-      sees = record { program = way.sees.program; resources = way.sees.resources; declared = way.sees.declared; lanes = way.sees.lanes; cut = way.sees.cut };
+      sees = record { program = way.sees.program; resources = way.sees.resources; declared = way.sees.declared; lanes = way.sees.lanes; cut = way.sees.cut; throws = way.sees.throws };
       gives = λ k m there. gives m.number m.initials (way.gives k m there);
       current = way.current;
       done = way.done;
@@ -177,6 +177,12 @@ event_tree word.Input s t l = refl
 event_tree word.Default s t l = refl
 event_tree word.Transition s t l = refl
 
+event_seen : (w : LaneWord) (s : State) (t : Target) (l : Lane) → (in_event w s t l).seen ≡ s.seen
+event_seen word.Sync s t l = refl
+event_seen word.Input s t l = refl
+event_seen word.Default s t l = refl
+event_seen word.Transition s t l = refl
+
 event_journal : (w : LaneWord) (s : State) (t : Target) (l : Lane) → (in_event w s t l).journal ≡ s.journal
 event_journal word.Sync s t l = refl
 event_journal word.Input s t l = refl
@@ -189,6 +195,7 @@ dispatch_later g st w t o past =
     let u = next_update st.journal t o l in
     record {
       tree = event_tree w st t l;
+      seen = event_seen w st t l;
       new = u ∷ [];
       more = [];
       updates = ap (λ (j : Journal). j.updates ++ u ∷ []) (event_journal w st t l);
@@ -223,6 +230,8 @@ with_kept v hooks p st g keeps r =
       declared = r.declared;
       lanes = r.lanes;
       cut = r.cut;
+      seen = r.seen;
+      throws = r.throws;
       current = r.current;
       keeps = keeps;
       done = r.done;

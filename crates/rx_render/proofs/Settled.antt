@@ -73,6 +73,7 @@ module _ (p : Program) (k l : Known) (values : (n : ℕ) (initials : List ℤ) �
   own_stays (elements.comp c key props given) m ns fs own = (own.0, own.1, body_stays c props given own.0 (elements_in ns) own.2, own.3)
   own_stays (elements.list marked es) m ns fs own = own
   own_stays (elements.boundary key e es) m ns fs own = own
+  own_stays (elements.catcher key e es) m ns fs own = own
   own_stays (elements.provider c key x es) m ns fs own = own
 
   mutual

@@ -1,5 +1,5 @@
 -- A render that starts is in progress.
-use Rattle.std.specs.Prelude.{◌≡◌, ℕ, ℤ, List, [], Option, Some, None, IfSome, is_some, true, refl}
+use Rattle.std.specs.Prelude.{◌≡◌, ℕ, ℤ, Bool, List, [], Option, Some, None, IfSome, is_some, true, refl}
 use Rattle.std.proofs.Common.{sym, ap, ◌∙◌, subst, arith, inl, inr}
 use Rattle.rx_base.specs.declared.cut.Cut.{Cut}
 use Rattle.rx_lane.specs.Lanes.{Lanes}
@@ -15,6 +15,7 @@ use Rattle.rx_links.specs.Drafts.{Trees, taken, made}
 use Rattle.rx_meaning.specs.Fresh.{Sight, default_contexts, root_element}
 use Rattle.rx_meaning.specs.Cursor.{start}
 use Rattle.rx_meaning.specs.Settled.{DoneBefore, HasOwnNumbers}
+use Rattle.rx_meaning.specs.Touched.{may_throw_anew}
 use Rattle.rx_model.specs.State.{Progress, State}
 use Rattle.rx_model.specs.Committing.{sight_of, starting}
 use Rattle.rx_model.specs.HooksOf.{KeepsAllHooks}
@@ -100,6 +101,8 @@ pub record StandsAtRoot (lanes : Lanes) (cut : Cut) (resources : Resources) (old
   pub lanes_are : new.lanes ≡ lanes
   pub cut_is : new.cut ≡ cut
   pub resources_are : new.resources ≡ resources
+  pub seen : new.seen ≡ old.seen
+  pub throws : (s : Sight) → s.program ≡ old.program → s.seen ≡ old.seen → s.cut ≡ cut → new.throws ≡ may_throw_anew s
   pub covers : (s : Sight) (tree : Option Node) (next : ℕ) → s.lanes ≡ lanes → s.cut ≡ cut → GivesAll s tree (kept_hooks old.hooks) → IsTreeOf tree old.trees.current → IfNumbered tree → HasOwnNumbers next tree
       → CoversIf (is_way new.ways) (IsIdleMark s) tree
   pub undue : (p : Program) (st : State) (g : Progress) (next : ℕ) → g.lanes ≡ lanes → g.cut ≡ cut → KeepsAllHooks p st (kept_hooks old.hooks) → IsTreeOf st.tree old.trees.current → IfNumbered st.tree → HasOwnNumbers next st.tree
@@ -136,6 +139,8 @@ start_renders lanes cut resources old new r draws bounded st is =
       declared = is.declared;
       lanes = r.lanes_are;
       cut = r.cut_is ∙ is.cut_is;
+      seen = r.seen ∙ is.seen;
+      throws = r.throws s refl (sym is.seen) (sym is.cut_is);
       current = tree;
       keeps = subst (λ k. KeepsAllHooks old.program st (kept_hooks k)) (sym r.hooks) is.keeps;
       done = rw (← is.cut_is) is.done;
@@ -164,9 +169,9 @@ start_renders lanes cut resources old new r draws bounded st is =
     }
 
 -- what a start leaves, by what it makes
-module _ (lanes : Lanes) (cut : Cut) (resources : Resources) (old inside : Rendering) (t : Trees Fiber) (id : ℕ) (st : Stack) (ways : Ways) where
+module _ (lanes : Lanes) (cut : Cut) (resources : Resources) (old inside : Rendering) (t : Trees Fiber) (id : ℕ) (st : Stack) (ways : Ways) (throws : Bool) where
   abbrev pub started : Rendering
-  started = record inside { trees = t; contexts = st; resources = resources; lanes = lanes; cut = cut; ways = ways; at = Begins id; units = 0; bodies = 0 }
+  started = record inside { trees = t; contexts = st; resources = resources; lanes = lanes; cut = cut; ways = ways; at = Begins id; units = 0; bodies = 0; throws = throws }
 
   pub root_stands : inside ≡ record old { trees = record old.trees { draft = taken shapes.none }; at = Over } → (v : Fiber) (root : Element) (given defaults : List ℤ)
       → t ≡ record inside.trees { draft = made id v (first inside.trees.current) (taken shapes.none) (taken shapes.none) }
@@ -176,8 +181,9 @@ module _ (lanes : Lanes) (cut : Cut) (resources : Resources) (old inside : Rende
       → CoversIf (is_way ways) (IsIdleMark s) tree)
       → ((p : Program) (st : State) (g : Progress) (next : ℕ) → g.lanes ≡ lanes → g.cut ≡ cut → KeepsAllHooks p st (kept_hooks inside.hooks) → IsTreeOf st.tree inside.trees.current → IfNumbered st.tree → HasOwnNumbers next st.tree
       → CoversIf (is_way ways) (IsUndue (sight_of p st g)) st.tree)
+      → ((s : Sight) → s.program ≡ inside.program → s.seen ≡ inside.seen → s.cut ≡ cut → throws ≡ may_throw_anew s)
       → StandsAtRoot lanes cut resources old started
-  root_stands was v root given defaults grown origin cloned_is visible_is generation_is value element stack same all covers undue =
+  root_stands was v root given defaults grown origin cloned_is visible_is generation_is value element stack same all covers undue anew =
       let program : inside.program ≡ old.program = ap (λ r. r.program) was in
       let kept : t.current ≡ inside.trees.current = ap (λ u. u.current) grown in
       record {
@@ -187,6 +193,8 @@ module _ (lanes : Lanes) (cut : Cut) (resources : Resources) (old inside : Rende
         lanes_are = refl;
         cut_is = refl;
         resources_are = refl;
+        seen = ap (λ r. r.seen) was;
+        throws = λ s known last at. anew s (known ∙ sym program) (last ∙ sym (ap (λ r. r.seen) was)) at;
         covers = λ s tree next with at gives is. covers s tree next with at (subst (λ (r : Rendering). GivesAll s tree (kept_hooks r.hooks)) (sym was) gives) (subst (λ (r : Rendering). IsTreeOf tree r.trees.current) (sym was) is);
         undue = λ p st g next with at keeps is. undue p st g next with at (subst (λ (r : Rendering). KeepsAllHooks p st (kept_hooks r.hooks)) (sym was) keeps) (subst (λ (r : Rendering). IsTreeOf st.tree r.trees.current) (sym was) is);
         units = refl;

@@ -14,7 +14,7 @@ use Rattle.rx_meaning.specs.Fresh.{Contexts}
 use Rattle.rx_meaning.specs.Touched.{contexts_below}
 use Rattle.end_laws.specs.Trimmed.{trimmed, trimmed_in}
 use Rattle.render_laws.specs.OldNodes.{AllHave, OldHas}
-use Rattle.rx_fiber.specs.Fibers.{Fiber, Stage, waiting, begun, trying, fallback}
+use Rattle.rx_fiber.specs.Fibers.{Fiber, Stage, waiting, begun, trying, guarding, fallback}
 use Rattle.rx_fiber.specs.OldLists.{hides_in, primary_list, fallback_list, fiber_at}
 use Rattle.rx_fiber.specs.Reading.{IsFor, whole, alone, beside, next, IsOld, new, of, IsTreeOf}
 use Rattle.rx_fiber.specs.Stood.{given_more, nearest_given, StoodAt, StandsSame, at_root, below, in_fallback}
@@ -58,6 +58,7 @@ hides_as : (v : Stage) (m : Mark) → begun_mark v ≡ Some m → hides_in v ≡
 hides_as (waiting c) m h = cc
 hides_as (begun k) m h = let q : k ≡ m = cc in ap is_hidden q
 hides_as (trying c) m h = cc
+hides_as guarding m h = cc
 hides_as (fallback a) m h = cc
 
 -- the contexts below a node
@@ -68,6 +69,7 @@ below_given base (elements.host n k attrs es) ws = refl
 below_given base (elements.comp c k ps es) ws = refl
 below_given base (elements.list marked es) ws = refl
 below_given base (elements.boundary k f es) ws = refl
+below_given base (elements.catcher k f es) ws = refl
 below_given base (elements.provider c k x es) ws = refl
 
 -- the nodes at places of a list have what each node of it has

@@ -1,5 +1,5 @@
 -- What a unit needs and what it leaves, by the parts of a rendering.
-use Rattle.std.specs.Prelude.{◌≡◌, ◌≤◌, ℕ, suc, Bool, false, List, [], ◌∷◌, Option, Some, length}
+use Rattle.std.specs.Prelude.{◌≡◌, ◌≤◌, ℕ, ℤ, suc, Bool, true, false, List, [], ◌∷◌, Option, Some, length}
 use Rattle.rx_base.specs.Awaits.{Awaits}
 use Rattle.rx_ast.specs.Syntax.{contexts}
 use Rattle.rx_ctx.specs.Contexts.{Stack, values_at}
@@ -11,11 +11,11 @@ use Rattle.rx_lists.specs.Shapes.{Shape}
 use Rattle.rx_links.specs.Drafts.{Trees}
 use Rattle.rx_links.specs.Readers.{IsLinked}
 use Rattle.rx_meaning.specs.Again.{AllValuesAgree, AreUnresolved}
-use Rattle.rx_meaning.specs.Fresh.{Sight, Contexts, part}
+use Rattle.rx_meaning.specs.Fresh.{Sight, Contexts, part, shape_of, throwing}
 use Rattle.rx_meaning.specs.Counts.{each_body, next_counts}
 use Rattle.rx_meaning.specs.Cursor.{Frame, falling, Cursor, at_place, at_end, ended, open_part, arrive, is_null, unit, HasLevel}
 use Rattle.rx_meaning.specs.Settled.{IfSettled, known_by}
-use Rattle.rx_meaning.specs.Touched.{sees_refresh}
+use Rattle.rx_meaning.specs.Touched.{may_throw_anew, sees_refresh}
 use Rattle.commit_laws.specs.Idle.{IsIdle, IsIdleMark}
 use Rattle.commit_laws.specs.WaitsAgain.{without_lanes}
 use Rattle.rx_fiber.specs.Fibers.{Fiber}
@@ -24,6 +24,7 @@ use Rattle.rx_fiber.specs.Standing.{StandsAt}
 use Rattle.rx_fiber.specs.Subtrees.{IsGathered}
 use Rattle.rx_fiber.specs.Stood.{StandsSame}
 use Rattle.rx_fiber.specs.Surround.{given_along}
+use Rattle.rx_fiber.specs.Unwound.{is_guarded}
 use Rattle.rx_complete.specs.Ends.{IsAtEnd}
 use Rattle.rx_complete.specs.declared.completing.Next.{Next}
 use Rattle.rx_complete.specs.declared.completing.Next.TheVariants.{Sibling, Parent, Done}
@@ -67,6 +68,8 @@ pub record CanBegin (scene : Scene) (kept : ℕ → Option (List Hook)) (t : Tre
   pub gives : GivesHooksIf sight kept old
   pub settled : IfSettled sight.program (known_by sight) old
   pub covers : CoversIf (is_way scene.ways.now) (IsIdleMark sight) old
+  -- what throws there is below an error boundary that tries its children
+  pub caught : (x : ℤ) → shape_of sight contexts_are element old ≡ throwing x → is_guarded frames ≡ true
   pub each : length (values_at st) ≡ length (contexts scene.checked.now)
   -- the current tree's fibers keep what is at or below them
   pub gathered : IsGathered t.current
@@ -88,7 +91,7 @@ pub data Goes (s : Sight) (current : Shape Fiber) (bodies : ℕ) : (before after
   by_unit : {c : Cursor} → bodies ≤ next_counts each_body s c → Goes s current bodies c (unit s c)
   past_attempt : {n : ℕ} {fs : List Frame} {cs : Contexts} {key : Key} {f : Element} {es : Elements} {a : Awaits} {ns kept : Forest} {o : Option ℕ}
       → bodies ≡ 0 → IsLinked current → StandsSame current (given_along fs) o → IsOld current o (Some (node (boundary key f es) (of_boundary (Hidden a)) ns kept))
-      → sees_refresh s ≡ false → AreUnresolved s a → AllValuesAgree (without_lanes s) s ns
+      → sees_refresh s ≡ false → may_throw_anew s ≡ false → AreUnresolved s a → AllValuesAgree (without_lanes s) s ns
       → Goes s current bodies (at_place (suc n) fs cs (boundary key f es) (Some (node (boundary key f es) (of_boundary (Hidden a)) ns kept)))
       (open_part n fs (falling (boundary key f es) (Some (node (boundary key f es) (of_boundary (Hidden a)) ns kept)) a) (part cs (f ∷ []) kept))
   past_subtree : {n : ℕ} {fs : List Frame} {cs : Contexts} {e : Element} {x : Node} {o : Option ℕ}

@@ -11,7 +11,7 @@ use Rattle.rx_links.specs.Readers.{IsLinked}
 use Rattle.rx_meaning.specs.Again.{AllValuesAgree, AreUnresolved}
 use Rattle.rx_meaning.specs.Cursor.{Cursor, Frame, arrive, at_end, at_place, ended, falling, open_part, unit}
 use Rattle.rx_meaning.specs.Fresh.{Contexts, Sight, part}
-use Rattle.rx_meaning.specs.Touched.{sees_refresh}
+use Rattle.rx_meaning.specs.Touched.{may_throw_anew, sees_refresh}
 use Rattle.commit_laws.specs.Each.{ForEach}
 use Rattle.commit_laws.specs.Idle.{IsIdle}
 use Rattle.commit_laws.specs.WaitsAgain.{without_lanes}
@@ -47,7 +47,7 @@ pub data UnitPays (s : Sight) (current : Shape Fiber) (bodies : ℕ) (us : Flags
   by_unit : {c : Cursor} → MayGo s us c → bodies ≡ next_evaluated s us c → UnitPays s current bodies us c (unit_flags s us c) (unit s c)
   past_attempt : {n : ℕ} {fs : List Frame} {cs : Contexts} {key : Key} {f : Element} {es : Elements} {a : Awaits} {ns kept : Forest} {o : Option ℕ}
       → bodies ≡ 0 → IsLinked current → StandsSame current (given_along fs) o → IsOld current o (Some (node (boundary key f es) (of_boundary (Hidden a)) ns kept))
-      → sees_refresh s ≡ false → AreUnresolved s a → AllValuesAgree (without_lanes s) s ns
+      → sees_refresh s ≡ false → may_throw_anew s ≡ false → AreUnresolved s a → AllValuesAgree (without_lanes s) s ns
       → is_untouched s (stood (flag us)) (boundary key f es) (Some (node (boundary key f es) (of_boundary (Hidden a)) ns kept)) ≡ true
       → UnitPays s current bodies us (at_place (suc n) fs cs (boundary key f es) (Some (node (boundary key f es) (of_boundary (Hidden a)) ns kept)))
       (beside_kept ∷ us)

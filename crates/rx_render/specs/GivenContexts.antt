@@ -1,7 +1,7 @@
 -- Which values the contexts have at the places that a render has yet to come to: those that the providers around them give.
 use Rattle.std.specs.Prelude.{◌≡◌, ℕ, ℤ, List, [], ◌∷◌, None, slice_set}
 use Rattle.rx_meaning.specs.Fresh.{Contexts}
-use Rattle.rx_meaning.specs.Cursor.{Open, around, trying, falling, Frame, Cursor, at_place, at_end, ended}
+use Rattle.rx_meaning.specs.Cursor.{Open, around, trying, falling, guarding, Frame, Cursor, at_place, at_end, ended}
 use Rattle.rx_fiber.specs.Stood.{given_in}
 use Rattle.rx_fiber.specs.Surround.{given_along}
 
@@ -15,6 +15,7 @@ abbrev pub OpenGiven : Contexts → Open → List (ℕ × ℤ) → Type 0
 OpenGiven base (around e m) ws = Unit {0}
 OpenGiven base (trying e old f) ws = (given_in e ≡ None) × (f.contexts ≡ given_contexts base ws)
 OpenGiven base (falling e old a) ws = Unit {0}
+OpenGiven base (guarding e f) ws = (given_in e ≡ None) × (f.contexts ≡ given_contexts base ws)
 
 -- so do the lists of the open nodes have those that are given around them
 abbrev pub FramesGiven : Contexts → List Frame → Type 0

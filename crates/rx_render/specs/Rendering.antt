@@ -1,5 +1,5 @@
 -- A render in progress, as contracts see it.
-use Rattle.std.specs.Prelude.{◌≡◌, ℕ, ◌-◌, List, Option, Some, None}
+use Rattle.std.specs.Prelude.{◌≡◌, ℕ, ◌-◌, Bool, List, Option, Some, None}
 use Rattle.rx_base.specs.Awaits.{Awaits}
 use Rattle.rx_base.specs.declared.cut.Cut.{Cut}
 use Rattle.rx_lane.specs.Lanes.{Lanes}
@@ -20,7 +20,7 @@ use Rattle.rx_resources.specs.Seen.{Resources}
 use Rattle.rx_render.specs.declared.at.At.{At}
 use Rattle.rx_render.specs.declared.at.At.TheVariants.{Begins, Completes, Over}
 
--- The program, the current tree of fibers and the one in progress, the hooks, and what the render sees: the contexts at the place that it has come to, the resources, its lanes and its cut, and the ways on which it may find a cause. Then what the next unit does, and the units and bodies so far.
+-- The program, the current tree of fibers and the one in progress, the hooks, and what the render sees: the contexts at the place that it has come to, the resources, its lanes and its cut, and the ways on which it may find a cause. Then what the next unit does, and the units and bodies so far; how many resolutions the last commit saw, and whether something may throw anew.
 pub record Rendering : Type 0 where
   pub program : Program
   pub trees : Trees Fiber
@@ -33,6 +33,8 @@ pub record Rendering : Type 0 where
   pub at : At
   pub units : ℕ
   pub bodies : ℕ
+  pub seen : ℕ
+  pub throws : Bool
 
 -- a fact that is asked if a unit is left
 abbrev pub IfLeft : At → Type 0 → Type 0

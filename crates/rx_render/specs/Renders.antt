@@ -12,6 +12,7 @@ use Rattle.rx_meaning.specs.Fresh.{Sight, default_contexts, root_element}
 use Rattle.rx_meaning.specs.Cursor.{Cursor}
 use Rattle.rx_meaning.specs.Again.{AllOpen}
 use Rattle.rx_meaning.specs.Settled.{DoneBefore, HasOwnNumbers, IfReadsHold, IfSettled, known_by, version_done}
+use Rattle.rx_meaning.specs.Touched.{may_throw_anew}
 use Rattle.rx_model.specs.State.{State, Progress}
 use Rattle.rx_model.specs.Committing.{sight_of, starting}
 use Rattle.rx_model.specs.HooksOf.{KeepsAllHooks}
@@ -49,6 +50,7 @@ pub record Sees (v : Rendering) (s : Sight) : Type 0 where
   pub declared : AsksForDeclared s
   pub lanes : s.lanes ≡ v.lanes
   pub cut : s.cut ≡ v.cut
+  pub throws : v.throws ≡ may_throw_anew s
 
 -- hooks give a render the values of each instance of this tree
 abbrev pub GivesAll : Sight → Option Node → (kept : ℕ → Option (List Hook)) → Type 0
@@ -87,6 +89,8 @@ pub record Renders (p : Program) (st : State) (g : Progress) (v : Rendering) : T
   pub declared : AsksForDeclared (sight_of p st g)
   pub lanes : v.lanes ≡ g.lanes
   pub cut : v.cut ≡ g.cut
+  pub seen : v.seen ≡ st.seen
+  pub throws : v.throws ≡ may_throw_anew (sight_of p st g)
   pub current : IsTreeOf st.tree v.trees.current
   pub keeps : KeepsAllHooks p st (kept_hooks v.hooks)
   -- what is done lies before the cut, and the cut before what has yet to come
@@ -128,12 +132,13 @@ pub record IsRendering (v : Rendering) : Type 0 where
   pub gathered : IsGathered v.trees.current
   pub gathering : IsGathering v.trees v.at
 
--- what a render that starts now needs: the current tree is the committed one, which is settled, has the root's element at its root, hidden boundaries that wait again and reads that hold, and its instances have numbers of their own; the hooks are those of its instances, the cut has all before it, and the resources are what it sees of them
+-- what a render that starts now needs: the current tree is the committed one, which is settled, has the root's element at its root, hidden boundaries that wait again and reads that hold, and its instances have numbers of their own; the hooks are those of its instances, the cut has all before it, as many resolutions were seen by the last commit, and the resources are what it sees of them
 pub record IsStartOf (st : State) (lanes : Lanes) (cut : Cut) (resources : Resources) (v : Rendering) : Type 0 where
   pub current : IsTreeOf st.tree v.trees.current
   pub keeps : KeepsAllHooks v.program st (kept_hooks v.hooks)
   pub done : DoneBefore cut st.journal.updates
   pub cut_is : cut ≡ cut_now st.journal
+  pub seen : v.seen ≡ st.seen
   pub resources_are : resources ≡ resources_by (sight_of v.program st (starting st lanes))
   pub declared : AsksForDeclared (sight_of v.program st (starting st lanes))
   pub settled : IfSettled v.program (known_by (sight_of v.program st (starting st lanes))) st.tree
@@ -154,9 +159,10 @@ pub record CanStart (lanes : Lanes) (cut : Cut) (resources : Resources) (v : Ren
   pub state : State
   pub is : IsStartOf state lanes cut resources v
 
--- The machine's state is one that follows within a render: the same tree, and a journal with more updates, after its cut, and more resolutions.
+-- The machine's state is one that follows within a render: the same tree, as many resolutions seen by the last commit, and a journal with more updates, after its cut, and more resolutions.
 pub record IsLater (g : Progress) (st later : State) : Type 0 where
   pub tree : later.tree ≡ st.tree
+  pub seen : later.seen ≡ st.seen
   pub new : List Posted
   pub more : List Resolution
   pub updates : later.journal.updates ≡ st.journal.updates ++ new

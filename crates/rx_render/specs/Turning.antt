@@ -12,26 +12,29 @@ use Rattle.rx_render.specs.Renders.{Renders}
 abbrev pub KeepsHooks : (before after : Rendering) → Type 0
 KeepsHooks x y = (st : State) → DoneBefore x.cut st.journal.updates → KeepsAllHooks x.program st (kept_hooks x.hooks) → KeepsAllHooks y.program st (kept_hooks y.hooks)
 
--- a rendering goes on: the program, the current tree and what the render sees stay, hooks stand for what they stood for, and a render that was in progress still is
+-- a rendering goes on: the program, the current tree, what the last commit saw and what the render sees stay, hooks stand for what they stood for, and a render that was in progress still is
 pub record Proceeds (x y : Rendering) : Type 0 where
   pub program : y.program ≡ x.program
   pub current : y.trees.current ≡ x.trees.current
   pub lanes : y.lanes ≡ x.lanes
   pub cut : y.cut ≡ x.cut
   pub resources : y.resources ≡ x.resources
+  pub seen : y.seen ≡ x.seen
   pub keeps : KeepsHooks x y
   pub renders : (st : State) (g : Progress) → Renders x.program st g x → Renders y.program st g y
 
--- a unit breaks off: the program and the current tree stay, hooks stand for what they stood for, and no unit is left
+-- a unit breaks off: the program, the current tree and what the last commit saw stay, hooks stand for what they stood for, and no unit is left
 pub record UnitBreaksOff (x y : Rendering) : Type 0 where
   pub program : y.program ≡ x.program
   pub current : y.trees.current ≡ x.trees.current
+  pub seen : y.seen ≡ x.seen
   pub keeps : KeepsHooks x y
   pub over : y.at ≡ Over
 
--- a render is given up: the program and the current tree stay, hooks stand for what they stood for, and nothing is in progress
+-- a render is given up: the program, the current tree and what the last commit saw stay, hooks stand for what they stood for, and nothing is in progress
 pub record GivesUp (x y : Rendering) : Type 0 where
   pub program : y.program ≡ x.program
   pub current : y.trees.current ≡ x.trees.current
+  pub seen : y.seen ≡ x.seen
   pub keeps : KeepsHooks x y
   pub idle : HasNoRender y

@@ -8,7 +8,7 @@ use Rattle.rx_render.specs.Turning.{KeepsHooks, Proceeds, GivesUp}
 -- a rendering goes on as it is
 abbrev pub proceeds_same : (x : Rendering) → Proceeds x x
 proceeds_same x =
-    record { program = refl; current = refl; lanes = refl; cut = refl; resources = refl; keeps = λ st done h. h; renders = λ st g h. h }
+    record { program = refl; current = refl; lanes = refl; cut = refl; resources = refl; seen = refl; keeps = λ st done h. h; renders = λ st g h. h }
 
 -- hooks that stand for a state still do after two stretches
 abbrev pub keeps_join : (x y z : Rendering) → y.cut ≡ x.cut → KeepsHooks x y → KeepsHooks y z → KeepsHooks x z
@@ -23,6 +23,7 @@ proceeds_join x y z a b =
       lanes = b.lanes ∙ a.lanes;
       cut = b.cut ∙ a.cut;
       resources = b.resources ∙ a.resources;
+      seen = b.seen ∙ a.seen;
       keeps = keeps_join x y z a.cut a.keeps b.keeps;
       renders = λ st g h. b.renders st g (a.renders st g h);
     }
@@ -30,4 +31,4 @@ proceeds_join x y z a b =
 -- one that goes on and is then given up is given up
 abbrev pub gives_up_after : (x y z : Rendering) → Proceeds x y → GivesUp y z → GivesUp x z
 gives_up_after x y z a b =
-    record { program = b.program ∙ a.program; current = b.current ∙ a.current; keeps = keeps_join x y z a.cut a.keeps b.keeps; idle = b.idle }
+    record { program = b.program ∙ a.program; current = b.current ∙ a.current; seen = b.seen ∙ a.seen; keeps = keeps_join x y z a.cut a.keeps b.keeps; idle = b.idle }

@@ -3,19 +3,19 @@ ghost use Rattle.std.specs.Prelude.{◌≡◌, ◌+◌, ◌≤◌, ℕ, ℤ, Lis
 ghost use Rattle.rx_base.specs.Awaits.{one};
 ghost use Rattle.rx_elem.specs.Trees.{Node};
 ghost use Rattle.rx_meaning.specs.Fresh.{Sight};
-ghost use Rattle.rx_meaning.specs.Cursor.{Open, Frame, at_end, unit, unwind};
+ghost use Rattle.rx_meaning.specs.Cursor.{Open, Frame, at_end, unit, unwind, unwind_throw};
 ghost use Rattle.rx_meaning.specs.Settled.{DoneBefore};
 ghost use Rattle.rx_model.specs.State.{State};
 ghost use Rattle.rx_model.specs.HooksOf.{KeepsAllHooks};
 ghost use Rattle.rx_fiber.specs.Standing.{StandsAt};
 ghost use Rattle.rx_fiber.specs.Unwound.{IsWithin};
-ghost use Rattle.rx_complete.specs.Ends.{IsAtEnd, IsOpenBelow};
+ghost use Rattle.rx_complete.specs.Ends.{IsAtEnd, IsGuardedAt, IsOpenBelow};
 ghost use Rattle.rx_hook_store.specs.Store.{kept_hooks};
 ghost use Rattle.rx_hook_store.specs.Gives.{GivesValues};
 ghost use Rattle.rx_causes.specs.Scenes.{IsSceneOf};
 ghost use Rattle.rx_lists.specs.Shapes.{none};
 ghost use Rattle.rx_links.specs.Drafts.{taken};
-ghost use Rattle.cost_laws.specs.Left.{Flags, outer, unwound};
+ghost use Rattle.cost_laws.specs.Left.{Flags, outer, thrown_past, unwound};
 ghost use Rattle.begin_laws.specs.Flagged.{FlagsAtEnd, FlagsHere};
 ghost use Rattle.rx_ways.specs.Ways.{is_way};
 ghost use Rattle.rx_render.specs.Rendering.{ComesTo};
@@ -25,13 +25,13 @@ ghost use Rattle.rx_fiber.specs.Subtrees.{IsGathered};
 ghost use Rattle.rx_render.specs.Gathers.{IsGathering};
 
 use crate::at::At;
-use rx_base::{Awaits, Steps};
+use rx_base::{Awaits, Int, Steps};
 use rx_begin::begin;
 use rx_causes::Scene;
 use rx_children::Begun;
-use rx_complete::{Next, complete, pass, unwind_to_boundary};
+use rx_complete::{Next, complete, pass, unwind_to_boundary, unwind_to_catch};
 use rx_ctx::ContextStack;
-use rx_fallback::{Opened, open_fallback, open_old_fallback};
+use rx_fallback::{Opened, open_caught, open_fallback, open_old_fallback};
 use rx_fiber::Fiber;
 use rx_hook_store::HookStore;
 use rx_links::{FiberId, FiberTree};
@@ -113,6 +113,28 @@ fn suspend(
     }
 }
 
+// A body throws: what is tried around it is given up, and the fallback of the nearest error boundary opens.
+fn throw_out(
+    alloc: Global,
+    tree: &mut FiberTree<Fiber>,
+    id: FiberId,
+    contexts: &mut ContextStack,
+    value: Int,
+) -> Result<At, AllocError>
+    requires below { IsOpenBelow tree.old contexts.old id }
+    requires guarded { IsGuardedAt tree.old id }
+    ensures comes { IfOk result (λ a. (levels : ℕ) (fs : List Frame) → IsWithin tree.old contexts.old id fs → ComesTo tree.new contexts.new a (unwind_throw levels fs value)) }
+    ensures flags { IfOk result (λ a. (fs : List Frame) (us : Flags) → FlagsHere tree.old id (taken none) us → IsWithin tree.old contexts.old id fs → HasFlags tree.new a (thrown_past fs us)) }
+    ensures gathered { IfOk result (λ a. IsGathered tree.old.current → IsGathering tree.old (At.Begins id) → IsGathering tree.new a) }
+    ensures current { tree.new.current ≡ tree.old.current }
+{
+    tree.facts();
+    let boundary = unwind_to_catch(tree, id, contexts);
+    tree.facts();
+    let opened = open_caught(alloc, tree, boundary, value)?;
+    Ok(at_opened(opened))
+}
+
 // Begins the place of a fiber.
 fn begin_place<L: Ledger>(
     alloc: Global,
@@ -140,6 +162,10 @@ fn begin_place<L: Ledger>(
         Begun::Leaf => Ok((At::Completes(id), evaluated)),
         Begun::Suspended(resource) => {
             let at = suspend(alloc, tree, id, contexts, resource)?;
+            Ok((at, evaluated))
+        }
+        Begun::Thrown(value) => {
+            let at = throw_out(alloc, tree, id, contexts, value)?;
             Ok((at, evaluated))
         }
         Begun::Hidden(awaits) => {
@@ -183,9 +209,9 @@ fn try_advance<L: Ledger>(
 }
 
 /// Begins the place of a fiber, or completes its node, as one unit of a render. If its body waits, what is tried around it
-/// is given up, and the fallback of the nearest boundary opens within the same unit (react.dev, Suspense); if a hidden
-/// boundary waits still, its fallback opens at once, and if a subtree is taken over the render passes on to what follows it
-/// (React's bailout). Also answered is whether a body was evaluated.
+/// is given up, and the fallback of the nearest boundary opens within the same unit (react.dev, Suspense); if it throws, so
+/// does that of the nearest error boundary. If a hidden boundary waits still, its fallback opens at once, and if a subtree is
+/// taken over the render passes on to what follows it (React's bailout). Also answered is whether a body was evaluated.
 ///
 /// # Errors
 ///

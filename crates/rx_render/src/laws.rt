@@ -23,11 +23,12 @@ pub fn later_renders()
         → KeepsAllHooks p later (kept_hooks hooks) → Renders p later g (with_hooks v hooks) }
 {}
 
-/// Whatever leaves the journal, the committed tree and the links leaves a render in progress: the end of an event, a later
-/// time. So does another count of its units and bodies, and a resource that gets its value, which the render doesn't see.
+/// Whatever leaves the journal, the committed tree, the links and what the last commit saw leaves a render in progress: the
+/// end of an event, a later time. So does another count of its units and bodies, and a resource that gets its value, which
+/// the render doesn't see.
 pub fn renders_stay()
     ensures same { (p : Program) (st later : State) (g : Progress) (v : Rendering) → Renders p st g v → later.journal ≡ st.journal → later.tree ≡ st.tree
-        → later.linked ≡ st.linked → Renders p later g v }
+        → later.linked ≡ st.linked → later.seen ≡ st.seen → Renders p later g v }
     ensures counted { (p : Program) (st : State) (g h : Progress) (v : Rendering) → Renders p st g v → h.lanes ≡ g.lanes → h.cut ≡ g.cut → Renders p st h v }
     ensures resolved { (p : Program) (st : State) (g : Progress) (v : Rendering) (resource : ℕ) (value : ℤ) → Renders p st g v → Renders p (with_value st resource value) g v }
 {}

@@ -16,6 +16,7 @@ ghost use Rattle.rx_model.specs.State.{State, Progress, linked_lanes, opening};
 ghost use Rattle.rx_model.specs.Accepting.{dispatched_for, lane_of};
 ghost use Rattle.rx_meaning.specs.Fresh.{IsTree, Sight};
 ghost use Rattle.rx_meaning.specs.Settled.{DoneBefore, HasOwnNumbers};
+ghost use Rattle.rx_meaning.specs.Touched.{may_throw_anew};
 ghost use Rattle.commit_laws.specs.HiddenWaits.{IfNumbered};
 ghost use Rattle.commit_laws.specs.Idle.{IsIdleMark};
 ghost use Rattle.cost_laws.specs.Undue.{IsUndue};
@@ -87,6 +88,10 @@ pub struct Renderer {
     at: At,
     units: u64,
     bodies: u64,
+    // How many resolutions the last commit saw.
+    seen: u64,
+    // Whether the render that started last may come to throw for a resolution that is new to it.
+    throws: bool,
 }
 
 impl Model for Renderer {
@@ -100,9 +105,9 @@ impl Model for Renderer {
 
     ghost coded = { Prim.hlevel (codes, program_code, fiber_trees_code) };
 
-    ghost view = { λ r. record { program = r.checked; trees = r.fibers; hooks = r.hooks; contexts = r.contexts; resources = r.resources; lanes = r.lanes; cut = r.cut; ways = r.ways; at = r.at; units = r.units; bodies = r.bodies } };
+    ghost view = { λ r. record { program = r.checked; trees = r.fibers; hooks = r.hooks; contexts = r.contexts; resources = r.resources; lanes = r.lanes; cut = r.cut; ways = r.ways; at = r.at; units = r.units; bodies = r.bodies; seen = r.seen; throws = r.throws } };
 
-    ghost invariant = { λ r. IsRendering (record { program = r.checked; trees = r.fibers; hooks = r.hooks; contexts = r.contexts; resources = r.resources; lanes = r.lanes; cut = r.cut; ways = r.ways; at = r.at; units = r.units; bodies = r.bodies }) };
+    ghost invariant = { λ r. IsRendering (record { program = r.checked; trees = r.fibers; hooks = r.hooks; contexts = r.contexts; resources = r.resources; lanes = r.lanes; cut = r.cut; ways = r.ways; at = r.at; units = r.units; bodies = r.bodies; seen = r.seen; throws = r.throws }) };
 }
 
 // It is taken apart here alone, once for all crates.
@@ -122,6 +127,8 @@ impl Drop for Renderer {
             at: _at,
             units: _units,
             bodies: _bodies,
+            seen: _seen,
+            throws: _throws,
         } = self;
     }
 }
@@ -144,6 +151,7 @@ impl Renderer {
         ensures current { IfOk result (λ r. r.trees.current ≡ none) }
         ensures hooks { IfOk result (λ r. KeepsAllHooks r.program opening (kept_hooks r.hooks)) }
         ensures idle { IfOk result (λ r. HasNoRender r) }
+        ensures seen { IfOk result (λ r. r.seen ≡ 0) }
     {
         checked.program();
         let contexts = ContextStack::new(alloc, &[])?;
@@ -168,6 +176,8 @@ impl Renderer {
             at: At::Over,
             units: 0,
             bodies: 0,
+            seen: 0,
+            throws: false,
         })
     }
 
@@ -270,6 +280,13 @@ impl Renderer {
         self.at = At::Over;
     }
 
+    // Whether something may throw in a render at this cut for a resolution that the last commit has not seen.
+    fn may_throw_anew(&self, cut: Cut) -> bool
+        ensures { (s : Sight) → s.program ≡ self.now.program → s.seen ≡ self.now.seen → s.cut ≡ cut → result ≡ may_throw_anew s }
+    {
+        self.checked.may_throw() && self.seen < cut.resolutions
+    }
+
     // The ways to all instances that may have queued updates: since the last render started updates were sent along these. A
     // render only takes hints from them.
     fn find_hints(&self, sent: &Ways) -> Result<Ways, AllocError> {
@@ -313,12 +330,14 @@ impl Renderer {
         ensures program { self.new.program ≡ self.old.program }
         ensures current { self.new.trees.current ≡ self.old.trees.current }
         ensures hooks { self.new.hooks ≡ self.old.hooks }
+        ensures seen { self.new.seen ≡ self.old.seen }
 
         // An instance stands on a way only if it, or one below it, has work for this render, or a boundary there is hidden.
         ensures ways { OnOk result ((tree : Option trees.Node) (n : ℕ) → IsTreeOf tree self.old.trees.current → is_way self.new.ways n ≡ true → LeadsToWork lanes cut (kept_hooks self.old.hooks) n tree) }
         ensures idle { OnErr result (HasNoRender self.new) }
     {
         self.discard();
+        let throws = self.may_throw_anew(cut);
         let hints = self.find_hints(sent)?;
         let ways = self.find_ways(&hints, lanes, cut)?;
         let defaults = default_contexts(self.alloc, &self.checked)?;
@@ -338,6 +357,7 @@ impl Renderer {
         self.resources = resources;
         self.lanes = lanes;
         self.cut = cut;
+        self.throws = throws;
         self.ways = ways;
         self.hints = hints;
         self.at = At::Begins(id);
@@ -434,10 +454,11 @@ impl Renderer {
     /// The finished tree becomes the current one, and nothing is in progress (react.dev, Render and Commit).
     pub fn commit(&mut self)
         requires { self.old.at ≡ Over }
-        ensures { self.new ≡ record self.old { trees = record { current = grafted self.old.trees.draft; draft = taken none }; at = Over } }
+        ensures { self.new ≡ record self.old { trees = record { current = grafted self.old.trees.draft; draft = taken none }; at = Over; seen = self.old.cut.resolutions } }
     {
         self.fibers.swap();
         self.at = At::Over;
+        self.seen = self.cut.resolutions;
     }
 
     /// Makes room for so many updates more of a hook of an instance, by its place from 0. It changes nothing of what the hooks
@@ -530,6 +551,7 @@ impl Renderer {
             versions: &seen.versions,
             resources: &seen.values,
             refreshes: seen.refreshes,
+            throws: self.throws,
             lanes: self.lanes,
             cut: self.cut,
             ways: &self.ways,

@@ -4,7 +4,7 @@ use Rattle.std.specs.List.{AllByRecursion}
 use Rattle.std.proofs.Common.{sym, ◌∙◌, ap, subst, append_assoc}
 use Rattle.rx_elem.specs.Elements.{Element}
 use Rattle.rx_elem.specs.Elements as elements
-use Rattle.rx_elem.specs.Trees.{Mark, is_host, of_instance, of_host, of_boundary, plain, Node, node, Forest, none, vacant}
+use Rattle.rx_elem.specs.Trees.{Mark, is_host, of_instance, of_host, of_boundary, of_catcher, plain, Node, node, Forest, none, vacant}
 use Rattle.rx_elem.specs.Trees as trees
 use Rattle.rx_elem.specs.Spots.{Around, around_children, at_root}
 use Rattle.rx_forest.specs.Hosts.{Host, Content, tag, letters, content_of, by_name, host_as, hosts, host_numbered}
@@ -37,6 +37,7 @@ mutual
       (child (host_as a n k.0.0) refl (order_in (around_children a m) ns k.1) (order_in a fs k.2))
   order_at a (node e (of_instance i) ns fs) k = other_below a e (of_instance i) ns fs refl (order_in (around_children a (of_instance i)) ns k.1) (order_in a fs k.2)
   order_at a (node e (of_boundary s) ns fs) k = other_below a e (of_boundary s) ns fs refl (order_in (around_children a (of_boundary s)) ns k.1) (order_in a fs k.2)
+  order_at a (node e (of_catcher c) ns fs) k = other_below a e (of_catcher c) ns fs refl (order_in (around_children a (of_catcher c)) ns k.1) (order_in a fs k.2)
   order_at a (node e plain ns fs) k = other_below a e plain ns fs refl (order_in (around_children a plain) ns k.1) (order_in a fs k.2)
 
   order_in : (a : Around) (ns : Forest) → AreNumbered_in ns → StandBelow a.host (hosts_in a ns)
@@ -65,6 +66,7 @@ content_in_order (elements.host n k attrs es) c is own =
 content_in_order (elements.comp n k ps es) c is own = absurd (cc)
 content_in_order (elements.list marked es) c is own = absurd (cc)
 content_in_order (elements.boundary k f es) c is own = absurd (cc)
+content_in_order (elements.catcher k f es) c is own = absurd (cc)
 content_in_order (elements.provider n k x es) c is own = absurd (cc)
 
 mutual

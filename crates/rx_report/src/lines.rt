@@ -49,6 +49,16 @@ impl Draft {
         self.put(b"\n")
     }
 
+    /// A value that an error boundary caught.
+    pub fn put_caught_line(&mut self, counts: bool, value: Int) -> Result<(), AllocError>
+        ensures put { OnOk result (self.new.begun ≡ self.old.begun ++ report.line_text counts (report.caught value) ++ 10 ∷ []) }
+        ensures done { self.new.done ≡ self.old.done }
+    {
+        self.put(b"caught ")?;
+        self.put_int(value)?;
+        self.put(b"\n")
+    }
+
     // What is done with an effect.
     fn put_change(&mut self, passive: bool, created: bool) -> Result<(), AllocError>
         ensures put { OnOk result (self.new.begun ≡ self.old.begun ++ report.phase_text passive ++ report.change_text created) }

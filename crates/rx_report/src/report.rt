@@ -113,6 +113,16 @@ impl Report {
         self.draft.end(written)
     }
 
+    /// A value that an error boundary caught (react.dev, Catching rendering errors with an error boundary).
+    pub fn caught_line(&mut self, value: Int) -> Result<(), AllocError>
+        ensures written { OnOk result (self.new ≡ report.with_line self.old (report.caught value)) }
+        ensures unchanged { OnErr result (self.new ≡ self.old) }
+    {
+        self.draft.begin();
+        let written = self.draft.put_caught_line(self.counts, value);
+        self.draft.end(written)
+    }
+
     /// An effect that was created or destroyed.
     pub fn log_line(&mut self, line: &LogLine) -> Result<(), AllocError>
         ensures written { OnOk result (self.new ≡ report.with_line self.old (report.logged line.now)) }

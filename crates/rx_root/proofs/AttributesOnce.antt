@@ -103,6 +103,11 @@ mutual
         slot_once s false f (left _ (last_key_mentions s.values second k) (right (first_key_mentions s.values second k) _ first)),
         slots_once s false ss (right (first_key_mentions s.values second k ++ (slot_mentions s false f ++ last_key_mentions s.values second k)) (slots_mentions s false ss) h),
       )
+  slot_once s second (syntax.catcher k f w ss) h =
+      let first = left (first_key_mentions s.values second k ++ (slot_mentions s false f ++ last_key_mentions s.values second k)) (slots_mentions s false ss) h in (
+        slot_once s false f (left _ (last_key_mentions s.values second k) (right (first_key_mentions s.values second k) _ first)),
+        slots_once s false ss (right (first_key_mentions s.values second k ++ (slot_mentions s false f ++ last_key_mentions s.values second k)) (slots_mentions s false ss) h),
+      )
   slot_once s second (syntax.provider n k e w ss) h =
       slots_once s false ss (λ x i. h x (inr (IsIn-right _ (first_key_mentions s.values second k ++ (expr_mentions s.values e ++ last_key_mentions s.values second k)) _ i)))
   slot_once s second (syntax.enclosed b t) h = slot_once s second t h

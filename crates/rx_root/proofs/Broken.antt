@@ -60,7 +60,7 @@ any_err (Err e) A h = h
 -- Giving up a render
 
 pub gave_up_same : (v : Rooted) → GaveUp v v
-gave_up_same v = record { program = refl; current = refl; keeps = λ st done h. h; shows = λ tree passive h. h; rest = refl }
+gave_up_same v = record { program = refl; current = refl; seen = refl; keeps = λ st done h. h; shows = λ tree passive h. h; rest = refl }
 
 pub gave_up_as : (v w : Rooted) → w ≡ v → GaveUp v w
 gave_up_as v w is = subst (λ (z : Rooted). GaveUp v z) (sym is) (gave_up_same v)
@@ -72,6 +72,7 @@ gave_up_units v w is up =
     record {
       program = up.program;
       current = up.current;
+      seen = up.seen;
       keeps = up.keeps;
       shows = λ tree passive h. subst (λ (x : Shown). Shows tree passive x) (sym shown) h;
       rest = is ∙ ap (λ (x : Shown). record v { rendering = w.rendering; shown = x }) (sym shown);
@@ -84,6 +85,7 @@ gave_up_after v m w is on up =
     record {
       program = up.program ∙ on.program;
       current = up.current ∙ on.current;
+      seen = up.seen ∙ on.seen;
       keeps = keeps_join v.rendering m.rendering w.rendering on.cut on.keeps up.keeps;
       shows = λ tree passive h. up.shows tree passive (subst (λ (x : Shown). Shows tree passive x) (sym shown) h);
       rest = up.rest ∙ ap (λ (z : Rooted). record z { rendering = w.rendering; shown = w.shown }) is;
@@ -99,6 +101,7 @@ numbered_gave_up v x w is up =
     record {
       program = up.program ∙ ap (λ (r : Rendering). r.program) e;
       current = up.current ∙ ap (λ (r : Rendering). r.trees.current) e;
+      seen = up.seen ∙ ap (λ (r : Rendering). r.seen) e;
       keeps = subst (λ (r : Rendering). KeepsHooks r w.rendering) e up.keeps;
       shows = λ tree passive h. up.shows tree passive (subst (λ (y : Shown). Shows tree passive y) (sym shown) h);
       rest = ap (λ (z : Rooted). record z { numbers = v.numbers }) up.rest
@@ -112,6 +115,7 @@ unprepared_gave_up v w is shows =
     record {
       program = ap (λ (r : Rendering). r.program) e;
       current = ap (λ (r : Rendering). r.trees.current) e;
+      seen = ap (λ (r : Rendering). r.seen) e;
       keeps = subst (λ (r : Rendering). KeepsHooks v.rendering r) (sym e) (λ st done h. h);
       shows = shows;
       rest = is ∙ ap (λ (r : Rendering). record v { rendering = r; shown = w.shown }) (sym e);
@@ -127,6 +131,7 @@ unsettled_gave_up v x w is shows settled keeps =
     record {
       program = ap (λ (r : Rendering). r.program) f ∙ ap (λ (r : Rendering). r.program) e;
       current = ap (λ (r : Rendering). r.trees.current) f ∙ ap (λ (r : Rendering). r.trees.current) e;
+      seen = ap (λ (r : Rendering). r.seen) f ∙ ap (λ (r : Rendering). r.seen) e;
       keeps = subst (λ (r : Rendering). KeepsHooks r w.rendering) e keeps;
       shows = λ tree passive h. subst (λ (y : Shown). Shows tree passive y) (sym shown) (shows tree passive h);
       rest = settled ∙ ap (λ (r : Rendering). record x { rendering = r }) (sym f) ∙ ap (λ (z : Rooted). record z { rendering = w.rendering }) is
@@ -135,13 +140,14 @@ unsettled_gave_up v x w is shows settled keeps =
 
 -- a root stands for a state but for its render
 pub but_for : (p : Program) (s : State) (asks : Rooted → Type 0) (v : Rooted) (w : Rendering) (shown : Shown) → StandsBy p s asks v
-    → w.program ≡ v.rendering.program → w.trees.current ≡ v.rendering.trees.current → KeepsAllHooks p s (kept_hooks w.hooks) → Shows s.tree s.passive shown
+    → w.program ≡ v.rendering.program → w.trees.current ≡ v.rendering.trees.current → w.seen ≡ v.rendering.seen → KeepsAllHooks p s (kept_hooks w.hooks) → Shows s.tree s.passive shown
     → StandsButForRender p s (record v { rendering = w; shown = shown })
-but_for p s asks v w shown h program current keeps shows =
+but_for p s asks v w shown h program current seen keeps shows =
     record {
       reached = h.reached;
       program = program ∙ h.program;
       current = subst (IsTreeOf s.tree) (sym current) h.current;
+      seen = seen ∙ h.seen;
       numbered = (h.numbered.0, subst (IsTreeOf h.numbered.0) (sym current) h.numbered.1, h.numbered.2);
       keeps = keeps;
       below = h.below;
@@ -166,7 +172,7 @@ gave_up_but p s g v w h up =
     let after : KeepsAllHooks p s (kept_hooks w.rendering.hooks) =
     subst (λ (q : Program). KeepsAllHooks q s (kept_hooks w.rendering.hooks)) (up.program ∙ h.program) (up.keeps s done before) in
     subst (λ (z : Rooted). StandsButForRender p s z) (sym up.rest)
-    (but_for p s _ v w.rendering w.shown h up.program up.current after (up.shows s.tree s.passive h.shows))
+    (but_for p s _ v w.rendering w.shown h up.program up.current up.seen after (up.shows s.tree s.passive h.shows))
 
 -- a root whose hooks are settled, and that is about to show another tree
 pub prepared_rest : (v i w : Rooted) (shown : Shown) → i ≡ v → w ≡ record i { shown = shown; rendering = with_hooks i.rendering w.rendering.hooks }
@@ -225,16 +231,16 @@ none_broken p s v new log written h is same =
     record {
       stretch = silent s;
       asked = inl refl;
-      stands = subst (λ (z : Rooted). StandsButForRender p s z) (sym is) (but_for p s _ v v.rendering v.shown h refl refl h.keeps h.shows);
+      stands = subst (λ (z : Rooted). StandsButForRender p s z) (sym is) (but_for p s _ v v.rendering v.shown h refl refl refl h.keeps h.shows);
       written = same ∙ sym (with_none log);
     }
 
 -- the pending passive effects have run
 pub passive_broken : (p : Program) (s : State) (v new : Rooted) (w : Rendering) (shown : Shown) (log written : Written) → Stands p s v → s.event ≡ no_event
-    → new ≡ record v { rendering = w; shown = shown } → w.program ≡ v.rendering.program → w.trees.current ≡ v.rendering.trees.current → w.hooks ≡ v.rendering.hooks
+    → new ≡ record v { rendering = w; shown = shown } → w.program ≡ v.rendering.program → w.trees.current ≡ v.rendering.trees.current → w.seen ≡ v.rendering.seen → w.hooks ≡ v.rendering.hooks
     → shown ≡ record v.shown { passive = no_passive } → written ≡ with_lines log (passive_lines v.shown.passive)
     → HasBroken p (λ r. (r ≡ silent s) ⊎ (r ≡ passive_run s)) new log written
-passive_broken p s v new w shown log written h none is program current hooks is_shown is_written =
+passive_broken p s v new w shown log written h none is program current seen hooks is_shown is_written =
     let t : State = (passive_run s).after in
     let keeps : KeepsAllHooks p t (kept_hooks w.hooks) =
     subst (λ (x : Kept). KeepsAllHooks p t (kept_hooks x)) (sym hooks)
@@ -246,6 +252,7 @@ passive_broken p s v new w shown log written h none is program current hooks is_
         reached = reached_passive p s h.reached none;
         program = program ∙ h.program;
         current = subst (IsTreeOf s.tree) (sym current) h.current;
+        seen = seen ∙ h.seen;
         numbered = (h.numbered.0, subst (IsTreeOf h.numbered.0) (sym current) h.numbered.1, h.numbered.2);
         keeps = keeps;
         below = h.below;
@@ -304,7 +311,7 @@ discarded_stands : (p : Program) (s : State) (v : Rooted) (w : Rendering) → St
 discarded_stands p s v w h is =
     subst (λ (x : Rendering). Stands p (without_render s) (record v { rendering = x })) (sym is)
     (subst (λ (sch : Schedule). Stands p (without_render s) (record v { rendering = discarded v.rendering; schedule = sch })) (sym h.schedule)
-    (moved_stands p s _ v s.schedule None (discarded v.rendering) h (discards-reach p s h.reached) refl refl h.keeps (record { over = refl; empty = refl })))
+    (moved_stands p s _ v s.schedule None (discarded v.rendering) h (discards-reach p s h.reached) refl refl refl h.keeps (record { over = refl; empty = refl })))
 
 -- so the turn breaks off
 pub turn_breaks : (p : Program) (s : State) (x v : Rooted) (w : Rendering) (log new : Written) (steps counted : ℕ) → v ≡ x → HasBroken p (λ r. (choice_of s ≢ choice.None) × HasBegun s r) x log new

@@ -57,6 +57,7 @@ after_commit_of s g tree w shown v =
 pub record IsCommitted (p : Program) (s : State) (g : Progress) (tree : Node) (w : Rendering) : Type 0 where
   pub program : w.program ≡ p
   pub current : IsTreeOf (Some (numbered s.numbers tree).1) w.trees.current
+  pub seen : w.seen ≡ g.cut.resolutions
   pub numbered_all : IsAllNumbered w.trees
   pub keeps : KeepsAllHooks p (committed_state s g (numbered s.numbers tree)) (kept_hooks w.hooks)
   pub idle : HasNoRender w
@@ -72,6 +73,7 @@ committed_with p s asks g tree passive v w shown h done reached c shows =
       reached = reached;
       program = c.program;
       current = c.current;
+      seen = c.seen;
       numbered = c.numbered_all;
       keeps = all_stay st (record st { passive = passive }) refl refl p (kept_hooks w.hooks) (kept_hooks w.hooks) refl (λ n. refl) c.keeps;
       below = links_committed s g tree h.below;
@@ -169,7 +171,7 @@ module _ (p : Program) (s : State) (g : Progress) (tree : Node) (v x : Rooted) (
 pub record HasCommitted (s : State) (g : Progress) (tree : Node) (x : Rooted) (w : Rendering) (shown : Shown) (y : Rooted) (last : Rendering) (schedule : Schedule) (kept : List Kept) : Type 0 where
   pub settled : w ≡ with_hooks x.rendering w.hooks
   pub is_shown : y ≡ record x { rendering = w; shown = shown; commits = x.commits + 1 }
-  pub is_last : last ≡ record y.rendering { trees = record { current = grafted y.rendering.trees.draft; draft = taken shapes.none }; at = Over }
+  pub is_last : last ≡ record y.rendering { trees = record { current = grafted y.rendering.trees.draft; draft = taken shapes.none }; at = Over; seen = y.rendering.cut.resolutions }
   pub lanes : Lanes
   pub still : Lanes
   pub is_schedule : schedule ≡ after_commit y.schedule lanes still y.now
@@ -180,17 +182,18 @@ pub record HasCommitted (s : State) (g : Progress) (tree : Node) (x : Rooted) (w
 module _ (p : Program) (s : State) (g : Progress) (tree : Node) (v x : Rooted) (h : StandsAtEnd p s g tree v) (n : HasNumbered p s g tree v x) (w : Rendering) (shown : Shown) (y : Rooted)
     (last : Rendering) (schedule : Schedule) (kept : List Kept) (c : HasCommitted s g tree x w shown y last schedule kept) where
   -- the rendering at the end
-  last_is : last ≡ record (with_hooks x.rendering w.hooks) { trees = record { current = grafted x.rendering.trees.draft; draft = taken shapes.none }; at = Over }
+  last_is : last ≡ record (with_hooks x.rendering w.hooks) { trees = record { current = grafted x.rendering.trees.draft; draft = taken shapes.none }; at = Over; seen = x.rendering.cut.resolutions }
   last_is =
       c.is_last
-      ∙ ap (λ (z : Rooted). record z.rendering { trees = record { current = grafted z.rendering.trees.draft; draft = taken shapes.none }; at = Over }) c.is_shown
-      ∙ ap (λ (z : Rendering). record z { trees = record { current = grafted z.trees.draft; draft = taken shapes.none }; at = Over }) c.settled
+      ∙ ap (λ (z : Rooted). record z.rendering { trees = record { current = grafted z.rendering.trees.draft; draft = taken shapes.none }; at = Over; seen = z.rendering.cut.resolutions }) c.is_shown
+      ∙ ap (λ (z : Rendering). record z { trees = record { current = grafted z.trees.draft; draft = taken shapes.none }; at = Over; seen = z.cut.resolutions }) c.settled
 
   last_committed : KeepsAllHooks x.rendering.program (committed_state s g (numbered s.numbers tree)) (kept_hooks w.hooks) → IsCommitted p s g tree last
   last_committed keeps =
       subst (λ (z : Rendering). IsCommitted p s g tree z) (sym last_is) (record {
         program = ap (λ (z : Rooted). z.rendering.program) n.rest ∙ h.program;
         current = n.there;
+        seen = ap (λ (z : Rooted). z.rendering.cut.resolutions) n.rest ∙ ap (λ k. k.resolutions) h.progress.renders.cut;
         numbered_all = (Some (numbered s.numbers tree).1, n.there, numbering_numbers s.numbers tree);
         keeps = subst (λ (q : Program). KeepsAllHooks q (committed_state s g (numbered s.numbers tree)) (kept_hooks w.hooks)) (ap (λ (z : Rooted). z.rendering.program) n.rest ∙ h.program) keeps;
         idle = record { over = refl; empty = refl };

@@ -111,6 +111,7 @@ module _ (p : Program) (bounded : IsBounded p) (s : State) (g : Progress) (slice
           reached = h.stands.reached;
           program = program;
           current = subst (IsTreeOf s.tree) (sym h.onward.current) h.stands.current;
+          seen = h.onward.seen ∙ h.stands.seen;
           numbered = (h.stands.numbered.0, subst (IsTreeOf h.stands.numbered.0) (sym h.onward.current) h.stands.numbered.1, h.stands.numbered.2);
           keeps = still.keeps;
           below = h.stands.below;
@@ -145,9 +146,9 @@ module _ (p : Program) (bounded : IsBounded p) (s : State) (g : Progress) (slice
       let on : Progress = gone_on g used (w.bodies - g.bodies) in
       let t : State = record s { progress = Some on } in
       subst (λ (sch : Schedule). Stands p t (record v { rendering = w; schedule = sch })) (sym h.stands.schedule)
-      (moved_stands p s _ v s.schedule (Some on) w h.stands reached h.onward.program h.onward.current still.keeps
+      (moved_stands p s _ v s.schedule (Some on) w h.stands reached h.onward.program h.onward.current h.onward.seen still.keeps
       (record {
-        renders = renders_same p s t on w refl refl refl (renders_as p s g on w refl refl still);
+        renders = renders_same p s t on w refl refl refl refl (renders_as p s g on w refl refl still);
         units = units_are;
         bodies = omega (arith, bodies_rise);
         left = some;

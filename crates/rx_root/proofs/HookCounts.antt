@@ -1,11 +1,12 @@
 -- Each instance of a tree of a program has a value at mount for each hook of its component.
-use Rattle.std.proofs.Common.{◌≡◌, ℕ, ℤ, zero, suc, ◌+◌, true, Option, Some, None, List, [], ◌∷◌, ◌++◌, length, map, refl, sym, ap, ◌∙◌, subst, arith}
-use Rattle.std.specs.Prelude.{filter_map, nat_eq, option_and_then, position, slice_get, slice_set}
+use Rattle.std.proofs.Common.{◌≡◌, ℕ, ℤ, zero, suc, ◌+◌, true, Option, Some, None, Bool, false, List, [], ◌∷◌, ◌++◌, length, map, refl, sym, ap, ◌∙◌, subst, arith}
+use Rattle.std.specs.Prelude.{filter_map, if◌then◌else◌, nat_eq, option_and_then, position, slice_get, slice_set}
 use Rattle.std.specs.List.{cons_option, zip}
 use Rattle.std.specs.Option.{option_flatten, option_map, option_map_or}
 use Rattle.std.proofs.lemmas.Bool.Decides.{nat_tests}
 use Rattle.std.proofs.lemmas.List.{length-append}
-use Rattle.rx_ast.specs.Syntax.{Component, Program, Statement, body_slots, constant, context, effect, reducer, state, transition, use_resource}
+use Rattle.rx_base.specs.Arithmetic.{is_zero}
+use Rattle.rx_ast.specs.Syntax.{Component, Program, Statement, body_slots, constant, context, effect, reducer, state, throw_if, transition, use_resource}
 use Rattle.rx_rules.specs.Names.{component_at, hook_in, hooks_of}
 use Rattle.rx_elem.specs.Compare.{node_at, old_nodes}
 use Rattle.rx_elem.specs.Elements.{Element, Elements, Kind, kind_of, listed, of_comp, same_kind}
@@ -13,13 +14,15 @@ use Rattle.rx_elem.specs.Elements as elements
 use Rattle.rx_elem.specs.Identity.{Child, identified, identities_after, is_same_child}
 use Rattle.rx_elem.specs.Numbers.{Numbers, numbered, numbered_host, numbered_in, numbered_instance, numbered_mark}
 use Rattle.rx_elem.specs.Spots.{Around, Mounted, Spot, around_children, at_root, mounted, mounted_as, mounted_in, spot_mark, spots, spots_in}
-use Rattle.rx_elem.specs.Trees.{Forest, Instance, Mark, Node, child, children_if, element_of, elements_in, fallback_if, instance_in, node, none, of_boundary, of_host, of_instance, places, plain, vacant}
+use Rattle.rx_elem.specs.Trees.{Forest, Instance, Mark, Node, child, children_if, element_of, elements_in, fallback_if, instance_in, is_caught, node, none, of_boundary, of_catcher, of_host, of_instance, old_caught, places, plain, vacant}
+use Rattle.rx_catch.specs.declared.state.CatchState.TheVariants.{Caught}
 use Rattle.rx_elem.specs.declared.effect.ContextRead.{ContextRead}
 use Rattle.rx_elem.specs.declared.effect.VersionRead.{VersionRead}
 use Rattle.rx_elem.specs.declared.effect.EffectRecord.{EffectRecord}
 use Rattle.rx_elem.proofs.Equality.{same_kind-self}
-use Rattle.rx_meaning.specs.Body.{Body, Frame, Inputs, Taken, and_then, body_of, finished, opening_frame, ready, stopped_at, take_all, take_one, taken, wait, with_hook, with_resource}
-use Rattle.rx_meaning.specs.Fresh.{Contexts, IsTree, Part, Place, Places, Sight, all_made, before, default_contexts, depth_limit, empty, fresh, given, inputs_at, instance_after, made, none_yet, old_host, old_instance, one_waits, over, over_boundary, part, place, place_of, render_all, render_part, rendered, root_element, shape_of, shape_of_body, shape_of_component, waits}
+use Rattle.rx_meaning.specs.Expressions.{value_in}
+use Rattle.rx_meaning.specs.Body.{Body, Frame, Inputs, Taken, and_then, body_of, finished, opening_frame, ready, stopped_at, take_all, take_one, taken, throw, thrown, wait, with_hook, with_resource, with_throw}
+use Rattle.rx_meaning.specs.Fresh.{Contexts, IsTree, Part, Place, Places, Sight, all_made, before, default_contexts, depth_limit, empty, fresh, given, inputs_at, instance_after, made, none_yet, old_host, old_instance, one_throws, one_waits, over, over_boundary, over_catcher, part, place, place_of, render_all, render_part, rendered, root_element, shape_of, shape_of_body, shape_of_catcher, shape_of_component, throws, waits}
 use Rattle.commit_laws.proofs.QuietTree.{root_stays}
 use Rattle.replay_laws.proofs.Rendering.{IfSameKind, kind_found}
 
@@ -36,6 +39,7 @@ abbrev MarkHas : Program → Element → Mark → Type 0
 MarkHas p e (of_instance i) = (kind_of e ≡ of_comp i.component) × HasHooks p i.component i.initials
 MarkHas p e (of_host h) = Unit {0}
 MarkHas p e (of_boundary b) = Unit {0}
+MarkHas p e (of_catcher c) = Unit {0}
 MarkHas p e plain = Unit {0}
 
 -- each instance of a tree has its hooks
@@ -58,16 +62,19 @@ abbrev PlaceHas : Program → Place → Type 0
 PlaceHas p empty = Unit {0}
 PlaceHas p (made n) = TreeHas p n
 PlaceHas p (waits a) = Unit {0}
+PlaceHas p (throws x) = Unit {0}
 
 abbrev PlacesHave : Program → Places → Type 0
 PlacesHave p (all_made ns) = AllHave p ns
 PlacesHave p (one_waits a) = Unit {0}
+PlacesHave p (one_throws x) = Unit {0}
 
 -- ---- a body at mount
 
 -- how many values the statements that keep a state give
 abbrev Grown : Taken → ℕ → Type 0
 Grown (stopped_at r v) n = Unit {0}
+Grown (thrown x) n = Unit {0}
 Grown (taken f) n = length f.initials ≡ n
 
 hook_grown : (states : Option (List ℤ)) (name : _) (v : ℤ) (f : Frame) → states ≡ None → length (with_hook states name v f).initials ≡ length f.initials + 1
@@ -77,6 +84,13 @@ hook_grown (Some states) name v f e = cc
 resource_grown : (name : _) (r v : ℕ) (x : Option ℤ) (f : Frame) → Grown (with_resource name r v x f) (length f.initials)
 resource_grown name r v None f = tt
 resource_grown name r v (Some x) f = refl
+
+throw_grown : (x : ℤ) (f : Frame) → Grown (with_throw x f) (length f.initials)
+throw_grown x f = go (is_zero x)
+  where
+    go : (b : Bool) → Grown (if b then taken f else thrown x) (length f.initials)
+    go true = refl
+    go false = tt
 
 -- one for a statement that keeps a state
 abbrev one_if_hook : Statement → ℕ
@@ -92,6 +106,9 @@ one_grown p i (use_resource name resource) f new =
     subst (Grown (with_resource name _ _ _ f)) e (resource_grown name _ _ _ f)
 one_grown p i (constant name e) f new = let e : length f.initials ≡ length f.initials + 0 = omega arith in e
 one_grown p i (effect layout label es) f new = let e : length f.initials ≡ length f.initials + 0 = omega arith in e
+one_grown p i (throw_if e) f new =
+    let same : length f.initials ≡ length f.initials + 0 = omega arith in
+    subst (Grown (with_throw (value_in p f.env e) f)) same (throw_grown (value_in p f.env e) f)
 
 counted : (t : Statement) (ts : List Statement) → length (filter_map hook_in (t ∷ ts)) ≡ one_if_hook t + length (filter_map hook_in ts)
 counted t ts = go (hook_in t)
@@ -107,6 +124,7 @@ all_grown p i (t ∷ ts) f new = go (take_one p i t f) (one_grown p i t f new) (
     go : (x : Taken) → Grown x (length f.initials + one_if_hook t) → ((g : Frame) → Grown (take_all p i ts g) (length g.initials + length (filter_map hook_in ts)))
         → Grown (and_then x (take_all p i ts)) (length f.initials + length (filter_map hook_in (t ∷ ts)))
     go (stopped_at r v) h k = tt
+    go (thrown x) h k = tt
     go (taken g) h k =
         let e : length g.initials + length (filter_map hook_in ts) ≡ length f.initials + length (filter_map hook_in (t ∷ ts)) = omega (arith, h, counted t ts) in
         subst (Grown (take_all p i ts g)) e (k g)
@@ -121,6 +139,7 @@ body_grown p c i es effects initials reads versions new same =
     go : (x : Taken) → Grown x (0 + length (filter_map hook_in c.statements)) → finished p i (body_slots c.body) x ≡ ready es effects initials reads versions
         → length initials ≡ length (hooks_of c)
     go (stopped_at r v) h e = absurd (cc e)
+    go (thrown x) h e = absurd (cc e)
     go (taken f) h e = let equal : f.initials ≡ initials = cc in omega (arith, h, ap length equal)
 
 -- ---- the old nodes of a list
@@ -165,9 +184,12 @@ fallback_has p (Some (node e m ns fs)) h = h.2
 before_has : (p : Program) (x : Place) (xs : Places) → PlaceHas p x → PlacesHave p xs → PlacesHave p (before x xs)
 before_has p empty (all_made ns) h k = k
 before_has p empty (one_waits a) h k = tt
+before_has p empty (one_throws x) h k = tt
 before_has p (made n) (all_made ns) h k = (h, k)
 before_has p (made n) (one_waits a) h k = tt
+before_has p (made n) (one_throws x) h k = tt
 before_has p (waits a) xs h k = tt
+before_has p (throws x) xs h k = tt
 
 -- the places below have their hooks, whatever they are rendered against
 abbrev BelowHas : ℕ → Sight → Type 0
@@ -184,13 +206,25 @@ list_has : (n : ℕ) (s : Sight) → BelowHas n s → (q : Part) → AllHave s.p
 list_has n s below q h = all_have n s below q.contexts q.elements (old_nodes q.old q.elements) (all_old s.program q.old h [] q.elements)
 
 over_has : (p : Program) (e : Element) (m : Mark) (xs : Places) → MarkHas p e m → PlacesHave p xs → PlaceHas p (over e m xs)
-over_has p e m (all_made ns) h k = (h, k, tt)
+over_has p e m (all_made ns) h k = by_test (is_caught m)
+  where
+    by_test : (q : Bool) → TreeHas p (if q then node e m none ns else node e m ns none)
+    by_test true = (h, tt, k)
+    by_test false = (h, k, tt)
 over_has p e m (one_waits a) h k = tt
+over_has p e m (one_throws x) h k = tt
 
 boundary_has : (p : Program) (e : Element) (old : Option Node) (xs ys : Places) → IfHas p old → PlacesHave p xs → PlacesHave p ys → PlaceHas p (over_boundary e old xs ys)
 boundary_has p e old (all_made ns) ys h k l = (tt, k, tt)
 boundary_has p e old (one_waits a) (all_made fs) h k l = (tt, children_have p old h, l)
 boundary_has p e old (one_waits a) (one_waits b) h k l = tt
+boundary_has p e old (one_waits a) (one_throws x) h k l = tt
+boundary_has p e old (one_throws x) ys h k l = tt
+
+catch_has : (p : Program) (e : Element) (xs ys : Places) → PlacesHave p xs → PlacesHave p ys → PlaceHas p (over_catcher e xs ys)
+catch_has p e (all_made ns) ys k l = (tt, k, tt)
+catch_has p e (one_waits a) ys k l = tt
+catch_has p e (one_throws x) ys k l = over_has p e (of_catcher (Caught x)) ys tt l
 
 -- ---- an instance that goes on, and a new one
 
@@ -205,6 +239,7 @@ old_mark_has p c e (of_instance j) i h same at =
     subst (λ (k : Instance). HasHooks p c k.initials) one (subst (λ n. HasHooks p n j.initials) comp h.1)
 old_mark_has p c e (of_host k) i h same at = cc
 old_mark_has p c e (of_boundary b) i h same at = cc
+old_mark_has p c e (of_catcher k) i h same at = cc
 old_mark_has p c e plain i h same at = cc
 
 old_instance_has : (p : Program) (c : ℕ) (key : _) (props : List ℤ) (kids : Elements) (old : Option Node) (i : Instance) → IfHas p old
@@ -228,6 +263,7 @@ module _ (n : ℕ) (s : Sight) (below : BelowHas n s) where
       with_body : (d : Component) → component_at s.program c ≡ Some d → (b : Body) → body_of s.program d (inputs_at s cs props kids (old_instance old)) ≡ b
           → PlaceHas s.program (place_of (rendered n s) (elements.comp c key props kids) old (shape_of_body cs c old b))
       with_body d there (wait r v) is = tt
+      with_body d there (throw x) is = tt
       with_body d there (ready es effects initials reads versions) is =
           over_has s.program (elements.comp c key props kids) (of_instance (instance_after c (old_instance old) initials reads versions effects))
           (render_part (rendered n s) (part cs es (children_if old)))
@@ -243,6 +279,14 @@ module _ (n : ℕ) (s : Sight) (below : BelowHas n s) where
   one_has : (e : Element) (m : Mark) (q : Part) → MarkHas s.program e m → AllHave s.program q.old → PlaceHas s.program (over e m (render_part (rendered n s) q))
   one_has e m q h k = over_has s.program e m (render_part (rendered n s) q) h (list_has n s below q k)
 
+  -- an error boundary, by what its old node had caught
+  catcher_has : (cs : Contexts) (key : _) (f : Element) (es : Elements) (old : Option Node) → IfHas s.program old → (caught : Option ℤ)
+      → PlaceHas s.program (place_of (rendered n s) (elements.catcher key f es) old (shape_of_catcher cs f es old caught))
+  catcher_has cs key f es old h None =
+      catch_has s.program (elements.catcher key f es) (render_part (rendered n s) (part cs (listed es) (children_if old))) (render_part (rendered n s) (part cs (f ∷ []) none))
+      (list_has n s below (part cs (listed es) (children_if old)) (children_have s.program old h)) (list_has n s below (part cs (f ∷ []) none) tt)
+  catcher_has cs key f es old h (Some x) = one_has (elements.catcher key f es) (of_catcher (Caught x)) (part cs (f ∷ []) (fallback_if old)) tt (fallback_has s.program old h)
+
   place_has : (cs : Contexts) (e : Element) (old : Option Node) → IfHas s.program old → IfSameKind e old → PlaceHas s.program (place (rendered n s) s cs e old)
   place_has cs elements.null old h same = tt
   place_has cs (elements.text t) old h same = one_has (elements.text t) (of_host (old_host old)) (part cs [] none) tt tt
@@ -255,6 +299,7 @@ module _ (n : ℕ) (s : Sight) (below : BelowHas n s) where
       (render_part (rendered n s) (part cs (f ∷ []) (fallback_if old))) h
       (list_has n s below (part cs (listed es) (children_if old)) (children_have s.program old h))
       (list_has n s below (part cs (f ∷ []) (fallback_if old)) (fallback_has s.program old h))
+  place_has cs (elements.catcher key f es) old h same = catcher_has cs key f es old h (old_caught old)
   place_has cs (elements.provider c key x es) old h same =
       one_has (elements.provider c key x es) plain (part (slice_set cs c x) (listed es) (children_if old)) tt (children_have s.program old h)
 
@@ -278,6 +323,7 @@ mark_numbered p e c (of_host k) h = go k
     go None = tt
     go (Some n) = tt
 mark_numbered p e c (of_boundary b) h = tt
+mark_numbered p e c (of_catcher k) h = tt
 mark_numbered p e c plain h = tt
 
 mutual
@@ -346,6 +392,7 @@ mounted_has p a e (of_instance i) y h at = go i.number at
         let same : z ≡ y = cc in subst (λ (w : Mounted). HasHooks p w.component w.initials) same h.1
 mounted_has p a e (of_host k) y h at = cc
 mounted_has p a e (of_boundary b) y h at = cc
+mounted_has p a e (of_catcher c) y h at = cc
 mounted_has p a e plain y h at = cc
 
 listed_has : (p : Program) (xs : List Spot) → SpotsHave p xs → (k : ℕ) (m : Mounted) → slice_get (filter_map mounted_in xs) k ≡ Some m → HasHooks p m.component m.initials

@@ -1,7 +1,7 @@
 -- A commit gives no more numbers than its tree has nodes.
 use Rattle.std.proofs.Common.{◌≡◌, ℕ, ◌+◌, ◌≤◌, ◌++◌, length, arith, Option, Some, None}
 use Rattle.std.proofs.lemmas.List.{length-append}
-use Rattle.rx_elem.specs.Trees.{Instance, Mark, of_instance, of_host, of_boundary, plain, Node, node, Forest, none, vacant, child}
+use Rattle.rx_elem.specs.Trees.{Instance, Mark, of_instance, of_host, of_boundary, of_catcher, plain, Node, node, Forest, none, vacant, child}
 use Rattle.rx_elem.specs.Spots.{Around, around_children, at_root, spots, spots_in, node_count}
 use Rattle.rx_elem.specs.Numbers.{Numbers, numbered_instance, numbered_host, numbered_mark, numbered, numbered_in}
 
@@ -21,6 +21,7 @@ mark_grows : (next : Numbers) (m : Mark) → Grew 1 next (numbered_mark next m).
 mark_grows next (of_instance i) = instance_grows next i i.number
 mark_grows next (of_host n) = host_grows next n
 mark_grows next (of_boundary b) = (omega arith, omega arith)
+mark_grows next (of_catcher c) = (omega arith, omega arith)
 mark_grows next plain = (omega arith, omega arith)
 
 mutual

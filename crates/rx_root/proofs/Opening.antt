@@ -50,14 +50,15 @@ opening_root rd shown schedule kept event later =
     }
 
 -- it stands for the opening state
-pub opening_stands : (p : Program) (rd : Rendering) (shown : Shown) (schedule : Schedule) (kept : List Kept) (event : Event) (later : Lanes) → rd.program ≡ p → rd.trees.current ≡ none
+pub opening_stands : (p : Program) (rd : Rendering) (shown : Shown) (schedule : Schedule) (kept : List Kept) (event : Event) (later : Lanes) → rd.program ≡ p → rd.trees.current ≡ none → rd.seen ≡ 0
     → KeepsAllHooks rd.program opening (kept_hooks rd.hooks) → HasNoRender rd → Shows None no_passive shown → schedule ≡ opening_schedule → kept ≡ replicate (length (resources p)) kept_of.opening → event ≡ no_event → LinksBelow opening
     → Stands p opening (opening_root rd shown schedule kept event later)
-opening_stands p rd shown schedule kept event later same current keeps idle shows first are ends below =
+opening_stands p rd shown schedule kept event later same current seen keeps idle shows first are ends below =
     record {
       reached = opening_reached p;
       program = same;
       current = no_tree rd.trees.current current;
+      seen = seen;
       numbered = (None, no_tree rd.trees.current current, tt);
       keeps = subst (λ q. KeepsAllHooks q opening (kept_hooks rd.hooks)) same keeps;
       below = below;

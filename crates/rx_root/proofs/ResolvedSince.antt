@@ -174,7 +174,7 @@ pub waits_seen : (p : Program) (s : State) (g : Progress) (waits : Awaits) (seen
     → in_versions (λ r. slice_index_or seen.versions r 0) waits ≡ in_versions (seen_in s g) waits
 waits_seen p s g waits seen is declared =
     ap (λ (f : ℕ → ℕ). in_versions f waits)
-    (λ i r. (ap (λ (x : Resources). slice_index_or x.versions r 0) is ∙ version_listed (sight_of p s g) (asks_for_declared p s.journal g.lanes g.cut declared) r) i)
+    (λ i r. (ap (λ (x : Resources). slice_index_or x.versions r 0) is ∙ version_listed (sight_of p s g) (asks_for_declared p s.journal g.lanes g.cut s.seen declared) r) i)
 
 module _ (p : Program) (s : State) (g : Progress) (waits : Awaits) where
   -- a render of which something got its value since is not suspended

@@ -298,8 +298,8 @@ commit_declared p j lanes cut new h =
 -- ---- what a render sees
 
 -- no other resource is asked for
-pub asks_for_declared : (p : Program) (j : Journal) (lanes : Lanes) (cut : Cut) → AreDeclared p j → AsksForDeclared (record { program = p; journal = j; lanes = lanes; cut = cut })
-asks_for_declared p j lanes cut h r late =
+pub asks_for_declared : (p : Program) (j : Journal) (lanes : Lanes) (cut : Cut) (seen : ℕ) → AreDeclared p j → AsksForDeclared (record { program = p; journal = j; lanes = lanes; cut = cut; seen = seen })
+asks_for_declared p j lanes cut seen h r late =
     let a = seen_asked lanes cut j r in
     let b = h.asked r late in
     omega (arith, a, b)
@@ -344,8 +344,8 @@ module _ (p : Program) (j : Journal) (linked : List Linked) (kept : List Kept) (
   at_zero g r = let e : r ≡ 0 + r = omega arith in ap g e
 
   -- a render that starts now sees what is kept
-  pub seen_is : seen_of lanes (cut_now j) kept ≡ resources_by (record { program = p; journal = j; lanes = lanes; cut = cut_now j })
-  seen_is = λ i. record {
+  pub seen_is : (seen : ℕ) → seen_of lanes (cut_now j) kept ≡ resources_by (record { program = p; journal = j; lanes = lanes; cut = cut_now j; seen = seen })
+  seen_is seen = λ i. record {
     versions = map_agrees (kept_of.version_at lanes (cut_now j)) (version_of lanes (cut_now j) j) kept 0 (length (resources p)) h.all (λ r lt. seen_version r lt ∙ at_zero (version_of lanes (cut_now j) j) r) i;
     values =
         (map_agrees (λ k. value_of k (kept_of.version_at lanes (cut_now j) k)) (λ r. value_in (resolutions_by (cut_now j) j) r (version_of lanes (cut_now j) j r)) kept 0 (length (resources p)) h.all

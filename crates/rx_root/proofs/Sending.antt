@@ -215,6 +215,7 @@ reserved_stands p s v rd new h same keeps goes is =
       reached = h.reached;
       program = ap (λ (r : Rendering). r.program) same ∙ h.program;
       current = subst (λ (r : Rendering). IsTreeOf s.tree r.trees.current) (sym same) h.current;
+      seen = ap (λ (r : Rendering). r.seen) same ∙ h.seen;
       numbered = subst (λ (r : Rendering). IsAllNumbered r.trees) (sym same) h.numbered;
       keeps = keeps;
       below = h.below;

@@ -44,7 +44,7 @@ progress_stays : (p : Program) (s : State) (now : ℕ) (event : Event) (passive 
 progress_stays p s now event passive v clock shown None h = h
 progress_stays p s now event passive v clock shown (Some g) h =
     record {
-      renders = renders_same p s (at_time s now event passive) g v.rendering refl refl refl h.renders;
+      renders = renders_same p s (at_time s now event passive) g v.rendering refl refl refl refl h.renders;
       units = h.units;
       bodies = h.bodies;
       left = h.left;
@@ -60,6 +60,7 @@ stands_at p s now event passive v clock shown time shows reached h =
       reached = reached;
       program = h.program;
       current = h.current;
+      seen = h.seen;
       numbered = h.numbered;
       keeps = all_stay s (at_time s now event passive) refl refl p (kept_hooks v.rendering.hooks) (kept_hooks v.rendering.hooks) refl (λ n. refl) h.keeps;
       below = h.below;
@@ -136,6 +137,7 @@ module _ (p : Program) (s : State) (sc : Schedule) (ln : List Linked) (ev : Even
         reached = reached;
         program = ap (λ (r : Rendering). r.program) same ∙ h.program;
         current = subst (λ (r : Rendering). IsTreeOf s.tree r.trees.current) (sym same) h.current;
+        seen = ap (λ (r : Rendering). r.seen) same ∙ h.seen;
         numbered = subst (λ (r : Rendering). IsAllNumbered r.trees) (sym same) h.numbered;
         keeps = keeps;
         below = below;
@@ -184,6 +186,7 @@ module _ (p : Program) (s : State) (r : ℕ) (x : ℤ) (v : Rooted) where
         reached = reached;
         program = h.program;
         current = h.current;
+        seen = h.seen;
         numbered = h.numbered;
         keeps = all_stay s (with_value s r x) refl refl p (kept_hooks v.rendering.hooks) (kept_hooks v.rendering.hooks) refl (λ n. refl) h.keeps;
         below = h.below;

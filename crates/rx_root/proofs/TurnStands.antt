@@ -50,14 +50,15 @@ use Rattle.rx_root.proofs.TurnLines.{with_one}
 -- if the schedule and the rendering change, and another render is in progress, or none
 pub moved_stands : (p : Program) (s : State) (asks : Rooted → Type 0) (v : Rooted) (schedule : Schedule) (progress : Option Progress) (w : Rendering)
     → StandsBy p s asks v → IsReached p (record s { schedule = schedule; progress = progress })
-    → w.program ≡ v.rendering.program → w.trees.current ≡ v.rendering.trees.current → KeepsAllHooks p s (kept_hooks w.hooks)
+    → w.program ≡ v.rendering.program → w.trees.current ≡ v.rendering.trees.current → w.seen ≡ v.rendering.seen → KeepsAllHooks p s (kept_hooks w.hooks)
     → HasProgress p (record s { schedule = schedule; progress = progress }) progress (record v { rendering = w; schedule = schedule })
     → Stands p (record s { schedule = schedule; progress = progress }) (record v { rendering = w; schedule = schedule })
-moved_stands p s asks v schedule progress w h reached program current keeps has =
+moved_stands p s asks v schedule progress w h reached program current seen keeps has =
     record {
       reached = reached;
       program = program ∙ h.program;
       current = subst (IsTreeOf s.tree) (sym current) h.current;
+      seen = seen ∙ h.seen;
       numbered = (h.numbered.0, subst (IsTreeOf h.numbered.0) (sym current) h.numbered.1, h.numbered.2);
       keeps = all_stay s (record s { schedule = schedule; progress = progress }) refl refl p (kept_hooks w.hooks) (kept_hooks w.hooks) refl (λ n. refl) keeps;
       below = h.below;
@@ -116,12 +117,13 @@ can_start p accepted bounded s v lanes h reached =
       keeps = rw h.program (all_stay s (passive_run s).after refl refl p (kept_hooks v.rendering.hooks) (kept_hooks v.rendering.hooks) refl (λ n. refl) h.keeps);
       done = subst (λ (c : Cut). DoneBefore c s.journal.updates) (sym cut) done;
       cut_is = cut;
-      resources_are = rw h.program (ap (λ (c : Cut). seen_of lanes c v.resources) cut ∙ seen_is p s.journal s.linked v.resources lanes h.resources done);
-      declared = rw h.program (asks_for_declared p s.journal lanes (cut_now s.journal) h.declared);
+      resources_are = rw h.program (ap (λ (c : Cut). seen_of lanes c v.resources) cut ∙ seen_is p s.journal s.linked v.resources lanes h.resources done s.seen);
+      declared = rw h.program (asks_for_declared p s.journal lanes (cut_now s.journal) s.seen h.declared);
       settled = rw h.program sound.settled;
       rooted = rw h.program (rooted_so p s.tree carried.2.rooted);
       waits = rw h.program (starting_waits_again p bounded.shallow (few-resources p accepted) after carried lanes);
       reads = rw h.program sound.reads;
+      seen = h.seen;
       numbered = numbered.0;
       apart = (after.numbers.instance, numbered.1);
     }
@@ -141,6 +143,7 @@ started_stands p s v lanes w h reached set program current hooks renders units b
       reached = reached;
       program = program ∙ h.program;
       current = subst (IsTreeOf s.tree) (sym current) h.current;
+      seen = renders.seen;
       numbered = (h.numbered.0, subst (IsTreeOf h.numbered.0) (sym current) h.numbered.1, h.numbered.2);
       keeps = renders.keeps;
       below = h.below;
@@ -199,7 +202,7 @@ pub deferred_stands : (p : Program) (s : State) (g : Progress) (counts : Counts)
 deferred_stands p s g counts tree waits v x w h reached is_suspended is_discarded =
     subst (λ (y : Rendering). Stands p (deferred_as s g counts waits).after (record x { rendering = y })) (sym is_discarded)
     (subst (λ (y : Rooted). Stands p (deferred_as s g counts waits).after (record y { rendering = discarded y.rendering })) (sym is_suspended)
-    (moved_stands p s (IsAtEndOf p s g tree) v (schedule_deferred s g waits) None (discarded v.rendering) h reached refl refl h.keeps (record { over = refl; empty = refl })))
+    (moved_stands p s (IsAtEndOf p s g tree) v (schedule_deferred s g waits) None (discarded v.rendering) h reached refl refl refl h.keeps (record { over = refl; empty = refl })))
 
 -- and its line is written
 pub deferred_written : (log new : Written) (lanes : Lanes) (units bodies : ℕ) (g : Progress) (counts : Counts)

@@ -55,6 +55,7 @@ pub record StandsBy (p : Program) (s : State) (asks : Rooted → Type 0) (v : Ro
   pub reached : IsReached p s
   pub program : v.rendering.program ≡ p
   pub current : IsTreeOf s.tree v.rendering.trees.current
+  pub seen : v.rendering.seen ≡ s.seen
   pub numbered : IsAllNumbered v.rendering.trees
   pub keeps : KeepsAllHooks p s (kept_hooks v.rendering.hooks)
   pub below : LinksBelow s

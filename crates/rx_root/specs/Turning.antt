@@ -194,10 +194,11 @@ pub record IsPrepared (v : Shown) (x : Prepared) : Type 0 where
 abbrev pub KeepsShown : (before after : Shown) → Type 0
 KeepsShown v w = (tree : Option Node) (passive : Passive) → Shows tree passive v → Shows tree passive w
 
--- A root gave up a render: the program and the current tree stay, hooks stand for what they stood for, the same is shown, and all else stays.
+-- A root gave up a render: the program, the current tree and what the last commit saw stay, hooks stand for what they stood for, the same is shown, and all else stays.
 pub record GaveUp (v w : Rooted) : Type 0 where
   pub program : w.rendering.program ≡ v.rendering.program
   pub current : w.rendering.trees.current ≡ v.rendering.trees.current
+  pub seen : w.rendering.seen ≡ v.rendering.seen
   pub keeps : KeepsHooks v.rendering w.rendering
   pub shows : KeepsShown v.shown w.shown
   pub rest : w ≡ record v { rendering = w.rendering; shown = w.shown }

@@ -15,6 +15,7 @@ carries_key (syntax.choice c a b) = carries_key a || carries_key b
 carries_key (syntax.host n attrs w ss) = is_some (key_of attrs)
 carries_key (syntax.comp n attrs w ss) = is_some (key_of attrs)
 carries_key (syntax.boundary k f w ss) = is_some (key_in k)
+carries_key (syntax.catcher k f w ss) = is_some (key_in k)
 carries_key (syntax.provider n k e w ss) = is_some (key_in k)
 carries_key (syntax.enclosed b s) = carries_key s
 
@@ -35,6 +36,7 @@ abbrev mutual
   SlotKeysApart (syntax.host n attrs w ss) = (keyed_places ss ≤ 1) × SlotsKeysApart ss
   SlotKeysApart (syntax.comp n attrs w ss) = (keyed_places ss ≤ 1) × SlotsKeysApart ss
   SlotKeysApart (syntax.boundary k f w ss) = SlotKeysApart f × (keyed_places ss ≤ 1) × SlotsKeysApart ss
+  SlotKeysApart (syntax.catcher k f w ss) = SlotKeysApart f × (keyed_places ss ≤ 1) × SlotsKeysApart ss
   SlotKeysApart (syntax.provider n k e w ss) = (keyed_places ss ≤ 1) × SlotsKeysApart ss
   SlotKeysApart (syntax.enclosed b s) = SlotKeysApart s
 

@@ -1,6 +1,6 @@
 -- Contexts that are read are declared.
 use Rattle.std.specs.Prelude.{◌≡◌, ℕ, true, List, [], ◌∷◌, Some, length, nat_lt}
-use Rattle.rx_ast.specs.Syntax.{Statement, state, reducer, transition, context, use_resource, constant, effect, Component, Program, contexts}
+use Rattle.rx_ast.specs.Syntax.{Statement, state, reducer, transition, context, use_resource, constant, effect, throw_if, Component, Program, contexts}
 use Rattle.rx_rules.specs.Names.{component_at, context_number}
 
 -- a context that a statement reads is one of the program's
@@ -12,6 +12,7 @@ IsDeclared p (context x c) = nat_lt (context_number p c) (length (contexts p)) �
 IsDeclared p (use_resource x r) = Unit {0}
 IsDeclared p (constant x e) = Unit {0}
 IsDeclared p (effect layout label es) = Unit {0}
+IsDeclared p (throw_if e) = Unit {0}
 
 -- the contexts that statements read are the program's
 abbrev pub AllDeclared : Program → List Statement → Type 0

@@ -2,7 +2,7 @@
 use Rattle.std.proofs.Common.{◌≡◌, ℕ, zero, suc, ◌+◌, ◌<◌, ◌≤◌, Bool, true, false, cond, nat_eq, Option, Some, None, List, [], ◌∷◌, filter_map, option_map, option_and_then, slice_get, refl, ap, ◌∙◌, arith}
 use Rattle.std.specs.List.{cons_option}
 use Rattle.std.proofs.lemmas.Bool.Decides.{nat_tests}
-use Rattle.rx_elem.specs.Trees.{Mark, Node, instance_in, of_boundary, of_host, of_instance, plain}
+use Rattle.rx_elem.specs.Trees.{Mark, Node, instance_in, of_boundary, of_catcher, of_host, of_instance, plain}
 use Rattle.rx_elem.specs.Spots.{Around, Mounted, Spot, at_root, mounted, mounted_as, mounted_in, numbers_of, spot_mark, spots}
 use Rattle.rx_meaning.specs.Settled.{HasOwnNumbers, is_numbered_so, number_of}
 use Rattle.commit_laws.proofs.OwnNumbers.{occurs, spot_times, spots_times}
@@ -20,6 +20,7 @@ one_listed n a (of_instance i) ms = go i.number
     go (Some k) = refl
 one_listed n a (of_host h) ms = omega arith
 one_listed n a (of_boundary b) ms = omega arith
+one_listed n a (of_catcher c) ms = omega arith
 one_listed n a plain ms = omega arith
 
 -- the instances at some spots have each number as often as the spots

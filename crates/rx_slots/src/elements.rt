@@ -3,7 +3,7 @@ ghost use Rattle.std.specs.Prelude.{◌≡◌, IfOk, IfErr, MatchResult, Err};
 ghost use Rattle.rx_lex.specs.Spans.{kinds_of};
 ghost use Rattle.rx_ast.specs.Syntax.{choice, slots_of};
 ghost use Rattle.rx_ast.specs.SlotView.{key_place_of};
-ghost use Rattle.rx_grammar.specs.Openings.{boundary_tag, opening_of};
+ghost use Rattle.rx_grammar.specs.Openings.{boundary_tag, catcher_tag, opening_of};
 ghost use Rattle.rx_grammar.specs.Reading.{closing_name_at};
 ghost use Rattle.rx_slots.specs.Parts.{ended_at, filled_at};
 ghost use Rattle.rx_expression.specs.Results.{Gives};
@@ -21,6 +21,14 @@ pub(crate) fn boundary(alloc: Global, key: KeyPlace, fallback: Slot) -> Result<T
 {
     let fallback = Box::new(alloc, fallback)?;
     Ok(Tag::Suspense { key, fallback })
+}
+
+/// The tag of an error boundary.
+pub(crate) fn catcher(alloc: Global, key: KeyPlace, fallback: Slot) -> Result<Tag, Fault>
+    ensures { MatchResult result (λ t. opening_of t ≡ catcher_tag (key_place_of key) fallback) (λ e. e ≡ Fault.OutOfMemory) }
+{
+    let fallback = Box::new(alloc, fallback)?;
+    Ok(Tag::Catch { key, fallback })
 }
 
 /// A choice of the two sides, if both are read.
@@ -55,6 +63,7 @@ fn closing_name<'a>(tag: &Tag, rest: Rest<'a>) -> Result<Rest<'a>, Fault>
         Tag::Host { name, .. } => expect_lower(rest, name.text()),
         Tag::Component { name, .. } => expect_upper(rest, name.text()),
         Tag::Suspense { .. } => expect_word(rest, Keyword::Suspense),
+        Tag::Catch { .. } => expect_word(rest, Keyword::Catch),
         Tag::Provider { context, .. } => {
             let rest = expect_upper(rest, context.text())?;
             let rest = expect(rest, Sign::Dot)?;

@@ -7,7 +7,7 @@ ghost use Rattle.rx_slots.specs.Parts.{sides_at};
 ghost use Rattle.rx_expression.specs.Results.{Gives};
 
 use crate::attributes::{host_tag, key, last_key, upper_tag};
-use crate::elements::{boundary, choice, ended, filled};
+use crate::elements::{boundary, catcher, choice, ended, filled};
 use crate::repetitions::repetition;
 use rx_ast::{Child, Element, KeyPlace, Slot, Tag};
 use rx_expression::beside::{beside, closed};
@@ -31,7 +31,7 @@ fn braced_slot<'a>(alloc: Global, rest: Rest<'a>, level: usize) -> Result<(Slot,
     closed(slot, expect(rest, Sign::CloseBrace))
 }
 
-/// The fallback of a boundary.
+/// The fallback of a boundary, of Suspense or of errors.
 #[cycle(slot)]
 fn fallback<'a>(alloc: Global, rest: Rest<'a>, level: usize) -> Result<(Slot, Rest<'a>), Fault>
     ensures { Gives (λ x. (x.0, kinds_of x.1)) result (fallback_at (slot_at level) (kinds_of rest.entry)) }
@@ -41,7 +41,7 @@ fn fallback<'a>(alloc: Global, rest: Rest<'a>, level: usize) -> Result<(Slot, Re
     braced_slot(alloc, rest, level)
 }
 
-/// The fallback of a boundary with its key in its place.
+/// The fallback of a boundary, of Suspense or of errors, with its key in its place.
 #[cycle(slot)]
 fn keyed_fallback<'a>(
     alloc: Global,
@@ -70,6 +70,11 @@ fn tag<'a>(alloc: Global, rest: Rest<'a>, level: usize) -> Result<(Tag, Rest<'a>
         let rest = expect_word(rest, Keyword::Suspense)?;
         let (key, fallback, rest) = keyed_fallback(alloc, rest, level)?;
         return Ok((boundary(alloc, key, fallback)?, rest));
+    }
+    if next_is_word(rest, Keyword::Catch) {
+        let rest = expect_word(rest, Keyword::Catch)?;
+        let (key, fallback, rest) = keyed_fallback(alloc, rest, level)?;
+        return Ok((catcher(alloc, key, fallback)?, rest));
     }
     if next_is_lower(rest) {
         return host_tag(alloc, rest, level);

@@ -10,7 +10,7 @@ use Rattle.rx_base.specs.AwaitsLaws.{awaits_agree, has-awaits_where}
 use Rattle.rx_queue.specs.Pairs.{in_versions}
 use Rattle.rx_base.specs.declared.cut.Cut.{Cut}
 use Rattle.rx_queue.specs.Journal.{Journal, resolved_now, resolved_by, resolved_since}
-use Rattle.rx_elem.specs.Trees.{Node, node, Forest, none, vacant, child, Mark, of_instance, of_host, of_boundary, plain, mark_of, children_of, fallback_of, forest, awaits_in, is_hidden}
+use Rattle.rx_elem.specs.Trees.{Node, node, Forest, none, vacant, child, Mark, of_instance, of_host, of_boundary, of_catcher, plain, mark_of, children_of, fallback_of, forest, awaits_in, is_hidden}
 use Rattle.rx_susp.specs.declared.boundary.BoundaryState.TheVariants.{Shown, Hidden}
 use Rattle.rx_elem.specs.Spots.{Around, Spot, around_children, at_root, spots, spots_in, spot_mark}
 use Rattle.rx_meaning.specs.Outcome.{visible_awaits}
@@ -181,6 +181,7 @@ shown_waits (of_instance i) r h = refl
 shown_waits (of_host n) r h = refl
 shown_waits (of_boundary Shown) r h = refl
 shown_waits (of_boundary (Hidden waits)) r h = absurd (cc)
+shown_waits (of_catcher c) r h = refl
 shown_waits plain r h = refl
 
 -- one spot more
@@ -211,6 +212,7 @@ visible_below a (of_host None) = refl
 visible_below a (of_host (Some n)) = refl
 visible_below a (of_boundary Shown) = refl
 visible_below a (of_boundary (Hidden waits)) = refl
+visible_below a (of_catcher c) = refl
 visible_below a plain = refl
 
 joined : (v own hidden inside behind x y : Bool) → x ≡ ((hidden && v) && inside) → y ≡ (v && behind) → ((v && own) || (x || y)) ≡ (v && ((own || (hidden && inside)) || behind))

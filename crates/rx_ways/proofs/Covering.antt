@@ -3,7 +3,7 @@ use Rattle.std.proofs.Common.{◌≡◌, ℕ, ◌+◌, ◌≤◌, Bool, true, fa
 use Rattle.std.specs.Prelude.{◌||◌, ◌&&◌, not, is_some}
 use Rattle.std.specs.Option.{option_map_or}
 use Rattle.std.proofs.lemmas.Bool.{and_from, and_parts, both_ways, eq-eqb, false_from_ne_true, not-true, not_from_false, or_cases, or_left, or_parts, or_right}
-use Rattle.rx_elem.specs.Trees.{Forest, Mark, Node, child, children_of, fallback_of, instance_in, mark_of, node, none, of_boundary, of_host, of_instance, plain, vacant}
+use Rattle.rx_elem.specs.Trees.{Forest, Mark, Node, child, children_of, fallback_of, instance_in, mark_of, node, none, of_boundary, of_catcher, of_host, of_instance, plain, vacant}
 use Rattle.commit_laws.specs.Each.{ForEach, ForEachIn}
 use Rattle.commit_laws.specs.HiddenWaits.{AllNumbered, IfNumbered, Numbered}
 use Rattle.rx_meaning.specs.Settled.{HasOwnNumbers, is_numbered_so, number_of, times_numbered, times_numbered_if, times_numbered_in}
@@ -138,6 +138,7 @@ no-number : (n : ℕ) (m : Mark) → is_some (instance_in m) ≡ false → is_nu
 no-number n (of_instance i) e = absurd (cc e)
 no-number n (of_host k) e = refl
 no-number n (of_boundary b) e = refl
+no-number n (of_catcher c) e = refl
 no-number n plain e = refl
 
 mutual

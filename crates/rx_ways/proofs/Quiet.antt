@@ -3,7 +3,7 @@ use Rattle.std.proofs.Common.{◌≡◌, ℕ, Bool, true, false, cond, Option, S
 use Rattle.std.specs.Prelude.{◌||◌}
 use Rattle.std.specs.Option.{option_map_or}
 use Rattle.std.proofs.lemmas.Bool.{eq-eqb, false_from_ne_true, or_from, or_parts}
-use Rattle.rx_elem.specs.Trees.{Forest, Mark, Node, child, is_hidden, node, none, of_boundary, of_host, of_instance, plain, vacant}
+use Rattle.rx_elem.specs.Trees.{Forest, Mark, Node, child, is_hidden, node, none, of_boundary, of_catcher, of_host, of_instance, plain, vacant}
 use Rattle.commit_laws.specs.Each.{ForEach, ForEachIn}
 use Rattle.commit_laws.specs.HiddenWaits.{AllNumbered, IsNumbered, Numbered}
 use Rattle.rx_meaning.specs.Settled.{is_numbered_so, number_of, times_numbered, times_numbered_in}
@@ -20,6 +20,7 @@ pub quiet-mark : (s : ℕ → Bool) (m : Mark) → IsNumbered m → is_cause s m
 quiet-mark s (of_instance i) has h = (has.0, has.1, rw has.1 at (or_parts _ false h).0)
 quiet-mark s (of_host k) has h = tt
 quiet-mark s (of_boundary b) has h = h
+quiet-mark s (of_catcher c) has h = tt
 quiet-mark s plain has h = tt
 
 -- an instance whose number does not occur is no cause
@@ -32,6 +33,7 @@ no-number s (of_instance i) free h = go i.number free
         or_from (s k) false (false_from_ne_true (s k) (λ is. absurd (omega (arith, ap {B = ℕ} (λ b. cond b 1 0) (eq-eqb k k refl), free k is)))) refl
 no-number s (of_host k) free h = refl
 no-number s (of_boundary b) free h = h
+no-number s (of_catcher c) free h = refl
 no-number s plain free h = refl
 
 mutual

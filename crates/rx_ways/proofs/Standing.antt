@@ -4,7 +4,7 @@ use Rattle.std.specs.Prelude.{◌||◌, ◌&&◌, not, is_some}
 use Rattle.std.specs.Option.{option_map_or}
 use Rattle.std.proofs.lemmas.Bool.{or_parts}
 use Rattle.rx_elem.specs.Elements.{Element}
-use Rattle.rx_elem.specs.Trees.{Forest, Mark, Node, child, forest, instance_in, is_hidden, node, none, of_boundary, of_host, of_instance, plain, vacant}
+use Rattle.rx_elem.specs.Trees.{Forest, Mark, Node, child, forest, instance_in, is_hidden, node, none, of_boundary, of_catcher, of_host, of_instance, plain, vacant}
 use Rattle.rx_lists.specs.Shapes.{Shape, fiber}
 use Rattle.rx_lists.specs.Shapes as shapes
 use Rattle.rx_meaning.specs.Settled.{is_numbered_so, number_of}
@@ -50,6 +50,11 @@ none_have : (ns : Forest) → has_node ns ≡ false → has_instance_in ns ≡ f
 none_have none h = refl
 none_have (vacant ns) h = none_have ns h
 none_have (child x ns) h = absurd (cc h)
+
+none_finds : (hint stirred : ℕ → Bool) (ns : Forest) → has_node ns ≡ false → finds_in hint stirred ns ≡ false
+none_finds hint stirred none h = refl
+none_finds hint stirred (vacant ns) h = none_finds hint stirred ns h
+none_finds hint stirred (child x ns) h = absurd (cc h)
 
 none_put : (hint stirred : ℕ → Bool) (n : ℕ) (ns : Forest) → has_node ns ≡ false → puts_in hint stirred n ns ≡ false
 none_put hint stirred n none h = refl
@@ -140,6 +145,7 @@ hidden_number : (m : Mark) → is_hidden m ≡ true → number_of m ≡ None
 hidden_number (of_instance i) h = absurd (cc h)
 hidden_number (of_host k) h = absurd (cc h)
 hidden_number (of_boundary b) h = refl
+hidden_number (of_catcher c) h = absurd (cc h)
 hidden_number plain h = absurd (cc h)
 
 -- a hidden boundary is found
@@ -163,6 +169,7 @@ without_number : (m : Mark) → is_some (instance_in m) ≡ false → number_of 
 without_number (of_instance i) h = absurd (cc h)
 without_number (of_host k) h = refl
 without_number (of_boundary b) h = refl
+without_number (of_catcher c) h = refl
 without_number plain h = refl
 
 and_none : (b : Bool) → (b && false) ≡ false
@@ -231,7 +238,14 @@ module _ (hint stirred : ℕ → Bool) where
     node_found _ _ _ _ (alone {v = v} {e = e} {m = m} {ns = ns} {fs = fs} {ks = ks} {rest = rest} of hidden bare a) g =
         let t = list_tells 0 fs ks a g.1 in
         let own = own_tells v m ks (hides_in fs) (has_instance_in fs) of.stage g.0 t.hides t.instances in
-        both_found v e m ns fs ks of.stage hidden (own.hides_are ∙ ap (λ b. b || hides_in fs) hidden) (finds_among hint stirred rest) (finds_among hint stirred rest)
+        let hides : v.subtree.hides ≡ hides_within (node e m ns fs) = own.hides_are ∙ ap (λ b. is_hidden m || (b || hides_in fs)) (sym (none_hide ns bare)) in
+        let has : v.subtree.instances ≡ has_instance_within (node e m ns fs) = own.instances_are ∙ ap (λ b. is_some (instance_in m) || (b || has_instance_in fs)) (sym (none_have ns bare)) in
+        let spared : is_spared_at hint v ≡ is_spared hint (node e m ns fs) = spared_is v m false false (hides_within (node e m ns fs)) (has_instance_within (node e m ns fs)) of.stage hides has in
+        let cause : is_cause_at stirred v.stage ≡ is_cause stirred m = ap (is_cause_at stirred) of.stage in
+        let below : finds_among hint stirred ks ≡ (finds_in hint stirred ns || finds_in hint stirred fs) = list_found 0 fs ks a g.1 ∙ ap (λ b. b || finds_in hint stirred fs) (sym (none_finds hint stirred ns bare)) in
+        ap (λ b. (not b && (is_cause_at stirred v.stage || finds_among hint stirred ks)) || finds_among hint stirred rest) spared
+        ∙ ap (λ b. (not (is_spared hint (node e m ns fs)) && (b || finds_among hint stirred ks)) || finds_among hint stirred rest) cause
+        ∙ ap (λ b. (not (is_spared hint (node e m ns fs)) && (is_cause stirred m || b)) || finds_among hint stirred rest) below
     node_found _ _ _ _ (beside {v = v} {w = w} {e = e} {m = m} {ns = ns} {fs = fs} {ks = ks} {ws = ws} {rest = rest} of hidden kept a stage b) g =
         let t = list_tells 0 ns ks a g.1 in
         let own = own_tells v m ks (hides_in ns) (has_instance_in ns) of.stage g.0 t.hides t.instances in
@@ -282,9 +296,16 @@ module _ (hint stirred : ℕ → Bool) where
     node_put n _ _ _ _ (alone {v = v} {e = e} {m = m} {ns = ns} {fs = fs} {ks = ks} {rest = rest} of hidden bare a) g =
         let t = list_tells 0 fs ks a g.1 in
         let own = own_tells v m ks (hides_in fs) (has_instance_in fs) of.stage g.0 t.hides t.instances in
-        ap (λ b. b || puts_among hint stirred n rest)
-        (kept_put n v m ks of.stage hidden (own.hides_are ∙ ap (λ b. b || hides_in fs) hidden) ∙ list_put n 0 fs ks a g.1
-        ∙ sym (hidden_node n e m ns fs hidden ∙ ap (λ b. b || puts_in hint stirred n fs) (none_put hint stirred n ns bare)))
+        let hides : v.subtree.hides ≡ hides_within (node e m ns fs) = own.hides_are ∙ ap (λ b. is_hidden m || (b || hides_in fs)) (sym (none_hide ns bare)) in
+        let has : v.subtree.instances ≡ has_instance_within (node e m ns fs) = own.instances_are ∙ ap (λ b. is_some (instance_in m) || (b || has_instance_in fs)) (sym (none_have ns bare)) in
+        let spared : is_spared_at hint v ≡ is_spared hint (node e m ns fs) = spared_is v m false false (hides_within (node e m ns fs)) (has_instance_within (node e m ns fs)) of.stage hides has in
+        let found : (is_cause_at stirred v.stage || finds_among hint stirred ks) ≡ (is_cause stirred m || (finds_in hint stirred ns || finds_in hint stirred fs)) =
+        ap (λ b. b || finds_among hint stirred ks) (ap (is_cause_at stirred) of.stage) ∙ ap (λ b. is_cause stirred m || b) (list_found 0 fs ks a g.1 ∙ ap (λ b. b || finds_in hint stirred fs) (sym (none_finds hint stirred ns bare))) in
+        let number : is_numbered_so n (number_at v.stage) ≡ is_numbered_so n (number_of m) = ap (λ (s : Stage). is_numbered_so n (number_at s)) of.stage in
+        let below : puts_among hint stirred n ks ≡ (puts_in hint stirred n ns || puts_in hint stirred n fs) = list_put n 0 fs ks a g.1 ∙ ap (λ b. b || puts_in hint stirred n fs) (sym (none_put hint stirred n ns bare)) in
+        whole_put n (is_spared_at hint v) (is_spared hint (node e m ns fs)) (is_numbered_so n (number_at v.stage)) (is_numbered_so n (number_of m))
+        (is_cause_at stirred v.stage || finds_among hint stirred ks) (is_cause stirred m || (finds_in hint stirred ns || finds_in hint stirred fs)) (puts_among hint stirred n ks) (puts_in hint stirred n ns || puts_in hint stirred n fs)
+        (puts_among hint stirred n rest) spared number found below
     node_put n _ _ _ _ (beside {v = v} {w = w} {e = e} {m = m} {ns = ns} {fs = fs} {ks = ks} {ws = ws} {rest = rest} of hidden kept a stage b) g =
         let t = list_tells 0 ns ks a g.1 in
         let u = list_tells 0 fs ws b g.2.1 in

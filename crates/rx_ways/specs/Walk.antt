@@ -5,7 +5,7 @@ use Rattle.rx_elem.specs.Trees.{Forest, Node, child, instance_in, mark_of, node,
 use Rattle.rx_lists.specs.Shapes.{Shape, fiber}
 use Rattle.rx_lists.specs.Shapes as shapes
 use Rattle.rx_meaning.specs.Settled.{is_numbered_so, number_of}
-use Rattle.rx_fiber.specs.Fibers.{Fiber, Stage, waiting, begun, trying, fallback}
+use Rattle.rx_fiber.specs.Fibers.{Fiber, Stage, waiting, begun, trying, guarding, fallback}
 use Rattle.rx_node.specs.Hides.{hides_within}
 use Rattle.rx_ways.specs.Leads.{is_cause}
 use Rattle.rx_ways.specs.Ways.{Ways, is_way}
@@ -63,6 +63,7 @@ abbrev pub number_at : Stage → Option ℕ
 number_at (waiting c) = None
 number_at (begun m) = number_of m
 number_at (trying c) = None
+number_at guarding = None
 number_at (fallback a) = None
 
 -- a fiber is a cause by its mark
@@ -70,6 +71,7 @@ abbrev pub is_cause_at : (stirred : ℕ → Bool) → Stage → Bool
 is_cause_at stirred (waiting c) = false
 is_cause_at stirred (begun m) = is_cause stirred m
 is_cause_at stirred (trying c) = false
+is_cause_at stirred guarding = false
 is_cause_at stirred (fallback a) = false
 
 -- a fiber is spared, as it keeps what is at or below it

@@ -1,7 +1,7 @@
 -- Which instances stand on a way, and what is told of those that do not.
 use Rattle.std.specs.Prelude.{◌≡◌, ℕ, Bool, false, ◌||◌, List, Option, Some, None}
 use Rattle.rx_susp.specs.Boundary.{hides}
-use Rattle.rx_elem.specs.Trees.{Forest, Mark, Node, child, node, none, of_boundary, of_host, of_instance, plain, vacant}
+use Rattle.rx_elem.specs.Trees.{Forest, Mark, Node, child, node, none, of_boundary, of_catcher, of_host, of_instance, plain, vacant}
 use Rattle.rx_meaning.specs.Settled.{includes, number_of}
 use Rattle.commit_laws.specs.Each.{ForEach}
 
@@ -19,6 +19,7 @@ abbrev pub IsQuiet : (stirred : ℕ → Bool) → Mark → Type 0
 IsQuiet stirred (of_instance i) = (n : ℕ) × (i.number ≡ Some n) × (stirred n ≡ false)
 IsQuiet stirred (of_host h) = Unit {0}
 IsQuiet stirred (of_boundary b) = hides b ≡ false
+IsQuiet stirred (of_catcher c) = Unit {0}
 IsQuiet stirred plain = Unit {0}
 
 -- if the instance of a node stands on no way, this holds of each node of its tree

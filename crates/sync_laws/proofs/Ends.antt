@@ -7,7 +7,7 @@ use Rattle.std.proofs.lemmas.Option.{same_Some}
 use Rattle.rx_ast.specs.Syntax.{Program}
 use Rattle.rx_base.specs.Values.{Name}
 use Rattle.rx_elem.specs.Spots.{Mounted, Spot, at_root, mounted, spot_mark, spots}
-use Rattle.rx_elem.specs.Trees.{Node, element_of, is_hidden}
+use Rattle.rx_elem.specs.Trees.{Node, element_of, is_caught, is_hidden}
 use Rattle.rx_forest.specs.Hosts.{hosts}
 use Rattle.rx_lines.specs.Lines.{HookValue, Line, report_bytes, state_head, state_of, tree_lines}
 use Rattle.rx_meaning.specs.Fresh.{default_contexts, root_element}
@@ -43,16 +43,19 @@ use Rattle.sync_laws.proofs.Versions.{done_sent, quiet_refreshes, refreshes_sent
 use Rattle.sync_laws.proofs.Starting.{Comes, first_before, first_tree, run_comes}
 use Rattle.sync_laws.specs.Sync.{IsLike, IsSteady, LanesLaw, ShowTheSame, SyncLaw, all_in_sync, told, trees_of}
 
--- Spots without a hidden boundary
+-- Spots without a hidden boundary, and without an error boundary that has caught a value
 
-none_at : (xs : List Spot) → length (filter (λ s. is_hidden (spot_mark s)) xs) ≡ 0 → NoneAt xs
-none_at [] h = tt
-none_at (x ∷ xs) h = go (is_hidden (spot_mark x)) refl h (none_at xs)
+none_at : (xs : List Spot) → length (filter (λ s. is_hidden (spot_mark s)) xs) ≡ 0 → length (filter (λ s. is_caught (spot_mark s)) xs) ≡ 0 → NoneAt xs
+none_at [] h k = tt
+none_at (x ∷ xs) h k = go (is_hidden (spot_mark x)) (is_caught (spot_mark x)) refl refl h k (none_at xs)
   where
-    go : (b : Bool) → is_hidden (spot_mark x) ≡ b → length (cond b (x ∷ filter (λ s. is_hidden (spot_mark s)) xs) (filter (λ s. is_hidden (spot_mark s)) xs)) ≡ 0
-        → (length (filter (λ s. is_hidden (spot_mark s)) xs) ≡ 0 → NoneAt xs) → NoneAt (x ∷ xs)
-    go true e k rest = absurd (omega arith)
-    go false e k rest = (e, rest k)
+    go : (b c : Bool) → is_hidden (spot_mark x) ≡ b → is_caught (spot_mark x) ≡ c
+        → length (cond b (x ∷ filter (λ s. is_hidden (spot_mark s)) xs) (filter (λ s. is_hidden (spot_mark s)) xs)) ≡ 0
+        → length (cond c (x ∷ filter (λ s. is_caught (spot_mark s)) xs) (filter (λ s. is_caught (spot_mark s)) xs)) ≡ 0
+        → (length (filter (λ s. is_hidden (spot_mark s)) xs) ≡ 0 → length (filter (λ s. is_caught (spot_mark s)) xs) ≡ 0 → NoneAt xs) → NoneAt (x ∷ xs)
+    go true c e f h k rest = absurd (omega arith)
+    go false true e f h k rest = absurd (omega arith)
+    go false false e f h k rest = ((e, f), rest h k)
 
 -- the lines of instances are the same if these have the same values
 lines_same : (p : Program) (j k : Journal) (all : List Mounted) → AllByRecursion (λ m. committed_values p j m ≡ committed_values p k m) all
@@ -166,7 +169,7 @@ module _ (p : Program) (bounded : IsBounded p) (apart : AttributesApart p) where
 
       each : (ns : List Node) → AllByRecursion (IsLike n) ns → AllByRecursion (HasInstances (mounted (Some n))) ns
       each [] h = tt
-      each (m ∷ ns) h = ((h.0.instances, none_at (spots at_root m) h.0.none_hidden), each ns h.1)
+      each (m ∷ ns) h = ((h.0.instances, none_at (spots at_root m) h.0.none_hidden h.0.none_caught), each ns h.1)
 
   runs_same : (xs ys : List Step) → told ys ≡ told xs → (a b : Stretch) → RunTo AnyRender p opening (step.Flush ∷ xs) a → RunTo AnyRender p opening (step.Flush ∷ ys) b
       → (c : Comes p xs a) (d : Comes p ys b)

@@ -1,5 +1,5 @@
 -- Scripts in which each dispatch is Sync and flushed at once, steady runs, and what is said of their ends.
-use Rattle.std.specs.Prelude.{◌≡◌, ℕ, List, [], ◌∷◌, ◌++◌, Option, Some, None, IfSome, IsTrue, filter_map, flat_map, slice_get}
+use Rattle.std.specs.Prelude.{◌≡◌, ℕ, List, [], ◌∷◌, ◌++◌, Option, Some, None, IfSome, IsTrue, filter, filter_map, flat_map, length, slice_get}
 use Rattle.std.specs.List.{AllByRecursion}
 use Rattle.rx_base.specs.Values.{Text}
 use Rattle.rx_ast.specs.Syntax.{Program}
@@ -9,10 +9,10 @@ use Rattle.rx_step.specs.declared.step.Dispatch.{Dispatch}
 use Rattle.rx_step.specs.declared.step.Dispatch.TheVariants as dispatch
 use Rattle.rx_step.specs.declared.step.Step.{Step}
 use Rattle.rx_step.specs.declared.step.Step.TheVariants as step
-use Rattle.rx_elem.specs.Trees.{Node}
-use Rattle.rx_elem.specs.Spots.{mounted, numbers_of, hidden_count}
+use Rattle.rx_elem.specs.Trees.{Node, is_caught}
+use Rattle.rx_elem.specs.Spots.{mounted, numbers_of, hidden_count, at_root, spot_mark, spots}
 use Rattle.rx_forest.specs.Hosts.{hosts}
-use Rattle.rx_lines.specs.Lines.{Line, Options, committed, operated, logged, deferred, no_instance, already, state_head, state_of, tree_head, tree_host, end_quiet, end_pending, tree_lines, report_bytes}
+use Rattle.rx_lines.specs.Lines.{Line, Options, committed, operated, caught, logged, deferred, no_instance, already, state_head, state_of, tree_head, tree_host, end_quiet, end_pending, tree_lines, report_bytes}
 use Rattle.rx_model.specs.State.{State, is_quiet, state_lines, end_line}
 use Rattle.rx_model.specs.Turns.{OfRender}
 use Rattle.rx_model.specs.Machine.{Run, Reports}
@@ -48,6 +48,7 @@ all_in_sync steps = flat_map step_in_sync steps
 abbrev pub tree_of : Line → Option Node
 tree_of (committed k lanes counts tree) = Some tree
 tree_of (operated o) = None
+tree_of (caught x) = None
 tree_of (logged l) = None
 tree_of (deferred lanes counts) = None
 tree_of (no_instance path) = None
@@ -63,10 +64,15 @@ tree_of (end_pending lanes n) = None
 abbrev pub trees_of : List Line → List Node
 trees_of lines = filter_map tree_of lines
 
--- a tree has the instances of the first one in the same tree order, and no boundary of it is hidden
+-- how many error boundaries of a tree have caught a value
+abbrev pub caught_count : Node → ℕ
+caught_count tree = length (filter (λ x. is_caught (spot_mark x)) (spots at_root tree))
+
+-- a tree has the instances of the first one in the same tree order, no boundary of it is hidden, and no error boundary of it has caught a value
 pub record IsLike (first tree : Node) : Type 0 where
   pub instances : numbers_of (mounted (Some tree)) ≡ numbers_of (mounted (Some first))
   pub none_hidden : hidden_count (Some tree) ≡ 0
+  pub none_caught : caught_count tree ≡ 0
 
 -- a script begins with a flush
 abbrev pub BeginsWithFlush : List Step → Type 0

@@ -53,7 +53,7 @@ const WHOLE: [Row<'static>; 3] = [
     },
 ];
 
-const ROWS: [Row<'static>; 13] = [
+const ROWS: [Row<'static>; 17] = [
     // A flag shows that a transition is pending: it is set at once, and unset with the transition.
     Row {
         words: &["run"],
@@ -116,6 +116,42 @@ const ROWS: [Row<'static>; 13] = [
         failing_writes: &[],
         status: 0,
         output: "commit 1 Default units 11 bodies 2\ncommit 2 Sync units 9 bodies 1\nend pending none suspended 1\n",
+    },
+    // A caught value stays: the fallback is shown on, also when the children would no longer throw.
+    Row {
+        words: &["run"],
+        input: "function T({v}) { throwIf(v - 3 ? 0 : 7); const [n, setN] = useState(0); return <b>{v}</b>; } function App() { const [v, setV] = useState(1); const [k, setK] = useState(0); return <div><Catch key={k} fallback={<i/>}><T v={v}/></Catch>{v}</div>; }\n---\nflush\nset sync App v 3\nflush\ntree\nset sync App v 4\nflush\ntree\nstate\n",
+        failing_reads: &[],
+        failing_writes: &[],
+        status: 0,
+        output: "commit 1 Default\ncommit 2 Sync\ncaught 7\ntree\n  div\n    i\n    \"3\"\ncommit 3 Sync\ntree\n  div\n    i\n    \"4\"\nstate\n  [1] App v=4 k=0\nend quiet\n",
+    },
+    // Another key makes an error boundary anew, and its children are tried.
+    Row {
+        words: &["run"],
+        input: "function T({v}) { throwIf(v - 3 ? 0 : 7); const [n, setN] = useState(0); return <b>{v}</b>; } function App() { const [v, setV] = useState(1); const [k, setK] = useState(0); return <div><Catch key={k} fallback={<i/>}><T v={v}/></Catch>{v}</div>; }\n---\nflush\nset sync App v 3\nflush\nset sync App v 4\nset sync App k 1\nflush\ntree\nstate\n",
+        failing_reads: &[],
+        failing_writes: &[],
+        status: 0,
+        output: "commit 1 Default\ncommit 2 Sync\ncaught 7\ncommit 3 Sync\ntree\n  div\n    b\n      \"4\"\n    \"4\"\nstate\n  [1] App v=4 k=1\n  [3] T n=0\nend quiet\n",
+    },
+    // A resource gets its value that a boundary waits for within another one that waits: what throws now is caught.
+    Row {
+        words: &["run"],
+        input: "function A() { const u = use(\"a\"); throwIf(u); return <b/>; } function B() { const u = use(\"b\"); return <b/>; } function App() { const [s, setS] = useState(0); return <div>{s}<Catch fallback={<i/>}><Suspense fallback={<u/>}><Suspense fallback={<q/>}><A/></Suspense><B/></Suspense></Catch></div>; }\n---\nflush\nresolve a 5\nset sync App s 1\nflush\ntree\n",
+        failing_reads: &[],
+        failing_writes: &[],
+        status: 0,
+        output: "commit 1 Default\ncommit 2 Sync\ncaught 5\ntree\n  div\n    \"1\"\n    i\nend quiet\n",
+    },
+    // A fallback that throws is caught by the next error boundary around; what that one showed is gone.
+    Row {
+        words: &["run", "--ops"],
+        input: "function T({v}) { throwIf(v); return <b>{v}</b>; } function E({n}) { useLayoutEffect(\"l\", [n]); return <s>{n}</s>; } function App() { const [v, setV] = useState(0); return <div><Catch fallback={<i>{v}</i>}><E n={v}/><Catch fallback={<T v={v - 1}/>}><T v={v}/></Catch></Catch></div>; }\n---\nflush\nset sync App v 1\nflush\nset sync App v 0\nflush\ntree\n",
+        failing_reads: &[],
+        failing_writes: &[],
+        status: 0,
+        output: "commit 1 Default\nop create #1 div\nop create #2 s\nop text #3 \"0\"\nop create #4 b\nop text #5 \"0\"\nop place #1 under #0 at end\nop place #2 under #1 at end\nop place #3 under #2 at end\nop place #4 under #1 at end\nop place #5 under #4 at end\nlayout + [2] \"l\" 0\ncommit 2 Sync\nop remove #4\nop create #6 b\nop text #7 \"0\"\nop place #6 under #1 at end\nop place #7 under #6 at end\nop settext #3 \"1\"\ncaught 1\nlayout - [2] \"l\" 0\nlayout + [2] \"l\" 1\ncommit 3 Sync\nop remove #2\nop remove #6\nop create #8 i\nop text #9 \"0\"\nop place #8 under #1 at end\nop place #9 under #8 at end\ncaught -1\nlayout - [2] \"l\" 1\ntree\n  div\n    i\n      \"0\"\nend quiet\n",
     },
     // Operations on hosts are shown if they are asked for.
     Row {

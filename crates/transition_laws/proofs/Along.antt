@@ -41,7 +41,7 @@ use Rattle.run_laws.proofs.AlongRuns.{hook_keeps, opening_carries, refreshed_kee
 use Rattle.run_laws.proofs.Walk.{same_after, sent_tree}
 use Rattle.run_laws.specs.Carried.{IsCarried}
 use Rattle.transition_laws.specs.Transitions.{is_gone}
-use Rattle.transition_laws.specs.Flags.{is_flag}
+use Rattle.transition_laws.specs.Flags.{flags_a_transition}
 use Rattle.transition_laws.specs.Laws.{Fits, IsReachedFitting, TurnsTo, further, here}
 use Rattle.transition_laws.proofs.Facts.{target_is}
 use Rattle.transition_laws.proofs.Rendering.{event_changes}
@@ -149,14 +149,14 @@ module _ (p : Program) (accepted : IsAccepted p) (bounded : IsBounded p) where
   clash : {b : Bool} → b ≡ true → b ≡ false → ⊥
   clash h k = cc (h, k)
 
-  other_facts : (s : State) (w : LaneWord) (t : Target) (o : Op) → ((m : Mounted) (k : ℕ) → IsIn m (mounted s.tree) → is_flag p m.component k ≡ true → same_target (hook m.number k) t ≡ false)
+  other_facts : (s : State) (w : LaneWord) (t : Target) (o : Op) → ((m : Mounted) (k : ℕ) → IsIn m (mounted s.tree) → flags_a_transition p m.component k ≡ true → same_target (hook m.number k) t ≡ false)
       → Holds p s → AllFacts p (dispatched_for s w t o)
   other_facts s w t o other h m k at flag =
       let there : IsIn m (mounted s.tree) = subst (λ (tree : Option Node). IsIn m (mounted tree)) (sent_tree w s t o) at in
       other_sent p s h.0 h.1.0 t o (hook m.number k) (other m k there flag) (mounted_here s.tree m k there) w (h.1.1 m k there flag)
 
   -- an update is sent to a hook that is no flag
-  plain_holds : (s : State) (w : LaneWord) (path : Path) (m : Mounted) (k : ℕ) (o : Op) → instance_found p s.tree path ≡ Some m → is_flag p m.component k ≡ false → Holds p s
+  plain_holds : (s : State) (w : LaneWord) (path : Path) (m : Mounted) (k : ℕ) (o : Op) → instance_found p s.tree path ≡ Some m → flags_a_transition p m.component k ≡ false → Holds p s
       → Holds p (dispatched_for s w (hook m.number k) o)
   plain_holds s w path m k o found plain h = (
     hook_keeps p bounded.shallow bounded.declared s w path m k o found h.0,
@@ -166,7 +166,7 @@ module _ (p : Program) (accepted : IsAccepted p) (bounded : IsBounded p) where
       there : IsIn m (mounted s.tree)
       there = found_in p (mounted s.tree) path m found
 
-      other : (x : Mounted) (j : ℕ) → IsIn x (mounted s.tree) → is_flag p x.component j ≡ true → same_target (hook x.number j) (hook m.number k) ≡ false
+      other : (x : Mounted) (j : ℕ) → IsIn x (mounted s.tree) → flags_a_transition p x.component j ≡ true → same_target (hook x.number j) (hook m.number k) ≡ false
       other x j at flag = go (same_target (hook x.number j) (hook m.number k)) refl
         where
           go : (b : Bool) → same_target (hook x.number j) (hook m.number k) ≡ b → b ≡ false
@@ -174,7 +174,7 @@ module _ (p : Program) (accepted : IsAccepted p) (bounded : IsBounded p) where
           go true is =
               let parts = and_passes _ _ is in
               let one : x ≡ m = one_number s.numbers.instance s.tree h.0.2.sound.own_numbers x m at there (same_number x.number m.number parts.0) in
-              let same : is_flag p x.component j ≡ is_flag p m.component k = λ i. is_flag p (one i).component (same_number j k parts.1 i) in
+              let same : flags_a_transition p x.component j ≡ flags_a_transition p m.component k = λ i. flags_a_transition p (one i).component (same_number j k parts.1 i) in
               absurd (clash flag (same ∙ plain))
 
   -- the state between the two updates of a start
@@ -298,7 +298,7 @@ module _ (p : Program) (accepted : IsAccepted p) (bounded : IsBounded p) where
 
   move_holds : (s : State) (x : Move) (t : State) → Fits p x → MovesTo p s x t → Holds p s → Holds p t
   move_holds s (takes x) t fits m h = subst (Holds p) (sym m.2) (step_holds s x m.0 fits m.1 h)
-  move_holds s discards t fits m h = subst (Holds p) (sym m) ((h.0.0, h.0.1, h.0.2, tt), dropped_rest p s s.progress h.1)
+  move_holds s discards t fits m h = subst (Holds p) (sym m) ((h.0.0, h.0.1, h.0.2, tt, h.0.4), dropped_rest p s s.progress h.1)
   move_holds s (begins started) t fits m h = absurd fits
   move_holds s (sends w path k o) t fits m h = absurd fits
   move_holds s (refreshes w r) t fits m h = absurd fits

@@ -9,7 +9,7 @@ use Rattle.rx_elem.proofs.Equality.{same_kind-self}
 use Rattle.rx_elem.specs.Elements.{Element, kind_of, same_kind}
 use Rattle.rx_elem.specs.Numbers.{Numbers, numbered, numbered_host, numbered_in, numbered_instance, numbered_mark}
 use Rattle.rx_elem.specs.Spots.{Around, Mounted, Spot, around_children, at_root, mounted, mounted_as, mounted_at, mounted_in, numbers_of, spot_mark, spots, spots_in}
-use Rattle.rx_elem.specs.Trees.{Forest, Mark, Node, child, element_of, instance_in, node, none, of_boundary, of_host, of_instance, plain, vacant}
+use Rattle.rx_elem.specs.Trees.{Forest, Mark, Node, child, element_of, instance_in, node, none, of_boundary, of_catcher, of_host, of_instance, plain, vacant}
 use Rattle.rx_meaning.specs.Fresh.{IsTree, Sight, fresh, given, made, none_yet, root_element}
 use Rattle.rx_meaning.specs.Settled.{HasOwnNumbers}
 use Rattle.commit_laws.proofs.CommitSettles.{mark_rises, number_rises, numbers_rise}
@@ -86,6 +86,7 @@ module _ (B : ℕ → List ℤ → Type 0) where
       go None = tt
       go (Some n) = tt
   mark_stays e c (of_boundary b) h = tt
+  mark_stays e c (of_catcher z) h = tt
   mark_stays e c plain h = tt
 
   mutual
@@ -134,6 +135,7 @@ module _ (Q : Option ℕ → ℕ → List ℤ → Type 0) (next : ℕ) where
   MarkHas (of_instance i) = (n : ℕ) → i.number ≡ Some n → IsNumbered n i.component i.initials
   MarkHas (of_host h) = Unit {0}
   MarkHas (of_boundary b) = Unit {0}
+  MarkHas (of_catcher z) = Unit {0}
   MarkHas plain = Unit {0}
 
   abbrev SpotsHave : List Spot → Type 0
@@ -155,6 +157,7 @@ module _ (Q : Option ℕ → ℕ → List ℤ → Type 0) (next : ℕ) where
       go None = tt
       go (Some n) = tt
   mark_numbered e c late (of_boundary b) h = tt
+  mark_numbered e c late (of_catcher z) h = tt
   mark_numbered e c late plain h = tt
 
   mutual
@@ -186,6 +189,7 @@ module _ (Q : Option ℕ → ℕ → List ℤ → Type 0) (next : ℕ) where
           let same : z ≡ y = cc in subst (λ (w : Mounted). IsNumbered w.number w.component w.initials) same (h n is)
   mounted_has a (of_host k) y h at = absurd (cc at)
   mounted_has a (of_boundary b) y h at = absurd (cc at)
+  mounted_has a (of_catcher z) y h at = absurd (cc at)
   mounted_has a plain y h at = absurd (cc at)
 
   listed_has : (xs : List Spot) → SpotsHave xs → (m : Mounted) → IsIn m (mounted_at xs) → IsNumbered m.number m.component m.initials

@@ -27,7 +27,7 @@ use Rattle.rx_model.proofs.LaneSets.{same_lane-same}
 use Rattle.commit_laws.proofs.NoneLost.{NoneLost, more_pending, one_itself, push_pending, union_left, union_right}
 use Rattle.run_laws.specs.Carried.{IsCarried, RendersOn}
 use Rattle.transition_laws.specs.Transitions.{Transition, are_settled, is_gone, lane_of, transitions_in, updates_in}
-use Rattle.transition_laws.specs.Flags.{is_flag}
+use Rattle.transition_laws.specs.Flags.{flags_a_transition}
 use Rattle.transition_laws.proofs.Journals.{CountedFrom, counted_push, each_update}
 use Rattle.transition_laws.proofs.Lists.{all_and, all_more}
 use Rattle.transition_laws.proofs.Facts.{FlagFacts, OneKept, Pends, one_pends, target_is}
@@ -51,7 +51,7 @@ pub record Base (p : Program) (s : State) : Type 0 where
 
 -- what is kept of each flag of a mounted instance
 abbrev pub AllFacts : Program → State → Type 0
-AllFacts p s = (m : Mounted) (k : ℕ) → IsIn m (mounted s.tree) → is_flag p m.component k ≡ true → FactsOf s (hook m.number k)
+AllFacts p s = (m : Mounted) (k : ℕ) → IsIn m (mounted s.tree) → flags_a_transition p m.component k ≡ true → FactsOf s (hook m.number k)
 
 -- A dispatch in a transition lane, by the lane of its event
 

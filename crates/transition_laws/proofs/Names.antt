@@ -8,7 +8,7 @@ use Rattle.std.proofs.lemmas.List.{length-map}
 use Rattle.std.proofs.lemmas.Option.{slice_get_past}
 use Rattle.std.proofs.lemmas.Slice.Eq.{bytes_eq-Decides}
 use Rattle.rx_base.specs.Values.{Name}
-use Rattle.rx_ast.specs.Syntax.{Component, Program, Statement, constant, context, effect, reducer, state, transition, use_resource}
+use Rattle.rx_ast.specs.Syntax.{Component, Program, Statement, constant, context, effect, reducer, state, throw_if, transition, use_resource}
 use Rattle.rx_rules.specs.Names.{StateHook, component_at, component_names, hook_in, hook_names, hooks_of, place_among, root_name}
 use Rattle.rx_names.specs.Listed.{function_names}
 use Rattle.rx_check.specs.Accepted.{IsAccepted}
@@ -20,7 +20,7 @@ use Rattle.rx_script.specs.Lines.{hook_at, is_reducer, is_state, target_from, ta
 use Rattle.rx_elem.proofs.Deciding.{and_passes}
 use Rattle.rx_elem.specs.Spots.{Mounted}
 use Rattle.rx_model.specs.State.{find_from, hook_number, is_step, name_of, step_to}
-use Rattle.transition_laws.specs.Flags.{is_flag, is_flag_among}
+use Rattle.transition_laws.specs.Flags.{flags_a_transition, is_flag_among}
 use Rattle.transition_laws.proofs.Instances.{IsIn}
 use Rattle.transition_laws.proofs.NamesApart.{found_by_name}
 
@@ -138,6 +138,7 @@ reducers_plain (t ∷ ts) k h at f is = go (hook_in t) (λ j e. own t j e) k at 
     own (use_resource x r) j at same = absurd (cc at)
     own (constant x e) j at same = absurd (cc at)
     own (effect l x es) j at same = absurd (cc at)
+    own (throw_if e) j at same = absurd (cc at)
 
     go : (o : Option StateHook) → ((j : StateHook) → o ≡ Some j → j ≡ h → h.flag ≡ false) → (k : ℕ) → slice_get (cons_option o (filter_map hook_in ts)) k ≡ Some h
         → ((l : ℕ) → slice_get (filter_map hook_in ts) l ≡ Some h → h.flag ≡ false) → h.flag ≡ false
@@ -164,7 +165,7 @@ plain_kinds fs n h reducers plain = go h.reducer h.flag reducers plain
     go None true k (inl q) = absurd (cc q)
     go None true k (inr q) = absurd (cc q)
 
-plain_hook : (p : Program) (c : ℕ) (d : Component) (name : Name) → component_at p c ≡ Some d → IsPlain (hook_named p c name) → is_flag p c (hook_number p c name) ≡ false
+plain_hook : (p : Program) (c : ℕ) (d : Component) (name : Name) → component_at p c ≡ Some d → IsPlain (hook_named p c name) → flags_a_transition p c (hook_number p c name) ≡ false
 plain_hook p c d name at plain =
     subst (λ (o : Option Component). is_flag_among (option_map_or hooks_of o []) (place_among (option_map_or hook_names o []) name) ≡ false) (sym at)
     (let found = plain_some (hook_among (function_names p) name 0 (hooks_of d)) here in
@@ -179,7 +180,7 @@ plain_hook p c d name at plain =
 
 -- The hook that a path and a name lead to is no flag, if the path ends at a component in which the name is that of a useState or of a useReducer.
 pub no_flag : (p : Program) → IsAccepted p → (all : List Mounted) (path : Path) (name : Name) → IsPlain (hook_at p path name) → (m : Mounted) → find_from p all None path ≡ Some m
-    → is_flag p m.component (hook_number p m.component name) ≡ false
+    → flags_a_transition p m.component (hook_number p m.component name) ≡ false
 no_flag p a all [] name plain m led = absurd (cc led)
 no_flag p a all (part ∷ parts) name plain m led = go (component_at p m.component) refl
   where
@@ -192,7 +193,7 @@ no_flag p a all (part ∷ parts) name plain m led = go (component_at p m.compone
     ends None is (inr h) = absurd (cc h)
     ends (Some c) is h = (c, is, h)
 
-    go : (o : Option Component) → component_at p m.component ≡ o → is_flag p m.component (hook_number p m.component name) ≡ false
+    go : (o : Option Component) → component_at p m.component ≡ o → flags_a_transition p m.component (hook_number p m.component name) ≡ false
     go None at = rw at refl
     go (Some d) at =
         let target = ends (target_of p (part ∷ parts)) refl plain in

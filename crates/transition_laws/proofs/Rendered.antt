@@ -1,5 +1,5 @@
 -- What holds of the instances of a tree, by their number, their component and their values at mount, holds of those of a tree that is rendered from it.
-use Rattle.std.proofs.Common.{◌≡◌, ℕ, ℤ, zero, suc, true, Option, Some, None, List, [], ◌∷◌, ◌++◌, map, refl, subst, arith}
+use Rattle.std.proofs.Common.{◌≡◌, ℕ, ℤ, zero, suc, Bool, true, false, sym, Option, Some, None, List, [], ◌∷◌, ◌++◌, map, refl, subst, arith}
 use Rattle.std.specs.Prelude.{nat_eq, option_and_then, position, slice_get, slice_set}
 use Rattle.std.specs.List.{zip}
 use Rattle.std.specs.Option.{option_flatten}
@@ -10,12 +10,14 @@ use Rattle.rx_elem.specs.Compare.{node_at, old_nodes}
 use Rattle.rx_elem.specs.Elements.{Element, Elements, Kind, kind_of, listed, of_comp, same_kind}
 use Rattle.rx_elem.specs.Elements as elements
 use Rattle.rx_elem.specs.Identity.{Child, identified, identities_after, is_same_child}
-use Rattle.rx_elem.specs.Trees.{Forest, Instance, Mark, Node, child, children_if, elements_in, fallback_if, instance_in, node, none, of_boundary, of_host, of_instance, places, plain, vacant}
+use Rattle.rx_elem.specs.Trees.{Forest, Instance, Mark, Node, child, children_if, elements_in, fallback_if, instance_in, is_caught, node, node_over, none, of_boundary, of_catcher, of_host, of_instance, old_caught, places, plain, vacant}
+use Rattle.rx_catch.specs.declared.state.CatchState.TheVariants.{Caught}
+use Rattle.rx_elem.proofs.Over.{over_children, over_fallback}
 use Rattle.rx_elem.specs.declared.effect.ContextRead.{ContextRead}
 use Rattle.rx_elem.specs.declared.effect.VersionRead.{VersionRead}
 use Rattle.rx_elem.specs.declared.effect.EffectRecord.{EffectRecord}
-use Rattle.rx_meaning.specs.Body.{Body, Inputs, body_of, ready, wait}
-use Rattle.rx_meaning.specs.Fresh.{Contexts, Part, Place, Places, Sight, all_made, before, default_contexts, depth_limit, empty, fresh, inputs_at, instance_after, made, old_host, old_instance, one_waits, over, over_boundary, part, place, place_of, render_all, render_part, rendered, root_element, shape_of, shape_of_body, shape_of_component, waits}
+use Rattle.rx_meaning.specs.Body.{Body, Inputs, body_of, ready, throw, wait}
+use Rattle.rx_meaning.specs.Fresh.{Contexts, Part, Place, Places, Sight, all_made, before, default_contexts, depth_limit, empty, fresh, inputs_at, instance_after, made, old_host, old_instance, one_throws, one_waits, over, over_boundary, over_catcher, part, place, place_of, render_all, render_part, rendered, root_element, shape_of, shape_of_body, shape_of_catcher, shape_of_component, throws, waits}
 use Rattle.replay_laws.proofs.Rendering.{IfSameKind, kind_found}
 
 module _ (Q : Option ℕ → ℕ → List ℤ → Type 0) where
@@ -24,6 +26,7 @@ module _ (Q : Option ℕ → ℕ → List ℤ → Type 0) where
   MarkMeets e (of_instance i) = (kind_of e ≡ of_comp i.component) × Q i.number i.component i.initials
   MarkMeets e (of_host h) = Unit {0}
   MarkMeets e (of_boundary b) = Unit {0}
+  MarkMeets e (of_catcher c) = Unit {0}
   MarkMeets e plain = Unit {0}
 
   -- the same of each mark of a tree
@@ -46,10 +49,12 @@ module _ (Q : Option ℕ → ℕ → List ℤ → Type 0) where
   PlaceMeets empty = Unit {0}
   PlaceMeets (made n) = TreeMeets n
   PlaceMeets (waits a) = Unit {0}
+  PlaceMeets (throws x) = Unit {0}
 
   abbrev PlacesMeet : Places → Type 0
   PlacesMeet (all_made ns) = AllMeet ns
   PlacesMeet (one_waits a) = Unit {0}
+  PlacesMeet (one_throws x) = Unit {0}
 
   -- what holds of an instance at its mount, of a component of the program
   abbrev pub Mounts : Program → Type 0
@@ -100,9 +105,12 @@ module _ (Q : Option ℕ → ℕ → List ℤ → Type 0) where
   before_meets : (x : Place) (xs : Places) → PlaceMeets x → PlacesMeet xs → PlacesMeet (before x xs)
   before_meets empty (all_made ns) h k = k
   before_meets empty (one_waits a) h k = tt
+  before_meets empty (one_throws x) h k = tt
   before_meets (made n) (all_made ns) h k = (h, k)
   before_meets (made n) (one_waits a) h k = tt
+  before_meets (made n) (one_throws x) h k = tt
   before_meets (waits a) xs h k = tt
+  before_meets (throws x) xs h k = tt
 
   -- the places below meet it, whatever they are rendered against
   abbrev BelowMeets : ℕ → Sight → Type 0
@@ -119,13 +127,25 @@ module _ (Q : Option ℕ → ℕ → List ℤ → Type 0) where
   list_meets n s below q h = each_meets n s below q.contexts q.elements (old_nodes q.old q.elements) (all_old q.old h [] q.elements)
 
   over_meets : (e : Element) (m : Mark) (xs : Places) → MarkMeets e m → PlacesMeet xs → PlaceMeets (over e m xs)
-  over_meets e m (all_made ns) h k = (h, k, tt)
+  over_meets e m (all_made ns) h k = go (is_caught m) refl
+    where
+      go : (b : Bool) → is_caught m ≡ b → TreeMeets (node_over e m ns)
+      go true over = subst TreeMeets (sym (over_fallback e m ns over)) (h, tt, k)
+      go false over = subst TreeMeets (sym (over_children e m ns over)) (h, k, tt)
   over_meets e m (one_waits a) h k = tt
+  over_meets e m (one_throws x) h k = tt
 
   boundary_meets : (e : Element) (old : Option Node) (xs ys : Places) → IfMeets old → PlacesMeet xs → PlacesMeet ys → PlaceMeets (over_boundary e old xs ys)
   boundary_meets e old (all_made ns) ys h k l = (tt, k, tt)
   boundary_meets e old (one_waits a) (all_made fs) h k l = (tt, children_meet old h, l)
   boundary_meets e old (one_waits a) (one_waits b) h k l = tt
+  boundary_meets e old (one_waits a) (one_throws x) h k l = tt
+  boundary_meets e old (one_throws x) ys h k l = tt
+
+  guarded_meets : (e : Element) (xs ys : Places) → PlacesMeet xs → PlacesMeet ys → PlaceMeets (over_catcher e xs ys)
+  guarded_meets e (all_made ns) ys k l = (tt, k, tt)
+  guarded_meets e (one_waits a) ys k l = tt
+  guarded_meets e (one_throws x) ys k l = over_meets e (of_catcher (Caught x)) ys tt l
 
   -- An instance that goes on, and a new one
 
@@ -139,6 +159,7 @@ module _ (Q : Option ℕ → ℕ → List ℤ → Type 0) where
       subst (λ (k : Instance). Q k.number c k.initials) one (subst (λ (n : ℕ). Q j.number n j.initials) comp h.1)
   old_mark_meets c e (of_host k) i h same at = absurd (cc at)
   old_mark_meets c e (of_boundary b) i h same at = absurd (cc at)
+  old_mark_meets c e (of_catcher b) i h same at = absurd (cc at)
   old_mark_meets c e plain i h same at = absurd (cc at)
 
   old_instance_meets : (c : ℕ) (key : _) (props : List ℤ) (kids : Elements) (old : Option Node) (i : Instance) → IfMeets old
@@ -162,6 +183,7 @@ module _ (Q : Option ℕ → ℕ → List ℤ → Type 0) where
         with_body : (d : Component) → component_at s.program c ≡ Some d → (b : Body) → body_of s.program d (inputs_at s cs props kids (old_instance old)) ≡ b
             → PlaceMeets (place_of (rendered n s) (elements.comp c key props kids) old (shape_of_body cs c old b))
         with_body d there (wait r v) is = tt
+        with_body d there (throw x) is = tt
         with_body d there (ready es effects initials reads versions) is =
             over_meets (elements.comp c key props kids) (of_instance (instance_after c (old_instance old) initials reads versions effects))
             (render_part (rendered n s) (part cs es (children_if old)))
@@ -177,6 +199,14 @@ module _ (Q : Option ℕ → ℕ → List ℤ → Type 0) where
     one_meets : (e : Element) (m : Mark) (q : Part) → MarkMeets e m → AllMeet q.old → PlaceMeets (over e m (render_part (rendered n s) q))
     one_meets e m q h k = over_meets e m (render_part (rendered n s) q) h (list_meets n s below q k)
 
+    catcher_meets : (cs : Contexts) (key : _) (f : Element) (es : Elements) (old : Option Node) → IfMeets old → (caught : Option ℤ)
+        → PlaceMeets (place_of (rendered n s) (elements.catcher key f es) old (shape_of_catcher cs f es old caught))
+    catcher_meets cs key f es old h None =
+        guarded_meets (elements.catcher key f es) (render_part (rendered n s) (part cs (listed es) (children_if old))) (render_part (rendered n s) (part cs (f ∷ []) none))
+        (list_meets n s below (part cs (listed es) (children_if old)) (children_meet old h)) (list_meets n s below (part cs (f ∷ []) none) tt)
+    catcher_meets cs key f es old h (Some x) =
+        one_meets (elements.catcher key f es) (of_catcher (Caught x)) (part cs (f ∷ []) (fallback_if old)) tt (fallback_meets old h)
+
     place_meets : (cs : Contexts) (e : Element) (old : Option Node) → IfMeets old → IfSameKind e old → PlaceMeets (place (rendered n s) s cs e old)
     place_meets cs elements.null old h same = tt
     place_meets cs (elements.text t) old h same = one_meets (elements.text t) (of_host (old_host old)) (part cs [] none) tt tt
@@ -189,6 +219,7 @@ module _ (Q : Option ℕ → ℕ → List ℤ → Type 0) where
         (render_part (rendered n s) (part cs (f ∷ []) (fallback_if old))) h
         (list_meets n s below (part cs (listed es) (children_if old)) (children_meet old h))
         (list_meets n s below (part cs (f ∷ []) (fallback_if old)) (fallback_meets old h))
+    place_meets cs (elements.catcher key f es) old h same = catcher_meets cs key f es old h (old_caught old)
     place_meets cs (elements.provider c key x es) old h same =
         one_meets (elements.provider c key x es) plain (part (slice_set cs c x) (listed es) (children_if old)) tt (children_meet old h)
 

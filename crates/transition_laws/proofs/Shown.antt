@@ -9,7 +9,7 @@ use Rattle.rx_queue.specs.Journal.{Target, committed_value, hook, updates_of}
 use Rattle.rx_meaning.specs.Expressions.{answers_of}
 use Rattle.rx_model.specs.State.{State, linked_lanes}
 use Rattle.transition_laws.specs.Transitions.{AllSettled, IsStarted, Transition, are_settled, is_gone, lane_of, updates_in}
-use Rattle.transition_laws.specs.Flags.{FlagIsKept, FlagsAreKept, FlagsShow, IsOpenUntaken, IsWhole, KeepsLane, UnsetsLast, WaitsFor, is_flag, transitions_of}
+use Rattle.transition_laws.specs.Flags.{FlagIsKept, FlagsAreKept, FlagsShow, IsOpenUntaken, IsWhole, KeepsLane, UnsetsLast, WaitsFor, flags_a_transition, transitions_of}
 use Rattle.transition_laws.specs.Laws.{FlagLaw, KeptFlags}
 use Rattle.transition_laws.proofs.Journals.{each_update}
 use Rattle.transition_laws.proofs.Lists.{all_and, all_more, order_more}
@@ -23,7 +23,7 @@ use Rattle.transition_laws.proofs.Along.{Holds, reached_holds, turned_holds}
 
 -- What is kept of a flag
 
-module _ (p : Program) (s : State) (h : Holds p s) (m : Mounted) (k : ℕ) (n : ℕ) (at : slice_get (mounted s.tree) n ≡ Some m) (is : is_flag p m.component k ≡ true) where
+module _ (p : Program) (s : State) (h : Holds p s) (m : Mounted) (k : ℕ) (n : ℕ) (at : slice_get (mounted s.tree) n ≡ Some m) (is : flags_a_transition p m.component k ≡ true) where
   abbrev flag : Target
   flag = hook m.number k
 

@@ -7,7 +7,7 @@ use Rattle.rx_elem.proofs.Deciding.{or_left, or_right, same_itself, same_number}
 use Rattle.rx_elem.specs.Elements.{Element}
 use Rattle.rx_elem.specs.Numbers.{Numbers, numbered}
 use Rattle.rx_elem.specs.Spots.{Around, Mounted, Spot, around_children, at_root, kept_instances, mounted, mounted_as, mounted_at, numbers_of, spot_mark, spots, spots_in, visible_instances}
-use Rattle.rx_elem.specs.Trees.{Forest, Mark, Node, child, instance_in, node, none, of_boundary, of_host, of_instance, plain, vacant}
+use Rattle.rx_elem.specs.Trees.{Forest, Mark, Node, child, instance_in, node, none, of_boundary, of_catcher, of_host, of_instance, plain, vacant}
 use Rattle.rx_queue.specs.Journal.{Target, belongs_to, hook, resource, same_target}
 use Rattle.rx_meaning.specs.Fresh.{IsTree, Sight, fresh, made}
 use Rattle.transition_laws.specs.Transitions.{is_gone}
@@ -57,6 +57,7 @@ module _ (all : List Mounted) (Q : Option ℕ → ℕ → List ℤ → Type 0) w
           let y : Mounted = record { number = n; component = i.component; initials = i.initials; owner = a.owner; visible = a.visible } in (y, k y (inl refl), refl, refl)
   mark_stands e (of_host k) a rest within h = tt
   mark_stands e (of_boundary b) a rest within h = tt
+  mark_stands e (of_catcher z) a rest within h = tt
   mark_stands e plain a rest within h = tt
 
   mutual

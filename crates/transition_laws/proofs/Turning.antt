@@ -36,7 +36,7 @@ use Rattle.run_laws.proofs.Carrying.{start_renders}
 use Rattle.run_laws.proofs.Walk.{same_after}
 use Rattle.run_laws.specs.Carried.{Carries, IsCarried, RendersOn}
 use Rattle.transition_laws.specs.Transitions.{is_gone}
-use Rattle.transition_laws.specs.Flags.{is_flag}
+use Rattle.transition_laws.specs.Flags.{flags_a_transition}
 use Rattle.transition_laws.proofs.Journals.{counted_so, none_of}
 use Rattle.transition_laws.proofs.Lists.{all_and, all_back, all_more}
 use Rattle.transition_laws.proofs.Facts.{FlagFacts, Pends, no_transitions}
@@ -124,13 +124,13 @@ module _ (p : Program) (s : State) (g : Progress) (new : Node) (gives : fresh (s
   committed_rest : s.event.lane ≡ None → AllFacts p (with_render s g) → Rest p (committed_state s g (numbered s.numbers new))
   committed_rest none facts = (committed_base, λ m k at flag. go m k at flag (instance_stood (sight_of p s g) s.tree new s.numbers b.tree gives m at))
     where
-      go : (m : Mounted) (k : ℕ) → IsIn m (mounted (Some then_tree)) → is_flag p m.component k ≡ true → (s.numbers.instance ≤ m.number) ⊎ Stands (mounted s.tree) m.number m.component
+      go : (m : Mounted) (k : ℕ) → IsIn m (mounted (Some then_tree)) → flags_a_transition p m.component k ≡ true → (s.numbers.instance ≤ m.number) ⊎ Stands (mounted s.tree) m.number m.component
           → FactsOf (committed_state s g (numbered s.numbers new)) (hook m.number k)
       go m k at flag (inl late) =
           new_flag (hook m.number k)
           (all_more (λ u. (k i : ℕ) → s.numbers.instance ≤ i → same_target (hook i k) u.target ≡ false) (λ u. same_target (hook m.number k) u.target ≡ false) (λ u h. h k m.number late) s.journal.updates below)
       go m k at flag (inr stood) =
-          let was : is_flag p stood.0.component k ≡ true = subst (λ (n : ℕ). is_flag p n k ≡ true) (sym stood.3) flag in
+          let was : flags_a_transition p stood.0.component k ≡ true = subst (λ (n : ℕ). flags_a_transition p n k ≡ true) (sym stood.3) flag in
           let before : FactsOf (with_render s g) (hook m.number k) = subst (λ (n : ℕ). FactsOf (with_render s g) (hook n k)) stood.2 (facts stood.0 k stood.1 was) in
           let ended : FlagFacts s.tree (hook m.number k) (linked_lanes s.linked (hook m.number k)) s.schedule.links (Some g) None s.schedule.next_transition s.journal.updates =
           subst (λ (on : Option Lane). FlagFacts s.tree (hook m.number k) (linked_lanes s.linked (hook m.number k)) s.schedule.links (Some g) on s.schedule.next_transition s.journal.updates) none before in

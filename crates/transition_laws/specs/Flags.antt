@@ -20,8 +20,8 @@ abbrev pub is_flag_among : List StateHook → (number : ℕ) → Bool
 is_flag_among hooks k = option_map_or (λ h. h.flag) (slice_get hooks k) false
 
 -- the hook of this number of a component is the flag of a `useTransition`
-abbrev pub is_flag : Program → (component hook : ℕ) → Bool
-is_flag p c k = is_flag_among (option_map_or hooks_of (component_at p c) []) k
+abbrev pub flags_a_transition : Program → (component hook : ℕ) → Bool
+flags_a_transition p c k = is_flag_among (option_map_or hooks_of (component_at p c) []) k
 
 -- the transitions of a flag
 abbrev pub transitions_of : State → (flag : Target) → List Transition
@@ -30,7 +30,7 @@ transitions_of s flag = transitions_in flag s.journal.updates
 -- Each flag of a visible instance has the committed value 0 exactly if all updates of all its started transitions are settled.
 abbrev pub FlagsShow : Program → State → Type 0
 FlagsShow p s =
-    (n k : ℕ) (m : Mounted) (x : ℤ) → slice_get (mounted s.tree) n ≡ Some m → m.visible ≡ true → is_flag p m.component k ≡ true
+    (n k : ℕ) (m : Mounted) (x : ℤ) → slice_get (mounted s.tree) n ≡ Some m → m.visible ≡ true → flags_a_transition p m.component k ≡ true
     → slice_get (committed_values p s.journal m) k ≡ Some x
     → (x ≡ pos 0) ↔ AllByRecursion (λ e. IsStarted e → AllSettled s.tree e) (transitions_of s (hook m.number k))
 
@@ -101,4 +101,4 @@ pub record FlagIsKept (s : State) (flag : Target) : Type 0 where
 -- the same of each flag of a mounted instance
 abbrev pub FlagsAreKept : Program → State → Type 0
 FlagsAreKept p s =
-    (n k : ℕ) (m : Mounted) → slice_get (mounted s.tree) n ≡ Some m → is_flag p m.component k ≡ true → FlagIsKept s (hook m.number k)
+    (n k : ℕ) (m : Mounted) → slice_get (mounted s.tree) n ≡ Some m → flags_a_transition p m.component k ≡ true → FlagIsKept s (hook m.number k)

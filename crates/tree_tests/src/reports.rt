@@ -90,6 +90,14 @@ fn an_effect_with_its_values(rt: HostRuntime) -> Result<(), Fail> {
 }
 
 #[test]
+fn a_caught_value(rt: HostRuntime) -> Result<(), Fail> {
+    let mut report = Report::new(rt.alloc(), false, false);
+    report.caught_line(Int::of(-7))?;
+    assert!(rt; report.bytes() == b"caught -7\n".as_slice());
+    Ok(())
+}
+
+#[test]
 fn refusals(rt: HostRuntime) -> Result<(), Fail> {
     let mut report = Report::new(rt.alloc(), false, false);
     let path = vec![in rt.alloc();

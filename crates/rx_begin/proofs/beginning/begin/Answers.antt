@@ -23,7 +23,7 @@ use Rattle.std.specs.Prelude.{◌≡◌, true, false, not, None, is_some, option
 use Rattle.rx_children.proofs.Results.{if_ok}
 use Rattle.rx_begin.specs.Beginning.{awaited_again, is_taken}
 use Rattle.rx_begin.proofs.Standing.{element_is_again}
-use Rattle.rx_begin.proofs.Kids.{is_none, not_both, other_kids, other_no_body, other_takes_not, other_tried}
+use Rattle.rx_begin.proofs.Kids.{is_none, not_both, other_kids, other_no_body, other_no_throw, other_takes_not, other_tried}
 use Rattle.rx_children.proofs.Origins.{same_fiber, waits_with}
 use Rattle.rx_begin.proofs.Taking.{taken_over}
 use Rattle.rx_begin.proofs.Begins.{place_clone, place_held, place_kept, place_olds, place_shown, place_stood, place_tree, place_there, place_context, place_props, begins_body, begins_other, counts_one, made_at}
@@ -101,6 +101,9 @@ returns-in-Some-clause-taken_over g c = if_ok c.begin_component.result _ _ (λ b
 
 pub returns-in-Some-clause-waits : goal.returns-in-Some-clause-waits
 returns-in-Some-clause-waits g c = c.begin_component.ensures.waits
+
+pub returns-in-Some-clause-throws : goal.returns-in-Some-clause-throws
+returns-in-Some-clause-throws g c = c.begin_component.ensures.throws
 
 pub returns-then-takes_over-clause-rests : goal.returns-then-takes_over-clause-rests
 returns-then-takes_over-clause-rests g c is = c.takes_over.ensures.rest c.if-takes_over.true
@@ -285,6 +288,12 @@ returns-clause-waits g c r is =
     absurd (other_no_body c.args.scene.now (kept_hooks c.args.hooks.now) c.args.tree.now c.args.contexts.now c.begin_or_hide.new.tree c.begin_or_hide.new.contexts c.args.at c.in_ok-element.element
     c.origin-origin.result c.has_stood-stood.result c.is_as_before-again.result c.is_steady-steady.result c.generation_below-generation.result c.place_facts.ensures
     (λ v here. c.origin-origin.ensures ∙ ap (λ u. origin_of u.stage) (same_fiber c.args.tree.now c.args.at c.value-fiber.result.now v (c.value-fiber.ensures.made (made_at _ _ _ _ _ c.place_facts.ensures c.requires.place)) here)) c.in_ok-begun-in-None.begun c.in_ok-begun-in-None.ensures.begun r is)
+
+pub returns-clause-throws : goal.returns-clause-throws
+returns-clause-throws g c x is =
+    absurd (other_no_throw c.args.scene.now (kept_hooks c.args.hooks.now) c.args.tree.now c.args.contexts.now c.begin_or_hide.new.tree c.begin_or_hide.new.contexts c.args.at c.in_ok-element.element
+    c.origin-origin.result c.has_stood-stood.result c.is_as_before-again.result c.is_steady-steady.result c.generation_below-generation.result c.place_facts.ensures
+    (λ v here. c.origin-origin.ensures ∙ ap (λ u. origin_of u.stage) (same_fiber c.args.tree.now c.args.at c.value-fiber.result.now v (c.value-fiber.ensures.made (made_at _ _ _ _ _ c.place_facts.ensures c.requires.place)) here)) c.in_ok-begun-in-None.begun c.in_ok-begun-in-None.ensures.begun x is)
 
 pub returns-clause-rests : goal.returns-clause-rests
 returns-clause-rests g c is =

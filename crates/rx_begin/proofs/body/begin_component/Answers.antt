@@ -10,7 +10,7 @@ use Rattle.rx_hook_store.specs.Store.{kept_hooks}
 use Rattle.rx_children.proofs.Nodes.{bare_made}
 use Rattle.rx_begin.proofs.Bodies.{evaluated, instance_at}
 use Rattle.rx_fiber.specs.Fibers.{as_cloned}
-use Rattle.rx_begin.proofs.Kids.{opened_takes_not, opened_waits_not, opened_no_body}
+use Rattle.rx_begin.proofs.Kids.{opened_takes_not, opened_waits_not, opened_no_body, opened_no_throw}
 use Rattle.rx_begin.proofs.Keeping.{calm_shape}
 use Rattle.rx_begin.proofs.Standing.{instance_keeps, instance_there}
 use Rattle.rx_begin.proofs.body.begin_component.Goals as goal
@@ -70,3 +70,9 @@ pub returns-then-is_skipped-clause-kept : goal.returns-then-is_skipped-clause-ke
 returns-then-is_skipped-clause-kept g c none =
     instance_there c.args.tree.now.current (old_of c.args.tree.now.draft c.args.at) c.args.place.again _ (c.is_skipped.ensures.again c.if-is_skipped.true) (c.is_skipped.ensures.there c.if-is_skipped.true)
     (c.in_ok-old.ensures ∙ ap (λ o. option_and_then instance_in (mark_at c.args.tree.now.current o)) (c.alternate.ensures.made (bare_made c.args.tree.now c.args.at c.place_facts.ensures c.requires.bare)))
+
+pub returns-then-is_skipped-clause-throws : goal.returns-then-is_skipped-clause-throws
+returns-then-is_skipped-clause-throws g c x is = absurd (opened_no_throw (as_cloned c.args.place.steady) c.args.tree.now c.keep_body.new.tree c.args.at c.in_ok-begun.begun c.in_ok-begun.ensures.kids x is)
+
+pub returns-clause-throws : goal.returns-clause-throws
+returns-clause-throws g c x is = c.in_ok-begun-2.ensures.throws x is

@@ -1,7 +1,7 @@
 use Rattle.std.proofs.Common.{map, All, IfSome, Some, refl, sym, ap, ◌∙◌, subst, arith}
 use Rattle.std.proofs.lemmas.List.Elements.{All-get_or}
 use Rattle.std.specs.Prelude.{option_and_then}
-use Rattle.rx_elem.specs.Trees.{node, none, forest, is_hidden}
+use Rattle.rx_elem.specs.Trees.{node, none, forest, shows_fallback}
 use Rattle.rx_elem.specs.Compare.{node_at}
 use Rattle.rx_node.specs.MarkView.{mark_seen}
 use Rattle.rx_fiber.specs.FiberView.{stage_seen}
@@ -143,8 +143,9 @@ read_in_place-returns-clause-pruned t c =
 pub read_pair-read_lists-requires : goal.read_pair-read_lists-requires
 read_pair-read_lists-requires t c =
     let trees = c.args.tree.now in
-    let g = c.goes_on.ensures c.if-goes_on.true in
-    let o = old_children trees c.facts.ensures.fits c.facts.ensures.linked c.args.id c.requires.made c.args.old.now c.requires.old (ap is_hidden (sym c.mark.ensures) ∙ g.old_shown) in
+    let g = c.goes_on.ensures.goes c.if-goes_on.true in
+    let shown = c.goes_on.ensures.shown c.if-goes_on.true in
+    let o = old_children trees c.facts.ensures.fits c.facts.ensures.linked c.args.id c.requires.made c.args.old.now c.requires.old (ap shows_fallback (sym c.mark.ensures) ∙ shown.0) in
     (omega (arith, c.decreases), (record { made = c.requires.made; read = c.children.ensures.all ∙ o.0 }, c.requires.tree))
 
 pub read_pair-returns-clause-tree : goal.read_pair-returns-clause-tree
@@ -152,18 +153,20 @@ read_pair-returns-clause-tree t c =
     let trees = c.args.tree.now in
     let v = c.value-fiber.result.now in
     let w = mark_seen c.in-Begun.mark in
-    let g = c.goes_on.ensures c.if-goes_on.true in
+    let g = c.goes_on.ensures.goes c.if-goes_on.true in
+    let shown = c.goes_on.ensures.shown c.if-goes_on.true in
     let b = beside_at trees c.facts.ensures.fits c.facts.ensures.linked c.args.id c.requires.made in
-    let n = new_node trees c.args.id b v (c.value-fiber.ensures.made c.requires.made) w (sym c.stage.ensures ∙ ap stage_seen c.in-Begun.is) g.new_shown in
+    let n = new_node trees c.args.id b v (c.value-fiber.ensures.made c.requires.made) w (sym c.stage.ensures ∙ ap stage_seen c.in-Begun.is) shown.1 in
     ap Some (c.in_ok-pair.ensures.tree ∙ ap (λ f. node f w (forest c.in_ok-lists.lists.tree.items) none) c.element-2.ensures ∙ ap (λ ns. node v.element w ns none) c.in_ok-lists.ensures.tree) ∙ sym n
 
 pub read_pair-returns-clause-pruned : goal.read_pair-returns-clause-pruned
 read_pair-returns-clause-pruned t c =
     let trees = c.args.tree.now in
     let w = mark_seen c.in-Begun.mark in
-    let g = c.goes_on.ensures c.if-goes_on.true in
+    let g = c.goes_on.ensures.goes c.if-goes_on.true in
+    let shown = c.goes_on.ensures.shown c.if-goes_on.true in
     let go = subst (λ m. GoesOn m w) c.mark.ensures g in
-    let o = old_children trees c.facts.ensures.fits c.facts.ensures.linked c.args.id c.requires.made c.args.old.now c.requires.old go.old_shown in
+    let o = old_children trees c.facts.ensures.fits c.facts.ensures.linked c.args.id c.requires.made c.args.old.now c.requires.old (ap shows_fallback (sym c.mark.ensures) ∙ shown.0) in
     let lists = subst (λ d. AreLists d (forest c.children.result.now) (forest c.in_ok-lists.lists.tree.items) (forest c.in_ok-lists.lists.pruned_old.items) (forest c.in_ok-lists.lists.pruned_new.items)) c.displaced_below-below.ensures c.in_ok-lists.ensures.pruned in
     pair_pruned c.args.displaced c.args.old.now _ _ _ c.element-2.result.now w _ _ _ _ go lists c.children.ensures.all o.1
     c.in_ok-pair.ensures.tree c.in_ok-pair.ensures.pruned_old c.in_ok-pair.ensures.pruned_new
@@ -173,9 +176,10 @@ read_pair-returns-then-lists-clause-tree t c =
     let trees = c.args.tree.now in
     let v = c.value-fiber.result.now in
     let w = mark_seen c.in-Begun.mark in
-    let g = c.goes_on.ensures c.if-goes_on.true in
+    let g = c.goes_on.ensures.goes c.if-goes_on.true in
+    let shown = c.goes_on.ensures.shown c.if-goes_on.true in
     let b = beside_at trees c.facts.ensures.fits c.facts.ensures.linked c.args.id c.requires.made in
-    let n = new_node trees c.args.id b v (c.value-fiber.ensures.made c.requires.made) w (sym c.stage.ensures ∙ ap stage_seen c.in-Begun.is) g.new_shown in
+    let n = new_node trees c.args.id b v (c.value-fiber.ensures.made c.requires.made) w (sym c.stage.ensures ∙ ap stage_seen c.in-Begun.is) shown.1 in
     ap Some (c.in_ok-whole.ensures.tree ∙ ap (λ f. node f w (forest c.in_ok-lists.lists.tree.items) none) c.element.ensures ∙ ap (λ ns. node v.element w ns none) c.in_ok-lists.ensures.tree) ∙ sym n
 
 pub read_slot-returns-in_default-clause-pruned : goal.read_slot-returns-in_default-clause-pruned

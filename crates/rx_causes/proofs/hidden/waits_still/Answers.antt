@@ -37,12 +37,12 @@ returns-then-any_news-clause-tries c none x a was is =
     let own = marks_node trees c.args.old c.in_ok-id.id c.value.result.now _ c.in_ok-id.was (c.value.ensures.current held) c.stage.ensures x was (of_boundary (Hidden c.in_ok-awaits.awaits)) c.in_ok-awaits.ensures.hidden in
     let same : c.in_ok-awaits.awaits ≡ a = (let f : of_boundary (Hidden c.in_ok-awaits.awaits) ≡ of_boundary (Hidden a) = sym own ∙ is in cc) in
     elim c.if-has_value.branch [
-      | then-has_value w ↦ inr (inl (subst (HasValueOf c.args.scene.now.resources.now) same (c.has_value.ensures.some w.if-has_value.true)))
+      | then-has_value w ↦ inr (inr (inl (subst (HasValueOf c.args.scene.now.resources.now) same (c.has_value.ensures.some w.if-has_value.true))))
       | else-has_value w ↦
           inr
-          (inr (kept_news trees c.facts.ensures.linked c.args.old c.old_primary-kept.result
+          (inr (inr (kept_news trees c.facts.ensures.linked c.args.old c.old_primary-kept.result
           (c.old_primary-kept.ensures.list ∙ ap (λ o. primary_list (list_from trees o)) (sym c.in_ok-id.was)) (kept_hooks c.args.hooks.now) c.args.scene.now.lanes c.args.scene.now.cut x was
-          (w.any_news.ensures.some (sym w.value-is ∙ c.if-any_news.true))))
+          (w.any_news.ensures.some (sym w.value-is ∙ c.if-any_news.true)))))
     ]
 
 pub returns-else-any_news-clause-waits : goal.returns-else-any_news-clause-waits
@@ -58,6 +58,7 @@ returns-else-any_news-clause-waits c s x is was gives =
             hidden = marks_node trees c.args.old c.in_ok-id.id c.value.result.now _ c.in_ok-id.was (c.value.ensures.current held) c.stage.ensures x was (of_boundary (Hidden c.in_ok-awaits.awaits)) c.in_ok-awaits.ensures.hidden;
             unresolved = none_resolved s c.in_ok-awaits.awaits c.args.scene.now.resources.now is.resources few (c.has_value.ensures.none w.if-has_value.false);
             versions = sym is.refreshes ∙ c.if-scene.false;
+            calm = sym is.throws ∙ c.if-scene-2.false;
             same =
                 kept_agrees trees c.facts.ensures.linked c.args.old c.old_primary-kept.result
                 (c.old_primary-kept.ensures.list ∙ ap (λ o. primary_list (list_from trees o)) (sym c.in_ok-id.was)) (kept_hooks c.args.hooks.now) c.args.scene.now.lanes c.args.scene.now.cut x was s is.lanes is.cut

@@ -5,7 +5,7 @@ use Rattle.rx_complete.proofs.Waiting.{here_below, made_below, outer_made, outer
 use Rattle.rx_complete.proofs.outwards.find_boundary.Goals as goal
 
 pub outwards-init : goal.outwards-init
-outwards-init c = ((λ levels fs w. (levels, fs, w, refl)), at_first c.args.tree.now c.args.at)
+outwards-init c = ((λ levels fs w. (levels, fs, w, refl)), at_first is_trying c.args.tree.now c.args.at)
 
 pub parent-requires : goal.parent-requires
 parent-requires c = inr (made_below _ _ _ c.place_facts.ensures (here_below _ _ _ _ _ _ _ c.outwards.invariant.0 c.requires))
@@ -27,7 +27,7 @@ pub returns-then-tries-clause-nearest : goal.returns-then-tries-clause-nearest
 returns-then-tries-clause-nearest c =
     let below = here_below _ _ _ _ _ _ _ c.outwards.invariant.0 c.requires in
     let parent = sym (c.parent.ensures.made (made_below _ _ _ c.place_facts.ensures below)) ∙ c.in-Some.is in
-    comes_to _ c.place_facts.ensures _ _ c.outwards.invariant.1 c.in-Some.outer c.value-fiber.result.now parent
+    comes_to is_trying _ c.place_facts.ensures _ _ c.outwards.invariant.1 c.in-Some.outer c.value-fiber.result.now parent
     (c.value-fiber.ensures.made (outer_made _ _ _ _ c.place_facts.ensures below parent))
     (sym (ap is_trying c.stage.ensures) ∙ (sym c.tries.ensures ∙ c.if-tries.true))
 
@@ -44,7 +44,7 @@ outwards-preserved c =
     let not = sym (ap is_trying c.stage.ensures) ∙ (sym c.tries.ensures ∙ c.if-tries.false) in (
       goes_on _ c.place_facts.ensures _ _ _ _ _ _ c.outwards.invariant.0 c.leave.new.contexts c.in-Some.outer c.value-fiber.result.now c.element.result.now c.past.result
           parent value not c.element.ensures (c.leave.ensures.stack, c.leave.ensures.moves) (c.past.ensures ∙ ap (λ s. passed_on s c.outwards.awaits) c.stage-in-Some.ensures),
-      passes _ c.place_facts.ensures _ _ c.outwards.invariant.1 c.in-Some.outer c.value-fiber.result.now parent value not,
+      passes is_trying _ c.place_facts.ensures _ _ c.outwards.invariant.1 c.in-Some.outer c.value-fiber.result.now parent value not,
     )
 
 pub returns-clause-left : goal.returns-clause-left
@@ -55,4 +55,4 @@ returns-clause-left c =
 pub returns-clause-nearest : goal.returns-clause-nearest
 returns-clause-nearest c =
     let below = here_below _ _ _ _ _ _ _ c.outwards.invariant.0 c.requires in
-    comes_to_none _ c.place_facts.ensures _ _ c.outwards.invariant.1 (sym (c.parent.ensures.made (made_below _ _ _ c.place_facts.ensures below)) ∙ c.in_default.is)
+    comes_to_none is_trying _ c.place_facts.ensures _ _ c.outwards.invariant.1 (sym (c.parent.ensures.made (made_below _ _ _ c.place_facts.ensures below)) ∙ c.in_default.is)

@@ -13,13 +13,14 @@ use Rattle.rx_ways.specs.Ways.{is_way}
 use Rattle.rx_begin.specs.Beginning.{BeginsPlace, awaited_again, is_taken}
 use Rattle.rx_render.specs.declared.at.At.TheVariants.{Begins}
 use Rattle.rx_render.specs.Advancing.{at_opened, Advances}
-use Rattle.rx_render.proofs.Advancing.{can_begin, waits_below, child_advances, leaf_advances, waits_advances, hidden_left, hidden_tried, hidden_advances, taken_made, taken_advances, opened_comes}
+use Rattle.rx_render.proofs.Advancing.{can_begin, waits_below, throws_below, child_advances, leaf_advances, throws_advances, waits_advances, hidden_left, hidden_tried, hidden_advances, taken_made, taken_advances, opened_comes}
 use Rattle.rx_fiber.specs.Subtrees.{IsGathered}
 use Rattle.rx_links.specs.Drafts.{Trees, old_of}
 use Rattle.rx_fiber.specs.Fibers.{Fiber, as_cloned}
 use Rattle.rx_render.specs.Gathers.{GatheredHere, IsGathering}
 use Rattle.rx_render.proofs.Gathering.{child_gathered, leaf_gathered, again_gathered, passed_gathered, taken_node}
-use Rattle.rx_render.proofs.Paying.{again_flags, child_paid, leaf_paid, passed_flags, waits_paid}
+use Rattle.rx_render.proofs.Guarded.{throws_guarded}
+use Rattle.rx_render.proofs.Paying.{again_flags, child_paid, leaf_paid, passed_flags, throws_paid, waits_paid}
 use Rattle.rx_meaning.specs.Touched.{is_memo}
 use Rattle.rx_children.specs.Origins.{IsAgain}
 use Rattle.rx_render.proofs.advance.begin_place.Goals as goal
@@ -34,6 +35,16 @@ pub suspend-requires : goal.suspend-requires
 suspend-requires g c =
     waits_below c.args.scene.now (kept_hooks c.args.hooks.now) c.args.tree.now c.args.contexts.now c.begin.new.tree c.begin.new.contexts c.args.id c.in-Suspended.resource c.requires
     (λ s sees. subst (BeginsPlace s (is_way c.args.scene.now.ways.now) (kept_hooks c.args.hooks.now) c.args.tree.now c.args.contexts.now c.begin.new.tree c.begin.new.contexts c.args.id) c.in-Suspended.is (c.in_ok-begun.ensures.begun s sees))
+
+pub throw_out-requires-clause-below : goal.throw_out-requires-clause-below
+throw_out-requires-clause-below g c =
+    throws_below c.args.scene.now (kept_hooks c.args.hooks.now) c.args.tree.now c.args.contexts.now c.begin.new.tree c.begin.new.contexts c.args.id c.in-Thrown.value c.requires
+    (λ s sees. subst (BeginsPlace s (is_way c.args.scene.now.ways.now) (kept_hooks c.args.hooks.now) c.args.tree.now c.args.contexts.now c.begin.new.tree c.begin.new.contexts c.args.id) c.in-Thrown.is (c.in_ok-begun.ensures.begun s sees))
+
+pub throw_out-requires-clause-guarded : goal.throw_out-requires-clause-guarded
+throw_out-requires-clause-guarded g c =
+    throws_guarded c.args.scene.now (kept_hooks c.args.hooks.now) c.args.tree.now c.args.contexts.now c.begin.new.tree c.begin.new.contexts c.args.id c.in-Thrown.value c.facts.ensures.fits c.requires
+    (λ s sees. subst (BeginsPlace s (is_way c.args.scene.now.ways.now) (kept_hooks c.args.hooks.now) c.args.tree.now c.args.contexts.now c.begin.new.tree c.begin.new.contexts c.args.id) c.in-Thrown.is (c.in_ok-begun.ensures.begun s sees))
 
 pub returns-in-Child-clause-comes : goal.returns-in-Child-clause-comes
 returns-in-Child-clause-comes g c s sees =
@@ -60,6 +71,16 @@ returns-in_ok-at-in-Suspended-clause-comes g c s sees =
     (waits_paid s c.args.scene.now sees (kept_hooks c.args.hooks.now) c.args.tree.now c.args.contexts.now c.args.id c.in_ok-begun.evaluated c.facts.ensures.fits
     (record { none = c.in_ok-begun.ensures.none; some = c.in_ok-begun.ensures.body }) (λ n fs cs e old. c.in_ok-begun.ensures.few s n fs cs e old sees) (λ v there none same stood. c.in_ok-begun.ensures.tries v there none same stood (ap awaited_again c.in-Suspended.is))
     c.begin.new.tree c.begin.new.contexts c.in-Suspended.resource c.suspend.new.tree c.in_ok-at-in-Suspended.at (c.in_ok-begun.ensures.waits c.in-Suspended.resource c.in-Suspended.is) c.in_ok-at-in-Suspended.ensures.flags)
+
+pub returns-in_ok-at-in-Thrown-clause-comes : goal.returns-in_ok-at-in-Thrown-clause-comes
+returns-in_ok-at-in-Thrown-clause-comes g c s sees =
+    throws_advances s (is_way c.args.scene.now.ways.now) (kept_hooks c.args.hooks.now) c.args.tree.now c.args.contexts.now c.begin.new.tree c.begin.new.contexts c.args.id _ (λ n fs cs e old. c.in_ok-begun.ensures.few s n fs cs e old sees) c.in-Thrown.value c.throw_out.new.tree c.throw_out.new.contexts
+    c.in_ok-at-in-Thrown.at
+    (subst (BeginsPlace s (is_way c.args.scene.now.ways.now) (kept_hooks c.args.hooks.now) c.args.tree.now c.args.contexts.now c.begin.new.tree c.begin.new.contexts c.args.id) c.in-Thrown.is (c.in_ok-begun.ensures.begun s sees))
+    c.in_ok-at-in-Thrown.ensures.comes
+    (throws_paid s c.args.scene.now sees (kept_hooks c.args.hooks.now) c.args.tree.now c.args.contexts.now c.args.id c.in_ok-begun.evaluated c.facts.ensures.fits
+    (record { none = c.in_ok-begun.ensures.none; some = c.in_ok-begun.ensures.body }) (λ n fs cs e old. c.in_ok-begun.ensures.few s n fs cs e old sees) (λ v there none same stood. c.in_ok-begun.ensures.tries v there none same stood (ap awaited_again c.in-Thrown.is))
+    c.begin.new.tree c.begin.new.contexts c.in-Thrown.value c.throw_out.new.tree c.in_ok-at-in-Thrown.at (c.in_ok-begun.ensures.throws c.in-Thrown.value c.in-Thrown.is) c.in_ok-at-in-Thrown.ensures.flags)
 
 pub open_old_fallback-requires : goal.open_old_fallback-requires
 open_old_fallback-requires g c =
@@ -117,6 +138,11 @@ pub returns-in_ok-at-in-Suspended-clause-gathered : goal.returns-in_ok-at-in-Sus
 returns-in_ok-at-in-Suspended-clause-gathered g c current h =
     let same = sym (c.in_ok-begun.ensures.waits c.in-Suspended.resource c.in-Suspended.is) in
     c.in_ok-at-in-Suspended.ensures.gathered (subst (λ (t : Trees Fiber). IsGathered t.current) same current) (subst (λ t. GatheredHere t c.args.id) same h)
+
+pub returns-in_ok-at-in-Thrown-clause-gathered : goal.returns-in_ok-at-in-Thrown-clause-gathered
+returns-in_ok-at-in-Thrown-clause-gathered g c current h =
+    let same = sym (c.in_ok-begun.ensures.throws c.in-Thrown.value c.in-Thrown.is) in
+    c.in_ok-at-in-Thrown.ensures.gathered (subst (λ (t : Trees Fiber). IsGathered t.current) same current) (subst (λ t. GatheredHere t c.args.id) same h)
 
 pub returns-in_ok-opened-in-Hidden-clause-gathered : goal.returns-in_ok-opened-in-Hidden-clause-gathered
 returns-in_ok-opened-in-Hidden-clause-gathered g c current h =

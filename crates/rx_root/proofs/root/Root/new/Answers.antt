@@ -10,7 +10,7 @@ use Rattle.rx_root.proofs.root.Root.new.Goals as goal
 pub returns-clause-stands : goal.returns-clause-stands
 returns-clause-stands c =
     let made = c.in_ok-renderer.ensures in
-    opening_stands c.args.checked c.in_ok-renderer.renderer c.new-3.result c.new-4.result c.in_ok-resources.resources c.new-5.result c.none.result made.program made.current made.hooks made.idle
+    opening_stands c.args.checked c.in_ok-renderer.renderer c.new-3.result c.new-4.result c.in_ok-resources.resources c.new-5.result c.none.result made.program made.current made.seen made.hooks made.idle
     c.new-3.ensures c.new-4.ensures (c.in_ok-resources.ensures ∙ ap (λ (names : List Name). replicate (length names) kept_of.opening) c.resources.ensures) c.new-5.ensures c.links_are_below.ensures.start
 
 pub returns-clause-resources : goal.returns-clause-resources

@@ -59,7 +59,7 @@ returns-in_err-seen-clause-broken c =
     (λ p s i none.
     let v = the_view c.self.inside in
     let h = subst (λ (x : Rooted). Stands p s x) (sym c.self.view_is) i in
-    passive_broken p s v _ v.rendering c.flush_passive.new.self c.args.log.now c.flush_passive.new.log h none refl refl refl refl c.in_ok-flush_passive.ensures.ended
+    passive_broken p s v _ v.rendering c.flush_passive.new.self c.args.log.now c.flush_passive.new.log h none refl refl refl refl refl c.in_ok-flush_passive.ensures.ended
     c.in_ok-flush_passive.ensures.written)
 
 pub returns-in_err-start-clause-broken : goal.returns-in_err-start-clause-broken
@@ -69,5 +69,5 @@ returns-in_err-start-clause-broken c =
     let v = the_view c.self.inside in
     let h = subst (λ (x : Rooted). Stands p s x) (sym c.self.view_is) i in
     let on = c.in_err-start.ensures in
-    passive_broken p s v _ c.start.new.self c.flush_passive.new.self c.args.log.now c.flush_passive.new.log h none refl on.program on.current on.hooks c.in_ok-flush_passive.ensures.ended
+    passive_broken p s v _ c.start.new.self c.flush_passive.new.self c.args.log.now c.flush_passive.new.log h none refl on.program on.current on.seen on.hooks c.in_ok-flush_passive.ensures.ended
     c.in_ok-flush_passive.ensures.written)

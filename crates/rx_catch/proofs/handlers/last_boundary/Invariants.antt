@@ -1,0 +1,8 @@
+use Rattle.std.proofs.Common.{◌≡◌, drop}
+use Rattle.std.specs.Prelude.{fold}
+use Rattle.rx_catch.specs.Nearest.{nearer_boundary, nearest_boundary}
+use Rattle.rx_catch.proofs.handlers.last_boundary.Given as goal
+
+-- the last of those so far is outside of those that are left
+abbrev pub invariant-passing : goal.invariant-passing
+invariant-passing l = fold nearer_boundary l.last (drop l.handler-index l.handlers) ≡ nearest_boundary l.handlers
