@@ -1,10 +1,10 @@
 // A commit that is prepared.
 ghost use Rattle.std.specs.Prelude.{◌≡◌, ◌∷◌, ◌++◌, [], Option, Some, IfOk, OnErr, OnOk, map};
 ghost use Rattle.std.specs.Option.{option_copied};
-ghost use Rattle.rx_elem.specs.Compare.{compare_trees};
+ghost use Rattle.rx_elem.specs.Compare.{changes, compare_trees};
 ghost use Rattle.rx_elem.specs.Trees.{Node};
 ghost use Rattle.rx_forest.specs.Hosts.{hosts};
-ghost use Rattle.rx_forest.specs.HostOps.{host_ops, ops_between};
+ghost use Rattle.rx_forest.specs.HostOps.{host_ops, ops_between, placed_hosts};
 ghost use Rattle.rx_lane.specs.Lanes.{has, lanes_where};
 ghost use Rattle.rx_lines.specs.Lines.{caught, committed, logged, operated};
 ghost use Rattle.rx_pruned.specs.Besides.{IsBeside};
@@ -16,17 +16,13 @@ ghost use Rattle.prune_laws.specs.Staying.{AreOfCommit};
 ghost use Rattle.rx_commit.specs.Shown.{Prepares};
 ghost use Rattle.rx_commit.specs.Written.{GoesOn, lines_of, sync_lines, with_lines};
 
-use crate::writing::{add_caught, add_effects, add_ops, add_passive, cut_back};
+use crate::writing::{add_caught, add_lines, add_ops, cut_back};
 use prune_laws::{hosts_that_stay_need_nothing, pruned_trees_compare_alike};
 use rx_base::Int;
-use rx_compare::{Compared, caught_in, compare_trees as compare};
-use rx_effect::LogLine;
+use rx_changes::{Changes, Lines, changes_between};
 use rx_forest::HostOp;
-use rx_host_ops::{
-    have_same_numbers, hosts as listed, ops_between as between, ops_in_place, placed_hosts,
-};
+use rx_host_ops::{have_same_numbers, hosts as listed, ops_between as between, ops_in_place};
 use rx_lane::{Lane, Lanes};
-use rx_log::{Passive, layout_log, passive_effects};
 use rx_node as node;
 use rx_pruned::Beside;
 use rx_report::Report;
@@ -40,13 +36,14 @@ pub struct Prepared {
     pub(crate) tree: node::Node,
     pub(crate) ops: Vec<HostOp>,
     caught: Vec<Int>,
-    layout: Vec<LogLine>,
-    pub(crate) passive: Passive,
+    layout: Lines,
+    pub(crate) passive: Lines,
 }
 
 impl Model for Prepared {
+    ghost use Rattle.std.specs.Prelude.{◌++◌};
     ghost use Rattle.rx_commit.specs.Shown as shown;
-    ghost use Rattle.rx_log.specs.PassiveView.{passive_seen};
+    ghost use Rattle.rx_changes.specs.ChangesView.{passive_seen};
 
     ghost Value = { shown.Prepared };
 
@@ -55,7 +52,7 @@ impl Model for Prepared {
 
     ghost coded = { Prim.hlevel (codes, node_code) };
 
-    ghost view = { λ p. record { tree = p.tree; ops = p.ops.items; caught = p.caught.items; layout = p.layout.items; passive = passive_seen p.passive } };
+    ghost view = { λ p. record { tree = p.tree; ops = p.ops.items; caught = p.caught.items; layout = p.layout.destroyed.items ++ p.layout.created.items; passive = passive_seen p.passive } };
 }
 
 // The operations from the hosts of one tree to those of another.
@@ -94,20 +91,19 @@ fn ops_beside(
     alloc: Global,
     old: Option<&node::Node>,
     beside: &Beside,
-    compared: &Compared,
+    placed: &[u64],
 ) -> Result<Vec<HostOp>, AllocError>
     requires beside { IsBeside (option_copied old) beside.now }
-    requires compared { compared.now ≡ compare_trees beside.now.pruned_old beside.now.pruned_new }
+    requires placed { placed.now ≡ placed_hosts (changes (compare_trees beside.now.pruned_old beside.now.pruned_new)) }
     ensures { IfOk result (λ ops. IfHasNoNull (option_copied old.entry) → AreOfCommit (option_copied old.entry) beside.now.tree → ops.items ≡ host_ops (option_copied old.entry) beside.now.tree) }
 {
     pruned_trees_compare_alike();
     hosts_that_stay_need_nothing();
-    let placed = placed_hosts(alloc, compared)?;
     if placed.is_empty() {
         let pruned = beside.pruned_old.as_ref();
         changes_from(alloc, pruned, &beside.pruned_new)
     } else {
-        ops_from(alloc, old, &beside.tree, &placed)
+        ops_from(alloc, old, &beside.tree, placed)
     }
 }
 
@@ -123,12 +119,18 @@ impl Prepared {
     {
         pruned_trees_compare_alike();
         let pruned = beside.pruned_old.as_ref();
-        let compared = compare(alloc, pruned, &beside.pruned_new)?;
+        let Changes {
+            layout,
+            passive,
+            placed,
+            caught,
+            hidden: _hidden,
+        } = changes_between(alloc, pruned, &beside.pruned_new)?;
         Ok(Prepared {
-            ops: ops_beside(alloc, old, beside, &compared)?,
-            caught: caught_in(alloc, &compared)?,
-            layout: layout_log(alloc, &compared)?,
-            passive: passive_effects(alloc, &compared)?,
+            ops: ops_beside(alloc, old, beside, &placed)?,
+            caught,
+            layout,
+            passive,
             tree: beside.tree.copy()?,
         })
     }
@@ -193,7 +195,7 @@ impl Prepared {
         log.commit_line(number, lanes, units, bodies)?;
         add_ops(log, &self.ops)?;
         add_caught(log, &self.caught)?;
-        add_effects(log, &self.layout)
+        add_lines(log, &self.layout)
     }
 
     // The passive effects, if the commit runs them itself.
@@ -202,7 +204,7 @@ impl Prepared {
         ensures goes_on { GoesOn log.old log.new }
     {
         if lanes.has(Lane::Sync) {
-            return add_passive(log, &self.passive);
+            return add_lines(log, &self.passive);
         }
         Ok(())
     }

@@ -19,13 +19,13 @@ ghost use Rattle.rx_commit.specs.Shown.{CanCommit, Prepares, Shows, outcome_as};
 ghost use Rattle.rx_commit.specs.Written.{passive_lines, with_lines};
 
 use crate::prepared::Prepared;
-use crate::writing::{add_passive, cut_back};
+use crate::writing::{add_lines, cut_back};
 use prune_laws::pruned_trees_compare_alike;
 use rx_base::Awaits;
-use rx_compare::{Outcome, compare_trees, outcome_of};
+use rx_changes::{Lines, changes_between};
+use rx_compare::{Outcome, outcome_of};
 use rx_host::{HostTree, apply_all};
 use rx_lane::Lanes;
-use rx_log::Passive;
 use rx_node as node;
 use rx_pruned::Beside;
 use rx_report::Report;
@@ -37,12 +37,12 @@ use std::marker::Model;
 pub struct Shown {
     tree: Option<node::Node>,
     hosts: HostTree,
-    passive: Passive,
+    passive: Lines,
 }
 
 impl Model for Shown {
     ghost use Rattle.rx_commit.specs.Shown as shown;
-    ghost use Rattle.rx_log.specs.PassiveView.{passive_seen};
+    ghost use Rattle.rx_changes.specs.ChangesView.{passive_seen};
 
     ghost Value = { shown.Shown };
 
@@ -73,10 +73,7 @@ impl Shown {
         Shown {
             tree: None,
             hosts: HostTree::new(alloc),
-            passive: Passive {
-                destroyed: Vec::new(alloc),
-                created: Vec::new(alloc),
-            },
+            passive: Lines::new(alloc),
         }
     }
 
@@ -106,8 +103,9 @@ impl Shown {
         if !lanes.only_transitions() {
             return Ok(None);
         }
-        let compared = compare_trees(alloc, beside.pruned_old.as_ref(), &beside.pruned_new)?;
-        match outcome_of(lanes, &compared) {
+        let pruned = beside.pruned_old.as_ref();
+        let changes = changes_between(alloc, pruned, &beside.pruned_new)?;
+        match outcome_of(lanes, changes.hidden) {
             Outcome::Commit => Ok(None),
             Outcome::Defer(awaits) => Ok(Some(awaits)),
         }
@@ -165,7 +163,7 @@ impl Shown {
         ensures unchanged { OnErr result (log.new ≡ log.old) }
     {
         let len = log.len();
-        let written = add_passive(log, &self.passive);
+        let written = add_lines(log, &self.passive);
         cut_back(log, len, written)
     }
 

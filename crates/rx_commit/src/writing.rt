@@ -1,13 +1,13 @@
 // Lines behind those that a report has.
 ghost use Rattle.std.specs.Prelude.{◌≡◌, take, OnErr, OnOk, map};
 ghost use Rattle.rx_lines.specs.Lines.{caught, logged, operated};
-ghost use Rattle.rx_log.specs.PassiveView.{passive_seen};
+ghost use Rattle.rx_changes.specs.ChangesView.{passive_seen};
 ghost use Rattle.rx_commit.specs.Written.{GoesOn, passive_lines, with_lines};
 
 use rx_base::Int;
+use rx_changes::Lines;
 use rx_effect::LogLine;
 use rx_forest::HostOp;
-use rx_log::Passive;
 use rx_report::Report;
 use std::alloc::AllocError;
 
@@ -44,13 +44,13 @@ pub(crate) fn add_effects(log: &mut Report, lines: &[LogLine]) -> Result<(), All
     Ok(())
 }
 
-// Passive effects that run.
-pub(crate) fn add_passive(log: &mut Report, passive: &Passive) -> Result<(), AllocError>
-    ensures written { OnOk result (log.new ≡ with_lines log.old (passive_lines (passive_seen passive.now))) }
+// Effects of one kind, destructions before creations.
+pub(crate) fn add_lines(log: &mut Report, lines: &Lines) -> Result<(), AllocError>
+    ensures written { OnOk result (log.new ≡ with_lines log.old (passive_lines (passive_seen lines.now))) }
     ensures goes_on { GoesOn log.old log.new }
 {
-    add_effects(log, &passive.destroyed)?;
-    add_effects(log, &passive.created)
+    add_effects(log, &lines.destroyed)?;
+    add_effects(log, &lines.created)
 }
 
 /// Takes back what was written behind so many bytes, if memory ran out for the rest of it.

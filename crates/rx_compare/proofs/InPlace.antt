@@ -11,7 +11,7 @@ use Rattle.rx_elem.specs.Elements.{Element, Key, Kind, absent, of_text, of_host,
 use Rattle.rx_elem.specs.Elements as elements
 use Rattle.rx_elem.specs.Identity.{Child, Identity, at_index, at_key, has_key, identified, identities_after, identity_after, is_reused, is_same_child, same_identity, moves_after, old_places, removed_places}
 use Rattle.rx_elem.specs.Trees.{Node, Forest, none, vacant, child, element_of, elements_in, places}
-use Rattle.rx_elem.specs.Compare.{Past, pasts, node_at, gone_from}
+use Rattle.rx_elem.specs.Compare.{Past, pasts, node_at, gone_nodes}
 use Rattle.rx_elem.proofs.Identities.{child_of, same_self}
 use Rattle.rx_keys.proofs.Distinct.{position_is_the_one}
 use Rattle.rx_compare.specs.InPlace.{AreInPlace, stayed}
@@ -240,5 +240,5 @@ pasts_in_place os ns h =
     (read_from (node_at os) 0 os ns h (λ i q e. let same : q ≡ i = omega arith in ap (λ j. option_flatten (slice_get (places os) j)) same))
 
 -- none is gone
-pub none_gone_in_place : (visible : Bool) (os ns : Forest) → AreInPlace os ns → gone_from visible os ns ≡ []
-none_gone_in_place visible os ns h = rw (none_removed (elements_in os) (elements_in ns) (beside_of os ns h)) refl
+pub no_nodes_gone : (os ns : Forest) → AreInPlace os ns → gone_nodes os (elements_in ns) ≡ []
+no_nodes_gone os ns h = rw (none_removed (elements_in os) (elements_in ns) (beside_of os ns h)) refl

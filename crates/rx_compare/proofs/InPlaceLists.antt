@@ -1,10 +1,9 @@
 -- Lists with the same children, place by place, as the code goes through them.
-use Rattle.std.proofs.Common.{◌≡◌, ℕ, zero, suc, ◌+◌, ◌<◌, Bool, false, List, [], ◌∷◌, ◌++◌, length, get_or, take, drop, Option, Some, None, refl, ap, sym, subst, ◌∙◌, arith, add-one}
-use Rattle.std.proofs.lemmas.List.{append-nil}
-use Rattle.rx_elem.specs.Trees.{Node, Forest, forest, elements_in}
-use Rattle.rx_elem.specs.Compare.{Past, Gone, pasts, gone_from}
+use Rattle.std.proofs.Common.{◌≡◌, ℕ, zero, suc, ◌+◌, ◌<◌, false, List, [], ◌∷◌, length, get_or, take, drop, Option, Some, None, refl, ap, sym, subst, ◌∙◌, arith, add-one}
+use Rattle.rx_elem.specs.Trees.{Node, forest, elements_in}
+use Rattle.rx_elem.specs.Compare.{Past, pasts}
 use Rattle.rx_compare.specs.InPlace.{AreInPlace, stayed}
-use Rattle.rx_compare.proofs.InPlace.{pasts_in_place, none_gone_in_place}
+use Rattle.rx_compare.proofs.InPlace.{pasts_in_place}
 
 -- both lists have as many places
 pub in_place-length : (os ns : List (Option Node)) → AreInPlace (forest os) (forest ns) → length os ≡ length ns
@@ -59,7 +58,3 @@ in_place-front os ns k x h l e =
   where
     same : pasts (forest os) (elements_in (forest ns)) ≡ stayed (forest os)
     same = pasts_in_place (forest os) (forest ns) h
-
--- nothing is gone
-pub in_place-gone : (visible : Bool) (os ns : Forest) (gone before : List Gone) → AreInPlace os ns → gone ≡ before → gone ≡ before ++ gone_from visible os ns
-in_place-gone visible os ns gone before h e = e ∙ sym (append-nil before) ∙ ap (λ gs. before ++ gs) (sym (none_gone_in_place visible os ns h))

@@ -3,8 +3,7 @@ use Rattle.std.specs.Option.{option_copied}
 use Rattle.rx_elem.specs.Spots as spots
 use Rattle.rx_elem.specs.Compare as trees
 use Rattle.rx_compare.specs.declared.around.Around.{Around}
-use Rattle.rx_compare.specs.declared.compared.Change.{Change}
-use Rattle.rx_compare.specs.declared.compared.Gone.{Gone}
+use Rattle.rx_compare.specs.declared.change.Change.{Change}
 
 -- what surrounds a place
 abbrev pub around_seen : Around → spots.Around
@@ -13,7 +12,3 @@ around_seen a = record { visible = a.visible; owner = a.owner; host = a.host; co
 -- a node beside its past
 abbrev pub change_seen : Change → trees.Change
 change_seen c = record { old = option_copied c.old; new = c.new.now; was_visible = c.was_visible; around = around_seen c.around; displaced = c.displaced }
-
--- an old child that is gone
-abbrev pub gone_seen : Gone → trees.Gone
-gone_seen g = record { node = g.node.now; was_visible = g.was_visible }

@@ -1,16 +1,15 @@
-//! A new tree beside the old one: what each node was before, which nodes moved, which are gone, and what error boundaries catch.
+//! A new tree beside the old one: what each node was before, which nodes moved, which are gone, and what becomes of a render.
 #![tactic(auto)]
 
 mod around;
 mod caught;
-mod compare;
-mod compared;
+mod change;
 mod lists;
 mod outcome;
+mod pairing;
 
 pub use around::Around;
-pub use caught::caught_in;
-pub use compare::compare_trees;
-pub use compared::{Change, Compared, Gone};
-pub use lists::{elements_of, node_at};
+pub use change::{Above, Change, Past};
+pub use lists::{children_if, elements_of, fallback_if, node_at};
 pub use outcome::{Outcome, outcome_of};
+pub use pairing::{Pairing, pair_nodes};

@@ -1,20 +1,18 @@
 // The lists of a node, old and new.
-ghost use Rattle.std.specs.Prelude.{◌≡◌, ◌++◌, ◌<◌, ◌^◌, ◌+◌, ◌∷◌, [], true, ℕ, IfOk, OnOk, length, map, filter_map, option_and_then};
+ghost use Rattle.std.specs.Prelude.{◌≡◌, ◌<◌, ◌^◌, ◌∷◌, [], true, IfOk, length, option_and_then};
 ghost use Rattle.std.specs.Option.{option_copied};
 ghost use Rattle.rx_elem.specs.Trees.{forest, elements_in, children_if, fallback_if};
 ghost use Rattle.rx_elem.specs.Compare.{node_at};
-ghost use Rattle.rx_compare.specs.ComparedView.{gone_seen};
 ghost use Rattle.rx_compare.specs.InPlace.{AreInPlace};
-ghost use Rattle.rx_compare.specs.Matched.{element_at, gone_as, IsMatched};
+ghost use Rattle.rx_compare.specs.Matched.{element_at, IsMatched};
 
-use crate::compared::Gone;
 use rx_elem::{Element, ElementKind};
 use rx_keys::{Matching, match_children};
 use rx_node::Node;
 use std::alloc::{AllocError, Global};
 
-// The children of an old node that may be missing.
-pub(crate) fn children_if<'a>(old: Option<&'a Node>) -> &'a [Option<Node>]
+/// The children of an old node that may be missing.
+pub fn children_if<'a>(old: Option<&'a Node>) -> &'a [Option<Node>]
     ensures { forest result.now ≡ children_if (option_copied old.entry) }
 {
     match old {
@@ -23,8 +21,8 @@ pub(crate) fn children_if<'a>(old: Option<&'a Node>) -> &'a [Option<Node>]
     }
 }
 
-// The fallback of an old node that may be missing.
-pub(crate) fn fallback_if<'a>(old: Option<&'a Node>) -> &'a [Option<Node>]
+/// The fallback of an old node that may be missing.
+pub fn fallback_if<'a>(old: Option<&'a Node>) -> &'a [Option<Node>]
     ensures { forest result.now ≡ fallback_if (option_copied old.entry) }
 {
     match old {
@@ -108,21 +106,4 @@ pub(crate) fn match_nodes(
     let old = elements_of(alloc, old)?;
     let new = elements_of(alloc, new)?;
     match_children(alloc, &old, &new)
-}
-
-// Goes on with the old children at these places.
-pub(crate) fn add_gone<'a>(
-    gone: &mut Vec<Gone<'a>>,
-    was_visible: bool,
-    old: &'a [Option<Node>],
-    removed: &[u32],
-) -> Result<(), AllocError>
-    ensures { OnOk result (map gone_seen gone.new.items ≡ map gone_seen gone.old.items ++ map (gone_as was_visible) (filter_map (node_at (forest old.now)) removed.now)) }
-{
-    for place in removed {
-        if let Some(node) = node_at(old, Some(*place)) {
-            gone.push(Gone { node, was_visible })?;
-        }
-    }
-    Ok(())
 }

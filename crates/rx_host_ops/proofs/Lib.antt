@@ -4,5 +4,4 @@ mod Sorting
 mod Finding
 mod Behind
 mod Joining
-mod Gathering
 mod InPlace

@@ -6,11 +6,9 @@ mod between;
 mod content;
 mod host;
 mod known;
-mod placed;
 mod placing;
 mod reading;
 
 pub use between::{have_same_numbers, ops_between, ops_in_place};
 pub use host::Host;
-pub use placed::placed_hosts;
 pub use reading::hosts;

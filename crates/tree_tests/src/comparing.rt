@@ -1,6 +1,7 @@
 // Two children that change places.
 use rx_base::Int;
-use rx_compare::{Outcome, compare_trees, outcome_of};
+use rx_changes::changes_between;
+use rx_compare::{Outcome, outcome_of, pair_nodes};
 use rx_elem::{Element, ElementKind};
 use rx_lane::Lanes;
 use rx_node::{Mark, Node};
@@ -33,9 +34,10 @@ fn pair(alloc: Global, keys: [i64; 2]) -> Result<Node, AllocError> {
 fn children_are_compared_by_their_keys(rt: HostRuntime) -> Result<(), Fail> {
     let old = pair(rt.alloc(), [1, 2])?;
     let new = pair(rt.alloc(), [2, 3])?;
-    let compared = compare_trees(rt.alloc(), Some(&old), &new)?;
-    assert_eq!(rt; compared.gone().len(), 1);
-    assert_eq!(rt; compared.children().len(), 2);
-    assert!(rt; outcome_of(Lanes::none(), &compared) == Outcome::Commit);
+    let pairing = pair_nodes(rt.alloc(), old.children(), new.children())?;
+    assert_eq!(rt; pairing.gone().len(), 1);
+    let changes = changes_between(rt.alloc(), Some(&old), &new)?;
+    assert_eq!(rt; changes.placed.len(), 0);
+    assert!(rt; outcome_of(Lanes::none(), changes.hidden) == Outcome::Commit);
     Ok(())
 }

@@ -1,8 +1,7 @@
 // An instance that is new.
 use rx_base::{Ints, Str};
-use rx_compare::compare_trees;
+use rx_changes::changes_between;
 use rx_elem::{EffectRecord, Element, ElementKind};
-use rx_log::{layout_log, passive_effects};
 use rx_node::{Instance, Mark, Node};
 use std::alloc::{AllocError, Global};
 use std::rc::Rc;
@@ -36,10 +35,10 @@ fn a_new_instance_creates_its_effects(rt: HostRuntime) -> Result<(), Fail> {
     )?;
     let mark = Mark::Instance(instance(alloc)?);
     let new = Node::new(alloc, element, mark, Vec::new(alloc), Vec::new(alloc))?;
-    let compared = compare_trees(alloc, None, &new)?;
-    assert_eq!(rt; layout_log(alloc, &compared)?.len(), 1);
-    let passive = passive_effects(alloc, &compared)?;
-    assert_eq!(rt; passive.destroyed.len(), 0);
-    assert_eq!(rt; passive.created.len(), 1);
+    let changes = changes_between(alloc, None, &new)?;
+    assert_eq!(rt; changes.layout.destroyed.len(), 0);
+    assert_eq!(rt; changes.layout.created.len(), 1);
+    assert_eq!(rt; changes.passive.destroyed.len(), 0);
+    assert_eq!(rt; changes.passive.created.len(), 1);
     Ok(())
 }

@@ -1,8 +1,8 @@
 // A text that changes, below an element that loses an attribute.
 use rx_base::{Int, Name, Str};
-use rx_compare::compare_trees;
+use rx_changes::changes_between;
 use rx_elem::{Attr, AttrValue, Element, ElementKind};
-use rx_host_ops::{hosts, ops_between, placed_hosts};
+use rx_host_ops::{hosts, ops_between};
 use rx_node::{Mark, Node};
 use std::alloc::{AllocError, Global};
 use std::test::Fail;
@@ -41,10 +41,9 @@ fn changes_a_text_and_an_attribute(rt: HostRuntime) -> Result<(), Fail> {
     let before = hosts(alloc, Some(&old))?;
     let after = hosts(alloc, Some(&new))?;
     assert_eq!(rt; before.len(), 2);
-    let compared = compare_trees(alloc, Some(&old), &new)?;
-    let placed = placed_hosts(alloc, &compared)?;
-    assert!(rt; placed.is_empty());
-    let ops = ops_between(alloc, &before, &after, &placed)?;
+    let changes = changes_between(alloc, Some(&old), &new)?;
+    assert!(rt; changes.placed.is_empty());
+    let ops = ops_between(alloc, &before, &after, &changes.placed)?;
     assert_eq!(rt; ops.len(), 2);
     Ok(())
 }

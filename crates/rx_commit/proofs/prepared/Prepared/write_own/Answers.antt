@@ -21,17 +21,17 @@ returns-in_err-add_caught-clause-goes_on c =
 
 pub returns-clause-written : goal.returns-clause-written
 returns-clause-written c = λ new.
-    on_ok_weaker c.add_effects.result
-    (own-parts c.args.log.now c.commit_line.new.self c.add_ops.new.log c.add_caught.new.log c.add_effects.new.log
+    on_ok_weaker c.add_lines.result
+    (own-parts c.args.log.now c.commit_line.new.self c.add_ops.new.log c.add_caught.new.log c.add_lines.new.log
     (committed c.args.number (lanes_where (has c.args.lanes)) (record { units = c.args.units; bodies = c.args.bodies }) new)
-    c.args.self.now.ops c.deref.result.now c.args.self.now.caught c.deref-2.result.now c.args.self.now.layout c.deref-3.result.now
-    (c.deref.ensures.value ∙ ap (λ p. p.ops) c.self.view_is) (c.deref-2.ensures.value ∙ ap (λ p. p.caught) c.self.view_is) (c.deref-3.ensures.value ∙ ap (λ p. p.layout) c.self.view_is)
+    c.args.self.now.ops c.deref.result.now c.args.self.now.caught c.deref-2.result.now c.args.self.now.layout _
+    (c.deref.ensures.value ∙ ap (λ p. p.ops) c.self.view_is) (c.deref-2.ensures.value ∙ ap (λ p. p.caught) c.self.view_is) (ap (λ p. p.layout) c.self.view_is)
     (c.in_ok-commit_line.ensures.written new) c.in_ok-add_ops.ensures.written c.in_ok-add_caught.ensures.written)
-    c.add_effects.ensures.written
+    c.add_lines.ensures.written
 
 pub returns-clause-goes_on : goal.returns-clause-goes_on
 returns-clause-goes_on c =
     goes_on-again _ _ _ (goes_on-line c.args.log.now c.commit_line.new.self
     (committed c.args.number (lanes_where (has c.args.lanes)) (record { units = c.args.units; bodies = c.args.bodies }) c.self.inside.tree)
     (c.in_ok-commit_line.ensures.written c.self.inside.tree))
-    (goes_on-again _ _ _ c.in_ok-add_ops.ensures.goes_on (goes_on-again _ _ _ c.in_ok-add_caught.ensures.goes_on c.add_effects.ensures.goes_on))
+    (goes_on-again _ _ _ c.in_ok-add_ops.ensures.goes_on (goes_on-again _ _ _ c.in_ok-add_caught.ensures.goes_on c.add_lines.ensures.goes_on))

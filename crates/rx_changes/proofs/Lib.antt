@@ -1,0 +1,4 @@
+pub mod Growing
+pub mod Logged
+pub mod Sums
+pub mod Walking

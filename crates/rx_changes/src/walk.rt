@@ -1,0 +1,96 @@
+// The walk of a new tree beside the old one.
+ghost use Rattle.std.specs.Prelude.{◌≡◌, ◌&&◌, not, OnOk, IfOk};
+ghost use Rattle.std.specs.Option.{option_copied};
+ghost use Rattle.rx_elem.specs.Trees.{forest, elements_in, mark_of, is_hidden};
+ghost use Rattle.rx_elem.specs.Compare.{pasts, compare, compare_in, compare_trees};
+ghost use Rattle.rx_compare.specs.AboveView.{above_seen, past_seen};
+ghost use Rattle.rx_compare.specs.ComparedView.{change_seen};
+ghost use Rattle.rx_compare.specs.Pairs.{IsPairing};
+ghost use Rattle.rx_changes.specs.ChangesView.{changes_seen};
+ghost use Rattle.rx_changes.specs.Found.{found_in, with_node, with_list};
+
+use crate::changes::Changes;
+use crate::own::{add_change, add_effects};
+use crate::past::{add_gone, add_hiding};
+use rx_compare::{Above, Change, Pairing, Past, children_if, fallback_if, pair_nodes};
+use rx_node::Node;
+use std::alloc::{AllocError, Global};
+
+// Whether the children of a node log anything: what a hidden boundary keeps doesn't.
+fn logs_children(change: &Change, logs: bool) -> bool
+    ensures { result ≡ (logs && not (is_hidden (mark_of (change_seen change.now).new))) }
+{
+    logs && !change.new.mark().is_hidden()
+}
+
+// Goes on with the children of a list, in order. What a hidden boundary keeps logs nothing.
+#[cycle(walk)]
+fn add_list(
+    alloc: Global,
+    found: &mut Changes,
+    above: Above,
+    old: &[Option<Node>],
+    new: &[Option<Node>],
+    pairing: &Pairing,
+    logs: bool,
+) -> Result<(), AllocError>
+    requires { IsPairing (forest old.now) (forest new.now) pairing.now }
+    ensures { OnOk result (changes_seen found.new ≡ with_list logs (compare_in (above_seen above) (pasts (forest old.now) (elements_in (forest new.now))) (forest new.now)) (changes_seen found.old)) }
+{
+    for place in 0..new.len() {
+        if let Some(node) = &new[place] {
+            let known = pairing.past(old, place);
+            add_node(alloc, found, above, known, node, logs)?;
+        }
+    }
+    Ok(())
+}
+
+// Goes on with a node and all below it: at each node what it tells by itself, then what is gone of its children, these, what
+// hiding them does, its fallback, and then its own effects.
+#[cycle(walk)]
+fn add_node(
+    alloc: Global,
+    found: &mut Changes,
+    above: Above,
+    past: Past,
+    new: &Node,
+    logs: bool,
+) -> Result<(), AllocError>
+    ensures { OnOk result (changes_seen found.new ≡ with_node logs (compare (above_seen above) (past_seen past.entry) new.now) (changes_seen found.old)) }
+{
+    let change = Change::new(above, past, new);
+    add_change(found, &change)?;
+    let kids = new.children();
+    let others = new.fallback();
+    let old = children_if(past.old);
+    let behind = fallback_if(past.old);
+    let pairs = pair_nodes(alloc, old, kids)?;
+    let rest = pair_nodes(alloc, behind, others)?;
+    let below = change.above_children();
+    add_gone(alloc, found, below.was_visible, old, &pairs, logs)?;
+    add_gone(alloc, found, change.was_visible, behind, &rest, logs)?;
+    let shows = logs_children(&change, logs);
+    add_list(alloc, found, below, old, kids, &pairs, shows)?;
+    add_hiding(alloc, found, &change, logs)?;
+    let beside = change.above_fallback();
+    add_list(alloc, found, beside, behind, others, &rest, logs)?;
+    add_effects(alloc, found, &change, logs)?;
+    Ok(())
+}
+
+/// What a new tree changes beside the old one, if there is one: the effects that its commit destroys and creates, children before
+/// their parents, the hosts that it places, what error boundaries catch, and what the boundaries wait for that it hides (react.dev,
+/// Render and Commit). One walk of both trees, in time in proportion to them.
+///
+/// # Errors
+///
+/// Only if out of memory.
+pub fn changes_between(alloc: Global, old: Option<&Node>, new: &Node) -> Result<Changes, AllocError>
+    ensures { IfOk result (λ x. changes_seen x ≡ found_in (compare_trees (option_copied old.entry) new.now)) }
+{
+    let mut found = Changes::new(alloc);
+    let past = Past { old, moved: false };
+    add_node(alloc, &mut found, Above::root(), past, new, true)?;
+    Ok(found)
+}
