@@ -2,6 +2,8 @@
 #![tactic(auto)]
 
 #[cfg(test)]
+mod fibers;
+#[cfg(test)]
 mod hook_store;
 #[cfg(test)]
 mod instances;

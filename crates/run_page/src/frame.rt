@@ -20,8 +20,8 @@ render in progress after it, the tree of hosts and the hooks. Lines that came an
 
 const KEYS: &[u8] = b"A step is chosen in the list, or by the left and right arrow keys.";
 
-// No byte of the style or of the script is one that is escaped, so that both stand in the page as they are here.
-pub(crate) const STYLE: &[u8] = b"
+/// The style of a page. No byte of it is one that is escaped, so that it stands in the page as it is here.
+pub const STYLE: &[u8] = b"
 :root { color-scheme: light dark; }
 body { margin: 0 auto; max-width: 75em; padding: 0 1em 2em; font-family: sans-serif; line-height: 1.4; }
 pre, code { font-family: monospace; font-size: 1em; white-space: pre-wrap; overflow-wrap: anywhere; }
@@ -60,7 +60,8 @@ figure, table { break-inside: avoid; }
 }
 ";
 
-pub(crate) const SCRIPT: &[u8] = b"
+/// The script of a page, without a byte that is escaped.
+pub const SCRIPT: &[u8] = b"
 (function () {
   var sections = Array.from(document.querySelectorAll(`section`));
   var links = Array.from(document.querySelectorAll(`nav ol a`));

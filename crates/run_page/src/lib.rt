@@ -8,11 +8,9 @@ mod frame;
 mod lanes;
 mod marks;
 mod section;
-#[cfg(test)]
-mod tests;
 mod told;
 mod view;
 
 pub use book::Book;
-pub use frame::page;
+pub use frame::{SCRIPT, STYLE, page};
 pub use view::{Facts, Rendering, View};

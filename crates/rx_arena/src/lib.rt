@@ -3,8 +3,6 @@
 
 mod arena;
 mod id;
-#[cfg(test)]
-mod tests;
 
 pub use arena::{Arena, Node};
 pub use id::FiberId;

@@ -8,8 +8,6 @@ mod expr;
 mod program;
 mod slot;
 mod statement;
-#[cfg(test)]
-mod tests;
 
 pub use attribute::{Attribute, AttributeKind, KeyPlace, key_among};
 pub use body::{Body, BodyKind, Fragment};

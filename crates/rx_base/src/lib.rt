@@ -18,6 +18,3 @@ pub use name::Name;
 pub use steps::Steps;
 pub use str::{Str, quote};
 pub use width::Width;
-
-#[cfg(test)]
-mod tests;

@@ -3,8 +3,6 @@
 
 mod handlers;
 mod state;
-#[cfg(test)]
-mod tests;
 
 pub use handlers::{Handler, Handlers};
 pub use state::{CatchState, after};

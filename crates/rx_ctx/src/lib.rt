@@ -2,7 +2,5 @@
 #![tactic(auto)]
 
 mod stack;
-#[cfg(test)]
-mod tests;
 
 pub use stack::ContextStack;

@@ -3,8 +3,6 @@
 
 mod changes;
 mod log;
-#[cfg(test)]
-mod tests;
 
 pub use changes::{differ, effect_changes};
 pub use log::LogLine;

@@ -4,8 +4,6 @@
 mod attr;
 mod effect;
 mod element;
-#[cfg(test)]
-mod examples;
 mod kind;
 mod walks;
 

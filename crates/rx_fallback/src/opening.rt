@@ -1,5 +1,5 @@
 // The fallback of a boundary opens, of Suspense or of errors.
-ghost use Rattle.std.specs.Prelude.{◌≡◌, ◌∷◌, [], Bool, Some, true, false, IfOk, IfSome, OnOk};
+ghost use Rattle.std.specs.Prelude.{◌≡◌, Bool, Some, true, false, IfOk, IfSome, OnOk};
 ghost use Rattle.std.specs.Option.{option_copied};
 ghost use Rattle.rx_ctx.specs.Contexts.{Stack};
 ghost use Rattle.rx_lists.specs.Shapes.{Holds, IsTop, none};
@@ -10,7 +10,7 @@ ghost use Rattle.rx_meaning.specs.Generations.{own_generation};
 ghost use Rattle.rx_fiber.specs.Fibers as fibers;
 ghost use Rattle.rx_fiber.specs.Fibers.{as_cloned, as_matched, generation_of, origin_of};
 ghost use Rattle.rx_fiber.specs.FiberView.{stage_seen};
-ghost use Rattle.rx_fiber.specs.Surround.{fallback_in, given_along, moved_along};
+ghost use Rattle.rx_fiber.specs.Surround.{given_along, moved_along};
 ghost use Rattle.rx_fiber.specs.Unwound.{IsCaughtAt, IsLeftAt};
 ghost use Rattle.rx_children.specs.Children.{HasMadeFrom};
 ghost use Rattle.rx_children.specs.Nodes.{IsBareAt, IsBareBeside, HasList};

@@ -5,8 +5,6 @@ mod fiber;
 mod old;
 mod stage;
 mod subtree;
-#[cfg(test)]
-mod tests;
 
 pub use fiber::Fiber;
 pub use old::{

@@ -3,8 +3,6 @@
 
 mod hook;
 mod hooks;
-#[cfg(test)]
-mod tests;
 mod work;
 
 pub use hooks::Hooks;

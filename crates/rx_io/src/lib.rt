@@ -7,8 +7,6 @@ mod sink;
 mod source;
 mod standard;
 mod sure;
-#[cfg(test)]
-mod tests;
 mod whole;
 
 pub use memory::{MemSink, MemSource};

@@ -5,8 +5,6 @@ mod aligned;
 mod identity;
 mod known;
 mod matching;
-#[cfg(test)]
-mod tests;
 
 pub use identity::{Identity, identities};
 pub use matching::{Matching, match_children};

@@ -6,6 +6,3 @@ mod lanes;
 
 pub use lane::Lane;
 pub use lanes::Lanes;
-
-#[cfg(test)]
-mod tests;

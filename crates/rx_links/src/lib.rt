@@ -1,8 +1,6 @@
 //! Two linked trees of fibers, the current one and the one in progress, seen as two trees of plain data.
 #![tactic(auto)]
 
-#[cfg(test)]
-mod tests;
 mod tree;
 
 pub use rx_arena::FiberId;

@@ -6,8 +6,6 @@ mod make;
 mod mark;
 mod release;
 mod returns;
-#[cfg(test)]
-mod tests;
 mod walk;
 
 pub use links::old_children;

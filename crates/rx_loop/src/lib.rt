@@ -1,8 +1,6 @@
 //! Work that is done in units, driven to its end or to the end of a slice.
 #![tactic(auto)]
 
-#[cfg(test)]
-mod tests;
 mod turn;
 mod work;
 

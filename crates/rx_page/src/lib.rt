@@ -8,8 +8,6 @@ mod escaping;
 mod html;
 mod number;
 mod tag;
-#[cfg(test)]
-mod tests;
 
 pub use attributes::Attributes;
 pub use changes::{put_changes, put_words};

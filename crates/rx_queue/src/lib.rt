@@ -4,8 +4,6 @@
 mod entry;
 mod fold;
 mod queue;
-#[cfg(test)]
-mod tests;
 mod update;
 
 pub use entry::{Entry, Standing};

@@ -5,8 +5,6 @@ pub mod laws;
 mod resource;
 mod seen;
 mod store;
-#[cfg(test)]
-mod tests;
 
 pub use resource::{Asked, Resource};
 pub use seen::Seen;

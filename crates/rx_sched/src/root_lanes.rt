@@ -278,6 +278,3 @@ fn next_claim(lane: Lane) -> Lane
         _ => Lane::T1,
     }
 }
-
-#[cfg(test)]
-mod tests;

@@ -1,4 +1,0 @@
-use Rattle.rx_base.proofs.tests.steps_count_for_a_ledger.Given as goal
-
-abbrev pub ghosts-count_two : goal.ghosts-count_two
-ghosts-count_two a = record { name = a.blank.name; parts = a.blank.parts }

@@ -1,4 +1,0 @@
-use Rattle.rx_loop.proofs.tests.a_slice_yields_at_its_budget.Given as goal
-
-abbrev pub ghosts-drive_twice : goal.ghosts-drive_twice
-ghosts-drive_twice g a = record { name = a.blank.name; parts = a.blank.parts }
