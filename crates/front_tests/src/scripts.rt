@@ -1,8 +1,8 @@
-// Lines with a form and without one, and an input's two parts.
+// Lines with a form and without one, and an input's parts.
 
 use crate::checking::counter;
 use rx_check::check;
-use rx_script::{ScriptError, read_script, split_input};
+use rx_script::{ScriptError, read_script, split_input, split_report};
 use std::test::Fail;
 
 // What a line without a form is refused for, one that names what the program has not, and one with a number out of its bounds.
@@ -40,9 +40,13 @@ fn lines_with_a_form(rt: HostRuntime) -> Result<(), Fail> {
 }
 
 #[test]
-fn an_input_is_divided_at_its_mark(rt: HostRuntime) -> Result<(), Fail> {
+fn an_input_is_divided_at_its_marks(rt: HostRuntime) -> Result<(), Fail> {
     let (program, script) = split_input(b"p\n----\n---\r\nflush\n---\n");
     assert_eq!(rt; program, b"p\n----\n".as_slice());
     assert_eq!(rt; script, b"flush\n---\n".as_slice());
+    let (program, script, report) = split_report(b"p\n---\nflush\n---\r\nend quiet\n---\n");
+    assert_eq!(rt; program, b"p\n".as_slice());
+    assert_eq!(rt; script, b"flush\n".as_slice());
+    assert_eq!(rt; report, b"end quiet\n---\n".as_slice());
     Ok(())
 }

@@ -17,7 +17,7 @@ const WHOLE: Reading = Reading::Run {
     ops: true,
 };
 
-static ROWS: [(&[&str], Option<Task>); 14] = [
+static ROWS: [(&[&str], Option<Task>); 16] = [
     (&["run"], Some(Task::Read(PLAIN))),
     (&["run", "--counts"], Some(Task::Read(COUNTED))),
     (&["run", "--ops", "--counts"], Some(Task::Read(WHOLE))),
@@ -26,6 +26,8 @@ static ROWS: [(&[&str], Option<Task>); 14] = [
     (&["run", "--counts=true"], None),
     (&["check"], Some(Task::Read(Reading::Check))),
     (&["check", "--ops"], None),
+    (&["verify"], Some(Task::Read(Reading::Verify))),
+    (&["verify", "--counts"], None),
     (&["gen", "1000"], Some(Task::Gen(1000))),
     (&["gen", "1001"], None),
     (&["gen", "0"], None),

@@ -1,3 +1,4 @@
 pub mod FirstFaults
 pub mod One
 pub mod BadScripts
+pub mod Parts

@@ -13,13 +13,13 @@ use Rattle.rx_parse.specs.Faults.{IsFirstFault}
 use Rattle.rx_check.specs.Refusals.{refusal_of}
 use Rattle.rx_check.specs.declared.refusal.Refusal.{Refusal}
 use Rattle.rx_step.specs.declared.step.Step.{Step}
-use Rattle.rx_script.specs.Input.{input_of}
+use Rattle.rx_script.specs.Input.{Input}
 use Rattle.rx_script.specs.Lines.{BadStep, steps_of}
 use Rattle.rx_accept.specs.declared.cause.Cause.{Cause}
 use Rattle.rx_accept.specs.declared.cause.Cause.TheVariants.{NotUtf8, NoToken, NoProgram, Unmet, OutOfMemory}
 use Rattle.rx_accept.specs.Programs.{ended, IsCoveredBy, IsTextOf, IsSoundText, IsCause}
 use Rattle.rx_accept.specs.Lines.{program_line, script_line}
-use Rattle.rx_accept.specs.Judgements.{Judgement, accepted, program_refused, script_refused, IsJudged}
+use Rattle.rx_accept.specs.Judgements.{Judgement, accepted, program_refused, script_refused, AreJudged}
 use Rattle.rx_accept.proofs.FirstFaults.{first_fault-one, no_fault}
 
 -- what is known of tokens and programs
@@ -106,23 +106,23 @@ bad-one bad other e = cc
 steps-apart : (steps : List Step) (bad : BadStep) → ◌≡◌ {A = Result (List Step) BadStep} (Ok steps) (Err bad) → ⊥
 steps-apart steps bad e = cc
 
-pub judged-one : Laws → (input : List ℕ) (j k : Judgement) → IsJudged input j → IsJudged input k → j ≡ k
-judged-one laws input (accepted p steps) (accepted q others) x y =
-    let text = (input_of input).program in
-    let script = (input_of input).script in
+pub judged-one : Laws → (parts : Input) (j k : Judgement) → AreJudged parts j → AreJudged parts k → j ≡ k
+judged-one laws parts (accepted p steps) (accepted q others) x y =
+    let text = parts.program in
+    let script = parts.script in
     let same = program-one laws text p q x.0.its_text y.0.its_text in
     let both = steps-one steps others (script-one laws text script p q (Ok steps) (Ok others) x.0 y.0 x.1 y.1) in
     ap (λ r. accepted r steps) same ∙ ap (accepted q) both
-judged-one laws input (accepted p steps) (program_refused line) x y = absurd (cause-apart laws (input_of input).program p y.0 x.0 y.1)
-judged-one laws input (accepted p steps) (script_refused line) x y =
-    absurd (steps-apart steps y.1 (script-one laws (input_of input).program (input_of input).script p y.0 (Ok steps) (Err y.1) x.0 y.2 x.1 y.3))
-judged-one laws input (program_refused line) (accepted q others) x y = absurd (cause-apart laws (input_of input).program q x.0 y.0 x.1)
-judged-one laws input (program_refused line) (program_refused other) x y =
-    ap program_refused (x.2 ∙ ap program_line (cause-one laws (input_of input).program x.0 y.0 x.1 y.1) ∙ sym y.2)
-judged-one laws input (program_refused line) (script_refused other) x y = absurd (cause-apart laws (input_of input).program y.0 x.0 y.2 x.1)
-judged-one laws input (script_refused line) (accepted q others) x y =
-    absurd (steps-apart others x.1 (script-one laws (input_of input).program (input_of input).script q x.0 (Ok others) (Err x.1) y.0 x.2 y.1 x.3))
-judged-one laws input (script_refused line) (program_refused other) x y = absurd (cause-apart laws (input_of input).program x.0 y.0 x.2 y.1)
-judged-one laws input (script_refused line) (script_refused other) x y =
-    let both = bad-one x.1 y.1 (script-one laws (input_of input).program (input_of input).script x.0 y.0 (Err x.1) (Err y.1) x.2 y.2 x.3 y.3) in
+judged-one laws parts (accepted p steps) (program_refused line) x y = absurd (cause-apart laws parts.program p y.0 x.0 y.1)
+judged-one laws parts (accepted p steps) (script_refused line) x y =
+    absurd (steps-apart steps y.1 (script-one laws parts.program parts.script p y.0 (Ok steps) (Err y.1) x.0 y.2 x.1 y.3))
+judged-one laws parts (program_refused line) (accepted q others) x y = absurd (cause-apart laws parts.program q x.0 y.0 x.1)
+judged-one laws parts (program_refused line) (program_refused other) x y =
+    ap program_refused (x.2 ∙ ap program_line (cause-one laws parts.program x.0 y.0 x.1 y.1) ∙ sym y.2)
+judged-one laws parts (program_refused line) (script_refused other) x y = absurd (cause-apart laws parts.program y.0 x.0 y.2 x.1)
+judged-one laws parts (script_refused line) (accepted q others) x y =
+    absurd (steps-apart others x.1 (script-one laws parts.program parts.script q x.0 (Ok others) (Err x.1) y.0 x.2 y.1 x.3))
+judged-one laws parts (script_refused line) (program_refused other) x y = absurd (cause-apart laws parts.program x.0 y.0 x.2 y.1)
+judged-one laws parts (script_refused line) (script_refused other) x y =
+    let both = bad-one x.1 y.1 (script-one laws parts.program parts.script x.0 y.0 (Err x.1) (Err y.1) x.2 y.2 x.3 y.3) in
     ap script_refused (x.4 ∙ ap script_line both ∙ sym y.4)

@@ -3,7 +3,7 @@ use Rattle.std.specs.Prelude.{ℕ, ◌≡◌, List, [], Ok, Err}
 use Rattle.rx_base.specs.Values.{Text}
 use Rattle.rx_ast.specs.Syntax.{Program}
 use Rattle.rx_step.specs.declared.step.Step.{Step}
-use Rattle.rx_script.specs.Input.{input_of}
+use Rattle.rx_script.specs.Input.{Input, input_of}
 use Rattle.rx_script.specs.Lines.{BadStep, steps_of}
 use Rattle.rx_accept.specs.declared.cause.Cause.{Cause}
 use Rattle.rx_accept.specs.declared.verdict.Verdict.{Verdict}
@@ -17,12 +17,15 @@ pub data Judgement : Type 0 where
   program_refused : Text → Judgement
   script_refused : Text → Judgement
 
--- The input is this: accepted if its program text is that of a program that meets every check and no line of its script is bad; else refused, with the line that tells the first cause. The program is judged before the script.
+-- An input with these parts is this: accepted if its program text is that of a program that meets every check and no line of its script is bad; else refused, with the line that tells the first cause. The program is judged before the script.
+abbrev pub AreJudged : Input → Judgement → Type 0
+AreJudged parts (accepted p steps) = IsSoundText p parts.program × (steps_of p parts.script ≡ Ok steps)
+AreJudged parts (program_refused line) = (c : Cause) × IsCause parts.program c × (line ≡ program_line c)
+AreJudged parts (script_refused line) = (p : Program) × (bad : BadStep) × IsSoundText p parts.program × (steps_of p parts.script ≡ Err bad) × (line ≡ script_line bad)
+
+-- the input is this, by its parts
 abbrev pub IsJudged : List ℕ → Judgement → Type 0
-IsJudged input (accepted p steps) = IsSoundText p (input_of input).program × (steps_of p (input_of input).script ≡ Ok steps)
-IsJudged input (program_refused line) = (c : Cause) × IsCause (input_of input).program c × (line ≡ program_line c)
-IsJudged input (script_refused line) =
-    (p : Program) × (bad : BadStep) × IsSoundText p (input_of input).program × (steps_of p (input_of input).script ≡ Err bad) × (line ≡ script_line bad)
+IsJudged input j = AreJudged (input_of input) j
 
 -- what a verdict says
 abbrev pub judgement_of : Verdict → Judgement

@@ -8,5 +8,5 @@ mod lines;
 mod program;
 mod verdict;
 
-pub use accepting::accept;
+pub use accepting::{accept, accept_parts};
 pub use verdict::Verdict;

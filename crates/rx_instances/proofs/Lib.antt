@@ -4,10 +4,8 @@ pub mod CountedOlds
 pub mod Counting
 pub mod Led
 pub mod MountedOlds
-pub mod Named
 pub mod NearOlds
 pub mod Nearest
-pub mod Numbers
 pub mod Passed
 pub mod Showing
 pub mod Walked

@@ -1,4 +1,3 @@
-pub mod Kinds
 pub mod Nearest
 pub mod NearFibers
 pub mod MountedFibers

@@ -17,9 +17,9 @@ ghost use Rattle.rx_instances.specs.Nearest.{found_as};
 ghost use Rattle.rx_instances.specs.NearFibers.{Counts, IsFoundAt, found_by, instance_at, near_fibers, near_first, told_in};
 ghost use Rattle.rx_ways.specs.Ways.{is_way};
 
-use crate::names::name_of;
 use rx_base::Name;
 use rx_check::Checked;
+use rx_dispatch::name_of;
 use rx_fiber::{Fiber, Stage, old_primary};
 use rx_links::{FiberId, FiberTree};
 use rx_node::{Instance, Mark};

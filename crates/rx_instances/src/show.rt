@@ -10,9 +10,9 @@ ghost use Rattle.rx_model.specs.State.{State, committed_values, state_line, stat
 ghost use Rattle.rx_instances.specs.Shown.{GoesOn, KeepsOne, KeepsThese, with_lines};
 
 use crate::mounted::{Mounted, read_mounted};
-use crate::names::{hooks_at, name_of};
 use rx_base::{Int, Name};
 use rx_check::Checked;
+use rx_dispatch::{hooks_at, name_of};
 use rx_fiber::Fiber;
 use rx_hook_store::{HookStore, hooks_are_there};
 use rx_links::FiberTree;

@@ -7,7 +7,7 @@ use Rattle.rx_step.specs.declared.step.Dispatch.{Dispatch}
 use Rattle.rx_step.specs.declared.step.Dispatch.TheVariants as dispatch
 use Rattle.rx_step.specs.declared.step.Step.TheVariants as step
 use Rattle.rx_step.specs.Steps.{hook_name}
-use Rattle.rx_instances.specs.Kinds.{is_refresh}
+use Rattle.rx_dispatch.specs.Kinds.{is_refresh}
 use Rattle.rx_model.specs.State.{State}
 use Rattle.rx_model.specs.Accepting.{within}
 use Rattle.rx_root.specs.declared.errors.DispatchError.{DispatchError}

@@ -33,7 +33,7 @@ use Rattle.rx_commit.specs.Written.{passive_lines, with_lines}
 use Rattle.rx_root.specs.declared.events.Sent.{Sent}
 use Rattle.rx_root.specs.Rooted.{Rooted}
 use Rattle.rx_root.specs.Stands.{Stands}
-use Rattle.rx_instances.specs.Kinds.{is_refresh, is_start}
+use Rattle.rx_dispatch.specs.Kinds.{is_refresh, is_start}
 use Rattle.rx_resources.specs.Kept.{value_of}
 use Rattle.rx_resources.specs.Kept as kept_of
 use Rattle.rx_resources.specs.Store.{kept_at, resolved_at}

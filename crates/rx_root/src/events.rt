@@ -16,7 +16,7 @@ ghost use Rattle.rx_model.specs.Committing.{passive_run};
 ghost use Rattle.rx_model.specs.Laws.{IsReached};
 ghost use Rattle.rx_hook_store.specs.Changing.{lanes_linked};
 ghost use Rattle.rx_hook_store.specs.Store.{hook_room, kept_hooks};
-ghost use Rattle.rx_instances.specs.Kinds.{is_refresh, is_start};
+ghost use Rattle.rx_dispatch.specs.Kinds.{is_refresh, is_start};
 ghost use Rattle.rx_resources.specs.Kept.{last_version};
 ghost use Rattle.rx_resources.specs.Store.{kept_at, resolved_at};
 ghost use Rattle.rx_commit.specs.Written.{with_lines};
@@ -30,11 +30,12 @@ ghost use Rattle.rx_root.specs.Taking.{CanTake, HasNoInstance, IsFor, IsTargetOf
 use crate::errors::{DispatchError, ResolveError};
 use crate::root::Root;
 use rx_base::{Int, Name};
-use rx_hook_store::{hooks_are_there, links_are_below};
-use rx_instances::{
-    awaited, dispatch_event, dispatch_hook, dispatch_op, dispatch_path, dispatch_word,
-    find_instance, hook_place, is_refresh, is_start, show_hooks,
+use rx_dispatch::{
+    dispatch_event, dispatch_hook, dispatch_op, dispatch_path, dispatch_word, hook_place,
+    is_refresh, is_start,
 };
+use rx_hook_store::{hooks_are_there, links_are_below};
+use rx_instances::{awaited, find_instance, show_hooks};
 use rx_lane::{Lane, Lanes};
 use rx_queue::{Op, Update};
 use rx_report::{Report, a_commit_is_in_tree_order};

@@ -15,7 +15,7 @@ ghost use Rattle.rx_root.specs.Turning.{Takes};
 use crate::errors::DispatchError;
 use crate::root::Root;
 use rx_base::{Int, Name, Steps};
-use rx_instances::dispatch_path;
+use rx_dispatch::dispatch_path;
 use rx_report::Report;
 use rx_sched::Event;
 use rx_step::{Dispatch, Step};

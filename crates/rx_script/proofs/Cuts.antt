@@ -9,7 +9,7 @@ use Rattle.rx_base.specs.Values.{Text}
 use Rattle.rx_script.specs.Input.{Input, is_line_end, is_mark, divided, input_of, with_line}
 use Rattle.rx_script.specs.Pieces.{IsLineEnd, HasNoLineEnd, IsCut, IsLast}
 
-is_not : (a b : ℕ) → (a ≢ b) → (a == b) ≡ false
+pub is_not : (a b : ℕ) → (a ≢ b) → (a == b) ≡ false
 is_not a b h = grind arith
 
 pieces-at : (text : List ℕ) (at : ℕ) → at < length text → get_or text at 0 ≡ 10 → ((k : ℕ) → k < at → get_or text k 0 ≢ 10)

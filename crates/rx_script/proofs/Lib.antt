@@ -6,3 +6,4 @@ pub mod NumberLaws
 pub mod Paths
 pub mod Scripts
 pub mod WordLemmas
+pub mod Marked

@@ -31,3 +31,13 @@ is_line_end b = b == 10
 -- the parts of an input
 unfoldable pub input_of : List ℕ → Input
 input_of bytes = divided (slice_split is_line_end bytes)
+
+-- Behind the script of an input, a report may stand: behind the next line that is exactly `---`.
+
+-- the program and the script in front of a report
+abbrev pub front_of : List ℕ → Input
+front_of bytes = record { program = (input_of bytes).program; script = (input_of (input_of bytes).script).program }
+
+-- the report; without a second such line it is empty
+abbrev pub report_of : List ℕ → List ℕ
+report_of bytes = (input_of (input_of bytes).script).script

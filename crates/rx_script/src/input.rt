@@ -1,7 +1,7 @@
 // The two parts of an input.
 ghost use Rattle.std.specs.Prelude.{◌≡◌, ◌<◌, ◌≤◌, length, IfSome, IfNone};
 ghost use Rattle.std.specs.Str.Lines.{strip_carriage_return};
-ghost use Rattle.rx_script.specs.Input.{input_of, is_mark as is_mark_line};
+ghost use Rattle.rx_script.specs.Input.{front_of, input_of, is_mark as is_mark_line, report_of};
 ghost use Rattle.rx_script.specs.Pieces.{IsCut, IsLast, IsLineEnd, HasNoLineEnd};
 
 /// The place of the first line end.
@@ -47,6 +47,7 @@ pub fn split_input(input: &[u8]) -> (&[u8], &[u8])
     ensures program { result.0.now ≡ (input_of input.now).program }
     ensures script { result.1.now ≡ (input_of input.now).script }
     ensures shorter { length result.1.now ≤ length input.now }
+    ensures within { length result.0.now ≤ length input.now }
 {
     let mut rest = input;
     'lines: loop {
@@ -64,4 +65,18 @@ pub fn split_input(input: &[u8]) -> (&[u8], &[u8])
         }
         rest = after;
     }
+}
+
+/// The text of an input's program, its script, and the report behind it: what stands before, between and behind the first two
+/// lines that are exactly `---`. What is missing is empty.
+pub fn split_report(input: &[u8]) -> (&[u8], &[u8], &[u8])
+    ensures program { result.0.now ≡ (front_of input.now).program }
+    ensures script { result.1.now ≡ (front_of input.now).script }
+    ensures report { result.2.now ≡ report_of input.now }
+    ensures shorter { length result.1.now ≤ length input.now }
+    ensures within { length result.2.now ≤ length input.now }
+{
+    let (program, behind) = split_input(input);
+    let (script, report) = split_input(behind);
+    (program, script, report)
 }

@@ -3,28 +3,80 @@ use Rattle.std.proofs.Common.{◌≡◌, ◌≢◌, ◌∙◌, ℕ, ◌+◌, ◌
 use Rattle.std.specs.Io.KnownBytes.{Appends, Consumes, IsAtEnd}
 use Rattle.std.proofs.KnownBytes.{Appends-nil}
 use Rattle.rx_base.specs.Values.{Text}
-use Rattle.rx_io.specs.Whole.{AppendsPart}
+use Rattle.rx_io.specs.Whole.{AppendsPart, IsPartOf}
 use Rattle.rx_ast.specs.Syntax.{Program}
 use Rattle.rx_step.specs.declared.step.Step.{Step}
 use Rattle.rx_lines.specs.Lines.{Options}
-use Rattle.rx_accept.specs.Judgements.{Judgement, accepted, IsJudged}
+use Rattle.rx_script.specs.Input.{Input, input_of}
+use Rattle.rx_accept.specs.Judgements.{AreJudged, Judgement, accepted, program_refused, script_refused}
 use Rattle.rx_words.specs.declared.task.Task.{Task}
 use Rattle.rx_words.specs.declared.task.Task.TheVariants.{Read, Gen}
 use Rattle.rx_words.specs.declared.task.Reading.{Reading}
-use Rattle.rx_words.specs.declared.task.Reading.TheVariants.{Run, Check}
+use Rattle.rx_words.specs.declared.task.Reading.TheVariants.{Run, Check, Verify}
 use Rattle.rx_words.specs.Words.{is_valid, reads, task_of}
 use Rattle.rx_top.specs.declared.status.Status.{Status}
-use Rattle.rx_top.specs.declared.status.Status.TheVariants.{Done, Usage, ReadFault, WriteFault, TooLong, ProgramRefused, ScriptRefused, OutOfMemory}
+use Rattle.rx_top.specs.declared.status.Status.TheVariants.{Done, No, Usage, ReadFault, WriteFault, TooLong, ProgramRefused, ScriptRefused, OutOfMemory}
+use Rattle.rx_verify.specs.declared.verdict.Verdict.{Verdict}
+use Rattle.rx_verify.specs.Verdicts.{IsVerdict}
 use Rattle.rx_top.specs.Running.{CountsShort}
-use Rattle.rx_top.specs.Outcome.{limit, status_of, is_cut_short, Gives, IsDue, usage, too_long, judged, generated, Writes, IsLine, IsLostLine, OrNothing, IsLostOutput, IsShortWork, IsShortOutput, IsLost, lost_output, IsLostSummary, IsGenerated, IsSummary, IsShort, nothing, short_output, short_summary, IsShortSummary}
+use Rattle.rx_top.specs.Outcome.{limit, parts_of, report_in, verdict_line, verdict_status, is_cut_short, Gives, IsDue, usage, too_long, judged, generated, Writes, Tells, TellsPart, IsLine, IsLostLine, OrNothing, IsJudgedFor, IsStatusOf, IsWorkStatus, IsWork, IsOutput, IsLostWork, IsLostOutput, IsShortWork, IsShortOutput, IsLost, lost_output, IsLostSummary, IsGenerated, IsSummary, IsShort, nothing, short_output, short_summary, IsShortSummary, Answers}
 
--- an input is this, and nothing else
-abbrev pub IsAlone : List ℕ → Judgement → Type 0
-IsAlone input j = (k : Judgement) → IsJudged input k → k ≡ j
+-- What an input is
+
+-- an input that is run or checked holds no report
+pub no-report : (reading : Reading) → (((counts : Bool) × (ops : Bool) × (reading ≡ Run counts ops)) ⊎ (reading ≡ Check)) → (input : List ℕ) → (parts_of reading input ≡ input_of input) × (report_in reading input ≡ [])
+no-report reading (inl r) input = (ap (λ t. parts_of t input) r.2, ap (λ t. report_in t input) r.2)
+no-report reading (inr is) input = (ap (λ t. parts_of t input) is, ap (λ t. report_in t input) is)
+
+-- an input that is read is this, and nothing else
+abbrev pub IsAlone : Reading → List ℕ → Judgement → Type 0
+IsAlone reading input j = (k : Judgement) → IsJudgedFor reading input k → k ≡ j
+
+-- what its parts are judged to be, it is
+module _ (reading : Reading) (input : List ℕ) (program : Text) (script : List ℕ) (one : program ≡ (parts_of reading input).program) (two : script ≡ (parts_of reading input).script) where
+  same : ◌≡◌ {A = Input} (record { program = program; script = script }) (parts_of reading input)
+  same = ap (λ (l : Text). record { program = l; script = script }) one ∙ ap (λ (l : List ℕ). record { program = (parts_of reading input).program; script = l }) two
+
+  pub judged-read : (j : Judgement) → AreJudged (record { program = program; script = script }) j → IsJudgedFor reading input j
+  judged-read j is = subst (λ (parts : Input). AreJudged parts j) same is
+
+  pub alone-read : (j : Judgement) → ((k : Judgement) → AreJudged (record { program = program; script = script }) k → k ≡ j) → IsAlone reading input j
+  alone-read j only k is = only k (subst (λ (parts : Input). AreJudged parts k) (sym same) is)
 
 -- the status that is due for what an input alone is judged to be
-pub gives-alone : (input : List ℕ) (j : Judgement) → IsAlone input j → (answer : Status) → Gives (status_of j) answer → (k : Judgement) → IsJudged input k → Gives (status_of k) answer
-gives-alone input j alone answer gives k found = subst (λ d. Gives d answer) (ap (λ i. status_of i) (sym (alone k found))) gives
+pub gives-alone : (reading : Reading) (input : List ℕ) (j : Judgement) → IsAlone reading input j → (report : List ℕ) (answer : Status) → ((due : Status) → IsStatusOf reading report j due → Gives due answer)
+    → (k : Judgement) (due : Status) → IsJudgedFor reading input k → IsStatusOf reading report k due → Gives due answer
+gives-alone reading input j alone report answer gives k due found is = gives due (subst (λ i. IsStatusOf reading report i due) (alone k found) is)
+
+-- an answer that is due is given
+pub gives-as : (known answer : Status) → Gives known answer → (due : Status) → due ≡ known → Gives due answer
+gives-as known answer gives due is = subst (λ d. Gives d answer) (sym is) gives
+
+-- The status of the work
+
+-- the status of the work of `run` and `check`
+pub gives-run : (reading : Reading) (counts ops : Bool) → reading ≡ Run counts ops → (p : Program) (steps : List Step) (report : List ℕ) (answer : Status) → Gives Done answer
+    → (due : Status) → IsWorkStatus reading p steps report due → Gives due answer
+gives-run reading counts ops is p steps report answer gives due h = gives-as Done answer gives due (subst (λ r. IsWorkStatus r p steps report due) is h)
+
+pub gives-check : (reading : Reading) → reading ≡ Check → (p : Program) (steps : List Step) (report : List ℕ) (answer : Status) → Gives Done answer
+    → (due : Status) → IsWorkStatus reading p steps report due → Gives due answer
+gives-check reading is p steps report answer gives due h = gives-as Done answer gives due (subst (λ r. IsWorkStatus r p steps report due) is h)
+
+-- that of the work of `verify` is the same by the name of the task
+pub gives-verify : (reading : Reading) → reading ≡ Verify → (p : Program) (steps : List Step) (report : List ℕ) (answer : Status)
+    → ((due : Status) → IsWorkStatus Verify p steps report due → Gives due answer) → (due : Status) → IsWorkStatus reading p steps report due → Gives due answer
+gives-verify reading is p steps report answer gives due h = gives due (subst (λ r. IsWorkStatus r p steps report due) is h)
+
+-- a report is judged in one way
+abbrev pub VerdictLaw : Type 0
+VerdictLaw = (p : Program) (steps : List Step) (bytes : List ℕ) (v w : Verdict) → IsVerdict p steps bytes v → IsVerdict p steps bytes w → v ≡ w
+
+-- so one status is due for it
+pub gives-verdict : VerdictLaw → (p : Program) (steps : List Step) (report : List ℕ) (v : Verdict) → IsVerdict p steps report v → (answer : Status) → Gives (verdict_status v) answer
+    → (due : Status) → IsWorkStatus Verify p steps report due → Gives due answer
+gives-verdict law p steps report v found answer gives due is =
+    gives-as (verdict_status v) answer gives due (is.2 ∙ ap verdict_status (law p steps report is.0 v is.1 found))
 
 -- What is written
 
@@ -51,13 +103,27 @@ pub run-work : (Kind : Options → List ℕ → ℕ → Type 0) (Work : Reading 
 run-work Kind Work counts ops reading o is shown does w u used_old used wrote =
     (wrote.0, wrote.1, subst (λ t. Work t wrote.0 wrote.1) (sym is) (does wrote.0 wrote.1 (subst (λ q. Kind q wrote.0 wrote.1) shown wrote.2)), wrote.3, wrote.4)
 
--- the work of `check`
-pub check-work : (Work : Reading → List ℕ → ℕ → Type 0) (reading : Reading) → reading ≡ Check → (w u : Option (List ℕ)) (used_old used : ℕ) → Writes w u used_old used (Work Check)
+-- a whole line, with what holds anyway
+pub line-whole-with : (A : Type 0) → A → (line : Text) (w u : Option (List ℕ)) (used : ℕ) → Appends w u line → Writes w u used used (λ text bodies. A × IsLine line text bodies)
+line-whole-with A a line w u used wrote = (line, 0, (a, (refl, refl)), wrote, omega arith)
+
+-- the work of `check`, or that of `verify`
+pub other-work : (Work : Reading → List ℕ → ℕ → Type 0) (reading other : Reading) → reading ≡ other → (w u : Option (List ℕ)) (used_old used : ℕ) → Writes w u used_old used (Work other)
     → Writes w u used_old used (Work reading)
-check-work Work reading is w u used_old used wrote = (wrote.0, wrote.1, subst (λ t. Work t wrote.0 wrote.1) (sym is) wrote.2, wrote.3, wrote.4)
+other-work Work reading other is w u used_old used wrote = (wrote.0, wrote.1, subst (λ t. Work t wrote.0 wrote.1) (sym is) wrote.2, wrote.3, wrote.4)
+
+-- the line of a verdict
+pub verdict-work : (p : Program) (steps : List Step) (report : List ℕ) (answer : Status) (w u : Option (List ℕ)) (used : ℕ)
+    → Tells w u (λ text. (v : Verdict) × IsVerdict p steps report v × (answer ≡ verdict_status v) × (text ≡ verdict_line v)) → Writes w u used used (IsWork Verify answer p steps report)
+verdict-work p steps report answer w u used (text, (v, found, is, line), wrote) = (text, 0, (v, found, is, (line, refl)), wrote, omega arith)
+
+-- a part of it
+pub verdict-lost : (p : Program) (steps : List Step) (report : List ℕ) (w u : Option (List ℕ)) (used : ℕ)
+    → TellsPart w u (λ text. (v : Verdict) × IsVerdict p steps report v × (text ≡ verdict_line v)) → Writes w u used used (IsLostWork Verify p steps report)
+verdict-lost p steps report w u used (text, (v, found, line), wrote) = (wrote.0, 0, (v, found, (subst (λ l. IsPartOf wrote.0 l) line wrote.1, refl)), wrote.2, omega arith)
 
 -- what finds no memory in the work on an input that is accepted
-pub work-short : (reading : Reading) (input : List ℕ) (p : Program) (steps : List Step) → IsJudged input (accepted p steps) → (part : List ℕ) (bodies : ℕ) → IsShortWork reading p steps part bodies
+pub work-short : (reading : Reading) (input : List ℕ) (p : Program) (steps : List Step) → IsJudgedFor reading input (accepted p steps) → (part : List ℕ) (bodies : ℕ) → IsShortWork reading p steps part bodies
     → OrNothing (IsShortOutput reading input) part bodies
 work-short reading input p steps found part bodies work = inr (record { program = p; steps = steps; judged = found; work = work })
 
@@ -72,15 +138,22 @@ reads-nothing (Some t) invalid asks = let clash : true ≡ false = invalid in cc
 pub due-invalid : (words : List Text) (input : List ℕ) (answer : Status) → is_valid words ≡ false → Gives Usage answer → (due : Status) → IsDue words input due → Gives due answer
 due-invalid words input answer invalid gives _ (usage h) = gives
 due-invalid words input answer invalid gives _ (too_long asks h) = absurd (reads-nothing (task_of words) invalid asks)
-due-invalid words input answer invalid gives _ (judged reading j task within h) = let clash : true ≡ false = rw task at invalid in cc
+due-invalid words input answer invalid gives _ (judged reading j due task within h is) = let clash : true ≡ false = rw task at invalid in cc
 due-invalid words input answer invalid gives _ (generated n task) = let clash : true ≡ false = rw task at invalid in cc
+
+-- the status that is due for an input that is read is given
+abbrev pub GivesRead : Reading → List ℕ → (answer : Status) → Type 0
+GivesRead reading input answer = (j : Judgement) (due : Status) → IsJudgedFor reading input j → IsStatusOf reading (report_in reading input) j due → Gives due answer
 
 -- an input that is read, and isn't too long
 pub due-reading : (words : List Text) (reading : Reading) (input : List ℕ) (answer : Status) → task_of words ≡ Some (Read reading) → length input ≤ limit
-    → ((j : Judgement) → IsJudged input j → Gives (status_of j) answer) → (due : Status) → IsDue words input due → Gives due answer
+    → GivesRead reading input answer → (due : Status) → IsDue words input due → Gives due answer
 due-reading words reading input answer is within gives _ (usage h) = let clash : true ≡ false = rw is at h in cc
 due-reading words reading input answer is within gives _ (too_long asks h) = absurd (omega (arith, within, h))
-due-reading words reading input answer is within gives _ (judged r j task few h) = gives j h
+due-reading words reading input answer is within gives _ (judged r j due task few h now) =
+    let both : Some (Read r) ≡ Some (Read reading) = sym task ∙ is in
+    let same : r ≡ reading = cc in
+    gives j due (subst (λ t. IsJudgedFor t input j) same h) (subst (λ t. IsStatusOf t (report_in t input) j due) same now)
 due-reading words reading input answer is within gives _ (generated n task) = let clash : Some (Read reading) ≡ Some (Gen n) = sym is ∙ task in cc
 
 -- an input that is too long
@@ -88,14 +161,14 @@ pub due-long : (words : List Text) (reading : Reading) (input : List ℕ) (answe
     → (due : Status) → IsDue words input due → Gives due answer
 due-long words reading input answer is long gives _ (usage h) = let clash : true ≡ false = rw is at h in cc
 due-long words reading input answer is long gives _ (too_long asks h) = gives
-due-long words reading input answer is long gives _ (judged r j task few h) = absurd (omega (arith, long, few))
+due-long words reading input answer is long gives _ (judged r j due task few h now) = absurd (omega (arith, long, few))
 due-long words reading input answer is long gives _ (generated n task) = let clash : Some (Read reading) ≡ Some (Gen n) = sym is ∙ task in cc
 
 -- a generated run
 pub due-generated : (words : List Text) (n : ℕ) (input : List ℕ) (answer : Status) → task_of words ≡ Some (Gen n) → Gives Done answer → (due : Status) → IsDue words input due → Gives due answer
 due-generated words n input answer is gives _ (usage h) = let clash : true ≡ false = rw is at h in cc
 due-generated words n input answer is gives _ (too_long asks h) = let clash : false ≡ true = rw is at asks in cc
-due-generated words n input answer is gives _ (judged r j task few h) = let clash : Some (Gen n) ≡ Some (Read r) = sym is ∙ task in cc
+due-generated words n input answer is gives _ (judged r j due task few h now) = let clash : Some (Gen n) ≡ Some (Read r) = sym is ∙ task in cc
 due-generated words n input answer is gives _ (generated m task) = gives
 
 -- an answer that was cut short is free
@@ -113,7 +186,7 @@ exact-by words (Some all) answer gives = gives all
 
 -- what was read is all that the source had
 pub exact-all : (words : List Text) (reading : Reading) (old new : Option (List ℕ)) (input : List ℕ) (answer : Status) → task_of words ≡ Some (Read reading)
-    → Consumes old new input → IsAtEnd new → length input ≤ limit → ((j : Judgement) → IsJudged input j → Gives (status_of j) answer) → IsExact words old answer
+    → Consumes old new input → IsAtEnd new → length input ≤ limit → GivesRead reading input answer → IsExact words old answer
 exact-all words reading None new input answer valid taken end within gives = tt
 exact-all words reading (Some all) None input answer valid taken end within gives = absurd taken
 exact-all words reading (Some all) (Some rest) input answer valid taken end within gives =
@@ -129,21 +202,50 @@ exact-long words reading (Some all) (Some rest) input answer valid taken long gi
     let longer : limit < length all = omega (arith, long, ap (λ (l : List ℕ). length l) taken, length-append input rest) in
     due-long words reading all answer valid longer gives
 
-finished : (answer : Status) → Gives Done answer → answer ≢ ReadFault → answer ≢ WriteFault → (answer ≡ Done) ⊎ (answer ≡ OutOfMemory)
-finished Done g r w = inl refl
-finished OutOfMemory g r w = inr refl
-finished ReadFault g r w = absurd (r refl)
-finished WriteFault g r w = absurd (w refl)
-finished Usage g r w = inl (g refl)
-finished TooLong g r w = inl (g refl)
-finished ProgramRefused g r w = inl (g refl)
-finished ScriptRefused g r w = inl (g refl)
+finished : (due answer : Status) → Gives due answer → answer ≢ ReadFault → answer ≢ WriteFault → (answer ≡ due) ⊎ (answer ≡ OutOfMemory)
+finished due Done g r w = inl (g refl)
+finished due No g r w = inl (g refl)
+finished due OutOfMemory g r w = inr refl
+finished due ReadFault g r w = absurd (r refl)
+finished due WriteFault g r w = absurd (w refl)
+finished due Usage g r w = inl (g refl)
+finished due TooLong g r w = inl (g refl)
+finished due ProgramRefused g r w = inl (g refl)
+finished due ScriptRefused g r w = inl (g refl)
 
--- with no new fault, what is accepted is done, or there was no memory
+-- with no new fault, the status is the one that is due, or there was no memory
 pub complete : (words : List Text) (old : Option (List ℕ)) (answer : Status) (A B : Type 0) → IsExact words old answer → (answer ≡ ReadFault → A) → (answer ≡ WriteFault → B)
-    → IfSome old (λ all. IsDue words all Done → ¬ A → ¬ B → (answer ≡ Done) ⊎ (answer ≡ OutOfMemory))
+    → IfSome old (λ all. (due : Status) → IsDue words all due → ¬ A → ¬ B → (answer ≡ due) ⊎ (answer ≡ OutOfMemory))
 complete words None answer A B exact read write = tt
-complete words (Some all) answer A B exact read write = λ due no_a no_b. finished answer (exact Done due) (λ h. no_a (read h)) (λ h. no_b (write h))
+complete words (Some all) answer A B exact read write = λ due is no_a no_b. finished due answer (exact due is) (λ h. no_a (read h)) (λ h. no_b (write h))
+
+-- an input that is too long
+pub complete-long : (words : List Text) (old : Option (List ℕ)) (A B : Type 0) → IsExact words old TooLong
+    → IfSome old (λ all. (due : Status) → IsDue words all due → ¬ A → ¬ B → (TooLong ≡ due) ⊎ (TooLong ≡ OutOfMemory))
+complete-long words None A B exact = tt
+complete-long words (Some all) A B exact = λ due is no_a no_b. inl (exact due is refl)
+
+-- If an input was read to its end
+
+-- it is answered with this status
+pub answered : (reading : Reading) (old new w u : Option (List ℕ)) (used_old used : ℕ) (input : List ℕ) (answer due : Status) → answer ≡ due → Consumes old new input → IsAtEnd new → length input ≤ limit
+    → ((j : Judgement) × IsJudgedFor reading input j × Writes w u used_old used (IsOutput reading answer (report_in reading input) j)) → Answers reading due old new w u used_old used
+answered reading old new w u used_old used input answer due same taken end within (j, found, wrote) =
+    (input, taken, end, (within, j, found, subst (λ s. Writes w u used_old used (IsOutput reading s (report_in reading input) j)) same wrote))
+
+-- only `verify` says no
+only-verify : (reading : Reading) (report : List ℕ) (j : Judgement) (text : List ℕ) (bodies : ℕ) → IsOutput reading No report j text bodies → reading ≡ Verify
+only-verify (Run counts ops) report (accepted p steps) text bodies (clash, work) = cc
+only-verify Check report (accepted p steps) text bodies (clash, work) = cc
+only-verify Verify report (accepted p steps) text bodies work = refl
+only-verify reading report (program_refused line) text bodies (clash, told) = cc
+only-verify reading report (script_refused line) text bodies (clash, told) = cc
+
+pub no-answered : (words : List Text) (reading : Reading) (old new w u : Option (List ℕ)) (used_old used : ℕ) → task_of words ≡ Some (Read reading) → Answers reading No old new w u used_old used
+    → (task_of words ≡ Some (Read Verify)) × Answers Verify No old new w u used_old used
+no-answered words reading old new w u used_old used asked (input, taken, end, (within, j, found, (text, bodies, output, wrote, counted))) =
+    subst (λ t. (task_of words ≡ Some (Read t)) × Answers t No old new w u used_old used) (only-verify reading (report_in reading input) j text bodies output)
+    (asked, (input, taken, end, (within, j, found, (text, bodies, output, wrote, counted))))
 
 -- If the call was cut short
 
@@ -153,7 +255,7 @@ lost-by words old new w u used_old used P by wrote = (wrote.0, wrote.1, by wrote
 
 -- of the output of an input that was read
 pub lost-reading : (words : List Text) (reading : Reading) (old new w u : Option (List ℕ)) (used_old used : ℕ) (input : List ℕ) → task_of words ≡ Some (Read reading) → Consumes old new input → IsAtEnd new
-    → length input ≤ limit → (j : Judgement) → IsJudged input j → Writes w u used_old used (IsLostOutput reading j) → Writes w u used_old used (IsLost words old new)
+    → length input ≤ limit → (j : Judgement) → IsJudgedFor reading input j → Writes w u used_old used (IsLostOutput reading (report_in reading input) j) → Writes w u used_old used (IsLost words old new)
 lost-reading words reading old new w u used_old used input valid taken end within j found wrote =
     (wrote.0, wrote.1, lost_output reading valid (input, taken, end, (within, j, found, wrote.2)), wrote.3, wrote.4)
 

@@ -4,3 +4,4 @@ pub mod Due
 pub mod Summed
 pub mod Sizes
 pub mod OneLine
+pub mod Verified

@@ -31,7 +31,7 @@ fn refuse_words<K: Sink>(out: &mut K) -> Status
 {
     match write_all(
         out,
-        b"usage: fiber_run run [--counts] [--ops] | check | gen N\n",
+        b"usage: fiber_run run [--counts] [--ops] | check | gen N | verify\n",
     ) {
         Ok(()) => Status::Usage,
         Err(_) => Status::WriteFault,
@@ -41,10 +41,11 @@ fn refuse_words<K: Sink>(out: &mut K) -> Status
 /// Does all that the program does: takes the words behind the program's name, reads the source, writes to the sink,
 /// and says how it ended.
 ///
-/// The words are valid if they are `run` with `--counts` and `--ops` each at most once, `check` alone, or `gen` with a
-/// number from 1 to 1,000. `run` and `check` read the source to its end, or until more than 8,388,608 bytes were taken. It
-/// holds a program, a line `---`, and a script. Both refuse what is not accepted; `check` tells the bounds of what is
-/// accepted, and `run` runs it. `gen` reads nothing, runs a generated program and script, and sums up their run.
+/// The words are valid if they are `run` with `--counts` and `--ops` each at most once, `check` alone, `gen` with a
+/// number from 1 to 1,000, or `verify` alone. `run`, `check` and `verify` read the source to its end, or until more than 8,388,608
+/// bytes were taken. It holds a program, a line `---`, and a script; and for `verify` another line `---`, and a report. All refuse
+/// what is not accepted; `check` tells the bounds of what is accepted, `run` runs it, and `verify` tells whether the report is
+/// that of a run, as `run --counts` writes it. `gen` reads nothing, runs a generated program and script, and sums up their run.
 ///
 /// For every accepted program and script, the bytes that `run` writes are the report of a run of the fresh machine, which
 /// at each finished render folds every hook's updates of the chosen lanes and of earlier commits and renders the whole tree
@@ -59,12 +60,19 @@ pub fn top<S: Source, K: Sink, L: Ledger>(
 ) -> Status
     // 0: the task's work is done. For `run` and `check` all was read, it is accepted, and what was written is its output:
     // for `check` the one line of its bounds; for `run` the report of a run of the fresh machine, of the program in it, on
-    // the steps of the script in it. For `gen` it is the line that sums up such a run of the generated program and script.
-    // The steps rose by the bodies that this run evaluates, and in `check` by none. Each finished render of the run evaluates
+    // the steps of the script in it; for `verify` the line `yes`, and the report behind them is that of such a run. For `gen` it
+    // is the line that sums up such a run of the generated program and script. The steps rose by the bodies that this run
+    // evaluates, and in `check` and `verify` by none. Each finished render of the run evaluates
     // exactly the bodies of a set of places: each place with a cause is in it, and each in it has one, or lies below one that has,
     // or below a boundary that is tried again, with an element that was made anew. One that is broken off evaluates no more.
     ensures done { result ≡ Status.Done → (task : Task) × (task_of (texts words.now) ≡ Some task)
         × Does task (S.left src.old) (S.left src.new) (K.written out.old) (K.written out.new) steps.old steps.new }
+
+    // 1: the words are `verify`, all was read, its program and script are accepted, and the report behind them is not that of a
+    // run of the fresh machine; what was written is the line that tells the least number of a line that no report has behind
+    // those before it. No body was counted.
+    ensures no { result ≡ Status.No → (task_of (texts words.now) ≡ Some (Task.Read Reading.Verify))
+        × Answers Reading.Verify Status.No (S.left src.old) (S.left src.new) (K.written out.old) (K.written out.new) steps.old steps.new }
 
     // 2: the words aren't valid, and no body was evaluated.
     ensures usage { result ≡ Status.Usage → (is_valid (texts words.now) ≡ false)
@@ -110,10 +118,11 @@ pub fn top<S: Source, K: Sink, L: Ledger>(
     // A generated run is done, whatever the source, or the status is 4 or 8.
     ensures generated { (n : ℕ) → task_of (texts words.now) ≡ Some (Task.Gen n) → Gives Status.Done result }
 
-    // With no new fault, what is accepted is done, or there was no memory.
-    ensures complete { IfSome (S.left src.old) (λ input. IsDue (texts words.now) input Status.Done
+    // With no new fault, the status is the one that is due, or there was no memory. So what is accepted is done; and with `verify`
+    // it is done exactly if the report is that of a run, and the status is 1 exactly if not.
+    ensures complete { IfSome (S.left src.old) (λ input. (due : Status) → IsDue (texts words.now) input due
         → ¬ (Rose (S.faults src.old) (S.faults src.new)) → ¬ (Rose (K.faults out.old) (K.faults out.new))
-        → (result ≡ Status.Done) ⊎ (result ≡ Status.OutOfMemory)) }
+        → (result ≡ due) ⊎ (result ≡ Status.OutOfMemory)) }
 {
     let task = match read_words(alloc, words) {
         Ok(Some(task)) => task,

@@ -10,5 +10,5 @@ mod status;
 mod summary;
 
 pub use call::top;
-pub use laws::summary_is_one;
+pub use laws::{summary_is_one, what_is_reported_is_verified};
 pub use status::Status;

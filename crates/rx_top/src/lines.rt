@@ -1,7 +1,8 @@
 // The line of what is accepted.
 ghost use Rattle.std.specs.Prelude.{◌≡◌, ◌++◌, IfOk, OnOk};
 ghost use Rattle.rx_accept.specs.Lines.{then_number};
-ghost use Rattle.rx_top.specs.Outcome.{accepted_line as accepted_line_of};
+ghost use Rattle.rx_verify.specs.declared.verdict.Verdict.TheVariants as verdict;
+ghost use Rattle.rx_top.specs.Outcome.{accepted_line as accepted_line_of, verdict_line};
 
 use itoa::Buffer;
 use std::alloc::{AllocError, Global};
@@ -32,4 +33,14 @@ pub(crate) fn accepted_line(
     push_counted(&mut line, " steps", steps)?;
     line.push(b'\n')?;
     Ok(line)
+}
+
+/// The line for a report whose first line that no report has is this one.
+pub(crate) fn no_line(alloc: Global, line: u64) -> Result<Vec<u8>, AllocError>
+    ensures { IfOk result (λ text. text.items ≡ verdict_line (verdict.No line)) }
+{
+    let mut text = Vec::new(alloc);
+    push_counted(&mut text, "no line", line)?;
+    text.push(b'\n')?;
+    Ok(text)
 }

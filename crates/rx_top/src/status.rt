@@ -7,6 +7,8 @@ ghost use Rattle.rx_top.specs.Codes.{code_of};
 pub enum Status {
     /// The command's work is done.
     Done,
+    /// The report is not that of a run.
+    No,
     /// The words are not valid.
     Usage,
     /// The source failed.
@@ -24,12 +26,13 @@ pub enum Status {
 }
 
 impl Status {
-    /// The number that the process ends with: 0 if the work is done, and 2 to 8 for the others.
+    /// The number that the process ends with: 0 if the work is done, 1 if a report is not that of a run, and 2 to 8 for the others.
     pub fn code(self) -> u8
         ensures { result ≡ code_of self }
     {
         match self {
             Status::Done => 0,
+            Status::No => 1,
             Status::Usage => 2,
             Status::ReadFault => 3,
             Status::WriteFault => 4,

@@ -5,8 +5,8 @@ use Rattle.std.proofs.lemmas.Bool.{eqb-true, eq-eqb}
 use Rattle.rx_base.specs.Values.{Text}
 use Rattle.rx_words.specs.declared.task.Task.{Task}
 use Rattle.rx_words.specs.declared.task.Task.TheVariants.{Read, Gen}
-use Rattle.rx_words.specs.declared.task.Reading.TheVariants.{Run, Check}
-use Rattle.rx_words.specs.Words.{rounds_of, run_of, check_of, gen_of, spelled, spells, spells_option, spells_options, spells_nothing, spells_rounds, task_of}
+use Rattle.rx_words.specs.declared.task.Reading.TheVariants.{Run, Check, Verify}
+use Rattle.rx_words.specs.Words.{rounds_of, run_of, check_of, verify_of, gen_of, spelled, spells, spells_option, spells_options, spells_nothing, spells_rounds, task_of}
 use Rattle.rx_words.proofs.Valid.{each_valid, same}
 
 -- both hold
@@ -17,7 +17,7 @@ both false b is = cc
 
 -- words that ask for a task spell it
 valid-spells : (words : List Text) (task : Task) → task_of words ≡ Some task → spells task words ≡ true
-valid-spells = each_valid (λ words task. spells task words ≡ true) refl refl refl refl refl refl (λ word n is. rw is (eq-eqb n n refl))
+valid-spells = each_valid (λ words task. spells task words ≡ true) refl refl refl refl refl refl refl (λ word n is. rw is (eq-eqb n n refl))
 
 option-is : (counts ops : Bool) (w : Text) → spells_option counts ops w ≡ true → run_of (w ∷ []) ≡ Some (Run counts ops)
 option-is true true w is = cc
@@ -39,6 +39,10 @@ nothing-is : (words : List Text) → spells_nothing words ≡ true → check_of 
 nothing-is [] is = refl
 nothing-is (w ∷ words) is = cc
 
+nothing-judges : (words : List Text) → spells_nothing words ≡ true → verify_of words ≡ Some Verify
+nothing-judges [] is = refl
+nothing-judges (w ∷ words) is = cc
+
 number-is : (n : ℕ) (o : Option ℕ) → option_eq nat_eq o (Some n) ≡ true → option_map (λ k. Gen k) o ≡ Some (Gen n)
 number-is n None is = cc
 number-is n (Some k) is = ap (λ m. Some (Gen m)) (eqb-true k n is)
@@ -57,6 +61,9 @@ spells-is (Read (Run counts ops)) (command ∷ words) is =
 spells-is (Read Check) (command ∷ words) is =
     let h = both (bytes_eq command (codes "check")) (spells_nothing words) is in
     subst (λ w. task_of (w ∷ words) ≡ Some (Read Check)) (sym (same command (codes "check") h.0)) (ap (option_map (λ r. Read r)) (nothing-is words h.1))
+spells-is (Read Verify) (command ∷ words) is =
+    let h = both (bytes_eq command (codes "verify")) (spells_nothing words) is in
+    subst (λ w. task_of (w ∷ words) ≡ Some (Read Verify)) (sym (same command (codes "verify") h.0)) (ap (option_map (λ r. Read r)) (nothing-judges words h.1))
 spells-is (Gen n) (command ∷ words) is =
     let h = both (bytes_eq command (codes "gen")) (spells_rounds n words) is in
     subst (λ w. task_of (w ∷ words) ≡ Some (Gen n)) (sym (same command (codes "gen") h.0)) (rounds-are n words h.1)

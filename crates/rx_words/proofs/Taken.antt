@@ -5,7 +5,7 @@ use Rattle.clap.specs.Words.{first_of, one_of, is_simple, matches_of, takes}
 use Rattle.clap.proofs.OnLiterals.{clap_on_literals}
 use Rattle.rx_words.specs.declared.task.Task.{Task}
 use Rattle.rx_words.specs.declared.task.Task.TheVariants.{Read, Gen}
-use Rattle.rx_words.specs.declared.task.Reading.TheVariants.{Run, Check}
+use Rattle.rx_words.specs.declared.task.Reading.TheVariants.{Run, Check, Verify}
 use Rattle.std.specs.Str.Parse.{IsNumeral}
 use Rattle.std.proofs.lemmas.Fmt.{decimal_is_IsNumeral}
 use Rattle.std.proofs.lemmas.Str.Parse.{digit_from_value}
@@ -53,6 +53,10 @@ check_found : IsFound (codes "check" ∷ []) (Read Check)
 unfolding clap_on_literals
 check_found = record { taken = refl; found = λ counts ops c o. refl }
 
+verify_found : IsFound (codes "verify" ∷ []) (Read Verify)
+unfolding clap_on_literals
+verify_found = record { taken = refl; found = λ counts ops c o. refl }
+
 -- a word is found behind `gen`
 record IsWordFound (word : Text) : Type 0 where
   taken : takes command_line (codes "gen" ∷ word ∷ []) ≡ true
@@ -94,11 +98,11 @@ gen_found word n is =
 
 -- valid words are taken, and their task is found
 pub valid-found : (words : List Text) (task : Task) → task_of words ≡ Some task → IsFound words task
-valid-found = each_valid IsFound run_found counts_found ops_found both_found both_found_turned check_found gen_found
+valid-found = each_valid IsFound run_found counts_found ops_found both_found both_found_turned check_found verify_found gen_found
 
 -- and a number of rounds that they ask for is from 1 to 1,000
 valid-rounds : (words : List Text) (task : Task) → task_of words ≡ Some task → HasRounds task
-valid-rounds = each_valid (λ words task. HasRounds task) tt tt tt tt tt tt (λ word n is. let rounds = rounds-is word n is in (rounds.1, rounds.2))
+valid-rounds = each_valid (λ words task. HasRounds task) tt tt tt tt tt tt tt (λ word n is. let rounds = rounds-is word n is in (rounds.1, rounds.2))
 
 pub asked-rounds : (words : List Text) (asked : Option Task) → asked ≡ task_of words → IfSome asked HasRounds
 asked-rounds words None is = tt

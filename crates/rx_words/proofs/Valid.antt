@@ -4,8 +4,8 @@ use Rattle.std.proofs.lemmas.Slice.Eq.{bytes_eq-Decides}
 use Rattle.rx_base.specs.Values.{Text}
 use Rattle.rx_words.specs.declared.task.Task.{Task}
 use Rattle.rx_words.specs.declared.task.Task.TheVariants.{Read, Gen}
-use Rattle.rx_words.specs.declared.task.Reading.TheVariants.{Run, Check}
-use Rattle.rx_words.specs.Words.{rounds_of, run_of, check_of, gen_of, task_of}
+use Rattle.rx_words.specs.declared.task.Reading.TheVariants.{Run, Check, Verify}
+use Rattle.rx_words.specs.Words.{rounds_of, run_of, check_of, verify_of, gen_of, task_of}
 
 -- equal texts are the same
 pub same : (a b : Text) → bytes_eq a b ≡ true → a ≡ b
@@ -18,6 +18,7 @@ module _ (P : List Text → Task → Type 0) (run : P (codes "run" ∷ []) (Read
     (both : P (codes "run" ∷ codes "--counts" ∷ codes "--ops" ∷ []) (Read (Run true true)))
     (turned : P (codes "run" ∷ codes "--ops" ∷ codes "--counts" ∷ []) (Read (Run true true)))
     (check : P (codes "check" ∷ []) (Read Check))
+    (verify : P (codes "verify" ∷ []) (Read Verify))
     (gen : (word : Text) (n : ℕ) → rounds_of word ≡ Some n → P (codes "gen" ∷ word ∷ []) (Gen n)) where
   -- words with P for the task that they ask for
   abbrev Asks : List Text → Option Task → Type 0
@@ -63,6 +64,10 @@ module _ (P : List Text → Task → Type 0) (run : P (codes "run" ∷ []) (Read
   check_asks [] = with_task (codes "check" ∷ []) (Read Check) check
   check_asks (w ∷ words) = none (codes "check" ∷ w ∷ words)
 
+  verify_asks : (words : List Text) → Asks (codes "verify" ∷ words) (option_map (λ r. Read r) (verify_of words))
+  verify_asks [] = with_task (codes "verify" ∷ []) (Read Verify) verify
+  verify_asks (w ∷ words) = none (codes "verify" ∷ w ∷ words)
+
   number : (word : Text) (o : Option ℕ) → rounds_of word ≡ o → Asks (codes "gen" ∷ word ∷ []) (option_map (λ n. Gen n) o)
   number word None e = none (codes "gen" ∷ word ∷ [])
   number word (Some n) e = with_task (codes "gen" ∷ word ∷ []) (Gen n) (gen word n e)
@@ -76,14 +81,15 @@ module _ (P : List Text → Task → Type 0) (run : P (codes "run" ∷ []) (Read
   is_command : (command name : Text) (words : List Text) (asked : Option Task) → bytes_eq command name ≡ true → Asks (name ∷ words) asked → Asks (command ∷ words) asked
   is_command command name words asked e asks = subst (λ w. Asks (w ∷ words) asked) (sym (same command name e)) asks
 
-  by_command : (command : Text) (words : List Text) (x y z : Bool) → bytes_eq command (codes "run") ≡ x → bytes_eq command (codes "check") ≡ y → bytes_eq command (codes "gen") ≡ z
-      → Asks (command ∷ words) (cond x (option_map (λ r. Read r) (run_of words)) (cond y (option_map (λ r. Read r) (check_of words)) (cond z (gen_of words) None)))
-  by_command command words true y z e f g = is_command command (codes "run") words (option_map (λ r. Read r) (run_of words)) e (run_asks words)
-  by_command command words false true z e f g = is_command command (codes "check") words (option_map (λ r. Read r) (check_of words)) f (check_asks words)
-  by_command command words false false true e f g = is_command command (codes "gen") words (gen_of words) g (gen_asks words)
-  by_command command words false false false e f g = none (command ∷ words)
+  by_command : (command : Text) (words : List Text) (x y v z : Bool) → bytes_eq command (codes "run") ≡ x → bytes_eq command (codes "check") ≡ y → bytes_eq command (codes "verify") ≡ v → bytes_eq command (codes "gen") ≡ z
+      → Asks (command ∷ words) (cond x (option_map (λ r. Read r) (run_of words)) (cond y (option_map (λ r. Read r) (check_of words)) (cond v (option_map (λ r. Read r) (verify_of words)) (cond z (gen_of words) None))))
+  by_command command words true y v z e f h g = is_command command (codes "run") words (option_map (λ r. Read r) (run_of words)) e (run_asks words)
+  by_command command words false true v z e f h g = is_command command (codes "check") words (option_map (λ r. Read r) (check_of words)) f (check_asks words)
+  by_command command words false false true z e f h g = is_command command (codes "verify") words (option_map (λ r. Read r) (verify_of words)) h (verify_asks words)
+  by_command command words false false false true e f h g = is_command command (codes "gen") words (gen_of words) g (gen_asks words)
+  by_command command words false false false false e f h g = none (command ∷ words)
 
   pub each_valid : (words : List Text) (task : Task) → task_of words ≡ Some task → P words task
   each_valid [] task is = cc
   each_valid (command ∷ words) task is =
-      by_command command words (bytes_eq command (codes "run")) (bytes_eq command (codes "check")) (bytes_eq command (codes "gen")) refl refl refl task is
+      by_command command words (bytes_eq command (codes "run")) (bytes_eq command (codes "check")) (bytes_eq command (codes "verify")) (bytes_eq command (codes "gen")) refl refl refl refl task is

@@ -6,7 +6,7 @@ use Rattle.clap.specs.Simple.{on_top}
 use Rattle.clap.specs.declared.builder.action.ArgAction.TheVariants.{SetTrue}
 use Rattle.rx_words.specs.declared.task.Task.{Task}
 use Rattle.rx_words.specs.declared.task.Task.TheVariants.{Read, Gen}
-use Rattle.rx_words.specs.declared.task.Reading.TheVariants.{Run, Check}
+use Rattle.rx_words.specs.declared.task.Reading.TheVariants.{Run, Check, Verify}
 use Rattle.rx_words.specs.Words.{rounds_of}
 
 -- a flag by its long name
@@ -28,5 +28,6 @@ task_found None rounds counts ops = None
 task_found (Some command) rounds counts ops =
     if bytes_eq command (codes "run") then Some (Read (Run counts ops))
     else if bytes_eq command (codes "check") then Some (Read Check)
+    else if bytes_eq command (codes "verify") then Some (Read Verify)
     else if bytes_eq command (codes "gen") then option_map (λ n. Gen n) (option_and_then rounds_of rounds)
     else None

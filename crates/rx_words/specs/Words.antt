@@ -7,7 +7,7 @@ use Rattle.rx_base.specs.Values.{Text}
 use Rattle.rx_words.specs.declared.task.Task.{Task}
 use Rattle.rx_words.specs.declared.task.Task.TheVariants.{Read, Gen}
 use Rattle.rx_words.specs.declared.task.Reading.{Reading}
-use Rattle.rx_words.specs.declared.task.Reading.TheVariants.{Run, Check}
+use Rattle.rx_words.specs.declared.task.Reading.TheVariants.{Run, Check, Verify}
 
 -- the texts of the words
 abbrev pub texts : List (Bor Text) → List Text
@@ -41,18 +41,24 @@ abbrev pub check_of : List Text → Option Reading
 check_of [] = Some Check
 check_of (w ∷ words) = None
 
+-- no word stands behind `verify`
+abbrev pub verify_of : List Text → Option Reading
+verify_of [] = Some Verify
+verify_of (w ∷ words) = None
+
 -- a number of rounds alone stands behind `gen`
 abbrev pub gen_of : List Text → Option Task
 gen_of [] = None
 gen_of (w ∷ []) = option_map (λ n. Gen n) (rounds_of w)
 gen_of (v ∷ w ∷ words) = None
 
--- what the words ask for, if they are valid: `run` with its options, `check` alone, or `gen` with a number of rounds
+-- what the words ask for, if they are valid: `run` with its options, `check` alone, `verify` alone, or `gen` with a number of rounds
 abbrev pub task_of : List Text → Option Task
 task_of [] = None
 task_of (command ∷ words) =
     if bytes_eq command (codes "run") then option_map (λ r. Read r) (run_of words)
     else if bytes_eq command (codes "check") then option_map (λ r. Read r) (check_of words)
+    else if bytes_eq command (codes "verify") then option_map (λ r. Read r) (verify_of words)
     else if bytes_eq command (codes "gen") then gen_of words
     else None
 
@@ -107,6 +113,7 @@ abbrev pub spells : Task → List Text → Bool
 spells task [] = false
 spells (Read (Run counts ops)) (command ∷ words) = bytes_eq command (codes "run") && spells_options counts ops words
 spells (Read Check) (command ∷ words) = bytes_eq command (codes "check") && spells_nothing words
+spells (Read Verify) (command ∷ words) = bytes_eq command (codes "verify") && spells_nothing words
 spells (Gen n) (command ∷ words) = bytes_eq command (codes "gen") && spells_rounds n words
 
 -- a task, if the words are its spelling

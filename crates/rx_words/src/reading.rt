@@ -41,6 +41,8 @@ fn task_found(command: Option<&str>, rounds: Option<&str>, counts: bool, ops: bo
         Some(Task::Read(Reading::Run { counts, ops }))
     } else if command == "check" {
         Some(Task::Read(Reading::Check))
+    } else if command == "verify" {
+        Some(Task::Read(Reading::Verify))
     } else if command == "gen" {
         Some(Task::Gen(rounds_of(rounds?)?))
     } else {

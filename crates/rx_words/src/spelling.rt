@@ -46,6 +46,7 @@ pub(crate) fn is_spelling(task: Task, words: &[&str]) -> bool
                 *command == "run" && are_options(counts, ops, rest)
             }
             Task::Read(Reading::Check) => *command == "check" && rest.is_empty(),
+            Task::Read(Reading::Verify) => *command == "verify" && rest.is_empty(),
             Task::Gen(rounds) => *command == "gen" && is_number(rounds, rest),
         },
     }

@@ -17,4 +17,6 @@ pub enum Reading {
     Run { counts: bool, ops: bool },
     /// Program and script are checked.
     Check,
+    /// A report of a run, which stands behind program and script, is judged.
+    Verify,
 }

@@ -53,7 +53,7 @@ const WHOLE: [Row<'static>; 3] = [
     },
 ];
 
-const ROWS: [Row<'static>; 17] = [
+const ROWS: [Row<'static>; 23] = [
     // A flag shows that a transition is pending: it is set at once, and unset with the transition.
     Row {
         words: &["run"],
@@ -162,6 +162,60 @@ const ROWS: [Row<'static>; 17] = [
         status: 0,
         output: "commit 1 Default\nop create #1 p\nop text #2 \"1\"\nop create #3 i\nop place #1 under #0 at end\nop place #2 under #1 at end\nop place #3 under #1 at end\nop attr #1 a 1\nop attr #1 b \"x\"\ncommit 2 Sync\nop remove #2\nop attr #1 a 0\nend quiet\n",
     },
+    // A report of a run is one, with any counts that a run may have.
+    Row {
+        words: &["verify"],
+        input: "function Counter({start}) { const [n, setN] = useState(start); return <p>{n}</p>; } function App() { return <div><Counter start={1}/><Counter start={2}/></div>; }\n---\nflush\n---\ncommit 1 Default units 36 bodies 3\nend quiet\n",
+        failing_reads: &[],
+        failing_writes: &[],
+        status: 0,
+        output: "yes\n",
+    },
+    // No render has more units than its bound.
+    Row {
+        words: &["verify"],
+        input: "function Counter({start}) { const [n, setN] = useState(start); return <p>{n}</p>; } function App() { return <div><Counter start={1}/><Counter start={2}/></div>; }\n---\nflush\n---\ncommit 1 Default units 37 bodies 3\nend quiet\n",
+        failing_reads: &[],
+        failing_writes: &[],
+        status: 1,
+        output: "no line 1\n",
+    },
+    // Each render has a unit more than bodies at least.
+    Row {
+        words: &["verify"],
+        input: "function Counter({start}) { const [n, setN] = useState(start); return <p>{n}</p>; } function App() { return <div><Counter start={1}/><Counter start={2}/></div>; }\n---\nflush\n---\ncommit 1 Default units 3 bodies 3\nend quiet\n",
+        failing_reads: &[],
+        failing_writes: &[],
+        status: 1,
+        output: "no line 1\n",
+    },
+    // A report that ends too early.
+    Row {
+        words: &["verify"],
+        input: "function Counter({start}) { const [n, setN] = useState(start); return <p>{n}</p>; } function App() { return <div><Counter start={1}/><Counter start={2}/></div>; }\n---\nflush\n---\ncommit 1 Default units 36 bodies 3\n",
+        failing_reads: &[],
+        failing_writes: &[],
+        status: 1,
+        output: "no line 2\n",
+    },
+    // A last line without its end.
+    Row {
+        words: &["verify"],
+        input: "function Counter({start}) { const [n, setN] = useState(start); return <p>{n}</p>; } function App() { return <div><Counter start={1}/><Counter start={2}/></div>; }\n---\nflush\n---\ncommit 1 Default units 36 bodies 3\nend quiet",
+        failing_reads: &[],
+        failing_writes: &[],
+        status: 1,
+        output: "no line 2\n",
+    },
+    // Without a report there is no first line.
+    Row {
+        words: &["verify"],
+        input: "function Counter({start}) { const [n, setN] = useState(start); return <p>{n}</p>; } function App() { return <div><Counter start={1}/><Counter start={2}/></div>; }\n---\nflush\n",
+        failing_reads: &[],
+        failing_writes: &[],
+        status: 1,
+        output: "no line 1\n",
+    },
     // A generated run reads nothing.
     Row {
         words: &["gen", "1"],
@@ -177,7 +231,7 @@ const ROWS: [Row<'static>; 17] = [
         failing_reads: &[1],
         failing_writes: &[],
         status: 2,
-        output: "usage: fiber_run run [--counts] [--ops] | check | gen N\n",
+        output: "usage: fiber_run run [--counts] [--ops] | check | gen N | verify\n",
     },
     // A source whose second call fails.
     Row {

@@ -1,10 +1,10 @@
 use Rattle.std.proofs.Common.{rules, ◌≡◌, ◌∙◌, ◌≤◌, ◌+◌, ap, length, Some, true, refl, sym}
 use Rattle.std.specs.Io.KnownBytes.{Consumes}
 use Rattle.rx_words.specs.declared.task.Task.TheVariants.{Read, Gen}
-use Rattle.rx_top.specs.declared.status.Status.TheVariants.{TooLong}
+use Rattle.rx_top.specs.declared.status.Status.TheVariants.{Done, No, ProgramRefused, ScriptRefused, TooLong}
 use Rattle.rx_words.specs.Words.{reads, reads_input, task_of, texts}
 use Rattle.rx_top.specs.Outcome.{limit, too_long_line, IsLostLine, IsLostSummary, lost_too_long, lost_summary, Reads, is_cut_short}
-use Rattle.rx_top.proofs.Due.{lost-by, line-lost, lost-reading, short-reading, short-generated, short-nothing, exact-by, exact-all, exact-long, due-generated, complete}
+use Rattle.rx_top.proofs.Due.{answered, no-answered, lost-by, line-lost, lost-reading, short-reading, short-generated, short-nothing, exact-by, exact-all, exact-long, due-generated, complete, complete-long}
 use Rattle.rx_top.proofs.call.top.Goals as goal
 
 -- a generated run
@@ -24,6 +24,12 @@ returns-in-Gen-clause-exact g c =
     let asked : task_of (texts c.args.words.now) ≡ Some (Gen c.in-Gen.rounds) = sym c.in-Ok-Some.ensures.task ∙ c.in-Ok-Some.field-0-is ∙ ap (λ t. Some t) c.in-Gen.is in
     exact-by (texts c.args.words.now) _ c.write_summary.result (λ input. due-generated (texts c.args.words.now) c.in-Gen.rounds input c.write_summary.result asked c.write_summary.ensures.gives)
 
+pub returns-in-Gen-clause-complete : goal.returns-in-Gen-clause-complete
+returns-in-Gen-clause-complete g c =
+    let asked : task_of (texts c.args.words.now) ≡ Some (Gen c.in-Gen.rounds) = sym c.in-Ok-Some.ensures.task ∙ c.in-Ok-Some.field-0-is ∙ ap (λ t. Some t) c.in-Gen.is in
+    let exact = exact-by (texts c.args.words.now) _ c.write_summary.result (λ input. due-generated (texts c.args.words.now) c.in-Gen.rounds input c.write_summary.result asked c.write_summary.ensures.gives) in
+    complete (texts c.args.words.now) _ c.write_summary.result _ _ exact (λ h. absurd (c.write_summary.ensures.no_read h)) c.write_summary.ensures.faults.rose
+
 -- an input that was read
 
 pub returns-in-Ok-clause-done : goal.returns-in-Ok-clause-done
@@ -32,7 +38,15 @@ returns-in-Ok-clause-done g c h =
     let taken : Consumes (g.S.Source.left c.args.src.now) (g.S.Source.left c.read_all.new.src) c.in-Ok.input.items = search rules in
     let within : length c.in-Ok.input.items ≤ limit = search rules in
     let d = rw c.deref.ensures.value at (c.answer.ensures.done (ap (λ s. is_cut_short s) h)) in
-    (Read c.in-Read.reading, asked, (c.in-Ok.input.items, taken, c.in-Ok.ensures.end, (within, d.0, d.1, (d.2 ∙ h, d.3))))
+    (Read c.in-Read.reading, asked, answered c.in-Read.reading _ _ _ _ _ _ c.in-Ok.input.items c.answer.result Done h taken c.in-Ok.ensures.end within d)
+
+pub returns-in-Ok-clause-no : goal.returns-in-Ok-clause-no
+returns-in-Ok-clause-no g c h =
+    let asked : task_of (texts c.args.words.now) ≡ Some (Read c.in-Read.reading) = sym c.in-Ok-Some.ensures.task ∙ c.in-Ok-Some.field-0-is ∙ ap (λ t. Some t) c.in-Read.is in
+    let taken : Consumes (g.S.Source.left c.args.src.now) (g.S.Source.left c.read_all.new.src) c.in-Ok.input.items = search rules in
+    let within : length c.in-Ok.input.items ≤ limit = search rules in
+    let d = rw c.deref.ensures.value at (c.answer.ensures.done (ap (λ s. is_cut_short s) h)) in
+    no-answered (texts c.args.words.now) c.in-Read.reading _ _ _ _ _ _ asked (answered c.in-Read.reading _ _ _ _ _ _ c.in-Ok.input.items c.answer.result No h taken c.in-Ok.ensures.end within d)
 
 pub returns-in-Ok-clause-program_refused : goal.returns-in-Ok-clause-program_refused
 returns-in-Ok-clause-program_refused g c h =
@@ -40,7 +54,7 @@ returns-in-Ok-clause-program_refused g c h =
     let taken : Consumes (g.S.Source.left c.args.src.now) (g.S.Source.left c.read_all.new.src) c.in-Ok.input.items = search rules in
     let within : length c.in-Ok.input.items ≤ limit = search rules in
     let d = rw c.deref.ensures.value at (c.answer.ensures.done (ap (λ s. is_cut_short s) h)) in
-    (c.in-Read.reading, asked, (c.in-Ok.input.items, taken, c.in-Ok.ensures.end, (within, d.0, d.1, (d.2 ∙ h, d.3))))
+    (c.in-Read.reading, asked, answered c.in-Read.reading _ _ _ _ _ _ c.in-Ok.input.items c.answer.result ProgramRefused h taken c.in-Ok.ensures.end within d)
 
 pub returns-in-Ok-clause-script_refused : goal.returns-in-Ok-clause-script_refused
 returns-in-Ok-clause-script_refused g c h =
@@ -48,7 +62,7 @@ returns-in-Ok-clause-script_refused g c h =
     let taken : Consumes (g.S.Source.left c.args.src.now) (g.S.Source.left c.read_all.new.src) c.in-Ok.input.items = search rules in
     let within : length c.in-Ok.input.items ≤ limit = search rules in
     let d = rw c.deref.ensures.value at (c.answer.ensures.done (ap (λ s. is_cut_short s) h)) in
-    (c.in-Read.reading, asked, (c.in-Ok.input.items, taken, c.in-Ok.ensures.end, (within, d.0, d.1, (d.2 ∙ h, d.3))))
+    (c.in-Read.reading, asked, answered c.in-Read.reading _ _ _ _ _ _ c.in-Ok.input.items c.answer.result ScriptRefused h taken c.in-Ok.ensures.end within d)
 
 pub returns-in-Ok-clause-write_fault : goal.returns-in-Ok-clause-write_fault
 returns-in-Ok-clause-write_fault g c h =
@@ -94,6 +108,12 @@ returns-in-Ok-write_all-clause-exact g c =
     let asked : task_of (texts c.args.words.now) ≡ Some (Read c.in-Read.reading) = sym c.in-Ok-Some.ensures.task ∙ c.in-Ok-Some.field-0-is ∙ ap (λ t. Some t) c.in-Read.is in
     let read : Reads (g.S.Source.left c.args.src.now) (g.S.Source.left c.read_all.new.src) (λ input. length input ≡ limit + 1) = search rules in
     exact-long (texts c.args.words.now) c.in-Read.reading _ _ read.0 TooLong asked read.1 read.2 (λ whole. refl)
+
+pub returns-in-Ok-write_all-clause-complete : goal.returns-in-Ok-write_all-clause-complete
+returns-in-Ok-write_all-clause-complete g c =
+    let asked : task_of (texts c.args.words.now) ≡ Some (Read c.in-Read.reading) = sym c.in-Ok-Some.ensures.task ∙ c.in-Ok-Some.field-0-is ∙ ap (λ t. Some t) c.in-Read.is in
+    let read : Reads (g.S.Source.left c.args.src.now) (g.S.Source.left c.read_all.new.src) (λ input. length input ≡ limit + 1) = search rules in
+    complete-long (texts c.args.words.now) _ _ _ (exact-long (texts c.args.words.now) c.in-Read.reading _ _ read.0 TooLong asked read.1 read.2 (λ whole. refl))
 
 -- no memory
 

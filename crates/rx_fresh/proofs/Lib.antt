@@ -1,0 +1,6 @@
+pub mod Defaults
+pub mod Going
+pub mod Olds
+pub mod Listing
+pub mod Shapes
+pub mod OneList

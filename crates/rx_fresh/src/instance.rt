@@ -1,0 +1,70 @@
+// The instance of a component's node.
+ghost use Rattle.std.specs.Prelude.{◌≡◌, IfOk, option_map};
+ghost use Rattle.std.specs.Option.{option_copied};
+ghost use Rattle.rx_meaning.specs.Fresh.{instance_after, old_instance};
+ghost use Rattle.rx_node.specs.MarkView.{instance_seen};
+ghost use Rattle.rx_fresh.specs.Seeing.{number_in};
+
+use rx_base::Ints;
+use rx_elem::{ContextRead, EffectRecord, VersionRead};
+use rx_node::{Instance, Mark, Node};
+use std::alloc::{AllocError, Global};
+use std::rc::Rc;
+
+// The instance of an old node, if that is one of a component.
+pub(crate) fn old_instance(old: Option<&Node>) -> Result<Option<Instance>, AllocError>
+    ensures { IfOk result (λ i. option_map instance_seen i ≡ old_instance (option_copied old.entry)) }
+{
+    match old {
+        None => Ok(None),
+        Some(node) => match node.mark() {
+            Mark::Instance(instance) => Ok(Some(instance.copy()?)),
+            Mark::Host(_) | Mark::Boundary(_) | Mark::Catch(_) | Mark::Plain => Ok(None),
+        },
+    }
+}
+
+// The number of an instance, if it has one.
+pub(crate) fn number_of(instance: &Option<Instance>) -> Option<u64>
+    ensures { result ≡ number_in (option_map instance_seen instance.now) }
+{
+    match instance {
+        Some(instance) => instance.number,
+        None => None,
+    }
+}
+
+// An instance keeps its number and its initial values (react.dev, State as a Snapshot).
+pub(crate) fn instance_after(
+    alloc: Global,
+    component: u32,
+    old: Option<Instance>,
+    initials: Ints,
+    reads: Vec<ContextRead>,
+    versions: Vec<VersionRead>,
+    effects: Vec<EffectRecord>,
+) -> Result<Instance, AllocError>
+    ensures { IfOk result (λ i. instance_seen i ≡ instance_after component (option_map instance_seen old) initials reads.items versions.items effects.items) }
+{
+    let reads = Rc::new(alloc, reads)?;
+    let versions = Rc::new(alloc, versions)?;
+    let effects = Rc::new(alloc, effects)?;
+    match old {
+        Some(old) => Ok(Instance {
+            number: old.number,
+            component,
+            initials: old.initials,
+            reads,
+            versions,
+            effects,
+        }),
+        None => Ok(Instance {
+            number: None,
+            component,
+            initials: Rc::new(alloc, initials)?,
+            reads,
+            versions,
+            effects,
+        }),
+    }
+}

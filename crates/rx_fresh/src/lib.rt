@@ -1,0 +1,15 @@
+//! The whole tree rendered anew, without fibers: each body is evaluated, and no subtree is taken over.
+#![tactic(auto)]
+
+mod body;
+mod instance;
+mod lists;
+mod nodes;
+mod place;
+mod render;
+mod roots;
+mod snapshot;
+
+pub use place::Place;
+pub use render::fresh;
+pub use snapshot::Snapshot;

@@ -1,0 +1,17 @@
+pub mod Behind
+pub mod CommitLines
+pub mod Keeping
+pub mod Standing
+pub mod Opening
+pub mod HookCounts
+pub mod Paths
+pub mod AttributesOnce
+pub mod NumbersGrow
+pub mod Resources
+pub mod ResolvedSince
+pub mod Runnable
+pub mod Sending
+pub mod Taken
+pub mod Reading
+pub mod Turning
+pub mod Committing

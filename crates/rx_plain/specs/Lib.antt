@@ -1,0 +1,4 @@
+pub mod Plained
+pub mod Stands
+pub mod Doing
+pub mod Taking

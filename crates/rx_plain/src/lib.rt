@@ -1,0 +1,13 @@
+//! A plain machine, without fibers: a tree of nodes that is rendered anew at each commit.
+#![tactic(auto)]
+
+mod clock;
+mod commits;
+mod dispatching;
+mod plain;
+mod resolving;
+mod showing;
+mod turns;
+mod writing;
+
+pub use plain::Plain;

@@ -1,0 +1,12 @@
+pub mod Fronts
+pub mod Verdicts
+pub mod Following
+pub mod Texts
+pub mod Telling
+pub mod Moving
+pub mod Reaching
+pub mod Rooms
+pub mod Passing
+pub mod Rendering
+pub mod Heads
+pub mod Stepping
