@@ -45,11 +45,6 @@ module _ {A : Type 0} (line : A → Line) where
       ∙ sym (with_lines-append first (map line (take k xs)) (line x ∷ []))
       ∙ ap (with_lines first) (sym (map-append line (take k xs) (x ∷ [])) ∙ ap (map line) (ap (λ y. take k xs ++ y ∷ []) e ∙ sym (take_more xs k x h)))
 
-  -- all items are written
-  pub items-all : (xs : List A) (k : ℕ) (first after : Written) → length xs ≤ k → after ≡ with_lines first (map line (take k xs))
-      → after ≡ with_lines first (map line xs)
-  items-all xs k first after h so_far = so_far ∙ ap (λ (ys : List A). with_lines first (map line ys)) (take_all k xs h)
-
 no_bytes : (o : Options) (ls : List Line) → AllByRecursion (λ l. is_printed o.ops l ≡ false) ls → report_bytes o ls ≡ []
 unfolding report_bytes
 no_bytes o [] none = refl

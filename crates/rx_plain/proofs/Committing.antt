@@ -77,30 +77,6 @@ passive-trimmed old new o n e f =
     ∙ ap passive_of (trees_same old new)
     ∙ passive_same (compare_trees old new)
 
--- a render of a tree is committed or deferred as that of the trimmed tree
-outcome-if : (new : Node) (x : Option Awaits) (b : Bool) (waits : Awaits) → outcome_as (trimmed new) x ≡ trimmed_outcome (if b then defer waits else commit new)
-    → outcome_as new x ≡ (if b then defer waits else commit new)
-outcome-if new None true waits e = cc
-outcome-if new (Some a) true waits e = e
-outcome-if new None false waits e = refl
-outcome-if new (Some a) false waits e = cc
-
-outcome-by : (lanes : Lanes) (new : Node) (x : Option Awaits) (hidden : List Change) → outcome_as (trimmed new) x ≡ trimmed_outcome (outcome_by lanes new hidden)
-    → outcome_as new x ≡ outcome_by lanes new hidden
-outcome-by lanes new x [] e = outcome-if new x false [] e
-outcome-by lanes new x (c ∷ cs) e = outcome-if new x (only_transitions lanes) (all_awaits (c ∷ cs)) e
-
--- what becomes of trimmed trees becomes of the trees
-pub outcome-trimmed : (lanes : Lanes) (old : Option Node) (new : Node) (o : Option Node) (n : Node) (x : Option Awaits) → o ≡ trimmed_if old → n ≡ trimmed new
-    → outcome_as n x ≡ outcome lanes o n → outcome_as new x ≡ outcome lanes old new
-outcome-trimmed lanes old new o n x e f is =
-    outcome-by lanes new x (newly_hidden old new)
-    (ap (λ (t : Node). outcome_as t x) (sym f)
-    ∙ is
-    ∙ ap (λ (t : Option Node). outcome lanes t n) e
-    ∙ ap (λ (t : Node). outcome lanes (trimmed_if old) t) f
-    ∙ outcome_same lanes old new)
-
 -- a render that has other lanes than transitions is committed
 pub not_deferred : (lanes : Lanes) (old : Option Node) (tree : Node) → only_transitions lanes ≡ false → commit tree ≡ outcome lanes old tree
 not_deferred lanes old tree other = go (newly_hidden old tree)
@@ -247,19 +223,6 @@ module _ (s : State) (g : Progress) (counts : Counts) (fixed : Numbers × Node) 
       ∙ (λ i. with_lines (own i) (map logged (passive_log (is i))))
       ∙ sym (with_lines-append r (commit_lines s g counts fixed.1) (map logged (passive_log st.passive)))
       ∙ ap (λ (c : Bool). with_lines r (commit_lines s g counts fixed.1 ++ (cond c (passive_run st) (silent st)).lines)) (sym sync)
-
-  pub other_written : (r a : Written) → has g.lanes lane.Sync ≡ false → a ≡ with_lines r (commit_lines s g counts fixed.1) → a ≡ with_lines r (committed_as s g counts fixed).lines
-  other_written r a other own =
-      own
-      ∙ sym (with_lines-nil (with_lines r (commit_lines s g counts fixed.1)))
-      ∙ sym (with_lines-append r (commit_lines s g counts fixed.1) [])
-      ∙ ap (λ (c : Bool). with_lines r (commit_lines s g counts fixed.1 ++ (cond c (passive_run st) (silent st)).lines)) (sym other)
-
-  pub sync_left : has g.lanes lane.Sync ≡ true → no_passive ≡ (committed_as s g counts fixed).after.passive
-  sync_left sync = ap (λ (c : Bool). (cond c (passive_run st) (silent st)).after.passive) (sym sync)
-
-  pub other_left : has g.lanes lane.Sync ≡ false → passive_of (compare_trees s.tree fixed.1) ≡ (committed_as s g counts fixed).after.passive
-  other_left other = ap (λ (c : Bool). (cond c (passive_run st) (silent st)).after.passive) (sym other)
 
 -- the machine after a commit
 abbrev pub plain_committed : State → Progress → Numbers × Node → hooks.Kept → Passive → Plained → Plained

@@ -1,5 +1,5 @@
 -- The lines with which a render ends, by their text without counts.
-use Rattle.std.proofs.Common.{◌≡◌, ℕ, ◌<◌, ◌^◌, Bool, true, false, List, [], ◌∷◌, ◌++◌, Option, Some, None, take, refl, sym, ap, ◌∙◌, subst}
+use Rattle.std.proofs.Common.{◌≡◌, ℕ, true, false, List, [], ◌∷◌, ◌++◌, Option, Some, None, take, refl, sym, ap, ◌∙◌}
 use Rattle.std.specs.Prelude.{IfNone, IfSome}
 use Rattle.std.specs.Option.{unwrap_or}
 use Rattle.rx_lane.specs.Lanes.{Lanes}
@@ -8,7 +8,7 @@ use Rattle.rx_elem.specs.Trees.{Node, node, plain}
 use Rattle.rx_elem.specs.Trees as trees
 use Rattle.rx_lines.specs.Lines.{Counts, Line, Options, Written, committed, counts_text, deferred, line_text, with_line}
 use Rattle.rx_given.specs.Lines.{first_line}
-use Rattle.choice_laws.specs.Telling.{AreShown, FinishesTell, IsFinishOf, commits, counted, defers}
+use Rattle.choice_laws.specs.Telling.{IsFinishOf, commits, defers}
 use Rattle.rx_verify.specs.Ends.{HasNumber, TellsEnd, TellsEndOf}
 
 -- a tree

@@ -1,6 +1,6 @@
 -- What is left, from one moment to the next.
-use Rattle.std.proofs.Common.{◌≡◌, ℕ, zero, suc, ◌+◌, ◌<◌, ◌≤◌, Bool, true, false, List, [], ◌∷◌, ◌++◌, Some, None, length, take, drop, append-nil, append_assoc, refl, sym, ap, ◌∙◌, subst, arith, inl, inr}
-use Rattle.std.specs.Prelude.{◌⊎◌, ◌≢◌, IfSome}
+use Rattle.std.proofs.Common.{◌≡◌, ℕ, zero, suc, ◌+◌, ◌≤◌, true, false, List, [], ◌∷◌, ◌++◌, Some, None, length, take, drop, append-nil, append_assoc, refl, sym, ap, ◌∙◌, subst, arith, inl, inr}
+use Rattle.std.specs.Prelude.{◌≢◌}
 use Rattle.std.proofs.lemmas.List.{length-take-le}
 use Rattle.rx_lane.specs.declared.lane.Lane.TheVariants as lane
 use Rattle.rx_lane.specs.Lanes.{has}
@@ -12,10 +12,10 @@ use Rattle.rx_lines.specs.Lines.{report_bytes}
 use Rattle.rx_given.specs.declared.passing.Place.{Place}
 use Rattle.rx_given.specs.Lines.{ends_in, shared}
 use Rattle.rx_model.specs.Accepting.{between_events}
-use Rattle.rx_model.specs.Machine.{Flushes, FlushSync, FlushWithin, IsAtRest, RunTo, StepTo}
+use Rattle.rx_model.specs.Machine.{Flushes, FlushSync, IsAtRest, RunTo, StepTo}
 use Rattle.rx_model.specs.State.{State, end_line}
 use Rattle.rx_model.specs.Stretch.{Stretch, followed_by, silent}
-use Rattle.rx_model.specs.Turns.{AnyRender, Turn, choice_of}
+use Rattle.rx_model.specs.Turns.{AnyRender, choice_of}
 use Rattle.choice_laws.specs.Choosing.{IsAmong, renders, with_bodies}
 use Rattle.choice_laws.specs.Telling.{bytes_from_here, counted}
 use Rattle.rx_verify.specs.declared.verdict.Verdict.TheVariants.{No}

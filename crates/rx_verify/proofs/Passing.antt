@@ -1,7 +1,7 @@
 -- What was passed of a report, or was not.
-use Rattle.std.proofs.Common.{◌≡◌, ℕ, suc, ◌+◌, ◌<◌, ◌≤◌, Bool, true, false, cond, Result, Ok, Err, List, [], ◌∷◌, ◌++◌, length, take, drop, refl, sym, ap, ◌∙◌, subst, arith}
-use Rattle.std.specs.Prelude.{OnOk, filter, nat_eq}
-use Rattle.std.proofs.lemmas.List.{length-take-le, take-append-drop, take_all}
+use Rattle.std.proofs.Common.{◌≡◌, ℕ, suc, ◌+◌, ◌≤◌, Bool, true, false, cond, Result, Ok, Err, List, [], ◌∷◌, ◌++◌, length, take, drop, refl, sym, ap, ◌∙◌, arith}
+use Rattle.std.specs.Prelude.{OnOk, filter}
+use Rattle.std.proofs.lemmas.List.{length-take-le, take_all}
 use Rattle.rx_lines.specs.Lines.{Line, Written, report_bytes}
 use Rattle.rx_given.specs.declared.passing.Place.{Place}
 use Rattle.rx_given.specs.Lines.{ends_in, is_line_end, shared}

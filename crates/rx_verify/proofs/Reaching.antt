@@ -1,5 +1,5 @@
 -- Which render goes on in a turn, and what states it leads to.
-use Rattle.std.proofs.Common.{◌≡◌, inl, inr, ℕ, zero, suc, ◌+◌, ◌≤◌, Bool, true, false, cond, List, [], ◌∷◌, refl, sym, ap, ◌∙◌, subst, arith, Option, Some, None}
+use Rattle.std.proofs.Common.{◌≡◌, inl, inr, ℕ, zero, suc, ◌+◌, ◌≤◌, Bool, true, false, cond, [], ◌∷◌, refl, sym, ap, ◌∙◌, subst, arith, Option, Some, None}
 use Rattle.std.specs.Prelude.{IfSome, option_map}
 use Rattle.rx_lane.specs.declared.lane.Lane.TheVariants as lane
 use Rattle.rx_lane.specs.Lanes.{Lanes, has}
@@ -22,7 +22,7 @@ use Rattle.rx_model.specs.State.{Progress, State}
 use Rattle.rx_model.specs.Stretch.{Stretch, followed_by, silent}
 use Rattle.rx_model.specs.Accepting.{between_events}
 use Rattle.rx_model.specs.Committing.{committed_state, ended, ended_by, passive_run, sight_of, starting}
-use Rattle.rx_model.specs.Turns.{AnyRender, Continues, Finishes, GoesOn, Turn, TurnBy, choice_of, gone_on, slice_of, unit_bound}
+use Rattle.rx_model.specs.Turns.{AnyRender, Continues, Finishes, GoesOn, Turn, TurnBy, choice_of, slice_of, unit_bound}
 use Rattle.rx_model.specs.Kept.{IsSet}
 use Rattle.rx_model.specs.Laws.{IsBounded, IsReached}
 use Rattle.choice_laws.specs.Choosing.{Fit, Render, render_by}

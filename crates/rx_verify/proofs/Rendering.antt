@@ -1,6 +1,6 @@
 -- The plain machine in a turn.
-use Rattle.std.proofs.Common.{◌≡◌, inl, inr, ℕ, ◌+◌, ◌<◌, ◌≤◌, ◌^◌, Bool, true, false, cond, List, [], ◌++◌, Option, Some, None, length, map, take, drop, append-nil, refl, sym, ap, ◌∙◌, subst, arith}
-use Rattle.std.specs.Prelude.{◌⊎◌, IfSome, option_map}
+use Rattle.std.proofs.Common.{◌≡◌, inl, inr, ℕ, ◌+◌, ◌<◌, ◌≤◌, ◌^◌, Bool, true, false, List, [], ◌++◌, Option, Some, None, map, take, drop, append-nil, refl, sym, ap, ◌∙◌, subst, arith}
+use Rattle.std.specs.Prelude.{IfSome, option_map}
 use Rattle.std.specs.Option.{unwrap_or}
 use Rattle.rx_ast.specs.Syntax.{Program}
 use Rattle.rx_step.specs.declared.step.Step.{Step}
@@ -13,12 +13,11 @@ use Rattle.rx_meaning.specs.Fresh.{fresh, made}
 use Rattle.rx_lines.specs.Lines.{Counts, Written, logged, report_bytes}
 use Rattle.rx_given.specs.declared.passing.Place.{Place}
 use Rattle.rx_model.specs.State.{Progress, State}
-use Rattle.rx_model.specs.Stretch.{Stretch}
 use Rattle.rx_model.specs.Committing.{ended, passive_run, sight_of, starting}
-use Rattle.rx_model.specs.Turns.{AnyRender, GoesOn, choice_of, gone_on, slice_of, unit_bound}
+use Rattle.rx_model.specs.Turns.{choice_of, gone_on, slice_of, unit_bound}
 use Rattle.rx_model.specs.Kept.{IsSet}
 use Rattle.rx_model.specs.Laws.{IsReached}
-use Rattle.choice_laws.specs.Choosing.{Fit, Render}
+use Rattle.choice_laws.specs.Choosing.{Fit}
 use Rattle.choice_laws.specs.Telling.{counted}
 use Rattle.end_laws.specs.Trimmed.{trimmed}
 use Rattle.rx_plain.specs.Doing.{HasDone}
@@ -28,13 +27,13 @@ use Rattle.rx_mounts.specs.Shown.{with_lines}
 use Rattle.rx_verify.specs.declared.verdict.Verdict.TheVariants.{No}
 use Rattle.rx_verify.specs.Verdicts.{IsVerdict}
 use Rattle.rx_verify.specs.Ends.{TellsEnd, TellsEndOf}
-use Rattle.rx_verify.specs.Following.{IsPlace, Leads, Left, Way, all_of, turns}
+use Rattle.rx_verify.specs.Following.{IsPlace, Leads, Left, Way, turns}
 use Rattle.rx_verify.specs.Knowing.{Laws}
 use Rattle.rx_verify.specs.Turning.{CanFollow, FollowsBetween, FollowsRender, Judges, LeadsOn, StandsBetween, StandsInTurn}
 use Rattle.rx_verify.proofs.Following.{bytes-none}
 use Rattle.rx_verify.proofs.Passing.{Differs, Passes, log-bytes, place-if}
 use Rattle.rx_verify.proofs.Reaching.{end_reached, ended_event, keep_leads, keeps_some, kept, kept-is, start_is_set, start_leads, started, started-is}
-use Rattle.rx_verify.proofs.Telling.{InTurn, among-itself, end-differs, end-follows, fit-shown, may-yield, must-end, run-leads, same-counts, start-differs}
+use Rattle.rx_verify.proofs.Telling.{InTurn, among-itself, end-differs, end-follows, may-yield, must-end, run-leads, start-differs}
 
 -- the render of a machine that stands for a state with one
 pub record IsGoing (p : Program) (s : State) (g : Progress) (v : Plained) : Type 0 where

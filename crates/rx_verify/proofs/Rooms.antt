@@ -1,8 +1,7 @@
 -- The room that turns need and leave.
-use Rattle.std.proofs.Common.{◌≡◌, ℕ, suc, ◌+◌, ◌-◌, ◌*◌, ◌≤◌, ◌<◌, ◌^◌, ◌∙◌, List, length, refl, sym, ap, subst, arith}
+use Rattle.std.proofs.Common.{◌≡◌, ℕ, ◌+◌, ◌-◌, ◌*◌, ◌≤◌, ◌<◌, ◌^◌, ◌∙◌, sym, ap, subst, arith}
 use Rattle.rx_elem.specs.Numbers.{Numbers}
 use Rattle.rx_ast.specs.Syntax.{Program}
-use Rattle.rx_step.specs.declared.step.Step.{Step}
 use Rattle.rx_sched.specs.Events.{no_event}
 use Rattle.rx_model.specs.Machine.{flush_limit}
 use Rattle.rx_model.specs.State.{opening}

@@ -1,30 +1,28 @@
 -- What a report tells of a turn.
-use Rattle.std.proofs.Common.{◌≡◌, ℕ, ◌+◌, ◌*◌, ◌<◌, ◌≤◌, ◌^◌, Bool, true, false, cond, List, [], ◌∷◌, ◌++◌, Option, Some, None, length, take, drop, append-nil, append_assoc, refl, sym, ap, ap₂, ◌∙◌, subst, arith, inl, inr}
+use Rattle.std.proofs.Common.{◌≡◌, ℕ, ◌+◌, ◌<◌, ◌≤◌, ◌^◌, Bool, true, false, cond, List, [], ◌∷◌, ◌++◌, Option, Some, None, take, drop, append-nil, append_assoc, refl, sym, ap, ap₂, ◌∙◌, subst, arith, inl, inr}
 use Rattle.std.specs.Prelude.{◌⊎◌, IfSome, option_map}
 use Rattle.rx_lane.specs.declared.lane.Lane.TheVariants as lane
 use Rattle.rx_lane.specs.Lanes.{Lanes, has}
 use Rattle.rx_ast.specs.Syntax.{Program}
-use Rattle.rx_rules.specs.Bounds.{node_bound}
 use Rattle.rx_step.specs.declared.step.Step.{Step}
 use Rattle.rx_elem.specs.Trees.{Node}
 use Rattle.rx_elem.specs.Numbers.{numbered}
-use Rattle.rx_sched.specs.declared.choice.Choice.{Choice}
 use Rattle.rx_sched.specs.declared.choice.Choice.TheVariants as choice
 use Rattle.rx_meaning.specs.Fresh.{fresh, made}
 use Rattle.rx_meaning.specs.Fresh as rendering
 use Rattle.rx_meaning.specs.Outcome.{Outcome, commit, defer, outcome}
-use Rattle.rx_lines.specs.Lines.{Counts, Line, committed, deferred, counts_text, line_bytes, line_text, report_bytes}
+use Rattle.rx_lines.specs.Lines.{Counts, Line, committed, deferred, line_bytes, report_bytes}
 use Rattle.rx_given.specs.declared.passing.Place.{Place}
-use Rattle.rx_given.specs.Lines.{ends_in, first_line, shared}
-use Rattle.rx_model.specs.State.{Progress, State, end_line}
+use Rattle.rx_given.specs.Lines.{ends_in, shared}
+use Rattle.rx_model.specs.State.{Progress, State}
 use Rattle.rx_model.specs.Stretch.{Stretch, followed_by, silent}
 use Rattle.rx_model.specs.Committing.{committed_state, ended, ended_by, passive_run, sight_of}
 use Rattle.rx_model.specs.Machine.{RunTo}
 use Rattle.rx_model.specs.Turns.{AnyRender, choice_of, gone_on, slice_of, unit_bound}
 use Rattle.rx_model.specs.Laws.{IsBounded, IsReached}
 use Rattle.rx_rules.proofs.Limits.{limits_nodes}
-use Rattle.choice_laws.specs.Choosing.{Fit, FinishesAs, FitInUnits, IsAmong, MayTurn, Render, RendersAs, RestsAs, YieldsAs, render_by, with_bodies}
-use Rattle.choice_laws.specs.Telling.{AreShown, CountsComeLast, FinishesTell, IsFinishOf, NextIs, bytes_from_here, commits, counted, defers}
+use Rattle.choice_laws.specs.Choosing.{Fit, FinishesAs, IsAmong, MayTurn, Render, YieldsAs, render_by, with_bodies}
+use Rattle.choice_laws.specs.Telling.{AreShown, CountsComeLast, FinishesTell, IsFinishOf, bytes_from_here, commits, counted, defers}
 use Rattle.rx_verify.specs.declared.verdict.Verdict.TheVariants.{No}
 use Rattle.rx_verify.specs.Verdicts.{IsReported, IsVerdict}
 use Rattle.rx_verify.specs.Ends.{HasNumber, TellsEnd, TellsEndOf}

@@ -14,7 +14,7 @@ use Rattle.choice_laws.specs.Telling.{counted}
 use Rattle.rx_plain.specs.Plained.{Plained}
 use Rattle.rx_plain.specs.Stands.{StandsFor, StandsWith}
 use Rattle.rx_verify.specs.declared.verdict.Verdict.TheVariants.{No}
-use Rattle.rx_verify.specs.Following.{IsFollowed, Leads, Left, all_of, turns}
+use Rattle.rx_verify.specs.Following.{IsFollowed, Left, all_of, turns}
 use Rattle.rx_verify.specs.Verdicts.{IsVerdict}
 
 -- it stands for some state between two events

@@ -2,7 +2,6 @@
 ghost use Rattle.std.specs.Prelude.{◌≡◌, ℕ, ◌+◌, ◌∷◌, ◌<◌, ◌^◌, true, List, IfOk, OnOk, length};
 ghost use Rattle.rx_step.specs.declared.step.Step.{Step};
 ghost use Rattle.rx_model.specs.State.{State};
-ghost use Rattle.rx_model.specs.Stretch.{Stretch};
 ghost use Rattle.rx_plain.specs.Doing.{HasDone};
 ghost use Rattle.rx_plain.specs.Stands.{HasRoomFor, StandsFor, StandsForSome};
 ghost use Rattle.rx_plain.specs.Taking.{CanTake};

@@ -1,5 +1,4 @@
-use Rattle.std.proofs.Common.{◌≡◌, ◌<◌, ◌^◌, refl, sym, ap, ◌∙◌, subst, arith}
-use Rattle.rx_lines.specs.Lines.{Counts}
+use Rattle.std.proofs.Common.{refl, subst, arith}
 use Rattle.choice_laws.specs.Choosing.{Fit}
 use Rattle.choice_laws.specs.Telling.{AreShown}
 use Rattle.rx_verify.proofs.Telling.{same-told}

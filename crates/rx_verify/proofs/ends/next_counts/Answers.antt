@@ -1,4 +1,4 @@
-use Rattle.std.proofs.Common.{◌≡◌, ◌++◌, ◌∷◌, [], List, ℕ, refl, sym, ap, ◌∙◌}
+use Rattle.std.proofs.Common.{◌≡◌, ◌++◌, ◌∷◌, [], sym, ◌∙◌}
 use Rattle.rx_lane.specs.Lanes.{has, lanes_where}
 use Rattle.rx_lines.specs.Lines.{committed, deferred}
 use Rattle.rx_verify.proofs.Heads.{commit_head, cut-empty, defer_head, head-is, if-none, if-some, no_counts, some_tree, tells-commit, tells-defer, tells-nothing}

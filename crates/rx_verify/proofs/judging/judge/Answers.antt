@@ -1,4 +1,4 @@
-use Rattle.std.proofs.Common.{◌≡◌, ◌+◌, List, arith, refl, sym, ap, ◌∙◌, ◌∷◌, length, drop, subst}
+use Rattle.std.proofs.Common.{◌≡◌, ◌+◌, List, arith, sym, ap, ◌∙◌, ◌∷◌, length, drop, subst}
 use Rattle.std.proofs.lemmas.Result.{IfOk-weaker}
 use Rattle.std.proofs.lemmas.List.{drop_more, drop_all}
 use Rattle.rx_step.specs.declared.step.Step.{Step}

@@ -1,4 +1,4 @@
-use Rattle.std.proofs.Common.{◌≡◌, ◌+◌, refl, sym, ap, ◌∙◌, subst, arith}
+use Rattle.std.proofs.Common.{sym, ◌∙◌, subst, arith}
 use Rattle.rx_verify.proofs.Passing.{Passes, by-answer, few-lines, place-if}
 use Rattle.rx_verify.proofs.Stepping.{end-early, end-judges, end-passes, verdict-few}
 use Rattle.rx_verify.proofs.judging.judge_end.Goals as goal

@@ -1,4 +1,4 @@
-use Rattle.std.proofs.Common.{◌+◌, arith}
+use Rattle.std.proofs.Common.{arith}
 use Rattle.rx_verify.specs.Steps.{step_as}
 use Rattle.rx_verify.proofs.Passing.{by-answer, few-lines, place-if}
 use Rattle.rx_verify.proofs.Stepping.{silent-judges}

@@ -1,4 +1,4 @@
-use Rattle.std.proofs.Common.{◌+◌, arith, refl, sym, ap, ◌∙◌}
+use Rattle.std.proofs.Common.{arith, ap}
 use Rattle.rx_plain.specs.Plained.{Plained}
 use Rattle.rx_verify.proofs.Passing.{by-answer, few-lines}
 use Rattle.rx_verify.proofs.Rendering.{finish-judges, finish-place, finish-stands, finished-by}

@@ -1,4 +1,4 @@
-use Rattle.std.proofs.Common.{◌≡◌, ◌+◌, ◌-◌, suc, inl, arith, refl, sym, ap, ◌∙◌, subst}
+use Rattle.std.proofs.Common.{◌+◌, ◌-◌, inl, arith, refl, sym, ◌∙◌, subst}
 use Rattle.rx_plain.specs.Stands.{HasRoomForTurns}
 use Rattle.rx_verify.specs.Following.{flushes}
 use Rattle.rx_verify.specs.Turning.{FollowsBetween}

@@ -1,7 +1,6 @@
-use Rattle.std.proofs.Common.{◌≡◌, ◌+◌, ◌<◌, ◌≤◌, drop, refl, sym, ap, ◌∙◌, subst, arith}
+use Rattle.std.proofs.Common.{◌+◌, ◌<◌, ◌≤◌, drop, sym, subst}
 use Rattle.std.specs.Prelude.{IfSome}
 use Rattle.std.proofs.lemmas.Result.{IfOk-weaker}
-use Rattle.rx_lines.specs.Lines.{Counts}
 use Rattle.choice_laws.specs.Choosing.{Fit}
 use Rattle.rx_verify.specs.Ends.{TellsEnd, TellsEndOf}
 use Rattle.rx_verify.proofs.Rendering.{told-by, yield-judges, yield-stands}

@@ -1,4 +1,4 @@
-use Rattle.std.proofs.Common.{◌+◌, arith, refl, sym, ap, ◌∙◌, subst}
+use Rattle.std.proofs.Common.{arith, refl, sym, ap, subst}
 use Rattle.std.proofs.lemmas.Result.{IfOk-weaker}
 use Rattle.rx_plain.specs.Plained.{Plained}
 use Rattle.rx_verify.proofs.Passing.{Passes, by-answer, few-lines, on-ok, place-if}
