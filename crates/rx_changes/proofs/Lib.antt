@@ -1,3 +1,4 @@
+mod Bare
 pub mod Growing
 pub mod Logged
 pub mod Sums

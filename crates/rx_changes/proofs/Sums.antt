@@ -46,7 +46,8 @@ both : {A : Type 0} (logs : Bool) (b x y : List A) → (b ++ (if logs then x els
 both true b x y = append_assoc b x y
 both false b x y = append-nil (b ++ [])
 
-nothing_more : {A : Type 0} (logs : Bool) (b : List A) → b ++ (if logs then [] else []) ≡ b
+-- nothing more
+pub nothing_more : {A : Type 0} (logs : Bool) (b : List A) → b ++ (if logs then [] else []) ≡ b
 nothing_more true b = append-nil b
 nothing_more false b = append-nil b
 

@@ -1,10 +1,11 @@
 -- A walk of a new tree beside the old one, place by place.
-use Rattle.std.proofs.Common.{◌≡◌, ℕ, zero, suc, ◌+◌, ◌<◌, ◌≤◌, Bool, not, ◌&&◌, List, [], ◌∷◌, ◌++◌, length, get_or, drop, Option, Some, None, refl, ap, sym, ◌∙◌, flat_map, add-one}
+use Rattle.std.proofs.Common.{◌≡◌, ℕ, zero, suc, ◌+◌, ◌<◌, ◌≤◌, Bool, not, ◌&&◌, List, [], ◌∷◌, length, get_or, drop, Option, Some, None, refl, ap, sym, ◌∙◌, flat_map, add-one}
 use Rattle.std.proofs.lemmas.List.{drop_all}
 use Rattle.std.proofs.Math.Seq.{drop-cons}
 use Rattle.rx_elem.specs.Trees.{Node, node, Forest, vacant, forest, elements_in, mark_of, is_hidden, children_of, children_if, fallback_of, fallback_if}
-use Rattle.rx_elem.specs.Compare.{Past, pasts, Above, Change, change_of, above_children, above_fallback, gone_from, compared, compare, compare_in}
+use Rattle.rx_elem.specs.Compare.{Past, pasts, Above, Change, change_of, above_children, above_fallback, gone_from, compare, compare_in}
 use Rattle.rx_effect.specs.EffectLog.{destroyed_in, own_destroyed, own_created}
+use Rattle.rx_changes.specs.Below.{with_below}
 use Rattle.rx_changes.specs.Found.{Found, with_changes, with_effects, no_effects, logged, hiding, with_node, with_list}
 use Rattle.rx_changes.proofs.Sums.{node-sum, list-sum, none-sum}
 
@@ -50,24 +51,20 @@ pub list-end : (a : Above) (ps : List Past) (ns : List (Option Node)) (k : ℕ) 
 list-end a ps ns k logs f whole h so_far =
     sym (none-sum logs f) ∙ ap (λ xs. with_list logs (compare_in a (drop k ps) (forest xs)) f) (sym (drop_all k ns h)) ∙ so_far
 
--- a node by its parts
-pub node-parts : (logs : Bool) (a : Above) (p : Past) (n : Node) (c : Change) (f f1 f2 f3 f4 f5 f6 f7 : Found) → c ≡ change_of a p n
-    → f1 ≡ with_changes (c ∷ []) f
-    → f2 ≡ with_effects (logged logs (λ q. flat_map (destroyed_in q) (gone_from (above_children c).was_visible (children_if p.old) (children_of n)))) no_effects f1
-    → f3 ≡ with_effects (logged logs (λ q. flat_map (destroyed_in q) (gone_from c.was_visible (fallback_if p.old) (fallback_of n)))) no_effects f2
-    → f4 ≡ with_list (logs && not (is_hidden (mark_of c.new))) (compare_in (above_children c) (pasts (children_if p.old) (elements_in (children_of n))) (children_of n)) f3
+-- all below a node by its parts
+pub below-parts : (logs : Bool) (c : Change) (f f2 f3 f4 f5 f6 : Found)
+    → f2 ≡ with_effects (logged logs (λ q. flat_map (destroyed_in q) (gone_from (above_children c).was_visible (children_if c.old) (children_of c.new)))) no_effects f
+    → f3 ≡ with_effects (logged logs (λ q. flat_map (destroyed_in q) (gone_from c.was_visible (fallback_if c.old) (fallback_of c.new)))) no_effects f2
+    → f4 ≡ with_list (logs && not (is_hidden (mark_of c.new))) (compare_in (above_children c) (pasts (children_if c.old) (elements_in (children_of c.new))) (children_of c.new)) f3
     → f5 ≡ with_effects (logged logs (hiding c)) no_effects f4
-    → f6 ≡ with_list logs (compare_in (above_fallback c) (pasts (fallback_if p.old) (elements_in (fallback_of n))) (fallback_of n)) f5
-    → f7 ≡ with_effects (logged logs (λ q. own_destroyed q c)) (logged logs (λ q. own_created q c)) f6
-    → f7 ≡ with_node logs (compare a p n) f
-node-parts logs a p (node e m ns ms) c f f1 f2 f3 f4 f5 f6 f7 is e1 e2 e3 e4 e5 e6 e7 =
-    let gone = gone_from (above_children c).was_visible (children_if p.old) ns in
-    let behind = gone_from c.was_visible (fallback_if p.old) ms in
-    let below = compare_in (above_children c) (pasts (children_if p.old) (elements_in ns)) ns in
-    let beside = compare_in (above_fallback c) (pasts (fallback_if p.old) (elements_in ms)) ms in
-    e7
-    ∙ ap (with_effects (logged logs (λ q. own_destroyed q c)) (logged logs (λ q. own_created q c)))
-    (e6
+    → f6 ≡ with_list logs (compare_in (above_fallback c) (pasts (fallback_if c.old) (elements_in (fallback_of c.new))) (fallback_of c.new)) f5
+    → f6 ≡ with_below logs c f
+below-parts logs c f f2 f3 f4 f5 f6 e2 e3 e4 e5 e6 =
+    let gone = gone_from (above_children c).was_visible (children_if c.old) (children_of c.new) in
+    let behind = gone_from c.was_visible (fallback_if c.old) (fallback_of c.new) in
+    let below = compare_in (above_children c) (pasts (children_if c.old) (elements_in (children_of c.new))) (children_of c.new) in
+    let beside = compare_in (above_fallback c) (pasts (fallback_if c.old) (elements_in (fallback_of c.new))) (fallback_of c.new) in
+    e6
     ∙ ap (with_list logs beside)
     (e5
     ∙ ap (with_effects (logged logs (hiding c)) no_effects)
@@ -75,7 +72,15 @@ node-parts logs a p (node e m ns ms) c f f1 f2 f3 f4 f5 f6 f7 is e1 e2 e3 e4 e5 
     ∙ ap (with_list (logs && not (is_hidden (mark_of c.new))) below)
     (e3
     ∙ ap (with_effects (logged logs (λ q. flat_map (destroyed_in q) behind)) no_effects)
-    (e2 ∙ ap (with_effects (logged logs (λ q. flat_map (destroyed_in q) gone)) no_effects) e1)))))
-    ∙ node-sum logs c gone behind below beside f
-    ∙ ap (λ d. with_node logs (compared d (gone_from (above_children d).was_visible (children_if p.old) ns ++ gone_from d.was_visible (fallback_if p.old) ms)
-    (compare_in (above_children d) (pasts (children_if p.old) (elements_in ns)) ns) (compare_in (above_fallback d) (pasts (fallback_if p.old) (elements_in ms)) ms)) f) is
+    (e2 ∙ ap (with_effects (logged logs (λ q. flat_map (destroyed_in q) gone)) no_effects) refl))))
+
+-- a node, with what is below it and its own effects
+pub node-parts : (logs : Bool) (a : Above) (p : Past) (n : Node) (c : Change) (f f1 f2 f3 : Found) → c ≡ change_of a p n → f1 ≡ with_changes (c ∷ []) f → f2 ≡ with_below logs c f1
+    → f3 ≡ with_effects (logged logs (λ q. own_destroyed q c)) (logged logs (λ q. own_created q c)) f2 → f3 ≡ with_node logs (compare a p n) f
+node-parts logs a p (node e m ns ms) c f f1 f2 f3 is e1 e2 e3 =
+    let d = change_of a p (node e m ns ms) in
+    e3
+    ∙ ap (with_effects (logged logs (λ q. own_destroyed q c)) (logged logs (λ q. own_created q c))) (e2 ∙ ap (with_below logs c) e1)
+    ∙ (λ i. with_effects (logged logs (λ q. own_destroyed q (is i))) (logged logs (λ q. own_created q (is i))) (with_below logs (is i) (with_changes (is i ∷ []) f)))
+    ∙ node-sum logs d (gone_from (above_children d).was_visible (children_if p.old) ns) (gone_from d.was_visible (fallback_if p.old) ms)
+    (compare_in (above_children d) (pasts (children_if p.old) (elements_in ns)) ns) (compare_in (above_fallback d) (pasts (fallback_if p.old) (elements_in ms)) ms) f

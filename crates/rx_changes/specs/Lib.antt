@@ -1,3 +1,5 @@
 pub mod Phases
 pub mod Found
+pub mod Below
+pub mod Owned
 pub mod ChangesView

@@ -1,5 +1,5 @@
 // What a node changes of its own.
-ghost use Rattle.std.specs.Prelude.{◌≡◌, ◌++◌, ◌∷◌, [], OnOk};
+ghost use Rattle.std.specs.Prelude.{◌≡◌, ◌++◌, ◌∷◌, [], false, OnOk};
 ghost use Rattle.std.specs.List.{cons_option};
 ghost use Rattle.rx_effect.specs.EffectLog.{own_destroyed, own_created};
 ghost use Rattle.rx_forest.specs.HostOps.{placed_in};
@@ -7,6 +7,7 @@ ghost use Rattle.rx_meaning.specs.Outcome.{caught_anew};
 ghost use Rattle.rx_compare.specs.ComparedView.{change_seen};
 ghost use Rattle.rx_changes.specs.ChangesView.{changes_seen, lines_seen};
 ghost use Rattle.rx_changes.specs.Found.{and_lines, logged, with_changes, with_effects};
+ghost use Rattle.rx_changes.specs.Owned.{HasNoEffects};
 ghost use Rattle.rx_changes.specs.Phases.{phase_seen};
 
 use crate::changes::{Changes, Lines};
@@ -63,6 +64,17 @@ fn add_lines_of(
     Ok(())
 }
 
+// Whether a node or its past has effects.
+fn has_effects(change: &Change) -> bool
+    ensures { result ≡ false → HasNoEffects (change_seen change.now) }
+{
+    let before = match change.old {
+        Some(old) => !old.mark().effects().is_empty(),
+        None => false,
+    };
+    before || !change.new.mark().effects().is_empty()
+}
+
 // Goes on with what a node destroys and creates of its own, if that is logged.
 pub(crate) fn add_effects(
     alloc: Global,
@@ -72,7 +84,7 @@ pub(crate) fn add_effects(
 ) -> Result<(), AllocError>
     ensures { OnOk result (changes_seen found.new ≡ with_effects (logged logs (λ phase. own_destroyed phase (change_seen change.now))) (logged logs (λ phase. own_created phase (change_seen change.now))) (changes_seen found.old)) }
 {
-    if !logs {
+    if !logs || !has_effects(change) {
         return Ok(());
     }
     add_lines_of(alloc, &mut found.layout, Phase::Layout, change)?;

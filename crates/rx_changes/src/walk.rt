@@ -1,11 +1,12 @@
 // The walk of a new tree beside the old one.
-ghost use Rattle.std.specs.Prelude.{◌≡◌, ◌&&◌, not, OnOk, IfOk};
+ghost use Rattle.std.specs.Prelude.{◌≡◌, ◌&&◌, true, not, OnOk, IfOk};
 ghost use Rattle.std.specs.Option.{option_copied};
 ghost use Rattle.rx_elem.specs.Trees.{forest, elements_in, mark_of, is_hidden};
 ghost use Rattle.rx_elem.specs.Compare.{pasts, compare, compare_in, compare_trees};
 ghost use Rattle.rx_compare.specs.AboveView.{above_seen, past_seen};
 ghost use Rattle.rx_compare.specs.ComparedView.{change_seen};
 ghost use Rattle.rx_compare.specs.Pairs.{IsPairing};
+ghost use Rattle.rx_changes.specs.Below.{IsLeaf, with_below};
 ghost use Rattle.rx_changes.specs.ChangesView.{changes_seen};
 ghost use Rattle.rx_changes.specs.Found.{found_in, with_node, with_list};
 
@@ -46,8 +47,44 @@ fn add_list(
     Ok(())
 }
 
-// Goes on with a node and all below it: at each node what it tells by itself, then what is gone of its children, these, what
-// hiding them does, its fallback, and then its own effects.
+// Whether neither a node nor its past has anything below it.
+fn is_leaf(change: &Change) -> bool
+    ensures { result ≡ true → IsLeaf (change_seen change.now) }
+{
+    let old = children_if(change.old).is_empty() && fallback_if(change.old).is_empty();
+    old && change.new.children().is_empty() && change.new.fallback().is_empty()
+}
+
+// Goes on with all below a node: what is gone of its children, these, what hiding them does, and its fallback.
+#[cycle(walk)]
+fn add_below(
+    alloc: Global,
+    found: &mut Changes,
+    change: &Change,
+    logs: bool,
+) -> Result<(), AllocError>
+    ensures { OnOk result (changes_seen found.new ≡ with_below logs (change_seen change.now) (changes_seen found.old)) }
+{
+    if is_leaf(change) {
+        return Ok(());
+    }
+    let kids = change.new.children();
+    let others = change.new.fallback();
+    let old = children_if(change.old);
+    let behind = fallback_if(change.old);
+    let pairs = pair_nodes(alloc, old, kids)?;
+    let rest = pair_nodes(alloc, behind, others)?;
+    let below = change.above_children();
+    add_gone(alloc, found, below.was_visible, old, &pairs, logs)?;
+    add_gone(alloc, found, change.was_visible, behind, &rest, logs)?;
+    let shows = logs_children(change, logs);
+    add_list(alloc, found, below, old, kids, &pairs, shows)?;
+    add_hiding(alloc, found, change, logs)?;
+    let beside = change.above_fallback();
+    add_list(alloc, found, beside, behind, others, &rest, logs)
+}
+
+// Goes on with a node and all below it: at each node what it tells by itself, then what is below it, and then its own effects.
 #[cycle(walk)]
 fn add_node(
     alloc: Global,
@@ -61,22 +98,8 @@ fn add_node(
 {
     let change = Change::new(above, past, new);
     add_change(found, &change)?;
-    let kids = new.children();
-    let others = new.fallback();
-    let old = children_if(past.old);
-    let behind = fallback_if(past.old);
-    let pairs = pair_nodes(alloc, old, kids)?;
-    let rest = pair_nodes(alloc, behind, others)?;
-    let below = change.above_children();
-    add_gone(alloc, found, below.was_visible, old, &pairs, logs)?;
-    add_gone(alloc, found, change.was_visible, behind, &rest, logs)?;
-    let shows = logs_children(&change, logs);
-    add_list(alloc, found, below, old, kids, &pairs, shows)?;
-    add_hiding(alloc, found, &change, logs)?;
-    let beside = change.above_fallback();
-    add_list(alloc, found, beside, behind, others, &rest, logs)?;
-    add_effects(alloc, found, &change, logs)?;
-    Ok(())
+    add_below(alloc, found, &change, logs)?;
+    add_effects(alloc, found, &change, logs)
 }
 
 /// What a new tree changes beside the old one, if there is one: the effects that its commit destroys and creates, children before

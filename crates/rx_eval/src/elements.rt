@@ -10,6 +10,7 @@ use crate::arithmetic::is_zero;
 use crate::attributes::{attrs_of, element_key, props_of};
 use crate::env::Env;
 use crate::evaluator::Evaluator;
+use itoa::Buffer;
 use rx_ast::{Child, ChildKind, Content, Element as Written, For, Slot, SlotKind, Tag};
 use rx_base::{Int, Name, Str};
 use rx_elem::{Element, ElementKind};
@@ -19,16 +20,16 @@ use std::alloc::{AllocError, Global};
 fn number(alloc: Global, value: Int) -> Result<Element, AllocError>
     ensures { IfOk result (λ e. e ≡ text (signed_decimal value)) }
 {
-    let number = value.value();
-    let text = format!(in alloc; "{number}")?;
-    Element::new(alloc, ElementKind::Text(Str::from_string(text)))
+    let mut buffer = Buffer::new();
+    let text = Str::new(alloc, buffer.format(value.value()))?;
+    Element::new(alloc, ElementKind::Text(text))
 }
 
 /// The children that a component is given, where it places them (react.dev, Passing JSX as children). They are shared.
 fn placed(alloc: Global, children: &[Element]) -> Result<Element, AllocError>
     ensures { IfOk result (λ e. e ≡ list true (gathered children.now)) }
 {
-    let mut copies = Vec::new(alloc);
+    let mut copies = Vec::with_capacity(alloc, children.len())?;
     for child in children {
         copies.push(child.copy()?)?;
     }
@@ -106,7 +107,7 @@ fn repetition_of(
     ensures { IfOk result (λ e. e ≡ element_of evaluator.now children.now env.now (repeated repetition.now.index repetition.now.bound repetition.now.limit repetition.now.item)) }
 {
     let count = turns(evaluator.value(env, &repetition.bound), repetition.limit);
-    let mut items = Vec::new(alloc);
+    let mut items = Vec::with_capacity(alloc, count as usize)?;
     for index in 0..count {
         let env = (&*env).with(&repetition.index, index_value(index));
         items.push(element(alloc, evaluator, children, &env, &repetition.item)?)?;
@@ -187,7 +188,7 @@ pub(crate) fn elements(
     requires { HaveShortLoops (slots_of list.now) }
     ensures { IfOk result (λ v. v.items ≡ elements_of evaluator.now children.now env.now (slots_of list.now)) }
 {
-    let mut elements = Vec::new(alloc);
+    let mut elements = Vec::with_capacity(alloc, list.len())?;
     for child in list {
         elements.push(child_element(alloc, evaluator, children, env, child)?)?;
     }

@@ -6,7 +6,7 @@ ghost use Rattle.rx_elem.specs.Trees.{forest, elements_in, children_if, fallback
 
 use rx_compare::elements_of;
 use rx_elem::Element;
-use rx_keys::{Matching, match_children};
+use rx_keys::places_of;
 use rx_node::Node;
 use std::alloc::{AllocError, Global};
 
@@ -44,12 +44,7 @@ pub(crate) fn old_places(
         return Err(AllocError);
     }
     let old = elements_of(alloc, old)?;
-    let Matching {
-        places,
-        moved: _moved,
-        removed: _removed,
-    } = match_children(alloc, &old, new)?;
-    Ok(places)
+    places_of(alloc, &old, new)
 }
 
 fn copy_place(place: &Option<Node>) -> Result<Option<Node>, AllocError>

@@ -7,4 +7,4 @@ mod known;
 mod matching;
 
 pub use identity::{Identity, identities};
-pub use matching::{Matching, match_children};
+pub use matching::{Matching, match_children, places_of};

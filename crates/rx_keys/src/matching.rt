@@ -101,8 +101,13 @@ fn removed_of(
     Ok(removed)
 }
 
-// For each new child the place of the old child that it is, if it is one: without a table if the keys are the same.
-fn places_of(
+/// For each new child the place of the old child that it is, if it is one (react.dev, Preserving and Resetting State): without a
+/// table if the keys are the same, in time in proportion to both lists.
+///
+/// # Errors
+///
+/// Only if out of memory.
+pub fn places_of(
     alloc: Global,
     old: &[Element],
     new: &[Element],

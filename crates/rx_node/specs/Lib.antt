@@ -1,5 +1,8 @@
 pub mod MarkView
 pub mod Hides
+pub mod Fixed
+pub mod Mounts
 pub mod NodeView
+pub mod Summary
 pub mod NodeCode
 pub mod NodeFalls

@@ -1,7 +1,9 @@
 // What a node has beside its element and its children.
 ghost use Rattle.std.specs.Prelude.{◌≡◌, IfOk, option_and_then};
 ghost use Rattle.rx_elem.specs.Trees.{instance_in, effects_in, is_host, is_hidden, is_shown, is_caught, boundary_in, awaits_in, caught_in};
+ghost use Rattle.rx_node.specs.Fixed.{has_number};
 ghost use Rattle.rx_node.specs.MarkView.{instance_seen, mark_seen};
+ghost use Rattle.rx_node.specs.Mounts.{is_instance};
 
 use rx_base::{Awaits, Int, Ints};
 use rx_catch::CatchState;
@@ -75,6 +77,13 @@ impl Mark {
         }
     }
 
+    /// True of an instance.
+    pub fn is_instance(&self) -> bool
+        ensures { result ≡ is_instance (mark_seen self.now) }
+    {
+        matches!(self, Mark::Instance(_))
+    }
+
     /// True of a host or a text.
     pub fn is_host(&self) -> bool
         ensures { result ≡ is_host (mark_seen self.now) }
@@ -99,6 +108,17 @@ impl Mark {
         match self {
             Mark::Boundary(state) => !state.hides(),
             Mark::Instance(_) | Mark::Host(_) | Mark::Catch(_) | Mark::Plain => false,
+        }
+    }
+
+    /// False of what is new and gets a number at a commit: an instance, a host or a text.
+    pub fn has_number(&self) -> bool
+        ensures { result ≡ has_number (mark_seen self.now) }
+    {
+        match self {
+            Mark::Instance(instance) => instance.number.is_some(),
+            Mark::Host(number) => number.is_some(),
+            Mark::Boundary(_) | Mark::Catch(_) | Mark::Plain => true,
         }
     }
 

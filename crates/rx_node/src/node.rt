@@ -1,8 +1,10 @@
 // A node of a finished tree.
-ghost use Rattle.std.specs.Prelude.{◌≡◌, ◌<◌, IfOk};
+ghost use Rattle.std.specs.Prelude.{◌≡◌, ◌<◌, true, IfOk};
 ghost use Rattle.rx_elem.specs.Trees.{node, element_of, mark_of, children_of, fallback_of, places, forest, height, height_in};
+ghost use Rattle.rx_node.specs.Fixed.{is_fixed, are_fixed};
 ghost use Rattle.rx_node.specs.Hides.{hides_in, hides_within};
 ghost use Rattle.rx_node.specs.MarkView.{mark_seen};
+ghost use Rattle.rx_node.specs.Mounts.{mounts_in, mounts_within};
 
 use crate::mark::Mark;
 use rx_elem::Element;
@@ -27,6 +29,10 @@ struct Parts {
     fallback: Vec<Option<Node>>,
     // Whether a boundary at it or below is hidden.
     hides: bool,
+    // Whether a component's instance is at it or below.
+    mounts: bool,
+    // Whether a commit leaves it as it is.
+    fixed: bool,
 }
 
 impl Model for Node {
@@ -41,10 +47,9 @@ impl Model for Node {
 
     ghost view = { λ n. node_seen n.parts.value };
 
-    ghost use Rattle.std.specs.Prelude.{◌≡◌};
-    ghost use Rattle.rx_node.specs.Hides.{hides_within};
+    ghost use Rattle.rx_node.specs.Summary.{KnowsAll};
 
-    ghost invariant = { λ n. n.parts.value.hides ≡ hides_within (node_seen n.parts.value) };
+    ghost invariant = { λ n. KnowsAll n.parts.value };
 
     ghost size = { trees.height };
 
@@ -61,18 +66,36 @@ impl Drop for Node {
     }
 }
 
-// Whether a boundary in a list or below is hidden.
-fn any_hides(nodes: &[Option<Node>]) -> bool
-    ensures { result ≡ hides_in (forest nodes.now) }
+// What a node has to know of one of its lists: whether a boundary in it or below is hidden, whether there is a component's instance,
+// and whether a commit leaves all of it as it is.
+#[derive(Clone, Copy)]
+struct Gathered {
+    hides: bool,
+    mounts: bool,
+    fixed: bool,
+}
+
+fn gather(nodes: &[Option<Node>]) -> Gathered
+    ensures hides { result.hides ≡ hides_in (forest nodes.now) }
+    ensures mounts { result.mounts ≡ mounts_in (forest nodes.now) }
+    ensures fixed { result.fixed ≡ are_fixed true (forest nodes.now) }
 {
-    'looking: for place in nodes {
-        if let Some(node) = place
-            && node.hides()
-        {
-            return true;
+    let mut all = Gathered {
+        hides: false,
+        mounts: false,
+        fixed: true,
+    };
+    let mut filled = true;
+    for place in nodes {
+        filled = place.is_some();
+        if let Some(node) = place {
+            all.hides = all.hides || node.hides();
+            all.mounts = all.mounts || node.mounts();
+            all.fixed = all.fixed && node.is_fixed();
         }
     }
-    false
+    all.fixed = all.fixed && filled;
+    all
 }
 
 impl Node {
@@ -90,13 +113,19 @@ impl Node {
     ) -> Result<Node, AllocError>
         ensures { IfOk result (λ n. n ≡ node element (mark_seen mark) (forest children.items) (forest fallback.items)) }
     {
-        let hides = mark.is_hidden() || any_hides(&children) || any_hides(&fallback);
+        let primary = gather(&children);
+        let other = gather(&fallback);
+        let hides = mark.is_hidden() || primary.hides || other.hides;
+        let mounts = mark.is_instance() || primary.mounts || other.mounts;
+        let fixed = mark.has_number() && primary.fixed && other.fixed;
         let parts = Parts {
             element,
             mark,
             children,
             fallback,
             hides,
+            mounts,
+            fixed,
         };
         let parts = Rc::new(alloc, parts)?;
         Ok(Node { parts })
@@ -139,6 +168,20 @@ impl Node {
         ensures { result ≡ hides_within self.now }
     {
         self.parts.hides
+    }
+
+    /// Whether a component's instance is at it or below, of what is kept and of fallbacks too. No walk is taken for it.
+    pub fn mounts(&self) -> bool
+        ensures { result ≡ mounts_within self.now }
+    {
+        self.parts.mounts
+    }
+
+    /// Whether a commit leaves it as it is: nothing in it is new, and no list of it ends with a vacant place. No walk is taken for it.
+    pub fn is_fixed(&self) -> bool
+        ensures { result ≡ is_fixed self.now }
+    {
+        self.parts.fixed
     }
 
     /// The same node, by one handle more.

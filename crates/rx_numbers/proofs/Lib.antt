@@ -1,3 +1,4 @@
 pub mod Rising
 pub mod Fronts
 pub mod Ends
+pub mod Fixed

@@ -72,6 +72,9 @@ pub fn number(alloc: Global, node: &Node, next: &mut Numbers) -> Result<Node, Al
     ensures tree { IfOk result (λ n. n ≡ (numbered (numbers_seen next.old) node.now).1) }
     ensures next { OnOk result (numbers_seen next.new ≡ (numbered (numbers_seen next.old) node.now).0) }
 {
+    if node.is_fixed() {
+        return node.copy();
+    }
     let mark = number_mark(node.mark(), next)?;
     let children = number_all(alloc, node.children(), next)?;
     let fallback = number_all(alloc, node.fallback(), next)?;

@@ -15,6 +15,9 @@ use std::alloc::{AllocError, Global};
 pub fn trim(alloc: Global, node: &Node) -> Result<Node, AllocError>
     ensures { IfOk result (λ n. n ≡ trimmed node.now) }
 {
+    if node.is_fixed() {
+        return node.copy();
+    }
     let children = trim_all(alloc, node.children())?;
     let fallback = trim_all(alloc, node.fallback())?;
     let element = node.element().copy()?;

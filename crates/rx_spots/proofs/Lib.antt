@@ -2,3 +2,4 @@ mod Lists
 mod Counting
 pub mod Waiting
 mod Mounting
+mod Nothing

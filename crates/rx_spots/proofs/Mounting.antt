@@ -15,7 +15,7 @@ cons_option-append None ms = refl
 cons_option-append (Some m) ms = refl
 
 -- a node comes before what is below it, and a boundary's primary before its fallback
-mounted-node : (a : Around) (n : Node)
+pub mounted-node : (a : Around) (n : Node)
     → mounted_at (spots a n) ≡ own_mounted a (mark_of n) ++ (mounted_at (spots_in (around_children a (mark_of n)) (children_of n)) ++ mounted_at (spots_in a (fallback_of n)))
 mounted-node a (node e m ns fs) =
     cons_option-append _ (mounted_at (spots_in (around_children a m) ns ++ spots_in a fs))

@@ -34,11 +34,14 @@ fn hides(mark: &Mark) -> bool
     }
 }
 
-// What a visible node and those below it that are visible wait for.
+// What a visible node and those below it that are visible wait for. Where no boundary is hidden no walk is taken.
 #[cycle(awaiting)]
 fn awaits_from(node: &Node) -> Awaits
     ensures { result ≡ awaits_where (waits_from node.now) }
 {
+    if !node.hides() {
+        return Awaits::none();
+    }
     let own = own_awaits(node.mark());
     let behind = awaits_in(node.fallback());
     if hides(node.mark()) {

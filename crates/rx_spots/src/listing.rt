@@ -24,11 +24,14 @@ fn add_own(mark: &Mark, around: Around, found: &mut Vec<Mounted>) -> Result<(), 
     Ok(())
 }
 
-// Adds the instances of a node and below.
+// Adds the instances of a node and below. Where there are none no walk is taken.
 #[cycle(mounting)]
 fn add_from(node: &Node, around: Around, found: &mut Vec<Mounted>) -> Result<(), AllocError>
     ensures { OnOk result (found.new.items ≡ found.old.items ++ mounted_at (spots.spots around node.now)) }
 {
+    if !node.mounts() {
+        return Ok(());
+    }
     add_own(node.mark(), around, found)?;
     add_in(node.children(), around.below(node.mark()), found)?;
     add_in(node.fallback(), around, found)

@@ -1,5 +1,6 @@
 use Rattle.std.proofs.Common.{◌∙◌, ap, sym, arith, flat_map}
-use Rattle.rx_elem.specs.Trees.{forest, elements_in}
+use Rattle.std.proofs.lemmas.Result.{on_ok_weaker}
+use Rattle.rx_elem.specs.Trees.{forest, elements_in, height}
 use Rattle.rx_elem.specs.Compare.{pasts, gone_from, compare_in}
 use Rattle.rx_effect.specs.EffectLog.{destroyed_in}
 use Rattle.rx_node.proofs.Listing.{height-get}
@@ -7,7 +8,8 @@ use Rattle.rx_compare.specs.AboveView.{above_seen, past_seen}
 use Rattle.rx_compare.specs.ComparedView.{change_seen}
 use Rattle.rx_changes.specs.ChangesView.{changes_seen}
 use Rattle.rx_changes.specs.Found.{logged, no_effects, with_effects, with_list}
-use Rattle.rx_changes.proofs.Walking.{list-child, list-vacant, list-end, node-parts}
+use Rattle.rx_changes.proofs.Bare.{leaf-below}
+use Rattle.rx_changes.proofs.Walking.{below-parts, list-child, list-vacant, list-end, node-parts}
 use Rattle.rx_changes.proofs.walk.+walk.Goals as goal
 use Rattle.rx_changes.proofs.walk.+walk.Goals.{add_list-in-Some+in_ok-add_node, add_list-in_default}
 
@@ -40,34 +42,46 @@ add_list-returns t c =
     list-end (above_seen c.args.above) (pasts (forest c.args.old.now) (elements_in (forest c.args.new.now))) c.args.new.now c.loop-place.place c.args.logs
     (changes_seen c.loop-place.found) _ (omega (arith, c.loop-place-test.false)) c.loop-place.invariant
 
-pub add_node-add_list-requires : goal.add_node-add_list-requires
-add_node-add_list-requires t c = (omega (arith, c.decreases, c.children-kids.ensures.lower), c.in_ok-pairs.ensures)
+pub add_below-returns-then-is_leaf : goal.add_below-returns-then-is_leaf
+add_below-returns-then-is_leaf t c = leaf-below c.args.logs (change_seen c.args.change.now) (changes_seen c.args.found.now) (c.is_leaf.ensures c.if-is_leaf.true)
 
-pub add_node-add_list-requires-2 : goal.add_node-add_list-requires-2
-add_node-add_list-requires-2 t c = (omega (arith, c.decreases, c.fallback-others.ensures.lower), c.in_ok-rest.ensures)
+pub add_below-add_list-requires : goal.add_below-add_list-requires
+add_below-add_list-requires t c = (omega (arith, c.decreases, c.children-kids.ensures.lower), c.in_ok-pairs.ensures)
 
-pub add_node-returns : goal.add_node-returns
-add_node-returns t c =
+pub add_below-add_list-requires-2 : goal.add_below-add_list-requires-2
+add_below-add_list-requires-2 t c = (omega (arith, c.decreases, c.fallback-others.ensures.lower), c.in_ok-rest.ensures)
+
+pub add_below-returns : goal.add_below-returns
+add_below-returns t c =
     let logs = c.args.logs in
-    let f1 = changes_seen c.add_change.new.found in
+    let d = change_seen c.args.change.now in
+    let f1 = changes_seen c.args.found.now in
     let f2 = changes_seen c.add_gone.new.found in
     let f3 = changes_seen c.add_gone-2.new.found in
     let f4 = changes_seen c.add_list.new.found in
     let f5 = changes_seen c.add_hiding.new.found in
-    let f6 = changes_seen c.add_list-2.new.found in
-    node-parts logs (above_seen c.args.above) (past_seen c.args.past) c.args.new.now (change_seen c.new-change.result)
-    (changes_seen c.args.found.now) f1 f2 f3 f4 f5 f6 (changes_seen c.add_effects.new.found)
-    c.new-change.ensures
-    c.in_ok-add_change.ensures
+    on_ok_weaker c.add_list-2.result
+    (λ e. below-parts logs d f1 f2 f3 f4 f5 (changes_seen c.add_list-2.new.found)
     (c.in_ok-add_gone.ensures (forest c.children-kids.result.now) c.in_ok-pairs.ensures
     ∙ (λ i. with_effects (logged logs (λ q. flat_map (destroyed_in q) (gone_from (c.above_children-below.ensures i).was_visible (c.children_if-old.ensures i) (c.children-kids.ensures.all i)))) no_effects f1))
     (c.in_ok-add_gone-2.ensures (forest c.fallback-others.result.now) c.in_ok-rest.ensures
-    ∙ (λ i. with_effects (logged logs (λ q. flat_map (destroyed_in q) (gone_from c.new-change.result.was_visible (c.fallback_if-behind.ensures i) (c.fallback-others.ensures.all i)))) no_effects f2))
+    ∙ (λ i. with_effects (logged logs (λ q. flat_map (destroyed_in q) (gone_from d.was_visible (c.fallback_if-behind.ensures i) (c.fallback-others.ensures.all i)))) no_effects f2))
     (c.in_ok-add_list.ensures
     ∙ (λ i. with_list (c.logs_children-shows.ensures i)
     (compare_in (c.above_children-below.ensures i) (pasts (c.children_if-old.ensures i) (elements_in (c.children-kids.ensures.all i))) (c.children-kids.ensures.all i)) f3))
     c.in_ok-add_hiding.ensures
-    (c.in_ok-add_list-2.ensures
+    (e
     ∙ (λ i. with_list logs
-    (compare_in (c.above_fallback-beside.ensures i) (pasts (c.fallback_if-behind.ensures i) (elements_in (c.fallback-others.ensures.all i))) (c.fallback-others.ensures.all i)) f5))
-    c.in_ok-add_effects.ensures
+    (compare_in (c.above_fallback-beside.ensures i) (pasts (c.fallback_if-behind.ensures i) (elements_in (c.fallback-others.ensures.all i))) (c.fallback-others.ensures.all i)) f5)))
+    c.add_list-2.ensures
+
+pub add_node-add_below-requires : goal.add_node-add_below-requires
+add_node-add_below-requires t c = (omega (arith, c.decreases, ap (λ d. height d.new) c.new-change.ensures), tt)
+
+pub add_node-returns : goal.add_node-returns
+add_node-returns t c =
+    on_ok_weaker c.add_effects.result
+    (node-parts c.args.logs (above_seen c.args.above) (past_seen c.args.past) c.args.new.now (change_seen c.new-change.result) (changes_seen c.args.found.now)
+    (changes_seen c.add_change.new.found) (changes_seen c.add_below.new.found) (changes_seen c.add_effects.new.found) c.new-change.ensures c.in_ok-add_change.ensures
+    c.in_ok-add_below.ensures)
+    c.add_effects.ensures

@@ -4,10 +4,21 @@ use Rattle.rx_elem.specs.Numbers.{numbered, numbered_in}
 use Rattle.rx_elem.specs.Trees.{forest}
 use Rattle.rx_node.specs.MarkView.{mark_seen}
 use Rattle.rx_numbers.specs.Room.{FitIn, numbers_seen}
+use Rattle.rx_numbers.proofs.Fixed.{fixed_numbered}
 use Rattle.rx_numbers.proofs.Fronts.{all_numbered, height-get, in_front, none_counted, none_numbered, one_counted, one_numbered}
 use Rattle.rx_numbers.proofs.Rising.{behind_is, children_fit, mark_fits, one_fits, whole_is}
 use Rattle.rx_numbers.proofs.numbering.+numbering.Goals as goal
 use Rattle.rx_numbers.proofs.numbering.+numbering.Goals.{number_all-in-Some+in_ok-number-in-Some+in_ok-push-in-Some, number_all-in-None+in_ok-push-in-None}
+
+pub number-returns-then-is_fixed-clause-tree : goal.number-returns-then-is_fixed-clause-tree
+number-returns-then-is_fixed-clause-tree t c =
+    let same = fixed_numbered (numbers_seen c.args.next.now) c.args.node.now (sym c.is_fixed.ensures ∙ c.if-is_fixed.true) in
+    IfOk-weaker c.copy.result _ _ (λ x e. e ∙ sym (ap (λ p. p.1) same)) c.copy.ensures
+
+pub number-returns-then-is_fixed-clause-next : goal.number-returns-then-is_fixed-clause-next
+number-returns-then-is_fixed-clause-next t c =
+    let same = fixed_numbered (numbers_seen c.args.next.now) c.args.node.now (sym c.is_fixed.ensures ∙ c.if-is_fixed.true) in
+    IfOk-weaker c.copy.result _ _ (λ x e. sym (ap (λ p. p.0) same)) c.copy.ensures
 
 pub number-number_mark-requires : goal.number-number_mark-requires
 number-number_mark-requires t c = mark_fits (numbers_seen c.args.next.now) c.args.node.now (mark_seen c.mark.result.now) c.mark.ensures c.requires

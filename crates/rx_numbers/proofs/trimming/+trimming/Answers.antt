@@ -1,12 +1,17 @@
-use Rattle.std.proofs.Common.{◌≡◌, ◌∙◌, ◌+◌, ◌++◌, None, ap, arith, drop, replicate}
+use Rattle.std.proofs.Common.{◌≡◌, ◌∙◌, ◌+◌, ◌++◌, None, ap, arith, drop, replicate, sym}
 use Rattle.std.proofs.lemmas.Result.{IfOk-weaker}
 use Rattle.rx_elem.specs.Trees.{forest}
 use Rattle.rx_node.specs.MarkView.{mark_seen}
 use Rattle.end_laws.specs.Trimmed.{trimmed_in}
 use Rattle.rx_numbers.proofs.Ends.{all_trimmed, one_trimmed, one_vacant, vacants, whole_trimmed}
+use Rattle.rx_numbers.proofs.Fixed.{fixed_trimmed}
 use Rattle.rx_numbers.proofs.Fronts.{height-get, in_front}
 use Rattle.rx_numbers.proofs.trimming.+trimming.Goals as goal
 use Rattle.rx_numbers.proofs.trimming.+trimming.Goals.{trim_all-in-Some+else-vacant-test+in_ok-trim-in-Some+in_ok-push-in-Some-2, trim_all-in-None}
+
+pub trim-returns-then-is_fixed : goal.trim-returns-then-is_fixed
+trim-returns-then-is_fixed t c =
+    IfOk-weaker c.copy.result _ _ (λ x e. e ∙ sym (fixed_trimmed c.args.node.now (sym c.is_fixed.ensures ∙ c.if-is_fixed.true))) c.copy.ensures
 
 pub trim-returns : goal.trim-returns
 trim-returns t c =

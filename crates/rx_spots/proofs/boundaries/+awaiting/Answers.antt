@@ -4,21 +4,25 @@ use Rattle.rx_elem.specs.Trees.{awaits_in, is_hidden}
 use Rattle.rx_spots.specs.Waits.{waits_in}
 use Rattle.rx_spots.proofs.Lists.{height-get}
 use Rattle.rx_spots.proofs.Waiting.{node_waits, hidden_waits, waits-more, waits-vacant, waits-end, waits-start}
+use Rattle.rx_spots.proofs.Nothing.{nothing_awaited}
 use Rattle.rx_spots.proofs.boundaries.+awaiting.Goals as goal
 use Rattle.rx_spots.proofs.boundaries.+awaiting.Goals.{awaits_in-in-Some, awaits_in-in_default}
+
+pub awaits_from-returns-then-not-hides : goal.awaits_from-returns-then-not-hides
+awaits_from-returns-then-not-hides t c = c.none.ensures ∙ nothing_awaited c.args.node.now (sym c.hides.ensures ∙ c.if-not-hides.true)
 
 pub awaits_from-returns-then-hides : goal.awaits_from-returns-then-hides
 awaits_from-returns-then-hides t c =
     c.union.ensures
     ∙ hidden_waits c.args.node.now _ _ (c.own_awaits-own.ensures ∙ ap awaits_in c.mark.ensures)
-    (sym (ap is_hidden c.mark-2.ensures) ∙ sym c.hides.ensures ∙ c.if-hides.true)
+    (sym (ap is_hidden c.mark-2.ensures) ∙ sym c.hides-2.ensures ∙ c.if-hides.true)
     (c.awaits_in-behind.ensures ∙ ap (λ f. awaits_where (waits_in f)) c.fallback.ensures.all)
 
 pub awaits_from-returns : goal.awaits_from-returns
 awaits_from-returns t c =
     c.union-3.ensures ∙ ap (λ x. union x c.awaits_in-behind.result) c.union-2.ensures
     ∙ node_waits c.args.node.now _ _ _ (c.own_awaits-own.ensures ∙ ap awaits_in c.mark.ensures)
-    (sym (ap is_hidden c.mark-2.ensures) ∙ sym c.hides.ensures ∙ c.if-hides.false)
+    (sym (ap is_hidden c.mark-2.ensures) ∙ sym c.hides-2.ensures ∙ c.if-hides.false)
     (c.awaits_in.ensures ∙ ap (λ f. awaits_where (waits_in f)) c.children.ensures.all)
     (c.awaits_in-behind.ensures ∙ ap (λ f. awaits_where (waits_in f)) c.fallback.ensures.all)
 

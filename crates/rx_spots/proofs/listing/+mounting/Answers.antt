@@ -1,11 +1,17 @@
-use Rattle.std.proofs.Common.{arith, ap, ◌∙◌, ◌+◌, ◌++◌, drop}
+use Rattle.std.proofs.Common.{append-nil, arith, ap, sym, ◌∙◌, ◌+◌, ◌++◌, drop}
 use Rattle.std.proofs.lemmas.Result.{on_ok_weaker}
 use Rattle.rx_elem.specs.Trees.{children_of, forest}
 use Rattle.rx_elem.specs.Spots.{mounted_at, spots_in, around_children}
 use Rattle.rx_spots.proofs.Lists.{height-get}
 use Rattle.rx_spots.proofs.Mounting.{own_mounted, mounted-parts, mounted-more, mounted-vacant}
+use Rattle.rx_spots.proofs.Nothing.{nothing_mounted}
 use Rattle.rx_spots.proofs.listing.+mounting.Goals as goal
 use Rattle.rx_spots.proofs.listing.+mounting.Goals.{add_in-in-Some+in_ok-add_from, add_in-in_default}
+
+pub add_from-returns-then-not-mounts : goal.add_from-returns-then-not-mounts
+add_from-returns-then-not-mounts t c =
+    let nothing = nothing_mounted c.args.around c.args.node.now (sym c.mounts.ensures ∙ c.if-not-mounts.true) in
+    sym (append-nil c.args.found.now.items) ∙ ap (λ ms. c.args.found.now.items ++ ms) (sym nothing)
 
 pub add_from-returns : goal.add_from-returns
 add_from-returns t c =
