@@ -13,7 +13,7 @@ use Rattle.rx_elem.specs.declared.effect.ContextRead.{ContextRead}
 use Rattle.rx_elem.specs.declared.effect.EffectRecord.{EffectRecord}
 use Rattle.rx_elem.specs.declared.effect.VersionRead.{VersionRead}
 use Rattle.rx_meaning.specs.Body.{Body, body_of, ready, throw, wait}
-use Rattle.rx_meaning.specs.Fresh.{Contexts, Place, Renders, Sight, empty, fresh, inputs_at, instance_after, old_instance, over, place, place_of, render_list, rendered, default_contexts, root_element, depth_limit, shape_of_body, shape_of_component, throws, waits}
+use Rattle.rx_meaning.specs.Fresh.{Contexts, Renders, Sight, empty, fresh, inputs_at, instance_after, old_instance, over, place, place_of, render_list, rendered, default_contexts, root_element, depth_limit, shape_of_body, shape_of_component, throws, waits}
 use Rattle.commit_laws.proofs.SmallWaits.{waits_are_small}
 use Rattle.draw_laws.specs.Drawn.{AreDrawn}
 use Rattle.draw_laws.proofs.Bodies.{body_drawn}

@@ -1,15 +1,17 @@
 // Nodes over what their lists give.
-ghost use Rattle.std.specs.Prelude.{◌≡◌, IfOk, slice_set};
+ghost use Rattle.std.specs.Prelude.{◌≡◌, Some, true, IfOk, slice_set};
 ghost use Rattle.std.specs.Option.{option_copied};
+ghost use Rattle.rx_elem.specs.Elements as elements;
 ghost use Rattle.rx_elem.specs.Trees.{node, forest, node_over, old_caught};
 ghost use Rattle.rx_meaning.specs.Fresh.{made, old_host, one_waits, over, over_boundary};
 ghost use Rattle.rx_node.specs.MarkView.{mark_seen};
 ghost use Rattle.rx_fresh.specs.PlaceView.{place_seen, places_seen};
+ghost use Rattle.rx_fresh.specs.Texts.{text_node};
 
 use crate::lists::{children_if, copy_all};
 use crate::place::{Place, Places};
-use rx_base::{Awaits, Int};
-use rx_elem::Element;
+use rx_base::{Awaits, Int, Str};
+use rx_elem::{Element, ElementKind};
 use rx_node::{Mark, Node};
 use rx_susp::BoundaryState;
 use std::alloc::{AllocError, Global};
@@ -60,6 +62,43 @@ pub(crate) fn node_with(
     let element = element.copy()?;
     let node = Node::new(alloc, element, mark, children, fallback)?;
     Ok(Place::Made(node))
+}
+
+// Whether an element is this text.
+fn has_text(element: &Element, text: &Str) -> bool
+    ensures { result ≡ true → element.now ≡ elements.text text.now }
+{
+    match element.kind() {
+        ElementKind::Text(own) => own.text() == text.text(),
+        _ => false,
+    }
+}
+
+// Whether an old node is one of this text.
+fn is_text_node(node: &Node, text: &Str) -> bool
+    ensures { result ≡ true → node.now ≡ text_node text.now (old_host (Some node.now)) }
+{
+    let is_bare = node.children().is_empty() && node.fallback().is_empty();
+    is_bare && node.mark().is_host() && has_text(node.element(), text)
+}
+
+// A text. Where the old node is the same, it stays.
+pub(crate) fn text_place(
+    alloc: Global,
+    element: &Element,
+    text: &Str,
+    old: Option<&Node>,
+) -> Result<Place, AllocError>
+    requires { element.now ≡ elements.text text.now }
+    ensures { IfOk result (λ x. place_seen x ≡ made (text_node text.now (old_host (option_copied old.entry)))) }
+{
+    if let Some(node) = old
+        && is_text_node(node, text)
+    {
+        return Ok(Place::Made(node.copy()?));
+    }
+    let mark = Mark::Host(old_host(old));
+    node_with(alloc, element, mark, Vec::new(alloc), Vec::new(alloc))
 }
 
 // A node over its one list: of an error boundary that has caught a value, its fallback.

@@ -16,7 +16,7 @@ ghost use Rattle.rx_fresh.specs.Seeing.{IsSnapshotOf, GoesOn, KeepsTree, KeepsTr
 use crate::body::body_at;
 use crate::instance::{instance_after, number_of, old_instance};
 use crate::lists::{children_if, fallback_if, old_places, single};
-use crate::nodes::{below_provider, hidden, node_with, old_caught, old_host, over};
+use crate::nodes::{below_provider, hidden, node_with, old_caught, old_host, over, text_place};
 use crate::place::{Place, Places};
 use crate::roots::{default_contexts, root_element};
 use crate::snapshot::Snapshot;
@@ -316,10 +316,7 @@ fn render_element<L: Ledger>(
 {
     match element.kind() {
         ElementKind::Null => Ok(Place::Empty),
-        ElementKind::Text(_) => {
-            let mark = Mark::Host(old_host(old));
-            node_with(alloc, element, mark, Vec::new(alloc), Vec::new(alloc))
-        }
+        ElementKind::Text(text) => text_place(alloc, element, text, old),
         ElementKind::Host(_, _, _, children) => {
             let mark = Mark::Host(old_host(old));
             let before = children_if(old);

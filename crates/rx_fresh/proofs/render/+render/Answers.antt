@@ -3,16 +3,14 @@ use Rattle.std.specs.Option.{option_copied}
 use Rattle.std.proofs.lemmas.Result.{IfOk-weaker}
 use Rattle.rx_elem.specs.Elements.{gathered}
 use Rattle.rx_elem.specs.Trees.{children_if, fallback_if, forest, none, of_catcher}
-use Rattle.rx_elem.specs.Compare.{old_nodes}
-use Rattle.rx_meaning.specs.Fresh.{old_instance, over, over_boundary, over_catcher, render_list, rendered, waits, throws}
-use Rattle.rx_meaning.specs.Body.{ready, throw, wait}
+use Rattle.rx_meaning.specs.Fresh.{old_instance, over, over_boundary, over_catcher, render_list, rendered, waits}
 use Rattle.rx_eval.specs.Given.{body_seen}
 use Rattle.rx_node.specs.MarkView.{mark_seen}
 use Rattle.rx_hook_store.specs.Store.{kept_hooks}
 use Rattle.rx_fresh.specs.PlaceView.{place_seen, places_seen}
 use Rattle.rx_fresh.proofs.Going.{further, stays}
 use Rattle.rx_fresh.proofs.Listing.{all_done, child_done, drawn_at, listed-gathered, next_place, throws_here, waits_here}
-use Rattle.rx_fresh.proofs.Olds.{gives_at, gives_children, gives_fallback, gives_hooks, gives_trees, keeps_at, keeps_children, keeps_fallback, keeps_tree, keeps_trees, kept_if}
+use Rattle.rx_fresh.proofs.Olds.{gives_at, gives_children, gives_fallback, gives_hooks, gives_trees, keeps_at, keeps_children, keeps_fallback, keeps_trees, kept_if}
 use Rattle.rx_fresh.proofs.Shapes.{component_ready, component_throws, component_waits, drawn_body, no_level, one_level, small_wait}
 use Rattle.rx_fresh.proofs.render.+render.Goals as goal
 use Rattle.rx_susp.specs.declared.boundary.BoundaryState.TheVariants.{Shown}
@@ -248,12 +246,14 @@ render_place-returns-clause-place g t c =
 pub render_element-returns-in-Null-clause-place : goal.render_element-returns-in-Null-clause-place
 render_element-returns-in-Null-clause-place g t c s is gives = ap (λ d. place_of (rendered c.args.depth s) c.args.element.now (option_copied c.args.old) (shape_of s c.args.contexts.now d (option_copied c.args.old))) (sym (sym c.kind.ensures ∙ ap element_seen c.in-Null.is))
 
+pub render_element-text_place-requires : goal.render_element-text_place-requires
+render_element-text_place-requires g t c = sym c.kind.ensures ∙ ap element_seen c.in-Text.is
+
 pub render_element-returns-in-Text-clause-place : goal.render_element-returns-in-Text-clause-place
 render_element-returns-in-Text-clause-place g t c =
-    IfOk-weaker c.node_with.result _ _ (λ x e s is gives.
-    e ∙ (λ i. made (node c.args.element.now (of_host (c.old_host.ensures i)) (forest (c.new.ensures.items i)) (forest (c.new-in-Text.ensures.items i))))
-    ∙ ap (λ d. place_of (rendered c.args.depth s) c.args.element.now (option_copied c.args.old) (shape_of s c.args.contexts.now d (option_copied c.args.old))) (sym (sym c.kind.ensures ∙ ap element_seen c.in-Text.is)))
-    c.node_with.ensures
+    IfOk-weaker c.text_place.result _ _ (λ x e s is gives.
+    e ∙ ap (λ d. place_of (rendered c.args.depth s) d (option_copied c.args.old) (shape_of s c.args.contexts.now d (option_copied c.args.old))) (sym (sym c.kind.ensures ∙ ap element_seen c.in-Text.is)))
+    c.text_place.ensures
 
 pub render_element-render_node-requires : goal.render_element-render_node-requires
 render_element-render_node-requires g t c κs sub = (omega (arith, c.decreases), (sub, (subst (λ es. AreDrawn c.args.shot.now.checked.now (gathered es)) (sym c.deref.ensures.value) ((subst (IsDrawn c.args.shot.now.checked.now) (sym c.kind.ensures ∙ ap element_seen c.in-Host.is) c.requires.drawn)), keeps_children (kept_hooks c.args.hooks.now) (option_copied c.args.old) _ c.children_if-before.ensures c.requires.kept)))
@@ -268,7 +268,7 @@ pub render_element-returns-in-Host-clause-place : goal.render_element-returns-in
 render_element-returns-in-Host-clause-place g t c =
     IfOk-weaker c.render_node.result _ _ (λ x h s is gives.
     h s is (gives_children s (kept_hooks c.args.hooks.now) (option_copied c.args.old) _ c.children_if-before.ensures gives)
-    ∙ (λ i. over c.args.element.now (of_host (c.old_host-in-Host.ensures i)) (render_list (rendered c.args.depth s c.args.contexts.now) ((c.deref.ensures.value ∙ sym (listed-gathered c.in-Host.children.items)) i) (c.children_if-before.ensures i)))
+    ∙ (λ i. over c.args.element.now (of_host (c.old_host.ensures i)) (render_list (rendered c.args.depth s c.args.contexts.now) ((c.deref.ensures.value ∙ sym (listed-gathered c.in-Host.children.items)) i) (c.children_if-before.ensures i)))
     ∙ ap (λ d. place_of (rendered c.args.depth s) c.args.element.now (option_copied c.args.old) (shape_of s c.args.contexts.now d (option_copied c.args.old))) (sym (sym c.kind.ensures ∙ ap element_seen c.in-Host.is)))
     c.render_node.ensures.place
 
