@@ -2,7 +2,7 @@
 ghost use Rattle.std.specs.Prelude.{◌≡◌, ◌<◌, ◌^◌, length, IfOk, OnOk};
 ghost use Rattle.rx_model.specs.State.{opening};
 ghost use Rattle.rx_root.specs.Stands.{Stands};
-ghost use Rattle.rx_root.specs.Taking.{AllCanTake};
+ghost use Rattle.rx_kept.specs.Taking.{AllCanTake};
 ghost use Rattle.run_page.specs.Books.{empty_book};
 ghost use Rattle.fiber_view.specs.Pages.{IsBook, IsPage};
 

@@ -2,7 +2,7 @@
 ghost use Rattle.std.specs.Prelude.{◌≡◌, ◌<◌, ◌^◌, ℕ, List, suc, length, IfOk, OnOk};
 ghost use Rattle.rx_model.specs.State.{State};
 ghost use Rattle.rx_root.specs.Stands.{HasRoomFor, Stands, StandsForSome};
-ghost use Rattle.rx_root.specs.Taking.{AllCanTake, CanTake};
+ghost use Rattle.rx_kept.specs.Taking.{AllCanTake, CanTake};
 ghost use Rattle.run_page.specs.Views.{View as Seen, shown};
 ghost use Rattle.run_page.specs.Books.{AreTold};
 ghost use Rattle.fiber_view.specs.Shown.{ShowsState, yields_in};

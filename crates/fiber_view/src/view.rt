@@ -2,7 +2,7 @@
 ghost use Rattle.std.specs.Prelude.{◌≡◌, ◌<◌, ◌^◌, ◌≢◌, length};
 ghost use Rattle.std.specs.Io.KnownBytes.{Appends};
 ghost use Rattle.rx_io.specs.Causes.{Rose};
-ghost use Rattle.rx_root.specs.Taking.{AllCanTake};
+ghost use Rattle.rx_kept.specs.Taking.{AllCanTake};
 ghost use Rattle.fiber_view.specs.declared.status.Status.{Status};
 ghost use Rattle.fiber_view.specs.Views.{GivesPage, IsPageOf, RefusesProgram, RefusesScript, RefusesLength, Reads};
 

@@ -1,8 +1,8 @@
 -- Lines behind those that a report has.
-use Rattle.std.proofs.Common.{◌≡◌, false, refl, ℕ, ◌+◌, ◌<◌, ◌≤◌, List, [], ◌∷◌, ◌++◌, length, get_or, take, sym, ap, ◌∙◌, append_assoc, append-nil}
+use Rattle.std.proofs.Common.{◌≡◌, false, refl, ℕ, ◌+◌, ◌<◌, List, [], ◌∷◌, ◌++◌, length, get_or, take, sym, ap, ◌∙◌, append_assoc, append-nil}
 use Rattle.std.specs.Prelude.{map}
 use Rattle.std.proofs.lemmas.Grind.{flat_map-append}
-use Rattle.std.proofs.lemmas.List.{map-append, take_more, take_all}
+use Rattle.std.proofs.lemmas.List.{map-append, take_more}
 use Rattle.rx_base.specs.Values.{Text}
 use Rattle.std.specs.List.{AllByRecursion}
 use Rattle.rx_lines.specs.Lines.{Line, Options, Written, is_printed, line_bytes, report_bytes, with_line}

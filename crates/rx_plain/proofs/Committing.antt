@@ -1,6 +1,6 @@
 -- What the plain machine stands for after the end of a render.
 use Rattle.std.proofs.Common.{◌≡◌, ℕ, ◌+◌, ◌≤◌, Bool, true, false, cond, List, [], ◌∷◌, ◌++◌, map, refl, sym, ap, ◌∙◌, subst, arith, Option, Some, None}
-use Rattle.std.specs.Prelude.{◌&&◌, if◌then◌else◌}
+use Rattle.std.specs.Prelude.{◌&&◌}
 use Rattle.std.proofs.lemmas.List.{length-map}
 use Rattle.rx_base.specs.Awaits.{Awaits}
 use Rattle.rx_lane.specs.declared.lane.Lane.{Lane}
@@ -22,7 +22,7 @@ use Rattle.rx_lines.specs.Lines.{Counts, Written, deferred, logged, with_line}
 use Rattle.rx_queue.specs.Journal.{has_later}
 use Rattle.rx_sched.specs.Schedule.{Schedule, after_commit}
 use Rattle.rx_meaning.specs.Fresh.{fresh, made}
-use Rattle.rx_meaning.specs.Outcome.{Outcome, all_awaits, awaits_resolved, commit, defer, newly_caught, newly_hidden, outcome, outcome_by, still_pending}
+use Rattle.rx_meaning.specs.Outcome.{Outcome, awaits_resolved, commit, newly_caught, newly_hidden, outcome, outcome_by, still_pending}
 use Rattle.rx_model.specs.State.{Progress, State}
 use Rattle.rx_model.specs.Stretch.{silent}
 use Rattle.rx_model.specs.Committing.{commit_lines, committed_as, committed_state, deferred_as, ended, ended_by, passive_run, schedule_deferred, sight_of}
@@ -31,10 +31,9 @@ use Rattle.rx_model.specs.Kept.{IsSet}
 use Rattle.rx_model.specs.Laws.{IsBounded, IsReached}
 use Rattle.run_laws.proofs.RunTrees.{renders_bounded}
 use Rattle.end_laws.specs.Trimmed.{trimmed, trimmed_if}
-use Rattle.end_laws.specs.Outcomes.{trimmed_outcome}
 use Rattle.end_laws.proofs.Compared.{trees_same}
 use Rattle.end_laws.proofs.Logs.{layout_same, passive_same}
-use Rattle.end_laws.proofs.Outcomes.{caught_same, outcome_same}
+use Rattle.end_laws.proofs.Outcomes.{caught_same}
 use Rattle.rx_hook_store.specs.Store as hooks
 use Rattle.rx_hook_store.specs.Store.{kept_hooks}
 use Rattle.rx_hook_store.proofs.Numbered.{links_committed}
@@ -47,11 +46,12 @@ use Rattle.rx_settle.specs.Settling.{IsSettlingOf}
 use Rattle.rx_spots.specs.Waits.{AreWithinReach}
 use Rattle.rx_mounts.specs.Shown.{with_lines}
 use Rattle.rx_plain.specs.Plained.{Going, Plained}
-use Rattle.rx_plain.specs.Doing.{HasDone, KnowsSince, outcome_as}
-use Rattle.rx_plain.specs.Stands.{AreDeclared, HasProgress, HasRoomForTurns, KeepsResources, LeavesRoom, StandsFor, StandsWith}
-use Rattle.rx_plain.proofs.Behind.{with_lines-append, with_lines-nil, with_lines-one}
-use Rattle.rx_plain.proofs.NumbersGrow.{hosts_grow, instances_grow}
-use Rattle.rx_plain.proofs.Resources.{commit_declared, commit_stays}
+use Rattle.rx_plain.specs.Doing.{HasDone, KnowsSince}
+use Rattle.rx_plain.specs.Stands.{HasProgress, HasRoomForTurns, LeavesRoom, StandsFor, StandsWith}
+use Rattle.rx_kept.specs.Keeping.{AreDeclared, KeepsResources}
+use Rattle.rx_plain.proofs.Behind.{with_lines-append, with_lines-one}
+use Rattle.rx_kept.proofs.NumbersGrow.{hosts_grow, instances_grow}
+use Rattle.rx_kept.proofs.Resources.{commit_declared, commit_stays}
 
 -- ---- trimmed trees
 

@@ -6,7 +6,8 @@ use Rattle.rx_queue.specs.Journal.{Journal, has_later}
 use Rattle.rx_meaning.specs.Settled.{DoneBefore}
 use Rattle.rx_model.specs.State.{Progress, State}
 use Rattle.rx_plain.specs.Plained.{Going, Plained}
-use Rattle.rx_plain.specs.Stands.{AreSeen, GoesOnWith, HasProgress, HasRoomFor}
+use Rattle.rx_plain.specs.Stands.{GoesOnWith, HasProgress, HasRoomFor}
+use Rattle.rx_kept.specs.Seeing.{AreSeen}
 
 -- a render goes on with one of a state with the same journal
 pub goes_on_same : (p : Program) (s t : State) (g : Progress) (x : Going) → t.journal ≡ s.journal → t.seen ≡ s.seen → GoesOnWith p s g x → GoesOnWith p t g x

@@ -3,12 +3,6 @@ pub mod CommitLines
 pub mod Keeping
 pub mod Standing
 pub mod Opening
-pub mod HookCounts
-pub mod Paths
-pub mod AttributesOnce
-pub mod NumbersGrow
-pub mod Resources
-pub mod ResolvedSince
 pub mod Runnable
 pub mod Sending
 pub mod Taken

@@ -16,8 +16,9 @@ use Rattle.rx_hook_store.specs.Store as hooks
 use Rattle.rx_hook_store.specs.Store.{kept_hooks}
 use Rattle.rx_hook_store.specs.Commits.{LinksBelow}
 use Rattle.rx_plain.specs.Plained.{Plained}
-use Rattle.rx_plain.specs.Stands.{KeepsResources, StandsFor}
-use Rattle.rx_plain.proofs.Resources.{opening_declared, opening_kept}
+use Rattle.rx_plain.specs.Stands.{StandsFor}
+use Rattle.rx_kept.specs.Keeping.{KeepsResources}
+use Rattle.rx_kept.proofs.Resources.{opening_declared, opening_kept}
 
 -- the machine before its first render
 abbrev pub opening_plain : hooks.Kept → Schedule → List Kept → Event → Passive → Plained

@@ -20,7 +20,7 @@ use Rattle.run_laws.proofs.KeptFacts.{kept_facts}
 use Rattle.run_laws.proofs.RunTrees.{reached_bounded}
 use Rattle.rx_mounts.specs.Committed as committed
 use Rattle.rx_mounts.specs.Committed.{AreCommitted}
-use Rattle.rx_plain.proofs.AttributesOnce.{attributes_apart}
+use Rattle.rx_kept.proofs.AttributesOnce.{attributes_apart}
 
 -- ---- counts
 

@@ -33,10 +33,12 @@ use Rattle.rx_hook_store.proofs.Staying.{all_stay}
 use Rattle.rx_resources.specs.Kept.{Kept}
 use Rattle.rx_resources.specs.Store.{resolved_at}
 use Rattle.rx_plain.specs.Plained.{Going, Plained}
-use Rattle.rx_plain.specs.Stands.{AreDeclared, AreSeen, GoesOnWith, HasProgress, KeepsResources, StandsFor, StandsWith}
+use Rattle.rx_plain.specs.Stands.{GoesOnWith, HasProgress, StandsFor, StandsWith}
+use Rattle.rx_kept.specs.Keeping.{AreDeclared, KeepsResources}
+use Rattle.rx_kept.specs.Seeing.{AreSeen}
 use Rattle.rx_plain.specs.Taking.{with_later}
 use Rattle.rx_plain.proofs.Keeping.{progress_same}
-use Rattle.rx_plain.proofs.Resources.{resolution_declared, resolution_stays}
+use Rattle.rx_kept.proofs.Resources.{resolution_declared, resolution_stays}
 
 -- ---- the clock, the event and the passive effects
 

@@ -25,7 +25,7 @@ use Rattle.rx_plain.specs.Doing.{HasDone}
 use Rattle.rx_elem.specs.Numbers.{Numbers}
 use Rattle.rx_plain.specs.Stands.{HasRoomFor, StandsFor}
 use Rattle.rx_plain.proofs.Behind.{with_lines-nil, with_lines-one}
-use Rattle.rx_plain.proofs.Resources.{last_is}
+use Rattle.rx_kept.proofs.Resources.{last_is}
 use Rattle.rx_plain.proofs.Standing.{at_time, stands_as, stands_resolved}
 
 -- ---- the end of an event

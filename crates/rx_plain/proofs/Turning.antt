@@ -41,7 +41,7 @@ use Rattle.rx_plain.specs.Plained.{Going, Plained}
 use Rattle.rx_plain.specs.Stands.{GoesOnWith, HasProgress, StandsBy, StandsFor, StandsWith}
 use Rattle.rx_plain.specs.Taking.{with_units}
 use Rattle.rx_plain.proofs.Keeping.{goes_on_same}
-use Rattle.rx_plain.proofs.Resources.{seen_is}
+use Rattle.rx_kept.proofs.Resources.{seen_is}
 use Rattle.rx_plain.proofs.Standing.{stands_as}
 
 -- ---- the start of a render

@@ -13,7 +13,8 @@ use Rattle.rx_lines.specs.Lines.{Written}
 use Rattle.rx_model.specs.Stretch.{Stretch}
 use Rattle.rx_mounts.specs.Shown.{with_lines}
 use Rattle.rx_plain.specs.Plained.{Going, Plained}
-use Rattle.rx_plain.specs.Stands.{AreDeclared, GoesOnWith, KeepsResources, StandsFor, StandsWith}
+use Rattle.rx_plain.specs.Stands.{GoesOnWith, StandsFor, StandsWith}
+use Rattle.rx_kept.specs.Keeping.{AreDeclared, KeepsResources}
 
 -- a stretch of the machine is done: what it stands for is the state after it, and its lines are written
 pub record HasDone (p : Program) (r : Stretch) (v : Plained) (log new : Written) : Type 0 where

@@ -1,44 +1,23 @@
 -- Which states of the machine the plain machine stands for.
-use Rattle.std.specs.Prelude.{◌≡◌, ℕ, ◌+◌, ◌*◌, ◌<◌, ◌≤◌, ◌^◌, List, Option, Some, None, length}
+use Rattle.std.specs.Prelude.{◌≡◌, ℕ, ◌+◌, ◌*◌, ◌<◌, ◌≤◌, ◌^◌, Option, Some, None, length}
 use Rattle.rx_lane.specs.declared.lane.Lane.{Lane}
 use Rattle.rx_lane.specs.Lanes.{has}
 use Rattle.rx_ast.specs.Syntax.{Program}
-use Rattle.rx_rules.specs.Names.{resources}
 use Rattle.rx_rules.specs.Versions.{greatest_node_limit}
-use Rattle.rx_meaning.specs.Fresh.{Sight, resources_seen, versions_seen}
 use Rattle.rx_meaning.specs.Settled.{DoneBefore}
-use Rattle.rx_queue.specs.Journal.{Journal, has_later, last_version, resolved_now, resource}
+use Rattle.rx_queue.specs.Journal.{has_later}
 use Rattle.rx_model.specs.Committing.{sight_of}
 use Rattle.rx_model.specs.HooksOf.{KeepsAllHooks}
 use Rattle.rx_model.specs.Kept.{IsSet}
 use Rattle.rx_model.specs.Laws.{IsReached}
 use Rattle.rx_model.specs.Machine.{flush_limit}
-use Rattle.rx_model.specs.State.{Linked, Progress, State, linked_lanes}
+use Rattle.rx_model.specs.State.{Progress, State}
 use Rattle.rx_hook_store.specs.Commits.{LinksBelow}
 use Rattle.rx_hook_store.specs.Store.{kept_hooks}
-use Rattle.rx_resources.specs.Kept.{Kept}
-use Rattle.rx_resources.specs.Seen.{Resources}
-use Rattle.rx_resources.specs.Stands.{IsKeptOf, NoneOwed}
-use Rattle.rx_resources.specs.Store.{kept_at}
 use Rattle.end_laws.specs.Trimmed.{trimmed_if}
+use Rattle.rx_kept.specs.Keeping.{AreDeclared, KeepsResources}
+use Rattle.rx_kept.specs.Seeing.{AreSeen}
 use Rattle.rx_plain.specs.Plained.{Going, Plained}
-
--- only resources of the program have values, and are asked for
-pub record AreDeclared (p : Program) (j : Journal) : Type 0 where
-  pub values : (r v : ℕ) → length (resources p) ≤ r → resolved_now j r v ≡ None
-  pub asked : (r : ℕ) → length (resources p) ≤ r → last_version j r ≡ 0
-
--- what is kept of each resource of the program is what the journal has of it, with the lanes that it links, and no refresh is owed
-pub record KeepsResources (p : Program) (j : Journal) (links : List Linked) (kept : List Kept) : Type 0 where
-  pub all : length kept ≡ length (resources p)
-  pub each : (r : ℕ) → r < length kept → IsKeptOf j r (kept_at kept r)
-  pub linked : (r : ℕ) → r < length kept → (kept_at kept r).linked ≡ linked_lanes links (resource r)
-  pub none_owed : (r : ℕ) → NoneOwed j r
-
--- what a render sees of the resources is this
-pub record AreSeen (s : Sight) (r : Resources) : Type 0 where
-  pub versions : r.versions ≡ versions_seen s
-  pub values : r.values ≡ resources_seen s
 
 -- A render goes on with one of the machine, but for the bodies: it has the same lanes and the same cut, which lies behind what is done and before what has yet to come; it sees the same of the resources, and has used as many units, of which the machine's had a body each at most.
 pub record GoesOnWith (p : Program) (s : State) (g : Progress) (x : Going) : Type 0 where

@@ -18,7 +18,8 @@ ghost use Rattle.rx_step.specs.declared.step.Step.TheVariants as step;
 ghost use Rattle.rx_dispatch.specs.Kinds.{is_refresh};
 ghost use Rattle.rx_plain.specs.Doing.{HasDone};
 ghost use Rattle.rx_plain.specs.Stands.{HasRoomFor, StandsFor, StandsForSome};
-ghost use Rattle.rx_plain.specs.Taking.{CanTake, accepted_by, asked_for, claimed_by};
+ghost use Rattle.rx_plain.specs.Taking.{accepted_by};
+ghost use Rattle.rx_kept.specs.Taking.{CanTake, asked_for, claimed_by};
 
 use crate::plain::Plain;
 use end_laws::ends_are_not_read;

@@ -28,7 +28,7 @@ use Rattle.run_laws.proofs.WaitingAgain.{later_waits_again}
 use Rattle.rx_render.proofs.Covered.{covered_later, covers_if}
 use Rattle.rx_render.proofs.Settled.{settled_later}
 use Rattle.rx_render.specs.Rendering.{Rendering}
-use Rattle.rx_render.specs.Resources.{AsksForDeclared, resources_by}
+use Rattle.rx_kept.specs.Seeing.{AsksForDeclared, resources_by}
 use Rattle.cost_laws.specs.Undue.{IsUndue}
 use Rattle.cost_laws.specs.SameWork.{SeesSameWork}
 use Rattle.cost_laws.proofs.CostLaws.{later_costs}

@@ -19,7 +19,7 @@ use Rattle.rx_causes.specs.Scenes.{IsSceneOf, version_in}
 use Rattle.rx_resources.specs.Seen.{Resources}
 use Rattle.rx_render.specs.Rendering.{Rendering}
 use Rattle.rx_render.specs.Renders.{Sees}
-use Rattle.rx_render.specs.Resources.{AsksForDeclared, resources_by}
+use Rattle.rx_kept.specs.Seeing.{AsksForDeclared, resources_by}
 
 -- an update that is done is included if it lies before the cut
 done_included : (lanes : Lanes) (cut : Cut) (u : Posted) → (stands_done u.standing ≡ true → nat_lt u.update.number cut.updates ≡ true) → stands_done u.standing ≡ true → is_included lanes cut u ≡ true

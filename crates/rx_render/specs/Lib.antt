@@ -1,7 +1,6 @@
 pub mod Mounting
 pub mod GivenContexts
 pub mod TreesCode
-pub mod Resources
 pub mod Rendering
 pub mod Costing
 pub mod Gathers

@@ -38,7 +38,7 @@ use Rattle.begin_laws.specs.Mounting.{HasInstances}
 use Rattle.rx_render.specs.Mounting.{GoesWith}
 use Rattle.rx_render.specs.GivenContexts.{CursorGiven}
 use Rattle.rx_resources.specs.Seen.{Resources}
-use Rattle.rx_render.specs.Resources.{AsksForDeclared, resources_by}
+use Rattle.rx_kept.specs.Seeing.{AsksForDeclared, resources_by}
 use Rattle.rx_render.specs.Rendering.{Rendering, IfLeft, ComesTo}
 use Rattle.rx_render.specs.Gathers.{IsGathering}
 use Rattle.rx_render.specs.Costing.{HasFlags}

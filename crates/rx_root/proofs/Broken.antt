@@ -38,7 +38,7 @@ use Rattle.rx_root.specs.Stands.{HasRoomFor, StandsBy, StandsButForRender, Stand
 use Rattle.rx_root.specs.Paying.{Pays}
 use Rattle.rx_root.specs.Turning.{GaveUp, HasBroken, HasRoomForTurns, KeepsShown, LeavesRoom, Takes}
 use Rattle.rx_root.proofs.TurnLines.{with_none, with_both}
-use Rattle.rx_root.proofs.TurnReached.{reached_passive}
+use Rattle.rx_kept.proofs.TurnReached.{reached_passive}
 use Rattle.rx_root.proofs.TurnRoom.{Grows, room_after}
 use Rattle.rx_root.proofs.TurnStands.{discarded, moved_stands}
 use Rattle.rx_root.proofs.TurnsTaken.{on_ok}

@@ -27,9 +27,9 @@ use Rattle.replay_laws.proofs.Reached.{reached_committed}
 use Rattle.run_laws.proofs.RunTrees.{renders_bounded}
 use Rattle.rx_spots.specs.Waits.{AreWithinReach}
 use Rattle.rx_root.specs.Rooted.{Rooted}
-use Rattle.rx_root.specs.Stands.{AreDeclared}
+use Rattle.rx_kept.specs.Keeping.{AreDeclared}
 use Rattle.rx_root.specs.Turning.{StandsAtEnd}
-use Rattle.rx_root.proofs.AttributesOnce.{attributes_apart}
+use Rattle.rx_kept.proofs.AttributesOnce.{attributes_apart}
 
 -- the tree of a render is related to the committed one as a commit relates them, once it has its numbers
 pub is_commit : (p : Program) → IsBounded p → IsAccepted p → (s : State) (g : Progress) (tree : Node) → IsReached p s → fresh (sight_of p s g) s.tree ≡ made tree

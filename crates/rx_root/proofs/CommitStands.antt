@@ -36,7 +36,7 @@ use Rattle.rx_root.specs.Rooted.{Rooted}
 use Rattle.rx_root.specs.Stands.{StandsBy, Stands}
 use Rattle.rx_meaning.specs.Settled.{DoneBefore, known_by}
 use Rattle.rx_resources.specs.Kept.{Kept, committed}
-use Rattle.rx_root.proofs.Resources.{commit_declared, commit_stays}
+use Rattle.rx_kept.proofs.Resources.{commit_declared, commit_stays}
 use Rattle.prune_laws.proofs.Present.{if_settled_present}
 use Rattle.rx_root.specs.Turning.{IsAtEndOf, StandsAtEnd, KnowsSince, HasNumbered, CanFollow, counts_of, passive_left}
 use Rattle.rx_root.proofs.CommitReady.{is_commit}

@@ -14,7 +14,8 @@ use Rattle.rx_root.specs.declared.errors.DispatchError.{DispatchError}
 use Rattle.rx_root.specs.declared.errors.DispatchError.TheVariants.{NoInstance, OutOfMemory}
 use Rattle.rx_root.specs.Rooted.{Rooted}
 use Rattle.rx_root.specs.Stands.{Stands}
-use Rattle.rx_root.specs.Taking.{CanTake, HasNoInstance}
+use Rattle.rx_root.specs.Taking.{HasNoInstance}
+use Rattle.rx_kept.specs.Taking.{CanTake}
 use Rattle.rx_root.proofs.Taken.{none_within}
 
 -- a refresh only fails if out of memory

@@ -19,7 +19,7 @@ use Rattle.rx_model.proofs.AskingLess.{any-turn}
 use Rattle.rx_model.proofs.NeverWaits.{app_never_waits}
 use Rattle.rx_model.proofs.Reached.{progresses}
 use Rattle.rx_root.specs.Turning.{CanFlush}
-use Rattle.rx_root.proofs.TurnReached.{same_between}
+use Rattle.rx_kept.proofs.TurnReached.{same_between}
 
 -- the state after a render does not depend on its counts
 counts_apart : (s : State) (g : Progress) (a b : Counts) (o : Outcome) → (ended_by s g a o).after ≡ (ended_by s g b o).after

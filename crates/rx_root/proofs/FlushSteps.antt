@@ -13,7 +13,7 @@ use Rattle.rx_root.specs.Rooted.{Rooted}
 use Rattle.rx_root.specs.Stands.{Stands}
 use Rattle.rx_root.specs.Paying.{Pays}
 use Rattle.rx_root.specs.Turning.{HasRoomForTurns, LeavesRoom, CanFlush, FlushesFrom, Takes}
-use Rattle.rx_root.proofs.TurnReached.{reached_passive, turn_event}
+use Rattle.rx_kept.proofs.TurnReached.{reached_passive, turn_event}
 use Rattle.rx_root.proofs.FlushEnds.{flush_over, flush_on}
 use Rattle.rx_root.proofs.TurnRoom.{turn_grows, room_after}
 use Rattle.rx_root.proofs.TurnsTaken.{flush_more}

@@ -1,15 +1,9 @@
-pub mod HookCounts
-pub mod Paths
 pub mod Standing
 pub mod Opening
 pub mod Lines
-pub mod TurnReached
 pub mod FlushEnds
-pub mod AttributesOnce
-pub mod NumbersGrow
 pub mod TurnStands
 pub mod CommitStands
-pub mod ResolvedSince
 pub mod DriveEnds
 pub mod CommitReady
 pub mod TurnLines
@@ -25,6 +19,5 @@ pub mod Live
 pub mod Findable
 pub mod Fitting
 pub mod Overdue
-pub mod Resources
 pub mod Dispatches
 pub mod NoneHidden

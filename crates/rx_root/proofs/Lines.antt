@@ -15,7 +15,7 @@ use Rattle.host_laws.specs.Commits.{IsCommit}
 use Rattle.replay_laws.specs.Committed.{IsCommitted, none_yet, one_more}
 use Rattle.replay_laws.proofs.Committing.{renders_commit}
 use Rattle.replay_laws.proofs.Reached.{reached_committed}
-use Rattle.rx_root.proofs.AttributesOnce.{attributes_apart}
+use Rattle.rx_kept.proofs.AttributesOnce.{attributes_apart}
 use Rattle.rx_lines.specs.Lines.{last_line}
 use Rattle.rx_model.specs.State.{State, end_line}
 use Rattle.rx_model.specs.Laws.{IsBounded, IsReached}

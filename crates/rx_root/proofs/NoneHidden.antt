@@ -1,13 +1,12 @@
 -- A tree without a hidden boundary hides nothing anew, so its render is committed.
-use Rattle.std.specs.Prelude.{◌≡◌, Bool, true, false, ◌||◌, List, [], ◌∷◌, Option, Some, refl, filter}
-use Rattle.std.proofs.Common.{ap}
+use Rattle.std.specs.Prelude.{◌≡◌, false, ◌||◌, List, [], ◌∷◌, Option, refl, filter}
 use Rattle.std.proofs.lemmas.Bool.{or_parts}
 use Rattle.std.proofs.lemmas.List.Elements.{filter-append}
 use Rattle.rx_lane.specs.Lanes.{Lanes}
 use Rattle.rx_elem.specs.Trees.{Node, node, Forest, none, vacant, child, children_if, fallback_if, elements_in, is_hidden}
 use Rattle.rx_elem.specs.Compare.{Above, Past, Change, no_past, change_of, compare, compare_in, above_root, above_children, above_fallback, pasts, changes, changes_in}
 use Rattle.rx_node.specs.Hides.{hides_within, hides_in}
-use Rattle.rx_meaning.specs.Outcome.{Outcome, commit, hides_shown, outcome_by, outcome}
+use Rattle.rx_meaning.specs.Outcome.{commit, hides_shown, outcome}
 use Rattle.prune_laws.proofs.Alike.{shown_by}
 
 mutual

@@ -22,8 +22,9 @@ use Rattle.rx_hook_store.specs.Commits.{LinksBelow}
 use Rattle.rx_commit.specs.Shown.{Shown, Shows}
 use Rattle.rx_render.specs.Rendering.{HasNoRender, Rendering}
 use Rattle.rx_root.specs.Rooted.{Rooted}
-use Rattle.rx_root.specs.Stands.{KeepsResources, Stands}
-use Rattle.rx_root.proofs.Resources.{opening_declared, opening_kept}
+use Rattle.rx_root.specs.Stands.{Stands}
+use Rattle.rx_kept.specs.Keeping.{KeepsResources}
+use Rattle.rx_kept.proofs.Resources.{opening_declared, opening_kept}
 
 -- no list stands for no tree
 no_tree : (current : Shape Fiber) → current ≡ none → IsTreeOf None current

@@ -46,10 +46,12 @@ use Rattle.rx_render.proofs.Sending.{dispatch_later}
 use Rattle.rx_root.specs.declared.events.Sent.{Sent}
 use Rattle.rx_root.specs.Rooted.{Rooted}
 use Rattle.rx_resources.specs.Kept.{Kept}
-use Rattle.rx_root.specs.Stands.{AreDeclared, HasProgress, KeepsResources, Stands}
-use Rattle.rx_root.specs.Taking.{CanTake, IsFor, claimed_by, root_accepted}
-use Rattle.rx_root.proofs.HookCounts.{mounted_hooks}
-use Rattle.rx_root.proofs.Paths.{dispatch_hook, found_hook, found_there}
+use Rattle.rx_root.specs.Stands.{HasProgress, Stands}
+use Rattle.rx_kept.specs.Keeping.{AreDeclared, KeepsResources}
+use Rattle.rx_root.specs.Taking.{IsFor, root_accepted}
+use Rattle.rx_kept.specs.Taking.{CanTake, claimed_by}
+use Rattle.rx_kept.proofs.HookCounts.{mounted_hooks}
+use Rattle.rx_kept.proofs.Paths.{dispatch_hook, found_hook, found_there}
 use Rattle.rx_root.proofs.Standing.{stands_after}
 
 -- ---- where a dispatch goes

@@ -30,8 +30,9 @@ use Rattle.rx_render.proofs.Later.{renders_resolved, renders_same}
 use Rattle.rx_root.specs.Rooted.{Rooted}
 use Rattle.rx_resources.specs.Kept.{Kept}
 use Rattle.rx_resources.specs.Store.{resolved_at}
-use Rattle.rx_root.specs.Stands.{AreDeclared, HasProgress, KeepsResources, Stands}
-use Rattle.rx_root.proofs.Resources.{resolution_declared, resolution_stays}
+use Rattle.rx_root.specs.Stands.{HasProgress, Stands}
+use Rattle.rx_kept.specs.Keeping.{AreDeclared, KeepsResources}
+use Rattle.rx_kept.proofs.Resources.{resolution_declared, resolution_stays}
 
 -- ---- the clock, the event and the passive effects
 

@@ -42,7 +42,7 @@ use Rattle.rx_root.specs.Paying.{Pays}
 use Rattle.rx_root.specs.Turning.{HasDone, Takes}
 use Rattle.rx_model.proofs.Reached.{begins-reach, sends-reach, step-reached}
 use Rattle.rx_root.proofs.Broken.{nothing_taken}
-use Rattle.rx_root.proofs.Resources.{last_is}
+use Rattle.rx_kept.proofs.Resources.{last_is}
 use Rattle.rx_hook_store.proofs.Dispatching.{tree_dispatched}
 use Rattle.rx_root.proofs.Standing.{at_time, stands_at, stands_resolved}
 use Rattle.rx_root.proofs.TurnLines.{with_none, with_one}

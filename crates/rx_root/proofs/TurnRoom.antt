@@ -22,7 +22,7 @@ use Rattle.run_laws.proofs.AlongRuns.{commit_is}
 use Rattle.rx_root.specs.Rooted.{Rooted}
 use Rattle.rx_root.specs.Stands.{StandsBy}
 use Rattle.rx_root.specs.Turning.{HasRoomForTurns}
-use Rattle.rx_root.proofs.NumbersGrow.{instances_grow, hosts_grow}
+use Rattle.rx_kept.proofs.NumbersGrow.{instances_grow, hosts_grow}
 use Rattle.rx_root.proofs.CommitReady.{few_nodes}
 
 -- one commit was made at most, of a tree with few nodes, and nothing was accepted

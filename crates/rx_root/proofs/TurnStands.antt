@@ -44,7 +44,7 @@ use Rattle.rx_resources.specs.Seen.{seen_of}
 use Rattle.rx_root.specs.Rooted.{Rooted}
 use Rattle.rx_root.specs.Stands.{HasProgress, StandsBy, StandsWith, Stands}
 use Rattle.rx_root.specs.Turning.{IsAtEndOf, StandsAtEnd, KnowsSince}
-use Rattle.rx_root.proofs.Resources.{asks_for_declared, seen_is}
+use Rattle.rx_kept.proofs.Resources.{asks_for_declared, seen_is}
 use Rattle.rx_root.proofs.TurnLines.{with_one}
 
 -- if the schedule and the rendering change, and another render is in progress, or none

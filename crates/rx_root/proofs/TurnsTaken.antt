@@ -1,16 +1,13 @@
 -- The turns that a root takes are turns of the machine.
 use Rattle.rx_sched.specs.Events.{no_event}
-use Rattle.std.proofs.Common.{◌≡◌, ◌≢◌, inl, inr, ℕ, zero, suc, ◌+◌, Bool, true, false, cond, List, [], ◌∷◌, refl, sym, ap, ◌∙◌, subst, arith, add-zero, add_assoc, Option, Some, None}
-use Rattle.std.specs.Prelude.{OnOk, Result, Ok, Err, option_map}
+use Rattle.std.proofs.Common.{◌≡◌, ◌≢◌, inl, inr, ℕ, suc, ◌+◌, Bool, true, false, cond, List, [], refl, sym, ap, ◌∙◌, subst, arith, add-zero, add_assoc, Option, Some, None}
+use Rattle.std.specs.Prelude.{OnOk, Result, Ok, Err}
 use Rattle.rx_lane.specs.declared.lane.Lane.TheVariants as lane
 use Rattle.rx_lane.specs.Lanes.{Lanes, has}
 use Rattle.rx_ast.specs.Syntax.{Program}
 use Rattle.rx_elem.specs.Trees.{Node}
 use Rattle.rx_sched.specs.declared.choice.Choice.{Choice}
 use Rattle.rx_sched.specs.declared.choice.Choice.TheVariants as choice
-use Rattle.rx_sched.specs.Links.{Links, one_link_on, links_on}
-use Rattle.rx_sched.specs.Schedule.{Schedule, choose, first_lanes, with_default, lanes_to_start}
-use Rattle.run_laws.proofs.DueLanes.{set_of}
 use Rattle.rx_elem.specs.Numbers.{numbered}
 use Rattle.rx_meaning.specs.Outcome.{Outcome, commit, defer, outcome}
 use Rattle.rx_lines.specs.Lines.{Line, Counts, Written}
@@ -19,57 +16,14 @@ use Rattle.rx_model.specs.Stretch.{Stretch, silent, followed_by}
 use Rattle.rx_model.specs.Committing.{passive_run, starting, committed_state, bodies_since, ended, ended_by}
 use Rattle.rx_model.specs.Turns.{AnyRender, OfRender, slice_of, gone_on, GoesOn, Continues, TurnBy, Turn, choice_of}
 use Rattle.rx_model.specs.Machine.{FlushSync, FlushWithin}
-use Rattle.rx_model.specs.Kept.{IsSet}
 use Rattle.rx_model.specs.Laws.{IsReached}
 use Rattle.rx_commit.specs.Written.{passive_lines, with_lines}
 use Rattle.rx_root.specs.Rooted.{Rooted}
 use Rattle.rx_root.specs.Stands.{StandsWith, Stands}
 use Rattle.rx_root.specs.Paying.{Pays}
 use Rattle.rx_root.specs.Turning.{counts_of, HasDone, Takes, LeadsOn, HasFinished, HasYielded}
-use Rattle.rx_root.proofs.TurnReached.{reached_turn}
+use Rattle.rx_kept.proofs.TurnReached.{reached_turn}
 use Rattle.rx_root.proofs.TurnLines.{with_none, with_both}
-
--- What a turn does
-
--- if the choice is to keep, a render is in progress
-never_keeps : (sch : Schedule) (first : Lanes) → choose sch first None ≡ choice.Keep → ⊥
-never_keeps sch [] e = absurd (cc)
-never_keeps sch (m ∷ ms) e = absurd (cc)
-
-pub keeps_some : (s : State) → choice_of s ≡ choice.Keep → (g : Progress) × (s.progress ≡ Some g)
-keeps_some s e = go s.progress refl
-  where
-    go : (x : Option Progress) → s.progress ≡ x → (g : Progress) × (s.progress ≡ Some g)
-    go None f =
-        absurd (never_keeps s.schedule (first_lanes s.schedule) (subst (λ (x : Option Progress). choose s.schedule (first_lanes s.schedule) (option_map (λ g. g.lanes) x) ≡ choice.Keep) f e))
-    go (Some g) f = (g, f)
-
--- the lanes of a render that starts are a set
-links_set : (n : ℕ) (links : Links) (pending lanes : Lanes) → IsSet lanes → IsSet (links_on n links pending lanes)
-unfolding links_on one_link_on
-links_set zero links pending lanes h = h
-links_set (suc n) links pending lanes h = links_set n links pending (one_link_on links pending lanes) (set_of _)
-
-twenty_set : (links : Links) (pending lanes : Lanes) → IsSet (links_on 20 links pending lanes)
-unfolding links_on one_link_on
-twenty_set links pending lanes = links_set 19 links pending (one_link_on links pending lanes) (set_of _)
-
-lanes_in : Choice → Lanes
-lanes_in choice.None = []
-lanes_in choice.Keep = []
-lanes_in (choice.Start lanes) = lanes
-
-starts_set : (sch : Schedule) (first : Lanes) (on : Option Lanes) (lanes : Lanes) → choose sch first on ≡ choice.Start lanes → IsSet lanes
-unfolding lanes_in
-starts_set sch [] on lanes e = absurd (cc)
-starts_set sch (m ∷ ms) on lanes e = go _ e
-  where
-    go : (b : Bool) → cond b choice.Keep (choice.Start (lanes_to_start sch (m ∷ ms))) ≡ choice.Start lanes → IsSet lanes
-    go true f = absurd (cc)
-    go false f = subst IsSet (ap lanes_in f) (twenty_set sch.links sch.pending (with_default sch (m ∷ ms)))
-
-pub start_is_set : (s : State) (lanes : Lanes) → choice_of s ≡ choice.Start lanes → IsSet lanes
-start_is_set s lanes e = starts_set s.schedule (first_lanes s.schedule) (option_map (λ g. g.lanes) s.progress) lanes e
 
 -- What goes on
 

@@ -1,12 +1,11 @@
 -- Which state of the machine a root stands for.
-use Rattle.std.specs.Prelude.{◌≡◌, ℕ, ◌+◌, ◌*◌, ◌<◌, ◌≤◌, ◌^◌, List, Option, Some, None, length}
+use Rattle.std.specs.Prelude.{◌≡◌, ℕ, ◌+◌, ◌*◌, ◌<◌, ◌^◌, Option, Some, None, length}
 use Rattle.rx_lane.specs.declared.lane.Lane.{Lane}
 use Rattle.rx_lane.specs.Lanes.{has}
 use Rattle.rx_ast.specs.Syntax.{Program}
 use Rattle.rx_rules.specs.Versions.{greatest_node_limit}
-use Rattle.rx_rules.specs.Names.{resources}
-use Rattle.rx_queue.specs.Journal.{Journal, has_later, last_version, resolved_now, resource}
-use Rattle.rx_model.specs.State.{Linked, State, Progress, linked_lanes}
+use Rattle.rx_queue.specs.Journal.{has_later}
+use Rattle.rx_model.specs.State.{State, Progress}
 use Rattle.rx_model.specs.HooksOf.{KeepsAllHooks}
 use Rattle.rx_model.specs.Kept.{IsSet}
 use Rattle.rx_model.specs.Laws.{IsReached}
@@ -16,9 +15,7 @@ use Rattle.rx_read.specs.Numbering.{IsAllNumbered}
 use Rattle.rx_hook_store.specs.Store.{kept_hooks}
 use Rattle.rx_hook_store.specs.Commits.{LinksBelow}
 use Rattle.rx_commit.specs.Shown.{Shows}
-use Rattle.rx_resources.specs.Kept.{Kept}
-use Rattle.rx_resources.specs.Store.{kept_at}
-use Rattle.rx_resources.specs.Stands.{IsKeptOf, NoneOwed}
+use Rattle.rx_kept.specs.Keeping.{AreDeclared, KeepsResources}
 use Rattle.rx_render.specs.Rendering.{HasNoRender, IfLeft}
 use Rattle.rx_render.specs.Renders.{Renders}
 use Rattle.rx_root.specs.Rooted.{Rooted}
@@ -37,18 +34,6 @@ pub record GoesOnWith (p : Program) (s : State) (g : Progress) (v : Rooted) : Ty
 abbrev pub HasProgress : Program → State → Option Progress → Rooted → Type 0
 HasProgress p s None v = HasNoRender v.rendering
 HasProgress p s (Some g) v = GoesOnWith p s g v
-
--- only resources of the program have values, and are asked for
-pub record AreDeclared (p : Program) (j : Journal) : Type 0 where
-  pub values : (r v : ℕ) → length (resources p) ≤ r → resolved_now j r v ≡ None
-  pub asked : (r : ℕ) → length (resources p) ≤ r → last_version j r ≡ 0
-
--- what is kept of each resource of the program is what the journal has of it, with the lanes that it links, and no refresh is owed
-pub record KeepsResources (p : Program) (j : Journal) (links : List Linked) (kept : List Kept) : Type 0 where
-  pub all : length kept ≡ length (resources p)
-  pub each : (r : ℕ) → r < length kept → IsKeptOf j r (kept_at kept r)
-  pub linked : (r : ℕ) → r < length kept → (kept_at kept r).linked ≡ linked_lanes links (resource r)
-  pub none_owed : (r : ℕ) → NoneOwed j r
 
 -- A root stands for a state of the machine that a run comes to; this is asked of its render.
 pub record StandsBy (p : Program) (s : State) (asks : Rooted → Type 0) (v : Rooted) : Type 0 where

@@ -32,10 +32,11 @@ use Rattle.rx_commit.specs.Shown.{CanCommit, Prepared, Prepares, Shown, Shows}
 use Rattle.rx_commit.specs.Written.{with_lines}
 use Rattle.rx_render.specs.declared.at.At.TheVariants.{Over}
 use Rattle.rx_render.specs.Renders.{Renders}
-use Rattle.rx_render.specs.Resources.{resources_by}
+use Rattle.rx_kept.specs.Seeing.{resources_by}
 use Rattle.rx_render.specs.Turning.{KeepsHooks}
 use Rattle.rx_root.specs.Rooted.{Rooted}
-use Rattle.rx_root.specs.Stands.{AreDeclared, KeepsResources, StandsBy, StandsButForRender, StandsWith, Stands}
+use Rattle.rx_root.specs.Stands.{StandsBy, StandsButForRender, StandsWith, Stands}
+use Rattle.rx_kept.specs.Keeping.{AreDeclared, KeepsResources}
 
 -- the numbers of a root leave room for so many turns more, each with one commit at most
 pub record HasRoomForTurns (turns : ℕ) (v : Rooted) : Type 0 where

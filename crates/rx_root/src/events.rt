@@ -25,7 +25,8 @@ ghost use Rattle.rx_step.specs.Steps.{path_of};
 ghost use Rattle.rx_step.specs.declared.step.Step.TheVariants as step;
 ghost use Rattle.rx_root.specs.Stands.{HasRoomFor, Stands, StandsForSome};
 ghost use Rattle.rx_root.specs.Turning.{HasDone};
-ghost use Rattle.rx_root.specs.Taking.{CanTake, HasNoInstance, IsFor, IsTargetOf, asked_for, claimed_by, root_accepted, state_after};
+ghost use Rattle.rx_root.specs.Taking.{HasNoInstance, IsFor, IsTargetOf, root_accepted, state_after};
+ghost use Rattle.rx_kept.specs.Taking.{CanTake, asked_for, claimed_by};
 
 use crate::errors::{DispatchError, ResolveError};
 use crate::root::Root;

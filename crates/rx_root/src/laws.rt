@@ -3,7 +3,7 @@ ghost use Rattle.std.specs.Prelude.{◌≡◌, ℕ, List, Some, Ok, slice_get};
 ghost use Rattle.rx_ast.specs.Syntax.{Program};
 ghost use Rattle.rx_script.specs.Lines.{steps_of};
 ghost use Rattle.rx_step.specs.declared.step.Step.{Step};
-ghost use Rattle.rx_root.specs.Taking.{AllCanTake, CanTake};
+ghost use Rattle.rx_kept.specs.Taking.{AllCanTake, CanTake};
 
 /// A root can take each step of a script: all that it names is there, and its numbers are in their bounds.
 pub fn steps_can_be_taken()

@@ -14,7 +14,7 @@ ghost use Rattle.rx_render.specs.Renders.{HasCome};
 ghost use Rattle.rx_commit.specs.Written.{with_lines};
 ghost use Rattle.rx_step.specs.declared.step.Step.TheVariants as steps;
 ghost use Rattle.rx_root.specs.Stands.{HasRoomFor, Stands, StandsForSome};
-ghost use Rattle.rx_root.specs.Taking.{CanTake};
+ghost use Rattle.rx_kept.specs.Taking.{CanTake};
 
 use crate::turns::FLUSH_LIMIT;
 use room_laws::fibers_have_room;

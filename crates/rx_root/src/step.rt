@@ -9,7 +9,7 @@ ghost use Rattle.rx_step.specs.Steps.{path_of};
 ghost use Rattle.rx_step.specs.declared.step.Step.TheVariants as step;
 ghost use Rattle.rx_root.specs.Paying.{Pays};
 ghost use Rattle.rx_root.specs.Stands.{HasRoomFor, Stands, StandsForSome};
-ghost use Rattle.rx_root.specs.Taking.{CanTake};
+ghost use Rattle.rx_kept.specs.Taking.{CanTake};
 ghost use Rattle.rx_root.specs.Turning.{Takes};
 
 use crate::errors::DispatchError;

@@ -8,7 +8,7 @@ ghost use Rattle.rx_model.specs.State.{opening};
 ghost use Rattle.rx_model.specs.Laws.{IsBounded};
 ghost use Rattle.rx_root.specs.Paying.{Pays};
 ghost use Rattle.rx_root.specs.Stands.{Stands};
-ghost use Rattle.rx_root.specs.Taking.{AllCanTake};
+ghost use Rattle.rx_kept.specs.Taking.{AllCanTake};
 ghost use Rattle.rx_top.specs.declared.status.Status.{Status};
 ghost use Rattle.rx_top.specs.Outcome.{accepted_line as accepted_line_of, is_cut_short, parts_of, report_in, verdict_line, verdict_status, Gives, IsJudgedFor, IsStatusOf, IsWorkStatus, Tells, TellsFaults, TellsPart, Writes, OrNothing, IsWork, IsOutput, IsLostWork, IsLostOutput, IsShortWork, IsShortOutput};
 ghost use Rattle.rx_verify.specs.declared.verdict.Verdict.{Verdict as verdict};

@@ -4,7 +4,7 @@ ghost use Rattle.rx_io.specs.Causes.{Rose};
 ghost use Rattle.rx_model.specs.State.{State};
 ghost use Rattle.rx_root.specs.Paying.{Pays};
 ghost use Rattle.rx_root.specs.Stands.{Stands, StandsForSome, HasRoomFor};
-ghost use Rattle.rx_root.specs.Taking.{AllCanTake};
+ghost use Rattle.rx_kept.specs.Taking.{AllCanTake};
 ghost use Rattle.rx_top.specs.Outcome.{Writes};
 ghost use Rattle.rx_top.specs.Reports.{StepLosesLines, StepBreaksOff};
 ghost use Rattle.rx_top.specs.Running.{WritesRun};

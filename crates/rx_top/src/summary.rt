@@ -3,7 +3,7 @@ ghost use Rattle.std.specs.Prelude.{◌≡◌, ◌≢◌, ◌≤◌, ◌+◌, �
 ghost use Rattle.rx_model.specs.State.{State, opening};
 ghost use Rattle.rx_root.specs.Paying.{Pays};
 ghost use Rattle.rx_root.specs.Stands.{Stands, StandsForSome, HasRoomFor};
-ghost use Rattle.rx_root.specs.Taking.{AllCanTake};
+ghost use Rattle.rx_kept.specs.Taking.{AllCanTake};
 ghost use Rattle.rx_words.specs.Words.{most_rounds};
 ghost use Rattle.rx_top.specs.declared.status.Status.{Status};
 ghost use Rattle.rx_gen.specs.Meant.{generated_input};

@@ -32,7 +32,8 @@ use Rattle.rx_verify.specs.Knowing.{Laws}
 use Rattle.rx_verify.specs.Turning.{CanFollow, FollowsBetween, FollowsRender, Judges, LeadsOn, StandsBetween, StandsInTurn}
 use Rattle.rx_verify.proofs.Following.{bytes-none}
 use Rattle.rx_verify.proofs.Passing.{Differs, Passes, log-bytes, place-if}
-use Rattle.rx_verify.proofs.Reaching.{end_reached, ended_event, keep_leads, keeps_some, kept, kept-is, start_is_set, start_leads, started, started-is}
+use Rattle.rx_kept.proofs.Choosing.{keeps_some, start_is_set}
+use Rattle.rx_verify.proofs.Reaching.{end_reached, ended_event, keep_leads, kept, kept-is, start_leads, started, started-is}
 use Rattle.rx_verify.proofs.Telling.{InTurn, among-itself, end-differs, end-follows, may-yield, must-end, run-leads, start-differs}
 
 -- the render of a machine that stands for a state with one

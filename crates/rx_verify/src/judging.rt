@@ -1,6 +1,6 @@
 // Whether a report is that of a run.
 ghost use Rattle.std.specs.Prelude.{◌≡◌, ◌<◌, ◌^◌, List, IfOk, length};
-ghost use Rattle.rx_plain.specs.Taking.{AllCanTake};
+ghost use Rattle.rx_kept.specs.Taking.{AllCanTake};
 ghost use Rattle.rx_step.specs.declared.step.Step.{Step};
 ghost use Rattle.rx_verify.specs.Following.{IsPlace, over};
 ghost use Rattle.rx_verify.specs.Turning.{Follows};

@@ -4,7 +4,7 @@ ghost use Rattle.rx_step.specs.declared.step.Step.{Step};
 ghost use Rattle.rx_model.specs.State.{State};
 ghost use Rattle.rx_plain.specs.Doing.{HasDone};
 ghost use Rattle.rx_plain.specs.Stands.{HasRoomFor, StandsFor, StandsForSome};
-ghost use Rattle.rx_plain.specs.Taking.{CanTake};
+ghost use Rattle.rx_kept.specs.Taking.{CanTake};
 ghost use Rattle.rx_verify.specs.Following.{IsPlace, Left, all_of, takes};
 ghost use Rattle.rx_verify.specs.Steps.{IsSilent, step_as};
 ghost use Rattle.rx_verify.specs.Turning.{Follows, Judges};

@@ -4,7 +4,7 @@ use Rattle.rx_ast.specs.Syntax.{Program}
 use Rattle.rx_step.specs.declared.step.Step.{Step}
 use Rattle.rx_lines.specs.Lines.{Options}
 use Rattle.rx_root.specs.Stands.{Stands, HasRoomFor}
-use Rattle.rx_root.specs.Taking.{AllCanTake}
+use Rattle.rx_kept.specs.Taking.{AllCanTake}
 use Rattle.run_page.specs.Views.{shown}
 use Rattle.fiber_view.specs.Taken.{TakesAndShows}
 use Rattle.fiber_view.proofs.Shown.{SoFar, room-fewer, so_far-starts, so_far-next, so_far-ends}

@@ -1,7 +1,7 @@
 use Rattle.std.proofs.Common.{◌≡◌, ◌+◌, ℕ, List, drop, length}
 use Rattle.rx_model.specs.State.{State}
 use Rattle.rx_root.specs.Stands.{Stands, StandsForSome, HasRoomFor}
-use Rattle.rx_root.specs.Taking.{AllCanTake}
+use Rattle.rx_kept.specs.Taking.{AllCanTake}
 use Rattle.run_page.specs.Views.{View}
 use Rattle.run_page.specs.Books.{AreTold}
 use Rattle.fiber_view.proofs.Shown.{SoFar}

@@ -1,4 +1,4 @@
-use Rattle.rx_root.proofs.Paths.{each_can, steps_can}
+use Rattle.rx_kept.proofs.Paths.{each_can, steps_can}
 use Rattle.rx_root.proofs.laws.steps_can_be_taken.Goals as goal
 
 pub returns-clause-script : goal.returns-clause-script

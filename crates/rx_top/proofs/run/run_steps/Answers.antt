@@ -5,7 +5,7 @@ use Rattle.rx_lines.specs.Lines.{Written}
 use Rattle.rx_model.specs.Breaking.{BreaksOff}
 use Rattle.rx_root.specs.Paying.{Pays}
 use Rattle.rx_root.specs.Stands.{Stands, HasRoomFor}
-use Rattle.rx_root.specs.Taking.{AllCanTake}
+use Rattle.rx_kept.specs.Taking.{AllCanTake}
 use Rattle.rx_top.proofs.Stretches.{SoFar, stepped, room-fewer, so_far-starts, so_far-next, so_far-lost, so_far-short, so_far-ends}
 use Rattle.rx_top.proofs.run.run_steps.Goals as goal
 

@@ -1,7 +1,7 @@
 use Rattle.std.proofs.Common.{◌≡◌, ◌+◌, ℕ, drop, length}
 use Rattle.rx_model.specs.State.{State}
 use Rattle.rx_root.specs.Stands.{Stands, StandsForSome, HasRoomFor}
-use Rattle.rx_root.specs.Taking.{AllCanTake}
+use Rattle.rx_kept.specs.Taking.{AllCanTake}
 use Rattle.rx_top.proofs.Stretches.{SoFar}
 use Rattle.rx_top.proofs.run.run_steps.Given as goal
 

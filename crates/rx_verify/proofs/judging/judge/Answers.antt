@@ -4,7 +4,7 @@ use Rattle.std.proofs.lemmas.List.{drop_more, drop_all}
 use Rattle.rx_step.specs.declared.step.Step.{Step}
 use Rattle.rx_model.specs.State.{opening}
 use Rattle.rx_plain.specs.Stands.{HasRoomFor}
-use Rattle.rx_plain.specs.Taking.{AllCanTake}
+use Rattle.rx_kept.specs.Taking.{AllCanTake}
 use Rattle.rx_verify.specs.Following.{all_of}
 use Rattle.rx_verify.specs.Turning.{Follows}
 use Rattle.rx_verify.proofs.Rooms.{fewer_steps, start_room}

@@ -1,6 +1,6 @@
 use Rattle.std.proofs.Common.{drop, length}
 use Rattle.rx_plain.specs.Stands.{HasRoomFor, StandsForSome}
-use Rattle.rx_plain.specs.Taking.{AllCanTake}
+use Rattle.rx_kept.specs.Taking.{AllCanTake}
 use Rattle.rx_verify.specs.Following.{IsPlace, all_of}
 use Rattle.rx_verify.specs.Turning.{Follows}
 use Rattle.rx_verify.proofs.judging.judge.Given as goal

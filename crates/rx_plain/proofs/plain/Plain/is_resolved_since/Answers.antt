@@ -3,8 +3,9 @@ use Rattle.std.specs.Prelude.{List}
 use Rattle.rx_model.specs.Committing.{sight_of}
 use Rattle.rx_resources.specs.Kept.{Kept}
 use Rattle.rx_plain.specs.Plained.{Going, Plained}
-use Rattle.rx_plain.specs.Stands.{AreSeen, KeepsResources}
-use Rattle.rx_plain.proofs.ResolvedSince.{as_many_values, as_many_versions, few_kept, news_is}
+use Rattle.rx_kept.specs.Keeping.{KeepsResources}
+use Rattle.rx_kept.specs.Seeing.{AreSeen}
+use Rattle.rx_kept.proofs.ResolvedSince.{as_many_values, as_many_versions, few_kept, news_is}
 use Rattle.rx_plain.proofs.plain.Plain.is_resolved_since.Goals as goal
 
 pub is_new-requires-clause-few : goal.is_new-requires-clause-few

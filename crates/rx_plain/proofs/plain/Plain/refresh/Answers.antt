@@ -12,9 +12,10 @@ use Rattle.rx_hook_store.proofs.Numbered.{links_refreshed}
 use Rattle.rx_resources.specs.Kept.{Kept}
 use Rattle.rx_resources.specs.Store.{kept_at}
 use Rattle.rx_plain.specs.Plained.{Plained}
-use Rattle.rx_plain.specs.Stands.{KeepsResources}
-use Rattle.rx_plain.specs.Taking.{accepted_by, asked_for}
-use Rattle.rx_plain.proofs.Resources.{refresh_declared, refresh_stays}
+use Rattle.rx_kept.specs.Keeping.{KeepsResources}
+use Rattle.rx_plain.specs.Taking.{accepted_by}
+use Rattle.rx_kept.specs.Taking.{asked_for}
+use Rattle.rx_kept.proofs.Resources.{refresh_declared, refresh_stays}
 use Rattle.rx_plain.proofs.Sending.{accepted_rest, sent_stands}
 use Rattle.rx_plain.proofs.plain.Plain.refresh.Goals as goal
 

@@ -8,7 +8,7 @@ use Rattle.rx_model.specs.Stretch.{Stretch}
 use Rattle.rx_model.proofs.Reached.{refreshes-reach}
 use Rattle.rx_plain.specs.Plained.{Plained}
 use Rattle.rx_plain.specs.Stands.{StandsFor}
-use Rattle.rx_plain.proofs.Resources.{asked_below}
+use Rattle.rx_kept.proofs.Resources.{asked_below}
 use Rattle.rx_plain.proofs.Sending.{refresh_fits, refresh_step, room_left}
 use Rattle.rx_plain.proofs.plain.Plain.refresh_for.Goals as goal
 

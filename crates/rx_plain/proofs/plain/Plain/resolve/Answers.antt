@@ -9,7 +9,7 @@ use Rattle.rx_resources.specs.Kept as kept_of
 use Rattle.rx_resources.specs.Store.{kept_at, resolved_at}
 use Rattle.rx_resources.proofs.Counting.{next_agrees}
 use Rattle.rx_plain.specs.Plained.{Plained}
-use Rattle.rx_plain.proofs.Resources.{next_asked}
+use Rattle.rx_kept.proofs.Resources.{next_asked}
 use Rattle.rx_plain.proofs.Taken.{already_done, resolved_done, resolved_room, room_kept, value_kept}
 use Rattle.rx_plain.proofs.plain.Plain.resolve.Goals as goal
 

@@ -12,7 +12,7 @@ use Rattle.rx_hook_store.specs.Changing.{lanes_linked}
 use Rattle.rx_hook_store.specs.Rendered.{KeepsInstance}
 use Rattle.rx_plain.specs.Plained.{Plained}
 use Rattle.rx_plain.specs.Taking.{accepted_by}
-use Rattle.rx_plain.proofs.Resources.{sent_declared, sent_kept}
+use Rattle.rx_kept.proofs.Resources.{sent_declared, sent_kept}
 use Rattle.rx_plain.proofs.Sending.{accepted_rest, number_below, sent_stands}
 use Rattle.rx_plain.proofs.plain.Plain.send.Goals as goal
 

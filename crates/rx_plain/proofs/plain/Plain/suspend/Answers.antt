@@ -5,7 +5,7 @@ use Rattle.rx_sched.specs.Schedule.{Schedule, after_deferral}
 use Rattle.rx_model.specs.Committing.{schedule_deferred}
 use Rattle.rx_plain.specs.declared.plain.Going.TheInside.{Inside}
 use Rattle.rx_plain.specs.Plained.{Going, Plained}
-use Rattle.rx_plain.proofs.ResolvedSince.{not_suspended, suspended, waits_seen}
+use Rattle.rx_kept.proofs.ResolvedSince.{not_suspended, suspended, waits_seen}
 use Rattle.rx_plain.proofs.plain.Plain.suspend.Goals as goal
 
 pub returns-then-is_resolved_since-clause-deferred : goal.returns-then-is_resolved_since-clause-deferred

@@ -3,7 +3,7 @@ use Rattle.rx_sched.specs.declared.choice.Choice.TheVariants as choice
 use Rattle.rx_model.specs.Turns.{choice_of}
 use Rattle.rx_root.specs.Paying.{Pays}
 use Rattle.rx_root.proofs.Broken.{any_err, flush_breaks, flush_breaks_later, on_err}
-use Rattle.rx_root.proofs.TurnReached.{turn_event}
+use Rattle.rx_kept.proofs.TurnReached.{turn_event}
 use Rattle.rx_root.proofs.TurnsTaken.{on_ok, flush_none}
 use Rattle.rx_root.proofs.FlushSteps.{some_render, flushes_on, flush_takes, one_room, room_left, leaves_more, same_leaves}
 use Rattle.rx_root.proofs.root.Root.+finish_renders.Goals as goal

@@ -4,7 +4,7 @@ use Rattle.rx_ast.specs.Syntax.{Program}
 use Rattle.rx_script.specs.Lines.{has_targets, in_bounds}
 use Rattle.rx_step.specs.declared.step.Step.TheVariants as step
 use Rattle.rx_root.specs.Rooted.{Rooted}
-use Rattle.rx_root.specs.Taking.{CanTake}
+use Rattle.rx_kept.specs.Taking.{CanTake}
 use Rattle.rx_root.proofs.Fitting.{both_true}
 use Rattle.rx_root.proofs.root.Root.can_dispatch.Goals as goal
 

@@ -6,7 +6,7 @@ use Rattle.rx_model.specs.State.{State}
 use Rattle.rx_model.specs.Accepting.{dispatched, enqueued, within}
 use Rattle.rx_root.specs.Rooted.{Rooted}
 use Rattle.rx_root.specs.Stands.{Stands}
-use Rattle.rx_root.specs.Taking.{CanTake}
+use Rattle.rx_kept.specs.Taking.{CanTake}
 use Rattle.rx_root.proofs.Broken.{for_some, room_same}
 use Rattle.rx_root.proofs.Dispatches.{none_before}
 use Rattle.rx_root.proofs.Taken.{without_stands}

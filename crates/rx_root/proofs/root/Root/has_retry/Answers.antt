@@ -3,7 +3,7 @@ use Rattle.rx_check.specs.Accepted.{IsAccepted}
 use Rattle.rx_meaning.specs.Outcome.{visible_awaits}
 use Rattle.rx_queue.specs.Journal.{version_of}
 use Rattle.rx_root.proofs.CommitReady.{within_reach}
-use Rattle.rx_root.proofs.ResolvedSince.{none_of_all}
+use Rattle.rx_kept.proofs.ResolvedSince.{none_of_all}
 use Rattle.rx_root.proofs.root.Root.has_retry.Goals as goal
 
 pub returns : goal.returns

@@ -13,9 +13,11 @@ use Rattle.rx_hook_store.proofs.Numbered.{links_refreshed}
 use Rattle.rx_resources.specs.Kept.{Kept}
 use Rattle.rx_resources.specs.Store.{kept_at}
 use Rattle.rx_root.specs.Rooted.{Rooted}
-use Rattle.rx_root.specs.Stands.{KeepsResources, Stands}
-use Rattle.rx_root.specs.Taking.{asked_for, claimed_by, root_accepted}
-use Rattle.rx_root.proofs.Resources.{refresh_declared, refresh_stays}
+use Rattle.rx_root.specs.Stands.{Stands}
+use Rattle.rx_kept.specs.Keeping.{KeepsResources}
+use Rattle.rx_root.specs.Taking.{root_accepted}
+use Rattle.rx_kept.specs.Taking.{asked_for, claimed_by}
+use Rattle.rx_kept.proofs.Resources.{refresh_declared, refresh_stays}
 use Rattle.rx_root.proofs.Sending.{refresh_goes, sent_stands}
 use Rattle.rx_root.proofs.root.Root.refresh.Goals as goal
 

@@ -6,7 +6,7 @@ use Rattle.rx_step.specs.Steps.{hook_name}
 use Rattle.rx_root.specs.Rooted.{Rooted}
 use Rattle.rx_root.proofs.Broken.{any_err}
 use Rattle.rx_root.proofs.Dispatches.{refresh_fits}
-use Rattle.rx_root.proofs.Resources.{asked_below}
+use Rattle.rx_kept.proofs.Resources.{asked_below}
 use Rattle.rx_root.proofs.Taken.{refresh_stands}
 use Rattle.rx_model.proofs.Reached.{refreshes-reach}
 use Rattle.rx_root.proofs.root.Root.refresh_for.Goals as goal

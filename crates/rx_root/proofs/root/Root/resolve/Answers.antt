@@ -9,7 +9,7 @@ use Rattle.rx_resources.specs.Store.{kept_at, resolved_at}
 use Rattle.rx_resources.proofs.Counting.{next_agrees}
 use Rattle.rx_root.specs.Rooted.{Rooted}
 use Rattle.rx_root.proofs.Broken.{for_some}
-use Rattle.rx_root.proofs.Resources.{next_asked}
+use Rattle.rx_kept.proofs.Resources.{next_asked}
 use Rattle.rx_root.proofs.Taken.{already_stands, resolved_stands, value_kept}
 use Rattle.rx_root.proofs.root.Root.resolve.Goals as goal
 

@@ -14,8 +14,9 @@ use Rattle.rx_hook_store.specs.Rendered.{KeepsInstance}
 use Rattle.rx_render.specs.Rendering.{Rendering}
 use Rattle.rx_render.specs.Renders.{Renders, with_hooks}
 use Rattle.rx_root.specs.Rooted.{Rooted}
-use Rattle.rx_root.specs.Taking.{claimed_by, root_accepted}
-use Rattle.rx_root.proofs.Resources.{sent_declared, sent_kept}
+use Rattle.rx_root.specs.Taking.{root_accepted}
+use Rattle.rx_kept.specs.Taking.{claimed_by}
+use Rattle.rx_kept.proofs.Resources.{sent_declared, sent_kept}
 use Rattle.rx_root.proofs.Sending.{number_below, sent_stands, unsent_stands}
 use Rattle.rx_root.proofs.root.Root.send.Goals as goal
 

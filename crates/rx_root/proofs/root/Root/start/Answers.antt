@@ -11,7 +11,7 @@ use Rattle.rx_render.specs.Renders.{IsStartOf}
 use Rattle.rx_root.specs.Rooted.{Rooted}
 use Rattle.rx_root.specs.Stands.{Stands}
 use Rattle.rx_root.specs.contracts.root.Root.{the_view}
-use Rattle.rx_root.proofs.TurnReached.{reached_passive}
+use Rattle.rx_kept.proofs.TurnReached.{reached_passive}
 use Rattle.rx_root.proofs.TurnStands.{can_start, started_as}
 use Rattle.rx_commit.specs.Shown.{Shown}
 use Rattle.rx_root.proofs.Broken.{any_err, none_broken, passive_broken}

@@ -1,4 +1,4 @@
--- What a root keeps of the resources stands for the machine's state, step by step, and tells what a render sees.
+-- What is kept of the resources stands for the machine's state, step by step, and tells what a render sees.
 use Rattle.std.proofs.Common.{◌≡◌, ◌∙◌, sym, ap, refl, ℕ, ℤ, zero, suc, ◌+◌, ◌<◌, ◌≤◌, Bool, true, false, cond, not, Some, None, List, [], ◌∷◌, ◌++◌, map, filter, length, nat_eq, nat_lt, subst, arith}
 use Rattle.std.specs.Prelude.{replicate, slice_get, slice_index_or, slice_set}
 use Rattle.std.specs.List.{AllByRecursion, enumerate_from, list_any, range_with_len}
@@ -33,9 +33,9 @@ use Rattle.rx_resources.specs.Store.{asked_at, kept_at, linked_at, resolved_at}
 use Rattle.rx_resources.specs.Stands.{AreOpenOrDone, IsKeptOf, IsOpenOrDone, NoneOwed}
 use Rattle.rx_resources.proofs.Counting.{asked_few, commit_asked, commit_kept, commit_owed, last_agrees, open_owed, others_asked, others_kept, refresh_kept, resolved_kept, seen_agrees, seen_asked, unresolved_kept, value_agrees}
 use Rattle.run_laws.proofs.Keeping.{now_stays}
-use Rattle.rx_render.specs.Resources.{AsksForDeclared, resources_by}
-use Rattle.rx_root.specs.Stands.{AreDeclared, KeepsResources}
-use Rattle.rx_root.specs.Taking.{asked_for}
+use Rattle.rx_kept.specs.Keeping.{AreDeclared, KeepsResources}
+use Rattle.rx_kept.specs.Seeing.{AsksForDeclared, resources_by}
+use Rattle.rx_kept.specs.Taking.{asked_for}
 
 -- ---- places of a list
 

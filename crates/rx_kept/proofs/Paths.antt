@@ -1,10 +1,10 @@
--- The instance that the path of a dispatch leads to has the hook of the dispatch.
-use Rattle.std.proofs.Common.{◌≡◌, ℕ, zero, suc, ◌+◌, Bool, true, false, ◌||◌, cond, nat_eq, Option, Some, None, List, [], ◌∷◌, length, refl, sym, ◌∙◌, subst}
+-- Steps of a script can be taken, and the instance that the path of a dispatch leads to has the hook of the dispatch.
+use Rattle.std.proofs.Common.{◌≡◌, ℕ, zero, suc, ◌+◌, Bool, true, false, ◌||◌, cond, nat_eq, Option, Some, None, Result, Ok, Err, List, [], ◌∷◌, length, refl, sym, ◌∙◌, subst}
 use Rattle.std.specs.Prelude.{bytes_eq, filter, map, option_and_then, position, slice_get}
 use Rattle.std.specs.Option.{option_eq, option_map_or}
 use Rattle.std.proofs.lemmas.List.{length-map}
 use Rattle.std.proofs.lemmas.Slice.Eq.{bytes_eq-Decides}
-use Rattle.rx_base.specs.Values.{Name}
+use Rattle.rx_base.specs.Values.{Name, Text}
 use Rattle.rx_ast.specs.Syntax.{Component, Program}
 use Rattle.rx_rules.specs.Names.{StateHook, component_at, component_names, has_name, hook_names, hooks_of}
 use Rattle.rx_names.specs.Listed.{function_names}
@@ -14,15 +14,62 @@ use Rattle.rx_check.specs.declared.hook.HookKind.{HookKind}
 use Rattle.rx_step.specs.Steps.{Path, hook_name, path_of}
 use Rattle.rx_step.specs.declared.step.Dispatch.{Dispatch}
 use Rattle.rx_step.specs.declared.step.Dispatch.TheVariants.{Set, Call, Send, Start, Refresh}
+use Rattle.rx_step.specs.declared.step.Step.{Step}
 use Rattle.rx_step.specs.declared.step.Step.TheVariants as step
-use Rattle.rx_script.specs.Lines.{hook_at, is_flag, is_reducer, is_state, target_of}
+use Rattle.rx_script.specs.Lines.{BadStep, Line, bad, form_of, formed, good, has_targets, hook_at, in_bounds, is_comment, is_flag, is_reducer, is_state, line_of, meant, out_of_range, silent, steps_from, steps_of, target_of, unknown_target, with_line}
+use Rattle.rx_script.specs.Words.{lines_of, words_of}
 use Rattle.rx_elem.specs.Spots.{Mounted}
 use Rattle.rx_model.specs.State.{find_from, hooks_at, is_step, name_of, step_to}
 use Rattle.host_laws.proofs.IdentityLaws.{both}
-use Rattle.rx_plain.specs.Taking.{CanTake}
-use Rattle.rx_plain.proofs.HookCounts.{HasHooks}
+use Rattle.rx_kept.specs.Taking.{AllCanTake, CanTake}
+use Rattle.rx_kept.proofs.HookCounts.{HasHooks}
 use Rattle.transition_laws.proofs.NamesApart.{found_by_name}
 use Rattle.transition_laws.proofs.Names.{last_name, target_ends}
+
+-- ---- scripts
+
+good_can : (p : Program) (s : Step) (a b : Bool) → has_targets p s ≡ a → in_bounds p s ≡ b → (x : Step) → cond a (cond b (good s) (bad out_of_range)) (bad unknown_target) ≡ good x → CanTake p x
+good_can p s true true t i x is = let same : s ≡ x = cc in subst (CanTake p) same (t, i)
+good_can p s true false t i x is = cc
+good_can p s false b t i x is = cc
+
+formed_can : (p : Program) (o : Option Step) (x : Step) → formed p o ≡ good x → CanTake p x
+formed_can p None x is = cc
+formed_can p (Some s) x is = good_can p s (has_targets p s) (in_bounds p s) refl refl x is
+
+meant_can : (p : Program) (ws : List Text) (x : Step) → meant p ws ≡ good x → CanTake p x
+meant_can p [] x is = cc
+meant_can p (w ∷ ws) x is = formed_can p (form_of (w ∷ ws)) x is
+
+line_can : (p : Program) (l : Text) (x : Step) → line_of p l ≡ good x → CanTake p x
+line_can p l x is = go (is_comment l) is
+  where
+    go : (b : Bool) → cond b silent (meant p (words_of l)) ≡ good x → CanTake p x
+    go true is = cc
+    go false is = meant_can p (words_of l) x is
+
+from_can : (p : Program) (n : ℕ) (ls : List Text) (steps : List Step) → steps_from p n ls ≡ Ok steps → AllCanTake p steps
+from_can p n [] steps is = let none : [] ≡ steps = cc in subst (AllCanTake p) none tt
+from_can p n (l ∷ ls) steps is = go (line_of p l) refl (steps_from p (n + 1) ls) (from_can p (n + 1) ls) is
+  where
+    go : (x : Line) → line_of p l ≡ x → (rest : Result (List Step) BadStep) → ((more : List Step) → rest ≡ Ok more → AllCanTake p more)
+        → with_line n x rest ≡ Ok steps → AllCanTake p steps
+    go silent at rest later is = later steps is
+    go (bad f) at rest later is = cc
+    go (good s) at (Ok more) later is =
+        let all : s ∷ more ≡ steps = cc in subst (AllCanTake p) all (line_can p l s at, later more refl)
+    go (good s) at (Err e) later is = cc
+
+-- the steps of a script can be taken
+pub steps_can : (p : Program) (bytes : List ℕ) (steps : List Step) → steps_of p bytes ≡ Ok steps → AllCanTake p steps
+unfolding steps_of
+steps_can p bytes steps is = from_can p 1 (lines_of bytes) steps is
+
+-- so can each of them, by its place
+pub each_can : (p : Program) (steps : List Step) → AllCanTake p steps → (k : ℕ) (x : Step) → slice_get steps k ≡ Some x → CanTake p x
+each_can p [] all k x at = cc
+each_can p (s ∷ steps) all zero x at = let same : s ≡ x = cc in subst (CanTake p) same all.0
+each_can p (s ∷ steps) all (suc k) x at = each_can p steps all.1 k x at
 
 -- ---- paths
 

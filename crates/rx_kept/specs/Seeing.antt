@@ -12,3 +12,8 @@ resources_by s = record { versions = versions_seen s; values = resources_seen s;
 -- no other resource is asked for
 abbrev pub AsksForDeclared : Sight → Type 0
 AsksForDeclared s = (r : ℕ) → length (resources s.program) ≤ r → version_seen s r ≡ 0
+
+-- what a render sees of the resources but for their refreshes
+pub record AreSeen (s : Sight) (r : Resources) : Type 0 where
+  pub versions : r.versions ≡ versions_seen s
+  pub values : r.values ≡ resources_seen s

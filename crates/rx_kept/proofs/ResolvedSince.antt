@@ -19,8 +19,9 @@ use Rattle.rx_resources.specs.Kept.{Kept, value_of}
 use Rattle.rx_resources.specs.Seen.{Resources, is_new, is_news}
 use Rattle.rx_resources.specs.Store.{kept_at}
 use Rattle.rx_resources.proofs.Counting.{value_agrees}
-use Rattle.rx_plain.specs.Stands.{AreDeclared, AreSeen, KeepsResources}
-use Rattle.rx_plain.proofs.Resources.{asks_for_declared, resources_by, values_length, version_listed, versions_length}
+use Rattle.rx_kept.specs.Keeping.{AreDeclared, KeepsResources}
+use Rattle.rx_kept.specs.Seeing.{AreSeen, resources_by}
+use Rattle.rx_kept.proofs.Resources.{asks_for_declared, values_length, version_listed, versions_length}
 
 -- two tests of which each follows from the other
 same_test : (a b : Bool) → (a ≡ true → b ≡ true) → (b ≡ true → a ≡ true) → a ≡ b
@@ -64,6 +65,10 @@ any_parts q (w ∷ ws) h =
     behind : (a b : Bool) → b ≡ true → (a || b) ≡ true
     behind true b f = refl
     behind false b f = f
+
+-- who is told all that a render sees is told its versions and values
+pub all_seen : (s : Sight) (r : Resources) → r ≡ resources_by s → AreSeen s r
+all_seen s r is = record { versions = ap (λ (x : Resources). x.versions) is; values = ap (λ (x : Resources). x.values) is }
 
 -- what a render sees of the resources tells which of them are news
 seen_news : (kept : List Kept) (waits : Awaits) (sight : Sight) (seen : Resources) → AreSeen sight seen → (r : ℕ) → is_news kept seen waits r ≡ is_news kept (resources_by sight) waits r
@@ -146,6 +151,16 @@ module _ (p : Program) (s : State) (g : Progress) (kept : List Kept) (h : KeepsR
       (λ e r few. sym (seen_news kept waits (sight_of p s g) seen f r) ∙ none e r (let long = h.all in omega (arith, few, long)))
       ∙ sym (since_is s g waits)
 
+  -- if no resource is new, none that is waited for is
+  pub none_new : (seen : Resources) → AreSeen (sight_of p s g) seen → AreDeclared p s.journal
+      → ((r : ℕ) → r < length kept → is_new kept seen r ≡ false) → (waits : Awaits) → resolved_since g.cut s.journal (in_versions (seen_in s g) waits) ≡ false
+  none_new seen f declared none waits =
+      sym (news_is waits seen false f declared (λ e. absurd (let k : false ≡ true = e in cc)) (λ e r few. rw (none r few) (never (has waits r))))
+    where
+      never : (b : Bool) → (b && false) ≡ false
+      never true = refl
+      never false = refl
+
   -- there are few resources
   pub few_kept : IsAccepted p → length kept < 2 ^ 32
   few_kept accepted = let long = h.all in omega (arith, long, few-resources p accepted)
@@ -156,6 +171,12 @@ module _ (p : Program) (s : State) (g : Progress) (kept : List Kept) (h : KeepsR
 
   pub as_many_values : (seen : Resources) → AreSeen (sight_of p s g) seen → length seen.values ≡ length kept
   as_many_values seen f = ap (λ (x : List (Option ℤ)). length x) f.values ∙ values_length (sight_of p s g) ∙ sym h.all
+
+-- and so of lists of what is waited for
+pub none_of_all : (s : State) (g : Progress) → ((waits : Awaits) → resolved_since g.cut s.journal (in_versions (seen_in s g) waits) ≡ false) → (all : List Awaits)
+    → list_any (λ waits. resolved_since g.cut s.journal (in_versions (seen_in s g) waits)) all ≡ false
+none_of_all s g none [] = refl
+none_of_all s g none (waits ∷ all) = rw (none waits) (none_of_all s g none all)
 
 -- what a render in progress sees of the versions tells those of what it waits for
 pub waits_seen : (p : Program) (s : State) (g : Progress) (waits : Awaits) (seen : Resources) → AreSeen (sight_of p s g) seen → AreDeclared p s.journal
