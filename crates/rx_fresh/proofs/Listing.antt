@@ -11,6 +11,7 @@ use Rattle.rx_elem.specs.Identity.{identities_after, identities, identified, old
 use Rattle.rx_elem.specs.Trees.{Node, Forest, forest, elements_in}
 use Rattle.rx_elem.specs.Trees as trees
 use Rattle.rx_elem.specs.Compare.{node_at, old_nodes}
+use Rattle.rx_compare.specs.Matched.{element_at}
 use Rattle.rx_meaning.specs.Fresh.{Places, Place, Renders, all_made, before, empty, made, one_throws, one_waits, render_all, throws, waits}
 use Rattle.draw_laws.specs.Drawn.{AreDrawn, IsDrawn}
 
@@ -25,6 +26,17 @@ length-old_places old new =
     ∙ length-map (zip (identities new) new) _
     ∙ length-zip (identities new) new
     ∙ omega (arith, length-identities_after [] new)
+
+-- the element of a place of a list of trees
+pub element_there : (ns : List (Option Node)) (k : ℕ) (n : Option Node) → n ≡ get_or ns k n → element_at n ≡ get_or (elements_in (forest ns)) k (element_at n)
+element_there ns k n is = go ns k is
+  where
+    go : (ms : List (Option Node)) (j : ℕ) → n ≡ get_or ms j n → element_at n ≡ get_or (elements_in (forest ms)) j (element_at n)
+    go [] j e = refl
+    go (None ∷ ms) zero e = ap element_at e
+    go (Some m ∷ ms) zero e = ap element_at e
+    go (None ∷ ms) (suc j) e = go ms j e
+    go (Some m ∷ ms) (suc j) e = go ms j e
 
 -- a list of elements, gathered and listed again
 pub listed-gathered : (es : List Element) → listed (gathered es) ≡ es

@@ -69,7 +69,7 @@ fn has_text(element: &Element, text: &Str) -> bool
     ensures { result ≡ true → element.now ≡ elements.text text.now }
 {
     match element.kind() {
-        ElementKind::Text(own) => own.text() == text.text(),
+        ElementKind::Text(own) => own.text().as_bytes() == text.text().as_bytes(),
         _ => false,
     }
 }

@@ -1,6 +1,6 @@
 mod Counting
 pub mod Distinct
 mod Finding
-mod Matches
-mod SameKeys
+pub mod Matches
+pub mod SameKeys
 mod Moving

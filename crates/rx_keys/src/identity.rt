@@ -19,6 +19,13 @@ pub enum Identity {
     Index(u32),
 }
 
+// No key is counted, with room for so many.
+pub(crate) fn no_counts(alloc: Global, keys: usize) -> Result<HashMap<i64, u32>, AllocError>
+    ensures { IfOk result (λ counts. CountsKeys counts []) }
+{
+    HashMap::with_capacity(alloc, keys)
+}
+
 // The identity of the next child of a list, once the keys of its earlier siblings are counted. Its own key is counted then.
 pub(crate) fn next_identity(
     counts: &mut HashMap<i64, u32>,
@@ -49,7 +56,7 @@ pub fn identities(alloc: Global, children: &[Element]) -> Result<Vec<Identity>, 
     requires { length children.now < 2 ^ 32 }
     ensures { IfOk result (λ ids. map identity_seen ids.items ≡ identities children.now) }
 {
-    let mut counts: HashMap<i64, u32> = HashMap::new(alloc);
+    let mut counts = no_counts(alloc, children.len())?;
     let mut ids = Vec::with_capacity(alloc, children.len())?;
     for place in 0..children.len() {
         let id = next_identity(&mut counts, place, &children[place])?;

@@ -5,7 +5,7 @@ ghost use Rattle.rx_elem.specs.Identity.{at_key, identified, identities, is_same
 ghost use Rattle.rx_keys.specs.IdentityView.{identity_seen};
 ghost use Rattle.rx_keys.specs.Found.{KnowsAll, found_in, same_pair};
 
-use crate::identity::{Identity, identities, next_identity};
+use crate::identity::{Identity, identities, next_identity, no_counts};
 use rx_elem::Element;
 use std::alloc::{AllocError, Global};
 use std::collections::HashMap;
@@ -15,7 +15,7 @@ fn table_of(alloc: Global, ids: &[Identity]) -> Result<HashMap<(i64, u32), u32>,
     requires { length ids.now < 2 ^ 32 }
     ensures { IfOk result (λ t. (k : ℤ) (o : ℕ) → get same_pair t (k, o) ≡ found_in (map identity_seen ids.now) (at_key k o)) }
 {
-    let mut table = HashMap::new(alloc);
+    let mut table = HashMap::with_capacity(alloc, ids.len())?;
     for place in 0..ids.len() {
         match ids[place] {
             Identity::Key(key, earlier) => {
@@ -88,7 +88,7 @@ impl<'a> Known<'a> {
         requires knows { KnowsAll self.now.children.now self.now.ids.items self.now.table }
         ensures { IfOk result (λ places. places.items ≡ old_places self.now.children.now children.now) }
     {
-        let mut counts = HashMap::new(alloc);
+        let mut counts = no_counts(alloc, children.len())?;
         let mut places = Vec::with_capacity(alloc, children.len())?;
         for place in 0..children.len() {
             let child = &children[place];

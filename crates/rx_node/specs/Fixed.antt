@@ -2,18 +2,18 @@
 use Rattle.std.specs.Prelude.{Bool, true, false, ◌&&◌, is_some}
 use Rattle.rx_elem.specs.Trees.{Mark, of_instance, of_host, of_boundary, of_catcher, plain, Node, node, Forest, none, vacant, child}
 
--- a mark is not one of a new instance or a new host
-abbrev pub has_number : Mark → Bool
-has_number (of_instance i) = is_some i.number
-has_number (of_host n) = is_some n
-has_number (of_boundary b) = true
-has_number (of_catcher c) = true
-has_number plain = true
+-- a commit leaves a mark as it is: it is not one of a new instance or a new host
+abbrev pub is_fixed_mark : Mark → Bool
+is_fixed_mark (of_instance i) = is_some i.number
+is_fixed_mark (of_host n) = is_some n
+is_fixed_mark (of_boundary b) = true
+is_fixed_mark (of_catcher c) = true
+is_fixed_mark plain = true
 
 -- nothing at a node or below is new, and no list of it ends with a vacant place
 abbrev mutual
   pub is_fixed : Node → Bool
-  is_fixed (node e m ns fs) = has_number m && (are_fixed true ns && are_fixed true fs)
+  is_fixed (node e m ns fs) = is_fixed_mark m && (are_fixed true ns && are_fixed true fs)
 
   -- the same for the rest of a list, behind no place or one with a tree, or behind a vacant one
   pub are_fixed : Bool → Forest → Bool

@@ -2,6 +2,7 @@ pub mod MarkView
 pub mod Hides
 pub mod Fixed
 pub mod Mounts
+pub mod Texts
 pub mod NodeView
 pub mod Summary
 pub mod NodeCode

@@ -1,7 +1,7 @@
 // What a node has beside its element and its children.
 ghost use Rattle.std.specs.Prelude.{◌≡◌, IfOk, option_and_then};
 ghost use Rattle.rx_elem.specs.Trees.{instance_in, effects_in, is_host, is_hidden, is_shown, is_caught, boundary_in, awaits_in, caught_in};
-ghost use Rattle.rx_node.specs.Fixed.{has_number};
+ghost use Rattle.rx_node.specs.Fixed.{is_fixed_mark};
 ghost use Rattle.rx_node.specs.MarkView.{instance_seen, mark_seen};
 ghost use Rattle.rx_node.specs.Mounts.{is_instance};
 
@@ -111,9 +111,9 @@ impl Mark {
         }
     }
 
-    /// False of what is new and gets a number at a commit: an instance, a host or a text.
-    pub fn has_number(&self) -> bool
-        ensures { result ≡ has_number (mark_seen self.now) }
+    /// Whether a commit leaves it as it is. It gives a number to what is new: an instance, a host or a text.
+    pub fn is_fixed(&self) -> bool
+        ensures { result ≡ is_fixed_mark (mark_seen self.now) }
     {
         match self {
             Mark::Instance(instance) => instance.number.is_some(),

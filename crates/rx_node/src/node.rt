@@ -5,9 +5,10 @@ ghost use Rattle.rx_node.specs.Fixed.{is_fixed, are_fixed};
 ghost use Rattle.rx_node.specs.Hides.{hides_in, hides_within};
 ghost use Rattle.rx_node.specs.MarkView.{mark_seen};
 ghost use Rattle.rx_node.specs.Mounts.{mounts_in, mounts_within};
+ghost use Rattle.rx_node.specs.Texts.{are_texts, is_bare, is_text, is_text_element};
 
 use crate::mark::Mark;
-use rx_elem::Element;
+use rx_elem::{Element, ElementKind};
 use std::alloc::{AllocError, Global};
 use std::marker::Model;
 use std::rc::Rc;
@@ -24,7 +25,6 @@ pub struct Node {
 #[cycle(node)]
 struct Parts {
     element: Element,
-    mark: Mark,
     children: Vec<Option<Node>>,
     fallback: Vec<Option<Node>>,
     // Whether a boundary at it or below is hidden.
@@ -33,6 +33,12 @@ struct Parts {
     mounts: bool,
     // Whether a commit leaves it as it is.
     fixed: bool,
+    // Whether it is that of a text, with nothing below it.
+    text: bool,
+    // Whether each place of its children has such a node.
+    texts: bool,
+    // The largest comes last: a walk over hosts reads its front alone.
+    mark: Mark,
 }
 
 impl Model for Node {
@@ -67,35 +73,64 @@ impl Drop for Node {
 }
 
 // What a node has to know of one of its lists: whether a boundary in it or below is hidden, whether there is a component's instance,
-// and whether a commit leaves all of it as it is.
+// whether a commit leaves all of it as it is, and whether each place has the node of a text.
 #[derive(Clone, Copy)]
 struct Gathered {
     hides: bool,
     mounts: bool,
     fixed: bool,
+    texts: bool,
 }
 
 fn gather(nodes: &[Option<Node>]) -> Gathered
     ensures hides { result.hides ≡ hides_in (forest nodes.now) }
     ensures mounts { result.mounts ≡ mounts_in (forest nodes.now) }
     ensures fixed { result.fixed ≡ are_fixed true (forest nodes.now) }
+    ensures texts { result.texts ≡ are_texts (forest nodes.now) }
 {
     let mut all = Gathered {
         hides: false,
         mounts: false,
         fixed: true,
+        texts: true,
     };
     let mut filled = true;
     for place in nodes {
         filled = place.is_some();
+        all.texts = all.texts && filled;
         if let Some(node) = place {
             all.hides = all.hides || node.hides();
             all.mounts = all.mounts || node.mounts();
             all.fixed = all.fixed && node.is_fixed();
+            all.texts = all.texts && node.is_text();
         }
     }
     all.fixed = all.fixed && filled;
     all
+}
+
+fn is_text_element(element: &Element) -> bool
+    ensures { result ≡ is_text_element element.now }
+{
+    matches!(element.kind(), ElementKind::Text(_))
+}
+
+fn is_bare(nodes: &[Option<Node>]) -> bool
+    ensures { result ≡ is_bare (forest nodes.now) }
+{
+    nodes.is_empty()
+}
+
+// Whether a node with these parts is that of a text.
+fn is_text(
+    element: &Element,
+    mark: &Mark,
+    children: &[Option<Node>],
+    fallback: &[Option<Node>],
+) -> bool
+    ensures { result ≡ is_text (node element.now (mark_seen mark.now) (forest children.now) (forest fallback.now)) }
+{
+    is_text_element(element) && mark.is_host() && is_bare(children) && is_bare(fallback)
 }
 
 impl Node {
@@ -117,7 +152,8 @@ impl Node {
         let other = gather(&fallback);
         let hides = mark.is_hidden() || primary.hides || other.hides;
         let mounts = mark.is_instance() || primary.mounts || other.mounts;
-        let fixed = mark.has_number() && primary.fixed && other.fixed;
+        let fixed = mark.is_fixed() && primary.fixed && other.fixed;
+        let text = is_text(&element, &mark, &children, &fallback);
         let parts = Parts {
             element,
             mark,
@@ -126,6 +162,8 @@ impl Node {
             hides,
             mounts,
             fixed,
+            text,
+            texts: primary.texts,
         };
         let parts = Rc::new(alloc, parts)?;
         Ok(Node { parts })
@@ -182,6 +220,20 @@ impl Node {
         ensures { result ≡ is_fixed self.now }
     {
         self.parts.fixed
+    }
+
+    /// Whether it is that of a text, with nothing below it. Its element isn't read for it.
+    pub fn is_text(&self) -> bool
+        ensures { result ≡ is_text self.now }
+    {
+        self.parts.text
+    }
+
+    /// Whether each place of its children has the node of a text, with nothing below it. No walk is taken for it.
+    pub fn has_texts(&self) -> bool
+        ensures { result ≡ are_texts (children_of self.now) }
+    {
+        self.parts.texts
     }
 
     /// The same node, by one handle more.

@@ -2,7 +2,7 @@
 use Rattle.std.proofs.Common.{◌≡◌, ℕ, Bool, true, false, ◌&&◌, Option, Some, None, is_some, refl, ap, ◌∙◌}
 use Rattle.rx_elem.specs.Numbers.{Numbers, numbered, numbered_in, numbered_instance, numbered_mark}
 use Rattle.rx_elem.specs.Trees.{Forest, Mark, Node, child, node, none, of_boundary, of_catcher, of_host, of_instance, plain, vacant}
-use Rattle.rx_node.specs.Fixed.{are_fixed, has_number, is_fixed}
+use Rattle.rx_node.specs.Fixed.{are_fixed, is_fixed_mark, is_fixed}
 use Rattle.end_laws.specs.Trimmed.{trimmed, trimmed_in, vacant_before}
 
 first_holds : (a b : Bool) → a && b ≡ true → a ≡ true
@@ -23,7 +23,7 @@ mutual
   -- no place of it goes
   pub fixed_trimmed : (n : Node) → is_fixed n ≡ true → trimmed n ≡ n
   fixed_trimmed (node e m ns fs) h =
-      let both = second_holds (has_number m) (are_fixed true ns && are_fixed true fs) h in
+      let both = second_holds (is_fixed_mark m) (are_fixed true ns && are_fixed true fs) h in
       let kids = fixed_in_trimmed true ns (first_holds (are_fixed true ns) (are_fixed true fs) both) in
       let falls = fixed_in_trimmed true fs (second_holds (are_fixed true ns) (are_fixed true fs) both) in
       λ i. node e m (kids i) (falls i)
@@ -37,7 +37,7 @@ mutual
       λ i. child (one i) (rest i)
 
 -- what has a number keeps it
-fixed_mark : (next : Numbers) (m : Mark) → has_number m ≡ true → numbered_mark next m ≡ (next, m)
+fixed_mark : (next : Numbers) (m : Mark) → is_fixed_mark m ≡ true → numbered_mark next m ≡ (next, m)
 fixed_mark next (of_instance i) h = go i.number h refl
   where
     go : (n : Option ℕ) → is_some n ≡ true → i.number ≡ n → numbered_instance next i i.number ≡ (next, of_instance i)
@@ -53,8 +53,8 @@ mutual
   -- nothing in it gets a number
   pub fixed_numbered : (next : Numbers) (n : Node) → is_fixed n ≡ true → numbered next n ≡ (next, n)
   fixed_numbered next (node e m ns fs) h =
-      let both = second_holds (has_number m) (are_fixed true ns && are_fixed true fs) h in
-      let own = fixed_mark next m (first_holds (has_number m) (are_fixed true ns && are_fixed true fs) h) in
+      let both = second_holds (is_fixed_mark m) (are_fixed true ns && are_fixed true fs) h in
+      let own = fixed_mark next m (first_holds (is_fixed_mark m) (are_fixed true ns && are_fixed true fs) h) in
       let kids = fixed_in_numbered next true ns (first_holds (are_fixed true ns) (are_fixed true fs) both) in
       let falls = fixed_in_numbered next true fs (second_holds (are_fixed true ns) (are_fixed true fs) both) in
       ap (λ o. let below = numbered_in o.0 ns in let behind = numbered_in below.0 fs in (behind.0, node e o.1 below.1 behind.1)) own

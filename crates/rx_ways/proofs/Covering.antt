@@ -8,8 +8,9 @@ use Rattle.commit_laws.specs.Each.{ForEach, ForEachIn}
 use Rattle.commit_laws.specs.HiddenWaits.{AllNumbered, IfNumbered, Numbered}
 use Rattle.rx_meaning.specs.Settled.{HasOwnNumbers, is_numbered_so, number_of, times_numbered, times_numbered_if, times_numbered_in}
 use Rattle.rx_node.specs.Hides.{hides_within}
+use Rattle.rx_node.specs.Mounts.{mounts_in, mounts_within}
 use Rattle.rx_ways.specs.Leads.{is_cause}
-use Rattle.rx_ways.specs.Walk.{finds, finds_in, has_instance_in, has_instance_within, is_spared, puts, puts_in}
+use Rattle.rx_ways.specs.Walk.{finds, finds_in, is_spared, puts, puts_in}
 use Rattle.rx_ways.specs.Ways.{Covers, CoversIf, CoversIn, IsQuiet}
 use Rattle.rx_ways.proofs.Quiet.{NoneOccurs, covered, quiet-mark, quiet-without}
 
@@ -143,26 +144,26 @@ no-number n plain e = refl
 
 mutual
   -- no number stands if there is no instance
-  none-times : (n : ℕ) (x : Node) → has_instance_within x ≡ false → times_numbered n x ≡ 0
+  none-times : (n : ℕ) (x : Node) → mounts_within x ≡ false → times_numbered n x ≡ 0
   none-times n (node e m ns fs) is =
-      let own = or_parts (is_some (instance_in m)) (has_instance_in ns || has_instance_in fs) is in
-      let below = or_parts (has_instance_in ns) (has_instance_in fs) own.1 in
+      let own = or_parts (is_some (instance_in m)) (mounts_in ns || mounts_in fs) is in
+      let below = or_parts (mounts_in ns) (mounts_in fs) own.1 in
       omega (arith, ap {B = ℕ} (λ b. cond b 1 0) (no-number n m own.0), none-times_in n ns below.0, none-times_in n fs below.1)
 
-  none-times_in : (n : ℕ) (ns : Forest) → has_instance_in ns ≡ false → times_numbered_in n ns ≡ 0
+  none-times_in : (n : ℕ) (ns : Forest) → mounts_in ns ≡ false → times_numbered_in n ns ≡ 0
   none-times_in n none is = refl
   none-times_in n (vacant ns) is = none-times_in n ns is
   none-times_in n (child x ns) is =
-      let parts = or_parts (has_instance_within x) (has_instance_in ns) is in
+      let parts = or_parts (mounts_within x) (mounts_in ns) is in
       omega (arith, none-times n x parts.0, none-times_in n ns parts.1)
 
 -- if all are hinted, only what has no instance is spared
-hinted-spares : (h : ℕ → Bool) → ((n : ℕ) → h n ≡ true) → (x : Node) → is_spared h x ≡ true → has_instance_within x ≡ false
+hinted-spares : (h : ℕ → Bool) → ((n : ℕ) → h n ≡ true) → (x : Node) → is_spared h x ≡ true → mounts_within x ≡ false
 hinted-spares h all x is = go (number_of (mark_of x)) (and_parts (not (hides_within x)) _ is).1
   where
-    go : (o : Option ℕ) → not (has_instance_within x) || option_map_or (λ n. not (h n)) o false ≡ true → has_instance_within x ≡ false
-    go None e = elim (or_cases (not (has_instance_within x)) false e) [ inl p ↦ not-true _ p | inr q ↦ absurd (cc q) ]
-    go (Some n) e = elim (or_cases (not (has_instance_within x)) (not (h n)) e) [ inl p ↦ not-true _ p | inr q ↦ absurd (let f = all n in let g = not-true _ q in cc) ]
+    go : (o : Option ℕ) → not (mounts_within x) || option_map_or (λ n. not (h n)) o false ≡ true → mounts_within x ≡ false
+    go None e = elim (or_cases (not (mounts_within x)) false e) [ inl p ↦ not-true _ p | inr q ↦ absurd (cc q) ]
+    go (Some n) e = elim (or_cases (not (mounts_within x)) (not (h n)) e) [ inl p ↦ not-true _ p | inr q ↦ absurd (let f = all n in let g = not-true _ q in cc) ]
 
 mutual
   none-missed : (h : ℕ → Bool) → ((n : ℕ) → h n ≡ true) → (n : ℕ) (x : Node) → missed h n x ≡ 0

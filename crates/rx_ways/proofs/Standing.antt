@@ -9,12 +9,13 @@ use Rattle.rx_lists.specs.Shapes.{Shape, fiber}
 use Rattle.rx_lists.specs.Shapes as shapes
 use Rattle.rx_meaning.specs.Settled.{is_numbered_so, number_of}
 use Rattle.rx_node.specs.Hides.{hides_within, hides_in}
+use Rattle.rx_node.specs.Mounts.{mounts_in, mounts_within}
 use Rattle.rx_fiber.specs.declared.subtree.Subtree.{Subtree}
 use Rattle.rx_fiber.specs.Fibers.{Fiber, Stage, begun, fallback, joined, marked_subtree, own_subtree}
 use Rattle.rx_fiber.specs.Reading.{AreFor, IsFor, IsOf, IsTreeOf, has_node, no_more, gap, next, whole, alone, beside}
 use Rattle.rx_fiber.specs.Subtrees.{IsGathered, subtrees_of}
 use Rattle.rx_ways.specs.Leads.{is_cause}
-use Rattle.rx_ways.specs.Walk.{finds, finds_in, finds_among, has_instance_in, has_instance_within, is_cause_at, is_spared, is_spared_at, number_at, puts, puts_in, puts_among, spares}
+use Rattle.rx_ways.specs.Walk.{finds, finds_in, finds_among, is_cause_at, is_spared, is_spared_at, number_at, puts, puts_in, puts_among, spares}
 
 -- ---- tests
 
@@ -46,7 +47,7 @@ none_hide none h = refl
 none_hide (vacant ns) h = none_hide ns h
 none_hide (child x ns) h = absurd (cc h)
 
-none_have : (ns : Forest) → has_node ns ≡ false → has_instance_in ns ≡ false
+none_have : (ns : Forest) → has_node ns ≡ false → mounts_in ns ≡ false
 none_have none h = refl
 none_have (vacant ns) h = none_have ns h
 none_have (child x ns) h = absurd (cc h)
@@ -87,12 +88,12 @@ fallback_tells w a ws stage is =
 -- the fibers of a list tell of its nodes
 pub record TellsList (ns : Forest) (s : Shape Fiber) : Type 0 where
   pub hides : (subtrees_of s).hides ≡ hides_in ns
-  pub instances : (subtrees_of s).instances ≡ has_instance_in ns
+  pub instances : (subtrees_of s).instances ≡ mounts_in ns
 
 -- the first fibers of a list tell of a node, and those behind them of the rest
 record TellsNode (x : Node) (s rest : Shape Fiber) : Type 0 where
   hides : (subtrees_of s).hides ≡ (hides_within x || (subtrees_of rest).hides)
-  instances : (subtrees_of s).instances ≡ (has_instance_within x || (subtrees_of rest).instances)
+  instances : (subtrees_of s).instances ≡ (mounts_within x || (subtrees_of rest).instances)
 
 mutual
   pub list_tells : (k : ℕ) (ns : Forest) (s : Shape Fiber) → AreFor k ns s → IsGathered s → TellsList ns s
@@ -103,35 +104,35 @@ mutual
       let behind = list_tells (suc n) ns rest a (rest_gathered n x s rest is g) in
       record {
         hides = first.hides ∙ ap (λ b. hides_within x || b) behind.hides;
-        instances = first.instances ∙ ap (λ b. has_instance_within x || b) behind.instances;
+        instances = first.instances ∙ ap (λ b. mounts_within x || b) behind.instances;
       }
 
   node_tells : (k : ℕ) (x : Node) (s rest : Shape Fiber) → IsFor k x s rest → IsGathered s → TellsNode x s rest
   node_tells _ _ _ _ (whole {v = v} {m = m} {ns = ns} {ks = ks} {rest = rest} of shown a) g =
       let t = list_tells 0 ns ks a g.1 in
-      let own = own_tells v m ks (hides_in ns) (has_instance_in ns) of.stage g.0 t.hides t.instances in
+      let own = own_tells v m ks (hides_in ns) (mounts_in ns) of.stage g.0 t.hides t.instances in
       record {
         hides = ap (λ b. b || (subtrees_of rest).hides) (own.hides_are ∙ ap (λ b. is_hidden m || b) (sym (or_none (hides_in ns))));
-        instances = ap (λ b. b || (subtrees_of rest).instances) (own.instances_are ∙ ap (λ b. is_some (instance_in m) || b) (sym (or_none (has_instance_in ns))));
+        instances = ap (λ b. b || (subtrees_of rest).instances) (own.instances_are ∙ ap (λ b. is_some (instance_in m) || b) (sym (or_none (mounts_in ns))));
       }
   node_tells _ _ _ _ (alone {v = v} {m = m} {ns = ns} {fs = fs} {ks = ks} {rest = rest} of hidden bare a) g =
       let t = list_tells 0 fs ks a g.1 in
-      let own = own_tells v m ks (hides_in fs) (has_instance_in fs) of.stage g.0 t.hides t.instances in
+      let own = own_tells v m ks (hides_in fs) (mounts_in fs) of.stage g.0 t.hides t.instances in
       record {
         hides = ap (λ b. b || (subtrees_of rest).hides) (own.hides_are ∙ ap (λ b. is_hidden m || (b || hides_in fs)) (sym (none_hide ns bare)));
-        instances = ap (λ b. b || (subtrees_of rest).instances) (own.instances_are ∙ ap (λ b. is_some (instance_in m) || (b || has_instance_in fs)) (sym (none_have ns bare)));
+        instances = ap (λ b. b || (subtrees_of rest).instances) (own.instances_are ∙ ap (λ b. is_some (instance_in m) || (b || mounts_in fs)) (sym (none_have ns bare)));
       }
   node_tells _ _ _ _ (beside {v = v} {w = w} {m = m} {ns = ns} {fs = fs} {ks = ks} {ws = ws} {rest = rest} of hidden kept a stage b) g =
       let t = list_tells 0 ns ks a g.1 in
       let u = list_tells 0 fs ws b g.2.1 in
-      let own = own_tells v m ks (hides_in ns) (has_instance_in ns) of.stage g.0 t.hides t.instances in
+      let own = own_tells v m ks (hides_in ns) (mounts_in ns) of.stage g.0 t.hides t.instances in
       let behind = fallback_tells w _ ws stage g.2.0 in
       record {
         hides = ap (λ c. c || (w.subtree.hides || (subtrees_of rest).hides)) own.hides_are ∙ ap (λ c. (is_hidden m || hides_in ns) || (c || (subtrees_of rest).hides)) (behind.0 ∙ u.hides)
             ∙ five (is_hidden m) (hides_in ns) (hides_in fs) (subtrees_of rest).hides;
         instances = ap (λ c. c || (w.subtree.instances || (subtrees_of rest).instances)) own.instances_are
-            ∙ ap (λ c. (is_some (instance_in m) || has_instance_in ns) || (c || (subtrees_of rest).instances)) (behind.1 ∙ u.instances)
-            ∙ five (is_some (instance_in m)) (has_instance_in ns) (has_instance_in fs) (subtrees_of rest).instances;
+            ∙ ap (λ c. (is_some (instance_in m) || mounts_in ns) || (c || (subtrees_of rest).instances)) (behind.1 ∙ u.instances)
+            ∙ five (is_some (instance_in m)) (mounts_in ns) (mounts_in fs) (subtrees_of rest).instances;
       }
 
   rest_gathered : (k : ℕ) (x : Node) (s rest : Shape Fiber) → IsFor k x s rest → IsGathered s → IsGathered rest
@@ -177,10 +178,10 @@ and_none true = refl
 and_none false = refl
 
 mutual
-  without_put : (hint stirred : ℕ → Bool) (n : ℕ) (x : Node) → has_instance_within x ≡ false → puts hint stirred n x ≡ false
+  without_put : (hint stirred : ℕ → Bool) (n : ℕ) (x : Node) → mounts_within x ≡ false → puts hint stirred n x ≡ false
   without_put hint stirred n (node e m ns fs) is =
-      let own = or_parts (is_some (instance_in m)) (has_instance_in ns || has_instance_in fs) is in
-      let below = or_parts (has_instance_in ns) (has_instance_in fs) own.1 in
+      let own = or_parts (is_some (instance_in m)) (mounts_in ns || mounts_in fs) is in
+      let below = or_parts (mounts_in ns) (mounts_in fs) own.1 in
       let number : number_of m ≡ None = without_number m own.0 in
       let one = without_put_in hint stirred n ns below.0 in
       let two = without_put_in hint stirred n fs below.1 in
@@ -189,11 +190,11 @@ mutual
       ∙ ap (λ b. not (is_spared hint (node e m ns fs)) && b) two
       ∙ and_none (not (is_spared hint (node e m ns fs)))
 
-  without_put_in : (hint stirred : ℕ → Bool) (n : ℕ) (ns : Forest) → has_instance_in ns ≡ false → puts_in hint stirred n ns ≡ false
+  without_put_in : (hint stirred : ℕ → Bool) (n : ℕ) (ns : Forest) → mounts_in ns ≡ false → puts_in hint stirred n ns ≡ false
   without_put_in hint stirred n none is = refl
   without_put_in hint stirred n (vacant ns) is = without_put_in hint stirred n ns is
   without_put_in hint stirred n (child x ns) is =
-      let parts = or_parts (has_instance_within x) (has_instance_in ns) is in
+      let parts = or_parts (mounts_within x) (mounts_in ns) is in
       ap (λ b. b || puts_in hint stirred n ns) (without_put hint stirred n x parts.0) ∙ without_put_in hint stirred n ns parts.1
 
 module _ (hint stirred : ℕ → Bool) where
@@ -212,7 +213,7 @@ module _ (hint stirred : ℕ → Bool) where
       let here : (not (is_spared_at hint v) && (is_cause_at stirred v.stage || finds_among hint stirred ks)) ≡ true =
       hidden_found hint v.subtree.hides v.subtree.instances (number_at v.stage) (is_cause_at stirred v.stage) (finds_among hint stirred ks) hides (ap (is_cause_at stirred) stage ∙ cause) in
       let there : finds hint stirred (node e m ns fs) ≡ true =
-      hidden_found hint (hides_within (node e m ns fs)) (has_instance_within (node e m ns fs)) (number_of m) (is_cause stirred m) (finds_in hint stirred ns || finds_in hint stirred fs)
+      hidden_found hint (hides_within (node e m ns fs)) (mounts_within (node e m ns fs)) (number_of m) (is_cause stirred m) (finds_in hint stirred ns || finds_in hint stirred fs)
       (ap (λ h. h || (hides_in ns || hides_in fs)) hidden) cause in
       ap (λ x. x || b) here ∙ sym (ap (λ x. x || c) there)
 
@@ -226,10 +227,10 @@ module _ (hint stirred : ℕ → Bool) where
     node_found : (k : ℕ) (x : Node) (s rest : Shape Fiber) → IsFor k x s rest → IsGathered s → finds_among hint stirred s ≡ (finds hint stirred x || finds_among hint stirred rest)
     node_found _ _ _ _ (whole {v = v} {e = e} {m = m} {ns = ns} {ks = ks} {rest = rest} of shown a) g =
         let t = list_tells 0 ns ks a g.1 in
-        let own = own_tells v m ks (hides_in ns) (has_instance_in ns) of.stage g.0 t.hides t.instances in
+        let own = own_tells v m ks (hides_in ns) (mounts_in ns) of.stage g.0 t.hides t.instances in
         let hides : v.subtree.hides ≡ hides_within (node e m ns none) = own.hides_are ∙ ap (λ b. is_hidden m || b) (sym (or_none (hides_in ns))) in
-        let has : v.subtree.instances ≡ has_instance_within (node e m ns none) = own.instances_are ∙ ap (λ b. is_some (instance_in m) || b) (sym (or_none (has_instance_in ns))) in
-        let spared : is_spared_at hint v ≡ is_spared hint (node e m ns none) = spared_is v m false false (hides_within (node e m ns none)) (has_instance_within (node e m ns none)) of.stage hides has in
+        let has : v.subtree.instances ≡ mounts_within (node e m ns none) = own.instances_are ∙ ap (λ b. is_some (instance_in m) || b) (sym (or_none (mounts_in ns))) in
+        let spared : is_spared_at hint v ≡ is_spared hint (node e m ns none) = spared_is v m false false (hides_within (node e m ns none)) (mounts_within (node e m ns none)) of.stage hides has in
         let cause : is_cause_at stirred v.stage ≡ is_cause stirred m = ap (is_cause_at stirred) of.stage in
         let below : finds_among hint stirred ks ≡ (finds_in hint stirred ns || false) = list_found 0 ns ks a g.1 ∙ sym (or_none (finds_in hint stirred ns)) in
         ap (λ b. (not b && (is_cause_at stirred v.stage || finds_among hint stirred ks)) || finds_among hint stirred rest) spared
@@ -237,10 +238,10 @@ module _ (hint stirred : ℕ → Bool) where
         ∙ ap (λ b. (not (is_spared hint (node e m ns none)) && (is_cause stirred m || b)) || finds_among hint stirred rest) below
     node_found _ _ _ _ (alone {v = v} {e = e} {m = m} {ns = ns} {fs = fs} {ks = ks} {rest = rest} of hidden bare a) g =
         let t = list_tells 0 fs ks a g.1 in
-        let own = own_tells v m ks (hides_in fs) (has_instance_in fs) of.stage g.0 t.hides t.instances in
+        let own = own_tells v m ks (hides_in fs) (mounts_in fs) of.stage g.0 t.hides t.instances in
         let hides : v.subtree.hides ≡ hides_within (node e m ns fs) = own.hides_are ∙ ap (λ b. is_hidden m || (b || hides_in fs)) (sym (none_hide ns bare)) in
-        let has : v.subtree.instances ≡ has_instance_within (node e m ns fs) = own.instances_are ∙ ap (λ b. is_some (instance_in m) || (b || has_instance_in fs)) (sym (none_have ns bare)) in
-        let spared : is_spared_at hint v ≡ is_spared hint (node e m ns fs) = spared_is v m false false (hides_within (node e m ns fs)) (has_instance_within (node e m ns fs)) of.stage hides has in
+        let has : v.subtree.instances ≡ mounts_within (node e m ns fs) = own.instances_are ∙ ap (λ b. is_some (instance_in m) || (b || mounts_in fs)) (sym (none_have ns bare)) in
+        let spared : is_spared_at hint v ≡ is_spared hint (node e m ns fs) = spared_is v m false false (hides_within (node e m ns fs)) (mounts_within (node e m ns fs)) of.stage hides has in
         let cause : is_cause_at stirred v.stage ≡ is_cause stirred m = ap (is_cause_at stirred) of.stage in
         let below : finds_among hint stirred ks ≡ (finds_in hint stirred ns || finds_in hint stirred fs) = list_found 0 fs ks a g.1 ∙ ap (λ b. b || finds_in hint stirred fs) (sym (none_finds hint stirred ns bare)) in
         ap (λ b. (not b && (is_cause_at stirred v.stage || finds_among hint stirred ks)) || finds_among hint stirred rest) spared
@@ -248,7 +249,7 @@ module _ (hint stirred : ℕ → Bool) where
         ∙ ap (λ b. (not (is_spared hint (node e m ns fs)) && (is_cause stirred m || b)) || finds_among hint stirred rest) below
     node_found _ _ _ _ (beside {v = v} {w = w} {e = e} {m = m} {ns = ns} {fs = fs} {ks = ks} {ws = ws} {rest = rest} of hidden kept a stage b) g =
         let t = list_tells 0 ns ks a g.1 in
-        let own = own_tells v m ks (hides_in ns) (has_instance_in ns) of.stage g.0 t.hides t.instances in
+        let own = own_tells v m ks (hides_in ns) (mounts_in ns) of.stage g.0 t.hides t.instances in
         both_found v e m ns fs ks of.stage hidden (own.hides_are ∙ ap (λ b. b || hides_in ns) hidden)
         ((not (is_spared_at hint w) && (is_cause_at stirred w.stage || finds_among hint stirred ws)) || finds_among hint stirred rest) (finds_among hint stirred rest)
 
@@ -268,7 +269,7 @@ module _ (hint stirred : ℕ → Bool) where
 
   hidden_node : (n : ℕ) (e : Element) (m : Mark) (ns fs : Forest) → is_hidden m ≡ true → puts hint stirred n (node e m ns fs) ≡ (puts_in hint stirred n ns || puts_in hint stirred n fs)
   hidden_node n e m ns fs hidden =
-      hidden_put hint (hides_within (node e m ns fs)) (has_instance_within (node e m ns fs)) (number_of m)
+      hidden_put hint (hides_within (node e m ns fs)) (mounts_within (node e m ns fs)) (number_of m)
       ((is_numbered_so n (number_of m) && finds hint stirred (node e m ns fs)) || (puts_in hint stirred n ns || puts_in hint stirred n fs)) (ap (λ h. h || (hides_in ns || hides_in fs)) hidden)
       ∙ ap (λ o. (is_numbered_so n o && finds hint stirred (node e m ns fs)) || (puts_in hint stirred n ns || puts_in hint stirred n fs)) (hidden_number m hidden)
 
@@ -282,10 +283,10 @@ module _ (hint stirred : ℕ → Bool) where
     node_put : (n : ℕ) (k : ℕ) (x : Node) (s rest : Shape Fiber) → IsFor k x s rest → IsGathered s → puts_among hint stirred n s ≡ (puts hint stirred n x || puts_among hint stirred n rest)
     node_put n _ _ _ _ (whole {v = v} {e = e} {m = m} {ns = ns} {ks = ks} {rest = rest} of shown a) g =
         let t = list_tells 0 ns ks a g.1 in
-        let own = own_tells v m ks (hides_in ns) (has_instance_in ns) of.stage g.0 t.hides t.instances in
+        let own = own_tells v m ks (hides_in ns) (mounts_in ns) of.stage g.0 t.hides t.instances in
         let hides : v.subtree.hides ≡ hides_within (node e m ns none) = own.hides_are ∙ ap (λ b. is_hidden m || b) (sym (or_none (hides_in ns))) in
-        let has : v.subtree.instances ≡ has_instance_within (node e m ns none) = own.instances_are ∙ ap (λ b. is_some (instance_in m) || b) (sym (or_none (has_instance_in ns))) in
-        let spared : is_spared_at hint v ≡ is_spared hint (node e m ns none) = spared_is v m false false (hides_within (node e m ns none)) (has_instance_within (node e m ns none)) of.stage hides has in
+        let has : v.subtree.instances ≡ mounts_within (node e m ns none) = own.instances_are ∙ ap (λ b. is_some (instance_in m) || b) (sym (or_none (mounts_in ns))) in
+        let spared : is_spared_at hint v ≡ is_spared hint (node e m ns none) = spared_is v m false false (hides_within (node e m ns none)) (mounts_within (node e m ns none)) of.stage hides has in
         let found : (is_cause_at stirred v.stage || finds_among hint stirred ks) ≡ (is_cause stirred m || (finds_in hint stirred ns || false)) =
         ap (λ b. b || finds_among hint stirred ks) (ap (is_cause_at stirred) of.stage) ∙ ap (λ b. is_cause stirred m || b) (list_found 0 ns ks a g.1 ∙ sym (or_none (finds_in hint stirred ns))) in
         let number : is_numbered_so n (number_at v.stage) ≡ is_numbered_so n (number_of m) = ap (λ (s : Stage). is_numbered_so n (number_at s)) of.stage in
@@ -295,10 +296,10 @@ module _ (hint stirred : ℕ → Bool) where
         (puts_among hint stirred n rest) spared number found below
     node_put n _ _ _ _ (alone {v = v} {e = e} {m = m} {ns = ns} {fs = fs} {ks = ks} {rest = rest} of hidden bare a) g =
         let t = list_tells 0 fs ks a g.1 in
-        let own = own_tells v m ks (hides_in fs) (has_instance_in fs) of.stage g.0 t.hides t.instances in
+        let own = own_tells v m ks (hides_in fs) (mounts_in fs) of.stage g.0 t.hides t.instances in
         let hides : v.subtree.hides ≡ hides_within (node e m ns fs) = own.hides_are ∙ ap (λ b. is_hidden m || (b || hides_in fs)) (sym (none_hide ns bare)) in
-        let has : v.subtree.instances ≡ has_instance_within (node e m ns fs) = own.instances_are ∙ ap (λ b. is_some (instance_in m) || (b || has_instance_in fs)) (sym (none_have ns bare)) in
-        let spared : is_spared_at hint v ≡ is_spared hint (node e m ns fs) = spared_is v m false false (hides_within (node e m ns fs)) (has_instance_within (node e m ns fs)) of.stage hides has in
+        let has : v.subtree.instances ≡ mounts_within (node e m ns fs) = own.instances_are ∙ ap (λ b. is_some (instance_in m) || (b || mounts_in fs)) (sym (none_have ns bare)) in
+        let spared : is_spared_at hint v ≡ is_spared hint (node e m ns fs) = spared_is v m false false (hides_within (node e m ns fs)) (mounts_within (node e m ns fs)) of.stage hides has in
         let found : (is_cause_at stirred v.stage || finds_among hint stirred ks) ≡ (is_cause stirred m || (finds_in hint stirred ns || finds_in hint stirred fs)) =
         ap (λ b. b || finds_among hint stirred ks) (ap (is_cause_at stirred) of.stage) ∙ ap (λ b. is_cause stirred m || b) (list_found 0 fs ks a g.1 ∙ ap (λ b. b || finds_in hint stirred fs) (sym (none_finds hint stirred ns bare))) in
         let number : is_numbered_so n (number_at v.stage) ≡ is_numbered_so n (number_of m) = ap (λ (s : Stage). is_numbered_so n (number_at s)) of.stage in
@@ -309,7 +310,7 @@ module _ (hint stirred : ℕ → Bool) where
     node_put n _ _ _ _ (beside {v = v} {w = w} {e = e} {m = m} {ns = ns} {fs = fs} {ks = ks} {ws = ws} {rest = rest} of hidden kept a stage b) g =
         let t = list_tells 0 ns ks a g.1 in
         let u = list_tells 0 fs ws b g.2.1 in
-        let own = own_tells v m ks (hides_in ns) (has_instance_in ns) of.stage g.0 t.hides t.instances in
+        let own = own_tells v m ks (hides_in ns) (mounts_in ns) of.stage g.0 t.hides t.instances in
         let behind = fallback_tells w _ ws stage g.2.0 in
         let first = kept_put n v m ks of.stage hidden (own.hides_are ∙ ap (λ b. b || hides_in ns) hidden) ∙ list_put n 0 ns ks a g.1 in
         let second : puts_among hint stirred n (fiber 0 w ws shapes.none) ≡ puts_in hint stirred n fs =

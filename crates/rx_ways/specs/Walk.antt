@@ -1,12 +1,13 @@
 -- What a walk finds that goes along hints: in a tree, and in the current fibers that stand for it.
-use Rattle.std.specs.Prelude.{ℕ, Bool, false, not, ◌&&◌, ◌||◌, Option, None, is_some}
+use Rattle.std.specs.Prelude.{ℕ, Bool, false, not, ◌&&◌, ◌||◌, Option, None}
 use Rattle.std.specs.Option.{option_map_or}
-use Rattle.rx_elem.specs.Trees.{Forest, Node, child, instance_in, mark_of, node, none, vacant}
+use Rattle.rx_elem.specs.Trees.{Forest, Node, child, mark_of, node, none, vacant}
 use Rattle.rx_lists.specs.Shapes.{Shape, fiber}
 use Rattle.rx_lists.specs.Shapes as shapes
 use Rattle.rx_meaning.specs.Settled.{is_numbered_so, number_of}
 use Rattle.rx_fiber.specs.Fibers.{Fiber, Stage, waiting, begun, trying, guarding, fallback}
 use Rattle.rx_node.specs.Hides.{hides_within}
+use Rattle.rx_node.specs.Mounts.{mounts_within}
 use Rattle.rx_ways.specs.Leads.{is_cause}
 use Rattle.rx_ways.specs.Ways.{Ways, is_way}
 
@@ -14,24 +15,13 @@ use Rattle.rx_ways.specs.Ways.{Ways, is_way}
 abbrev pub hinted : Ways → Ways → ℕ → Bool
 hinted before sent n = is_way before n || is_way sent n
 
--- an instance is at a node or below, in what is kept and in fallbacks too
-abbrev mutual
-  pub has_instance_within : Node → Bool
-  has_instance_within (node e m ns fs) = is_some (instance_in m) || (has_instance_in ns || has_instance_in fs)
-
-  -- the same for the trees of a list
-  pub has_instance_in : Forest → Bool
-  has_instance_in none = false
-  has_instance_in (vacant ns) = has_instance_in ns
-  has_instance_in (child n ns) = has_instance_within n || has_instance_in ns
-
 -- what is spared hides nothing, and has no instance, or is one with a number that no hint has
 abbrev pub spares : (hint : ℕ → Bool) → (hides has_instance : Bool) → (number : Option ℕ) → Bool
 spares hint hides has_instance number = not hides && (not has_instance || option_map_or (λ n. not (hint n)) number false)
 
 -- a node is spared
 abbrev pub is_spared : (hint : ℕ → Bool) → Node → Bool
-is_spared hint x = spares hint (hides_within x) (has_instance_within x) (number_of (mark_of x))
+is_spared hint x = spares hint (hides_within x) (mounts_within x) (number_of (mark_of x))
 
 -- a cause stands at a node or below, spared nodes apart
 abbrev mutual

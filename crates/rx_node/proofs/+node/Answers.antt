@@ -13,13 +13,13 @@ most_le-twice (None ∷ ns) = omega (arith, most_le-twice ns)
 most_le-twice (Some n ∷ ns) = omega (arith, most_le-twice ns)
 
 -- the children are lower than the node
-pub rx_node++node++Parts+Destruct::drop-drop-requires-3 :
-    goal.rx_node++node++Parts+Destruct::drop-drop-requires-3
-rx_node++node++Parts+Destruct::drop-drop-requires-3 t c κs =
+pub rx_node++node++Parts+Destruct::drop-drop-requires-2 :
+    goal.rx_node++node++Parts+Destruct::drop-drop-requires-2
+rx_node++node++Parts+Destruct::drop-drop-requires-2 t c κs =
     (((omega (arith, c.decreases, most_le-twice c.args.arg1.children.items), tt), tt), (search rules, search rules))
 
 -- so is the fallback
-pub rx_node++node++Parts+Destruct::drop-drop-requires-4 :
-    goal.rx_node++node++Parts+Destruct::drop-drop-requires-4
-rx_node++node++Parts+Destruct::drop-drop-requires-4 t c κs =
+pub rx_node++node++Parts+Destruct::drop-drop-requires-3 :
+    goal.rx_node++node++Parts+Destruct::drop-drop-requires-3
+rx_node++node++Parts+Destruct::drop-drop-requires-3 t c κs =
     (((omega (arith, c.decreases, most_le-twice c.args.arg1.fallback.items), tt), tt), (search rules, search rules))

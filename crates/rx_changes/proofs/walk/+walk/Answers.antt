@@ -9,6 +9,7 @@ use Rattle.rx_compare.specs.ComparedView.{change_seen}
 use Rattle.rx_changes.specs.ChangesView.{changes_seen}
 use Rattle.rx_changes.specs.Found.{logged, no_effects, with_effects, with_list}
 use Rattle.rx_changes.proofs.Bare.{leaf-below}
+use Rattle.rx_changes.proofs.Texts.{texts-below}
 use Rattle.rx_changes.proofs.Walking.{below-parts, list-child, list-vacant, list-end, node-parts}
 use Rattle.rx_changes.proofs.walk.+walk.Goals as goal
 use Rattle.rx_changes.proofs.walk.+walk.Goals.{add_list-in-Some+in_ok-add_node, add_list-in_default}
@@ -44,6 +45,10 @@ add_list-returns t c =
 
 pub add_below-returns-then-is_leaf : goal.add_below-returns-then-is_leaf
 add_below-returns-then-is_leaf t c = leaf-below c.args.logs (change_seen c.args.change.now) (changes_seen c.args.found.now) (c.is_leaf.ensures c.if-is_leaf.true)
+
+pub add_below-returns-then-has_texts_in_place : goal.add_below-returns-then-has_texts_in_place
+add_below-returns-then-has_texts_in_place t c =
+    texts-below c.args.logs (change_seen c.args.change.now) (changes_seen c.args.found.now) (c.has_texts_in_place.ensures c.if-has_texts_in_place.true)
 
 pub add_below-add_list-requires : goal.add_below-add_list-requires
 add_below-add_list-requires t c = (omega (arith, c.decreases, c.children-kids.ensures.lower), c.in_ok-pairs.ensures)
