@@ -7,6 +7,5 @@ pub mod MountedOlds
 pub mod NearOlds
 pub mod Nearest
 pub mod Passed
-pub mod Showing
 pub mod Walked
 pub mod Walking

@@ -1,10 +1,10 @@
 -- What a fiber keeps tells if nothing is at or below it: no instance, or no hidden boundary.
-use Rattle.std.proofs.Common.{◌≡◌, ℕ, ◌+◌, Bool, true, false, not, ◌&&◌, ◌||◌, List, [], ◌++◌, Option, Some, None, is_some, refl, sym, ap, ◌∙◌, subst}
+use Rattle.std.proofs.Common.{◌≡◌, ℕ, ◌+◌, Bool, true, false, not, ◌&&◌, ◌||◌, [], ◌++◌, Option, Some, None, is_some, refl, sym, ap, ◌∙◌, subst}
 use Rattle.rx_base.specs.Values.{Name}
 use Rattle.rx_base.specs.Awaits.{has}
 use Rattle.rx_ast.specs.Syntax.{Program}
 use Rattle.rx_susp.specs.declared.boundary.BoundaryState.TheVariants.{Shown, Hidden}
-use Rattle.rx_elem.specs.Spots.{Around, Mounted}
+use Rattle.rx_elem.specs.Spots.{Around}
 use Rattle.rx_elem.specs.Trees.{Instance, Mark, awaits_in, instance_in, is_hidden, of_boundary, of_catcher, of_host, of_instance, plain}
 use Rattle.rx_lists.specs.Shapes.{Shape, Holds, none, fiber}
 use Rattle.rx_links.specs.Drafts.{kids_of}

@@ -3,4 +3,3 @@ pub mod NearFibers
 pub mod MountedFibers
 pub mod CountedFibers
 pub mod AwaitedFibers
-pub mod Shown

@@ -1,89 +1,20 @@
 // The instances of the current fibers.
-ghost use Rattle.std.specs.Prelude.{◌≡◌, ◌++◌, IfOk, IfSome, OnOk, Option, Some};
+ghost use Rattle.std.specs.Prelude.{◌≡◌, ◌++◌, IfOk, IfSome, OnOk, Option};
 ghost use Rattle.rx_elem.specs.Spots as spots;
-ghost use Rattle.rx_elem.specs.Spots.{mounted_as};
 ghost use Rattle.rx_elem.specs.Trees as trees;
 ghost use Rattle.rx_lists.specs.Shapes.{Holds};
 ghost use Rattle.rx_links.specs.Readers.{list_from};
 ghost use Rattle.rx_fiber.specs.OldLists.{begins_fallback};
 ghost use Rattle.rx_fiber.specs.Reading.{IsTreeOf};
 ghost use Rattle.rx_fiber.specs.Subtrees.{IsGathered};
-ghost use Rattle.rx_node.specs.MarkView.{instance_seen};
 ghost use Rattle.rx_instances.specs.NearFibers.{instance_at};
 ghost use Rattle.rx_instances.specs.MountedFibers.{around_kids, mounted_first, mounted_from, own_mounted};
 
 use crate::find::instance_of;
-use rx_base::Ints;
 use rx_fiber::{Fiber, Stage, is_fallback};
 use rx_links::{FiberId, FiberTree};
-use rx_node::Instance;
-use rx_spots::Around;
+use rx_spots::{Around, Mounted};
 use std::alloc::{AllocError, Global};
-use std::marker::Model;
-use std::rc::Rc;
-
-/// An instance of the committed tree, read from its fiber: its number, its component by its number in the order of the text,
-/// the initial values of its hooks, the nearest instance above it, and whether it is visible.
-#[derive(Drop)]
-pub(crate) struct Mounted {
-    number: u64,
-    component: u32,
-    initials: Rc<Ints>,
-    owner: Option<u64>,
-    visible: bool,
-}
-
-impl Model for Mounted {
-    ghost use Rattle.rx_elem.specs.Spots as spots;
-
-    ghost Value = { spots.Mounted };
-
-    ghost view = { λ m. record { number = m.number; component = m.component; initials = m.initials.value; owner = m.owner; visible = m.visible } };
-}
-
-impl Mounted {
-    /// Its number.
-    pub(crate) fn number(&self) -> u64
-        ensures { result ≡ self.now.number }
-    {
-        self.number
-    }
-
-    /// Its component, by its number in the order of the text.
-    pub(crate) fn component(&self) -> u32
-        ensures { result ≡ self.now.component }
-    {
-        self.component
-    }
-
-    /// The initial values of its hooks, in statement order.
-    pub(crate) fn initials(&self) -> &Ints
-        ensures { result.now ≡ self.now.initials }
-    {
-        &self.initials
-    }
-
-    /// True if it lies in no kept primary.
-    pub(crate) fn is_visible(&self) -> bool
-        ensures { result ≡ self.now.visible }
-    {
-        self.visible
-    }
-
-    // The instance of this number, by what surrounds it.
-    fn new(instance: &Instance, number: u64, around: Around) -> Result<Mounted, AllocError>
-        ensures { IfOk result (λ m. Some m ≡ mounted_as around (record (instance_seen instance.now) { number = Some number })) }
-    {
-        let initials = instance.initials.clone()?;
-        Ok(Mounted {
-            number,
-            component: instance.component,
-            initials,
-            owner: around.owner(),
-            visible: around.is_visible(),
-        })
-    }
-}
 
 /// Whether the fiber of a boundary's fallback stands right behind its own, where this one does: then it keeps its children.
 pub(crate) fn keeps(tree: &FiberTree<Fiber>, behind: Option<FiberId>) -> bool

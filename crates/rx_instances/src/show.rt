@@ -1,83 +1,19 @@
 // The hooks of all instances, with their committed values.
-ghost use Rattle.std.specs.Prelude.{◌≡◌, ◌<◌, ◌++◌, ◌∷◌, OnOk, OnErr, IfOk, map, take};
-ghost use Rattle.rx_ast.specs.Syntax.{Program};
+ghost use Rattle.std.specs.Prelude.{◌≡◌, OnOk, OnErr};
 ghost use Rattle.rx_fiber.specs.Reading.{IsTreeOf};
 ghost use Rattle.rx_fiber.specs.Subtrees.{IsGathered};
 ghost use Rattle.rx_hook_store.specs.Store.{kept_hooks};
-ghost use Rattle.rx_lines.specs.Lines as report;
 ghost use Rattle.rx_model.specs.HooksOf.{KeepsAllHooks};
-ghost use Rattle.rx_model.specs.State.{State, committed_values, state_line, state_lines};
-ghost use Rattle.rx_instances.specs.Shown.{GoesOn, KeepsOne, KeepsThese, with_lines};
+ghost use Rattle.rx_model.specs.State.{State, state_lines};
+ghost use Rattle.rx_mounts.specs.Shown.{with_lines};
 
-use crate::mounted::{Mounted, read_mounted};
-use rx_base::{Int, Name};
+use crate::mounted::read_mounted;
 use rx_check::Checked;
-use rx_dispatch::{hooks_at, name_of};
 use rx_fiber::Fiber;
-use rx_hook_store::{HookStore, hooks_are_there};
+use rx_hook_store::HookStore;
 use rx_links::FiberTree;
 use rx_report::Report;
 use std::alloc::{AllocError, Global};
-
-// The committed values of the first hooks of an instance: so many, or all if there are fewer.
-fn values_of(
-    alloc: Global,
-    hooks: &HookStore,
-    instance: &Mounted,
-    most: u32,
-) -> Result<Vec<Int>, AllocError>
-    requires { (p : Program) × ((s : State) × KeepsOne p s (kept_hooks hooks.now) instance.now) }
-    ensures { IfOk result (λ values. (p : Program) (s : State) → KeepsOne p s (kept_hooks hooks.now) instance.now
-        → values.items ≡ take most (committed_values p s.journal instance.now)) }
-{
-    hooks_are_there();
-    let count = instance.initials().as_slice().len().min(most as usize);
-    let mut values = Vec::new(alloc);
-    'reading: for place in 0..count {
-        values.push(hooks.committed(instance.number(), place as u32))?;
-    }
-    Ok(values)
-}
-
-// The line of an instance. An `Err` leaves the report as it was.
-fn show_one(
-    alloc: Global,
-    log: &mut Report,
-    checked: &Checked,
-    hooks: &HookStore,
-    instance: &Mounted,
-) -> Result<(), AllocError>
-    requires { (s : State) × KeepsOne checked.now s (kept_hooks hooks.now) instance.now }
-    ensures ok { OnOk result ((s : State) → KeepsOne checked.now s (kept_hooks hooks.now) instance.now
-        → log.new ≡ report.with_line log.old (state_line checked.now s.journal instance.now)) }
-    ensures err { OnErr result (log.new ≡ log.old) }
-{
-    let name = Name::new(alloc, name_of(checked, instance.component()))?;
-    let names = hooks_at(alloc, checked, instance.component())?;
-    let values = values_of(alloc, hooks, instance, names.len() as u32)?;
-    let hidden = !instance.is_visible();
-    log.state_line(instance.number(), &name, &names, &values, hidden)
-}
-
-// The lines of all instances. An `Err` leaves some of them.
-fn show_these(
-    alloc: Global,
-    log: &mut Report,
-    checked: &Checked,
-    hooks: &HookStore,
-    all: &[Mounted],
-) -> Result<(), AllocError>
-    requires { (s : State) × KeepsThese checked.now s (kept_hooks hooks.now) all.now }
-    ensures ok { OnOk result ((s : State) → KeepsThese checked.now s (kept_hooks hooks.now) all.now
-        → log.new ≡ with_lines log.old (report.state_head ∷ map (state_line checked.now s.journal) all.now)) }
-    ensures err { OnErr result (GoesOn log.old log.new) }
-{
-    log.state_head()?;
-    'showing: for instance in all {
-        show_one(alloc, log, checked, hooks, instance)?;
-    }
-    Ok(())
-}
 
 /// The lines that show the hooks of all instances of the current fibers, in tree order, each hook with its committed value
 /// (react.dev, State as a Snapshot). An `Err` leaves the report as it was.
@@ -95,14 +31,9 @@ pub fn show_hooks(
     requires gathered { IsGathered tree.now.current }
     requires keeps { (s : State) × (IsTreeOf s.tree tree.now.current × KeepsAllHooks checked.now s (kept_hooks hooks.now)) }
     ensures ok { OnOk result ((s : State) → IsTreeOf s.tree tree.now.current → KeepsAllHooks checked.now s (kept_hooks hooks.now)
-        → log.new ≡ record log.old { bytes = log.old.bytes ++ report.report_bytes log.old.options (state_lines checked.now s) }) }
+        → log.new ≡ with_lines log.old (state_lines checked.now s)) }
     ensures err { OnErr result (log.new ≡ log.old) }
 {
-    let len = log.len();
     let all = read_mounted(alloc, tree)?;
-    let shown = show_these(alloc, log, checked, hooks, &all);
-    if shown.is_err() {
-        log.cut(len);
-    }
-    shown
+    rx_mounts::show_hooks(alloc, log, checked, &all, hooks)
 }

@@ -66,12 +66,12 @@ impl Mounted {
         self.visible
     }
 
-    // The instance of this number, by what surrounds it.
-    pub(crate) fn new(
-        instance: &Instance,
-        number: u64,
-        around: Around,
-    ) -> Result<Mounted, AllocError>
+    /// The instance of this number, by what surrounds it: it has the initial values of the node's instance by one handle more.
+    ///
+    /// # Errors
+    ///
+    /// Only if out of memory.
+    pub fn new(instance: &Instance, number: u64, around: Around) -> Result<Mounted, AllocError>
         ensures { IfOk result (λ m. Some m ≡ mounted_as around (record (instance_seen instance.now) { number = Some number })) }
     {
         let initials = instance.initials.clone()?;
