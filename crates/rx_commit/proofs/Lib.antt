@@ -1,4 +1,3 @@
-pub mod Behind
 pub mod Committed
 pub mod Lines
 pub mod Beside

@@ -1,7 +1,6 @@
 -- The lines of a prepared commit.
 use Rattle.std.proofs.Common.{◌≡◌, ℕ, ℤ, false, List, [], ◌∷◌, ◌++◌, Option, sym, ap, ◌∙◌}
 use Rattle.std.specs.Prelude.{map, if◌then◌else◌}
-use Rattle.std.proofs.lemmas.List.{map-append}
 use Rattle.rx_lane.specs.declared.lane.Lane.TheVariants as lane
 use Rattle.rx_lane.specs.Lanes.{Lanes, has, lanes_where}
 use Rattle.rx_lane.specs.SetLaws.{has-lanes_where}
@@ -14,8 +13,9 @@ use Rattle.rx_forest.specs.HostOps.{host_ops}
 use Rattle.rx_meaning.specs.Outcome.{newly_caught}
 use Rattle.rx_lines.specs.Lines.{Counts, Line, Written, caught, committed, operated, logged, with_line}
 use Rattle.rx_commit.specs.Shown.{Prepared, Prepares}
-use Rattle.rx_commit.specs.Written.{passive_lines, sync_lines, lines_of, with_lines}
-use Rattle.rx_commit.proofs.Behind.{with_lines-nil, with_lines-append, with_lines-cons}
+use Rattle.rx_commit.specs.Written.{sync_lines, lines_of}
+use Rattle.rx_writing.specs.Written.{passive_lines, with_lines}
+use Rattle.rx_writing.proofs.Behind.{with_lines-nil, with_lines-append, with_lines-cons}
 
 -- a set of lanes made anew has the lane Sync if the set has it
 pub sync-anew : (lanes : Lanes) (passive : Passive) → sync_lines lanes passive ≡ sync_lines (lanes_where (has lanes)) passive
@@ -24,16 +24,6 @@ sync-anew lanes passive = ap (λ b. if b then passive_lines passive else []) (sy
 -- a commit without the lane Sync runs no passive effect itself
 pub sync-none : (lanes : Lanes) (passive : Passive) (r : Written) → has lanes lane.Sync ≡ false → r ≡ with_lines r (sync_lines lanes passive)
 sync-none lanes passive r e = sym (with_lines-nil r) ∙ ap (λ b. with_lines r (if b then passive_lines passive else [])) (sym e)
-
--- effects that are destroyed, and then effects that are created
-pub passive-parts : (r a b : Written) (ds es xs ys : List LogLine) → xs ≡ ds → ys ≡ es → a ≡ with_lines r (map logged xs) → b ≡ with_lines a (map logged ys)
-    → b ≡ with_lines r (map logged (ds ++ es))
-passive-parts r a b ds es xs ys d e f g =
-    g
-    ∙ ap (λ (ls : List LogLine). with_lines a (map logged ls)) e
-    ∙ ap (λ (w : Written). with_lines w (map logged es)) (f ∙ ap (λ (ls : List LogLine). with_lines r (map logged ls)) d)
-    ∙ sym (with_lines-append r (map logged ds) (map logged es))
-    ∙ ap (with_lines r) (sym (map-append logged ds es))
 
 -- a line, then operations, then what is caught, and then effects
 pub own-parts : (r a b m c : Written) (l : Line) (ops xs : List HostOp) (vs ws : List ℤ) (log ys : List LogLine) → xs ≡ ops → ws ≡ vs → ys ≡ log → a ≡ with_line r l

@@ -1,28 +1,14 @@
 -- What a commit writes.
-use Rattle.std.specs.Prelude.{◌≡◌, ℕ, List, [], ◌∷◌, ◌++◌, Option, map, if◌then◌else◌}
-use Rattle.rx_base.specs.Values.{Text}
+use Rattle.std.specs.Prelude.{ℕ, List, [], ◌∷◌, ◌++◌, Option, map, if◌then◌else◌}
 use Rattle.rx_lane.specs.declared.lane.Lane.TheVariants as lane
 use Rattle.rx_lane.specs.Lanes.{Lanes, has}
 use Rattle.rx_elem.specs.Trees.{Node}
 use Rattle.rx_elem.specs.Compare.{compare_trees}
-use Rattle.rx_effect.specs.EffectLog.{Passive, layout_log, passive_of, passive_log}
+use Rattle.rx_effect.specs.EffectLog.{Passive, layout_log, passive_of}
 use Rattle.rx_forest.specs.HostOps.{host_ops}
-use Rattle.rx_lines.specs.Lines.{Line, Counts, Written, caught, committed, operated, logged, report_bytes}
+use Rattle.rx_lines.specs.Lines.{Line, Counts, caught, committed, operated, logged}
 use Rattle.rx_meaning.specs.Outcome.{newly_caught}
-
--- a report with these lines behind its own
-abbrev pub with_lines : Written → List Line → Written
-with_lines r lines = record { options = r.options; bytes = r.bytes ++ report_bytes r.options lines }
-
--- a report went on: nothing of it changed but that bytes came behind its own
-pub record GoesOn (old new : Written) : Type 0 where
-  pub options : new.options ≡ old.options
-  pub more : Text
-  pub bytes : new.bytes ≡ old.bytes ++ more
-
--- the lines of passive effects that run, destructions before creations
-abbrev pub passive_lines : Passive → List Line
-passive_lines passive = map logged (passive_log passive)
+use Rattle.rx_writing.specs.Written.{passive_lines}
 
 -- the lines of the passive effects that a commit runs itself: all of them, if it has the lane Sync
 abbrev pub sync_lines : Lanes → Passive → List Line

@@ -3,8 +3,6 @@
 
 mod prepared;
 mod shown;
-mod writing;
 
 pub use prepared::Prepared;
 pub use shown::Shown;
-pub use writing::cut_back;

@@ -14,9 +14,9 @@ ghost use Rattle.host_laws.specs.Related.{AreDistinct};
 ghost use Rattle.prune_laws.specs.Present.{IfHasNoNull};
 ghost use Rattle.prune_laws.specs.Staying.{AreOfCommit};
 ghost use Rattle.rx_commit.specs.Shown.{Prepares};
-ghost use Rattle.rx_commit.specs.Written.{GoesOn, lines_of, sync_lines, with_lines};
+ghost use Rattle.rx_commit.specs.Written.{lines_of, sync_lines};
+ghost use Rattle.rx_writing.specs.Written.{GoesOn, with_lines};
 
-use crate::writing::{add_caught, add_lines, add_ops, cut_back};
 use prune_laws::{hosts_that_stay_need_nothing, pruned_trees_compare_alike};
 use rx_base::Int;
 use rx_changes::{Changes, Lines, changes_between};
@@ -26,6 +26,7 @@ use rx_lane::{Lane, Lanes};
 use rx_node as node;
 use rx_pruned::Beside;
 use rx_report::Report;
+use rx_writing::{add_caught, add_lines, add_ops, cut_back};
 use std::alloc::{AllocError, Global};
 use std::marker::Model;
 

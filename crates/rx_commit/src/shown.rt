@@ -16,10 +16,9 @@ ghost use Rattle.end_laws.specs.Trimmed.{trimmed, trimmed_if};
 ghost use Rattle.host_laws.specs.Commits.{IsCommit, TextsAreLeaves};
 ghost use Rattle.prune_laws.specs.Present.{IfHasNoNull};
 ghost use Rattle.rx_commit.specs.Shown.{CanCommit, Prepares, Shows, outcome_as};
-ghost use Rattle.rx_commit.specs.Written.{passive_lines, with_lines};
+ghost use Rattle.rx_writing.specs.Written.{passive_lines, with_lines};
 
 use crate::prepared::Prepared;
-use crate::writing::{add_lines, cut_back};
 use prune_laws::pruned_trees_compare_alike;
 use rx_base::Awaits;
 use rx_changes::{Lines, changes_between};
@@ -29,6 +28,7 @@ use rx_lane::Lanes;
 use rx_node as node;
 use rx_pruned::Beside;
 use rx_report::Report;
+use rx_writing::{add_lines, cut_back};
 use std::alloc::{AllocError, Global};
 use std::marker::Model;
 

@@ -5,7 +5,7 @@ ghost use Rattle.rx_fiber.specs.Subtrees.{IsGathered};
 ghost use Rattle.rx_hook_store.specs.Store.{kept_hooks};
 ghost use Rattle.rx_model.specs.HooksOf.{KeepsAllHooks};
 ghost use Rattle.rx_model.specs.State.{State, state_lines};
-ghost use Rattle.rx_mounts.specs.Shown.{with_lines};
+ghost use Rattle.rx_writing.specs.Written.{with_lines};
 
 use crate::mounted::read_mounted;
 use rx_check::Checked;

@@ -1,5 +1,5 @@
 -- The values of an instance's hooks one by one, and a report that grows by lines.
-use Rattle.std.proofs.Common.{◌≡◌, ℕ, suc, ◌+◌, ◌<◌, ◌≤◌, min, Bool, true, false, nat_lt, not, List, [], ◌∷◌, ◌++◌, ℤ, Option, Some, length, get_or, take, map, refl, sym, ap, ◌∙◌, arith, append_assoc, append-nil}
+use Rattle.std.proofs.Common.{◌≡◌, ℕ, suc, ◌+◌, ◌<◌, ◌≤◌, min, Bool, true, false, nat_lt, not, List, [], ◌∷◌, ◌++◌, ℤ, Option, Some, length, get_or, take, map, refl, sym, ap, ◌∙◌, arith}
 use Rattle.std.specs.Prelude.{Result, Ok, Err, OnOk, slice_get}
 use Rattle.std.specs.List.{enumerate_from, zip}
 use Rattle.std.proofs.lemmas.List.{length-map, map-append, take_more, take_all}
@@ -10,9 +10,11 @@ use Rattle.rx_ast.specs.Syntax.{Program}
 use Rattle.rx_elem.specs.Spots.{Mounted}
 use Rattle.rx_queue.specs.Journal.{Journal}
 use Rattle.rx_hooks.specs.declared.hook.Hook.{Hook}
-use Rattle.rx_lines.specs.Lines.{HookValue, Line, Options, Written, line_bytes, report_bytes, state_of, with_line}
+use Rattle.rx_lines.specs.Lines.{HookValue, Line, Written, state_of, with_line}
 use Rattle.rx_model.specs.State.{State, committed_values, hooks_at, hooks_shown, name_of, state_line}
-use Rattle.rx_mounts.specs.Shown.{GoesOn, KeepsOne, KeepsThese, with_lines}
+use Rattle.rx_mounts.specs.Shown.{KeepsOne, KeepsThese}
+use Rattle.rx_writing.specs.Written.{with_lines}
+use Rattle.rx_writing.proofs.Behind.{with_lines-append, with_lines-one}
 
 length-enumerate : {A : Type 0} (n : ℕ) (xs : List A) → length (enumerate_from n xs) ≡ length xs
 length-enumerate n [] = refl
@@ -45,27 +47,13 @@ zip-take [] ys = refl
 zip-take (x ∷ xs) [] = refl
 zip-take (x ∷ xs) (y ∷ ys) = ap (λ zs. (x, y) ∷ zs) (zip-take xs ys)
 
-bytes-more : (o : Options) (ls : List Line) (l : Line) → report_bytes o (ls ++ l ∷ []) ≡ report_bytes o ls ++ line_bytes o l
-unfolding report_bytes
-bytes-more o [] l = append-nil (line_bytes o l)
-bytes-more o (x ∷ xs) l = ap (λ t. line_bytes o x ++ t) (bytes-more o xs l) ∙ sym (append_assoc (line_bytes o x) (report_bytes o xs) (line_bytes o l))
-
--- a report with one line
-pub first-line : (r : Written) (l : Line) → with_line r l ≡ with_lines r (l ∷ [])
-unfolding report_bytes
-first-line r l = ap (λ t. record r { bytes = r.bytes ++ t }) (sym (append-nil (line_bytes r.options l)))
-
--- and with one line more
-pub next-line : (r : Written) (ls : List Line) (l : Line) → with_line (with_lines r ls) l ≡ with_lines r (ls ++ l ∷ [])
-next-line r ls l =
-    ap (λ t. record r { bytes = t }) (append_assoc r.bytes (report_bytes r.options ls) (line_bytes r.options l) ∙ ap (λ t. r.bytes ++ t) (sym (bytes-more r.options ls l)))
-
 -- the lines of one instance more
 pub one-line : (r before after : Written) (first : Line) (line : Mounted → Line) (ms : List Mounted) (k : ℕ) (m : Mounted) → k < length ms → m ≡ get_or ms k m
     → before ≡ with_lines r (first ∷ map line (take k ms)) → after ≡ with_line before (line m) → after ≡ with_lines r (first ∷ map line (take (k + 1) ms))
 one-line r before after first line ms k m h e so_far now =
     now ∙ ap (λ w. with_line w (line m)) so_far
-    ∙ next-line r (first ∷ map line (take k ms)) (line m)
+    ∙ sym (with_lines-one (with_lines r (first ∷ map line (take k ms))) (line m))
+    ∙ sym (with_lines-append r (first ∷ map line (take k ms)) (line m ∷ []))
     ∙ ap (λ ls. with_lines r (first ∷ ls)) (sym (map-append line (take k ms) (m ∷ [])) ∙ ap (map line) (ap (λ y. take k ms ++ y ∷ []) e ∙ sym (take_more ms k m h)))
 
 -- the lines of all
@@ -81,14 +69,6 @@ one-of p s kept all keeps k m h e = record {
   is_there = ap (λ ms. slice_get ms k) (sym keeps.are) ∙ (slice_get-get_or all k m h ∙ ap (λ x. Some x) (sym e));
   keeps = keeps.keeps;
 }
-
-take-front : {A : Type 0} (xs ys : List A) → take (length xs) (xs ++ ys) ≡ xs
-take-front [] ys = refl
-take-front (x ∷ xs) ys = ap (λ zs. x ∷ zs) (take-front xs ys)
-
--- a report that goes on, cut back
-pub cut-back : (old new : Written) → GoesOn old new → record { options = new.options; bytes = take (length old.bytes) new.bytes } ≡ old
-cut-back old new g = rw g.is (ap (λ t. record old { bytes = t }) (take-front old.bytes g.more))
 
 abbrev shown : Name × ℤ → HookValue
 shown x = record { name = x.0; value = x.1 }

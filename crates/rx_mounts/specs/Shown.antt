@@ -1,10 +1,8 @@
--- For which states of the machine the hooks of an instance are shown, and how a report grows.
-use Rattle.std.specs.Prelude.{◌≡◌, ℕ, List, Option, Some, slice_get, ◌++◌}
+-- For which states of the machine the hooks of an instance are shown.
+use Rattle.std.specs.Prelude.{◌≡◌, ℕ, List, Option, Some, slice_get}
 use Rattle.rx_ast.specs.Syntax.{Program}
-use Rattle.rx_base.specs.Values.{Text}
 use Rattle.rx_elem.specs.Spots.{Mounted, mounted}
 use Rattle.rx_hooks.specs.declared.hook.Hook.{Hook}
-use Rattle.rx_lines.specs.Lines.{Line, Written, report_bytes}
 use Rattle.rx_model.specs.HooksOf.{KeepsAllHooks}
 use Rattle.rx_model.specs.State.{State}
 
@@ -18,12 +16,3 @@ pub record KeepsOne (p : Program) (s : State) (kept : ℕ → Option (List Hook)
   pub place : ℕ
   pub is_there : slice_get (mounted s.tree) place ≡ Some m
   pub keeps : KeepsAllHooks p s kept
-
--- a report with these lines behind it
-abbrev pub with_lines : Written → List Line → Written
-with_lines r ls = record r { bytes = r.bytes ++ report_bytes r.options ls }
-
--- a report goes on from another one, whatever stands behind that
-pub record GoesOn (old new : Written) : Type 0 where
-  pub more : Text
-  pub is : new ≡ record old { bytes = old.bytes ++ more }

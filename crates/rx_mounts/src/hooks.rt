@@ -4,7 +4,8 @@ ghost use Rattle.rx_ast.specs.Syntax.{Program};
 ghost use Rattle.rx_hook_store.specs.Store.{kept_hooks};
 ghost use Rattle.rx_lines.specs.Lines as report;
 ghost use Rattle.rx_model.specs.State.{State, committed_values, state_line, state_lines};
-ghost use Rattle.rx_mounts.specs.Shown.{GoesOn, KeepsOne, KeepsThese, with_lines};
+ghost use Rattle.rx_mounts.specs.Shown.{KeepsOne, KeepsThese};
+ghost use Rattle.rx_writing.specs.Written.{GoesOn, with_lines};
 
 use rx_base::{Int, Name};
 use rx_check::Checked;

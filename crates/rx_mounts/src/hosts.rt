@@ -6,7 +6,7 @@ ghost use Rattle.rx_forest.specs.Hosts as listed;
 ghost use Rattle.rx_host.specs.Kept.{forest_kept};
 ghost use Rattle.rx_lines.specs.Lines.{tree_lines};
 ghost use Rattle.rx_mounts.specs.Committed.{AreCommitted};
-ghost use Rattle.rx_mounts.specs.Shown.{with_lines};
+ghost use Rattle.rx_writing.specs.Written.{with_lines};
 
 use rx_host::{HostTree, replay};
 use rx_host_ops::{Host, hosts, ops_between};

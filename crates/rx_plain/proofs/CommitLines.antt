@@ -1,22 +1,11 @@
 -- The lines of a commit.
 use Rattle.std.proofs.Common.{◌≡◌, ℤ, false, List, [], ◌∷◌, ◌++◌, map, sym, ap, ◌∙◌}
 use Rattle.std.specs.List.{AllByRecursion}
-use Rattle.std.proofs.lemmas.List.{map-append}
 use Rattle.rx_effect.specs.declared.log.LogLine.{LogLine}
 use Rattle.rx_forest.specs.declared.op.HostOp.{HostOp}
 use Rattle.rx_lines.specs.Lines.{Line, Written, caught, is_printed, logged, operated, with_line}
-use Rattle.rx_mounts.specs.Shown.{with_lines}
-use Rattle.rx_plain.proofs.Behind.{not_printed, with_lines-append, with_lines-cons}
-
--- effects that are destroyed, and then effects that are created
-pub effect-parts : (r a b : Written) (ds es xs ys : List LogLine) → xs ≡ ds → ys ≡ es → a ≡ with_lines r (map logged xs) → b ≡ with_lines a (map logged ys)
-    → b ≡ with_lines r (map logged (ds ++ es))
-effect-parts r a b ds es xs ys d e f g =
-    g
-    ∙ ap (λ (ls : List LogLine). with_lines a (map logged ls)) e
-    ∙ ap (λ (w : Written). with_lines w (map logged es)) (f ∙ ap (λ (ls : List LogLine). with_lines r (map logged ls)) d)
-    ∙ sym (with_lines-append r (map logged ds) (map logged es))
-    ∙ ap (with_lines r) (sym (map-append logged ds es))
+use Rattle.rx_writing.specs.Written.{with_lines}
+use Rattle.rx_writing.proofs.Behind.{not_printed, with_lines-append, with_lines-cons}
 
 -- operations are not printed
 unprinted : (r : Written) (ops : List HostOp) → r.options.ops ≡ false → AllByRecursion (λ l. is_printed r.options.ops l ≡ false) (map operated ops)

@@ -44,12 +44,12 @@ use Rattle.rx_pruned.specs.Pruned.{ArePruned}
 use Rattle.rx_resources.specs.Kept.{Kept, committed}
 use Rattle.rx_settle.specs.Settling.{IsSettlingOf}
 use Rattle.rx_spots.specs.Waits.{AreWithinReach}
-use Rattle.rx_mounts.specs.Shown.{with_lines}
+use Rattle.rx_writing.specs.Written.{with_lines}
 use Rattle.rx_plain.specs.Plained.{Going, Plained}
 use Rattle.rx_plain.specs.Doing.{HasDone, KnowsSince}
 use Rattle.rx_plain.specs.Stands.{HasProgress, HasRoomForTurns, LeavesRoom, StandsFor, StandsWith}
 use Rattle.rx_kept.specs.Keeping.{AreDeclared, KeepsResources}
-use Rattle.rx_plain.proofs.Behind.{with_lines-append, with_lines-one}
+use Rattle.rx_writing.proofs.Behind.{with_lines-append, with_lines-one}
 use Rattle.rx_kept.proofs.NumbersGrow.{hosts_grow, instances_grow}
 use Rattle.rx_kept.proofs.Resources.{commit_declared, commit_stays}
 

@@ -1,4 +1,3 @@
-pub mod Behind
 pub mod CommitLines
 pub mod Keeping
 pub mod Standing

@@ -50,7 +50,7 @@ use Rattle.rx_plain.specs.Stands.{HasRoomFor, StandsFor}
 use Rattle.rx_kept.specs.Keeping.{AreDeclared, KeepsResources}
 use Rattle.rx_plain.specs.Taking.{accepted_by, with_later}
 use Rattle.rx_kept.specs.Taking.{CanTake, claimed_by}
-use Rattle.rx_plain.proofs.Behind.{with_lines-nil, with_lines-one}
+use Rattle.rx_writing.proofs.Behind.{with_lines-nil, with_lines-one}
 use Rattle.rx_kept.proofs.HookCounts.{mounted_hooks}
 use Rattle.rx_kept.proofs.Paths.{dispatch_hook, found_hook, found_there}
 use Rattle.rx_plain.proofs.Standing.{stands_after, stands_as}

@@ -15,7 +15,7 @@ use Rattle.rx_model.specs.Stretch.{Stretch, silent}
 use Rattle.rx_model.specs.Accepting.{between_events, is_awaited_in, last_value, resolved, resolved_as, within, with_value}
 use Rattle.rx_model.specs.Committing.{passive_run}
 use Rattle.rx_model.specs.Laws.{IsReached}
-use Rattle.rx_mounts.specs.Shown.{with_lines}
+use Rattle.rx_writing.specs.Written.{with_lines}
 use Rattle.rx_resources.specs.Kept.{value_of}
 use Rattle.rx_resources.specs.Kept as kept_of
 use Rattle.rx_resources.specs.Store.{kept_at, resolved_at}
@@ -24,7 +24,7 @@ use Rattle.rx_plain.specs.Plained.{Plained}
 use Rattle.rx_plain.specs.Doing.{HasDone}
 use Rattle.rx_elem.specs.Numbers.{Numbers}
 use Rattle.rx_plain.specs.Stands.{HasRoomFor, StandsFor}
-use Rattle.rx_plain.proofs.Behind.{with_lines-nil, with_lines-one}
+use Rattle.rx_writing.proofs.Behind.{with_lines-nil, with_lines-one}
 use Rattle.rx_kept.proofs.Resources.{last_is}
 use Rattle.rx_plain.proofs.Standing.{at_time, stands_as, stands_resolved}
 

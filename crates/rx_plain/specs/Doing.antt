@@ -11,7 +11,7 @@ use Rattle.rx_model.specs.State.{Progress, State}
 use Rattle.end_laws.specs.Trimmed.{trimmed, trimmed_if}
 use Rattle.rx_lines.specs.Lines.{Written}
 use Rattle.rx_model.specs.Stretch.{Stretch}
-use Rattle.rx_mounts.specs.Shown.{with_lines}
+use Rattle.rx_writing.specs.Written.{with_lines}
 use Rattle.rx_plain.specs.Plained.{Going, Plained}
 use Rattle.rx_plain.specs.Stands.{GoesOnWith, StandsFor, StandsWith}
 use Rattle.rx_kept.specs.Keeping.{AreDeclared, KeepsResources}

@@ -19,12 +19,11 @@ ghost use Rattle.rx_changes.specs.ChangesView.{passive_seen};
 ghost use Rattle.rx_hook_store.specs.Store.{kept_hooks};
 ghost use Rattle.rx_numbers.specs.Room.{FitIn};
 ghost use Rattle.rx_settle.specs.Settling.{CanSettle, IsSettlingOf};
-ghost use Rattle.rx_mounts.specs.Shown.{with_lines};
+ghost use Rattle.rx_writing.specs.Written.{with_lines};
 ghost use Rattle.rx_plain.specs.Doing.{HasDone, IsAtEnd, IsAtTrimmedEnd, IsCommitting, KnowsSince, KnowsSinceSome, outcome_as};
 ghost use Rattle.rx_plain.specs.Stands.{HasRoomForTurns, LeavesRoom, StandsWith};
 
 use crate::plain::{Going, Plain};
-use crate::writing::{add_caught, add_lines};
 use end_laws::{ends_are_not_compared, ends_are_not_numbered, ends_are_not_read};
 use rx_base::{Awaits, Int};
 use rx_changes::{Changes, Lines, changes_between};
@@ -36,6 +35,7 @@ use rx_numbers::{number, trim};
 use rx_report::Report;
 use rx_settle::settle_hooks;
 use rx_spots::awaited;
+use rx_writing::{add_caught, add_lines};
 use std::alloc::AllocError;
 
 // Writes what a commit does, but for the passive effects: its line, what error boundaries catch, and the layout effects. The report

@@ -8,6 +8,5 @@ mod plain;
 mod resolving;
 mod showing;
 mod turns;
-mod writing;
 
 pub use plain::Plain;

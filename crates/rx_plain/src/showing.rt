@@ -10,12 +10,11 @@ ghost use Rattle.rx_model.specs.Committing.{passive_run};
 ghost use Rattle.rx_model.specs.Laws.{IsBounded};
 ghost use Rattle.rx_model.specs.State.{State, end_line, state_lines};
 ghost use Rattle.rx_sched.specs.Events.{no_event};
-ghost use Rattle.rx_mounts.specs.Shown.{with_lines};
+ghost use Rattle.rx_writing.specs.Written.{with_lines};
 ghost use Rattle.rx_plain.specs.Doing.{HasDone};
 ghost use Rattle.rx_plain.specs.Stands.{StandsFor, StandsForSome};
 
 use crate::plain::Plain;
-use crate::writing::add_lines;
 use end_laws::ends_are_not_read;
 use rx_check::Checked;
 use rx_lane::Lanes;
@@ -23,6 +22,7 @@ use rx_mounts::{show_hooks, show_hosts};
 use rx_report::Report;
 use rx_sched::Event;
 use rx_spots::{hidden_count, mounted};
+use rx_writing::add_lines;
 use std::alloc::AllocError;
 
 impl Plain {

@@ -14,7 +14,7 @@ ghost use Rattle.rx_sched.specs.Events.{no_event};
 ghost use Rattle.rx_sched.specs.Schedule.{is_sliced};
 ghost use Rattle.end_laws.specs.Trimmed.{trimmed};
 ghost use Rattle.rx_fresh.specs.PlaceView.{place_seen};
-ghost use Rattle.rx_mounts.specs.Shown.{with_lines};
+ghost use Rattle.rx_writing.specs.Written.{with_lines};
 ghost use Rattle.rx_plain.specs.Stands.{HasSomeProgress, StandsFor, StandsWith};
 ghost use Rattle.rx_plain.specs.Taking.{with_units};
 

@@ -28,7 +28,7 @@ use Rattle.rx_fiber.specs.Reading.{IsTreeOf}
 use Rattle.rx_hook_store.specs.Store.{Kept, kept_hooks}
 use Rattle.rx_hook_store.proofs.Staying.{all_stay}
 use Rattle.rx_commit.specs.Shown.{Shown, Shows}
-use Rattle.rx_commit.specs.Written.{passive_lines, with_lines}
+use Rattle.rx_writing.specs.Written.{passive_lines, with_lines}
 use Rattle.rx_render.specs.Rendering.{Rendering}
 use Rattle.rx_render.specs.Renders.{with_hooks}
 use Rattle.rx_render.specs.Turning.{Proceeds, GivesUp, KeepsHooks}

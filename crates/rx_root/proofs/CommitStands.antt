@@ -27,7 +27,8 @@ use Rattle.rx_hook_store.specs.Store.{kept_hooks}
 use Rattle.rx_hook_store.proofs.Staying.{all_stay}
 use Rattle.rx_hook_store.proofs.Numbered.{links_committed}
 use Rattle.rx_commit.specs.Shown.{Shown, Shows}
-use Rattle.rx_commit.specs.Written.{passive_lines, lines_of, with_lines}
+use Rattle.rx_commit.specs.Written.{lines_of}
+use Rattle.rx_writing.specs.Written.{passive_lines, with_lines}
 use Rattle.rx_settle.specs.Settling.{IsSettlingOf}
 use Rattle.rx_render.specs.declared.at.At.TheVariants.{Over}
 use Rattle.rx_render.specs.Rendering.{Rendering, HasNoRender}

@@ -29,7 +29,7 @@ use Rattle.rx_model.specs.Breaking.{BreaksOff}
 use Rattle.rx_model.specs.Committing.{passive_run}
 use Rattle.rx_model.specs.Machine.{StepTo}
 use Rattle.rx_model.specs.Laws.{IsReached}
-use Rattle.rx_commit.specs.Written.{passive_lines, with_lines}
+use Rattle.rx_writing.specs.Written.{passive_lines, with_lines}
 use Rattle.rx_root.specs.declared.events.Sent.{Sent}
 use Rattle.rx_root.specs.Rooted.{Rooted}
 use Rattle.rx_root.specs.Stands.{Stands}

@@ -4,7 +4,7 @@ use Rattle.std.proofs.lemmas.List.{append-nil}
 use Rattle.std.proofs.lemmas.Grind.{flat_map-append}
 use Rattle.rx_base.specs.Values.{Text}
 use Rattle.rx_lines.specs.Lines.{Line, Options, Written, line_bytes, report_bytes, with_line}
-use Rattle.rx_commit.specs.Written.{with_lines}
+use Rattle.rx_writing.specs.Written.{with_lines}
 
 with_bytes : Written → Text → Written
 with_bytes r bytes = record { options = r.options; bytes = bytes }

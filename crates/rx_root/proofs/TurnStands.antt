@@ -31,7 +31,7 @@ use Rattle.rx_hook_store.proofs.Staying.{all_stay}
 use Rattle.rx_lists.specs.Shapes as shapes
 use Rattle.rx_links.specs.Drafts.{taken}
 use Rattle.rx_commit.specs.Shown.{Shown}
-use Rattle.rx_commit.specs.Written.{with_lines}
+use Rattle.rx_writing.specs.Written.{with_lines}
 use Rattle.rx_render.specs.declared.at.At.{At}
 use Rattle.rx_render.specs.declared.at.At.TheVariants.{Begins, Completes, Over}
 use Rattle.rx_render.specs.Rendering.{Rendering, IfLeft, units_left, left_of}

@@ -17,7 +17,7 @@ use Rattle.rx_model.specs.Committing.{passive_run, starting, committed_state, bo
 use Rattle.rx_model.specs.Turns.{AnyRender, OfRender, slice_of, gone_on, GoesOn, Continues, TurnBy, Turn, choice_of}
 use Rattle.rx_model.specs.Machine.{FlushSync, FlushWithin}
 use Rattle.rx_model.specs.Laws.{IsReached}
-use Rattle.rx_commit.specs.Written.{passive_lines, with_lines}
+use Rattle.rx_writing.specs.Written.{passive_lines, with_lines}
 use Rattle.rx_root.specs.Rooted.{Rooted}
 use Rattle.rx_root.specs.Stands.{StandsWith, Stands}
 use Rattle.rx_root.specs.Paying.{Pays}

@@ -29,7 +29,7 @@ use Rattle.end_laws.specs.Trimmed.{trimmed}
 use Rattle.host_laws.specs.Commits.{IsCommit, TextsAreLeaves}
 use Rattle.prune_laws.specs.Present.{IfHasNoNull}
 use Rattle.rx_commit.specs.Shown.{CanCommit, Prepared, Prepares, Shown, Shows}
-use Rattle.rx_commit.specs.Written.{with_lines}
+use Rattle.rx_writing.specs.Written.{with_lines}
 use Rattle.rx_render.specs.declared.at.At.TheVariants.{Over}
 use Rattle.rx_render.specs.Renders.{Renders}
 use Rattle.rx_kept.specs.Seeing.{resources_by}

@@ -19,7 +19,7 @@ ghost use Rattle.rx_hook_store.specs.Store.{hook_room, kept_hooks};
 ghost use Rattle.rx_dispatch.specs.Kinds.{is_refresh, is_start};
 ghost use Rattle.rx_resources.specs.Kept.{last_version};
 ghost use Rattle.rx_resources.specs.Store.{kept_at, resolved_at};
-ghost use Rattle.rx_commit.specs.Written.{with_lines};
+ghost use Rattle.rx_writing.specs.Written.{with_lines};
 ghost use Rattle.rx_render.specs.Rendering.{IfLeft};
 ghost use Rattle.rx_step.specs.Steps.{path_of};
 ghost use Rattle.rx_step.specs.declared.step.Step.TheVariants as step;

@@ -11,7 +11,7 @@ ghost use Rattle.rx_model.specs.State.{Progress, State, opening};
 ghost use Rattle.rx_model.specs.Committing.{sight_of};
 ghost use Rattle.rx_model.specs.Laws.{ShowsEverything};
 ghost use Rattle.rx_render.specs.Renders.{HasCome};
-ghost use Rattle.rx_commit.specs.Written.{with_lines};
+ghost use Rattle.rx_writing.specs.Written.{with_lines};
 ghost use Rattle.rx_step.specs.declared.step.Step.TheVariants as steps;
 ghost use Rattle.rx_root.specs.Stands.{HasRoomFor, Stands, StandsForSome};
 ghost use Rattle.rx_kept.specs.Taking.{CanTake};

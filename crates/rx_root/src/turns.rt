@@ -30,7 +30,8 @@ ghost use Rattle.rx_model.specs.Laws.{IsBounded, IsReached};
 ghost use Rattle.rx_pruned.specs.Besides.{IsBeside};
 ghost use Rattle.end_laws.specs.Trimmed.{trimmed};
 ghost use Rattle.rx_commit.specs.Shown.{Prepares, Shows, outcome_as};
-ghost use Rattle.rx_commit.specs.Written.{lines_of, passive_lines, with_lines};
+ghost use Rattle.rx_commit.specs.Written.{lines_of};
+ghost use Rattle.rx_writing.specs.Written.{passive_lines, with_lines};
 ghost use Rattle.rx_render.specs.declared.at.At.TheVariants.{Over};
 ghost use Rattle.rx_render.specs.Renders.{with_hooks};
 ghost use Rattle.rx_render.specs.Turning.{GivesUp, KeepsHooks, Proceeds};
@@ -40,7 +41,7 @@ ghost use Rattle.rx_root.specs.Turning.{CanFollow, CanShow, FlushesFrom, GaveUp,
 
 use crate::root::Root;
 use rx_base::{Awaits, Cut, Steps};
-use rx_commit::{Prepared, Shown, cut_back};
+use rx_commit::{Prepared, Shown};
 use rx_lane::{Lane, Lanes};
 use rx_loop::{Driven, drive};
 use rx_node::Node;
@@ -49,6 +50,7 @@ use rx_report::Report;
 use rx_sched::Choice;
 use rx_spots::awaited;
 use rx_ways::Ways;
+use rx_writing::cut_back;
 use std::alloc::{AllocError, Global};
 use std::sync::ledger::Ledger;
 

@@ -5,7 +5,7 @@ use Rattle.std.proofs.lemmas.List.{length-take-le, take_all}
 use Rattle.rx_lines.specs.Lines.{Line, Written, report_bytes}
 use Rattle.rx_given.specs.declared.passing.Place.{Place}
 use Rattle.rx_given.specs.Lines.{ends_in, is_line_end, shared}
-use Rattle.rx_mounts.specs.Shown.{with_lines}
+use Rattle.rx_writing.specs.Written.{with_lines}
 use Rattle.choice_laws.specs.Telling.{counted}
 use Rattle.rx_verify.specs.Following.{IsPlace}
 use Rattle.rx_verify.proofs.Fronts.{ends-append, same_byte}

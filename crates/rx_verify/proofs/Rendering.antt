@@ -23,7 +23,7 @@ use Rattle.end_laws.specs.Trimmed.{trimmed}
 use Rattle.rx_plain.specs.Doing.{HasDone}
 use Rattle.rx_plain.specs.Plained.{Going, Plained}
 use Rattle.rx_plain.specs.Stands.{GoesOnWith, HasProgress, StandsFor, StandsWith}
-use Rattle.rx_mounts.specs.Shown.{with_lines}
+use Rattle.rx_writing.specs.Written.{with_lines}
 use Rattle.rx_verify.specs.declared.verdict.Verdict.TheVariants.{No}
 use Rattle.rx_verify.specs.Verdicts.{IsVerdict}
 use Rattle.rx_verify.specs.Ends.{TellsEnd, TellsEndOf}

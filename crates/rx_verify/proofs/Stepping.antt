@@ -15,7 +15,7 @@ use Rattle.rx_model.specs.Accepting.{between_events}
 use Rattle.rx_model.specs.State.{State, end_line, opening}
 use Rattle.rx_model.specs.Turns.{choice_of}
 use Rattle.choice_laws.specs.Telling.{bytes_from_here, counted}
-use Rattle.rx_mounts.specs.Shown.{with_lines}
+use Rattle.rx_writing.specs.Written.{with_lines}
 use Rattle.rx_plain.specs.Doing.{HasDone}
 use Rattle.rx_plain.specs.Plained.{Plained}
 use Rattle.rx_plain.specs.Stands.{StandsFor}

@@ -1,12 +1,13 @@
-use Rattle.std.proofs.Common.{◌∙◌}
+use Rattle.std.proofs.Common.{◌∙◌, sym}
 use Rattle.rx_hook_store.specs.Store.{kept_hooks}
 use Rattle.rx_lines.specs.Lines as report
 use Rattle.rx_model.specs.State.{state_line}
-use Rattle.rx_mounts.proofs.Showing.{first-line, one-line, one-of}
+use Rattle.rx_mounts.proofs.Showing.{one-line, one-of}
+use Rattle.rx_writing.proofs.Behind.{with_lines-one}
 use Rattle.rx_mounts.proofs.hooks.show_these.Goals as goal
 
 pub showing-init : goal.showing-init
-showing-init c = λ s k. c.in_ok-state_head.ensures.written ∙ first-line c.args.log.now report.state_head
+showing-init c = λ s k. c.in_ok-state_head.ensures.written ∙ sym (with_lines-one c.args.log.now report.state_head)
 
 pub show_one-requires : goal.show_one-requires
 show_one-requires c = (

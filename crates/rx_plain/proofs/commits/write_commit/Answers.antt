@@ -16,5 +16,5 @@ returns c =
     (committed (s.commits + 1) g.lanes (record { units = c.args.units; bodies = c.args.bodies }) new) (host_ops s.tree new)
     (newly_caught s.tree new) c.args.caught.now (layout_log (compare_trees s.tree new)) _ c.requires caught layout
     (c.in_ok-commit_line.ensures.written new ∙ (λ i. with_line c.args.log.now (committed (number i) (lanes i) (record { units = c.args.units; bodies = c.args.bodies }) new)))
-    c.in_ok-add_caught.ensures last)
-    c.add_lines.ensures
+    c.in_ok-add_caught.ensures.written last)
+    c.add_lines.ensures.written

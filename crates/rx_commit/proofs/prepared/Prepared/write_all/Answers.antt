@@ -1,5 +1,5 @@
 use Rattle.std.proofs.lemmas.Result.{on_ok_weaker}
-use Rattle.rx_commit.proofs.Behind.{goes_on-again}
+use Rattle.rx_writing.proofs.Behind.{goes_on-again}
 use Rattle.rx_commit.proofs.Lines.{commit-lines}
 use Rattle.rx_commit.proofs.prepared.Prepared.write_all.Goals as goal
 

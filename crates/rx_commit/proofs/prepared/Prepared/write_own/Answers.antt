@@ -2,7 +2,7 @@ use Rattle.std.proofs.Common.{◌∙◌, ap}
 use Rattle.std.proofs.lemmas.Result.{on_ok_weaker}
 use Rattle.rx_lane.specs.Lanes.{has, lanes_where}
 use Rattle.rx_lines.specs.Lines.{committed}
-use Rattle.rx_commit.proofs.Behind.{goes_on-line, goes_on-again}
+use Rattle.rx_writing.proofs.Behind.{goes_on-line, goes_on-again}
 use Rattle.rx_commit.proofs.Lines.{own-parts}
 use Rattle.rx_commit.proofs.prepared.Prepared.write_own.Goals as goal
 

@@ -3,8 +3,8 @@ use Rattle.std.proofs.lemmas.Result.{on_ok_weaker}
 use Rattle.rx_lane.specs.Lanes.{has, lanes_where}
 use Rattle.rx_lines.specs.Lines.{Line, last_line}
 use Rattle.rx_sched.specs.Schedule.{Schedule}
-use Rattle.rx_mounts.specs.Shown.{with_lines}
-use Rattle.rx_plain.proofs.Behind.{with_lines-one}
+use Rattle.rx_writing.specs.Written.{with_lines}
+use Rattle.rx_writing.proofs.Behind.{with_lines-one}
 use Rattle.rx_plain.proofs.Reading.{last_line_is}
 use Rattle.rx_plain.proofs.plain.Plain.end_line.Goals as goal
 

@@ -4,7 +4,7 @@ use Rattle.std.proofs.lemmas.Result.{on_ok_weaker}
 use Rattle.rx_elem.specs.Trees.{Node}
 use Rattle.rx_forest.specs.Hosts.{Host, hosts}
 use Rattle.rx_lines.specs.Lines.{tree_lines}
-use Rattle.rx_mounts.specs.Shown.{with_lines}
+use Rattle.rx_writing.specs.Written.{with_lines}
 use Rattle.rx_plain.specs.Plained.{Plained}
 use Rattle.rx_plain.proofs.Reading.{reached_hosts}
 use Rattle.rx_plain.proofs.Runnable.{runnable_bounded}

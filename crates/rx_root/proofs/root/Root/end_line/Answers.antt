@@ -4,7 +4,7 @@ use Rattle.rx_lines.specs.Lines.{Line, last_line}
 use Rattle.rx_model.specs.State.{end_line}
 use Rattle.rx_model.specs.Laws.{IsBounded}
 use Rattle.rx_begin.proofs.Begins.{on_ok}
-use Rattle.rx_commit.specs.Written.{with_lines}
+use Rattle.rx_writing.specs.Written.{with_lines}
 use Rattle.rx_root.specs.Rooted.{Rooted}
 use Rattle.rx_root.proofs.Lines.{last_line_is}
 use Rattle.rx_root.proofs.TurnLines.{with_one}

@@ -1,6 +1,6 @@
 use Rattle.std.proofs.Common.{◌≡◌, ◌∙◌, ap, sym, subst}
 use Rattle.rx_effect.specs.EffectLog.{no_passive}
-use Rattle.rx_commit.specs.Written.{passive_lines, with_lines}
+use Rattle.rx_writing.specs.Written.{passive_lines, with_lines}
 use Rattle.rx_model.specs.Accepting.{between_events}
 use Rattle.rx_model.specs.Committing.{passive_run}
 use Rattle.rx_root.specs.Rooted.{Rooted}

@@ -8,7 +8,8 @@ use Rattle.rx_pruned.specs.Besides.{IsBeside}
 use Rattle.rx_model.specs.Committing.{committed_state}
 use Rattle.rx_model.specs.HooksOf.{KeepsAllHooks}
 use Rattle.rx_hook_store.specs.Store.{kept_hooks}
-use Rattle.rx_commit.specs.Written.{lines_of, with_lines}
+use Rattle.rx_commit.specs.Written.{lines_of}
+use Rattle.rx_writing.specs.Written.{with_lines}
 use Rattle.rx_root.specs.Rooted.{Rooted}
 use Rattle.rx_root.specs.Turning.{counts_of}
 use Rattle.rx_root.specs.contracts.root.Root.{the_view}

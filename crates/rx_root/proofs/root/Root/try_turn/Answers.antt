@@ -3,7 +3,7 @@ use Rattle.rx_ast.specs.Syntax.{Program}
 use Rattle.rx_model.specs.Turns.{unit_bound}
 use Rattle.rx_effect.specs.EffectLog.{Passive}
 use Rattle.rx_model.specs.Committing.{passive_run, starting}
-use Rattle.rx_commit.specs.Written.{passive_lines, with_lines}
+use Rattle.rx_writing.specs.Written.{passive_lines, with_lines}
 use Rattle.rx_root.proofs.TurnsTaken.{stands_some, keep_leads, start_leads, on_ok, takes_none, takes_on, takes_start}
 use Rattle.rx_kept.proofs.Choosing.{keeps_some, start_is_set}
 use Rattle.rx_root.proofs.Broken.{any_err, kept_broken, on_err_both, start_broken, started_broken}

@@ -1,6 +1,6 @@
 use Rattle.std.proofs.lemmas.Result.{on_ok_weaker}
-use Rattle.rx_commit.proofs.Lines.{passive-parts}
-use Rattle.rx_commit.proofs.writing.add_lines.Goals as goal
+use Rattle.rx_writing.proofs.Behind.{passive-parts}
+use Rattle.rx_writing.proofs.writing.add_lines.Goals as goal
 
 pub returns-clause-written : goal.returns-clause-written
 returns-clause-written c =

@@ -1,7 +1,7 @@
 use Rattle.std.proofs.Common.{sym}
 use Rattle.rx_lines.specs.Lines.{caught}
-use Rattle.rx_plain.proofs.Behind.{with_lines-nil, items-next}
-use Rattle.rx_plain.proofs.writing.add_caught.Goals as goal
+use Rattle.rx_writing.proofs.Behind.{with_lines-nil, items-next}
+use Rattle.rx_writing.proofs.writing.add_caught.Goals as goal
 
 pub caught-init : goal.caught-init
 caught-init c = sym (with_lines-nil c.args.log.now)

@@ -1,7 +1,7 @@
 use Rattle.std.proofs.Common.{sym}
 use Rattle.rx_lines.specs.Lines.{operated}
-use Rattle.rx_commit.proofs.Behind.{with_lines-nil, items-next}
-use Rattle.rx_commit.proofs.writing.add_ops.Goals as goal
+use Rattle.rx_writing.proofs.Behind.{with_lines-nil, items-next}
+use Rattle.rx_writing.proofs.writing.add_ops.Goals as goal
 
 pub ops-init : goal.ops-init
 ops-init c = sym (with_lines-nil c.args.log.now)

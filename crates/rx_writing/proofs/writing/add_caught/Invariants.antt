@@ -1,7 +1,7 @@
 use Rattle.std.proofs.Common.{◌≡◌, map, take}
 use Rattle.rx_lines.specs.Lines.{caught}
-use Rattle.rx_commit.specs.Written.{with_lines}
-use Rattle.rx_commit.proofs.writing.add_caught.Given as goal
+use Rattle.rx_writing.specs.Written.{with_lines}
+use Rattle.rx_writing.proofs.writing.add_caught.Given as goal
 
 -- the lines so far
 abbrev pub invariant-caught : goal.invariant-caught

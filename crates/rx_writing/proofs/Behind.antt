@@ -1,12 +1,14 @@
 -- Lines behind those that a report has.
-use Rattle.std.proofs.Common.{◌≡◌, ℕ, ◌+◌, ◌<◌, ◌≤◌, List, [], ◌∷◌, ◌++◌, length, get_or, take, sym, ap, ◌∙◌, append_assoc, append-nil}
+use Rattle.std.proofs.Common.{◌≡◌, ℕ, false, refl, ◌+◌, ◌<◌, ◌≤◌, List, [], ◌∷◌, ◌++◌, length, get_or, take, sym, ap, ◌∙◌, append_assoc, append-nil}
 use Rattle.std.specs.Prelude.{map}
 use Rattle.std.proofs.Math.Seq.{take-append_seam}
 use Rattle.std.proofs.lemmas.Grind.{flat_map-append}
 use Rattle.std.proofs.lemmas.List.{map-append, take_more, take_all}
 use Rattle.rx_base.specs.Values.{Text}
-use Rattle.rx_lines.specs.Lines.{Line, Written, line_bytes, report_bytes, with_line}
-use Rattle.rx_commit.specs.Written.{GoesOn, with_lines}
+use Rattle.std.specs.List.{AllByRecursion}
+use Rattle.rx_effect.specs.declared.log.LogLine.{LogLine}
+use Rattle.rx_lines.specs.Lines.{Line, Options, Written, is_printed, line_bytes, logged, report_bytes, with_line}
+use Rattle.rx_writing.specs.Written.{GoesOn, with_lines}
 
 -- a report with these bytes behind its own
 abbrev behind : Written → Text → Written
@@ -32,6 +34,25 @@ with_lines-append r xs ys =
 -- a line, and lines behind it
 pub with_lines-cons : (r : Written) (l : Line) (ls : List Line) → with_lines r (l ∷ ls) ≡ with_lines (with_line r l) ls
 with_lines-cons r l ls = with_lines-append r (l ∷ []) ls ∙ ap (λ (w : Written). with_lines w ls) (with_lines-one r l)
+
+-- effects that are destroyed, and then effects that are created
+pub passive-parts : (r a b : Written) (ds es xs ys : List LogLine) → xs ≡ ds → ys ≡ es → a ≡ with_lines r (map logged xs) → b ≡ with_lines a (map logged ys)
+    → b ≡ with_lines r (map logged (ds ++ es))
+passive-parts r a b ds es xs ys d e f g =
+    g
+    ∙ ap (λ (ls : List LogLine). with_lines a (map logged ls)) e
+    ∙ ap (λ (w : Written). with_lines w (map logged es)) (f ∙ ap (λ (ls : List LogLine). with_lines r (map logged ls)) d)
+    ∙ sym (with_lines-append r (map logged ds) (map logged es))
+    ∙ ap (with_lines r) (sym (map-append logged ds es))
+
+no_bytes : (o : Options) (ls : List Line) → AllByRecursion (λ l. is_printed o.ops l ≡ false) ls → report_bytes o ls ≡ []
+unfolding report_bytes
+no_bytes o [] none = refl
+no_bytes o (l ∷ ls) none = rw none.0 (no_bytes o ls none.1)
+
+-- lines that are not printed are no bytes
+pub not_printed : (r : Written) (ls : List Line) → AllByRecursion (λ l. is_printed r.options.ops l ≡ false) ls → with_lines r ls ≡ r
+not_printed r ls none = ap (λ (bytes : Text). record { options = r.options; bytes = r.bytes ++ bytes }) (no_bytes r.options ls none) ∙ ap (λ (bytes : Text). record { options = r.options; bytes = bytes }) (append-nil r.bytes)
 
 -- a report as it was went on
 pub goes_on-same : (old new : Written) → new ≡ old → GoesOn old new

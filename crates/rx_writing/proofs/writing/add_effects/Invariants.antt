@@ -1,7 +1,7 @@
 use Rattle.std.proofs.Common.{◌≡◌, map, take}
 use Rattle.rx_lines.specs.Lines.{logged}
-use Rattle.rx_mounts.specs.Shown.{with_lines}
-use Rattle.rx_plain.proofs.writing.add_effects.Given as goal
+use Rattle.rx_writing.specs.Written.{with_lines}
+use Rattle.rx_writing.proofs.writing.add_effects.Given as goal
 
 -- the lines so far
 abbrev pub invariant-effects : goal.invariant-effects

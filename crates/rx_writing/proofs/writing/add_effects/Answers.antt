@@ -1,7 +1,7 @@
 use Rattle.std.proofs.Common.{sym}
 use Rattle.rx_lines.specs.Lines.{logged}
-use Rattle.rx_plain.proofs.Behind.{with_lines-nil, items-next}
-use Rattle.rx_plain.proofs.writing.add_effects.Goals as goal
+use Rattle.rx_writing.proofs.Behind.{with_lines-nil, items-next}
+use Rattle.rx_writing.proofs.writing.add_effects.Goals as goal
 
 pub effects-init : goal.effects-init
 effects-init c = sym (with_lines-nil c.args.log.now)

@@ -2,7 +2,7 @@
 ghost use Rattle.std.specs.Prelude.{◌≡◌, take, OnErr, OnOk, map};
 ghost use Rattle.rx_lines.specs.Lines.{caught, logged, operated};
 ghost use Rattle.rx_changes.specs.ChangesView.{passive_seen};
-ghost use Rattle.rx_commit.specs.Written.{GoesOn, passive_lines, with_lines};
+ghost use Rattle.rx_writing.specs.Written.{GoesOn, passive_lines, with_lines};
 
 use rx_base::Int;
 use rx_changes::Lines;
@@ -11,8 +11,12 @@ use rx_forest::HostOp;
 use rx_report::Report;
 use std::alloc::AllocError;
 
-// The operations, one after another.
-pub(crate) fn add_ops(log: &mut Report, ops: &[HostOp]) -> Result<(), AllocError>
+/// Writes operations on hosts, one after another.
+///
+/// # Errors
+///
+/// Only if out of memory; some of the lines may then be written.
+pub fn add_ops(log: &mut Report, ops: &[HostOp]) -> Result<(), AllocError>
     ensures written { OnOk result (log.new ≡ with_lines log.old (map operated ops.now)) }
     ensures goes_on { GoesOn log.old log.new }
 {
@@ -22,8 +26,12 @@ pub(crate) fn add_ops(log: &mut Report, ops: &[HostOp]) -> Result<(), AllocError
     Ok(())
 }
 
-// What error boundaries catch, one after another.
-pub(crate) fn add_caught(log: &mut Report, values: &[Int]) -> Result<(), AllocError>
+/// Writes what error boundaries catch, one after another (react.dev, Catching rendering errors with an error boundary).
+///
+/// # Errors
+///
+/// Only if out of memory; some of the lines may then be written.
+pub fn add_caught(log: &mut Report, values: &[Int]) -> Result<(), AllocError>
     ensures written { OnOk result (log.new ≡ with_lines log.old (map caught values.now)) }
     ensures goes_on { GoesOn log.old log.new }
 {
@@ -33,8 +41,12 @@ pub(crate) fn add_caught(log: &mut Report, values: &[Int]) -> Result<(), AllocEr
     Ok(())
 }
 
-// The effects, one after another.
-pub(crate) fn add_effects(log: &mut Report, lines: &[LogLine]) -> Result<(), AllocError>
+/// Writes effects, one after another.
+///
+/// # Errors
+///
+/// Only if out of memory; some of the lines may then be written.
+pub fn add_effects(log: &mut Report, lines: &[LogLine]) -> Result<(), AllocError>
     ensures written { OnOk result (log.new ≡ with_lines log.old (map logged lines.now)) }
     ensures goes_on { GoesOn log.old log.new }
 {
@@ -44,8 +56,12 @@ pub(crate) fn add_effects(log: &mut Report, lines: &[LogLine]) -> Result<(), All
     Ok(())
 }
 
-// Effects of one kind, destructions before creations.
-pub(crate) fn add_lines(log: &mut Report, lines: &Lines) -> Result<(), AllocError>
+/// Writes effects of one kind, destructions before creations (react.dev, useEffect).
+///
+/// # Errors
+///
+/// Only if out of memory; some of the lines may then be written.
+pub fn add_lines(log: &mut Report, lines: &Lines) -> Result<(), AllocError>
     ensures written { OnOk result (log.new ≡ with_lines log.old (passive_lines (passive_seen lines.now))) }
     ensures goes_on { GoesOn log.old log.new }
 {
