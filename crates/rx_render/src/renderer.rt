@@ -84,7 +84,7 @@ pub struct Renderer {
     lanes: Lanes,
     cut: Cut,
     ways: Ways,
-    hints: Ways,
+    hints: Option<Ways>,
     at: At,
     units: u64,
     bodies: u64,
@@ -172,7 +172,7 @@ impl Renderer {
                 resolutions: 0,
             },
             ways: Ways::new(alloc),
-            hints: Ways::new(alloc),
+            hints: None,
             at: At::Over,
             units: 0,
             bodies: 0,
@@ -287,17 +287,30 @@ impl Renderer {
         self.checked.may_throw() && self.seen < cut.resolutions
     }
 
-    // The ways to all instances that may have queued updates: since the last render started updates were sent along these. A
-    // render only takes hints from them.
-    fn find_hints(&self, sent: &Ways) -> Result<Ways, AllocError> {
-        match self.hooks.stirred() {
-            Some(stirred) => find_ways(self.alloc, &self.fibers, stirred, &self.hints, sent),
-            None => Ok(Ways::everything(self.alloc)),
+    // The ways that led to all instances that might have queued updates when the last render started: if it had work in each, its own.
+    fn hints(&self) -> &Ways {
+        match &self.hints {
+            Some(hints) => hints,
+            None => &self.ways,
         }
     }
 
-    // The ways on which a render for these lanes at this cut finds a cause: these hints may lead there.
-    fn find_ways(&self, hints: &Ways, lanes: Lanes, cut: Cut) -> Result<Ways, AllocError>
+    // The ways to all instances that may have queued updates, unless a render for these lanes at this cut has work in each: since the
+    // last render started updates were sent along these. A render only takes hints from them.
+    fn find_hints(&self, lanes: Lanes, cut: Cut, sent: &Ways) -> Result<Option<Ways>, AllocError> {
+        let Some(stirred) = self.hooks.stirred() else {
+            return Ok(Some(Ways::everything(self.alloc)));
+        };
+        let working = self.hooks.working(self.alloc, lanes, cut)?;
+        if stirred.is_subset(&working) {
+            return Ok(None);
+        }
+        let hints = find_ways(self.alloc, &self.fibers, stirred, self.hints(), sent)?;
+        Ok(Some(hints))
+    }
+
+    // The ways on which a render for these lanes at this cut finds a cause: the hints, and what updates were sent along, may lead there.
+    fn find_ways(&self, sent: &Ways, lanes: Lanes, cut: Cut) -> Result<Ways, AllocError>
         ensures idle { IfOk result (λ w. (s : Sight) (tree : Option trees.Node) (next : ℕ) → s.lanes ≡ lanes → s.cut ≡ cut → GivesAll s tree (kept_hooks self.now.hooks)
             → IsTreeOf tree self.now.trees.current → IfNumbered tree → HasOwnNumbers next tree → CoversIf (is_way w) (IsIdleMark s) tree) }
         ensures undue { IfOk result (λ w. (p : Program) (st : State) (g : Progress) (next : ℕ) → g.lanes ≡ lanes → g.cut ≡ cut → KeepsAllHooks p st (kept_hooks self.now.hooks)
@@ -305,7 +318,7 @@ impl Renderer {
         ensures lead { IfOk result (λ w. (tree : Option trees.Node) (n : ℕ) → IsTreeOf tree self.now.trees.current → is_way w n ≡ true → LeadsToWork lanes cut (kept_hooks self.now.hooks) n tree) }
     {
         let working = self.hooks.working(self.alloc, lanes, cut)?;
-        find_ways(self.alloc, &self.fibers, &working, hints, hints)
+        find_ways(self.alloc, &self.fibers, &working, self.hints(), sent)
     }
 
     /// Discards what is in progress, and starts a render with these lanes at this cut, which sees this of the
@@ -338,8 +351,8 @@ impl Renderer {
     {
         self.discard();
         let throws = self.may_throw_anew(cut);
-        let hints = self.find_hints(sent)?;
-        let ways = self.find_ways(&hints, lanes, cut)?;
+        let hints = self.find_hints(lanes, cut, sent)?;
+        let ways = self.find_ways(sent, lanes, cut)?;
         let defaults = default_contexts(self.alloc, &self.checked)?;
         let contexts = ContextStack::new(self.alloc, &defaults)?;
         let root = root_element(self.alloc, &self.checked)?;

@@ -100,7 +100,7 @@ fn walk_from(
         return Ok(false);
     }
     let below = walk(tree, tree.first_child(id), stirred, before, sent, ways)?;
-    let found = is_cause_at(fiber.stage(), stirred) || below;
+    let found = below || is_cause_at(fiber.stage(), stirred);
     if found {
         put(fiber.stage(), ways)?;
     }
