@@ -18,7 +18,7 @@ fn is_memo(checked: &Checked, element: &Element) -> bool
     ensures { result ≡ is_memo checked.now element.now }
 {
     match parts_of(element) {
-        Some(parts) => match checked.program().component(parts.component as usize) {
+        Some(parts) => match checked.component_at(parts.component) {
             Some(component) => component.is_memo(),
             None => false,
         },

@@ -5,4 +5,5 @@ pub mod Levels
 pub mod Apart
 pub mod Declared
 pub mod Bounded
+pub mod Placing
 pub mod Examples

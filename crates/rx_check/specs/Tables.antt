@@ -2,16 +2,17 @@
 use Rattle.std.specs.Prelude.{◌≡◌, ℕ, ◌+◌, Bool, true, false, List, [], ◌∷◌, Option, Some, None, cond, bytes_eq, slice_get, length}
 use Rattle.std.specs.Option.{option_map_or, option_and_then}
 use Rattle.rx_base.specs.Values.{Name}
-use Rattle.rx_ast.specs.Syntax.{Program, functions}
+use Rattle.rx_ast.specs.Syntax.{Program, functions, as_component, as_function}
 use Rattle.rx_rules.specs.Names.{component_names, resources, component_at, place_among, StateHook, hooks_of}
 use Rattle.rx_rules.specs.Bounds.{node_bound, depth_bound}
 use Rattle.rx_names.specs.Listed.{function_names, context_names}
 use Rattle.rx_check.specs.Accepted.{IsAccepted}
+use Rattle.rx_check.specs.Places.{ArePlaces}
 use Rattle.rx_check.specs.declared.hook.HookKind.{HookKind}
 use Rattle.rx_check.specs.declared.hook.HookKind.TheVariants as kind
 
--- a program that is accepted, with its bounds and its names
-pub record IsChecked (p : Program) (bound depth : ℕ) (components functions contexts used : List Name) : Type 0 where
+-- a program that is accepted, with its bounds, its names, and the places of its components and functions
+pub record IsChecked (p : Program) (bound depth : ℕ) (components functions contexts used : List Name) (component_places function_places : List ℕ) : Type 0 where
   pub accepted : IsAccepted p
   pub bound_is : bound ≡ node_bound p
   pub depth_is : depth ≡ depth_bound p
@@ -19,6 +20,8 @@ pub record IsChecked (p : Program) (bound depth : ℕ) (components functions con
   pub functions_are : functions ≡ function_names p
   pub contexts_are : contexts ≡ context_names p
   pub resources_are : used ≡ resources p
+  pub component_places_are : ArePlaces as_component p.declarations component_places
+  pub function_places_are : ArePlaces as_function p.declarations function_places
 
 -- the kind of a hook of this number without a function
 abbrev pub plain_kind : (flag : Bool) → (number : ℕ) → HookKind

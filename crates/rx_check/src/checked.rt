@@ -1,5 +1,6 @@
 // A program that meets every check.
-ghost use Rattle.std.specs.Prelude.{◌≡◌, ◌<◌, ◌^◌, bytes_eq, position, length, filter_map};
+ghost use Rattle.std.specs.Prelude.{◌≡◌, ◌<◌, ◌^◌, IfOk, MatchOption, Some, None, bytes_eq, position, length, filter_map, slice_get};
+ghost use Rattle.rx_ast.specs.Syntax.{components, functions};
 ghost use Rattle.rx_rules.specs.Names.{component_names, resources, hook_in};
 ghost use Rattle.rx_rules.specs.Bounds.{node_bound, depth_bound, may_throw_in};
 ghost use Rattle.rx_rules.specs.Versions.{width};
@@ -11,10 +12,12 @@ ghost use Rattle.rx_names.specs.Listed.{IsListed};
 ghost use Rattle.rx_check.specs.Tables.{hook_among, hook_named, parameter_count};
 
 use crate::hook::HookKind;
-use rx_ast::{DeclarationKind, Program, Statement, StatementKind};
+use crate::places::{component_places, declaration_of, function_places};
+use rx_ast::{Component, DeclarationKind, Function, Program, Statement, StatementKind};
 use rx_base::{Name, Width};
 use rx_figures::has_throw;
 use rx_names::{Listing, Table};
+use std::alloc::{AllocError, Global};
 use std::marker::Model;
 
 /// A program that meets every check. Contracts see it as the program.
@@ -26,6 +29,9 @@ pub struct Checked {
     functions: Table,
     contexts: Table,
     resources: Table,
+    // Where each component and each function stands among the declarations, by its number.
+    component_places: Vec<usize>,
+    function_places: Vec<usize>,
 }
 
 impl Model for Checked {
@@ -39,7 +45,7 @@ impl Model for Checked {
 
     ghost view = { λ c. c.program };
 
-    ghost invariant = { λ c. IsChecked c.program c.bound c.depth c.components c.functions c.contexts c.resources };
+    ghost invariant = { λ c. IsChecked c.program c.bound c.depth c.components c.functions c.contexts c.resources c.component_places.items c.function_places.items };
 }
 
 // It is taken apart here alone, once for all crates.
@@ -53,6 +59,8 @@ impl Drop for Checked {
             functions: _functions,
             contexts: _contexts,
             resources: _resources,
+            component_places: _component_places,
+            function_places: _function_places,
         } = self;
     }
 }
@@ -108,21 +116,29 @@ fn may_throw(program: &Program) -> bool
     false
 }
 
-/// A program that meets every check, with its names and its bounds.
-pub(crate) fn accept(program: Program, listing: Listing, bound: u64, depth: u64) -> Checked
+/// A program that meets every check, with its names, its bounds and the places of its declarations.
+pub(crate) fn accept(
+    alloc: Global,
+    program: Program,
+    listing: Listing,
+    bound: u64,
+    depth: u64,
+) -> Result<Checked, AllocError>
     requires accepted { IsAccepted program }
     requires listed { IsListed program listing }
     requires bound { bound ≡ node_bound program }
     requires depth { depth ≡ depth_bound program }
-    ensures { result ≡ program }
+    ensures { IfOk result (λ c. c ≡ program) }
 {
+    let component_places = component_places(alloc, &program)?;
+    let function_places = function_places(alloc, &program)?;
     let Listing {
         components,
         functions,
         contexts,
         resources,
     } = listing;
-    Checked {
+    Ok(Checked {
         program,
         bound,
         depth,
@@ -130,7 +146,9 @@ pub(crate) fn accept(program: Program, listing: Listing, bound: u64, depth: u64)
         functions: Table::new(functions),
         contexts: Table::new(contexts),
         resources: Table::new(resources),
-    }
+        component_places,
+        function_places,
+    })
 }
 
 impl Checked {
@@ -217,11 +235,42 @@ impl Checked {
         self.resources.number(name)
     }
 
+    /// The component of this number, counted from 0 in the order of the text. No search is made for it.
+    pub fn component_at(&self, number: u32) -> Option<&Component>
+        ensures found { MatchOption result (slice_get (components self.now) number ≡ None) (λ x. slice_get (components self.now) number ≡ Some x.now) }
+        ensures accepted { IsAccepted self.now }
+    {
+        let declarations = self.program.declarations();
+        match &declaration_of(declarations, &self.component_places, number)?.kind {
+            DeclarationKind::Component(component) => Some(component),
+            _ => None,
+        }
+    }
+
+    /// The function of this number, counted from 0 in the order of the text. No search is made for it.
+    pub fn function_at(&self, number: u32) -> Option<&Function>
+        ensures found { MatchOption result (slice_get (functions self.now) number ≡ None) (λ x. slice_get (functions self.now) number ≡ Some x.now) }
+        ensures accepted { IsAccepted self.now }
+    {
+        let declarations = self.program.declarations();
+        match &declaration_of(declarations, &self.function_places, number)?.kind {
+            DeclarationKind::Function(function) => Some(function),
+            _ => None,
+        }
+    }
+
+    /// How many functions it has.
+    pub fn function_count(&self) -> usize
+        ensures { result ≡ length (functions self.now) }
+    {
+        self.function_places.len()
+    }
+
     /// The hook of a component, given by its number, that keeps a state under this name.
     pub fn hook(&self, component: u32, name: &str) -> Option<HookKind>
         ensures { result ≡ hook_named self.now component name.now }
     {
-        let component = self.program.component(component as usize)?;
+        let component = self.component_at(component)?;
         hook_among(component.statements(), &self.functions, name)
     }
 
@@ -229,7 +278,7 @@ impl Checked {
     pub fn parameters_of(&self, function: u32) -> u32
         ensures { result ≡ parameter_count self.now function }
     {
-        match self.program.function(function as usize) {
+        match self.function_at(function) {
             None => 0,
             Some(function) => function.parameters().len() as u32,
         }

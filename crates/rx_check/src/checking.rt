@@ -431,5 +431,6 @@ pub fn check(alloc: Global, program: Program) -> Result<Checked, Refusal>
 {
     let listing = names_of(alloc, &program)?;
     let bounds = refuse_listed(alloc, &program, &listing)?;
-    Ok(accept(program, listing, bounds.nodes, bounds.depth))
+    let checked = accept(alloc, program, listing, bounds.nodes, bounds.depth)?;
+    Ok(checked)
 }

@@ -76,7 +76,7 @@ pub fn hooks_at(alloc: Global, checked: &Checked, component: u32) -> Result<Vec<
     ensures names { IfOk result (λ names. names.items ≡ state.hooks_at checked.now component) }
     ensures few { IfOk result (λ names. length names.items < 2 ^ 32) }
 {
-    match checked.program().component(component as usize) {
+    match checked.component_at(component) {
         Some(found) => hook_names(alloc, found),
         None => Ok(Vec::new(alloc)),
     }

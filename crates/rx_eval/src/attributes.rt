@@ -97,7 +97,7 @@ pub(crate) fn props_of(
 ) -> Result<Ints, AllocError>
     ensures { IfOk result (λ xs. xs ≡ props_of evaluator.now env.now attributes.now component) }
 {
-    match evaluator.program().component(component as usize) {
+    match evaluator.component_at(component) {
         None => Ok(Ints::new(Vec::new(alloc))),
         Some(component) => props_for(alloc, evaluator, env, attributes, component.parameters()),
     }

@@ -250,7 +250,7 @@ pub fn eval_body<L: Ledger>(
 {
     steps.tick();
     let evaluator = Evaluator::new(checked);
-    match checked.program().component(component as usize) {
+    match checked.component_at(component) {
         None => unreachable!(),
         Some(component) => body_at(alloc, &evaluator, component, Some(component.body()), inputs),
     }
@@ -272,7 +272,7 @@ pub fn init_hooks(
     ensures { IfOk result (λ xs. option_and_then (λ c. initials_of (body_of checked.now c (inputs_of inputs.now))) (component_at checked.now component) ≡ Some xs) }
 {
     let evaluator = Evaluator::new(checked);
-    match checked.program().component(component as usize) {
+    match checked.component_at(component) {
         None => unreachable!(),
         Some(component) => initial_values(alloc, &evaluator, component, inputs),
     }

@@ -1,13 +1,13 @@
 // What a program's functions answer, and what its names stand for.
-ghost use Rattle.std.specs.Prelude.{◌≡◌, length, Some, ◌∷◌, []};
-ghost use Rattle.rx_ast.specs.Syntax.{functions};
+ghost use Rattle.std.specs.Prelude.{◌≡◌, MatchOption, None, Some, ◌∷◌, [], slice_get};
+ghost use Rattle.rx_ast.specs.Syntax.{components};
 ghost use Rattle.rx_rules.specs.Names.{component_number, context_number, resource_number};
 ghost use Rattle.rx_rules.specs.Versions.{width};
 ghost use Rattle.rx_meaning.specs.Expressions.{calls_of, value_in, answer, answers_of, after_lines};
 
 use crate::env::Env;
 use crate::values::{after_lines, value};
-use rx_ast::{DeclarationKind, Expr, Function, Program};
+use rx_ast::{Component, Expr, Function};
 use rx_base::{Int, Name};
 use rx_check::Checked;
 use rx_queue::{Fold, Op};
@@ -36,33 +36,20 @@ impl<'a> Model for Evaluator<'a> {
     ghost invariant = { λ e. e.nesting ≡ length (syntax.functions e.checked.now) };
 }
 
-/// How many functions a program has.
-fn function_count(program: &Program) -> usize
-    ensures { result ≡ length (functions program.now) }
-{
-    let mut count = 0;
-    for declaration in program.declarations() {
-        if let DeclarationKind::Function(_) = &declaration.kind {
-            count += 1;
-        }
-    }
-    count
-}
-
 impl<'a> Evaluator<'a> {
     /// What evaluates this program.
     pub fn new(checked: &'a Checked) -> Evaluator<'a>
         ensures { result ≡ checked.now }
     {
-        let nesting = function_count(checked.program());
+        let nesting = checked.function_count();
         Evaluator { checked, nesting }
     }
 
-    /// The program.
-    pub(crate) fn program(&self) -> &Program
-        ensures { result.now ≡ self.now }
+    /// The component of this number, in the order of the text.
+    pub(crate) fn component_at(&self, number: u32) -> Option<&Component>
+        ensures { MatchOption result (slice_get (components self.now) number ≡ None) (λ c. slice_get (components self.now) number ≡ Some c.now) }
     {
-        self.checked.program()
+        self.checked.component_at(number)
     }
 
     /// What an expression is worth.
@@ -97,7 +84,7 @@ impl<'a> Evaluator<'a> {
     pub fn apply(&self, function: u32, state: Int, argument: Int) -> Int
         ensures { result ≡ answers_of self.now function state argument }
     {
-        match self.program().function(function as usize) {
+        match self.checked.function_at(function) {
             None => Int::of(0),
             Some(function) => self.answer(function, state, argument),
         }

@@ -19,7 +19,7 @@ fn function_named<'a>(checked: &'a Checked, name: &Name) -> Option<&'a Function>
 {
     match checked.function(name.text()) {
         None => None,
-        Some(number) => checked.program().function(number as usize),
+        Some(number) => checked.function_at(number),
     }
 }
 

@@ -1,9 +1,8 @@
 // Lists of children, old and new.
 ghost use Rattle.std.specs.Prelude.{◌≡◌, ◌<◌, ◌^◌, ◌∷◌, [], true, IfOk, length, map};
-ghost use Rattle.std.specs.Option.{option_copied};
 ghost use Rattle.rx_elem.specs.Elements.{key_of, kind_of, same_kind};
 ghost use Rattle.rx_elem.specs.Identity.{old_places};
-ghost use Rattle.rx_elem.specs.Trees.{forest, elements_in, children_if, fallback_if};
+ghost use Rattle.rx_elem.specs.Trees.{forest, elements_in};
 ghost use Rattle.rx_compare.specs.Matched.{element_at};
 
 use rx_base::Int;
@@ -12,26 +11,6 @@ use rx_elem::Element;
 use rx_keys::places_of;
 use rx_node::Node;
 use std::alloc::{AllocError, Global};
-
-// The children of an old node that may be missing.
-pub(crate) fn children_if<'a>(old: Option<&'a Node>) -> &'a [Option<Node>]
-    ensures { forest result.now ≡ children_if (option_copied old.entry) }
-{
-    match old {
-        Some(node) => node.children(),
-        None => &[],
-    }
-}
-
-// The fallback of an old node that may be missing.
-pub(crate) fn fallback_if<'a>(old: Option<&'a Node>) -> &'a [Option<Node>]
-    ensures { forest result.now ≡ fallback_if (option_copied old.entry) }
-{
-    match old {
-        Some(node) => node.fallback(),
-        None => &[],
-    }
-}
 
 // The key of what stands at a place of an old list.
 fn key_at(place: &Option<Node>) -> Option<Int>

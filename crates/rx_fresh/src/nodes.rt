@@ -8,9 +8,10 @@ ghost use Rattle.rx_node.specs.MarkView.{mark_seen};
 ghost use Rattle.rx_fresh.specs.PlaceView.{place_seen, places_seen};
 ghost use Rattle.rx_fresh.specs.Texts.{text_node};
 
-use crate::lists::{children_if, copy_all};
+use crate::lists::copy_all;
 use crate::place::{Place, Places};
 use rx_base::{Awaits, Int, Str};
+use rx_compare::children_if;
 use rx_elem::{Element, ElementKind};
 use rx_node::{Mark, Node};
 use rx_susp::BoundaryState;

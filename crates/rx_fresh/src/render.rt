@@ -15,14 +15,14 @@ ghost use Rattle.rx_fresh.specs.Seeing.{IsSnapshotOf, GoesOn, KeepsTree, KeepsTr
 
 use crate::body::body_at;
 use crate::instance::{instance_after, number_of, old_instance};
-use crate::lists::{children_if, fallback_if, old_places, single};
+use crate::lists::{old_places, single};
 use crate::nodes::{below_provider, hidden, node_with, old_caught, old_host, over, text_place};
 use crate::place::{Place, Places};
 use crate::roots::{default_contexts, root_element};
 use crate::snapshot::Snapshot;
 use rx_base::{Awaits, Int, Ints, Steps};
 use rx_catch::CatchState;
-use rx_compare::node_at;
+use rx_compare::{children_if, fallback_if, node_at};
 use rx_elem::{Element, ElementKind};
 use rx_eval::Body;
 use rx_hook_store::HookStore;

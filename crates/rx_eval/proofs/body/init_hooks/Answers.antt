@@ -7,11 +7,11 @@ use Rattle.rx_eval.proofs.body.init_hooks.Goals as goal
 
 pub initial_values-requires-clause-ready : goal.initial_values-requires-clause-ready
 initial_values-requires-clause-ready c =
-    let at : component_at c.args.checked.now c.args.component ≡ Some c.in-Some.component.now = rw (← c.program.ensures.program) c.in-Some.ensures in
+    let at : component_at c.args.checked.now c.args.component ≡ Some c.in-Some.component.now = c.in-Some.ensures.found in
     ap is_some (sym (hooks_given c.args.checked.now c.new-evaluator.result c.args.component c.in-Some.component.now (inputs_of c.args.inputs.now) c.new-evaluator.ensures at)) ∙ c.requires.ready
 
 pub returns : goal.returns
 returns c =
-    let at : component_at c.args.checked.now c.args.component ≡ Some c.in-Some.component.now = rw (← c.program.ensures.program) c.in-Some.ensures in
+    let at : component_at c.args.checked.now c.args.component ≡ Some c.in-Some.component.now = c.in-Some.ensures.found in
     hooks_result _ _ c.initial_values.result (hooks_given c.args.checked.now c.new-evaluator.result c.args.component c.in-Some.component.now (inputs_of c.args.inputs.now) c.new-evaluator.ensures at)
     c.initial_values.ensures

@@ -10,6 +10,6 @@ returns-in-None c = named_nowhere c.args.checked.now c.args.name.now (rw (← c.
 
 pub returns-in-Some : goal.returns-in-Some
 returns-in-Some c =
-    let e : function_named c.args.checked.now c.args.name.now ≡ slice_get (functions c.program.result.now) c.in-Some.number =
-    rw c.program.ensures.program (named_at c.args.checked.now c.args.name.now c.in-Some.number (rw (← c.text.ensures) (sym c.function.ensures ∙ c.in-Some.is))) in
-    rw e c.function-in-Some.ensures
+    let e : function_named c.args.checked.now c.args.name.now ≡ slice_get (functions c.args.checked.now) c.in-Some.number =
+    named_at c.args.checked.now c.args.name.now c.in-Some.number (rw (← c.text.ensures) (sym c.function.ensures ∙ c.in-Some.is)) in
+    rw e c.function_at.ensures.found

@@ -4,4 +4,4 @@ use Rattle.rx_check.proofs.checked.Checked.parameters_of.Goals as goal
 
 pub overflow_cast-result : goal.overflow_cast-result
 overflow_cast-result c =
-    rw c.parameters.ensures (omega (arith, few-parameters _ c.self.invariant.accepted _ _ c.in-Some.ensures))
+    rw c.parameters.ensures (omega (arith, few-parameters _ c.in-Some.ensures.accepted _ _ c.in-Some.ensures.found))
