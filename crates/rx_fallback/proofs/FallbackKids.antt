@@ -41,7 +41,7 @@ module _ (t new : Trees Fiber) (p : ℕ) (a : Awaits) (given : Option (List Elem
   pub beside_kids : KnowsPlaces t → (u w : Trees Fiber) (r : Option ℕ) (id : ℕ) → HasKept t u p a → HasFallback u w p r a id
       → (done : HasMadeFrom (given_as given visible generation) 0 w new id (given_elements given s) (given_fibers given s)) → link ≡ entry done.kids → f ≡ opened_at link id → HasFallbackKids (given_as given visible generation) t new p f
   beside_kids knows u w r id kept put done first answer =
-      beside done.kids (hidden_over a (kept_below t p)) (λ o. kids_under t.current o) id put.value r (λ v. refl) (ap is_trying put.stage)
+      beside done.kids (hidden_over a (kept_below t p)) (λ o. kids_under t.current o) id put.value r (λ v. refl) (λ v. refl) (ap is_trying put.stage)
       (kids_wait w.current (given_as given visible generation) 0 (given_elements given s) (given_fibers given s) done.kids done.are)
       (λ e. kids_new w.current (given_as given visible generation) 0 (given_elements given s) (given_fibers given s) done.kids done.are (given_none given s (is ∙ e)))
       (λ k v o rs e.

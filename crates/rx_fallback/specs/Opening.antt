@@ -14,7 +14,7 @@ use Rattle.rx_meaning.specs.Cursor.{Cursor}
 use Rattle.rx_fiber.specs.declared.subtree.Subtree.{Subtree}
 use Rattle.rx_fiber.specs.Fibers.{Fiber, as_cloned, as_matched, begun, fallback, joined, own_subtree}
 use Rattle.rx_fiber.specs.declared.stage.Origin.{Origin}
-use Rattle.rx_fiber.specs.OldLists.{begins_fallback, fallback_list, matched, old_elements, old_fibers}
+use Rattle.rx_fiber.specs.OldLists.{begins_fallback, fallback_list, hides_in, matched, old_elements, old_fibers}
 use Rattle.rx_fiber.specs.Reading.{has_node}
 use Rattle.rx_fiber.specs.Surround.{fallback_in, StandsIf}
 use Rattle.rx_fiber.specs.Standing.{StandsAt}
@@ -95,14 +95,14 @@ abbrev pub given_as : (given : Option (List Element)) (visible : Bool) (generati
 given_as None visible generation = as_cloned visible
 given_as (Some es) visible generation = as_matched visible generation
 
--- A boundary's fallback has fibers that wait, and of which so much is known; if the old fallback has none, each is made for no current fiber. They stand below the boundary's own fiber, or below one right behind it, if that one keeps a list; neither tries its children, and both have its element. The boundary's fiber has gathered what it keeps.
+-- A boundary's fallback has fibers that wait, and of which so much is known; if the old fallback has none, each is made for no current fiber. They stand below the boundary's own fiber, or below one right behind it, if that one keeps a list; neither tries its children, and both have its element. The boundary's fiber hides what it keeps, and has gathered it.
 pub data HasFallbackKids (origin : Origin) (before after : Trees Fiber) (q : ℕ) : Opened → Type 0 where
   alone : {f : Opened} (kids : Draft Fiber) (value : Fiber → Fiber) → ((v : Fiber) → is_trying (value v).stage ≡ false) → ((v : Fiber) → (value v).element ≡ v.element) → AllWait origin kids
       → (fallback_list (list_from before.current (old_of before.draft q)) ≡ shapes.none → AllNew kids)
       → ((k : Around Fiber) (v : Fiber) (o : Option ℕ) (rs : Draft Fiber) → before.draft ≡ placed k (made q v o (taken shapes.none) rs) → after.draft ≡ placed k (made q (value v) o kids rs))
       → f ≡ opened_at (entry kids) q → HasFallbackKids origin before after q f
   beside : {f : Opened} (kids : Draft Fiber) (value : Fiber → Fiber) (kept : Option ℕ → Shape Fiber) (id : ℕ) (w : Fiber) (old : Option ℕ)
-      → ((v : Fiber) → is_trying (value v).stage ≡ false) → is_trying w.stage ≡ false → AllWait origin kids
+      → ((v : Fiber) → is_trying (value v).stage ≡ false) → ((v : Fiber) → hides_in (value v).stage ≡ true) → is_trying w.stage ≡ false → AllWait origin kids
       → (fallback_list (list_from before.current (old_of before.draft q)) ≡ shapes.none → AllNew kids)
       → ((k : Around Fiber) (v : Fiber) (o : Option ℕ) (rs : Draft Fiber) → before.draft ≡ placed k (made q v o (taken shapes.none) rs)
       → (w.element ≡ v.element) × (after.draft ≡ placed k (made q (value v) o (taken (kept o)) (made id w old kids rs))))

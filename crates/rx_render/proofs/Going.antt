@@ -50,6 +50,7 @@ use Rattle.rx_render.specs.Mounting.{GoesWith}
 use Rattle.rx_render.specs.GivenContexts.{CursorGiven}
 use Rattle.rx_render.specs.Rendering.{Rendering, IfLeft, units_left, left_of, ComesTo, to_place, to_end, to_tree, to_wait}
 use Rattle.rx_render.specs.Renders.{Sees, GivesAll, HasCome, HasCosts, Renders, IsUnderWay, IsRendering}
+use Rattle.rx_beside.specs.Alike.{AllTakeAlike}
 use Rattle.rx_render.specs.Gathers.{IsGathering}
 use Rattle.rx_render.specs.Turning.{Proceeds, UnitBreaksOff, GivesUp}
 use Rattle.rx_render.specs.LastUnit.{unit_before, is_over}
@@ -420,28 +421,30 @@ some_left v is e =
     (subst (λ p. v.units < unit_bound p) way.sees.program (if_busy v.at (come_bounded way.sight way.tree v (subst IsBounded (sym way.sees.program) is.bounded) way.come) e)) e
 
 -- a rendering that is over is one, if its trees are gathered
-pub ended_rendering : (old new : Rendering) → IsRendering old → new.program ≡ old.program → new.at ≡ Over → IsGathered new.trees.current → IsGathered (grafted new.trees.draft) → IsRendering new
-ended_rendering old new is same over current draft =
+pub ended_rendering : (old new : Rendering) → IsRendering old → new.program ≡ old.program → new.at ≡ Over → IsGathered new.trees.current → IsGathered (grafted new.trees.draft) → AllTakeAlike new.trees.current new.trees.draft
+    → IsRendering new
+ended_rendering old new is same over current draft alike =
     record {
       known = subst (λ p. unknowns p ≡ []) (sym same) is.known;
       bounded = subst IsBounded (sym same) is.bounded;
       under_way = subst (λ a. IfLeft a (IsUnderWay new)) (sym over) tt;
       gathered = current;
-      gathering = subst (IsGathering new.trees) (sym over) draft;
+      gathering = subst (IsGathering new.trees) (sym over) (draft, alike);
     }
 
 -- and one of which the current tree stayed
-pub over_rendering : (old new : Rendering) → IsRendering old → new.program ≡ old.program → new.at ≡ Over → new.trees.current ≡ old.trees.current → IsGathered (grafted new.trees.draft) → IsRendering new
-over_rendering old new is same over current draft = ended_rendering old new is same over (subst IsGathered (sym current) is.gathered) draft
+pub over_rendering : (old new : Rendering) → IsRendering old → new.program ≡ old.program → new.at ≡ Over → new.trees.current ≡ old.trees.current → IsGathered (grafted new.trees.draft) → AllTakeAlike new.trees.current new.trees.draft
+    → IsRendering new
+over_rendering old new is same over current draft alike = ended_rendering old new is same over (subst IsGathered (sym current) is.gathered) draft alike
 
 -- one of which the draft was dropped
 pub dropped_rendering : (old new : Rendering) → IsRendering old → new.program ≡ old.program → new.at ≡ Over → new.trees ≡ record old.trees { draft = taken shapes.none } → IsRendering new
 dropped_rendering old new is same over trees =
-    over_rendering old new is same over (ap (λ t. t.current) trees) (subst (λ t. IsGathered (grafted t.draft)) (sym trees) tt)
+    over_rendering old new is same over (ap (λ t. t.current) trees) (subst (λ t. IsGathered (grafted t.draft)) (sym trees) tt) (subst (λ (t : Trees Fiber). AllTakeAlike t.current t.draft) (sym trees) tt)
 
 -- what is there when no unit is left is gathered
 pub over_gathered : (v : Rendering) → IsRendering v → v.at ≡ Over → IsGathered (grafted v.trees.draft)
-over_gathered v is over = subst (IsGathering v.trees) over is.gathering
+over_gathered v is over = (subst (IsGathering v.trees) over is.gathering).0
 
 module _ (value inside : Rendering) (same : inside ≡ value) (is : IsRendering inside) (left : 0 < left_of value) where
   abbrev pub inside_left : 0 < left_of inside

@@ -12,6 +12,7 @@ pub mod Idle
 pub mod SameVersions
 pub mod Advancing
 pub mod Paying
+pub mod Alike
 pub mod Gathering
 pub mod Guarded
 pub mod Reaching

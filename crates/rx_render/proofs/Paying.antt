@@ -114,7 +114,7 @@ module _ (origin : Origin) (t new : Trees Fiber) (q : ℕ) (us : Flags) (u : Fla
   fallback_flags f current (alone kids value still same all new_if stands is) =
       subst (λ x. HasFlags new (at_opened x) (u ∷ us)) (sym is)
       (opened_flags new q (u ∷ us) (entry kids) (opens t new q us u kids value here (λ k v o rs h. (stands k v o rs h, keeps_none (value v) (still v), moved_there k v o rs h q (value v) o (same v))) current (wait_bare origin kids all) (wait_told origin u generation visible kids all)))
-  fallback_flags f current (beside kids value kept id w old still too all new_if stands over is) =
+  fallback_flags f current (beside kids value kept id w old still hidden too all new_if stands over is) =
       subst (λ x. HasFlags new (at_opened x) (u ∷ us)) (sym is)
       (opened_flags new id (u ∷ us) (entry kids) (opens_beside t new q id us u kids value w old kept here
       (λ k v o rs h. let (element, there) = stands k v o rs h in (there, moved_there k v o rs h id w old element)) current (keeps_none w too) (wait_bare origin kids all) (wait_told origin u generation visible kids all)))

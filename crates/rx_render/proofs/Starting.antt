@@ -45,6 +45,7 @@ use Rattle.begin_laws.specs.Flagged.{FlagsAtPlace}
 use Rattle.begin_laws.specs.Flagged as flagged
 use Rattle.rx_render.specs.Costing.{HasFlags}
 use Rattle.rx_render.specs.declared.at.At.TheVariants.{Begins, Over}
+use Rattle.rx_beside.specs.Alike.{AllTakeAlike}
 use Rattle.rx_render.specs.Gathers.{IsGathering}
 use Rattle.rx_render.specs.Rendering.{Rendering, IfLeft, ComesTo, to_place}
 use Rattle.rx_resources.specs.Seen.{Resources}
@@ -225,6 +226,8 @@ start_rendering lanes cut resources old new id r draws known bounded current can
           (subst (λ p. Renders p can.state (starting can.state lanes) new) (sym r.program)
           (start_renders lanes cut resources old new r draws (subst IsBounded r.program bounded) can.state can.is)));
       gathered = current;
-      gathering = subst (IsGathering new.trees) (sym r.at)
-          (record { around = top; value = r.value; old = first new.trees.current; rest = taken shapes.none; here = r.here; gathered = tt; follow = refl });
+      gathering = subst (IsGathering new.trees) (sym r.at) (
+        record { around = top; value = r.value; old = first new.trees.current; rest = taken shapes.none; here = r.here; gathered = tt; follow = refl },
+        subst (AllTakeAlike new.trees.current) (sym r.here) (tt, (tt, tt)),
+      );
     }

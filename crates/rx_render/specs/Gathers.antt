@@ -1,4 +1,4 @@
--- When a render in progress has gathered what is at or below its fibers.
+-- When a render in progress has gathered what is at or below its fibers, and what took children over is like what it was made for.
 use Rattle.std.specs.Prelude.{◌≡◌, ℕ, Option}
 use Rattle.rx_lists.specs.Shapes.{none}
 use Rattle.rx_links.specs.Drafts.{Draft, taken, made, Trees, grafted}
@@ -7,6 +7,7 @@ use Rattle.rx_fiber.specs.Fibers.{Fiber}
 use Rattle.rx_fiber.specs.Subtrees.{IsGathered, IsGatheredOver}
 use Rattle.rx_fiber.specs.Surround.{above_list}
 use Rattle.begin_laws.specs.Flagged.{AllBare}
+use Rattle.rx_beside.specs.Alike.{AllTakeAlike}
 use Rattle.rx_render.specs.declared.at.At.{At}
 use Rattle.rx_render.specs.declared.at.At.TheVariants.{Begins, Completes, Over}
 
@@ -38,7 +39,11 @@ pub record GatheredAtEnd (t : Trees Fiber) (q : ℕ) : Type 0 where
   pub gathered : AroundGathered inner
 
 -- what is done is gathered, if the next unit does this; if no unit is left, all that is there is
+abbrev pub HasGathered : Trees Fiber → At → Type 0
+HasGathered t (Begins id) = GatheredHere t id
+HasGathered t (Completes id) = GatheredAtEnd t id
+HasGathered t Over = IsGathered (grafted t.draft)
+
+-- the same, and each fiber that took children over is like the current one that it was made for
 abbrev pub IsGathering : Trees Fiber → At → Type 0
-IsGathering t (Begins id) = GatheredHere t id
-IsGathering t (Completes id) = GatheredAtEnd t id
-IsGathering t Over = IsGathered (grafted t.draft)
+IsGathering t at = HasGathered t at × AllTakeAlike t.current t.draft

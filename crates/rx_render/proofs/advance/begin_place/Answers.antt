@@ -17,7 +17,7 @@ use Rattle.rx_render.proofs.Advancing.{can_begin, waits_below, throws_below, chi
 use Rattle.rx_fiber.specs.Subtrees.{IsGathered}
 use Rattle.rx_links.specs.Drafts.{Trees, old_of}
 use Rattle.rx_fiber.specs.Fibers.{Fiber, as_cloned}
-use Rattle.rx_render.specs.Gathers.{GatheredHere, IsGathering}
+use Rattle.rx_render.specs.Gathers.{IsGathering}
 use Rattle.rx_render.proofs.Gathering.{child_gathered, leaf_gathered, again_gathered, passed_gathered, taken_node}
 use Rattle.rx_render.proofs.Guarded.{throws_guarded}
 use Rattle.rx_render.proofs.Paying.{again_flags, child_paid, leaf_paid, passed_flags, throws_paid, waits_paid}
@@ -128,33 +128,33 @@ returns-in-Taken-clause-comes g c s sees =
 
 pub returns-in-Child-clause-gathered : goal.returns-in-Child-clause-gathered
 returns-in-Child-clause-gathered g c current h =
-    child_gathered c.args.scene.now.checked.now c.args.tree.now c.begin.new.tree c.args.id c.facts.ensures.fits c.in_ok-begun.evaluated c.in_ok-begun.begun c.in_ok-begun.ensures.kids h c.in-Child.child c.in-Child.is
+    child_gathered c.args.scene.now.checked.now c.args.tree.now c.begin.new.tree c.args.id c.facts.ensures.fits c.in_ok-begun.evaluated c.in_ok-begun.begun c.in_ok-begun.ensures.kids c.begin.ensures.current h c.in-Child.child c.in-Child.is
 
 pub returns-in-Leaf-clause-gathered : goal.returns-in-Leaf-clause-gathered
 returns-in-Leaf-clause-gathered g c current h =
-    leaf_gathered c.args.scene.now.checked.now c.args.tree.now c.begin.new.tree c.args.id c.facts.ensures.fits c.in_ok-begun.evaluated c.in_ok-begun.begun c.in_ok-begun.ensures.kids h c.in-Leaf.is
+    leaf_gathered c.args.scene.now.checked.now c.args.tree.now c.begin.new.tree c.args.id c.facts.ensures.fits c.in_ok-begun.evaluated c.in_ok-begun.begun c.in_ok-begun.ensures.kids c.begin.ensures.current h c.in-Leaf.is
 
 pub returns-in_ok-at-in-Suspended-clause-gathered : goal.returns-in_ok-at-in-Suspended-clause-gathered
 returns-in_ok-at-in-Suspended-clause-gathered g c current h =
     let same = sym (c.in_ok-begun.ensures.waits c.in-Suspended.resource c.in-Suspended.is) in
-    c.in_ok-at-in-Suspended.ensures.gathered (subst (λ (t : Trees Fiber). IsGathered t.current) same current) (subst (λ t. GatheredHere t c.args.id) same h)
+    c.in_ok-at-in-Suspended.ensures.gathered (subst (λ (t : Trees Fiber). IsGathered t.current) same current) (subst (λ t. IsGathering t (Begins c.args.id)) same h)
 
 pub returns-in_ok-at-in-Thrown-clause-gathered : goal.returns-in_ok-at-in-Thrown-clause-gathered
 returns-in_ok-at-in-Thrown-clause-gathered g c current h =
     let same = sym (c.in_ok-begun.ensures.throws c.in-Thrown.value c.in-Thrown.is) in
-    c.in_ok-at-in-Thrown.ensures.gathered (subst (λ (t : Trees Fiber). IsGathered t.current) same current) (subst (λ t. GatheredHere t c.args.id) same h)
+    c.in_ok-at-in-Thrown.ensures.gathered (subst (λ (t : Trees Fiber). IsGathered t.current) same current) (subst (λ t. IsGathering t (Begins c.args.id)) same h)
 
 pub returns-in_ok-opened-in-Hidden-clause-gathered : goal.returns-in_ok-opened-in-Hidden-clause-gathered
 returns-in_ok-opened-in-Hidden-clause-gathered g c current h =
     let tries = hidden_tried c.args.scene.now (kept_hooks c.args.hooks.now) c.args.tree.now c.args.contexts.now c.begin.new.tree c.args.id c.facts.ensures.fits c.requires (c.in_ok-begun.ensures.tried (is_again c.in-Hidden.is)) in
     subst (IsGathering c.open_old_fallback.new.tree) (sym c.at_opened.ensures)
     (again_gathered (as_cloned true) c.args.tree.now c.begin.new.tree c.open_old_fallback.new.tree c.args.id tries.0 c.in_ok-opened-in-Hidden.opened c.facts.ensures.fits
-    tries.1 c.in_ok-opened-in-Hidden.ensures.kids current h)
+    tries.1 c.in_ok-opened-in-Hidden.ensures.kids c.open_old_fallback.ensures.current current h)
 
 pub returns-in-Taken-clause-gathered : goal.returns-in-Taken-clause-gathered
 returns-in-Taken-clause-gathered g c current h =
-    let (x, was) = taken_node c.args.scene.now (kept_hooks c.args.hooks.now) c.args.tree.now c.args.contexts.now c.begin.new.tree c.begin.new.contexts c.args.id c.requires
+    let (x, was, same) = taken_node c.args.scene.now (kept_hooks c.args.hooks.now) c.args.tree.now c.args.contexts.now c.begin.new.tree c.begin.new.contexts c.args.id c.facts.ensures.fits c.requires
     (λ s sees. subst (BeginsPlace s (is_way c.args.scene.now.ways.now) (kept_hooks c.args.hooks.now) c.args.tree.now c.args.contexts.now c.begin.new.tree c.begin.new.contexts c.args.id) c.in-Taken.is (c.in_ok-begun.ensures.begun s sees)) in
     subst (IsGathering c.begin.new.tree) (sym c.at_after.ensures)
     (passed_gathered c.args.tree.now c.begin.new.tree c.args.id c.pass.result c.facts.ensures.fits c.facts-in-Taken.ensures.fits c.facts.ensures.linked
-    (c.in_ok-begun.ensures.taken_over (ap is_taken c.in-Taken.is)) c.pass.ensures.next x was current h)
+    c.begin.ensures.current (c.in_ok-begun.ensures.taken_over (ap is_taken c.in-Taken.is)) c.pass.ensures.next x was same current h)

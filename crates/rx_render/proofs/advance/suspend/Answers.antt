@@ -45,10 +45,10 @@ returns-in_ok-opened-in-Some-clause-flags c fs us h within =
     c.open_fallback.ensures.current c.in_ok-opened-in-Some.ensures.kids)
 
 pub returns-in-None-clause-gathered : goal.returns-in-None-clause-gathered
-returns-in-None-clause-gathered c current h = subst (λ x. IsGathered (grafted x.draft)) (sym c.discard.ensures) tt
+returns-in-None-clause-gathered c current h = subst (λ x. IsGathering x Over) (sym c.discard.ensures) (tt, tt)
 
 pub returns-in_ok-opened-in-Some-clause-gathered : goal.returns-in_ok-opened-in-Some-clause-gathered
 returns-in_ok-opened-in-Some-clause-gathered c current h =
     subst (IsGathering c.open_fallback.new.tree) (sym c.at_opened.ensures)
     (unwound_gathered c.args.tree.now c.unwind_to_boundary.new.tree c.open_fallback.new.tree c.in-Some.boundary c.args.id c.in_ok-opened-in-Some.opened h c.facts-in-Some.ensures.fits
-    c.unwind_to_boundary.ensures.current (c.in-Some.ensures.nearest h.around h.value h.old (taken none) h.rest h.here) (λ v there. let k = c.in_ok-opened-in-Some.ensures.kids v there in (_, k.2)) current)
+    c.unwind_to_boundary.ensures.current c.open_fallback.ensures.current (c.in-Some.ensures.nearest h.0.around h.0.value h.0.old (taken none) h.0.rest h.0.here) (λ v there. let k = c.in_ok-opened-in-Some.ensures.kids v there in (_, k.2)) current)

@@ -36,4 +36,5 @@ pub returns-clause-gathered : goal.returns-clause-gathered
 returns-clause-gathered c current h =
     subst (IsGathering c.open_caught.new.tree) (sym c.at_opened.ensures)
     (thrown_gathered c.args.tree.now c.unwind_to_catch-boundary.new.tree c.open_caught.new.tree c.unwind_to_catch-boundary.result c.args.id c.in_ok-opened.opened h
-    c.unwind_to_catch-boundary.ensures.current (c.unwind_to_catch-boundary.ensures.nearest h.around h.value h.old (taken none) h.rest h.here) c.in_ok-opened.ensures.kids current)
+    c.unwind_to_catch-boundary.ensures.current c.open_caught.ensures.current (c.unwind_to_catch-boundary.ensures.nearest h.0.around h.0.value h.0.old (taken none) h.0.rest h.0.here)
+    c.in_ok-opened.ensures.kids current)

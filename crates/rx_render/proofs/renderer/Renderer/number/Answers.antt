@@ -4,6 +4,8 @@ use Rattle.rx_links.specs.Drafts.{grafted, made_size}
 use Rattle.rx_read.specs.NumbersView.{numbers_seen}
 use Rattle.rx_fiber.specs.Subtrees.{IsGathered}
 use Rattle.rx_render.specs.contracts.renderer.Renderer.{the_view}
+use Rattle.rx_beside.specs.Alike.{AllTakeAlike}
+use Rattle.rx_render.proofs.Alike.{numbered_alike}
 use Rattle.rx_render.proofs.Gathering.{numbered_gathered}
 use Rattle.rx_render.proofs.Going.{over_gathered, over_rendering}
 use Rattle.rx_render.proofs.Sizes.{has_room}
@@ -23,3 +25,5 @@ invariant_of-self c =
     over_rendering (the_view c.self.inside) _ c.self.invariant refl over (ap (λ t. t.current) c.number_made.ensures.draft)
     (subst (λ t. IsGathered (grafted t.draft)) (sym c.number_made.ensures.draft)
     (numbered_gathered (numbers_seen c.args.next) (the_view c.self.inside).trees.draft (over_gathered (the_view c.self.inside) c.self.invariant over)))
+    (subst (λ t. AllTakeAlike t.current t.draft) (sym c.number_made.ensures.draft)
+    (numbered_alike (the_view c.self.inside).trees.current (numbers_seen c.args.next) (the_view c.self.inside).trees.draft c.self.invariant.gathering.1))

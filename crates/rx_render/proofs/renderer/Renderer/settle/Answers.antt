@@ -17,7 +17,7 @@ settle_hooks-requires-clause-pruned c =
 
 pub invariant_of-self : goal.invariant_of-self
 invariant_of-self c = over_rendering (the_view c.self.inside) _ c.self.invariant refl (ap (λ v. v.at) c.self.view_is ∙ c.requires.over) refl
-    (over_gathered (the_view c.self.inside) c.self.invariant (ap (λ v. v.at) c.self.view_is ∙ c.requires.over))
+    (over_gathered (the_view c.self.inside) c.self.invariant (ap (λ v. v.at) c.self.view_is ∙ c.requires.over)) c.self.invariant.gathering.1
 
 pub returns-clause-settled : goal.returns-clause-settled
 returns-clause-settled c =

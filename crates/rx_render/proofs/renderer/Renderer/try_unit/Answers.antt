@@ -2,6 +2,7 @@ use Rattle.std.specs.Prelude.{if◌then◌else◌}
 use Rattle.std.proofs.Common.{◌+◌, ◌≤◌, Bool, true, false, refl, sym, ap, ◌∙◌, arith, subst}
 use Rattle.rx_links.specs.Drafts.{grafted}
 use Rattle.rx_fiber.specs.Subtrees.{IsGathered}
+use Rattle.rx_beside.specs.Alike.{AllTakeAlike}
 use Rattle.rx_render.specs.declared.at.At.TheVariants.{Over}
 use Rattle.rx_render.specs.Rendering.{Rendering}
 use Rattle.rx_render.specs.contracts.renderer.Renderer.{the_view}
@@ -18,7 +19,7 @@ advance-requires g c =
 pub invariant_of-self : goal.invariant_of-self
 invariant_of-self g c =
     over_rendering (the_view c.self.inside) _ c.self.invariant refl refl c.in_err-next.ensures.current
-    (subst (λ d. IsGathered (grafted d)) (sym c.in_err-next.ensures.dropped) tt)
+    (subst (λ d. IsGathered (grafted d)) (sym c.in_err-next.ensures.dropped) tt) (subst (AllTakeAlike _) (sym c.in_err-next.ensures.dropped) tt)
 
 pub invariant_of-self-2 : goal.invariant_of-self-2
 invariant_of-self-2 g c =
