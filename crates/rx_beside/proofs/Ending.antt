@@ -95,6 +95,11 @@ pub pair_pruned : (d : Bool) (o t p q : Node) (f : Element) (w : Mark) (os ns ps
 pair_pruned d (node e m cs fs) t p q f w os ns ps qs g h same gone te pe qe =
     rw (te, pe, qe, gone) (lists_pruned d e f m w cs ns ps qs g (subst (λ x. AreLists (displaced_below d w) x ns ps qs) same h))
 
+-- a node that stays, with its list left out
+pub kept_pruned : (d : Bool) (o t p q : Node) → t ≡ o → p ≡ q → q ≡ node (element_of o) (mark_of o) trees.none trees.none
+    → GoesOn (mark_of o) (mark_of o) → displaced_below d (mark_of o) ≡ false → fallback_of o ≡ trees.none → Pruned d o t p q
+kept_pruned d (node e m ns fs) t p q te pe qe g h gone = rw (te, pe, qe, gone) (cut g h)
+
 -- nothing is left out
 pub whole_by : (d : Bool) (o n p q : Node) → p ≡ o → q ≡ n → Pruned d o n p q
 whole_by d o n p q e f = rw (e, f) whole

@@ -10,6 +10,7 @@ ghost use Rattle.rx_read.specs.Lists.{list_of};
 ghost use Rattle.rx_read.specs.Places.{first_node};
 ghost use Rattle.rx_pruned.specs.Besides.{IsBeside};
 ghost use Rattle.rx_pruned.specs.Pruned.{Pruned};
+ghost use Rattle.rx_beside.specs.Alike.{AllTakeAlike};
 
 use crate::pairs::{Pair, read_pair, read_whole};
 use rx_fiber::Fiber;
@@ -43,6 +44,7 @@ fn read_roots(
     requires made { Makes tree.now.draft root }
     requires current { (y : Option trees.Node) × (IsTreeOf y tree.now.current × (Some old.now ≡ trimmed_if y)) }
     requires node { (x : trees.Node) × (first_node (list_of tree.now (Some root)) ≡ Some x) }
+    requires alike { AllTakeAlike tree.now.current tree.now.draft }
     ensures tree { IfOk result (λ p. Some p.tree ≡ first_node (list_of tree.now (Some root))) }
     ensures pruned { IfOk result (λ p. Pruned false old.now p.tree p.pruned_old p.pruned_new) }
 {
@@ -87,6 +89,7 @@ pub fn read_beside(
 ) -> Result<Beside, AllocError>
     requires finished { (x : trees.Node) × IsTreeOf (Some x) (grafted tree.now.draft) }
     requires current { (y : Option trees.Node) × (IsTreeOf y tree.now.current × (option_copied old ≡ trimmed_if y)) }
+    requires alike { AllTakeAlike tree.now.current tree.now.draft }
     ensures tree { IfOk result (λ b. (x : trees.Node) → IsTreeOf (Some x) (grafted tree.now.draft) → b.tree ≡ trimmed x) }
     ensures pruned { IfOk result (λ b. IsBeside (option_copied old.entry) b) }
 {

@@ -1,10 +1,11 @@
 // A node of the finished tree beside the old one that it was made for.
-ghost use Rattle.std.specs.Prelude.{◌≡◌, ◌<◌, ◌^◌, ℕ, Bool, true, false, ◌||◌, All, IfSome, IfOk, Some, Option, length, map, option_and_then};
+ghost use Rattle.std.specs.Prelude.{◌≡◌, ◌<◌, ◌^◌, ℕ, Bool, true, false, ◌||◌, All, IfSome, IfOk, Some, Option, is_some, length, map, option_and_then};
 ghost use Rattle.rx_elem.specs.Trees as trees;
-ghost use Rattle.rx_elem.specs.Trees.{node, none, forest, element_of, mark_of, host_number, shows_fallback};
+ghost use Rattle.rx_elem.specs.Trees.{node, none, forest, element_of, mark_of, fallback_of, host_number, shows_fallback};
 ghost use Rattle.rx_elem.specs.Compare.{node_at};
+ghost use Rattle.rx_node.specs.Fixed.{is_fixed_mark};
 ghost use Rattle.rx_node.specs.MarkView.{mark_seen};
-ghost use Rattle.rx_links.specs.Drafts.{Makes, taken, grafted, old_of, old_kids};
+ghost use Rattle.rx_links.specs.Drafts.{Makes, taken, entry, grafted, old_of, old_kids};
 ghost use Rattle.rx_links.specs.Readers.{IsIn, made_kids_of};
 ghost use Rattle.rx_fiber.specs.Reading.{IsTreeOf};
 ghost use Rattle.rx_read.specs.Lists.{list_of};
@@ -12,6 +13,7 @@ ghost use Rattle.rx_read.specs.Numbering.{made_entry};
 ghost use Rattle.rx_read.specs.Places.{places_in, first_node};
 ghost use Rattle.rx_pruned.specs.Pruned.{GoesOn, displaced_below, Pruned};
 ghost use Rattle.rx_compare.specs.InPlace.{AreInPlace};
+ghost use Rattle.rx_beside.specs.Alike.{AllTakeAlike};
 ghost use Rattle.rx_beside.specs.Children.{IsChildOf, IsNodeOf, WasOver};
 ghost use Rattle.rx_beside.specs.Slots.{IsSlot, AreLists};
 
@@ -77,6 +79,7 @@ fn or_moved(displaced: bool, moved: bool) -> bool
 fn takes_over(tree: &FiberTree<Fiber>, id: FiberId) -> bool
     requires { Makes tree.now.draft id }
     ensures taken { result ≡ true → made_kids_of tree.now.draft id ≡ taken (old_kids tree.now id) }
+    ensures some { result ≡ true → is_some (entry (made_kids_of tree.now.draft id)) ≡ true }
     ensures made { result ≡ false → list_of tree.now (made_entry (made_kids_of tree.now.draft id)) ≡ grafted (made_kids_of tree.now.draft id) }
 {
     tree.facts();
@@ -215,6 +218,30 @@ fn same_lists(alloc: Global, old: &[Option<Node>], displaced: bool) -> Result<Li
     }
 }
 
+// Whether a made node is the old one, with its list left out: its children were taken over, a commit leaves its mark as it is,
+// and no node from them up to their host is new or moved.
+fn is_kept(old: &Node, over: bool, displaced: bool) -> bool
+    ensures over { result ≡ true → over ≡ true }
+    ensures stays { result ≡ true → displaced ≡ false }
+    ensures fixed { result ≡ true → is_fixed_mark (mark_of old.now) ≡ true }
+{
+    over && !displaced && old.mark().is_fixed()
+}
+
+// The old node, which stays. Without its list it is one node on both sides.
+fn kept_pair(alloc: Global, old: &Node) -> Result<Pair, AllocError>
+    ensures tree { IfOk result (λ p. p.tree ≡ old.now) }
+    ensures pruned { (d : Bool) → GoesOn (mark_of old.now) (mark_of old.now) → displaced_below d (mark_of old.now) ≡ false → fallback_of old.now ≡ none → IfOk result (λ p. Pruned d old.now p.tree p.pruned_old p.pruned_new) }
+{
+    let pruned = node_over(alloc, old.element(), old.mark(), Vec::new(alloc))?;
+    Ok(Pair {
+        tree: old.copy()?,
+        pruned_old: pruned.copy()?,
+        pruned_new: pruned,
+        whole: false,
+    })
+}
+
 // A made node beside the old one that it was made for.
 #[cycle(pair)]
 pub(crate) fn read_pair(
@@ -226,6 +253,7 @@ pub(crate) fn read_pair(
 ) -> Result<Pair, AllocError>
     requires made { Makes tree.now.draft id }
     requires tree { (y : Option trees.Node) × IsTreeOf y tree.now.current }
+    requires alike { AllTakeAlike tree.now.current tree.now.draft }
     requires old { Some old.now ≡ first_node (list_of tree.now (old_of tree.now.draft id)) }
     requires node { (x : trees.Node) × (first_node (list_of tree.now (Some id)) ≡ Some x) }
     ensures tree { IfOk result (λ p. Some p.tree ≡ first_node (list_of tree.now (Some id))) }
@@ -237,7 +265,12 @@ pub(crate) fn read_pair(
         && goes_on(old.mark(), mark)
     {
         let below = displaced_below(displaced, mark);
-        let lists = read_lists(alloc, tree, id, old.children(), below)?;
+        let over = takes_over(tree, id);
+        if is_kept(old, over, below) {
+            let kept = kept_pair(alloc, old)?;
+            return Ok(kept);
+        }
+        let lists = read_lists(alloc, tree, id, old.children(), below, over)?;
         if lists.whole {
             let whole = whole_over(alloc, old, fiber.element(), mark, lists)?;
             return Ok(whole);
@@ -256,13 +289,17 @@ fn read_lists(
     id: FiberId,
     old: &[Option<Node>],
     displaced: bool,
+    over: bool,
 ) -> Result<Lists, AllocError>
-    requires over { WasOver tree.now id (forest old.now) }
+    requires beside { WasOver tree.now id (forest old.now) }
     requires tree { (y : Option trees.Node) × IsTreeOf y tree.now.current }
+    requires alike { AllTakeAlike tree.now.current tree.now.draft }
+    requires taken { over ≡ true → made_kids_of tree.now.draft id ≡ taken (old_kids tree.now id) }
+    requires made { over ≡ false → list_of tree.now (made_entry (made_kids_of tree.now.draft id)) ≡ grafted (made_kids_of tree.now.draft id) }
     ensures tree { IfOk result (λ l. forest l.tree.items ≡ forest (places_in 0 (grafted (made_kids_of tree.now.draft id)))) }
     ensures pruned { IfOk result (λ l. AreLists displaced (forest old.now) (forest l.tree.items) (forest l.pruned_old.items) (forest l.pruned_new.items)) }
 {
-    if takes_over(tree, id) {
+    if over {
         same_lists(alloc, old, displaced)
     } else {
         read_made(alloc, tree, id, old, displaced)
@@ -280,6 +317,7 @@ fn read_made(
 ) -> Result<Lists, AllocError>
     requires over { WasOver tree.now id (forest old.now) }
     requires tree { (y : Option trees.Node) × IsTreeOf y tree.now.current }
+    requires alike { AllTakeAlike tree.now.current tree.now.draft }
     ensures tree { IfOk result (λ l. l.tree.items ≡ places_in 0 (list_of tree.now (made_entry (made_kids_of tree.now.draft id)))) }
     ensures pruned { IfOk result (λ l. AreLists displaced (forest old.now) (forest l.tree.items) (forest l.pruned_old.items) (forest l.pruned_new.items)) }
 {
@@ -306,6 +344,7 @@ fn read_in_place(
 ) -> Result<Lists, AllocError>
     requires over { WasOver tree.now id (forest old.now) }
     requires tree { (y : Option trees.Node) × IsTreeOf y tree.now.current }
+    requires alike { AllTakeAlike tree.now.current tree.now.draft }
     requires children { All (λ o. IfSome o (IsNodeOf tree.now id)) fibers.now }
     requires same { AreInPlace (forest old.now) (forest (map (λ o. first_node (list_of tree.now o)) fibers.now)) }
     requires few { length fibers.now < 2 ^ 32 }
@@ -338,6 +377,7 @@ fn read_matched(
 ) -> Result<Lists, AllocError>
     requires over { WasOver tree.now id (forest old.now) }
     requires tree { (y : Option trees.Node) × IsTreeOf y tree.now.current }
+    requires alike { AllTakeAlike tree.now.current tree.now.draft }
     requires children { All (λ o. IfSome o (IsNodeOf tree.now id)) fibers.now }
     ensures tree { IfOk result (λ l. l.tree.items ≡ map (λ o. first_node (list_of tree.now o)) fibers.now) }
     ensures pruned { IfOk result (λ l. AreLists displaced (forest old.now) (forest l.tree.items) (forest l.pruned_old.items) (forest l.pruned_new.items)) }
@@ -371,6 +411,7 @@ fn read_slot(
 ) -> Result<Slot, AllocError>
     requires over { (p : ℕ) × WasOver tree.now p (forest old.now) × IfSome child (IsNodeOf tree.now p) }
     requires tree { (y : Option trees.Node) × IsTreeOf y tree.now.current }
+    requires alike { AllTakeAlike tree.now.current tree.now.draft }
     ensures tree { IfOk result (λ s. s.tree ≡ first_node (list_of tree.now child)) }
     ensures pruned { IfOk result (λ s. IsSlot displaced (option_and_then (node_at (forest old.now)) place) s.tree s.pruned_old s.pruned_new) }
 {

@@ -1,16 +1,17 @@
 use Rattle.std.proofs.Common.{map, All, IfSome, Some, refl, sym, ap, ◌∙◌, subst, arith}
 use Rattle.std.proofs.lemmas.List.Elements.{All-get_or}
 use Rattle.std.specs.Prelude.{option_and_then}
-use Rattle.rx_elem.specs.Trees.{node, none, forest, shows_fallback}
+use Rattle.rx_elem.specs.Trees.{node, none, forest, mark_of, shows_fallback}
 use Rattle.rx_elem.specs.Compare.{node_at}
 use Rattle.rx_node.specs.MarkView.{mark_seen}
 use Rattle.rx_fiber.specs.FiberView.{stage_seen}
-use Rattle.rx_pruned.specs.Pruned.{GoesOn}
+use Rattle.rx_pruned.specs.Pruned.{GoesOn, displaced_below}
 use Rattle.rx_read.specs.Lists.{list_of}
 use Rattle.rx_read.specs.Places.{first_node}
 use Rattle.rx_beside.specs.Children.{IsNodeOf}
 use Rattle.rx_beside.specs.Slots.{IsSlot, AreLists}
 use Rattle.rx_beside.proofs.Standing.{beside_at, old_children, new_node}
+use Rattle.rx_beside.proofs.Keeping.{kept_node}
 use Rattle.rx_beside.proofs.Here.{slot_lower}
 use Rattle.rx_beside.proofs.Ending.{places_even, moved_even, step, done, pair_pruned, kept_by, changed_by}
 use Rattle.rx_beside.proofs.Walking.{none_walked_yet}
@@ -25,12 +26,12 @@ read_made-are_in_place-requires t c =
 pub read_made-read_in_place-requires : goal.read_made-read_in_place-requires
 read_made-read_in_place-requires t c =
     let children = subst (All (λ o. IfSome o (IsNodeOf c.args.tree.now c.args.id))) (sym c.as_slice-made.ensures.value) c.in_ok-fibers.ensures.children in
-    (omega (arith, c.decreases), (c.requires.over, (c.requires.tree, (children, (c.are_in_place.ensures.same c.if-are_in_place.true, c.are_in_place.ensures.few c.if-are_in_place.true)))))
+    (omega (arith, c.decreases), (c.requires.over, (c.requires.tree, (c.requires.alike, (children, (c.are_in_place.ensures.same c.if-are_in_place.true, c.are_in_place.ensures.few c.if-are_in_place.true))))))
 
 pub read_made-read_matched-requires : goal.read_made-read_matched-requires
 read_made-read_matched-requires t c =
     let children = subst (All (λ o. IfSome o (IsNodeOf c.args.tree.now c.args.id))) (sym c.as_slice-made.ensures.value) c.in_ok-fibers.ensures.children in
-    (omega (arith, c.decreases), (c.requires.over, (c.requires.tree, children)))
+    (omega (arith, c.decreases), (c.requires.over, (c.requires.tree, (c.requires.alike, children))))
 
 pub read_made-returns-then-are_in_place-clause-tree : goal.read_made-returns-then-are_in_place-clause-tree
 read_made-returns-then-are_in_place-clause-tree t c =
@@ -69,7 +70,7 @@ read_matched-read_slot-requires t c =
     let o = c.index-fibers-i.result in
     let node = subst (λ q. IfSome q (IsNodeOf trees c.args.id)) (sym c.index-fibers-i.is) (All-get_or (λ q. IfSome q (IsNodeOf trees c.args.id)) c.args.fibers.now c.going.i o c.going-test.true c.requires.children) in
     let smaller = slot_lower trees c.facts.ensures.fits c.facts.ensures.linked c.args.id c.requires.over.made o node in
-    (omega (arith, c.decreases, smaller), ((c.args.id, c.requires.over, node), c.requires.tree))
+    (omega (arith, c.decreases, smaller), ((c.args.id, c.requires.over, node), (c.requires.tree, c.requires.alike)))
 
 pub read_matched-going-preserved : goal.read_matched-going-preserved
 read_matched-going-preserved t c =
@@ -110,7 +111,7 @@ read_in_place-read_slot-requires t c =
     let o = c.index-fibers-i.result in
     let node = subst (λ q. IfSome q (IsNodeOf trees c.args.id)) (sym c.index-fibers-i.is) (All-get_or (λ q. IfSome q (IsNodeOf trees c.args.id)) c.args.fibers.now c.going.i o c.going-test.true c.requires.children) in
     let smaller = slot_lower trees c.facts.ensures.fits c.facts.ensures.linked c.args.id c.requires.over.made o node in
-    (omega (arith, c.decreases, smaller), ((c.args.id, c.requires.over, node), c.requires.tree))
+    (omega (arith, c.decreases, smaller), ((c.args.id, c.requires.over, node), (c.requires.tree, c.requires.alike)))
 
 pub read_in_place-bounds-old-i : goal.read_in_place-bounds-old-i
 read_in_place-bounds-old-i t c =
@@ -146,7 +147,7 @@ read_pair-read_lists-requires t c =
     let g = c.goes_on.ensures.goes c.if-goes_on.true in
     let shown = c.goes_on.ensures.shown c.if-goes_on.true in
     let o = old_children trees c.facts.ensures.fits c.facts.ensures.linked c.args.id c.requires.made c.args.old.now c.requires.old (ap shows_fallback (sym c.mark.ensures) ∙ shown.0) in
-    (omega (arith, c.decreases), (record { made = c.requires.made; read = c.children.ensures.all ∙ o.0 }, c.requires.tree))
+    (omega (arith, c.decreases), (record { made = c.requires.made; read = c.children.ensures.all ∙ o.0 }, (c.requires.tree, (c.requires.alike, (c.takes_over-over.ensures.taken, c.takes_over-over.ensures.made)))))
 
 pub read_pair-returns-clause-tree : goal.read_pair-returns-clause-tree
 read_pair-returns-clause-tree t c =
@@ -181,6 +182,34 @@ read_pair-returns-then-lists-clause-tree t c =
     let b = beside_at trees c.facts.ensures.fits c.facts.ensures.linked c.args.id c.requires.made in
     let n = new_node trees c.args.id b v (c.value-fiber.ensures.made c.requires.made) w (sym c.stage.ensures ∙ ap stage_seen c.in-Begun.is) shown.1 in
     ap Some (c.in_ok-whole.ensures.tree ∙ ap (λ f. node f w (forest c.in_ok-lists.lists.tree.items) none) c.element.ensures ∙ ap (λ ns. node v.element w ns none) c.in_ok-lists.ensures.tree) ∙ sym n
+
+pub read_pair-returns-then-is_kept-clause-tree : goal.read_pair-returns-then-is_kept-clause-tree
+read_pair-returns-then-is_kept-clause-tree t c =
+    let trees = c.args.tree.now in
+    let g = c.goes_on.ensures.goes c.if-goes_on.true in
+    let shown = c.goes_on.ensures.shown c.if-goes_on.true in
+    let over = c.is_kept.ensures.over c.if-is_kept.true in
+    let k = kept_node trees c.facts.ensures.fits c.facts.ensures.linked c.requires.alike c.args.id c.requires.made c.args.old.now c.requires.old (c.is_kept.ensures.fixed c.if-is_kept.true)
+    (c.takes_over-over.ensures.taken over) (c.takes_over-over.ensures.some over) c.value-fiber.result.now (c.value-fiber.ensures.made c.requires.made) (mark_seen c.in-Begun.mark)
+    (sym c.stage.ensures ∙ ap stage_seen c.in-Begun.is) g.new_shown (ap shows_fallback (sym c.mark.ensures) ∙ shown.0) shown.1 in
+    ap Some c.in_ok-kept.ensures.tree ∙ sym k.1
+
+pub read_pair-returns-then-is_kept-clause-pruned : goal.read_pair-returns-then-is_kept-clause-pruned
+read_pair-returns-then-is_kept-clause-pruned t c =
+    let trees = c.args.tree.now in
+    let w = mark_seen c.in-Begun.mark in
+    let g = c.goes_on.ensures.goes c.if-goes_on.true in
+    let shown = c.goes_on.ensures.shown c.if-goes_on.true in
+    let over = c.is_kept.ensures.over c.if-is_kept.true in
+    let was = ap shows_fallback (sym c.mark.ensures) ∙ shown.0 in
+    let k = kept_node trees c.facts.ensures.fits c.facts.ensures.linked c.requires.alike c.args.id c.requires.made c.args.old.now c.requires.old (c.is_kept.ensures.fixed c.if-is_kept.true)
+    (c.takes_over-over.ensures.taken over) (c.takes_over-over.ensures.some over) c.value-fiber.result.now (c.value-fiber.ensures.made c.requires.made) w
+    (sym c.stage.ensures ∙ ap stage_seen c.in-Begun.is) g.new_shown was shown.1 in
+    let o = old_children trees c.facts.ensures.fits c.facts.ensures.linked c.args.id c.requires.made c.args.old.now c.requires.old was in
+    c.in_ok-kept.ensures.pruned c.args.displaced
+    (subst (λ m. GoesOn (mark_of c.args.old.now) m) (sym k.0) (subst (λ m. GoesOn m w) c.mark.ensures g))
+    (ap (displaced_below c.args.displaced) k.0 ∙ sym c.displaced_below-below.ensures ∙ c.is_kept.ensures.stays c.if-is_kept.true)
+    o.1
 
 pub read_slot-returns-in_default-clause-pruned : goal.read_slot-returns-in_default-clause-pruned
 read_slot-returns-in_default-clause-pruned t c = kept_by _ _ _ _ refl
