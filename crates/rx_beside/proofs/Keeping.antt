@@ -1,5 +1,5 @@
 -- A made fiber that took its children over stands for the node that the current one stands for.
-use Rattle.std.proofs.Common.{◌≡◌, ℕ, true, false, refl, sym, ap, ◌∙◌, subst, is_some, Option, Some, None, IfSome}
+use Rattle.std.proofs.Common.{◌≡◌, ℕ, true, false, sym, ap, ◌∙◌, subst, is_some, Option, Some, None, IfSome}
 use Rattle.std.specs.Prelude.{option_and_then}
 use Rattle.rx_elem.specs.Elements.{Element}
 use Rattle.rx_elem.specs.Trees.{Mark, Node, node, Forest, forest, shows_fallback, is_hidden, mark_of, element_of, children_of, fallback_of}
@@ -16,7 +16,7 @@ use Rattle.rx_read.specs.Lists.{list_of}
 use Rattle.rx_read.specs.Places.{mark_in, node_from, places_in, fallback_behind, node_if, first_node}
 use Rattle.rx_read.proofs.Links.{list_of_current}
 use Rattle.rx_beside.specs.Alike.{IsLike, TakesAlike, AllTakeAlike}
-use Rattle.rx_beside.proofs.Standing.{Beside, beside_at, old_children, new_node}
+use Rattle.rx_beside.proofs.Standing.{beside_at, old_children, new_node}
 
 -- what holds of each made fiber holds of those of a list among them
 pub alike_placed : (c : Shape Fiber) (k : Around Fiber) (d : Draft Fiber) → AllTakeAlike c (placed k d) → AllTakeAlike c d

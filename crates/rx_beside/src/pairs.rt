@@ -1,7 +1,7 @@
 // A node of the finished tree beside the old one that it was made for.
-ghost use Rattle.std.specs.Prelude.{◌≡◌, ◌<◌, ◌^◌, ℕ, Bool, true, false, ◌||◌, All, IfSome, IfOk, Some, Option, is_some, length, map, option_and_then};
+ghost use Rattle.std.specs.Prelude.{◌≡◌, ◌<◌, ◌^◌, ℕ, Bool, true, false, ◌||◌, List, All, IfSome, IfOk, Some, Option, is_some, length, map, option_and_then};
 ghost use Rattle.rx_elem.specs.Trees as trees;
-ghost use Rattle.rx_elem.specs.Trees.{node, none, forest, element_of, mark_of, fallback_of, host_number, shows_fallback};
+ghost use Rattle.rx_elem.specs.Trees.{node, none, forest, element_of, mark_of, children_of, fallback_of, host_number, shows_fallback};
 ghost use Rattle.rx_elem.specs.Compare.{node_at};
 ghost use Rattle.rx_node.specs.Fixed.{is_fixed_mark};
 ghost use Rattle.rx_node.specs.MarkView.{mark_seen};
@@ -15,11 +15,12 @@ ghost use Rattle.rx_pruned.specs.Pruned.{GoesOn, displaced_below, Pruned};
 ghost use Rattle.rx_compare.specs.InPlace.{AreInPlace};
 ghost use Rattle.rx_beside.specs.Alike.{AllTakeAlike};
 ghost use Rattle.rx_beside.specs.Children.{IsChildOf, IsNodeOf, WasOver};
+ghost use Rattle.rx_beside.specs.Parts.{old_part, new_part, old_slot, new_slot, old_list, new_list};
 ghost use Rattle.rx_beside.specs.Slots.{IsSlot, AreLists};
 
 use crate::children::{children_of, is_begun};
 use crate::lists::{
-    Lists, Slot, add_slot, are_in_place, copy_node, copy_nodes, match_fibers, push_slot,
+    Lists, PrunedLists, PrunedNodes, Slot, add_slot, are_in_place, copy_nodes, match_fibers,
 };
 use rx_compare::node_at;
 use rx_elem::Element;
@@ -29,13 +30,11 @@ use rx_node::{Mark, Node};
 use rx_read::{made_child, read_fiber};
 use std::alloc::{AllocError, Global};
 
-// A node of the finished tree; and the old node and this one, both without what stayed the same; and whether nothing is left out.
+// A node of the finished tree; and, if something is left out, the old node and this one without it.
 #[derive(Drop)]
 pub(crate) struct Pair {
     pub tree: Node,
-    pub pruned_old: Node,
-    pub pruned_new: Node,
-    pub whole: bool,
+    pub pruned: Option<PrunedNodes>,
 }
 
 // The number of a host or a text.
@@ -123,6 +122,23 @@ fn node_over(
     Node::new(alloc, element, mark, children, Vec::new(alloc))
 }
 
+// The old node and the new one over lists without what stayed the same.
+fn nodes_over(
+    alloc: Global,
+    old: &Node,
+    element: &Element,
+    mark: &Mark,
+    lists: PrunedLists,
+) -> Result<PrunedNodes, AllocError>
+    ensures old { IfOk result (λ p. p.old ≡ node (element_of old.now) (mark_of old.now) (forest lists.old.items) none) }
+    ensures new { IfOk result (λ p. p.new ≡ node element.now (mark_seen mark.now) (forest lists.new.items) none) }
+{
+    Ok(PrunedNodes {
+        old: node_over(alloc, old.element(), old.mark(), lists.old)?,
+        new: node_over(alloc, element, mark, lists.new)?,
+    })
+}
+
 // The nodes over these lists.
 fn pair_over(
     alloc: Global,
@@ -132,65 +148,33 @@ fn pair_over(
     lists: Lists,
 ) -> Result<Pair, AllocError>
     ensures tree { IfOk result (λ p. p.tree ≡ node element.now (mark_seen mark.now) (forest lists.tree.items) none) }
-    ensures pruned_old { IfOk result (λ p. p.pruned_old ≡ node (element_of old.now) (mark_of old.now) (forest lists.pruned_old.items) none) }
-    ensures pruned_new { IfOk result (λ p. p.pruned_new ≡ node element.now (mark_seen mark.now) (forest lists.pruned_new.items) none) }
+    ensures pruned { (d : Bool) → (os : List (Option trees.Node)) → GoesOn (mark_of old.now) (mark_seen mark.now) → forest os ≡ children_of old.now → fallback_of old.now ≡ none → AreLists (displaced_below d (mark_seen mark.now)) (forest os) (forest lists.tree.items) (forest (old_list os lists.pruned)) (forest (new_list lists.tree.items lists.pruned)) → IfOk result (λ p. Pruned d old.now p.tree (old_part old.now p.pruned) (new_part p.tree p.pruned)) }
 {
-    let Lists {
-        tree,
-        pruned_old,
-        pruned_new,
-        whole: _,
-    } = lists;
+    let Lists { tree, pruned } = lists;
     let tree = node_over(alloc, element, mark, tree)?;
-    let pruned_old = node_over(alloc, old.element(), old.mark(), pruned_old)?;
-    let pruned_new = node_over(alloc, element, mark, pruned_new)?;
+    let Some(lists) = pruned else {
+        return Ok(Pair { tree, pruned: None });
+    };
+    let nodes = nodes_over(alloc, old, element, mark, lists)?;
     Ok(Pair {
         tree,
-        pruned_old,
-        pruned_new,
-        whole: false,
+        pruned: Some(nodes),
     })
 }
 
-// The same if nothing is left out: each node is its own, by one handle more.
-fn whole_over(
-    alloc: Global,
-    old: &Node,
-    element: &Element,
-    mark: &Mark,
-    lists: Lists,
-) -> Result<Pair, AllocError>
-    ensures tree { IfOk result (λ p. p.tree ≡ node element.now (mark_seen mark.now) (forest lists.tree.items) none) }
-    ensures pruned { (d : Bool) → IfOk result (λ p. Pruned d old.now p.tree p.pruned_old p.pruned_new) }
-{
-    let tree = node_over(alloc, element, mark, lists.tree)?;
-    Ok(Pair {
-        pruned_old: old.copy()?,
-        pruned_new: tree.copy()?,
-        tree,
-        whole: true,
-    })
-}
-
-// A made node and the old one, with all of both.
+// A made node, of which nothing is left out.
 pub(crate) fn read_whole(
     alloc: Global,
     tree: &FiberTree<Fiber>,
     id: FiberId,
-    old: &Node,
 ) -> Result<Pair, AllocError>
     requires inside { IsIn tree.now id }
     requires node { (x : trees.Node) × (first_node (list_of tree.now (Some id)) ≡ Some x) }
     ensures tree { IfOk result (λ p. Some p.tree ≡ first_node (list_of tree.now (Some id))) }
-    ensures pruned { (d : Bool) → IfOk result (λ p. Pruned d old.now p.tree p.pruned_old p.pruned_new) }
+    ensures pruned { (d : Bool) → (o : trees.Node) → IfOk result (λ p. Pruned d o p.tree (old_part o p.pruned) (new_part p.tree p.pruned)) }
 {
     match read_fiber(alloc, tree, id)? {
-        Some(tree) => Ok(Pair {
-            pruned_old: old.copy()?,
-            pruned_new: tree.copy()?,
-            tree,
-            whole: true,
-        }),
+        Some(tree) => Ok(Pair { tree, pruned: None }),
         None => unreachable!(),
     }
 }
@@ -198,47 +182,47 @@ pub(crate) fn read_whole(
 // The lists if the children of the old node were taken over: both left out, unless something above moved.
 fn same_lists(alloc: Global, old: &[Option<Node>], displaced: bool) -> Result<Lists, AllocError>
     ensures tree { IfOk result (λ l. l.tree.items ≡ old.now) }
-    ensures pruned { IfOk result (λ l. AreLists displaced (forest old.now) (forest l.tree.items) (forest l.pruned_old.items) (forest l.pruned_new.items)) }
+    ensures pruned { IfOk result (λ l. AreLists displaced (forest old.now) (forest l.tree.items) (forest (old_list old.now l.pruned)) (forest (new_list l.tree.items l.pruned))) }
 {
-    let tree = copy_nodes(alloc, old)?;
-    if displaced {
-        Ok(Lists {
-            tree,
-            pruned_old: copy_nodes(alloc, old)?,
-            pruned_new: copy_nodes(alloc, old)?,
-            whole: true,
-        })
-    } else {
-        Ok(Lists {
-            tree,
-            pruned_old: Vec::new(alloc),
-            pruned_new: Vec::new(alloc),
-            whole: old.is_empty(),
-        })
+    let tree = copy_nodes(alloc, old, old.len())?;
+    if displaced || old.is_empty() {
+        return Ok(Lists { tree, pruned: None });
     }
+    let lists = PrunedLists {
+        old: Vec::new(alloc),
+        new: Vec::new(alloc),
+    };
+    Ok(Lists {
+        tree,
+        pruned: Some(lists),
+    })
 }
 
-// Whether a made node is the old one, with its list left out: its children were taken over, a commit leaves its mark as it is,
-// and no node from them up to their host is new or moved.
-fn is_kept(old: &Node, over: bool, displaced: bool) -> bool
+// Whether a made node is the old one: its children were taken over, and a commit leaves its mark as it is.
+fn is_kept(old: &Node, over: bool) -> bool
     ensures over { result ≡ true → over ≡ true }
-    ensures stays { result ≡ true → displaced ≡ false }
     ensures fixed { result ≡ true → is_fixed_mark (mark_of old.now) ≡ true }
 {
-    over && !displaced && old.mark().is_fixed()
+    over && old.mark().is_fixed()
 }
 
-// The old node, which stays. Without its list it is one node on both sides.
-fn kept_pair(alloc: Global, old: &Node) -> Result<Pair, AllocError>
+// The old node, which stays: without its list it is one node on both sides. Nothing is left out if something above moved.
+fn kept_pair(alloc: Global, old: &Node, displaced: bool) -> Result<Pair, AllocError>
     ensures tree { IfOk result (λ p. p.tree ≡ old.now) }
-    ensures pruned { (d : Bool) → GoesOn (mark_of old.now) (mark_of old.now) → displaced_below d (mark_of old.now) ≡ false → fallback_of old.now ≡ none → IfOk result (λ p. Pruned d old.now p.tree p.pruned_old p.pruned_new) }
+    ensures pruned { (d : Bool) → GoesOn (mark_of old.now) (mark_of old.now) → displaced ≡ displaced_below d (mark_of old.now) → fallback_of old.now ≡ none → IfOk result (λ p. Pruned d old.now p.tree (old_part old.now p.pruned) (new_part p.tree p.pruned)) }
 {
-    let pruned = node_over(alloc, old.element(), old.mark(), Vec::new(alloc))?;
+    let tree = old.copy()?;
+    if displaced {
+        return Ok(Pair { tree, pruned: None });
+    }
+    let bare = node_over(alloc, old.element(), old.mark(), Vec::new(alloc))?;
+    let nodes = PrunedNodes {
+        old: bare.copy()?,
+        new: bare,
+    };
     Ok(Pair {
-        tree: old.copy()?,
-        pruned_old: pruned.copy()?,
-        pruned_new: pruned,
-        whole: false,
+        tree,
+        pruned: Some(nodes),
     })
 }
 
@@ -257,7 +241,7 @@ pub(crate) fn read_pair(
     requires old { Some old.now ≡ first_node (list_of tree.now (old_of tree.now.draft id)) }
     requires node { (x : trees.Node) × (first_node (list_of tree.now (Some id)) ≡ Some x) }
     ensures tree { IfOk result (λ p. Some p.tree ≡ first_node (list_of tree.now (Some id))) }
-    ensures pruned { IfOk result (λ p. Pruned displaced old.now p.tree p.pruned_old p.pruned_new) }
+    ensures pruned { IfOk result (λ p. Pruned displaced old.now p.tree (old_part old.now p.pruned) (new_part p.tree p.pruned)) }
 {
     tree.facts();
     let fiber = tree.value(id);
@@ -266,19 +250,15 @@ pub(crate) fn read_pair(
     {
         let below = displaced_below(displaced, mark);
         let over = takes_over(tree, id);
-        if is_kept(old, over, below) {
-            let kept = kept_pair(alloc, old)?;
+        if is_kept(old, over) {
+            let kept = kept_pair(alloc, old, below)?;
             return Ok(kept);
         }
         let lists = read_lists(alloc, tree, id, old.children(), below, over)?;
-        if lists.whole {
-            let whole = whole_over(alloc, old, fiber.element(), mark, lists)?;
-            return Ok(whole);
-        }
         let pair = pair_over(alloc, old, fiber.element(), mark, lists)?;
         return Ok(pair);
     }
-    read_whole(alloc, tree, id, old)
+    read_whole(alloc, tree, id)
 }
 
 // The children of a made node beside those of the old one.
@@ -297,7 +277,7 @@ fn read_lists(
     requires taken { over ≡ true → made_kids_of tree.now.draft id ≡ taken (old_kids tree.now id) }
     requires made { over ≡ false → list_of tree.now (made_entry (made_kids_of tree.now.draft id)) ≡ grafted (made_kids_of tree.now.draft id) }
     ensures tree { IfOk result (λ l. forest l.tree.items ≡ forest (places_in 0 (grafted (made_kids_of tree.now.draft id)))) }
-    ensures pruned { IfOk result (λ l. AreLists displaced (forest old.now) (forest l.tree.items) (forest l.pruned_old.items) (forest l.pruned_new.items)) }
+    ensures pruned { IfOk result (λ l. AreLists displaced (forest old.now) (forest l.tree.items) (forest (old_list old.now l.pruned)) (forest (new_list l.tree.items l.pruned))) }
 {
     if over {
         same_lists(alloc, old, displaced)
@@ -319,7 +299,7 @@ fn read_made(
     requires tree { (y : Option trees.Node) × IsTreeOf y tree.now.current }
     requires alike { AllTakeAlike tree.now.current tree.now.draft }
     ensures tree { IfOk result (λ l. l.tree.items ≡ places_in 0 (list_of tree.now (made_entry (made_kids_of tree.now.draft id)))) }
-    ensures pruned { IfOk result (λ l. AreLists displaced (forest old.now) (forest l.tree.items) (forest l.pruned_old.items) (forest l.pruned_new.items)) }
+    ensures pruned { IfOk result (λ l. AreLists displaced (forest old.now) (forest l.tree.items) (forest (old_list old.now l.pruned)) (forest (new_list l.tree.items l.pruned))) }
 {
     tree.facts();
     let fibers = children_of(alloc, tree, id, old.len())?;
@@ -349,18 +329,17 @@ fn read_in_place(
     requires same { AreInPlace (forest old.now) (forest (map (λ o. first_node (list_of tree.now o)) fibers.now)) }
     requires few { length fibers.now < 2 ^ 32 }
     ensures tree { IfOk result (λ l. l.tree.items ≡ map (λ o. first_node (list_of tree.now o)) fibers.now) }
-    ensures pruned { IfOk result (λ l. AreLists displaced (forest old.now) (forest l.tree.items) (forest l.pruned_old.items) (forest l.pruned_new.items)) }
+    ensures pruned { IfOk result (λ l. AreLists displaced (forest old.now) (forest l.tree.items) (forest (old_list old.now l.pruned)) (forest (new_list l.tree.items l.pruned))) }
 {
     tree.facts();
     let mut lists = Lists {
         tree: Vec::with_capacity(alloc, fibers.len())?,
-        pruned_old: Vec::with_capacity(alloc, fibers.len())?,
-        pruned_new: Vec::with_capacity(alloc, fibers.len())?,
-        whole: true,
+        pruned: None,
     };
     'going: for i in 0..fibers.len() {
-        let slot = read_slot(alloc, tree, fibers[i], old, Some(i as u32), displaced)?;
-        push_slot(&mut lists, &old[i], slot)?;
+        let place = Some(i as u32);
+        let slot = read_slot(alloc, tree, fibers[i], old, place, displaced)?;
+        add_slot(alloc, &mut lists, old, place, slot)?;
     }
     Ok(lists)
 }
@@ -380,21 +359,19 @@ fn read_matched(
     requires alike { AllTakeAlike tree.now.current tree.now.draft }
     requires children { All (λ o. IfSome o (IsNodeOf tree.now id)) fibers.now }
     ensures tree { IfOk result (λ l. l.tree.items ≡ map (λ o. first_node (list_of tree.now o)) fibers.now) }
-    ensures pruned { IfOk result (λ l. AreLists displaced (forest old.now) (forest l.tree.items) (forest l.pruned_old.items) (forest l.pruned_new.items)) }
+    ensures pruned { IfOk result (λ l. AreLists displaced (forest old.now) (forest l.tree.items) (forest (old_list old.now l.pruned)) (forest (new_list l.tree.items l.pruned))) }
 {
     tree.facts();
     let matching = match_fibers(alloc, tree, old, fibers)?;
     let mut lists = Lists {
         tree: Vec::with_capacity(alloc, fibers.len())?,
-        pruned_old: copy_nodes(alloc, old)?,
-        pruned_new: Vec::with_capacity(alloc, fibers.len())?,
-        whole: true,
+        pruned: None,
     };
     'going: for i in 0..fibers.len() {
         let place = matching.places[i];
         let moved = or_moved(displaced, matching.moved[i]);
         let slot = read_slot(alloc, tree, fibers[i], old, place, moved)?;
-        add_slot(&mut lists, place, slot)?;
+        add_slot(alloc, &mut lists, old, place, slot)?;
     }
     Ok(lists)
 }
@@ -413,14 +390,12 @@ fn read_slot(
     requires tree { (y : Option trees.Node) × IsTreeOf y tree.now.current }
     requires alike { AllTakeAlike tree.now.current tree.now.draft }
     ensures tree { IfOk result (λ s. s.tree ≡ first_node (list_of tree.now child)) }
-    ensures pruned { IfOk result (λ s. IsSlot displaced (option_and_then (node_at (forest old.now)) place) s.tree s.pruned_old s.pruned_new) }
+    ensures pruned { IfOk result (λ s. IsSlot displaced (option_and_then (node_at (forest old.now)) place) s.tree (old_slot s.pruned) (new_slot s.tree s.pruned)) }
 {
     let Some(id) = child else {
         return Ok(Slot {
             tree: None,
-            pruned_old: None,
-            pruned_new: None,
-            whole: true,
+            pruned: None,
         });
     };
     match was_beside(tree, id, old, place) {
@@ -428,19 +403,12 @@ fn read_slot(
             let pair = read_pair(alloc, tree, id, node, displaced)?;
             Ok(Slot {
                 tree: Some(pair.tree),
-                pruned_old: Some(pair.pruned_old),
-                pruned_new: Some(pair.pruned_new),
-                whole: pair.whole,
+                pruned: pair.pruned,
             })
         }
-        None => {
-            let node = read_fiber(alloc, tree, id)?;
-            Ok(Slot {
-                tree: copy_node(&node)?,
-                pruned_old: None,
-                pruned_new: node,
-                whole: true,
-            })
-        }
+        None => Ok(Slot {
+            tree: read_fiber(alloc, tree, id)?,
+            pruned: None,
+        }),
     }
 }
