@@ -1,5 +1,5 @@
 -- A made fiber that took its children over stands for the node that the current one stands for.
-use Rattle.std.proofs.Common.{◌≡◌, ℕ, true, false, sym, ap, ◌∙◌, subst, is_some, Option, Some, None, IfSome}
+use Rattle.std.proofs.Common.{◌≡◌, ℕ, true, false, refl, sym, ap, ◌∙◌, subst, is_some, Option, Some, None, IfSome}
 use Rattle.std.specs.Prelude.{option_and_then}
 use Rattle.rx_elem.specs.Elements.{Element}
 use Rattle.rx_elem.specs.Trees.{Mark, Node, node, Forest, forest, shows_fallback, is_hidden, mark_of, element_of, children_of, fallback_of}
@@ -69,14 +69,17 @@ module _ (t : Trees Fiber) (fits : Fits t) (linked : IsLinked t.current) (alike 
       let (k, l) = like_old t linked b.at.old v x at.old_held (ap (λ o. first_node (list_of t o)) (sym at.old) ∙ sym old) like fixed in
       let q : Some (mark_of x) ≡ Some m = sym k ∙ ap mark_in stage in (cc, l)
 
-  -- The node of a made fiber that took its children over is the old one, and so is its mark.
-  pub kept_node : shows_fallback (mark_of x) ≡ false → shows_fallback m ≡ false → (mark_of x ≡ m) × (first_node (list_of t (Some p)) ≡ Some x)
-  kept_node was is =
-      let b = beside_at t fits linked p makes in
+  -- The old node has the element and the mark of a made fiber that took its children over.
+  pub kept_node : shows_fallback (mark_of x) ≡ false → node v.element m (children_of x) trees.none ≡ x
+  kept_node was =
       let (k, l) = kept_like in
-      let o = old_children t fits linked p makes x old was in (
-        k,
-        new_node t p b v value m stage is
-            ∙ ap (λ d. Some (node v.element m (forest (places_in 0 (grafted d))) trees.none)) took
-            ∙ ap Some (node_by x v.element m _ l k o.0 o.1),
-      )
+      node_by x v.element m (children_of x) l k refl (old_children t fits linked p makes x old was).1
+
+-- The node of a made fiber that took its children over has those of the old one.
+pub taken_node : (t : Trees Fiber) → Fits t → IsLinked t.current → (p : ℕ) → Makes t.draft p → (x : Node) → Some x ≡ first_node (list_of t (old_of t.draft p))
+    → made_kids_of t.draft p ≡ taken (old_kids t p) → (v : Fiber) → Some v ≡ made_value_of t.draft p → (m : Mark) → v.stage ≡ begun m
+    → shows_fallback (mark_of x) ≡ false → shows_fallback m ≡ false → first_node (list_of t (Some p)) ≡ Some (node v.element m (children_of x) trees.none)
+taken_node t fits linked p makes x old took v value m stage was is =
+    new_node t p (beside_at t fits linked p makes) v value m stage is
+    ∙ ap (λ d. Some (node v.element m (forest (places_in 0 (grafted d))) trees.none)) took
+    ∙ ap (λ ns. Some (node v.element m ns trees.none)) (sym (old_children t fits linked p makes x old was).0)

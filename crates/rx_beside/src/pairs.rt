@@ -3,7 +3,6 @@ ghost use Rattle.std.specs.Prelude.{◌≡◌, ◌<◌, ◌^◌, ℕ, Bool, true
 ghost use Rattle.rx_elem.specs.Trees as trees;
 ghost use Rattle.rx_elem.specs.Trees.{node, none, forest, element_of, mark_of, children_of, fallback_of, host_number, shows_fallback};
 ghost use Rattle.rx_elem.specs.Compare.{node_at};
-ghost use Rattle.rx_node.specs.Fixed.{is_fixed_mark};
 ghost use Rattle.rx_node.specs.MarkView.{mark_seen};
 ghost use Rattle.rx_links.specs.Drafts.{Makes, taken, entry, grafted, old_of, old_kids};
 ghost use Rattle.rx_links.specs.Readers.{IsIn, made_kids_of};
@@ -16,7 +15,7 @@ ghost use Rattle.rx_compare.specs.InPlace.{AreInPlace};
 ghost use Rattle.rx_beside.specs.Alike.{AllTakeAlike};
 ghost use Rattle.rx_beside.specs.Children.{IsChildOf, IsNodeOf, WasOver};
 ghost use Rattle.rx_beside.specs.Parts.{old_part, new_part, old_slot, new_slot, old_list, new_list};
-ghost use Rattle.rx_beside.specs.Slots.{IsSlot, AreLists};
+ghost use Rattle.rx_beside.specs.Slots.{IsKept, IsSlot, AreLists};
 
 use crate::children::{children_of, is_begun};
 use crate::lists::{
@@ -198,14 +197,6 @@ fn same_lists(alloc: Global, old: &[Option<Node>], displaced: bool) -> Result<Li
     })
 }
 
-// Whether a made node is the old one: its children were taken over, and a commit leaves its mark as it is.
-fn is_kept(old: &Node, over: bool) -> bool
-    ensures over { result ≡ true → over ≡ true }
-    ensures fixed { result ≡ true → is_fixed_mark (mark_of old.now) ≡ true }
-{
-    over && old.mark().is_fixed()
-}
-
 // The old node, which stays: without its list it is one node on both sides. Nothing is left out if something above moved.
 fn kept_pair(alloc: Global, old: &Node, displaced: bool) -> Result<Pair, AllocError>
     ensures tree { IfOk result (λ p. p.tree ≡ old.now) }
@@ -224,6 +215,26 @@ fn kept_pair(alloc: Global, old: &Node, displaced: bool) -> Result<Pair, AllocEr
         tree,
         pruned: Some(nodes),
     })
+}
+
+// A made node whose children were taken over: it is the old one, if a commit leaves the mark of that as it is.
+fn taken_pair(
+    alloc: Global,
+    old: &Node,
+    element: &Element,
+    mark: &Mark,
+    displaced: bool,
+) -> Result<Pair, AllocError>
+    ensures tree { IsKept old.now (node element.now (mark_seen mark.now) (children_of old.now) none) → IfOk result (λ p. p.tree ≡ node element.now (mark_seen mark.now) (children_of old.now) none) }
+    ensures pruned { (d : Bool) → IsKept old.now (node element.now (mark_seen mark.now) (children_of old.now) none) → GoesOn (mark_of old.now) (mark_seen mark.now) → displaced ≡ displaced_below d (mark_seen mark.now) → fallback_of old.now ≡ none → IfOk result (λ p. Pruned d old.now p.tree (old_part old.now p.pruned) (new_part p.tree p.pruned)) }
+{
+    if old.mark().is_fixed() {
+        let kept = kept_pair(alloc, old, displaced)?;
+        return Ok(kept);
+    }
+    let lists = same_lists(alloc, old.children(), displaced)?;
+    let pair = pair_over(alloc, old, element, mark, lists)?;
+    Ok(pair)
 }
 
 // A made node beside the old one that it was made for.
@@ -249,41 +260,15 @@ pub(crate) fn read_pair(
         && goes_on(old.mark(), mark)
     {
         let below = displaced_below(displaced, mark);
-        let over = takes_over(tree, id);
-        if is_kept(old, over) {
-            let kept = kept_pair(alloc, old, below)?;
-            return Ok(kept);
+        if takes_over(tree, id) {
+            let taken = taken_pair(alloc, old, fiber.element(), mark, below)?;
+            return Ok(taken);
         }
-        let lists = read_lists(alloc, tree, id, old.children(), below, over)?;
+        let lists = read_made(alloc, tree, id, old.children(), below)?;
         let pair = pair_over(alloc, old, fiber.element(), mark, lists)?;
         return Ok(pair);
     }
     read_whole(alloc, tree, id)
-}
-
-// The children of a made node beside those of the old one.
-#[cycle(pair)]
-fn read_lists(
-    alloc: Global,
-    tree: &FiberTree<Fiber>,
-    id: FiberId,
-    old: &[Option<Node>],
-    displaced: bool,
-    over: bool,
-) -> Result<Lists, AllocError>
-    requires beside { WasOver tree.now id (forest old.now) }
-    requires tree { (y : Option trees.Node) × IsTreeOf y tree.now.current }
-    requires alike { AllTakeAlike tree.now.current tree.now.draft }
-    requires taken { over ≡ true → made_kids_of tree.now.draft id ≡ taken (old_kids tree.now id) }
-    requires made { over ≡ false → list_of tree.now (made_entry (made_kids_of tree.now.draft id)) ≡ grafted (made_kids_of tree.now.draft id) }
-    ensures tree { IfOk result (λ l. forest l.tree.items ≡ forest (places_in 0 (grafted (made_kids_of tree.now.draft id)))) }
-    ensures pruned { IfOk result (λ l. AreLists displaced (forest old.now) (forest l.tree.items) (forest (old_list old.now l.pruned)) (forest (new_list l.tree.items l.pruned))) }
-{
-    if over {
-        same_lists(alloc, old, displaced)
-    } else {
-        read_made(alloc, tree, id, old, displaced)
-    }
 }
 
 // The made children of a made node beside those of the old one.

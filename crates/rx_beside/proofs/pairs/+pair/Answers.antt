@@ -1,18 +1,19 @@
 use Rattle.std.proofs.Common.{map, All, IfSome, Some, refl, sym, ap, ◌∙◌, subst, arith}
 use Rattle.std.proofs.lemmas.List.Elements.{All-get_or}
 use Rattle.std.specs.Prelude.{option_and_then}
-use Rattle.rx_elem.specs.Trees.{node, none, forest, mark_of, shows_fallback}
+use Rattle.rx_elem.specs.Trees.{node, none, forest, children_of, shows_fallback}
 use Rattle.rx_elem.specs.Compare.{node_at}
 use Rattle.rx_node.specs.MarkView.{mark_seen}
 use Rattle.rx_fiber.specs.FiberView.{stage_seen}
-use Rattle.rx_pruned.specs.Pruned.{GoesOn, displaced_below}
+use Rattle.rx_pruned.specs.Pruned.{GoesOn}
 use Rattle.rx_read.specs.Lists.{list_of}
-use Rattle.rx_read.specs.Places.{first_node}
+use Rattle.rx_read.specs.Places.{places_in, first_node}
 use Rattle.rx_beside.specs.Children.{IsNodeOf}
 use Rattle.rx_beside.specs.Parts.{old_slot, new_slot, old_list, new_list}
-use Rattle.rx_beside.specs.Slots.{IsSlot, kept, AreLists}
+use Rattle.rx_beside.specs.Slots.{IsKept, IsSlot, AreLists}
+use Rattle.rx_beside.specs.Slots as slots
 use Rattle.rx_beside.proofs.Standing.{beside_at, old_children, new_node}
-use Rattle.rx_beside.proofs.Keeping.{kept_node}
+use Rattle.rx_beside.proofs.Keeping.{kept_node, taken_node}
 use Rattle.rx_beside.proofs.Here.{slot_lower}
 use Rattle.rx_beside.proofs.Ending.{places_even, moved_even, step, done, slot_by}
 use Rattle.rx_beside.proofs.Walking.{none_walked_yet}
@@ -133,24 +134,24 @@ read_in_place-returns-clause-pruned t c =
     let l = c.going-test.false in
     (stay.done_in c.args.displaced c.args.old.now (λ o. first_node (list_of trees o)) c.args.fibers.now c.requires.same c.going.i (omega arith) _ _ _ c.going.invariant.tree c.going.invariant.walked).1
 
-pub read_pair-read_lists-requires : goal.read_pair-read_lists-requires
-read_pair-read_lists-requires t c =
+pub read_pair-read_made-requires : goal.read_pair-read_made-requires
+read_pair-read_made-requires t c =
     let trees = c.args.tree.now in
     let g = c.goes_on.ensures.goes c.if-goes_on.true in
     let shown = c.goes_on.ensures.shown c.if-goes_on.true in
     let o = old_children trees c.facts.ensures.fits c.facts.ensures.linked c.args.id c.requires.made c.args.old.now c.requires.old (ap shows_fallback (sym c.mark.ensures) ∙ shown.0) in
-    (omega (arith, c.decreases), (record { made = c.requires.made; read = c.children.ensures.all ∙ o.0 }, (c.requires.tree, (c.requires.alike, (c.takes_over-over.ensures.taken, c.takes_over-over.ensures.made)))))
+    (omega (arith, c.decreases), (record { made = c.requires.made; read = c.children.ensures.all ∙ o.0 }, (c.requires.tree, c.requires.alike)))
 
 pub read_pair-returns-clause-tree : goal.read_pair-returns-clause-tree
 read_pair-returns-clause-tree t c =
     let trees = c.args.tree.now in
     let v = c.value-fiber.result.now in
     let w = mark_seen c.in-Begun.mark in
-    let g = c.goes_on.ensures.goes c.if-goes_on.true in
     let shown = c.goes_on.ensures.shown c.if-goes_on.true in
     let b = beside_at trees c.facts.ensures.fits c.facts.ensures.linked c.args.id c.requires.made in
     let n = new_node trees c.args.id b v (c.value-fiber.ensures.made c.requires.made) w (sym c.stage.ensures ∙ ap stage_seen c.in-Begun.is) shown.1 in
-    ap Some (c.in_ok-pair.ensures.tree ∙ ap (λ f. node f w (forest c.in_ok-lists.lists.tree.items) none) c.element.ensures ∙ ap (λ ns. node v.element w ns none) c.in_ok-lists.ensures.tree) ∙ sym n
+    let kids = c.in_ok-lists.ensures.tree ∙ ap (places_in 0) (c.takes_over.ensures.made c.if-takes_over.false) in
+    ap Some (c.in_ok-pair.ensures.tree ∙ (λ i. node (c.element-2.ensures i) w (forest (kids i)) none)) ∙ sym n
 
 pub read_pair-returns-clause-pruned : goal.read_pair-returns-clause-pruned
 read_pair-returns-clause-pruned t c =
@@ -164,40 +165,49 @@ read_pair-returns-clause-pruned t c =
     let lists = subst (λ d. AreLists d (forest c.children.result.now) (forest l.tree.items) (forest (old_list c.children.result.now l.pruned)) (forest (new_list l.tree.items l.pruned))) c.displaced_below-below.ensures c.in_ok-lists.ensures.pruned in
     c.in_ok-pair.ensures.pruned c.args.displaced c.children.result.now go c.children.ensures.all o.1 lists
 
-pub read_pair-returns-then-is_kept-clause-tree : goal.read_pair-returns-then-is_kept-clause-tree
-read_pair-returns-then-is_kept-clause-tree t c =
+pub read_pair-returns-then-takes_over-clause-tree : goal.read_pair-returns-then-takes_over-clause-tree
+read_pair-returns-then-takes_over-clause-tree t c =
     let trees = c.args.tree.now in
-    let g = c.goes_on.ensures.goes c.if-goes_on.true in
-    let shown = c.goes_on.ensures.shown c.if-goes_on.true in
-    let over = c.is_kept.ensures.over c.if-is_kept.true in
-    let k = kept_node trees c.facts.ensures.fits c.facts.ensures.linked c.requires.alike c.args.id c.requires.made c.args.old.now c.requires.old (c.is_kept.ensures.fixed c.if-is_kept.true)
-    (c.takes_over-over.ensures.taken over) (c.takes_over-over.ensures.some over) c.value-fiber.result.now (c.value-fiber.ensures.made c.requires.made) (mark_seen c.in-Begun.mark)
-    (sym c.stage.ensures ∙ ap stage_seen c.in-Begun.is) g.new_shown (ap shows_fallback (sym c.mark.ensures) ∙ shown.0) shown.1 in
-    ap Some c.in_ok-kept.ensures.tree ∙ sym k.1
-
-pub read_pair-returns-then-is_kept-clause-pruned : goal.read_pair-returns-then-is_kept-clause-pruned
-read_pair-returns-then-is_kept-clause-pruned t c =
-    let trees = c.args.tree.now in
+    let old = c.args.old.now in
+    let v = c.value-fiber.result.now in
     let w = mark_seen c.in-Begun.mark in
     let g = c.goes_on.ensures.goes c.if-goes_on.true in
     let shown = c.goes_on.ensures.shown c.if-goes_on.true in
-    let over = c.is_kept.ensures.over c.if-is_kept.true in
     let was = ap shows_fallback (sym c.mark.ensures) ∙ shown.0 in
-    let k = kept_node trees c.facts.ensures.fits c.facts.ensures.linked c.requires.alike c.args.id c.requires.made c.args.old.now c.requires.old (c.is_kept.ensures.fixed c.if-is_kept.true)
-    (c.takes_over-over.ensures.taken over) (c.takes_over-over.ensures.some over) c.value-fiber.result.now (c.value-fiber.ensures.made c.requires.made) w
-    (sym c.stage.ensures ∙ ap stage_seen c.in-Begun.is) g.new_shown was shown.1 in
-    let o = old_children trees c.facts.ensures.fits c.facts.ensures.linked c.args.id c.requires.made c.args.old.now c.requires.old was in
-    c.in_ok-kept.ensures.pruned c.args.displaced
-    (subst (λ m. GoesOn (mark_of c.args.old.now) m) (sym k.0) (subst (λ m. GoesOn m w) c.mark.ensures g))
-    (c.displaced_below-below.ensures ∙ ap (displaced_below c.args.displaced) (sym k.0))
-    o.1
+    let value = c.value-fiber.ensures.made c.requires.made in
+    let stage = sym c.stage.ensures ∙ ap stage_seen c.in-Begun.is in
+    let took = c.takes_over.ensures.taken c.if-takes_over.true in
+    let some = c.takes_over.ensures.some c.if-takes_over.true in
+    let kept : IsKept old (node v.element w (children_of old) none) =
+    λ fixed. kept_node trees c.facts.ensures.fits c.facts.ensures.linked c.requires.alike c.args.id c.requires.made old c.requires.old fixed took some v value w stage g.new_shown was in
+    let n = taken_node trees c.facts.ensures.fits c.facts.ensures.linked c.args.id c.requires.made old c.requires.old took v value w stage was shown.1 in
+    ap Some (c.in_ok-taken.ensures.tree (subst (λ e. IsKept old (node e w (children_of old) none)) (sym c.element.ensures) kept) ∙ ap (λ e. node e w (children_of old) none) c.element.ensures) ∙ sym n
+
+pub read_pair-returns-then-takes_over-clause-pruned : goal.read_pair-returns-then-takes_over-clause-pruned
+read_pair-returns-then-takes_over-clause-pruned t c =
+    let trees = c.args.tree.now in
+    let old = c.args.old.now in
+    let v = c.value-fiber.result.now in
+    let w = mark_seen c.in-Begun.mark in
+    let g = c.goes_on.ensures.goes c.if-goes_on.true in
+    let shown = c.goes_on.ensures.shown c.if-goes_on.true in
+    let was = ap shows_fallback (sym c.mark.ensures) ∙ shown.0 in
+    let value = c.value-fiber.ensures.made c.requires.made in
+    let stage = sym c.stage.ensures ∙ ap stage_seen c.in-Begun.is in
+    let took = c.takes_over.ensures.taken c.if-takes_over.true in
+    let some = c.takes_over.ensures.some c.if-takes_over.true in
+    let kept : IsKept old (node v.element w (children_of old) none) =
+    λ fixed. kept_node trees c.facts.ensures.fits c.facts.ensures.linked c.requires.alike c.args.id c.requires.made old c.requires.old fixed took some v value w stage g.new_shown was in
+    let o = old_children trees c.facts.ensures.fits c.facts.ensures.linked c.args.id c.requires.made old c.requires.old was in
+    c.in_ok-taken.ensures.pruned c.args.displaced (subst (λ e. IsKept old (node e w (children_of old) none)) (sym c.element.ensures) kept) (subst (λ m. GoesOn m w) c.mark.ensures g)
+    c.displaced_below-below.ensures o.1
 
 pub read_slot-returns-in_default-clause-pruned : goal.read_slot-returns-in_default-clause-pruned
-read_slot-returns-in_default-clause-pruned t c = kept
+read_slot-returns-in_default-clause-pruned t c = slots.kept
 
 pub read_slot-returns-in_ok-pair-in-Some-was_beside-clause-pruned : goal.read_slot-returns-in_ok-pair-in-Some-was_beside-clause-pruned
 read_slot-returns-in_ok-pair-in-Some-was_beside-clause-pruned t c =
     slot_by _ _ _ _ c.in_ok-pair-in-Some-was_beside.pair.pruned c.in-Some-was_beside.ensures.at c.in_ok-pair-in-Some-was_beside.ensures.pruned
 
 pub read_slot-returns-in_ok-read_fiber-in-None-clause-pruned : goal.read_slot-returns-in_ok-read_fiber-in-None-clause-pruned
-read_slot-returns-in_ok-read_fiber-in-None-clause-pruned t c = kept
+read_slot-returns-in_ok-read_fiber-in-None-clause-pruned t c = slots.kept
