@@ -8,13 +8,15 @@ use Rattle.std.proofs.lemmas.List.{length-map, length-take-le, map-append, take_
 use Rattle.std.proofs.lemmas.Option.{slice_get-get_or}
 use Rattle.rx_elem.specs.Elements.{Element}
 use Rattle.rx_elem.specs.Identity.{identities, identified, is_same_child, is_reused, old_places, moves, moves_after}
-use Rattle.rx_elem.specs.Trees.{Mark, Node, node, Forest, vacant, child, forest, element_of, elements_in, mark_of, children_of, fallback_of}
+use Rattle.rx_elem.specs.Trees.{Mark, Node, node, Forest, forest, element_of, elements_in, mark_of, children_of, fallback_of}
 use Rattle.rx_elem.specs.Trees as trees
 use Rattle.rx_elem.specs.Compare.{pasts, node_at}
 use Rattle.rx_keys.proofs.Distinct.{identified_length, places_apart}
 use Rattle.rx_pruned.specs.Pruned.{GoesOn, displaced_below, Pruned, whole, cut, inside, PrunedIn}
 use Rattle.rx_compare.specs.Matched.{IsMatched}
 use Rattle.rx_keys.specs.declared.matching.Matching.{Matching}
+use Rattle.rx_beside.specs.declared.lists.PrunedNodes.{PrunedNodes}
+use Rattle.rx_beside.specs.Parts.{old_part, new_part, old_slot, new_slot}
 use Rattle.rx_beside.specs.Slots.{IsSlot, kept, changed, replaced, AreLists, left_out, as_they_are, without_some}
 use Rattle.rx_beside.proofs.Walking.{pasts_by, pasts_are, Walked, walked_more}
 
@@ -95,14 +97,12 @@ pub pair_pruned : (d : Bool) (o t p q : Node) (f : Element) (w : Mark) (os ns ps
 pair_pruned d (node e m cs fs) t p q f w os ns ps qs g h same gone te pe qe =
     rw (te, pe, qe, gone) (lists_pruned d e f m w cs ns ps qs g (subst (λ x. AreLists (displaced_below d w) x ns ps qs) same h))
 
--- nothing is left out
-pub whole_by : (d : Bool) (o n p q : Node) → p ≡ o → q ≡ n → Pruned d o n p q
-whole_by d o n p q e f = rw (e, f) whole
+-- a node that stays, with its list left out
+pub kept_pruned : (d : Bool) (o t p q : Node) → t ≡ o → p ≡ q → q ≡ node (element_of o) (mark_of o) trees.none trees.none
+    → GoesOn (mark_of o) (mark_of o) → displaced_below d (mark_of o) ≡ false → fallback_of o ≡ trees.none → Pruned d o t p q
+kept_pruned d (node e m ns fs) t p q te pe qe g h gone = rw (te, pe, qe, gone) (cut g h)
 
-pub as_by : (d : Bool) (os ns ps qs : Forest) → ps ≡ os → qs ≡ ns → AreLists d os ns ps qs
-as_by d os ns ps qs e f = rw (e, f) as_they_are
-
--- both lists are
+-- both lists are left out
 pub out_by : (d : Bool) (os ns ps qs : Forest) → d ≡ false → ns ≡ os → ps ≡ trees.none → qs ≡ trees.none → AreLists d os ns ps qs
 out_by d os ns ps qs e f g h = rw (f, g, h) (left_out e)
 
@@ -159,8 +159,7 @@ module _ (d : Bool) (os : List (Option Node)) (f : Option ℕ → Option Node) (
 
 -- What stands at a place
 
-pub kept_by : (d : Bool) (o x y : Option Node) → x ≡ y → IsSlot d o x None y
-kept_by d o x y e = rw e kept
-
-pub changed_by : (d : Bool) (o : Option Node) (a n p q : Node) → o ≡ Some a → Pruned d a n p q → IsSlot d o (Some n) (Some p) (Some q)
-changed_by d o a n p q e h = rw e (changed h)
+pub slot_by : (d : Bool) (o : Option Node) (a n : Node) (c : Option PrunedNodes) → o ≡ Some a → Pruned d a n (old_part a c) (new_part n c)
+    → IsSlot d o (Some n) (old_slot c) (new_slot (Some n) c)
+slot_by d o a n None e h = kept
+slot_by d o a n (Some p) e h = rw e (changed h)

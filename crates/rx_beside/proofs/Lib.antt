@@ -5,3 +5,4 @@ pub mod Walking
 pub mod Ending
 pub mod Roots
 pub mod Staying
+pub mod Keeping

@@ -1,6 +1,6 @@
 -- The root of a tree is read as the tree.
-use Rattle.std.proofs.Common.{◌≡◌, false, ◌-◌, [], ◌∷◌, sym, ap, ◌∙◌, arith, ℕ, Option, Some, None}
-use Rattle.rx_elem.specs.Trees.{Mark, Node, forest}
+use Rattle.std.proofs.Common.{◌≡◌, ◌-◌, [], ◌∷◌, sym, ap, ◌∙◌, arith, ℕ, Option, Some, None}
+use Rattle.rx_elem.specs.Trees.{Mark, Node}
 use Rattle.rx_elem.specs.Trees as trees
 use Rattle.rx_lists.specs.Shapes.{Shape, none, fiber}
 use Rattle.rx_links.specs.Drafts.{Trees, Fits, entry, grafted}
@@ -12,7 +12,8 @@ use Rattle.rx_read.specs.Lists.{list_of}
 use Rattle.rx_read.specs.Places.{mark_in, places_in, first_node}
 use Rattle.rx_read.proofs.Links.{from_draft, from_current}
 use Rattle.rx_read.proofs.Trims.{tree_places}
-use Rattle.rx_pruned.specs.Pruned.{Pruned, ArePruned, first, later}
+use Rattle.rx_pruned.specs.Pruned.{ArePruned, first, later}
+use Rattle.rx_pruned.specs.Pruned as pruned
 use Rattle.rx_lists.specs.Shapes as shapes
 
 begun_root : (id : ℕ) (v : Fiber) (ks rs : Shape Fiber) (m : Mark) (y : Node) → v.place ≡ 0 → v.stage ≡ begun m → places_in 0 (fiber id v ks rs) ≡ Some y ∷ []
@@ -52,5 +53,5 @@ is_tree n x o e f = let q : Some n ≡ Some x = e ∙ f in cc
 pub first_by : (n p : Node) → p ≡ n → ArePruned None n None p
 first_by n p e = rw e first
 
-pub later_by : (old : Option Node) (o n p q : Node) → old ≡ Some o → Pruned false o n p q → ArePruned old n (Some p) q
-later_by old o n p q e h = rw e (later h)
+pub all_of : (o n p q : Node) → p ≡ o → q ≡ n → ArePruned (Some o) n (Some p) q
+all_of o n p q e f = rw (e, f) (later pruned.whole)

@@ -1,9 +1,9 @@
 -- Two lists are walked beside each other whose children stand where they stood.
-use Rattle.std.proofs.Common.{◌≡◌, ℕ, zero, suc, ◌+◌, ◌<◌, ◌≤◌, Bool, true, false, ◌||◌, List, [], ◌∷◌, ◌++◌, length, get_or, take, map, refl, sym, ap, ◌∙◌, subst, arith, Option, Some, None}
+use Rattle.std.proofs.Common.{◌≡◌, ℕ, zero, suc, ◌+◌, ◌<◌, ◌≤◌, Bool, true, false, ◌||◌, List, [], ◌∷◌, ◌++◌, length, get_or, take, drop, map, refl, sym, ap, ◌∙◌, subst, arith, Option, Some, None}
 use Rattle.std.specs.Prelude.{nat_eq, slice_get}
 use Rattle.std.specs.Option.{option_flatten, option_map_or}
 use Rattle.std.proofs.lemmas.Bool.Decides.{Decides-eqb}
-use Rattle.std.proofs.lemmas.List.{length-map, map-append, take_all, take_more}
+use Rattle.std.proofs.lemmas.List.{append-nil, append_assoc, drop_all, drop_more, get_or_default, length-append, length-map, map-append, take_all, take_more}
 use Rattle.std.proofs.lemmas.Option.{slice_get-get_or}
 use Rattle.rx_elem.specs.Elements.{is_present}
 use Rattle.rx_elem.specs.Elements as elements
@@ -17,7 +17,7 @@ use Rattle.rx_pruned.specs.Pruned.{was, Pruned, PrunedIn, no_more, gap, same, pa
 use Rattle.rx_compare.specs.InPlace.{IsInPlace, AreInPlace, stayed}
 use Rattle.rx_compare.proofs.InPlace.{own_place, own_places, new_present, found_by_place, pasts_in_place}
 use Rattle.rx_compare.proofs.InPlaceLists.{in_place-length, stays}
-use Rattle.rx_beside.specs.Slots.{IsSlot, kept, changed, AreLists, without_some}
+use Rattle.rx_beside.specs.Slots.{IsSlot, kept, changed, replaced, AreLists, without_some}
 use Rattle.rx_beside.proofs.Walking.{more, same_element}
 
 -- Where nothing was, nothing is gone
@@ -148,6 +148,23 @@ all_stay d os ts ps qs s =
     (subst (λ l. PrunedIn d l (forest ts) (pasts (forest ps) (elements_in (forest ts))) (forest qs)) (sym (pasts_in_place (forest os) (forest ts) s.here))
     (subst (λ l. PrunedIn d (stayed (forest os)) (forest ts) l (forest qs)) (sym (pasts_in_place (forest ps) (forest ts) s.there)) s.pruned))
 
+-- The walk by whole lists
+
+-- the old list stays behind so many places
+pub record StaysIn (d : Bool) (os : List (Option Node)) (i : ℕ) (ts ps qs : List (Option Node)) : Type 0 where
+  pub front : List (Option Node)
+  pub many : length front ≡ i
+  pub all : ps ≡ front ++ drop i os
+  pub stays : Stays d (take i os) ts front qs
+
+pub none_stays_in : (d : Bool) (os ts : List (Option Node)) → ts ≡ [] → StaysIn d os 0 ts os ts
+none_stays_in d os ts e = record { front = []; many = refl; all = refl; stays = none_stays_yet d ts [] ts e refl e }
+
+put_here : (r o : Option Node) (front rest : List (Option Node)) → replaced r (Some (length front)) (front ++ o ∷ rest) ≡ front ++ or_else r o ∷ rest
+put_here None o front rest = refl
+put_here (Some n) o [] rest = refl
+put_here (Some n) o (x ∷ front) rest = ap (λ l. x ∷ l) (put_here (Some n) o front rest)
+
 -- One place more of a made list
 
 in_place_at : (os ns : List (Option Node)) (k : ℕ) (o x : Option Node) → AreInPlace (forest os) (forest ns) → k < length os → k < length ns → o ≡ get_or os k o → x ≡ get_or ns k x
@@ -198,3 +215,31 @@ module _ (d : Bool) (os : List (Option Node)) (f : Option ℕ → Option Node) (
     so_far ∙ ap (map f) (take_all i fs l),
     all_stay d os ts ps qs (subst (λ z. Stays d z ts ps qs) (take_all i os (omega (arith, even))) s),
   )
+
+  -- the same by whole lists
+  pub step_in : (i : ℕ) → i < length fs → (c : Option ℕ) → c ≡ get_or fs i c
+      → (ts ps qs ts2 ps2 qs2 : List (Option Node)) (x r y : Option Node) → ts ≡ map f (take i fs) → StaysIn d os i ts ps qs
+      → x ≡ f c → IsSlot d (node_at (forest os) i) x r y → ts2 ≡ ts ++ x ∷ [] → ps2 ≡ replaced r (Some i) ps → qs2 ≡ qs ++ y ∷ []
+      → (ts2 ≡ map f (take (i + 1) fs)) × StaysIn d os (i + 1) ts2 ps2 qs2
+  step_in i l c at_c ts ps qs ts2 ps2 qs2 x r y so_far s is slot et ep eq =
+      let lo : i < length os = omega (arith, even) in
+      let o : Option Node = get_or os i None in
+      let at_o : o ≡ get_or os i o = get_or_default os i None o lo in
+      let ps_is : ps ≡ s.front ++ o ∷ drop (i + 1) os = s.all ∙ ap (λ l. s.front ++ l) (drop_more os i None lo) in
+      let now = step i l c o at_c at_o ts s.front qs ts2 (s.front ++ or_else r o ∷ []) qs2 x r y so_far s.stays is slot et refl eq in (
+        now.0,
+        record {
+          front = s.front ++ or_else r o ∷ [];
+          many = length-append s.front (or_else r o ∷ []) ∙ ap (λ n. n + 1) s.many;
+          all =
+              ep ∙ (λ j. replaced r (Some (sym s.many j)) (ps_is j)) ∙ put_here r o s.front (drop (i + 1) os)
+              ∙ sym (append_assoc s.front (or_else r o ∷ []) (drop (i + 1) os));
+          stays = now.1;
+        },
+      )
+
+  pub done_in : (i : ℕ) → length fs ≤ i → (ts ps qs : List (Option Node)) → ts ≡ map f (take i fs) → StaysIn d os i ts ps qs
+      → (ts ≡ map f fs) × AreLists d (forest os) (forest ts) (forest ps) (forest qs)
+  done_in i l ts ps qs so_far s =
+      let e : ps ≡ s.front = s.all ∙ ap (λ l. s.front ++ l) (drop_all i os (omega (arith, even))) ∙ append-nil s.front in
+      done i l ts ps qs so_far (subst (λ z. Stays d (take i os) ts z qs) (sym e) s.stays)

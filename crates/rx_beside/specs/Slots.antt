@@ -1,8 +1,13 @@
 -- Lists of children beside each other without what stayed the same, place by place.
-use Rattle.std.specs.Prelude.{◌≡◌, ℕ, Bool, false, List, slice_set, Option, Some, None}
-use Rattle.rx_elem.specs.Trees.{Node, Forest, none, elements_in}
+use Rattle.std.specs.Prelude.{◌≡◌, ℕ, Bool, true, false, List, slice_set, Option, Some, None}
+use Rattle.rx_elem.specs.Trees.{Node, Forest, none, elements_in, mark_of}
 use Rattle.rx_elem.specs.Compare.{pasts}
+use Rattle.rx_node.specs.Fixed.{is_fixed_mark}
 use Rattle.rx_pruned.specs.Pruned.{Pruned, PrunedIn, KeepsGone}
+
+-- if a commit leaves the mark of an old node as it is, this new one is that node
+abbrev pub IsKept : (old new : Node) → Type 0
+IsKept o n = is_fixed_mark (mark_of o) ≡ true → n ≡ o
 
 -- What stands at a place of a new list, by what it was: it stays as it is, or it and what it was are without some lists that stayed the same.
 pub data IsSlot (displaced : Bool) : (old new pruned_old pruned_new : Option Node) → Type 0 where

@@ -10,6 +10,8 @@ ghost use Rattle.rx_read.specs.Lists.{list_of};
 ghost use Rattle.rx_read.specs.Places.{first_node};
 ghost use Rattle.rx_pruned.specs.Besides.{IsBeside};
 ghost use Rattle.rx_pruned.specs.Pruned.{Pruned};
+ghost use Rattle.rx_beside.specs.Alike.{AllTakeAlike};
+ghost use Rattle.rx_beside.specs.Parts.{old_part, new_part};
 
 use crate::pairs::{Pair, read_pair, read_whole};
 use rx_fiber::Fiber;
@@ -43,14 +45,35 @@ fn read_roots(
     requires made { Makes tree.now.draft root }
     requires current { (y : Option trees.Node) × (IsTreeOf y tree.now.current × (Some old.now ≡ trimmed_if y)) }
     requires node { (x : trees.Node) × (first_node (list_of tree.now (Some root)) ≡ Some x) }
+    requires alike { AllTakeAlike tree.now.current tree.now.draft }
     ensures tree { IfOk result (λ p. Some p.tree ≡ first_node (list_of tree.now (Some root))) }
-    ensures pruned { IfOk result (λ p. Pruned false old.now p.tree p.pruned_old p.pruned_new) }
+    ensures pruned { IfOk result (λ p. Pruned false old.now p.tree (old_part old.now p.pruned) (new_part p.tree p.pruned)) }
 {
     tree.facts();
     if is_made_for_root(tree, root) {
         read_pair(alloc, tree, root, old, false)
     } else {
-        read_whole(alloc, tree, root, old)
+        read_whole(alloc, tree, root)
+    }
+}
+
+// The three trees of the roots. If nothing is left out, the old one and the new one stand for themselves.
+fn parts_of(old: &Node, pair: Pair) -> Result<Beside, AllocError>
+    ensures tree { IfOk result (λ b. b.tree ≡ pair.tree) }
+    ensures pruned { Pruned false old.now pair.tree (old_part old.now pair.pruned) (new_part pair.tree pair.pruned) → IfOk result (λ b. IsBeside (Some old.now) b) }
+{
+    let Pair { tree, pruned } = pair;
+    match pruned {
+        Some(nodes) => Ok(Beside {
+            tree,
+            pruned_old: Some(nodes.old),
+            pruned_new: nodes.new,
+        }),
+        None => Ok(Beside {
+            pruned_old: Some(old.copy()?),
+            pruned_new: tree.copy()?,
+            tree,
+        }),
     }
 }
 
@@ -87,6 +110,7 @@ pub fn read_beside(
 ) -> Result<Beside, AllocError>
     requires finished { (x : trees.Node) × IsTreeOf (Some x) (grafted tree.now.draft) }
     requires current { (y : Option trees.Node) × (IsTreeOf y tree.now.current × (option_copied old ≡ trimmed_if y)) }
+    requires alike { AllTakeAlike tree.now.current tree.now.draft }
     ensures tree { IfOk result (λ b. (x : trees.Node) → IsTreeOf (Some x) (grafted tree.now.draft) → b.tree ≡ trimmed x) }
     ensures pruned { IfOk result (λ b. IsBeside (option_copied old.entry) b) }
 {
@@ -97,11 +121,8 @@ pub fn read_beside(
     match old {
         Some(old) => {
             let pair = read_roots(alloc, tree, root, old)?;
-            Ok(Beside {
-                tree: pair.tree,
-                pruned_old: Some(pair.pruned_old),
-                pruned_new: pair.pruned_new,
-            })
+            let beside = parts_of(old, pair)?;
+            Ok(beside)
         }
         None => read_first(alloc, tree, root),
     }

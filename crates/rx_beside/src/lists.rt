@@ -1,12 +1,13 @@
 // The lists of children of a node, old and new.
-ghost use Rattle.std.specs.Prelude.{◌≡◌, ℕ, true, ◌++◌, ◌∷◌, [], ◌<◌, ◌^◌, All, Some, IfSome, IfOk, OnOk, length, map};
+ghost use Rattle.std.specs.Prelude.{◌≡◌, ℕ, true, List, ◌++◌, ◌∷◌, [], ◌<◌, ◌^◌, All, Option, Some, IfSome, IfOk, OnOk, length, map};
+ghost use Rattle.rx_elem.specs.Trees as trees;
 ghost use Rattle.rx_elem.specs.Trees.{forest, elements_in};
 ghost use Rattle.rx_compare.specs.InPlace.{AreInPlace, IsInPlace};
 ghost use Rattle.rx_compare.specs.Matched.{element_at, IsMatched};
-ghost use Rattle.rx_links.specs.Drafts.{or_else};
 ghost use Rattle.rx_read.specs.Lists.{list_of};
 ghost use Rattle.rx_read.specs.Places.{first_node};
 ghost use Rattle.rx_beside.specs.Children.{IsNodeOf};
+ghost use Rattle.rx_beside.specs.Parts.{old_slot, new_slot, old_list, new_list};
 ghost use Rattle.rx_beside.specs.Slots.{replaced};
 
 use rx_compare::elements_of;
@@ -17,28 +18,36 @@ use rx_links::{FiberId, FiberTree};
 use rx_node::Node;
 use std::alloc::{AllocError, Global};
 
-// The children of a node of the finished tree; and those of the old node and of this one, both without what stayed the same. If
-// nothing is known to be left out, the node and the old one can stand for themselves.
+// An old node and the new one that it became, both without what stayed the same.
+#[derive(Drop)]
+pub(crate) struct PrunedNodes {
+    pub old: Node,
+    pub new: Node,
+}
+
+// An old list of children and the new one, both without what stayed the same.
+#[derive(Drop)]
+pub(crate) struct PrunedLists {
+    pub old: Vec<Option<Node>>,
+    pub new: Vec<Option<Node>>,
+}
+
+// The children of a node of the finished tree; and, once something is left out, the old list and this one without it.
 #[derive(Drop)]
 pub(crate) struct Lists {
     pub tree: Vec<Option<Node>>,
-    pub pruned_old: Vec<Option<Node>>,
-    pub pruned_new: Vec<Option<Node>>,
-    pub whole: bool,
+    pub pruned: Option<PrunedLists>,
 }
 
-// What stands at a place of the new list; and without what stayed the same the old node, if it is another then, and this one;
-// and whether nothing there is left out.
+// What stands at a place of the new list; and, if something there is left out, the old node and this one without it.
 #[derive(Drop)]
 pub(crate) struct Slot {
     pub tree: Option<Node>,
-    pub pruned_old: Option<Node>,
-    pub pruned_new: Option<Node>,
-    pub whole: bool,
+    pub pruned: Option<PrunedNodes>,
 }
 
 // The same node, if there is one, by one handle more.
-pub(crate) fn copy_node(node: &Option<Node>) -> Result<Option<Node>, AllocError>
+fn copy_node(node: &Option<Node>) -> Result<Option<Node>, AllocError>
     ensures { IfOk result (λ n. n ≡ node.now) }
 {
     match node {
@@ -47,78 +56,102 @@ pub(crate) fn copy_node(node: &Option<Node>) -> Result<Option<Node>, AllocError>
     }
 }
 
-// The same list, by one handle more of each node.
+// The same list, by one handle more of each node. There is room for so many at once.
 pub(crate) fn copy_nodes(
     alloc: Global,
     nodes: &[Option<Node>],
+    room: usize,
 ) -> Result<Vec<Option<Node>>, AllocError>
     ensures { IfOk result (λ v. v.items ≡ nodes.now) }
 {
-    let mut copies = Vec::with_capacity(alloc, nodes.len())?;
+    let mut copies = Vec::with_capacity(alloc, room)?;
     for node in nodes {
         copies.push(copy_node(node)?)?;
     }
     Ok(copies)
 }
 
-// Puts a node, if there is one, at its place.
-fn replace(nodes: &mut Vec<Option<Node>>, place: Option<u32>, node: Option<Node>)
-    ensures { nodes.new.items ≡ replaced node place nodes.old.items }
+// Puts a node at its place.
+fn replace(nodes: &mut Vec<Option<Node>>, place: Option<u32>, node: Node)
+    ensures { nodes.new.items ≡ replaced (Some node) place nodes.old.items }
 {
-    if let Some(node) = node
-        && let Some(place) = place
+    if let Some(place) = place
         && (place as usize) < nodes.len()
     {
         nodes[place as usize] = Some(node);
     }
 }
 
-// Goes on with what stands at the next place, whose old node has this one.
-pub(crate) fn add_slot(lists: &mut Lists, place: Option<u32>, slot: Slot) -> Result<(), AllocError>
-    ensures tree { OnOk result (lists.new.tree.items ≡ lists.old.tree.items ++ slot.tree ∷ []) }
-    ensures pruned_old { OnOk result (lists.new.pruned_old.items ≡ replaced slot.pruned_old place lists.old.pruned_old.items) }
-    ensures pruned_new { OnOk result (lists.new.pruned_new.items ≡ lists.old.pruned_new.items ++ slot.pruned_new ∷ []) }
+// Goes on with a node of which nothing is left out, or with a vacant place.
+fn add_whole(lists: &mut Lists, node: Option<Node>) -> Result<(), AllocError>
+    ensures tree { OnOk result (lists.new.tree.items ≡ lists.old.tree.items ++ node ∷ []) }
+    ensures pruned_old { (os : List (Option trees.Node)) → OnOk result (old_list os lists.new.pruned ≡ old_list os lists.old.pruned) }
+    ensures pruned_new { OnOk result (new_list lists.new.tree.items lists.new.pruned ≡ new_list lists.old.tree.items lists.old.pruned ++ node ∷ []) }
 {
-    let Slot {
-        tree,
-        pruned_old,
-        pruned_new,
-        whole,
-    } = slot;
-    lists.whole &= whole;
-    lists.tree.push(tree)?;
-    lists.pruned_new.push(pruned_new)?;
-    replace(&mut lists.pruned_old, place, pruned_old);
+    if let Some(pruned) = &mut lists.pruned {
+        pruned.new.push(copy_node(&node)?)?;
+    }
+    lists.tree.push(node)?;
     Ok(())
 }
 
-// The node that an old one became without what stayed the same, or else itself.
-fn or_old(old: &Option<Node>, pruned: Option<Node>) -> Result<Option<Node>, AllocError>
-    ensures { IfOk result (λ n. n ≡ or_else pruned old.now) }
+// The old list and the new one as far as it goes, both without what stayed the same: as they are, if nothing was left out so far.
+fn pruned_lists(
+    alloc: Global,
+    pruned: Option<PrunedLists>,
+    old: &[Option<Node>],
+    new: &Vec<Option<Node>>,
+) -> Result<PrunedLists, AllocError>
+    ensures old { IfOk result (λ p. p.old.items ≡ old_list old.now pruned) }
+    ensures new { IfOk result (λ p. p.new.items ≡ new_list new.now.items pruned) }
 {
     match pruned {
-        Some(node) => Ok(Some(node)),
-        None => copy_node(old),
+        Some(lists) => Ok(lists),
+        None => Ok(PrunedLists {
+            old: copy_nodes(alloc, old, old.len())?,
+            new: copy_nodes(alloc, new, new.capacity())?,
+        }),
     }
 }
 
-// Goes on with what stands at the next place, which is that of its old node.
-pub(crate) fn push_slot(lists: &mut Lists, old: &Option<Node>, slot: Slot) -> Result<(), AllocError>
-    ensures tree { OnOk result (lists.new.tree.items ≡ lists.old.tree.items ++ slot.tree ∷ []) }
-    ensures pruned_old { OnOk result (lists.new.pruned_old.items ≡ lists.old.pruned_old.items ++ or_else slot.pruned_old old.now ∷ []) }
-    ensures pruned_new { OnOk result (lists.new.pruned_new.items ≡ lists.old.pruned_new.items ++ slot.pruned_new ∷ []) }
+// Goes on with a node of which something is left out, whose old node has this place.
+fn add_pruned(
+    alloc: Global,
+    lists: &mut Lists,
+    old: &[Option<Node>],
+    place: Option<u32>,
+    node: Option<Node>,
+    nodes: PrunedNodes,
+) -> Result<(), AllocError>
+    ensures tree { OnOk result (lists.new.tree.items ≡ lists.old.tree.items ++ node ∷ []) }
+    ensures pruned_old { OnOk result (old_list old.now lists.new.pruned ≡ replaced (Some nodes.old) place (old_list old.now lists.old.pruned)) }
+    ensures pruned_new { OnOk result (new_list lists.new.tree.items lists.new.pruned ≡ new_list lists.old.tree.items lists.old.pruned ++ Some nodes.new ∷ []) }
 {
-    let Slot {
-        tree,
-        pruned_old,
-        pruned_new,
-        whole,
-    } = slot;
-    lists.whole &= whole;
-    lists.tree.push(tree)?;
-    lists.pruned_new.push(pruned_new)?;
-    lists.pruned_old.push(or_old(old, pruned_old)?)?;
+    let mut pruned = pruned_lists(alloc, lists.pruned.take(), old, &lists.tree)?;
+    replace(&mut pruned.old, place, nodes.old);
+    pruned.new.push(Some(nodes.new))?;
+    lists.pruned = Some(pruned);
+    lists.tree.push(node)?;
     Ok(())
+}
+
+// Goes on with what stands at the next place, whose old node has this one in the old list.
+pub(crate) fn add_slot(
+    alloc: Global,
+    lists: &mut Lists,
+    old: &[Option<Node>],
+    place: Option<u32>,
+    slot: Slot,
+) -> Result<(), AllocError>
+    ensures tree { OnOk result (lists.new.tree.items ≡ lists.old.tree.items ++ slot.tree ∷ []) }
+    ensures pruned_old { OnOk result (old_list old.now lists.new.pruned ≡ replaced (old_slot slot.pruned) place (old_list old.now lists.old.pruned)) }
+    ensures pruned_new { OnOk result (new_list lists.new.tree.items lists.new.pruned ≡ new_list lists.old.tree.items lists.old.pruned ++ new_slot slot.tree slot.pruned ∷ []) }
+{
+    let Slot { tree, pruned } = slot;
+    match pruned {
+        Some(nodes) => add_pruned(alloc, lists, old, place, tree, nodes),
+        None => add_whole(lists, tree),
+    }
 }
 
 // The element that stands at a place of a made list.

@@ -1,10 +1,10 @@
 // A node of the finished tree beside the old one that it was made for.
-ghost use Rattle.std.specs.Prelude.{◌≡◌, ◌<◌, ◌^◌, ℕ, Bool, true, false, ◌||◌, All, IfSome, IfOk, Some, Option, length, map, option_and_then};
+ghost use Rattle.std.specs.Prelude.{◌≡◌, ◌<◌, ◌^◌, ℕ, Bool, true, false, ◌||◌, List, All, IfSome, IfOk, Some, Option, is_some, length, map, option_and_then};
 ghost use Rattle.rx_elem.specs.Trees as trees;
-ghost use Rattle.rx_elem.specs.Trees.{node, none, forest, element_of, mark_of, host_number, shows_fallback};
+ghost use Rattle.rx_elem.specs.Trees.{node, none, forest, element_of, mark_of, children_of, fallback_of, host_number, shows_fallback};
 ghost use Rattle.rx_elem.specs.Compare.{node_at};
 ghost use Rattle.rx_node.specs.MarkView.{mark_seen};
-ghost use Rattle.rx_links.specs.Drafts.{Makes, taken, grafted, old_of, old_kids};
+ghost use Rattle.rx_links.specs.Drafts.{Makes, taken, entry, grafted, old_of, old_kids};
 ghost use Rattle.rx_links.specs.Readers.{IsIn, made_kids_of};
 ghost use Rattle.rx_fiber.specs.Reading.{IsTreeOf};
 ghost use Rattle.rx_read.specs.Lists.{list_of};
@@ -12,12 +12,14 @@ ghost use Rattle.rx_read.specs.Numbering.{made_entry};
 ghost use Rattle.rx_read.specs.Places.{places_in, first_node};
 ghost use Rattle.rx_pruned.specs.Pruned.{GoesOn, displaced_below, Pruned};
 ghost use Rattle.rx_compare.specs.InPlace.{AreInPlace};
+ghost use Rattle.rx_beside.specs.Alike.{AllTakeAlike};
 ghost use Rattle.rx_beside.specs.Children.{IsChildOf, IsNodeOf, WasOver};
-ghost use Rattle.rx_beside.specs.Slots.{IsSlot, AreLists};
+ghost use Rattle.rx_beside.specs.Parts.{old_part, new_part, old_slot, new_slot, old_list, new_list};
+ghost use Rattle.rx_beside.specs.Slots.{IsKept, IsSlot, AreLists};
 
 use crate::children::{children_of, is_begun};
 use crate::lists::{
-    Lists, Slot, add_slot, are_in_place, copy_node, copy_nodes, match_fibers, push_slot,
+    Lists, PrunedLists, PrunedNodes, Slot, add_slot, are_in_place, copy_nodes, match_fibers,
 };
 use rx_compare::node_at;
 use rx_elem::Element;
@@ -27,13 +29,11 @@ use rx_node::{Mark, Node};
 use rx_read::{made_child, read_fiber};
 use std::alloc::{AllocError, Global};
 
-// A node of the finished tree; and the old node and this one, both without what stayed the same; and whether nothing is left out.
+// A node of the finished tree; and, if something is left out, the old node and this one without it.
 #[derive(Drop)]
 pub(crate) struct Pair {
     pub tree: Node,
-    pub pruned_old: Node,
-    pub pruned_new: Node,
-    pub whole: bool,
+    pub pruned: Option<PrunedNodes>,
 }
 
 // The number of a host or a text.
@@ -77,6 +77,7 @@ fn or_moved(displaced: bool, moved: bool) -> bool
 fn takes_over(tree: &FiberTree<Fiber>, id: FiberId) -> bool
     requires { Makes tree.now.draft id }
     ensures taken { result ≡ true → made_kids_of tree.now.draft id ≡ taken (old_kids tree.now id) }
+    ensures some { result ≡ true → is_some (entry (made_kids_of tree.now.draft id)) ≡ true }
     ensures made { result ≡ false → list_of tree.now (made_entry (made_kids_of tree.now.draft id)) ≡ grafted (made_kids_of tree.now.draft id) }
 {
     tree.facts();
@@ -120,6 +121,23 @@ fn node_over(
     Node::new(alloc, element, mark, children, Vec::new(alloc))
 }
 
+// The old node and the new one over lists without what stayed the same.
+fn nodes_over(
+    alloc: Global,
+    old: &Node,
+    element: &Element,
+    mark: &Mark,
+    lists: PrunedLists,
+) -> Result<PrunedNodes, AllocError>
+    ensures old { IfOk result (λ p. p.old ≡ node (element_of old.now) (mark_of old.now) (forest lists.old.items) none) }
+    ensures new { IfOk result (λ p. p.new ≡ node element.now (mark_seen mark.now) (forest lists.new.items) none) }
+{
+    Ok(PrunedNodes {
+        old: node_over(alloc, old.element(), old.mark(), lists.old)?,
+        new: node_over(alloc, element, mark, lists.new)?,
+    })
+}
+
 // The nodes over these lists.
 fn pair_over(
     alloc: Global,
@@ -129,65 +147,33 @@ fn pair_over(
     lists: Lists,
 ) -> Result<Pair, AllocError>
     ensures tree { IfOk result (λ p. p.tree ≡ node element.now (mark_seen mark.now) (forest lists.tree.items) none) }
-    ensures pruned_old { IfOk result (λ p. p.pruned_old ≡ node (element_of old.now) (mark_of old.now) (forest lists.pruned_old.items) none) }
-    ensures pruned_new { IfOk result (λ p. p.pruned_new ≡ node element.now (mark_seen mark.now) (forest lists.pruned_new.items) none) }
+    ensures pruned { (d : Bool) → (os : List (Option trees.Node)) → GoesOn (mark_of old.now) (mark_seen mark.now) → forest os ≡ children_of old.now → fallback_of old.now ≡ none → AreLists (displaced_below d (mark_seen mark.now)) (forest os) (forest lists.tree.items) (forest (old_list os lists.pruned)) (forest (new_list lists.tree.items lists.pruned)) → IfOk result (λ p. Pruned d old.now p.tree (old_part old.now p.pruned) (new_part p.tree p.pruned)) }
 {
-    let Lists {
-        tree,
-        pruned_old,
-        pruned_new,
-        whole: _,
-    } = lists;
+    let Lists { tree, pruned } = lists;
     let tree = node_over(alloc, element, mark, tree)?;
-    let pruned_old = node_over(alloc, old.element(), old.mark(), pruned_old)?;
-    let pruned_new = node_over(alloc, element, mark, pruned_new)?;
+    let Some(lists) = pruned else {
+        return Ok(Pair { tree, pruned: None });
+    };
+    let nodes = nodes_over(alloc, old, element, mark, lists)?;
     Ok(Pair {
         tree,
-        pruned_old,
-        pruned_new,
-        whole: false,
+        pruned: Some(nodes),
     })
 }
 
-// The same if nothing is left out: each node is its own, by one handle more.
-fn whole_over(
-    alloc: Global,
-    old: &Node,
-    element: &Element,
-    mark: &Mark,
-    lists: Lists,
-) -> Result<Pair, AllocError>
-    ensures tree { IfOk result (λ p. p.tree ≡ node element.now (mark_seen mark.now) (forest lists.tree.items) none) }
-    ensures pruned { (d : Bool) → IfOk result (λ p. Pruned d old.now p.tree p.pruned_old p.pruned_new) }
-{
-    let tree = node_over(alloc, element, mark, lists.tree)?;
-    Ok(Pair {
-        pruned_old: old.copy()?,
-        pruned_new: tree.copy()?,
-        tree,
-        whole: true,
-    })
-}
-
-// A made node and the old one, with all of both.
+// A made node, of which nothing is left out.
 pub(crate) fn read_whole(
     alloc: Global,
     tree: &FiberTree<Fiber>,
     id: FiberId,
-    old: &Node,
 ) -> Result<Pair, AllocError>
     requires inside { IsIn tree.now id }
     requires node { (x : trees.Node) × (first_node (list_of tree.now (Some id)) ≡ Some x) }
     ensures tree { IfOk result (λ p. Some p.tree ≡ first_node (list_of tree.now (Some id))) }
-    ensures pruned { (d : Bool) → IfOk result (λ p. Pruned d old.now p.tree p.pruned_old p.pruned_new) }
+    ensures pruned { (d : Bool) → (o : trees.Node) → IfOk result (λ p. Pruned d o p.tree (old_part o p.pruned) (new_part p.tree p.pruned)) }
 {
     match read_fiber(alloc, tree, id)? {
-        Some(tree) => Ok(Pair {
-            pruned_old: old.copy()?,
-            pruned_new: tree.copy()?,
-            tree,
-            whole: true,
-        }),
+        Some(tree) => Ok(Pair { tree, pruned: None }),
         None => unreachable!(),
     }
 }
@@ -195,24 +181,60 @@ pub(crate) fn read_whole(
 // The lists if the children of the old node were taken over: both left out, unless something above moved.
 fn same_lists(alloc: Global, old: &[Option<Node>], displaced: bool) -> Result<Lists, AllocError>
     ensures tree { IfOk result (λ l. l.tree.items ≡ old.now) }
-    ensures pruned { IfOk result (λ l. AreLists displaced (forest old.now) (forest l.tree.items) (forest l.pruned_old.items) (forest l.pruned_new.items)) }
+    ensures pruned { IfOk result (λ l. AreLists displaced (forest old.now) (forest l.tree.items) (forest (old_list old.now l.pruned)) (forest (new_list l.tree.items l.pruned))) }
 {
-    let tree = copy_nodes(alloc, old)?;
-    if displaced {
-        Ok(Lists {
-            tree,
-            pruned_old: copy_nodes(alloc, old)?,
-            pruned_new: copy_nodes(alloc, old)?,
-            whole: true,
-        })
-    } else {
-        Ok(Lists {
-            tree,
-            pruned_old: Vec::new(alloc),
-            pruned_new: Vec::new(alloc),
-            whole: old.is_empty(),
-        })
+    let tree = copy_nodes(alloc, old, old.len())?;
+    if displaced || old.is_empty() {
+        return Ok(Lists { tree, pruned: None });
     }
+    let lists = PrunedLists {
+        old: Vec::new(alloc),
+        new: Vec::new(alloc),
+    };
+    Ok(Lists {
+        tree,
+        pruned: Some(lists),
+    })
+}
+
+// The old node, which stays: without its list it is one node on both sides. Nothing is left out if something above moved.
+fn kept_pair(alloc: Global, old: &Node, displaced: bool) -> Result<Pair, AllocError>
+    ensures tree { IfOk result (λ p. p.tree ≡ old.now) }
+    ensures pruned { (d : Bool) → GoesOn (mark_of old.now) (mark_of old.now) → displaced ≡ displaced_below d (mark_of old.now) → fallback_of old.now ≡ none → IfOk result (λ p. Pruned d old.now p.tree (old_part old.now p.pruned) (new_part p.tree p.pruned)) }
+{
+    let tree = old.copy()?;
+    if displaced {
+        return Ok(Pair { tree, pruned: None });
+    }
+    let bare = node_over(alloc, old.element(), old.mark(), Vec::new(alloc))?;
+    let nodes = PrunedNodes {
+        old: bare.copy()?,
+        new: bare,
+    };
+    Ok(Pair {
+        tree,
+        pruned: Some(nodes),
+    })
+}
+
+// A made node whose children were taken over: it is the old one, if a commit leaves the mark of that as it is.
+fn taken_pair(
+    alloc: Global,
+    old: &Node,
+    element: &Element,
+    mark: &Mark,
+    displaced: bool,
+) -> Result<Pair, AllocError>
+    ensures tree { IsKept old.now (node element.now (mark_seen mark.now) (children_of old.now) none) → IfOk result (λ p. p.tree ≡ node element.now (mark_seen mark.now) (children_of old.now) none) }
+    ensures pruned { (d : Bool) → IsKept old.now (node element.now (mark_seen mark.now) (children_of old.now) none) → GoesOn (mark_of old.now) (mark_seen mark.now) → displaced ≡ displaced_below d (mark_seen mark.now) → fallback_of old.now ≡ none → IfOk result (λ p. Pruned d old.now p.tree (old_part old.now p.pruned) (new_part p.tree p.pruned)) }
+{
+    if old.mark().is_fixed() {
+        let kept = kept_pair(alloc, old, displaced)?;
+        return Ok(kept);
+    }
+    let lists = same_lists(alloc, old.children(), displaced)?;
+    let pair = pair_over(alloc, old, element, mark, lists)?;
+    Ok(pair)
 }
 
 // A made node beside the old one that it was made for.
@@ -226,10 +248,11 @@ pub(crate) fn read_pair(
 ) -> Result<Pair, AllocError>
     requires made { Makes tree.now.draft id }
     requires tree { (y : Option trees.Node) × IsTreeOf y tree.now.current }
+    requires alike { AllTakeAlike tree.now.current tree.now.draft }
     requires old { Some old.now ≡ first_node (list_of tree.now (old_of tree.now.draft id)) }
     requires node { (x : trees.Node) × (first_node (list_of tree.now (Some id)) ≡ Some x) }
     ensures tree { IfOk result (λ p. Some p.tree ≡ first_node (list_of tree.now (Some id))) }
-    ensures pruned { IfOk result (λ p. Pruned displaced old.now p.tree p.pruned_old p.pruned_new) }
+    ensures pruned { IfOk result (λ p. Pruned displaced old.now p.tree (old_part old.now p.pruned) (new_part p.tree p.pruned)) }
 {
     tree.facts();
     let fiber = tree.value(id);
@@ -237,36 +260,15 @@ pub(crate) fn read_pair(
         && goes_on(old.mark(), mark)
     {
         let below = displaced_below(displaced, mark);
-        let lists = read_lists(alloc, tree, id, old.children(), below)?;
-        if lists.whole {
-            let whole = whole_over(alloc, old, fiber.element(), mark, lists)?;
-            return Ok(whole);
+        if takes_over(tree, id) {
+            let taken = taken_pair(alloc, old, fiber.element(), mark, below)?;
+            return Ok(taken);
         }
+        let lists = read_made(alloc, tree, id, old.children(), below)?;
         let pair = pair_over(alloc, old, fiber.element(), mark, lists)?;
         return Ok(pair);
     }
-    read_whole(alloc, tree, id, old)
-}
-
-// The children of a made node beside those of the old one.
-#[cycle(pair)]
-fn read_lists(
-    alloc: Global,
-    tree: &FiberTree<Fiber>,
-    id: FiberId,
-    old: &[Option<Node>],
-    displaced: bool,
-) -> Result<Lists, AllocError>
-    requires over { WasOver tree.now id (forest old.now) }
-    requires tree { (y : Option trees.Node) × IsTreeOf y tree.now.current }
-    ensures tree { IfOk result (λ l. forest l.tree.items ≡ forest (places_in 0 (grafted (made_kids_of tree.now.draft id)))) }
-    ensures pruned { IfOk result (λ l. AreLists displaced (forest old.now) (forest l.tree.items) (forest l.pruned_old.items) (forest l.pruned_new.items)) }
-{
-    if takes_over(tree, id) {
-        same_lists(alloc, old, displaced)
-    } else {
-        read_made(alloc, tree, id, old, displaced)
-    }
+    read_whole(alloc, tree, id)
 }
 
 // The made children of a made node beside those of the old one.
@@ -280,8 +282,9 @@ fn read_made(
 ) -> Result<Lists, AllocError>
     requires over { WasOver tree.now id (forest old.now) }
     requires tree { (y : Option trees.Node) × IsTreeOf y tree.now.current }
+    requires alike { AllTakeAlike tree.now.current tree.now.draft }
     ensures tree { IfOk result (λ l. l.tree.items ≡ places_in 0 (list_of tree.now (made_entry (made_kids_of tree.now.draft id)))) }
-    ensures pruned { IfOk result (λ l. AreLists displaced (forest old.now) (forest l.tree.items) (forest l.pruned_old.items) (forest l.pruned_new.items)) }
+    ensures pruned { IfOk result (λ l. AreLists displaced (forest old.now) (forest l.tree.items) (forest (old_list old.now l.pruned)) (forest (new_list l.tree.items l.pruned))) }
 {
     tree.facts();
     let fibers = children_of(alloc, tree, id, old.len())?;
@@ -306,22 +309,22 @@ fn read_in_place(
 ) -> Result<Lists, AllocError>
     requires over { WasOver tree.now id (forest old.now) }
     requires tree { (y : Option trees.Node) × IsTreeOf y tree.now.current }
+    requires alike { AllTakeAlike tree.now.current tree.now.draft }
     requires children { All (λ o. IfSome o (IsNodeOf tree.now id)) fibers.now }
     requires same { AreInPlace (forest old.now) (forest (map (λ o. first_node (list_of tree.now o)) fibers.now)) }
     requires few { length fibers.now < 2 ^ 32 }
     ensures tree { IfOk result (λ l. l.tree.items ≡ map (λ o. first_node (list_of tree.now o)) fibers.now) }
-    ensures pruned { IfOk result (λ l. AreLists displaced (forest old.now) (forest l.tree.items) (forest l.pruned_old.items) (forest l.pruned_new.items)) }
+    ensures pruned { IfOk result (λ l. AreLists displaced (forest old.now) (forest l.tree.items) (forest (old_list old.now l.pruned)) (forest (new_list l.tree.items l.pruned))) }
 {
     tree.facts();
     let mut lists = Lists {
         tree: Vec::with_capacity(alloc, fibers.len())?,
-        pruned_old: Vec::with_capacity(alloc, fibers.len())?,
-        pruned_new: Vec::with_capacity(alloc, fibers.len())?,
-        whole: true,
+        pruned: None,
     };
     'going: for i in 0..fibers.len() {
-        let slot = read_slot(alloc, tree, fibers[i], old, Some(i as u32), displaced)?;
-        push_slot(&mut lists, &old[i], slot)?;
+        let place = Some(i as u32);
+        let slot = read_slot(alloc, tree, fibers[i], old, place, displaced)?;
+        add_slot(alloc, &mut lists, old, place, slot)?;
     }
     Ok(lists)
 }
@@ -338,23 +341,22 @@ fn read_matched(
 ) -> Result<Lists, AllocError>
     requires over { WasOver tree.now id (forest old.now) }
     requires tree { (y : Option trees.Node) × IsTreeOf y tree.now.current }
+    requires alike { AllTakeAlike tree.now.current tree.now.draft }
     requires children { All (λ o. IfSome o (IsNodeOf tree.now id)) fibers.now }
     ensures tree { IfOk result (λ l. l.tree.items ≡ map (λ o. first_node (list_of tree.now o)) fibers.now) }
-    ensures pruned { IfOk result (λ l. AreLists displaced (forest old.now) (forest l.tree.items) (forest l.pruned_old.items) (forest l.pruned_new.items)) }
+    ensures pruned { IfOk result (λ l. AreLists displaced (forest old.now) (forest l.tree.items) (forest (old_list old.now l.pruned)) (forest (new_list l.tree.items l.pruned))) }
 {
     tree.facts();
     let matching = match_fibers(alloc, tree, old, fibers)?;
     let mut lists = Lists {
         tree: Vec::with_capacity(alloc, fibers.len())?,
-        pruned_old: copy_nodes(alloc, old)?,
-        pruned_new: Vec::with_capacity(alloc, fibers.len())?,
-        whole: true,
+        pruned: None,
     };
     'going: for i in 0..fibers.len() {
         let place = matching.places[i];
         let moved = or_moved(displaced, matching.moved[i]);
         let slot = read_slot(alloc, tree, fibers[i], old, place, moved)?;
-        add_slot(&mut lists, place, slot)?;
+        add_slot(alloc, &mut lists, old, place, slot)?;
     }
     Ok(lists)
 }
@@ -371,15 +373,14 @@ fn read_slot(
 ) -> Result<Slot, AllocError>
     requires over { (p : ℕ) × WasOver tree.now p (forest old.now) × IfSome child (IsNodeOf tree.now p) }
     requires tree { (y : Option trees.Node) × IsTreeOf y tree.now.current }
+    requires alike { AllTakeAlike tree.now.current tree.now.draft }
     ensures tree { IfOk result (λ s. s.tree ≡ first_node (list_of tree.now child)) }
-    ensures pruned { IfOk result (λ s. IsSlot displaced (option_and_then (node_at (forest old.now)) place) s.tree s.pruned_old s.pruned_new) }
+    ensures pruned { IfOk result (λ s. IsSlot displaced (option_and_then (node_at (forest old.now)) place) s.tree (old_slot s.pruned) (new_slot s.tree s.pruned)) }
 {
     let Some(id) = child else {
         return Ok(Slot {
             tree: None,
-            pruned_old: None,
-            pruned_new: None,
-            whole: true,
+            pruned: None,
         });
     };
     match was_beside(tree, id, old, place) {
@@ -387,19 +388,12 @@ fn read_slot(
             let pair = read_pair(alloc, tree, id, node, displaced)?;
             Ok(Slot {
                 tree: Some(pair.tree),
-                pruned_old: Some(pair.pruned_old),
-                pruned_new: Some(pair.pruned_new),
-                whole: pair.whole,
+                pruned: pair.pruned,
             })
         }
-        None => {
-            let node = read_fiber(alloc, tree, id)?;
-            Ok(Slot {
-                tree: copy_node(&node)?,
-                pruned_old: None,
-                pruned_new: node,
-                whole: true,
-            })
-        }
+        None => Ok(Slot {
+            tree: read_fiber(alloc, tree, id)?,
+            pruned: None,
+        }),
     }
 }

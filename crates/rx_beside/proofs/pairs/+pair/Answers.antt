@@ -1,20 +1,22 @@
 use Rattle.std.proofs.Common.{map, All, IfSome, Some, refl, sym, ap, ◌∙◌, subst, arith}
 use Rattle.std.proofs.lemmas.List.Elements.{All-get_or}
 use Rattle.std.specs.Prelude.{option_and_then}
-use Rattle.rx_elem.specs.Trees.{node, none, forest, shows_fallback}
+use Rattle.rx_elem.specs.Trees.{node, none, forest, children_of, shows_fallback}
 use Rattle.rx_elem.specs.Compare.{node_at}
 use Rattle.rx_node.specs.MarkView.{mark_seen}
 use Rattle.rx_fiber.specs.FiberView.{stage_seen}
 use Rattle.rx_pruned.specs.Pruned.{GoesOn}
 use Rattle.rx_read.specs.Lists.{list_of}
-use Rattle.rx_read.specs.Places.{first_node}
+use Rattle.rx_read.specs.Places.{places_in, first_node}
 use Rattle.rx_beside.specs.Children.{IsNodeOf}
-use Rattle.rx_beside.specs.Slots.{IsSlot, AreLists}
+use Rattle.rx_beside.specs.Parts.{old_slot, new_slot, old_list, new_list}
+use Rattle.rx_beside.specs.Slots.{IsKept, IsSlot, AreLists}
+use Rattle.rx_beside.specs.Slots as slots
 use Rattle.rx_beside.proofs.Standing.{beside_at, old_children, new_node}
+use Rattle.rx_beside.proofs.Keeping.{kept_node, taken_node}
 use Rattle.rx_beside.proofs.Here.{slot_lower}
-use Rattle.rx_beside.proofs.Ending.{places_even, moved_even, step, done, pair_pruned, kept_by, changed_by}
+use Rattle.rx_beside.proofs.Ending.{places_even, moved_even, step, done, slot_by}
 use Rattle.rx_beside.proofs.Walking.{none_walked_yet}
-use Rattle.rx_beside.proofs.Staying.{none_stays_yet}
 use Rattle.rx_beside.proofs.Staying as stay
 use Rattle.rx_beside.proofs.pairs.+pair.Goals as goal
 
@@ -25,12 +27,12 @@ read_made-are_in_place-requires t c =
 pub read_made-read_in_place-requires : goal.read_made-read_in_place-requires
 read_made-read_in_place-requires t c =
     let children = subst (All (λ o. IfSome o (IsNodeOf c.args.tree.now c.args.id))) (sym c.as_slice-made.ensures.value) c.in_ok-fibers.ensures.children in
-    (omega (arith, c.decreases), (c.requires.over, (c.requires.tree, (children, (c.are_in_place.ensures.same c.if-are_in_place.true, c.are_in_place.ensures.few c.if-are_in_place.true)))))
+    (omega (arith, c.decreases), (c.requires.over, (c.requires.tree, (c.requires.alike, (children, (c.are_in_place.ensures.same c.if-are_in_place.true, c.are_in_place.ensures.few c.if-are_in_place.true))))))
 
 pub read_made-read_matched-requires : goal.read_made-read_matched-requires
 read_made-read_matched-requires t c =
     let children = subst (All (λ o. IfSome o (IsNodeOf c.args.tree.now c.args.id))) (sym c.as_slice-made.ensures.value) c.in_ok-fibers.ensures.children in
-    (omega (arith, c.decreases), (c.requires.over, (c.requires.tree, children)))
+    (omega (arith, c.decreases), (c.requires.over, (c.requires.tree, (c.requires.alike, children))))
 
 pub read_made-returns-then-are_in_place-clause-tree : goal.read_made-returns-then-are_in_place-clause-tree
 read_made-returns-then-are_in_place-clause-tree t c =
@@ -46,7 +48,7 @@ read_matched-match_fibers-requires t c = (c.args.id, c.requires.children)
 pub read_matched-going-init : goal.read_matched-going-init
 read_matched-going-init t c = record {
   tree = c.in_ok-with_capacity.ensures.items;
-  walked = none_walked_yet c.args.displaced c.args.old.now _ _ _ c.in_ok-with_capacity.ensures.items c.in_ok-copy_nodes.ensures c.in_ok-with_capacity-2.ensures.items;
+  walked = none_walked_yet c.args.displaced c.args.old.now _ _ _ c.in_ok-with_capacity.ensures.items refl c.in_ok-with_capacity.ensures.items;
 }
 
 pub read_matched-index-place-requires : goal.read_matched-index-place-requires
@@ -69,13 +71,13 @@ read_matched-read_slot-requires t c =
     let o = c.index-fibers-i.result in
     let node = subst (λ q. IfSome q (IsNodeOf trees c.args.id)) (sym c.index-fibers-i.is) (All-get_or (λ q. IfSome q (IsNodeOf trees c.args.id)) c.args.fibers.now c.going.i o c.going-test.true c.requires.children) in
     let smaller = slot_lower trees c.facts.ensures.fits c.facts.ensures.linked c.args.id c.requires.over.made o node in
-    (omega (arith, c.decreases, smaller), ((c.args.id, c.requires.over, node), c.requires.tree))
+    (omega (arith, c.decreases, smaller), ((c.args.id, c.requires.over, node), (c.requires.tree, c.requires.alike)))
 
 pub read_matched-going-preserved : goal.read_matched-going-preserved
 read_matched-going-preserved t c =
     let trees = c.args.tree.now in
     let m = c.in_ok-matching.matching in
-    let slot = subst (λ d. IsSlot d (option_and_then (node_at (forest c.args.old.now)) c.index-place.result.now) c.in_ok-slot.slot.tree c.in_ok-slot.slot.pruned_old c.in_ok-slot.slot.pruned_new) c.or_moved-moved.ensures c.in_ok-slot.ensures.pruned in
+    let slot = subst (λ d. IsSlot d (option_and_then (node_at (forest c.args.old.now)) c.index-place.result.now) c.in_ok-slot.slot.tree (old_slot c.in_ok-slot.slot.pruned) (new_slot c.in_ok-slot.slot.tree c.in_ok-slot.slot.pruned)) c.or_moved-moved.ensures c.in_ok-slot.ensures.pruned in
     let r = step c.args.displaced c.args.old.now (λ o. first_node (list_of trees o)) c.args.fibers.now m c.in_ok-matching.ensures c.going.i c.going-test.true
     c.index-fibers-i.result c.index-place.result.now c.index.result.now c.index-fibers-i.is c.index-place.ensures c.index.ensures
     _ _ _ _ _ _ _ _ _ c.going.invariant.tree c.going.invariant.walked c.in_ok-slot.ensures.tree slot
@@ -101,7 +103,7 @@ read_matched-returns-clause-pruned t c =
 pub read_in_place-going-init : goal.read_in_place-going-init
 read_in_place-going-init t c = record {
   tree = c.in_ok-with_capacity.ensures.items;
-  walked = none_stays_yet c.args.displaced _ _ _ c.in_ok-with_capacity.ensures.items c.in_ok-with_capacity-2.ensures.items c.in_ok-with_capacity-3.ensures.items;
+  walked = stay.none_stays_in c.args.displaced c.args.old.now _ c.in_ok-with_capacity.ensures.items;
 }
 
 pub read_in_place-read_slot-requires : goal.read_in_place-read_slot-requires
@@ -110,54 +112,46 @@ read_in_place-read_slot-requires t c =
     let o = c.index-fibers-i.result in
     let node = subst (λ q. IfSome q (IsNodeOf trees c.args.id)) (sym c.index-fibers-i.is) (All-get_or (λ q. IfSome q (IsNodeOf trees c.args.id)) c.args.fibers.now c.going.i o c.going-test.true c.requires.children) in
     let smaller = slot_lower trees c.facts.ensures.fits c.facts.ensures.linked c.args.id c.requires.over.made o node in
-    (omega (arith, c.decreases, smaller), ((c.args.id, c.requires.over, node), c.requires.tree))
-
-pub read_in_place-bounds-old-i : goal.read_in_place-bounds-old-i
-read_in_place-bounds-old-i t c =
-    let trees = c.args.tree.now in
-    let e = stay.even c.args.displaced c.args.old.now (λ o. first_node (list_of trees o)) c.args.fibers.now c.requires.same in
-    let l = c.going-test.true in
-    omega arith
+    (omega (arith, c.decreases, smaller), ((c.args.id, c.requires.over, node), (c.requires.tree, c.requires.alike)))
 
 pub read_in_place-going-preserved : goal.read_in_place-going-preserved
 read_in_place-going-preserved t c =
     let trees = c.args.tree.now in
-    let r = stay.step c.args.displaced c.args.old.now (λ o. first_node (list_of trees o)) c.args.fibers.now c.requires.same c.going.i c.going-test.true
-    c.index-fibers-i.result c.index-old-i.result c.index-fibers-i.is c.index-old-i.is
+    let r = stay.step_in c.args.displaced c.args.old.now (λ o. first_node (list_of trees o)) c.args.fibers.now c.requires.same c.going.i c.going-test.true c.index-fibers-i.result c.index-fibers-i.is
     _ _ _ _ _ _ _ _ _ c.going.invariant.tree c.going.invariant.walked c.in_ok-slot.ensures.tree c.in_ok-slot.ensures.pruned
-    c.in_ok-push_slot.ensures.tree c.in_ok-push_slot.ensures.pruned_old c.in_ok-push_slot.ensures.pruned_new in
+    c.in_ok-add_slot.ensures.tree c.in_ok-add_slot.ensures.pruned_old c.in_ok-add_slot.ensures.pruned_new in
     record { tree = r.0; walked = r.1 }
 
 pub read_in_place-returns-clause-tree : goal.read_in_place-returns-clause-tree
 read_in_place-returns-clause-tree t c =
     let trees = c.args.tree.now in
     let l = c.going-test.false in
-    (stay.done c.args.displaced c.args.old.now (λ o. first_node (list_of trees o)) c.args.fibers.now c.requires.same c.going.i (omega arith) _ _ _ c.going.invariant.tree c.going.invariant.walked).0
+    (stay.done_in c.args.displaced c.args.old.now (λ o. first_node (list_of trees o)) c.args.fibers.now c.requires.same c.going.i (omega arith) _ _ _ c.going.invariant.tree c.going.invariant.walked).0
 
 pub read_in_place-returns-clause-pruned : goal.read_in_place-returns-clause-pruned
 read_in_place-returns-clause-pruned t c =
     let trees = c.args.tree.now in
     let l = c.going-test.false in
-    (stay.done c.args.displaced c.args.old.now (λ o. first_node (list_of trees o)) c.args.fibers.now c.requires.same c.going.i (omega arith) _ _ _ c.going.invariant.tree c.going.invariant.walked).1
+    (stay.done_in c.args.displaced c.args.old.now (λ o. first_node (list_of trees o)) c.args.fibers.now c.requires.same c.going.i (omega arith) _ _ _ c.going.invariant.tree c.going.invariant.walked).1
 
-pub read_pair-read_lists-requires : goal.read_pair-read_lists-requires
-read_pair-read_lists-requires t c =
+pub read_pair-read_made-requires : goal.read_pair-read_made-requires
+read_pair-read_made-requires t c =
     let trees = c.args.tree.now in
     let g = c.goes_on.ensures.goes c.if-goes_on.true in
     let shown = c.goes_on.ensures.shown c.if-goes_on.true in
     let o = old_children trees c.facts.ensures.fits c.facts.ensures.linked c.args.id c.requires.made c.args.old.now c.requires.old (ap shows_fallback (sym c.mark.ensures) ∙ shown.0) in
-    (omega (arith, c.decreases), (record { made = c.requires.made; read = c.children.ensures.all ∙ o.0 }, c.requires.tree))
+    (omega (arith, c.decreases), (record { made = c.requires.made; read = c.children.ensures.all ∙ o.0 }, (c.requires.tree, c.requires.alike)))
 
 pub read_pair-returns-clause-tree : goal.read_pair-returns-clause-tree
 read_pair-returns-clause-tree t c =
     let trees = c.args.tree.now in
     let v = c.value-fiber.result.now in
     let w = mark_seen c.in-Begun.mark in
-    let g = c.goes_on.ensures.goes c.if-goes_on.true in
     let shown = c.goes_on.ensures.shown c.if-goes_on.true in
     let b = beside_at trees c.facts.ensures.fits c.facts.ensures.linked c.args.id c.requires.made in
     let n = new_node trees c.args.id b v (c.value-fiber.ensures.made c.requires.made) w (sym c.stage.ensures ∙ ap stage_seen c.in-Begun.is) shown.1 in
-    ap Some (c.in_ok-pair.ensures.tree ∙ ap (λ f. node f w (forest c.in_ok-lists.lists.tree.items) none) c.element-2.ensures ∙ ap (λ ns. node v.element w ns none) c.in_ok-lists.ensures.tree) ∙ sym n
+    let kids = c.in_ok-lists.ensures.tree ∙ ap (places_in 0) (c.takes_over.ensures.made c.if-takes_over.false) in
+    ap Some (c.in_ok-pair.ensures.tree ∙ (λ i. node (c.element-2.ensures i) w (forest (kids i)) none)) ∙ sym n
 
 pub read_pair-returns-clause-pruned : goal.read_pair-returns-clause-pruned
 read_pair-returns-clause-pruned t c =
@@ -167,27 +161,53 @@ read_pair-returns-clause-pruned t c =
     let shown = c.goes_on.ensures.shown c.if-goes_on.true in
     let go = subst (λ m. GoesOn m w) c.mark.ensures g in
     let o = old_children trees c.facts.ensures.fits c.facts.ensures.linked c.args.id c.requires.made c.args.old.now c.requires.old (ap shows_fallback (sym c.mark.ensures) ∙ shown.0) in
-    let lists = subst (λ d. AreLists d (forest c.children.result.now) (forest c.in_ok-lists.lists.tree.items) (forest c.in_ok-lists.lists.pruned_old.items) (forest c.in_ok-lists.lists.pruned_new.items)) c.displaced_below-below.ensures c.in_ok-lists.ensures.pruned in
-    pair_pruned c.args.displaced c.args.old.now _ _ _ c.element-2.result.now w _ _ _ _ go lists c.children.ensures.all o.1
-    c.in_ok-pair.ensures.tree c.in_ok-pair.ensures.pruned_old c.in_ok-pair.ensures.pruned_new
+    let l = c.in_ok-lists.lists in
+    let lists = subst (λ d. AreLists d (forest c.children.result.now) (forest l.tree.items) (forest (old_list c.children.result.now l.pruned)) (forest (new_list l.tree.items l.pruned))) c.displaced_below-below.ensures c.in_ok-lists.ensures.pruned in
+    c.in_ok-pair.ensures.pruned c.args.displaced c.children.result.now go c.children.ensures.all o.1 lists
 
-pub read_pair-returns-then-lists-clause-tree : goal.read_pair-returns-then-lists-clause-tree
-read_pair-returns-then-lists-clause-tree t c =
+pub read_pair-returns-then-takes_over-clause-tree : goal.read_pair-returns-then-takes_over-clause-tree
+read_pair-returns-then-takes_over-clause-tree t c =
     let trees = c.args.tree.now in
+    let old = c.args.old.now in
     let v = c.value-fiber.result.now in
     let w = mark_seen c.in-Begun.mark in
     let g = c.goes_on.ensures.goes c.if-goes_on.true in
     let shown = c.goes_on.ensures.shown c.if-goes_on.true in
-    let b = beside_at trees c.facts.ensures.fits c.facts.ensures.linked c.args.id c.requires.made in
-    let n = new_node trees c.args.id b v (c.value-fiber.ensures.made c.requires.made) w (sym c.stage.ensures ∙ ap stage_seen c.in-Begun.is) shown.1 in
-    ap Some (c.in_ok-whole.ensures.tree ∙ ap (λ f. node f w (forest c.in_ok-lists.lists.tree.items) none) c.element.ensures ∙ ap (λ ns. node v.element w ns none) c.in_ok-lists.ensures.tree) ∙ sym n
+    let was = ap shows_fallback (sym c.mark.ensures) ∙ shown.0 in
+    let value = c.value-fiber.ensures.made c.requires.made in
+    let stage = sym c.stage.ensures ∙ ap stage_seen c.in-Begun.is in
+    let took = c.takes_over.ensures.taken c.if-takes_over.true in
+    let some = c.takes_over.ensures.some c.if-takes_over.true in
+    let kept : IsKept old (node v.element w (children_of old) none) =
+    λ fixed. kept_node trees c.facts.ensures.fits c.facts.ensures.linked c.requires.alike c.args.id c.requires.made old c.requires.old fixed took some v value w stage g.new_shown was in
+    let n = taken_node trees c.facts.ensures.fits c.facts.ensures.linked c.args.id c.requires.made old c.requires.old took v value w stage was shown.1 in
+    ap Some (c.in_ok-taken.ensures.tree (subst (λ e. IsKept old (node e w (children_of old) none)) (sym c.element.ensures) kept) ∙ ap (λ e. node e w (children_of old) none) c.element.ensures) ∙ sym n
+
+pub read_pair-returns-then-takes_over-clause-pruned : goal.read_pair-returns-then-takes_over-clause-pruned
+read_pair-returns-then-takes_over-clause-pruned t c =
+    let trees = c.args.tree.now in
+    let old = c.args.old.now in
+    let v = c.value-fiber.result.now in
+    let w = mark_seen c.in-Begun.mark in
+    let g = c.goes_on.ensures.goes c.if-goes_on.true in
+    let shown = c.goes_on.ensures.shown c.if-goes_on.true in
+    let was = ap shows_fallback (sym c.mark.ensures) ∙ shown.0 in
+    let value = c.value-fiber.ensures.made c.requires.made in
+    let stage = sym c.stage.ensures ∙ ap stage_seen c.in-Begun.is in
+    let took = c.takes_over.ensures.taken c.if-takes_over.true in
+    let some = c.takes_over.ensures.some c.if-takes_over.true in
+    let kept : IsKept old (node v.element w (children_of old) none) =
+    λ fixed. kept_node trees c.facts.ensures.fits c.facts.ensures.linked c.requires.alike c.args.id c.requires.made old c.requires.old fixed took some v value w stage g.new_shown was in
+    let o = old_children trees c.facts.ensures.fits c.facts.ensures.linked c.args.id c.requires.made old c.requires.old was in
+    c.in_ok-taken.ensures.pruned c.args.displaced (subst (λ e. IsKept old (node e w (children_of old) none)) (sym c.element.ensures) kept) (subst (λ m. GoesOn m w) c.mark.ensures g)
+    c.displaced_below-below.ensures o.1
 
 pub read_slot-returns-in_default-clause-pruned : goal.read_slot-returns-in_default-clause-pruned
-read_slot-returns-in_default-clause-pruned t c = kept_by _ _ _ _ refl
+read_slot-returns-in_default-clause-pruned t c = slots.kept
 
 pub read_slot-returns-in_ok-pair-in-Some-was_beside-clause-pruned : goal.read_slot-returns-in_ok-pair-in-Some-was_beside-clause-pruned
 read_slot-returns-in_ok-pair-in-Some-was_beside-clause-pruned t c =
-    changed_by _ _ _ _ _ _ c.in-Some-was_beside.ensures.at c.in_ok-pair-in-Some-was_beside.ensures.pruned
+    slot_by _ _ _ _ c.in_ok-pair-in-Some-was_beside.pair.pruned c.in-Some-was_beside.ensures.at c.in_ok-pair-in-Some-was_beside.ensures.pruned
 
-pub read_slot-returns-in_ok-copy_node-in-None-clause-pruned : goal.read_slot-returns-in_ok-copy_node-in-None-clause-pruned
-read_slot-returns-in_ok-copy_node-in-None-clause-pruned t c = kept_by _ _ _ _ c.in_ok-copy_node-in-None.ensures
+pub read_slot-returns-in_ok-read_fiber-in-None-clause-pruned : goal.read_slot-returns-in_ok-read_fiber-in-None-clause-pruned
+read_slot-returns-in_ok-read_fiber-in-None-clause-pruned t c = slots.kept

@@ -2,38 +2,36 @@ use Rattle.std.proofs.Common.{◌≡◌, ◌+◌, ◌*◌, map, take, Some}
 use Rattle.rx_lists.specs.Shapes.{size}
 use Rattle.rx_read.specs.Lists.{list_of}
 use Rattle.rx_read.specs.Places.{first_node}
+use Rattle.rx_beside.specs.Parts.{old_list, new_list}
 use Rattle.rx_beside.proofs.Walking.{Walked}
-use Rattle.rx_beside.proofs.Staying.{Stays}
+use Rattle.rx_beside.proofs.Staying.{StaysIn}
 use Rattle.rx_beside.proofs.pairs.+pair.Given as goal
 
 abbrev pub decreases-read_pair : goal.decreases-read_pair
-decreases-read_pair l = 5 * size (list_of l.tree.now (Some l.id)) + 4
-
-abbrev pub decreases-read_lists : goal.decreases-read_lists
-decreases-read_lists l = 5 * size (list_of l.tree.now (Some l.id)) + 3
+decreases-read_pair l = 4 * size (list_of l.tree.now (Some l.id)) + 3
 
 abbrev pub decreases-read_made : goal.decreases-read_made
-decreases-read_made l = 5 * size (list_of l.tree.now (Some l.id)) + 2
+decreases-read_made l = 4 * size (list_of l.tree.now (Some l.id)) + 2
 
 abbrev pub decreases-read_in_place : goal.decreases-read_in_place
-decreases-read_in_place l = 5 * size (list_of l.tree.now (Some l.id)) + 1
+decreases-read_in_place l = 4 * size (list_of l.tree.now (Some l.id)) + 1
 
 abbrev pub decreases-read_matched : goal.decreases-read_matched
-decreases-read_matched l = 5 * size (list_of l.tree.now (Some l.id)) + 1
+decreases-read_matched l = 4 * size (list_of l.tree.now (Some l.id)) + 1
 
 abbrev pub decreases-read_slot : goal.decreases-read_slot
-decreases-read_slot l = 5 * size (list_of l.tree.now l.child) + 5
+decreases-read_slot l = 4 * size (list_of l.tree.now l.child) + 4
 
 -- the places so far are walked
 abbrev pub invariant-read_matched-going : goal.invariant-read_matched-going
 invariant-read_matched-going l = record {
   tree : l.lists.tree.items ≡ map (λ o. first_node (list_of l.tree o)) (take l.i l.fibers);
-  walked : Walked l.fn.displaced l.old (take l.i l.matching.places.items) (take l.i l.matching.moved.items) l.lists.tree.items l.lists.pruned_old.items l.lists.pruned_new.items;
+  walked : Walked l.fn.displaced l.old (take l.i l.matching.places.items) (take l.i l.matching.moved.items) l.lists.tree.items (old_list l.old l.lists.pruned) (new_list l.lists.tree.items l.lists.pruned);
 }
 
 -- the same of places that stay
 abbrev pub invariant-read_in_place-going : goal.invariant-read_in_place-going
 invariant-read_in_place-going l = record {
   tree : l.lists.tree.items ≡ map (λ o. first_node (list_of l.tree o)) (take l.i l.fibers);
-  walked : Stays l.fn.displaced (take l.i l.old) l.lists.tree.items l.lists.pruned_old.items l.lists.pruned_new.items;
+  walked : StaysIn l.fn.displaced l.old l.i l.lists.tree.items (old_list l.old l.lists.pruned) (new_list l.lists.tree.items l.lists.pruned);
 }

@@ -1,5 +1,5 @@
-use Rattle.rx_beside.proofs.Ending.{whole_by}
+use Rattle.rx_pruned.specs.Pruned.{whole}
 use Rattle.rx_beside.proofs.pairs.read_whole.Goals as goal
 
 pub returns-clause-pruned : goal.returns-clause-pruned
-returns-clause-pruned c = λ d. whole_by d _ _ _ _ c.in_ok-copy-in-Some.ensures c.in_ok-copy-in-Some-2.ensures
+returns-clause-pruned c = λ d o. whole

@@ -9,6 +9,9 @@ returns-then-is_some-clause-taken c = λ e.
     took_over t c.args.id b (ap is_some (sym (c.first_child.ensures.made c.requires)) ∙ sym c.is_some.ensures ∙ c.if-is_some.true)
     (ap is_some (sym c.made_child.ensures.entry) ∙ c.is_none.ensures ∙ ap not e)
 
+pub returns-then-is_some-clause-some : goal.returns-then-is_some-clause-some
+returns-then-is_some-clause-some c = λ e. ap is_some (sym (c.first_child.ensures.made c.requires)) ∙ sym c.is_some.ensures ∙ c.if-is_some.true
+
 pub returns-then-is_some-clause-made : goal.returns-then-is_some-clause-made
 returns-then-is_some-clause-made c = λ e.
     let t = c.args.tree.now in
