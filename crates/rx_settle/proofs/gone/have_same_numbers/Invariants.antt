@@ -1,7 +1,7 @@
 use Rattle.std.proofs.Common.{◌≡◌, ℕ, ◌<◌, true, Some, length, slice_get}
 use Rattle.rx_elem.specs.Spots.{Mounted}
 use Rattle.rx_settle.specs.Passes.{has_instance}
-use Rattle.rx_settle.proofs.keeping.have_same_numbers.Given as goal
+use Rattle.rx_settle.proofs.gone.have_same_numbers.Given as goal
 
 -- there are as many of both, and each of the old instances so far is one of the new ones
 abbrev pub invariant-comparing : goal.invariant-comparing

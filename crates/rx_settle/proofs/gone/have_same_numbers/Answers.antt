@@ -3,7 +3,7 @@ use Rattle.std.proofs.lemmas.Option.{same_Some, slice_get_read, slice_get_within
 use Rattle.rx_elem.specs.Spots.{Mounted}
 use Rattle.rx_settle.specs.Passes.{has_instance}
 use Rattle.rx_settle.proofs.Whole.{has_itself}
-use Rattle.rx_settle.proofs.keeping.have_same_numbers.Goals as goal
+use Rattle.rx_settle.proofs.gone.have_same_numbers.Goals as goal
 
 pub comparing-preserved : goal.comparing-preserved
 comparing-preserved c =
