@@ -20,14 +20,14 @@ fn numbers_of(alloc: Global, instances: &[Mounted]) -> Result<HashSet<u64>, Allo
     Ok(known)
 }
 
-// Whether both lists have instances of the same numbers, place by place: then none is gone.
-fn have_same_numbers(before: &[Mounted], instances: &[Mounted]) -> bool
+// Whether each old instance has the number of the one at its place now: then none is gone.
+fn stand_as_before(before: &[Mounted], instances: &[Mounted]) -> bool
     ensures { result ≡ true → (k : ℕ) (m : spots.Mounted) → slice_get before.now k ≡ Some m → has_instance instances.now m.number ≡ true }
 {
-    if before.len() != instances.len() {
+    if before.len() > instances.len() {
         return false;
     }
-    'comparing: for place in 0..instances.len() {
+    'comparing: for place in 0..before.len() {
         let old = &before[place];
         let new = &instances[place];
         if old.number() != new.number() {
@@ -67,7 +67,7 @@ pub(crate) fn gone_from(
 ) -> Result<Vec<u64>, AllocError>
     ensures { IfOk result (λ gone. (n : ℕ) → list_any (nat_eq n) gone.items ≡ is_gone before.now instances.now n) }
 {
-    if have_same_numbers(before, instances) {
+    if stand_as_before(before, instances) {
         return Ok(Vec::new(alloc));
     }
     let known = numbers_of(alloc, instances)?;

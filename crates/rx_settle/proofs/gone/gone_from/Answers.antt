@@ -5,9 +5,9 @@ use Rattle.rx_settle.specs.Passes.{has_instance}
 use Rattle.rx_settle.proofs.Numbers.{none_gone}
 use Rattle.rx_settle.proofs.gone.gone_from.Goals as goal
 
-pub returns-then-have_same_numbers : goal.returns-then-have_same_numbers
-returns-then-have_same_numbers c n =
-    ap (λ (ks : List ℕ). list_any (nat_eq n) ks) c.new.ensures.items ∙ sym (none_gone c.args.before.now c.args.instances.now (c.have_same_numbers.ensures c.if-have_same_numbers.true) n)
+pub returns-then-stand_as_before : goal.returns-then-stand_as_before
+returns-then-stand_as_before c n =
+    ap (λ (ks : List ℕ). list_any (nat_eq n) ks) c.new.ensures.items ∙ sym (none_gone c.args.before.now c.args.instances.now (c.stand_as_before.ensures c.if-stand_as_before.true) n)
 
 pub returns : goal.returns
 returns c =
