@@ -15,7 +15,7 @@ seen = map (λ r. r.now)
 abbrev pub AreIn : (ms ws : List Mounted) → Type 0
 AreIn ms ws = (k : ℕ) (m : Mounted) → slice_get ws k ≡ Some m → (j : ℕ) × (slice_get ms j ≡ Some m)
 
--- The instances that are found have numbers that were in a set and are no longer in it. No two have one number; all that left the set are found; and the set has no number of the first so many instances of the list.
+-- Some instances of a list are found, no two with one number: each number that left a set is that of one of them, none of theirs is still in it, and neither is any of the first so many instances of the list.
 pub record AreTaken (old new : ℕ → Bool) (ms : List Mounted) (count : ℕ) (ws : List Mounted) : Type 0 where
   pub within : AreIn ms ws
   pub apart : AreApart ws
@@ -23,7 +23,7 @@ pub record AreTaken (old new : ℕ → Bool) (ms : List Mounted) (count : ℕ) (
   pub taken : (n : ℕ) → old n ≡ true → new n ≡ false → has_instance ws n ≡ true
   pub passed : (k : ℕ) → k < count → (m : Mounted) → slice_get ms k ≡ Some m → new m.number ≡ false
 
--- The instances that are found are some of the list, no two with one number. In the hooks of any other of the list a render has no work.
+-- some instances of a list are found, no two with one number, and in the hooks of any other of the list a render has no work
 pub record HasWorking (lanes : Lanes) (cut : Cut) (kept : ℕ → Option (List Hook)) (ms ws : List Mounted) : Type 0 where
   pub within : AreIn ms ws
   pub apart : AreApart ws
