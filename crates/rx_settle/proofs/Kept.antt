@@ -1,5 +1,5 @@
 -- What a commit does with the hooks that are kept, one instance after the other.
-use Rattle.std.proofs.Common.{◌≡◌, ℕ, zero, suc, ◌+◌, ◌<◌, ◌≤◌, Bool, true, false, ◌||◌, nat_eq, Option, Some, None, IsSome, List, [], ◌∷◌, map, slice_get, refl, sym, ◌∙◌, subst, below_more, arith}
+use Rattle.std.proofs.Common.{◌≡◌, ℕ, zero, suc, ◌+◌, ◌<◌, ◌≤◌, Bool, true, false, ◌||◌, nat_eq, Option, Some, IsSome, List, [], ◌∷◌, map, slice_get, refl, sym, ◌∙◌, subst, below_more, arith}
 use Rattle.std.proofs.lemmas.Bool.Decides.{nat_tests}
 use Rattle.rx_base.specs.declared.cut.Cut.{Cut}
 use Rattle.rx_lane.specs.Lanes.{Lanes}
@@ -15,7 +15,7 @@ use Rattle.rx_settle.specs.Passes.{AreApart, AreKept, AreSettled, ChangesWorking
 pub other_way : (a b : ℕ) → nat_eq a b ≡ false → nat_eq b a ≡ false
 other_way a b e = grind (arith, nat_tests)
 
-neither : (a b : Bool) → (a || b) ≡ false → (a ≡ false) × (b ≡ false)
+pub neither : (a b : Bool) → (a || b) ≡ false → (a ≡ false) × (b ≡ false)
 neither true b e = absurd (let f : ⊥ = cc in f)
 neither false b e = (refl, e)
 
@@ -70,24 +70,3 @@ module _ (lanes : Lanes) (cut : Cut) (first : ℕ) where
     -- hooks are still kept of the next instance
     pub still_kept : AreKept first old ms → SettledSoFar lanes cut first old now ms i → m.number < first → IsSome (now m.number)
     still_kept kept so_far below = subst IsSome (sym (so_far.others i m (omega arith) at)) (kept i m at below)
-
--- ---- removing
-
--- what is known is kept as before, and what is not in the list; and of the first so many instances those that are not known are gone
-pub record GoneSoFar (known : ℕ → Bool) (old new : KeptBy) (ms : List Mounted) (count : ℕ) : Type 0 where
-  pub kept : (n : ℕ) → known n ≡ true → new n ≡ old n
-  pub gone : (k : ℕ) → k < count → (m : Mounted) → slice_get ms k ≡ Some m → known m.number ≡ false → new m.number ≡ None
-  pub elsewhere : (n : ℕ) → has_instance ms n ≡ false → new n ≡ old n
-
--- one instance more is gone, or is known
-pub remove_more : (known : ℕ → Bool) (old now new : KeptBy) (ms : List Mounted) (i : ℕ) (m : Mounted) → slice_get ms i ≡ Some m → GoneSoFar known old now ms i
-    → ((n : ℕ) → known n ≡ true → new n ≡ now n) → (known m.number ≡ false → new m.number ≡ None) → ((n : ℕ) → now n ≡ None → new n ≡ None)
-    → ((n : ℕ) → nat_eq m.number n ≡ false → new n ≡ now n) → GoneSoFar known old new ms (i + 1)
-remove_more known old now new ms i m at so_far kept gone none others =
-    record {
-      kept = λ n is. kept n is ∙ so_far.kept n is;
-      gone = below_more (λ k. (x : Mounted) → slice_get ms k ≡ Some x → known x.number ≡ false → new x.number ≡ None) i
-          (λ k lt x there is. none x.number (so_far.gone k lt x there is))
-          (λ x there. let same : m ≡ x = cc in subst (λ (y : Mounted). known y.number ≡ false → new y.number ≡ None) same gone);
-      elsewhere = λ n free. others n (other_than ms i m n at free) ∙ so_far.elsewhere n free;
-    }

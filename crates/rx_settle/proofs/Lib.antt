@@ -5,3 +5,4 @@ mod Making
 mod Apart
 mod Numbers
 mod Whole
+mod Found

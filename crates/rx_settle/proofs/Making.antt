@@ -9,7 +9,7 @@ use Rattle.rx_settle.specs.Made.{AreHooksFor, AreMadeFor, AreOfNew, HasMade, has
 -- ---- lists
 
 -- an element of a list with one more is one of the list, or the last one
-old_or_last : {A : Type 0} (xs : List A) (x y : A) (k : ℕ) → slice_get (xs ++ x ∷ []) k ≡ Some y → ((j : ℕ) × (slice_get xs j ≡ Some y)) ⊎ (x ≡ y)
+pub old_or_last : {A : Type 0} (xs : List A) (x y : A) (k : ℕ) → slice_get (xs ++ x ∷ []) k ≡ Some y → ((j : ℕ) × (slice_get xs j ≡ Some y)) ⊎ (x ≡ y)
 old_or_last [] x y zero e = inr (cc)
 old_or_last [] x y (suc k) e = absurd (let f : ⊥ = cc in f)
 old_or_last (z ∷ xs) x y zero e = inl (zero, e)
@@ -19,11 +19,11 @@ old_or_last (z ∷ xs) x y (suc k) e = go (old_or_last xs x y k e)
     go (inl h) = inl (suc h.0, h.1)
     go (inr h) = inr h
 
-or_left : (a b : Bool) → a ≡ true → (a || b) ≡ true
+pub or_left : (a b : Bool) → a ≡ true → (a || b) ≡ true
 or_left true b e = refl
 or_left false b e = cc
 
-or_right : (a b : Bool) → b ≡ true → (a || b) ≡ true
+pub or_right : (a b : Bool) → b ≡ true → (a || b) ≡ true
 or_right true b e = refl
 or_right false b e = e
 

@@ -1,5 +1,5 @@
 -- How often a number stands among the instances of a tree, and of a tree without what stayed the same.
-use Rattle.std.proofs.Common.{◌≡◌, ℕ, zero, suc, ◌+◌, ◌<◌, ◌≤◌, Bool, true, false, ◌||◌, cond, nat_eq, Option, Some, None, List, [], ◌∷◌, slice_get, refl, sym, ap, ◌∙◌, arith}
+use Rattle.std.proofs.Common.{◌≡◌, ℕ, zero, suc, ◌+◌, ◌<◌, ◌≤◌, Bool, true, false, ◌||◌, ◌&&◌, not, cond, nat_eq, Option, Some, None, List, [], ◌∷◌, slice_get, refl, sym, ap, ◌∙◌, subst, arith}
 use Rattle.rx_elem.specs.Spots.{Mounted, at_root, mounted, numbers_of, spots}
 use Rattle.rx_elem.specs.Trees.{Node}
 use Rattle.rx_hook_store.proofs.Stores.{same_number}
@@ -7,7 +7,7 @@ use Rattle.rx_meaning.specs.Settled.{HasOwnNumbers, times_numbered_if}
 use Rattle.commit_laws.proofs.OwnNumbers.{occurs, spots_times}
 use Rattle.rx_pruned.specs.Pruned.{ArePruned}
 use Rattle.prune_laws.proofs.Leaving.{left_alike}
-use Rattle.rx_settle.specs.Passes.{has_instance}
+use Rattle.rx_settle.specs.Passes.{has_instance, is_gone}
 use Rattle.rx_settle.proofs.Apart.{all_listed}
 
 -- ---- lists
@@ -114,3 +114,13 @@ module _ (old : Option Node) (new : Node) (pruned_old : Option Node) (pruned_new
       let once = stands_once n old has in
       let never = stands_never n (Some new) none in
       (found_in n pruned_old (omega arith), missing_in n (Some pruned_new) (omega arith))
+
+-- if each instance of an old list has its number in the new one, none is gone
+pub none_gone : (before ms : List Mounted) → ((k : ℕ) (m : Mounted) → slice_get before k ≡ Some m → has_instance ms m.number ≡ true) → (n : ℕ) → is_gone before ms n ≡ false
+none_gone before ms each n = go (has_instance before n) refl
+  where
+    go : (b : Bool) → has_instance before n ≡ b → (b && not (has_instance ms n)) ≡ false
+    go false e = refl
+    go true e =
+        let t = is_there before n e in
+        ap not (subst (λ (k : ℕ). has_instance ms k ≡ true) t.number_is (each t.place t.instance t.at))

@@ -40,7 +40,7 @@ use Rattle.rx_settle.proofs.Mounting.{new_or_old}
 -- ---- the second pass
 
 -- instances of one number are one
-one_instance : (ms : List Mounted) → AreApart ms → (j k : ℕ) (a b : Mounted) → slice_get ms j ≡ Some a → slice_get ms k ≡ Some b → a.number ≡ b.number → a ≡ b
+pub one_instance : (ms : List Mounted) → AreApart ms → (j k : ℕ) (a b : Mounted) → slice_get ms j ≡ Some a → slice_get ms k ≡ Some b → a.number ≡ b.number → a ≡ b
 one_instance ms apart j k a b here there same = go (nat_lt j k) refl (nat_lt k j) refl
   where
     itself : (m n : ℕ) → m ≡ n → nat_eq m n ≡ true
@@ -70,12 +70,12 @@ has_itself (x ∷ ms) (suc k) m at = go (nat_eq m.number x.number) (has_itself m
     go true h = refl
     go false h = h
 
-module _ (lanes : Lanes) (cut : Cut) (first : ℕ) (ms : List Mounted) (xs : List NewHooks) (known : ℕ → Bool) (old settled inserted new : KeptBy) (apart : AreApart ms)
+module _ (lanes : Lanes) (cut : Cut) (first : ℕ) (ms : List Mounted) (xs : List NewHooks) (old settled inserted new : KeptBy) (apart : AreApart ms)
     (are_made : AreMadeFor first ms (length ms) xs) (settles : (k : ℕ) (m : Mounted) → slice_get ms k ≡ Some m → AreSettled lanes cut first old settled m)
-    (inserts : (n : ℕ) → inserted n ≡ kept_with xs settled n) (removes : (n : ℕ) → known n ≡ true → new n ≡ inserted n) (knows : (n : ℕ) → known n ≡ has_instance ms n) where
+    (inserts : (n : ℕ) → inserted n ≡ kept_with xs settled n) (removes : (n : ℕ) → has_instance ms n ≡ true → new n ≡ inserted n) where
   -- what is kept of an instance of the tree is not removed
   still_there : (k : ℕ) (m : Mounted) → slice_get ms k ≡ Some m → new m.number ≡ kept_with xs settled m.number
-  still_there k m at = removes m.number (knows m.number ∙ has_itself ms k m at) ∙ inserts m.number
+  still_there k m at = removes m.number (has_itself ms k m at) ∙ inserts m.number
 
   -- of one that is not new it is what was settled
   not_new : (k : ℕ) (m : Mounted) → slice_get ms k ≡ Some m → m.number < first → new m.number ≡ settled m.number

@@ -1,3 +1,4 @@
 pub mod Settling
 pub mod Made
 pub mod Passes
+pub mod Found

@@ -1,5 +1,5 @@
 -- What a commit makes of the hooks that are kept, in its two passes over the instances of its tree.
-use Rattle.std.specs.Prelude.{◌≡◌, ◌⊎◌, ◌<◌, ◌≤◌, ℕ, ℤ, Bool, true, false, nat_eq, List, map, Option, Some, None, IsSome, slice_get}
+use Rattle.std.specs.Prelude.{◌≡◌, ◌⊎◌, ◌<◌, ◌≤◌, ℕ, ℤ, Bool, true, false, not, ◌&&◌, nat_eq, List, map, Option, Some, None, IsSome, slice_get}
 use Rattle.std.specs.List.{list_any}
 use Rattle.rx_base.specs.declared.cut.Cut.{Cut}
 use Rattle.rx_lane.specs.Lanes.{Lanes}
@@ -24,6 +24,10 @@ AreApart ms = (j k : ℕ) (a b : Mounted) → j < k → slice_get ms j ≡ Some 
 -- some instance of a list has this number
 abbrev pub has_instance : List Mounted → ℕ → Bool
 has_instance ms n = list_any (λ m. nat_eq n m.number) ms
+
+-- an instance of an old list has this number, and none of a new list
+abbrev pub is_gone : (before ms : List Mounted) → ℕ → Bool
+is_gone before ms n = has_instance before n && not (has_instance ms n)
 
 -- hooks are kept of each instance with a number below the first
 abbrev pub AreKept : (first : ℕ) → (kept : ℕ → Option (List Hook)) → List Mounted → Type 0

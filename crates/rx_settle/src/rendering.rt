@@ -2,6 +2,7 @@
 ghost use Rattle.std.specs.Prelude.{◌≡◌, ◌<◌, ℕ, false, nat_eq, OnOk, IsSome, Some, slice_get};
 ghost use Rattle.rx_elem.specs.Spots as spots;
 ghost use Rattle.rx_hook_store.specs.Store.{kept_hooks};
+ghost use Rattle.rx_settle.specs.Found.{seen};
 ghost use Rattle.rx_settle.specs.Passes.{AreApart, AreKept, KeepsOn, RendersShown, has_instance};
 
 use rx_base::Cut;
@@ -36,7 +37,7 @@ fn render_one(
     Ok(())
 }
 
-/// Renders the hooks of each visible instance of a tree again that is not new, one with a number below the first, if a render
+/// Renders the hooks of each visible one of these instances again that is not new, one with a number below the first, if a render
 /// has work in them. They were rendered for these lanes at this cut before; so this changes nothing that a render sees, and the
 /// commit finds them rendered.
 ///
@@ -47,20 +48,20 @@ pub(crate) fn render_shown(
     alloc: Global,
     store: &mut HookStore,
     checked: &Checked,
-    instances: &[Mounted],
+    instances: &[&Mounted],
     first: u64,
     lanes: Lanes,
     cut: Cut,
 ) -> Result<(), AllocError>
-    requires apart { AreApart instances.now }
-    requires kept { AreKept first (kept_hooks store.old) instances.now }
+    requires apart { AreApart (seen instances.now) }
+    requires kept { AreKept first (kept_hooks store.old) (seen instances.now) }
     ensures keeps { KeepsOn checked.now lanes cut (kept_hooks store.old) (kept_hooks store.new) }
-    ensures rendered { OnOk result ((k : ℕ) (m : spots.Mounted) → slice_get instances.now k ≡ Some m → RendersShown checked.now lanes cut first (kept_hooks store.old) (kept_hooks store.new) m) }
-    ensures others { (n : ℕ) → has_instance instances.now n ≡ false → kept_hooks store.new n ≡ kept_hooks store.old n }
+    ensures rendered { OnOk result ((k : ℕ) (m : spots.Mounted) → slice_get (seen instances.now) k ≡ Some m → RendersShown checked.now lanes cut first (kept_hooks store.old) (kept_hooks store.new) m) }
+    ensures others { (n : ℕ) → has_instance (seen instances.now) n ≡ false → kept_hooks store.new n ≡ kept_hooks store.old n }
     ensures spare { store.new.spare ≡ store.old.spare }
 {
     'rendering: for instance in instances {
-        render_one(alloc, store, checked, instance, first, lanes, cut)?;
+        render_one(alloc, store, checked, *instance, first, lanes, cut)?;
     }
     Ok(())
 }

@@ -1,24 +1,24 @@
 // What a commit does with the hooks of the instances of its tree.
-ghost use Rattle.std.specs.Prelude.{◌≡◌, ℕ, true, false, nat_eq, List, IfOk, OnOk, OnErr, Some, None, slice_get};
-ghost use Rattle.std.specs.HashSet.{contains};
+ghost use Rattle.std.specs.Prelude.{◌≡◌, ℕ, false, OnOk, OnErr, Some, None, slice_get};
 ghost use Rattle.std.specs.Option.{option_copied};
 ghost use Rattle.rx_elem.specs.Numbers.{numbered};
 ghost use Rattle.rx_elem.specs.Spots as spots;
 ghost use Rattle.rx_elem.specs.Trees as trees;
-ghost use Rattle.rx_hooks.specs.declared.hook.Hook.{Hook};
 ghost use Rattle.rx_pruned.specs.Pruned.{ArePruned};
 ghost use Rattle.rx_meaning.specs.Settled.{DoneBefore};
 ghost use Rattle.rx_model.specs.State.{Progress, State};
 ghost use Rattle.rx_model.specs.Committing.{committed_state};
 ghost use Rattle.rx_model.specs.HooksOf.{KeepsAllHooks};
 ghost use Rattle.rx_hook_store.specs.Store.{kept_hooks};
-ghost use Rattle.rx_hook_store.specs.Working.{HaveWork};
+ghost use Rattle.rx_settle.specs.Found.{HasWorking, seen};
 ghost use Rattle.rx_settle.specs.Passes.{AreApart, AreKept, IsSettledOver, has_instance};
 ghost use Rattle.rx_settle.specs.Settling.{CanSettle, IsSettlingOf};
 
-use crate::keeping::settle_all;
+use crate::gone::gone_from;
+use crate::keeping::{insert_all, remove_all, settle_each};
 use crate::made::mount_new;
 use crate::rendering::render_shown;
+use crate::working::working_of;
 use rx_base::Cut;
 use rx_check::Checked;
 use rx_hook_store::HookStore;
@@ -26,60 +26,36 @@ use rx_lane::Lanes;
 use rx_node::Node;
 use rx_spots::{Mounted, mounted};
 use std::alloc::{AllocError, Global};
-use std::collections::HashSet;
 
-// The numbers of instances, each found at once.
-fn numbers_of(alloc: Global, instances: &[Mounted]) -> Result<HashSet<u64>, AllocError>
-    ensures { IfOk result (λ known. (n : ℕ) → contains nat_eq known n ≡ has_instance instances.now n) }
-{
-    let mut known = HashSet::new(alloc);
-    'knowing: for instance in instances {
-        known.insert(instance.number())?;
-    }
-    Ok(known)
-}
-
-// True if each instance in whose hooks a render has work is one of these.
-fn has_all_working(
-    alloc: Global,
-    store: &HookStore,
-    known: &HashSet<u64>,
-    lanes: Lanes,
-    cut: Cut,
-) -> Result<bool, AllocError>
-    ensures { IfOk result (λ all. all ≡ true → (n : ℕ) (hooks : List Hook) → kept_hooks store.now n ≡ Some hooks → HaveWork lanes cut hooks
-        → contains nat_eq known.now n ≡ true) }
-{
-    let working = store.working(alloc, lanes, cut)?;
-    Ok(working.is_subset(known))
-}
-
-// Settles the hooks of the instances of a tree, whose numbers are known, and drops those of the instances of an old one that it
-// has no longer.
+// Settles the hooks of the instances of a tree, of which those in whose hooks the render has work are found, and drops those of
+// the instances of an old one that it has no longer.
 fn settle_trees(
     alloc: Global,
     store: &mut HookStore,
     checked: &Checked,
     old: Option<&Node>,
     instances: &[Mounted],
-    known: &HashSet<u64>,
+    working: &[&Mounted],
     first: u64,
     lanes: Lanes,
     cut: Cut,
 ) -> Result<(), AllocError>
     requires apart { AreApart instances.now }
     requires kept { AreKept first (kept_hooks store.old) instances.now }
-    requires known { (n : ℕ) → contains nat_eq known.now n ≡ has_instance instances.now n }
+    requires working { HasWorking lanes cut (kept_hooks store.old) instances.now (seen working.now) }
     ensures settled { OnOk result (IsSettledOver checked.now lanes cut first (kept_hooks store.old) (kept_hooks store.new)
         (spots.mounted (option_copied old.entry)) instances.now) }
     ensures err { OnErr result ((s : State) → DoneBefore cut s.journal.updates → KeepsAllHooks checked.now s (kept_hooks store.old)
         → KeepsAllHooks checked.now s (kept_hooks store.new)) }
 {
     let before = mounted(alloc, old)?;
+    let gone = gone_from(alloc, &before, instances)?;
     let made = mount_new(alloc, instances, first)?;
     store.reserve(made.len() as u64)?;
-    render_shown(alloc, store, checked, instances, first, lanes, cut)?;
-    settle_all(store, instances, &before, known, made, first, lanes, cut);
+    render_shown(alloc, store, checked, working, first, lanes, cut)?;
+    settle_each(store, working, first, lanes, cut);
+    insert_all(store, made);
+    remove_all(store, &gone);
     Ok(())
 }
 
@@ -117,15 +93,15 @@ pub fn settle_hooks(
         → KeepsAllHooks checked.now s (kept_hooks store.new)) }
 {
     let instances = mounted(alloc, Some(pruned_new))?;
-    let known = numbers_of(alloc, &instances)?;
-    if has_all_working(alloc, store, &known, lanes, cut)? {
+    let (working, are_all) = working_of(alloc, store, &instances, lanes, cut)?;
+    if are_all {
         return settle_trees(
-            alloc, store, checked, pruned_old, &instances, &known, first, lanes, cut,
+            alloc, store, checked, pruned_old, &instances, &working, first, lanes, cut,
         );
     }
     let instances = mounted(alloc, Some(new))?;
-    let known = numbers_of(alloc, &instances)?;
+    let (working, _) = working_of(alloc, store, &instances, lanes, cut)?;
     settle_trees(
-        alloc, store, checked, old, &instances, &known, first, lanes, cut,
+        alloc, store, checked, old, &instances, &working, first, lanes, cut,
     )
 }

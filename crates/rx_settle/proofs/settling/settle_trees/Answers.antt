@@ -1,10 +1,14 @@
-use Rattle.std.proofs.Common.{◌≡◌, ◌∙◌, List, Some, Result, Ok, Err, IsSome, slice_get, sym, ap, subst, refl}
+use Rattle.std.proofs.Common.{◌∙◌, ℕ, List, None, Result, Ok, Err, IsSome, cond, nat_eq, sym, ap, subst, refl}
+use Rattle.std.specs.List.{list_any}
+use Rattle.std.specs.Option.{option_copied}
 use Rattle.std.specs.Result.{OnErr}
-use Rattle.rx_elem.specs.Spots.{Mounted}
+use Rattle.rx_elem.specs.Spots.{Mounted, mounted}
 use Rattle.rx_hook_store.specs.Store.{kept_hooks}
 use Rattle.rx_hook_store.proofs.Staying.{all_stay}
-use Rattle.rx_settle.specs.Passes.{has_instance}
-use Rattle.rx_settle.proofs.Again.{goes_on_before, renders_before}
+use Rattle.rx_settle.specs.Found.{seen}
+use Rattle.rx_settle.specs.Passes.{is_gone}
+use Rattle.rx_settle.proofs.Again.{goes_on_before}
+use Rattle.rx_settle.proofs.Found.{kept_of, settled_over}
 use Rattle.rx_settle.proofs.Whole.{all_go_on}
 use Rattle.rx_settle.proofs.settling.settle_trees.Goals as goal
 
@@ -18,7 +22,9 @@ returns-in_err-reserve-clause-err c =
     (λ s done keeps. all_stay s s refl refl c.args.checked.now (kept_hooks c.args.store.now) (kept_hooks c.reserve.new.self) refl c.reserve.ensures.same keeps)
 
 pub render_shown-requires-clause-kept : goal.render_shown-requires-clause-kept
-render_shown-requires-clause-kept c k m at below = subst IsSome (sym (c.reserve.ensures.same m.number)) (c.requires.kept k m at below)
+render_shown-requires-clause-kept c =
+    kept_of c.args.first (kept_hooks c.reserve.new.self) c.args.instances.now (seen c.args.working.now) c.requires.working.within
+    (λ k m at below. subst IsSome (sym (c.reserve.ensures.same m.number)) (c.requires.kept k m at below))
 
 pub returns-in_err-render_shown-clause-err : goal.returns-in_err-render_shown-clause-err
 returns-in_err-render_shown-clause-err c =
@@ -27,23 +33,20 @@ returns-in_err-render_shown-clause-err c =
     (goes_on_before c.args.checked.now c.args.lanes c.args.cut c.args.first (kept_hooks c.args.store.now) (kept_hooks c.reserve.new.self) (kept_hooks c.render_shown.new.store)
     c.reserve.ensures.same c.render_shown.ensures.keeps) done keeps)
 
-pub settle_all-requires-clause-kept : goal.settle_all-requires-clause-kept
-settle_all-requires-clause-kept c k m at below =
-    c.render_shown.ensures.keeps.there m.number (subst IsSome (sym (c.reserve.ensures.same m.number)) (c.requires.kept k m at below))
+pub settle_each-requires-clause-kept : goal.settle_each-requires-clause-kept
+settle_each-requires-clause-kept c =
+    kept_of c.args.first (kept_hooks c.render_shown.new.store) c.args.instances.now (seen c.args.working.now) c.requires.working.within
+    (λ k m at below. c.render_shown.ensures.keeps.there m.number (subst IsSome (sym (c.reserve.ensures.same m.number)) (c.requires.kept k m at below)))
 
 pub returns-clause-settled : goal.returns-clause-settled
 returns-clause-settled c =
     let old_are = c.deref.ensures.value ∙ c.in_ok-before.ensures in
-    record {
-      rendered = kept_hooks c.render_shown.new.store;
-      goes_on =
-          goes_on_before c.args.checked.now c.args.lanes c.args.cut c.args.first (kept_hooks c.args.store.now) (kept_hooks c.reserve.new.self) (kept_hooks c.render_shown.new.store)
-          c.reserve.ensures.same c.render_shown.ensures.keeps;
-      renders = λ k m at.
-          renders_before c.args.checked.now c.args.lanes c.args.cut c.args.first (kept_hooks c.args.store.now) (kept_hooks c.reserve.new.self) (kept_hooks c.render_shown.new.store)
-          c.reserve.ensures.same m (c.in_ok-render_shown.ensures.rendered k m at);
-      settles = c.settle_all.ensures.settled;
-      gone = λ k m at none. c.settle_all.ensures.gone k m (subst (λ (ms : List Mounted). slice_get ms k ≡ Some m) (sym old_are) at) none;
-      not_rendered = λ n none. c.render_shown.ensures.others n none ∙ c.reserve.ensures.same n;
-      others = λ n none free. c.settle_all.ensures.others n none (ap (λ (ms : List Mounted). has_instance ms n) old_are ∙ free);
-    }
+    let inserted = kept_hooks c.insert_all.new.store in
+    settled_over c.args.checked.now c.args.lanes c.args.cut c.args.first (kept_hooks c.args.store.now) (kept_hooks c.reserve.new.self) (kept_hooks c.render_shown.new.store)
+    (kept_hooks c.settle_each.new.store) inserted (kept_hooks c.remove_all.new.store) (mounted (option_copied c.args.old)) c.args.instances.now (seen c.args.working.now) c.in_ok-made.made.items
+    c.requires.apart c.requires.working c.in_ok-made.ensures c.reserve.ensures.same c.render_shown.ensures.keeps c.in_ok-render_shown.ensures.rendered c.render_shown.ensures.others
+    c.settle_each.ensures.settled c.settle_each.ensures.others c.insert_all.ensures
+    (λ n.
+    c.remove_all.ensures n
+    ∙ ap (λ b. cond b None (inserted n))
+    (ap (λ (ks : List ℕ). list_any (nat_eq n) ks) c.deref-2.ensures.value ∙ (c.in_ok-gone.ensures n ∙ ap (λ (ms : List Mounted). is_gone ms c.args.instances.now n) old_are)))

@@ -1,7 +1,7 @@
 use Rattle.std.proofs.Common.{◌≡◌, ℕ, nat_eq, take}
 use Rattle.std.specs.HashSet.{contains}
 use Rattle.rx_settle.specs.Passes.{has_instance}
-use Rattle.rx_settle.proofs.settling.numbers_of.Given as goal
+use Rattle.rx_settle.proofs.gone.numbers_of.Given as goal
 
 -- the numbers of the instances so far are known
 abbrev pub invariant-knowing : goal.invariant-knowing

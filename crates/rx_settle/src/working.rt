@@ -1,0 +1,81 @@
+// The instances in whose hooks a render has work.
+ghost use Rattle.std.specs.Prelude.{◌≡◌, ◌≤◌, ℕ, true, false, cond, nat_eq, IfOk, length};
+ghost use Rattle.std.specs.HashSet.{contains};
+ghost use Rattle.rx_hook_store.specs.Store.{kept_hooks};
+ghost use Rattle.rx_hook_store.specs.Working.{AreAllWorking};
+ghost use Rattle.rx_settle.specs.Passes.{has_instance};
+ghost use Rattle.rx_settle.specs.Found.{AreTaken, HasWorking, seen};
+
+use rx_base::Cut;
+use rx_hook_store::HookStore;
+use rx_lane::Lanes;
+use rx_spots::Mounted;
+use std::alloc::{AllocError, Global};
+use std::collections::HashSet;
+
+// The least and the greatest number of a set.
+fn bounds_of(numbers: &HashSet<u64>) -> (u64, u64)
+    ensures { (n : ℕ) → contains nat_eq numbers.now n ≡ true → (result.0 ≤ n) × (n ≤ result.1) }
+{
+    let mut least = u64::MAX;
+    let mut greatest = 0;
+    'bounding: for number in numbers.iter() {
+        least = least.min(*number);
+        greatest = greatest.max(*number);
+    }
+    (least, greatest)
+}
+
+// Takes a number out of a set, and tells whether it was there. The set is not asked where the number lies outside of its bounds.
+fn take_number(numbers: &mut HashSet<u64>, number: u64, least: u64, greatest: u64) -> bool
+    requires { (n : ℕ) → contains nat_eq numbers.old n ≡ true → (least ≤ n) × (n ≤ greatest) }
+    ensures was { result ≡ contains nat_eq numbers.old number }
+    ensures others { (n : ℕ) → contains nat_eq numbers.new n ≡ cond (nat_eq number n) false (contains nat_eq numbers.old n) }
+{
+    if number < least || greatest < number {
+        return false;
+    }
+    numbers.remove(&number)
+}
+
+// The instances whose numbers are in a set. Their numbers are taken out of it, and once it is empty no more are looked at.
+fn take_known<'a>(
+    alloc: Global,
+    numbers: &mut HashSet<u64>,
+    instances: &'a [Mounted],
+) -> Result<Vec<&'a Mounted>, AllocError>
+    ensures { IfOk result (λ found. AreTaken (contains nat_eq numbers.old) (contains nat_eq numbers.new) instances.now (length instances.now) (seen found.items)) }
+{
+    let (least, greatest) = bounds_of(numbers);
+    let mut found = Vec::new(alloc);
+    'finding: for instance in instances {
+        if numbers.is_empty() {
+            return Ok(found);
+        }
+        if take_number(numbers, instance.number(), least, greatest) {
+            found.push(instance)?;
+        }
+    }
+    Ok(found)
+}
+
+/// The instances in whose hooks a render has work, and whether there are no others than these in whose hooks it has.
+///
+/// # Errors
+///
+/// Only if out of memory.
+pub(crate) fn working_of<'a>(
+    alloc: Global,
+    store: &HookStore,
+    instances: &'a [Mounted],
+    lanes: Lanes,
+    cut: Cut,
+) -> Result<(Vec<&'a Mounted>, bool), AllocError>
+    ensures found { IfOk result (λ r. HasWorking lanes cut (kept_hooks store.now) instances.now (seen r.0.items)) }
+    ensures all { IfOk result (λ r. r.1 ≡ true → AreAllWorking lanes cut (kept_hooks store.now) (has_instance instances.now)) }
+{
+    let mut numbers = store.working(alloc, lanes, cut)?;
+    let found = take_known(alloc, &mut numbers, instances)?;
+    let are_all = numbers.is_empty();
+    Ok((found, are_all))
+}
