@@ -42,7 +42,7 @@ alike_itself c = record { destroys = λ phase. refl; creates = λ phase. refl; p
 pub all_alike_themselves : (cs : AllCompared) → AreAlike cs cs
 all_alike_themselves cs = record { destroys = λ phase. refl; creates = λ phase. refl; places = refl; catches = refl; hides = refl }
 
-hidden_awaits-append : (cs ds : List Change) → hidden_awaits (cs ++ ds) ≡ hidden_awaits cs ++ hidden_awaits ds
+pub hidden_awaits-append : (cs ds : List Change) → hidden_awaits (cs ++ ds) ≡ hidden_awaits cs ++ hidden_awaits ds
 hidden_awaits-append cs ds =
     ap (map (λ c. awaits_in (mark_of c.new))) (filter-append hides_shown cs ds) ∙ map-append (λ c. awaits_in (mark_of c.new)) (filter hides_shown cs) (filter hides_shown ds)
 

@@ -8,7 +8,8 @@ use Rattle.rx_elem.specs.Identity.{moves_after, old_places}
 use Rattle.rx_elem.specs.Trees.{Forest, Mark, Node, child, elements_in, node, none, places, vacant}
 use Rattle.rx_elem.specs.Compare.{Past, node_at, pasts}
 use Rattle.rx_meaning.specs.Settled.{times_numbered, times_numbered_if, times_numbered_in}
-use Rattle.rx_pruned.specs.Pruned.{ArePruned, KeepsGone, Pruned, PrunedIn, cut, first, gap, inside, later, no_more, pair, same, whole}
+use Rattle.rx_compare.specs.InPlace.{stayed}
+use Rattle.rx_pruned.specs.Pruned.{ArePruned, KeepsGone, Pruned, PrunedIn, cut, first, gap, in_place, inside, later, left, no_more, pair, same, whole}
 use Rattle.host_laws.proofs.IdentityLaws.{places_distinct}
 use Rattle.prune_laws.specs.LeftOut.{LeaveOutAlike}
 use Rattle.prune_laws.proofs.Sums.{picked, picked_differ, total}
@@ -59,6 +60,12 @@ gone_stay k os ps es h =
     (λ p free. ap (times_numbered_if k) (sym (h.gone p free))) in
     omega (arith, differ, there, in_pruned, all_places k os, picked_pasts k os [] (old_places (elements_in os) es))
 
+-- the instances of a list are those of the pasts of children that stay
+stayed_times : (k : ℕ) (ns : Forest) → in_pasts k (stayed ns) ≡ times_numbered_in k ns
+stayed_times k none = refl
+stayed_times k (vacant ns) = omega (arith, stayed_times k ns)
+stayed_times k (child n ns) = ap (λ t. times_numbered k n + t) (stayed_times k ns)
+
 -- ---- the trees
 
 -- two numbers are more than two others by the same
@@ -80,6 +87,11 @@ mutual
       let one = below.one in
       let other = below.other in
       record { times = below.times; one = omega arith; other = omega arith }
+  node_left k (in_place {os = os} {ns = ns} {ps = ps} {qs = qs} goes olds news list) =
+      let below = list_left k list in
+      let one = below.one in
+      let other = below.other in
+      record { times = below.times; one = omega (arith, stayed_times k os, stayed_times k ps); other = omega arith }
 
   list_left : (k : ℕ) {d : _} {ps : List Past} {ns : Forest} {qs : List Past} {ms : Forest} → PrunedIn d ps ns qs ms
       → Alike (in_pasts k ps) (times_numbered_in k ns) (in_pasts k qs) (times_numbered_in k ms)
@@ -94,8 +106,13 @@ mutual
       let c = rest.one in
       let d = rest.other in
       record { times = h.times + rest.times; one = omega arith; other = omega arith }
+  list_left k (left {n = n} still list) =
+      let rest = list_left k list in
+      let one = rest.one in
+      let other = rest.other in
+      record { times = times_numbered k n + rest.times; one = omega arith; other = omega arith }
 
 pub left_alike : (old : Option Node) (new : Node) (pruned_old : Option Node) (pruned_new : Node) → ArePruned old new pruned_old pruned_new → (n : ℕ)
     → LeaveOutAlike n old new pruned_old pruned_new
 left_alike old new pruned_old pruned_new (first {n = x}) n = record { times = 0; old_is = omega arith; new_is = omega arith }
-left_alike old new pruned_old pruned_new (later h) n = let left = node_left n h in record { times = left.times; old_is = left.one; new_is = left.other }
+left_alike old new pruned_old pruned_new (later h) n = let both = node_left n h in record { times = both.times; old_is = both.one; new_is = both.other }

@@ -11,5 +11,6 @@ pub mod Leaving
 pub mod Within
 pub mod Merged
 pub mod Reused
+pub mod Fewer
 pub mod Parts
 pub mod Staying

@@ -1,8 +1,8 @@
 -- The hosts of a tree and of one without some lists of children: what is left out of the old tree and of the new one are the same hosts.
-use Rattle.std.specs.Prelude.{◌≡◌, ℕ, zero, suc, Bool, true, false, ◌⊎◌, List, [], ◌∷◌, ◌++◌, Option, Some, None, filter_map, option_and_then, option_map, option_to_list, slice_get, refl}
+use Rattle.std.specs.Prelude.{◌≡◌, ℕ, zero, suc, Bool, true, false, ◌⊎◌, List, [], ◌∷◌, ◌++◌, Option, Some, None, filter_map, option_and_then, option_map, option_to_list, length, slice_get, refl}
 use Rattle.std.specs.List.{cons_option}
 use Rattle.std.specs.Option.{option_map_or}
-use Rattle.std.proofs.Common.{sym, ◌∙◌, ap, subst, inl, inr}
+use Rattle.std.proofs.Common.{sym, ◌∙◌, ap, arith, subst, inl, inr}
 use Rattle.std.proofs.lemmas.List.{append-nil}
 use Rattle.std.proofs.lemmas.List.Elements.{filter_map-append}
 use Rattle.std.proofs.lemmas.Option.{none-some, same_Some}
@@ -14,9 +14,12 @@ use Rattle.rx_elem.specs.Trees.{Mark, of_instance, of_host, of_boundary, of_catc
 use Rattle.rx_elem.specs.Spots.{Around, around_children, spots_in}
 use Rattle.rx_elem.specs.Compare.{Past, pasts, node_at}
 use Rattle.rx_forest.specs.Hosts.{Host, Content, content_of, host_as, host_at}
-use Rattle.rx_pruned.specs.Pruned.{GoesOn, KeepsGone, was, Pruned, whole, cut, inside, PrunedIn, no_more, gap, same, pair}
+use Rattle.rx_compare.specs.InPlace.{stayed}
+use Rattle.rx_pruned.specs.Pruned.{GoesOn, KeepsGone, was, Pruned, whole, cut, inside, in_place, PrunedIn, no_more, gap, same, pair}
+use Rattle.rx_pruned.specs.Pruned as pruned
 use Rattle.host_laws.proofs.IdentityLaws.{places_distinct}
 use Rattle.host_laws.proofs.Listing.{hosts_at, hosts_in, in-child}
+use Rattle.prune_laws.proofs.Fewer.{as_many_pasts, is_missing}
 use Rattle.prune_laws.proofs.Merged.{IsIn, in_left, in_right, in_either, Merged, ended, keep, leave, merged-append, all_kept, all_left, SameHosts}
 use Rattle.prune_laws.proofs.Reused.{reused_by, is_reused_at, past_at, place_from, not_absent}
 
@@ -212,6 +215,69 @@ pub record Left (kept_old old kept_new new : List Host) : Type 0 where
 same_itself : (hs : List Host) → SameHosts hs hs
 same_itself hs = record { there = λ h i. i; back = λ h i. i }
 
+-- nothing is left out of whole lists
+nothing_left : (hs gs : List Host) → Left hs hs gs gs
+nothing_left hs gs =
+    record { out_old = []; out_new = []; merged_old = all_kept hs; merged_new = all_kept gs; same = same_itself [] }
+
+-- all is left out of both lists if they are the same
+all_left_out : (hs gs : List Host) → hs ≡ gs → Left [] hs [] gs
+all_left_out hs gs alike =
+    record {
+      out_old = hs;
+      out_new = gs;
+      merged_old = all_left hs;
+      merged_new = all_left gs;
+      same = subst (SameHosts hs) alike (same_itself hs);
+    }
+
+-- two lists joined have the same hosts as two others
+same_both : (ls ms ns gs : List Host) → SameHosts ls ms → SameHosts ns gs → SameHosts (ls ++ ns) (ms ++ gs)
+same_both ls ms ns gs one more =
+    record {
+      there = λ h i. elim (in_either h ls ns i) [ inl j ↦ in_left h ms gs (one.there h j) | inr j ↦ in_right h ms gs (more.there h j) ];
+      back = λ h i. elim (in_either h ms gs i) [ inl j ↦ in_left h ls ns (one.back h j) | inr j ↦ in_right h ls ns (more.back h j) ];
+    }
+
+-- what is left out of two parts of each list
+left_both : {ks hs ms gs ls ns js is : List Host} → Left ks hs ms gs → Left ls ns js is → Left (ks ++ ls) (hs ++ ns) (ms ++ js) (gs ++ is)
+left_both one more =
+    record {
+      out_old = one.out_old ++ more.out_old;
+      out_new = one.out_new ++ more.out_new;
+      merged_old = merged-append one.merged_old more.merged_old;
+      merged_new = merged-append one.merged_new more.merged_new;
+      same = same_both one.out_old one.out_new more.out_old more.out_new one.same more.same;
+    }
+
+-- the same for equal lists
+left_as : {ks hs ms gs ls ns js is : List Host} → ks ≡ ls → hs ≡ ns → ms ≡ js → gs ≡ is → Left ks hs ms gs → Left ls ns js is
+left_as e f g h l =
+    record { out_old = l.out_old; out_new = l.out_new; merged_old = merged_as e f l.merged_old; merged_new = merged_as g h l.merged_new; same = l.same }
+
+-- Children that stand where they stood
+
+-- the hosts of the old nodes of these pasts
+abbrev hosts_before : Around → List Past → List Host
+hosts_before a [] = []
+hosts_before a (p ∷ ps) = hosts_if a p.old ++ hosts_before a ps
+
+-- the hosts of a list are those before its children if they stay
+hosts_stayed : (a : Around) (ns : Forest) → hosts_in a ns ≡ hosts_before a (stayed ns)
+hosts_stayed a none = refl
+hosts_stayed a (vacant ns) = hosts_stayed a ns
+hosts_stayed a (child n ns) = in-child a n ns ∙ ap (λ hs. hosts_at a n ++ hs) (hosts_stayed a ns)
+
+-- one more child before the others, and its past
+more_beside : (a b : Around) (p q : Past) (befores kept_befores : List Past) (ns ms : Forest)
+    → Left (hosts_if a q.old) (hosts_if a p.old) (hosts_if b (first ms)) (hosts_if b (first ns))
+    → Left (hosts_before a kept_befores) (hosts_before a befores) (hosts_in b (rest ms)) (hosts_in b (rest ns))
+    → Left (hosts_before a (q ∷ kept_befores)) (hosts_before a (p ∷ befores)) (hosts_in b ms) (hosts_in b ns)
+more_beside a b p q befores kept_befores ns ms one more =
+    left_as refl refl (sym (first_and_rest b ms)) (sym (first_and_rest b ns)) (left_both one more)
+
+-- Children that stand anywhere
+
 -- what is left out of each new child, and of the old child that it was
 record In (a b : Around) (befores : List Past) (new : Forest) (kept_befores : List Past) (kept : Forest) : Type 0 where
   left : ℕ → List Host
@@ -353,35 +419,43 @@ under_own a b e f m w os ns ps qs r =
 mutual
   -- what is left out of an old node and of the new one
   pub left_at : {d : Bool} {o n p q : Node} → Pruned d o n p q → (a b : Around) → Agree a b → Left (hosts_at a p) (hosts_at a o) (hosts_at b q) (hosts_at b n)
-  left_at (whole {o = o} {n = n}) a b r =
-      record {
-        out_old = [];
-        out_new = [];
-        merged_old = all_kept (hosts_at a o);
-        merged_new = all_kept (hosts_at b n);
-        same = same_itself [];
-      }
+  left_at (whole {o = o} {n = n}) a b r = nothing_left (hosts_at a o) (hosts_at b n)
   left_at (cut {e = e} {f = f} {m = m} {w = w} {ns = ns} goes still) a b r =
-      under_own a b e f m w ns ns none none (record {
-        out_old = hosts_in (around_children a m) ns;
-        out_new = hosts_in (around_children b w) ns;
-        merged_old = all_left (hosts_in (around_children a m) ns);
-        merged_new = all_left (hosts_in (around_children b w) ns);
-        same = subst (λ hs. SameHosts (hosts_in (around_children a m) ns) hs) (hosts_agree_in _ _ ns (agree_on a b m w goes r)) (same_itself (hosts_in (around_children a m) ns));
-      })
+      under_own a b e f m w ns ns none none
+      (all_left_out (hosts_in (around_children a m) ns) (hosts_in (around_children b w) ns) (hosts_agree_in _ _ ns (agree_on a b m w goes r)))
   left_at (inside {e = e} {f = f} {m = m} {w = w} {os = os} {ns = ns} {ps = ps} {qs = qs} goes kept below) a b r =
       under_own a b e f m w os ns ps qs
-      (left_children (around_children a m) (around_children b w) os ns ps qs kept (left_in below (around_children a m) (around_children b w) (agree_on a b m w goes r)))
+      (left_children (around_children a m) (around_children b w) os ns ps qs kept
+      (left_in below (as_many_pasts os ps (elements_in ns) kept.elements) (around_children a m) (around_children b w) (agree_on a b m w goes r)))
+  left_at (in_place {e = e} {f = f} {m = m} {w = w} {os = os} {ns = ns} {ps = ps} {qs = qs} goes olds news below) a b r =
+      under_own a b e f m w os ns ps qs
+      (left_as (sym (hosts_stayed (around_children a m) ps)) (sym (hosts_stayed (around_children a m) os)) refl refl
+      (left_beside below (around_children a m) (around_children b w) (agree_on a b m w goes r)))
 
-  left_in : {d : Bool} {befores kept_befores : List Past} {ns ms : Forest} → PrunedIn d befores ns kept_befores ms → (a b : Around) → Agree a b
-      → In a b befores ns kept_befores ms
-  left_in no_more a b r = nothing_in a b
-  left_in (gap {p = p} {ps = ps} {qs = qs} {ns = ns} {ms = ms} more) a b r =
-      more_in a b p p ps qs (vacant ns) (vacant ms) [] ended (λ present. absurd (present refl)) (λ h i. absurd i) (left_in more a b r)
-  left_in (same {p = p} {ps = ps} {qs = qs} {n = n} {ns = ns} {ms = ms} more) a b r =
+  -- what is left out of each child of a list that has as many
+  left_in : {d : Bool} {befores kept_befores : List Past} {ns ms : Forest} → PrunedIn d befores ns kept_befores ms → length kept_befores ≡ length befores
+      → (a b : Around) → Agree a b → In a b befores ns kept_befores ms
+  left_in no_more as_many a b r = nothing_in a b
+  left_in (gap {p = p} {ps = ps} {qs = qs} {ns = ns} {ms = ms} more) as_many a b r =
+      more_in a b p p ps qs (vacant ns) (vacant ms) [] ended (λ present. absurd (present refl)) (λ h i. absurd i) (left_in more (omega arith) a b r)
+  left_in (same {p = p} {ps = ps} {qs = qs} {n = n} {ns = ns} {ms = ms} more) as_many a b r =
       more_in a b p p ps qs (child n ns) (child n ms) [] (all_kept (hosts_at b n)) (λ present. ([], all_kept (hosts_if a p.old), same_itself []))
-      (λ h i. absurd i) (left_in more a b r)
-  left_in (pair {moved = moved} {o = o} {n = n} {p = p} {q = q} {ps = ps} {qs = qs} {ns = ns} {ms = ms} one more) a b r =
+      (λ h i. absurd i) (left_in more (omega arith) a b r)
+  left_in (pair {moved = moved} {o = o} {n = n} {p = p} {q = q} {ps = ps} {qs = qs} {ns = ns} {ms = ms} one more) as_many a b r =
       let l = left_at one a b r in
       more_in a b (was o moved) (was p moved) ps qs (child n ns) (child q ms) l.out_new l.merged_new (λ present. (l.out_old, l.merged_old, l.same))
-      (λ h i. (o, moved, refl)) (left_in more a b r)
+      (λ h i. (o, moved, refl)) (left_in more (omega arith) a b r)
+  left_in (pruned.left still more) as_many a b r = absurd (is_missing more as_many)
+
+  -- what is left out of a list in the order of its children
+  left_beside : {d : Bool} {befores kept_befores : List Past} {ns ms : Forest} → PrunedIn d befores ns kept_befores ms
+      → (a b : Around) → Agree a b → Left (hosts_before a kept_befores) (hosts_before a befores) (hosts_in b ms) (hosts_in b ns)
+  left_beside no_more a b r = nothing_left [] []
+  left_beside (gap {p = p} {ps = ps} {qs = qs} {ns = ns} {ms = ms} more) a b r =
+      more_beside a b p p ps qs (vacant ns) (vacant ms) (nothing_left (hosts_if a p.old) []) (left_beside more a b r)
+  left_beside (same {p = p} {ps = ps} {qs = qs} {n = n} {ns = ns} {ms = ms} more) a b r =
+      more_beside a b p p ps qs (child n ns) (child n ms) (nothing_left (hosts_if a p.old) (hosts_at b n)) (left_beside more a b r)
+  left_beside (pair {moved = moved} {o = o} {n = n} {p = p} {q = q} {ps = ps} {qs = qs} {ns = ns} {ms = ms} one more) a b r =
+      more_beside a b (was o moved) (was p moved) ps qs (child n ns) (child q ms) (left_at one a b r) (left_beside more a b r)
+  left_beside (pruned.left {n = n} {ns = ns} still more) a b r =
+      left_as refl refl refl (sym (in-child b n ns)) (left_both (all_left_out (hosts_at a n) (hosts_at b n) (hosts_agree a b n r)) (left_beside more a b r))

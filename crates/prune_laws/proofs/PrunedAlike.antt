@@ -2,16 +2,22 @@
 use Rattle.std.specs.Prelude.{◌≡◌, ℕ, zero, suc, Bool, true, false, not, ◌&&◌, ◌||◌, List, [], ◌∷◌, Option, Some, None, cond, filter, filter_map, length, map, option_and_then, slice_get, refl}
 use Rattle.std.specs.List.{range_with_len, zip}
 use Rattle.std.specs.Option.{option_flatten, option_map_or}
-use Rattle.std.proofs.Common.{ap, sym, subst, ◌∙◌}
+use Rattle.std.proofs.Common.{ap, arith, sym, subst, ◌∙◌}
+use Rattle.std.proofs.lemmas.List.Elements.{filter_map-append}
 use Rattle.rx_elem.specs.Elements.{Element, is_present}
 use Rattle.rx_elem.specs.Identity.{is_reused, old_places, moves_after}
 use Rattle.rx_elem.specs.Trees.{Mark, Node, node, Forest, none, vacant, child, element_of, elements_in, is_hidden, places}
-use Rattle.rx_elem.specs.Compare.{Above, Past, above_children, above_root, change_of, compare, compare_in, compare_trees, gone_nodes, no_comparisons, node_at, pasts}
-use Rattle.rx_pruned.specs.Pruned.{KeepsGone, Pruned, whole, cut, inside, PrunedIn, no_more, gap, same, pair, ArePruned, first, later, displaced_below, was}
+use Rattle.rx_elem.specs.Compare.{Above, AllCompared, Compared, Past, above_children, above_root, change_of, changes, changes_in, compare, compare_in, compare_trees, comparison, gone_nodes, no_comparisons, node_at, pasts}
+use Rattle.rx_forest.specs.HostOps.{placed_in}
+use Rattle.rx_meaning.specs.Outcome.{caught_anew}
+use Rattle.rx_compare.specs.InPlace.{stayed}
+use Rattle.rx_compare.proofs.InPlace.{no_nodes_gone, pasts_in_place}
+use Rattle.rx_pruned.specs.Pruned.{KeepsGone, Pruned, whole, cut, inside, in_place, PrunedIn, no_more, gap, same, pair, left, ArePruned, first, later, displaced_below, was}
 use Rattle.prune_laws.specs.Present.{HasNoNull, AllHaveNoNull, IfHasNoNull}
-use Rattle.prune_laws.proofs.Alike.{AreAlike, IsAlike, alike_itself, all_alike_themselves, more_alike, node_alike}
-use Rattle.prune_laws.proofs.SelfChanges.{all_self_still}
-use Rattle.prune_laws.proofs.SelfLogs.{all_self_silent}
+use Rattle.prune_laws.proofs.Alike.{AreAlike, IsAlike, alike_itself, all_alike_themselves, hidden_awaits-append, more_alike, node_alike}
+use Rattle.prune_laws.proofs.Fewer.{as_many_pasts, is_missing}
+use Rattle.prune_laws.proofs.SelfChanges.{AreStill, all_self_still, self_still}
+use Rattle.prune_laws.proofs.SelfLogs.{IsSilent, all_self_silent, self_silent}
 use Rattle.prune_laws.proofs.SelfPasts.{pasts_unmoved, unmoved}
 use Rattle.prune_laws.proofs.SelfPlaces.{none_removed}
 
@@ -59,19 +65,40 @@ past_each ns h earlier (Some q ∷ qs) = (got_present ns h q, past_each ns h (q 
 pasts_present : (ns : Forest) (es : List Element) → AllHaveNoNull ns → PastsPresent (pasts ns es)
 pasts_present ns es h = past_each ns h [] (old_places (elements_in ns) es)
 
+-- no past of children that stay has a node of null
+stayed_present : (ns : Forest) → AllHaveNoNull ns → PastsPresent (stayed ns)
+stayed_present none h = tt
+stayed_present (vacant ns) h = (tt, stayed_present ns h)
+stayed_present (child n ns) h = (h.0, stayed_present ns h.1)
+
 -- Elements stay
 
-mutual
-  same_element_of : {d : Bool} {o n p q : Node} → Pruned d o n p q → element_of q ≡ element_of n
-  same_element_of whole = refl
-  same_element_of (cut on still) = refl
-  same_element_of (inside on keeps below) = refl
+-- what is pruned has the same element
+same_element_of : {d : Bool} {o n p q : Node} → Pruned d o n p q → element_of q ≡ element_of n
+same_element_of whole = refl
+same_element_of (cut on still) = refl
+same_element_of (inside on keeps below) = refl
+same_element_of (in_place on olds news below) = refl
 
-  same_elements_in : {d : Bool} {ps qs : List Past} {ns ms : Forest} → PrunedIn d ps ns qs ms → elements_in ms ≡ elements_in ns
-  same_elements_in no_more = refl
-  same_elements_in (gap rest) = rw (same_elements_in rest) refl
-  same_elements_in (same rest) = rw (same_elements_in rest) refl
-  same_elements_in (pair one rest) = rw (same_element_of one, same_elements_in rest) refl
+-- lists of as many children have the same elements
+same_elements_in : {d : Bool} {ps qs : List Past} {ns ms : Forest} → PrunedIn d ps ns qs ms → length qs ≡ length ps → elements_in ms ≡ elements_in ns
+same_elements_in no_more as_many = refl
+same_elements_in (gap rest) as_many = rw (same_elements_in rest (omega arith)) refl
+same_elements_in (same rest) as_many = rw (same_elements_in rest (omega arith)) refl
+same_elements_in (pair one rest) as_many = rw (same_element_of one, same_elements_in rest (omega arith)) refl
+same_elements_in (left still rest) as_many = absurd (is_missing rest as_many)
+
+-- What says nothing
+
+-- one comparison more that says nothing leaves them alike
+one_silent : (c : Compared) (cs ds : AllCompared) → IsSilent c → AreStill (changes c) → AreAlike cs ds → AreAlike cs (comparison c ds)
+one_silent c cs ds silent still h = record {
+  destroys = λ phase. rw (silent.destroys phase) (h.destroys phase);
+  creates = λ phase. rw (silent.creates phase) (h.creates phase);
+  places = rw (filter_map-append placed_in (changes c) (changes_in ds), still.places) h.places;
+  catches = rw (filter_map-append caught_anew (changes c) (changes_in ds), still.catches) h.catches;
+  hides = rw (hidden_awaits-append (changes c) (changes_in ds), still.hides) h.hides;
+}
 
 -- Nodes and their children
 
@@ -98,11 +125,17 @@ mutual
       node_alike a moved e f m w ns ns none none on (rw (none_removed (elements_in ns)) refl) (rw (pasts_unmoved ns present.1) kids)
   pruned_alike (inside {d} {e} {f} {m} {w} {os} {ns} {ps} {qs} on keeps below) present a moved seen here =
       let top : Above = above_children (change_of a (was (node e m os none) moved) (node f w ns none)) in
-      let elements : elements_in qs ≡ elements_in ns = same_elements_in below in
+      let elements : elements_in qs ≡ elements_in ns = same_elements_in below (as_many_pasts os ps (elements_in ns) keeps.elements) in
       let kids : AreAlike (compare_in top (pasts ps (elements_in ns)) qs) (compare_in top (pasts os (elements_in ns)) ns) =
       all_pruned_alike below (pasts_present os (elements_in ns) present.1) top (seen_below a moved e f m w os ns seen on.old_shown) (ap (λ b. displaced_below b w) here) in
       node_alike a moved e f m w os ns ps qs on (rw elements (gone_alike os ps (elements_in ns) keeps))
       (subst (λ es. AreAlike (compare_in top (pasts ps es) qs) (compare_in top (pasts os (elements_in ns)) ns)) (sym elements) kids)
+  pruned_alike (in_place {d} {e} {f} {m} {w} {os} {ns} {ps} {qs} on olds news below) present a moved seen here =
+      let top : Above = above_children (change_of a (was (node e m os none) moved) (node f w ns none)) in
+      let kids : AreAlike (compare_in top (stayed ps) qs) (compare_in top (stayed os) ns) =
+      all_pruned_alike below (stayed_present os present.1) top (seen_below a moved e f m w os ns seen on.old_shown) (ap (λ b. displaced_below b w) here) in
+      node_alike a moved e f m w os ns ps qs on (no_nodes_gone ps qs news ∙ sym (no_nodes_gone os ns olds))
+      (rw (pasts_in_place ps qs news, pasts_in_place os ns olds) kids)
 
   all_pruned_alike : {d : Bool} {ps qs : List Past} {ns ms : Forest} → PrunedIn d ps ns qs ms → PastsPresent ps → (a : Above) → a.was_visible ≡ true → a.displaced ≡ d
       → AreAlike (compare_in a qs ms) (compare_in a ps ns)
@@ -113,6 +146,9 @@ mutual
   all_pruned_alike (pair {d} {moved} {o} {n} {p} {q} {ps} {qs} {ns} {ms} one rest) present a seen here =
       more_alike (compare a (was p moved) q) (compare a (was o moved) n) (compare_in a qs ms) (compare_in a ps ns)
       (pruned_alike one present.0 a moved seen (ap (λ b. b || moved) here)) (all_pruned_alike rest present.1 a seen here)
+  all_pruned_alike (left {d} {n} {ps} {qs} {ns} {ms} still rest) present a seen here =
+      one_silent (compare a (was n false) n) (compare_in a qs ms) (compare_in a ps ns) (self_silent a seen n present.0) (self_still a (here ∙ still) n present.0)
+      (all_pruned_alike rest present.1 a seen here)
 
 -- Both trees without what stayed the same are compared alike.
 pub trees_alike : {o p : Option Node} {n q : Node} → ArePruned o n p q → IfHasNoNull o → IsAlike (compare_trees p q) (compare_trees o n)

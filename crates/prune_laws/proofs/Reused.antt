@@ -35,7 +35,7 @@ is_reused_at (Some q ∷ places) (suc i) p h = go (nat_eq p q) (is_reused_at pla
     go false h = h
 
 -- the pasts of new children by their old places
-abbrev pasts_after : Forest → (earlier : List ℕ) → List (Option ℕ) → List Past
+abbrev pub pasts_after : Forest → (earlier : List ℕ) → List (Option ℕ) → List Past
 pasts_after os earlier places = map (λ x. record { old = x.0; moved = x.1 }) (zip (map (option_and_then (node_at os)) places) (moves_after earlier places))
 
 past_after : (os : Forest) (earlier : List ℕ) (places : List (Option ℕ)) (i p : ℕ) → slice_get places i ≡ Some (Some p)

@@ -51,7 +51,8 @@ not_below true d h = refl
 not_below false d h = h
 
 mutual
-  self_still : (a : Above) → a.displaced ≡ false → (n : Node) → HasNoNull n → AreStill (changes (compare a (was n false) n))
+  -- A node that was itself and stayed, below what isn't displaced, places nothing, catches nothing and hides nothing anew.
+  pub self_still : (a : Above) → a.displaced ≡ false → (n : Node) → HasNoNull n → AreStill (changes (compare a (was n false) n))
   self_still a h (node e m ns fs) present =
       let c : Change = itself a (node e m ns fs) in
       let stays : c.displaced ≡ false = not_displaced a (node e m ns fs) h in

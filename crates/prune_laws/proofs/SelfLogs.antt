@@ -53,9 +53,9 @@ pub record AreSilent (cs : AllCompared) : Type 0 where
   pub creates : (phase : Phase) → created_all phase cs ≡ []
 
 -- a comparison that logs nothing
-record IsSilent (c : Compared) : Type 0 where
-  destroys : (phase : Phase) → destroyed phase c ≡ []
-  creates : (phase : Phase) → created phase c ≡ []
+pub record IsSilent (c : Compared) : Type 0 where
+  pub destroys : (phase : Phase) → destroyed phase c ≡ []
+  pub creates : (phase : Phase) → created phase c ≡ []
 
 hidden_not_shown : (m : Mark) → is_hidden m ≡ true → is_shown m ≡ false
 hidden_not_shown (of_instance i) h = refl
@@ -84,7 +84,8 @@ against_own : (a : Above) (ns : Forest) → AllHaveNoNull ns → AreSilent (comp
 against_own a ns present silent = subst (λ ps. AreSilent (compare_in a ps ns)) (sym (pasts_unmoved ns present)) silent
 
 mutual
-  self_silent : (a : Above) → a.was_visible ≡ true → (n : Node) → HasNoNull n → IsSilent (compare a (was n false) n)
+  -- A node that was itself and stayed logs nothing.
+  pub self_silent : (a : Above) → a.was_visible ≡ true → (n : Node) → HasNoNull n → IsSilent (compare a (was n false) n)
   self_silent a h (node e m ns fs) present =
       let c : Change = itself a (node e m ns fs) in
       parts (is_hidden m) refl (λ seen. against_own (above_children c) ns present.1 (all_self_silent (above_children c) seen ns present.1))

@@ -4,7 +4,7 @@ use Rattle.std.specs.List.{cons_option}
 use Rattle.std.proofs.lemmas.List.Elements.{filter_map-append}
 use Rattle.rx_elem.specs.Trees.{Forest, Mark, Node, child, instance_in, node, none, vacant}
 use Rattle.rx_elem.specs.Spots.{Around, Mounted, around_children, at_root, mounted, mounted_as, mounted_at, mounted_in, spots, spots_in}
-use Rattle.rx_pruned.specs.Pruned.{ArePruned, Pruned, PrunedIn, cut, first, gap, inside, later, no_more, pair, same, whole}
+use Rattle.rx_pruned.specs.Pruned.{ArePruned, Pruned, PrunedIn, cut, first, gap, in_place, inside, later, left, no_more, pair, same, whole}
 use Rattle.prune_laws.specs.LeftOut.{AreWithin}
 
 -- an instance is one of a list
@@ -72,12 +72,15 @@ mutual
   node_within m a whole is = is
   node_within m a (cut {f = f} {w = w} {ns = ns} goes shown) is = with_children a f w none ns m (no_instances m (at_list (around_children a w) ns)) is
   node_within m a (inside {f = f} {w = w} {ns = ns} {qs = qs} goes gone list) is = with_children a f w qs ns m (list_within m (around_children a w) list) is
+  node_within m a (in_place {f = f} {w = w} {ns = ns} {qs = qs} goes olds news list) is = with_children a f w qs ns m (list_within m (around_children a w) list) is
 
   list_within : (m : Mounted) (a : Around) {d : _} {ps : List _} {ns : Forest} {qs : List _} {ms : Forest} → PrunedIn d ps ns qs ms → IsIn m (at_list a ms) → IsIn m (at_list a ns)
   list_within m a no_more is = is
   list_within m a (gap list) is = list_within m a list is
   list_within m a (same {n = n} {ns = ns} {ms = ms} list) is = one_more a n n ms ns m (λ h. h) (list_within m a list) is
   list_within m a (pair {n = n} {q = q} {ns = ns} {ms = ms} here list) is = one_more a q n ms ns m (node_within m a here) (list_within m a list) is
+  list_within m a (left {n = n} {ns = ns} {ms = ms} still list) is =
+      subst (IsIn m) (sym (filter_map-append mounted_in (spots a n) (spots_in a ns))) (behind m (at_node a n) (at_list a ns) (list_within m a list is))
 
 pub are_within : (old : Option Node) (new : Node) (pruned_old : Option Node) (pruned_new : Node) → ArePruned old new pruned_old pruned_new
     → AreWithin (mounted (Some pruned_new)) (mounted (Some new))

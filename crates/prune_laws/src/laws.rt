@@ -12,7 +12,7 @@ ghost use Rattle.rx_forest.specs.HostOps.{placed_hosts};
 ghost use Rattle.rx_pruned.specs.Pruned.{ArePruned};
 ghost use Rattle.prune_laws.specs.Present.{IfHasNoNull};
 
-/// An old tree and the new one that it became have the same effects without some lists of children that stayed the same,
+/// An old tree and the new one that it became have the same effects without some children and some lists of children that stayed the same,
 /// place the same hosts, catch the same values, and come to the same outcome, if no node of the old tree is one of null. None is in a settled tree.
 pub fn pruned_trees_compare_alike()
     ensures layout { (old : Option Node) (new : Node) (p : Option Node) (q : Node) → IfHasNoNull old → ArePruned old new p q

@@ -8,8 +8,8 @@ ghost use Rattle.host_laws.specs.Related.{AreDistinct};
 ghost use Rattle.rx_pruned.specs.Pruned.{ArePruned};
 ghost use Rattle.prune_laws.specs.Staying.{AreOfCommit};
 
-/// If a commit places no host, its operations are those between the hosts that are left when lists of children that
-/// stayed the same are left out: a host of such a list is not removed, not created, and changes neither its content nor
+/// If a commit places no host, its operations are those between the hosts that are left when children and lists of children that
+/// stayed the same are left out: a host of what is left out is not removed, not created, and changes neither its content nor
 /// its mark. Those that are left of the old tree have numbers of their own.
 pub fn hosts_that_stay_need_nothing()
     ensures operations { (old : Option Node) (new : Node) (p : Option Node) (q : Node)

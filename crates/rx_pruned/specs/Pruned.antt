@@ -4,6 +4,7 @@ use Rattle.rx_elem.specs.Elements.{Element}
 use Rattle.rx_elem.specs.Identity.{old_places, is_reused}
 use Rattle.rx_elem.specs.Trees.{Mark, Node, node, Forest, none, vacant, child, elements_in, host_number, is_host, is_hidden}
 use Rattle.rx_elem.specs.Compare.{Past, pasts, node_at}
+use Rattle.rx_compare.specs.InPlace.{AreInPlace, stayed}
 
 -- The way goes on below an old node and the new one that it became: neither is a hidden boundary, and a host is the same one.
 pub record GoesOn (old new : Mark) : Type 0 where
@@ -26,7 +27,7 @@ abbrev pub was : Node → (moved : Bool) → Past
 was o moved = record { old = Some o; moved = moved }
 
 mutual
-  -- An old node and the new one that it became, and both without some lists that stayed the same: if a list of children is left out, it is one list, no boundary above it is hidden, and nothing from it up to its host is new or moved.
+  -- An old node and the new one that it became, and both without some lists that stayed the same: if a list of children is left out, it is one list, no boundary above it is hidden, and nothing from it up to its host is new or moved. If each child stands where it stood, and does so without those that are left out, some may be left out whole.
   pub data Pruned : (displaced : Bool) → (old new pruned_old pruned_new : Node) → Type 0 where
     whole : {d : Bool} {o n : Node} → Pruned d o n o n
     cut : {d : Bool} {e f : Element} {m w : Mark} {ns : Forest}
@@ -34,14 +35,18 @@ mutual
     inside : {d : Bool} {e f : Element} {m w : Mark} {os ns ps qs : Forest}
         → GoesOn m w → KeepsGone os ps (elements_in ns) → PrunedIn (displaced_below d w) (pasts os (elements_in ns)) ns (pasts ps (elements_in ns)) qs
         → Pruned d (node e m os none) (node f w ns none) (node e m ps none) (node f w qs none)
+    in_place : {d : Bool} {e f : Element} {m w : Mark} {os ns ps qs : Forest}
+        → GoesOn m w → AreInPlace os ns → AreInPlace ps qs → PrunedIn (displaced_below d w) (stayed os) ns (stayed ps) qs
+        → Pruned d (node e m os none) (node f w ns none) (node e m ps none) (node f w qs none)
 
-  -- The children of a list, each with its past: those that were there may be without some lists.
+  -- The children of a list, each with its past: those that were there may be without some lists, and one that is the same, and was not moved, may be left out itself.
   pub data PrunedIn : (displaced : Bool) → (pasts : List Past) → (new : Forest) → (pruned_pasts : List Past) → (pruned_new : Forest) → Type 0 where
     no_more : {d : Bool} → PrunedIn d [] none [] none
     gap : {d : Bool} {p : Past} {ps qs : List Past} {ns ms : Forest} → PrunedIn d ps ns qs ms → PrunedIn d (p ∷ ps) (vacant ns) (p ∷ qs) (vacant ms)
     same : {d : Bool} {p : Past} {ps qs : List Past} {n : Node} {ns ms : Forest} → PrunedIn d ps ns qs ms → PrunedIn d (p ∷ ps) (child n ns) (p ∷ qs) (child n ms)
     pair : {d moved : Bool} {o n p q : Node} {ps qs : List Past} {ns ms : Forest}
         → Pruned (d || moved) o n p q → PrunedIn d ps ns qs ms → PrunedIn d (was o moved ∷ ps) (child n ns) (was p moved ∷ qs) (child q ms)
+    left : {d : Bool} {n : Node} {ps qs : List Past} {ns ms : Forest} → d ≡ false → PrunedIn d ps ns qs ms → PrunedIn d (was n false ∷ ps) (child n ns) qs ms
 
 -- A new tree beside the old one, if there is one, and both without some lists that stayed the same.
 pub data ArePruned : (old : Option Node) → (new : Node) → (pruned_old : Option Node) → (pruned_new : Node) → Type 0 where
